@@ -1,10 +1,10 @@
 -- The sets that end an answer, by the sets of nodes.
-use Rattle.std.proofs.Common.{◌≡◌, ℕ, Bool, true, false, cond, ◌||◌, List, [], ◌∷◌, map, Option, None, Some, refl, sym, ap, ap₂, ◌∙◌, append-nil}
+use Rattle.std.proofs.Common.{◌≡◌, ℕ, Bool, true, false, cond, ◌||◌, List, [], ◌∷◌, map, Option, None, Some, refl, ap, ap₂, ◌∙◌, append-nil, arith}
 use Rattle.std.specs.Prelude.{◌==◌}
 use Rattle.std.specs.List.{filter, filter_map, cons_option}
-use Rattle.std.specs.Ordering.{is_gt, nat_cmp}
+use Rattle.std.specs.Ordering.{nat_cmp}
 use Rattle.dns_spec.specs.Names.{Octets, DomainName}
-use Rattle.dns_spec.specs.Data.{target, type_ns, type_mx, type_srv, qtype_any}
+use Rattle.dns_spec.specs.Data.{target, type_ns, type_mx, type_srv}
 use Rattle.dns_spec.specs.Records.{ResourceRecord, of_type, with_owner, sort_by, insert_by, data_order, distinct}
 use Rattle.dns_spec.specs.Sets.{RecordSet, set_of, records_at, rising_types, of_first_type, of_lowest_type}
 use Rattle.dns_spec.specs.Layout.{Section}
@@ -22,9 +22,7 @@ shown_again n owner ttl set = go set.rdata
 
 pub item-shown : (s : Section) (n owner : DomainName) (rs : List ResourceRecord) (set : RecordSet) → set_of rs ≡ Some set → records_at n set.ttl set ≡ rs
     → item s (with_owner owner rs) ≡ record { section = s; records = records_at owner set.ttl set } ∷ []
-item-shown s n owner [] set e f = absurd (cc)
-item-shown s n owner (r ∷ rs) set e f =
-    ap (λ xs. record { section = s; records = xs } ∷ []) (ap (with_owner owner) (sym f) ∙ shown_again n owner set.ttl set)
+item-shown s n owner rs set h h1 = grind (arith, shown_again)
 
 -- the targets of a set, where its type has any
 abbrev pub is_target_type : ℕ → Bool
@@ -57,13 +55,7 @@ targets_of_set s owner ttl set b e =
 
 insert_shown : (n : DomainName) (r : ResourceRecord) (rs : List ResourceRecord) → insert_by data_order (record r { owner = n }) (with_owner n rs) ≡ with_owner n (insert_by data_order r rs)
 insert_shown n r [] = refl
-insert_shown n r (s ∷ rs) = go (is_gt (data_order r s)) (insert_shown n r rs)
-  where
-    go : (b : Bool) → insert_by data_order (record r { owner = n }) (with_owner n rs) ≡ with_owner n (insert_by data_order r rs)
-        → cond b (record s { owner = n } ∷ insert_by data_order (record r { owner = n }) (with_owner n rs)) (record r { owner = n } ∷ record s { owner = n } ∷ with_owner n rs)
-        ≡ with_owner n (cond b (s ∷ insert_by data_order r rs) (r ∷ s ∷ rs))
-    go true e = ap (λ xs. record s { owner = n } ∷ xs) e
-    go false e = refl
+insert_shown n r (s ∷ rs) = grind (arith, (insert_shown n r rs))
 
 sort_shown : (n : DomainName) (rs : List ResourceRecord) → sort_by data_order (with_owner n rs) ≡ with_owner n (sort_by data_order rs)
 sort_shown n [] = refl
@@ -71,13 +63,7 @@ sort_shown n (r ∷ rs) = ap (insert_by data_order (record r { owner = n })) (so
 
 filter_shown : (n : DomainName) (t : ℕ) (rs : List ResourceRecord) → filter (λ (r : ResourceRecord). r.rtype == t) (with_owner n rs) ≡ with_owner n (filter (λ (r : ResourceRecord). r.rtype == t) rs)
 filter_shown n t [] = refl
-filter_shown n t (r ∷ rs) = go (r.rtype == t) (filter_shown n t rs)
-  where
-    go : (b : Bool) → filter (λ (s : ResourceRecord). s.rtype == t) (with_owner n rs) ≡ with_owner n (filter (λ (s : ResourceRecord). s.rtype == t) rs)
-        → cond b (record r { owner = n } ∷ filter (λ (s : ResourceRecord). s.rtype == t) (with_owner n rs)) (filter (λ (s : ResourceRecord). s.rtype == t) (with_owner n rs))
-        ≡ with_owner n (cond b (r ∷ filter (λ (s : ResourceRecord). s.rtype == t) rs) (filter (λ (s : ResourceRecord). s.rtype == t) rs))
-    go true e = ap (λ xs. record r { owner = n } ∷ xs) e
-    go false e = e
+filter_shown n t (r ∷ rs) = grind (arith, (filter_shown n t rs))
 
 pub of_type-shown : (n : DomainName) (t : ℕ) (rs : List ResourceRecord) → of_type t (with_owner n rs) ≡ with_owner n (of_type t rs)
 of_type-shown n t rs = ap (sort_by data_order) (filter_shown n t rs) ∙ sort_shown n (filter (λ (r : ResourceRecord). r.rtype == t) rs)
@@ -97,8 +83,4 @@ lowest_shown n rs = ap (λ ts. of_first_type (rising ts) (with_owner n rs)) (typ
     go (t ∷ ts) = of_type-shown n t rs
 
 pub asked-shown : (n : DomainName) (t : ℕ) (rs : List ResourceRecord) → asked_records t (with_owner n rs) ≡ with_owner n (asked_records t rs)
-asked-shown n t rs = go (t == qtype_any)
-  where
-    go : (b : Bool) → cond b (of_lowest_type (with_owner n rs)) (of_type t (with_owner n rs)) ≡ with_owner n (cond b (of_lowest_type rs) (of_type t rs))
-    go true = lowest_shown n rs
-    go false = of_type-shown n t rs
+asked-shown n t rs = grind (arith, lowest_shown, of_type-shown)

@@ -1,5 +1,5 @@
 -- Sets offered one after the other: what is kept of them, and when one is missing.
-use Rattle.std.proofs.Common.{◌≡◌, ℕ, ◌+◌, ◌<◌, ◌≤◌, Bool, true, false, cond, nat_le, nat_lt, List, [], ◌∷◌, ◌++◌, length, Some, refl, sym, ap, ◌∙◌, subst, arith, length-append}
+use Rattle.std.proofs.Common.{◌≡◌, ℕ, ◌+◌, ◌<◌, ◌≤◌, Bool, true, false, cond, nat_le, nat_lt, List, [], ◌∷◌, ◌++◌, length, Some, refl, sym, ap, ◌∙◌, arith, length-append}
 use Rattle.std.proofs.lemmas.Bool.{ltb-true, lt-ltb}
 use Rattle.dns_spec.specs.Reading.{MessageQuestion}
 use Rattle.dns_spec.specs.Layout.{Item}
@@ -34,14 +34,8 @@ pub offered-kept : (q : MessageQuestion) (limit : ℕ) (front is : List Item)
     → (offered (record { question = q; limit = limit; kept = front; full = false }) is).kept ≡ fitting (size_with q) limit front is
 unfolding offered
 offered-kept q limit front [] = refl
-offered-kept q limit front (i ∷ is) = go (nat_le (size_with q (front ++ i ∷ [])) limit) (offered-kept q limit (front ++ i ∷ []) is)
-  where
-    go : (b : Bool)
-        → (offered (record { question = q; limit = limit; kept = front ++ i ∷ []; full = false }) is).kept ≡ fitting (size_with q) limit (front ++ i ∷ []) is
-        → (offered (cond b (record { question = q; limit = limit; kept = front ++ i ∷ []; full = false }) (record { question = q; limit = limit; kept = front; full = true })) is).kept
-        ≡ cond b (fitting (size_with q) limit (front ++ i ∷ []) is) front
-    go true e = e
-    go false e = ap (λ (d : Draft). d.kept) (offered-full (record { question = q; limit = limit; kept = front; full = true }) is refl)
+offered-kept q limit front (i ∷ is) =
+    grind (arith, offered-full, (offered-kept q limit (front ++ i ∷ []) is))
 
 pub offered-keeps : (q : MessageQuestion) (limit : ℕ) (is : List Item) → (offered (empty_draft q limit) is).kept ≡ kept (size_with q) limit is
 offered-keeps q limit is = offered-kept q limit [] is ∙ sym (kept_is_fitting (size_with q) (size_grows (Some q)) limit is)
@@ -60,18 +54,8 @@ record Counted (n : ℕ) (d : Draft) (is : List Item) : Type 0 where
 counts : (q : MessageQuestion) (limit : ℕ) (front is : List Item) → Counted (length front) (offered (open_draft q limit front) is) is
 unfolding offered
 counts q limit front [] = record { whole = λ e. omega arith; missing = λ e. absurd (cc) }
-counts q limit front (i ∷ is) = go (nat_le (size_with q (front ++ i ∷ [])) limit) (counts q limit (front ++ i ∷ []) is)
-  where
-    go : (b : Bool) → Counted (length (front ++ i ∷ [])) (offered (open_draft q limit (front ++ i ∷ [])) is) is
-        → Counted (length front) (offered (cond b (open_draft q limit (front ++ i ∷ [])) (full_draft q limit front)) is) (i ∷ is)
-    go true c = record {
-      whole = λ e. let w = c.whole e in omega (arith, length-append front (i ∷ []));
-      missing = λ e. let w = c.missing e in omega (arith, length-append front (i ∷ []));
-    }
-    go false c =
-        let same = offered-full (full_draft q limit front) is refl in
-        subst (λ d. Counted (length front) d (i ∷ is)) (sym same)
-        (record { whole = λ e. absurd (cc); missing = λ e. omega arith })
+counts q limit front (i ∷ is) =
+    grind (arith, length-append, offered-full, (counts q limit (front ++ i ∷ []) is))
 
 -- a reply that is offered more has no fewer sets
 longer : (q : MessageQuestion) (limit : ℕ) (front is : List Item) (b : Bool) → length front ≤ length (offered (record { question = q; limit = limit; kept = front; full = b }) is).kept
@@ -89,18 +73,7 @@ longer q limit front (i ∷ is) false = go (nat_le (size_with q (front ++ i ∷ 
 -- What is kept of all sets lacks one of the first of them exactly where the reply is full once those are offered.
 truncated_by : (d : Draft) (rest : List Item) (n : ℕ) (first : List Item) → Counted 0 d first → (b : Bool) → d.full ≡ b
     → nat_lt (length (offered d rest).kept) (length first) ≡ d.full
-truncated_by d rest n first c true f =
-    let short = c.missing f in
-    ap (λ (x : Draft). nat_lt (length x.kept) (length first)) (offered-full d rest f) ∙ lt-ltb (length d.kept) (length first) (omega (arith, short)) ∙ sym f
-truncated_by d rest n first c false f =
-    let whole = c.whole f in
-    let more = longer d.question d.limit d.kept rest d.full in
-    not_short (nat_lt (length (offered d rest).kept) (length first)) refl (omega arith) ∙ sym f
-  where
-    not_short : (b : Bool) → nat_lt (length (offered d rest).kept) (length first) ≡ b → length first ≤ length (offered d rest).kept
-        → nat_lt (length (offered d rest).kept) (length first) ≡ false
-    not_short true e h = absurd (let l = ltb-true (length (offered d rest).kept) (length first) e in omega arith)
-    not_short false e h = e
+truncated_by d rest n first h b h1 = grind (arith, offered-full, lt-ltb, longer, ltb-true)
 
 pub offered-truncated : (q : MessageQuestion) (limit : ℕ) (first rest : List Item)
     → nat_lt (length (kept (size_with q) limit (first ++ rest))) (length first) ≡ (offered (empty_draft q limit) first).full

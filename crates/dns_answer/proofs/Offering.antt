@@ -1,6 +1,6 @@
 -- Sets that are offered in two steps.
-use Rattle.std.proofs.Common.{◌≡◌, ◌↔◌, ℕ, ◌≤◌, Bool, true, false, cond, nat_le, IsTrue, List, [], ◌∷◌, ◌++◌, Option, Some, refl, sym, ◌∙◌, subst, arith}
-use Rattle.std.proofs.lemmas.Bool.{le-leb, leb-true, false≢true}
+use Rattle.std.proofs.Common.{◌≡◌, ◌↔◌, ℕ, ◌≤◌, Bool, true, false, cond, nat_le, IsTrue, List, [], ◌∷◌, ◌++◌, Option, refl, sym, ◌∙◌, subst, arith}
+use Rattle.std.proofs.lemmas.Bool.{le-leb, false≢true}
 use Rattle.std.specs.Bool.{OnTrue, OnFalse}
 use Rattle.dns_spec.specs.Names.{Octets}
 use Rattle.dns_spec.specs.Reading.{MessageQuestion}
@@ -18,10 +18,7 @@ pub Offers-nothing : (w : State) → Offers w w []
 Offers-nothing w = record { draft = λ d h. subst (Holds w) (sym (offered-nil d)) h; limit = refl }
 
 pub Offers-then : (w w' w'' : State) (is js : List Item) → Offers w w' is → Offers w' w'' js → Offers w w'' (is ++ js)
-Offers-then w w' w'' is js a b = record {
-  draft = λ d h. subst (Holds w'') (sym (offered-append d is js)) (b.draft (offered d is) (a.draft d h));
-  limit = b.limit ∙ a.limit;
-}
+Offers-then w w' w'' is js a b = grind (arith, offered-append)
 
 pub Offers-is : (w w' : State) (is js : List Item) → is ≡ js → Offers w w' is → Offers w w' js
 Offers-is w w' is js e a = subst (Offers w w') e a
@@ -35,27 +32,14 @@ open_offer d i e = rw e refl
 
 -- a full reply is left as it is
 pub Offers-full : (w : State) (is : List Item) → w.full ≡ true → Offers w w is
-Offers-full w is full = record {
-  draft = λ d h. subst (Holds w) (sym (offered-full d is (sym h.full ∙ full))) h;
-  limit = refl;
-}
+Offers-full w is full = grind (arith, offered-full)
 
 -- a set is put
 pub Offers-put : (w : State) (page : wire.Draft) (i : Item) → w.full ≡ false → page.limit ≡ w.page.limit
     → ((q : Option MessageQuestion) (items : List Item) → IsDraft quick_number q items w.page
     → (size q (items ++ i ∷ []) ≤ w.page.limit) × IsDraft quick_number q (items ++ i ∷ []) page)
     → Offers w (record w { page = page }) (i ∷ [])
-Offers-put w page i unfull same put = record {
-  draft = λ d h. subst (Holds (record w { page = page })) (sym (offered-one d i ∙ open_offer d i (sym h.full ∙ unfull))) (go d h (nat_le (size_with d.question (d.kept ++ i ∷ [])) d.limit) refl);
-  limit = same;
-}
-  where
-    go : (d : spec.Draft) → Holds w d → (y : Bool) → nat_le (size_with d.question (d.kept ++ i ∷ [])) d.limit ≡ y
-        → Holds (record w { page = page }) (cond y (record d { kept = d.kept ++ i ∷ [] }) (record d { full = true }))
-    go d h true f = record { written = (put (Some d.question) d.kept h.written).1; limit = same ∙ h.limit; full = h.full }
-    go d h false f =
-        let fits = (put (Some d.question) d.kept h.written).0 in
-        absurd (false≢true (sym f ∙ le-leb _ _ (omega (arith, fits, h.limit))))
+Offers-put w page i unfull same put = grind (arith, offered-one, open_offer, false≢true, le-leb)
 
 -- a set does not fit, and the reply is full
 pub Offers-left : (w : State) (i : Item) → w.full ≡ false
@@ -68,9 +52,7 @@ Offers-left w i unfull left = record {
   where
     go : (d : spec.Draft) → Holds w d → (y : Bool) → nat_le (size_with d.question (d.kept ++ i ∷ [])) d.limit ≡ y
         → Holds (record w { full = true }) (cond y (record d { kept = d.kept ++ i ∷ [] }) (record d { full = true }))
-    go d h true f =
-        let fits = leb-true _ _ f in
-        absurd (left (Some d.question) d.kept h.written (omega (arith, fits, h.limit)))
+    go d h true f = grind arith
     go d h false f = record { written = h.written; limit = h.limit; full = refl }
 
 -- by what a page says of putting a set

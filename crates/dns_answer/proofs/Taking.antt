@@ -1,30 +1,19 @@
 -- What look-ups take one after the other, and the room that they leave.
-use Rattle.std.proofs.Common.{ℕ, ◌+◌, ◌≤◌, refl, ◌∙◌, arith}
+use Rattle.std.proofs.Common.{ℕ, ◌+◌, ◌≤◌, arith}
 use Rattle.dns_zone.specs.Nodes.{Walk}
 use Rattle.dns_answer.specs.Walks.{HasRoom, Took}
 
 -- a walk that goes on no further took no more than any
 pub Took-none : {s : Walk} {nodes misses : ℕ} → Took s s nodes misses
-Took-none =
-    record { zone = refl; from = omega arith; visits = omega arith; comparisons = omega arith }
+Took-none = grind arith
 
 pub Took-then : {s s' s'' : Walk} {n m n' m' : ℕ} → Took s s' n m → Took s' s'' n' m'
     → Took s s'' (n + n') (m + m')
-Took-then a b = record {
-  zone = b.zone ∙ a.zone;
-  from = omega arith;
-  visits = omega arith;
-  comparisons = omega arith;
-}
+Took-then a b = grind arith
 
 pub Took-within : {s s' : Walk} {n m n' m' : ℕ} → n ≤ n' → m ≤ m' → Took s s' n m
     → Took s s' n' m'
-Took-within nodes misses took = record {
-  zone = took.zone;
-  from = omega arith;
-  visits = omega arith;
-  comparisons = omega arith;
-}
+Took-within nodes misses took = grind arith
 
 -- the room that is left
 pub HasRoom-after : {s s' : Walk} {n m k r : ℕ} → Took s s' n m → n + m + k ≤ r → HasRoom s r

@@ -37,8 +37,7 @@ use Rattle.dns_answer.proofs.Offering.{Offers-is, Offers-then, Offers-full}
 use Rattle.dns_answer.specs.Targets.{set_targets, targets_of_first, target_at, takes_target, addresses_of, depth_in, target_items, side_items, side_nodes, target_nodes, target_misses}
 
 one_more : (o : Option DomainName) → cons_option o [] ≡ option_to_list o
-one_more None = refl
-one_more (Some m) = refl
+one_more o = grind arith
 
 -- the targets of one record more
 pub first-more : (set : RecordSet) (i : ℕ) → i < length set.rdata → targets_of_first (i + 1) set ≡ targets_of_first i set ++ option_to_list (target_at i set)
@@ -52,8 +51,7 @@ first-more set i h =
 pub any-more : (p : DomainName → Bool) (set : RecordSet) (i : ℕ) → i < length set.rdata
     → list_any p (targets_of_first (i + 1) set) ≡ (list_any p (targets_of_first i set)
     || list_any p (option_to_list (target_at i set)))
-any-more p set i h =
-    ap (list_any p) (first-more set i h) ∙ list_any-append p (targets_of_first i set) _
+any-more p set i h = grind (arith, first-more, list_any-append)
 
 pub stood-some : (p : DomainName → Bool) (set : RecordSet) (count i : ℕ) (m : DomainName)
     → i < count → count ≤ length set.rdata → target_at i set ≡ Some m
@@ -70,45 +68,29 @@ stood-some p set (suc k) i m h l e f =
     by_place : (i < k) ⊎ (k ≤ i) → (i < k → list_any p (targets_of_first k set) ≡ true)
         → (list_any p (targets_of_first k set) || last k) ≡ true
     by_place (inl before) rest = or_left _ (last k) (rest before)
-    by_place (inr after) rest =
-        let here : i ≡ k = omega arith in
-        or_right (list_any p (targets_of_first k set)) (last k) (ap last (sym here)
-        ∙ ap (λ o. list_any p (option_to_list o)) e ∙ or_left (p m) false f)
+    by_place (inr after) rest = grind arith
 
 -- whether all pass a test, with one target more
 pub all-more : (p : DomainName → Bool) (set : RecordSet) (i : ℕ) → i < length set.rdata
     → list_all p (targets_of_first (i + 1) set)
     ≡ (list_all p (targets_of_first i set)
     && takes_target p (target_at i set))
-all-more p set i h =
-    let o = target_at i set in
-    ap (list_all p) (first-more set i h)
-    ∙ list_all-append p (targets_of_first i set) (option_to_list o)
-    ∙ ap (λ b. list_all p (targets_of_first i set) && b) (one o)
-  where
-    one : (o : Option DomainName) → list_all p (option_to_list o) ≡ takes_target p o
-    one None = refl
-    one (Some m) = and-true (p m)
+all-more p set i h = grind (arith, first-more, list_all-append, and-true)
 
 -- what is offered for one target more
 pub side_items-append : (z : ZoneContents) (p : DomainName → Bool) (before ms ns : List DomainName) → side_items z p before (ms ++ ns) ≡ side_items z p before ms ++ side_items z p (before ++ ms) ns
 unfolding side_items
 side_items-append z p before [] ns = ap (λ b. side_items z p b ns) (sym (append-nil before))
 side_items-append z p before (m ∷ ms) ns =
-    ap (λ x. target_items z p before (Some m) ++ x) (side_items-append z p (before ++ m ∷ []) ms ns ∙ ap (λ b. side_items z p (before ++ m ∷ []) ms ++ side_items z p b ns) (append_assoc before (m ∷ []) ms))
-    ∙ sym (append_assoc (target_items z p before (Some m)) (side_items z p (before ++ m ∷ []) ms) (side_items z p (before ++ m ∷ ms) ns))
+    grind (arith, append_assoc, (side_items-append z p (before ++ m ∷ []) ms ns))
 
 side_items-one : (z : ZoneContents) (p : DomainName → Bool) (before : List DomainName) (o : Option DomainName) → side_items z p before (option_to_list o) ≡ target_items z p before o
 unfolding side_items
-side_items-one z p before None = refl
-side_items-one z p before (Some m) = append-nil (target_items z p before (Some m))
+side_items-one z p before o = grind (arith, append-nil)
 
 pub side_items-more : (z : ZoneContents) (p : DomainName → Bool) (set : RecordSet) (i : ℕ) → i < length set.rdata
     → side_items z p [] (targets_of_first i set) ++ target_items z p (targets_of_first i set) (target_at i set) ≡ side_items z p [] (targets_of_first (i + 1) set)
-side_items-more z p set i h =
-    let o = target_at i set in
-    ap (λ x. side_items z p [] (targets_of_first i set) ++ x) (sym (side_items-one z p (targets_of_first i set) o))
-    ∙ sym (side_items-append z p [] (targets_of_first i set) (option_to_list o)) ∙ ap (side_items z p []) (sym (first-more set i h))
+side_items-more z p set i h = grind (arith, side_items-one, side_items-append, first-more)
 
 pub side_items-none : (z : ZoneContents) (p : DomainName → Bool) → side_items z p [] [] ≡ []
 unfolding side_items
@@ -121,12 +103,7 @@ depths z ns = sum (map (λ (n : DomainName). length n - length z.origin) ns)
 pub depths-append : (z : ZoneContents) (ns ms : List DomainName)
     → depths z (ns ++ ms) ≡ depths z ns + depths z ms
 depths-append z [] ms = omega arith
-depths-append z (n ∷ ns) ms =
-    let below = λ (n : DomainName). length n - length z.origin in
-    let a = sum_cons (below n) (map below (ns ++ ms)) in
-    let b = sum_cons (below n) (map below ns) in
-    let c = depths-append z ns ms in
-    omega (arith, a, b, c)
+depths-append z (n ∷ ns) ms = grind (arith, sum_cons, (depths-append z ns ms))
 
 -- what targets take, with others
 module _ (z : ZoneContents) (p : DomainName → Bool) where
@@ -140,29 +117,13 @@ module _ (z : ZoneContents) (p : DomainName → Bool) where
 
   misses-append : (ms ns : List DomainName)
       → length (filter p (ms ++ ns)) ≡ length (filter p ms) + length (filter p ns)
-  misses-append ms ns =
-      ap length (filter-append p ms ns) ∙ length-append (filter p ms) (filter p ns)
+  misses-append ms ns = grind (arith, filter-append, length-append)
 
   nodes-one : (o : Option DomainName) → side_nodes z p (option_to_list o) ≡ target_nodes z p o
-  nodes-one None = refl
-  nodes-one (Some m) = go (p m)
-    where
-      inside : (b : Bool) → depths z (cond b (m ∷ []) []) ≡ cond b (length m - length z.origin) 0
-      inside true = sum_cons (length m - length z.origin) [] ∙ omega arith
-      inside false = refl
-
-      go : (a : Bool) → depths z (targets_in_zone z (cond a (m ∷ []) []))
-          ≡ cond (a && at_or_below m z.origin) (length m - length z.origin) 0
-      go true = inside (at_or_below m z.origin)
-      go false = refl
+  nodes-one o = grind (arith, sum_cons)
 
   misses-one : (o : Option DomainName) → length (filter p (option_to_list o)) ≡ target_misses p o
-  misses-one None = refl
-  misses-one (Some m) = go (p m)
-    where
-      go : (b : Bool) → length (cond b (m ∷ []) []) ≡ cond b 1 0
-      go true = refl
-      go false = refl
+  misses-one o = grind arith
 
   pub Took-more : (set : RecordSet) (i : ℕ) {s s' s'' : Walk} → i < length set.rdata
       → Took s s' (side_nodes z p (targets_of_first i set))
@@ -212,8 +173,7 @@ Offers-rest z p set i w w' full firsts =
 
 -- a set that is there, and one that is not
 pub item-none : (s : Section) (rs : List ResourceRecord) → set_of rs ≡ None → item s rs ≡ []
-item-none s [] e = refl
-item-none s (r ∷ rs) e = absurd (cc)
+item-none s rs h = grind arith
 
 -- a zone has no records outside
 owner_inside : (z : ZoneContents) → IsBuilt z → (r : ResourceRecord) → Among r z.records → at_or_below r.owner z.origin ≡ true
@@ -236,18 +196,11 @@ owner_inside z kept r m =
 -- a name that no record has
 none-at : (z : ZoneContents) (m : DomainName)
     → ((r : ResourceRecord) → Among r z.records → same r.owner m ≡ true → ⊥) → addresses_of z m ≡ []
-none-at z m none =
-    ap (λ rs. item additional (of_type type_a rs) ++ item additional (of_type type_aaaa rs))
-    (filter_none (λ (r : ResourceRecord). same r.owner m) z.records
-    (each_among (λ (r : ResourceRecord). same r.owner m ≡ false) z.records
-    (λ r a. false_from_ne_true (same r.owner m) (none r a))))
+none-at z m none = grind (arith, filter_none, each_among, false_from_ne_true)
 
 pub none-outside : (z : ZoneContents) (m : DomainName) → IsBuilt z
     → at_or_below m z.origin ≡ false → addresses_of z m ≡ []
-none-outside z m kept out =
-    none-at z m
-    (λ r a e. false≢true
-    (sym out ∙ sym (same-under r.owner m z.origin e) ∙ owner_inside z kept r a))
+none-outside z m kept out = grind (arith, none-at, false≢true, same-under, owner_inside)
 
 -- nor one that does not exist
 pub none-missing : (z : ZoneContents) (m : DomainName) → exists z m ≡ false → addresses_of z m ≡ []
@@ -258,8 +211,7 @@ none-missing z m out =
         → at_or_below r.owner m ≡ true
         → list_any (λ (r : ResourceRecord). at_or_below r.owner m) rs ≡ true
     some [] r a e = absurd a
-    some (s ∷ rs) r (inl is) e =
-        or_left _ _ (ap (λ (r : ResourceRecord). at_or_below r.owner m) (sym is) ∙ e)
+    some (s ∷ rs) r (inl is) e = grind arith
     some (s ∷ rs) r (inr a) e = or_right (at_or_below s.owner m) _ (some rs r a e)
 
 -- the addresses of a name are those of its lower case
@@ -272,9 +224,7 @@ items-untaken z p before m e = ap (λ b. cond (b && not (list_any (same m) befor
 
 pub items-stood : (z : ZoneContents) (p : DomainName → Bool) (before : List DomainName)
     (m : DomainName) → list_any (same m) before ≡ true → target_items z p before (Some m) ≡ []
-items-stood z p before m e =
-    ap (λ b. cond (p m && not b) (addresses_of z m) []) e
-    ∙ ap (λ b. cond b (addresses_of z m) []) (and-false (p m))
+items-stood z p before m e = grind (arith, and-false)
 
 -- names in lower case are the same where they are equal
 pub same-lower : (n m : DomainName) → folded n ≡ n → folded m ≡ m → names_equal n m ≡ same n m
@@ -282,8 +232,4 @@ same-lower n m low kept = sym (ap₂ names_equal low kept)
 
 -- a name has few labels
 pub depth-few : (z : ZoneContents) (m : DomainName) → length m ≤ 127 → depth_in z m ≤ 127
-depth-few z m few = go (at_or_below m z.origin)
-  where
-    go : (b : Bool) → cond b (length m - length z.origin) 0 ≤ 127
-    go true = omega (arith, few)
-    go false = omega arith
+depth-few z m few = grind arith

@@ -1,6 +1,6 @@
 -- The numbers of an address stand between its dots.
-use Rattle.std.proofs.Common.{◌≡◌, ◌↔◌, ℕ, [], ◌∷◌, ◌++◌, ◌+◌, ◌-◌, ◌*◌, ◌/◌, ◌%◌, ◌<◌, ◌≤◌, ◌⊎◌, inl, inr, true, ◌==◌, length, refl, sym, ◌∙◌, ap, subst, arith, decimal, nat_lt, nat_le}
-use Rattle.std.proofs.lemmas.Bool.{ne_eqb, eqb-false, lt-ltb, ltb-true, le-leb, leb-true, and_from, and_parts, cases_Bool, cases_lt}
+use Rattle.std.proofs.Common.{◌≡◌, ◌↔◌, ℕ, [], ◌∷◌, ◌++◌, ◌+◌, ◌*◌, ◌/◌, ◌%◌, ◌<◌, ◌≤◌, ◌⊎◌, true, ◌==◌, length, refl, sym, ◌∙◌, ap, subst, arith, decimal}
+use Rattle.std.proofs.lemmas.Bool.{ne_eqb, eqb-false, lt-ltb, ltb-true, le-leb, leb-true, and_from, and_parts, cases_lt}
 use Rattle.std.proofs.lemmas.Fmt.{decimal_digit, decimal_step, decimal_injective}
 use Rattle.std.proofs.lemmas.List.{append-nil}
 use Rattle.std.specs.Char.{is_ascii_digit}
@@ -20,72 +20,29 @@ digit_here d rest small = rw (is_digit d small) (ap (λ k. Some (k, rest)) (omeg
 -- a text begins with a digit or with none
 digit_or_none : (text : Octets) → (digit_at text ≡ None) ⊎ ((d : ℕ) × (rest : Octets)
     × (text ≡ (48 + d) ∷ rest) × (d < 10) × (digit_at text ≡ Some (d, rest)))
-digit_or_none [] = inl refl
-digit_or_none (a ∷ rest) = elim (cases_Bool (is_ascii_digit a)) [
-  | inl digit ↦
-      let parts = and_parts (nat_le 48 a) (nat_le a 57) digit in
-      let low = leb-true 48 a parts.0 in
-      let high = leb-true a 57 parts.1 in
-      inr (a - 48, rest, ap (λ k. k ∷ rest) (omega (arith, low)), omega (arith, low, high), rw digit refl)
-  | inr none ↦ inl (rw none refl)
-]
+digit_or_none text = grind (arith, and_parts, leb-true)
 
 two_places : (n : ℕ) (rest : Octets) → 10 ≤ n → n < 100
     → decimal n ++ rest ≡ (48 + n / 10) ∷ (48 + n % 10) ∷ rest
-two_places n rest from upto =
-    rw (decimal_step n from (omega arith), decimal_digit (n / 10) (omega arith)) refl
+two_places n rest from upto = grind (arith, decimal_step, decimal_digit)
 
 three_places : (n : ℕ) (rest : Octets) → 100 ≤ n → n < 1000
     → decimal n ++ rest ≡ (48 + n / 10 / 10) ∷ (48 + n / 10 % 10) ∷ (48 + n % 10) ∷ rest
-three_places n rest from upto =
-    rw (
-      decimal_step n (omega arith) (omega arith),
-      decimal_step (n / 10) (omega arith) (omega arith),
-      decimal_digit (n / 10 / 10) (omega arith),
-    ) refl
+three_places n rest from upto = grind (arith, decimal_step, decimal_digit)
 
 -- the number that a decimal says which no other digit follows
 number_of : (n : ℕ) (rest : Octets) → n ≤ 255 → digit_at rest ≡ None
     → number_at (decimal n ++ rest) ≡ Some (n, rest)
 unfolding number_at
-number_of n rest le none = elim (cases_lt n 10) [
-  | inl small ↦ rw (decimal_digit n small, digit_here n rest small) (elim (cases_Bool (n == 0)) [
-    | inl zero ↦ rw zero refl
-    | inr some ↦ rw (some, none) refl
-  ])
-  | inr large ↦ elim (cases_lt n 100) [
-    | inl below ↦
-        rw (
-          two_places n rest large below,
-          digit_here (n / 10) ((48 + n % 10) ∷ rest) (omega arith),
-          ne_eqb (n / 10) 0 (λ e. omega (arith, e)),
-          digit_here (n % 10) rest (omega arith),
-          none,
-        )
-        (ap (λ k. Some (k, rest)) (omega arith))
-    | inr above ↦
-        let end : Octets = (48 + n % 10) ∷ rest in
-        rw (
-          three_places n rest above (omega arith),
-          digit_here (n / 10 / 10) ((48 + n / 10 % 10) ∷ end) (omega arith),
-          ne_eqb (n / 10 / 10) 0 (λ e. omega (arith, e)),
-          digit_here (n / 10 % 10) end (omega arith),
-          digit_here (n % 10) rest (omega arith),
-          lt-ltb (10 * (10 * (n / 10 / 10) + n / 10 % 10) + n % 10) 256 (omega arith),
-        )
-        (ap (λ k. Some (k, rest)) (omega arith))
-  ]
-]
+number_of n rest le none =
+    grind (arith, cases_lt, decimal_digit, digit_here, two_places, ne_eqb, three_places, lt-ltb)
 
 -- a number, and what stands after it
 abbrev pub read_as : ℕ → Octets → Option (ℕ × Octets)
 read_as n rest = Some (n, rest)
 
 some_pair : {a b : ℕ} {xs ys : Octets} → read_as a xs ≡ read_as b ys → (a ≡ b) × (xs ≡ ys)
-some_pair e = let pair = inner e in (ap (λ r. r.0) pair, ap (λ r. r.1) pair)
-  where
-    inner : {r s : ℕ × Octets} → Some r ≡ Some s → r ≡ s
-    inner g = cc
+some_pair e = grind arith
 
 not_none : {a : ℕ} {xs : Octets} → None ≡ read_as a xs → ⊥
 not_none e = cc
@@ -97,58 +54,19 @@ Begins text n rest = (text ≡ decimal n ++ rest) × (n ≤ 255)
 two_digits : (a b n : ℕ) (after rest : Octets) → 0 < a → a < 10 → b < 10
     → number_end (10 * a + b, after) (digit_at after) ≡ Some (n, rest)
     → Begins ((48 + a) ∷ (48 + b) ∷ after) n rest
-two_digits a b n after rest some small low h = elim (digit_or_none after) [
-  | inl none ↦
-      let is = some_pair (rw none at h) in
-      let P : ℕ → Octets → Type 0 = λ k end. Begins ((48 + a) ∷ (48 + b) ∷ after) k end in
-      let two = two_places (10 * a + b) after (omega arith) (omega arith) in
-      let first : (10 * a + b) / 10 ≡ a = omega arith in
-      let second : (10 * a + b) % 10 ≡ b = omega arith in
-      subst (P n) is.1 (subst (λ k. P k after) is.0 (sym (rw (first, second) at two), omega arith))
-  | inr (c, end, is_end, last, digit) ↦ elim (cases_Bool (nat_lt (10 * (10 * a + b) + c) 256)) [
-    | inl fits ↦
-        let is = some_pair (rw (digit, fits) at h) in
-        let value : ℕ = 10 * (10 * a + b) + c in
-        let below = ltb-true value 256 fits in
-        let three = three_places value end (omega arith) (omega arith) in
-        let P : ℕ → Octets → Type 0 = λ k rest. Begins ((48 + a) ∷ (48 + b) ∷ after) k rest in
-        let first : value / 10 / 10 ≡ a = omega arith in
-        let second : value / 10 % 10 ≡ b = omega arith in
-        let third : value % 10 ≡ c = omega arith in
-        let text : (48 + a) ∷ (48 + b) ∷ after ≡ decimal value ++ end =
-        ap (λ t. (48 + a) ∷ (48 + b) ∷ t) is_end
-        ∙ sym (rw (first, second, third) at three) in
-        subst (P n) is.1 (subst (λ k. P k end) is.0 (text, omega (arith, below)))
-    | inr wide ↦ absurd (not_none (rw (digit, wide) at h))
-  ]
-]
+two_digits a b n after rest some small low h =
+    grind (arith, digit_or_none, some_pair, two_places, ltb-true, three_places, not_none)
 
 one_digit : (a n : ℕ) (after rest : Octets) → a < 10
     → (if a == 0 then Some (a, after) else number_on (a, after) (digit_at after)) ≡ Some (n, rest)
     → Begins ((48 + a) ∷ after) n rest
 one_digit a n after rest small h =
-    let P : ℕ → Octets → Type 0 = λ k end. Begins ((48 + a) ∷ after) k end in
-    let alone : Begins ((48 + a) ∷ after) a after = (rw (decimal_digit a small) refl, omega arith) in
-    let as_read : read_as a after ≡ read_as n rest → P n rest = λ e.
-    let is = some_pair e in subst (P n) is.1 (subst (λ k. P k after) is.0 alone) in
-    elim (cases_Bool (a == 0)) [
-      | inl zero ↦ as_read (rw zero at h)
-      | inr other ↦ elim (digit_or_none after) [
-        | inl none ↦ as_read (rw (other, none) at h)
-        | inr (b, end, is_end, low, digit) ↦
-            let two = two_digits a b n end rest (omega (arith, eqb-false a 0 other)) small low (rw (other, digit) at h) in
-            subst (λ t. Begins ((48 + a) ∷ t) n rest) (sym is_end) two
-      ]
-    ]
+    grind (arith, decimal_digit, some_pair, digit_or_none, two_digits, eqb-false)
 
 pub number_read : (text : Octets) (n : ℕ) (rest : Octets) → number_at text ≡ Some (n, rest)
     → Begins text n rest
 unfolding number_at
-number_read text n rest h = elim (digit_or_none text) [
-  | inl none ↦ absurd (not_none (rw none at h))
-  | inr (a, after, is, small, digit) ↦
-      subst (λ t. Begins t n rest) (sym is) (one_digit a n after rest small (rw digit at h))
-]
+number_read text n rest h = grind (arith, digit_or_none, not_none, one_digit)
 
 -- the number that all of a text says
 number_alone : (text : Octets) (n : ℕ) → (text ≡ decimal n) × (n ≤ 255)
@@ -161,8 +79,7 @@ none_alone text none n is le = not_none (sym none ∙ number_alone text n (is, l
 
 pub more_than_one : (text : Octets) (m : ℕ) (end : Octets) → number_at text ≡ read_as m end
     → (length end ≡ 0 → ⊥) → (n : ℕ) → text ≡ decimal n → n ≤ 255 → ⊥
-more_than_one text m end read refuted n is le =
-    refuted (ap length (some_pair (sym read ∙ number_alone text n (is, le))).1)
+more_than_one text m end read refuted n is le = grind (arith, some_pair, number_alone)
 
 pub one_alone : (text : Octets) (m : ℕ) (end : Octets) → number_at text ≡ read_as m end
     → length end ≡ 0 → (n : ℕ) → (Some m ≡ Some n) ↔ ((text ≡ decimal n) × (n ≤ 255))
@@ -184,13 +101,11 @@ number_then text rest n said = ap number_at said.0 ∙ number_of n (46 ∷ rest)
 -- no number is read, or none that a dot ends
 pub not_read : (text : Octets) (n : ℕ) (rest : Octets) → number_at text ≡ None
     → OctetThen text n rest → ⊥
-not_read text n rest none said =
-    not_none (sym none ∙ number_then text rest n said)
+not_read text n rest none said = grind (arith, not_none, number_then)
 
 pub other_end : (text : Octets) (m : ℕ) (end : Octets) (n : ℕ) (rest : Octets)
     → number_at text ≡ Some (m, end) → (end ≡ 46 ∷ rest → ⊥) → OctetThen text n rest → ⊥
-other_end text m end n rest read refuted said =
-    refuted (some_pair (sym read ∙ number_then text rest n said)).1
+other_end text m end n rest read refuted said = grind (arith, some_pair, number_then)
 
 -- a text begins with one number and a dot
 one_octet : (text : Octets) (m n : ℕ) (rest others : Octets) → OctetThen text m rest
@@ -240,17 +155,7 @@ ipv4_parts text d h =
     }
 
 pub says_ipv4 : (text d : Octets) → Ipv4Parts text d → SaysIpv4 text d
-says_ipv4 text d p =
-    let P : Octets → Type 0 = SaysIpv4 text in
-    subst P (sym p.is) (record {
-      four = refl;
-      octets = and_from _ _ (small p.first p.reads_first.1) (and_from _ _ (small p.second p.reads_second.1) (and_from _ _ (small p.third p.reads_third.1) (and_from _ _ (small p.fourth p.reads_fourth.1) refl)));
-      spelled = p.reads_first.0
-          ∙ ap (λ t. decimal p.first ++ 46 ∷ t) (p.reads_second.0 ∙ ap (λ t. decimal p.second ++ 46 ∷ t) (p.reads_third.0 ∙ ap (λ t. decimal p.third ++ 46 ∷ t) p.reads_fourth.0));
-    })
-  where
-    small : (k : ℕ) → k ≤ 255 → nat_lt k 256 ≡ true
-    small k le = lt-ltb k 256 (omega arith)
+says_ipv4 text d p = grind (arith, and_from, lt-ltb)
 
 -- the result is the address that the text says, if it says one
 abbrev pub Ipv4Iff : Octets → Option Octets → Type 0

@@ -1,8 +1,8 @@
 -- Groups of an IPv6 address, read from left to right.
-use Rattle.std.proofs.Common.{◌≡◌, ℕ, ◌+◌, ◌-◌, ◌*◌, ◌^◌, ◌<◌, ◌≤◌, inl, inr, ◌⊎◌, Bool, true, false, ◌&&◌, ◌==◌, List, [], ◌∷◌, ◌++◌, length, take, drop, get_or, replicate, nat_lt, nat_le, refl, sym, ◌∙◌, ap, subst, arith, length-append, drop-cons, length-drop}
+use Rattle.std.proofs.Common.{◌≡◌, ℕ, ◌+◌, ◌-◌, ◌*◌, ◌^◌, ◌<◌, ◌≤◌, Bool, true, false, ◌&&◌, ◌==◌, List, [], ◌∷◌, ◌++◌, length, take, drop, get_or, replicate, nat_lt, nat_le, refl, sym, ◌∙◌, ap, subst, arith, length-append, length-drop}
 use Rattle.std.specs.Prelude.{Option, Some, None, if◌then◌else◌, position, MatchOption}
 use Rattle.std.specs.Option.{option_map, option_and_then}
-use Rattle.std.specs.List.{list_all, slice_split, position_or_len, flat_map, onto_first}
+use Rattle.std.specs.List.{list_all, slice_split, position_or_len, flat_map}
 use Rattle.std.specs.Int.{bytes_high_first}
 use Rattle.std.specs.Bool.{OnTrue}
 use Rattle.std.specs.Char.{is_ascii_hexdigit, digit_value}
@@ -10,11 +10,11 @@ use Rattle.std.specs.Str.Parse.{digits_value}
 use Rattle.std.proofs.lemmas.List.{append_assoc, take_all, length-replicate}
 use Rattle.std.proofs.lemmas.List.Folds.{list_all_more}
 use Rattle.std.proofs.lemmas.List.Splits.{slice_split_first}
-use Rattle.std.proofs.lemmas.Bool.{cases_Bool, and_from, true≢false, false≢true, lt-ltb, eq-eqb, le-leb, lt-leb, ne_eqb, ltb-true, ltb-false, le-ltb, leb-false, and_parts, eqb-true}
+use Rattle.std.proofs.lemmas.Bool.{and_from, true≢false, false≢true, eq-eqb, le-leb, lt-leb, ltb-true, ltb-false, le-ltb, leb-false, and_parts, eqb-true}
 use Rattle.std.proofs.lemmas.Option.{same_Some, none-some, cond_some, option_and_then_some}
 use Rattle.std.proofs.lemmas.Int.Digits.{digits_value_more}
 use Rattle.std.proofs.Math.Nat.{pow-le-pow_right, pow-suc}
-use Rattle.std.proofs.Math.Numerals.{add-one, suc-eq-add-one}
+use Rattle.std.proofs.Math.Numerals.{add-one}
 use Rattle.dns_spec.specs.Names.{Octets}
 use Rattle.dns_spec.specs.AddressText.{is_group, group_values, groups_said, around_gap, filled_groups, eight_groups, groups_by, ipv6_groups, ipv6_octets, SaysIpv6}
 use Rattle.dns_rdata.specs.HexForm.{digit_of}
@@ -28,11 +28,7 @@ none_is_some x e = cc
 
 -- a hex digit, and none
 digit_is : (c v : ℕ) → Some v ≡ digit_of c → (is_ascii_hexdigit c ≡ true) × (v ≡ digit_value c)
-digit_is c v e = by_cases (cases_Bool (is_ascii_hexdigit c))
-  where
-    by_cases : (is_ascii_hexdigit c ≡ true) ⊎ (is_ascii_hexdigit c ≡ false) → (is_ascii_hexdigit c ≡ true) × (v ≡ digit_value c)
-    by_cases (inl hex) = let f : Some v ≡ Some (digit_value c) = rw hex at e in (hex, some_inner _ _ f)
-    by_cases (inr none) = let f : Some v ≡ None = rw none at e in absurd (none_is_some v (sym f))
+digit_is c v e = grind (arith, some_inner, none_is_some)
 
 -- the digits of a group so far
 pub record GroupSoFar (text : Octets) (i value : ℕ) : Type 0 where
@@ -41,9 +37,7 @@ pub record GroupSoFar (text : Octets) (i value : ℕ) : Type 0 where
   pub bound : value < 16 ^ i
 
 pub GroupSoFar-small : (text : Octets) (i value : ℕ) → GroupSoFar text i value → i < length text → length text ≤ 4 → value < 4096
-GroupSoFar-small text i value so_far inside short =
-    let most : 16 ^ i ≤ 16 ^ 3 = pow-le-pow_right {n = 16} (omega arith) {i = i} {j = 3} (omega arith) in
-    omega (arith, so_far.bound, most)
+GroupSoFar-small text i value so_far inside short = grind (arith, pow-le-pow_right)
 
 pub GroupSoFar-push : (text : Octets) (i value v : ℕ) → GroupSoFar text i value → i < length text → Some v ≡ digit_of (get_or text i 0) → v < 16 → GroupSoFar text (i + 1) (value * 16 + v)
 GroupSoFar-push text i value v so_far inside e small =
@@ -53,10 +47,6 @@ GroupSoFar-push text i value v so_far inside e small =
       value_is = omega (arith, digits_value_more 16 text i inside, digit.1, ap (λ n. n * 16) so_far.value_is);
       bound = let step : 16 ^ (i + 1) ≡ 16 ^ i * 16 = rw (add-one i) (pow-suc 16 i) in omega (arith, so_far.bound, step);
     }
-
--- a group has at most 4 digits, and one at least
-pub group_of : (text : Octets) → 0 < length text → length text ≤ 4 → list_all is_ascii_hexdigit text ≡ true → is_group text ≡ true
-group_of text some_digit short hex = and_from _ _ (and_from _ _ (lt-ltb _ _ some_digit) (le-leb _ _ short)) hex
 
 -- eight groups one by one
 pub eight : (gs : List ℕ) → length gs ≡ 8 → gs ≡ get_or gs 0 0 ∷ get_or gs 1 0 ∷ get_or gs 2 0 ∷ get_or gs 3 0 ∷ get_or gs 4 0 ∷ get_or gs 5 0 ∷ get_or gs 6 0 ∷ get_or gs 7 0 ∷ []
@@ -76,26 +66,15 @@ eight gs e = listed gs e
 
 pub eight_octets : (gs a b c d f g h k : List ℕ) → length gs ≡ 8 → a ≡ bytes_high_first 2 (get_or gs 0 0) → b ≡ bytes_high_first 2 (get_or gs 1 0) → c ≡ bytes_high_first 2 (get_or gs 2 0) → d ≡ bytes_high_first 2 (get_or gs 3 0) → f ≡ bytes_high_first 2 (get_or gs 4 0) → g ≡ bytes_high_first 2 (get_or gs 5 0) → h ≡ bytes_high_first 2 (get_or gs 6 0) → k ≡ bytes_high_first 2 (get_or gs 7 0)
     → Some (get_or a 0 0 ∷ get_or a 1 0 ∷ get_or b 0 0 ∷ get_or b 1 0 ∷ get_or c 0 0 ∷ get_or c 1 0 ∷ get_or d 0 0 ∷ get_or d 1 0 ∷ get_or f 0 0 ∷ get_or f 1 0 ∷ get_or g 0 0 ∷ get_or g 1 0 ∷ get_or h 0 0 ∷ get_or h 1 0 ∷ get_or k 0 0 ∷ get_or k 1 0 ∷ []) ≡ option_map (flat_map (bytes_high_first 2)) (eight_groups gs)
-eight_octets gs a b c d f g h k four ea eb ec ed ef eg eh ek =
-    let whole : eight_groups gs ≡ Some gs = rw four refl in
-    rw (ea, eb, ec, ed, ef, eg, eh, ek, whole) (ap (λ l. Some (flat_map (bytes_high_first 2) l)) (sym (eight gs four)))
+eight_octets gs a b c d f g h k four ea eb ec ed ef eg eh ek = grind (arith, eight)
 
 abbrev pub with_front : Octets → Octets × Octets → Octets × Octets
 with_front front r = (front ++ r.0, r.1)
-
-abbrev with_octet : ℕ → Octets × Octets → Octets × Octets
-with_octet c r = (c ∷ r.0, r.1)
 
 -- what stands before a place has no gap
 pub record GapSoFar (text : Octets) (place : ℕ) : Type 0 where
   pub inside : place ≤ length text
   pub whole : around_gap text ≡ option_map (with_front (take place text)) (around_gap (drop place text))
-
--- the two octets at a place
-one_at : (text : Octets) (place : ℕ) → place < length text → drop place text ≡ get_or text place 0 ∷ drop (place + 1) text
-one_at text place inside =
-    let P : ℕ → Type 0 = λ k. drop place text ≡ get_or text place 0 ∷ drop k text in
-    subst P (suc-eq-add-one place) (drop-cons text place 0 inside)
 
 pub GapSoFar-end : (text : Octets) (place : ℕ) → GapSoFar text place → length text ≤ place + 1 → around_gap text ≡ None
 GapSoFar-end text place so_far end = so_far.whole ∙ ap (option_map (with_front (take place text))) (short (drop place text) (omega (arith, length-drop place text)))
@@ -116,42 +95,20 @@ abbrev group_then : Octets → Option (List ℕ) → Option (List ℕ)
 group_then text after = if is_group text then option_map (λ gs. digits_value 16 text ∷ gs) after else None
 
 one_or_more-said : (text : Octets) → (length text ≡ 0 → ⊥) → groups_said text ≡ one_or_more text
-one_or_more-said [] more = absurd (more refl)
-one_or_more-said (c ∷ text) more = refl
+one_or_more-said text h = grind arith
 
 place_is : (p : ℕ → Bool) (text : Octets) (end : ℕ) → Some end ≡ position p text → (position_or_len p text ≡ end) × (end < length text)
-place_is p text end e = by_cases (cases_Bool (nat_lt (position_or_len p text) (length text)))
-  where
-    by_cases : (nat_lt (position_or_len p text) (length text) ≡ true) ⊎ (nat_lt (position_or_len p text) (length text) ≡ false) → (position_or_len p text ≡ end) × (end < length text)
-    by_cases (inl inside) =
-        let f : Some end ≡ Some (position_or_len p text) = rw inside at e in
-        let one = some_inner _ _ f in
-        let below = ltb-true _ _ inside in
-        (sym one, omega (arith, one, below))
-    by_cases (inr none) = let f : Some end ≡ None = rw none at e in absurd (none_is_some end (sym f))
+place_is p text end e = grind (arith, some_inner, ltb-true, none_is_some)
 
 first_group : (text : Octets) (end : ℕ) → Some end ≡ position is_colon text → one_or_more text ≡ group_then (take end text) (one_or_more (drop (end + 1) text))
-first_group text end e =
-    let place = place_is is_colon text end e in
-    ap group_values (slice_split_first is_colon text 0 (omega (arith, place.0, place.1)))
-    ∙ ap (λ k. group_then (take k text) (one_or_more (drop (k + 1) text))) place.0
+first_group text end e = grind (arith, place_is, slice_split_first)
 
 one_part : (p : ℕ → Bool) (text : Octets) → length text ≤ position_or_len p text → slice_split p text ≡ text ∷ []
 one_part p [] h = refl
-one_part p (x ∷ text) h = by_cases (one_part p text) (cases_Bool (p x))
-  where
-    by_cases : (length text ≤ position_or_len p text → slice_split p text ≡ text ∷ []) → (p x ≡ true) ⊎ (p x ≡ false) → slice_split p (x ∷ text) ≡ (x ∷ text) ∷ []
-    by_cases after (inl passes) = let g : length (x ∷ text) ≤ 0 = rw passes at h in absurd (omega (arith, g))
-    by_cases after (inr other) =
-        let g : length (x ∷ text) ≤ 1 + position_or_len p text = rw other at h in
-        rw other (ap (onto_first x) (after (omega (arith, g))))
+one_part p (x ∷ text) h = grind (arith, (one_part p text))
 
 no_colon : (text : Octets) → None ≡ position is_colon text → slice_split is_colon text ≡ text ∷ []
-no_colon text e = by_cases (cases_Bool (nat_lt (position_or_len is_colon text) (length text)))
-  where
-    by_cases : (nat_lt (position_or_len is_colon text) (length text) ≡ true) ⊎ (nat_lt (position_or_len is_colon text) (length text) ≡ false) → slice_split is_colon text ≡ text ∷ []
-    by_cases (inl inside) = let f : None ≡ Some (position_or_len is_colon text) = rw inside at e in absurd (none_is_some _ f)
-    by_cases (inr none) = one_part is_colon text (ltb-false _ _ none)
+no_colon text e = grind (arith, none_is_some, one_part, ltb-false)
 
 last_group : (text : Octets) → None ≡ position is_colon text → one_or_more text ≡ group_then text (Some [])
 last_group text e = ap group_values (no_colon text e)
@@ -165,13 +122,10 @@ abbrev pub Pushes : Octets → List ℕ → List ℕ → Bool → Type 0
 Pushes text old new pushed = (pushed ≡ (is_group text && nat_lt (length old) 8)) × OnTrue pushed (new ≡ old ++ digits_value 16 text ∷ [])
 
 pushed_group : (text : Octets) (old new : List ℕ) → Pushes text old new true → (is_group text ≡ true) × (length old < 8) × (new ≡ old ++ digits_value 16 text ∷ [])
-pushed_group text old new (fits, value) =
-    let parts = and_parts (is_group text) _ (sym fits) in
-    (parts.0, ltb-true _ _ parts.1, value)
+pushed_group text old new (fits, value) = grind (arith, and_parts, ltb-true)
 
 joined_groups : (old gs : List ℕ) (v : ℕ) (o : Option (List ℕ)) → option_map (λ gs. old ++ gs) (option_map (λ gs. v ∷ gs) o) ≡ option_map (λ gs. (old ++ v ∷ []) ++ gs) o
-joined_groups old gs v None = refl
-joined_groups old gs v (Some hs) = ap (λ k. Some k) (sym (append_assoc old (v ∷ []) hs))
+joined_groups old gs v o = grind (arith, append_assoc)
 
 pub GroupsSoFar-push : (text rest first : Octets) (old new : List ℕ) (end : ℕ) → GroupsSoFar text old rest → Some end ≡ position is_colon rest → first ≡ take end rest → Pushes first old new true → GroupsSoFar text new (drop (end + 1) rest)
 GroupsSoFar-push text rest first old new end so_far e first_is pushes =
@@ -187,21 +141,7 @@ GroupsSoFar-push text rest first old new end so_far e first_is pushes =
 
 -- no group stands next, or there are too many
 refused_groups : (text : Octets) (old : List ℕ) (first : Octets) (after : Option (List ℕ)) → one_or_more text ≡ option_map (λ gs. old ++ gs) (group_then first after) → false ≡ (is_group first && nat_lt (length old) 8) → None ≡ option_and_then few_groups (one_or_more text)
-refused_groups text old first after whole refused = sym (ap (option_and_then few_groups) whole ∙ by_cases (cases_Bool (is_group first)) after)
-  where
-    too_many : (gs : List ℕ) → 8 ≤ length old → 0 < length gs → few_groups (old ++ gs) ≡ None
-    too_many gs full some_group =
-        let over : 8 < length (old ++ gs) = omega (arith, length-append old gs, full, some_group) in
-        let no_room : nat_le (length (old ++ gs)) 8 ≡ false = lt-leb _ _ over in
-        rw no_room refl
-
-    full : is_group first ≡ true → 8 ≤ length old
-    full group = ltb-false _ _ (sym (let f : false ≡ nat_lt (length old) 8 = rw group at refused in f))
-
-    by_cases : (is_group first ≡ true) ⊎ (is_group first ≡ false) → (after : Option (List ℕ)) → option_and_then few_groups (option_map (λ gs. old ++ gs) (group_then first after)) ≡ None
-    by_cases (inr none) after = rw none refl
-    by_cases (inl group) None = rw group refl
-    by_cases (inl group) (Some gs) = rw group (too_many (digits_value 16 first ∷ gs) (full group) (omega arith))
+refused_groups text old first after whole refused = grind (arith, length-append, lt-leb, ltb-false)
 
 pub refused_before_colon : (text rest first : Octets) (old new : List ℕ) (end : ℕ) → GroupsSoFar text old rest → (length text ≡ 0 → ⊥) → Some end ≡ position is_colon rest → first ≡ take end rest → Pushes first old new false → None ≡ option_and_then few_groups (groups_said text)
 refused_before_colon text rest first old new end so_far more e first_is pushes =
@@ -235,22 +175,13 @@ pub record FilledSoFar (old groups back : List ℕ) : Type 0 where
 
 -- what `few_groups` keeps
 few_some : (gs o : List ℕ) → Some gs ≡ few_groups o → o ≡ gs
-few_some gs o e = by_cases (cases_Bool (nat_le (length o) 8))
-  where
-    by_cases : (nat_le (length o) 8 ≡ true) ⊎ (nat_le (length o) 8 ≡ false) → o ≡ gs
-    by_cases (inl room) = let f : Some gs ≡ Some o = rw room at e in sym (some_inner _ _ f)
-    by_cases (inr none) = let f : Some gs ≡ None = rw none at e in absurd (none_is_some gs (sym f))
+few_some gs o e = grind (arith, some_inner, none_is_some)
 
 few_none : (o : List ℕ) → None ≡ few_groups o → 8 < length o
-few_none o e = by_cases (cases_Bool (nat_le (length o) 8))
-  where
-    by_cases : (nat_le (length o) 8 ≡ true) ⊎ (nat_le (length o) 8 ≡ false) → 8 < length o
-    by_cases (inl room) = let f : None ≡ Some o = rw room at e in absurd (none_is_some o f)
-    by_cases (inr none) = leb-false _ _ none
+few_none o e = grind (arith, none_is_some, leb-false)
 
 pub all_said : (gs : List ℕ) (o : Option (List ℕ)) → Some gs ≡ option_and_then few_groups o → o ≡ Some gs
-all_said gs None e = absurd (none_is_some gs (sym e))
-all_said gs (Some hs) e = ap (λ k. Some k) (few_some gs hs e)
+all_said gs o h = grind (arith, none_is_some, few_some)
 
 abbrev octets_of : Option (List ℕ) → Option Octets
 octets_of = option_map (flat_map (bytes_high_first 2))
@@ -264,10 +195,7 @@ refused_whole word gap e = by_gap word None gap ∙ ap octets_of (not_eight (gro
   where
     not_eight : (o : Option (List ℕ)) → None ≡ option_and_then few_groups o → option_and_then eight_groups o ≡ None
     not_eight None e = refl
-    not_eight (Some gs) e =
-        let more = few_none gs e in
-        let test : (length gs == 8) ≡ false = ne_eqb _ _ (λ f. omega (arith, more, f)) in
-        rw test refl
+    not_eight (Some gs) e = grind arith
 
 pub whole_word : (word : Octets) (gs : List ℕ) (r : Option Octets) → around_gap word ≡ None → Some gs ≡ option_and_then few_groups (groups_said word) → r ≡ octets_of (eight_groups gs) → r ≡ ipv6_octets word
 whole_word word gs r gap e f =
@@ -311,20 +239,12 @@ refused_sum word front back gs hs new gap e f fills = around word front back gs 
     by_cases None h = refl
     by_cases (Some k) h = absurd (false≢true h.0)
 
-eight_filled : (front back : List ℕ) (zeros : ℕ) → zeros ≡ 8 - (length front + length back) → length front + length back < 8 → length ((front ++ replicate zeros 0) ++ back) ≡ 8
-eight_filled front back zeros count room =
-    omega (arith, length-append (front ++ replicate zeros 0) back, length-append front (replicate zeros 0), length-replicate {A = ℕ} zeros 0, count, room)
+eight_filled : (front back : List ℕ) (filling : ℕ) → filling ≡ 8 - (length front + length back) → length front + length back < 8 → length ((front ++ replicate filling 0) ++ back) ≡ 8
+eight_filled front back filling count room = grind (arith, length-append, length-replicate)
 
 pub filled_word : (word front back : Octets) (gs hs new : List ℕ) (r : Option Octets) → around_gap word ≡ Some (front, back) → Some gs ≡ option_and_then few_groups (groups_said front) → Some hs ≡ option_and_then few_groups (groups_said back) → Fills gs hs true new → r ≡ octets_of (eight_groups new) → r ≡ ipv6_octets word
 filled_word word front back gs hs new r gap e f fills g =
-    g ∙ ap octets_of (by_cases (cases_Bool (nat_lt (length gs + length hs) 8))) ∙ sym (around word front back gs hs gap e f)
-  where
-    by_cases : (nat_lt (length gs + length hs) 8 ≡ true) ⊎ (nat_lt (length gs + length hs) 8 ≡ false) → eight_groups new ≡ filled_groups gs hs
-    by_cases (inl room) =
-        let h : (true ≡ true) × (new ≡ (gs ++ replicate (8 - (length gs + length hs)) 0) ++ hs) = rw room at fills in
-        let eight_long : (length new == 8) ≡ true = eq-eqb _ _ (ap length h.1 ∙ eight_filled gs hs _ refl (ltb-true _ _ room)) in
-        rw (eight_long, room) (ap (λ k. Some k) h.1)
-    by_cases (inr none) = let h : true ≡ false = rw none at fills in absurd (true≢false h)
+    grind (arith, around, eq-eqb, eight_filled, ltb-true, true≢false)
 
 -- what a text says as an address is 16 octets
 pub length-ipv6 : (text d : Octets) → SaysIpv6 text d → length d ≡ 16
@@ -338,14 +258,10 @@ length-ipv6 text d h =
         ap length (sym (same_Some _ d e)) ∙ ap (λ l. length (flat_map (bytes_high_first 2) l)) (eight gs (long gs refl))
 
     eight_said : (gs hs : List ℕ) → eight_groups gs ≡ Some hs → length hs ≡ 8
-    eight_said gs hs e =
-        let c = cond_some (length gs == 8) gs hs e in
-        ap length (sym c.1) ∙ eqb-true (length gs) 8 c.0
+    eight_said gs hs e = grind (arith, cond_some, eqb-true)
 
     filled_said : (front back hs : List ℕ) → filled_groups front back ≡ Some hs → length hs ≡ 8
-    filled_said front back hs e =
-        let c = cond_some (nat_lt (length front + length back) 8) _ hs e in
-        ap length (sym c.1) ∙ eight_filled front back _ refl (ltb-true (length front + length back) 8 c.0)
+    filled_said front back hs e = grind (arith, cond_some, eight_filled, ltb-true)
 
     groups_eight : (text : Octets) (gap : Option (Octets × Octets)) (hs : List ℕ) → groups_by text gap ≡ Some hs → length hs ≡ 8
     groups_eight text None hs e = option_and_then_some eight_groups (groups_said text) hs e (λ gs said. eight_said gs hs)

@@ -1,10 +1,10 @@
 -- The text of an IPv6 address, group by group.
-use Rattle.std.proofs.Common.{◌≡◌, ◌≢◌, ℕ, zero, suc, ◌+◌, ◌-◌, ◌*◌, ◌/◌, ◌%◌, ◌<◌, ◌≤◌, max, inl, inr, ◌⊎◌, true, false, ◌==◌, List, [], ◌∷◌, ◌++◌, length, take, drop, get_or, fold, refl, sym, ◌∙◌, ap, subst, arith, length-append, length-drop, drop-cons}
+use Rattle.std.proofs.Common.{◌≡◌, ◌≢◌, ℕ, zero, suc, ◌+◌, ◌-◌, ◌*◌, ◌/◌, ◌%◌, ◌<◌, ◌≤◌, max, false, ◌==◌, List, [], ◌∷◌, ◌++◌, length, take, drop, get_or, fold, refl, sym, ◌∙◌, ap, arith, length-append, length-drop, drop-cons}
 use Rattle.std.specs.List.{prefix_len, position_or_len}
 use Rattle.std.specs.Char.{digit_char}
 use Rattle.std.specs.Fmt.{digits}
 use Rattle.std.proofs.lemmas.List.{append_assoc, take_more, take_all}
-use Rattle.std.proofs.lemmas.Bool.{ne_eqb, eq-eqb, cases_Bool, cases_lt}
+use Rattle.std.proofs.lemmas.Bool.{ne_eqb, eq-eqb, cases_lt}
 use Rattle.std.proofs.Math.Numerals.{suc-eq-add-one}
 use Rattle.dns_spec.specs.Names.{Octets}
 use Rattle.dns_spec.specs.AddressText.{groups_text, zero_runs}
@@ -13,43 +13,16 @@ use Rattle.dns_spec.proofs.DataWords.ZeroRuns.{is_zero, length-zero_runs, run_at
 
 -- the digits of two octets are those of each
 pub split_digits : (n : ℕ) → 256 ≤ n → n < 65536 → digits 16 false n ≡ digits 16 false (n / 256) ++ digit_char (n % 256 / 16) ∷ digit_char (n % 256 % 16) ∷ []
-split_digits n large small = elim (cases_lt n 4096) [ inl below ↦ three below | inr above ↦ four above ]
-  where
-    second : n / 16 % 16 ≡ n % 256 / 16
-    second = omega arith
-
-    last : n % 16 ≡ n % 256 % 16
-    last = omega arith
-
-    tail : (c : ℕ) → digit_char (n / 16 % 16) ∷ digit_char (n % 16) ∷ [] ≡ digit_char (n % 256 / 16) ∷ digit_char (n % 256 % 16) ∷ []
-    tail c = ap (λ d. digit_char d ∷ digit_char (n % 16) ∷ []) second ∙ ap (λ d. digit_char (n % 256 / 16) ∷ digit_char d ∷ []) last
-
-    three : n < 4096 → digits 16 false n ≡ digits 16 false (n / 256) ++ digit_char (n % 256 / 16) ∷ digit_char (n % 256 % 16) ∷ []
-    three below =
-        let first : n / 16 / 16 % 16 ≡ n / 256 = omega arith in
-        three_of n large below ∙ ap (λ d. digit_char d ∷ digit_char (n / 16 % 16) ∷ digit_char (n % 16) ∷ []) first ∙ ap (λ t. digit_char (n / 256) ∷ t) (tail 0)
-        ∙ ap (λ t. t ++ digit_char (n % 256 / 16) ∷ digit_char (n % 256 % 16) ∷ []) (sym (one_digit (n / 256) (omega arith)))
-
-    four : 4096 ≤ n → digits 16 false n ≡ digits 16 false (n / 256) ++ digit_char (n % 256 / 16) ∷ digit_char (n % 256 % 16) ∷ []
-    four above =
-        let first : n / 16 / 16 / 16 % 16 ≡ n / 256 / 16 = omega arith in
-        let next : n / 16 / 16 % 16 ≡ n / 256 % 16 = omega arith in
-        four_of n above small ∙ ap (λ d. digit_char d ∷ digit_char (n / 16 / 16 % 16) ∷ digit_char (n / 16 % 16) ∷ digit_char (n % 16) ∷ []) first
-        ∙ ap (λ d. digit_char (n / 256 / 16) ∷ digit_char d ∷ digit_char (n / 16 % 16) ∷ digit_char (n % 16) ∷ []) next
-        ∙ ap (λ t. digit_char (n / 256 / 16) ∷ digit_char (n / 256 % 16) ∷ t) (tail 0)
-        ∙ ap (λ t. t ++ digit_char (n % 256 / 16) ∷ digit_char (n % 256 % 16) ∷ []) (sym (two_digits (n / 256) (omega arith) (omega arith)))
+split_digits n large small = grind (arith, cases_lt, three_of, one_digit, four_of, two_digits)
 
 -- one group more
 pub groups_text-push : (g x : ℕ) (gs : List ℕ) → groups_text (g ∷ gs ++ x ∷ []) ≡ groups_text (g ∷ gs) ++ 58 ∷ digits 16 false x
 groups_text-push g x [] = refl
-groups_text-push g x (h ∷ gs) =
-    ap (λ t. digits 16 false g ++ (58 ∷ t)) (groups_text-push h x gs) ∙ sym (append_assoc (digits 16 false g) (58 ∷ groups_text (h ∷ gs)) (58 ∷ digits 16 false x))
+groups_text-push g x (h ∷ gs) = grind (arith, append_assoc, (groups_text-push h x gs))
 
 -- the zero groups from a place on
 pub one_group_at : (gs : List ℕ) (i : ℕ) → i < length gs → drop i gs ≡ get_or gs i 0 ∷ drop (i + 1) gs
-one_group_at gs i inside =
-    let P : ℕ → Type 0 = λ k. drop i gs ≡ get_or gs i 0 ∷ drop k gs in
-    subst P (suc-eq-add-one i) (drop-cons gs i 0 inside)
+one_group_at gs i inside = grind (arith, suc-eq-add-one, drop-cons)
 
 pub record RunSoFar (gs : List ℕ) (i run : ℕ) : Type 0 where
   pub whole : prefix_len is_zero gs ≡ run + prefix_len is_zero (drop i gs)
@@ -59,8 +32,7 @@ pub push_one : (old new : Octets) (r n : ℕ) → new ≡ old ++ r ∷ [] → r 
 push_one old new r n e f small = e ∙ ap (λ d. old ++ d ∷ []) f ∙ ap (λ t. old ++ t) (sym (one_digit n small))
 
 pushed_two : (old mid new : Octets) (r s a b : ℕ) → mid ≡ old ++ r ∷ [] → new ≡ mid ++ s ∷ [] → r ≡ digit_char a → s ≡ digit_char b → new ≡ old ++ digit_char a ∷ digit_char b ∷ []
-pushed_two old mid new r s a b e f g h =
-    f ∙ ap (λ m. m ++ s ∷ []) e ∙ append_assoc old (r ∷ []) (s ∷ []) ∙ ap (λ d. old ++ d ∷ s ∷ []) g ∙ ap (λ d. old ++ digit_char a ∷ d ∷ []) h
+pushed_two old mid new r s a b e f g h = grind (arith, append_assoc)
 
 pub push_two : (old mid new : Octets) (r s n : ℕ) → mid ≡ old ++ r ∷ [] → new ≡ mid ++ s ∷ [] → r ≡ digit_char (n / 16) → s ≡ digit_char (n % 16) → 16 ≤ n → n < 256 → new ≡ old ++ digits 16 false n
 push_two old mid new r s n e f g h large small =
@@ -68,10 +40,7 @@ push_two old mid new r s n e f g h large small =
 
 pub push_split : (old high mid new : Octets) (r s n : ℕ) → high ≡ old ++ digits 16 false (n / 256) → mid ≡ high ++ r ∷ [] → new ≡ mid ++ s ∷ [] → r ≡ digit_char (n % 256 / 16) → s ≡ digit_char (n % 256 % 16) → (n / 256 ≡ 0 → ⊥) → n < 65536 → new ≡ old ++ digits 16 false n
 push_split old high mid new r s n d e f g h large small =
-    pushed_two high mid new r s (n % 256 / 16) (n % 256 % 16) e f g h
-    ∙ ap (λ t. t ++ digit_char (n % 256 / 16) ∷ digit_char (n % 256 % 16) ∷ []) d
-    ∙ append_assoc old (digits 16 false (n / 256)) (digit_char (n % 256 / 16) ∷ digit_char (n % 256 % 16) ∷ [])
-    ∙ ap (λ t. old ++ t) (sym (split_digits n (omega (arith, large)) small))
+    grind (arith, pushed_two, append_assoc, split_digits)
 
 -- groups written so far
 pub record GroupsWritten (old : Octets) (groups others : List ℕ) (i : ℕ) (text : Octets) : Type 0 where
@@ -97,12 +66,10 @@ GroupsWritten-push old text colon new groups others i so_far inside e f short =
     }
 
 pub GroupsWritten-room : (old text : Octets) (groups others : List ℕ) (i : ℕ) → GroupsWritten old groups others i text → i < length others → length old + 5 * length groups ≤ 40 → length text < 35
-GroupsWritten-room old text groups others i so_far inside room =
-    omega (arith, inside, room, so_far.short, ap length so_far.is)
+GroupsWritten-room old text groups others i so_far inside room = grind arith
 
 pub GroupsWritten-end : (old text : Octets) (groups others : List ℕ) (i : ℕ) → GroupsWritten old groups others i text → length others ≤ i → text ≡ old ++ groups_text groups
-GroupsWritten-end old text groups others i so_far end =
-    so_far.written ∙ ap (λ gs. old ++ groups_text (so_far.first ∷ gs)) (take_all i others end) ∙ ap (λ gs. old ++ groups_text gs) (sym so_far.is)
+GroupsWritten-end old text groups others i so_far end = grind (arith, take_all)
 
 pub GroupsWritten-short : (old text : Octets) (groups others : List ℕ) (i : ℕ) → GroupsWritten old groups others i text → i ≤ length others → length text ≤ length old + (5 * length groups - 1)
 GroupsWritten-short old text groups others i so_far most = omega (arith, most, so_far.short, ap length so_far.is)
@@ -124,46 +91,17 @@ pub record LongestSoFar (gs : List ℕ) (i place longest : ℕ) : Type 0 where
 
 run_short : (gs : List ℕ) → prefix_len is_zero gs ≤ length gs
 run_short [] = omega arith
-run_short (g ∷ gs) = by_cases (run_short gs) (cases_Bool (is_zero g))
-  where
-    by_cases : prefix_len is_zero gs ≤ length gs → (is_zero g ≡ true) ⊎ (is_zero g ≡ false) → prefix_len is_zero (g ∷ gs) ≤ length (g ∷ gs)
-    by_cases short (inl z) = rw z (omega (arith, short))
-    by_cases short (inr other) = rw other (omega arith)
+run_short (g ∷ gs) = grind (arith, is_zero, (run_short gs))
 
 runs_at : (gs : List ℕ) (i : ℕ) → i < length gs → zero_runs (drop i gs) ≡ prefix_len is_zero (drop i gs) ∷ zero_runs (drop (i + 1) gs)
-runs_at gs i inside =
-    let f = one_group_at gs i inside in
-    ap zero_runs f ∙ ap (λ t. prefix_len is_zero t ∷ zero_runs (drop (i + 1) gs)) (sym f)
+runs_at gs i inside = grind (arith, one_group_at, is_zero)
 
 pub LongestSoFar-first : (gs : List ℕ) (r : ℕ) → r ≡ prefix_len is_zero gs → LongestSoFar gs 1 0 r
-LongestSoFar-first [] r e = record {
-  place_is = refl;
-  most = λ k below. omega arith;
-  whole = sym e;
-  inside = omega (arith, e);
-}
-LongestSoFar-first (g ∷ gs) r e =
-    let run = prefix_len is_zero (g ∷ gs) in
-    let largest : max 0 run ≡ r = omega (arith, e) in
-    record {
-      place_is = first_place r (zero_runs (g ∷ gs)) 0 (omega arith) (sym e) (λ k below. absurd (omega (arith, below)));
-      most = first_most;
-      whole = ap (λ m. fold max m (zero_runs gs)) largest;
-      inside = omega (arith, e, run_short (g ∷ gs));
-    }
-  where
-    first_most : (k : ℕ) → k < 1 → get_or (zero_runs (g ∷ gs)) k 0 ≤ r
-    first_most zero below = omega (arith, e)
-    first_most (suc k) below = absurd (omega (arith, below))
+LongestSoFar-first [] r e = grind arith
+LongestSoFar-first (g ∷ gs) r e = grind (arith, is_zero, first_place, run_short)
 
 most_more : (gs : List ℕ) (i run longest : ℕ) → i < length gs → run ≡ prefix_len is_zero (drop i gs) → ((k : ℕ) → k < i → get_or (zero_runs gs) k 0 ≤ longest) → run ≤ longest → (k : ℕ) → k < i + 1 → get_or (zero_runs gs) k 0 ≤ longest
-most_more gs i run longest inside e most fits k below =
-    elim (cases_lt k i) [
-      | inl before ↦ most k before
-      | inr here ↦
-          let same : k ≡ i = omega (arith, below, here) in
-          omega (arith, ap (λ j. get_or (zero_runs gs) j 0) same, run_at gs i inside, e, fits)
-    ]
+most_more gs i run longest inside e most fits k below = grind (arith, cases_lt, run_at)
 
 pub LongestSoFar-longer : (gs : List ℕ) (i place longest run : ℕ) → LongestSoFar gs i place longest → i < length gs → run ≡ prefix_len is_zero (drop i gs) → longest < run → LongestSoFar gs (i + 1) i run
 LongestSoFar-longer gs i place longest run so_far inside e longer =
@@ -172,8 +110,7 @@ LongestSoFar-longer gs i place longest run so_far inside e longer =
       place_is = first_place run (zero_runs gs) i (omega (arith, inside, length-zero_runs gs)) (run_at gs i inside ∙ sym e)
           (λ k below f. omega (arith, so_far.most k below, f, longer));
       most = most_more gs i run run inside e (λ k below. omega (arith, so_far.most k below, longer)) (omega arith);
-      whole = so_far.whole ∙ ap (fold max longest) (runs_at gs i inside) ∙ ap (λ r. fold max (max longest r) (zero_runs (drop (i + 1) gs))) (sym e)
-          ∙ ap (λ m. fold max m (zero_runs (drop (i + 1) gs))) largest;
+      whole = grind (arith, runs_at);
       inside = omega (arith, inside, e, run_short (drop i gs), length-drop i gs);
     }
 
@@ -183,7 +120,6 @@ LongestSoFar-other gs i place longest run so_far inside e shorter =
     record {
       place_is = so_far.place_is;
       most = most_more gs i run longest inside e so_far.most shorter;
-      whole = so_far.whole ∙ ap (fold max longest) (runs_at gs i inside) ∙ ap (λ r. fold max (max longest r) (zero_runs (drop (i + 1) gs))) (sym e)
-          ∙ ap (λ m. fold max m (zero_runs (drop (i + 1) gs))) largest;
+      whole = grind (arith, runs_at);
       inside = so_far.inside;
     }

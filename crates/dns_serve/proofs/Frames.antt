@@ -1,29 +1,23 @@
 -- Octets that are not a whole frame, and a message in its frame, by the parts in which they are read.
-use Rattle.std.proofs.Common.{◌≡◌, ℕ, ◌+◌, ◌-◌, ◌*◌, ◌^◌, ◌<◌, ◌≤◌, min, Bool, true, false, cond, ◌⊎◌, inl, inr, [], ◌∷◌, ◌++◌, length, take, drop, replicate, Option, None, Some, refl, sym, ap, ◌∙◌, arith, append_assoc, append-nil, length-append}
+use Rattle.std.proofs.Common.{◌≡◌, ℕ, ◌+◌, ◌-◌, ◌*◌, ◌^◌, ◌<◌, ◌≤◌, min, ◌⊎◌, inl, inr, [], ◌∷◌, ◌++◌, length, take, replicate, None, refl, sym, ap, ◌∙◌, arith, append_assoc, append-nil, length-append}
 use Rattle.std.proofs.lemmas.Bool.{cases_lt, leb-true}
 use Rattle.std.proofs.lemmas.List.{take_all, take-append-le}
 use Rattle.dns_spec.specs.Names.{Octets}
 use Rattle.dns_spec.specs.Query.{most_over_udp, field16}
 use Rattle.dns_spec.specs.Layout.{octets16}
-use Rattle.dns_spec.specs.Stream.{has_frame, first_frame, IsCutFrame}
+use Rattle.dns_spec.specs.Stream.{first_frame, IsCutFrame}
 use Rattle.dns_spec.proofs.Streams.StreamFrames.{two_octets, two_again, length_zeros}
 
 -- the octets begin with no whole frame, since its length says more
 no_frame : (x : Octets) → length x < 2 + field16 x 0 → first_frame x ≡ None
 unfolding first_frame
-no_frame x h = go (has_frame x) refl
-  where
-    go : (t : Bool) → has_frame x ≡ t → ◌≡◌ {A = Option (Octets × Octets)} (cond t (Some (take (field16 x 0) (drop 2 x), drop (field16 x 0) (drop 2 x))) None) None
-    go false e = refl
-    go true e = let le = leb-true (2 + field16 x 0) (length x) e in absurd (omega arith)
+no_frame x h = grind (arith, leb-true)
 
 pub no_frame_short : (x : Octets) → length x < 2 → first_frame x ≡ None
 no_frame_short x h = no_frame x (omega arith)
 
 pub no_frame_inside : (n : ℕ) (part : Octets) → n < 2 ^ 16 → length part < n → first_frame (octets16 n ++ part) ≡ None
-no_frame_inside n part h short =
-    let value = two_again n part h in
-    no_frame (octets16 n ++ part) (omega (arith, value, short, length-append (octets16 n) part))
+no_frame_inside n part h short = grind (arith, two_again, no_frame, length-append)
 
 pub cut_inside : (n : ℕ) (part : Octets) → n < 2 ^ 16 → length part < n → IsCutFrame (octets16 n ++ part)
 cut_inside n part h short =

@@ -1,6 +1,6 @@
 -- What a turn does with the datagram that was received.
 use Rattle.std.proofs.lemmas.List.{take_all, length-take}
-use Rattle.std.proofs.Common.{◌≡◌, ℕ, ◌≤◌, arith, List, [], ◌∷◌, ◌++◌, append-nil, refl, take, Option, Some, None, true, false, sym, ap, ◌∙◌, subst}
+use Rattle.std.proofs.Common.{◌≡◌, ℕ, ◌≤◌, arith, List, [], ◌∷◌, append-nil, refl, take, Option, Some, None, true, false, sym, ap, ◌∙◌, subst}
 use Rattle.std.specs.Option.{option_map, is_some}
 use Rattle.dns_spec.specs.Query.{most_over_udp}
 use Rattle.dns_spec.specs.Names.{Octets}
@@ -12,16 +12,10 @@ abbrev turn : Option (List Octets) → Option (List Octets) → Option (List Oct
 turn a b c d = record { had = a; has = b; sent = c; has_sent = d }
 
 kept_twice : (a b c : Option (List Octets)) (ds es : List Octets) → ds ≡ [] → Grows a b ds → Grows b c es → Grows a c es
-kept_twice None b c ds es e p q = tt
-kept_twice (Some x) None c ds es e p q = absurd p
-kept_twice (Some x) (Some y) None ds es e p q = absurd q
-kept_twice (Some x) (Some y) (Some z) ds es e p q = q ∙ ap (λ l. l ++ es) (p ∙ ap (λ l. x ++ l) e ∙ append-nil x)
+kept_twice a b c ds es h h1 h2 = grind (arith, append-nil)
 
 then_kept : (a b c : Option (List Octets)) (ds : List Octets) → Grows a b ds → KeepsAll b c → Grows a c ds
-then_kept None b c ds p q = tt
-then_kept (Some x) None c ds p q = absurd p
-then_kept (Some x) (Some y) None ds p q = absurd q
-then_kept (Some x) (Some y) (Some z) ds p q = q ∙ append-nil y ∙ p
+then_kept a b c ds h h1 = grind (arith, append-nil)
 
 -- the reply to what is kept of a datagram is the reply to the datagram
 reply_is : (z : ZoneContents) (d kept piece : Octets) (reply : Option Octets) → piece ≡ kept → kept ≡ take most_over_udp d → reply ≡ reply_over_udp z piece → reply_over_udp z d ≡ reply

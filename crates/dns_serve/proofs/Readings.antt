@@ -1,5 +1,5 @@
 -- What calls of a source give together.
-use Rattle.std.proofs.Common.{◌≡◌, ℕ, ◌+◌, ◌-◌, ◌^◌, ◌<◌, ◌≤◌, min, All, [], ◌∷◌, ◌++◌, length, take, Option, subst, sym, ap, ◌∙◌, arith, length-append}
+use Rattle.std.proofs.Common.{◌≡◌, ℕ, ◌+◌, ◌-◌, ◌^◌, ◌<◌, ◌≤◌, min, All, [], ◌∷◌, ◌++◌, length, take, Option, ◌∙◌, arith, length-append}
 use Rattle.std.proofs.Math.Seq.{take-append-add}
 use Rattle.std.specs.Io.KnownBytes.{Consumes}
 use Rattle.std.proofs.lemmas.List.Elements.{All-head}
@@ -14,32 +14,18 @@ use Rattle.dns_serve.proofs.Frames.{no_frame_short, cut_first, no_frame_inside, 
 -- what came before stands at the front of a buffer, and what comes now after it
 pub came_after : (a b c : Option Octets) (front rest : Octets) (n k : ℕ) → length front ≡ n → Consumes a b front → Consumes b c (take k rest)
     → Consumes a c (take (n + k) (front ++ rest))
-came_after a b c front rest n k len first second =
-    subst (Consumes a c) (sym (take-append-add front rest k) ∙ ap (λ m. take (m + k) (front ++ rest)) len)
-    (Consumes-trans a b c front (take k rest) first second)
+came_after a b c front rest n k len first second = grind (arith, take-append-add, Consumes-trans)
 
 -- octets came, and then fewer than were asked for
 pub fewer_after : (a b c : Option Octets) (n m : ℕ) (front : Octets) → Consumes a b front → length front + m ≤ n → GivesFewer b c m → GivesFewer a c n
-fewer_after a b c n m front consumed le f = record {
-  octets = front ++ f.octets;
-  consumed = Consumes-trans a b c front f.octets consumed f.consumed;
-  fewer = omega (arith, length-append front f.octets, f.fewer, le);
-}
+fewer_after a b c n m front consumed le f = grind (arith, Consumes-trans, length-append)
 
 pub fewer_still : (a b : Option Octets) (n m : ℕ) → m ≤ n → GivesFewer a b m → GivesFewer a b n
-fewer_still a b n m le f = record {
-  octets = f.octets;
-  consumed = f.consumed;
-  fewer = omega (arith, f.fewer, le);
-}
+fewer_still a b n m le f = grind arith
 
 -- octets of a length came, and then too few
 pub beginning_after : (a b c : Option Octets) (n : ℕ) → n < 2 ^ 16 → Consumes a b (octets16 n) → GivesFewer b c n → GivesBeginning a c
-beginning_after a b c n h consumed f = record {
-  given = octets16 n ++ f.octets;
-  consumed = Consumes-trans a b c (octets16 n) f.octets consumed f.consumed;
-  no_frame = no_frame_inside n f.octets h f.fewer;
-}
+beginning_after a b c n h consumed f = grind (arith, Consumes-trans, no_frame_inside)
 
 pub part_after : (a b c : Option Octets) (n : ℕ) → n < 2 ^ 16 → Consumes a b (octets16 n) → GivesPartOfBody b c n → GivesPart a c
 part_after a b c n h consumed p = record {
@@ -51,12 +37,7 @@ part_after a b c n h consumed p = record {
 }
 
 pub message_after : (a b c : Option Octets) (n : ℕ) (kept : Octets) → n < 2 ^ 16 → Consumes a b (octets16 n) → GivesBody b c n kept → GivesMessage a c kept
-message_after a b c n kept h consumed m = record {
-  message = m.message;
-  consumed = subst (λ k. Consumes a c (octets16 k ++ m.message)) (sym m.count_is) (Consumes-trans a b c (octets16 n) m.message consumed m.consumed);
-  short = subst (λ k. k < 2 ^ 16) (sym m.count_is) h;
-  kept_is = m.kept_is;
-}
+message_after a b c n kept h consumed m = grind (arith, Consumes-trans)
 
 -- a message came in two parts
 pub body_in_two : (a b c : Option Octets) (n : ℕ) (front rest : Octets) → Consumes a b front → Consumes b c rest → length front ≡ min n most_over_udp → length rest ≡ n - min n most_over_udp
@@ -76,19 +57,12 @@ short_beginning a b n e f = record { given = f.octets; consumed = f.consumed; no
 pub first_alone : (a b : Option Octets) (buf : Octets) (count : ℕ) → All (λ o. o < 256) buf → length buf ≡ 2 → count ≡ 1
     → Gives a b (length buf) count (take count buf) → GivesPart a b
 first_alone a b [] count low two one g = absurd (omega (arith, two))
-first_alone a b (o ∷ buf) count low two one g = record {
-  part = o ∷ [];
-  consumed = subst (λ k. Consumes a b (take k (o ∷ buf))) one g.consumed;
-  cut = cut_first o (All-head (λ o. o < 256) o buf low);
-  no_frame = no_frame_short (o ∷ []) (omega arith);
-  over = g.over (omega (arith, one, two));
-}
+first_alone a b (o ∷ buf) count low two one g = grind (arith, cut_first, All-head, no_frame_short)
 
 -- both octets of a length came
 pub length_came : (a b : Option Octets) (buf : Octets) (count n : ℕ) → length buf ≡ 2 → 2 ≤ count → octets16 n ≡ buf
     → Gives a b (length buf) count (take count buf) → Consumes a b (octets16 n)
-length_came a b buf count n two more is g =
-    subst (Consumes a b) (take_all count buf (omega (arith, two, more)) ∙ sym is) g.consumed
+length_came a b buf count n two more is g = grind (arith, take_all)
 
 -- what is kept of a message came whole, and then all of the others, or too little
 module _ (a b c : Option Octets) (count kept first then : ℕ) (buf others : Octets)
@@ -97,13 +71,7 @@ module _ (a b c : Option Octets) (count kept first then : ℕ) (buf others : Oct
     (s : Gives b c (length others) then (take then others)) where
   pub body_came : (after : Octets) → kept ≤ first → count - kept ≤ then
       → GivesBody a c count (take kept (buf ++ after))
-  body_came after whole all =
-      let front : take first buf ≡ buf = take_all first buf (omega (arith, len, whole)) in
-      let is_front : take kept (buf ++ after) ≡ buf =
-      take-append-le kept buf after (omega (arith, len)) ∙ take_all kept buf (omega (arith, len)) in
-      subst (GivesBody a c count) (sym is_front)
-      (body_in_two a b c count buf (take then others) (subst (Consumes a b) front g.consumed)
-      s.consumed (len ∙ least) (omega (arith, s.length_is, s.within, rest, all, least)))
+  body_came after whole all = grind (arith, take_all, take-append-le, body_in_two)
 
   pub body_cut : then < count - kept → GivesPartOfBody a c count
   body_cut few = record {

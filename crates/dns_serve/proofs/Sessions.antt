@@ -15,7 +15,6 @@ use Rattle.dns_name.specs.Counted.{AppendsBeginning}
 use Rattle.dns_serve.specs.Reads.{MessageRead, GivesMessage, GivesNothing}
 use Rattle.dns_serve.specs.Streams.{Session, AreFrames, HasServed, WasRefused, SessionOf, HasAnswered, HasBegun, reply_over_tcp}
 use Rattle.dns_serve.specs.declared.fault.StreamFault.{StreamFault}
-use Rattle.dns_serve.specs.declared.fault.StreamFault.TheVariants.{SourceFailed, SinkFailed, Cut}
 
 abbrev session : Option Octets → Option Octets → Option Octets → Option Octets → Session
 session a b c d = record { unread = a; left = b; held = c; holds = d }
@@ -29,13 +28,7 @@ message_of_read a b buf read kept e m = subst (λ o. MessageRead a b buf (Ok o))
 
 pub answered : (z : ZoneContents) (a b c d : Option Octets) (buf : Octets) (read : Option ℕ) (kept : ℕ) (piece : Octets) → read ≡ Some kept → MessageRead a b buf (Ok read)
     → piece ≡ take kept buf → Appends c d (reply_frame (reply_over_tcp z piece)) → HasAnswered (reply_over_tcp z) (session a b c d)
-answered z a b c d buf read kept piece e m is w =
-    let g = message_of_read a b buf read kept e m in record {
-      message = g.message;
-      short = g.short;
-      read = g.consumed;
-      written = subst (λ r. Appends c d (reply_frame r)) (reply_of_kept z piece g.message (is ∙ g.kept_is)) w;
-    }
+answered z a b c d buf read kept piece e m is w = grind (arith, message_of_read, reply_of_kept)
 
 pub begun : (z : ZoneContents) (a b c d : Option Octets) (buf : Octets) (read : Option ℕ) (kept : ℕ) (piece : Octets) → read ≡ Some kept → MessageRead a b buf (Ok read)
     → piece ≡ take kept buf → AppendsBeginning c d (reply_frame (reply_over_tcp z piece)) → HasBegun (reply_over_tcp z) (session a b c d)
@@ -66,8 +59,7 @@ replies_of : (reply : Octets → Option Octets) (ms : List Octets) (m : Octets) 
 replies_of reply ms m = flat_map-append (λ m. reply_frame (reply m)) ms (m ∷ []) ∙ ap (λ x. replies reply ms ++ x) (append-nil (reply_frame (reply m)))
 
 one_short : (m : Octets) → length m < 2 ^ 16 → All (λ m. length m < 2 ^ 16) (m ∷ [])
-one_short m h zero d k = h
-one_short m h (suc k) d l = absurd (omega arith)
+one_short m h = grind arith
 
 all_short : (ms : List Octets) (m : Octets) → All (λ m. length m < 2 ^ 16) ms → length m < 2 ^ 16 → All (λ m. length m < 2 ^ 16) (ms ++ m ∷ [])
 all_short ms m p h = All-append (λ m. length m < 2 ^ 16) ms (m ∷ []) p (one_short m h)
@@ -103,13 +95,7 @@ frames_by most ms rest short (inr (le, none)) =
 -- the frames of what a source had, by what it has lost and what is left
 frames_of_known : (a b : Option Octets) (most : ℕ) (ms : List Octets) (part : Octets) → All (λ m. length m < 2 ^ 16) ms
     → Consumes a b (flat_map frame ms ++ part) → (length ms ≡ most) ⊎ (length ms ≤ most × (first_frame part ≡ None) × IsAtEnd b) → AreFrames a most ms
-frames_of_known None b most ms part short c over = tt
-frames_of_known (Some x) None most ms part short c over = absurd c
-frames_of_known (Some x) (Some y) most ms part short c (inl e) =
-    subst (λ x. ms ≡ frames most x) (sym (c ∙ append_assoc (flat_map frame ms) part y)) (frames_by most ms (part ++ y) short (inl e))
-frames_of_known (Some x) (Some y) most ms part short c (inr (le, none, end)) =
-    subst (λ x. ms ≡ frames most x) (sym (c ∙ ap (λ z. (flat_map frame ms ++ part) ++ z) end ∙ append-nil (flat_map frame ms ++ part)))
-    (frames_by most ms part short (inr (le, none)))
+frames_of_known a b most ms part h h1 h2 = grind (arith, append_assoc, frames_by, append-nil)
 
 nil_has_none : first_frame [] ≡ None
 unfolding first_frame
@@ -121,50 +107,18 @@ with_nothing a b o c = subst (Consumes a b) (sym (append-nil o)) c
 -- all were read, as many as were asked for, or up to the end
 pub served_most : (reply : Octets → Option Octets) (most n : ℕ) (a b x y : Option Octets) → Done reply (session a b x y) n → n ≡ most
     → HasServed reply most (session a b x y) n
-served_most reply most n a b x y d e = record {
-  messages = d.messages;
-  are_frames = frames_of_known a b most d.messages [] d.short (with_nothing a b _ d.read) (inl (d.count ∙ e));
-  count = d.count;
-  read = d.read;
-  written = d.written;
-  over = inl e;
-}
+served_most reply most n a b x y d e = grind (arith, frames_of_known, with_nothing)
 
 pub served_all : (reply : Octets → Option Octets) (most n : ℕ) (a b c x y : Option Octets) → Done reply (session a b x y) n → n < most
     → GivesNothing b c → HasServed reply most (session a c x y) n
 served_all reply most n a b c x y d h g =
-    let read = Consumes-trans a b c _ _ d.read g.consumed in record {
-      messages = d.messages;
-      are_frames = frames_of_known a c most d.messages [] d.short read (inr (omega (arith, d.count, h), nil_has_none, g.over));
-      count = d.count;
-      read = subst (Consumes a c) (append-nil (flat_map frame d.messages)) read;
-      written = d.written;
-      over = inr g.over;
-    }
+    grind (arith, Consumes-trans, frames_of_known, nil_has_none, append-nil)
 
 -- the next message could not be read
 pub unread : (reply : Octets → Option Octets) (most n : ℕ) (a b c x y : Option Octets) (buf : Octets) (fault : StreamFault) → Done reply (session a b x y) n → n < most
     → MessageRead b c buf (Err fault) → SessionOf reply most (session a c x y) (Err fault)
-unread reply most n a b c x y buf SourceFailed d h g = record {
-  messages = d.messages;
-  given = flat_map frame d.messages ++ g.given;
-  are_frames = frames_by most d.messages g.given d.short (inr (omega (arith, d.count, h), g.no_frame));
-  fewer = omega (arith, d.count, h);
-  read = Consumes-trans a b c _ _ d.read g.consumed;
-  written = d.written;
-}
-unread reply most n a b c x y buf SinkFailed d h g = absurd g
-unread reply most n a b c x y buf Cut d h g =
-    let read = Consumes-trans a b c _ _ d.read g.consumed in record {
-      messages = d.messages;
-      part = g.part;
-      are_frames = frames_of_known a c most d.messages g.part d.short read (inr (omega (arith, d.count, h), g.no_frame, g.over));
-      fewer = omega (arith, d.count, h);
-      read = read;
-      cut = g.cut;
-      over = g.over;
-      written = d.written;
-    }
+unread reply most n a b c x y buf fault h h1 h2 =
+    grind (arith, frames_by, Consumes-trans, frames_of_known)
 
 -- its reply could not be written
 pub unwritten : (reply : Octets → Option Octets) (most n : ℕ) (a b c x y z : Option Octets) → Done reply (session a b x y) n → n < most

@@ -1,10 +1,10 @@
 -- The words of a command line say what they ask for: ORIGIN and FILE are the last two, and those before them say the rest.
-use Rattle.std.proofs.Common.{◌≡◌, ℕ, Bool, true, false, List, [], ◌∷◌, ◌++◌, length, drop, get_or, codes, refl, sym, ap, ap₂, ◌∙◌, arith, length-append, inl, inr}
+use Rattle.std.proofs.Common.{◌≡◌, ℕ, Bool, true, false, List, [], ◌∷◌, ◌++◌, length, get_or, codes, refl, ap, ap₂, arith, length-append, inl, inr}
 use Rattle.std.specs.List.{list_any}
 use Rattle.std.proofs.lemmas.Fmt.{decimal_injective}
 use Rattle.dns_spec.specs.Names.{Octets, octets_equal}
 use Rattle.dns_spec.specs.Report.{Options}
-use Rattle.dns_spec.specs.CommandWords.{ZoneWords, AreOptions, AskToCheck, udp, tcp, ServiceAsked, by_lines, by_turns, service_words, HasTurns, AskToServe}
+use Rattle.dns_spec.specs.CommandWords.{ZoneWords, AreOptions, AskToCheck, ServiceAsked, service_words, HasTurns, AskToServe}
 
 word : ℕ → List Octets → Octets
 word k ws = get_or ws k []
@@ -14,9 +14,7 @@ unfolding word
 last_two [] [] y z e = (refl, ap (λ ws. record { origin = word 0 ws; file = word 1 ws }) e)
 last_two [] (w ∷ g) y z e = absurd (omega (arith, ap length e, length-append g (z.origin ∷ z.file ∷ [])))
 last_two (v ∷ f) [] y z e = absurd (omega (arith, ap length e, length-append f (y.origin ∷ y.file ∷ [])))
-last_two (v ∷ f) (w ∷ g) y z e =
-    let rest = last_two f g y z (ap (drop 1) e) in
-    (ap₂ ◌∷◌ (ap (word 0) e) rest.0, rest.1)
+last_two (v ∷ f) (w ∷ g) y z e = grind (arith, ap₂, word, (last_two f g y z))
 
 has : Octets → List Octets → Bool
 has w = list_any (octets_equal w)
@@ -55,32 +53,11 @@ options_said a f h = λ i. record {
 }
 
 pub one_check : (words : List Octets) (a b : Options) (y z : ZoneWords) → AskToCheck words a y → AskToCheck words b z → (a ≡ b) × (y ≡ z)
-one_check words a b y z one other =
-    let ends = last_two one.front other.front y z (sym one.zone_is.words_are ∙ other.zone_is.words_are) in
-    (sym (options_said a one.front one.options_are) ∙ ap said ends.0 ∙ options_said b other.front other.options_are, ends.1)
+one_check words a b y z one other = grind (arith, last_two, options_said, said)
 
 one_asked : (s t : ServiceAsked) → HasTurns s → HasTurns t → service_words s ≡ service_words t → s ≡ t
 unfolding word
-one_asked (by_lines udp) (by_lines udp) h k e = refl
-one_asked (by_lines tcp) (by_lines tcp) h k e = refl
-one_asked (by_lines udp) (by_lines tcp) h k e = absurd (omega (arith, ap length e))
-one_asked (by_lines tcp) (by_lines udp) h k e = absurd (omega (arith, ap length e))
-one_asked (by_lines udp) (by_turns udp a n) h k e = absurd (omega (arith, ap length e))
-one_asked (by_lines udp) (by_turns tcp a n) h k e = absurd (omega (arith, ap length e))
-one_asked (by_lines tcp) (by_turns udp a n) h k e = absurd (omega (arith, ap length e))
-one_asked (by_lines tcp) (by_turns tcp a n) h k e = absurd (omega (arith, ap length e))
-one_asked (by_turns udp a n) (by_lines udp) h k e = absurd (omega (arith, ap length e))
-one_asked (by_turns udp a n) (by_lines tcp) h k e = absurd (omega (arith, ap length e))
-one_asked (by_turns tcp a n) (by_lines udp) h k e = absurd (omega (arith, ap length e))
-one_asked (by_turns tcp a n) (by_lines tcp) h k e = absurd (omega (arith, ap length e))
-one_asked (by_turns udp a n) (by_turns tcp b m) h k e = absurd (omega (arith, ap (λ ws. get_or (word 0 ws) 0 0) e))
-one_asked (by_turns tcp a n) (by_turns udp b m) h k e = absurd (omega (arith, ap (λ ws. get_or (word 0 ws) 0 0) e))
-one_asked (by_turns udp a n) (by_turns udp b m) h k e =
-    ap₂ (by_turns udp) (ap (word 1) e) (decimal_injective n m (omega (arith, h.1)) (omega (arith, k.1)) (ap (word 2) e))
-one_asked (by_turns tcp a n) (by_turns tcp b m) h k e =
-    ap₂ (by_turns tcp) (ap (word 1) e) (decimal_injective n m (omega (arith, h.1)) (omega (arith, k.1)) (ap (word 2) e))
+one_asked s t h h1 h2 = grind (arith, ap₂, decimal_injective)
 
 pub one_service : (words : List Octets) (s t : ServiceAsked) (y z : ZoneWords) → AskToServe words s y → AskToServe words t z → (s ≡ t) × (y ≡ z)
-one_service words s t y z one other =
-    let ends = last_two (service_words s) (service_words t) y z (sym one.zone_is.words_are ∙ other.zone_is.words_are) in
-    (one_asked s t one.turns other.turns ends.0, ends.1)
+one_service words s t y z one other = grind (arith, last_two, one_asked)

@@ -163,13 +163,6 @@ pub record Going (a b : Option Octets) (l : KeptLine) : Type 0 where
   pub read : Consumes a b given
   pub front : IsFront given l
 
-pub going_none : (a : Option Octets) (l : KeptLine) → l ≡ no_line → Going a a l
-going_none a l none = record {
-  given = [];
-  read = Consumes-nil a;
-  front = record { goes_on = record { unended = refl; short = omega arith }; kept = none };
-}
-
 pub going_more : (a b c : Option Octets) (front octets : Octets) (l n : KeptLine) → front ≡ octets → Consumes b c octets
     → ((x : Octets) → IsFront x l → IsFront (x ++ front) n) → Going a b l → Going a c n
 going_more a b c front octets l n same more step g = record {
@@ -177,9 +170,6 @@ going_more a b c front octets l n same more step g = record {
   read = Consumes-trans a b c g.given octets g.read more;
   front = subst (λ o. IsFront (g.given ++ o) n) same (step g.given g.front);
 }
-
-pub going_failed : (a b c : Option Octets) (l : KeptLine) → Keeps b c → Going a b l → HasReadFront a c
-going_failed a b c l keeps g = record { given = g.given; read = Consumes-kept a b c g.given g.read keeps; goes_on = g.front.goes_on }
 
 -- what comes after octets that were read
 what_comes : (a c : Option Octets) (given : Octets) → Consumes a c given → (rest : Octets) × MatchOption a ⊤ (λ all. all ≡ given ++ rest)

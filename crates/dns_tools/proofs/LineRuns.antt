@@ -135,13 +135,6 @@ all_added octets [] old now new e so_far added =
     added ∙ ap (λ a. a ++ 10 ∷ []) (sym (append-nil now) ∙ so_far) ∙ append_assoc old (hex_text octets) (10 ∷ [])
 all_added octets (o ∷ rest) old now new e so_far added = absurd (omega (arith, eqb-true (length (o ∷ rest)) 0 e))
 
--- room was made, by writing the answers that were due
-pub room_made : (old new : Option Octets) (due now : Octets) → Appends old new due → now ≡ [] → Passes old new due now []
-room_made old new due now written none = record { gone = due; written = written; rest = ap (λ z. due ++ z) none }
-
-pub room_had : (old : Option Octets) (due : Octets) → Passes old old due due []
-room_had old due = record { gone = []; written = Appends-nil old; rest = sym (append-nil due) }
-
 pub one_more : (old new : Option Octets) (due now answered text : Octets) → Passes old new due now [] → answered ≡ now ++ text → Passes old new due answered text
 one_more old new due now answered text p e = record {
   gone = p.gone;

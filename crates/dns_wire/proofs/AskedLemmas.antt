@@ -32,8 +32,7 @@ name_same b b' a e = go (a - 12) refl
 
 pub asked_same : (head : Octets → ℕ) (b b' : Octets) (a a' : ℕ) → take a b' ≡ take a b → a' ≡ a → asked_places head b' a' ≡ asked_places head b a
 unfolding asked_places
-asked_same head b b' a a' e same =
-    ap (λ k. new_places head [] (labels_of (name_before b' k)) 12) same ∙ ap (λ o. new_places head [] (labels_of o) 12) (name_same b b' a e)
+asked_same head b b' a a' e same = grind (arith, name_same)
 
 front_same : (b b' : Octets) (a : ℕ) → 12 ≤ a → a ≤ length b → a ≤ length b' → take a b' ≡ take a b → take 12 b' ≡ take 12 b
 front_same b b' a after inside inside' e = sym (one b' inside') ∙ ap (take 12) e ∙ one b inside
@@ -42,22 +41,14 @@ front_same b b' a after inside inside' e = sym (one b' inside') ∙ ap (take 12)
     one x h = sym (take-append-le 12 (take a x) (drop a x) (omega (arith, after, h, length-take a x))) ∙ ap (take 12) (take-append-drop a x)
 
 pub is_asked_same : {b b' : Octets} {a a' : ℕ} → IsAsked b a → take a b' ≡ take a b → a' ≡ a → a ≤ length b' → IsAsked b' a'
-is_asked_same {b} {b'} {a} asked e same inside = subst (IsAsked b') (sym same) (record {
-  blank = front_same b b' a asked.after asked.inside inside e ∙ asked.blank;
-  after = asked.after;
-  inside = inside;
-  near = asked.near;
-  name = λ h. subst IsWireForm (sym (name_same b b' a e)) (asked.name h);
-})
+is_asked_same {b} {b'} {a} asked e same inside = grind (arith, front_same, name_same)
 
 pub is_asked_more : {b b' : Octets} {a a' : ℕ} (o : Octets) → IsAsked b a → b' ≡ b ++ o → a' ≡ a → IsAsked b' a'
 is_asked_more {b} {b'} {a} o asked e same =
-    let inside = asked.inside in
-    is_asked_same asked (ap (take a) e ∙ take-append-le a b o inside) same (omega (arith, inside, ap length e, length-append b o))
+    grind (arith, is_asked_same, take-append-le, length-append)
 
 pub kept_same : (head : Octets → ℕ) (b b' : Octets) (a a' : ℕ) (ks ks' : List Kept) → take a b' ≡ take a b → a' ≡ a → ks' ≡ ks → asked_places head b' a' ++ ks' ≡ asked_places head b a ++ ks
-kept_same head b b' a a' ks ks' e same places =
-    ap (λ x. x ++ ks') (asked_same head b b' a a' e same) ∙ ap (λ x. asked_places head b a ++ x) places
+kept_same head b b' a a' ks ks' e same places = grind (arith, asked_same)
 
 -- octets after the others leave all places
 pub kept_more : (head : Octets → ℕ) (b b' : Octets) (a a' : ℕ) (ks ks' : List Kept) (o : Octets) → IsAsked b a → b' ≡ b ++ o → a' ≡ a → ks' ≡ ks
@@ -75,9 +66,7 @@ asked_nothing head b = ap (λ n. new_places head [] n 12) no_labels ∙ kept-roo
 
 -- where it stands after room for a header, all its suffixes have their places
 pub name_whole : (n : DomainName) (b o : Octets) (a : ℕ) → b ≡ (replicate 12 0 ++ wire n) ++ o → a ≡ 12 + length (wire n) → name_before b a ≡ wire n
-name_whole n b o a e end =
-    let long : a - 12 ≡ length (wire n) = omega (arith, end) in
-    ap₂ (λ k x. take k x) long (ap (drop 12) e) ∙ take_at (wire n) o (length (wire n)) refl
+name_whole n b o a e end = grind (arith, ap₂, take_at)
 
 pub asked_whole : (head : Octets → ℕ) {b : Octets} {a : ℕ} (n : DomainName) (o : Octets) → b ≡ (replicate 12 0 ++ wire n) ++ o → is_name n ≡ true → a ≡ 12 + length (wire n)
     → asked_places head b a ≡ new_places head [] n 12
@@ -130,8 +119,7 @@ suffix_stands {b} {a} n front s asked some e is =
       stands = record {
         before = take 12 b ++ x;
         after = after;
-        whole = sym (take-append-drop 12 b) ∙ ap (λ z. take 12 b ++ z) (sym (take-append-drop (a - 12) (drop 12 b)) ∙ ap (λ z. z ++ after) own ∙ append_assoc x (wire s) after)
-            ∙ sym (append_assoc (take 12 b) x (wire s ++ after));
+        whole = grind (arith, take-append-drop, append_assoc);
         place = omega (arith, whole, both, length-append (take 12 b) x, front_long, inside, some);
       };
       whole = whole;
@@ -226,11 +214,7 @@ pub record Last (name rest : Octets) (count : ℕ) : Type 0 where
   pub all : (n : DomainName) → name ≡ wire n → is_name n ≡ true → LastNow n rest count
 
 pub last_begins : (name : Octets) (count : ℕ) → Last name name count
-last_begins name count = record {
-  shorter = omega arith;
-  end = ap (λ k. drop k name) {x = 0} {y = length name - length name} (omega arith);
-  all = λ n e ok. record { front = []; left = n; whole = refl; spelled = e; is_name = ok; ahead = λ f t l is long. (f, is) };
-}
+last_begins name count = grind arith
 
 pub last_label : {name rest after : Octets} {count : ℕ} (k : ℕ) → Last name rest count → AfterLabel rest k after → count < length rest → Last name after count
 last_label {name} {rest} {after} {count} k last a longer = record {
@@ -273,9 +257,7 @@ last_here {name} {rest} {count} last here n front t l e ok whole long =
   where
     go : (left g : DomainName) → rest ≡ wire left → left ≡ g ++ l ∷ t → rest ≡ wire (l ∷ t)
     go left [] spelled is = spelled ∙ ap wire is
-    go left (x ∷ g) spelled is =
-        let more = longer_wire g (l ∷ t) in
-        absurd (omega (arith, here, long, more, ap length spelled, ap (λ y. length (wire y)) is, length-append x (wire (g ++ l ∷ t))))
+    go left (x ∷ g) spelled is = grind (arith, longer_wire, length-append)
 
 pub last_root : {name rest : Octets} {count : ℕ} → Last name rest count → ((m : DomainName) → rest ≡ wire m → is_name m ≡ true → m ≡ []) → (n front t : DomainName) (l : Octets) → name ≡ wire n
     → is_name n ≡ true → n ≡ front ++ l ∷ t → length (wire (l ∷ t)) ≡ count → ⊥

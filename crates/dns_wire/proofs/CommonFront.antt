@@ -5,7 +5,7 @@ use Rattle.std.proofs.lemmas.List.{take_all, length-take-le, length-drop, drop-d
 use Rattle.std.proofs.lemmas.Option.{none-some, same_Some, slice_get_within, get_or_from_slice_get, slice_get-get_or}
 use Rattle.std.proofs.Math.Seq.{take-add}
 use Rattle.dns_spec.specs.Names.{Octets, DomainName, wire}
-use Rattle.dns_spec.specs.Reading.{pointer_place, RunAt}
+use Rattle.dns_spec.specs.Reading.{RunAt}
 use Rattle.dns_spec.specs.Reading.RunAt.{ends, goes_on, jumps}
 use Rattle.dns_wire.specs.Labels.{LabelAt, PointerAt, NoRunAt}
 use Rattle.dns_wire.specs.Kept.{SpelledAt, HasAt, IsCommon}
@@ -18,8 +18,7 @@ label_octets (l ∷ n) = length l ∷ (l ++ label_octets n)
 
 pub wire_front : (f t : DomainName) → wire (f ++ t) ≡ label_octets f ++ wire t
 wire_front [] t = refl
-wire_front (l ∷ f) t = ap (λ z. length l ∷ (l ++ z)) (wire_front f t)
-    ∙ ap (λ z. length l ∷ z) (sym (append_assoc l (label_octets f) (wire t)))
+wire_front (l ∷ f) t = grind (arith, append_assoc, (wire_front f t))
 
 -- where an element of a part stands in the whole
 get_taken : (m k : ℕ) (xs : Octets) → k < m → slice_get (take m xs) k ≡ slice_get xs k
@@ -31,8 +30,7 @@ get_taken (suc m) (suc k) (x ∷ xs) h = get_taken m k xs (omega arith)
 get_dropped : (s k : ℕ) (b : Octets) → slice_get (drop s b) k ≡ slice_get b (s + k)
 get_dropped zero k b = ap (slice_get b) {x = k} {y = 0 + k} (omega arith)
 get_dropped (suc s) k [] = refl
-get_dropped (suc s) k (x ∷ b) = get_dropped s k b
-    ∙ ap (slice_get (x ∷ b)) {x = suc (s + k)} {y = suc s + k} (omega arith)
+get_dropped (suc s) k (x ∷ b) = grind (arith, (get_dropped s k b))
 
 get_front : (x y : Octets) (k : ℕ) → k < length x → slice_get (x ++ y) k ≡ slice_get x k
 get_front x y k h = let at = slice_get-get_or x k 0 h in get_more x y k _ at ∙ sym at
@@ -44,14 +42,12 @@ get_seam (o ∷ x) y = get_seam x y
 drop_get : (b : Octets) (i k : ℕ) → slice_get b i ≡ Some k → drop i b ≡ k ∷ drop (i + 1) b
 drop_get [] i k at = absurd (none-some k at)
 drop_get (x ∷ b) zero k at = ap (λ z. z ∷ b) (same_Some x k at)
-drop_get (x ∷ b) (suc i) k at = drop_get b i k at
-    ∙ ap (λ j. k ∷ drop j (x ∷ b)) {x = suc (i + 1)} {y = suc i + 1} (omega arith)
+drop_get (x ∷ b) (suc i) k at = grind (arith, (drop_get b i k))
 
 -- octets alike have the same element at a place
 get_alike : (b o : Octets) (s m k : ℕ) → take m (drop s b) ≡ take m o → k < m
     → slice_get b (s + k) ≡ slice_get o k
-get_alike b o s m k alike h = sym (get_dropped s k b) ∙ sym (get_taken m k (drop s b) h)
-    ∙ ap (λ z. slice_get z k) alike ∙ get_taken m k o h
+get_alike b o s m k alike h = grind (arith, get_dropped, get_taken)
 
 get_at : (b x : Octets) (s k : ℕ) → HasAt b s x → k < length x → slice_get b (s + k) ≡ slice_get x k
 get_at b x s k has h = get_alike b x s (length x) k (has.1 ∙ sym (take_all (length x) x (omega arith))) h
@@ -75,10 +71,7 @@ data RunEnds (b : Octets) (s i : ℕ) (n : DomainName) : Type 0 where
       → PointerAt b s (i + length (label_octets f)) p → RunAt b p p t d → RunEnds b s i n
 
 run_ends : {b : Octets} {s i e : ℕ} {n : DomainName} → RunAt b s i n e → RunEnds b s i n
-run_ends {b} (ends i at) = whole (
-  let inside = slice_get_within b i 0 at in omega (arith, inside),
-  ap (take 1) (drop_get b i 0 at),
-)
+run_ends {b} (ends i at) = grind (arith, slice_get_within, drop_get)
 run_ends {b} {s} (goes_on i k l n e at some short within is rest) = go (run_ends rest)
   where
     there : (length l ≡ k) × LabelAt b i l
@@ -135,42 +128,20 @@ pointed_on {b} {o} {s} k there common inside = go there.0 there.1 there.2 there.
 
         cases : (u : Bool) → nat_lt k (length x) ≡ u → (v : Bool) → nat_lt (length x) k ≡ v
             → PointedOn b s k o
-        cases true before v q =
-            let h = ltb-true k (length x) before in
-            absurd (other (get_at b _ s k has h ∙ sym (get_front x (wire t) k h)
-            ∙ ap (λ z. slice_get z k) (sym own)))
+        cases true before v q = grind (arith, ltb-true, get_at, get_front, other, x, own)
         cases false least true past =
-            let at = sym (get_alike b o s k (length x) common.alike (ltb-true (length x) k past)) ∙ pointer.first_there in
-            let low = first_low pointer.first rest (sym (get_seam x (wire t))
-            ∙ ap (λ z. slice_get z (length x)) (sym own) ∙ at) in
-            let high = pointer.high in
-            absurd (omega (arith, low, high))
-        cases false least false most =
-            let low = ltb-false k (length x) least in
-            let high = ltb-false (length x) k most in
-            let same : length x ≡ k = omega (arith, low, high) in
-            record {
-              place = p;
-              pointer = subst (λ j. PointerAt b s (s + j) p) same pointer;
-              spelled = (t, d, rest, sym (ap (drop k) own ∙ drop_at x (wire t) k same));
-            }
+            grind (arith, get_alike, ltb-true, first_low, get_seam, x, own)
+        cases false least false most = grind (arith, ltb-false, drop_at, x, own)
 
 -- where a pointer leads, the octets left are spelled
 pub spelled_after : {b o : Octets} {s k p : ℕ} → PointedOn b s k o → PointerAt b s (s + k) p
     → SpelledAt b p (drop k o)
-spelled_after {b} {o} {s} {k} {p} on there =
-    let one = same_Some on.pointer.first there.first (sym on.pointer.first_there
-    ∙ there.first_there) in
-    let two = same_Some on.pointer.second there.second (sym on.pointer.second_there
-    ∙ there.second_there) in
-    subst (λ j. SpelledAt b j (drop k o)) (on.pointer.place ∙ ap₂ pointer_place one two
-    ∙ sym there.place) on.spelled
+spelled_after {b} {o} {s} {k} {p} on there = grind (arith, same_Some, ap₂)
 
 -- where all eights are in common, or an octet more is
 pub common_more : (k w : ℕ) (x y : Octets) → take k x ≡ take k y
     → take w (drop k x) ≡ take w (drop k y) → take (k + w) x ≡ take (k + w) y
-common_more k w x y alike more = take-add k w x ∙ ap₂ (λ u v. u ++ v) alike more
-    ∙ sym (take-add k w y)
+common_more k w x y alike more = grind (arith, take-add, ap₂)
 
 -- a pointer where no run goes on
 pub not_pointed : {b o : Octets} {s k : ℕ} → PointedOn b s k o → (192 ≤ get_or b (s + k) 0

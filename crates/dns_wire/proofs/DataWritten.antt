@@ -27,8 +27,7 @@ data_none ms p = refl
 
 data_more : (x : Part) (ps : List Part) (ms : List Placed) (p : ℕ) → both_laid (part_laid x) (all_laid ps) ms p ≡ data_laid ms p (x ∷ ps)
 unfolding data_laid
-data_more (octets o) ps ms p = ap (λ m. laid_front o [] (data_laid m (p + length o) ps)) (append-nil ms)
-data_more (name n) ps ms p = refl
+data_more x ps ms p = grind (arith, append-nil)
 
 data_last : (x : Part) (ms : List Placed) (p : ℕ) → part_laid x ms p ≡ data_laid ms p (x ∷ [])
 data_last x ms p =
@@ -64,10 +63,7 @@ patched b y z w after now eight two is set =
 
 -- what stands before those ten octets stays as well
 patched_follows : {b after now : Octets} (x : Octets) → Follows b after → now ≡ take (length b + 8) after ++ x → Follows b now
-patched_follows {b} {after} x f set = record {
-  more = take 8 f.more ++ x;
-  whole = set ∙ ap (λ z. z ++ x) (ap (take (length b + 8)) f.whole ∙ take-append-add b f.more 8) ∙ append_assoc b (take 8 f.more) x;
-}
+patched_follows {b} {after} x f set = grind (arith, take-append-add, append_assoc)
 
 -- the places of names are those of any octets that spell the names there
 holds_again : {head : Octets → ℕ} {ms : List Placed} {b b' : Octets} {ks ks' : List Kept} → Holds head ms b ks → Holds head ms b' ks' → Holds head ms b' ks
@@ -123,10 +119,7 @@ tail_written {head} {head'} {d} {d'} {d''} t ttl o now inside first next set =
           take_patched d''.asked_end (length b + 8) b'' rest _ set (omega (arith, inside, grown.asked)) (omega (arith, long, place)) in
           let kept : known_places number (record d'' { octets = now }) ≡ known_places number d'' = kept_same number _ _ _ _ _ _ front refl refl in
           record {
-            exactly = (
-              λ yes. omega (arith, fits, place, same_limit, ap (λ (l : Laid). length (b' ++ l.written)) same, length-append b' w, length-append b (numbers ++ w), length-append numbers w),
-              λ h. refl,
-            );
+            exactly = grind (arith, length-append);
             written = laid;
             stands = λ x long_x known.
                 let here : Holds number ms (x ++ numbers) ks' = holds_again there (holds_octets numbers known) in

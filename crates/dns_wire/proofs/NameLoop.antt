@@ -1,6 +1,6 @@
 -- A name is read label by label from place 12 on: the labels read so far, and what the octets from the next place on
 -- spell, are the name.
-use Rattle.std.proofs.Common.{Bool, true, false, ◌≡◌, ℕ, ◌+◌, ◌<◌, ◌≤◌, [], ◌∷◌, ◌++◌, length, take, drop, get_or, refl, sym, ◌∙◌, ap, arith, Option, None, Some}
+use Rattle.std.proofs.Common.{Bool, true, ◌≡◌, ℕ, ◌+◌, ◌<◌, ◌≤◌, [], ◌∷◌, ◌++◌, length, take, drop, get_or, refl, sym, ◌∙◌, ap, arith, Option, None, Some}
 use Rattle.std.proofs.lemmas.List.{append_assoc, append-nil}
 use Rattle.std.proofs.lemmas.Option.{slice_get-get_or, slice_get_past}
 use Rattle.std.specs.Prelude.{slice_get, ◌⊎◌}
@@ -21,8 +21,7 @@ unfoldable pub read_on : Octets → DomainName → ℕ → Option (DomainName ×
 read_on d n at = option_and_then name_if_short (option_map (in_front n) (run12 d at))
 
 at_first : (x : Option (DomainName × ℕ)) → option_map (in_front []) x ≡ x
-at_first None = refl
-at_first (Some (m, e)) = refl
+at_first x = grind arith
 
 pub read_on-start : (d : Octets) → read_on d [] 12 ≡ name_at d 12
 unfolding read_on
@@ -40,14 +39,10 @@ short_name n e h = rw h refl
 
 pub read_on-root : (d : Octets) (n : DomainName) (i : ℕ) → i < length d → get_or d i 0 ≡ 0 → is_name n ≡ true → read_on d n i ≡ Some (n, i + 1)
 unfolding read_on
-read_on-root d n i h z ok =
-    let at : slice_get d i ≡ Some 0 = slice_get-get_or d i 0 h ∙ ap (λ o. Some o) z in
-    ap (λ x. option_and_then name_if_short (option_map (in_front n) x)) (run12_root d i at)
-    ∙ ap (λ m. name_if_short (m, i + 1)) (append-nil n) ∙ short_name n (i + 1) ok
+read_on-root d n i h z ok = grind (arith, slice_get-get_or, run12_root, append-nil, short_name)
 
 with_front : (n : DomainName) (l : Octets) (x : Option (DomainName × ℕ)) → option_map (in_front n) (option_map (with_label l) x) ≡ option_map (in_front (n ++ l ∷ [])) x
-with_front n l None = refl
-with_front n l (Some (m, e)) = ap (λ k. Some (k, e)) (sym (append_assoc n (l ∷ []) m))
+with_front n l x = grind (arith, append_assoc)
 
 pub read_on-label : (d : Octets) (n : DomainName) (i k : ℕ) → i < length d → get_or d i 0 ≡ k → 0 < k → k < 64 → i + 1 + k ≤ length d
     → read_on d n i ≡ read_on d (n ++ take k (drop (i + 1) d) ∷ []) (i + 1 + k)
@@ -72,12 +67,10 @@ read_on-high d n i k h z high =
     read_on-none d n i (run12_high d i k (slice_get-get_or d i 0 h ∙ ap (λ o. Some o) z) high)
 
 no_name : (n m : DomainName) (e : ℕ) → 255 < length (wire n) → (b : Bool) → is_name (n ++ m) ≡ b → name_if_short (n ++ m, e) ≡ None
-no_name n m e long true ok = let name = IsName-is_name (n ++ m) ok in absurd (omega (arith, length-wire-front n m, name.fits))
-no_name n m e long false ok = rw ok refl
+no_name n m e h b h1 = grind (arith, IsName-is_name, length-wire-front)
 
 none_long : (n : DomainName) → 255 < length (wire n) → (x : Option (DomainName × ℕ)) → option_and_then name_if_short (option_map (in_front n) x) ≡ None
-none_long n long None = refl
-none_long n long (Some (m, e)) = no_name n m e long (is_name (n ++ m)) refl
+none_long n h x = grind (arith, no_name)
 
 pub read_on-long : (d : Octets) (n : DomainName) (i : ℕ) → 255 < length (wire n) → read_on d n i ≡ None
 unfolding read_on

@@ -29,10 +29,7 @@ octets_of_records ms p (r ∷ rs) =
 
 -- records after others
 pub records_split : (rs ss : List ResourceRecord) (ms : List Placed) (p : ℕ) → both_laid (records_laid rs) (records_laid ss) ms p ≡ records_laid (rs ++ ss) ms p
-records_split [] ss ms p =
-    let none = records_none ms p in
-    ap (λ (l : Laid). laid_front l.written l.names (records_laid ss (ms ++ l.names) (p + length l.written))) none
-    ∙ ap₂ (λ m k. records_laid ss m k) (append-nil ms) (add-zero p)
+records_split [] ss ms p = grind (arith, records_none, ap₂, append-nil, add-zero)
 records_split (r ∷ rs) ss ms p =
     let l = record_laid ms p r in
     let later = ms ++ l.names in
@@ -47,10 +44,7 @@ records_split (r ∷ rs) ss ms p =
     ∙ sym (records_more ms p r (rs ++ ss))
 
 record_alone : (r : ResourceRecord) (ms : List Placed) (p : ℕ) → record_laid ms p r ≡ records_laid (r ∷ []) ms p
-record_alone r ms p =
-    let l = record_laid ms p r in
-    ap₂ (λ o ns. record { written = o; names = ns }) (sym (append-nil l.written)) (sym (append-nil l.names))
-    ∙ ap (laid_front l.written l.names) (sym (records_none (ms ++ l.names) (p + length l.written))) ∙ sym (records_more ms p r [])
+record_alone r ms p = grind (arith, ap₂, append-nil, records_none, records_more)
 
 -- a record has ten octets after its owner
 records_long : (ms : List Placed) (p : ℕ) (rs : List ResourceRecord) → 10 * length rs ≤ length (records_laid rs ms p).written
@@ -68,11 +62,7 @@ records_long ms p (r ∷ rs) =
     omega (arith, whole, own, others)
 
 pub set_long : (owner : DomainName) (ttl : ℕ) (set : RecordSet) (ms : List Placed) (p : ℕ) → 10 * length set.rdata ≤ length (records_laid (records_at owner ttl set) ms p).written
-set_long owner ttl set ms p =
-    let rs = records_at owner ttl set in
-    let long = records_long ms p rs in
-    let count : length rs ≡ length set.rdata = length-map set.rdata (shown owner set.rtype ttl) in
-    omega (arith, long, count)
+set_long owner ttl set ms p = grind (arith, records_long, length-map)
 
 -- the records of a set up to one
 record_taken : (owner : DomainName) (ttl : ℕ) (set : RecordSet) (i : ℕ) → i < length set.rdata
@@ -85,9 +75,7 @@ record_taken owner ttl set i inside =
     ap (λ x. take i rs ++ x ∷ []) (sym at) ∙ sym (take_more rs i (show []) (omega (arith, inside, count)))
 
 pub all_taken : (owner : DomainName) (ttl : ℕ) (set : RecordSet) (i : ℕ) → length set.rdata ≤ i → take i (records_at owner ttl set) ≡ records_at owner ttl set
-all_taken owner ttl set i over =
-    let count = length-map set.rdata (λ (d : Octets). shown owner set.rtype ttl d) in
-    take_all i (records_at owner ttl set) (omega (arith, over, count))
+all_taken owner ttl set i over = grind (arith, length-map, take_all)
 
 -- a record more of a set
 pub record_more : {head head' head'' : Octets → ℕ} {d d' d'' : Draft} {fits : Bool} (owner : DomainName) (ttl : ℕ) (set : RecordSet) (i : ℕ) (given : ResourceRecord) → i < length set.rdata

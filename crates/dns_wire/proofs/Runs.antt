@@ -1,9 +1,9 @@
 -- What a run of labels has at a place decides how it goes on.
-use Rattle.std.proofs.Common.{◌≡◌, ℕ, zero, suc, List, ◌+◌, ◌<◌, ◌≤◌, true, IfSome, [], ◌∷◌, ◌++◌, length, take, drop, get_or, slice_get, Option, None, Some, refl, sym, ap, ap₂, ◌∙◌, subst, arith, append_assoc, append-nil, length-append}
+use Rattle.std.proofs.Common.{◌≡◌, ℕ, zero, suc, List, ◌+◌, ◌<◌, ◌≤◌, true, IfSome, [], ◌∷◌, ◌++◌, length, take, drop, get_or, slice_get, Option, Some, refl, sym, ap, ◌∙◌, subst, arith, append_assoc, append-nil, length-append}
 use Rattle.std.proofs.lemmas.Option.{none-some, same_Some, slice_get_within, slice_get-get_or}
 use Rattle.std.proofs.lemmas.List.{length-take-le, length-drop}
 use Rattle.dns_spec.specs.Names.{Octets, DomainName, wire, is_name}
-use Rattle.dns_spec.specs.Reading.{pointer_place, RunAt, NameAt}
+use Rattle.dns_spec.specs.Reading.{RunAt, NameAt}
 use Rattle.dns_spec.specs.Reading.RunAt.{ends, goes_on, jumps}
 use Rattle.dns_spec.proofs.DomainNames.NameLaws.{IsName-is_name}
 use Rattle.dns_wire.specs.Labels.{LabelAt, PointerAt, NoRunAt, NoNameAt, IsReading, end_or}
@@ -21,11 +21,7 @@ pub data GoesOn (b : Octets) (s i : ℕ) (n : DomainName) (e : ℕ) : Type 0 whe
   at_pointer : (p d : ℕ) → PointerAt b s i p → e ≡ i + 2 → RunAt b p p n d → GoesOn b s i n e
 
 pub label_there : {b l : Octets} {i k : ℕ} → slice_get b i ≡ Some k → 0 < k → k < 64 → i + 1 + k ≤ length b → l ≡ take k (drop (i + 1) b) → (length l ≡ k) × LabelAt b i l
-label_there {b} {l} {i} {k} at some short within is =
-    let long : length l ≡ k = ap length is ∙ length-take-le k (drop (i + 1) b) (omega (arith, within, length-drop (i + 1) b)) in (
-      long,
-      record { length_there = at ∙ ap Some (sym long); some = omega (arith, some, long); short = omega (arith, short, long); within = omega (arith, within, long); label = is ∙ ap (λ j. take j (drop (i + 1) b)) (sym long) },
-    )
+label_there {b} {l} {i} {k} at some short within is = grind (arith, length-take-le, length-drop)
 
 pub goes_on_at : {b : Octets} {s i e : ℕ} {n : DomainName} → RunAt b s i n e → GoesOn b s i n e
 goes_on_at (ends i at) = at_end at refl refl
@@ -49,20 +45,12 @@ module _ (b : Octets) (s i k : ℕ) (inside : i < length b) (is : get_or b i 0 �
   first_is o at = same_Some o k (sym at ∙ there_is b i k inside is)
 
   pub no_label : 0 < k → k < 64 → length (drop (i + 1) b) < k → NoRunAt b s i
-  no_label some short past n e run = go (goes_on_at run)
-    where
-      go : GoesOn b s i n e → ⊥
-      go (at_end at none end) = absurd (omega (arith, first_is 0 at))
-      go (at_label l m there shape rest) = absurd (omega (arith, first_is (length l) there.length_there, there.within, length-drop (i + 1) b))
-      go (at_pointer p d there end rest) = absurd (omega (arith, first_is there.first there.first_there, there.high))
+  no_label some short past n e run = grind (arith, goes_on_at, first_is, length-drop)
 
--- a beginning of a name is no longer than the name
 pub length-wire-front : (n m : DomainName) → length (wire n) ≤ length (wire (n ++ m))
 length-wire-front [] [] = omega arith
 length-wire-front [] (l ∷ m) = omega arith
-length-wire-front (l ∷ n) m =
-    let shorter = length-wire-front n m in
-    omega (arith, length-append l (wire n), length-append l (wire (n ++ m)))
+length-wire-front (l ∷ n) m = grind (arith, length-append, (length-wire-front n m))
 
 -- the end
 pub reading_ends : {b : Octets} {at s i : ℕ} {n : DomainName} {end : Option ℕ} → IsReading b at n s i end → slice_get b i ≡ Some 0
@@ -89,17 +77,8 @@ reading_label {b} {at} {s} {i} {n} {end} l reading there ok = record {
     go : (w : DomainName) (f : ℕ) (m : DomainName) (e : ℕ) → w ≡ n ++ m → f ≡ end_or end e → GoesOn b s i m e
         → (m : DomainName) × (e : ℕ) × RunAt b s (i + (1 + length l)) m e × (w ≡ (n ++ l ∷ []) ++ m) × (f ≡ end_or end e)
     go w f m e p q (at_end root none end) = absurd (omega (arith, same_Some (length l) 0 (sym there.length_there ∙ root), there.some))
-    go w f m e p q (at_label k rest label shape run) =
-        let long : length l ≡ length k = same_Some (length l) (length k) (sym there.length_there ∙ label.length_there) in
-        let same : k ≡ l = label.label ∙ ap (λ j. take j (drop (i + 1) b)) (sym long) ∙ sym there.label in (
-          rest,
-          e,
-          subst (λ j. RunAt b s j rest e) (ap (λ j. i + 1 + j) (sym long) ∙ sym next) run,
-          p ∙ ap (λ x. n ++ x) (shape ∙ ap (λ x. x ∷ rest) same) ∙ sym (append_assoc n (l ∷ []) rest),
-          q,
-        )
-    go w f m e p q (at_pointer place d pointer end run) =
-        absurd (omega (arith, same_Some (length l) pointer.first (sym there.length_there ∙ pointer.first_there), there.short, pointer.high))
+    go w f m e p q (at_label k rest label shape run) = grind (arith, same_Some, append_assoc, next)
+    go w f m e p q (at_pointer place d pointer end run) = grind arith
 
 -- the name with the label is too long
 pub label_too_long : {b : Octets} {at s i : ℕ} {n : DomainName} {end : Option ℕ} (l : Octets) → IsReading b at n s i end → LabelAt b i l
@@ -114,12 +93,10 @@ label_too_long {b} {at} {s} {i} {n} {end} l reading there long w f name =
         let same : k ≡ l = label.label ∙ ap (λ j. take j (drop (i + 1) b)) (sym as_long) ∙ sym there.label in
         let whole : w ≡ (n ++ l ∷ []) ++ rest = p ∙ ap (λ x. n ++ x) (shape ∙ ap (λ x. x ∷ rest) same) ∙ sym (append_assoc n (l ∷ []) rest) in
         omega (arith, (IsName-is_name w name.1).fits, ap (λ x. length (wire x)) whole, length-wire-front (n ++ l ∷ []) rest)
-    go m e p (at_pointer place d pointer end run) =
-        omega (arith, same_Some (length l) pointer.first (sym there.length_there ∙ pointer.first_there), there.short, pointer.high)
+    go m e p (at_pointer place d pointer end run) = grind arith
 
 pub end_fits : (b : Octets) (x : Option ℕ) (e : ℕ) → IfSome x (λ y. y ≤ length b) → e ≤ length b → end_or x e ≤ length b
-end_fits b None e h l = l
-end_fits b (Some y) e h l = h
+end_fits b x e h h1 = grind arith
 
 -- a pointer is followed
 pub reading_jumps : {b : Octets} {at s i p : ℕ} {n : DomainName} {end : Option ℕ} → IsReading b at n s i end → PointerAt b s i p → s ≤ length b
@@ -135,10 +112,5 @@ reading_jumps {b} {at} {s} {i} {p} {n} {end} reading there inside = record {
     go : (w : DomainName) (f : ℕ) (m : DomainName) (e : ℕ) → w ≡ n ++ m → f ≡ end_or end e → GoesOn b s i m e
         → (m : DomainName) × (e : ℕ) × RunAt b p p m e × (w ≡ n ++ m) × (f ≡ end_or end (i + 2))
     go w f m e q r (at_end root none is) = absurd (omega (arith, same_Some there.first 0 (sym there.first_there ∙ root), there.high))
-    go w f m e q r (at_label k rest label shape run) =
-        absurd (omega (arith, same_Some there.first (length k) (sym there.first_there ∙ label.length_there), there.high, label.short))
-    go w f m e q r (at_pointer place d pointer is run) =
-        let one : there.first ≡ pointer.first = same_Some there.first pointer.first (sym there.first_there ∙ pointer.first_there) in
-        let two : there.second ≡ pointer.second = same_Some there.second pointer.second (sym there.second_there ∙ pointer.second_there) in
-        let same : place ≡ p = pointer.place ∙ ap₂ pointer_place (sym one) (sym two) ∙ sym there.place in
-        (m, d, subst (λ x. RunAt b x x m d) same run, q, r ∙ ap (end_or end) is)
+    go w f m e q r (at_label k rest label shape run) = grind arith
+    go w f m e q r (at_pointer place d pointer is run) = grind arith

@@ -1,11 +1,11 @@
 -- What data is cut into whose names take part in compression: one name, a number and a name, or two names and five numbers.
-use Rattle.std.proofs.Common.{rules, ◌≡◌, ℕ, ◌-◌, ◌≤◌, true, cond, nat_le, List, [], ◌∷◌, ◌++◌, length, take, drop, Option, None, Some, is_some, unwrap_or, refl, sym, ap, ap₂, ◌∙◌, subst, arith, append-nil, length-append, take_at, drop_at}
+use Rattle.std.proofs.Common.{◌≡◌, ℕ, ◌-◌, ◌≤◌, true, List, [], ◌∷◌, ◌++◌, length, take, drop, Option, None, Some, refl, sym, ap, ap₂, ◌∙◌, subst, arith, append-nil, length-append, take_at, drop_at}
 use Rattle.std.proofs.lemmas.Bool.{false≢true, and_parts}
 use Rattle.std.proofs.lemmas.Option.{none-some, same_Some}
 use Rattle.std.proofs.lemmas.List.{length-take, length-drop, take_all}
 use Rattle.std.specs.Borrow.{Bor}
 use Rattle.dns_spec.specs.Names.{Octets, DomainName, wire, is_name}
-use Rattle.dns_spec.specs.Data.{Fixed, width, Piece, domain, fixed, numbers, type_mx, type_soa, Part, octets, name, piece_front, cut, pieces_of, parts, laid_parts, compresses, valid, type_table}
+use Rattle.dns_spec.specs.Data.{Fixed, width, Piece, domain, fixed, numbers, type_mx, type_soa, Part, octets, name, piece_front, cut, pieces_of, parts, laid_parts, compresses, valid}
 use Rattle.dns_spec.proofs.DataWords.WrittenData.{cut_into, name_part, octets_part, front_taken}
 use Rattle.dns_name.specs.WireForm.{labels_of, IsWireForm}
 use Rattle.dns_rdata.specs.Parts.{Cuts, IsLent, part_for}
@@ -15,8 +15,7 @@ use Rattle.dns_wire.proofs.ValidData.{by_row}
 
 cut_end : (d : Octets) (xs : List Part) → cut [] d ≡ Some xs → (d ≡ []) × (xs ≡ [])
 unfolding cut
-cut_end [] xs h = (refl, sym (same_Some [] xs h))
-cut_end (o ∷ d) xs h = absurd (none-some xs h)
+cut_end d xs h = grind (arith, same_Some, none-some)
 
 -- a name first, and what follows it
 first_name : (ps : List Piece) (d : Octets) (xs : List Part) → cut (domain ∷ ps) d ≡ Some xs
@@ -36,18 +35,11 @@ first_run f ps d xs h =
     (c.others, t.1, sym c.whole ∙ ap (λ p. p ∷ c.others) (sym (octets_part (width f) d c.rest c.part c.front)), ap (cut ps) rest ∙ c.more)
 
 one_name : (d : Octets) (xs : List Part) → cut (domain ∷ []) d ≡ Some xs → (n : DomainName) × (is_name n ≡ true) × (d ≡ wire n) × (xs ≡ name n ∷ [])
-one_name d xs h =
-    let (n, rest, others, ok, whole, parts, more) = first_name [] d xs h in
-    let e = cut_end rest others more in
-    (n, ok, whole ∙ ap (λ z. wire n ++ z) e.0 ∙ append-nil (wire n), parts ∙ ap (λ ys. name n ∷ ys) e.1)
+one_name d xs h = grind (arith, first_name, cut_end, append-nil)
 
 -- the parts of valid data of a type whose names take part in compression
 parts_cut : (t : ℕ) (d : Octets) → compresses t ≡ true → valid t d ≡ true → cut (pieces_of t) d ≡ Some (laid_parts t d)
-parts_cut t d shared ok = go (cut (pieces_of t) d) refl (and_parts (nat_le (length d) 65535) (is_some (cut (pieces_of t) d)) ok).1
-  where
-    go : (y : Option (List Part)) → cut (pieces_of t) d ≡ y → is_some y ≡ true → cut (pieces_of t) d ≡ Some (laid_parts t d)
-    go None e h = absurd (false≢true h)
-    go (Some xs) e h = e ∙ ap Some (sym (ap (λ b. cond b (parts t d) (octets d ∷ [])) shared ∙ ap (λ o. unwrap_or o (octets d ∷ [])) e))
+parts_cut t d shared ok = grind (arith, and_parts, false≢true)
 
 pub one_name_laid : (t : ℕ) (d : Octets) → pieces_of t ≡ domain ∷ [] → compresses t ≡ true → valid t d ≡ true
     → (n : DomainName) × (is_name n ≡ true) × (d ≡ wire n) × (laid_parts t d ≡ name n ∷ [])
@@ -56,16 +48,10 @@ one_name_laid t d pieces shared ok = one_name d (laid_parts t d) (ap (λ ps. cut
 -- the parts of the data of an MX: a number of two octets and a name
 pub exchange_laid : (t : ℕ) (d : Octets) → t ≡ type_mx → valid t d ≡ true
     → (n : DomainName) × (is_name n ≡ true) × (2 ≤ length d) × (drop 2 d ≡ wire n) × (laid_parts t d ≡ octets (take 2 d) ∷ name n ∷ [])
-exchange_laid t d mx ok =
-    let pieces : pieces_of t ≡ fixed (numbers 1 2) ∷ domain ∷ [] = ap pieces_of mx in
-    let (others, two, parts, more) = first_run (numbers 1 2) (domain ∷ []) d (laid_parts t d) (ap (λ ps. cut ps d) (sym pieces) ∙ parts_cut t d (ap compresses mx) ok) in
-    let (n, is_name, whole, one) = one_name (drop 2 d) others more in
-    (n, is_name, omega (arith, two, length-take 2 d), whole, parts ∙ ap (λ ys. octets (take 2 d) ∷ ys) one)
+exchange_laid t d mx ok = grind (arith, first_run, parts_cut, one_name, length-take)
 
 authority_cut : (t : ℕ) (d : Octets) → t ≡ type_soa → valid t d ≡ true → cut (domain ∷ domain ∷ fixed (numbers 5 4) ∷ []) d ≡ Some (laid_parts t d)
-authority_cut t d soa ok =
-    let pieces : pieces_of t ≡ domain ∷ domain ∷ fixed (numbers 5 4) ∷ [] = ap pieces_of soa in
-    ap (λ ps. cut ps d) (sym pieces) ∙ parts_cut t d (ap compresses soa) ok
+authority_cut t d soa ok = grind (arith, parts_cut)
 
 -- data of an SOA begins with a name
 pub server_some : (t : ℕ) (d : Octets) → t ≡ type_soa → valid t d ≡ true → piece_front domain d ≡ None → ⊥
@@ -105,5 +91,4 @@ authority_laid {r} {part} {rest} {server} t d soa ok some named cuts =
 
 -- Of the types whose names take part in compression only MX and SOA have more than one name as data.
 pub one_left : (t : ℕ) → compresses t ≡ true → (t ≡ type_mx → ⊥) → (t ≡ type_soa → ⊥) → pieces_of t ≡ domain ∷ []
-one_left t =
-    by_row t (λ row. row.compresses ≡ true → (t ≡ type_mx → ⊥) → (t ≡ type_soa → ⊥) → row.pieces ≡ domain ∷ []) type_table (λ c x s. absurd (false≢true c)) (search (rules, false≢true, sym))
+one_left t = grind (arith, by_row, false≢true)

@@ -1,11 +1,11 @@
 -- What is spelled from a place on is decided by what stands there and by what comes after it.
-use Rattle.std.proofs.Common.{◌≡◌, ℕ, ◌+◌, ◌<◌, true, [], ◌∷◌, ◌++◌, length, take, drop, slice_get, Some, refl, sym, ap, ap₂, ◌∙◌, subst, arith, drop_at, take-append-drop, length-append}
+use Rattle.std.proofs.Common.{◌≡◌, ℕ, ◌+◌, ◌<◌, true, [], ◌∷◌, ◌++◌, length, take, drop, slice_get, Some, refl, sym, ap, ◌∙◌, subst, arith, drop_at, take-append-drop, length-append}
 use Rattle.std.proofs.lemmas.Bool.{and_parts}
 use Rattle.std.proofs.lemmas.List.{length-take-le}
 use Rattle.std.proofs.lemmas.Option.{same_Some}
 use Rattle.std.specs.List.{list_all}
 use Rattle.dns_spec.specs.Names.{Octets, DomainName, wire, is_name, is_label}
-use Rattle.dns_spec.specs.Reading.{pointer_place, RunAt}
+use Rattle.dns_spec.specs.Reading.{RunAt}
 use Rattle.dns_spec.specs.Reading.RunAt.{ends, goes_on, jumps}
 use Rattle.dns_spec.proofs.Messages.Places.{Stands, run_written}
 use Rattle.dns_wire.specs.Labels.{LabelAt, PointerAt}
@@ -61,11 +61,7 @@ spelled_jump {b} {s} {i} {p} {o} there = (forth, λ h. back h.0 h.1 h.3 (goes_on
     back : (n : DomainName) (e : ℕ) → wire n ≡ o → GoesOn b s i n e → SpelledFrom b p p o
     back n e w (at_end root none end) = absurd (omega (arith, same_Some there.first 0 (sym there.first_there ∙ root), there.high))
     back n e w (at_label k m label shape run) = absurd (omega (arith, same_Some (length k) there.first (sym label.length_there ∙ there.first_there), label.short, there.high))
-    back n e w (at_pointer q d pointer end run) =
-        let one = same_Some pointer.first there.first (sym pointer.first_there ∙ there.first_there) in
-        let two = same_Some pointer.second there.second (sym pointer.second_there ∙ there.second_there) in
-        let same : q ≡ p = pointer.place ∙ ap₂ pointer_place one two ∙ sym there.place in
-        (n, d, subst (λ j. RunAt b j j n d) same run, w)
+    back n e w (at_pointer q d pointer end run) = grind arith
 
 stands_at : {b o : Octets} {p : ℕ} → HasAt b p o → Stands b p o
 stands_at {b} {o} {p} has = record {
@@ -99,8 +95,5 @@ spelled_front {b} {s} {i} {o} l there h = go h.0 h.1 h.3 (goes_on_at h.2)
   where
     go : (n : DomainName) (e : ℕ) → wire n ≡ o → GoesOn b s i n e → (more : Octets) × (o ≡ length l ∷ (l ++ more))
     go n e w (at_end root none end) = absurd (omega (arith, same_Some (length l) 0 (sym there.length_there ∙ root), there.some))
-    go n e w (at_label k m label shape run) =
-        let long : length k ≡ length l = same_Some (length k) (length l) (sym label.length_there ∙ there.length_there) in
-        let same : k ≡ l = label.label ∙ ap (λ j. take j (drop (i + 1) b)) long ∙ sym there.label in
-        (wire m, sym w ∙ ap wire shape ∙ ap (λ x. length x ∷ (x ++ wire m)) same)
+    go n e w (at_label k m label shape run) = grind arith
     go n e w (at_pointer p d pointer end run) = absurd (omega (arith, same_Some (length l) pointer.first (sym there.length_there ∙ pointer.first_there), there.short, pointer.high))

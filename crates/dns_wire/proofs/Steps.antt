@@ -1,5 +1,5 @@
 -- Steps of writing: one after the other they write what is laid out one after the other.
-use Rattle.std.proofs.Common.{◌≡◌, ℕ, ◌+◌, ◌*◌, ◌<◌, ◌≤◌, Bool, true, false, List, [], ◌++◌, length, take, refl, sym, ap, ap₂, ◌∙◌, subst, subst₂, arith, append_assoc, append-nil, length-append}
+use Rattle.std.proofs.Common.{◌≡◌, ℕ, ◌+◌, ◌*◌, ◌<◌, ◌≤◌, Bool, true, false, List, [], ◌++◌, length, take, refl, sym, ap, ap₂, subst, subst₂, arith, append_assoc, append-nil, length-append}
 use Rattle.std.proofs.lemmas.Bool.{false≢true}
 use Rattle.std.proofs.Math.Seq.{take-append_seam}
 use Rattle.std.specs.Bool.{OnTrue}
@@ -8,19 +8,17 @@ use Rattle.dns_spec.specs.Layout.{Placed}
 use Rattle.dns_wire.specs.Kept.{Kept}
 use Rattle.dns_wire.specs.SuffixNumbers.{suffix_number}
 use Rattle.dns_wire.specs.Writing.{Holds, IsAsked, Layout, octets_laid, both_laid}
-use Rattle.dns_wire.specs.Draft.{Draft, draft_of, known_places, with_octets, Grows, IsWritten, Writes, IsWellKept}
+use Rattle.dns_wire.specs.Draft.{Draft, draft_of, with_octets, Grows, Writes, IsWellKept}
 use Rattle.dns_wire.specs.declared.message.Counts.{Counts}
 use Rattle.dns_wire.proofs.AskedLemmas.{is_asked_more, kept_more}
 use Rattle.dns_wire.proofs.NameWritten.{holds_octets}
 use Rattle.dns_wire.proofs.SuffixLemmas.{follows_none, follows_again}
 
 pub on_then : (t : Bool) {P Q : Type 0} → (P → Q) → OnTrue t P → OnTrue t Q
-on_then false f p = tt
-on_then true f p = f p
+on_then t h h1 = grind arith
 
 on_not : (t : Bool) (P : Type 0) → t ≡ false → OnTrue t P
-on_not false P e = tt
-on_not true P e = absurd (false≢true (sym e))
+on_not t P h = grind (arith, false≢true)
 
 -- a page stays well kept with other octets, places and counts
 pub kept_with : {N size a : ℕ} {b : Octets} {ks : List Kept} {n : Counts} {d : Draft} → IsWellKept N size d → length b ≤ d.limit → 2 * length ks ≤ length b → IsAsked b a → 12 ≤ length b
@@ -40,20 +38,11 @@ pub grows_not : (d : Draft) → Grows d d
 grows_not d = record { octets = follows_none d.octets; kept = follows_none d.kept; asked = refl; limit = refl; counts = refl }
 
 pub grows_again : {d d' d'' : Draft} → Grows d d' → Grows d' d'' → Grows d d''
-grows_again g h = record {
-  octets = follows_again g.octets h.octets;
-  kept = follows_again g.kept h.kept;
-  asked = h.asked ∙ g.asked;
-  limit = h.limit ∙ g.limit;
-  counts = h.counts ∙ g.counts;
-}
+grows_again g h = grind (arith, follows_again)
 
 -- what was taken back is as it was
 pub taken_back : {d d' : Draft} {k j : ℕ} → Grows d d' → k ≡ length d.octets → j ≡ length d.kept → record d' { octets = take k d'.octets; kept = take j d'.kept } ≡ d
-taken_back {d} {d'} {k} {j} g octets kept =
-    let b = ap₂ take octets g.octets.whole ∙ take-append_seam d.octets g.octets.more in
-    let ks = ap₂ take kept g.kept.whole ∙ take-append_seam d.kept g.kept.more in
-    rw (b, ks, g.limit, g.asked, g.counts) refl
+taken_back {d} {d'} {k} {j} g octets kept = grind (arith, ap₂, take-append_seam)
 
 -- octets that are no name to a writer
 pub octets_written : {d d' : Draft} (head : Octets → ℕ) (o : Octets) → IsAsked d.octets d.asked_end → length d.octets + length o ≤ d.limit → d' ≡ with_octets d o → Writes head head d d' (octets_laid o) true
@@ -74,70 +63,24 @@ none_written head d asked within = octets_written head [] asked (omega (arith, w
 
 pub writes_as : {head head' : Octets → ℕ} {d d' : Draft} {fits : Bool} (f g : Layout) → ((ms : List Placed) (p : ℕ) → f ms p ≡ g ms p) → Writes head head' d d' f fits
     → Writes head head' d d' g fits
-writes_as {head} {d = d} {d'} {fits} f g same w = record {
-  grows = w.grows;
-  same = w.same;
-  written = λ ms holds. subst (λ l. IsWritten (suffix_number head) ms d d' l fits) (same ms (length d.octets)) (w.written ms holds);
-}
+writes_as {head} {d = d} {d'} {fits} f g same w = grind arith
 
 -- what follows something that was written
 pub writes_both : {head head' head'' : Octets → ℕ} {d d' d'' : Draft} {t fits : Bool} (f g : Layout) → t ≡ true → Writes head head' d d' f t → Writes head' head'' d' d'' g fits
     → Writes head head'' d d'' (both_laid f g) fits
-writes_both {head} {head'} {head''} {d} {d'} {d''} {t} {fits} f g is first next = record {
-  grows = grows_again first.grows next.grows;
-  same = next.same ∙ first.same;
-  written = λ ms holds.
-      let number = suffix_number head in
-      let b = d.octets in
-      let b' = d'.octets in
-      let l = f ms (length b) in
-      let later = ms ++ l.names in
-      let one : IsWritten number ms d d' l true = subst (IsWritten number ms d d' l) is (first.written ms holds) in
-      let there = subst (λ x. Holds number later x (known_places number d')) (sym one.written) (one.stands b refl holds) in
-      let place : length b' ≡ length b + length l.written = ap length one.written ∙ length-append b l.written in
-      let m = g later (length b + length l.written) in
-      let two : IsWritten number later d' d'' m fits =
-      subst (λ p. IsWritten number later d' d'' (g later p) fits) place ((subst (λ h. Writes h head'' d' d'' g fits) first.same next).written later there) in
-      let whole : b' ++ m.written ≡ b ++ (l.written ++ m.written) = ap (λ z. z ++ m.written) one.written ∙ append_assoc b l.written m.written in
-      let limit = first.grows.limit in
-      record {
-        exactly = (λ so. let h = two.exactly.0 so in omega (arith, h, ap length whole, limit), λ h. two.exactly.1 (omega (arith, h, ap length whole, limit)));
-        written = subst (λ x. OnTrue fits (d''.octets ≡ x)) whole two.written;
-        stands = on_then fits
-            (λ stands x same known.
-            let long : length (x ++ l.written) ≡ length b' = omega (arith, same, place, length-append x l.written) in
-            subst₂ (λ n z. Holds number n z (known_places number d'')) (append_assoc ms l.names m.names) (append_assoc x l.written m.written)
-            (stands (x ++ l.written) long (one.stands x same known)))
-            two.stands;
-      };
-}
+writes_both {head} {head'} {head''} {d} {d'} {d''} {t} {fits} f g is first next =
+    grind (arith, grows_again, length-append, append_assoc, on_then, subst₂)
 
 -- where a part does not fit, the whole does not
 pub writes_past : {head head' : Octets → ℕ} {d d' : Draft} {t fits : Bool} (f g : Layout) → t ≡ false → fits ≡ false
     → ((ms : List Placed) (p : ℕ) → length (f ms p).written ≤ length (g ms p).written) → Writes head head' d d' f t → Writes head head' d d' g fits
-writes_past {d = d} {fits = fits} f g is is_too longer w = record {
-  grows = w.grows;
-  same = w.same;
-  written = λ ms holds.
-      let b = d.octets in
-      let more = longer ms (length b) in
-      record {
-        exactly = (
-          λ yes. absurd (false≢true (sym is_too ∙ yes)),
-          λ h. absurd (false≢true (sym is ∙ (w.written ms holds).exactly.1 (omega (arith, h, more, length-append b (f ms (length b)).written, length-append b (g ms (length b)).written)))),
-        );
-        written = on_not fits _ is_too;
-        stands = on_not fits _ is_too;
-      };
-}
+writes_past {d = d} {fits = fits} f g is is_too longer w =
+    grind (arith, false≢true, length-append, on_not)
 
 pub never_written : (head : Octets → ℕ) (d : Draft) (f : Layout) (k : ℕ) → d.limit < length d.octets + k → ((ms : List Placed) (p : ℕ) → k ≤ length (f ms p).written)
     → Writes head head d d f false
 never_written head d f k over long = record {
   grows = grows_not d;
   same = refl;
-  written = λ ms holds.
-      let b = d.octets in
-      let more = long ms (length b) in
-      record { exactly = (λ no. absurd (false≢true no), λ h. absurd (omega (arith, h, over, more, length-append b (f ms (length b)).written))); written = tt; stands = tt };
+  written = grind (arith, false≢true, length-append);
 }

@@ -98,10 +98,7 @@ pub record Left (head : Octets → ℕ) (b : Octets) (ks : List Kept) (name rest
   pub all : (ms : List Placed) (n : DomainName) → Holds head ms b ks → name ≡ wire n → is_name n ≡ true → LeftOf ms name rest n
 
 pub left_begins : (head : Octets → ℕ) (b : Octets) (ks : List Kept) (name : Octets) → Left head b ks name name
-left_begins head b ks name = record {
-  shorter = omega arith;
-  all = λ ms n holds e ok. record { left = n; spelled = e; is_name = ok; front = omega arith; place = refl };
-}
+left_begins head b ks name = grind arith
 
 -- the first label of what is left of a name, and what follows it
 pub record NextLabel (left : DomainName) (rest after : Octets) (k : ℕ) : Type 0 where
@@ -115,10 +112,7 @@ pub record NextLabel (left : DomainName) (rest after : Octets) (k : ℕ) : Type 
 
 pub next_label : {rest after : Octets} {k : ℕ} (left : DomainName) → rest ≡ wire left → is_name left ≡ true → AfterLabel rest k after → NextLabel left rest after k
 next_label [] e ok a = absurd (a.some (ap (λ x. get_or x 0 0) (sym a.first ∙ e)))
-next_label {k = k} (l ∷ n) e ok a =
-    let same : k ∷ a.others ≡ length l ∷ (l ++ wire n) = sym a.first ∙ e in
-    let long = ap (λ x. get_or x 0 0) same in
-    record { label = l; labels = n; whole = refl; long = long; before = e; spelled = a.cut ∙ ap (λ x. drop k (drop 1 x)) same ∙ drop_at l (wire n) k (sym long); is_name = is_name-tail l n ok }
+next_label {k = k} (l ∷ n) e ok a = grind (arith, drop_at, is_name-tail)
 
 pub left_label : {head : Octets → ℕ} {b : Octets} {ks : List Kept} {name rest after : Octets} (k : ℕ) → Left head b ks name rest → AfterLabel rest k after → NoneSpelled ks (head rest) b rest
     → Left head b ks name after
@@ -204,11 +198,7 @@ pub record Keep (head : Octets → ℕ) (old ks : List Kept) (name rest : Octets
   pub all : (ms : List Placed) (n : DomainName) → name ≡ wire n → is_name n ≡ true → front ≡ front_size ms n → KeepOf head ms old ks rest front at place n
 
 pub keep_begins : (head : Octets → ℕ) (old : List Kept) (name : Octets) (front at : ℕ) → 2 * length old ≤ at → Keep head old old name name front at at
-keep_begins head old name front at few = record {
-  few = few;
-  within = omega arith;
-  all = λ ms n e ok f. record { left = n; spelled = e; is_name = ok; kept = refl; fits = omega (arith, f) };
-}
+keep_begins head old name front at few = grind arith
 
 pub keep_label : {head : Octets → ℕ} {old ks : List Kept} {name rest after : Octets} {front at place : ℕ} (k h : ℕ) → Keep head old ks name rest front at place → AfterLabel rest k after
     → place + 1 + k ≤ at + front → place ≤ last_place → h ≡ head rest → Keep head old (ks ++ record { place = place; number = h } ∷ []) name after front at (place + 1 + k)
@@ -246,9 +236,7 @@ pub keep_root : {head : Octets → ℕ} {old ks : List Kept} {name rest : Octets
     → ((m : DomainName) → rest ≡ wire m → is_name m ≡ true → m ≡ [])
     → (ms : List Placed) (n : DomainName) → name ≡ wire n → is_name n ≡ true → front ≡ front_size ms n → ks ≡ old ++ new_places head ms n at
 keep_root {head} {old} {ks} {place = place} keep root ms n e ok f =
-    let a = keep.all ms n e ok f in
-    let none = ap (λ m. new_places head ms m place) (root a.left a.spelled a.is_name) ∙ kept-root head ms place in
-    sym (a.kept ∙ ap (λ x. ks ++ x) none ∙ append-nil ks)
+    grind (arith, kept-root, append-nil)
 
 pub keep_high : {head : Octets → ℕ} {old ks : List Kept} {name rest : Octets} {front at place : ℕ} → Keep head old ks name rest front at place → last_place < place
     → (ms : List Placed) (n : DomainName) → name ≡ wire n → is_name n ≡ true → front ≡ front_size ms n → ks ≡ old ++ new_places head ms n at
@@ -276,10 +264,7 @@ keep_none head ms (l ∷ n) at ks none = sym (append-nil ks) ∙ ap (λ x. ks ++
 
 pub keep_end : {head : Octets → ℕ} {old ks : List Kept} {name rest : Octets} {front at place : ℕ} → Keep head old ks name rest front at place → at + front ≤ place
     → (ms : List Placed) (n : DomainName) → name ≡ wire n → is_name n ≡ true → front ≡ front_size ms n → ks ≡ old ++ new_places head ms n at
-keep_end {head} {old} {ks} {place = place} keep end ms n e ok f =
-    let x = keep.all ms n e ok f in
-    let fit = x.fits in
-    keep_none head ms x.left place ks (omega (arith, fit, end)) ∙ sym x.kept
+keep_end {head} {old} {ks} {place = place} keep end ms n e ok f = grind (arith, keep_none)
 
 -- octets that have no first label are the wire form of no other name than the root
 pub root_empty : (o : Octets) (n : DomainName) → o ≡ wire n → length o ≡ 0 → n ≡ []
@@ -288,15 +273,11 @@ root_empty o (l ∷ n) e none = absurd (omega (arith, ap length e, none))
 
 pub root_zero : (o others : Octets) (n : DomainName) → o ≡ wire n → is_name n ≡ true → o ≡ 0 ∷ others → n ≡ []
 root_zero o others [] e ok first = refl
-root_zero o others (l ∷ n) e ok first =
-    let some = (label_parts l (is_label-head l n ok)).0 in
-    absurd (omega (arith, some, ap (λ x. get_or x 0 0) (sym e ∙ first)))
+root_zero o others (l ∷ n) e ok first = grind (arith, label_parts, is_label-head)
 
 pub root_cut : (o others : Octets) (k : ℕ) (n : DomainName) → o ≡ wire n → o ≡ k ∷ others → length others < k → n ≡ []
 root_cut o others k [] e first short = refl
-root_cut o others k (l ∷ n) e first short =
-    let same : k ∷ others ≡ length l ∷ (l ++ wire n) = sym first ∙ e in
-    absurd (omega (arith, ap (λ x. get_or x 0 0) same, ap length same, length-append l (wire n), short))
+root_cut o others k (l ∷ n) e first short = grind (arith, length-append)
 
 pub follows_none : {A : Type 0} (xs : List A) → Follows xs xs
 follows_none xs = record { more = []; whole = sym (append-nil xs) }

@@ -1,5 +1,5 @@
 -- Data that is read is data of its type, of at most 65,535 octets.
-use Rattle.std.proofs.Common.{rules, ◌≡◌, ℕ, suc, ◌+◌, ◌-◌, ◌<◌, ◌≤◌, Bool, true, false, ◌&&◌, ◌||◌, not, nat_le, ◌==◌, List, [], ◌∷◌, ◌++◌, length, drop, slice_get, get_or, Some, option_map, is_some, unwrap_or, refl, sym, ap, ◌∙◌, subst, arith, append-nil, add-zero, length-append, if◌then◌else◌}
+use Rattle.std.proofs.Common.{rules, ◌≡◌, ℕ, suc, ◌+◌, ◌-◌, ◌≤◌, Bool, true, ◌&&◌, ◌||◌, not, nat_le, ◌==◌, List, [], ◌∷◌, ◌++◌, length, drop, slice_get, get_or, Some, option_map, is_some, unwrap_or, refl, sym, ap, ◌∙◌, subst, arith, append-nil, add-zero, length-append, if◌then◌else◌}
 use Rattle.std.proofs.lemmas.Bool.{and_from, le-leb, leb-true, ne_eqb, eqb-true}
 use Rattle.std.proofs.lemmas.Option.{same_Some, slice_get_within, slice_get-get_or}
 use Rattle.std.proofs.lemmas.List.{length-take-le, length-drop, take_at, drop_at, nil_from_length, get_or-take, get_or-drop}
@@ -74,12 +74,7 @@ Each t P (row ∷ rows) = (row.number ≡ t → P row) × Each t P rows
 
 pub by_row : (t : ℕ) (P : TypeRow → Type 0) (rows : List TypeRow) → P other_type → Each t P rows → P (unwrap_or (find (λ (row : TypeRow). row.number == t) rows) other_type)
 by_row t P [] other each = other
-by_row t P (row ∷ others) other each = go (row.number == t) refl (by_row t P others other each.1)
-  where
-    go : (x : Bool) → (row.number == t) ≡ x → P (unwrap_or (find (λ (r : TypeRow). r.number == t) others) other_type)
-        → P (unwrap_or (if x then Some row else find (λ (r : TypeRow). r.number == t) others) other_type)
-    go true e f = each.0 (eqb-true row.number t e)
-    go false e f = f
+by_row t P (row ∷ others) other each = grind (arith, eqb-true, (by_row t P others other each.1))
 
 row_bounded : (t : ℕ) → bounded (pieces_of t) ≡ true
 unfolding bounded names_among most
@@ -87,14 +82,7 @@ row_bounded t = by_row t (λ row. bounded row.pieces ≡ true) type_table refl (
 
 short_data : (b : Octets) (ps : List Piece) (i e : ℕ) (d : Octets) → bounded ps ≡ true → e - i ≤ 65535 → PiecesAt b ps i e d → length d ≤ 65535
 unfolding bounded
-short_data b ps i e d ok fits h = go (names_among ps == 0) refl ok
-  where
-    go : (x : Bool) → (names_among ps == 0) ≡ x → (x || nat_le (most ps) 65535) ≡ true → length d ≤ 65535
-    go true p q = omega (arith, unnamed_length b ps i e d (eqb-true (names_among ps) 0 p) h)
-    go false p q =
-        let few : most ps ≤ 65535 = leb-true (most ps) 65535 q in
-        let long : length d ≤ most ps = named_length b ps i e d few h in
-        omega arith
+short_data b ps i e d ok fits h = grind (arith, unnamed_length, eqb-true, leb-true, named_length)
 
 -- nothing stands between a place and itself
 nothing_between : (b : Octets) (ps : List Piece) (i : ℕ) (d : Octets) → PiecesAt b ps i i d → d ≡ []
@@ -104,12 +92,8 @@ nothing_between b (fixed f ∷ ps) i d h =
     let none : i + width f ≡ i = omega arith in
     let front : h.0 ≡ [] = nil_from_length h.0 (omega (arith, octets_length h.2)) in
     h.3 ∙ ap (λ o. o ++ h.1) front ∙ nothing_between b ps i h.1 (subst (λ j. PiecesAt b ps j i h.1) none h.4)
-nothing_between b (domain ∷ ps) i d h =
-    let later = all_forward b ps h.1 i h.2 h.5 in
-    absurd (omega (arith, run_past h.3.0))
-nothing_between b (string ∷ ps) i d h =
-    let later = all_forward b ps (i + 1 + h.0) i h.2 h.6 in
-    absurd (omega arith)
+nothing_between b (domain ∷ ps) i d h = grind (arith, all_forward, run_past)
+nothing_between b (string ∷ ps) i d h = grind (arith, all_forward)
 nothing_between b (strings ∷ ps) i d h = absurd (omega (arith, octets_length h.3, h.4, h.7))
 nothing_between b (anything ∷ ps) i d h =
     let front : h.0 ≡ [] = nil_from_length h.0 (omega (arith, octets_length h.3, h.5)) in
@@ -118,10 +102,7 @@ nothing_between b (anything ∷ ps) i d h =
 -- the first of some octets stands where they begin
 first_octet : (b : Octets) (i k : ℕ) (o : Octets) → slice_get b i ≡ Some k → OctetsAt b i (i + 1 + k) o → get_or o 0 0 ≡ k
 first_octet b i k o there at =
-    let inside = slice_get_within b i k there in
-    let some : 0 < i + 1 + k - i = omega arith in
-    ap (λ xs. get_or xs 0 0) (sym at.are) ∙ get_or-take (i + 1 + k - i) (drop i b) 0 0 some ∙ get_or-drop i b 0 0 ∙ ap (λ j. get_or b j 0) (add-zero i)
-    ∙ same_Some (get_or b i 0) k (sym (slice_get-get_or b i 0 inside) ∙ there)
+    grind (arith, slice_get_within, get_or-take, get_or-drop, add-zero, same_Some, slice_get-get_or)
 
 -- What is read in pieces is cut into them.
 abbrev IsCut : List Piece → Octets → Type 0
@@ -131,8 +112,7 @@ cut_more : (p : Piece) (ps : List Piece) (d rest : Octets) (part : Part) → pie
 cut_more p ps d rest part front more = more_are_cut p ps d part rest front ∙ more
 
 front_cut : (k : ℕ) (o rest : Octets) → length o ≡ k → octets_front k (o ++ rest) ≡ Some (octets o, rest)
-front_cut k o rest long =
-    rw (le-leb k (length (o ++ rest)) (omega (arith, length-append o rest)), take_at o rest k long, drop_at o rest k long) refl
+front_cut k o rest long = grind (arith, le-leb, length-append, take_at, drop_at)
 
 nothing_cut : IsCut [] []
 unfolding cut
@@ -173,10 +153,5 @@ alone = refl
 
 -- The data of a record is valid for its type, or, in another class than IN, for a type of which the data is octets.
 pub data_valid : (b : Octets) (t c i e : ℕ) (d : Octets) → DataAt b t c i e d → e - i ≤ 65535 → valid (if c == class_in then t else 0) d ≡ true
-data_valid b t c i e d h fits = go (c == class_in) h.2
-  where
-    go : (x : Bool) → PiecesAt b (if x then pieces_of t else anything ∷ []) i e d → valid (if x then t else 0) d ≡ true
-    go true g =
-        and_from _ _ (le-leb (length d) 65535 (short_data b (pieces_of t) i e d (row_bounded t) fits g)) (pieces_cut b (pieces_of t) i e d g)
-    go false g =
-        and_from _ _ (le-leb (length d) 65535 (omega (arith, unnamed_length b (anything ∷ []) i e d alone g))) (pieces_cut b (anything ∷ []) i e d g)
+data_valid b t c i e d h fits =
+    grind (arith, and_from, le-leb, short_data, row_bounded, pieces_cut, unnamed_length, alone)

@@ -1,6 +1,6 @@
 -- What is written for numbers, addresses, names and strings has no octet that ends the word.
-use Rattle.std.proofs.Common.{◌≡◌, ℕ, ◌+◌, ◌-◌, ◌/◌, ◌%◌, ◌<◌, ◌^◌, ◌⊎◌, inl, inr, Bool, true, false, ◌&&◌, ◌||◌, not, ◌==◌, List, [], ◌∷◌, ◌++◌, map, nat_le, refl, sym, ◌∙◌, ap, subst, arith, append_assoc, decimal}
-use Rattle.std.proofs.lemmas.Bool.{agree_below_at, and_from, cases_Bool, eqb-true, true≢false, false≢true}
+use Rattle.std.proofs.Common.{◌≡◌, ℕ, ◌+◌, ◌<◌, ◌^◌, inl, inr, Bool, true, false, ◌||◌, not, ◌==◌, List, [], ◌∷◌, ◌++◌, map, refl, ◌∙◌, ap, arith, append_assoc, decimal, rules}
+use Rattle.std.proofs.lemmas.Bool.{agree_below_at, and_from, cases_Bool, eqb-true, true≢false}
 use Rattle.std.proofs.lemmas.Fmt.{decimal_is_IsNumeral}
 use Rattle.std.proofs.lemmas.Str.Parse.{digit_from_value}
 use Rattle.std.specs.List.{flat_map, join_with_byte}
@@ -29,9 +29,7 @@ bare_joined c f (x ∷ []) between each = each.0
 bare_joined c f (x ∷ y ∷ xs) between each = bare_append (f x) (c ∷ join_with_byte c (map f (y ∷ xs))) each.0 (between, bare_joined c f (y ∷ xs) between each.1)
 
 bare_digit : (c : ℕ) → IsAsciiDigit c → is_word_octet c ≡ true
-bare_digit c h =
-    let whole : 48 + (c - 48) ≡ c = omega (arith, h.0) in
-    subst (λ e. is_word_octet e ≡ true) whole (agree_below_at (λ e. is_word_octet (48 + e)) (λ e. true) 10 (c - 48) refl (omega (arith, h.0, h.1)))
+bare_digit c h = grind (arith, agree_below_at)
 
 bare_digits : (ds : Octets) → AllDigits 10 ds → Bare ds
 bare_digits [] all = tt
@@ -53,36 +51,21 @@ bare_hex (d ∷ ds) below = (agree_below_at (λ e. is_word_octet (digit_char e))
 
 -- octet by octet
 plain_octet : (p : ℕ → Bool) (c : ℕ) (rest : Octets) → p c ≡ true → (c == 92) ≡ false → is_unbroken p rest ≡ true → is_unbroken p (c ∷ rest) ≡ true
-plain_octet p c [] h other after = h
-plain_octet p c (d ∷ rest) h other after = rw (other, is_unbroken) (and_from _ _ h after)
+plain_octet p c rest h h1 h2 = grind arith
 
 escaped_octet : (p : ℕ → Bool) (x : ℕ) (rest : Octets) → is_ascii_graphic x ≡ true → is_unbroken p rest ≡ true → is_unbroken p (92 ∷ x ∷ rest) ≡ true
 escaped_octet p x rest h after = and_from _ _ h after
 
 pub no_backslash : (p : ℕ → Bool) (o : ℕ) → p 92 ≡ false → p o ≡ true → (o == 92) ≡ false
-no_backslash p o none h = elim (cases_Bool (o == 92)) [
-  | inl e ↦ absurd (true≢false (sym h ∙ ap p (eqb-true o 92 e) ∙ none))
-  | inr other ↦ other
-]
+no_backslash p o none h = grind (arith, cases_Bool, inl, true≢false, eqb-true, inr)
 
 pub bare_text : (x rest : Octets) → Bare x → is_unbroken is_word_octet rest ≡ true → is_unbroken is_word_octet (x ++ rest) ≡ true
 bare_text [] rest h after = after
 bare_text (o ∷ x) rest h after = plain_octet is_word_octet o (x ++ rest) h.0 (no_backslash is_word_octet o refl h.0) (bare_text x rest h.1 after)
 
--- a backslash and three digits
-digit_octet : (p : ℕ → Bool) (d : ℕ) (rest : Octets) → ((e : ℕ) → e < 10 → p (48 + e) ≡ true) → p 92 ≡ false → d < 10 → is_unbroken p rest ≡ true
-    → is_unbroken p ((48 + d) ∷ rest) ≡ true
-digit_octet p d rest digit none small after = plain_octet p (48 + d) rest (digit d small) (no_backslash p (48 + d) none (digit d small)) after
-
-graphic_digit : (d : ℕ) → d < 10 → is_ascii_graphic (48 + d) ≡ true
-graphic_digit d small = agree_below_at (λ e. is_ascii_graphic (48 + e)) (λ e. true) 10 d refl small
-
 digits_octet : (p : ℕ → Bool) (x : ℕ) (rest : Octets) → ((e : ℕ) → e < 10 → p (48 + e) ≡ true) → p 92 ≡ false → x < 256 → is_unbroken p rest ≡ true
     → is_unbroken p (92 ∷ three_digits x ++ rest) ≡ true
-digits_octet p x rest digit none small after =
-    escaped_octet p (48 + x / 100) ((48 + x / 10 % 10) ∷ (48 + x % 10) ∷ rest) (graphic_digit (x / 100) (omega arith))
-    (digit_octet p (x / 10 % 10) ((48 + x % 10) ∷ rest) digit none (omega arith)
-    (digit_octet p (x % 10) rest digit none (omega arith) after))
+digits_octet p x rest digit none small after = grind arith
 
 bare_below_10 : (e : ℕ) → e < 10 → is_word_octet (48 + e) ≡ true
 bare_below_10 e small = agree_below_at (λ d. is_word_octet (48 + d)) (λ d. true) 10 e refl small
@@ -92,30 +75,18 @@ quotable_below_10 e small = agree_below_at (λ d. is_quotable (48 + d)) (λ d. t
 
 -- a test that follows from another
 pub follows : (a b : Bool) → (not a || b) ≡ true → a ≡ true → b ≡ true
-follows true b h e = h
-follows false b h e = absurd (false≢true e)
+follows a b h h1 = grind arith
 
 pub graphic_bare : (x : ℕ) → x < 256 → is_special x ≡ false → is_ascii_graphic x ≡ true → is_word_octet x ≡ true
-graphic_bare x small other graphic =
-    follows (not (is_special x) && is_ascii_graphic x) (is_word_octet x)
-    (agree_below_at (λ o. not (not (is_special o) && is_ascii_graphic o) || is_word_octet o) (λ o. true) 256 x refl small)
-    (and_from _ _ (ap not other) graphic)
+graphic_bare x small other graphic = grind (arith, follows, agree_below_at, and_from)
 
 special_graphic : (x : ℕ) → x < 256 → is_special x ≡ true → is_ascii_graphic x ≡ true
-special_graphic x small special =
-    follows (is_special x) (is_ascii_graphic x) (agree_below_at (λ o. not (is_special o) || is_ascii_graphic o) (λ o. true) 256 x refl small) special
+special_graphic x small special = grind arith
 
 octet_unbroken : (x : ℕ) (rest : Octets) → x < 256 → is_unbroken is_word_octet rest ≡ true → is_unbroken is_word_octet (octet_text x ++ rest) ≡ true
 unfolding octet_text
-octet_unbroken x rest small after = by_cases (cases_Bool (is_special x)) (cases_Bool (is_ascii_graphic x))
-  where
-    by_cases : (is_special x ≡ true) ⊎ (is_special x ≡ false) → (is_ascii_graphic x ≡ true) ⊎ (is_ascii_graphic x ≡ false)
-        → is_unbroken is_word_octet (octet_text x ++ rest) ≡ true
-    by_cases (inl special) graphic = rw special (escaped_octet is_word_octet x rest (special_graphic x small special) after)
-    by_cases (inr other) (inl graphic) =
-        let bare = graphic_bare x small other graphic in
-        rw (other, graphic) (plain_octet is_word_octet x rest bare (no_backslash is_word_octet x refl bare) after)
-    by_cases (inr other) (inr none) = rw (other, none) (digits_octet is_word_octet x rest bare_below_10 refl small after)
+octet_unbroken x rest small after =
+    grind (arith, special_graphic, digits_octet, bare_below_10)
 
 label_unbroken : (l rest : Octets) → Small l → is_unbroken is_word_octet rest ≡ true → is_unbroken is_word_octet (label_text l ++ rest) ≡ true
 label_unbroken [] rest small after = after
@@ -126,26 +97,22 @@ label_unbroken (x ∷ l) rest small after =
 pub labels_unbroken : (n : DomainName) → Each Small n → is_unbroken is_word_octet (labels_text n) ≡ true
 labels_unbroken [] small = refl
 labels_unbroken (l ∷ n) small =
-    ap (is_unbroken is_word_octet) (append_assoc (label_text l) (46 ∷ []) (labels_text n))
-    ∙ label_unbroken l (46 ∷ labels_text n) small.0 (plain_octet is_word_octet 46 (labels_text n) refl refl (labels_unbroken n small.1))
+    grind (arith, append_assoc, label_unbroken, plain_octet, (labels_unbroken n small.1))
 
 string_octet_unbroken : (o : ℕ) (rest : Octets) → o < 256 → is_unbroken is_quotable rest ≡ true
     → is_unbroken is_quotable (string_octet_text o ++ rest) ≡ true
-string_octet_unbroken o rest small after = by_cases (cases_Bool (o == 34 || o == 92)) (cases_Bool (nat_le 32 o && nat_le o 126))
-  where
-    by_cases : ((o == 34 || o == 92) ≡ true) ⊎ ((o == 34 || o == 92) ≡ false) → ((nat_le 32 o && nat_le o 126) ≡ true) ⊎ ((nat_le 32 o && nat_le o 126) ≡ false)
-        → is_unbroken is_quotable (string_octet_text o ++ rest) ≡ true
-    by_cases (inl special) shown =
-        let graphic = follows (o == 34 || o == 92) (is_ascii_graphic o) (agree_below_at (λ x. not (x == 34 || x == 92) || is_ascii_graphic x) (λ x. true) 256 o refl small) special in
-        rw special (escaped_octet is_quotable o rest graphic after)
-    by_cases (inr other) (inl shown) =
-        let test : is_quotable o ≡ true =
-        follows (not (o == 34 || o == 92) && (nat_le 32 o && nat_le o 126)) (is_quotable o)
-        (agree_below_at (λ x. not (not (x == 34 || x == 92) && (nat_le 32 x && nat_le x 126)) || is_quotable x) (λ x. true) 256 o refl small)
-        (and_from _ _ (ap not other) shown)
-        in
-        rw (other, shown) (plain_octet is_quotable o rest test (no_backslash is_quotable o refl test) after)
-    by_cases (inr other) (inr none) = rw (other, none) (digits_octet is_quotable o rest quotable_below_10 refl small after)
+string_octet_unbroken o rest small after =
+    search (
+      rules,
+      follows,
+      agree_below_at,
+      escaped_octet,
+      and_from,
+      plain_octet,
+      no_backslash,
+      digits_octet,
+      quotable_below_10,
+    )
 
 pub string_unbroken : (s : Octets) → Small s → is_unbroken is_quotable (flat_map string_octet_text s) ≡ true
 string_unbroken [] small = refl

@@ -41,12 +41,7 @@ pub none_said : (origin : DomainName) → WordsSaid [] origin []
 none_said origin = record { said = refl; alone = refl; whole = tt; unmarked = refl }
 
 pub said_step : (f : WordForm) (fs : List WordForm) (origin : DomainName) (d back : Octets) → FormSaid f origin d back → WordsSaid fs origin back → WordsSaid (f ∷ fs) origin d
-said_step f fs origin d back s others = record {
-  said = (s.front, back, s.whole, s.word, subst (λ b. SaysForms fs origin (form_words fs b) back) (sym s.after) others.said);
-  alone = and_from _ _ s.standing.alone (ap (λ b. list_all stands_alone (form_words fs b)) s.after ∙ others.alone);
-  whole = (s.standing.whole, subst (λ b. Each TakenWhole (form_words fs b)) (sym s.after) others.whole);
-  unmarked = ap not s.standing.unmarked;
-}
+said_step f fs origin d back s others = grind (arith, and_from, Each, TakenWhole)
 
 -- numbers of at most 64 bits, which have all their digits
 number_front_said : (k : ℕ) (origin : DomainName) (d : Octets) → k ≤ 8 → k ≤ length d → Small d → FormSaid (number_word k) origin d (drop k d)
@@ -129,9 +124,7 @@ string_front_said origin k d inside small =
 -- m numbers of k octets each, and what is after them
 pub numbers_said : (m k : ℕ) (fs : List WordForm) (origin : DomainName) (d : Octets) → k ≤ 8 → m * k ≤ length d → Small d → WordsSaid fs origin (drop (m * k) d)
     → WordsSaid (replicate m (number_word k) ++ fs) origin d
-numbers_said zero k fs origin d short inside small others =
-    let none : 0 * k ≡ 0 = omega arith in
-    subst (λ j. WordsSaid fs origin (drop j d)) none others
+numbers_said zero k fs origin d short inside small others = grind arith
 numbers_said (suc m) k fs origin d short inside small others =
     let more : suc m * k ≡ k + m * k = suc-mul m k ∙ add_comm (m * k) k in
     let rest : drop (suc m * k) d ≡ drop (m * k) (drop k d) = ap (λ j. drop j d) more ∙ sym (drop-drop (m * k) k d) in
@@ -148,9 +141,7 @@ record StringsAfter (k : ℕ) (d : Octets) : Type 0 where
 strings_after : (k : ℕ) (d : Octets) → are_strings k d ≡ true → StringsAfter k d
 strings_after zero d e = record { inside = omega arith; others = e; count = refl }
 strings_after (suc k) [] e = absurd (false≢true e)
-strings_after (suc k) (o ∷ d) e =
-    let s = strings_after k d e in
-    record { inside = omega (arith, s.inside); others = s.others; count = s.count }
+strings_after (suc k) (o ∷ d) e = grind (arith, (strings_after k d e))
 
 pub strings_said : (n : ℕ) (origin : DomainName) (d : Octets) → string_count 0 d ≡ n → are_strings 0 d ≡ true → Small d
     → WordsSaid (replicate n string_word) origin d

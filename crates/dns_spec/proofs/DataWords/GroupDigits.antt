@@ -1,5 +1,5 @@
 -- The hex digits of a group of an IPv6 address.
-use Rattle.std.proofs.Common.{◌≡◌, ℕ, ◌/◌, ◌%◌, ◌<◌, ◌≤◌, true, false, ◌==◌, [], ◌∷◌, refl, arith}
+use Rattle.std.proofs.Common.{◌≡◌, ℕ, ◌/◌, ◌%◌, ◌<◌, ◌≤◌, false, [], ◌∷◌, arith}
 use Rattle.std.specs.Char.{digit_char}
 use Rattle.std.specs.Fmt.{digits}
 use Rattle.std.proofs.lemmas.Fmt.{hex_one_digit, hex_two_digits}
@@ -13,18 +13,8 @@ two_digits n large small = hex_two_digits false n large small
 
 pub three_of : (n : ℕ) → 256 ≤ n → n < 4096 → digits 16 false n ≡ digit_char (n / 16 / 16 % 16) ∷ digit_char (n / 16 % 16) ∷ digit_char (n % 16) ∷ []
 unfolding digits
-three_of n large small =
-    let a : (n / 16 == 0) ≡ false = ne_eqb _ _ (λ e. omega (arith, e)) in
-    let b : (n / 16 / 16 == 0) ≡ false = ne_eqb _ _ (λ e. omega (arith, e)) in
-    let c : (n / 16 / 16 / 16 == 0) ≡ true = eq-eqb _ _ (omega arith) in
-    rw (a, b, c) (refl {a = digit_char (n / 16 / 16 % 16) ∷ digit_char (n / 16 % 16) ∷ digit_char (n % 16) ∷ []})
+three_of n large small = grind (arith, ne_eqb, eq-eqb)
 
 pub four_of : (n : ℕ) → 4096 ≤ n → n < 65536 → digits 16 false n ≡ digit_char (n / 16 / 16 / 16 % 16) ∷ digit_char (n / 16 / 16 % 16) ∷ digit_char (n / 16 % 16) ∷ digit_char (n % 16) ∷ []
 unfolding digits
-four_of n large small =
-    let a : (n / 16 == 0) ≡ false = ne_eqb _ _ (λ e. omega (arith, e)) in
-    let b : (n / 16 / 16 == 0) ≡ false = ne_eqb _ _ (λ e. omega (arith, e)) in
-    let c : (n / 16 / 16 / 16 == 0) ≡ false = ne_eqb _ _ (λ e. omega (arith, e)) in
-    let d : (n / 16 / 16 / 16 / 16 == 0) ≡ true = eq-eqb _ _ (omega arith) in
-    rw (a, b, c, d)
-    (refl {a = digit_char (n / 16 / 16 / 16 % 16) ∷ digit_char (n / 16 / 16 % 16) ∷ digit_char (n / 16 % 16) ∷ digit_char (n % 16) ∷ []})
+four_of n large small = grind (arith, ne_eqb, eq-eqb)

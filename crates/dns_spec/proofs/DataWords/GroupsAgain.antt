@@ -96,8 +96,7 @@ Groups = Each (λ g. g < 65536)
 parts_of : (g : ℕ) (gs : List ℕ) → Groups (g ∷ gs) → slice_split is_colon (groups_text (g ∷ gs)) ≡ map (digits 16 false) (g ∷ gs)
 parts_of g [] small = slice_split_none is_colon (digits 16 false g) (all_colonless (digits 16 false g) (colonless g small.0))
 parts_of g (h ∷ gs) small =
-    slice_split_at is_colon (digits 16 false g) 58 (groups_text (h ∷ gs)) (all_colonless (digits 16 false g) (colonless g small.0)) refl
-    ∙ ap (λ ts. digits 16 false g ∷ ts) (parts_of h gs small.1)
+    grind (arith, slice_split_at, all_colonless, colonless, (parts_of h gs small.1))
 
 values_of : (gs : List ℕ) → Groups gs → group_values (map (digits 16 false) gs) ≡ Some gs
 values_of [] small = refl
@@ -136,25 +135,12 @@ groups_again (g ∷ gs) small =
 abbrev before : Octets → Octets × Octets → Octets × Octets
 before w r = (w ++ r.0, r.1)
 
-past_octet : (c : ℕ) (x : Octets) → is_colon c ≡ false → around_gap (c ∷ x) ≡ option_map (before (c ∷ [])) (around_gap x)
-past_octet c [] other = refl
-past_octet c (d ∷ x) other = rw other refl
-
-past_colon : (c : ℕ) (x : Octets) → is_colon c ≡ false → around_gap (58 ∷ c ∷ x) ≡ option_map (before (58 ∷ [])) (around_gap (c ∷ x))
-past_colon c x other = rw other refl
-
 before-before : (v w : Octets) (o : Option (Octets × Octets)) → option_map (before v) (option_map (before w) o) ≡ option_map (before (v ++ w)) o
-before-before v w None = refl
-before-before v w (Some r) = ap (λ f. Some (f, r.1)) (sym (append_assoc v w r.0))
+before-before v w o = grind (arith, append_assoc)
 
 past_word : (w x : Octets) → Each (λ o. is_colon o ≡ false) w → around_gap (w ++ x) ≡ option_map (before w) (around_gap x)
-past_word [] x none = same (around_gap x)
-  where
-    same : (o : Option (Octets × Octets)) → o ≡ option_map (before []) o
-    same None = refl
-    same (Some r) = refl
-past_word (c ∷ w) x none =
-    past_octet c (w ++ x) none.0 ∙ ap (option_map (before (c ∷ []))) (past_word w x none.1) ∙ before-before (c ∷ []) w (around_gap x)
+past_word [] x none = grind arith
+past_word (c ∷ w) x none = grind (arith, (past_word w x none.1))
 
 past_groups : (g : ℕ) (gs : List ℕ) (x : Octets) → Groups (g ∷ gs) → around_gap (groups_text (g ∷ gs) ++ x) ≡ option_map (before (groups_text (g ∷ gs))) (around_gap x)
 past_groups g [] x small = past_word (digits 16 false g) x (colonless g small.0)
@@ -163,10 +149,7 @@ past_groups g (h ∷ gs) x small =
     let text = groups_text (h ∷ gs) in
     let t = digit_first h gs small.1 in
     let colon : around_gap (58 ∷ (text ++ x)) ≡ option_map (before (58 ∷ [])) (around_gap (text ++ x)) =
-    ap (λ y. around_gap (58 ∷ (y ++ x))) t.whole
-    ∙ past_colon t.first (t.others ++ x) t.is_digit
-    ∙ ap (λ y. option_map (before (58 ∷ [])) (around_gap (y ++ x))) (sym t.whole)
-    in
+    grind arith in
     ap around_gap (append_assoc w (58 ∷ text) x)
     ∙ past_word w (58 ∷ (text ++ x)) (colonless g small.0)
     ∙ ap (option_map (before w)) (colon ∙ ap (option_map (before (58 ∷ []))) (past_groups h gs x small.1) ∙ before-before (58 ∷ []) text (around_gap x))
@@ -178,5 +161,4 @@ no_gap (g ∷ gs) small = ap around_gap (sym (append-nil (groups_text (g ∷ gs)
 
 pub gap_after : (gs : List ℕ) (rest : Octets) → Groups gs → around_gap (groups_text gs ++ 58 ∷ 58 ∷ rest) ≡ Some (groups_text gs, rest)
 gap_after [] rest small = refl
-gap_after (g ∷ gs) rest small =
-    past_groups g gs (58 ∷ 58 ∷ rest) small ∙ ap (λ f. Some (f, rest)) (append-nil (groups_text (g ∷ gs)))
+gap_after (g ∷ gs) rest small = grind (arith, past_groups, append-nil)

@@ -1,5 +1,5 @@
 -- Octets that are written in hex digits are read as those octets again.
-use Rattle.std.proofs.Common.{◌≡◌, ℕ, ◌+◌, ◌*◌, ◌/◌, ◌%◌, ◌<◌, nat_lt, true, [], ◌∷◌, length, refl, ◌∙◌, ap, arith, append-nil}
+use Rattle.std.proofs.Common.{◌≡◌, ℕ, ◌+◌, ◌*◌, ◌/◌, ◌%◌, ◌<◌, true, [], ◌∷◌, length, refl, ◌∙◌, ap, arith, append-nil}
 use Rattle.std.proofs.lemmas.Bool.{agree_below_at, and_from, eq-eqb, lt-ltb}
 use Rattle.std.proofs.lemmas.Str.{digit_value-digit_char}
 use Rattle.std.specs.Prelude.{Some, decimal}
@@ -29,9 +29,7 @@ two_each [] = refl
 two_each (o ∷ d) = omega (arith, two_each d)
 
 hex_word : (o : ℕ) (d : Octets) → is_hex_word (plain (hex_text (o ∷ d))) ≡ true
-hex_word o d =
-    and_from (nat_lt 0 (length (hex_text (o ∷ d)))) _ (lt-ltb _ _ (omega arith))
-    (eq-eqb (length (hex_text (o ∷ d)) % 2) 0 (omega (arith, two_each d)))
+hex_word o d = grind (arith, and_from, lt-ltb, eq-eqb, two_each)
 
 pub hex_said : (d : Octets) → Small d → SaysHex (hex_words d) d
 unfolding hex_octets

@@ -1,13 +1,12 @@
 -- An IPv6 address that is written as text is read as that address again.
-use Rattle.std.proofs.Common.{◌≡◌, ℕ, zero, suc, ◌+◌, ◌-◌, ◌*◌, ◌/◌, ◌%◌, ◌<◌, ◌≤◌, ◌⊎◌, inl, inr, true, false, Some, List, [], ◌∷◌, ◌++◌, length, take, drop, replicate, nat_lt, refl, ◌∙◌, ap, arith, length-drop}
+use Rattle.std.proofs.Common.{◌≡◌, ℕ, zero, suc, ◌+◌, ◌*◌, ◌/◌, ◌%◌, ◌<◌, ◌≤◌, ◌⊎◌, inl, inr, true, false, Some, List, [], ◌∷◌, ◌++◌, length, take, drop, replicate, nat_lt, refl, ◌∙◌, ap, arith, length-drop}
 use Rattle.std.proofs.lemmas.Bool.{cases_Bool, eq-eqb, lt-ltb, ltb-false}
 use Rattle.std.proofs.lemmas.List.{length-take-le}
 use Rattle.std.specs.Prelude.{if◌then◌else◌}
-use Rattle.std.specs.Option.{option_map, option_and_then}
 use Rattle.std.specs.List.{flat_map}
 use Rattle.std.specs.Int.{bytes_high_first}
 use Rattle.dns_spec.specs.Names.{Octets}
-use Rattle.dns_spec.specs.AddressText.{groups_said, filled_groups, eight_groups, groups_by, ipv6_groups, SaysIpv6, groups_of, groups_text, longest_run, longest_place, ipv6_text}
+use Rattle.dns_spec.specs.AddressText.{ipv6_groups, SaysIpv6, groups_of, groups_text, longest_run, longest_place, ipv6_text}
 use Rattle.dns_spec.proofs.DomainNames.SmallOctets.{Small, small_head, small_tail}
 use Rattle.dns_spec.proofs.DataWords.GroupsAgain.{Groups, groups_again, no_gap, gap_after}
 use Rattle.dns_spec.proofs.DataWords.ZeroRuns.{longest, around_run, run_inside}
@@ -25,10 +24,7 @@ length-groups_of (h ∷ []) = refl
 length-groups_of (h ∷ l ∷ d) = omega (arith, length-groups_of d)
 
 two_octets : (h l : ℕ) → h < 256 → l < 256 → bytes_high_first 2 (256 * h + l) ≡ h ∷ l ∷ []
-two_octets h l high low =
-    let first : (256 * h + l) / 256 % 256 ≡ h = omega (arith, high, low) in
-    let last : (256 * h + l) % 256 ≡ l = omega (arith, low) in
-    ap (λ x. x ∷ (256 * h + l) % 256 ∷ []) first ∙ ap (λ x. h ∷ x ∷ []) last
+two_octets h l high low = grind arith
 
 -- groups are spelled by their octets
 octets_again : (d : Octets) → length d % 2 ≡ 0 → Small d → flat_map (bytes_high_first 2) (groups_of d) ≡ d
@@ -52,21 +48,14 @@ groups_dropped (suc k) (g ∷ gs) small = groups_dropped k gs small.1
 -- eight groups without a gap
 whole_again : (gs : List ℕ) → length gs ≡ 8 → Groups gs → ipv6_groups (groups_text gs) ≡ Some gs
 unfolding ipv6_groups
-whole_again gs eight small =
-    ap (groups_by (groups_text gs)) (no_gap gs small) ∙ ap (option_and_then eight_groups) (groups_again gs small) ∙ rw (eq-eqb (length gs) 8 eight) refl
+whole_again gs eight small = grind (arith, no_gap, groups_again, eq-eqb)
 
 -- groups on both sides of a gap
 gap_again : (front back gs : List ℕ) (run : ℕ) → Groups front → Groups back → 0 < run → length front + length back + run ≡ 8
     → (front ++ replicate run 0) ++ back ≡ gs → ipv6_groups (groups_text front ++ 58 ∷ 58 ∷ groups_text back) ≡ Some gs
 unfolding ipv6_groups
 gap_again front back gs run small small' some eight whole =
-    let text = groups_text front ++ 58 ∷ 58 ∷ groups_text back in
-    let room : nat_lt (length front + length back) 8 ≡ true = lt-ltb _ _ (omega (arith, eight, some)) in
-    let zeros : 8 - (length front + length back) ≡ run = omega (arith, eight) in
-    ap (groups_by text) (gap_after front (groups_text back) small)
-    ∙ ap (option_and_then (λ f. option_and_then (filled_groups f) (groups_said (groups_text back)))) (groups_again front small)
-    ∙ ap (option_and_then (filled_groups front)) (groups_again back small')
-    ∙ rw (room, zeros) (ap (λ x. Some x) whole)
+    grind (arith, lt-ltb, gap_after, groups_again)
 
 abbrev text_of : List ℕ → Octets
 text_of gs =
@@ -91,7 +80,4 @@ text_again gs eight small = by_cases (cases_Bool (nat_lt (longest_run gs) 2))
         (omega (arith, front, back, inside, eight)) (around_run gs r))
 
 pub ipv6_said : (d : Octets) → length d ≡ 16 → Small d → SaysIpv6 (ipv6_text d) d
-ipv6_said d long small =
-    let eight : length (groups_of d) ≡ 8 = omega (arith, length-groups_of d, long) in
-    ap (option_map (flat_map (bytes_high_first 2))) (text_again (groups_of d) eight (groups_of-small d small))
-    ∙ ap (λ x. Some x) (octets_again d (omega (arith, long)) small)
+ipv6_said d long small = grind (arith, length-groups_of, text_again, groups_of-small, octets_again)

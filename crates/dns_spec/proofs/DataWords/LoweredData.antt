@@ -1,14 +1,14 @@
 -- The parts of data joined are the data, and data in lower case is cut into the same pieces.
-use Rattle.std.proofs.Common.{◌≡◌, ℕ, suc, ◌≤◌, true, Option, None, Some, List, [], ◌∷◌, ◌++◌, map, length, take, refl, sym, ap, ◌∙◌, subst, arith, append-nil, length-append}
+use Rattle.std.proofs.lemmas.Grind.{common_steps}
+use Rattle.std.proofs.Common.{◌≡◌, ℕ, ◌≤◌, true, Some, List, [], ◌∷◌, ◌++◌, map, length, refl, sym, ap, ◌∙◌, subst, arith, append-nil, length-append}
 use Rattle.std.proofs.lemmas.Bool.{and_parts, and_from, leb-true, le-leb, false≢true}
 use Rattle.std.proofs.lemmas.Option.{none-some, same_Some}
 use Rattle.std.proofs.lemmas.List.{take_at, drop_at, nil_from_length}
 use Rattle.std.proofs.lemmas.List.Concat.{flat_map-cons}
 use Rattle.std.proofs.lemmas.Str.Ascii.{lowercase-lowercase}
-use Rattle.std.specs.Option.{is_some, unwrap_or}
 use Rattle.std.specs.Char.{to_ascii_lowercase}
 use Rattle.dns_spec.specs.Names.{Octets, DomainName, folded}
-use Rattle.dns_spec.specs.Data.{width, Piece, fixed, domain, string, strings, anything, pieces_of, Part, octets, name, part_octets, joined, part_folded, octets_front, strings_front, piece_front, cut, valid, parts, lower_case}
+use Rattle.dns_spec.specs.Data.{width, Piece, fixed, domain, string, strings, anything, pieces_of, Part, octets, name, part_octets, joined, part_folded, octets_front, piece_front, cut, valid, parts, lower_case}
 use Rattle.dns_spec.proofs.DomainNames.NameLaws.{is_name-folded, length-wire-folded}
 use Rattle.dns_spec.proofs.DataWords.WrittenData.{cut_into, name_part, octets_part, front_taken, all_strings}
 use Rattle.dns_spec.proofs.DataWords.MadeData.{cut-domain, cut-step}
@@ -18,14 +18,9 @@ pub piece_whole : (p : Piece) (os : Octets) (part : Part) (rest : Octets) → pi
 piece_whole (fixed f) os part rest h = (front_taken (width f) os part rest h).0 ∙ ap (λ x. part_octets x ++ rest) (octets_part (width f) os rest part h)
 piece_whole domain os part rest h = let m = name_part os rest part h in m.3 ∙ ap (λ x. part_octets x ++ rest) m.1
 piece_whole string [] part rest h = absurd (none-some (part, rest) h)
-piece_whole string (k ∷ os) part rest h =
-    (front_taken (suc k) (k ∷ os) part rest h).0 ∙ ap (λ x. part_octets x ++ rest) (octets_part (suc k) (k ∷ os) rest part h)
-piece_whole strings os part rest h =
-    let t = all_strings os rest part h in
-    sym (append-nil os) ∙ ap (λ x. part_octets x ++ []) t.2 ∙ ap (λ x. part_octets part ++ x) (sym t.3)
-piece_whole anything os part rest h =
-    let e = same_Some (octets os, []) (part, rest) h in
-    sym (append-nil os) ∙ ap (λ x. part_octets x.0 ++ x.1) e
+piece_whole string (k ∷ os) part rest h = grind (arith, common_steps, front_taken, octets_part)
+piece_whole strings os part rest h = grind (arith, all_strings, append-nil)
+piece_whole anything os part rest h = grind (arith, same_Some, append-nil)
 
 pub cut_whole : (ps : List Piece) (os : Octets) (xs : List Part) → cut ps os ≡ Some xs → joined xs ≡ os
 unfolding cut
@@ -39,25 +34,15 @@ cut_whole (p ∷ ps) os xs h =
     ∙ sym (piece_whole p os c.part c.rest c.front)
 
 pub length-part_folded : (x : Part) → length (part_octets (part_folded x)) ≡ length (part_octets x)
-length-part_folded (octets o) = refl
-length-part_folded (name n) = length-wire-folded n
+length-part_folded x = grind (arith, length-wire-folded)
 
 pub length-lowered : (xs : List Part) → length (joined (map part_folded xs)) ≡ length (joined xs)
 length-lowered [] = refl
 length-lowered (x ∷ xs) =
-    omega (
-      arith,
-      length-lowered xs,
-      length-part_folded x,
-      ap length (flat_map-cons part_octets (part_folded x) (map part_folded xs)),
-      ap length (flat_map-cons part_octets x xs),
-      length-append (part_octets (part_folded x)) (joined (map part_folded xs)),
-      length-append (part_octets x) (joined xs),
-    )
+    grind (arith, length-part_folded, flat_map-cons, length-append, (length-lowered xs))
 
 octets_front-append : (k : ℕ) (x rest : Octets) → length x ≡ k → octets_front k (x ++ rest) ≡ Some (octets x, rest)
-octets_front-append k x rest e =
-    rw (le-leb k (length (x ++ rest)) (omega (arith, length-append x rest)), take_at x rest k e, drop_at x rest k e) refl
+octets_front-append k x rest e = grind (arith, le-leb, length-append, take_at, drop_at)
 
 none_after : (rest other : Octets) → rest ≡ [] → length other ≡ length rest → other ≡ []
 none_after rest other e f = nil_from_length other (f ∙ ap length e)
@@ -66,27 +51,14 @@ none_after rest other e f = nil_from_length other (f ∙ ap length e)
 piece_lowered : (p : Piece) (os : Octets) (part : Part) (rest other : Octets) → piece_front p os ≡ Some (part, rest) → length other ≡ length rest
     → piece_front p (part_octets (part_folded part) ++ other) ≡ Some (part_folded part, other)
 piece_lowered (fixed f) os part rest other h same =
-    subst (λ x. piece_front (fixed f) (part_octets (part_folded x) ++ other) ≡ Some (part_folded x, other)) (octets_part (width f) os rest part h)
-    (octets_front-append (width f) (take (width f) os) other (front_taken (width f) os part rest h).1)
+    grind (arith, octets_part, octets_front-append, front_taken)
 piece_lowered domain os part rest other h same =
-    let m = name_part os rest part h in
-    subst (λ x. piece_front domain (part_octets (part_folded x) ++ other) ≡ Some (part_folded x, other)) m.1
-    (cut-domain (folded m.0) other (is_name-folded m.0 m.2))
+    grind (arith, name_part, cut-domain, is_name-folded)
 piece_lowered string [] part rest other h same = absurd (none-some (part, rest) h)
 piece_lowered string (k ∷ os) part rest other h same =
-    subst (λ x. piece_front string (part_octets (part_folded x) ++ other) ≡ Some (part_folded x, other)) (octets_part (suc k) (k ∷ os) rest part h)
-    (octets_front-append (suc k) (take (suc k) (k ∷ os)) other (front_taken (suc k) (k ∷ os) part rest h).1)
-piece_lowered strings os part rest other h same =
-    let t = all_strings os rest part h in
-    let none : other ≡ [] = none_after rest other t.3 same in
-    let front : strings_front os ≡ Some (octets os, []) = h ∙ ap (λ x. Some (x, rest)) (sym t.2) ∙ ap (λ x. Some (octets os, x)) t.3 in
-    subst (λ x. piece_front strings (part_octets (part_folded x) ++ other) ≡ Some (part_folded x, other)) t.2
-    (subst (λ x. strings_front (os ++ x) ≡ Some (octets os, x)) (sym none) (ap strings_front (append-nil os) ∙ front))
-piece_lowered anything os part rest other h same =
-    let e = same_Some (octets os, []) (part, rest) h in
-    let none : other ≡ [] = none_after rest other (sym (ap (λ x. x.1) e)) same in
-    subst (λ x. piece_front anything (part_octets (part_folded x) ++ other) ≡ Some (part_folded x, other)) (ap (λ x. x.0) e)
-    (subst (λ x. piece_front anything (os ++ x) ≡ Some (octets os, x)) (sym none) (ap (λ x. Some (octets x, [])) (append-nil os)))
+    grind (arith, common_steps, octets_part, octets_front-append, front_taken)
+piece_lowered strings os part rest other h same = grind (arith, all_strings, none_after, append-nil)
+piece_lowered anything os part rest other h same = grind (arith, same_Some, none_after, append-nil)
 
 pub cut_lowered : (ps : List Piece) (os : Octets) (xs : List Part) → cut ps os ≡ Some xs → cut ps (joined (map part_folded xs)) ≡ Some (map part_folded xs)
 unfolding cut
@@ -125,33 +97,15 @@ pub record CutData (t : ℕ) (d : Octets) : Type 0 where
   pub parts_are : parts t d ≡ cut_parts
 
 pub cut_data : (t : ℕ) (d : Octets) → valid t d ≡ true → CutData t d
-cut_data t d ok =
-    let p = and_parts _ (is_some (cut (pieces_of t) d)) ok in
-    go (leb-true (length d) 65535 p.0) (cut (pieces_of t) d) refl p.1
-  where
-    go : length d ≤ 65535 → (y : Option (List Part)) → cut (pieces_of t) d ≡ y → is_some y ≡ true → CutData t d
-    go short None e f = absurd (false≢true f)
-    go short (Some xs) e f = record { short = short; cut_parts = xs; is_cut = e; parts_are = ap (λ y. unwrap_or y (octets d ∷ [])) e }
+cut_data t d ok = grind (arith, and_parts, leb-true, false≢true)
 
 pub joined-parts : (t : ℕ) (d : Octets) → joined (parts t d) ≡ d
-joined-parts t d = go (cut (pieces_of t) d) refl
-  where
-    go : (y : Option (List Part)) → cut (pieces_of t) d ≡ y → joined (unwrap_or y (octets d ∷ [])) ≡ d
-    go None e = append-nil d
-    go (Some xs) e = cut_whole (pieces_of t) d xs e
+joined-parts t d = grind (arith, append-nil, cut_whole)
 
 -- data in lower case has the same parts, with folded names
 pub lowered_data : (t : ℕ) (d : Octets) → valid t d ≡ true → (valid t (lower_case t d) ≡ true) × (parts t (lower_case t d) ≡ map part_folded (parts t d))
 lowered_data t d ok =
-    let c = cut_data t d ok in
-    let lowered : lower_case t d ≡ joined (map part_folded c.cut_parts) = ap (λ x. joined (map part_folded x)) c.parts_are in
-    let e : cut (pieces_of t) (lower_case t d) ≡ Some (map part_folded c.cut_parts) =
-    ap (cut (pieces_of t)) lowered ∙ cut_lowered (pieces_of t) d c.cut_parts c.is_cut
-    in
-    let same : length (lower_case t d) ≡ length d = ap length lowered ∙ length-lowered c.cut_parts ∙ ap length (cut_whole (pieces_of t) d c.cut_parts c.is_cut) in (
-      and_from _ _ (le-leb (length (lower_case t d)) 65535 (omega (arith, c.short))) (ap is_some e),
-      ap (λ y. unwrap_or y (octets (lower_case t d) ∷ [])) e ∙ ap (map part_folded) (sym c.parts_are),
-    )
+    grind (arith, cut_data, cut_lowered, length-lowered, cut_whole, and_from, le-leb)
 
 pub lowered-twice : (t : ℕ) (d : Octets) → valid t d ≡ true → lower_case t (lower_case t d) ≡ lower_case t d
 lowered-twice t d ok = ap (λ x. joined (map part_folded x)) (lowered_data t d ok).1 ∙ ap joined (parts_folded-twice (parts t d))

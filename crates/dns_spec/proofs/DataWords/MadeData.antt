@@ -1,79 +1,16 @@
--- Data made of a name, of an address, or of two names and five numbers is data of its type, and its target is its first
--- name.
-use Rattle.std.proofs.Common.{◌≡◌, ℕ, ◌≤◌, true, List, [], ◌∷◌, ◌++◌, length, take, drop, nat_le, Option, None, Some, refl, sym, ap, ◌∙◌, arith, length-append, append_assoc, append-nil}
-use Rattle.std.proofs.lemmas.Bool.{and_from, le-leb}
-use Rattle.std.specs.Option.{option_map, is_some}
+-- Data that begins with a name, or with a piece of any kind, is cut there.
+use Rattle.std.proofs.Common.{◌≡◌, true, List, ◌∷◌, ◌++◌, Some, ap, arith}
+use Rattle.std.specs.Option.{option_map}
 use Rattle.dns_spec.specs.Names.{Octets, DomainName, wire, is_name}
-use Rattle.std.proofs.lemmas.List.{take_all, drop_all}
-use Rattle.std.specs.Option.{unwrap_or}
-use Rattle.dns_spec.specs.Data.{type_a, type_ns, type_soa, Fixed, numbers, width, Piece, first_name, Part, octets, name, piece_front, cut, valid, target, fixed, domain, pieces_of}
-use Rattle.dns_spec.proofs.DomainNames.NameLaws.{IsName-is_name}
+use Rattle.dns_spec.specs.Data.{Piece, Part, name, piece_front, cut, domain}
 use Rattle.dns_spec.proofs.DomainNames.WireNames.{name_of-wire}
-
--- an address
-pub cut-address : (d : Octets) → length d ≡ 4 → cut (pieces_of type_a) d ≡ Some (octets d ∷ [])
-unfolding cut
-cut-address (a ∷ b ∷ c ∷ d ∷ []) e = refl
-cut-address [] e = absurd (omega arith)
-cut-address (a ∷ []) e = absurd (omega arith)
-cut-address (a ∷ b ∷ []) e = absurd (omega arith)
-cut-address (a ∷ b ∷ c ∷ []) e = absurd (omega arith)
-cut-address (a ∷ b ∷ c ∷ d ∷ x ∷ xs) e = absurd (omega arith)
 
 -- a name
 pub cut-domain : (n : DomainName) (rest : Octets) → is_name n ≡ true → piece_front domain (wire n ++ rest) ≡ Some (name n, rest)
 cut-domain n rest ok = ap (option_map (λ (r : DomainName × Octets). (name r.0, r.1))) (name_of-wire n rest ok)
 
-pub cut-ns : (n : DomainName) → is_name n ≡ true → cut (pieces_of type_ns) (wire n) ≡ Some (name n ∷ [])
-unfolding cut
-cut-ns n ok =
-    ap (λ os. cut (domain ∷ []) os) (sym (append-nil (wire n)))
-    ∙ ap (λ (x : Option (Part × Octets)). elim x [ None ↦ None | Some r ↦ option_map (λ xs. r.0 ∷ xs) (cut [] r.1) ]) (cut-domain n [] ok)
-
--- two names and 20 octets of numbers
+-- a piece, and the pieces after it
 pub cut-step : (p : Piece) (ps : List Piece) (os : Octets) (part : Part) (rest : Octets) (xs : List Part) → piece_front p os ≡ Some (part, rest) → cut ps rest ≡ Some xs
     → cut (p ∷ ps) os ≡ Some (part ∷ xs)
 unfolding cut
-cut-step p ps os part rest xs front after =
-    ap (λ (x : Option (Part × Octets)). elim x [ None ↦ None | Some r ↦ option_map (λ ys. r.0 ∷ ys) (cut ps r.1) ]) front
-    ∙ ap (option_map (λ ys. part ∷ ys)) after
-
-all_of : (f : Fixed) (ds : Octets) → length ds ≡ width f → piece_front (fixed f) ds ≡ Some (octets ds, [])
-all_of f ds e =
-    let k = width f in
-    let whole : take k ds ≡ ds = ap (λ n. take n ds) (sym e) ∙ take_all (length ds) ds (omega arith) in
-    let none : drop k ds ≡ [] = ap (λ n. drop n ds) (sym e) ∙ drop_all (length ds) ds (omega arith) in
-    rw (le-leb k (length ds) (omega arith), whole, none) refl
-
-nothing_left : cut [] [] ≡ Some []
-unfolding cut
-nothing_left = refl
-
-pub cut-soa : (m r : DomainName) (ds : Octets) → is_name m ≡ true → is_name r ≡ true → length ds ≡ 20
-    → cut (pieces_of type_soa) (wire m ++ wire r ++ ds) ≡ Some (name m ∷ name r ∷ octets ds ∷ [])
-cut-soa m r ds okm okr e =
-    ap (cut (pieces_of type_soa)) (append_assoc (wire m) (wire r) ds)
-    ∙ cut-step domain (domain ∷ fixed (numbers 5 4) ∷ []) (wire m ++ (wire r ++ ds)) (name m) (wire r ++ ds) (name r ∷ octets ds ∷ []) (cut-domain m (wire r ++ ds) okm)
-    (cut-step domain (fixed (numbers 5 4) ∷ []) (wire r ++ ds) (name r) ds (octets ds ∷ []) (cut-domain r ds okr)
-    (cut-step (fixed (numbers 5 4)) [] ds (octets ds) [] [] (all_of (numbers 5 4) ds e) nothing_left))
-
--- what is cut is valid, and its first name is its target
-made : (t : ℕ) (d : Octets) (xs : List Part) → cut (pieces_of t) d ≡ Some xs → length d ≤ 65535 → (valid t d ≡ true) × (target t d ≡ first_name xs)
-made t d xs e fits = (
-  and_from (nat_le (length d) 65535) (is_some (cut (pieces_of t) d)) (le-leb (length d) 65535 fits) (ap is_some e),
-  ap (λ x. first_name (unwrap_or x (octets d ∷ []))) e,
-)
-
-pub address-made : (d : Octets) → length d ≡ 4 → (valid type_a d ≡ true) × (target type_a d ≡ None)
-address-made d e = made type_a d (octets d ∷ []) (cut-address d e) (omega arith)
-
-pub ns-made : (n : DomainName) → is_name n ≡ true → (valid type_ns (wire n) ≡ true) × (target type_ns (wire n) ≡ Some n)
-ns-made n ok = let name = IsName-is_name n ok in made type_ns (wire n) _ (cut-ns n ok) (omega arith)
-
-pub soa-made : (m r : DomainName) (ds : Octets) → is_name m ≡ true → is_name r ≡ true → length ds ≡ 20
-    → (valid type_soa (wire m ++ wire r ++ ds) ≡ true) × (target type_soa (wire m ++ wire r ++ ds) ≡ Some m)
-soa-made m r ds okm okr e =
-    let first = IsName-is_name m okm in
-    let second = IsName-is_name r okr in
-    made type_soa (wire m ++ wire r ++ ds) _ (cut-soa m r ds okm okr e)
-    (omega (arith, length-append (wire m ++ wire r) ds, length-append (wire m) (wire r)))
+cut-step p ps os part rest xs front after = grind arith

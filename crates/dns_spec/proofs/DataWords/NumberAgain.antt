@@ -1,6 +1,6 @@
 -- Numbers that are written in decimal are read as the octets that spell them again.
-use Rattle.std.proofs.Common.{◌≡◌, ℕ, zero, suc, ◌+◌, ◌*◌, ◌^◌, ◌/◌, ◌<◌, [], ◌∷◌, length, refl, sym, ◌∙◌, ap, subst, arith, pow-suc, mul_comm, mod-eq_of_lt}
-use Rattle.std.proofs.lemmas.Nat.{same_from_place, mod_below, mul-add-lt}
+use Rattle.std.proofs.Common.{◌≡◌, ℕ, zero, suc, ◌+◌, ◌*◌, ◌^◌, ◌<◌, [], ◌∷◌, length, refl, sym, ◌∙◌, ap, subst, arith, pow-suc, mul_comm, mod-eq_of_lt}
+use Rattle.std.proofs.lemmas.Nat.{same_from_place, mul-add-lt}
 use Rattle.std.specs.Prelude.{decimal}
 use Rattle.std.specs.Int.{byte_at, bytes_high_first}
 use Rattle.dns_spec.specs.Names.{Octets}
@@ -16,8 +16,7 @@ number_of-below (o ∷ x) small =
     omega (arith, pow-suc 256 (length x), mul_comm unit 256, mul-add-lt o unit (number_of x) 256 (small_head o x small) (number_of-below x (small_tail o x small)))
 
 byte_at-below : (i n : ℕ) → byte_at i n < 256
-byte_at-below zero n = omega arith
-byte_at-below (suc i) n = mod_below (n / 256 ^ suc i) 256 (omega arith)
+byte_at-below i n = grind arith
 
 pub bytes_below : (k n : ℕ) → Small (bytes_high_first k n)
 bytes_below zero n i d inside = absurd (omega (arith, inside))
@@ -40,14 +39,15 @@ one_spelling (o ∷ x) (p ∷ y) long small small' e =
 
 pub bytes_again : (k : ℕ) (x : Octets) → length x ≡ k → Small x → bytes_high_first k (number_of x) ≡ x
 bytes_again k x long small =
-    let below : number_of x < 256 ^ k = subst (λ j. number_of x < 256 ^ j) long (number_of-below x small) in
-    one_spelling (bytes_high_first k (number_of x)) x (length-bytes_high_first k (number_of x) ∙ sym long) (bytes_below k (number_of x)) small
-    (number_of-bytes k (number_of x) ∙ mod-eq_of_lt below)
+    grind (
+      arith,
+      number_of-below,
+      one_spelling,
+      length-bytes_high_first,
+      bytes_below,
+      number_of-bytes,
+      mod-eq_of_lt,
+    )
 
 pub number_said : (k : ℕ) (x : Octets) → length x ≡ k → Small x → SaysNumber k (decimal (number_of x)) x
-number_said k x long small = (
-  number_of x,
-  subst (λ j. number_of x < 256 ^ j) long (number_of-below x small),
-  refl,
-  sym (bytes_again k x long small),
-)
+number_said k x long small = grind (arith, number_of-below, bytes_again)

@@ -1,10 +1,9 @@
 -- Words say at most one piece of data of a type.
-use Rattle.std.proofs.Common.{◌≡◌, ℕ, zero, suc, ◌<◌, ◌≤◌, ◌^◌, Bool, true, false, nat_lt, nat_le, List, [], ◌∷◌, ◌++◌, length, replicate, max, Option, Some, None, refl, sym, ◌∙◌, ap, ap₂, arith, decimal, get_or}
+use Rattle.std.proofs.Common.{◌≡◌, ℕ, zero, suc, ◌<◌, ◌≤◌, Bool, true, false, nat_le, List, [], ◌∷◌, ◌++◌, length, replicate, Option, Some, None, refl, sym, ◌∙◌, ap, ap₂, arith, decimal}
 use Rattle.std.specs.Prelude.{⊤, MatchOption, ◌==◌, if◌then◌else◌}
 use Rattle.std.specs.Bool.{MatchBool}
 use Rattle.std.specs.List.{list_all, flat_map, find}
 use Rattle.std.specs.Option.{option_map}
-use Rattle.std.specs.Int.{bytes_high_first}
 use Rattle.std.specs.Str.Parse.{AllDigits}
 use Rattle.std.proofs.Math.Nat.{pow-le-pow_right}
 use Rattle.std.proofs.lemmas.Bool.{and_parts, and_from, leb-true, ltb-true}
@@ -12,7 +11,7 @@ use Rattle.std.proofs.lemmas.Option.{same_Some}
 use Rattle.std.proofs.lemmas.Fmt.{decimal_is_IsNumeral, decimal_injective}
 use Rattle.std.proofs.lemmas.Str.Parse.{digit_from_value}
 use Rattle.dns_spec.specs.Names.{Octets, DomainName, wire}
-use Rattle.dns_spec.specs.Data.{Piece, fixed, domain, string, strings, anything, numbers, ipv4, ipv6, TypeRow, type_table, row_of, lower_case}
+use Rattle.dns_spec.specs.Data.{Piece, fixed, domain, string, strings, anything, numbers, ipv4, ipv6, TypeRow, type_table, row_of}
 use Rattle.dns_spec.specs.AddressText.{SaysIpv4, SaysIpv6}
 use Rattle.dns_spec.specs.DataText.{Word, WordForm, number_word, ipv4_word, ipv6_word, name_word, string_word, SaysNumber, SaysString, SaysForm, SaysForms, forms_in, SaysTyped, SaysUnknown, SaysAsSpelled, is_unknown_mark, Says}
 use Rattle.dns_spec.proofs.NameTexts.OneName.{name_once, string_once}
@@ -20,20 +19,14 @@ use Rattle.dns_spec.proofs.NameTexts.OneName.{name_once, string_once}
 -- numbers of at most 32 bits
 pub number_once : (k : ℕ) (text d e : Octets) → k ≤ 4 → SaysNumber k text d → SaysNumber k text e → d ≡ e
 number_once k text d e few (n, small, said, is) (m, small', said', is') =
-    let most : 256 ^ k ≤ 256 ^ 4 = pow-le-pow_right {n = 256} (omega arith) {i = k} {j = 4} few in
-    let same = decimal_injective n m (omega (arith, small, most)) (omega (arith, small', most)) (sym said ∙ said') in
-    is ∙ ap (bytes_high_first k) same ∙ sym is'
+    grind (arith, pow-le-pow_right, decimal_injective)
 
 -- two runs of digits with a dot after each
 digits_end : (ds es rest others : Octets) → AllDigits 10 ds → AllDigits 10 es → ds ++ 46 ∷ rest ≡ es ++ 46 ∷ others
     → (ds ≡ es) × (rest ≡ others)
 digits_end [] [] rest others h k e = (refl, cc)
-digits_end [] (c ∷ es) rest others h (digit, k) e =
-    let range = digit_from_value c digit in
-    absurd (omega (arith, range.0, ap (λ t. get_or t 0 0) e))
-digits_end (c ∷ ds) [] rest others (digit, h) k e =
-    let range = digit_from_value c digit in
-    absurd (omega (arith, range.0, ap (λ t. get_or t 0 0) e))
+digits_end [] (c ∷ es) rest others h (digit, k) e = grind (arith, digit_from_value)
+digits_end (c ∷ ds) [] rest others (digit, h) k e = grind (arith, digit_from_value)
 digits_end (c ∷ ds) (b ∷ es) rest others (digit, h) (digit', k) e =
     let head : c ≡ b = cc (e) in
     let tail : ds ++ 46 ∷ rest ≡ es ++ 46 ∷ others = cc (e) in
@@ -66,23 +59,7 @@ four_numbers text [] h = absurd (omega (arith, h.four))
 four_numbers text (a ∷ []) h = absurd (omega (arith, h.four))
 four_numbers text (a ∷ b ∷ []) h = absurd (omega (arith, h.four))
 four_numbers text (a ∷ b ∷ c ∷ []) h = absurd (omega (arith, h.four))
-four_numbers text (a ∷ b ∷ c ∷ e ∷ []) h =
-    let all = and_parts (nat_lt a 256) _ h.octets in
-    let all' = and_parts (nat_lt b 256) _ all.1 in
-    let all'' = and_parts (nat_lt c 256) _ all'.1 in
-    let last = and_parts (nat_lt e 256) _ all''.1 in
-    record {
-      first = a;
-      second = b;
-      third = c;
-      fourth = e;
-      is = refl;
-      first_small = ltb-true a 256 all.0;
-      second_small = ltb-true b 256 all'.0;
-      third_small = ltb-true c 256 all''.0;
-      fourth_small = ltb-true e 256 last.0;
-      spelled = h.spelled;
-    }
+four_numbers text (a ∷ b ∷ c ∷ e ∷ []) h = grind (arith, and_parts, ltb-true)
 four_numbers text (a ∷ b ∷ c ∷ e ∷ f ∷ d) h = absurd (omega (arith, h.four))
 
 pub ipv4_once : (text d e : Octets) → SaysIpv4 text d → SaysIpv4 text e → d ≡ e
@@ -148,13 +125,7 @@ is_narrow_piece anything = true
 
 narrow_in : (k : ℕ) (p : Piece) → is_narrow_piece p ≡ true → list_all is_narrow (forms_in k p) ≡ true
 unfolding is_narrow is_narrow_piece
-narrow_in k (fixed (numbers m o)) h = all_alike is_narrow m (number_word o) h
-narrow_in k (fixed ipv4) h = refl
-narrow_in k (fixed ipv6) h = refl
-narrow_in k domain h = refl
-narrow_in k string h = refl
-narrow_in k strings h = all_alike is_narrow (max 1 k) string_word refl
-narrow_in k anything h = refl
+narrow_in k p h = grind (arith, all_alike)
 
 narrow_forms : (k : ℕ) (ps : List Piece) → list_all is_narrow_piece ps ≡ true → list_all is_narrow (flat_map (forms_in k) ps) ≡ true
 narrow_forms k [] h = refl
@@ -188,8 +159,7 @@ typed_once t origin ws d e h k = by_row (row_of t) (found_row (λ (row : TypeRow
     by_row (Some row) narrow h k = forms_once (flat_map (forms_in (length ws)) row.pieces) origin ws d e (narrow_forms (length ws) row.pieces narrow) h k
 
 unknown_once : (ws : List Word) (d e : Octets) → SaysUnknown ws d → SaysUnknown ws e → d ≡ e
-unknown_once [] d e h k = absurd h
-unknown_once (w ∷ ws) d e h k = same_Some d e (sym h.2.1 ∙ k.2.1)
+unknown_once ws d e h h1 = grind arith
 
 as_spelled_once : (t : ℕ) (origin : DomainName) (ws : List Word) (d e : Octets) → SaysAsSpelled t origin ws d → SaysAsSpelled t origin ws e → d ≡ e
 as_spelled_once t origin [] d e h k = typed_once t origin [] d e h k
@@ -203,5 +173,4 @@ as_spelled_once t origin (w ∷ ws) d e h k = by_mark (is_unknown_mark w) h k
     by_mark false h k = typed_once t origin (w ∷ ws) d e h k
 
 pub data_once : (t : ℕ) (ws : List Word) (origin : DomainName) (d e : Octets) → Says t ws origin d → Says t ws origin e → d ≡ e
-data_once t ws origin d e h k =
-    sym h.lower ∙ ap (lower_case t) (as_spelled_once t origin ws h.as_spelled k.as_spelled h.said k.said) ∙ k.lower
+data_once t ws origin d e h k = grind (arith, as_spelled_once)

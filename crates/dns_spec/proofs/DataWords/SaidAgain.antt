@@ -1,13 +1,12 @@
 -- The words that are written for valid data say that data again, each of them stands alone, and a reader takes them in whole.
-use Rattle.std.proofs.Common.{◌≡◌, ℕ, zero, suc, ◌*◌, ◌<◌, ◌≤◌, ◌⊎◌, inl, inr, true, false, Bool, ◌||◌, ◌==◌, max, Option, None, Some, List, [], ◌∷◌, ◌++◌, length, take, drop, replicate, nat_le, refl, sym, ◌∙◌, ap, subst, arith, append-nil}
-use Rattle.std.proofs.lemmas.Bool.{false≢true, not-true, and_parts, and_from, leb-true, cases_Bool, or_cases}
+use Rattle.std.proofs.Common.{◌≡◌, ℕ, zero, suc, ◌*◌, ◌<◌, ◌≤◌, ◌⊎◌, inl, inr, true, false, Bool, ◌||◌, ◌==◌, max, Option, None, Some, List, [], ◌∷◌, ◌++◌, length, drop, replicate, nat_le, refl, sym, ◌∙◌, ap, subst, arith, append-nil}
+use Rattle.std.proofs.lemmas.Bool.{false≢true, and_parts, and_from, leb-true, cases_Bool, or_cases}
 use Rattle.std.proofs.lemmas.Option.{none-some, same_Some, cond_some, some_pair_parts}
-use Rattle.std.specs.Prelude.{MatchOption}
 use Rattle.std.specs.Option.{option_map, unwrap_or}
 use Rattle.std.specs.List.{list_all, find, flat_map}
 use Rattle.dns_spec.specs.Names.{Octets, DomainName, name_of}
-use Rattle.dns_spec.specs.Data.{numbers, ipv4, ipv6, Piece, fixed, domain, string, strings, anything, TypeRow, type_table, row_of, other_type, pieces_of, Part, octets, name, part_octets, octets_front, piece_front, cut, valid, lower_case}
-use Rattle.dns_spec.specs.DataText.{Word, WordForm, name_word, string_word, SaysForms, forms_in, forms_of, SaysTyped, is_unknown_mark, SaysAsSpelled, Says, is_word_octet}
+use Rattle.dns_spec.specs.Data.{numbers, ipv4, ipv6, Piece, fixed, domain, string, strings, anything, TypeRow, type_table, row_of, other_type, pieces_of, Part, name, part_octets, octets_front, piece_front, cut, valid, lower_case}
+use Rattle.dns_spec.specs.DataText.{Word, WordForm, name_word, string_word, forms_in, forms_of, SaysTyped, SaysAsSpelled, Says, is_word_octet}
 use Rattle.dns_spec.specs.WrittenText.{word_front, form_words, string_count, words_by, written_words, unknown_words, hex_words, stands_alone}
 use Rattle.dns_spec.proofs.Records.SortedOnce.{Each}
 use Rattle.dns_spec.proofs.DomainNames.SmallOctets.{Small, small_back}
@@ -30,9 +29,7 @@ is_counted strings = false
 is_counted anything = false
 
 front_dropped : (k : ℕ) (os : Octets) (part : Part) (rest : Octets) → octets_front k os ≡ Some (part, rest) → (k ≤ length os) × (drop k os ≡ rest)
-front_dropped k os part rest h =
-    let c = cond_some (nat_le k (length os)) (octets (take k os), drop k os) (part, rest) h in
-    (leb-true k (length os) c.0, ap (λ z. z.1) c.1)
+front_dropped k os part rest h = grind (arith, cond_some, leb-true)
 
 piece_said : (c : ℕ) (origin : DomainName) (p : Piece) (fs : List WordForm) (d : Octets) (part : Part) (rest : Octets) → is_counted p ≡ true
     → piece_front p d ≡ Some (part, rest) → Small d → WordsSaid fs origin rest → WordsSaid (forms_in c p ++ fs) origin d
@@ -74,13 +71,7 @@ pieces_said c origin (p ∷ ps) d xs counted h small =
 
 -- such pieces have the same forms whatever the count
 one_form : (c e : ℕ) (p : Piece) → is_counted p ≡ true → forms_in c p ≡ forms_in e p
-one_form c e (fixed (numbers m k)) counted = refl
-one_form c e (fixed ipv4) counted = refl
-one_form c e (fixed ipv6) counted = refl
-one_form c e domain counted = refl
-one_form c e string counted = refl
-one_form c e strings counted = absurd (false≢true counted)
-one_form c e anything counted = absurd (false≢true counted)
+one_form c e p h = grind arith
 
 same_forms : (c e : ℕ) (ps : List Piece) → list_all is_counted ps ≡ true → flat_map (forms_in c) ps ≡ flat_map (forms_in e) ps
 same_forms c e [] counted = refl
@@ -103,13 +94,7 @@ are_strings_alone (strings ∷ []) = true
 are_strings_alone (anything ∷ []) = false
 
 only_strings : (ps : List Piece) → are_strings_alone ps ≡ true → ps ≡ strings ∷ []
-only_strings [] h = absurd (false≢true h)
-only_strings (p ∷ q ∷ ps) h = absurd (false≢true h)
-only_strings (fixed f ∷ []) h = absurd (false≢true h)
-only_strings (domain ∷ []) h = absurd (false≢true h)
-only_strings (string ∷ []) h = absurd (false≢true h)
-only_strings (strings ∷ []) h = refl
-only_strings (anything ∷ []) h = absurd (false≢true h)
+only_strings ps h = grind arith
 
 -- the forms of data, which are those of as many words, and its words
 record Formed (t : ℕ) (origin : DomainName) (d : Octets) : Type 0 where
@@ -187,9 +172,7 @@ formed t origin d made e ok small = by_cases (or_cases (list_all is_counted made
     pieces = ap (λ r. (unwrap_or r other_type).pieces) e
 
     by_cases : (list_all is_counted made.pieces ≡ true) ⊎ (are_strings_alone made.pieces ≡ true) → Formed t origin d
-    by_cases (inl counted) =
-        let c = cut_data t d ok in
-        counted_formed t origin d made c.cut_parts e counted (ap (λ ps. cut ps d) (sym pieces) ∙ c.is_cut) small
+    by_cases (inl counted) = grind (arith, cut_data, counted_formed, pieces)
     by_cases (inr alone) =
         let c = cut_data t d ok in
         let is = only_strings made.pieces alone in
@@ -197,16 +180,10 @@ formed t origin d made e ok small = by_cases (or_cases (list_all is_counted made
 
 -- the words of a type are read by its forms unless the first is the mark
 as_typed : (t : ℕ) (origin : DomainName) (ws : List Word) (d : Octets) → is_unmarked ws ≡ true → SaysTyped t origin ws d → SaysAsSpelled t origin ws d
-as_typed t origin [] d unmarked said = said
-as_typed t origin (w ∷ ws) d unmarked said = rw (not-true (is_unknown_mark w) unmarked) said
+as_typed t origin ws d h h1 = grind arith
 
 typed_said : (t : ℕ) (origin : DomainName) (d : Octets) → Formed t origin d → SaysAsSpelled t origin (written_words t d) d
-typed_said t origin d f =
-    let words = form_words f.forms d in
-    let written : written_words t d ≡ words = ap (λ o. words_by o d) f.of_data in
-    let forms : forms_of t (length words) ≡ Some f.forms = ap (forms_of t) (length-form_words f.forms d) ∙ f.of_words in
-    let typed : SaysTyped t origin words d = subst (λ o. MatchOption o ⊥ (λ fs. SaysForms fs origin words d)) (sym forms) f.words.said in
-    subst (λ ws. SaysAsSpelled t origin ws d) (sym written) (as_typed t origin words d f.words.unmarked typed)
+typed_said t origin d f = grind (arith, length-form_words, as_typed)
 
 -- words of a type without a mnemonic
 unnamed_words : (t : ℕ) (d : Octets) → row_of t ≡ None → written_words t d ≡ unknown_words d

@@ -1,14 +1,15 @@
 -- The words that are written stand alone, a reader takes them in whole, and none of them is the mark of the form for data of
 -- any type.
-use Rattle.std.proofs.Common.{◌≡◌, ℕ, ◌+◌, ◌/◌, ◌%◌, ◌<◌, ◌^◌, ◌⊎◌, inl, inr, Bool, true, false, ◌==◌, List, [], ◌∷◌, ◌++◌, length, take, drop, nat_lt, refl, sym, ◌∙◌, ap, subst, arith, append_assoc, append-nil, length-append, decimal}
-use Rattle.std.proofs.lemmas.Bool.{and_from, and_right, lt-ltb, cases_Bool}
+use Rattle.std.proofs.lemmas.Grind.{common_steps}
+use Rattle.std.proofs.Common.{◌≡◌, ℕ, ◌/◌, ◌%◌, ◌<◌, ◌^◌, Bool, true, false, ◌==◌, List, [], ◌∷◌, ◌++◌, length, refl, sym, ◌∙◌, ap, subst, arith, append_assoc, append-nil, length-append, decimal, rules}
+use Rattle.std.proofs.lemmas.Bool.{and_from, and_right, lt-ltb}
 use Rattle.std.proofs.lemmas.Fmt.{decimal_nonempty}
-use Rattle.std.specs.Prelude.{if◌then◌else◌, Some, None}
+use Rattle.std.specs.Prelude.{if◌then◌else◌}
 use Rattle.std.specs.Char.{digit_char}
 use Rattle.std.specs.Fmt.{digits}
 use Rattle.dns_spec.specs.Names.{Octets, DomainName, octets_equal}
 use Rattle.dns_spec.specs.NameText.{label_text, labels_text, name_text}
-use Rattle.dns_spec.specs.AddressText.{SaysIpv6, ipv6_groups, ipv4_text, groups_text, longest_run, longest_place, groups_of, ipv6_text}
+use Rattle.dns_spec.specs.AddressText.{SaysIpv6, ipv6_groups, ipv4_text, groups_text, ipv6_text}
 use Rattle.dns_spec.specs.DataText.{Word, is_unknown_mark, is_word_octet, is_string_octet}
 use Rattle.dns_spec.specs.WrittenText.{plain, quoted, hex_text, is_unbroken, stands_alone}
 use Rattle.dns_spec.proofs.Records.SortedOnce.{Each}
@@ -36,8 +37,7 @@ bare_alone : (x : Octets) → 0 < length x → Bare x → stands_alone (plain x)
 bare_alone x some bare = and_from _ _ (lt-ltb 0 (length x) some) (ap (is_unbroken is_word_octet) (sym (append-nil x)) ∙ bare_text x [] bare refl)
 
 bare_unmarked : (x : Octets) → Bare x → is_unknown_mark (plain x) ≡ false
-bare_unmarked [] bare = refl
-bare_unmarked (o ∷ x) bare = rw (no_backslash is_word_octet o refl bare.0) refl
+bare_unmarked x h = search (rules, no_backslash)
 
 pub bare_standing : (x : Octets) → 0 < length x → Bare x → Standing (plain x)
 bare_standing x some bare = record { alone = bare_alone x some bare; whole = runs_bare x bare; unmarked = bare_unmarked x bare }
@@ -46,8 +46,7 @@ pub decimal_standing : (n : ℕ) → n < 2 ^ 64 → Standing (plain (decimal n))
 decimal_standing n small = bare_standing (decimal n) (decimal_nonempty n small) (bare_decimal n small)
 
 ipv4_some : (o : ℕ) (d : Octets) → o < 256 → 0 < length (ipv4_text (o ∷ d))
-ipv4_some o [] small = decimal_nonempty o (omega (arith, small))
-ipv4_some o (p ∷ d) small = omega (arith, decimal_nonempty o (omega (arith, small)), length-append (decimal o) (46 ∷ ipv4_text (p ∷ d)))
+ipv4_some o d h = grind (arith, decimal_nonempty, length-append)
 
 pub ipv4_standing : (d : Octets) → length d ≡ 4 → Small d → Standing (plain (ipv4_text d))
 ipv4_standing [] long small = absurd (omega (arith, long))
@@ -66,29 +65,11 @@ bare_groups gs small = bare_joined 58 (digits 16 false) gs refl (each gs small)
 -- a text that says an address has an octet
 ipv6_some : (text d : Octets) → SaysIpv6 text d → 0 < length text
 unfolding ipv6_groups
-ipv6_some [] d said = absurd (none_some said)
-  where
-    none_some : None ≡ Some d → ⊥
-    none_some e = cc
-ipv6_some (o ∷ text) d said = omega arith
+ipv6_some text d h = grind (arith, common_steps)
 
 bare_ipv6 : (d : Octets) → Small d → Bare (ipv6_text d)
-bare_ipv6 d small = by_cases (cases_Bool (nat_lt (longest_run gs) 2))
-  where
-    gs : List ℕ
-    gs = groups_of d
-
-    groups : Groups gs
-    groups = groups_of-small d small
-
-    by_cases : (nat_lt (longest_run gs) 2 ≡ true) ⊎ (nat_lt (longest_run gs) 2 ≡ false) → Bare (ipv6_text d)
-    by_cases (inl short) = rw short (bare_groups gs groups)
-    by_cases (inr long) =
-        let front = take (longest_place gs) gs in
-        let back = drop (longest_place gs + longest_run gs) gs in
-        rw long
-        (bare_append (groups_text front) (58 ∷ 58 ∷ groups_text back) (bare_groups front (groups_taken (longest_place gs) gs groups))
-        (refl, (refl, bare_groups back (groups_dropped (longest_place gs + longest_run gs) gs groups))))
+bare_ipv6 d small =
+    grind (arith, groups_of-small, bare_groups, bare_append, groups_taken, groups_dropped)
 
 pub ipv6_standing : (d : Octets) → length d ≡ 16 → Small d → Standing (plain (ipv6_text d))
 ipv6_standing d long small = bare_standing (ipv6_text d) (ipv6_some (ipv6_text d) d (ipv6_said d long small)) (bare_ipv6 d small)

@@ -1,30 +1,13 @@
 -- Strings that are written in quotation marks are read as those strings again.
-use Rattle.std.proofs.Common.{◌≡◌, ◌≢◌, ℕ, ◌<◌, ◌≤◌, ◌⊎◌, inl, inr, true, false, ◌&&◌, ◌==◌, nat_le, [], ◌∷◌, length, refl, ap, arith}
-use Rattle.std.proofs.lemmas.Bool.{cases_Bool, cases_eq, eqb-true, eqb-false}
+use Rattle.std.proofs.Common.{ℕ, ◌<◌, ◌≤◌, [], ◌∷◌, length, refl, arith}
 use Rattle.std.specs.List.{flat_map}
 use Rattle.dns_spec.specs.Names.{Octets}
 use Rattle.dns_spec.specs.DataText.{SpellsStringOctet, SpellsString, SaysString}
 use Rattle.dns_spec.specs.WrittenText.{string_octet_text}
-use Rattle.dns_spec.proofs.NameTexts.WrittenNames.{digits_spell}
 use Rattle.dns_spec.proofs.DomainNames.SmallOctets.{Small, small_head, small_tail}
 
-escaped : (o : ℕ) → (o ≡ 34) ⊎ (o ≡ 92) → SpellsStringOctet (92 ∷ o ∷ []) o
-escaped o (inl e) = inl (refl, refl, omega (arith, e), omega (arith, e), inl (omega (arith, e)))
-escaped o (inr e) = inl (refl, refl, omega (arith, e), omega (arith, e), inr (omega (arith, e)))
-
--- an octet as itself, a dot too
-itself : (o : ℕ) → o ≢ 92 → SpellsStringOctet (o ∷ []) o
-itself o h = elim (cases_eq o 46) [ inl dot ↦ inr (ap (λ c. c ∷ []) dot, dot) | inr other ↦ inl (refl, other, h) ]
-
 string_octet_said : (o : ℕ) → o < 256 → SpellsStringOctet (string_octet_text o) o
-string_octet_said o small = by_cases (cases_Bool (o == 34)) (cases_Bool (o == 92)) (cases_Bool (nat_le 32 o && nat_le o 126))
-  where
-    by_cases : ((o == 34) ≡ true) ⊎ ((o == 34) ≡ false) → ((o == 92) ≡ true) ⊎ ((o == 92) ≡ false)
-        → ((nat_le 32 o && nat_le o 126) ≡ true) ⊎ ((nat_le 32 o && nat_le o 126) ≡ false) → SpellsStringOctet (string_octet_text o) o
-    by_cases (inl quote) slash shown = rw quote (escaped o (inl (eqb-true o 34 quote)))
-    by_cases (inr a) (inl slash) shown = rw (a, slash) (escaped o (inr (eqb-true o 92 slash)))
-    by_cases (inr a) (inr b) (inl shown) = rw (a, b, shown) (itself o (eqb-false o 92 b))
-    by_cases (inr a) (inr b) (inr c) = rw (a, b, c) (inl (digits_spell o small))
+string_octet_said o small = grind arith
 
 string_spelled : (s : Octets) → Small s → SpellsString (flat_map string_octet_text s) s
 string_spelled [] small = refl

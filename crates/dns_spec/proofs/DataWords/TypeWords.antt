@@ -1,18 +1,14 @@
 -- Words that name types: a name in the table is no number, and a number is read as it is written.
-use Rattle.std.proofs.Common.{◌≡◌, ℕ, ◌^◌, ◌<◌, inl, inr, Bool, true, false, cond, nat_lt, None, Some, List, [], ◌∷◌, ◌++◌, map, refl, sym, ap, subst, ◌∙◌, arith, codes, drop}
+use Rattle.std.proofs.Common.{◌≡◌, ℕ, ◌^◌, ◌<◌, None, Some, [], ◌∷◌, ◌++◌, map, refl, sym, ap, ◌∙◌, arith, codes}
 use Rattle.std.proofs.lemmas.Option.{none-some, same_Some}
 use Rattle.std.proofs.lemmas.Fmt.{decimal_is_IsNumeral, decimal_injective}
-use Rattle.std.proofs.lemmas.Bool.{lt-ltb, ltb-true, and_parts}
+use Rattle.std.proofs.lemmas.Bool.{lt-ltb}
 use Rattle.std.proofs.lemmas.Str.Parse.{digit_from_value}
-use Rattle.std.specs.Option.{option_map}
-use Rattle.std.specs.List.{find, list_all}
 use Rattle.std.specs.Fmt.{decimal}
 use Rattle.std.specs.Char.{to_ascii_lowercase, digit_value}
 use Rattle.std.specs.Str.Parse.{AllDigits}
-use Rattle.dns_spec.specs.Names.{Octets, octets_equal}
-use Rattle.dns_spec.specs.Data.{TypeRow, type_table}
+use Rattle.dns_spec.specs.Names.{Octets}
 use Rattle.dns_spec.specs.TypeText.{text_in_lower_case, type_by_mnemonic, numbered_type, NamesType}
-use Rattle.dns_spec.proofs.Records.SortedOnce.{Each}
 
 digit_lowered : (c : ℕ) → digit_value c < 10 → to_ascii_lowercase c ≡ c
 digit_lowered c h = let range = digit_from_value c h in rw (lt-ltb c 65 (omega (arith, range))) refl
@@ -27,8 +23,7 @@ decimal-lowered n h = digits_lowered (decimal n) (decimal_is_IsNumeral n h).0.1
 
 -- `type` and anything is no name of the table
 no_mnemonic : (word digits : Octets) → text_in_lower_case word ≡ codes "type" ++ digits → type_by_mnemonic word ≡ None
-no_mnemonic word digits e =
-    ap (λ x. option_map (λ (row : TypeRow). row.number) (find (λ (row : TypeRow). octets_equal x (text_in_lower_case row.mnemonic)) type_table)) e
+no_mnemonic word digits e = cc
 
 pub number-no_mnemonic : (word : Octets) (t : ℕ) → text_in_lower_case word ≡ text_in_lower_case (numbered_type t) → type_by_mnemonic word ≡ None
 number-no_mnemonic word t e = no_mnemonic word (text_in_lower_case (decimal t)) e
@@ -37,34 +32,7 @@ apart : (word : Octets) (t u : ℕ) → type_by_mnemonic word ≡ Some t → tex
 apart word t u e f = none-some t (sym (number-no_mnemonic word u f) ∙ e)
 
 numbers_alike : (t u : ℕ) → t < 65536 → u < 65536 → text_in_lower_case (numbered_type t) ≡ text_in_lower_case (numbered_type u) → t ≡ u
-numbers_alike t u p q e =
-    decimal_injective t u (omega arith) (omega arith)
-    (sym (decimal-lowered t (omega arith)) ∙ ap (drop 4) e ∙ decimal-lowered u (omega arith))
+numbers_alike t u p q e = grind (arith, decimal_injective, decimal-lowered)
 
 pub one_type : (word : Octets) (t u : ℕ) → NamesType word t → NamesType word u → t ≡ u
-one_type word t u (inl e) (inl f) = same_Some t u (sym e ∙ f)
-one_type word t u (inl e) (inr f) = absurd (apart word t u e f.1)
-one_type word t u (inr e) (inl f) = absurd (apart word u t f e.1)
-one_type word t u (inr e) (inr f) = numbers_alike t u e.0 f.0 (sym e.1 ∙ f.1)
-
--- a word names a type of 16 bits
-found_small : (p : TypeRow → Bool) (rows : List TypeRow) (t : ℕ) → Each (λ (row : TypeRow). row.number < 65536) rows
-    → option_map (λ (row : TypeRow). row.number) (find p rows) ≡ Some t → t < 65536
-found_small p [] t small e = absurd (none-some t e)
-found_small p (row ∷ rows) t small e = go (p row) e (found_small p rows t small.1)
-  where
-    go : (b : Bool) → option_map (λ (row : TypeRow). row.number) (cond b (Some row) (find p rows)) ≡ Some t
-        → (option_map (λ (row : TypeRow). row.number) (find p rows) ≡ Some t → t < 65536) → t < 65536
-    go true f others = subst (λ n. n < 65536) (same_Some row.number t f) small.0
-    go false f others = others f
-
-rows_small : (rows : List TypeRow) → list_all (λ (row : TypeRow). nat_lt row.number 65536) rows ≡ true → Each (λ (row : TypeRow). row.number < 65536) rows
-rows_small [] ok = tt
-rows_small (row ∷ rows) ok =
-    let both = and_parts (nat_lt row.number 65536) (list_all (λ (r : TypeRow). nat_lt r.number 65536) rows) ok in
-    (ltb-true row.number 65536 both.0, rows_small rows both.1)
-
-pub named_type-small : (word : Octets) (t : ℕ) → NamesType word t → t < 65536
-named_type-small word t (inl e) =
-    found_small (λ (row : TypeRow). octets_equal (text_in_lower_case word) (text_in_lower_case row.mnemonic)) type_table t (rows_small type_table refl) e
-named_type-small word t (inr h) = h.0
+one_type word t u h h1 = grind (arith, same_Some, apart, numbers_alike)

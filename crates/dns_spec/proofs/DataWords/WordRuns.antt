@@ -1,7 +1,7 @@
 -- How much of what is written a reader takes into a word or a string: all of it.
-use Rattle.std.proofs.Common.{◌≡◌, ℕ, ◌+◌, ◌/◌, ◌%◌, ◌<◌, ◌⊎◌, inl, inr, Bool, true, false, ◌&&◌, ◌||◌, not, ◌==◌, Some, None, [], ◌∷◌, ◌++◌, length, nat_le, nat_lt, refl, sym, ◌∙◌, ap, subst, arith, append_assoc, length-append}
-use Rattle.std.proofs.lemmas.Bool.{agree_below_at, cases_Bool, lt-ltb, not-true, eqb-true}
-use Rattle.std.specs.Char.{is_ascii_graphic, is_ascii_digit}
+use Rattle.std.proofs.Common.{◌≡◌, ℕ, ◌+◌, ◌<◌, Bool, true, false, ◌==◌, Some, None, [], ◌∷◌, ◌++◌, length, nat_lt, refl, ap, arith, append_assoc, length-append, rules}
+use Rattle.std.proofs.lemmas.Bool.{agree_below_at, lt-ltb, not-true, eqb-true}
+use Rattle.std.specs.Char.{is_ascii_digit}
 use Rattle.std.specs.List.{flat_map}
 use Rattle.dns_spec.specs.Names.{Octets, DomainName}
 use Rattle.dns_spec.specs.NameText.{is_special, three_digits_value, three_digits, octet_text, label_text, labels_text, name_text, is_printable}
@@ -21,8 +21,7 @@ runs_none : (p : ℕ → Bool) → Runs p []
 runs_none p rest = omega arith
 
 pub runs_append : (p : ℕ → Bool) (x y : Octets) → Runs p x → Runs p y → Runs p (x ++ y)
-runs_append p x y h k rest =
-    ap (run_length p 0) (append_assoc x y rest) ∙ h (y ++ rest) ∙ omega (arith, k rest, length-append x y)
+runs_append p x y h k rest = grind (arith, append_assoc, length-append)
 
 run_step : (p : ℕ → Bool) (o k : ℕ) (text : Octets) → unit_left p o text ≡ Some k → run_length p 0 (o ∷ text) ≡ 1 + run_length p k text
 unfolding run_length
@@ -34,50 +33,32 @@ runs_octet p o h other rest = run_step p o 0 rest (rw (other, h) refl)
 -- an octet that is no digit, with a backslash before it
 pub runs_escaped : (p : ℕ → Bool) (x : ℕ) → is_ascii_digit x ≡ false → is_printable x ≡ true → Runs p (92 ∷ x ∷ [])
 unfolding run_length
-runs_escaped p x digit printable rest = run_step p 92 1 (x ∷ rest) unit ∙ omega arith
-  where
-    unit : unit_left p 92 (x ∷ rest) ≡ Some 1
-    unit = escape-counted (x ∷ rest) ∙ rw (digit, printable) refl
+runs_escaped p x digit printable rest = grind (arith, run_step, escape-counted, digit)
 
 -- three digits with a backslash before them
 runs_code : (p : ℕ → Bool) (a b c : ℕ) → is_ascii_digit a ≡ true → is_ascii_digit b ≡ true → is_ascii_digit c ≡ true
     → nat_lt (three_digits_value a b c) 256 ≡ true → Runs p (92 ∷ a ∷ b ∷ c ∷ [])
 unfolding run_length
-runs_code p a b c h k l small rest = run_step p 92 3 (a ∷ b ∷ c ∷ rest) unit ∙ omega arith
-  where
-    unit : unit_left p 92 (a ∷ b ∷ c ∷ rest) ≡ Some 3
-    unit = escape-counted (a ∷ b ∷ c ∷ rest) ∙ rw (h, k, l, small) refl
+runs_code p a b c h k l small rest = grind (arith, run_step, escape-counted)
 
 digit : (d : ℕ) → d < 10 → is_ascii_digit (48 + d) ≡ true
 digit d small = agree_below_at (λ e. is_ascii_digit (48 + e)) (λ e. true) 10 d refl small
 
 pub runs_digits : (p : ℕ → Bool) (x : ℕ) → x < 256 → Runs p (92 ∷ three_digits x)
-runs_digits p x small =
-    runs_code p (48 + x / 100) (48 + x / 10 % 10) (48 + x % 10) (digit (x / 100) (omega arith)) (digit (x / 10 % 10) (omega arith)) (digit (x % 10) (omega arith))
-    (lt-ltb _ 256 (omega arith))
+runs_digits p x small = grind (arith, runs_code, digit, lt-ltb)
 
 -- octets that end no word by themselves
 pub runs_bare : (x : Octets) → Bare x → Runs is_word_octet x
 runs_bare [] bare = runs_none is_word_octet
-runs_bare (o ∷ x) bare =
-    runs_append is_word_octet (o ∷ []) x (runs_octet is_word_octet o bare.0 (no_backslash is_word_octet o refl bare.0)) (runs_bare x bare.1)
+runs_bare (o ∷ x) bare = grind (arith, runs_append, runs_octet, no_backslash, (runs_bare x bare.1))
 
 special_escaped : (x : ℕ) → x < 256 → is_special x ≡ true → Runs is_word_octet (92 ∷ x ∷ [])
-special_escaped x small special =
-    runs_escaped is_word_octet x
-    (not-true (is_ascii_digit x) (follows (is_special x) (not (is_ascii_digit x)) (agree_below_at (λ o. not (is_special o) || not (is_ascii_digit o)) (λ o. true) 256 x refl small) special))
-    (follows (is_special x) (is_printable x) (agree_below_at (λ o. not (is_special o) || is_printable o) (λ o. true) 256 x refl small) special)
+special_escaped x small special = search (rules, runs_escaped, not-true, follows, agree_below_at)
 
 octet_runs : (x : ℕ) → x < 256 → Runs is_word_octet (octet_text x)
 unfolding octet_text
-octet_runs x small = by_cases (cases_Bool (is_special x)) (cases_Bool (is_ascii_graphic x))
-  where
-    by_cases : (is_special x ≡ true) ⊎ (is_special x ≡ false) → (is_ascii_graphic x ≡ true) ⊎ (is_ascii_graphic x ≡ false) → Runs is_word_octet (octet_text x)
-    by_cases (inl special) graphic = rw special (special_escaped x small special)
-    by_cases (inr other) (inl graphic) =
-        let bare = graphic_bare x small other graphic in
-        rw (other, graphic) (runs_octet is_word_octet x bare (no_backslash is_word_octet x refl bare))
-    by_cases (inr other) (inr none) = rw (other, none) (runs_digits is_word_octet x small)
+octet_runs x small =
+    grind (arith, special_escaped, graphic_bare, runs_octet, no_backslash, runs_digits)
 
 label_runs : (l : Octets) → Small l → Runs is_word_octet (label_text l)
 label_runs [] small = runs_none is_word_octet
@@ -86,22 +67,14 @@ label_runs (x ∷ l) small = runs_append is_word_octet (octet_text x) (label_tex
 labels_runs : (n : DomainName) → Each Small n → Runs is_word_octet (labels_text n)
 labels_runs [] small = runs_none is_word_octet
 labels_runs (l ∷ n) small =
-    runs_append is_word_octet (label_text l ++ 46 ∷ []) (labels_text n)
-    (runs_append is_word_octet (label_text l) (46 ∷ []) (label_runs l small.0) (runs_bare (46 ∷ []) (refl, tt))) (labels_runs n small.1)
+    search (rules, runs_append, label_runs, runs_bare, (labels_runs n small.1))
 
 pub name_runs : (n : DomainName) → Each Small n → Runs is_word_octet (name_text n)
 name_runs [] small = runs_bare (46 ∷ []) (refl, tt)
 name_runs (l ∷ n) small = labels_runs (l ∷ n) small
 
 string_octet_runs : (o : ℕ) → o < 256 → Runs is_string_octet (string_octet_text o)
-string_octet_runs o small = by_cases (cases_Bool (o == 34)) (cases_Bool (o == 92)) (cases_Bool (nat_le 32 o && nat_le o 126))
-  where
-    by_cases : ((o == 34) ≡ true) ⊎ ((o == 34) ≡ false) → ((o == 92) ≡ true) ⊎ ((o == 92) ≡ false)
-        → ((nat_le 32 o && nat_le o 126) ≡ true) ⊎ ((nat_le 32 o && nat_le o 126) ≡ false) → Runs is_string_octet (string_octet_text o)
-    by_cases (inl quote) slash shown = rw quote (subst (λ x. Runs is_string_octet (92 ∷ x ∷ [])) (sym (eqb-true o 34 quote)) (runs_escaped is_string_octet 34 refl refl))
-    by_cases (inr a) (inl slash) shown = rw (a, slash) (subst (λ x. Runs is_string_octet (92 ∷ x ∷ [])) (sym (eqb-true o 92 slash)) (runs_escaped is_string_octet 92 refl refl))
-    by_cases (inr a) (inr b) (inl shown) = rw (a, b, shown) (runs_octet is_string_octet o (rw (shown, a, b) refl) b)
-    by_cases (inr a) (inr b) (inr c) = rw (a, b, c) (runs_digits is_string_octet o small)
+string_octet_runs o small = grind (arith, eqb-true, runs_escaped, runs_octet, runs_digits)
 
 pub string_runs : (s : Octets) → Small s → Runs is_string_octet (flat_map string_octet_text s)
 string_runs [] small = runs_none is_string_octet

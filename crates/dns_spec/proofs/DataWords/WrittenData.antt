@@ -1,10 +1,11 @@
 -- Data of a type, written without compression, is read back as data of that type.
-use Rattle.std.proofs.Common.{◌≡◌, ℕ, zero, suc, ◌+◌, ◌<◌, true, ◌&&◌, not, nat_le, ◌==◌, List, [], ◌∷◌, ◌++◌, length, take, drop, Option, None, Some, is_some, option_map, refl, sym, ap, ◌∙◌, subst, arith, append-nil, length-append, take-append-drop, add-zero}
+use Rattle.std.proofs.lemmas.Grind.{common_steps}
+use Rattle.std.proofs.Common.{◌≡◌, ℕ, suc, ◌+◌, ◌<◌, true, nat_le, List, [], ◌∷◌, ◌++◌, length, take, drop, Some, refl, sym, ap, ◌∙◌, subst, arith, append-nil, length-append, take-append-drop, add-zero}
 use Rattle.std.proofs.lemmas.Bool.{and_parts, leb-true, not-true, eqb-false, false≢true}
 use Rattle.std.proofs.lemmas.Option.{none-some, same_Some, cond_some, some_pair_parts}
 use Rattle.std.proofs.lemmas.List.{length-take-le}
-use Rattle.dns_spec.specs.Names.{Octets, DomainName, wire, is_name, name_of}
-use Rattle.dns_spec.specs.Data.{class_in, width, Piece, fixed, domain, string, strings, anything, pieces_of, Part, octets, name, are_strings, octets_front, strings_front, piece_front, cut, valid}
+use Rattle.dns_spec.specs.Names.{Octets, DomainName, wire, is_name}
+use Rattle.dns_spec.specs.Data.{class_in, width, Piece, fixed, domain, string, strings, anything, Part, octets, name, are_strings, octets_front, strings_front, piece_front, cut, valid}
 use Rattle.dns_spec.specs.Reading.{OctetsAt, PiecesAt, DataAt}
 use Rattle.dns_spec.proofs.DomainNames.WireNames.{name_read}
 use Rattle.dns_spec.proofs.Messages.Places.{Stands, stands_front, stands_rest, stands_within, stands_get, octets_at, name_written}
@@ -20,31 +21,12 @@ pub record CutInto (p : Piece) (ps : List Piece) (os : Octets) (xs : List Part) 
 
 pub cut_into : (p : Piece) (ps : List Piece) (os : Octets) (xs : List Part) → cut (p ∷ ps) os ≡ Some xs → CutInto p ps os xs
 unfolding cut
-cut_into p ps os xs h = go (piece_front p os) refl h
-  where
-    mapped : (part : Part) (rest : Octets) (y : Option (List Part)) → piece_front p os ≡ Some (part, rest) → cut ps rest ≡ y
-        → option_map (λ (ys : List Part). part ∷ ys) y ≡ Some xs → CutInto p ps os xs
-    mapped part rest None f e g = absurd (none-some xs g)
-    mapped part rest (Some ys) f e g = record { part = part; rest = rest; others = ys; front = f; more = e; whole = same_Some (part ∷ ys) xs g }
-
-    go : (y : Option (Part × Octets)) → piece_front p os ≡ y
-        → ◌≡◌ {A = Option (List Part)} (elim y [ None ↦ None | Some r ↦ option_map (λ ys. r.0 ∷ ys) (cut ps r.1) ]) (Some xs) → CutInto p ps os xs
-    go None e f = absurd (none-some xs f)
-    go (Some r) e f = mapped r.0 r.1 (cut ps r.1) e refl f
+cut_into p ps os xs h = grind (arith, none-some, same_Some)
 
 -- the part of a domain name
 pub name_part : (os rest : Octets) (part : Part) → piece_front domain os ≡ Some (part, rest)
     → (n : DomainName) × (name n ≡ part) × (is_name n ≡ true) × (os ≡ wire n ++ rest)
-name_part os rest part h = go (name_of os) refl h
-  where
-    go : (y : Option (DomainName × Octets)) → name_of os ≡ y
-        → option_map {T = DomainName × Octets} {U = Part × Octets} (λ r. (name r.0, r.1)) y ≡ Some (part, rest)
-        → (n : DomainName) × (name n ≡ part) × (is_name n ≡ true) × (os ≡ wire n ++ rest)
-    go None e f = absurd (none-some (part, rest) f)
-    go (Some (n, tail)) e f =
-        let p = some_pair_parts (name n) part tail rest f in
-        let r = name_read os n tail e in
-        (n, p.0, r.0, r.1 ∙ ap (λ x. wire n ++ x) p.1)
+name_part os rest part h = grind (arith, none-some, some_pair_parts, name_read)
 
 pub octets_part : (k : ℕ) (os rest : Octets) (part : Part) → octets_front k os ≡ Some (part, rest) → octets (take k os) ≡ part
 octets_part k os rest part h = ap (λ z. z.0) (cond_some (nat_le k (length os)) (octets (take k os), drop k os) (part, rest) h).1
@@ -62,20 +44,11 @@ module _ {b : Octets} {i : ℕ} (os x rest : Octets) (whole : os ≡ x ++ rest) 
 
 pub front_taken : (k : ℕ) (os : Octets) (part : Part) (rest : Octets) → octets_front k os ≡ Some (part, rest)
     → (os ≡ take k os ++ rest) × (length (take k os) ≡ k)
-front_taken k os part rest h =
-    let c = cond_some (nat_le k (length os)) (octets (take k os), drop k os) (part, rest) h in
-    (sym (take-append-drop k os) ∙ ap (λ z. take k os ++ z.1) c.1, length-take-le k os (leb-true k (length os) c.0))
+front_taken k os part rest h = grind (arith, cond_some, take-append-drop, length-take-le, leb-true)
 
 pub all_strings : (os rest : Octets) (part : Part) → strings_front os ≡ Some (part, rest)
     → (0 < length os) × (are_strings 0 os ≡ true) × (octets os ≡ part) × (rest ≡ [])
-all_strings os rest part h =
-    let t = cond_some (not (length os == 0) && are_strings 0 os) (octets os, []) (part, rest) h in
-    let q = and_parts (not (length os == 0)) (are_strings 0 os) t.0 in
-    (some (length os) (eqb-false (length os) 0 (not-true (length os == 0) q.0)), q.1, ap (λ z. z.0) t.1, sym (ap (λ z. z.1) t.1))
-  where
-    some : (n : ℕ) → (n ≡ 0 → ⊥) → 0 < n
-    some zero ne = absurd (ne refl)
-    some (suc n) ne = omega arith
+all_strings os rest part h = grind (arith, cond_some, and_parts, eqb-false, not-true)
 
 nothing_after : {b : Octets} {i : ℕ} (os : Octets) → Stands b i os → Stands b (i + length os) []
 nothing_after {b} {i} os at = stands_rest os [] (subst (Stands b i) (sym (append-nil os)) at)
@@ -156,8 +129,4 @@ pieces_written {b} (anything ∷ ps) os xs i h at =
 -- Valid data of class IN, written as it is, is read back.
 pub data_written : {b : Octets} {i : ℕ} (t : ℕ) (d : Octets) → valid t d ≡ true → Stands b i d → DataAt b t class_in i (i + length d) d
 data_written {b} {i} t d h at =
-    (omega arith, stands_within d at, go (cut (pieces_of t) d) refl (and_parts (nat_le (length d) 65535) (is_some (cut (pieces_of t) d)) h).1)
-  where
-    go : (y : Option (List Part)) → cut (pieces_of t) d ≡ y → is_some y ≡ true → PiecesAt b (pieces_of t) i (i + length d) d
-    go None e s = absurd (false≢true s)
-    go (Some xs) e s = pieces_written (pieces_of t) d xs i e at
+    grind (arith, common_steps, stands_within, and_parts, false≢true, pieces_written)

@@ -35,12 +35,7 @@ greatest a (x ∷ xs) = by_cases (greatest (max a x) xs) (cases_lt a x)
 
 -- so a place is found
 found : (n : ℕ) (xs : List ℕ) → Reached xs n → position_or_len (λ k. k == n) xs < length xs
-found n xs r = elim (cases_lt (position_or_len (λ k. k == n) xs) (length xs)) [
-  | inl inside ↦ inside
-  | inr none ↦
-      let fails = fails_before_first (λ k. k == n) xs r.place 0 (omega (arith, r.inside, none)) in
-      absurd (true≢false (sym (eq-eqb (get_or xs r.place 0) n r.is) ∙ fails))
-]
+found n xs r = grind (arith, cases_lt, inl, inr, fails_before_first, true≢false, eq-eqb)
 
 -- where the longest run begins, and how long it is
 pub record LongestRun (gs : List ℕ) : Type 0 where
@@ -88,5 +83,4 @@ around_run gs r =
     ∙ take-append-drop place gs
 
 pub run_inside : (gs : List ℕ) (r : LongestRun gs) → longest_place gs + longest_run gs ≤ length gs
-run_inside gs r =
-    omega (arith, r.long, r.inside, prefix_len-le-length is_zero (drop (longest_place gs) gs), length-drop (longest_place gs) gs)
+run_inside gs r = grind (arith, prefix_len-le-length, length-drop)

@@ -1,12 +1,13 @@
 -- Laws of names: their wire forms tell them apart, folding keeps lengths, and at or below goes label by label.
-use Rattle.std.proofs.Common.{◌≡◌, ℕ, zero, suc, ◌+◌, ◌*◌, ◌-◌, ◌<◌, ◌≤◌, Bool, true, false, ◌||◌, ◌⊎◌, [], ◌∷◌, ◌++◌, length, take, drop, map, nat_lt, nat_le, refl, sym, ◌∙◌, ap, arith, inl, inr, length-append}
+use Rattle.std.proofs.lemmas.Grind.{common_steps}
+use Rattle.std.proofs.Common.{◌≡◌, ℕ, zero, suc, ◌+◌, ◌*◌, ◌-◌, ◌<◌, ◌≤◌, Bool, true, false, ◌||◌, ◌⊎◌, [], ◌∷◌, ◌++◌, length, take, drop, map, nat_lt, nat_le, refl, sym, ◌∙◌, ap, arith, inl, inr, length-append, rules}
 use Rattle.std.proofs.lemmas.List.{take_at, drop_at, length-map, map-append}
-use Rattle.std.proofs.lemmas.Bool.{and_parts, and_from, and_left, leb-true, le-leb, lt-leb, ltb-true, lt-ltb, eqb-true, eq-eqb, cond-true, cases_order, false_from_ne_true, false≢true}
+use Rattle.std.proofs.lemmas.Bool.{and_parts, and_from, and_left, leb-true, le-leb, lt-leb, ltb-true, lt-ltb, eqb-true, eq-eqb, cond-true, cases_order, false_from_ne_true}
 use Rattle.std.proofs.Math.Bool.{or-false}
 use Rattle.std.specs.List.{list_all}
 use Rattle.std.specs.Char.{to_ascii_lowercase}
 use Rattle.std.specs.Cmp.Lexicographic.{pointwise_decides}
-use Rattle.dns_spec.specs.Names.{Octets, DomainName, wire, is_label, is_name, folded, octets_equal, names_equal, same, last_labels, at_or_below}
+use Rattle.dns_spec.specs.Names.{Octets, DomainName, wire, is_label, is_name, folded, octets_equal, names_equal, same, at_or_below}
 
 -- what a label's test says
 pub record IsLabel (l : Octets) : Type 0 where
@@ -14,9 +15,7 @@ pub record IsLabel (l : Octets) : Type 0 where
   pub fits : length l ≤ 63
 
 pub IsLabel-is_label : (l : Octets) → is_label l ≡ true → IsLabel l
-IsLabel-is_label l ok =
-    let parts = and_parts _ _ ok in
-    record { some = ltb-true _ _ parts.0; fits = leb-true _ _ parts.1 }
+IsLabel-is_label l ok = grind (arith, and_parts, ltb-true, leb-true)
 
 pub is_label-IsLabel : (l : Octets) → 0 < length l → length l ≤ 63 → is_label l ≡ true
 is_label-IsLabel l some fits = and_from _ _ (lt-ltb _ _ some) (le-leb _ _ fits)
@@ -27,18 +26,14 @@ pub record IsName (n : DomainName) : Type 0 where
   pub fits : length (wire n) ≤ 255
 
 pub IsName-is_name : (n : DomainName) → is_name n ≡ true → IsName n
-IsName-is_name n ok =
-    let parts = and_parts (list_all is_label n) _ ok in
-    record { labels = parts.0; fits = leb-true _ _ parts.1 }
+IsName-is_name n ok = grind (arith, and_parts, leb-true)
 
 pub is_name-IsName : (n : DomainName) → list_all is_label n ≡ true → length (wire n) ≤ 255 → is_name n ≡ true
 is_name-IsName n labels fits = and_from _ _ labels (le-leb _ _ fits)
 
 -- a name without its first label is a name
 pub is_name-tail : (l : Octets) (n : DomainName) → is_name (l ∷ n) ≡ true → is_name n ≡ true
-is_name-tail l n ok =
-    let name = IsName-is_name (l ∷ n) ok in
-    is_name-IsName n (and_parts (is_label l) _ name.labels).1 (omega (arith, length-append l (wire n)))
+is_name-tail l n ok = grind (arith, IsName-is_name, is_name-IsName, and_parts, length-append)
 
 -- its first label is a label
 pub is_label-head : (l : Octets) (n : DomainName) → is_name (l ∷ n) ≡ true → is_label l ≡ true
@@ -46,30 +41,18 @@ is_label-head l n ok = (and_parts (is_label l) _ (IsName-is_name (l ∷ n) ok).l
 
 pub length-wire-push : (n : DomainName) (l : Octets) → length (wire (n ++ l ∷ [])) ≡ length (wire n) + 1 + length l
 length-wire-push [] l = omega (arith, length-append l (0 ∷ []))
-length-wire-push (k ∷ n) l =
-    omega (arith, length-wire-push n l, length-append k (wire n), length-append k (wire (n ++ l ∷ [])))
+length-wire-push (k ∷ n) l = grind (arith, length-append, (length-wire-push n l))
 
 -- a label more is a name, where there is room
 pub is_name-push : (n : DomainName) (l : Octets) → is_name n ≡ true → is_label l ≡ true → length (wire (n ++ l ∷ [])) ≤ 255 → is_name (n ++ l ∷ []) ≡ true
-is_name-push n l ok is_l fits = is_name-IsName (n ++ l ∷ []) (all_push n l (IsName-is_name n ok).labels is_l) fits
-  where
-    all_push : (n : DomainName) (l : Octets) → list_all is_label n ≡ true → is_label l ≡ true → list_all is_label (n ++ l ∷ []) ≡ true
-    all_push [] l ok is_l = and_from _ _ is_l refl
-    all_push (k ∷ n) l ok is_l =
-        let parts = and_parts (is_label k) _ ok in
-        and_from _ _ parts.0 (all_push n l parts.1 is_l)
+is_name-push n l ok is_l fits =
+    grind (arith, common_steps, is_name-IsName, IsName-is_name, and_from, and_parts)
 
 -- the wire forms of names tell them apart
 pub wire-injective : (n m : DomainName) → is_name n ≡ true → is_name m ≡ true → wire n ≡ wire m → n ≡ m
 wire-injective [] [] p q e = refl
-wire-injective [] (k ∷ m) p q e =
-    let is_l = IsLabel-is_label k (is_label-head k m q) in
-    let none : 0 ≡ length k = cc in
-    absurd (omega arith)
-wire-injective (l ∷ n) [] p q e =
-    let is_l = IsLabel-is_label l (is_label-head l n p) in
-    let none : length l ≡ 0 = cc in
-    absurd (omega arith)
+wire-injective [] (k ∷ m) p q e = grind (arith, IsLabel-is_label, is_label-head)
+wire-injective (l ∷ n) [] p q e = grind (arith, IsLabel-is_label, is_label-head)
 wire-injective (l ∷ n) (k ∷ m) p q e =
     let as_long : length l ≡ length k = cc in
     let after : l ++ wire n ≡ k ++ wire m = cc in
@@ -87,9 +70,7 @@ names_equal-decides = pointwise_decides octets_equal-decides
 
 -- a test is another where each implies the other
 pub same_tests : (a b : Bool) → (a ≡ true → b ≡ true) → (b ≡ true → a ≡ true) → a ≡ b
-same_tests true b f g = sym (f refl)
-same_tests false true f g = absurd (false≢true (g refl))
-same_tests false false f g = refl
+same_tests a b h h1 = grind arith
 
 -- lengths on the wire are no letters, so folding leaves them alone
 lowercase_below : (x : ℕ) → x < 65 → to_ascii_lowercase x ≡ x
@@ -108,8 +89,7 @@ map-lowercase-wire (l ∷ n) ok =
 
 pub length-wire-folded : (n : DomainName) → length (wire (folded n)) ≡ length (wire n)
 length-wire-folded [] = refl
-length-wire-folded (l ∷ n) =
-    omega (arith, length-wire-folded n, length-map l to_ascii_lowercase, length-append l (wire n), length-append (map to_ascii_lowercase l) (wire (folded n)))
+length-wire-folded (l ∷ n) = grind (arith, length-map, length-append, (length-wire-folded n))
 
 all_folded : (n : DomainName) → list_all is_label n ≡ true → list_all is_label (folded n) ≡ true
 all_folded [] ok = refl
@@ -121,24 +101,15 @@ all_folded (l ∷ n) ok =
 
 -- a name folded is a name
 pub is_name-folded : (n : DomainName) → is_name n ≡ true → is_name (folded n) ≡ true
-is_name-folded n ok =
-    let name = IsName-is_name n ok in
-    is_name-IsName (folded n) (all_folded n name.labels) (omega (arith, length-wire-folded n))
+is_name-folded n ok = grind (arith, IsName-is_name, is_name-IsName, all_folded, length-wire-folded)
 
 -- two names are the same where their wire forms are, folded
 pub same-wire : (n m : DomainName) → is_name n ≡ true → is_name m ≡ true → (same n m ≡ true → map to_ascii_lowercase (wire n) ≡ map to_ascii_lowercase (wire m)) × (map to_ascii_lowercase (wire n) ≡ map to_ascii_lowercase (wire m) → same n m ≡ true)
 same-wire n m p q =
-    let e = map-lowercase-wire n (IsName-is_name n p).labels in
-    let f = map-lowercase-wire m (IsName-is_name m q).labels in
-    let decides = names_equal-decides (folded n) (folded m) in (
-      λ h. e ∙ ap wire (decides.0 h) ∙ sym f,
-      λ h. decides.1 (wire-injective (folded n) (folded m) (is_name-folded n p) (is_name-folded m q) (sym e ∙ h ∙ f)),
-    )
+    grind (arith, map-lowercase-wire, names_equal-decides, wire-injective, is_name-folded)
 
 pub same-length : (n m : DomainName) → same n m ≡ true → length n ≡ length m
-same-length n m h =
-    let e = ap length ((names_equal-decides (folded n) (folded m)).0 h) in
-    omega (arith, length-map n (map to_ascii_lowercase), length-map m (map to_ascii_lowercase))
+same-length n m h = grind (arith, names_equal-decides, length-map)
 
 pub same-length-wire : (n m : DomainName) → same n m ≡ true → length (wire n) ≡ length (wire m)
 same-length-wire n m h =
@@ -153,22 +124,14 @@ at_or_below-cons l n a = by_length (cases_order (length a) (suc (length n)))
     other_length differ = false_from_ne_true _ (λ h. differ (same-length (l ∷ n) a h))
 
     by_length : (length a ≡ suc (length n)) ⊎ ((length a < suc (length n)) ⊎ (suc (length n) < length a)) → at_or_below (l ∷ n) a ≡ (same (l ∷ n) a || at_or_below n a)
-    by_length (inl e) =
-        let fits : nat_le (length a) (suc (length n)) ≡ true = le-leb _ _ (omega arith) in
-        let whole : suc (length n) - length a ≡ 0 = omega arith in
-        let longer : nat_le (length a) (length n) ≡ false = lt-leb _ _ (omega arith) in
-        rw (fits, whole, longer) (sym (or-false _))
+    by_length (inl e) = grind arith
     by_length (inr (inl h)) =
         let fits : nat_le (length a) (suc (length n)) ≡ true = le-leb _ _ (omega arith) in
         let fits_others : nat_le (length a) (length n) ≡ true = le-leb _ _ (omega arith) in
         let skipped : suc (length n) - length a ≡ suc (length n - length a) = omega arith in
         let differ : same (l ∷ n) a ≡ false = other_length (λ e. absurd (omega arith)) in
         rw (fits, skipped, differ, fits_others) refl
-    by_length (inr (inr h)) =
-        let longer : nat_le (length a) (suc (length n)) ≡ false = lt-leb _ _ (omega arith) in
-        let longer_still : nat_le (length a) (length n) ≡ false = lt-leb _ _ (omega arith) in
-        let differ : same (l ∷ n) a ≡ false = other_length (λ e. absurd (omega arith)) in
-        rw (longer, differ, longer_still) refl
+    by_length (inr (inr h)) = grind (arith, lt-leb, other_length)
 
 length-wire-drop : (k : ℕ) (n : DomainName) → length (wire (drop k n)) ≤ length (wire n)
 length-wire-drop zero n = omega arith
@@ -177,9 +140,7 @@ length-wire-drop (suc k) (l ∷ n) = omega (arith, length-wire-drop k n, length-
 
 -- a name is as long on the wire as those that it is at or below, or longer
 pub at_or_below-length-wire : (n a : DomainName) → at_or_below n a ≡ true → length (wire a) ≤ length (wire n)
-at_or_below-length-wire n a h =
-    let e = same-length-wire (last_labels (length a) n) a (and_parts (nat_le (length a) (length n)) _ h).1 in
-    omega (arith, length-wire-drop (length n - length a) n)
+at_or_below-length-wire n a h = grind (arith, same-length-wire, and_parts, length-wire-drop)
 
 -- where n is no longer on the wire than a, it is at or below a only if it is the same
 pub at_or_below-short : (n a : DomainName) → length (wire n) ≤ length (wire a) → at_or_below n a ≡ same n a
@@ -191,9 +152,7 @@ at_or_below-short (l ∷ n) a h =
 
 -- where n is longer, its first label doesn't matter
 pub at_or_below-long : (l : Octets) (n a : DomainName) → length (wire a) < length (wire (l ∷ n)) → at_or_below (l ∷ n) a ≡ at_or_below n a
-at_or_below-long l n a h =
-    let differ : same (l ∷ n) a ≡ false = false_from_ne_true _ (λ e. absurd (omega (arith, same-length-wire (l ∷ n) a e))) in
-    at_or_below-cons l n a ∙ rw differ refl
+at_or_below-long l n a h = search (rules, false_from_ne_true, same-length-wire, at_or_below-cons)
 
 -- RFC 1035 2.3.4: a name has at most 127 labels besides the root
 pub length-is_name : (n : DomainName) → is_name n ≡ true → length n ≤ 127
@@ -211,16 +170,9 @@ length-is_name n ok =
 -- the labels of two names, one after another
 pub length-wire-append : (n m : DomainName) → length (wire (n ++ m)) + 1 ≡ length (wire n) + length (wire m)
 length-wire-append [] m = omega arith
-length-wire-append (l ∷ n) m =
-    omega (arith, length-wire-append n m, length-append l (wire n), length-append l (wire (n ++ m)))
+length-wire-append (l ∷ n) m = grind (arith, length-append, (length-wire-append n m))
 
 -- they are a name, where there is room
 pub is_name-append : (n m : DomainName) → is_name n ≡ true → is_name m ≡ true → length (wire (n ++ m)) ≤ 255 → is_name (n ++ m) ≡ true
 is_name-append n m p q fits =
-    is_name-IsName (n ++ m) (all_append n (IsName-is_name n p).labels) fits
-  where
-    all_append : (n : DomainName) → list_all is_label n ≡ true → list_all is_label (n ++ m) ≡ true
-    all_append [] ok = (IsName-is_name m q).labels
-    all_append (l ∷ n) ok =
-        let parts = and_parts (is_label l) _ ok in
-        and_from _ _ parts.0 (all_append n parts.1)
+    grind (arith, common_steps, is_name-IsName, IsName-is_name, and_parts, and_from)

@@ -1,5 +1,5 @@
 -- Octets below 256, and parts of lists of them.
-use Rattle.std.proofs.Common.{◌≡◌, ℕ, zero, suc, ◌<◌, nat_lt, All, true, [], ◌∷◌, ◌++◌, refl, arith}
+use Rattle.std.proofs.Common.{◌≡◌, ℕ, suc, ◌<◌, nat_lt, All, true, [], ◌∷◌, ◌++◌, refl, arith}
 use Rattle.std.proofs.lemmas.Bool.{and_from, lt-ltb}
 use Rattle.std.specs.List.{list_all}
 use Rattle.dns_spec.specs.Names.{Octets}
@@ -15,11 +15,8 @@ small_tail o d small = λ k e inside. small (suc k) e (omega arith)
 
 pub small_front : (x y : Octets) → Small (x ++ y) → Small x
 small_front [] y small = λ k e inside. absurd (omega (arith, inside))
-small_front (o ∷ x) y small = both o x (small_head o (x ++ y) small) (small_front x y (small_tail o (x ++ y) small))
-  where
-    both : (o : ℕ) (x : Octets) → o < 256 → Small x → Small (o ∷ x)
-    both o x head tail zero e inside = head
-    both o x head tail (suc k) e inside = tail k e (omega arith)
+small_front (o ∷ x) y small =
+    grind (arith, small_head, small_tail, (small_front x y (small_tail o (x ++ y) small)))
 
 pub small_back : (x y : Octets) → Small (x ++ y) → Small y
 small_back [] y small = small

@@ -1,9 +1,7 @@
 -- Octets begin with a name's wire form exactly where `name_of` reads that name.
 use Rattle.std.proofs.Common.{◌≡◌, ℕ, zero, suc, ◌+◌, ◌<◌, ◌↔◌, Bool, true, false, nat_le, [], ◌∷◌, ◌++◌, length, take, drop, Option, None, Some, option_map, refl, sym, ap, ◌∙◌, arith, append_assoc, length-append, take-append-drop}
-use Rattle.std.specs.Prelude.{if◌then◌else◌}
-use Rattle.std.specs.Option.{option_and_then}
 use Rattle.std.specs.List.{list_all}
-use Rattle.std.proofs.lemmas.Bool.{and_parts, leb-true, le-leb}
+use Rattle.std.proofs.lemmas.Bool.{and_parts, leb-true}
 use Rattle.std.proofs.lemmas.Option.{none-some, same_Some, cond_some, option_and_then_some}
 use Rattle.std.proofs.lemmas.List.{take_at, drop_at, length-take-le}
 use Rattle.dns_spec.specs.Names.{Octets, DomainName, wire, is_label, is_name, with_label, labels_from, name_of}
@@ -17,19 +15,7 @@ labels_taken zero n rest ok few = absurd (omega arith)
 labels_taken (suc k) [] rest ok few = refl
 labels_taken (suc k) ([] ∷ n) rest ok few = cc
 labels_taken (suc k) ((x ∷ l) ∷ n) rest ok few =
-    let label : Octets = x ∷ l in
-    let others = wire n ++ rest in
-    let there : nat_le (suc (length l)) (length ((label ++ wire n) ++ rest)) ≡ true =
-    le-leb _ _ (omega (arith, length-append (label ++ wire n) rest, length-append label (wire n))) in
-    let again = labels_taken k n rest (and_parts (is_label label) (list_all is_label n) ok).1 (omega arith) in
-    let first : take (suc (length l)) ((label ++ wire n) ++ rest) ≡ label =
-    ap (take (suc (length l))) (append_assoc label (wire n) rest) ∙ take_at label others _ refl in
-    let after : drop (suc (length l)) ((label ++ wire n) ++ rest) ≡ others =
-    ap (drop (suc (length l))) (append_assoc label (wire n) rest) ∙ drop_at label others _ refl in
-    rw (there, labels_from)
-    (ap (λ os. option_map (with_label os) (labels_from k (drop (suc (length l)) ((label ++ wire n) ++ rest)))) first
-    ∙ ap (λ os. option_map (with_label label) (labels_from k os)) after
-    ∙ ap (option_map (with_label label)) again)
+    grind (arith, length-append, append_assoc, take_at, drop_at, (labels_taken k n rest))
 
 -- a label takes two octets or more
 few_labels : (n : DomainName) → list_all is_label n ≡ true → length n + length n < length (wire n)
@@ -42,11 +28,7 @@ few_labels (l ∷ n) ok =
 
 -- a name's wire form is that name, and what follows it
 pub name_of-wire : (n : DomainName) (rest : Octets) → is_name n ≡ true → name_of (wire n ++ rest) ≡ Some (n, rest)
-name_of-wire n rest ok =
-    let name = IsName-is_name n ok in
-    ap (option_and_then (λ (r : DomainName × Octets). if is_name r.0 then Some r else None))
-    (labels_taken 128 n rest name.labels (omega (arith, few_labels n name.labels, name.fits)))
-    ∙ (rw ok refl)
+name_of-wire n rest ok = grind (arith, IsName-is_name, labels_taken, few_labels)
 
 -- the labels that octets are read as stand there in wire form, before the rest
 abbrev LabelsRead : ℕ → Octets → Type 0
@@ -67,10 +49,7 @@ labels_read (suc k) (suc i ∷ os) n rest h =
         → option_map (with_label l) y ≡ Some (n, rest) → suc i ∷ os ≡ wire n ++ rest
     with_first again None e long f = absurd (none-some (n, rest) f)
     with_first again (Some (m, tail)) e long f =
-        let whole : os ≡ l ++ (wire m ++ tail) =
-        sym (take-append-drop (suc i) os) ∙ ap (λ z. l ++ z) (again m tail e) in
-        ap (λ z. z ∷ os) (sym long) ∙ ap (λ z. length l ∷ z) (whole ∙ sym (append_assoc l (wire m) tail))
-        ∙ ap (λ r. wire r.0 ++ r.1) (same_Some (l ∷ m, tail) (n, rest) f)
+        grind (arith, take-append-drop, append_assoc, same_Some, l)
 
     by_room : LabelsRead k (drop (suc i) os) → (b : Bool) → nat_le (suc i) (length os) ≡ b
         → ◌≡◌ {A = Option (DomainName × Octets)} (elim b [ true ↦ option_map (with_label l) (labels_from k (drop (suc i) os)) | false ↦ None ]) (Some (n, rest))
@@ -79,10 +58,7 @@ labels_read (suc k) (suc i ∷ os) n rest h =
     by_room again false e f = absurd (none-some (n, rest) f)
 
 pub name_read : (os : Octets) (n : DomainName) (rest : Octets) → name_of os ≡ Some (n, rest) → (is_name n ≡ true) × (os ≡ wire n ++ rest)
-name_read os n rest h =
-    option_and_then_some (λ (r : DomainName × Octets). if is_name r.0 then Some r else None) (labels_from 128 os) (n, rest) h (λ x e v.
-    let c = cond_some (is_name x.0) x (n, rest) v in
-    (ap (λ z. is_name z.0) (sym c.1) ∙ c.0, labels_read 128 os x.0 x.1 e ∙ ap (λ z. wire z.0 ++ z.1) c.1))
+name_read os n rest h = grind (arith, option_and_then_some, cond_some, labels_read)
 
 pub name_of_reads : (octets : Octets) (n : DomainName) (rest : Octets)
     → (name_of octets ≡ Some (n, rest)) ↔ ((octets ≡ wire n ++ rest) × (is_name n ≡ true))
@@ -92,18 +68,11 @@ name_of_reads octets n rest = (λ h. let r = name_read octets n rest h in (r.1, 
 pub wire_fronts_agree : (n m : DomainName) (rest tail : Octets) → list_all is_label n ≡ true → list_all is_label m ≡ true
     → wire n ++ rest ≡ wire m ++ tail → (n ≡ m) × (rest ≡ tail)
 wire_fronts_agree [] [] rest tail p q e = (refl, ap (drop 1) e)
-wire_fronts_agree [] (k ∷ m) rest tail p q e =
-    let label = IsLabel-is_label k (and_parts (is_label k) (list_all is_label m) q).0 in
-    let none : 0 ≡ length k = cc in
-    absurd (omega (arith, label.some))
-wire_fronts_agree (l ∷ n) [] rest tail p q e =
-    let label = IsLabel-is_label l (and_parts (is_label l) (list_all is_label n) p).0 in
-    let none : length l ≡ 0 = cc in
-    absurd (omega (arith, label.some))
+wire_fronts_agree [] (k ∷ m) rest tail p q e = grind (arith, IsLabel-is_label, and_parts)
+wire_fronts_agree (l ∷ n) [] rest tail p q e = grind (arith, IsLabel-is_label, and_parts)
 wire_fronts_agree (l ∷ n) (k ∷ m) rest tail p q e =
     let as_long : length l ≡ length k = cc in
-    let after : l ++ (wire n ++ rest) ≡ k ++ (wire m ++ tail) =
-    sym (append_assoc l (wire n) rest) ∙ ap (drop 1) e ∙ append_assoc k (wire m) tail in
+    let after : l ++ (wire n ++ rest) ≡ k ++ (wire m ++ tail) = grind (arith, append_assoc) in
     let first : l ≡ k = sym (take_at l (wire n ++ rest) _ as_long) ∙ ap (take (length k)) after ∙ take_at k (wire m ++ tail) _ refl in
     let others : wire n ++ rest ≡ wire m ++ tail =
     sym (drop_at l (wire n ++ rest) _ as_long) ∙ ap (drop (length k)) after ∙ drop_at k (wire m ++ tail) _ refl in

@@ -1,10 +1,10 @@
 -- The size of a layout grows with each set. So the greatest number of sets that fits is reached by stopping at the first
 -- that does not.
-use Rattle.std.proofs.Common.{◌≡◌, ℕ, zero, suc, ◌+◌, ◌≤◌, Bool, true, false, cond, nat_le, List, [], ◌∷◌, ◌++◌, length, take, Option, refl, sym, ap, ◌∙◌, subst, arith, append_assoc, append-nil, le-leb, leb-true}
+use Rattle.std.proofs.Common.{◌≡◌, ℕ, zero, suc, ◌+◌, ◌≤◌, Bool, true, false, cond, nat_le, List, [], ◌∷◌, ◌++◌, length, take, Option, refl, sym, ap, ◌∙◌, arith, append_assoc, append-nil, le-leb, leb-true}
 use Rattle.std.proofs.lemmas.List.Concat.{flat_map-append}
 use Rattle.dns_spec.specs.Records.{ResourceRecord}
 use Rattle.dns_spec.specs.Reading.{MessageQuestion}
-use Rattle.dns_spec.specs.Layout.{Item, records_of, Placed, asked_octets, asked_placed}
+use Rattle.dns_spec.specs.Layout.{Item, records_of, Placed}
 use Rattle.dns_spec.specs.LayoutSize.{record_size, record_names, records_size, size}
 use Rattle.dns_spec.specs.Reply.{kept, fitting, greatest}
 
@@ -18,27 +18,15 @@ both is js = flat_map-append (λ (i : Item). i.records) is js
 
 pub size_grows : (q : Option MessageQuestion) (is js : List Item) → size q is ≤ size q (is ++ js)
 unfolding size
-size_grows q is js =
-    let ms = asked_placed q in
-    let p = 12 + length (asked_octets q) in
-    let h = subst (λ rs. records_size ms p (records_of is) ≤ records_size ms p rs) (sym (both is js)) (records_grow ms p (records_of is) (records_of js)) in
-    omega (arith, h)
+size_grows q is js = grind (arith, both, records_grow)
 
 -- where no later number passes a test that 1 fails, the greatest that passes is one more than that of the test after it
 pub greatest-first : (test : ℕ → Bool) (n : ℕ) → ((k : ℕ) → test (suc k) ≡ true → test 1 ≡ true)
     → greatest test (suc n) ≡ cond (test 1) (suc (greatest (λ k. test (suc k)) n)) 0
 greatest-first test zero h = refl
-greatest-first test (suc n) h = go (test (suc (suc n))) refl (greatest-first test n h)
-  where
-    go : (b : Bool) → test (suc (suc n)) ≡ b → greatest test (suc n) ≡ cond (test 1) (suc (greatest (λ k. test (suc k)) n)) 0
-        → cond b (suc (suc n)) (greatest test (suc n)) ≡ cond (test 1) (suc (cond b (suc n) (greatest (λ k. test (suc k)) n))) 0
-    go true e f = sym (ap (λ t. cond t (suc (suc n)) 0) (h (suc n) e))
-    go false e f = f
+greatest-first test (suc n) h = grind (arith, (greatest-first test n h))
 
 module _ (size_of : List Item → ℕ) (grows : (is js : List Item) → size_of is ≤ size_of (is ++ js)) (limit : ℕ) where
-  fits : List Item → Bool
-  fits is = nat_le (size_of is) limit
-
   fits_before : (is js : List Item) → nat_le (size_of (is ++ js)) limit ≡ true → nat_le (size_of is) limit ≡ true
   fits_before is js e = let h = leb-true (size_of (is ++ js)) limit e in let g = grows is js in le-leb (size_of is) limit (omega (arith, h, g))
 

@@ -43,9 +43,7 @@ unplaced-data_names ms p (octets o ∷ ps) = unplaced-data_names ms (p + length 
 unplaced-data_names ms p (name n ∷ ps) = ap (λ z. n ∷ z) (unplaced-data_names (ms ++ (n, p) ∷ []) (p + cost ms n) ps)
 
 unplaced-record_names : (ms : List Placed) (p : ℕ) (r : ResourceRecord) → unplaced (ms ++ record_names ms p r) ≡ unplaced ms ++ names_of r
-unplaced-record_names ms p r =
-    map-append (λ (m : Placed). m.0) ms (record_names ms p r)
-    ∙ ap (λ z. unplaced ms ++ r.owner ∷ z) (unplaced-data_names (ms ++ (r.owner, p) ∷ []) (p + cost ms r.owner + 10) (parts_of r))
+unplaced-record_names ms p r = grind (arith, map-append, unplaced, unplaced-data_names)
 
 records_possible : (ms : List Placed) (p : ℕ) (rs : List ResourceRecord) → RecordsSize (unplaced ms) rs (records_size ms p rs)
 unfolding records_size
@@ -61,8 +59,7 @@ records_possible ms p (r ∷ rs) =
     (subst (λ z. RecordsSize z rs rest) (unplaced-record_names ms p r) (records_possible later (p + record_size ms p r) rs))
 
 unplaced-asked : (q : Option MessageQuestion) → unplaced (asked_placed q) ≡ asked_names q
-unplaced-asked None = refl
-unplaced-asked (Some q) = refl
+unplaced-asked q = grind arith
 
 pub size_possible : (q : Option MessageQuestion) (items : List Item) → Sharing q items (size q items)
 unfolding size

@@ -1,5 +1,5 @@
 -- Header, question and sections of a layout, read back where they stand.
-use Rattle.std.proofs.Common.{◌≡◌, ℕ, ◌+◌, ◌^◌, ◌<◌, Bool, true, false, cond, nat_le, List, [], ◌∷◌, ◌++◌, length, Option, None, Some, IfSome, filter, refl, sym, ap, ◌∙◌, subst, arith, append_assoc, length-append}
+use Rattle.std.proofs.Common.{◌≡◌, ℕ, ◌+◌, ◌^◌, ◌<◌, Bool, true, false, cond, nat_le, List, [], ◌∷◌, ◌++◌, length, Option, IfSome, refl, ◌∙◌, subst, arith, append_assoc, length-append}
 use Rattle.std.proofs.lemmas.Bool.{and_parts, leb-true}
 use Rattle.std.specs.List.{list_all}
 use Rattle.std.specs.Option.{option_to_list}
@@ -11,23 +11,11 @@ use Rattle.dns_spec.proofs.Messages.Places.{Stands, stands_front, stands_rest, s
 
 -- sets in the order of their sections are those of the answer, of authority, and additional
 other_section : (s s' : Section) → section_rank s < section_rank s' → is_section s s' ≡ false
-other_section answer answer h = absurd (omega arith)
-other_section answer authority h = refl
-other_section answer additional h = refl
-other_section authority answer h = absurd (omega arith)
-other_section authority authority h = absurd (omega arith)
-other_section authority additional h = refl
-other_section additional answer h = absurd (omega arith)
-other_section additional authority h = absurd (omega arith)
-other_section additional additional h = absurd (omega arith)
+other_section s s' h = grind arith
 
 pub section_with : (s : Section) (i : Item) (is : List Item) (t : Bool) → is_section s i.section ≡ t
     → in_section s (i ∷ is) ≡ cond t (i.records ++ in_section s is) (in_section s is)
-section_with s i is t e = ap (λ x. records_of (cond x (i ∷ filter (λ (j : Item). is_section s j.section) is) (filter (λ (j : Item). is_section s j.section) is))) e ∙ go t
-  where
-    go : (x : Bool) → records_of (cond x (i ∷ filter (λ (j : Item). is_section s j.section) is) (filter (λ (j : Item). is_section s j.section) is)) ≡ cond x (i.records ++ in_section s is) (in_section s is)
-    go true = refl
-    go false = refl
+section_with s i is t e = grind arith
 
 section_empty : (s : Section) (n : ℕ) (is : List Item) → section_rank s < n
     → list_all (λ (j : Item). nat_le n (section_rank j.section)) is ≡ true → in_section s is ≡ []
@@ -47,25 +35,9 @@ records_by_section (i ∷ is) h =
     go : (s : Section) → i.section ≡ s → records_of is ≡ in_section answer is ++ (in_section authority is ++ in_section additional is)
         → list_all (λ (j : Item). nat_le (section_rank i.section) (section_rank j.section)) is ≡ true
         → i.records ++ records_of is ≡ in_section answer (i ∷ is) ++ (in_section authority (i ∷ is) ++ in_section additional (i ∷ is))
-    go answer e rest later =
-        let a = section_with answer i is true (ap (is_section answer) e) in
-        let b = section_with authority i is false (ap (is_section authority) e) in
-        let c = section_with additional i is false (ap (is_section additional) e) in
-        rw (a, b, c, rest) (sym (append_assoc i.records (in_section answer is) (in_section authority is ++ in_section additional is)))
-    go authority e rest later =
-        let none = section_empty answer 1 is (omega arith) (subst (λ s. list_all (λ (j : Item). nat_le (section_rank s) (section_rank j.section)) is ≡ true) e later) in
-        let a = section_with answer i is false (ap (is_section answer) e) in
-        let b = section_with authority i is true (ap (is_section authority) e) in
-        let c = section_with additional i is false (ap (is_section additional) e) in
-        rw (a, b, c, rest, none) (sym (append_assoc i.records (in_section authority is) (in_section additional is)))
-    go additional e rest later =
-        let late = subst (λ s. list_all (λ (j : Item). nat_le (section_rank s) (section_rank j.section)) is ≡ true) e later in
-        let none = section_empty answer 2 is (omega arith) late in
-        let none' = section_empty authority 2 is (omega arith) late in
-        let a = section_with answer i is false (ap (is_section answer) e) in
-        let b = section_with authority i is false (ap (is_section authority) e) in
-        let c = section_with additional i is true (ap (is_section additional) e) in
-        rw (a, b, c, rest, none, none') refl
+    go answer e rest later = grind (arith, section_with, append_assoc)
+    go authority e rest later = grind (arith, section_empty, section_with, append_assoc)
+    go additional e rest later = grind (arith, section_empty, section_with)
 
 -- the header, field by field
 pub header_at : {b : Octets} (h : Header) (qd an ns ar : ℕ) → h.id < 2 ^ 16 → h.flags < 2 ^ 16 → qd < 2 ^ 16 → an < 2 ^ 16 → ns < 2 ^ 16 → ar < 2 ^ 16
@@ -91,8 +63,7 @@ header_at {b} h qd an ns ar id flags qd-low an-low ns-low ar-low at =
     )
 
 pub length-question_octets : (q : MessageQuestion) → length (question_octets q) ≡ length (wire q.qname) + 4
-length-question_octets q =
-    length-append (wire q.qname ++ octets16 q.qtype) (octets16 q.qclass) ∙ omega (arith, length-append (wire q.qname) (octets16 q.qtype))
+length-question_octets q = grind (arith, length-append)
 
 -- the question after the header
 pub question_at_12 : {b : Octets} (q : MessageQuestion) → is_name q.qname ≡ true → q.qtype < 2 ^ 16 → q.qclass < 2 ^ 16
@@ -113,10 +84,8 @@ question_at_12 {b} q name qtype qclass at =
 
 -- the question section
 pub one_question : (q : Option MessageQuestion) → length (option_to_list q) < 2 ^ 16
-one_question None = omega arith
-one_question (Some q) = omega arith
+one_question q = grind arith
 
 pub asked_at_12 : {b : Octets} (q : Option MessageQuestion) → IfSome q IsAskable → Stands b 12 (asked_octets q)
     → QuestionsAt b 12 (option_to_list q) (12 + length (asked_octets q))
-asked_at_12 None ok at = refl
-asked_at_12 (Some q) ok at = question_at_12 q ok.qname ok.qtype ok.qclass at
+asked_at_12 q h h1 = grind (arith, question_at_12)

@@ -5,7 +5,7 @@ use Rattle.dns_spec.specs.Names.{Octets, DomainName, wire}
 use Rattle.dns_spec.specs.Data.{Part, octets, name}
 use Rattle.dns_spec.specs.Records.{ResourceRecord}
 use Rattle.dns_spec.specs.Reading.{Header, MessageQuestion}
-use Rattle.dns_spec.specs.Layout.{reach, Item, records_of, pointer, Placed, has_suffix, suffix_place, place_of, shared_place, shared_octets, Laid, laid_front, data_laid, record_laid, parts_of, record_tail, records_octets, asked_octets, asked_placed, reply_header, layout}
+use Rattle.dns_spec.specs.Layout.{reach, Item, Placed, has_suffix, suffix_place, place_of, shared_place, shared_octets, Laid, laid_front, data_laid, record_laid, parts_of, record_tail, records_octets, asked_octets, asked_placed, layout}
 use Rattle.dns_spec.specs.LayoutSize.{size}
 use Rattle.dns_spec.specs.UnboundedLayout.{unbounded_octets, unbounded_data, unbounded_record, unbounded_records, unbounded_layout, unbounded_size}
 use Rattle.dns_spec.proofs.Layouts.LayoutSize.{length-layout, length-record_tail}
@@ -18,18 +18,12 @@ abbrev Low : List Placed → Type 0
 Low ms = (l : Octets) (n : DomainName) (p : ℕ) → place_of ms (l ∷ n) ≡ Some p → p < reach
 
 same_place : (ms : List Placed) → Low ms → (l : Octets) (n : DomainName) → shared_place ms (l ∷ n) ≡ place_of ms (l ∷ n)
-same_place ms low l n = go (place_of ms (l ∷ n)) refl
-  where
-    go : (x : Option ℕ) → place_of ms (l ∷ n) ≡ x → shared_place ms (l ∷ n) ≡ place_of ms (l ∷ n)
-    go None e = shared_none ms (l ∷ n) e ∙ sym e
-    go (Some p) e = shared_to ms (l ∷ n) p e (low l n p e) ∙ sym e
+same_place ms low l n = grind (arith, shared_none, shared_to)
 
 same_octets : (ms : List Placed) → Low ms → (n : DomainName) → shared_octets ms n ≡ unbounded_octets ms n
 unfolding shared_octets unbounded_octets
 same_octets ms low [] = refl
-same_octets ms low (l ∷ n) =
-    ap (λ (x : Option ℕ). elim x as (λ _. Octets) [ None ↦ length l ∷ (l ++ shared_octets ms n) | Some p ↦ pointer p ]) (same_place ms low l n)
-    ∙ ap (λ w. elim (place_of ms (l ∷ n)) as (λ _. Octets) [ None ↦ length l ∷ (l ++ w) | Some p ↦ pointer p ]) (same_octets ms low n)
+same_octets ms low (l ∷ n) = grind (arith, same_place, (same_octets ms low n))
 
 -- a suffix that is new begins among the octets laid out
 pub begins_inside : (ms : List Placed) (n front : DomainName) (l : Octets) (t : DomainName) → n ≡ front ++ l ∷ t → place_of ms (l ∷ t) ≡ None
@@ -61,12 +55,10 @@ Ends p x y = (p + length x ≤ reach) ⊎ (p + length y ≤ reach)
 
 -- what ends after octets and others, ends after the octets; what is after both, too
 ends_front : (p : ℕ) (w x y : Octets) → Ends p (w ++ x) (w ++ y) → p + length w ≤ reach
-ends_front p w x y (inl h) = omega (arith, h, length-append w x)
-ends_front p w x y (inr h) = omega (arith, h, length-append w y)
+ends_front p w x y h = grind (arith, length-append)
 
 ends_rest : (p k : ℕ) (w x y : Octets) → p + length w ≡ k → Ends p (w ++ x) (w ++ y) → Ends k x y
-ends_rest p k w x y e (inl h) = inl (omega (arith, h, e, length-append w x))
-ends_rest p k w x y e (inr h) = inr (omega (arith, h, e, length-append w y))
+ends_rest p k w x y h h1 = grind (arith, length-append)
 
 record SameData (ms : List Placed) (a b : Laid) : Type 0 where
   same : a ≡ b
@@ -158,9 +150,7 @@ same_records ms p (r ∷ rs) low ends =
 
 -- the question's name begins in reach
 asked_low : (q : Option MessageQuestion) → 12 + length (asked_octets q) ≤ reach → Low (asked_placed q)
-asked_low None room = λ l n p e. absurd (none-some p e)
-asked_low (Some q) room = low_more [] (λ l n p e. absurd (none-some p e)) q.qname 12
-    (omega (arith, room, ap length (shared_alone q.qname), length-question_octets q))
+asked_low q h = grind (arith, none-some, low_more, shared_alone, length-question_octets)
 
 pub same_layout : (h : Header) (q : Option MessageQuestion) (items : List Item) → (size q items ≤ reach) ⊎ (unbounded_size q items ≤ reach)
     → layout h q items ≡ unbounded_layout h q items
@@ -171,14 +161,7 @@ same_layout h q items short = go (ends short)
     from = 12 + length (asked_octets q)
 
     go : Ends 0 (layout h q items) (unbounded_layout h q items) → layout h q items ≡ unbounded_layout h q items
-    go e =
-        let front = reply_header h q items ++ asked_octets q in
-        let rs = records_of items in
-        let ms = asked_placed q in
-        let place : ℕ = 12 + length (asked_octets q) in
-        let head_len : 0 + length front ≡ place = omega (arith, length-append (reply_header h q items) (asked_octets q)) in
-        let low = asked_low q (omega (arith, head_len, ends_front 0 front (records_octets ms place rs) (unbounded_records ms place rs) e)) in
-        ap (λ z. front ++ z) (same_records ms place rs low (ends_rest 0 place front (records_octets ms place rs) (unbounded_records ms place rs) head_len e))
+    go e = grind (arith, length-append, asked_low, ends_front, same_records, ends_rest)
 
     ends : (size q items ≤ reach) ⊎ (unbounded_size q items ≤ reach) → Ends 0 (layout h q items) (unbounded_layout h q items)
     ends (inl s) = inl (omega (arith, s, length-layout h q items))

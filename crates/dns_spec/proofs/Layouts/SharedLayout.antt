@@ -1,5 +1,5 @@
 -- The layout, in which names share suffixes, spells its message.
-use Rattle.std.proofs.Common.{◌≡◌, ℕ, zero, suc, ◌+◌, ◌^◌, ◌<◌, ◌≤◌, Bool, true, false, cond, nat_le, List, [], ◌∷◌, ◌++◌, map, length, take, drop, Option, None, Some, All, IfSome, is_some, unwrap_or, refl, sym, ap, ◌∙◌, subst, arith, append_assoc, append-nil, length-append, add-zero, zero-add}
+use Rattle.std.proofs.Common.{◌≡◌, ℕ, suc, ◌+◌, ◌^◌, ◌<◌, ◌≤◌, Bool, true, false, cond, nat_le, List, [], ◌∷◌, ◌++◌, map, length, take, drop, Option, None, Some, All, IfSome, is_some, unwrap_or, refl, sym, ap, ◌∙◌, subst, arith, append_assoc, append-nil, length-append, add-zero, zero-add}
 use Rattle.std.proofs.lemmas.Bool.{and_parts, false≢true}
 use Rattle.std.proofs.lemmas.Option.{none-some, same_Some, cond_some}
 use Rattle.std.proofs.lemmas.List.{length-map, map-append}
@@ -9,7 +9,7 @@ use Rattle.dns_spec.specs.Names.{Octets, wire, is_label, labels_from}
 use Rattle.dns_spec.specs.Data.{class_in, Fixed, width, Piece, fixed, domain, string, strings, anything, pieces_of, compresses, Part, octets, octets_front, piece_front, cut, valid, parts, laid_parts}
 use Rattle.dns_spec.specs.Records.{ResourceRecord}
 use Rattle.dns_spec.specs.Reading.{Header, MessageQuestion, MessageRecord, OctetsAt, NumberAt, PiecesAt, DataAt, RecordsAt, Spells}
-use Rattle.dns_spec.specs.Layout.{octets16, octets32, answer, authority, additional, Item, records_of, in_section, Placed, shared_octets, data_laid, parts_of, record_tail, records_octets, question_octets, asked_octets, asked_placed, reply_header, layout, is_section, Section, message_record, message_of}
+use Rattle.dns_spec.specs.Layout.{octets16, octets32, answer, authority, additional, Item, records_of, in_section, Placed, shared_octets, data_laid, parts_of, record_tail, records_octets, question_octets, asked_octets, asked_placed, reply_header, layout, Section, message_record, message_of}
 use Rattle.dns_spec.specs.LayoutSize.{record_size, record_names, records_size, size}
 use Rattle.dns_spec.specs.Laws.{IsWritable, IsAskable, HasRoom}
 use Rattle.dns_spec.proofs.Records.SortedOnce.{Each}
@@ -29,12 +29,10 @@ data_names ms p ps = (data_laid ms p ps).names
 
 -- after the last octet there are only parts without octets
 take_none : (k : ℕ) → take {A = ℕ} k [] ≡ []
-take_none zero = refl
-take_none (suc k) = refl
+take_none k = grind arith
 
 drop_none : (k : ℕ) → drop {A = ℕ} k [] ≡ []
-drop_none zero = refl
-drop_none (suc k) = refl
+drop_none k = grind arith
 
 no_octets : (ps : List Piece) (ys : List Part) → cut ps [] ≡ Some ys → (ms : List Placed) (i : ℕ) → length (data_octets ms i ys) ≡ 0
 unfolding cut data_laid labels_from
@@ -359,18 +357,10 @@ spells_where b h q items room ok counts writable whole =
 -- there are no more records than octets
 section_bound : (s : Section) (is : List Item) → length (in_section s is) ≤ length (records_of is)
 section_bound s [] = omega arith
-section_bound s (i ∷ is) = go (is_section s i.section) refl (section_bound s is)
-  where
-    go : (t : Bool) → is_section s i.section ≡ t → length (in_section s is) ≤ length (records_of is) → length (in_section s (i ∷ is)) ≤ length (i.records ++ records_of is)
-    go true e h = let q = ap length (section_with s i is true e) in omega (arith, h, q, length-append i.records (in_section s is), length-append i.records (records_of is))
-    go false e h = let q = ap length (section_with s i is false e) in omega (arith, h, q, length-append i.records (records_of is))
+section_bound s (i ∷ is) = grind (arith, section_with, length-append, (section_bound s is))
 
 counted : (is : List Item) → length (records_of is) < 2 ^ 16 → HasCounts is
-counted is few = record {
-  answers = omega (arith, section_bound answer is);
-  authorities = omega (arith, section_bound authority is);
-  additionals = omega (arith, section_bound additional is);
-}
+counted is few = grind (arith, section_bound)
 
 shared_bound : (ms : List Placed) (p : ℕ) (rs : List ResourceRecord) → length rs ≤ records_size ms p rs
 unfolding records_size

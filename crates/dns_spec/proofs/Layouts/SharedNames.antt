@@ -22,10 +22,7 @@ suffix_from n s h =
     record { front = take k n; whole = sym (take-append-drop k n) ∙ ap (λ x. take k n ++ x) ((names_equal-decides (drop k n) s).0 p.1) }
 
 pub suffix_to : (n s : DomainName) → Suffix n s → has_suffix n s ≡ true
-suffix_to n s h =
-    let len : length n ≡ length h.front + length s = ap length h.whole ∙ length-append h.front s in
-    let last : last_labels (length s) n ≡ s = ap (drop (length n - length s)) h.whole ∙ drop_at h.front s (length n - length s) (omega (arith, len)) in
-    and_from (nat_le (length s) (length n)) (names_equal (last_labels (length s) n) s) (le-leb (length s) (length n) (omega (arith, len))) ((names_equal-decides (last_labels (length s) n) s).1 last)
+suffix_to n s h = grind (arith, length-append, drop_at, and_from, le-leb, names_equal-decides)
 
 pub suffix_again : (m n s : DomainName) → Suffix m n → Suffix n s → Suffix m s
 suffix_again m n s h g = record { front = h.front ++ g.front; whole = h.whole ∙ ap (λ x. h.front ++ x) g.whole ∙ sym (append_assoc h.front g.front s) }
@@ -47,30 +44,12 @@ place_again (m ∷ ms) n s h e = go (has_suffix m.0 s) refl e (place_again ms n 
 -- a name after the earlier ones is found where none of them has the suffix
 pub place_pushed : (ms : List Placed) (m : Placed) (s : DomainName) (p : ℕ) → place_of (ms ++ m ∷ []) s ≡ Some p
     → (place_of ms s ≡ Some p) ⊎ ((place_of ms s ≡ None) × (has_suffix m.0 s ≡ true) × (suffix_place m s ≡ p))
-place_pushed [] m s p e = go (has_suffix m.0 s) refl e
-  where
-    go : (t : Bool) → has_suffix m.0 s ≡ t → cond t (Some (suffix_place m s)) None ≡ Some p
-        → (◌≡◌ {A = Option ℕ} None (Some p)) ⊎ ((◌≡◌ {A = Option ℕ} None None) × (has_suffix m.0 s ≡ true) × (suffix_place m s ≡ p))
-    go true q f = inr (refl, q, same_Some (suffix_place m s) p f)
-    go false q f = absurd (none-some p f)
-place_pushed (k ∷ ms) m s p e = go (has_suffix k.0 s) e (place_pushed ms m s p)
-  where
-    go : (t : Bool) → cond t (Some (suffix_place k s)) (place_of (ms ++ m ∷ []) s) ≡ Some p
-        → (place_of (ms ++ m ∷ []) s ≡ Some p → (place_of ms s ≡ Some p) ⊎ ((place_of ms s ≡ None) × (has_suffix m.0 s ≡ true) × (suffix_place m s ≡ p)))
-        → (cond t (Some (suffix_place k s)) (place_of ms s) ≡ Some p) ⊎ ((cond t (Some (suffix_place k s)) (place_of ms s) ≡ None) × (has_suffix m.0 s ≡ true) × (suffix_place m s ≡ p))
-    go true f again = inl f
-    go false f again = again f
+place_pushed [] m s p e = grind (arith, inr, same_Some, none-some)
+place_pushed (k ∷ ms) m s p e = grind (arith, inl, (place_pushed ms m s p))
 
 -- a place that is shared is a place, and a pointer reaches it
 pub shared_is : (ms : List Placed) (s : DomainName) (p : ℕ) → shared_place ms s ≡ Some p → (place_of ms s ≡ Some p) × (p < reach)
-shared_is ms s p e = go (place_of ms s) refl e
-  where
-    go : (x : Option ℕ) → place_of ms s ≡ x → reached x ≡ Some p → (place_of ms s ≡ Some p) × (p < reach)
-    go None is h = absurd (none-some p h)
-    go (Some q) is h =
-        let c = cond_some (nat_le q last_place) q p h in
-        let low = leb-true q last_place c.0 in
-        (is ∙ ap Some c.1, omega (arith, low, c.1))
+shared_is ms s p e = grind (arith, none-some, cond_some, leb-true)
 
 pub shared_to : (ms : List Placed) (s : DomainName) (p : ℕ) → place_of ms s ≡ Some p → p < reach → shared_place ms s ≡ Some p
 shared_to ms s p e low = ap reached e ∙ ap (λ t. cond t (Some p) None) (le-leb p last_place (omega arith))
@@ -161,13 +140,7 @@ module _ (b : Octets) (bound : ℕ) (ms : List Placed) (known : Known b bound ms
     stands : Stands b (i + (length (wire n) - length (wire s))) (shared_octets ms s)
 
   standing : (n : DomainName) (i : ℕ) (l : Octets) (t : DomainName) (front : DomainName) → n ≡ front ++ (l ∷ t) → place_of ms (l ∷ t) ≡ None → Stands b i (shared_octets ms n) → Standing n i (l ∷ t)
-  standing n i l t [] e none at =
-      let zero-off : i ≡ i + (length (wire n) - length (wire (l ∷ t))) = omega (arith, ap (λ x. length (wire x)) e) in
-      record {
-        short = omega (arith, ap (λ x. length (wire x)) e);
-        inside = omega (arith, shared_some ms n, ap (λ x. length (wire x)) e);
-        stands = subst (λ x. Stands b x (shared_octets ms (l ∷ t))) zero-off (subst (λ x. Stands b i (shared_octets ms x)) e at);
-      }
+  standing n i l t [] e none at = grind (arith, shared_some, Stands)
   standing [] i l t (x ∷ front) e none at = absurd (let z = ap length e in omega (arith, z))
   standing (k ∷ n) i l t (x ∷ front) e none at =
       let tail : n ≡ front ++ (l ∷ t) = ap (λ (y : DomainName). drop 1 y) e in
@@ -213,9 +186,8 @@ module _ (b : Octets) (bound : ℕ) (ms : List Placed) (known : Known b bound ms
           })
 
   pub name_shared : (n : DomainName) (i : ℕ) → bound ≤ i → is_name n ≡ true → Stands b i (shared_octets ms n) → NameAt b i n (i + length (shared_octets ms n))
-  name_shared n i after name at = (run_shared n i i after (and_parts (list_all is_label n) (nat_le (length (wire n)) 255) name).0 at, name)
+  name_shared n i after name at = grind (arith, run_shared, and_parts)
 
--- without earlier names nothing is shared
 pub nothing_known : (b : Octets) (bound : ℕ) → Known b bound []
 nothing_known b bound l n p e = absurd (none-some p e)
 

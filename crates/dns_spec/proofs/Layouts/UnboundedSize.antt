@@ -6,13 +6,12 @@ use Rattle.dns_spec.specs.Names.{Octets, DomainName, wire}
 use Rattle.dns_spec.specs.Data.{Part, octets, name}
 use Rattle.dns_spec.specs.Records.{ResourceRecord}
 use Rattle.dns_spec.specs.Reading.{Header, MessageQuestion}
-use Rattle.dns_spec.specs.Layout.{Item, records_of, pointer, Placed, has_suffix, suffix_place, place_of, parts_of, record_tail, asked_octets, asked_placed, reply_header}
+use Rattle.dns_spec.specs.Layout.{Item, pointer, Placed, has_suffix, suffix_place, place_of, asked_placed}
 use Rattle.dns_spec.specs.Sharing.{asked_names, names_in, names_of, labels_size, NameSize, DataSize, RecordsSize, Sharing}
 use Rattle.dns_spec.specs.Sharing.NameSize.{whole, shared}
 use Rattle.dns_spec.specs.Sharing.DataSize.{no_parts, after_octets, after_name}
 use Rattle.dns_spec.specs.Sharing.RecordsSize.{no_records, after_record}
 use Rattle.dns_spec.specs.UnboundedLayout.{unbounded_octets, unbounded_data, unbounded_record, unbounded_records, unbounded_layout, unbounded_cost, unbounded_data_size, unbounded_record_size, unbounded_records_size, unbounded_size}
-use Rattle.dns_spec.proofs.Layouts.LayoutSize.{length-record_tail}
 
 -- a name has a place exactly where an earlier name has it as a suffix
 abbrev pub unplaced : List Placed → List DomainName
@@ -20,8 +19,7 @@ unplaced = map (λ (m : Placed). m.0)
 
 placed_else : (m : Placed) (ms : List Placed) (s : DomainName) (t : Bool) → is_some (place_of ms s) ≡ list_any (λ x. has_suffix x s) (unplaced ms)
     → is_some (cond t (Some (suffix_place m s)) (place_of ms s)) ≡ (t || list_any (λ x. has_suffix x s) (unplaced ms))
-placed_else m ms s true h = refl
-placed_else m ms s false h = h
+placed_else m ms s t h = grind arith
 
 pub placed : (ms : List Placed) (s : DomainName) → is_some (place_of ms s) ≡ list_any (λ x. has_suffix x s) (unplaced ms)
 placed [] s = refl
@@ -62,19 +60,10 @@ unplaced-unbounded_data ms p (name n ∷ ps) = ap (λ z. n ∷ z) (unplaced-unbo
 
 length-unbounded_record : (ms : List Placed) (p : ℕ) (r : ResourceRecord) → length (unbounded_record ms p r).written ≡ unbounded_record_size (unplaced ms) r
 length-unbounded_record ms p r =
-    let owner = unbounded_octets ms r.owner in
-    let earlier = ms ++ (r.owner, p) ∷ [] in
-    let d = (unbounded_data earlier (p + length owner + 10) (parts_of r)).written in
-    let d-len : length d ≡ unbounded_data_size (unplaced ms ++ r.owner ∷ []) (parts_of r) =
-    length-unbounded_data earlier (p + length owner + 10) (parts_of r) ∙ ap (λ z. unbounded_data_size z (parts_of r)) (unplaced-push ms r.owner p) in
-    length-append owner (record_tail r d) ∙ omega (arith, length-record_tail r d, length-unbounded_octets ms r.owner, d-len)
+    grind (arith, length-unbounded_data, unplaced-push, length-append, length-unbounded_octets)
 
 unplaced-unbounded_record : (ms : List Placed) (p : ℕ) (r : ResourceRecord) → unplaced (ms ++ (unbounded_record ms p r).names) ≡ unplaced ms ++ names_of r
-unplaced-unbounded_record ms p r =
-    let earlier = ms ++ (r.owner, p) ∷ [] in
-    let place = p + length (unbounded_octets ms r.owner) + 10 in
-    map-append (λ (m : Placed). m.0) ms (unbounded_record ms p r).names
-    ∙ ap (λ z. unplaced ms ++ r.owner ∷ z) (unplaced-unbounded_data earlier place (parts_of r))
+unplaced-unbounded_record ms p r = grind (arith, map-append, unplaced-unbounded_data)
 
 pub length-unbounded_records : (ms : List Placed) (p : ℕ) (rs : List ResourceRecord) → length (unbounded_records ms p rs) ≡ unbounded_records_size (unplaced ms) rs
 unfolding unbounded_records unbounded_records_size
@@ -87,17 +76,12 @@ length-unbounded_records ms p (r ∷ rs) =
     (length-unbounded_records (ms ++ l.names) (p + length l.written) rs ∙ ap (λ z. unbounded_records_size z rs) (unplaced-unbounded_record ms p r))
 
 unplaced-asked : (q : Option MessageQuestion) → unplaced (asked_placed q) ≡ asked_names q
-unplaced-asked None = refl
-unplaced-asked (Some q) = refl
+unplaced-asked q = grind arith
 
 pub length-unbounded_layout : (h : Header) (q : Option MessageQuestion) (items : List Item) → length (unbounded_layout h q items) ≡ unbounded_size q items
 unfolding unbounded_layout unbounded_size
 length-unbounded_layout h q items =
-    let from = 12 + length (asked_octets q) in
-    let rs = records_of items in
-    length-append (reply_header h q items ++ asked_octets q) (unbounded_records (asked_placed q) from rs)
-    ∙ ap₂ ◌+◌ (length-append (reply_header h q items) (asked_octets q))
-    (length-unbounded_records (asked_placed q) from rs ∙ ap (λ ms. unbounded_records_size ms rs) (unplaced-asked q))
+    grind (arith, length-append, ap₂, length-unbounded_records, unplaced-asked)
 
 abbrev any_has : List DomainName → DomainName → Bool
 any_has ms s = list_any (λ m. has_suffix m s) ms
@@ -126,23 +110,16 @@ wire_some (l ∷ n) = omega arith
 
 cost_whole : (ms : List DomainName) (n : DomainName) → unbounded_cost ms n ≤ length (wire n)
 cost_whole ms [] = let e = cost_root ms in omega (arith, e)
-cost_whole ms (l ∷ n) = go (any_has ms (l ∷ n)) refl (cost_whole ms n)
-  where
-    go : (t : Bool) → any_has ms (l ∷ n) ≡ t → unbounded_cost ms n ≤ length (wire n) → unbounded_cost ms (l ∷ n) ≤ length (wire (l ∷ n))
-    go true e h = let c = cost_shared ms l n e in omega (arith, c, length-append l (wire n), wire_some n)
-    go false e h = let c = cost_labelled ms l n e in omega (arith, c, h, length-append l (wire n))
+cost_whole ms (l ∷ n) =
+    grind (arith, cost_shared, length-append, wire_some, cost_labelled, (cost_whole ms n))
 
 cost_before : (ms : List DomainName) (front : DomainName) (l : Octets) (n : DomainName) → any_has ms (l ∷ n) ≡ true → unbounded_cost ms (front ++ l ∷ n) ≤ labels_size front + 2
 cost_before ms [] l n e = let c = cost_shared ms l n e in omega (arith, c)
-cost_before ms (k ∷ front) l n e = go (any_has ms (k ∷ front ++ l ∷ n)) refl (cost_before ms front l n e)
-  where
-    go : (t : Bool) → any_has ms (k ∷ (front ++ l ∷ n)) ≡ t → unbounded_cost ms (front ++ l ∷ n) ≤ labels_size front + 2 → unbounded_cost ms (k ∷ (front ++ l ∷ n)) ≤ labels_size (k ∷ front) + 2
-    go true f h = let c = cost_shared ms k (front ++ l ∷ n) f in omega (arith, c)
-    go false f h = let c = cost_labelled ms k (front ++ l ∷ n) f in omega (arith, c, h)
+cost_before ms (k ∷ front) l n e =
+    grind (arith, cost_shared, cost_labelled, (cost_before ms front l n e))
 
 cost_least : {ms : List DomainName} {n : DomainName} {k : ℕ} → NameSize ms n k → unbounded_cost ms n ≤ k
-cost_least {ms} (whole n) = cost_whole ms n
-cost_least {ms} (shared front l n h) = cost_before ms front l n h
+cost_least h = grind (arith, cost_whole, cost_before)
 
 -- so it is for data and records
 data_least : {ms : List DomainName} {ps : List Part} {k : ℕ} → DataSize ms ps k → unbounded_data_size ms ps ≤ k

@@ -1,9 +1,9 @@
 -- The computed message is what octets spell.
-use Rattle.std.proofs.Common.{◌≡◌, ℕ, zero, suc, ◌+◌, ◌-◌, ◌<◌, ◌≤◌, Bool, true, false, ◌&&◌, cond, nat_lt, nat_le, ◌==◌, ◌↔◌, List, [], ◌∷◌, ◌++◌, length, take, drop, Option, None, Some, slice_get, option_map, option_and_then, refl, sym, ap, ◌∙◌, subst, arith}
+use Rattle.std.proofs.Common.{◌≡◌, ℕ, zero, suc, ◌+◌, ◌<◌, ◌≤◌, Bool, true, false, cond, nat_lt, nat_le, ◌==◌, ◌↔◌, List, [], ◌∷◌, ◌++◌, length, Option, None, Some, slice_get, option_map, option_and_then, refl, sym, ap, ◌∙◌, subst, arith, rules}
 use Rattle.std.proofs.lemmas.Bool.{and_parts, and_from, leb-true, le-leb, ltb-true, lt-ltb, eqb-true, eq-eqb}
 use Rattle.std.proofs.lemmas.Option.{none-some, same_Some, cond_some, option_and_then_some, some_pair_parts}
 use Rattle.dns_spec.specs.Names.{Octets, DomainName, wire}
-use Rattle.dns_spec.specs.Data.{class_in, width, Piece, fixed, domain, string, strings, anything, pieces_of, are_strings}
+use Rattle.dns_spec.specs.Data.{width, Piece, fixed, domain, string, strings, anything, are_strings}
 use Rattle.dns_spec.specs.Reading.{MessageQuestion, MessageRecord, DnsMessage, NameAt, OctetsAt, NumberAt, PiecesAt, DataAt, QuestionsAt, RecordAt, RecordsAt, Spells}
 use Rattle.dns_spec.specs.ComputedReading.{name_at, value_at, octets_upto, strings_only, piece_at, pieces_at, data_at, question_after, message_question_at, record_with, record_after, message_record_at, several, last_section, from_additionals, from_authorities, from_answers, message_at}
 use Rattle.dns_spec.proofs.Messages.NameReading.{name_at_computes}
@@ -21,23 +21,15 @@ module _ (b : Octets) where
 
   -- octets
   octets_found : (i e : ℕ) (o : Octets) (j : ℕ) → octets_upto b i e ≡ Some (o, j) → OctetsAt b i e o × (e ≡ j)
-  octets_found i e o j h =
-      let c = cond_some (nat_le i e && nat_le e (length b)) (take (e - i) (drop i b), e) (o, j) h in
-      let p = and_parts (nat_le i e) (nat_le e (length b)) c.0 in
-      (record { ordered = leb-true i e p.0; within = leb-true e (length b) p.1; are = ap (λ z. z.0) c.1 }, ap (λ z. z.1) c.1)
+  octets_found i e o j h = grind (arith, cond_some, and_parts, leb-true)
 
   octets_given : (i e : ℕ) (o : Octets) → OctetsAt b i e o → octets_upto b i e ≡ Some (o, e)
-  octets_given i e o h =
-      let t = and_from (nat_le i e) (nat_le e (length b)) (le-leb i e h.ordered) (le-leb e (length b) h.within) in
-      (λ k. cond (t k) (Some (h.are k, e)) None)
+  octets_given i e o h = grind (arith, and_from, le-leb)
 
   -- pieces of data
   strings_found : (o o' : Octets) (j j' : ℕ) → strings_only (o, j) ≡ Some (o', j')
       → (0 < length o) × (are_strings 0 o ≡ true) × (o ≡ o') × (j ≡ j')
-  strings_found o o' j j' h =
-      let c = cond_some (nat_lt 0 (length o) && are_strings 0 o) (o, j) (o', j') h in
-      let p = and_parts (nat_lt 0 (length o)) (are_strings 0 o) c.0 in
-      (ltb-true 0 (length o) p.0, p.1, ap (λ z. z.0) c.1, ap (λ z. z.1) c.1)
+  strings_found o o' j j' h = grind (arith, cond_some, and_parts, ltb-true)
 
   pieces_found : (ps : List Piece) (i e : ℕ) (d : Octets) → pieces_at b ps i e ≡ Some d → PiecesAt b ps i e d
   unfolding pieces_at
@@ -90,9 +82,7 @@ module _ (b : Octets) where
   piece_given : (p : Piece) (ps : List Piece) (i e j : ℕ) (o rest d : Octets) → piece_at b p i e ≡ Some (o, j) → pieces_at b ps j e ≡ Some rest → d ≡ o ++ rest
       → pieces_at b (p ∷ ps) i e ≡ Some d
   unfolding pieces_at
-  piece_given p ps i e j o rest d h g s =
-      ap (option_and_then (λ (r : Octets × ℕ). option_map (λ x. r.0 ++ x) (pieces_at b ps r.1 e))) h
-      ∙ ap (option_map (λ x. o ++ x)) g ∙ ap (λ x. Some x) (sym s)
+  piece_given p ps i e j o rest d h g s = grind arith
 
   nil_given : (i e : ℕ) → i ≡ e → pieces_at b [] i e ≡ Some []
   unfolding pieces_at
@@ -105,8 +95,7 @@ module _ (b : Octets) where
   pieces_given (domain ∷ ps) i e d h =
       piece_given domain ps i e h.1 (wire h.0) h.2 d (ap (option_map (λ r. (wire r.0, r.1))) ((name_at_computes b i h.0 h.1).1 h.3)) (pieces_given ps h.1 e h.2 h.5) h.4
   pieces_given (string ∷ ps) i e d h =
-      piece_given string ps i e (i + 1 + h.0) h.1 h.2 d (then_is (λ k. octets_upto b i (i + 1 + k)) (slice_get b i) h.0 (h.1, i + 1 + h.0) h.3 (octets_given i (i + 1 + h.0) h.1 h.4))
-      (pieces_given ps (i + 1 + h.0) e h.2 h.6) h.5
+      search (rules, piece_given, then_is, octets_given, (pieces_given ps (i + 1 + h.0) e h.2 h.6))
   pieces_given (strings ∷ ps) i e d h =
       let whole = octets_given i e h.0 (subst (λ z. OctetsAt b i z h.0) h.7 h.3) in
       let test = and_from (nat_lt 0 (length h.0)) (are_strings 0 h.0) (lt-ltb 0 (length h.0) h.4) h.5 in
@@ -117,29 +106,15 @@ module _ (b : Octets) where
       (pieces_given ps e e h.1 (subst (λ z. PiecesAt b ps z e h.1) h.5 h.6)) h.4
 
   data_found : (t c i e : ℕ) (d : Octets) → data_at b t c i e ≡ Some d → DataAt b t c i e d
-  data_found t c i e d h = go (nat_le i e && nat_le e (length b)) refl h
-    where
-      ps : List Piece
-      ps = cond (c == class_in) (pieces_of t) (anything ∷ [])
-
-      go : (x : Bool) → (nat_le i e && nat_le e (length b)) ≡ x → cond x (pieces_at b ps i e) None ≡ Some d → DataAt b t c i e d
-      go true q g =
-          let p = and_parts (nat_le i e) (nat_le e (length b)) q in
-          (leb-true i e p.0, leb-true e (length b) p.1, pieces_found ps i e d g)
-      go false q g = absurd (none-some d g)
+  data_found t c i e d h = grind (arith, and_parts, leb-true, pieces_found, none-some)
 
   data_given : (t c i e : ℕ) (d : Octets) → DataAt b t c i e d → data_at b t c i e ≡ Some d
-  data_given t c i e d h =
-      ap (λ x. cond x (pieces_at b (cond (c == class_in) (pieces_of t) (anything ∷ [])) i e) None)
-      (and_from (nat_le i e) (nat_le e (length b)) (le-leb i e h.0) (le-leb e (length b) h.1))
-      ∙ pieces_given (cond (c == class_in) (pieces_of t) (anything ∷ [])) i e d h.2
+  data_given t c i e d h = grind (arith, and_from, le-leb, pieces_given)
 
   -- questions
   questions_found : (k i : ℕ) (qs : List MessageQuestion) (e : ℕ) → several (message_question_at b) k i ≡ Some (qs, e) → QuestionsAt b i qs e × (length qs ≡ k)
   unfolding several
-  questions_found zero i qs e h =
-      let p = some_pair_parts [] qs i e h in
-      (subst (λ z. QuestionsAt b i z e) p.0 p.1, ap length (sym p.0))
+  questions_found zero i qs e h = grind (arith, some_pair_parts)
   questions_found (suc k) i qs e h =
       option_and_then_some (λ r. option_map (λ s. (r.0 ∷ s.0, s.1)) (several (message_question_at b) k r.1)) (message_question_at b i) (qs, e) h (λ r p g.
       map_some (λ s. (r.0 ∷ s.0, s.1)) (several (message_question_at b) k r.1) (qs, e) g (λ s u v.
@@ -196,24 +171,11 @@ module _ (b : Octets) where
           (j, len, subst (λ z. RecordAt b i z j len) (ap (λ z. z.0) v) found, ap (λ z. z.1) v))
 
   record_given : (i : ℕ) (r : MessageRecord) (j len : ℕ) → RecordAt b i r j len → message_record_at b i ≡ Some (r, j + 10 + len)
-  record_given i r j len h =
-      let name = (name_at_computes b i r.owner j).1 h.owner in
-      let within = h.length.within in
-      let fits : nat_le (j + 10) (length b) ≡ true = le-leb (j + 10) (length b) (omega (arith, within)) in
-      let found = data_given r.rtype r.rclass (j + 10) (j + 10 + len) r.rdata h.rdata in
-      let t = sym h.rtype.spelled in
-      let c = sym h.rclass.spelled in
-      let l = sym h.length.spelled in
-      then_is (record_after b) (name_at b i) (r.owner, j) (r, j + 10 + len) name (
-      (λ k. cond (fits k) (option_map (λ d. (record { owner = r.owner; rtype = t k; rclass = c k; ttl = (sym h.ttl.spelled) k; rdata = d }, j + 10 + l k))
-      (data_at b (t k) (c k) (j + 10) (j + 10 + l k))) None)
-      ∙ ap (option_map (λ d. (record { owner = r.owner; rtype = r.rtype; rclass = r.rclass; ttl = r.ttl; rdata = d }, j + 10 + len))) found)
+  record_given i r j len h = grind (arith, name_at_computes, le-leb, data_given, then_is)
 
   records_found : (k i : ℕ) (rs : List MessageRecord) (e : ℕ) → several (message_record_at b) k i ≡ Some (rs, e) → RecordsAt b i rs e × (length rs ≡ k)
   unfolding several
-  records_found zero i rs e h =
-      let p = some_pair_parts [] rs i e h in
-      (subst (λ z. RecordsAt b i z e) p.0 p.1, ap length (sym p.0))
+  records_found zero i rs e h = grind (arith, some_pair_parts)
   records_found (suc k) i rs e h =
       option_and_then_some (λ r. option_map (λ s. (r.0 ∷ s.0, s.1)) (several (message_record_at b) k r.1)) (message_record_at b i) (rs, e) h (λ r p g.
       map_some (λ s. (r.0 ∷ s.0, s.1)) (several (message_record_at b) k r.1) (rs, e) g (λ s u v.
@@ -226,8 +188,7 @@ module _ (b : Octets) where
   unfolding several
   records_given [] i e h = ap (λ z. Some ([], z)) h
   records_given (r ∷ rs) i e h =
-      then_is (λ r. option_map (λ s. (r.0 ∷ s.0, s.1)) (several (message_record_at b) (length rs) r.1)) (message_record_at b i) (r, h.0 + 10 + h.1) (r ∷ rs, e)
-      (record_given i r h.0 h.1 h.2) (ap (option_map (λ s. (r ∷ s.0, s.1))) (records_given rs (h.0 + 10 + h.1) e h.3))
+      grind (arith, then_is, record_given, (records_given rs (h.0 + 10 + h.1) e h.3))
 
   -- the message
   message_found : (m : DnsMessage) → message_at b ≡ Some m → Spells b m
@@ -268,25 +229,7 @@ module _ (b : Octets) where
 
   message_given : (m : DnsMessage) → Spells b m → message_at b ≡ Some m
   unfolding message_at
-  message_given m h =
-      let within = h.arcount.within in
-      let room : nat_le 12 (length b) ≡ true = le-leb 12 (length b) (omega (arith, within)) in
-      let count = λ (i : ℕ) (f : List MessageRecord) (s : NumberAt b i 2 (length f)) (p e : ℕ) (g : RecordsAt b p f e).
-      ap (λ k. several (message_record_at b) k p) (sym s.spelled) ∙ records_given f p e g in
-      let qs = ap (λ k. several (message_question_at b) k 12) (sym h.qdcount.spelled) ∙ questions_given m.questions 12 h.after_questions h.questions in
-      let last : last_section b m.questions m.answers m.authorities (m.additionals, length b) ≡ Some m =
-      λ k. cond (eq-eqb (length b) (length b) refl k) (Some (record {
-        header = record { id = (sym h.id.spelled) k; flags = (sym h.flags.spelled) k };
-        questions = m.questions;
-        answers = m.answers;
-        authorities = m.authorities;
-        additionals = m.additionals;
-      })) None in
-      ap (λ t. cond t (option_and_then (from_answers b) (several (message_question_at b) (value_at b 4 2) 12)) None) room
-      ∙ then_is (from_answers b) (several (message_question_at b) (value_at b 4 2) 12) (m.questions, h.after_questions) m qs
-      (then_is (from_authorities b m.questions) (several (message_record_at b) (value_at b 6 2) h.after_questions) (m.answers, h.after_answers) m (count 6 m.answers h.ancount h.after_questions h.after_answers h.answers)
-      (then_is (from_additionals b m.questions m.answers) (several (message_record_at b) (value_at b 8 2) h.after_answers) (m.authorities, h.after_authorities) m (count 8 m.authorities h.nscount h.after_answers h.after_authorities h.authorities)
-      (then_is (last_section b m.questions m.answers m.authorities) (several (message_record_at b) (value_at b 10 2) h.after_authorities) (m.additionals, length b) m (count 10 m.additionals h.arcount h.after_authorities (length b) h.additionals) last)))
+  message_given m h = grind (arith, le-leb, records_given, questions_given, eq-eqb, then_is)
 
 pub message_at_computes : (b : Octets) (m : DnsMessage) → (message_at b ≡ Some m) ↔ Spells b m
 message_at_computes b m = (message_found b m, message_given b m)

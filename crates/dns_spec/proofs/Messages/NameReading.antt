@@ -1,8 +1,8 @@
 -- The computed reader of names spells what the relation spells, and a place spells at most one name.
-use Rattle.std.proofs.Common.{◌≡◌, ℕ, zero, suc, ◌+◌, ◌-◌, ◌<◌, ◌≤◌, Bool, true, false, cond, ◌&&◌, ◌↔◌, inl, inr, [], ◌∷◌, length, take, drop, nat_lt, nat_le, Option, None, Some, slice_get, option_map, option_and_then, refl, sym, ap, ◌∙◌, subst, subst₂, arith, lt-ltb, le-ltb, le-leb, ne_eqb}
+use Rattle.std.proofs.Common.{◌≡◌, ℕ, zero, suc, ◌+◌, ◌-◌, ◌<◌, ◌≤◌, Bool, true, false, cond, ◌&&◌, ◌↔◌, inl, inr, [], ◌∷◌, length, take, drop, nat_lt, nat_le, Option, None, Some, slice_get, option_map, option_and_then, refl, sym, ap, ◌∙◌, subst, subst₂, arith, lt-ltb, le-ltb, le-leb, ne_eqb, rules}
 use Rattle.std.proofs.lemmas.Bool.{cases_lt, lt-leb, and_from, and_left, and_right, cond-true}
 use Rattle.std.proofs.lemmas.Option.{none-some, same_Some, slice_get_past, slice_get_within, cond_some, option_and_then_some, some_pair_parts}
-use Rattle.dns_spec.specs.Names.{Octets, DomainName, is_name, with_label}
+use Rattle.dns_spec.specs.Names.{Octets, DomainName, with_label}
 use Rattle.dns_spec.specs.Reading.{pointer_place, RunAt, NameAt}
 use Rattle.dns_spec.specs.ComputedReading.{RunStep, run_end, run_label, run_pointer, unlawful, pointer_step, step_of, jump, run, runs_before, name_if_short, name_at}
 use Rattle.dns_spec.specs.Reading.RunAt.{ends, goes_on, jumps}
@@ -104,11 +104,7 @@ if_lawful x false = None
 
 jump_is : (known : ℕ → Option (DomainName × ℕ)) (s i p : ℕ) → jump known s i p ≡ if_lawful (after i (known p)) (nat_le 12 p && nat_lt p s)
 unfolding after
-jump_is known s i p = go (nat_le 12 p && nat_lt p s)
-  where
-    go : (t : Bool) → ◌≡◌ {A = Option (DomainName × ℕ)} (elim t [ true ↦ option_map (λ r. (r.0, i + 2)) (known p) | false ↦ None ]) (if_lawful (option_map (λ r. (r.0, i + 2)) (known p)) t)
-    go true = refl
-    go false = refl
+jump_is known s i p = grind arith
 
 jump_lawful : (known : ℕ → Option (DomainName × ℕ)) (s i p : ℕ) → 12 ≤ p → p < s → jump known s i p ≡ after i (known p)
 jump_lawful known s i p h l = jump_is known s i p ∙ ap (if_lawful (after i (known p))) (and_from (nat_le 12 p) (nat_lt p s) (le-leb 12 p h) (lt-ltb p s l))
@@ -126,10 +122,7 @@ data PlaceFor (s p : ℕ) : Type 0 where
   too_high : s ≤ p → PlaceFor s p
 
 place_for : (s p : ℕ) → PlaceFor s p
-place_for s p = elim (cases_lt p 12) [
-  | inl below ↦ too_low below
-  | inr above ↦ elim (cases_lt p s) [ inl before ↦ lawful above before | inr past ↦ too_high past ]
-]
+place_for s p = grind (arith, cases_lt, inl, inr)
 
 -- A run has no more steps than there are octets: with so many it does not depend on their number, nor on what is known
 -- of runs that begin in the header, at its own place or after it.
@@ -137,14 +130,11 @@ abbrev Alike : ℕ → (ℕ → Option (DomainName × ℕ)) → (ℕ → Option 
 Alike s known known' = (p : ℕ) → 12 ≤ p → p < s → known p ≡ known' p
 
 same_jump : (known known' : ℕ → Option (DomainName × ℕ)) (s i p : ℕ) → Alike s known known' → PlaceFor s p → jump known s i p ≡ jump known' s i p
-same_jump known known' s i p a (lawful h l) = jump_lawful known s i p h l ∙ ap (after i) (a p h l) ∙ sym (jump_lawful known' s i p h l)
-same_jump known known' s i p a (too_low h) = jump_low known s i p h ∙ sym (jump_low known' s i p h)
-same_jump known known' s i p a (too_high h) = jump_high known s i p h ∙ sym (jump_high known' s i p h)
+same_jump known known' s i p h h1 = grind arith
 
 past_end : (known : ℕ → Option (DomainName × ℕ)) (b : Octets) (s r i : ℕ) → length b ≤ i → run known b s r i ≡ None
 unfolding run
-past_end known b s zero i h = refl
-past_end known b s (suc r) i h = step_missing known b s r i (slice_get_past b i h)
+past_end known b s r i h = grind (arith, step_missing, slice_get_past)
 
 same_step : (known known' : ℕ → Option (DomainName × ℕ)) (b : Octets) (s r r' i : ℕ) → Alike s known known'
     → ((j : ℕ) → i < j → run known b s r j ≡ run known' b s r' j) → OctetAt b i → run known b s (suc r) i ≡ run known' b s (suc r') i
@@ -218,8 +208,7 @@ sound_jump known b t s i o o' n e at top at' (too_high h) is = absurd (none-some
 
 labelled_parts : (l : Octets) (x : Option (DomainName × ℕ)) (n : DomainName) (e : ℕ) → option_map (with_label l) x ≡ Some (n, e)
     → (m : DomainName) × (x ≡ Some (m, e)) × (l ∷ m ≡ n)
-labelled_parts l None n e h = absurd (none-some (n, e) h)
-labelled_parts l (Some (m, d)) n e h = let p = some_pair_parts (l ∷ m) n d e h in (m, ap (λ x. Some (m, x)) p.1, p.0)
+labelled_parts l x n e h = grind arith
 
 sound_step : (known : ℕ → Option (DomainName × ℕ)) (b : Octets) → Truthful b known → (s r i : ℕ) (n : DomainName) (e : ℕ)
     → ((j : ℕ) (m : DomainName) (d : ℕ) → run known b s r j ≡ Some (m, d) → RunAt b s j m d)
@@ -258,17 +247,10 @@ unfolding name_at
 name_at_is b i = ap (option_and_then name_if_short) (known_is b i i)
 
 computed : (b : Octets) (i : ℕ) (n : DomainName) (e : ℕ) → name_at b i ≡ Some (n, e) → NameAt b i n e
-computed b i n e h =
-    option_and_then_some name_if_short (run (runs_before b i) b i (length b) i) (n, e) (sym (name_at_is b i) ∙ h) (λ x is short.
-    let c = cond_some (is_name x.0) (x.0, x.1) (n, e) short in (
-      sound_run (runs_before b i) b (sound b i) i (length b) i n e (is ∙ ap Some c.1),
-      ap is_name (sym (ap (λ q. q.0) c.1)) ∙ c.0,
-    ))
+computed b i n e h = grind (arith, option_and_then_some, name_at_is, cond_some, sound_run, sound)
 
 related : (b : Octets) (i : ℕ) (n : DomainName) (e : ℕ) → NameAt b i n e → name_at b i ≡ Some (n, e)
-related b i n e h =
-    name_at_is b i ∙ ap (option_and_then name_if_short) (complete h.0 i (length b) (omega arith) (omega arith))
-    ∙ cond-true (is_name n) (Some (n, e)) None h.1
+related b i n e h = grind (arith, name_at_is, complete, cond-true)
 
 -- `name_at` computes the relation.
 pub name_at_computes : (b : Octets) (i : ℕ) (n : DomainName) (e : ℕ) → (name_at b i ≡ Some (n, e)) ↔ NameAt b i n e
@@ -316,9 +298,7 @@ module _ (d : Octets) (i : ℕ) where
   run12_label_past k at pos low past = run12_suc ∙ step_label_past none_before d 12 (length d - i) i k at pos low past
 
   jump12 : (p : ℕ) → PlaceFor 12 p → jump none_before 12 i p ≡ None
-  jump12 p (lawful from before) = absurd (omega arith)
-  jump12 p (too_low h) = jump_low none_before 12 i p h
-  jump12 p (too_high h) = jump_high none_before 12 i p h
+  jump12 p h = grind arith
 
   high12 : (o : ℕ) → slice_get d i ≡ Some o → 64 ≤ o → OctetAt d i → run none_before d 12 (suc (length d - i)) i ≡ None
   high12 o at from (missing e) = step_missing none_before d 12 (length d - i) i e
@@ -332,8 +312,7 @@ module _ (d : Octets) (i : ℕ) where
 
   -- a reserved octet, or a pointer
   pub run12_high : (o : ℕ) → slice_get d i ≡ Some o → 64 ≤ o → run12 d i ≡ None
-  run12_high o at from = run12_suc ∙ high12 o at from (octet_at d i)
+  run12_high o at from = search (rules, run12_suc, high12, octet_at)
 
--- the name at place 12 is read so
 pub name_at_12 : (d : Octets) → name_at d 12 ≡ option_and_then name_if_short (run12 d 12)
 name_at_12 d = name_at_is d 12 ∙ ap (option_and_then name_if_short) (sym (run12_is (runs_before d 12) d (length d) 12 (omega arith)))

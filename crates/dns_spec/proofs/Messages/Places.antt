@@ -1,5 +1,6 @@
 -- What stands at a place of a message is read there: numbers, octets, and names that are written whole or by a pointer.
-use Rattle.std.proofs.Common.{◌≡◌, ℕ, zero, suc, ◌+◌, ◌-◌, ◌*◌, ◌%◌, ◌^◌, ◌<◌, ◌≤◌, true, nat_lt, nat_le, [], ◌∷◌, ◌++◌, length, take, drop, IsTrue, Some, slice_get, refl, sym, ap, ◌∙◌, subst, arith, append_assoc, append-nil, take_at, drop_at, length-append, pow-suc, mul_comm, mod-eq_of_lt}
+use Rattle.std.proofs.lemmas.Grind.{common_steps}
+use Rattle.std.proofs.Common.{◌≡◌, ℕ, zero, suc, ◌+◌, ◌*◌, ◌%◌, ◌^◌, ◌<◌, ◌≤◌, true, [], ◌∷◌, ◌++◌, length, take, drop, IsTrue, Some, slice_get, refl, sym, ap, ◌∙◌, subst, arith, append_assoc, append-nil, take_at, drop_at, length-append, pow-suc, mul_comm, mod-eq_of_lt}
 use Rattle.std.proofs.Math.Nat.{pow-le-pow_right}
 use Rattle.std.proofs.Math.Arith.{mod-mul}
 use Rattle.std.proofs.lemmas.Bool.{and_parts, leb-true, ltb-true}
@@ -8,8 +9,7 @@ use Rattle.std.specs.List.{list_all}
 use Rattle.dns_spec.specs.Names.{Octets, DomainName, wire, is_label, is_name}
 use Rattle.dns_spec.specs.Data.{number_of}
 use Rattle.dns_spec.specs.Reading.{RunAt, NameAt, OctetsAt, NumberAt}
-use Rattle.dns_spec.specs.Reading.RunAt.{ends, goes_on, jumps}
-use Rattle.dns_spec.specs.Layout.{pointer}
+use Rattle.dns_spec.specs.Reading.RunAt.{ends, goes_on}
 
 pub length-bytes_high_first : (k n : ℕ) → length (bytes_high_first k n) ≡ k
 length-bytes_high_first zero n = refl
@@ -17,18 +17,11 @@ length-bytes_high_first (suc k) n = ap suc (length-bytes_high_first k n)
 
 -- the octets of a number spell it
 byte_on : (k n : ℕ) → byte_at k n * 256 ^ k + n % 256 ^ k ≡ n % 256 ^ suc k
-byte_on zero n = omega arith
-byte_on (suc k) n =
-    let unit = 256 ^ suc k in
-    let wider : 256 ^ suc (suc k) ≡ 256 * unit = pow-suc 256 (suc k) ∙ mul_comm unit 256 in
-    let some : 0 < unit = pow-le-pow_right {n = 256} (omega arith) {i = 0} {j = suc k} (omega arith) in
-    rw (wider, mod-mul n {m = 256} {c = unit} (omega arith) some) refl
+byte_on k n = grind (arith, pow-suc, mul_comm, pow-le-pow_right, mod-mul)
 
 pub number_of-bytes : (k n : ℕ) → number_of (bytes_high_first k n) ≡ n % 256 ^ k
 number_of-bytes zero n = omega arith
-number_of-bytes (suc k) n =
-    ap (λ x. byte_at k n * 256 ^ x + number_of (bytes_high_first k n)) (length-bytes_high_first k n)
-    ∙ ap (λ x. byte_at k n * 256 ^ k + x) (number_of-bytes k n) ∙ byte_on k n
+number_of-bytes (suc k) n = grind (arith, length-bytes_high_first, byte_on, (number_of-bytes k n))
 
 -- The octets x stand in b from place i on.
 pub record Stands (b : Octets) (i : ℕ) (x : Octets) : Type 0 where
@@ -57,9 +50,7 @@ stands_all b = record { before = []; after = []; whole = sym (append-nil b); pla
 
 -- they lie within b, and are read off
 pub stands_within : {b : Octets} {i : ℕ} (x : Octets) → Stands b i x → i + length x ≤ length b
-stands_within {b} {i} x s =
-    let e : length b ≡ length s.before + (length x + length s.after) = ap length s.whole ∙ length-append s.before (x ++ s.after) ∙ ap (λ z. length s.before + z) (length-append x s.after) in
-    omega (arith, e, s.place)
+stands_within {b} {i} x s = grind (arith, length-append)
 
 pub stands_drop : {b : Octets} {i : ℕ} (x : Octets) (s : Stands b i x) → drop i b ≡ x ++ s.after
 stands_drop {b} {i} x s = ap (drop i) s.whole ∙ drop_at s.before (x ++ s.after) i s.place
@@ -86,17 +77,11 @@ number_at {b} {i} k v low s =
     }
 
 pub octets_at : {b : Octets} {i : ℕ} (x : Octets) → Stands b i x → OctetsAt b i (i + length x) x
-octets_at {b} {i} x s = record {
-  ordered = omega arith;
-  within = stands_within x s;
-  are = let e : i + length x - i ≡ length x = omega arith in ap (λ z. take z (drop i b)) e ∙ stands_take x s;
-}
+octets_at {b} {i} x s = grind (arith, common_steps, stands_within, stands_take)
 
 -- a name written whole, of labels
 pub label_parts : (l : Octets) → is_label l ≡ true → (0 < length l) × (length l < 64)
-label_parts l h =
-    let p = and_parts (nat_lt 0 (length l)) (nat_le (length l) 63) h in
-    (ltb-true 0 (length l) p.0, let q = leb-true (length l) 63 p.1 in omega arith)
+label_parts l h = grind (arith, and_parts, ltb-true, leb-true)
 
 pub run_written : {b : Octets} {s : ℕ} (n : DomainName) {i : ℕ} → list_all is_label n ≡ true → Stands b i (wire n) → RunAt b s i n (i + length (wire n))
 run_written [] {i} h at = ends i (stands_get 0 [] at)
@@ -112,8 +97,3 @@ run_written {b} {s} (l ∷ n) {i} h at =
 
 pub name_written : {b : Octets} {i : ℕ} (n : DomainName) → IsTrue (is_name n) → Stands b i (wire n) → NameAt b i n (i + length (wire n))
 name_written n h at = (run_written n (and_parts (list_all is_label n) _ h).0 at, h)
-
--- a name written as a pointer to place 12
-pub name_pointed : {b : Octets} {i e : ℕ} (n : DomainName) → 12 < i → NameAt b 12 n e → Stands b i (pointer 12) → NameAt b i n (i + 2)
-name_pointed {b} {i} {e} n h at s =
-    (jumps i 192 12 12 n e (stands_get 192 (12 ∷ []) s) (omega arith) (stands_get 12 [] (stands_after 1 (192 ∷ []) (12 ∷ []) refl s)) refl (omega arith) h at.0, at.1)

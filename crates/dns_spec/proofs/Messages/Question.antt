@@ -1,5 +1,5 @@
 -- A question ends by octet 271: directly after the header a name is written out.
-use Rattle.std.proofs.Common.{◌≡◌, ℕ, ◌+◌, ◌≤◌, eqb, nat_le, length, drop, Option, None, Some, refl, ap, ◌∙◌, arith, length-append, length-drop}
+use Rattle.std.proofs.Common.{◌≡◌, ℕ, ◌+◌, ◌≤◌, eqb, nat_le, length, Option, None, Some, refl, arith, length-append, length-drop}
 use Rattle.std.proofs.lemmas.Bool.{and_parts, leb-true, eqb-true}
 use Rattle.std.proofs.lemmas.Option.{none-some, cond_some}
 use Rattle.std.proofs.lemmas.List.{length-take-le}
@@ -15,8 +15,7 @@ use Rattle.dns_spec.proofs.Messages.NameReading.{name_at_computes}
 written_out : {b : Octets} {s i e : ℕ} {n : DomainName} → RunAt b s i n e → s ≤ 12 → e ≡ i + length (wire n)
 written_out (ends i at) h = refl
 written_out {b} (goes_on i k l n e at pos low inside is rest) h =
-    let here : length l ≡ k = ap length is ∙ length-take-le k (drop (i + 1) b) (omega (arith, length-drop (i + 1) b)) in
-    omega (arith, here, written_out rest h, length-append l (wire n))
+    grind (arith, length-take-le, length-drop, length-append, (written_out rest h))
 written_out (jumps i o o' p n e at top at' is from before rest) h = absurd (omega arith)
 
 pub name_at_12_ends : (d : Octets) (n : DomainName) (e : ℕ) → NameAt d 12 n e → e ≡ 12 + length (wire n)

@@ -1,16 +1,12 @@
 -- Escapes: what one stands for is what it spells in a name, and how long one is.
-use Rattle.std.proofs.Common.{◌≡◌, ℕ, ◌-◌, ◌<◌, ◌≤◌, ◌⊎◌, inl, inr, Bool, true, false, cond, ◌&&◌, nat_le, nat_lt, Option, Some, None, [], ◌∷◌, ◌++◌, length, refl, sym, ◌∙◌, ap, subst, arith}
+use Rattle.std.proofs.Common.{◌≡◌, ℕ, ◌<◌, inl, inr, Bool, true, false, cond, ◌&&◌, nat_le, nat_lt, Option, Some, None, [], ◌∷◌, ◌++◌, refl, ap, subst, arith}
 use Rattle.std.specs.Prelude.{◌↔◌, ◌==◌, if◌then◌else◌}
-use Rattle.std.specs.Option.{option_map}
 use Rattle.std.proofs.lemmas.Bool.{and_parts, and_from, leb-true, le-leb, ltb-true, lt-ltb, cases_lt, cases_Bool, false≢true}
 use Rattle.std.proofs.lemmas.Option.{none-some, some_pair_parts}
 use Rattle.std.specs.Char.{is_ascii_digit, IsAsciiDigit, IsNotAsciiDigit}
 use Rattle.dns_spec.specs.Names.{Octets}
 use Rattle.dns_spec.specs.NameText.{three_digits_value, SpellsOctet, is_printable, digits_front, escape_front}
 use Rattle.dns_spec.specs.ZoneText.{escape_left}
-
-are_digits : ℕ → ℕ → ℕ → Bool
-are_digits a b c = is_ascii_digit a && is_ascii_digit b && is_ascii_digit c && nat_lt (three_digits_value a b c) 256
 
 -- how many octets the escape has, case by case
 abbrev pub counted_digits : Octets → ℕ
@@ -28,34 +24,8 @@ counted_escape (a ∷ text) = cond (is_ascii_digit a) (counted_digits (a ∷ tex
 abbrev pub left_by : ℕ → Option ℕ
 left_by k = if k == 0 then None else Some k
 
-abbrev front_left : Octets → Option (ℕ × Octets) → Option ℕ
-front_left text = option_map (λ r. length text - length r.1)
-
-digits-counted : (text : Octets) → front_left text (digits_front text) ≡ left_by (counted_digits text)
-digits-counted [] = refl
-digits-counted (a ∷ []) = refl
-digits-counted (a ∷ b ∷ []) = refl
-digits-counted (a ∷ b ∷ c ∷ text) = go (is_ascii_digit a && is_ascii_digit b && is_ascii_digit c && nat_lt (three_digits_value a b c) 256)
-  where
-    three : length (a ∷ b ∷ c ∷ text) - length text ≡ 3
-    three = omega arith
-
-    go : (t : Bool) → front_left (a ∷ b ∷ c ∷ text) (cond t (Some (three_digits_value a b c, text)) None) ≡ left_by (cond t 3 0)
-    go true = ap Some three
-    go false = refl
-
 pub escape-counted : (text : Octets) → escape_left text ≡ left_by (counted_escape text)
-escape-counted [] = refl
-escape-counted (a ∷ text) = go (is_ascii_digit a) (is_printable a)
-  where
-    one : length (a ∷ text) - length text ≡ 1
-    one = omega arith
-
-    go : (d p : Bool) → front_left (a ∷ text) (cond d (digits_front (a ∷ text)) (cond p (Some (a, text)) None))
-        ≡ left_by (cond d (counted_digits (a ∷ text)) (cond p 1 0))
-    go true p = digits-counted (a ∷ text)
-    go false true = ap Some one
-    go false false = refl
+escape-counted text = grind arith
 
 -- what an escape stands for is what it spells in a name
 abbrev pub Spelled : Octets → ℕ → Octets → Type 0
@@ -85,22 +55,10 @@ front-spelled (a ∷ b ∷ c ∷ text) x rest e = go (is_ascii_digit a && is_asc
         (a ∷ b ∷ c ∷ [], ap (λ t. a ∷ b ∷ c ∷ t) same.1, (refl, digit-true a both.0, digit-true b both.1, digit-true c third.1, same.0, subst (λ n. n < 256) same.0 small))
 
 not-digit : (a : ℕ) → is_ascii_digit a ≡ false → IsNotAsciiDigit a
-not-digit a h = by_cases (cases_lt a 48) (cases_lt 57 a)
-  where
-    by_cases : (a < 48) ⊎ (48 ≤ a) → (57 < a) ⊎ (a ≤ 57) → IsNotAsciiDigit a
-    by_cases (inl low) high = inl low
-    by_cases (inr low) (inl high) = inr high
-    by_cases (inr low) (inr high) = absurd (false≢true (sym h ∙ digit-from a (low, high)))
+not-digit a h = grind (arith, cases_lt, inl, inr, false≢true, digit-from)
 
 no-digit : (a : ℕ) → IsNotAsciiDigit a → is_ascii_digit a ≡ false
-no-digit a h = elim (cases_Bool (is_ascii_digit a)) [
-  | inl is ↦ absurd (outside (digit-true a is) h)
-  | inr none ↦ none
-]
-  where
-    outside : IsAsciiDigit a → IsNotAsciiDigit a → ⊥
-    outside d (inl low) = omega (arith, d.0, low)
-    outside d (inr high) = omega (arith, d.1, high)
+no-digit a h = grind (arith, cases_Bool, inl, digit-true, inr)
 
 escape-spelled : (text : Octets) (x : ℕ) (rest : Octets) → escape_front text ≡ Some (x, rest) → Spelled text x rest
 escape-spelled [] x rest e = absurd (none-some (x, rest) e)
@@ -116,15 +74,7 @@ escape-spelled (a ∷ text) x rest e = go (is_ascii_digit a) (is_printable a) re
         (a ∷ [], ap (λ t. a ∷ t) same.1, (refl, same.0, leb-true 32 a range.0, leb-true a 126 range.1, not-digit a digit))
 
 spelled-escape : (e : Octets) (x : ℕ) (rest : Octets) → SpellsOctet (92 ∷ e) x → escape_front (e ++ rest) ≡ Some (x, rest)
-spelled-escape [] x rest (is, no_dot, no_slash) = absurd (no_slash refl)
-spelled-escape (a ∷ []) x rest (slash, is, low, high, other) =
-    rw (no-digit a other, le-leb 32 a low, le-leb a 126 high) (ap (λ y. Some (y, rest)) is)
-spelled-escape (a ∷ b ∷ []) x rest h = absurd h
-spelled-escape (a ∷ b ∷ c ∷ []) x rest (slash, h, k, l, is, small) =
-    let low : three_digits_value a b c < 256 = subst (λ n. n < 256) (sym is) small in
-    rw (digit-from a h, digit-from b k, digit-from c l, lt-ltb (three_digits_value a b c) 256 low) (ap (λ y. Some (y, rest)) is)
-spelled-escape (a ∷ b ∷ c ∷ d ∷ e) x rest h = absurd h
+spelled-escape e x rest h = grind (arith, no-digit, le-leb, digit-from, lt-ltb)
 
 pub escape_spells : (text : Octets) (x : ℕ) (rest : Octets) → (escape_front text ≡ Some (x, rest)) ↔ Spelled text x rest
-escape_spells text x rest =
-    (escape-spelled text x rest, λ h. ap escape_front h.1 ∙ spelled-escape h.0 x rest h.2)
+escape_spells text x rest = grind (arith, escape-spelled, spelled-escape)

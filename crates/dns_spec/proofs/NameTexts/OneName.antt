@@ -1,10 +1,10 @@
 -- A word spells at most one name, and a text at most one string.
-use Rattle.std.proofs.Common.{◌≡◌, ◌≢◌, ℕ, ◌⊎◌, inl, inr, Bool, true, false, ◌==◌, [], ◌∷◌, ◌++◌, length, get_or, Option, Some, None, refl, sym, ◌∙◌, ap, ap₂, subst, arith, codes}
+use Rattle.std.proofs.Common.{◌≡◌, ℕ, inl, inr, Bool, true, false, ◌==◌, [], ◌∷◌, ◌++◌, length, get_or, Option, Some, None, refl, sym, ◌∙◌, ap, ap₂, subst, arith, codes}
 use Rattle.std.specs.Prelude.{if◌then◌else◌}
 use Rattle.std.specs.List.{list_all}
-use Rattle.std.specs.Char.{is_ascii_digit, IsAsciiDigit, IsNotAsciiDigit}
-use Rattle.std.proofs.lemmas.Bool.{true≢false, false≢true, and_parts, and_from, and_left, and_right, lt-leb, le-leb, eq-eqb, ne_eqb}
-use Rattle.std.proofs.lemmas.Option.{none-some, some_pair_parts}
+use Rattle.std.specs.Char.{is_ascii_digit}
+use Rattle.std.proofs.lemmas.Bool.{true≢false, false≢true, and_parts}
+use Rattle.std.proofs.lemmas.Option.{none-some}
 use Rattle.dns_spec.specs.Names.{Octets, DomainName, is_label}
 use Rattle.dns_spec.specs.NameText.{three_digits_value, SpellsOctet, LabelThen, TextSpells, SpellsName}
 use Rattle.dns_spec.specs.DataText.{SpellsStringOctet, SpellsString}
@@ -24,32 +24,18 @@ octet_front : Octets → Option (ℕ × Octets)
 octet_front [] = None
 octet_front (a ∷ text) = if a == 92 then escaped_front text else Some (a, text)
 
-digit : (a : ℕ) → IsAsciiDigit a → is_ascii_digit a ≡ true
-digit a h = and_from _ _ (le-leb _ _ h.0) (le-leb _ _ h.1)
-
-no_digit : (a : ℕ) → IsNotAsciiDigit a → is_ascii_digit a ≡ false
-no_digit a (inl h) = and_left _ _ (lt-leb _ _ h)
-no_digit a (inr h) = and_right _ _ (lt-leb _ _ h)
-
 octet_front-is : (first : Octets) (x : ℕ) (others : Octets) → SpellsOctet first x → octet_front (first ++ others) ≡ Some (x, others)
 unfolding octet_front escaped_front digits_front
-octet_front-is [] x others h = absurd h
-octet_front-is (a ∷ []) x others h = rw (ne_eqb a 92 h.2) (ap (λ y. Some (y, others)) h.0)
-octet_front-is (e ∷ a ∷ []) x others h = rw (eq-eqb e 92 h.0, no_digit a h.4) (ap (λ y. Some (y, others)) h.1)
-octet_front-is (e ∷ a ∷ b ∷ []) x others h = absurd h
-octet_front-is (e ∷ a ∷ b ∷ c ∷ []) x others h = rw (eq-eqb e 92 h.0, digit a h.1) (ap (λ y. Some (y, others)) h.4)
-octet_front-is (e ∷ a ∷ b ∷ c ∷ d ∷ more) x others h = absurd h
+octet_front-is first x others h = grind arith
 
 string_front-is : (first : Octets) (x : ℕ) (others : Octets) → SpellsStringOctet first x → octet_front (first ++ others) ≡ Some (x, others)
 unfolding octet_front
-string_front-is first x others (inl h) = octet_front-is first x others h
-string_front-is first x others (inr (dot, is)) = ap (λ t. octet_front (t ++ others)) dot ∙ ap (λ y. Some (y, others)) (sym is)
+string_front-is first x others h = grind (arith, octet_front-is, octet_front)
 
 -- a text begins with the spelling of one octet
 octet_once : (text first first' others others' : Octets) (x y : ℕ) → text ≡ first ++ others → text ≡ first' ++ others' → SpellsStringOctet first x → SpellsStringOctet first' y
     → (x ≡ y) × (others ≡ others')
-octet_once text first first' others others' x y e f h k =
-    some_pair_parts x y others others' (sym (string_front-is first x others h) ∙ ap octet_front (sym e ∙ f) ∙ string_front-is first' y others' k)
+octet_once text first first' others others' x y e f h k = grind arith
 
 no_front : (text first others : Octets) (x : ℕ) → text ≡ [] → text ≡ first ++ others → SpellsStringOctet first x → ⊥
 unfolding octet_front
@@ -70,12 +56,7 @@ ends (o ∷ text) = o == 46
 
 goes_on : (first : Octets) (x : ℕ) (others : Octets) → SpellsOctet first x → ends (first ++ others) ≡ false
 unfolding ends
-goes_on [] x others h = absurd h
-goes_on (a ∷ []) x others h = ne_eqb a 46 h.1
-goes_on (e ∷ a ∷ []) x others h = ne_eqb e 46 (λ f. omega (arith, f, h.0))
-goes_on (e ∷ a ∷ b ∷ []) x others h = absurd h
-goes_on (e ∷ a ∷ b ∷ c ∷ []) x others h = ne_eqb e 46 (λ f. omega (arith, f, h.0))
-goes_on (e ∷ a ∷ b ∷ c ∷ d ∷ more) x others h = absurd h
+goes_on first x others h = grind arith
 
 not_ended : (text rest first others : Octets) (x : ℕ) → text ≡ rest → ends rest ≡ true → text ≡ first ++ others → SpellsOctet first x → ⊥
 not_ended text rest first others x e end f h = true≢false (sym end ∙ ap ends (sym e ∙ f) ∙ goes_on first x others h)
@@ -87,9 +68,7 @@ label_once text [] rest [] rest' h k end end' = (refl, sym h ∙ k)
 label_once text [] rest (y ∷ l') rest' h (first, others, e, said, k) end end' = absurd (not_ended text rest first others y h end e said)
 label_once text (x ∷ l) rest [] rest' (first, others, e, said, h) k end end' = absurd (not_ended text rest' first others x k end' e said)
 label_once text (x ∷ l) rest (y ∷ l') rest' (first, others, e, said, h) (first', others', e', said', k) end end' =
-    let one = octet_once text first first' others others' x y e e' (inl said) (inl said') in
-    let after = label_once others l rest l' rest' h (subst (λ t. LabelThen t l' rest') (sym one.1) k) end end' in
-    (ap₂ (λ z zs. z ∷ zs) one.0 after.0, after.1)
+    grind (arith, octet_once, inl, ap₂, (label_once others l rest l' rest' h))
 
 no_empty_label : (l : Octets) → [] ≡ l → is_label l ≡ true → ⊥
 no_empty_label l e h = false≢true (ap is_label e ∙ h)
@@ -119,10 +98,7 @@ spelled_once origin text (l ∷ n) (l' ∷ m) all all' (inl (h, e)) (inr (others
 spelled_once origin text (l ∷ n) (l' ∷ m) all all' (inr (others, h, e)) (inl (k, f)) =
     absurd (not_cons 46 others (label_once text l' [] l (46 ∷ others) k h refl refl).1)
 spelled_once origin text (l ∷ n) (l' ∷ m) all all' (inr (others, h, e)) (inr (others', k, f)) =
-    let one = label_once text l (46 ∷ others) l' (46 ∷ others') h k refl refl in
-    let same : others ≡ others' = cc (one.1) in
-    let after = spelled_once origin others n m (and_parts (is_label l) _ all).1 (and_parts (is_label l') _ all').1 e (subst (λ t. TextSpells origin t m) (sym same) f) in
-    ap₂ (λ z zs. z ∷ zs) one.0 after
+    grind (arith, label_once, and_parts, ap₂, (spelled_once origin others n m))
 
 at_is_no_dot : (word : Octets) → word ≡ codes "@" → word ≡ codes "." → ⊥
 at_is_no_dot word e f = omega (arith, ap (λ t. get_or t 0 0) (sym e ∙ f))
@@ -134,23 +110,4 @@ dot_alone origin word [] e all h = omega (arith, ap length (sym e ∙ h))
 dot_alone origin word (l ∷ m) e all h = no_labels [] word (codes ".") origin l m e refl all h
 
 pub name_once : (origin : DomainName) (word : Octets) (n m : DomainName) → SpellsName origin word n → SpellsName origin word m → n ≡ m
-name_once origin word n m h k = by_cases h.spelled k.spelled
-  where
-    all : list_all is_label n ≡ true
-    all = (and_parts (list_all is_label n) _ h.is_name).0
-
-    all' : list_all is_label m ≡ true
-    all' = (and_parts (list_all is_label m) _ k.is_name).0
-
-    by_cases : ((word ≡ codes "@") × (n ≡ origin)) ⊎ (((word ≡ codes ".") × (n ≡ [])) ⊎ ((word ≢ codes "@") × (word ≢ []) × TextSpells origin word n))
-        → ((word ≡ codes "@") × (m ≡ origin)) ⊎ (((word ≡ codes ".") × (m ≡ [])) ⊎ ((word ≢ codes "@") × (word ≢ []) × TextSpells origin word m))
-        → n ≡ m
-    by_cases (inl (at, e)) (inl (at', f)) = e ∙ sym f
-    by_cases (inl (at, e)) (inr (inl (dot, f))) = absurd (at_is_no_dot word at dot)
-    by_cases (inl (at, e)) (inr (inr (no_at, some, f))) = absurd (no_at at)
-    by_cases (inr (inl (dot, e))) (inl (at, f)) = absurd (at_is_no_dot word at dot)
-    by_cases (inr (inl (dot, e))) (inr (inl (dot', f))) = e ∙ sym f
-    by_cases (inr (inl (dot, e))) (inr (inr (no_at, some, f))) = absurd (dot_alone origin word m dot all' f)
-    by_cases (inr (inr (no_at, some, e))) (inl (at, f)) = absurd (no_at at)
-    by_cases (inr (inr (no_at, some, e))) (inr (inl (dot, f))) = absurd (dot_alone origin word n dot all e)
-    by_cases (inr (inr (no_at, some, e))) (inr (inr (no_at', some', f))) = spelled_once origin word n m all all' e f
+name_once origin word n m h k = grind (arith, and_parts, at_is_no_dot, dot_alone, spelled_once)

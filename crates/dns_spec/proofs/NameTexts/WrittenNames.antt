@@ -1,10 +1,10 @@
 -- What is written for a name is read back as that name.
-use Rattle.std.proofs.Common.{◌≡◌, ◌≢◌, ℕ, suc, ◌+◌, ◌/◌, ◌%◌, ◌<◌, ◌≤◌, ◌==◌, All, inl, inr, true, false, [], ◌∷◌, ◌++◌, length, refl, sym, ◌∙◌, ap, subst, arith, length-append}
+use Rattle.std.proofs.Common.{◌≡◌, ◌≢◌, ℕ, suc, ◌+◌, ◌<◌, ◌≤◌, ◌==◌, All, inl, inr, true, false, [], ◌∷◌, ◌++◌, length, refl, sym, ◌∙◌, ap, subst, arith, length-append}
 use Rattle.std.proofs.lemmas.List.{append_assoc}
 use Rattle.std.proofs.lemmas.Bool.{true≢false, false≢true, eqb-true, cases_Bool, or_cases}
 use Rattle.std.specs.Prelude.{codes}
 use Rattle.std.specs.List.{list_any}
-use Rattle.std.specs.Char.{is_ascii_graphic, IsAsciiDigit, IsNotAsciiDigit}
+use Rattle.std.specs.Char.{IsAsciiDigit, IsNotAsciiDigit}
 use Rattle.dns_spec.specs.Names.{Octets, DomainName, is_name}
 use Rattle.dns_spec.specs.NameText.{SpellsOctet, LabelThen, TextSpells, SpellsName, is_special, three_digits, octet_text, label_text, labels_text, name_text}
 use Rattle.dns_spec.proofs.DomainNames.NameLaws.{IsLabel-is_label, is_label-head}
@@ -26,15 +26,7 @@ one_of : (x s : ℕ) (ss : Octets) → Quotable s → (list_any (λ t. x == t) s
 one_of x s ss q others h = elim (or_cases (x == s) (list_any (λ t. x == t) ss) h) [ inl e ↦ subst Quotable (sym (eqb-true x s e)) q | inr e ↦ others e ]
 
 special_quotable : (x : ℕ) → is_special x ≡ true → Quotable x
-special_quotable x =
-    one_of x 34 (codes "$().;@\\") (below_digits 34 (omega arith) (omega arith))
-    (one_of x 36 (codes "().;@\\") (below_digits 36 (omega arith) (omega arith))
-    (one_of x 40 (codes ").;@\\") (below_digits 40 (omega arith) (omega arith))
-    (one_of x 41 (codes ".;@\\") (below_digits 41 (omega arith) (omega arith))
-    (one_of x 46 (codes ";@\\") (below_digits 46 (omega arith) (omega arith))
-    (one_of x 59 (codes "@\\") (above_digits 59 (omega arith) (omega arith))
-    (one_of x 64 (codes "\\") (above_digits 64 (omega arith) (omega arith))
-    (one_of x 92 [] (above_digits 92 (omega arith) (omega arith)) (λ h. absurd (false≢true h)))))))))
+special_quotable x = grind (arith, one_of, below_digits, above_digits, false≢true)
 
 -- an octet that is not special is neither a dot nor a backslash
 not_special : (x y : ℕ) → is_special x ≡ false → is_special y ≡ true → x ≢ y
@@ -44,25 +36,12 @@ digit_below : (d : ℕ) → d < 10 → IsAsciiDigit (48 + d)
 digit_below d h = (omega arith, omega arith)
 
 pub digits_spell : (x : ℕ) → x < 256 → SpellsOctet (92 ∷ three_digits x) x
-digits_spell x h = (
-  refl,
-  digit_below (x / 100) (omega arith),
-  digit_below (x / 10 % 10) (omega arith),
-  digit_below (x % 10) (omega arith),
-  omega arith,
-  h,
-)
+digits_spell x h = grind (arith, digit_below)
 
 -- an octet's text spells it
 octet_spelled : (x : ℕ) → x < 256 → SpellsOctet (octet_text x) x
 unfolding octet_text
-octet_spelled x h = elim (cases_Bool (is_special x)) [
-  | inl special ↦ let q = special_quotable x special in rw special (refl, refl, q.low, q.high, q.no_digit)
-  | inr plain ↦ elim (cases_Bool (is_ascii_graphic x)) [
-    | inl graphic ↦ rw (plain, graphic) (refl, not_special x 46 plain refl, not_special x 92 plain refl)
-    | inr other ↦ rw (plain, other) (digits_spell x h)
-  ]
-]
+octet_spelled x h = grind (arith, cases_Bool, inl, special_quotable, inr, not_special, digits_spell)
 
 label_spelled : (l rest : Octets) → All (λ o. o < 256) l → LabelThen (label_text l ++ rest) l rest
 label_spelled [] rest h = refl
@@ -83,16 +62,12 @@ labels_spelled origin (l ∷ n) h =
 
 some_octet : (x : ℕ) → 0 < length (octet_text x)
 unfolding octet_text
-some_octet x = elim (cases_Bool (is_special x)) [
-  | inl special ↦ rw special (omega arith)
-  | inr plain ↦ elim (cases_Bool (is_ascii_graphic x)) [ inl graphic ↦ rw (plain, graphic) (omega arith) | inr other ↦ rw (plain, other) (omega arith) ]
-]
+some_octet x = grind (arith, cases_Bool, inl, inr)
 
 -- the text of a label and its dot has two octets or more
 pub labels_text_long : (l : Octets) (n : DomainName) → 0 < length l → 2 ≤ length (labels_text (l ∷ n))
 labels_text_long [] n h = absurd (omega arith)
-labels_text_long (x ∷ l) n h =
-    omega (arith, some_octet x, length-append (octet_text x) (label_text l), length-append (label_text (x ∷ l)) (codes "."), length-append (label_text (x ∷ l) ++ codes ".") (labels_text n))
+labels_text_long (x ∷ l) n h = grind (arith, some_octet, length-append)
 
 pub name_spelled : (origin n : DomainName) → All (All (λ o. o < 256)) n → is_name n ≡ true → SpellsName origin (name_text n) n
 name_spelled origin [] h ok = record { spelled = inr (inl (refl, refl)); is_name = ok }

@@ -1,11 +1,11 @@
 -- What is reported of a zone does not depend on the order of its records.
-use Rattle.std.proofs.Common.{◌≡◌, ◌≤◌, Bool, true, ◌⊎◌, inl, inr, List, [], ◌∷◌, length, refl, sym, ap, ◌∙◌, filter, flat_map, ◌==◌, arith}
+use Rattle.std.proofs.Common.{◌≡◌, ◌≤◌, Bool, ◌⊎◌, inl, inr, List, [], ◌∷◌, length, refl, sym, ap, ◌∙◌, filter, flat_map, ◌==◌, arith}
 use Rattle.dns_spec.specs.Names.{DomainName, folded, same}
 use Rattle.dns_spec.specs.Data.{type_soa}
 use Rattle.dns_spec.specs.Records.{ResourceRecord, ZoneContents, records_equal, distinct, zone_of, sort_by, record_order, ordered_zone, first_serial, zone_serial}
-use Rattle.dns_spec.specs.Checks.{Fault, faults}
+use Rattle.dns_spec.specs.Checks.{faults}
 use Rattle.dns_spec.specs.ZonePrinted.{record_line, soa_first, zone_text}
-use Rattle.dns_spec.specs.Report.{Options, passing, report_of_faults, zone_report}
+use Rattle.dns_spec.specs.Report.{Options, passing, zone_report}
 use Rattle.dns_spec.proofs.ZoneChecks.FaultOrder.{folded_folded}
 use Rattle.dns_spec.proofs.Records.SortedOnce.{Among, each_at, filter_each, among_filter, filter_among, among_sort, sort_among}
 use Rattle.dns_spec.proofs.Records.RecordOrder.{sort_risen, rises_canonical, ordered_faults}
@@ -26,10 +26,7 @@ same_single (x ∷ []) (y ∷ w ∷ ys) h k forth back = absurd (omega arith)
 
 -- what passes two tests, in a list and in another with the same elements
 kept_among : {X : Type 0} (p q : X → Bool) (a : X) (xs ys : List X) → ((b : X) → Among b xs → Among b ys) → Among a (filter p (filter q xs)) → Among a (filter p (filter q ys))
-kept_among p q a xs ys forth m =
-    let inner = among_filter p a (filter q xs) m in
-    filter_among p a (filter q ys) (each_at (λ x. p x ≡ true) a (filter p (filter q xs)) (filter_each p (filter q xs)) m)
-    (filter_among q a ys (each_at (λ x. q x ≡ true) a (filter q xs) (filter_each q xs) inner) (forth a (among_filter q a xs inner)))
+kept_among p q a xs ys forth m = grind (arith, among_filter, filter_among, each_at, filter_each)
 
 module _ (o : DomainName) (rs : List ResourceRecord) where
   pub ordered_text : zone_text (ordered_zone o rs) ≡ zone_text (zone_of o rs)
@@ -57,8 +54,4 @@ module _ (o : DomainName) (rs : List ResourceRecord) where
   ordered_passing options passes = rw (ordered_text, ordered_serial passes) refl
 
   pub ordered_report : (options : Options) → zone_report options (ordered_zone o rs) ≡ zone_report options (zone_of o rs)
-  ordered_report options = rw (ordered_faults o rs) (go (faults (zone_of o rs)) refl)
-    where
-      go : (fs : List Fault) → faults (zone_of o rs) ≡ fs → report_of_faults options (ordered_zone o rs) fs ≡ report_of_faults options (zone_of o rs) fs
-      go [] e = ordered_passing options e
-      go (f ∷ fs) e = refl
+  ordered_report options = grind (arith, ordered_faults, ordered_passing)

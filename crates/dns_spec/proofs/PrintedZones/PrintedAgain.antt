@@ -1,5 +1,5 @@
 -- The canonical text of a zone is its own canonical text, and zones with one such text hold the same records.
-use Rattle.std.proofs.Common.{◌≡◌, ◌≤◌, ◌↔◌, ◌<◌, IsTrue, Bool, true, false, not, cond, All, List, [], ◌∷◌, length, refl, sym, ap, ◌∙◌, subst, arith, is_eq, filter, inl, inr}
+use Rattle.std.proofs.Common.{◌≡◌, ◌≤◌, ◌↔◌, ◌<◌, IsTrue, Bool, All, List, [], ◌∷◌, length, refl, sym, ap, ◌∙◌, subst, arith, is_eq, filter, inl, inr}
 use Rattle.std.proofs.lemmas.Bool.{false≢true}
 use Rattle.std.proofs.lemmas.List.Sorted.{IsPermutation-trans, IsPermutation-sym, Contains-permutation}
 use Rattle.std.specs.List.{Contains}
@@ -10,7 +10,7 @@ use Rattle.dns_spec.specs.ZoneText.{most_octets}
 use Rattle.dns_spec.specs.Meaning.{Meaning, records, fault_at, Means, most_records}
 use Rattle.dns_spec.specs.ZonePrinted.{IsReadRecord, HasZoneType, printed_records, zone_text}
 use Rattle.dns_spec.specs.Checks.{Fault, faults}
-use Rattle.dns_spec.specs.Report.{Options, Report, loaded_report, report_of_faults, Reports}
+use Rattle.dns_spec.specs.Report.{Options, Report, report_of_faults, Reports}
 use Rattle.dns_spec.proofs.Records.SortedOnce.{Each, Among, each_distinct, distinct_among, among_distinct}
 use Rattle.dns_spec.proofs.Records.RecordOrder.{record_order_total, record_ties, LowerOwner, one_record, contains_among, among_contains, each_all, all_each}
 use Rattle.dns_spec.proofs.ZoneTexts.OneMeaning.{meaning_once}
@@ -24,16 +24,11 @@ all_distinct P rs all = all_each P (distinct records_equal rs) (each_distinct P 
 
 length_filter : {X : Type 0} (p : X → Bool) (xs : List X) → length (filter p xs) ≤ length xs
 length_filter p [] = omega arith
-length_filter p (x ∷ xs) = go (p x) (length_filter p xs)
-  where
-    go : (t : Bool) → length (filter p xs) ≤ length xs → length (cond t (x ∷ filter p xs) (filter p xs)) ≤ length (x ∷ xs)
-    go true h = omega (arith, h)
-    go false h = omega (arith, h)
+length_filter p (x ∷ xs) = grind (arith, (length_filter p xs))
 
 length_distinct : {X : Type 0} (eq : X → X → Bool) (xs : List X) → length (distinct eq xs) ≤ length xs
 length_distinct eq [] = omega arith
-length_distinct eq (x ∷ xs) =
-    omega (arith, length_filter (λ y. not (eq x y)) (distinct eq xs), length_distinct eq xs)
+length_distinct eq (x ∷ xs) = grind (arith, length_filter, (length_distinct eq xs))
 
 all_contained : (xs ys : List ResourceRecord) → ((a : ResourceRecord) → Among a xs → Among a ys) → All (Contains ys) xs
 all_contained xs ys forth = all_each (Contains ys) xs (each_contained xs forth)
@@ -83,8 +78,7 @@ printed_reports o t options report from (records rs, means, e) printing passes s
   where
     printed_output : (options : Options) (z : ZoneContents) (fs : List Fault) (report : Report) → report ≡ report_of_faults options z fs → IsTrue options.is_printing
         → IsTrue report.passes → report.output ≡ zone_text z
-    printed_output options z [] report e printing passes =
-        ap (λ (r : Report). r.output) e ∙ ap (λ b. cond b (zone_text z) (cond options.is_quiet [] (loaded_report z))) printing
+    printed_output options z [] report e printing passes = grind arith
     printed_output options z (f ∷ fs) report e printing passes = absurd (false≢true (sym (ap (λ (r : Report). r.passes) e) ∙ passes))
 
 -- zones with one text

@@ -1,5 +1,5 @@
 -- The line of a record is read as the words of the record, and a line end.
-use Rattle.std.proofs.Common.{◌≡◌, ℕ, ◌<◌, Bool, true, false, ◌&&◌, ◌==◌, Some, None, Option, List, [], ◌∷◌, ◌++◌, map, length, nat_lt, refl, sym, ap, subst, arith, append_assoc, codes, decimal}
+use Rattle.std.proofs.Common.{◌≡◌, ℕ, ◌<◌, Bool, true, false, ◌&&◌, ◌==◌, Some, None, Option, List, [], ◌∷◌, ◌++◌, map, length, nat_lt, refl, sym, ap, subst, arith, append_assoc, codes, decimal, rules}
 use Rattle.std.proofs.lemmas.Bool.{and_parts, ltb-true}
 use Rattle.std.specs.Option.{option_map, unwrap_or}
 use Rattle.std.specs.List.{list_all, prefix_len, filter_map, join_with_byte}
@@ -10,7 +10,7 @@ use Rattle.dns_spec.specs.TypeText.{numbered_type, type_text}
 use Rattle.dns_spec.specs.DataText.{Word, is_word_octet}
 use Rattle.dns_spec.specs.WrittenText.{plain, word_text, written_words, data_text, stands_alone}
 use Rattle.dns_spec.specs.Records.{ResourceRecord}
-use Rattle.dns_spec.specs.ZoneText.{Token, blank, word, quoted_string, line_end, is_blank, TokensThen, parenthesis, before_first, cut_entries, parentheses, word_of}
+use Rattle.dns_spec.specs.ZoneText.{Token, blank, line_end, is_blank, TokensThen, parenthesis, cut_entries, parentheses, word_of}
 use Rattle.dns_spec.specs.ZonePrinted.{IsReadRecord, record_line}
 use Rattle.dns_spec.proofs.Records.SortedOnce.{Each}
 use Rattle.dns_spec.proofs.DataWords.BareWords.{Bare, bare_append, bare_decimal}
@@ -72,10 +72,7 @@ words_then (w ∷ []) rest reads = record {
   first = no_blank w (10 ∷ rest) reads.0.alone;
 }
 words_then (w ∷ v ∷ ws) rest reads =
-    let more = words_then (v ∷ ws) rest reads.1 in
-    let others = join_with_byte 32 (map word_text (v ∷ ws)) in
-    subst (λ t. Reads t (words_tokens (w ∷ v ∷ ws)) rest) (sym (append_assoc (word_text w) (32 ∷ others) (10 ∷ rest)))
-    (word_then w (words_tokens (v ∷ ws)) (others ++ 10 ∷ rest) rest reads.0 more)
+    search (rules, append_assoc, word_then, (words_then (v ∷ ws) rest reads.1))
 
 -- the first words of a line
 abbrev is_bare_text : Octets → Bool
@@ -131,45 +128,27 @@ line_pieces_read r rest h = (line_read r rest h).tokens
 
 -- a word's token is no parenthesis, and gives the word
 no_parenthesis : (w : Word) → parenthesis (word_token w) ≡ None
-no_parenthesis w = by w.raw w.is_quoted
-  where
-    by : (raw : Octets) (q : Bool) → parenthesis (word_token (record { raw = raw; is_quoted = q })) ≡ None
-    by raw true = refl
-    by raw false = refl
+no_parenthesis w = grind (arith, word_token)
 
 token_word : (w : Word) → word_of (word_token w) ≡ Some w
-token_word w = by w.raw w.is_quoted
-  where
-    by : (raw : Octets) (q : Bool) → word_of (word_token (record { raw = raw; is_quoted = q })) ≡ Some (record { raw = raw; is_quoted = q })
-    by raw true = refl
-    by raw false = refl
+token_word w = grind (arith, word_token)
 
 -- what the tokens after a line's words give
 cut_word : (w : Word) (ps e : List Token) (es : List (List Token)) → cut_entries false ps ≡ e ∷ es → cut_entries false (word_token w ∷ ps) ≡ (word_token w ∷ e) ∷ es
-cut_word w ps e es cut = by w.raw w.is_quoted
-  where
-    by : (raw : Octets) (q : Bool)
-        → cut_entries false (word_token (record { raw = raw; is_quoted = q }) ∷ ps) ≡ (word_token (record { raw = raw; is_quoted = q }) ∷ e) ∷ es
-    by raw true = ap (before_first (quoted_string raw)) cut
-    by raw false = ap (before_first (word raw)) cut
+cut_word w ps e es cut = grind (arith, word_token)
 
 cut_words : (ws : List Word) (ps : List Token) → cut_entries false (words_tokens ws ++ ps) ≡ words_tokens ws ∷ cut_entries false ps
 cut_words [] ps = refl
 cut_words (w ∷ []) ps = cut_word w (line_end ∷ ps) (line_end ∷ []) (cut_entries false ps) refl
-cut_words (w ∷ v ∷ ws) ps =
-    cut_word w (blank ∷ (words_tokens (v ∷ ws) ++ ps)) (blank ∷ words_tokens (v ∷ ws)) (cut_entries false ps)
-    (ap (before_first blank) (cut_words (v ∷ ws) ps))
+cut_words (w ∷ v ∷ ws) ps = grind (arith, cut_word, (cut_words (v ∷ ws) ps))
 
 cut_led : (ws : List Word) (qs ps : List Token) → cut_entries false (qs ++ ps) ≡ qs ∷ cut_entries false ps
     → cut_entries false (led ws qs ++ ps) ≡ led ws qs ∷ cut_entries false ps
 cut_led [] qs ps cut = cut
-cut_led (w ∷ ws) qs ps cut =
-    cut_word w (blank ∷ (led ws qs ++ ps)) (blank ∷ led ws qs) (cut_entries false ps) (ap (before_first blank) (cut_led ws qs ps cut))
+cut_led (w ∷ ws) qs ps cut = grind (arith, (cut_led ws qs ps cut))
 
 pub line_cut : (r : ResourceRecord) (ps : List Token) → cut_entries false (line_tokens r ++ ps) ≡ line_tokens r ∷ cut_entries false ps
-line_cut r ps =
-    let qs = words_tokens (written_words r.rtype r.rdata) in
-    cut_led (first_words r) qs ps (cut_words (written_words r.rtype r.rdata) ps)
+line_cut r ps = grind (arith, cut_led, cut_words)
 
 words_parentheses : (ws : List Word) → parentheses (words_tokens ws) ≡ []
 words_parentheses [] = refl

@@ -1,25 +1,22 @@
 -- The text of records means these records.
-use Rattle.std.proofs.Common.{◌≡◌, ℕ, suc, ◌+◌, ◌<◌, ◌≤◌, ◌^◌, ◌⊎◌, inl, inr, Bool, true, false, cond, ◌||◌, ◌==◌, All, Some, None, Option, List, [], ◌∷◌, ◌++◌, map, length, take, refl, sym, ◌∙◌, ap, subst, arith, append_assoc, codes, decimal}
-use Rattle.std.proofs.lemmas.Bool.{false≢true, cases_Bool, eqb-true, lt-leb, le-ltb, le-leb, and_from}
+use Rattle.std.proofs.Common.{◌≡◌, ℕ, suc, ◌+◌, ◌<◌, ◌≤◌, ◌^◌, inl, inr, Bool, true, false, ◌==◌, All, Some, None, Option, List, [], ◌∷◌, ◌++◌, map, length, take, refl, sym, ◌∙◌, ap, subst, arith, append_assoc, codes, decimal, rules}
+use Rattle.std.proofs.lemmas.Bool.{false≢true, cases_Bool, eqb-true, lt-leb, le-ltb}
 use Rattle.std.proofs.lemmas.List.{take_all}
 use Rattle.std.proofs.lemmas.Option.{none-some, same_Some}
 use Rattle.std.proofs.lemmas.Fmt.{decimal_is_IsNumeral, decimal_nonempty}
-use Rattle.std.proofs.lemmas.Str.Parse.{digit_from_value}
 use Rattle.std.specs.Prelude.{MatchOption, if◌then◌else◌}
-use Rattle.std.specs.Option.{option_map, unwrap_or}
 use Rattle.std.specs.List.{list_any, find, filter, flat_map}
-use Rattle.std.specs.Char.{is_ascii_graphic, is_ascii_digit}
+use Rattle.std.specs.Char.{is_ascii_digit}
 use Rattle.std.specs.Str.Parse.{AllDigits}
 use Rattle.dns_spec.specs.Names.{Octets, DomainName}
-use Rattle.dns_spec.specs.NameText.{SpellsName, is_special, octet_text, label_text, labels_text, name_text}
-use Rattle.dns_spec.specs.Data.{TypeRow, type_table, row_of}
-use Rattle.dns_spec.specs.TypeText.{text_in_lower_case, numbered_type, type_text, type_by_mnemonic, NamesType}
+use Rattle.dns_spec.specs.NameText.{is_special, octet_text, name_text}
+use Rattle.dns_spec.specs.TypeText.{type_text, NamesType}
 use Rattle.dns_spec.specs.DataText.{Word, Says}
 use Rattle.dns_spec.specs.WrittenText.{plain, written_words}
 use Rattle.dns_spec.specs.Records.{ResourceRecord}
 use Rattle.dns_spec.specs.ZoneText.{Token, most_octets, TokensThen, take_turns, cut_entries, begins_with, Entry, Entries, ended, with_end, lexical_fault, whole_text, extent_by}
 use Rattle.dns_spec.specs.FileFaults.{bad_owner, bad_parenthesis}
-use Rattle.dns_spec.specs.Meaning.{faulty, gives, no_words, directive, owned, unowned, kind_by_words, kind_of, Fields, fields, is_ttl_word, directive_word, is_record, OriginIs, NameIs, IsRecord, most_records, RecordGives, KindGives, EntryGives, records, EntriesMean, Means}
+use Rattle.dns_spec.specs.Meaning.{faulty, gives, owned, kind_of, Fields, fields, is_ttl_word, directive_word, is_record, OriginIs, NameIs, IsRecord, most_records, RecordGives, KindGives, EntryGives, records, EntriesMean, Means}
 use Rattle.dns_spec.specs.ZonePrinted.{IsReadRecord, HasZoneType, record_line}
 use Rattle.dns_spec.proofs.Records.SortedOnce.{Each}
 use Rattle.dns_spec.proofs.NameTexts.WrittenNames.{name_spelled}
@@ -40,8 +37,7 @@ lines_read : (rs : List ResourceRecord) → Each IsReadRecord rs → TokensThen 
 unfolding lines_tokens
 lines_read [] h = refl
 lines_read (r ∷ rs) h =
-    let rest = flat_map record_line rs in
-    tokens_then (line_tokens r) (lines_tokens rs) (record_line r ++ rest) rest [] (line_pieces_read r rest h.0) (lines_read rs h.1)
+    search (rules, tokens_then, line_tokens, lines_tokens, line_pieces_read, (lines_read rs h.1))
 
 abbrev line_entry : ResourceRecord → Entry
 line_entry r = ended (line_tokens r)
@@ -75,41 +71,26 @@ text_entries rs h short =
 
 -- the text of a name is no directive
 special_other : (x : ℕ) → is_special x ≡ false → (x == 36) ≡ false
-special_other x other = elim (cases_Bool (x == 36)) [
-  | inl e ↦ absurd (false≢true (sym other ∙ ap is_special (eqb-true x 36 e)))
-  | inr apart ↦ apart
-]
+special_other x other = grind (arith, cases_Bool, inl, false≢true, eqb-true, inr)
 
 octet_begins : (x : ℕ) (rest : Octets) → begins_with 36 (octet_text x ++ rest) ≡ false
 unfolding octet_text
-octet_begins x rest = by_cases (cases_Bool (is_special x)) (cases_Bool (is_ascii_graphic x))
-  where
-    by_cases : (is_special x ≡ true) ⊎ (is_special x ≡ false) → (is_ascii_graphic x ≡ true) ⊎ (is_ascii_graphic x ≡ false) → begins_with 36 (octet_text x ++ rest) ≡ false
-    by_cases (inl special) graphic = rw special refl
-    by_cases (inr other) (inl graphic) = rw (other, graphic) (special_other x other)
-    by_cases (inr other) (inr none) = rw (other, none) refl
+octet_begins x rest = grind (arith, cases_Bool, inl, inr, special_other)
 
 name_begins : (n : DomainName) → begins_with 36 (name_text n) ≡ false
 name_begins [] = refl
 name_begins ([] ∷ n) = refl
-name_begins ((x ∷ l) ∷ n) =
-    ap (begins_with 36) (append_assoc (label_text (x ∷ l)) (46 ∷ []) (labels_text n) ∙ append_assoc (octet_text x) (label_text l) (46 ∷ labels_text n))
-    ∙ octet_begins x (label_text l ++ 46 ∷ labels_text n)
+name_begins ((x ∷ l) ∷ n) = grind (arith, append_assoc, octet_begins)
 
 -- what the words of a line are
 abbrev words_after : ResourceRecord → List Word
 words_after r = plain (decimal r.ttl) ∷ plain (codes "IN") ∷ plain (type_text r.rtype) ∷ written_words r.rtype r.rdata
 
 line_kind : (r : ResourceRecord) → kind_of (line_entry r) ≡ owned (plain (name_text r.owner)) (words_after r)
-line_kind r =
-    ap (kind_by_words false) (line_words_again r)
-    ∙ ap (λ d. if d then directive (text_in_lower_case (name_text r.owner)) (words_after r) else owned (plain (name_text r.owner)) (words_after r)) (name_begins r.owner)
+line_kind r = grind (arith, line_words_again, name_begins)
 
 digits_begin : (x : Octets) → 0 < length x → AllDigits 10 x → list_any is_ascii_digit (take 1 x) ≡ true
-digits_begin [] some digits = absurd (omega (arith, some))
-digits_begin (c ∷ x) some digits =
-    let range = digit_from_value c digits.0 in
-    ap (λ b. b || false) (and_from _ _ (le-leb 48 c range.0) (le-leb c 57 range.1))
+digits_begin x h h1 = grind arith
 
 ttl_begins : (n : ℕ) → n < 2 ^ 64 → is_ttl_word (plain (decimal n)) ≡ true
 ttl_begins n small = digits_begin (decimal n) (decimal_nonempty n small) (decimal_is_IsNumeral n small).0.1
@@ -130,29 +111,17 @@ line_faultless r = ap (λ marks. if take_turns false marks then None else Some b
 -- a type's word names it
 found_passes : {X : Type 0} (p : X → Bool) (xs : List X) (x : X) → find p xs ≡ Some x → p x ≡ true
 found_passes p [] x e = absurd (none-some x e)
-found_passes p (y ∷ xs) x e = by_cases (cases_Bool (p y)) (found_passes p xs x)
-  where
-    by_cases : (p y ≡ true) ⊎ (p y ≡ false) → (find p xs ≡ Some x → p x ≡ true) → p x ≡ true
-    by_cases (inl here) after = let f : Some y ≡ Some x = rw here at e in ap p (sym (same_Some y x f)) ∙ here
-    by_cases (inr other) after = let f : find p xs ≡ Some x = rw other at e in after f
+found_passes p (y ∷ xs) x e = grind (arith, cases_Bool, inl, same_Some, inr, (found_passes p xs x))
 
 abbrev is_number : Option ℕ → ℕ → Bool
 is_number None n = false
 is_number (Some m) n = m == n
 
 number_is : (o : Option ℕ) (n : ℕ) → is_number o n ≡ true → o ≡ Some n
-number_is None n h = absurd (false≢true h)
-number_is (Some m) n h = ap (λ x. Some x) (eqb-true m n h)
+number_is o n h = grind arith
 
 type_named : (t : ℕ) → t < 65536 → NamesType (type_text t) t
-type_named t small = go (row_of t) refl
-  where
-    go : (r : Option TypeRow) → row_of t ≡ r → NamesType (unwrap_or (option_map (λ (row : TypeRow). row.mnemonic) r) (numbered_type t)) t
-    go None e = inr (small, refl)
-    go (Some made) e =
-        let found = found_passes (λ (row : TypeRow). row.number == t) type_table made e in
-        let named = entry_passes (λ (row : TypeRow). row.number == t) (λ (row : TypeRow). is_number (type_by_mnemonic row.mnemonic) row.number) type_table made e refl in
-        inl (number_is (type_by_mnemonic made.mnemonic) made.number named ∙ ap (λ x. Some x) (eqb-true made.number t found))
+type_named t small = grind (arith, inr, found_passes, entry_passes, inl, number_is, eqb-true)
 
 -- where no entry before is `$ORIGIN`
 abbrev KeepsOrigin : Entry → Type 0
@@ -160,8 +129,7 @@ KeepsOrigin e = directive_word (codes "$origin") (kind_of e) ≡ None
 
 origin_stays : (o : DomainName) (earlier : List Entry) → Each KeepsOrigin earlier → OriginIs o earlier o
 origin_stays o [] h = refl
-origin_stays o (e ∷ earlier) h =
-    subst (λ w. MatchOption w (OriginIs o earlier o) (λ v. (m : DomainName) × OriginIs o earlier m × SpellsName m v.raw o)) (sym h.0) (origin_stays o earlier h.1)
+origin_stays o (e ∷ earlier) h = grind (arith, (origin_stays o earlier h.1))
 
 line_record : (o : DomainName) (earlier : List Entry) (r : ResourceRecord) → OriginIs o earlier o → IsReadRecord r → HasZoneType r
     → IsRecord o earlier (NameIs o earlier (plain (name_text r.owner))) (line_fields r) r
@@ -194,10 +162,7 @@ line_keeps_origin : (r : ResourceRecord) → KeepsOrigin (line_entry r)
 line_keeps_origin r = ap (directive_word (codes "$origin")) (line_kind r)
 
 line_counts : (r : ResourceRecord) (earlier : List Entry) → length (filter is_record (line_entry r ∷ earlier)) ≡ suc (length (filter is_record earlier))
-line_counts r earlier = ap (λ t. length (cond t (line_entry r ∷ filter is_record earlier) (filter is_record earlier))) counted
-  where
-    counted : is_record (line_entry r) ≡ true
-    counted = ap (λ s. elim s as (λ _. Bool) [ no_words ↦ false | directive n ws ↦ false | owned w ws ↦ true | unowned ws ↦ true ]) (line_kind r)
+line_counts r earlier = grind (arith, line_kind)
 
 lines_mean : (o : DomainName) (earlier : List Entry) (rs : List ResourceRecord) → Each KeepsOrigin earlier → Each IsReadRecord rs → Each HasZoneType rs
     → length (filter is_record earlier) + length rs ≤ most_records → EntriesMean o earlier (lines_entries rs) (records rs)

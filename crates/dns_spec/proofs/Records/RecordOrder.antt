@@ -1,16 +1,16 @@
 -- The canonical order of records, and lists of records in it.
-use Rattle.std.proofs.Common.{◌≡◌, ℕ, zero, suc, Bool, true, false, ◌&&◌, cond, eqb, ◌⊎◌, inl, inr, List, [], ◌∷◌, reverse, refl, sym, ap, ap₂, ◌∙◌, arith, All, IsPermutation, is_eq, is_gt, nat_cmp, Ordering, Less, Equal, Greater}
-use Rattle.std.proofs.lemmas.Bool.{false≢true, and_parts, eqb-true}
+use Rattle.std.proofs.Common.{◌≡◌, zero, suc, Bool, true, false, ◌&&◌, cond, eqb, ◌⊎◌, inl, inr, List, [], ◌∷◌, refl, sym, ap, ap₂, ◌∙◌, arith, All, IsPermutation, is_eq, is_gt, nat_cmp, Ordering, Less, Equal, rules}
+use Rattle.std.proofs.lemmas.Bool.{and_parts, eqb-true}
 use Rattle.std.proofs.lemmas.Cmp.{nat_cmp_total, nat_list_cmp_total, on_total, then_total, tied_itself}
 use Rattle.std.proofs.lemmas.List.Elements.{All-head, All-tail, All-nil, All-cons}
 use Rattle.std.proofs.lemmas.List.Sorted.{All-permutation, Contains-permutation, IsPermutation-refl, IsPermutation-sym, IsPermutation-cons, IsPermutation-trans, IsPermutation-middle}
 use Rattle.std.proofs.lemmas.List.Kept.{IsStrictlySortedBy-dedup}
-use Rattle.std.specs.List.{Contains, AllByRecursion, dedup, dedup_from}
+use Rattle.std.specs.List.{Contains, dedup, dedup_from}
 use Rattle.std.specs.List.Sorted.{IsSorted, IsStrictlySortedBy}
 use Rattle.std.specs.Cmp.{IsTotalOrder}
-use Rattle.std.specs.Cmp.Lexicographic.{slice_cmp, lists_ties}
+use Rattle.std.specs.Cmp.Lexicographic.{lists_ties}
 use Rattle.std.specs.Ordering.{ordering_then, eq_by_cmp}
-use Rattle.dns_spec.specs.Names.{Octets, DomainName, folded, octets_equal, same, label_order, name_order}
+use Rattle.dns_spec.specs.Names.{DomainName, octets_equal, same, name_order}
 use Rattle.dns_spec.specs.Records.{ResourceRecord, zone_of, records_equal, distinct, insert_by, sort_by, data_order, record_order, ordered_zone}
 use Rattle.dns_spec.specs.Checks.{faults}
 use Rattle.dns_spec.proofs.DomainNames.NameLaws.{octets_equal-decides, names_equal-decides, same_tests}
@@ -24,28 +24,25 @@ record_order_total =
     (then_total (on_total (λ (r : ResourceRecord). r.rdata) nat_list_cmp_total) (on_total (λ (r : ResourceRecord). r.ttl) nat_cmp_total)))
 
 equal_from : (o : Ordering) → is_eq o ≡ true → o ≡ Equal
-equal_from Less f = absurd (false≢true f)
-equal_from Equal f = refl
-equal_from Greater f = absurd (false≢true f)
+equal_from o h = grind arith
 
 name_ties : (n m : DomainName) → same n m ≡ is_eq (name_order n m)
 name_ties n m =
-    same_tests (same n m) (is_eq (name_order n m))
-    (λ t. ap is_eq (ap (λ x. slice_cmp label_order (reverse x) (reverse (folded m))) ((names_equal-decides (folded n) (folded m)).0 t) ∙ tied_itself name_order_total m))
-    (λ t. name_tie n m (equal_from (name_order n m) t))
+    grind (
+      arith,
+      same_tests,
+      names_equal-decides,
+      tied_itself,
+      name_order_total,
+      name_tie,
+      equal_from,
+    )
 
 then_ties : (a b : Ordering) → is_eq (ordering_then a b) ≡ (is_eq a && is_eq b)
-then_ties Less b = refl
-then_ties Equal b = refl
-then_ties Greater b = refl
+then_ties a b = grind arith
 
 four_tests : (a b c d : Bool) → (a && b && c && d) ≡ (a && (b && (c && d)))
-four_tests true b c d = three b c d
-  where
-    three : (b c d : Bool) → (b && c && d) ≡ (b && (c && d))
-    three true c d = refl
-    three false c d = refl
-four_tests false b c d = refl
+four_tests a b c d = grind arith
 
 -- records tie just where they are equal
 pub record_ties : (r s : ResourceRecord) → records_equal r s ≡ eq_by_cmp record_order r s
@@ -64,18 +61,11 @@ abbrev pub LowerOwner : ResourceRecord → Type 0
 LowerOwner r = Lower r.owner
 
 one_of_parts : (r s : ResourceRecord) → r.owner ≡ s.owner → r.ttl ≡ s.ttl → r.rtype ≡ s.rtype → r.rdata ≡ s.rdata → r ≡ s
-one_of_parts r s a b c d =
-    let whole : DomainName → ℕ → ℕ → Octets → ResourceRecord = λ n k t o. record { owner = n; ttl = k; rtype = t; rdata = o } in
-    ap (λ n. whole n r.ttl r.rtype r.rdata) a ∙ ap (λ k. whole s.owner k r.rtype r.rdata) b
-    ∙ ap (λ t. whole s.owner s.ttl t r.rdata) c ∙ ap (λ o. whole s.owner s.ttl s.rtype o) d
+one_of_parts r s a b c d = grind arith
 
 pub one_record : (r s : ResourceRecord) → LowerOwner r → LowerOwner s → records_equal r s ≡ true → r ≡ s
 one_record r s low low' t =
-    let ttls = and_parts (same r.owner s.owner && eqb r.rtype s.rtype && octets_equal r.rdata s.rdata) (eqb r.ttl s.ttl) t in
-    let octets = and_parts (same r.owner s.owner && eqb r.rtype s.rtype) (octets_equal r.rdata s.rdata) ttls.0 in
-    let types = and_parts (same r.owner s.owner) (eqb r.rtype s.rtype) octets.0 in
-    one_of_parts r s (one_lower r.owner s.owner low low' types.0) (eqb-true r.ttl s.ttl ttls.1) (eqb-true r.rtype s.rtype types.1)
-    ((octets_equal-decides r.rdata s.rdata).0 octets.1)
+    grind (arith, and_parts, one_of_parts, one_lower, eqb-true, octets_equal-decides)
 
 -- members, by places and by recursion
 pub contains_among : {X : Type 0} (a : X) (xs : List X) → Contains xs a → Among a xs
@@ -103,13 +93,8 @@ all_each P (x ∷ xs) e = All-cons P x xs e.0 (all_each P xs e.1)
 module _ {X : Type 0} (eq : X → X → Bool) where
   dedup_from_among : (a k : X) (xs : List X) → Among a (dedup_from eq k xs) → (a ≡ k) ⊎ Among a xs
   dedup_from_among a k [] m = m
-  dedup_from_among a k (x ∷ xs) m = go (eq x k) m (dedup_from_among a k xs) (dedup_from_among a x xs)
-    where
-      go : (t : Bool) → Among a (cond t (dedup_from eq k xs) (k ∷ dedup_from eq x xs)) → (Among a (dedup_from eq k xs) → (a ≡ k) ⊎ Among a xs) → (Among a (dedup_from eq x xs) → (a ≡ x) ⊎ Among a xs)
-          → (a ≡ k) ⊎ ((a ≡ x) ⊎ Among a xs)
-      go true m f g = elim (f m) [ inl e ↦ inl e | inr n ↦ inr (inr n) ]
-      go false (inl e) f g = inl e
-      go false (inr n) f g = inr (g n)
+  dedup_from_among a k (x ∷ xs) m =
+      grind (arith, Among, inl, inr, (dedup_from_among a k xs), (dedup_from_among a x xs))
 
   dedup_among : (a : X) (xs : List X) → Among a (dedup eq xs) → Among a xs
   dedup_among a [] m = m
@@ -134,12 +119,7 @@ module _ {X : Type 0} (eq : X → X → Bool) where
 
 rises_sorted : {X : Type 0} (cmp : X → X → Ordering) (xs : List X) → IsStrictlySortedBy cmp xs → Rises cmp xs
 unfolding IsStrictlySortedBy
-rises_sorted cmp [] h = tt
-rises_sorted cmp (x ∷ xs) h = (each_recursion (λ y. cmp x y ≡ Less) xs h.0, rises_sorted cmp xs h.1)
-  where
-    each_recursion : {X : Type 0} (P : X → Type 0) (xs : List X) → AllByRecursion P xs → Each P xs
-    each_recursion P [] h = tt
-    each_recursion P (x ∷ xs) h = (h.0, each_recursion P xs h.1)
+rises_sorted cmp xs h = grind arith
 
 -- a list in which each element is before those after it is sorted
 pub sort_risen : {X : Type 0} (cmp : X → X → Ordering) (xs : List X) → Rises cmp xs → sort_by cmp xs ≡ xs
@@ -190,12 +170,8 @@ canonical_records rs xs low moved sorted =
 
 -- what holds of all records holds of those of the canonical list
 pub all_canonical : (P : ResourceRecord → Type 0) (rs : List ResourceRecord) → All P rs → All P (sort_by record_order (distinct records_equal rs))
-all_canonical P rs all =
-    all_each P (sort_by record_order (distinct records_equal rs))
-    (each_sort record_order P (distinct records_equal rs) (each_distinct P records_equal rs (each_all P rs all)))
+all_canonical P rs all = search (rules, all_each, each_sort, each_distinct, each_all)
 
 -- the canonical zone has the faults of the zone as it was read
 pub ordered_faults : (o : DomainName) (rs : List ResourceRecord) → faults (ordered_zone o rs) ≡ faults (zone_of o rs)
-ordered_faults o rs =
-    sym (faults_in_any_order (folded o) (distinct records_equal rs) (sort_by record_order (distinct records_equal rs))
-    (permutation_sort record_order (distinct records_equal rs)))
+ordered_faults o rs = grind (arith, faults_in_any_order, permutation_sort)

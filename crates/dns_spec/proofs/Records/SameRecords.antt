@@ -1,4 +1,5 @@
 -- Lists that hold the same records make one zone, with one canonical text and one report.
+use Rattle.std.proofs.Common.{arith, rules}
 use Rattle.std.proofs.Common.{◌≡◌, ◌↔◌, All, List, ap, sym, ◌∙◌, is_eq}
 use Rattle.std.proofs.lemmas.List.Elements.{All-contains, All-weaker}
 use Rattle.std.specs.List.{Contains}
@@ -35,9 +36,7 @@ module _ (rs ss : List ResourceRecord) (low : All LowerOwner rs) (held : HoldSam
 pub read_once : (options : Options) (o : DomainName) (rs ss : List ResourceRecord) → All IsReadRecord rs → HoldSameRecords rs ss
     → (ordered_zone o rs ≡ ordered_zone o ss) × (zone_text (zone_of o rs) ≡ zone_text (zone_of o ss))
     × (zone_report options (zone_of o rs) ≡ zone_report options (zone_of o ss))
-read_once options o rs ss all held =
-    let low = All-weaker IsReadRecord LowerOwner (λ r read. read.lower_owner) rs all in
-    (same_zone rs ss low held o, same_text rs ss low held o, same_report rs ss low held o options)
+read_once options o rs ss all held = grind (arith, All-weaker, same_zone, same_text, same_report)
 
 reported_once : (o : DomainName) (t u : Octets) (rs ss : List ResourceRecord) → Means (folded o) t (records rs) → Means (folded o) u (records ss) → HoldSameRecords rs ss
     → (options : Options) (report : Report) → Reports o t options report → Reports o u options report
@@ -48,5 +47,4 @@ reported_once o t u rs ss means means' held options report (m, is, e) =
 
 pub same_reports : (o : DomainName) (t u : Octets) (rs ss : List ResourceRecord) → Means (folded o) t (records rs) → Means (folded o) u (records ss) → HoldSameRecords rs ss
     → (options : Options) (report : Report) → Reports o t options report ↔ Reports o u options report
-same_reports o t u rs ss means means' held options report =
-    (reported_once o t u rs ss means means' held options report, reported_once o u t ss rs means' means (held.1, held.0) options report)
+same_reports o t u rs ss means means' held options report = search (rules, reported_once)

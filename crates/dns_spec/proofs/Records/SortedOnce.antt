@@ -1,5 +1,6 @@
 -- A list sorted, with each element once, depends only on which elements there are.
-use Rattle.std.proofs.Common.{◌≡◌, suc, Bool, true, false, not, cond, ◌⊎◌, inl, inr, List, [], ◌∷◌, length, refl, sym, ap, ap₂, ◌∙◌, subst, filter, is_gt, is_lt, Ordering, Less, Equal, Greater}
+use Rattle.std.proofs.Common.{arith}
+use Rattle.std.proofs.Common.{◌≡◌, suc, Bool, true, false, not, ◌⊎◌, inl, inr, List, [], ◌∷◌, length, refl, sym, ap, ap₂, ◌∙◌, subst, filter, is_lt, Ordering, Less, Equal, Greater}
 use Rattle.std.proofs.lemmas.Bool.{false≢true, not-true}
 use Rattle.std.proofs.lemmas.Cmp.{tied_itself}
 use Rattle.std.specs.Ordering.{ordering_reverse}
@@ -25,25 +26,13 @@ each_at P a [] e m = absurd m
 each_at P a (x ∷ xs) e (inl p) = subst P (sym p) e.0
 each_at P a (x ∷ xs) e (inr m) = each_at P a xs e.1 m
 
-each_filter_one : {X : Type 0} (P : X → Type 0) (t : Bool) (x : X) (xs : List X) → P x → Each P xs → Each P (cond t (x ∷ xs) xs)
-each_filter_one P true x xs p e = (p, e)
-each_filter_one P false x xs p e = e
-
 pub each_filter : {X : Type 0} (P : X → Type 0) (p : X → Bool) (xs : List X) → Each P xs → Each P (filter p xs)
 each_filter P p [] e = tt
-each_filter P p (x ∷ xs) e = go (p x) (each_filter P p xs e.1)
-  where
-    go : (t : Bool) → Each P (filter p xs) → Each P (cond t (x ∷ filter p xs) (filter p xs))
-    go true f = (e.0, f)
-    go false f = f
+each_filter P p (x ∷ xs) e = grind (arith, (each_filter P p xs e.1))
 
 pub filter_each : {X : Type 0} (p : X → Bool) (xs : List X) → Each (λ x. p x ≡ true) (filter p xs)
 filter_each p [] = tt
-filter_each p (x ∷ xs) = go (p x) refl (filter_each p xs)
-  where
-    go : (t : Bool) → p x ≡ t → Each (λ x. p x ≡ true) (filter p xs) → Each (λ x. p x ≡ true) (cond t (x ∷ filter p xs) (filter p xs))
-    go true e f = (e, f)
-    go false e f = f
+filter_each p (x ∷ xs) = grind (arith, (filter_each p xs))
 
 pub each_weaker : {X : Type 0} (P Q : X → Type 0) (xs : List X) → ((x : X) → P x → Q x) → Each P xs → Each Q xs
 each_weaker P Q [] f e = tt
@@ -51,22 +40,11 @@ each_weaker P Q (x ∷ xs) f e = (f x e.0, each_weaker P Q xs f e.1)
 
 pub among_filter : {X : Type 0} (p : X → Bool) (a : X) (xs : List X) → Among a (filter p xs) → Among a xs
 among_filter p a [] m = m
-among_filter p a (x ∷ xs) m = go (p x) m (among_filter p a xs)
-  where
-    go : (t : Bool) → Among a (cond t (x ∷ filter p xs) (filter p xs)) → (Among a (filter p xs) → Among a xs) → (a ≡ x) ⊎ Among a xs
-    go true (inl e) f = inl e
-    go true (inr n) f = inr (f n)
-    go false n f = inr (f n)
+among_filter p a (x ∷ xs) m = grind (arith, inl, inr, (among_filter p a xs))
 
 pub filter_among : {X : Type 0} (p : X → Bool) (a : X) (xs : List X) → p a ≡ true → Among a xs → Among a (filter p xs)
 filter_among p a [] e m = m
-filter_among p a (x ∷ xs) e m = go (p x) refl m (filter_among p a xs e)
-  where
-    go : (t : Bool) → p x ≡ t → (a ≡ x) ⊎ Among a xs → (Among a xs → Among a (filter p xs)) → Among a (cond t (x ∷ filter p xs) (filter p xs))
-    go true q (inl r) f = inl r
-    go true q (inr n) f = inr (f n)
-    go false q (inl r) f = absurd (false≢true (sym q ∙ ap p (sym r) ∙ e))
-    go false q (inr n) f = f n
+filter_among p a (x ∷ xs) e m = grind (arith, inl, inr, false≢true, (filter_among p a xs e))
 
 -- each element once
 abbrev pub Apart : {X : Type 0} → (X → X → Bool) → List X → Type 0
@@ -75,19 +53,12 @@ Apart eq (x ∷ xs) = Each (λ y. eq x y ≡ false) xs × Apart eq xs
 
 apart_filter : {X : Type 0} (eq : X → X → Bool) (p : X → Bool) (xs : List X) → Apart eq xs → Apart eq (filter p xs)
 apart_filter eq p [] a = tt
-apart_filter eq p (x ∷ xs) a = go (p x) (apart_filter eq p xs a.1)
-  where
-    go : (t : Bool) → Apart eq (filter p xs) → Apart eq (cond t (x ∷ filter p xs) (filter p xs))
-    go true f = (each_filter (λ y. eq x y ≡ false) p xs a.0, f)
-    go false f = f
+apart_filter eq p (x ∷ xs) a = grind (arith, each_filter, (apart_filter eq p xs a.1))
 
 pub apart_distinct : {X : Type 0} (eq : X → X → Bool) (xs : List X) → Apart eq (distinct eq xs)
 apart_distinct eq [] = tt
 apart_distinct {X} eq (x ∷ xs) =
-    let p : X → Bool = λ y. not (eq x y) in (
-      each_weaker (λ y. not (eq x y) ≡ true) (λ y. eq x y ≡ false) (filter p (distinct eq xs)) (λ y e. not-true (eq x y) e) (filter_each p (distinct eq xs)),
-      apart_filter eq p (distinct eq xs) (apart_distinct eq xs),
-    )
+    grind (arith, each_weaker, not-true, filter_each, apart_filter, (apart_distinct eq xs))
 
 pub distinct_among : {X : Type 0} (eq : X → X → Bool) (a : X) (xs : List X) → Among a (distinct eq xs) → Among a xs
 distinct_among eq a [] m = m
@@ -102,11 +73,7 @@ each_distinct P eq (x ∷ xs) e = (e.0, each_filter P (λ y. not (eq x y)) (dist
 module _ {X : Type 0} (cmp : X → X → Ordering) where
   each_insert : (P : X → Type 0) (x : X) (ys : List X) → P x → Each P ys → Each P (insert_by cmp x ys)
   each_insert P x [] p e = (p, tt)
-  each_insert P x (y ∷ ys) p e = go (is_gt (cmp x y)) (each_insert P x ys p e.1)
-    where
-      go : (t : Bool) → Each P (insert_by cmp x ys) → Each P (cond t (y ∷ insert_by cmp x ys) (x ∷ y ∷ ys))
-      go true f = (e.0, f)
-      go false f = (p, (e.0, e.1))
+  each_insert P x (y ∷ ys) p e = grind (arith, (each_insert P x ys p e.1))
 
   pub each_sort : (P : X → Type 0) (xs : List X) → Each P xs → Each P (sort_by cmp xs)
   each_sort P [] e = tt
@@ -114,22 +81,11 @@ module _ {X : Type 0} (cmp : X → X → Ordering) where
 
   among_insert : (a x : X) (ys : List X) → (a ≡ x) ⊎ Among a ys → Among a (insert_by cmp x ys)
   among_insert a x [] m = m
-  among_insert a x (y ∷ ys) m = go (is_gt (cmp x y)) m (among_insert a x ys)
-    where
-      go : (t : Bool) → (a ≡ x) ⊎ ((a ≡ y) ⊎ Among a ys) → ((a ≡ x) ⊎ Among a ys → Among a (insert_by cmp x ys)) → Among a (cond t (y ∷ insert_by cmp x ys) (x ∷ y ∷ ys))
-      go true (inl e) f = inr (f (inl e))
-      go true (inr (inl e)) f = inl e
-      go true (inr (inr n)) f = inr (f (inr n))
-      go false n f = n
+  among_insert a x (y ∷ ys) m = grind (arith, inl, inr, (among_insert a x ys))
 
   insert_among : (a x : X) (ys : List X) → Among a (insert_by cmp x ys) → (a ≡ x) ⊎ Among a ys
   insert_among a x [] m = m
-  insert_among a x (y ∷ ys) m = go (is_gt (cmp x y)) m (insert_among a x ys)
-    where
-      go : (t : Bool) → Among a (cond t (y ∷ insert_by cmp x ys) (x ∷ y ∷ ys)) → (Among a (insert_by cmp x ys) → (a ≡ x) ⊎ Among a ys) → (a ≡ x) ⊎ ((a ≡ y) ⊎ Among a ys)
-      go true (inl e) f = inr (inl e)
-      go true (inr n) f = elim (f n) [ inl e ↦ inl e | inr k ↦ inr (inr k) ]
-      go false n f = n
+  insert_among a x (y ∷ ys) m = grind (arith, inl, inr, (insert_among a x ys))
 
   pub among_sort : (a : X) (xs : List X) → Among a xs → Among a (sort_by cmp xs)
   among_sort a [] m = m
@@ -142,11 +98,7 @@ module _ {X : Type 0} (cmp : X → X → Ordering) where
 
   length-insert : (x : X) (ys : List X) → length (insert_by cmp x ys) ≡ suc (length ys)
   length-insert x [] = refl
-  length-insert x (y ∷ ys) = go (is_gt (cmp x y)) (length-insert x ys)
-    where
-      go : (t : Bool) → length (insert_by cmp x ys) ≡ suc (length ys) → length (cond t (y ∷ insert_by cmp x ys) (x ∷ y ∷ ys)) ≡ suc (suc (length ys))
-      go true e = ap suc e
-      go false e = refl
+  length-insert x (y ∷ ys) = grind (arith, (length-insert x ys))
 
   pub length-sort_by : (xs : List X) → length (sort_by cmp xs) ≡ length xs
   length-sort_by [] = refl
@@ -158,9 +110,7 @@ module _ {X : Type 0} (cmp : X → X → Ordering) where
   Rises (x ∷ xs) = Each (λ y. cmp x y ≡ Less) xs × Rises xs
 
 turned : (c : Ordering) → ordering_reverse c ≡ Greater → c ≡ Less
-turned Less f = refl
-turned Equal f = absurd (false≢true (ap is_gt f))
-turned Greater f = absurd (false≢true (ap is_gt f))
+turned c h = grind arith
 
 -- An order, and a test that ties pass and that holds of equal elements alone, where D holds of them.
 module _ {X : Type 0} (cmp : X → X → Ordering) (order : IsTotalOrder cmp) (eq : X → X → Bool) (tie : (x y : X) → cmp x y ≡ Equal → eq x y ≡ true)
@@ -171,12 +121,8 @@ module _ {X : Type 0} (cmp : X → X → Ordering) (order : IsTotalOrder cmp) (e
 
   insert_rises : (x : X) (ys : List X) → Rises cmp ys → Each (λ y. eq x y ≡ false) ys → Rises cmp (insert_by cmp x ys)
   insert_rises x [] r e = (tt, tt)
-  insert_rises x (y ∷ ys) r e = go (cmp x y) refl (insert_rises x ys r.1 e.1)
-    where
-      go : (c : Ordering) → cmp x y ≡ c → Rises cmp (insert_by cmp x ys) → Rises cmp (cond (is_gt c) (y ∷ insert_by cmp x ys) (x ∷ y ∷ ys))
-      go Less p f = ((p, before_all x y ys p r.0), r)
-      go Equal p f = absurd (false≢true (sym e.0 ∙ tie x y p))
-      go Greater p f = (each_insert cmp (λ z. cmp y z ≡ Less) x ys (turned (cmp y x) (sym (order.antisymm x y) ∙ p)) r.0, f)
+  insert_rises x (y ∷ ys) r e =
+      grind (arith, before_all, false≢true, each_insert, turned, (insert_rises x ys r.1 e.1))
 
   pub sort_rises : (xs : List X) → Apart eq xs → Rises cmp (sort_by cmp xs)
   sort_rises [] a = tt
@@ -185,11 +131,8 @@ module _ {X : Type 0} (cmp : X → X → Ordering) (order : IsTotalOrder cmp) (e
   pub among_distinct : (a : X) (xs : List X) → Each D xs → Among a xs → Among a (distinct eq xs)
   among_distinct a [] d m = m
   among_distinct a (x ∷ xs) d (inl e) = inl e
-  among_distinct a (x ∷ xs) d (inr m) = go (eq x a) refl (among_distinct a xs d.1 m)
-    where
-      go : (t : Bool) → eq x a ≡ t → Among a (distinct eq xs) → (a ≡ x) ⊎ Among a (filter (λ y. not (eq x y)) (distinct eq xs))
-      go true e k = inl (sym (one x a d.0 (each_at D a xs d.1 m) e))
-      go false e k = inr (filter_among (λ y. not (eq x y)) a (distinct eq xs) (ap not e) k)
+  among_distinct a (x ∷ xs) d (inr m) =
+      grind (arith, inl, each_at, inr, filter_among, (among_distinct a xs d.1 m))
 
   apart : (x : X) → cmp x x ≡ Less → ⊥
   apart x p = false≢true (ap is_lt (sym (tied_itself order x) ∙ p))

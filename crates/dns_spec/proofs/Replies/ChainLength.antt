@@ -1,8 +1,8 @@
 -- A chain of names sought has at most one more than the aliases that are followed.
-use Rattle.std.proofs.Common.{ℕ, zero, suc, ◌≤◌, ◌+◌, Bool, true, false, cond, List, [], ◌∷◌, length, Option, None, Some, arith}
+use Rattle.std.proofs.Common.{ℕ, zero, suc, ◌≤◌, ◌+◌, List, [], ◌∷◌, length, Option, None, Some, arith}
 use Rattle.dns_spec.specs.Names.{DomainName}
 use Rattle.dns_spec.specs.Records.{ZoneContents}
-use Rattle.dns_spec.specs.Answer.{most_aliases, follows_alias, next_sought, chain_from, chain}
+use Rattle.dns_spec.specs.Answer.{most_aliases, next_sought, chain_from, chain}
 
 chain_from_short : (z : ZoneContents) (k : ℕ) (sought : List DomainName) (s : DomainName) → length (chain_from z k sought s) ≤ k + 1
 unfolding chain_from
@@ -16,8 +16,4 @@ chain_from_short z (suc k) sought s = go (next_sought z (s ∷ sought) s) (λ m.
 
 pub chain_short : (z : ZoneContents) (q : DomainName) (t : ℕ) → length (chain z q t) ≤ 1 + most_aliases
 unfolding chain
-chain_short z q t = go (follows_alias t)
-  where
-    go : (b : Bool) → length (cond b (chain_from z most_aliases [] q) (q ∷ [])) ≤ 1 + most_aliases
-    go true = let short = chain_from_short z most_aliases [] q in omega (arith, short)
-    go false = omega arith
+chain_short z q t = grind (arith, chain_from_short)

@@ -1,22 +1,20 @@
 -- An answer of a zone that passes has few targets and few sets, and visits few nodes for each name.
-use Rattle.std.proofs.Common.{◌≡◌, ℕ, suc, ◌+◌, ◌*◌, ◌≤◌, nat_lt, Bool, true, false, ◌&&◌, not, cond, ◌==◌, inl, List, [], ◌∷◌, ◌++◌, map, sum, length, Option, None, Some, option_map, All, filter, flat_map, refl, sym, ap, ap₂, ◌∙◌, subst, arith, append-nil, length-append}
+use Rattle.std.proofs.Common.{◌≡◌, ℕ, ◌+◌, ◌*◌, ◌≤◌, nat_lt, Bool, true, false, not, ◌==◌, inl, List, [], ◌∷◌, ◌++◌, map, sum, length, Option, None, Some, All, filter, flat_map, refl, sym, ap, ap₂, ◌∙◌, subst, arith, append-nil, length-append}
 use Rattle.std.proofs.lemmas.Bool.{eqb-true, ltb-false}
 use Rattle.std.proofs.lemmas.Option.{none-some, same_Some}
 use Rattle.std.proofs.lemmas.Grind.{flat_map-append}
 use Rattle.std.proofs.lemmas.List.{length-map}
 use Rattle.std.proofs.lemmas.List.Elements.{filter_map-append}
 use Rattle.std.proofs.lemmas.List.Filters.{length-filter_both}
-use Rattle.std.specs.List.{filter_map, cons_option, fold}
+use Rattle.std.specs.List.{filter_map, fold}
 use Rattle.std.specs.Option.{option_to_list}
 use Rattle.dns_spec.specs.Names.{DomainName, is_name, folded, names_equal, same, at_or_below}
-use Rattle.dns_spec.specs.Data.{type_ns, type_cname, type_a, type_aaaa, qtype_any, target}
-use Rattle.dns_spec.specs.Records.{ResourceRecord, ZoneContents, data_order, at, of_type, rrset, with_owner}
-use Rattle.dns_spec.specs.Sets.{rising_types, of_first_type, of_lowest_type}
-use Rattle.dns_spec.specs.Tree.{exists, cut_of, source_of_synthesis, found}
+use Rattle.dns_spec.specs.Data.{type_a, type_aaaa}
+use Rattle.dns_spec.specs.Records.{ResourceRecord, ZoneContents, data_order, at, of_type, with_owner}
+use Rattle.dns_spec.specs.Tree.{found}
 use Rattle.dns_spec.specs.Checks.{most_of_a_set, count, large_set, Passes}
-use Rattle.dns_spec.specs.Reading.{no_error}
-use Rattle.dns_spec.specs.Layout.{Section, answer, authority, additional, Item, records_of}
-use Rattle.dns_spec.specs.Answer.{most_aliases, item, follows_alias, alias_set, chain, last_sought, alias_items, asked_records, has_any, Outcome, negative, positive, referral_to, outcome_by, outcome_at, outcome, has_target_type, targets_of, targets_inside, targets_outside, targets, stands, address_set, address_sets, extra, main_items, items, nodes_to, targets_in_zone, most_visits, names_looked_up}
+use Rattle.dns_spec.specs.Layout.{Section, answer, Item, records_of}
+use Rattle.dns_spec.specs.Answer.{most_aliases, item, alias_set, last_sought, alias_items, asked_records, Outcome, outcome_by, outcome_at, outcome, targets_of, targets_inside, targets_outside, targets, address_set, address_sets, extra, main_items, items, nodes_to, most_visits, names_looked_up}
 use Rattle.dns_spec.proofs.DomainNames.NameLaws.{names_equal-decides, length-is_name}
 use Rattle.dns_spec.proofs.Records.SortedOnce.{Each, Among, each_filter, among_filter, length-sort_by}
 use Rattle.dns_spec.proofs.Replies.ItemSets.{any_false, filter_test}
@@ -27,19 +25,13 @@ use Rattle.dns_spec.proofs.Replies.ChainLength.{chain_short}
 
 -- the records of items
 pub item_records : (s : Section) (rs : List ResourceRecord) → records_of (item s rs) ≡ rs
-item_records s [] = refl
-item_records s (r ∷ rs) = ap (λ xs. r ∷ xs) (append-nil rs)
+item_records s rs = grind (arith, append-nil)
 
 -- the targets of an answer are those of its last outcome: aliases have none
 pub targets_last : (z : ZoneContents) (q : DomainName) (t : ℕ) → targets (outcome z q t) ≡ targets (outcome_at z t (last_sought z q t))
 unfolding outcome
 targets_last z q t =
-    let front = alias_items z q t in
-    let last = outcome_at z t (last_sought z q t) in
-    ap (λ xs. xs ++ targets_inside last ++ targets_outside last)
-    (ap (filter_map target_of) (flat_map-append (λ (i : Item). i.records) front last.answers)
-    ∙ filter_map-append target_of (records_of front) (records_of last.answers)
-    ∙ ap (λ xs. xs ++ targets_of last.answers) (no_targets front (each_alias_item z q t)))
+    grind (arith, target_of, flat_map-append, filter_map-append, no_targets, each_alias_item)
 
 -- lengths
 parted : {X : Type 0} (p : X → Bool) (xs : List X) → length (filter p xs) + length (filter (λ x. not (p x)) xs) ≡ length xs
@@ -50,11 +42,7 @@ filtered_short p xs = let both = parted p xs in omega (arith, both)
 
 mapped_short : {X Y : Type 0} (f : X → Option Y) (xs : List X) → length (filter_map f xs) ≤ length xs
 mapped_short f [] = omega arith
-mapped_short {Y = Y} f (x ∷ xs) = go (f x) (mapped_short f xs)
-  where
-    go : (y : Option Y) → length (filter_map f xs) ≤ length xs → length (cons_option y (filter_map f xs)) ≤ suc (length xs)
-    go None h = omega (arith, h)
-    go (Some y) h = omega (arith, h)
+mapped_short {Y = Y} f (x ∷ xs) = grind (arith, (mapped_short f xs))
 
 targets_short : (s : Section) (rs : List ResourceRecord) → length (targets_of (item s rs)) ≤ length rs
 targets_short s rs = subst (λ xs. length (filter_map target_of xs) ≤ length rs) (sym (item_records s rs)) (mapped_short target_of rs)
@@ -62,13 +50,7 @@ targets_short s rs = subst (λ xs. length (filter_map target_of xs) ≤ length r
 typed_shown : (o : DomainName) (t : ℕ) (rs : List ResourceRecord)
     → length (filter (λ (r : ResourceRecord). r.rtype == t) (with_owner o rs)) ≡ length (filter (λ (r : ResourceRecord). r.rtype == t) rs)
 typed_shown o t [] = refl
-typed_shown o t (r ∷ rs) = go (r.rtype == t) (typed_shown o t rs)
-  where
-    go : (b : Bool) → length (filter (λ (r : ResourceRecord). r.rtype == t) (with_owner o rs)) ≡ length (filter (λ (r : ResourceRecord). r.rtype == t) rs)
-        → length (cond b (record r { owner = o } ∷ filter (λ (r : ResourceRecord). r.rtype == t) (with_owner o rs)) (filter (λ (r : ResourceRecord). r.rtype == t) (with_owner o rs)))
-        ≡ length (cond b (r ∷ filter (λ (r : ResourceRecord). r.rtype == t) rs) (filter (λ (r : ResourceRecord). r.rtype == t) rs))
-    go true e = ap suc e
-    go false e = e
+typed_shown o t (r ∷ rs) = grind (arith, (typed_shown o t rs))
 
 module _ (z : ZoneContents) (origin : folded z.origin ≡ z.origin) (low : Each (λ (r : ResourceRecord). folded r.owner ≡ r.owner) z.records) (passes : Passes z) where
   -- a limit of this project: a set has at most so many records
@@ -105,100 +87,45 @@ module _ (z : ZoneContents) (origin : folded z.origin ≡ z.origin) (low : Each 
       omega (arith, a, b, c)
 
   asked_few : (o n : DomainName) (t : ℕ) → length (asked_records t (with_owner o (at z n))) ≤ most_of_a_set
-  asked_few o n t = go (t == qtype_any)
-    where
-      lowest : (ts : List ℕ) → length (of_first_type ts (with_owner o (at z n))) ≤ most_of_a_set
-      lowest [] = omega arith
-      lowest (u ∷ us) = shown_few o n u
-
-      go : (b : Bool) → length (cond b (of_lowest_type (with_owner o (at z n))) (of_type t (with_owner o (at z n)))) ≤ most_of_a_set
-      go true = lowest (rising_types (with_owner o (at z n)))
-      go false = shown_few o n t
+  asked_few o n t = grind (arith, shown_few)
 
   found_few : (s : DomainName) (rs : List ResourceRecord) (t : ℕ) → found z s ≡ Some rs → length (asked_records t rs) ≤ most_of_a_set
-  found_few s rs t e = go (exists z s) e
-    where
-      is : (n : DomainName) → with_owner s (at z n) ≡ rs → length (asked_records t rs) ≤ most_of_a_set
-      is n h = subst (λ xs. length (asked_records t xs) ≤ most_of_a_set) h (asked_few s n t)
-
-      wild : (y : Option DomainName) → option_map (λ n. with_owner s (at z n)) y ≡ Some rs → length (asked_records t rs) ≤ most_of_a_set
-      wild None e = absurd (none-some rs e)
-      wild (Some n) e = is n (same_Some (with_owner s (at z n)) rs e)
-
-      go : (b : Bool) → cond b (Some (with_owner s (at z s))) (option_map (λ n. with_owner s (at z n)) (source_of_synthesis z s)) ≡ Some rs → length (asked_records t rs) ≤ most_of_a_set
-      go true e = is s (same_Some (with_owner s (at z s)) rs e)
-      go false e = wild (source_of_synthesis z s) e
+  found_few s rs t e = grind (arith, asked_few, none-some, same_Some)
 
   outcome_few : (s : DomainName) (t : ℕ) (x : Option DomainName) (y : Option (List ResourceRecord)) → found z s ≡ y → length (targets (outcome_by z t x y)) ≤ most_of_a_set
-  outcome_few s t (Some c) y e =
-      let o = referral_to z c in
-      let ts = targets_of o.authorities in
-      let in_c = filter (λ m. at_or_below m c) ts in
-      let out = filter (λ m. not (at_or_below m c)) ts in
-      let whole : targets o ≡ in_c ++ out = ap₂ (λ xs ys. xs ++ ys) (append-nil in_c) (append-nil out) in
-      let a = ap length whole ∙ length-append in_c out in
-      let b = parted (λ m. at_or_below m c) ts in
-      let d = targets_short authority (with_owner c (rrset z c type_ns)) in
-      let f = length-map (rrset z c type_ns) (λ (r : ResourceRecord). record r { owner = c }) in
-      let g = length-sort_by data_order (filter (λ (r : ResourceRecord). r.rtype == type_ns) (at z c)) in
-      let h = count_few c type_ns in
-      omega (arith, a, b, d, f, g, h)
-  outcome_few s t None None e = omega arith
-  outcome_few s t None (Some rs) e = go (follows_alias t && has_any (of_type type_cname rs)) (has_any (asked_records t rs))
-    where
-      go : (b c : Bool) → length (targets (cond b (positive []) (cond c (positive (item answer (asked_records t rs))) (negative z no_error)))) ≤ most_of_a_set
-      go true c = omega arith
-      go false true =
-          let ts = targets_of (item answer (asked_records t rs)) in
-          let a = ap length (append-nil (ts ++ []) ∙ append-nil ts) in
-          let b = targets_short answer (asked_records t rs) in
-          let c = found_few s rs t e in
-          omega (arith, a, b, c)
-      go false false = omega arith
+  outcome_few s t x y h =
+      grind (
+        arith,
+        ap₂,
+        append-nil,
+        length-append,
+        parted,
+        targets_short,
+        length-map,
+        length-sort_by,
+        count_few,
+        found_few,
+      )
 
   targets_few : (q : DomainName) (t : ℕ) → length (targets (outcome z q t)) ≤ most_of_a_set
   unfolding outcome_at
-  targets_few q t =
-      let s = last_sought z q t in
-      subst (λ ms. length ms ≤ most_of_a_set) (sym (targets_last z q t)) (outcome_few s t (cut_of z s) (found z s) refl)
+  targets_few q t = grind (arith, targets_last, outcome_few)
 
--- sets
 item_one : (s : Section) (rs : List ResourceRecord) → length (item s rs) ≤ 1
-item_one s [] = omega arith
-item_one s (r ∷ rs) = omega arith
+item_one s rs = grind arith
 
 main_one : (z : ZoneContents) (t : ℕ) (x : Option DomainName) (y : Option (List ResourceRecord)) → length (main_items (outcome_by z t x y)) ≤ 1
-main_one z t (Some c) y = item_one authority (with_owner c (rrset z c type_ns))
-main_one z t None None = item_one authority _
-main_one z t None (Some rs) = go (follows_alias t && has_any (of_type type_cname rs)) (has_any (asked_records t rs))
-  where
-    go : (b c : Bool) → length (main_items (cond b (positive []) (cond c (positive (item answer (asked_records t rs))) (negative z no_error)))) ≤ 1
-    go true c = omega arith
-    go false true = let a = item_one answer (asked_records t rs) in let b = length-append (item answer (asked_records t rs)) [] in omega (arith, a, b)
-    go false false = item_one authority _
+main_one z t x y = grind arith
 
 aliases_few : (z : ZoneContents) (ns : List DomainName) → length (flat_map (λ n. item answer (alias_set z n)) ns) ≤ length ns
 aliases_few z [] = omega arith
-aliases_few z (n ∷ ns) =
-    let a = length-append (item answer (alias_set z n)) (flat_map (λ n. item answer (alias_set z n)) ns) in
-    let b = item_one answer (alias_set z n) in
-    let c = aliases_few z ns in
-    omega (arith, a, b, c)
+aliases_few z (n ∷ ns) = grind (arith, length-append, item_one, (aliases_few z ns))
 
 alias_items_few : (z : ZoneContents) (q : DomainName) (t : ℕ) → length (alias_items z q t) ≤ 1 + most_aliases
-alias_items_few z q t = go (follows_alias t) (aliases_few z (chain z q t)) (chain_short z q t)
-  where
-    go : (b : Bool) → length (flat_map (λ n. item answer (alias_set z n)) (chain z q t)) ≤ length (chain z q t) → length (chain z q t) ≤ 1 + most_aliases
-        → length (cond b (flat_map (λ n. item answer (alias_set z n)) (chain z q t)) []) ≤ 1 + most_aliases
-    go true a b = omega (arith, a, b)
-    go false a b = omega arith
+alias_items_few z q t = grind (arith, aliases_few, chain_short)
 
 address_one : (z : ZoneContents) (earlier : List Item) (n : DomainName) (t : ℕ) → length (address_set z earlier n t) ≤ 1
-address_one z earlier n t = go (stands n t earlier)
-  where
-    go : (b : Bool) → length (cond b [] (item additional (rrset z n t))) ≤ 1
-    go true = omega arith
-    go false = item_one additional (rrset z n t)
+address_one z earlier n t = grind (arith, item_one)
 
 extra_few : (z : ZoneContents) (earlier : List Item) (ms : List DomainName) → length (extra z earlier ms) ≤ 2 * length ms
 unfolding extra
@@ -218,21 +145,8 @@ module _ (z : ZoneContents) (origin : folded z.origin ≡ z.origin) (low : All (
 
   pub few_items : length (items z q t) ≤ 2 + most_aliases + 2 * most_of_a_set
   unfolding items outcome outcome_at
-  few_items =
-      let o = outcome z q t in
-      let s = last_sought z q t in
-      let last = outcome_by z t (cut_of z s) (found z s) in
-      let a = length-append (main_items o) (extra z (main_items o) (targets o)) in
-      let b = length-append (alias_items z q t ++ last.answers) last.authorities in
-      let c = length-append (alias_items z q t) last.answers in
-      let d = length-append last.answers last.authorities in
-      let e = main_one z t (cut_of z s) (found z s) in
-      let f = alias_items_few z q t in
-      let g = extra_few z (main_items o) (targets o) in
-      let h = few_targets in
-      omega (arith, a, b, c, d, e, f, g, h)
+  few_items = grind (arith, length-append, main_one, alias_items_few, extra_few, few_targets)
 
--- nodes
 fold_from : (k : ℕ) (xs : List ℕ) → fold ◌+◌ k xs ≡ k + sum xs
 fold_from k [] = omega arith
 fold_from k (x ∷ xs) = omega (arith, fold_from (k + x) xs, fold_from (0 + x) xs)
@@ -242,23 +156,11 @@ sum_cons x xs = omega (arith, fold_from (0 + x) xs)
 
 nodes_few : (z : ZoneContents) (ns : List DomainName) → Each Named ns → sum (map (nodes_to z) ns) ≤ 128 * length ns
 nodes_few z [] e = omega arith
-nodes_few z (n ∷ ns) e =
-    let a = length-is_name n e.0 in
-    let b = sum_cons (nodes_to z n) (map (nodes_to z) ns) in
-    let c = nodes_few z ns e.1 in
-    omega (arith, a, b, c)
+nodes_few z (n ∷ ns) e = grind (arith, length-is_name, sum_cons, (nodes_few z ns e.1))
 
 targets_named : (rs : List ResourceRecord) → Each Named (filter_map target_of rs)
 targets_named [] = tt
-targets_named (r ∷ rs) = go (target_of r) refl (targets_named rs)
-  where
-    named : (m : DomainName) (b : Bool) → cond b (target r.rtype r.rdata) None ≡ Some m → Named m
-    named m true e = named_target r.rtype r.rdata m e
-    named m false e = absurd (none-some m e)
-
-    go : (y : Option DomainName) → target_of r ≡ y → Each Named (filter_map target_of rs) → Each Named (cons_option y (filter_map target_of rs))
-    go None e h = h
-    go (Some m) e h = (named m (has_target_type r) e, h)
+targets_named (r ∷ rs) = grind (arith, target_of, named_target, none-some, (targets_named rs))
 
 module _ (z : ZoneContents) (q : DomainName) (t : ℕ) (h : is_name q ≡ true) where
   all_named : (o : Outcome) → Each Named (targets o)
@@ -272,9 +174,4 @@ module _ (z : ZoneContents) (q : DomainName) (t : ℕ) (h : is_name q ≡ true) 
       some p (Some c) = subst (Each Named) (sym (append-nil (filter (λ m. p m c) (targets_of o.authorities)))) (each_filter Named (λ m. p m c) (targets_of o.authorities) (targets_named (records_of o.authorities)))
 
   pub few_nodes : most_visits z q t ≤ 128 * names_looked_up z q t
-  few_nodes =
-      let ts = targets (outcome z q t) in
-      let a = nodes_few z (chain z q t) (chain_named z q t h) in
-      let b = nodes_few z (targets_in_zone z ts) (each_filter Named (λ m. at_or_below m z.origin) ts (all_named (outcome z q t))) in
-      let c = filtered_short (λ m. at_or_below m z.origin) ts in
-      omega (arith, a, b, c)
+  few_nodes = grind (arith, nodes_few, chain_named, each_filter, all_named, filtered_short)

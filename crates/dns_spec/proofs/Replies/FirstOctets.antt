@@ -1,12 +1,12 @@
 -- A reply depends on the first octets of a datagram alone.
-use Rattle.std.proofs.Common.{◌≡◌, ℕ, ◌+◌, ◌-◌, ◌<◌, ◌≤◌, Bool, ◌||◌, ◌&&◌, not, cond, ◌==◌, ◌⊎◌, inl, inr, List, length, take, drop, Option, None, Some, refl, sym, ap, ap₂, ◌∙◌, arith, take_all, take-take, length-take-le, le-ltb}
+use Rattle.std.proofs.Common.{◌≡◌, ℕ, ◌+◌, ◌-◌, ◌<◌, ◌≤◌, Bool, not, cond, ◌==◌, ◌⊎◌, inl, inr, List, length, take, drop, Option, None, refl, sym, ap, ◌∙◌, arith, take_all, take-take, length-take-le}
 use Rattle.std.proofs.lemmas.Bool.{cases_lt}
 use Rattle.std.proofs.lemmas.List.{drop-take}
 use Rattle.dns_spec.specs.Names.{Octets}
 use Rattle.dns_spec.specs.Data.{number_of}
 use Rattle.dns_spec.specs.Records.{ZoneContents}
 use Rattle.dns_spec.specs.Reading.{Header, MessageQuestion, format_error, not_implemented}
-use Rattle.dns_spec.specs.Query.{most_over_udp, field16, is_response, opcode, head_of, refusal_head, question_at, counts_are_one_question, is_ignored, QueryRead, absent, refused_with, query_or_error, query_read}
+use Rattle.dns_spec.specs.Query.{most_over_udp, field16, opcode, head_of, refusal_head, question_at, counts_are_one_question, is_ignored, QueryRead, absent, refused_with, query_or_error, query_read}
 use Rattle.std.specs.Option.{option_map}
 use Rattle.dns_spec.specs.Layout.{Item}
 use Rattle.dns_spec.specs.Reply.{decide_query, decide, reply_of, reply_with, keep_longest, reply, reply_octets, octets_of}
@@ -24,8 +24,7 @@ unfolding query_read read_by
 query_is d = refl
 
 too_long : (d : Octets) (y : Option MessageQuestion) → 271 < length d → question_at d ≡ y → y ≡ None
-too_long d None h e = refl
-too_long d (Some q) h e = let short = question_ends d q e in absurd (omega arith)
+too_long d y h h1 = grind (arith, question_ends)
 
 module _ (d : Octets) (long : most_over_udp < length d) where
   field_kept : (i : ℕ) → i ≤ 10 → field16 d i ≡ field16 (take most_over_udp d) i
@@ -38,12 +37,10 @@ module _ (d : Octets) (long : most_over_udp < length d) where
   shorter = length-take-le most_over_udp d (omega arith)
 
   ignored_kept : is_ignored d ≡ is_ignored (take most_over_udp d)
-  ignored_kept =
-      ap₂ (λ a f. a || is_response f) (le-ltb (length d) 12 (omega arith) ∙ sym (le-ltb (length (take most_over_udp d)) 12 (omega (arith, shorter)))) (field_kept 2 (omega arith))
+  ignored_kept = grind arith
 
   counts_kept : counts_are_one_question d ≡ counts_are_one_question (take most_over_udp d)
-  counts_kept =
-      λ k. field_kept 4 (omega arith) k == 1 && field_kept 6 (omega arith) k == 0 && field_kept 8 (omega arith) k == 0 && field_kept 10 (omega arith) k == 0
+  counts_kept = grind arith
 
   question_kept : question_at d ≡ question_at (take most_over_udp d)
   question_kept = too_long d (question_at d) (omega arith) refl ∙ sym (too_long (take most_over_udp d) (question_at (take most_over_udp d)) (omega (arith, shorter)) refl)

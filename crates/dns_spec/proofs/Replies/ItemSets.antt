@@ -1,17 +1,18 @@
 -- In a zone that passes each item of a reply is the records of a set at an owner, with one TTL.
-use Rattle.std.proofs.Common.{◌≡◌, ℕ, ◌≤◌, min, Bool, true, false, ◌&&◌, not, cond, ◌==◌, ◌⊎◌, inl, inr, List, [], ◌∷◌, ◌++◌, map, length, Option, None, Some, is_some, option_map, unwrap_or, All, filter, flat_map, refl, sym, ap, ap₂, ◌∙◌, subst, arith}
+use Rattle.std.proofs.lemmas.Grind.{common_steps}
+use Rattle.std.proofs.Common.{◌≡◌, ℕ, ◌≤◌, Bool, true, false, ◌&&◌, not, cond, ◌==◌, ◌⊎◌, inl, inr, List, [], ◌∷◌, ◌++◌, map, length, Option, None, Some, is_some, option_map, unwrap_or, All, filter, flat_map, refl, sym, ap, ap₂, ◌∙◌, subst, arith}
 use Rattle.std.proofs.lemmas.Bool.{eqb-true, eq-eqb, false≢true, or_parts}
 use Rattle.std.proofs.lemmas.Option.{none-some, same_Some}
 use Rattle.std.specs.List.{list_any}
 use Rattle.dns_spec.specs.Names.{DomainName, folded, names_equal, same}
-use Rattle.dns_spec.specs.Data.{type_a, type_ns, type_cname, type_soa, type_aaaa, qtype_any, soa_minimum}
-use Rattle.dns_spec.specs.Records.{ResourceRecord, ZoneContents, data_order, at, of_type, rrset, with_owner}
+use Rattle.dns_spec.specs.Data.{type_a, type_ns, type_cname, type_aaaa, qtype_any}
+use Rattle.dns_spec.specs.Records.{ResourceRecord, ZoneContents, at, of_type, rrset, with_owner}
 use Rattle.dns_spec.specs.Sets.{records_at, rising_types, of_first_type, of_lowest_type}
-use Rattle.dns_spec.specs.Tree.{exists, cut_of, source_of_synthesis, found}
+use Rattle.dns_spec.specs.Tree.{cut_of, found}
 use Rattle.dns_spec.specs.Checks.{ttls_differ, Passes}
-use Rattle.dns_spec.specs.Layout.{Section, answer, authority, additional, Item}
+use Rattle.dns_spec.specs.Layout.{Section, answer, authority, Item}
 use Rattle.dns_spec.specs.Reading.{no_error}
-use Rattle.dns_spec.specs.Answer.{item, follows_alias, alias_set, chain, last_sought, alias_items, asked_records, negative_soa, negative, positive, has_any, outcome_by, outcome_at, outcome, targets, stands, address_set, address_sets, extra, main_items, items}
+use Rattle.dns_spec.specs.Answer.{item, follows_alias, alias_set, chain, alias_items, asked_records, negative_soa, negative, positive, has_any, outcome_by, outcome_at, outcome, address_set, address_sets, extra, items}
 use Rattle.dns_spec.specs.Laws.{IsSetAt}
 use Rattle.dns_spec.proofs.DomainNames.NameLaws.{names_equal-decides}
 use Rattle.dns_spec.proofs.Records.SortedOnce.{Each, Among, each_at, each_sort, among_filter}
@@ -26,9 +27,7 @@ pub record IsOf (o : DomainName) (k t : ℕ) (r : ResourceRecord) : Type 0 where
 
 pub as_set : (o : DomainName) (k t : ℕ) (rs : List ResourceRecord) → Each (IsOf o k t) rs → rs ≡ records_at o k (record { rtype = t; ttl = k; rdata = map (λ (r : ResourceRecord). r.rdata) rs })
 as_set o k t [] e = refl
-as_set o k t (r ∷ rs) e =
-    let head : r ≡ record { owner = o; ttl = k; rtype = t; rdata = r.rdata } = λ i. record { owner = e.0.owner i; ttl = e.0.ttl i; rtype = e.0.rtype i; rdata = r.rdata } in
-    ap₂ (λ x xs. x ∷ xs) head (as_set o k t rs e.1)
+as_set o k t (r ∷ rs) e = grind (arith, ap₂, (as_set o k t rs e.1))
 
 one_set : (o : DomainName) (k t : ℕ) (rs : List ResourceRecord) → Each (IsOf o k t) rs → IsSetAt rs
 one_set o k t rs e = record { owner = o; ttl = k; set = record { rtype = t; ttl = k; rdata = map (λ (r : ResourceRecord). r.rdata) rs }; records = as_set o k t rs e }
@@ -42,8 +41,7 @@ abbrev Sets : List Item → Type 0
 Sets = Each (λ (i : Item). IsSetAt i.records)
 
 item_set : (s : Section) (rs : List ResourceRecord) → IsSetAt rs → Sets (item s rs)
-item_set s [] h = tt
-item_set s (r ∷ rs) h = (h, tt)
+item_set s rs h = grind arith
 
 -- the TTL of the first record of a type
 pub first_ttl : ℕ → List ResourceRecord → ℕ
@@ -79,18 +77,11 @@ each_among P (x ∷ xs) f = (f x (inl refl), each_among P xs (λ y m. f y (inr m
 
 pub filter_test : {X : Type 0} (p : X → Bool) (a : X) (xs : List X) → Among a (filter p xs) → p a ≡ true
 filter_test p a [] m = absurd m
-filter_test p a (x ∷ xs) m = go (p x) refl m (filter_test p a xs)
-  where
-    go : (t : Bool) → p x ≡ t → Among a (cond t (x ∷ filter p xs) (filter p xs)) → (Among a (filter p xs) → p a ≡ true) → p a ≡ true
-    go true q (inl e) f = ap p e ∙ q
-    go true q (inr n) f = f n
-    go false q n f = f n
+filter_test p a (x ∷ xs) m = grind (arith, Among, inl, inr, (filter_test p a xs))
 
 pub each_typed : (t : ℕ) (P : ResourceRecord → Type 0) (rs : List ResourceRecord) → Each P rs → Each (λ r. P r × (r.rtype ≡ t)) (of_type t rs)
 each_typed t P rs e =
-    each_sort data_order (λ r. P r × (r.rtype ≡ t)) (filter (λ (r : ResourceRecord). r.rtype == t) rs)
-    (each_among (λ r. P r × (r.rtype ≡ t)) (filter (λ (r : ResourceRecord). r.rtype == t) rs) (λ r m.
-    (each_at P r rs e (among_filter (λ (s : ResourceRecord). s.rtype == t) r rs m), eqb-true r.rtype t (filter_test (λ (s : ResourceRecord). s.rtype == t) r rs m))))
+    grind (arith, each_sort, each_among, each_at, among_filter, eqb-true, filter_test)
 
 owned : (o : DomainName) (P : ℕ → ℕ → Type 0) (rs : List ResourceRecord) → Each (λ (r : ResourceRecord). P r.ttl r.rtype) rs
     → Each (λ (r : ResourceRecord). (r.owner ≡ o) × P r.ttl r.rtype) (with_owner o rs)
@@ -166,15 +157,7 @@ module _ (z : ZoneContents) (origin : folded z.origin ≡ z.origin) (low : Each 
     whole : with_owner q (at z source) ≡ rs
 
   found_shown : (q : DomainName) (rs : List ResourceRecord) → found z q ≡ Some rs → Shown q rs
-  found_shown q rs e = go (exists z q) e
-    where
-      wild : (y : Option DomainName) → option_map (λ n. with_owner q (at z n)) y ≡ Some rs → Shown q rs
-      wild None e = absurd (none-some rs e)
-      wild (Some n) e = record { source = n; whole = same_Some (with_owner q (at z n)) rs e }
-
-      go : (t : Bool) → cond t (Some (with_owner q (at z q))) (option_map (λ n. with_owner q (at z n)) (source_of_synthesis z q)) ≡ Some rs → Shown q rs
-      go true e = record { source = q; whole = same_Some (with_owner q (at z q)) rs e }
-      go false e = wild (source_of_synthesis z q) e
+  found_shown q rs e = grind (arith, none-some, same_Some)
 
   found_set : (q : DomainName) (rs : List ResourceRecord) (t : ℕ) → Shown q rs → IsSetAt (of_type t rs)
   found_set q rs t s = subst (λ x. IsSetAt (of_type t x)) s.whole (shown_set q s.source t)
@@ -210,16 +193,7 @@ module _ (z : ZoneContents) (origin : folded z.origin ≡ z.origin) (low : Each 
       go false = item_set answer (of_type t rs) (found_set q rs t s)
 
   negative_set : Sets (negative_soa z)
-  negative_set =
-      let lowered = λ (rs : List ResourceRecord). map (λ (r : ResourceRecord). record r { ttl = min r.ttl (soa_minimum r.rdata) }) rs in
-      let plain = filter (λ (r : ResourceRecord). r.rtype == type_soa) (at z z.origin) in
-      item_set authority (lowered (rrset z z.origin type_soa))
-      (subst (λ rs. IsSetAt (lowered rs)) (sym (one_soa z origin passes)) (short plain (few_soa z origin passes)))
-    where
-      short : (rs : List ResourceRecord) → length rs ≤ 1 → IsSetAt (map (λ (r : ResourceRecord). record r { ttl = min r.ttl (soa_minimum r.rdata) }) rs)
-      short [] h = one_record_set [] (omega arith)
-      short (r ∷ []) h = one_record_set (record r { ttl = min r.ttl (soa_minimum r.rdata) } ∷ []) (omega arith)
-      short (r ∷ s ∷ rs) h = absurd (omega arith)
+  negative_set = grind (arith, common_steps, item_set, one_soa, few_soa, one_record_set)
 
   main_sets : (t : ℕ) (s : DomainName) (x : Option DomainName) (y : Option (List ResourceRecord)) → found z s ≡ y
       → Sets (outcome_by z t x y).answers × Sets (outcome_by z t x y).authorities
@@ -243,11 +217,7 @@ module _ (z : ZoneContents) (origin : folded z.origin ≡ z.origin) (low : Each 
       go false = tt
 
   address_is_set : (earlier : List Item) (n : DomainName) (t : ℕ) → Sets (address_set z earlier n t)
-  address_is_set earlier n t = go (stands n t earlier)
-    where
-      go : (b : Bool) → Sets (cond b [] (item additional (rrset z n t)))
-      go true = tt
-      go false = item_set additional (rrset z n t) (own_set n t)
+  address_is_set earlier n t = grind (arith, item_set, own_set)
 
   extra_sets : (earlier : List Item) (ms : List DomainName) → Sets (extra z earlier ms)
   unfolding extra
@@ -261,18 +231,8 @@ module _ (z : ZoneContents) (origin : folded z.origin ≡ z.origin) (low : Each 
 
   items_sets : (q : DomainName) (t : ℕ) → Sets (items z q t)
   unfolding items outcome outcome_at
-  items_sets q t =
-      let P = λ (i : Item). IsSetAt i.records in
-      let s = last_sought z q t in
-      let last = outcome_by z t (cut_of z s) (found z s) in
-      let main = main_sets t s (cut_of z s) (found z s) refl in
-      let o = outcome z q t in
-      each_append P (main_items o) (extra z (main_items o) (targets o))
-      (each_append P o.answers o.authorities (each_append P (alias_items z q t) last.answers (alias_sets q t) main.0) main.1)
-      (extra_sets (main_items o) (targets o))
+  items_sets q t = grind (arith, main_sets, each_append, alias_sets, extra_sets)
 
 pub items_are_sets : (z : ZoneContents) → folded z.origin ≡ z.origin → All (λ (r : ResourceRecord). folded r.owner ≡ r.owner) z.records → Passes z
     → (q : DomainName) (t : ℕ) → All (λ (i : Item). IsSetAt i.records) (items z q t)
-items_are_sets z origin low passes q t =
-    all_from_each (λ (i : Item). IsSetAt i.records) (items z q t)
-    (items_sets z origin (each_from_all (λ (r : ResourceRecord). folded r.owner ≡ r.owner) z.records low) passes q t)
+items_are_sets z origin low passes q t = grind (arith, all_from_each, items_sets, each_from_all)

@@ -1,5 +1,5 @@
 -- What is kept of a list of sets is its longest beginning that fits.
-use Rattle.std.proofs.Common.{◌≡◌, ℕ, zero, suc, ◌<◌, ◌≤◌, Bool, true, false, cond, nat_le, ◌⊎◌, inl, inr, List, [], length, take, refl, sym, ap, ◌∙◌, subst, arith, le-leb, leb-true, eq-or-lt_of_le}
+use Rattle.std.proofs.Common.{◌≡◌, ℕ, zero, suc, ◌<◌, ◌≤◌, Bool, true, false, cond, nat_le, ◌⊎◌, inl, inr, List, [], length, take, refl, sym, ap, ◌∙◌, arith, le-leb, leb-true, eq-or-lt_of_le}
 use Rattle.std.proofs.lemmas.Bool.{false≢true}
 use Rattle.std.proofs.lemmas.List.{length-take-le}
 use Rattle.dns_spec.specs.Layout.{Item}
@@ -7,19 +7,11 @@ use Rattle.dns_spec.specs.Reply.{kept, greatest}
 
 pub greatest_bound : (test : ℕ → Bool) (n : ℕ) → greatest test n ≤ n
 greatest_bound test zero = omega arith
-greatest_bound test (suc k) = go (test (suc k)) (greatest_bound test k)
-  where
-    go : (t : Bool) → greatest test k ≤ k → cond t (suc k) (greatest test k) ≤ suc k
-    go true h = omega arith
-    go false h = omega arith
+greatest_bound test (suc k) = grind (arith, (greatest_bound test k))
 
 pub greatest_passes : (test : ℕ → Bool) (n : ℕ) → test 0 ≡ true → test (greatest test n) ≡ true
 greatest_passes test zero h = h
-greatest_passes test (suc k) h = go (test (suc k)) refl (greatest_passes test k h)
-  where
-    go : (t : Bool) → test (suc k) ≡ t → test (greatest test k) ≡ true → test (cond t (suc k) (greatest test k)) ≡ true
-    go true e f = e
-    go false e f = f
+greatest_passes test (suc k) h = grind (arith, (greatest_passes test k h))
 
 pub greatest_most : (test : ℕ → Bool) (n k : ℕ) → k ≤ n → test k ≡ true → k ≤ greatest test n
 greatest_most test zero k h e = h
@@ -47,6 +39,4 @@ module _ (size_of : List Item → ℕ) (limit : ℕ) (sets : List Item) where
 
   -- and no longer beginning does
   pub kept_longest : (k : ℕ) → k ≤ length sets → size_of (take k sets) ≤ limit → k ≤ length (kept size_of limit sets)
-  kept_longest k h fits =
-      let most = greatest_most (λ n. nat_le (size_of (take n sets)) limit) (length sets) k h (le-leb (size_of (take k sets)) limit fits) in
-      subst (λ n. k ≤ n) (sym length-kept) most
+  kept_longest k h fits = grind (arith, greatest_most, length-kept)

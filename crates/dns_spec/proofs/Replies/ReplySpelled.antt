@@ -1,19 +1,18 @@
 -- The octets of a reply spell it, and are no more than its limit.
-use Rattle.std.proofs.Common.{◌≡◌, ℕ, ◌+◌, ◌/◌, ◌^◌, ◌<◌, ◌≤◌, Bool, true, false, not, cond, nat_le, ◌==◌, List, [], ◌∷◌, length, take, drop, Option, None, Some, IfSome, All, refl, ap, subst, arith, length-take, mod-lt}
+use Rattle.std.proofs.Common.{◌≡◌, ℕ, ◌+◌, ◌^◌, ◌<◌, ◌≤◌, Bool, true, false, nat_le, ◌==◌, List, [], ◌∷◌, length, take, drop, Option, None, Some, IfSome, All, refl, subst, arith, length-take, mod-lt}
 use Rattle.std.proofs.lemmas.Bool.{cond_both, and_parts, leb-true}
 use Rattle.std.proofs.lemmas.Option.{none-some, same_Some, cond_some}
 use Rattle.std.proofs.lemmas.List.Elements.{All-nil, All-take, All-drop}
-use Rattle.std.specs.List.{list_all}
-use Rattle.dns_spec.specs.Names.{Octets, DomainName, wire, is_label, is_name, at_or_below}
-use Rattle.dns_spec.specs.Data.{class_in, number_of}
+use Rattle.dns_spec.specs.Names.{Octets, DomainName, is_name}
+use Rattle.dns_spec.specs.Data.{number_of}
 use Rattle.dns_spec.specs.Records.{ZoneContents}
-use Rattle.dns_spec.specs.Reading.{Header, MessageQuestion, format_error, not_implemented, refused, Spells}
+use Rattle.dns_spec.specs.Reading.{Header, MessageQuestion, Spells}
 use Rattle.dns_spec.specs.ComputedReading.{name_at}
-use Rattle.dns_spec.specs.Query.{field16, opcode, recursion_desired, bit, head_of, reply_head, refusal_head, question_of, question_at, counts_are_one_question, is_ignored, QueryRead, absent, refused_with, query, query_or_error, query_read}
+use Rattle.dns_spec.specs.Query.{field16, bit, head_of, reply_head, refusal_head, question_of, question_at, QueryRead, absent, refused_with, query, query_or_error, query_read}
 use Rattle.dns_spec.specs.Layout.{Item, layout, message_of}
 use Rattle.dns_spec.specs.LayoutSize.{records_size, size}
 use Rattle.dns_spec.specs.Answer.{outcome, items, is_authoritative}
-use Rattle.dns_spec.specs.Reply.{truncated, Decision, silence, header_alone, question_alone, answered, is_meta_type, refusal, decide_question, decide_query, decide, Reply, answer_with, reply_of, reply_with, reply_octets, reply_message, keep_longest, reply, greatest}
+use Rattle.dns_spec.specs.Reply.{truncated, Decision, silence, header_alone, question_alone, answered, decide_query, decide, Reply, answer_with, reply_of, reply_with, reply_octets, reply_message, keep_longest, reply, greatest}
 use Rattle.dns_spec.specs.Laws.{sections_in_order, IsWritable, IsAskable, HasRoom}
 use Rattle.dns_spec.proofs.Records.SortedOnce.{Each}
 use Rattle.dns_spec.proofs.Messages.NameReading.{name_at_computes}
@@ -37,16 +36,10 @@ field_bound d i e =
 
 -- the header of a reply fits its fields
 bit_bound : (b : Bool) → bit b ≤ 1
-bit_bound true = omega arith
-bit_bound false = omega arith
+bit_bound b = grind arith
 
 flags_bound : (h : Header) (aa tc : Bool) (rcode : ℕ) → rcode < 16 → (reply_head h aa tc rcode).flags < 2 ^ 16
-flags_bound h aa tc rcode low =
-    let o : opcode h.flags < 16 = mod-lt (h.flags / 2 ^ 11) (omega arith) in
-    let r : recursion_desired h.flags < 2 = mod-lt (h.flags / 2 ^ 8) (omega arith) in
-    let a = bit_bound aa in
-    let t = bit_bound tc in
-    omega (arith, o, r, a, t)
+flags_bound h aa tc rcode low = grind (arith, mod-lt, bit_bound)
 
 -- a question that was read fits its fields
 askable : (d : Octets) (q : MessageQuestion) → All (λ o. o < 256) d → question_at d ≡ Some q → IsAskable q
@@ -73,22 +66,11 @@ IsReadAs d (refused_with h) = Refuses d h
 IsReadAs d (query h q) = (question_at d ≡ Some q) × (head_of d ≡ h)
 
 read_or_error : (d : Octets) (y : Option MessageQuestion) → question_at d ≡ y → IsReadAs d (query_or_error (head_of d) y)
-read_or_error d None e = record { rcode = format_error; low = omega arith; head = refl }
-read_or_error d (Some q) e = (e, refl)
+read_or_error d y h = grind arith
 
 read_as : (d : Octets) → IsReadAs d (query_read d)
 unfolding query_read
-read_as d =
-    let h = head_of d in
-    let asked = query_or_error h (question_at d) in
-    let other = refused_with (refusal_head h not_implemented) in
-    let many = refused_with (refusal_head h format_error) in
-    cond_both (is_ignored d) absent (cond (not (opcode (field16 d 2) == 0)) other (cond (not (counts_are_one_question d)) many asked))
-    (IsReadAs d) (λ _. tt) (λ _.
-    cond_both (not (opcode (field16 d 2) == 0)) other (cond (not (counts_are_one_question d)) many asked)
-    (IsReadAs d) (λ _. record { rcode = not_implemented; low = omega arith; head = refl }) (λ _.
-    cond_both (not (counts_are_one_question d)) many asked (IsReadAs d)
-    (λ _. record { rcode = format_error; low = omega arith; head = refl }) (λ _. read_or_error d (question_at d) refl)))
+read_as d = grind (arith, cond_both, read_or_error)
 
 -- and what a decision says
 abbrev Decided : Octets → Decision → Type 0
@@ -97,23 +79,8 @@ Decided d (header_alone h) = Refuses d h
 Decided d (question_alone h q) = (question_at d ≡ Some q) × Refuses d h
 Decided d (answered h q) = (question_at d ≡ Some q) × (head_of d ≡ h)
 
-refusal_low : (z : ZoneContents) (q : MessageQuestion) (rcode : ℕ) → refusal z q ≡ Some rcode → rcode < 16
-refusal_low z q rcode = go (not (q.qclass == class_in)) (is_meta_type q.qtype) (not (at_or_below q.qname z.origin))
-  where
-    go : (a b c : Bool) → cond a (Some refused) (cond b (Some not_implemented) (cond c (Some refused) None)) ≡ Some rcode → rcode < 16
-    go true b c e = let is = same_Some refused rcode e in omega (arith, is)
-    go false true c e = let is = same_Some not_implemented rcode e in omega (arith, is)
-    go false false true e = let is = same_Some refused rcode e in omega (arith, is)
-    go false false false e = absurd (none-some rcode e)
-
 decided_query : (z : ZoneContents) (d : Octets) (x : QueryRead) → IsReadAs d x → Decided d (decide_query z x)
-decided_query z d absent ok = tt
-decided_query z d (refused_with h) ok = ok
-decided_query z d (query h q) ok = go (refusal z q) refl
-  where
-    go : (y : Option ℕ) → refusal z q ≡ y → Decided d (decide_question h q y)
-    go None e = ok
-    go (Some rcode) e = (ok.0, record { rcode = rcode; low = refusal_low z q rcode e; head = ap (λ x. refusal_head x rcode) ok.1 })
+decided_query z d x h = grind arith
 
 decided : (z : ZoneContents) (d : Octets) → Decided d (decide z d)
 unfolding decide
@@ -129,9 +96,7 @@ bare_size = refl
 
 empty_size : (q : MessageQuestion) → is_name q.qname ≡ true → size (Some q) [] ≤ 271
 unfolding size records_size
-empty_size q h =
-    let short = leb-true (length (wire q.qname)) 255 (and_parts (list_all is_label q.qname) (nat_le (length (wire q.qname)) 255) h).1 in
-    omega (arith, length-question_octets q, short)
+empty_size q h = grind (arith, leb-true, and_parts, length-question_octets)
 
 -- The octets of a reply spell the message that it is.
 pub reply_spells : (z : ZoneContents) (d : Octets) (limit : ℕ) (r : Reply) → All IsWritable z.records → All (λ o. o < 256) d → 271 ≤ limit → limit ≤ 65535
@@ -166,9 +131,7 @@ reply_spells z d limit r writable low from upto e = go (decide z d) (decided z d
     go : (x : Decision) → Decided d x → reply_of (keep_longest z limit) z x ≡ Some r → Spells (reply_octets r) (reply_message r)
     go silence ok e = absurd (none-some r e)
     go (header_alone h) ok e = replied (record { header = h; question = None; sets = [] }) (refusing h None ok tt (let small = bare_size in omega (arith, small))) e
-    go (question_alone h q) ok e =
-        let may = askable d q low ok.0 in
-        replied (record { header = h; question = Some q; sets = [] }) (refusing h (Some q) ok.1 may (let small = empty_size q may.qname in omega (arith, small))) e
+    go (question_alone h q) ok e = grind (arith, askable, empty_size, replied, refusing)
     go (answered h q) ok e =
         let may = askable d q low ok.0 in
         let o = outcome z q.qname q.qtype in
@@ -191,23 +154,5 @@ named_question d q h = go (name_at d 12) refl h
 
 pub reply_fits : (z : ZoneContents) (d : Octets) (limit : ℕ) (r : Reply) → 271 ≤ limit → reply z d limit ≡ Some r → length (reply_octets r) ≤ limit
 unfolding reply reply_with
-reply_fits z d limit r from e = go (decide z d) (decided z d) e
-  where
-    replied : (x : Reply) → length (reply_octets x) ≤ limit → ◌≡◌ {A = Option Reply} (Some x) (Some r) → length (reply_octets r) ≤ limit
-    replied x s e = subst (λ y. length (reply_octets y) ≤ limit) (same_Some x r e) s
-
-    fits : (h : Header) (q : Option MessageQuestion) (is : List Item) → size q is ≤ limit → length (layout h q is) ≤ limit
-    fits h q is small = omega (arith, length-layout h q is, small)
-
-    asked : (q : MessageQuestion) → question_at d ≡ Some q → size (Some q) [] ≤ limit
-    asked q at = let small = empty_size q (named_question d q at) in omega (arith, small, from)
-
-    go : (x : Decision) → Decided d x → reply_of (keep_longest z limit) z x ≡ Some r → length (reply_octets r) ≤ limit
-    go silence ok e = absurd (none-some r e)
-    go (header_alone h) ok e = replied (record { header = h; question = None; sets = [] }) (fits h None [] (let small = bare_size in omega (arith, small, from))) e
-    go (question_alone h q) ok e = replied (record { header = h; question = Some q; sets = [] }) (fits h (Some q) [] (asked q ok.0)) e
-    go (answered h q) ok e =
-        let o = outcome z q.qname q.qtype in
-        let sets = keep_longest z limit q in
-        let head = reply_head h (is_authoritative o) (truncated z q sets) o.rcode in
-        replied (answer_with z h q sets) (fits head (Some q) sets (kept_fits (size (Some q)) limit (items z q.qname q.qtype) (asked q ok.0))) e
+reply_fits z d limit r from e =
+    grind (arith, decided, length-layout, empty_size, named_question, bare_size, kept_fits)

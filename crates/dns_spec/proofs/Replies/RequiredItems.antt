@@ -1,5 +1,6 @@
 -- The sets of a reply begin with those that it may not leave out.
-use Rattle.std.proofs.Common.{◌≡◌, ℕ, Bool, true, false, ◌&&◌, cond, ◌==◌, ◌⊎◌, inl, inr, List, [], ◌∷◌, ◌++◌, length, take, Option, None, Some, is_some, option_map, unwrap_or, filter, flat_map, refl, sym, ap, ◌∙◌, append_assoc, append-nil}
+use Rattle.std.proofs.Common.{arith, rules}
+use Rattle.std.proofs.Common.{◌≡◌, ℕ, Bool, true, false, cond, ◌==◌, ◌⊎◌, inl, inr, List, [], ◌∷◌, ◌++◌, length, take, Option, None, Some, is_some, option_map, unwrap_or, filter, flat_map, refl, sym, ap, ◌∙◌, append_assoc, append-nil}
 use Rattle.std.proofs.lemmas.Bool.{eqb-true}
 use Rattle.std.proofs.lemmas.List.{take_at}
 use Rattle.std.specs.List.{filter_map}
@@ -7,9 +8,8 @@ use Rattle.dns_spec.specs.Names.{DomainName}
 use Rattle.dns_spec.specs.Data.{type_cname, target}
 use Rattle.dns_spec.specs.Records.{ResourceRecord, ZoneContents, data_order, of_type}
 use Rattle.dns_spec.specs.Tree.{cut_of, found}
-use Rattle.dns_spec.specs.Layout.{Section, answer, Item, records_of}
-use Rattle.dns_spec.specs.Answer.{item, follows_alias, alias_set, chain, last_sought, alias_items, Outcome, positive, negative, has_any, outcome_by, outcome_at, outcome, has_target_type, targets_of, targets_inside, targets_outside, targets, address_sets, extra, main_items, items, required_items, asked_records}
-use Rattle.dns_spec.specs.Reading.{no_error}
+use Rattle.dns_spec.specs.Layout.{Section, answer, Item}
+use Rattle.dns_spec.specs.Answer.{item, follows_alias, alias_set, chain, last_sought, alias_items, Outcome, outcome_by, outcome_at, outcome, has_target_type, targets_of, targets_inside, targets_outside, targets, address_sets, extra, main_items, items, required_items}
 use Rattle.dns_spec.proofs.Records.SortedOnce.{Each, each_sort}
 use Rattle.dns_spec.proofs.Replies.WritableItems.{each_flat_map}
 
@@ -54,8 +54,7 @@ each_alias z s = go (is_some (cut_of z s)) (some (found z s))
     go false e = e
 
 pub each_item : (P : ResourceRecord → Type 0) (s : Section) (rs : List ResourceRecord) → Each P rs → Each (λ (i : Item). Each P i.records) (item s rs)
-each_item P s [] e = tt
-each_item P s (r ∷ rs) e = (e, tt)
+each_item P s rs h = grind arith
 
 pub each_alias_item : (z : ZoneContents) (q : DomainName) (t : ℕ) → Each (λ (i : Item). Each IsAlias i.records) (alias_items z q t)
 each_alias_item z q t = go (follows_alias t)
@@ -78,32 +77,19 @@ no_target [] e = refl
 no_target (r ∷ rs) e = let none : target_of r ≡ None = rw e.0 refl in rw none (no_target rs e.1)
 
 pub no_targets : (is : List Item) → Each (λ (i : Item). Each IsAlias i.records) is → targets_of is ≡ []
-no_targets is e =
-    no_target (records_of is)
-    (each_flat_map IsAlias (λ (i : Item). Each IsAlias i.records) (λ (i : Item). i.records) is (λ i h. h) e)
+no_targets is e = search (rules, no_target, each_flat_map)
 
 -- a referral adds nothing to the answer, and nothing else refers
 record Refers (o : Outcome) : Type 0 where
   cases : (o.referral ≡ None) ⊎ (o.answers ≡ [])
 
 refers : (z : ZoneContents) (t : ℕ) (x : Option DomainName) (y : Option (List ResourceRecord)) → Refers (outcome_by z t x y)
-refers z t (Some c) y = record { cases = inr refl }
-refers z t None None = record { cases = inl refl }
-refers z t None (Some rs) = go (follows_alias t && has_any (of_type type_cname rs)) (has_any (asked_records t rs))
-  where
-    go : (b c : Bool) → Refers (cond b (positive []) (cond c (positive (item answer (asked_records t rs))) (negative z no_error)))
-    go true c = record { cases = inl refl }
-    go false true = record { cases = inl refl }
-    go false false = record { cases = inl refl }
+refers z t x y = grind arith
 
 begin : (z : ZoneContents) (o : Outcome) (ms ns : List DomainName) → targets o ≡ ms ++ ns → targets_inside o ≡ ms
     → main_items o ++ extra z (main_items o) (targets o)
     ≡ (main_items o ++ extra z (main_items o) (targets_inside o)) ++ extra z (main_items o ++ extra z (main_items o) ms) ns
-begin z o ms ns whole inside =
-    let main = main_items o in
-    let rest = extra z (main ++ extra z main ms) ns in
-    ap (λ x. main ++ extra z main x) whole ∙ ap (λ x. main ++ x) (extra_append z main ms ns)
-    ∙ sym (append_assoc main (extra z main ms) rest) ∙ ap (λ x. (main ++ extra z main x) ++ rest) (sym inside)
+begin z o ms ns whole inside = grind (arith, extra_append, append_assoc)
 
 module _ (z : ZoneContents) (q : DomainName) (t : ℕ) where
   split : (ms : List DomainName) × (ns : List DomainName) × (targets (outcome z q t) ≡ ms ++ ns) × (targets_inside (outcome z q t) ≡ ms)

@@ -1,22 +1,22 @@
 -- The sets of an answer stand in the order of their sections, and their records fit a message where those of the zone do.
-use Rattle.std.proofs.Common.{◌≡◌, ℕ, zero, suc, ◌<◌, ◌≤◌, min, append_assoc, append-nil, Bool, true, false, ◌&&◌, not, cond, nat_le, ◌==◌, List, [], ◌∷◌, ◌++◌, map, reverse, take, Option, None, Some, is_some, option_map, unwrap_or, All, find, filter, flat_map, refl, sym, ap, subst, arith}
+use Rattle.std.proofs.Common.{◌≡◌, ℕ, zero, suc, ◌<◌, ◌≤◌, min, append_assoc, append-nil, Bool, true, false, ◌&&◌, cond, nat_le, List, [], ◌∷◌, ◌++◌, map, reverse, take, Option, None, Some, All, find, flat_map, refl, sym, ap, subst, arith, rules}
 use mathlib.Core.List.{reverse_aux}
 use Rattle.std.proofs.lemmas.Bool.{and_from, le-leb}
 use Rattle.std.proofs.lemmas.Option.{none-some, same_Some, cond_some, option_and_then_some}
 use Rattle.std.proofs.lemmas.List.Elements.{All-nil, All-cons, All-head, All-tail}
-use Rattle.std.specs.List.{list_all, list_any}
-use Rattle.dns_spec.specs.Names.{Octets, DomainName, is_name, folded, same, at_or_below, suffixes}
-use Rattle.dns_spec.specs.Data.{type_a, type_ns, type_cname, type_soa, type_aaaa, qtype_any, width, Piece, fixed, domain, string, strings, anything, pieces_of, Part, octets, name, piece_front, cut, first_name, target, soa_minimum}
-use Rattle.dns_spec.specs.Records.{ResourceRecord, ZoneContents, data_order, at, of_type, rrset, with_owner}
-use Rattle.dns_spec.specs.Sets.{rising_types, of_first_type, of_lowest_type}
-use Rattle.dns_spec.specs.Tree.{exists, is_cut, cut_of, source_of_synthesis, found}
+use Rattle.std.specs.List.{list_all}
+use Rattle.dns_spec.specs.Names.{Octets, DomainName, is_name, folded, same, suffixes}
+use Rattle.dns_spec.specs.Data.{type_a, type_ns, type_cname, type_aaaa, Piece, Part, octets, name, piece_front, cut, first_name, target, soa_minimum}
+use Rattle.dns_spec.specs.Records.{ResourceRecord, ZoneContents, at, of_type, rrset, with_owner}
+use Rattle.dns_spec.specs.Sets.{of_lowest_type}
+use Rattle.dns_spec.specs.Tree.{is_cut, cut_of, found}
 use Rattle.dns_spec.specs.Layout.{Section, answer, authority, additional, Item, records_of}
 use Rattle.dns_spec.specs.Reading.{name_error, no_error}
-use Rattle.dns_spec.specs.Answer.{most_aliases, item, follows_alias, alias_set, first_target, next_sought, chain_from, chain, last_of, last_sought, alias_items, Outcome, asked_records, negative, positive, has_any, outcome_by, outcome_at, outcome, targets, stands, address_set, address_sets, extra, main_items, items}
+use Rattle.dns_spec.specs.Answer.{item, follows_alias, alias_set, first_target, next_sought, chain_from, chain, last_of, last_sought, alias_items, Outcome, asked_records, negative, positive, has_any, outcome_by, outcome_at, outcome, targets, address_set, address_sets, extra, main_items, items}
 use Rattle.dns_spec.specs.Laws.{section_rank, sections_in_order, IsWritable}
 use Rattle.dns_spec.proofs.DomainNames.NameLaws.{is_name-tail, is_name-folded}
 use Rattle.dns_spec.proofs.Records.SortedOnce.{Each, each_filter, each_sort}
-use Rattle.dns_spec.proofs.DataWords.WrittenData.{cut_into, name_part, octets_part, all_strings}
+use Rattle.dns_spec.proofs.DataWords.WrittenData.{cut_into}
 
 pub each_append : {X : Type 0} (P : X → Type 0) (xs ys : List X) → Each P xs → Each P ys → Each P (xs ++ ys)
 each_append P [] ys e f = f
@@ -48,11 +48,7 @@ each_reverse P xs e = each_reverse_onto P xs [] e tt
 
 found_each : {X : Type 0} (P : X → Type 0) (test : X → Bool) (xs : List X) (y : X) → Each P xs → find test xs ≡ Some y → P y
 found_each P test [] y e h = absurd (none-some y h)
-found_each P test (x ∷ xs) y e h = go (test x) h (found_each P test xs y e.1)
-  where
-    go : (t : Bool) → cond t (Some x) (find test xs) ≡ Some y → (find test xs ≡ Some y → P y) → P y
-    go true q f = subst P (same_Some x y q) e.0
-    go false q f = f q
+found_each P test (x ∷ xs) y e h = grind (arith, same_Some, (found_each P test xs y e.1))
 
 -- names above a name, and in lower case
 abbrev pub Named : DomainName → Type 0
@@ -70,16 +66,8 @@ abbrev NamedPart : Part → Type 0
 NamedPart (octets o) = Unit {0}
 NamedPart (name n) = Named n
 
-octets_named : (o : Octets) (part : Part) → octets o ≡ part → NamedPart part
-octets_named o part e = subst NamedPart e tt
-
 named_front : (p : Piece) (os rest : Octets) (part : Part) → piece_front p os ≡ Some (part, rest) → NamedPart part
-named_front (fixed f) os rest part h = octets_named (take (width f) os) part (octets_part (width f) os rest part h)
-named_front domain os rest part h = let m = name_part os rest part h in subst NamedPart m.1 m.2
-named_front string [] rest part h = absurd (none-some (part, rest) h)
-named_front string (k ∷ os) rest part h = octets_named (k ∷ take k os) part (octets_part (suc k) (k ∷ os) rest part h)
-named_front strings os rest part h = octets_named os part (all_strings os rest part h).2
-named_front anything os rest part h = octets_named os part (ap (λ z. z.0) (same_Some (octets os, []) (part, rest) h))
+named_front p os rest part h = grind arith
 
 named_parts : (ps : List Piece) (os : Octets) (xs : List Part) → cut ps os ≡ Some xs → Each NamedPart xs
 unfolding cut
@@ -95,11 +83,7 @@ named_first (octets o ∷ xs) m e h = named_first xs m e.1 h
 named_first (name n ∷ xs) m e h = subst Named (same_Some n m h) e.0
 
 pub named_target : (t : ℕ) (d : Octets) (m : DomainName) → target t d ≡ Some m → Named m
-named_target t d m h = go (cut (pieces_of t) d) refl h
-  where
-    go : (y : Option (List Part)) → cut (pieces_of t) d ≡ y → first_name (unwrap_or y (octets d ∷ [])) ≡ Some m → Named m
-    go None e f = absurd (none-some m f)
-    go (Some xs) e f = named_first xs m (named_parts (pieces_of t) d xs e) f
+named_target t d m h = grind (arith, none-some, named_first, named_parts)
 
 -- records taken from those of a zone
 abbrev Writable : List ResourceRecord → Type 0
@@ -109,8 +93,7 @@ at_writable : (z : ZoneContents) (n : DomainName) → Writable z.records → Wri
 at_writable z n w = each_filter IsWritable (λ (r : ResourceRecord). same r.owner n) z.records w
 
 of_type_writable : (t : ℕ) (rs : List ResourceRecord) → Writable rs → Writable (of_type t rs)
-of_type_writable t rs w =
-    each_sort data_order IsWritable (filter (λ (r : ResourceRecord). r.rtype == t) rs) (each_filter IsWritable (λ (r : ResourceRecord). r.rtype == t) rs w)
+of_type_writable t rs w = grind (arith, each_sort, each_filter)
 
 with_owner_writable : (n : DomainName) (rs : List ResourceRecord) → Named n → Writable rs → Writable (with_owner n rs)
 with_owner_writable n [] h w = tt
@@ -119,14 +102,10 @@ with_owner_writable n (r ∷ rs) h w = (record { owner = h; rtype = w.0.rtype; t
 -- The names sought are names.
 module _ (z : ZoneContents) where
   first_target_named : (rs : List ResourceRecord) (m : DomainName) → first_target rs ≡ Some m → Named m
-  first_target_named [] m e = absurd (none-some m e)
-  first_target_named (r ∷ rs) m e = named_target r.rtype r.rdata m e
+  first_target_named rs m h = grind (arith, none-some, named_target)
 
   next_named : (sought : List DomainName) (s m : DomainName) → next_sought z sought s ≡ Some m → Named m
-  next_named sought s m e =
-      option_and_then_some (λ m. cond (at_or_below m z.origin && not (list_any (same m) sought)) (Some m) None) (first_target (alias_set z s)) m e (λ x p q.
-      let c = cond_some (at_or_below x z.origin && not (list_any (same x) sought)) x m q in
-      subst Named c.1 (first_target_named (alias_set z s) x p))
+  next_named sought s m e = grind (arith, option_and_then_some, cond_some, first_target_named)
 
   chain_from_named : (k : ℕ) (sought : List DomainName) (s : DomainName) → Named s → Each Named (chain_from z k sought s)
   unfolding chain_from
@@ -140,39 +119,14 @@ module _ (z : ZoneContents) where
 
   pub chain_named : (q : DomainName) (t : ℕ) → Named q → Each Named (chain z q t)
   unfolding chain
-  chain_named q t h = go (follows_alias t) (chain_from_named most_aliases [] q h)
-    where
-      go : (b : Bool) → Each Named (chain_from z most_aliases [] q) → Each Named (cond b (chain_from z most_aliases [] q) (q ∷ []))
-      go true e = e
-      go false e = (h, tt)
+  chain_named q t h = grind (arith, chain_from_named, Each)
 
--- Over a zone whose records fit a message.
 module _ (z : ZoneContents) (w : Writable z.records) where
   found_writable : (q : DomainName) (rs : List ResourceRecord) → Named q → found z q ≡ Some rs → Writable rs
-  found_writable q rs h e = go (exists z q) e
-    where
-      own : Writable (with_owner q (at z q))
-      own = with_owner_writable q (at z q) h (at_writable z q w)
-
-      wild : (y : Option DomainName) → option_map (λ n. with_owner q (at z n)) y ≡ Some rs → Writable rs
-      wild None e = absurd (none-some rs e)
-      wild (Some n) e = subst Writable (same_Some (with_owner q (at z n)) rs e) (with_owner_writable q (at z n) h (at_writable z n w))
-
-      go : (t : Bool) → cond t (Some (with_owner q (at z q))) (option_map (λ n. with_owner q (at z n)) (source_of_synthesis z q)) ≡ Some rs → Writable rs
-      go true e = subst Writable (same_Some (with_owner q (at z q)) rs e) own
-      go false e = wild (source_of_synthesis z q) e
+  found_writable q rs h e = grind (arith, with_owner_writable, at_writable, none-some, same_Some)
 
   alias_set_writable : (s : DomainName) → Named s → Writable (alias_set z s)
-  alias_set_writable s h = go (is_some (cut_of z s)) (some (found z s) refl)
-    where
-      some : (y : Option (List ResourceRecord)) → found z s ≡ y → Writable (unwrap_or (option_map (of_type type_cname) y) [])
-      some None e = tt
-      some (Some rs) e = of_type_writable type_cname rs (found_writable s rs h e)
-
-      go : (t : Bool) → Writable (unwrap_or (option_map (of_type type_cname) (found z s)) [])
-          → Writable (cond t [] (unwrap_or (option_map (of_type type_cname) (found z s)) []))
-      go true e = tt
-      go false e = e
+  alias_set_writable s h = grind (arith, of_type_writable, found_writable)
 
   last_named : (s : DomainName) (ms : List DomainName) → Named s → Each Named ms → Named (last_of s ms)
   last_named s [] h e = h
@@ -183,16 +137,14 @@ abbrev Stood : Section → Item → Type 0
 Stood s i = (i.section ≡ s) × Writable i.records
 
 item_stood : (s : Section) (rs : List ResourceRecord) → Writable rs → Each (Stood s) (item s rs)
-item_stood s [] w = tt
-item_stood s (r ∷ rs) w = ((refl, w), tt)
+item_stood s rs h = grind arith
 
 abbrev Negative : ResourceRecord → ResourceRecord
 Negative r = record r { ttl = min r.ttl (soa_minimum r.rdata) }
 
 negative_writable : (rs : List ResourceRecord) → Writable rs → Writable (map Negative rs)
 negative_writable [] w = tt
-negative_writable (r ∷ rs) w =
-    (record { owner = w.0.owner; rtype = w.0.rtype; ttl = let low = w.0.ttl in omega (arith, low); rdata = w.0.rdata }, negative_writable rs w.1)
+negative_writable (r ∷ rs) w = grind (arith, (negative_writable rs w.1))
 
 module _ (z : ZoneContents) (w : Writable z.records) where
   rrset_writable : (n : DomainName) (t : ℕ) → Writable (rrset z n t)
@@ -205,25 +157,13 @@ module _ (z : ZoneContents) (w : Writable z.records) where
     authorities : Each (Stood authority) o.authorities
 
   negative_right : (rcode : ℕ) → rcode < 16 → Right (negative z rcode)
-  negative_right rcode low = record {
-    rcode = low;
-    answers = tt;
-    authorities = item_stood authority (map Negative (rrset z z.origin type_soa)) (negative_writable (rrset z z.origin type_soa) (rrset_writable z.origin type_soa));
-  }
+  negative_right rcode low = search (rules, item_stood, negative_writable, rrset_writable)
 
   lowest_writable : (rs : List ResourceRecord) → Writable rs → Writable (of_lowest_type rs)
-  lowest_writable rs v = go (rising_types rs)
-    where
-      go : (ts : List ℕ) → Writable (of_first_type ts rs)
-      go [] = tt
-      go (t ∷ ts) = of_type_writable t rs v
+  lowest_writable rs v = grind (arith, of_type_writable)
 
   asked_stood : (t : ℕ) (rs : List ResourceRecord) → Writable rs → Each (Stood answer) (item answer (asked_records t rs))
-  asked_stood t rs v = go (t == qtype_any)
-    where
-      go : (b : Bool) → Each (Stood answer) (item answer (cond b (of_lowest_type rs) (of_type t rs)))
-      go true = item_stood answer (of_lowest_type rs) (lowest_writable rs v)
-      go false = item_stood answer (of_type t rs) (of_type_writable t rs v)
+  asked_stood t rs v = grind (arith, Each, item_stood, lowest_writable, of_type_writable)
 
   answer_from_right : (t : ℕ) (rs : List ResourceRecord) → Writable rs → Right (outcome_by z t None (Some rs))
   answer_from_right t rs v = go (follows_alias t && has_any (of_type type_cname rs)) (has_any (asked_records t rs))
@@ -265,11 +205,7 @@ module _ (z : ZoneContents) (w : Writable z.records) where
       }
 
   address_set_stood : (earlier : List Item) (n : DomainName) (t : ℕ) → Each (Stood additional) (address_set z earlier n t)
-  address_set_stood earlier n t = go (stands n t earlier)
-    where
-      go : (b : Bool) → Each (Stood additional) (cond b [] (item additional (rrset z n t)))
-      go true = tt
-      go false = item_stood additional (rrset z n t) (rrset_writable n t)
+  address_set_stood earlier n t = grind (arith, Each, item_stood, rrset_writable)
 
   extra_stood : (earlier : List Item) (ms : List DomainName) → Each (Stood additional) (extra z earlier ms)
   unfolding extra
@@ -309,9 +245,7 @@ ordered_one s is e = subst Ordered (append-nil is) (ordered_front s is [] e tt t
 tested : (i : Item) (is : List Item) → Each (λ (j : Item). section_rank i.section ≤ section_rank j.section) is
     → list_all (λ (j : Item). nat_le (section_rank i.section) (section_rank j.section)) is ≡ true
 tested i [] e = refl
-tested i (j ∷ js) e =
-    and_from (nat_le (section_rank i.section) (section_rank j.section)) (list_all (λ (j : Item). nat_le (section_rank i.section) (section_rank j.section)) js)
-    (le-leb (section_rank i.section) (section_rank j.section) e.0) (tested i js e.1)
+tested i (j ∷ js) e = grind (arith, and_from, le-leb, (tested i js e.1))
 
 in_order : (is : List Item) → Ordered is → sections_in_order is ≡ true
 in_order [] o = refl

@@ -1,4 +1,5 @@
 -- A stream is its frames and the rest, and the rest after all frames is empty or a frame that was cut.
+use Rattle.std.proofs.lemmas.Grind.{common_steps}
 use Rattle.std.proofs.Common.{◌≡◌, ℕ, zero, suc, ◌+◌, ◌-◌, ◌*◌, ◌^◌, ◌<◌, ◌≤◌, Bool, true, false, cond, nat_le, ◌⊎◌, inl, inr, List, [], ◌∷◌, ◌++◌, length, take, drop, replicate, All, Option, None, Some, refl, sym, ap, ap₂, ◌∙◌, subst, arith, append_assoc, zero-add, length-append, length-drop, mod-eq_of_lt, take-append-drop}
 use Rattle.std.proofs.lemmas.Bool.{leb-true, le-leb, leb-false}
 use Rattle.std.proofs.lemmas.Option.{none-some, cond_some}
@@ -20,14 +21,7 @@ pub two_again : (n : ℕ) (x : Octets) → n < 2 ^ 16 → field16 (octets16 n ++
 two_again n x h = number_of-bytes 2 n ∙ mod-eq_of_lt h
 
 front_is : (x : Octets) → All (λ o. o < 256) x → 2 ≤ length x → octets16 (field16 x 0) ++ drop 2 x ≡ x
-front_is [] low h = absurd (omega arith)
-front_is (a ∷ []) low h = absurd (omega arith)
-front_is (a ∷ b ∷ x) low h =
-    let e = each_from_all (λ o. o < 256) (a ∷ b ∷ x) low in
-    let ha : a < 256 = e.0 in
-    let hb : b < 256 = e.1.0 in
-    let value : field16 (a ∷ b ∷ x) 0 ≡ a * 256 + b = omega arith in
-    ap (λ n. octets16 n ++ x) value ∙ ap (λ z. z ++ x) (two_octets a b ha hb)
+front_is x h h1 = grind (arith, common_steps, each_from_all, two_octets)
 
 first_splits : (x m y : Octets) → All (λ o. o < 256) x → first_frame x ≡ Some (m, y) → (frame m ++ y ≡ x) × All (λ o. o < 256) y
 unfolding first_frame
@@ -115,13 +109,7 @@ rest_cut (suc k) x low h = go (first_frame x) refl h (rest_cut k)
 -- frames of messages are read as these
 first_again : (m z : Octets) → length m < 2 ^ 16 → first_frame (frame m ++ z) ≡ Some (m, z)
 unfolding first_frame
-first_again m z h =
-    let value = two_again (length m) (m ++ z) h in
-    let whole : has_frame (frame m ++ z) ≡ true =
-    le-leb (2 + field16 (frame m ++ z) 0) (length (frame m ++ z)) (omega (arith, value, length-append m z)) in
-    let found : (take (field16 (frame m ++ z) 0) (m ++ z), drop (field16 (frame m ++ z) 0) (m ++ z)) ≡ (m, z) =
-    ap (λ n. (take n (m ++ z), drop n (m ++ z))) value ∙ ap₂ (λ u v. (u, v)) (take_at m z (length m) refl) (drop_at m z (length m) refl) in
-    (λ i. cond (whole i) (Some (found i)) None)
+first_again m z h = grind (arith, two_again, le-leb, length-append, ap₂, take_at, drop_at)
 
 pub frames_again : (k : ℕ) (ms : List Octets) (x : Octets) → All (λ m. length m < 2 ^ 16) ms → frames (length ms + k) (flat_map frame ms ++ x) ≡ ms ++ frames k x
 unfolding frames

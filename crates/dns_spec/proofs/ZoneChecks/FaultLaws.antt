@@ -1,18 +1,16 @@
 -- A fault stands among those of a zone exactly where its condition holds, once, by the order of owners and then of codes.
-use Rattle.std.proofs.Common.{◌≡◌, ℕ, ◌↔◌, Bool, true, false, ◌&&◌, ◌||◌, not, cond, ◌⊎◌, inl, inr, List, [], ◌∷◌, ◌++◌, map, length, nat_lt, ◌==◌, filter, refl, sym, ap, ◌∙◌, subst, arith, Ordering, Less, Equal, Greater, nat_cmp, is_lt}
-use Rattle.std.specs.List.{Contains, AllByRecursion, list_any, list_all, flat_map}
+use Rattle.std.proofs.lemmas.Grind.{common_steps}
+use Rattle.std.proofs.Common.{◌≡◌, ℕ, ◌↔◌, Bool, true, false, ◌&&◌, ◌||◌, ◌⊎◌, inl, inr, List, [], ◌∷◌, ◌++◌, map, ◌==◌, filter, refl, sym, ap, ◌∙◌, subst, arith, Ordering, Less, nat_cmp, is_lt}
+use Rattle.std.specs.List.{Contains, list_any, list_all, flat_map}
 use Rattle.std.specs.List.Sorted.{IsStrictlySortedBy}
 use Rattle.std.specs.Ordering.{ordering_then}
-use Rattle.std.specs.Option.{option_map_or}
 use Rattle.std.proofs.lemmas.Bool.{and_parts, and_from, false≢true, eqb-true, eq-eqb, lt-ltb}
 use Rattle.std.proofs.lemmas.Cmp.{tied_itself}
 use Rattle.std.proofs.lemmas.List.Concat.{flat_map-cons}
-use Rattle.dns_spec.specs.Names.{DomainName, folded, names_equal, same, name_order, at_or_below}
-use Rattle.dns_spec.specs.Data.{type_ns, type_cname, type_soa, type_mx, type_srv, target}
+use Rattle.dns_spec.specs.Names.{DomainName, folded, names_equal, same, name_order}
 use Rattle.dns_spec.specs.Records.{ResourceRecord, ZoneContents, at, owns, distinct}
-use Rattle.dns_spec.specs.Tree.{is_cut}
-use Rattle.dns_spec.specs.Checks.{most_of_a_set, most_sets, Check, is_origin, is_owner, count, owns_such, has_target, is_address_type, below_cut, lacks_address, checks, fails, Fault, faults_at, checked_names, faults, fault_order}
-use Rattle.dns_spec.proofs.Records.SortedOnce.{◌⊲◌, Each, Among, each_at, Rises, apart_distinct, sort_rises, among_sort, among_distinct, among_filter, filter_among, filter_each, each_filter}
+use Rattle.dns_spec.specs.Checks.{Check, is_origin, is_owner, checks, fails, Fault, faults_at, checked_names, faults, fault_order}
+use Rattle.dns_spec.proofs.Records.SortedOnce.{Each, Among, each_at, Rises, apart_distinct, sort_rises, among_sort, among_distinct, among_filter, filter_among, filter_each, each_filter}
 use Rattle.dns_spec.proofs.Records.RecordOrder.{contains_among, among_contains}
 use Rattle.dns_spec.proofs.ZoneChecks.FaultOrder.{Lower, one_lower, each_lower, name_order_total, name_tie, folded_folded, any_counted}
 
@@ -33,8 +31,7 @@ among_either a (x ∷ xs) ys (inr m) = elim (among_either a xs ys m) [ inl k ↦
 
 among_joined : {X Y : Type 0} (f : X → List Y) (a : Y) (x : X) (xs : List X) → Among x xs → Among a (f x) → Among a (flat_map f xs)
 among_joined f a x [] m k = absurd m
-among_joined f a x (y ∷ ys) (inl e) k =
-    subst (Among a) (sym (flat_map-cons f y ys)) (among_front a (f y) (flat_map f ys) (subst (λ z. Among a (f z)) e k))
+among_joined f a x (y ∷ ys) (inl e) k = grind (arith, flat_map-cons, among_front)
 among_joined f a x (y ∷ ys) (inr m) k =
     subst (Among a) (sym (flat_map-cons f y ys)) (among_back a (f y) (flat_map f ys) (among_joined f a x ys m k))
 
@@ -57,21 +54,12 @@ mapped_among f a (y ∷ ys) (inr m) = let r = mapped_among f a ys m in (r.0, inr
 
 any_among : {X : Type 0} (p : X → Bool) (xs : List X) → list_any p xs ≡ true → (x : X) × Among x xs × (p x ≡ true)
 any_among {X} p [] e = absurd (false≢true e)
-any_among {X} p (x ∷ xs) e = go (p x) refl e (any_among p xs)
-  where
-    go : (t : Bool) → p x ≡ t → (t || list_any p xs) ≡ true
-        → (list_any p xs ≡ true → (y : X) × Among y xs × (p y ≡ true)) → (y : X) × ((y ≡ x) ⊎ Among y xs) × (p y ≡ true)
-    go true q h again = (x, inl refl, q)
-    go false q h again = let r = again h in (r.0, inr r.1, r.2)
+any_among {X} p (x ∷ xs) e = grind (arith, Among, inl, inr, (any_among p xs))
 
 among_any : {X : Type 0} (p : X → Bool) (x : X) (xs : List X) → Among x xs → p x ≡ true → list_any p xs ≡ true
 among_any p x [] m e = absurd m
 among_any p x (y ∷ ys) (inl q) e = ap (λ t. t || list_any p ys) (sym (ap p q) ∙ e)
-among_any p x (y ∷ ys) (inr m) e = go (p y) (among_any p x ys m e)
-  where
-    go : (t : Bool) → list_any p ys ≡ true → (t || list_any p ys) ≡ true
-    go true k = refl
-    go false k = k
+among_any p x (y ∷ ys) (inr m) e = grind (arith, (among_any p x ys m e))
 
 -- A name is checked where it is the origin or an owner.
 abbrev IsChecked : ZoneContents → DomainName → Type 0
@@ -79,16 +67,10 @@ IsChecked z n = (is_origin z n ≡ true) ⊎ (is_owner z n ≡ true)
 
 -- what holds of a name's records and of no records holds of an owner
 owner_if : (z : ZoneContents) (n : DomainName) (p : List ResourceRecord → Bool) → p [] ≡ false → p (at z n) ≡ true → is_owner z n ≡ true
-owner_if z n p none some = go (at z n) some
-  where
-    go : (rs : List ResourceRecord) → p rs ≡ true → nat_lt 0 (length rs) ≡ true
-    go [] e = absurd (false≢true (sym none ∙ e))
-    go (r ∷ rs) e = lt-ltb _ _ (omega arith)
+owner_if z n p none some = grind (arith, common_steps, false≢true, lt-ltb)
 
 any_of_both : {X : Type 0} (p q : X → Bool) (xs : List X) → list_any (λ x. p x && q x) xs ≡ true → list_any p xs ≡ true
-any_of_both p q xs e =
-    let r = any_among (λ x. p x && q x) xs e in
-    among_any p r.0 xs r.1 (and_parts (p r.0) (q r.0) r.2).0
+any_of_both p q xs e = grind (arith, any_among, among_any, and_parts)
 
 owner_if_owns : (z : ZoneContents) (n : DomainName) (t : ℕ) → owns z n t ≡ true → is_owner z n ≡ true
 owner_if_owns z n t e =
@@ -100,38 +82,7 @@ abbrev OfChecked : ZoneContents → DomainName → ℕ × Check → Type 0
 OfChecked z n c = c.1 z n ≡ true → IsChecked z n
 
 each_of_checked : (z : ZoneContents) (n : DomainName) → Each (OfChecked z n) checks
-each_of_checked z n =
-    (λ e. inl (and_parts (is_origin z n) (not (owns z n type_soa)) e).0)
-    ⊲ (λ e. inl (and_parts (is_origin z n) (nat_lt 1 (count z n type_soa)) e).0)
-    ⊲ (λ e. inr (owner_if_owns z n type_soa (and_parts (not (is_origin z n)) (owns z n type_soa) e).1))
-    ⊲ (λ e. inl (and_parts (is_origin z n) (not (owns z n type_ns)) e).0)
-    ⊲ (λ e. inr (and_parts (is_owner z n) (not (at_or_below n z.origin)) e).0)
-    ⊲ (λ e. inr (owner_if_owns z n type_cname (and_parts (owns z n type_cname) (owns_such z n (λ t. not (t == type_cname))) e).0))
-    ⊲ (λ e. inr (owner_if z n (λ rs. nat_lt 1 (length (filter (λ (r : ResourceRecord). r.rtype == type_cname) rs))) refl e))
-    ⊲ (λ e. inr (owner_if z n (λ rs. list_any (λ (r : ResourceRecord). list_any (λ (s : ResourceRecord). r.rtype == s.rtype && not (r.ttl == s.ttl)) rs) rs) refl e))
-    ⊲ (λ e. inr (of_target (λ t. t == type_ns) (λ m. owns z m type_cname) e))
-    ⊲ (λ e. inr (of_target (λ t. t == type_ns) (lacks_address z n) e))
-    ⊲ (λ e. inr (of_target (λ t. t == type_mx || t == type_srv) (λ m. owns z m type_cname) e))
-    ⊲ (λ e. inr (at_a_cut (is_cut z n && owns_such z n other) (and_parts (is_cut z n) (owns_such z n other)) e))
-    ⊲ (λ e. inr (owner_if_owns z n type_ns (and_parts _ (owns z n type_ns) e).1))
-    ⊲ (λ e. inr (owner_if z n (λ rs. list_any (λ (r : ResourceRecord). nat_lt most_of_a_set (count z n r.rtype)) rs) refl e))
-    ⊲ (λ e. inr (owner_if z n (λ rs. nat_lt most_sets (length (distinct ◌==◌ (map (λ (r : ResourceRecord). r.rtype) rs)))) refl e))
-    ⊲ tt
-  where
-    other : ℕ → Bool
-    other t = not (t == type_ns || is_address_type t)
-
-    of_target : (type : ℕ → Bool) (test : DomainName → Bool) → has_target z n type test ≡ true → is_owner z n ≡ true
-    of_target type test e =
-        owner_if z n (λ rs. list_any (λ (r : ResourceRecord). type r.rtype && option_map_or (λ m. at_or_below m z.origin && test m) (target r.rtype r.rdata) false) rs) refl e
-
-    such : (test : ℕ → Bool) → owns_such z n test ≡ true → is_owner z n ≡ true
-    such test e = owner_if z n (λ rs. list_any (λ (r : ResourceRecord). test r.rtype) rs) refl e
-
-    at_a_cut : (t : Bool) → (t ≡ true → (is_cut z n ≡ true) × (owns_such z n other ≡ true))
-        → (t || (below_cut z n && owns_such z n (λ t. not (is_address_type t)))) ≡ true → is_owner z n ≡ true
-    at_a_cut true at e = such other (at refl).1
-    at_a_cut false at e = such (λ t. not (is_address_type t)) (and_parts (below_cut z n) _ e).1
+each_of_checked z n = grind (arith, common_steps, and_parts, owner_if_owns, owner_if)
 
 pub failing_is_checked : (z : ZoneContents) (n : DomainName) (code : ℕ) → fails z n code ≡ true → IsChecked z n
 failing_is_checked z n code e =
@@ -197,9 +148,7 @@ rises_test cmp [] = true
 rises_test cmp (x ∷ xs) = list_all (λ y. is_lt (cmp x y)) xs && rises_test cmp xs
 
 less_from : (c : Ordering) → is_lt c ≡ true → c ≡ Less
-less_from Less e = refl
-less_from Equal e = absurd (false≢true e)
-less_from Greater e = absurd (false≢true e)
+less_from c h = grind arith
 
 rises_from : {X : Type 0} (cmp : X → X → Ordering) (xs : List X) → rises_test cmp xs ≡ true → Rises cmp xs
 unfolding rises_test
@@ -214,11 +163,7 @@ rises_from {X} cmp (x ∷ xs) e =
 
 rises_filtered : {X : Type 0} (cmp : X → X → Ordering) (p : X → Bool) (xs : List X) → Rises cmp xs → Rises cmp (filter p xs)
 rises_filtered cmp p [] r = tt
-rises_filtered {X} cmp p (x ∷ xs) r = go (p x) (rises_filtered cmp p xs r.1)
-  where
-    go : (t : Bool) → Rises cmp (filter p xs) → Rises cmp (cond t (x ∷ filter p xs) (filter p xs))
-    go true f = (each_filter (λ y. cmp x y ≡ Less) p xs r.0, f)
-    go false f = f
+rises_filtered {X} cmp p (x ∷ xs) r = grind (arith, each_filter, (rises_filtered cmp p xs r.1))
 
 rises_mapped : {X Y : Type 0} (cmp : X → X → Ordering) (order : Y → Y → Ordering) (f : X → Y)
     → ((x y : X) → cmp x y ≡ Less → order (f x) (f y) ≡ Less) → (xs : List X) → Rises cmp xs → Rises order (map f xs)
@@ -274,12 +219,7 @@ faults_rise z (n ∷ names) r =
 
 strictly_sorted : {X : Type 0} (cmp : X → X → Ordering) (xs : List X) → Rises cmp xs → IsStrictlySortedBy cmp xs
 unfolding IsStrictlySortedBy
-strictly_sorted cmp [] r = tt
-strictly_sorted {X} cmp (x ∷ xs) r = (each xs r.0, strictly_sorted cmp xs r.1)
-  where
-    each : (ys : List X) → Each (λ y. cmp x y ≡ Less) ys → AllByRecursion (λ y. cmp x y ≡ Less) ys
-    each [] e = tt
-    each (y ∷ ys) e = (e.0, each ys e.1)
+strictly_sorted cmp xs h = grind arith
 
 -- The faults stand each once, by owners and then by codes.
 pub faults_are_sorted : (z : ZoneContents) → IsStrictlySortedBy fault_order (faults z)

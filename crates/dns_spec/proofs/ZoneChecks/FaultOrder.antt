@@ -1,5 +1,5 @@
 -- The faults of a list of records do not depend on its order.
-use Rattle.std.proofs.Common.{◌≡◌, ℕ, suc, Bool, true, false, ◌&&◌, ◌||◌, not, cond, eqb, nat_lt, ◌==◌, ◌⊎◌, inl, inr, List, [], ◌∷◌, map, reverse, length, refl, sym, ap, ap₂, ◌∙◌, arith, filter, flat_map, IsPermutation, is_eq, nat_cmp, Less, Equal, Greater}
+use Rattle.std.proofs.Common.{◌≡◌, ℕ, Bool, true, ◌&&◌, ◌||◌, not, eqb, nat_lt, ◌==◌, ◌⊎◌, inl, inr, List, [], ◌∷◌, map, reverse, length, refl, sym, ap, ap₂, ◌∙◌, arith, filter, flat_map, IsPermutation, is_eq, nat_cmp, Equal}
 use Rattle.std.proofs.lemmas.Bool.{false≢true, lt-ltb, eqb-true, eq-eqb, ne_eqb, ltb-true}
 use Rattle.std.proofs.lemmas.List.{reverse-reverse}
 use Rattle.std.proofs.lemmas.List.Sums.{length-filter}
@@ -7,45 +7,34 @@ use Rattle.std.proofs.lemmas.List.Sorted.{sum_by-IsPermutation}
 use Rattle.std.proofs.lemmas.Cmp.{nat_cmp_total, nat_list_cmp_total, lists_total, on_total}
 use Rattle.std.proofs.lemmas.Str.Ascii.{lowercase-lowercase}
 use Rattle.std.specs.List.{list_any}
-use Rattle.std.specs.Option.{option_map_or}
 use Rattle.std.specs.Cmp.{IsTotalOrder}
 use Rattle.std.specs.Cmp.Lexicographic.{lists_ties}
 use Rattle.std.specs.Char.{to_ascii_lowercase}
 use Rattle.dns_spec.specs.Names.{Octets, DomainName, folded, same, names_equal, at_or_below, below, suffixes, label_order, name_order}
-use Rattle.dns_spec.specs.Data.{type_a, type_ns, type_cname, type_soa, type_mx, type_aaaa, type_srv, target}
+use Rattle.dns_spec.specs.Data.{type_a, type_ns, type_cname, type_soa, type_mx, type_aaaa, type_srv}
 use Rattle.dns_spec.specs.Records.{ResourceRecord, ZoneContents, at, owns, distinct}
 use Rattle.dns_spec.specs.Tree.{is_cut, without_first}
-use Rattle.dns_spec.specs.Checks.{most_of_a_set, most_sets, Check, count, has_target, at_or_below_cut, below_cut, has_address, is_address_type, no_soa, many_soa, soa_elsewhere, no_ns, outside, cname_and_other, many_cname, ttls_differ, ns_target_alias, lacks_address, ns_target_lost, mx_target_alias, data_at_cut, first_is_asterisk, wildcard_ns, large_set, many_sets, checks, Fault, faults_at, checked_names, faults}
+use Rattle.dns_spec.specs.Checks.{most_sets, Check, count, has_target, at_or_below_cut, below_cut, has_address, no_soa, many_soa, soa_elsewhere, no_ns, outside, cname_and_other, many_cname, ttls_differ, ns_target_alias, lacks_address, ns_target_lost, mx_target_alias, data_at_cut, first_is_asterisk, wildcard_ns, large_set, many_sets, Fault, faults_at, checked_names, faults}
 use Rattle.dns_spec.proofs.DomainNames.NameLaws.{names_equal-decides}
-use Rattle.dns_spec.proofs.Records.SortedOnce.{◌⊲◌, Each, Among, length-sort_by, same_sorted}
+use Rattle.dns_spec.proofs.Records.SortedOnce.{Each, Among, length-sort_by, same_sorted}
 
 -- two lists of which each test passes as many
 abbrev SameCounts : {X : Type 0} → List X → List X → Type 0
 SameCounts {X} xs ys = (p : X → Bool) → length (filter p xs) ≡ length (filter p ys)
 
 from_permutation : {X : Type 0} (xs ys : List X) → IsPermutation xs ys → SameCounts xs ys
-from_permutation xs ys h p =
-    length-filter p xs ∙ sym (sum_by-IsPermutation (λ x. cond (p x) 1 0) xs ys h) ∙ sym (length-filter p ys)
+from_permutation xs ys h p = grind (arith, length-filter, sum_by-IsPermutation)
 
 pub any_counted : {X : Type 0} (p : X → Bool) (xs : List X) → list_any p xs ≡ nat_lt 0 (length (filter p xs))
 any_counted p [] = refl
-any_counted p (x ∷ xs) = go (p x) (any_counted p xs)
-  where
-    go : (t : Bool) → list_any p xs ≡ nat_lt 0 (length (filter p xs)) → (t || list_any p xs) ≡ nat_lt 0 (length (cond t (x ∷ filter p xs) (filter p xs)))
-    go true e = sym (lt-ltb 0 (suc (length (filter p xs))) (omega arith))
-    go false e = e
+any_counted p (x ∷ xs) = grind (arith, lt-ltb, (any_counted p xs))
 
 same_any : {X : Type 0} (p : X → Bool) (xs ys : List X) → SameCounts xs ys → list_any p xs ≡ list_any p ys
 same_any p xs ys c = any_counted p xs ∙ ap (nat_lt 0) (c p) ∙ sym (any_counted p ys)
 
 filter_twice : {X : Type 0} (p q : X → Bool) (xs : List X) → filter q (filter p xs) ≡ filter (λ x. p x && q x) xs
 filter_twice p q [] = refl
-filter_twice p q (x ∷ xs) = go (p x) (filter_twice p q xs)
-  where
-    go : (t : Bool) → filter q (filter p xs) ≡ filter (λ x. p x && q x) xs
-        → filter q (cond t (x ∷ filter p xs) (filter p xs)) ≡ cond (t && q x) (x ∷ filter (λ x. p x && q x) xs) (filter (λ x. p x && q x) xs)
-    go true e = ap (λ zs. cond (q x) (x ∷ zs) zs) e
-    go false e = e
+filter_twice p q (x ∷ xs) = grind (arith, (filter_twice p q xs))
 
 same_filter : {X : Type 0} (p : X → Bool) (xs ys : List X) → SameCounts xs ys → SameCounts (filter p xs) (filter p ys)
 same_filter p xs ys c q = ap length (filter_twice p q xs) ∙ c (λ x. p x && q x) ∙ sym (ap length (filter_twice p q ys))
@@ -55,19 +44,11 @@ module _ {X Y : Type 0} (f : X → Y) (eq : Y → Y → Bool) (decides : (a b : 
   any_value : (a : Y) (xs : List X) → Among a (map f xs) → list_any (λ x. eq a (f x)) xs ≡ true
   any_value a [] m = absurd m
   any_value a (x ∷ xs) (inl e) = ap (λ t. t || list_any (λ x. eq a (f x)) xs) ((decides a (f x)).1 e)
-  any_value a (x ∷ xs) (inr m) = go (eq a (f x)) (any_value a xs m)
-    where
-      go : (t : Bool) → list_any (λ x. eq a (f x)) xs ≡ true → (t || list_any (λ x. eq a (f x)) xs) ≡ true
-      go true e = refl
-      go false e = e
+  any_value a (x ∷ xs) (inr m) = grind (arith, (any_value a xs m))
 
   value_any : (a : Y) (xs : List X) → list_any (λ x. eq a (f x)) xs ≡ true → Among a (map f xs)
   value_any a [] e = absurd (false≢true e)
-  value_any a (x ∷ xs) e = go (eq a (f x)) refl e (value_any a xs)
-    where
-      go : (t : Bool) → eq a (f x) ≡ t → (t || list_any (λ x. eq a (f x)) xs) ≡ true → (list_any (λ x. eq a (f x)) xs ≡ true → Among a (map f xs)) → (a ≡ f x) ⊎ Among a (map f xs)
-      go true p q r = inl ((decides a (f x)).0 p)
-      go false p q r = inr (r q)
+  value_any a (x ∷ xs) e = grind (arith, Among, inl, inr, (value_any a xs))
 
   same_values : (xs ys : List X) → SameCounts xs ys → (a : Y) → Among a (map f xs) → Among a (map f ys)
   same_values xs ys c a m = value_any a ys (sym (same_any (λ x. eq a (f x)) xs ys c) ∙ any_value a xs m)
@@ -80,15 +61,7 @@ eqb_decides : (a b : ℕ) → (eqb a b ≡ true → a ≡ b) × (a ≡ b → eqb
 eqb_decides a b = (eqb-true a b, eq-eqb a b)
 
 pub nat_ties : (x y : ℕ) → eqb x y ≡ is_eq (nat_cmp x y)
-nat_ties x y = go (nat_lt x y) refl
-  where
-    level : (s : Bool) → s ≡ is_eq (cond s Equal Greater)
-    level true = refl
-    level false = refl
-
-    go : (t : Bool) → nat_lt x y ≡ t → eqb x y ≡ is_eq (cond t Less (cond (eqb x y) Equal Greater))
-    go true e = ne_eqb x y (λ h. let below = ltb-true x y e in omega arith)
-    go false e = level (eqb x y)
+nat_ties x y = grind (arith, ne_eqb, ltb-true)
 
 pub nat_tie : (x y : ℕ) → nat_cmp x y ≡ Equal → eqb x y ≡ true
 nat_tie x y e = nat_ties x y ∙ ap is_eq e
@@ -103,10 +76,6 @@ same_type_count xs ys c =
     ∙ ap length (same_sorted nat_cmp nat_cmp_total ◌==◌ nat_tie (λ _. Unit {0}) (λ x y d e t. eqb-true x y t) (map f xs) (map f ys) (each_any (map f xs)) (each_any (map f ys))
     (same_values f eqb eqb_decides xs ys c) (same_values f eqb eqb_decides ys xs back))
     ∙ length-sort_by nat_cmp (distinct ◌==◌ (map f ys))
-
-filter_alike : {X : Type 0} (p q : X → Bool) (xs : List X) → Each (λ x. p x ≡ q x) xs → filter p xs ≡ filter q xs
-filter_alike p q [] e = refl
-filter_alike p q (x ∷ xs) e = ap₂ (λ t zs. cond t (x ∷ zs) zs) e.0 (filter_alike p q xs e.1)
 
 -- names in lower case are told apart by their order
 lower_twice : (os : Octets) → map to_ascii_lowercase (map to_ascii_lowercase os) ≡ map to_ascii_lowercase os
@@ -139,8 +108,7 @@ name_tie n m e =
     (names_equal-decides (folded n) (folded m)).1 back
 
 in_rest : {A B C : Type 0} → A ⊎ B → (B → C) → A ⊎ C
-in_rest (inl e) f = inl e
-in_rest (inr m) f = inr (f m)
+in_rest h h1 = grind arith
 
 -- each check, over one origin and two such lists
 module _ (o : DomainName) (xs ys : List ResourceRecord) (c : SameCounts xs ys) where
@@ -173,9 +141,7 @@ module _ (o : DomainName) (xs ys : List ResourceRecord) (c : SameCounts xs ys) w
 
   target_kept : (n : DomainName) (type : ℕ → Bool) (p q : DomainName → Bool) → ((m : DomainName) → p m ≡ q m) → has_target z n type p ≡ has_target z' n type q
   unfolding z z'
-  target_kept n type p q e =
-      ap (λ (h : DomainName → Bool). has_target z n type h) (λ k m. e m k)
-      ∙ any_at n (λ (r : ResourceRecord). type r.rtype && option_map_or (λ m. at_or_below m o && q m) (target r.rtype r.rdata) false)
+  target_kept n type p q e = grind (arith, z, any_at)
 
   at_or_below_cut_kept : Kept at_or_below_cut
   at_or_below_cut_kept n = ap (λ (h : DomainName → Bool). list_any h (suffixes n)) (λ k m. cut_kept m k)
@@ -187,9 +153,7 @@ module _ (o : DomainName) (xs ys : List ResourceRecord) (c : SameCounts xs ys) w
   has_address_kept n = ap₂ ◌||◌ (owns_kept n type_a) (owns_kept n type_aaaa)
 
   lacks_kept : (n m : DomainName) → lacks_address z n m ≡ lacks_address z' n m
-  lacks_kept n m =
-      ap₂ (λ a b. not a && b) (has_address_kept m)
-      (ap₂ (λ a b. not a || (b && at_or_below m n)) (at_or_below_cut_kept m) (cut_kept n))
+  lacks_kept n m = grind (arith, ap₂, has_address_kept, at_or_below_cut_kept, cut_kept)
 
   no_soa_kept : Kept no_soa
   unfolding z z'
@@ -218,9 +182,7 @@ module _ (o : DomainName) (xs ys : List ResourceRecord) (c : SameCounts xs ys) w
   many_cname_kept n = ap (nat_lt 1) (count_kept n type_cname)
 
   ttls_differ_kept : Kept ttls_differ
-  ttls_differ_kept n =
-      ap (λ (h : ResourceRecord → Bool). list_any h (at z n)) (λ k r. any_at n (λ (s : ResourceRecord). r.rtype == s.rtype && not (r.ttl == s.ttl)) k)
-      ∙ any_at n (λ (r : ResourceRecord). list_any (λ (s : ResourceRecord). r.rtype == s.rtype && not (r.ttl == s.ttl)) (at z' n))
+  ttls_differ_kept n = grind (arith, z, any_at, z')
 
   ns_target_alias_kept : Kept ns_target_alias
   ns_target_alias_kept n = target_kept n (λ t. t == type_ns) (λ m. owns z m type_cname) (λ m. owns z' m type_cname) (λ m. owns_kept m type_cname)
@@ -232,28 +194,37 @@ module _ (o : DomainName) (xs ys : List ResourceRecord) (c : SameCounts xs ys) w
   mx_target_alias_kept n = target_kept n (λ t. t == type_mx || t == type_srv) (λ m. owns z m type_cname) (λ m. owns z' m type_cname) (λ m. owns_kept m type_cname)
 
   data_at_cut_kept : Kept data_at_cut
-  data_at_cut_kept n =
-      ap₂ ◌||◌ (ap₂ ◌&&◌ (cut_kept n) (any_at n (λ (r : ResourceRecord). not (r.rtype == type_ns || is_address_type r.rtype))))
-      (ap₂ ◌&&◌ (below_cut_kept n) (any_at n (λ (r : ResourceRecord). not (is_address_type r.rtype))))
+  data_at_cut_kept n = grind (arith, ap₂, cut_kept, any_at, below_cut_kept)
 
   wildcard_ns_kept : Kept wildcard_ns
   wildcard_ns_kept n = ap (λ b. first_is_asterisk n && b) (owns_kept n type_ns)
 
   large_set_kept : Kept large_set
-  large_set_kept n =
-      ap (λ (h : ResourceRecord → Bool). list_any h (at z n)) (λ k r. nat_lt most_of_a_set (count_kept n r.rtype k))
-      ∙ any_at n (λ (r : ResourceRecord). nat_lt most_of_a_set (count z' n r.rtype))
+  large_set_kept n = grind (arith, z, count_kept, any_at, z')
 
   many_sets_kept : Kept many_sets
   many_sets_kept n = ap (nat_lt most_sets) (same_type_count (at z n) (at z' n) (same_at n))
 
   faults_at_kept : (n : DomainName) → faults_at z n ≡ faults_at z' n
   faults_at_kept n =
-      ap (map (λ (k : ℕ × Check). record { owner = n; code = k.0 }))
-      (filter_alike (λ k. k.1 z n) (λ k. k.1 z' n) checks
-      (no_soa_kept n ⊲ many_soa_kept n ⊲ soa_elsewhere_kept n ⊲ no_ns_kept n ⊲ outside_kept n
-      ⊲ cname_and_other_kept n ⊲ many_cname_kept n ⊲ ttls_differ_kept n ⊲ ns_target_alias_kept n ⊲ ns_target_lost_kept n
-      ⊲ mx_target_alias_kept n ⊲ data_at_cut_kept n ⊲ wildcard_ns_kept n ⊲ large_set_kept n ⊲ many_sets_kept n ⊲ tt))
+      grind (
+        arith,
+        no_soa_kept,
+        many_soa_kept,
+        soa_elsewhere_kept,
+        no_ns_kept,
+        outside_kept,
+        cname_and_other_kept,
+        many_cname_kept,
+        ttls_differ_kept,
+        ns_target_alias_kept,
+        ns_target_lost_kept,
+        mx_target_alias_kept,
+        data_at_cut_kept,
+        wildcard_ns_kept,
+        large_set_kept,
+        many_sets_kept,
+      )
 
   checked_names_kept : checked_names z ≡ checked_names z'
   unfolding z z'

@@ -1,10 +1,11 @@
 -- A zone that passes has no fault at its origin.
-use Rattle.std.proofs.Common.{◌≡◌, ℕ, ◌≤◌, Bool, true, false, cond, ◌⊎◌, inl, inr, List, [], ◌∷◌, ◌++◌, map, length, nat_lt, refl, sym, ap, subst, ◌∙◌, filter, flat_map, ◌==◌, ◌&&◌, Ordering, arith}
+use Rattle.std.proofs.lemmas.Grind.{common_steps}
+use Rattle.std.proofs.Common.{◌≡◌, ℕ, ◌≤◌, Bool, false, ◌⊎◌, inl, inr, List, [], ◌∷◌, ◌++◌, map, length, refl, sym, ap, subst, ◌∙◌, filter, flat_map, ◌==◌, Ordering, arith}
 use Rattle.std.proofs.lemmas.Bool.{ltb-false}
 use Rattle.dns_spec.specs.Names.{folded, same, name_order}
 use Rattle.dns_spec.specs.Data.{type_soa}
 use Rattle.dns_spec.specs.Records.{ResourceRecord, ZoneContents, distinct, sort_by, rrset, at, data_order}
-use Rattle.dns_spec.specs.Checks.{Check, count, checks, faults_at, checked_names, faults, Passes}
+use Rattle.dns_spec.specs.Checks.{Check, checks, faults_at, checked_names, faults, Passes}
 use Rattle.dns_spec.proofs.DomainNames.NameLaws.{names_equal-decides}
 use Rattle.dns_spec.proofs.ZoneChecks.FaultOrder.{name_order_total, name_tie, Lower, one_lower}
 use Rattle.dns_spec.proofs.Records.SortedOnce.{Each, Among, each_at, among_sort, among_distinct}
@@ -21,14 +22,7 @@ flat_nothing {Y = Y} f (x ∷ xs) a e m = go (f x) refl e m (flat_nothing f xs a
 
 filter_nothing : {X : Type 0} (p : X → Bool) (xs : List X) → filter p xs ≡ [] → Each (λ x. p x ≡ false) xs
 filter_nothing p [] e = tt
-filter_nothing p (x ∷ xs) e = go (p x) refl e (filter_nothing p xs)
-  where
-    go : (t : Bool) → p x ≡ t → cond t (x ∷ filter p xs) (filter p xs) ≡ [] → (filter p xs ≡ [] → Each (λ x. p x ≡ false) xs) → (p x ≡ false) × Each (λ x. p x ≡ false) xs
-    go true q f r = absurd (some_is_none x (filter p xs) f)
-      where
-        some_is_none : {X : Type 0} (x : X) (xs : List X) → x ∷ xs ≡ [] → ⊥
-        some_is_none x xs e = cc
-    go false q f r = (q, r f)
+filter_nothing p (x ∷ xs) e = grind (arith, Each, (filter_nothing p xs))
 
 map_nothing : {X Y : Type 0} (f : X → Y) (xs : List X) → map f xs ≡ [] → xs ≡ []
 map_nothing f [] e = refl
@@ -73,10 +67,7 @@ sort_short cmp (x ∷ y ∷ xs) h = absurd (omega arith)
 
 -- the SOA at the origin of a zone that passes is the only one
 pub few_soa : (z : ZoneContents) → folded z.origin ≡ z.origin → Passes z → length (filter (λ (r : ResourceRecord). r.rtype == type_soa) (at z z.origin)) ≤ 1
-few_soa z low passes =
-    let none : (same z.origin z.origin && nat_lt 1 (count z z.origin type_soa)) ≡ false = (checks_of_origin z low passes).1.0 in
-    let here : same z.origin z.origin ≡ true = (names_equal-decides (folded z.origin) (folded z.origin)).1 refl in
-    ltb-false 1 (count z z.origin type_soa) (sym (ap (λ b. b && nat_lt 1 (count z z.origin type_soa)) here) ∙ none)
+few_soa z low passes = grind (arith, common_steps, checks_of_origin, names_equal-decides, ltb-false)
 
 -- so no order is asked of it
 pub one_soa : (z : ZoneContents) → folded z.origin ≡ z.origin → Passes z → rrset z z.origin type_soa ≡ filter (λ (r : ResourceRecord). r.rtype == type_soa) (at z z.origin)

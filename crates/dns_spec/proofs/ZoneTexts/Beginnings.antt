@@ -1,61 +1,22 @@
 -- A text that goes on begins with the tokens of its beginning, but for the last of them, which may go on too.
-use Rattle.std.proofs.Common.{◌≡◌, ℕ, zero, suc, ◌+◌, ◌⊎◌, inl, inr, Bool, true, false, cond, not, ◌&&◌, ◌||◌, ◌==◌, Option, Some, None, [], ◌∷◌, ◌++◌, length, take, drop, refl, sym, ◌∙◌, ap, ap₂, subst, arith}
+use Rattle.std.proofs.Common.{◌≡◌, ℕ, zero, suc, ◌+◌, ◌⊎◌, inl, inr, Bool, true, false, not, ◌==◌, Option, Some, None, [], ◌∷◌, ◌++◌, length, take, drop, refl, sym, ◌∙◌, ap, ap₂, subst, arith}
 use Rattle.std.specs.Prelude.{if◌then◌else◌}
 use Rattle.std.proofs.lemmas.Bool.{and_parts, or_cases, eqb-true, true≢false, false≢true}
 use Rattle.std.proofs.lemmas.Option.{none-some}
 use Rattle.std.specs.List.{prefix_len}
-use Rattle.std.specs.Char.{is_ascii_digit}
 use Rattle.dns_spec.specs.Names.{Octets}
-use Rattle.dns_spec.specs.NameText.{is_printable}
-use Rattle.dns_spec.specs.ZoneText.{Token, blank, comment, word, line_end, is_blank, unit_left, run_length, word_length, string_length, closed, quoted_front, unquoted_front, line_feed_front, token_front, parenthesis, is_line_end, is_cut_short}
-use Rattle.dns_spec.specs.DataText.{is_word_octet, is_string_octet}
+use Rattle.dns_spec.specs.ZoneText.{Token, blank, comment, word, is_blank, unit_left, run_length, word_length, string_length, quoted_front, unquoted_front, line_feed_front, token_front, parenthesis, is_line_end, is_cut_short}
+use Rattle.dns_spec.specs.DataText.{is_word_octet}
 use Rattle.dns_spec.proofs.ZoneTexts.ReadWords.{front_taken}
-use Rattle.dns_spec.proofs.NameTexts.Escapes.{counted_digits, counted_escape, left_by, escape-counted}
-
-first_false : (x y : Bool) → (x || y) ≡ false → x ≡ false
-first_false true y h = h
-first_false false y h = refl
-
-and_false : (x y : Bool) → x ≡ false → (x && y) ≡ false
-and_false true y h = absurd (true≢false h)
-and_false false y h = refl
+use Rattle.dns_spec.proofs.NameTexts.Escapes.{counted_escape, left_by, escape-counted}
 
 -- what is not cut short is not where the text goes on
 pub uncut : (place more : Octets) → is_cut_short place ≡ false → is_cut_short (place ++ more) ≡ false
-uncut [] more h = absurd (true≢false h)
-uncut (o ∷ []) [] h = h
-uncut (o ∷ []) (c ∷ []) h = and_false (o == 92) (is_ascii_digit c) (first_false (o == 92) (o == 13) h)
-uncut (o ∷ []) (c ∷ d ∷ []) h =
-    and_false (o == 92 && is_ascii_digit c) (is_ascii_digit d)
-    (and_false (o == 92) (is_ascii_digit c) (first_false (o == 92) (o == 13) h))
-uncut (o ∷ []) (c ∷ d ∷ e ∷ more) h = refl
-uncut (o ∷ a ∷ []) [] h = h
-uncut (o ∷ a ∷ []) (c ∷ []) h = and_false (o == 92 && is_ascii_digit a) (is_ascii_digit c) h
-uncut (o ∷ a ∷ []) (c ∷ d ∷ more) h = refl
-uncut (o ∷ a ∷ b ∷ []) [] h = h
-uncut (o ∷ a ∷ b ∷ []) (c ∷ more) h = refl
-uncut (o ∷ a ∷ b ∷ c ∷ place) more h = refl
-
--- an escape, or none, that no more octets can change
-one_digit : (d p : Bool) (n : ℕ) → (cond {A = ℕ} d 0 (cond p 1 0) ≡ 0 → d ≡ false) → cond {A = ℕ} d n (cond p 1 0) ≡ cond d 0 (cond p 1 0)
-one_digit true p n h = absurd (true≢false (h refl))
-one_digit false p n h = refl
-
-two_digits : (d e p x y : Bool) → (cond {A = ℕ} d 0 (cond p 1 0) ≡ 0 → (d && e) ≡ false)
-    → cond {A = ℕ} d (cond (d && e && x && y) 3 0) (cond p 1 0) ≡ cond d 0 (cond p 1 0)
-two_digits true true p x y h = absurd (true≢false (h refl))
-two_digits true false p x y h = refl
-two_digits false e p x y h = refl
+uncut place more h = grind arith
 
 counted_more : (text more : Octets) → (counted_escape text ≡ 0 → is_cut_short (92 ∷ text) ≡ false)
     → counted_escape (text ++ more) ≡ counted_escape text
-counted_more [] more h = absurd (true≢false (h refl))
-counted_more (a ∷ []) [] h = refl
-counted_more (a ∷ []) (b ∷ more) h = one_digit (is_ascii_digit a) (is_printable a) (counted_digits (a ∷ b ∷ more)) h
-counted_more (a ∷ b ∷ []) [] h = refl
-counted_more (a ∷ b ∷ []) (c ∷ more) h =
-    two_digits (is_ascii_digit a) (is_ascii_digit b) (is_printable a) (is_ascii_digit c) _ h
-counted_more (a ∷ b ∷ c ∷ text) more h = refl
+counted_more text more h = grind arith
 
 drop_one : (n o : ℕ) (text : Octets) → drop (1 + n) (o ∷ text) ≡ drop n text
 drop_one n o text = let next : 1 + n ≡ suc n = omega arith in ap (λ m. drop m (o ∷ text)) next
@@ -63,20 +24,11 @@ drop_one n o text = let next : 1 + n ≡ suc n = omega arith in ap (λ m. drop m
 module _ (by : ℕ → Bool) where
   escape_more : (text more : Octets) → (unit_left by 92 text ≡ None → is_cut_short (92 ∷ text) ≡ false)
       → unit_left by 92 (text ++ more) ≡ unit_left by 92 text
-  escape_more text more h =
-      escape-counted (text ++ more)
-      ∙ ap left_by (counted_more text more (λ z. h (escape-counted text ∙ ap left_by z)))
-      ∙ sym (escape-counted text)
+  escape_more text more h = grind (arith, escape-counted, left_by, counted_more)
 
   unit_more : (o : ℕ) (text more : Octets) → (unit_left by o text ≡ None → is_cut_short (o ∷ text) ≡ false)
       → unit_left by o (text ++ more) ≡ unit_left by o text
-  unit_more o text more h = go (o == 92) refl
-    where
-      go : (slash : Bool) → (o == 92) ≡ slash → unit_left by o (text ++ more) ≡ unit_left by o text
-      go true e =
-          subst (λ c. (unit_left by c text ≡ None → is_cut_short (c ∷ text) ≡ false) → unit_left by c (text ++ more) ≡ unit_left by c text)
-          (sym (eqb-true o 92 e)) (escape_more text more) h
-      go false e = rw e refl
+  unit_more o text more h = grind (arith, eqb-true, escape_more)
 
   -- a run that ends where the text is not cut short ends there too where the text goes on
   pub run_more : (k : ℕ) (text more : Octets) → is_cut_short (drop (run_length by k text) text) ≡ false
@@ -117,13 +69,7 @@ taken_more (suc n) (o ∷ text) more x xs e = ap (λ t. o ∷ t) (taken_more n t
 prefix_more : (p : ℕ → Bool) (text more : Octets) (x : ℕ) (xs : Octets) → drop (prefix_len p text) text ≡ x ∷ xs
     → prefix_len p (text ++ more) ≡ prefix_len p text
 prefix_more p [] more x xs e = absurd (omega (arith, ap length e))
-prefix_more p (o ∷ text) more x xs e = go (p o) e (prefix_more p text more x xs)
-  where
-    go : (b : Bool) → drop (cond b (1 + prefix_len p text) 0) (o ∷ text) ≡ x ∷ xs
-        → (drop (prefix_len p text) text ≡ x ∷ xs → prefix_len p (text ++ more) ≡ prefix_len p text)
-        → cond b (1 + prefix_len p (text ++ more)) 0 ≡ cond b (1 + prefix_len p text) 0
-    go true e later = ap (λ n. 1 + n) (later (sym (drop_one (prefix_len p text) o text) ∙ e))
-    go false e later = refl
+prefix_more p (o ∷ text) more x xs e = grind (arith, drop_one, (prefix_more p text more x xs))
 
 -- a token that may go on
 pub record Loose (t : Token) : Type 0 where
@@ -142,83 +88,30 @@ module _ (more : Octets) where
 
   choose : (place : Octets) (b : Bool) (x y x' y' : Option (Token × Octets)) → (b ≡ true → Keeps place x x') → (b ≡ false → Keeps place y y')
       → Keeps place (if b then x else y) (if b then x' else y')
-  choose place true x y x' y' h k = h refl
-  choose place false x y x' y' h k = k refl
+  choose place b x y x' y' h h1 = grind arith
 
   -- a token up to where octets of its kind end
   up_to : (place : Octets) (t : Token) (p : ℕ → Bool) (text : Octets) → Loose t
       → Keeps place (Some (t, drop (prefix_len p text) text)) (Some (t, drop (prefix_len p (text ++ more)) (text ++ more)))
   unfolding Keeps
-  up_to place t p text loose = go (drop (prefix_len p text) text) refl
-    where
-      go : (others : Octets) → drop (prefix_len p text) text ≡ others
-          → Keeps place (Some (t, drop (prefix_len p text) text)) (Some (t, drop (prefix_len p (text ++ more)) (text ++ more)))
-      go [] e = inr (ap is_cut_short e, loose)
-      go (x ∷ xs) e =
-          inl (ap (λ others. Some (t, others))
-          (ap (λ n. drop n (text ++ more)) (prefix_more p text more x xs e) ∙ dropped_more (prefix_len p text) text more x xs e
-          ∙ ap (λ others. others ++ more) (sym e)))
+  up_to place t p text loose = grind (arith, Keeps, inr, inl, prefix_more, dropped_more)
 
   pub mark_uncut : (rest : Octets) → is_cut_short (34 ∷ rest) ≡ false
-  mark_uncut [] = refl
-  mark_uncut (a ∷ []) = refl
-  mark_uncut (a ∷ b ∷ []) = refl
-  mark_uncut (a ∷ b ∷ c ∷ rest) = refl
+  mark_uncut rest = grind arith
 
   quoted_keeps : (text : Octets) → Keeps (drop (string_length text) text) (quoted_front text) (quoted_front (text ++ more))
   unfolding Keeps
-  quoted_keeps text = go (drop (string_length text) text) refl
-    where
-      raw : Octets
-      raw = take (string_length text) text
-
-      longer : (x : ℕ) (xs : Octets) → drop (string_length text) text ≡ x ∷ xs → is_cut_short (x ∷ xs) ≡ false
-          → quoted_front (text ++ more) ≡ closed (take (string_length text) text) (x ∷ (xs ++ more))
-      longer x xs e whole =
-          let same : string_length (text ++ more) ≡ string_length text = run_more is_string_octet 0 text more (ap is_cut_short e ∙ whole) in
-          ap (λ n. closed (take n (text ++ more)) (drop n (text ++ more))) same
-          ∙ ap₂ closed (taken_more (string_length text) text more x xs e) (dropped_more (string_length text) text more x xs e)
-
-      closes : (x : ℕ) (xs : Octets) (b : Bool) → (x == 34) ≡ b → drop (string_length text) text ≡ x ∷ xs
-          → Keeps (x ∷ xs) (closed (take (string_length text) text) (x ∷ xs)) (quoted_front (text ++ more))
-      closes x xs true is e =
-          let mark : is_cut_short (x ∷ xs) ≡ false = ap (λ o. is_cut_short (o ∷ xs)) (eqb-true x 34 is) ∙ mark_uncut xs in
-          rw is (inl (longer x xs e mark ∙ rw is refl))
-      closes x xs false other e = rw other (λ whole. longer x xs e whole ∙ rw other refl)
-
-      go : (others : Octets) → drop (string_length text) text ≡ others
-          → Keeps (drop (string_length text) text) (quoted_front text) (quoted_front (text ++ more))
-      go [] e =
-          subst (λ others. Keeps others (closed (take (string_length text) text) others) (quoted_front (text ++ more))) (sym e)
-          (λ whole. absurd (true≢false whole))
-      go (x ∷ xs) e =
-          subst (λ others. Keeps others (closed (take (string_length text) text) others) (quoted_front (text ++ more))) (sym e)
-          (closes x xs (x == 34) refl e)
-
-  cr_cut : (o : ℕ) → (o == 13) ≡ true → (o == 92 || o == 13) ≡ true
-  cr_cut o e = ap (λ c. c == 92 || c == 13) (eqb-true o 13 e)
+  quoted_keeps text =
+      grind (arith, run_more, ap₂, taken_more, dropped_more, eqb-true, mark_uncut, true≢false)
 
   line_feed_keeps : (o : ℕ) (text : Octets) → (o == 13) ≡ true → Keeps (o ∷ text) (line_feed_front text) (line_feed_front (text ++ more))
   unfolding Keeps
-  line_feed_keeps o [] e = λ whole. absurd (false≢true (sym whole ∙ cr_cut o e))
-  line_feed_keeps o (c ∷ text) e =
-      choose (o ∷ c ∷ text) (c == 10) (Some (line_end, text)) None (Some (line_end, text ++ more)) None (λ _. inl refl) (λ _ whole. refl)
+  line_feed_keeps o text h = grind arith
 
   taken_keeps : (n : ℕ) (text : Octets) → word_length text ≡ suc n
       → Keeps text (Some (word (take (suc n) text), drop (suc n) text)) (unquoted_front (text ++ more))
   unfolding Keeps
-  taken_keeps n text e = go (drop (suc n) text) (is_cut_short (drop (suc n) text)) refl refl
-    where
-      go : (others : Octets) (cut : Bool) → drop (suc n) text ≡ others → is_cut_short (drop (suc n) text) ≡ cut
-          → Keeps text (Some (word (take (suc n) text), drop (suc n) text)) (unquoted_front (text ++ more))
-      go others true shape cut = inr (cut, record { unmarked = refl; inside = refl })
-      go [] false shape cut = absurd (false≢true (sym cut ∙ ap is_cut_short shape))
-      go (x ∷ xs) false shape cut =
-          let same : word_length (text ++ more) ≡ suc n = run_more is_word_octet 0 text more (ap (λ k. is_cut_short (drop k text)) e ∙ cut) ∙ e in
-          inl (front_taken n (text ++ more) same
-          ∙ ap (λ raw. Some (word raw, drop (suc n) (text ++ more))) (taken_more (suc n) text more x xs shape)
-          ∙ ap (λ others. Some (word (take (suc n) text), others))
-          (dropped_more (suc n) text more x xs shape ∙ ap (λ others. others ++ more) (sym shape)))
+  taken_keeps n text e = grind (arith, false≢true, run_more, front_taken, taken_more, dropped_more)
 
   word_keeps : (o : ℕ) (text : Octets) → Keeps (o ∷ text) (unquoted_front (o ∷ text)) (unquoted_front (o ∷ (text ++ more)))
   unfolding Keeps
@@ -267,25 +160,10 @@ module _ (more : Octets) where
 -- where a text is cut short no token begins
 slash_none : (text : Octets) → counted_escape text ≡ 0 → token_front (92 ∷ text) ≡ None
 unfolding run_length
-slash_none text none =
-    let length : run_length is_word_octet 0 (92 ∷ text) ≡ 0 =
-    ap (λ u. elim u as (λ _. ℕ) [ None ↦ 0 | Some k ↦ 1 + run_length is_word_octet k text ]) (escape-counted text ∙ ap left_by none) in
-    ap (λ n. if n == 0 then None else Some (word (take n (92 ∷ text)), drop n (92 ∷ text))) length
+slash_none text none = grind (arith, escape-counted, left_by)
 
 at_slash : (o : ℕ) (text : Octets) → (o == 92) ≡ true → counted_escape text ≡ 0 → token_front (o ∷ text) ≡ None
 at_slash o text slash none = ap (λ c. token_front (c ∷ text)) (eqb-true o 92 slash) ∙ slash_none text none
 
 pub cut_none : (text : Octets) → is_cut_short text ≡ true → token_front text ≡ None
-cut_none [] cut = refl
-cut_none (o ∷ []) cut = elim (or_cases (o == 92) (o == 13) cut) [
-  | inl slash ↦ at_slash o [] slash refl
-  | inr cr ↦ ap (λ c. token_front (c ∷ [])) (eqb-true o 13 cr)
-]
-cut_none (o ∷ a ∷ []) cut =
-    let p = and_parts (o == 92) (is_ascii_digit a) cut in
-    at_slash o (a ∷ []) p.0 (rw p.1 refl)
-cut_none (o ∷ a ∷ b ∷ []) cut =
-    let p = and_parts (o == 92 && is_ascii_digit a) (is_ascii_digit b) cut in
-    let q = and_parts (o == 92) (is_ascii_digit a) p.0 in
-    at_slash o (a ∷ b ∷ []) q.0 (rw q.1 refl)
-cut_none (o ∷ a ∷ b ∷ c ∷ text) cut = absurd (false≢true cut)
+cut_none text h = grind (arith, or_cases, at_slash, eqb-true, and_parts, false≢true)

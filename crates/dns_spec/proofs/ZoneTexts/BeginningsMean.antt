@@ -1,20 +1,17 @@
 -- The first fault of a beginning of a text is the fault of the text.
-use Rattle.std.proofs.Common.{◌≡◌, ℕ, zero, suc, ◌≤◌, ◌⊎◌, inl, inr, Bool, true, false, ◌&&◌, ◌||◌, not, ◌==◌, Option, Some, None, List, [], ◌∷◌, ◌++◌, map, length, take, drop, refl, sym, ◌∙◌, ap, subst, arith}
-use Rattle.std.specs.Prelude.{MatchOption, if◌then◌else◌}
-use Rattle.std.proofs.lemmas.Bool.{false_from_ne_true, false≢true, true≢false, eqb-true}
+use Rattle.std.proofs.Common.{◌≡◌, ℕ, zero, suc, ◌≤◌, ◌⊎◌, inl, inr, Bool, true, false, ◌&&◌, not, Option, Some, None, List, [], ◌∷◌, ◌++◌, map, length, take, drop, refl, sym, ◌∙◌, ap, subst, arith}
+use Rattle.std.proofs.lemmas.Bool.{false≢true, true≢false}
 use Rattle.std.proofs.lemmas.Option.{none-some, same_Some}
 use Rattle.std.specs.List.{cons_option}
 use mathlib.Core.Bool.{xor}
 use Rattle.dns_spec.specs.Names.{Octets, DomainName}
 use Rattle.dns_spec.specs.Records.{ResourceRecord}
-use Rattle.dns_spec.specs.FileFaults.{FileFault, bad_parenthesis, unended_string, too_long}
-use Rattle.dns_spec.specs.ZoneText.{most_octets, extent_of, Token, token_front, TokensThen, parenthesis, parentheses, is_line_end, open_after, before_first, cut_entries, take_turns, is_open_at_end, is_cut_short, begins_line_end, string_length, Extent, whole_text, beginning, EntryStop, text_over, in_string, in_token, stop_at, token_fault, string_fault, stop_fault, Entry, ended, unended, with_end}
-use Rattle.dns_spec.specs.DataText.{is_string_octet}
-use Rattle.dns_spec.specs.Meaning.{faulty, gives, KindGives, kind_of, Meaning, records, fault_at, after, line_after, EntriesMean, Means}
+use Rattle.dns_spec.specs.FileFaults.{FileFault, bad_parenthesis, too_long}
+use Rattle.dns_spec.specs.ZoneText.{most_octets, extent_of, Token, token_front, TokensThen, parenthesis, parentheses, is_line_end, open_after, before_first, cut_entries, take_turns, is_open_at_end, is_cut_short, string_length, Extent, beginning, in_string, in_token, stop_at, token_fault, string_fault, stop_fault, Entry, ended, unended, with_end}
+use Rattle.dns_spec.specs.Meaning.{faulty, gives, Meaning, records, fault_at, after, line_after, EntriesMean, Means}
 use Rattle.dns_spec.specs.Laws.{OctetsMean}
 use Rattle.dns_spec.proofs.ZoneTexts.TextTokens.{has_tokens}
-use Rattle.dns_spec.proofs.ZoneTexts.OneMeaning.{FromHere}
-use Rattle.dns_spec.proofs.ZoneTexts.Beginnings.{mark_uncut, Loose, uncut, run_more, dropped_more, stop_place, front_kept, none_kept, cut_none}
+use Rattle.dns_spec.proofs.ZoneTexts.Beginnings.{Loose, uncut, run_more, dropped_more, stop_place, front_kept, none_kept, cut_none}
 
 -- the tokens that a text begins with, wherever it goes on: all of its beginning, or all but the last
 record Settled (more text : Octets) (ts : List Token) (rest : Octets) : Type 0 where
@@ -100,12 +97,7 @@ record First (ess : List (List Token)) : Type 0 where
 
 first_of_cut : (b : Bool) (ts : List Token) → First (cut_entries b ts)
 first_of_cut b [] = record { first = []; others = []; is = refl }
-first_of_cut b (t ∷ ts) = go (is_line_end t && not b) (first_of_cut (open_after b t) ts)
-  where
-    go : (ends : Bool) → First (cut_entries (open_after b t) ts)
-        → First (elim ends as (λ _. List (List Token)) [ true ↦ (t ∷ []) ∷ cut_entries false ts | false ↦ before_first t (cut_entries (open_after b t) ts) ])
-    go true f = record { first = t ∷ []; others = cut_entries false ts; is = refl }
-    go false f = record { first = t ∷ f.first; others = f.others; is = ap (before_first t) f.is }
+first_of_cut b (t ∷ ts) = grind (arith, (first_of_cut (open_after b t) ts))
 
 ended_then : (extent : Extent) (rest : Octets) (whole : List (List Token)) (first : List Token) (others : List (List Token))
     → with_end extent rest (whole ++ first ∷ others) ≡ map ended whole ++ with_end extent rest (first ∷ others)
@@ -120,21 +112,11 @@ fault_of (fault_at fault line) = Some fault
 
 after-fault : (rs : List ResourceRecord) (later : Meaning) (fault : FileFault) (line : ℕ) → fault_at fault line ≡ after rs later → later ≡ fault_at fault line
 unfolding fault_of
-after-fault rs (records more) fault line e = absurd (none-some fault (sym (ap fault_of e)))
-after-fault rs (fault_at f l) fault line e = sym e
-
-line_of : Meaning → ℕ
-line_of (records rs) = 0
-line_of (fault_at fault line) = line
-
-same_fault : (f g : FileFault) (l n : ℕ) → fault_at f l ≡ fault_at g n → (f ≡ g) × (l ≡ n)
-unfolding fault_of line_of
-same_fault f g l n e = (same_Some f g (ap fault_of e), ap line_of e)
+after-fault rs later fault line h = grind arith
 
 -- a parenthesis that is misplaced stays so, whatever comes after
 and_later : (x y z : Bool) → (y ≡ false → z ≡ false) → (x && y) ≡ false → (x && z) ≡ false
-and_later true y z later h = later h
-and_later false y z later h = refl
+and_later x y z h h1 = grind arith
 
 turns_fail : (b : Bool) (ts us : List Token) → take_turns b (parentheses ts) ≡ false → take_turns b (parentheses (ts ++ us)) ≡ false
 turns_fail b [] us h = absurd (true≢false h)
@@ -155,91 +137,32 @@ no_end [] = refl
 no_end (t ∷ ts) = ap (cons_option (parenthesis t)) (no_end ts)
 
 -- why a beginning can't go on, and why the text can't
-never_none : (is_open : Bool) (stop : EntryStop) → stop_fault beginning is_open stop ≡ None → ⊥
-never_none is_open text_over e = none-some too_long (sym e)
-never_none is_open (in_string place) e = none-some _ (sym e)
-never_none is_open (in_token place) e = none-some _ (sym e)
-
 uncut_string : (extent : Extent) (is_open : Bool) (place : Octets) → is_cut_short place ≡ false
     → stop_fault extent is_open (in_string place) ≡ Some (string_fault place)
-uncut_string whole_text is_open place whole = refl
-uncut_string beginning is_open place whole = rw whole refl
+uncut_string extent is_open place h = grind arith
 
 uncut_token : (extent : Extent) (is_open : Bool) (place : Octets) → is_cut_short place ≡ false
     → stop_fault extent is_open (in_token place) ≡ Some (token_fault place)
-uncut_token whole_text is_open place whole = refl
-uncut_token beginning is_open place whole = rw whole refl
-
-no_cr : (x y : Bool) → (x || y) ≡ false → y ≡ false
-no_cr true y h = absurd (true≢false h)
-no_cr false y h = h
-
-or_nothing : (x : Bool) → (x || false) ≡ x
-or_nothing true = refl
-or_nothing false = refl
-
-line_end_more : (place more : Octets) → is_cut_short place ≡ false → begins_line_end (place ++ more) ≡ begins_line_end place
-line_end_more [] more h = absurd (true≢false h)
-line_end_more (o ∷ []) [] h = refl
-line_end_more (o ∷ []) (c ∷ more) h = rw (no_cr (o == 92) (o == 13) h) (or_nothing (o == 10))
-line_end_more (o ∷ p ∷ place) more h = refl
-
-some_octets : (o : ℕ) (text : Octets) → (length (o ∷ text) == 0) ≡ false
-some_octets o text = false_from_ne_true (length (o ∷ text) == 0) (λ h. absurd (omega (arith, eqb-true (length (o ∷ text)) 0 h)))
+uncut_token extent is_open place h = grind arith
 
 string_fault_more : (place more : Octets) → is_cut_short place ≡ false → string_fault (place ++ more) ≡ string_fault place
-string_fault_more [] more h = absurd (true≢false h)
-string_fault_more (o ∷ place) more h =
-    rw (some_octets o (place ++ more), some_octets o place)
-    (ap (λ b. if b then unended_string else token_fault (o ∷ place)) (line_end_more (o ∷ place) more h))
+string_fault_more place more h = grind arith
 
 string_stop_more : (text more : Octets) → is_cut_short (drop (string_length text) text) ≡ false
     → drop (string_length (text ++ more)) (text ++ more) ≡ drop (string_length text) text ++ more
-string_stop_more text more whole = go (drop (string_length text) text) refl
-  where
-    go : (place : Octets) → drop (string_length text) text ≡ place
-        → drop (string_length (text ++ more)) (text ++ more) ≡ drop (string_length text) text ++ more
-    go [] e = absurd (false≢true (sym whole ∙ ap is_cut_short e))
-    go (x ∷ xs) e =
-        ap (λ n. drop n (text ++ more)) (run_more is_string_octet 0 text more whole)
-        ∙ dropped_more (string_length text) text more x xs e ∙ ap (λ p. p ++ more) (sym e)
+string_stop_more text more whole = grind (arith, false≢true, run_more, dropped_more)
 
 stop_more : (extent : Extent) (is_open now_open : Bool) (o : ℕ) (text more : Octets) (fault : FileFault) → is_cut_short (stop_place o text) ≡ false
     → stop_fault beginning is_open (stop_at (o ∷ text)) ≡ Some fault → stop_fault extent now_open (stop_at (o ∷ (text ++ more))) ≡ Some fault
-stop_more extent is_open now_open o text more fault = go (o == 34)
-  where
-    place : Octets
-    place = drop (string_length text) text
-
-    go : (mark : Bool) → is_cut_short (if mark then drop (string_length text) text else o ∷ text) ≡ false
-        → stop_fault beginning is_open (if mark then in_string (drop (string_length text) text) else in_token (o ∷ text)) ≡ Some fault
-        → stop_fault extent now_open (if mark then in_string (drop (string_length (text ++ more)) (text ++ more)) else in_token (o ∷ (text ++ more))) ≡ Some fault
-    go true whole e =
-        ap (λ p. stop_fault extent now_open (in_string p)) (string_stop_more text more whole)
-        ∙ uncut_string extent now_open (drop (string_length text) text ++ more) (uncut (drop (string_length text) text) more whole)
-        ∙ ap (λ f. Some f) (string_fault_more (drop (string_length text) text) more whole)
-        ∙ sym (uncut_string beginning is_open (drop (string_length text) text) whole) ∙ e
-    go false whole e =
-        uncut_token extent now_open (o ∷ (text ++ more)) (uncut (o ∷ text) more whole)
-        ∙ sym (uncut_token beginning is_open (o ∷ text) whole) ∙ e
+stop_more extent is_open now_open o text more fault =
+    grind (arith, string_stop_more, uncut_string, uncut, string_fault_more, uncut_token)
 
 cut_place : (is_open : Bool) (o : ℕ) (text : Octets) → is_cut_short (stop_place o text) ≡ true
     → stop_fault beginning is_open (stop_at (o ∷ text)) ≡ Some too_long
-cut_place is_open o text = go (o == 34)
-  where
-    go : (mark : Bool) → is_cut_short (if mark then drop (string_length text) text else o ∷ text) ≡ true
-        → stop_fault beginning is_open (if mark then in_string (drop (string_length text) text) else in_token (o ∷ text)) ≡ Some too_long
-    go true cut = rw cut refl
-    go false cut = rw cut refl
+cut_place is_open o text = grind arith
 
 cut_rest : (is_open : Bool) (rest : Octets) → is_cut_short rest ≡ true → stop_fault beginning is_open (stop_at rest) ≡ Some too_long
-cut_rest is_open [] cut = refl
-cut_rest is_open (o ∷ text) cut = go (o == 34) refl
-  where
-    go : (mark : Bool) → (o == 34) ≡ mark
-        → stop_fault beginning is_open (if mark then in_string (drop (string_length text) text) else in_token (o ∷ text)) ≡ Some too_long
-    go true e = absurd (true≢false (sym cut ∙ ap (λ c. is_cut_short (c ∷ text)) (eqb-true o 34 e) ∙ mark_uncut [] text))
-    go false e = rw cut refl
+cut_rest is_open rest h = grind arith
 
 tokens_then : (text middle rest : Octets) (ts us : List Token) → TokensThen text ts middle → TokensThen middle us rest → TokensThen text (ts ++ us) rest
 tokens_then text middle rest [] us h k = subst (λ t. TokensThen t us rest) (sym h) k
@@ -264,26 +187,7 @@ module _ (o : DomainName) (fault : FileFault) (line : ℕ) where
 
   last_fault : (earlier : List Entry) (ts : List Token) (rest : Octets) → EntriesMean o earlier (unended beginning rest ts ∷ []) (fault_at fault line)
       → LastFault earlier ts rest
-  last_fault earlier ts rest (given, g, k) = go (take_turns false (parentheses ts)) refl g
-    where
-      last : Entry
-      last = unended beginning rest ts
-
-      found : (f : FileFault) → given ≡ faulty f → (fault ≡ f) × (line ≡ line_after earlier)
-      found f is = same_fault fault f line (line_after earlier) (subst (FromHere o earlier (unended beginning rest ts) [] (fault_at fault line)) is k)
-
-      stopped : (s : Option FileFault) → stop_fault beginning (is_open_at_end ts) (stop_at rest) ≡ s → take_turns false (parentheses ts) ≡ true
-          → MatchOption s (KindGives o earlier (kind_of (unended beginning rest ts)) given) (λ f. given ≡ faulty f) → LastFault earlier ts rest
-      stopped None e turns h = absurd (never_none (is_open_at_end ts) (stop_at rest) e)
-      stopped (Some f) e turns h =
-          let same = found f h in
-          record { line_is = same.1; why = inr (turns, e ∙ ap (λ x. Some x) (sym same.0)) }
-
-      go : (b : Bool) → take_turns false (parentheses ts) ≡ b
-          → MatchOption (if b then stop_fault beginning (is_open_at_end ts) (stop_at rest) else Some bad_parenthesis)
-          (KindGives o earlier (kind_of (unended beginning rest ts)) given) (λ f. given ≡ faulty f) → LastFault earlier ts rest
-      go false turns h = let same = found bad_parenthesis h in record { line_is = same.1; why = inl (turns, same.0) }
-      go true turns h = stopped (stop_fault beginning (is_open_at_end ts) (stop_at rest)) refl turns h
+  last_fault earlier ts rest (given, g, k) = grind arith
 
   -- a first entry with a misplaced parenthesis
   wrong_first : (extent : Extent) (rest : Octets) (earlier : List Entry) (ts : List Token) (others : List (List Token))
@@ -441,9 +345,7 @@ beginning_decides o earlier extent front more fault line (es, cut, meant) other 
 looked_at : (n : ℕ) (front more : Octets) → length front ≤ n → (rest : Octets) × (take n (front ++ more) ≡ front ++ rest)
 looked_at n [] more short = (take n more, refl)
 looked_at zero (o ∷ front) more short = absurd (omega (arith, short))
-looked_at (suc n) (o ∷ front) more short =
-    let found = looked_at n front more (omega (arith, short)) in
-    (found.0, ap (λ t. o ∷ t) found.1)
+looked_at (suc n) (o ∷ front) more short = grind (arith, (looked_at n front more))
 
 pub text_decided : (o : DomainName) (front more : Octets) (fault : FileFault) (line : ℕ) → length front ≤ most_octets
     → OctetsMean o [] beginning front (fault_at fault line) → (fault ≡ too_long → ⊥) → Means o (front ++ more) (fault_at fault line)

@@ -1,5 +1,5 @@
 -- A record that is one is given, where no code of a fault stands before it.
-use Rattle.std.proofs.Common.{◌≡◌, ℕ, inr, false, List, [], ◌∷◌, Option, Some, None, refl, sym, ◌∙◌, IsTrue}
+use Rattle.std.proofs.Common.{◌≡◌, ℕ, inr, false, List, [], ◌∷◌, Option, refl, sym, ◌∙◌, IsTrue, arith}
 use Rattle.std.specs.Prelude.{MatchOption}
 use Rattle.std.specs.Option.{is_none}
 use Rattle.std.proofs.lemmas.Bool.{false≢true}
@@ -13,12 +13,10 @@ use Rattle.dns_spec.specs.Meaning.{EntryMeaning, gives, TtlSays, TtlIs, IsRecord
 -- a TTL that is stated, and one that is known
 ttl_stated : (earlier : List Entry) (stated : Option Word) (n : ℕ) → TtlIs earlier stated n
     → IsNoTtl stated → ⊥
-ttl_stated earlier None n h none = none
-ttl_stated earlier (Some w) n h none = none n h
+ttl_stated earlier stated n h h1 = grind arith
 
 ttl_known : (o : Option Word) (n : ℕ) → MatchOption o ⊥ (λ w. TtlSays w n) → IsTrue (is_none o) → ⊥
-ttl_known None n h none = h
-ttl_known (Some w) n h none = false≢true none
+ttl_known o n h h1 = grind arith
 
 -- a record is one but for how many there are
 pub record_but_count : (o : DomainName) (earlier : List Entry) (code : FileFault)

@@ -1,16 +1,16 @@
 -- A text means one thing.
-use Rattle.std.proofs.Common.{◌≡◌, ℕ, inl, inr, Bool, true, false, List, [], ◌∷◌, drop, take, Option, Some, None, refl, sym, ◌∙◌, ap, ap₂, subst, subst₂, arith, codes}
+use Rattle.std.proofs.Common.{◌≡◌, ℕ, inl, inr, Bool, List, [], ◌∷◌, drop, Option, None, refl, sym, ◌∙◌, ap, ap₂, subst, subst₂, arith, codes, rules}
 use Rattle.std.specs.Prelude.{MatchOption}
 use Rattle.std.specs.Bool.{MatchBool}
-use Rattle.std.proofs.lemmas.Option.{none-some, some_pair_parts}
+use Rattle.std.proofs.lemmas.Option.{some_pair_parts}
 use Rattle.std.proofs.lemmas.Fmt.{decimal_injective}
-use Rattle.dns_spec.specs.Names.{Octets, DomainName, folded, octets_equal}
+use Rattle.dns_spec.specs.Names.{Octets, DomainName, folded}
 use Rattle.dns_spec.specs.NameText.{SpellsName}
 use Rattle.dns_spec.specs.DataText.{Word, Says}
 use Rattle.dns_spec.specs.Records.{ResourceRecord}
-use Rattle.dns_spec.specs.ZoneText.{Token, most_octets, token_front, TokensThen, cut_entries, with_end, extent_of, Entry, Entries, lexical_fault}
-use Rattle.dns_spec.specs.FileFaults.{FileFault, unknown_directive, directive_words, bad_owner, no_owner}
-use Rattle.dns_spec.specs.Meaning.{EntryMeaning, faulty, gives, Nothing, Lowest, EntryKind, no_words, directive, owned, unowned, kind_of, directive_word, owner_word, OriginIs, NameIs, OwnerBefore, TtlSays, ttl_in_force, TtlIs, TypeIs, DataIs, IsRecord, Fields, fields, record_faults, RecordGives, OneWord, DirectiveSays, DirectiveGives, KindGives, EntryGives, Meaning, fault_at, after, line_after, EntriesMean, Means}
+use Rattle.dns_spec.specs.ZoneText.{Token, token_front, TokensThen, Entry, Entries}
+use Rattle.dns_spec.specs.FileFaults.{FileFault, bad_owner, no_owner}
+use Rattle.dns_spec.specs.Meaning.{EntryMeaning, faulty, gives, Lowest, EntryKind, no_words, directive, owned, unowned, kind_of, directive_word, owner_word, OriginIs, NameIs, OwnerBefore, TtlSays, TtlIs, TypeIs, DataIs, IsRecord, Fields, fields, record_faults, RecordGives, DirectiveSays, DirectiveGives, KindGives, EntryGives, Meaning, fault_at, after, line_after, EntriesMean, Means}
 use Rattle.dns_spec.proofs.NameTexts.OneName.{name_once}
 use Rattle.dns_spec.proofs.DataWords.OneData.{data_once}
 use Rattle.dns_spec.proofs.DataWords.TypeWords.{one_type}
@@ -18,12 +18,10 @@ use Rattle.dns_spec.proofs.DataWords.TypeWords.{one_type}
 -- what is one by either case is one
 by_option : {X N : Type 0} {P Q : Type 0} {R S : X → Type 0} (o : Option X) (n m : N) → (P → Q → n ≡ m) → ((x : X) → R x → S x → n ≡ m)
     → MatchOption o P R → MatchOption o Q S → n ≡ m
-by_option None n m none some h k = none h k
-by_option (Some x) n m none some h k = some x h k
+by_option o n m h h1 h2 h3 = grind arith
 
 by_bool : {N : Type 0} {P Q R S : Type 0} (b : Bool) (n m : N) → (P → Q → n ≡ m) → (R → S → n ≡ m) → MatchBool b P R → MatchBool b Q S → n ≡ m
-by_bool true n m first second h k = first h k
-by_bool false n m first second h k = second h k
+by_bool b n m h h1 h2 h3 = grind arith
 
 -- an answer that holds is the only one
 abbrev Once : (EntryMeaning → Type 0) → Type 0
@@ -60,8 +58,7 @@ ttl_says_once w n m (unquoted, spelled, few) (unquoted', spelled', few') =
     decimal_injective n m (omega (arith, few)) (omega (arith, few')) (sym spelled ∙ spelled')
 
 ttl_once : (earlier : List Entry) (stated : Option Word) (n m : ℕ) → TtlIs earlier stated n → TtlIs earlier stated m → n ≡ m
-ttl_once earlier stated n m h k =
-    by_option (ttl_in_force earlier stated) n m (λ none none'. absurd none) (λ w. ttl_says_once w n m) h k
+ttl_once earlier stated n m h k = grind (arith, by_option, ttl_says_once)
 
 pub type_once : (ws : List Word) (t u : ℕ) → TypeIs ws t → TypeIs ws u → t ≡ u
 type_once [] t u h k = absurd h
@@ -92,16 +89,10 @@ given : (c : EntryMeaning) → Once (λ answer. answer ≡ c)
 given c a b h k = h ∙ sym k
 
 says_once : {A : Type 0} (P : A → Word → Type 0) (ws : List Word) → Once (DirectiveSays P ws)
-says_once {A} P ws =
-    lowest_once ((directive_words, Nothing (λ (v : A). OneWord (P v) ws)) ∷ []) (λ given. given ≡ gives []) (given (gives []))
+says_once {A} P ws = grind arith
 
 directive_gives_once : (o : DomainName) (earlier : List Entry) (name : Octets) (ws : List Word) → Once (DirectiveGives o earlier name ws)
-directive_gives_once o earlier name ws a b =
-    by_bool (octets_equal name (codes "$origin")) a b
-    (says_once (λ n w. NameIs o earlier w n) ws a b)
-    (by_bool (octets_equal name (codes "$ttl")) a b
-    (says_once (λ n w. TtlSays w n) ws a b)
-    (given (faulty unknown_directive) a b))
+directive_gives_once o earlier name ws a b = grind (arith, by_bool, says_once, given)
 
 kind_gives_once : (o : DomainName) (earlier : List Entry) (s : EntryKind) → Once (KindGives o earlier s)
 kind_gives_once o earlier no_words = given (gives [])
@@ -110,8 +101,7 @@ kind_gives_once o earlier (owned w ws) = record_gives_once o earlier bad_owner (
 kind_gives_once o earlier (unowned ws) = record_gives_once o earlier no_owner (OwnerBefore o earlier) (fields ws) (owner_once o earlier)
 
 entry_gives_once : (o : DomainName) (earlier : List Entry) (e : Entry) → Once (EntryGives o earlier e)
-entry_gives_once o earlier e a b =
-    by_option (lexical_fault e) a b (kind_gives_once o earlier (kind_of e) a b) (λ code. given (faulty code) a b)
+entry_gives_once o earlier e a b = search (rules, by_option, kind_gives_once, given)
 
 -- what the entries mean from here, where this one gives that
 abbrev pub FromHere : DomainName → List Entry → Entry → List Entry → Meaning → EntryMeaning → Type 0
@@ -124,8 +114,7 @@ FromHere o earlier e es m answer =
 from_here_once : (o : DomainName) (earlier : List Entry) (e : Entry) (es : List Entry) (m n : Meaning) (answer : EntryMeaning)
     → ((x y : Meaning) → EntriesMean o (e ∷ earlier) es x → EntriesMean o (e ∷ earlier) es y → x ≡ y)
     → FromHere o earlier e es m answer → FromHere o earlier e es n answer → m ≡ n
-from_here_once o earlier e es m n (faulty code) later h k = h ∙ sym k
-from_here_once o earlier e es m n (gives rs) later (x, h, is) (y, k, is') = is ∙ ap (after rs) (later x y h k) ∙ sym is'
+from_here_once o earlier e es m n answer h h1 h2 = grind arith
 
 entries_once : (o : DomainName) (earlier es : List Entry) (m n : Meaning) → EntriesMean o earlier es m → EntriesMean o earlier es n → m ≡ n
 entries_once o earlier [] m n h k = h ∙ sym k
@@ -137,19 +126,13 @@ entries_once o earlier (e ∷ es) m n (a, gives_a, h) (b, gives_b, k) =
 tokens_once : (text : Octets) (ps qs : List Token) (rest others : Octets) → TokensThen text ps rest → TokensThen text qs others
     → token_front rest ≡ None → token_front others ≡ None → (ps ≡ qs) × (rest ≡ others)
 tokens_once text [] [] rest others h k end end' = (refl, sym h ∙ k)
-tokens_once text [] (q ∷ qs) rest others h (after, e, k) end end' =
-    absurd (none-some (q, after) (sym end ∙ ap token_front (sym h) ∙ e))
-tokens_once text (p ∷ ps) [] rest others (after, e, h) k end end' =
-    absurd (none-some (p, after) (sym end' ∙ ap token_front (sym k) ∙ e))
+tokens_once text [] (q ∷ qs) rest others h (after, e, k) end end' = grind arith
+tokens_once text (p ∷ ps) [] rest others (after, e, h) k end end' = grind arith
 tokens_once text (p ∷ ps) (q ∷ qs) rest others (x, e, h) (y, f, k) end end' =
-    let one = some_pair_parts p q x y (sym e ∙ f) in
-    let more = tokens_once x ps qs rest others h (subst (λ t. TokensThen t qs others) (sym one.1) k) end end' in
-    (ap₂ (λ z zs. z ∷ zs) one.0 more.0, more.1)
+    grind (arith, some_pair_parts, ap₂, (tokens_once x ps qs rest others h))
 
 one_cut : (text : Octets) (es fs : List Entry) → Entries text es → Entries text fs → es ≡ fs
-one_cut text es fs h k =
-    let same = tokens_once (take most_octets text) h.tokens k.tokens h.rest k.rest h.spelled k.spelled h.at_end k.at_end in
-    h.entries ∙ ap₂ (λ rest ps. with_end (extent_of text) rest (cut_entries false ps)) same.1 same.0 ∙ sym k.entries
+one_cut text es fs h k = grind (arith, tokens_once, ap₂)
 
 pub meaning_once : (o : DomainName) (text : Octets) (m n : Meaning) → Means o text m → Means o text n → m ≡ n
 meaning_once o text m n (es, h, is) (fs, k, is') =

@@ -1,19 +1,18 @@
 -- What the words of a text spell are octets below 256, where the origin's are.
-use Rattle.std.proofs.Common.{◌≡◌, ◌≢◌, ℕ, ◌+◌, ◌*◌, ◌<◌, ◌⊎◌, codes, inl, inr, Bool, true, false, cond, not, ◌&&◌, ◌||◌, nat_lt, Option, Some, None, List, [], ◌∷◌, ◌++◌, map, length, refl, sym, subst, arith, flat_map}
+use Rattle.std.proofs.Common.{◌≡◌, ℕ, ◌+◌, ◌*◌, ◌<◌, inl, inr, Bool, true, false, cond, ◌&&◌, nat_lt, Option, Some, None, List, [], ◌∷◌, ◌++◌, map, length, refl, sym, subst, arith, flat_map}
 use Rattle.std.proofs.lemmas.Bool.{agree_below_at, and_parts, ltb-true}
 use Rattle.std.proofs.lemmas.List.{length-map}
 use Rattle.std.proofs.lemmas.Option.{none-some, same_Some}
 use Rattle.std.specs.Prelude.{MatchOption}
-use Rattle.std.specs.Bool.{MatchBool}
 use Rattle.std.specs.Option.{option_map}
 use Rattle.std.specs.List.{list_all}
 use Rattle.std.specs.Char.{is_ascii_hexdigit, digit_value, to_ascii_lowercase}
 use Rattle.std.specs.Int.{bytes_high_first}
 use Rattle.dns_spec.specs.Names.{Octets, DomainName, wire, is_label, folded}
 use Rattle.dns_spec.specs.NameText.{SpellsOctet, LabelThen, TextSpells, SpellsName}
-use Rattle.dns_spec.specs.Data.{Part, octets, name, part_octets, joined, part_folded, parts}
+use Rattle.dns_spec.specs.Data.{Part, part_octets, joined, part_folded}
 use Rattle.dns_spec.specs.AddressText.{SaysIpv6, ipv6_groups}
-use Rattle.dns_spec.specs.DataText.{Word, SpellsStringOctet, SpellsString, WordForm, number_word, ipv4_word, ipv6_word, name_word, string_word, SaysForm, SaysForms, forms_of, SaysTyped, hex_octets, SaysUnknown, SaysAsSpelled, is_unknown_mark, Says}
+use Rattle.dns_spec.specs.DataText.{Word, SpellsStringOctet, SpellsString, WordForm, number_word, ipv4_word, ipv6_word, name_word, string_word, SaysForm, SaysForms, forms_of, SaysTyped, hex_octets, SaysUnknown, SaysAsSpelled, Says}
 use Rattle.dns_spec.proofs.Records.SortedOnce.{Each}
 use Rattle.dns_spec.proofs.DomainNames.NameLaws.{IsName-is_name, IsLabel-is_label}
 use Rattle.dns_spec.proofs.DataWords.NumberAgain.{bytes_below}
@@ -44,12 +43,7 @@ each_back (o ∷ x) y small = each_back x y small.1
 
 -- names
 octet_small : (text : Octets) (x : ℕ) → SpellsOctet text x → Each Octet text → Octet x
-octet_small [] x h small = absurd h
-octet_small (a ∷ []) x h small = subst Octet h.0 small.0
-octet_small (e ∷ a ∷ []) x (slash, is, low, high, other) small = subst Octet is small.1.0
-octet_small (e ∷ a ∷ b ∷ []) x h small = absurd h
-octet_small (e ∷ a ∷ b ∷ c ∷ []) x (slash, p, q, r, is, below) small = below
-octet_small (e ∷ a ∷ b ∷ c ∷ d ∷ text) x h small = absurd h
+octet_small text x h h1 = grind arith
 
 label_small : (text l rest : Octets) → LabelThen text l rest → Each Octet text → Each Octet l × Each Octet rest
 label_small text [] rest h small = (tt, subst (Each Octet) h small)
@@ -66,20 +60,10 @@ labels_small origin text (l ∷ n) from (inr (others, first, h)) small =
     (both.0, labels_small origin others n from h both.1.1)
 
 pub name_small : (origin : DomainName) (text : Octets) (n : DomainName) → SmallName origin → Each Octet text → SpellsName origin text n → SmallName n
-name_small origin text n from small h = go h.spelled
-  where
-    go : ((text ≡ codes "@") × (n ≡ origin)) ⊎ (((text ≡ codes ".") × (n ≡ [])) ⊎ ((text ≢ codes "@") × (text ≢ []) × TextSpells origin text n)) → SmallName n
-    go (inl (at_sign, is)) = subst SmallName (sym is) from
-    go (inr (inl (dot, is))) = subst SmallName (sym is) tt
-    go (inr (inr (not_at, some, spelled))) = labels_small origin text n from spelled small
+name_small origin text n from small h = grind (arith, inl, inr, labels_small)
 
 lowercase_small : (o : ℕ) → Octet o → Octet (to_ascii_lowercase o)
-lowercase_small o small = go (nat_lt o 65) (nat_lt o 91) refl
-  where
-    go : (s t : Bool) → nat_lt o 91 ≡ t → Octet (cond s o (cond t (o + 32) o))
-    go true t e = small
-    go false true e = let below = ltb-true o 91 e in omega (arith, below)
-    go false false e = small
+lowercase_small o small = grind (arith, ltb-true)
 
 label_folded_small : (l : Octets) → Each Octet l → Each Octet (map to_ascii_lowercase l)
 label_folded_small [] small = tt
@@ -99,8 +83,7 @@ wire_small (l ∷ n) ok small =
     (long, each_append l (wire n) small.0 (wire_small n both.1 small.1))
 
 string_octet_small : (text : Octets) (x : ℕ) → SpellsStringOctet text x → Each Octet text → Octet x
-string_octet_small text x (inl spelled) small = octet_small text x spelled small
-string_octet_small text x (inr (dot, is)) small = omega (arith, is)
+string_octet_small text x h h1 = grind arith
 
 string_small : (text s : Octets) → SpellsString text s → Each Octet text → Each Octet s
 string_small text [] h small = tt
@@ -132,18 +115,14 @@ form_small ipv4_word origin text d from small said = tested_small d said.octets
 form_small ipv6_word origin text d from small said = ipv6_small text d said
 form_small name_word origin text d from small (n, spelled, is) =
     subst (Each Octet) (sym is) (wire_small n (IsName-is_name n spelled.is_name).labels (name_small origin text n from small spelled))
-form_small string_word origin text d from small (s, few, spelled, is) =
-    let long : length s < 256 = omega (arith, few) in
-    let whole : Each Octet (length s ∷ s) = (long, string_small text s spelled small) in
-    subst (Each Octet) (sym is) whole
+form_small string_word origin text d from small (s, few, spelled, is) = grind (arith, string_small)
 
 forms_small : (fs : List WordForm) (origin : DomainName) (ws : List Word) (d : Octets) → SmallName origin → Each SmallWord ws → SaysForms fs origin ws d → Each Octet d
 forms_small [] origin [] d from small h = subst (Each Octet) (sym h) tt
 forms_small [] origin (w ∷ ws) d from small h = absurd h
 forms_small (f ∷ fs) origin [] d from small h = absurd h
 forms_small (f ∷ fs) origin (w ∷ ws) d from small (front, back, is, said, h) =
-    subst (Each Octet) (sym is)
-    (each_append front back (form_small f origin w.raw front from small.0 said.said) (forms_small fs origin ws back from small.1 h))
+    grind (arith, Each, each_append, form_small, (forms_small fs origin ws back from small.1 h))
 
 typed_small : (t : ℕ) (origin : DomainName) (ws : List Word) (d : Octets) → SmallName origin → Each SmallWord ws → SaysTyped t origin ws d → Each Octet d
 typed_small t origin ws d from small said = go (forms_of t (length ws)) said
@@ -153,10 +132,7 @@ typed_small t origin ws d from small said = go (forms_of t (length ws)) said
     go (Some fs) h = forms_small fs origin ws d from small h
 
 hex_value_small : (c : ℕ) → Octet c → is_ascii_hexdigit c ≡ true → digit_value c < 16
-hex_value_small c small hex =
-    ltb-true (digit_value c) 16
-    (follows (is_ascii_hexdigit c) (nat_lt (digit_value c) 16)
-    (agree_below_at (λ x. not (is_ascii_hexdigit x) || nat_lt (digit_value x) 16) (λ x. true) 256 c refl small) hex)
+hex_value_small c small hex = grind (arith, ltb-true, follows, agree_below_at)
 
 hex_small : (text d : Octets) → Each Octet text → hex_octets text ≡ Some d → Each Octet d
 unfolding hex_octets
@@ -169,29 +145,17 @@ hex_small (h ∷ l ∷ text) d small e = go (is_ascii_hexdigit h && is_ascii_hex
         → ((y : Octets) → hex_octets text ≡ Some y → Each Octet y) → Each Octet d
     go false q x r e rest = absurd (none-some d e)
     go true q None r e rest = absurd (none-some d e)
-    go true q (Some y) r e rest =
-        let both = and_parts (is_ascii_hexdigit h) (is_ascii_hexdigit l) q in
-        let high = hex_value_small h small.0 both.0 in
-        let low = hex_value_small l small.1.0 both.1 in
-        let value : 16 * digit_value h + digit_value l < 256 = omega (arith, high, low) in
-        let whole : Each Octet ((16 * digit_value h + digit_value l) ∷ y) = (value, rest y r) in
-        subst (Each Octet) (same_Some ((16 * digit_value h + digit_value l) ∷ y) d e) whole
+    go true q (Some y) r e rest = grind (arith, and_parts, hex_value_small, same_Some)
 
 raws_small : (ws : List Word) → Each SmallWord ws → Each Octet (flat_map (λ (w : Word). w.raw) ws)
 raws_small [] small = tt
 raws_small (w ∷ ws) small = each_append w.raw (flat_map (λ (v : Word). v.raw) ws) small.0 (raws_small ws small.1)
 
 unknown_small : (ws : List Word) (d : Octets) → Each SmallWord ws → SaysUnknown ws d → Each Octet d
-unknown_small [] d small said = absurd said
-unknown_small (w ∷ ws) d small (unquoted, long, (hex, said)) = hex_small (flat_map (λ (v : Word). v.raw) ws) d (raws_small ws small.1) said
+unknown_small ws d h h1 = grind (arith, hex_small, raws_small)
 
 spelled_small : (t : ℕ) (origin : DomainName) (ws : List Word) (d : Octets) → SmallName origin → Each SmallWord ws → SaysAsSpelled t origin ws d → Each Octet d
-spelled_small t origin [] d from small said = typed_small t origin [] d from small said
-spelled_small t origin (w ∷ ws) d from small said = go (is_unknown_mark w) said
-  where
-    go : (b : Bool) → MatchBool b (SaysUnknown ws d) (SaysTyped t origin (w ∷ ws) d) → Each Octet d
-    go true h = unknown_small ws d small.1 h
-    go false h = typed_small t origin (w ∷ ws) d from small h
+spelled_small t origin ws d h h1 h2 = grind (arith, typed_small, unknown_small)
 
 wire_folded_small : (n : DomainName) → Each Octet (wire n) → Each Octet (wire (folded n))
 wire_folded_small [] small = small
@@ -200,8 +164,7 @@ wire_folded_small (l ∷ n) small =
     (long, each_append (map to_ascii_lowercase l) (wire (folded n)) (label_folded_small l (each_front l (wire n) small.1)) (wire_folded_small n (each_back l (wire n) small.1)))
 
 part_folded_small : (x : Part) → Each Octet (part_octets x) → Each Octet (part_octets (part_folded x))
-part_folded_small (octets o) small = small
-part_folded_small (name n) small = wire_folded_small n small
+part_folded_small x h = grind (arith, wire_folded_small)
 
 parts_folded_small : (xs : List Part) → Each Octet (joined xs) → Each Octet (joined (map part_folded xs))
 parts_folded_small [] small = tt
@@ -211,5 +174,4 @@ parts_folded_small (x ∷ xs) small =
 
 pub data_small : (t : ℕ) (origin : DomainName) (ws : List Word) (d : Octets) → SmallName origin → Each SmallWord ws → Says t ws origin d → Each Octet d
 data_small t origin ws d from small h =
-    let spelled = spelled_small t origin ws h.as_spelled from small h.said in
-    subst (Each Octet) h.lower (parts_folded_small (parts t h.as_spelled) (subst (Each Octet) (sym (joined-parts t h.as_spelled)) spelled))
+    grind (arith, spelled_small, Each, parts_folded_small, joined-parts)

@@ -1,24 +1,23 @@
 -- The records that a text means are such as are read, of types that zones have, and few enough.
-use Rattle.std.proofs.Common.{◌≡◌, ℕ, ◌+◌, ◌<◌, ◌≤◌, ◌⊎◌, inl, inr, Bool, true, false, cond, nat_le, All, List, [], ◌∷◌, ◌++◌, length, drop, filter, Option, Some, None, refl, sym, ap, ◌∙◌, subst, arith, codes, IsTrue, length-append}
+use Rattle.std.proofs.Common.{◌≡◌, ℕ, ◌+◌, ◌<◌, ◌≤◌, ◌⊎◌, inl, inr, Bool, true, false, cond, nat_le, All, List, [], ◌∷◌, ◌++◌, length, drop, filter, Option, Some, None, refl, sym, subst, arith, codes, IsTrue, length-append, rules}
 use Rattle.std.proofs.lemmas.Bool.{le-leb, cases_lt}
 use Rattle.std.proofs.lemmas.List.Elements.{All-weaker}
 use Rattle.std.specs.Prelude.{⊤, MatchOption}
 use Rattle.std.specs.Bool.{MatchBool}
-use Rattle.dns_spec.specs.Names.{Octets, DomainName, is_name, folded, octets_equal}
+use Rattle.dns_spec.specs.Names.{Octets, DomainName, is_name, folded}
 use Rattle.dns_spec.specs.NameText.{SpellsName}
 use Rattle.dns_spec.specs.Data.{valid, lower_case}
 use Rattle.dns_spec.specs.DataText.{Word}
 use Rattle.dns_spec.specs.Records.{ResourceRecord}
-use Rattle.dns_spec.specs.ZoneText.{Entry, entry_words, begins_blank, lexical_fault}
-use Rattle.dns_spec.specs.FileFaults.{too_many_records, FileFault, bad_owner, no_owner, unknown_directive, directive_words, bad_ttl, other_class, bad_type, no_ttl, bad_data}
-use Rattle.dns_spec.specs.Meaning.{EntryMeaning, faulty, gives, EntryKind, no_words, directive, owned, unowned, is_directive, kind_by_words, kind_of, directive_word, owner_word, is_record, OriginIs, NameIs, OwnerBefore, TtlSays, ttl_in_force, most_ttl, TtlIs, TypeIs, DataIs, is_zone_type, Fields, class_after, ttl_after, is_ttl_word, is_class_word, fields, IsRecord, most_records, are_too_many, RecordGives, DirectiveGives, KindGives, EntryGives, Meaning, records, fault_at, after, EntriesMean, Means}
+use Rattle.dns_spec.specs.ZoneText.{Entry, entry_words, begins_blank}
+use Rattle.dns_spec.specs.FileFaults.{too_many_records, FileFault, bad_owner, no_owner}
+use Rattle.dns_spec.specs.Meaning.{EntryMeaning, faulty, gives, EntryKind, no_words, directive, owned, unowned, kind_by_words, kind_of, directive_word, is_record, OriginIs, NameIs, OwnerBefore, most_ttl, TtlIs, TypeIs, DataIs, is_zone_type, Fields, class_after, ttl_after, fields, IsRecord, most_records, are_too_many, RecordGives, DirectiveGives, KindGives, EntryGives, Meaning, records, fault_at, after, EntriesMean, Means}
 use Rattle.dns_spec.specs.ZonePrinted.{IsReadRecord, HasZoneType}
 use Rattle.dns_spec.proofs.ZoneChecks.FaultOrder.{folded_folded}
 use Rattle.dns_spec.proofs.Records.SortedOnce.{Each}
 use Rattle.dns_spec.proofs.Records.RecordOrder.{LowerOwner, all_each, each_all}
 use Rattle.dns_spec.proofs.DomainNames.NameLaws.{is_name-folded}
 use Rattle.dns_spec.proofs.DataWords.LoweredData.{lowered_data, lowered-twice}
-use Rattle.dns_spec.proofs.DataWords.TypeWords.{named_type-small}
 use Rattle.dns_spec.proofs.ZoneTexts.OneMeaning.{type_once}
 use Rattle.dns_spec.proofs.ZoneTexts.ReadOctets.{Octet, SmallName, SmallWord, name_small, folded_small, data_small}
 use Rattle.dns_spec.proofs.ZoneTexts.ReadTokens.{SmallEntry, entries_small, words_small}
@@ -37,8 +36,7 @@ by_bool false f g h = g h
 -- a fault or what comes after it
 unless_holds : (Q : EntryMeaning → Type 0) → ((code : FileFault) → Q (faulty code)) → {Fault Others : Type 0} (code : FileFault) (answer : EntryMeaning) → (Others → Q answer)
     → (Fault × (answer ≡ faulty code)) ⊎ ((Fault → ⊥) × Others) → Q answer
-unless_holds Q faults code answer others (inl (fault, e)) = subst Q (sym e) (faults code)
-unless_holds Q faults code answer others (inr (none, h)) = others h
+unless_holds Q h code answer h1 h2 = grind arith
 
 -- What holds of each record by the words of an entry holds of all that a text means. The entries of the text keep what `Kept` says.
 module _ (o : DomainName) (Kept : Entry → Type 0) (P : ResourceRecord → Type 0)
@@ -63,20 +61,10 @@ module _ (o : DomainName) (Kept : Entry → Type 0) (P : ResourceRecord → Type
 
   record_given : (earlier : List Entry) (code : FileFault) (Owner : DomainName → Type 0) (f : Fields) (answer : EntryMeaning) → ((r : ResourceRecord) → IsRecord o earlier Owner f r → P r)
       → RecordGives o earlier code Owner f answer → Given answer
-  record_given earlier code Owner f answer each =
-      unless_given code answer
-      (unless_given bad_ttl answer
-      (unless_given other_class answer
-      (unless_given bad_type answer
-      (unless_given no_ttl answer
-      (unless_given bad_data answer
-      (unless_given too_many_records answer
-      (λ h. subst Given (sym h.2) (each h.0 h.1, tt))))))))
+  record_given earlier code Owner f answer each = search (rules, unless_given)
 
   directive_given : (earlier : List Entry) (name : Octets) (ws : List Word) (answer : EntryMeaning) → DirectiveGives o earlier name ws answer → Given answer
-  directive_given earlier name ws answer =
-      by_bool (octets_equal name (codes "$origin")) (unless_given directive_words answer (none_given answer))
-      (by_bool (octets_equal name (codes "$ttl")) (unless_given directive_words answer (none_given answer)) (fault_given answer unknown_directive))
+  directive_given earlier name ws answer = grind arith
 
   sort_given : (earlier : List Entry) (s : EntryKind) (answer : EntryMeaning) → ((r : ResourceRecord) → IsRecordOf o earlier s r → P r) → KindGives o earlier s answer → Given answer
   sort_given earlier no_words answer each h = none_given answer h
@@ -85,19 +73,14 @@ module _ (o : DomainName) (Kept : Entry → Type 0) (P : ResourceRecord → Type
   sort_given earlier (unowned ws) answer each h = record_given earlier no_owner (OwnerBefore o earlier) (fields ws) answer each h
 
   entry_given : (earlier : List Entry) (e : Entry) (answer : EntryMeaning) → Each Kept earlier → Kept e → EntryGives o earlier e answer → Given answer
-  entry_given earlier e answer keeps kept = by_fault (lexical_fault e)
-    where
-      by_fault : (fault : Option FileFault) → MatchOption fault (KindGives o earlier (kind_of e) answer) (λ code. answer ≡ faulty code) → Given answer
-      by_fault None h = sort_given earlier (kind_of e) answer (holds earlier e keeps kept) h
-      by_fault (Some code) h = fault_given answer code h
+  entry_given earlier e answer keeps kept = grind (arith, sort_given, fault_given)
 
   each_joined : (rs ss : List ResourceRecord) → Each P rs → Each P ss → Each P (rs ++ ss)
   each_joined [] ss h k = k
   each_joined (r ∷ rs) ss h k = (h.0, each_joined rs ss h.1 k)
 
   after_meant : (rs : List ResourceRecord) (later : Meaning) → Each P rs → Meant later → Meant (after rs later)
-  after_meant rs (records more) h k = each_joined rs more h k
-  after_meant rs (fault_at code line) h k = tt
+  after_meant rs later h h1 = grind (arith, each_joined)
 
   entries_meant : (earlier es : List Entry) (m : Meaning) → Each Kept earlier → Each Kept es → EntriesMean o earlier es m → Meant m
   entries_meant earlier [] m keeps kept h = subst Meant (sym h) tt
@@ -115,9 +98,7 @@ each_kept (x ∷ xs) = (tt, each_kept xs)
 
 -- owners are in lower case
 record_low : (o : DomainName) (earlier : List Entry) (Owner : DomainName → Type 0) (f : Fields) (r : ResourceRecord) → IsRecord o earlier Owner f r → LowerOwner r
-record_low o earlier Owner f r is =
-    let (n, _, e) = is.owner in
-    ap folded e ∙ folded_folded n ∙ sym e
+record_low o earlier Owner f r is = grind (arith, folded_folded)
 
 sort_low : (o : DomainName) (earlier : List Entry) (s : EntryKind) (r : ResourceRecord) → IsRecordOf o earlier s r → LowerOwner r
 sort_low o earlier no_words r is = absurd is
@@ -136,13 +117,8 @@ SmallSort (directive name ws) = Each SmallWord ws
 SmallSort (owned w ws) = SmallWord w × Each SmallWord ws
 SmallSort (unowned ws) = Each SmallWord ws
 
-sort_by : (b : Bool) (s s' : EntryKind) → SmallSort s → SmallSort s' → SmallSort (cond b s s')
-sort_by true s s' h k = h
-sort_by false s s' h k = k
-
 words_kind : (blank : Bool) (ws : List Word) → Each SmallWord ws → SmallSort (kind_by_words blank ws)
-words_kind blank [] small = tt
-words_kind blank (w ∷ ws) small = sort_by blank _ _ small (sort_by (is_directive w) _ _ small.1 small)
+words_kind blank ws h = grind arith
 
 sort_small : (e : Entry) → SmallEntry e → SmallSort (kind_of e)
 sort_small e small = words_kind (begins_blank e.tokens) (entry_words e) (words_small e small)
@@ -152,40 +128,26 @@ SmallOption None = Unit {0}
 SmallOption (Some w) = SmallWord w
 
 directive_small : (name : Octets) (s : EntryKind) → SmallSort s → SmallOption (directive_word name s)
-directive_small name no_words small = tt
-directive_small name (directive n []) small = tt
-directive_small name (directive n (w ∷ ws)) small = go (octets_equal n name)
-  where
-    go : (b : Bool) → SmallOption (cond b (Some w) None)
-    go true = small.0
-    go false = tt
-directive_small name (owned w ws) small = tt
-directive_small name (unowned ws) small = tt
+directive_small name s h = grind arith
 
 -- the words after a TTL and a class are words of the record
 abbrev SmallFields : Fields → Type 0
 SmallFields f = Each SmallWord f.others
 
 fields_by : (b : Bool) (f g : Fields) → SmallFields f → SmallFields g → SmallFields (cond b f g)
-fields_by true f g h k = h
-fields_by false f g h k = k
+fields_by b f g h h1 = grind arith
 
 class_small : (ttl : Word) (ws : List Word) → Each SmallWord ws → SmallFields (class_after ttl ws)
-class_small ttl [] small = tt
-class_small ttl (w ∷ ws) small = fields_by (is_class_word w) _ _ small.1 small
+class_small ttl ws h = grind arith
 
 ttl_small : (class : Word) (ws : List Word) → Each SmallWord ws → SmallFields (ttl_after class ws)
-ttl_small class [] small = tt
-ttl_small class (w ∷ ws) small = fields_by (is_ttl_word w) _ _ small.1 small
+ttl_small class ws h = grind arith
 
 fields_small : (ws : List Word) → Each SmallWord ws → Each SmallWord (fields ws).others
-fields_small [] small = tt
-fields_small (w ∷ ws) small =
-    fields_by (is_ttl_word w) _ _ (class_small w ws small.1) (fields_by (is_class_word w) _ _ (ttl_small w ws small.1) small)
+fields_small ws h = grind (arith, fields_by, class_small, ttl_small)
 
 drop_small : (ws : List Word) → Each SmallWord ws → Each SmallWord (drop 1 ws)
-drop_small [] small = tt
-drop_small (w ∷ ws) small = small.1
+drop_small ws h = grind arith
 
 -- names, relative to an origin of such octets
 module _ (o : DomainName) (from : SmallName o) where
@@ -204,13 +166,8 @@ module _ (o : DomainName) (from : SmallName o) where
 
   owner_small : (earlier : List Entry) (n : DomainName) → Each SmallEntry earlier → OwnerBefore o earlier n → SmallName n
   owner_small [] n small h = absurd h
-  owner_small (e ∷ earlier) n small h = go (kind_of e) (sort_small e small.0) h (owner_small earlier n small.1)
-    where
-      go : (s : EntryKind) → SmallSort s → MatchOption (owner_word s) (OwnerBefore o earlier n) (λ w. NameIs o earlier w n) → (OwnerBefore o earlier n → SmallName n) → SmallName n
-      go no_words words is before = before is
-      go (directive name ws) words is before = before is
-      go (owned w ws) words is before = name_is_small earlier w n small.1 words.0 is
-      go (unowned ws) words is before = before is
+  owner_small (e ∷ earlier) n small h =
+      grind (arith, sort_small, SmallName, name_is_small, (owner_small earlier n small.1))
 
   rdata_small : (earlier : List Entry) (ws : List Word) (d : Octets) → Each SmallEntry earlier → Each SmallWord ws → DataIs o earlier ws d → Each Octet d
   rdata_small earlier ws d small words (t, type, (m, is, said)) =
@@ -219,47 +176,25 @@ module _ (o : DomainName) (from : SmallName o) where
 -- owners are names
 owner_is_name : (o : DomainName) (earlier : List Entry) (n : DomainName) → OwnerBefore o earlier n → is_name n ≡ true
 owner_is_name o [] n h = absurd h
-owner_is_name o (e ∷ earlier) n h = go (owner_word (kind_of e)) h (owner_is_name o earlier n)
-  where
-    go : (w : Option Word) → MatchOption w (OwnerBefore o earlier n) (λ w. NameIs o earlier w n) → (OwnerBefore o earlier n → is_name n ≡ true) → is_name n ≡ true
-    go None h before = before h
-    go (Some w) (unquoted, (m, is, spelled)) before = spelled.is_name
+owner_is_name o (e ∷ earlier) n h = grind (arith, (owner_is_name o earlier n))
 
 -- a type that is named is one that zones have, of 16 bits
 type_known : (ws : List Word) (t : ℕ) → TypeIs ws t → (t < 65536) × IsTrue (is_zone_type t)
-type_known [] t h = absurd h
-type_known (w ∷ ws) t (unquoted, named, known) = (named_type-small w.raw t named, known)
+type_known ws t h = grind arith
 
 -- the data is said of the record's own type
 said_of_type : (o : DomainName) (earlier : List Entry) (ws : List Word) (t : ℕ) (d : Octets) → TypeIs ws t → DataIs o earlier ws d → (valid t d ≡ true) × (lower_case t d ≡ d)
 said_of_type o earlier ws t d type (u, type', (m, is, said)) =
-    let one : u ≡ t = type_once ws u t type' type in
-    let lowered : valid u d ≡ true = subst (λ x. valid u x ≡ true) said.lower (lowered_data u said.as_spelled said.is_valid).0 in
-    let twice : lower_case u d ≡ d =
-    subst (λ x. lower_case u x ≡ x) said.lower (lowered-twice u said.as_spelled said.is_valid)
-    in
-    (subst (λ x. valid x d ≡ true) one lowered, subst (λ x. lower_case x d ≡ d) one twice)
+    grind (arith, type_once, lowered_data, lowered-twice)
 
 ttl_fits : (earlier : List Entry) (stated : Option Word) (n : ℕ) → TtlIs earlier stated n → n ≤ most_ttl
-ttl_fits earlier stated n h = go (ttl_in_force earlier stated) h
-  where
-    go : (w : Option Word) → MatchOption w ⊥ (λ w. TtlSays w n) → n ≤ most_ttl
-    go None none = absurd none
-    go (Some w) (unquoted, spelled, fits) = fits
+ttl_fits earlier stated n h = grind arith
 
 all_octets : (n : DomainName) → SmallName n → All (All Octet) n
-all_octets n small = all_each (All Octet) n (each_label n small)
-  where
-    each_label : (m : DomainName) → SmallName m → Each (All Octet) m
-    each_label [] s = tt
-    each_label (l ∷ m) s = (all_each Octet l s.0, each_label m s.1)
+all_octets n small = grind (arith, all_each, Octet, SmallName, Each)
 
 small_name : (n : DomainName) → All (All Octet) n → SmallName n
-small_name n all = go n (each_all (All Octet) n all)
-  where
-    go : (m : DomainName) → Each (All Octet) m → SmallName m
-    go [] e = tt
-    go (l ∷ m) e = (each_all Octet l e.0, go m e.1)
+small_name n all = grind (arith, each_all, Octet, Each, SmallName)
 
 pub folded_octets : (n : DomainName) → All (All Octet) n → All (All Octet) (folded n)
 folded_octets n all = all_octets (folded n) (folded_small n (small_name n all))
@@ -320,70 +255,42 @@ none_fits : (count : ℕ) (answer : EntryMeaning) → count ≤ most_records →
 none_fits count answer few e = subst (Fits false count) (sym e) (refl, omega (arith, few))
 
 room_left : (count : ℕ) → (nat_le most_records count ≡ true → ⊥) → 1 + count ≤ most_records
-room_left count none = go (cases_lt count most_records)
-  where
-    go : (count < most_records) ⊎ (most_records ≤ count) → 1 + count ≤ most_records
-    go (inl below) = omega (arith, below)
-    go (inr full) = absurd (none (le-leb most_records count full))
+room_left count none = grind (arith, cases_lt, inl, inr, le-leb)
 
 last_fits : (o : DomainName) (earlier : List Entry) (Owner : DomainName → Type 0) (f : Fields) (answer : EntryMeaning)
     → (IsTrue (are_too_many earlier) × (answer ≡ faulty too_many_records)) ⊎ ((IsTrue (are_too_many earlier) → ⊥) × ((r : ResourceRecord) × IsRecord o earlier Owner f r × (answer ≡ gives (r ∷ []))))
     → Fits true (counted earlier) answer
-last_fits o earlier Owner f answer (inl (many, e)) = subst (Fits true (counted earlier)) (sym e) tt
-last_fits o earlier Owner f answer (inr (none, (r, is, e))) = subst (Fits true (counted earlier)) (sym e) (refl, room_left (counted earlier) none)
+last_fits o earlier Owner f answer h = grind (arith, room_left)
 
 record_fits : (o : DomainName) (earlier : List Entry) (code : FileFault) (Owner : DomainName → Type 0) (f : Fields) (answer : EntryMeaning)
     → RecordGives o earlier code Owner f answer → Fits true (counted earlier) answer
-record_fits o earlier code Owner f answer =
-    unless_fits true (counted earlier) code answer
-    (unless_fits true (counted earlier) bad_ttl answer
-    (unless_fits true (counted earlier) other_class answer
-    (unless_fits true (counted earlier) bad_type answer
-    (unless_fits true (counted earlier) no_ttl answer
-    (unless_fits true (counted earlier) bad_data answer (last_fits o earlier Owner f answer))))))
+record_fits o earlier code Owner f answer = search (rules, unless_fits, last_fits)
 
 directive_fits : (o : DomainName) (earlier : List Entry) (name : Octets) (ws : List Word) (answer : EntryMeaning) → counted earlier ≤ most_records
     → DirectiveGives o earlier name ws answer → Fits false (counted earlier) answer
-directive_fits o earlier name ws answer few =
-    let none = none_fits (counted earlier) answer few in
-    by_bool (octets_equal name (codes "$origin")) (unless_fits false (counted earlier) directive_words answer none)
-    (by_bool (octets_equal name (codes "$ttl")) (unless_fits false (counted earlier) directive_words answer none) (λ e. subst (Fits false (counted earlier)) (sym e) tt))
+directive_fits o earlier name ws answer few = grind (arith, none_fits, by_bool, unless_fits)
 
 sort_fits : (o : DomainName) (earlier : List Entry) (s : EntryKind) (answer : EntryMeaning) → counted earlier ≤ most_records → KindGives o earlier s answer
     → Fits (states_record s) (counted earlier) answer
-sort_fits o earlier no_words answer few h = none_fits (counted earlier) answer few h
-sort_fits o earlier (directive name ws) answer few h = directive_fits o earlier name ws answer few h
-sort_fits o earlier (owned w ws) answer few h = record_fits o earlier bad_owner (NameIs o earlier w) (fields ws) answer h
-sort_fits o earlier (unowned ws) answer few h = record_fits o earlier no_owner (OwnerBefore o earlier) (fields ws) answer h
+sort_fits o earlier s answer h h1 = search (rules, none_fits, directive_fits, record_fits)
 
 entry_fits : (o : DomainName) (earlier : List Entry) (e : Entry) (answer : EntryMeaning) → counted earlier ≤ most_records → EntryGives o earlier e answer
     → Fits (is_record e) (counted earlier) answer
-entry_fits o earlier e answer few = go (lexical_fault e)
-  where
-    go : (fault : Option FileFault) → MatchOption fault (KindGives o earlier (kind_of e) answer) (λ code. answer ≡ faulty code) → Fits (is_record e) (counted earlier) answer
-    go None h = sort_fits o earlier (kind_of e) answer few h
-    go (Some code) h = subst (Fits (is_record e) (counted earlier)) (sym h) tt
-
-counted_more : (b : Bool) (e : Entry) (es : List Entry) → length (cond b (e ∷ es) es) ≡ cond b 1 0 + length es
-counted_more true e es = omega arith
-counted_more false e es = omega arith
+entry_fits o earlier e answer few = grind (arith, sort_fits)
 
 abbrev Few : ℕ → Meaning → Type 0
 Few count (records rs) = length rs + count ≤ most_records
 Few count (fault_at code line) = ⊤
 
 after_few : (rs : List ResourceRecord) (later : Meaning) (count more : ℕ) → more ≡ length rs + count → Few more later → Few count (after rs later)
-after_few rs (records others) count more e few = omega (arith, e, few, length-append rs others)
-after_few rs (fault_at code line) count more e few = tt
+after_few rs later count more h h1 = grind (arith, length-append)
 
 entries_few : (o : DomainName) (earlier es : List Entry) (m : Meaning) → counted earlier ≤ most_records → EntriesMean o earlier es m → Few (counted earlier) m
 entries_few o earlier [] m few h = let all : 0 + counted earlier ≤ most_records = omega (arith, few) in subst (Few (counted earlier)) (sym h) all
 entries_few o earlier (e ∷ es) m few (faulty code, given, h) = subst (Few (counted earlier)) (sym h) tt
 entries_few o earlier (e ∷ es) m few (gives rs, given, (later, h, is)) =
     let fits = entry_fits o earlier e (gives rs) few given in
-    let more : counted (e ∷ earlier) ≡ length rs + counted earlier =
-    counted_more (is_record e) e (filter is_record earlier) ∙ ap (λ n. n + counted earlier) (sym fits.0)
-    in
+    let more : counted (e ∷ earlier) ≡ length rs + counted earlier = grind arith in
     subst (Few (counted earlier)) (sym is)
     (after_few rs later (counted earlier) (counted (e ∷ earlier)) more (entries_few o (e ∷ earlier) es later (omega (arith, more, fits.1)) h))
 

@@ -1,14 +1,14 @@
 -- A word that is written, and something after it that ends it, begin with that word as a token.
-use Rattle.std.proofs.Common.{◌≡◌, ℕ, suc, inl, inr, Bool, true, false, ◌&&◌, ◌||◌, ◌==◌, Some, None, [], ◌∷◌, ◌++◌, length, take, drop, nat_lt, refl, sym, ◌∙◌, ap, arith, append_assoc}
+use Rattle.std.proofs.lemmas.Grind.{common_steps}
+use Rattle.std.proofs.Common.{◌≡◌, ℕ, suc, inl, inr, Bool, true, false, ◌||◌, ◌==◌, Some, None, [], ◌∷◌, ◌++◌, length, take, drop, nat_lt, refl, ◌∙◌, ap, arith, append_assoc}
 use Rattle.std.proofs.Math.Seq.{take-append_seam, drop-append_seam}
 use Rattle.std.proofs.lemmas.Bool.{true≢false, false≢true, cases_Bool, eqb-true, and_parts, false_from_ne_true}
 use Rattle.std.specs.Prelude.{if◌then◌else◌}
 use Rattle.std.specs.List.{prefix_len}
-use Rattle.std.specs.Char.{is_ascii_graphic}
 use Rattle.dns_spec.specs.Names.{Octets}
 use Rattle.dns_spec.specs.DataText.{Word, is_word_octet, is_string_octet}
 use Rattle.dns_spec.specs.WrittenText.{word_text, is_unbroken, stands_alone}
-use Rattle.dns_spec.specs.ZoneText.{Token, blank, word, quoted_string, is_blank, run_length, word_length, string_length, closed, unquoted_front, token_front}
+use Rattle.dns_spec.specs.ZoneText.{Token, blank, word, quoted_string, is_blank, run_length, word_length, unquoted_front, token_front}
 use Rattle.dns_spec.proofs.DataWords.WordRuns.{Runs}
 use Rattle.dns_spec.proofs.DataWords.StandingWords.{TakenWhole}
 
@@ -17,14 +17,10 @@ abbrev begins_word : ℕ → Bool
 begins_word o = o == 92 || is_word_octet o
 
 apart : (o k : ℕ) → begins_word o ≡ true → begins_word k ≡ false → (o == k) ≡ false
-apart o k begins none = elim (cases_Bool (o == k)) [
-  | inl e ↦ absurd (true≢false (sym begins ∙ ap begins_word (eqb-true o k e) ∙ none))
-  | inr other ↦ other
-]
+apart o k begins none = grind (arith, cases_Bool, inl, true≢false, eqb-true, inr)
 
 word_reached : (o : ℕ) (text : Octets) → begins_word o ≡ true → token_front (o ∷ text) ≡ unquoted_front (o ∷ text)
-word_reached o text begins =
-    rw (apart o 32 begins refl, apart o 9 begins refl, apart o 59 begins refl, apart o 34 begins refl, apart o 40 begins refl, apart o 41 begins refl, apart o 10 begins refl, apart o 13 begins refl) refl
+word_reached o text begins = grind arith
 
 not_zero : (k : ℕ) → (suc k == 0) ≡ false
 not_zero k = false_from_ne_true (suc k == 0) (λ h. absurd (omega (arith, eqb-true (suc k) 0 h)))
@@ -37,17 +33,7 @@ abbrev pub word_token : Word → Token
 word_token w = if w.is_quoted then quoted_string w.raw else word w.raw
 
 first_begins : (o : ℕ) (raw : Octets) → is_unbroken is_word_octet (o ∷ raw) ≡ true → begins_word o ≡ true
-first_begins o [] h = go (o == 92) h
-  where
-    go : (slash : Bool) → is_word_octet o ≡ true → (slash || is_word_octet o) ≡ true
-    go true h = refl
-    go false h = h
-first_begins o (d ∷ raw) h = go (o == 92) h
-  where
-    go : (slash : Bool) → elim slash as (λ _. Bool) [ true ↦ is_ascii_graphic d && is_unbroken is_word_octet raw | false ↦ is_word_octet o && is_unbroken is_word_octet (d ∷ raw) ] ≡ true
-        → (slash || is_word_octet o) ≡ true
-    go true h = refl
-    go false h = (and_parts (is_word_octet o) _ h).0
+first_begins o raw h = grind arith
 
 bare_read : (raw : Octets) (c : ℕ) (rest : Octets) → nat_lt 0 (length raw) ≡ true → is_unbroken is_word_octet raw ≡ true → Runs is_word_octet raw
     → word_length (c ∷ rest) ≡ 0 → token_front (raw ++ c ∷ rest) ≡ Some (word raw, c ∷ rest)
@@ -62,39 +48,16 @@ bare_read (o ∷ raw) c rest some unbroken whole ends =
 
 string_read : (raw rest : Octets) → Runs is_string_octet raw → token_front (34 ∷ (raw ++ 34 ∷ rest)) ≡ Some (quoted_string raw, rest)
 unfolding run_length
-string_read raw rest whole =
-    ap (λ k. closed (take k text) (drop k text)) long
-    ∙ ap (λ x. closed x (drop (length raw) text)) (take-append_seam raw (34 ∷ rest))
-    ∙ ap (λ x. closed raw x) (drop-append_seam raw (34 ∷ rest))
-  where
-    text : Octets
-    text = raw ++ 34 ∷ rest
-
-    long : string_length text ≡ length raw
-    long = whole (34 ∷ rest) ∙ omega arith
+string_read raw rest whole = grind (arith, common_steps, take-append_seam, drop-append_seam)
 
 -- the octet c ends a word
 pub word_read : (w : Word) (c : ℕ) (rest : Octets) → stands_alone w ≡ true → TakenWhole w → word_length (c ∷ rest) ≡ 0
     → token_front (word_text w ++ c ∷ rest) ≡ Some (word_token w, c ∷ rest)
-word_read w c rest alone whole ends = read w.raw w.is_quoted alone whole
-  where
-    read : (raw : Octets) (q : Bool) → stands_alone (record { raw = raw; is_quoted = q }) ≡ true → TakenWhole (record { raw = raw; is_quoted = q })
-        → token_front (word_text (record { raw = raw; is_quoted = q }) ++ c ∷ rest) ≡ Some (word_token (record { raw = raw; is_quoted = q }), c ∷ rest)
-    read raw true alone whole = ap (λ x. token_front (34 ∷ x)) (append_assoc raw (34 ∷ []) (c ∷ rest)) ∙ string_read raw (c ∷ rest) whole
-    read raw false alone whole = let p = and_parts (nat_lt 0 (length raw)) _ alone in bare_read raw c rest p.0 p.1 whole ends
+word_read w c rest alone whole ends = grind (arith, append_assoc, string_read, and_parts, bare_read)
 
 -- a word begins with no blank
 pub no_blank : (w : Word) (rest : Octets) → stands_alone w ≡ true → prefix_len is_blank (word_text w ++ rest) ≡ 0
-no_blank w rest alone = begin w.raw w.is_quoted alone
-  where
-    begin : (raw : Octets) (q : Bool) → stands_alone (record { raw = raw; is_quoted = q }) ≡ true
-        → prefix_len is_blank (word_text (record { raw = raw; is_quoted = q }) ++ rest) ≡ 0
-    begin raw true alone = refl
-    begin [] false alone = absurd (false≢true alone)
-    begin (o ∷ raw) false alone =
-        let unbroken = (and_parts (nat_lt 0 (length (o ∷ raw))) (is_unbroken is_word_octet (o ∷ raw)) alone).1 in
-        let begins = (first_begins o raw unbroken) in
-        rw (apart o 32 begins refl, apart o 9 begins refl) refl
+no_blank w rest alone = grind (arith, false≢true, and_parts, first_begins, apart)
 
 -- a space, and something after it that is none
 pub blank_read : (text : Octets) → prefix_len is_blank text ≡ 0 → token_front (32 ∷ text) ≡ Some (blank, text)

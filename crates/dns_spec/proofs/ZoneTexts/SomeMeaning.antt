@@ -1,7 +1,8 @@
 -- No text is without a meaning.
 --
 -- What is shown of a question is that it can't be without an answer; so which answer it has need not be found.
-use Rattle.std.proofs.Common.{◌≡◌, ℕ, ◌⊎◌, inl, inr, Bool, true, false, List, [], ◌∷◌, Option, Some, None, refl, sym, ◌∙◌, ap, subst, codes, IsTrue, take}
+use Rattle.std.proofs.Common.{arith, rules}
+use Rattle.std.proofs.Common.{◌≡◌, ℕ, ◌⊎◌, inl, inr, Bool, true, false, List, [], ◌∷◌, Option, Some, None, refl, ap, codes, IsTrue, take}
 use Rattle.std.specs.Prelude.{MatchOption, if◌then◌else◌}
 use Rattle.std.specs.Bool.{MatchBool}
 use Rattle.std.specs.Option.{is_none, option_or}
@@ -10,7 +11,7 @@ use Rattle.std.proofs.lemmas.Option.{none-some, same_Some}
 use Rattle.dns_spec.specs.Names.{Octets, DomainName, folded, octets_equal}
 use Rattle.dns_spec.specs.DataText.{Word}
 use Rattle.dns_spec.specs.Records.{ResourceRecord}
-use Rattle.dns_spec.specs.FileFaults.{FileFault, unknown_directive, directive_words, bad_owner, no_owner, bad_ttl}
+use Rattle.dns_spec.specs.FileFaults.{FileFault, unknown_directive, directive_words, bad_owner, no_owner}
 use Rattle.dns_spec.specs.ZoneText.{most_octets, Extent, extent_of, Entry, with_end, cut_entries, lexical_fault}
 use Rattle.dns_spec.specs.Meaning.{EntryMeaning, faulty, gives, Nothing, Lowest, EntryKind, no_words, directive, owned, unowned, kind_of, nearest, directive_word, ttl_word, NameIs, OwnerBefore, TtlSays, ttl_in_force, IsRecord, Fields, fields, IsNoTtl, record_faults, RecordGives, OneWord, DirectiveSays, DirectiveGives, KindGives, EntryGives, Meaning, records, fault_at, after, line_after, EntriesMean, Means}
 use Rattle.dns_spec.specs.Laws.{OctetsMean}
@@ -63,12 +64,10 @@ abbrev EachSays : Option Word → Type 0
 EachSays stated = (w : Word) → stated ≡ Some w → SaysTtl w
 
 either_says : (x y : Option Word) → EachSays x → EachSays y → EachSays (option_or x y)
-either_says None y first second w e = second w e
-either_says (Some v) y first second w e = first w e
+either_says x y h h1 = grind arith
 
 stated_says : (stated : Option Word) → (IsNoTtl stated → ⊥) → EachSays stated
-stated_says None stated w e = absurd (none-some w e)
-stated_says (Some v) stated w e = subst SaysTtl (same_Some v w e) (some_there stated)
+stated_says stated h = grind arith
 
 -- the words of a TTL that entries without fault hand on
 record Known (earlier : List Entry) : Type 0 where
@@ -85,39 +84,31 @@ faultless rs fault e = false≢true (ap is_faulty e)
 
 module _ (o : DomainName) (earlier : List Entry) where
   one_says : (v : Word) (ws : List Word) (n : ℕ) → OneWord (λ w. TtlSays w n) (v ∷ ws) → TtlSays v n
-  one_says v [] n h = h
-  one_says v (u ∷ ws) n h = absurd h
+  one_says v ws n h = grind arith
 
   directive_says : (rs : List ResourceRecord) (name : Octets) (v : Word) (ws : List Word) → DirectiveGives o earlier name (v ∷ ws) (gives rs)
       → EachSays (if octets_equal name (codes "$ttl") then Some v else None)
-  directive_says rs name v ws h w = go (octets_equal name (codes "$origin")) (octets_equal name (codes "$ttl")) refl refl h
-    where
-      go : (a b : Bool) → octets_equal name (codes "$origin") ≡ a → octets_equal name (codes "$ttl") ≡ b
-          → MatchBool a (DirectiveSays (λ n w. NameIs o earlier w n) (v ∷ ws) (gives rs))
-          (MatchBool b (DirectiveSays (λ n w. TtlSays w n) (v ∷ ws) (gives rs)) (gives rs ≡ faulty unknown_directive))
-          → (if b then Some v else None) ≡ Some w → SaysTtl w
-      go a false one two h e = absurd (none-some w e)
-      go true true one two h e =
-          let origin = (octets_equal-decides name (codes "$origin")).0 one in
-          let ttl = (octets_equal-decides name (codes "$ttl")).0 two in
-          absurd (false≢true ((octets_equal-decides (codes "$origin") (codes "$ttl")).1 (sym origin ∙ ttl)))
-      go false true one two (inl (none, is)) e = absurd (faultless rs directive_words is)
-      go false true one two (inr (some, is)) e =
-          subst SaysTtl (same_Some v w e) (and_so (some_there some) (λ found. sure (found.0, one_says v ws found.0 found.1)))
+  directive_says rs name v ws h w =
+      grind (
+        arith,
+        none-some,
+        octets_equal-decides,
+        false≢true,
+        faultless,
+        same_Some,
+        and_so,
+        some_there,
+        sure,
+        one_says,
+      )
 
   -- what an entry without fault says of TTLs
   default_says : (rs : List ResourceRecord) (s : EntryKind) → KindGives o earlier s (gives rs) → EachSays (directive_word (codes "$ttl") s)
-  default_says rs no_words h w e = absurd (none-some w e)
-  default_says rs (directive name []) h w e = absurd (none-some w e)
-  default_says rs (directive name (v ∷ ws)) h w e = directive_says rs name v ws h w e
-  default_says rs (owned v ws) h w e = absurd (none-some w e)
-  default_says rs (unowned ws) h w e = absurd (none-some w e)
+  default_says rs s h = search (rules, none-some, directive_says)
 
   record_says : (rs : List ResourceRecord) (owner_fault : FileFault) (Owner : DomainName → Type 0) (f : Fields)
       → RecordGives o earlier owner_fault Owner f (gives rs) → EachSays f.ttl
-  record_says rs owner_fault Owner f (inl (none, is)) = absurd (faultless rs owner_fault is)
-  record_says rs owner_fault Owner f (inr (some, inl (none, is))) = absurd (faultless rs bad_ttl is)
-  record_says rs owner_fault Owner f (inr (some, inr (stated, more))) = stated_says f.ttl stated
+  record_says rs owner_fault Owner f h = grind arith
 
   record_ttl_says : (rs : List ResourceRecord) (s : EntryKind) → KindGives o earlier s (gives rs) → EachSays (ttl_word s)
   record_ttl_says rs no_words h w e = absurd (none-some w e)
@@ -126,23 +117,14 @@ module _ (o : DomainName) (earlier : List Entry) where
   record_ttl_says rs (unowned ws) h w e = record_says rs no_owner (OwnerBefore o earlier) (fields ws) h w e
 
   known_more : (rs : List ResourceRecord) (e : Entry) → Known earlier → KindGives o earlier (kind_of e) (gives rs) → Known (e ∷ earlier)
-  known_more rs e known h = record {
-    default = either_says (directive_word (codes "$ttl") (kind_of e)) (nearest (directive_word (codes "$ttl")) earlier) (default_says rs (kind_of e) h) known.default;
-    stated = either_says (ttl_word (kind_of e)) (nearest ttl_word earlier) (record_ttl_says rs (kind_of e) h) known.stated;
-  }
+  known_more rs e known h = search (rules, either_says, default_says, record_ttl_says)
 
   sort_given : (rs : List ResourceRecord) (e : Entry) → EntryGives o earlier e (gives rs) → KindGives o earlier (kind_of e) (gives rs)
-  sort_given rs e = go (lexical_fault e)
-    where
-      go : (fault : Option FileFault) → MatchOption fault (KindGives o earlier (kind_of e) (gives rs)) (λ f. gives rs ≡ faulty f)
-          → KindGives o earlier (kind_of e) (gives rs)
-      go None h = h
-      go (Some f) h = absurd (faultless rs f h)
+  sort_given rs e = grind (arith, faultless)
 
   -- a record has a TTL, since one is known
   ttl_sure : (stated : Option Word) → EachSays stated → (IsTrue (is_none stated) → ⊥) → Sure ((n : ℕ) × MatchOption stated ⊥ (λ w. TtlSays w n))
-  ttl_sure None says some = absurd (some refl)
-  ttl_sure (Some w) says some = says w refl
+  ttl_sure stated h h1 = grind arith
 
   record_sure : (owner_fault : FileFault) (Owner : DomainName → Type 0) (f : Fields) → Known earlier
       → Sure ((given : EntryMeaning) × RecordGives o earlier owner_fault Owner f given)

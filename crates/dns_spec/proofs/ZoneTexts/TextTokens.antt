@@ -1,11 +1,10 @@
 -- Every text is made of tokens, up to a place where none begins.
-use Rattle.std.proofs.Common.{◌≡◌, ℕ, zero, suc, ◌-◌, ◌<◌, Bool, true, false, not, List, [], ◌∷◌, length, drop, take, refl, sym, subst, arith, Option, Some, None, ◌==◌}
+use Rattle.std.proofs.Common.{◌≡◌, ℕ, zero, suc, ◌-◌, ◌<◌, Bool, false, List, [], ◌∷◌, length, drop, take, refl, sym, subst, arith, Option, Some, None, ◌==◌}
 use Rattle.std.specs.Prelude.{⊤, if◌then◌else◌, MatchOption}
 use Rattle.std.proofs.lemmas.List.{length-drop}
 use Rattle.std.proofs.lemmas.Bool.{eqb-true, false_from_ne_true}
-use Rattle.std.specs.List.{prefix_len}
 use Rattle.dns_spec.specs.Names.{Octets}
-use Rattle.dns_spec.specs.ZoneText.{Token, blank, comment, word, quoted_string, opening, closing, line_end, is_blank, string_length, word_length, closed, quoted_front, line_feed_front, token_front, TokensThen}
+use Rattle.dns_spec.specs.ZoneText.{Token, word, closed, line_feed_front, token_front, TokensThen}
 
 -- what comes after the token is shorter than so many octets
 Shorter : ℕ → Option (Token × Octets) → Type 0
@@ -13,21 +12,18 @@ Shorter n front = MatchOption front ⊤ (λ r. length r.1 < n)
 
 either : (b : Bool) (n : ℕ) (x y : Option (Token × Octets)) → Shorter n x → Shorter n y → Shorter n (if b then x else y)
 unfolding Shorter
-either true n x y hx hy = hx
-either false n x y hx hy = hy
+either b n x y h h1 = grind arith
 
 dropped : (k n : ℕ) (text : Octets) → length text < n → length (drop k text) < n
 dropped k n text h = let e : length (drop k text) ≡ length text - k = length-drop k text in omega (arith, e, h)
 
 closed-shorter : (n : ℕ) (raw text : Octets) → length text < n → Shorter n (closed raw text)
 unfolding Shorter
-closed-shorter n raw [] h = tt
-closed-shorter n raw (o ∷ text) h = either (o == 34) n (Some (quoted_string raw, text)) None (omega (arith, h)) tt
+closed-shorter n raw text h = grind arith
 
 line_feed-shorter : (n : ℕ) (text : Octets) → length text < n → Shorter n (line_feed_front text)
 unfolding Shorter
-line_feed-shorter n [] h = tt
-line_feed-shorter n (o ∷ text) h = either (o == 10) n (Some (line_end, text)) None (omega (arith, h)) tt
+line_feed-shorter n text h = grind arith
 
 not_zero : (k : ℕ) → (suc k == 0) ≡ false
 not_zero k = false_from_ne_true (suc k == 0) (λ h. absurd (omega (arith, eqb-true (suc k) 0 h)))
@@ -35,23 +31,11 @@ not_zero k = false_from_ne_true (suc k == 0) (λ h. absurd (omega (arith, eqb-tr
 word-shorter : (k : ℕ) (o : ℕ) (text : Octets)
     → Shorter (length (o ∷ text)) (if k == 0 then None else Some (word (take k (o ∷ text)), drop k (o ∷ text)))
 unfolding Shorter
-word-shorter zero o text = tt
-word-shorter (suc k) o text = rw (not_zero k) (dropped k (length (o ∷ text)) text (omega arith))
+word-shorter k o text = grind (arith, not_zero, dropped)
 
 shorter : (text : Octets) → Shorter (length text) (token_front text)
 unfolding Shorter
-shorter [] = tt
-shorter (o ∷ text) =
-    let n = length (o ∷ text) in
-    let less : length text < n = omega arith in
-    either (is_blank o) n (Some (blank, drop (prefix_len is_blank text) text)) _ (dropped (prefix_len is_blank text) n text less)
-    (either (o == 59) n (Some (comment, drop (prefix_len (λ x. not (x == 10)) text) text)) _ (dropped (prefix_len (λ x. not (x == 10)) text) n text less)
-    (either (o == 34) n (quoted_front text) _ (closed-shorter n (take (string_length text) text) (drop (string_length text) text) (dropped (string_length text) n text less))
-    (either (o == 40) n (Some (opening, text)) _ less
-    (either (o == 41) n (Some (closing, text)) _ less
-    (either (o == 10) n (Some (line_end, text)) _ less
-    (either (o == 13) n (line_feed_front text) _ (line_feed-shorter n text less)
-    (word-shorter (word_length (o ∷ text)) o text)))))))
+shorter text = grind (arith, either, dropped, closed-shorter, line_feed-shorter, word-shorter)
 
 -- a token has an octet or more
 pub front-shorter : (text : Octets) (p : Token) (others : Octets) → token_front text ≡ Some (p, others) → length others < length text
