@@ -21,13 +21,16 @@ pub(crate) fn target(entry: &Entry) -> Option<NameRef<'_>>
 }
 
 /// The target that was looked for last, with its key, and where it was found. The glue of a cut
-/// mostly stands right after it, so the place of the name after the one that is judged is kept too.
+/// mostly stands right after it, and one server after another, so the place after the name that is
+/// judged, or after the last target, is kept too.
 #[derive(Drop)]
 pub(crate) struct LastTarget<'a> {
     name: Name,
     key: Key,
     place: Option<usize>,
     next: usize,
+    // How many names were passed.
+    passed: usize,
     // What a search for it among the names that are checked has to know of them.
     shared: &'a [[u8; 2]],
 }
@@ -54,6 +57,7 @@ impl<'a> LastTarget<'a> {
             key: Key::new(),
             place: None,
             next: 0,
+            passed: 0,
             shared,
         }
     }
@@ -81,7 +85,8 @@ impl<'a> LastTarget<'a> {
     pub(crate) fn pass_name(&mut self)
         ensures { self.new ≡ self.old }
     {
-        self.next = self.next.saturating_add(1);
+        self.passed = self.passed.saturating_add(1);
+        self.next = self.passed;
     }
 
     /// Where it was found, or probably is, among the names that are checked.
@@ -98,5 +103,6 @@ impl<'a> LastTarget<'a> {
         ensures { self.new ≡ self.old }
     {
         self.place = Some(place);
+        self.next = place.saturating_add(1);
     }
 }
