@@ -20,10 +20,10 @@ use Rattle.dns_zone.specs.ZoneForm.{IsBuilt}
 use Rattle.dns_zone.proofs.NameOrder.{same-from}
 use Rattle.dns_zone.proofs.NameTree.{itself-under}
 
-pub any_more : {X : Type 0} (p q : X → Bool) (xs : List X) → ((x : X) → p x ≡ true → q x ≡ true)
+pub any_weaker : {X : Type 0} (p q : X → Bool) (xs : List X) → ((x : X) → p x ≡ true → q x ≡ true)
     → list_any p xs ≡ true → list_any q xs ≡ true
-any_more p q [] f e = absurd (false≢true e)
-any_more p q (x ∷ xs) f e = go (p x) refl e (any_more p q xs f)
+any_weaker p q [] f e = absurd (false≢true e)
+any_weaker p q (x ∷ xs) f e = go (p x) refl e (any_weaker p q xs f)
   where
     go : (t : Bool) → p x ≡ t → (t || list_any p xs) ≡ true
         → (list_any p xs ≡ true → list_any q xs ≡ true) → (q x || list_any q xs) ≡ true
@@ -64,7 +64,7 @@ origin-node z kept = record {
   built = kept;
   lower = kept.low;
   stands =
-      any_more (λ (r : ResourceRecord). same r.owner z.origin && r.rtype == type_soa)
+      any_weaker (λ (r : ResourceRecord). same r.owner z.origin && r.rtype == type_soa)
       (λ (r : ResourceRecord). at_or_below r.owner z.origin) z.records
       (λ r h. itself-under r.owner z.origin
       (and_parts (same r.owner z.origin) (r.rtype == type_soa) h).0) (origin-soa z kept);

@@ -4,6 +4,7 @@ use Rattle.std.proofs.lemmas.Bool.{false≢true}
 use Rattle.std.proofs.lemmas.Cmp.{tied_itself}
 use Rattle.std.specs.Cmp.Lexicographic.{slice_cmp}
 use Rattle.dns_spec.specs.Names.{DomainName, folded, same, label_order, name_order}
+pub use Rattle.dns_spec.proofs.ZoneChecks.FaultOrder.{folded_folded as lower_twice}
 use Rattle.dns_spec.proofs.ZoneChecks.FaultOrder.{name_order_total}
 use Rattle.dns_spec.proofs.DomainNames.NameLaws.{names_equal-decides}
 

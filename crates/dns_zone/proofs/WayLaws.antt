@@ -19,7 +19,8 @@ use Rattle.dns_spec.proofs.DomainNames.NameLaws.{at_or_below-cons, same-length}
 use Rattle.dns_zone.proofs.NameOrder.{same-from}
 use Rattle.dns_zone.proofs.NameTree.{under-trans, itself-under}
 use Rattle.dns_zone.proofs.OwnRecords.{own-owns}
-use Rattle.dns_zone.proofs.Existing.{exists-lower, any_more}
+use Rattle.dns_zone.proofs.Existing.{exists-lower}
+pub use Rattle.dns_zone.proofs.Existing.{any_weaker}
 
 -- names above and below
 pub above_under : (l : Octets) (n a : DomainName) (k : ℕ) → at_or_below (l ∷ n) a ≡ true → length (l ∷ n) ≡ length a + suc k → at_or_below n a ≡ true
@@ -87,7 +88,7 @@ itself n = itself-under n n (same-from n n refl)
 
 pub exists-up : (z : ZoneContents) (l : Octets) (n : DomainName) → exists z n ≡ false → exists z (l ∷ n) ≡ false
 exists-up z l n e = false_from_ne_true (exists z (l ∷ n)) (λ h.
-    false≢true (sym e ∙ any_more (λ (r : ResourceRecord). at_or_below r.owner (l ∷ n)) (λ (r : ResourceRecord). at_or_below r.owner n) z.records
+    false≢true (sym e ∙ any_weaker (λ (r : ResourceRecord). at_or_below r.owner (l ∷ n)) (λ (r : ResourceRecord). at_or_below r.owner n) z.records
     (λ r under. under-trans r.owner (l ∷ n) n under (cons_under l n)) h))
 
 -- the closest encloser
