@@ -56,7 +56,7 @@ impl Name {
     }
 
     /// Makes it the same name as another, with the same octets. It takes no memory.
-    pub fn copy_from(&mut self, other: &Name)
+    pub fn copy_from(&mut self, other: &NameRef<'_>)
         ensures value { self.new ≡ other.now }
         ensures is_name { IsTrue (is_name self.new) }
     {

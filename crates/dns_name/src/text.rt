@@ -72,7 +72,7 @@ impl Name {
             return Err(NameFault::EmptyLabel);
         }
         if word == b"@".as_slice() {
-            self.copy_from(origin);
+            self.copy_from(&origin.lent());
             return Ok(());
         }
         self.clear();

@@ -1,7 +1,8 @@
 -- What walks over records that stand by their types report of the RRsets of an owner.
 use Rattle.std.proofs.Common.{◌≡◌, ℕ, zero, suc, ◌+◌, ◌<◌, ◌≤◌, Bool, true, false, ◌&&◌, ◌||◌, not, cond, nat_lt, eqb, ◌==◌, ◌⊎◌, inl, inr, List, [], ◌∷◌, map, length, drop, refl, sym, ap, ap₂, ◌∙◌, arith, filter}
 use Rattle.dns_zone.proofs.Spans.{filter_again}
-use Rattle.std.proofs.lemmas.Bool.{ltb-false, eqb-true, ne_eqb, eqb-false, eq-eqb, cases_lt, lt-ltb, le-ltb, or_right, or_parts, true≢false}
+use Rattle.std.proofs.Math.ListN.{drop_of_length-le}
+use Rattle.std.proofs.lemmas.Bool.{cases_Bool, ltb-false, eqb-true, ne_eqb, eqb-false, eq-eqb, cases_lt, lt-ltb, le-ltb, or_right, or_parts, true≢false}
 use Rattle.std.specs.List.{list_any}
 use Rattle.dns_spec.specs.Records.{ResourceRecord, distinct}
 use Rattle.dns_spec.proofs.Records.SortedOnce.{Each, each_weaker, each_distinct}
@@ -215,3 +216,18 @@ types-walk (r ∷ s ∷ rs) h = go (eqb s.rtype r.rtype) refl (types-walk (s ∷
         (each_distinct (λ t. r.rtype < t) ◌==◌ (map (λ (q : ResourceRecord). q.rtype) (s ∷ rs)) others))
         in
         omega (arith, ap length kept)
+
+-- no more RRsets than records
+pub sets_upto : (rs : List ResourceRecord) → sets_ended rs ≤ length rs
+sets_upto [] = omega arith
+sets_upto (r ∷ rs) = elim (cases_Bool (begins_with_type r.rtype rs)) [
+  | inl more ↦ rw more (omega (arith, sets_upto rs))
+  | inr last ↦ rw last (omega (arith, sets_upto rs))
+]
+
+-- no record stands so many after another
+pub few_repeated : (k : ℕ) (rs : List ResourceRecord) → length rs ≤ k + 1 → repeats_after k rs ≡ false
+few_repeated k [] few = refl
+few_repeated k (r ∷ rs) few =
+    rw (drop_of_length-le rs {i = k} (omega (arith, few)))
+    (few_repeated k rs (omega (arith, few)))

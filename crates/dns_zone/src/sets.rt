@@ -29,6 +29,9 @@ pub(crate) fn have_other_ttls(own: &[Entry]) -> bool
 pub(crate) fn have_large_set(own: &[Entry]) -> bool
     ensures { result ≡ repeats_after 63 own.now }
 {
+    if own.len() <= MOST_OF_A_SET {
+        return false;
+    }
     let mut rest = own;
     'records: while let Some((first, others)) = rest.split_first() {
         if is_repeated(first, others) {
@@ -43,6 +46,9 @@ pub(crate) fn have_large_set(own: &[Entry]) -> bool
 pub(crate) fn have_many_sets(own: &[Entry]) -> bool
     ensures { result ≡ nat_lt 32 (sets_ended own.now) }
 {
+    if own.len() <= MOST_SETS {
+        return false;
+    }
     let mut rest = own;
     let mut left = MOST_SETS;
     'records: while let Some((first, others)) = rest.split_first() {

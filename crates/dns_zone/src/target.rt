@@ -70,7 +70,7 @@ impl<'a> LastTarget<'a> {
             return;
         }
         self.key.move_to(&self.name.lent(), name);
-        self.name = name.to_name();
+        self.name.copy_from(name);
         self.place = None;
     }
 
