@@ -1,12 +1,12 @@
 -- What reading an entry token by token says of the entries that a text's tokens are cut into.
-use Rattle.std.proofs.Common.{◌≡◌, ℕ, Bool, true, false, ◌&&◌, ◌==◌, not, List, [], ◌∷◌, ◌++◌, refl, sym, ap, ◌∙◌, subst, Some, None, ◌⊎◌, inl, inr}
+use Rattle.std.proofs.Common.{◌≡◌, ℕ, Bool, true, false, ◌&&◌, ◌==◌, not, List, [], ◌∷◌, ◌++◌, refl, sym, ap, ◌∙◌, subst, Some, None, ◌⊎◌, inl, inr, arith}
 use Rattle.std.proofs.lemmas.Bool.{false≢true, eq-eqb}
 use Rattle.std.proofs.lemmas.Option.{none-some}
 use Rattle.std.specs.Prelude.{fold}
 use mathlib.Core.Bool.{xor}
 use Rattle.std.specs.List.{cons_option}
 use Rattle.dns_spec.specs.Names.{Octets}
-use Rattle.dns_spec.specs.ZoneText.{Token, blank, comment, word, quoted_string, opening, closing, line_end, token_front, TokensThen, parenthesis, parentheses, is_line_end, open_after, before_first, cut_entries, take_turns, is_cut_short}
+use Rattle.dns_spec.specs.ZoneText.{Token, token_front, TokensThen, parenthesis, parentheses, is_line_end, open_after, before_first, cut_entries, take_turns, is_cut_short}
 use Rattle.dns_spec.proofs.ZoneTexts.Beginnings.{Loose, front_kept, cut_none}
 use Rattle.dns_master.specs.EntryForm.{Step, misplaced, over, onward, step, Outcome, ended, unended, wrong, Reads}
 
@@ -34,25 +34,14 @@ record Goes (b : Bool) (p : Token) (now : Bool) : Type 0 where
 same_open : (b now : Bool) (p : Token) → onward b ≡ onward now → (is_line_end p && not b) ≡ false → open_after b p ≡ b
     → ((marks : List Bool) → take_turns b (cons_option (parenthesis p) marks) ≡ take_turns b marks) → Goes b p now
 unfolding step_open
-same_open b now p e no_end opens turns =
-    let same : b ≡ now = ap step_open e in
-    record { no_end = no_end; opens = opens ∙ same; turns = λ marks. turns marks ∙ ap (λ x. take_turns x marks) same }
+same_open b now p e no_end opens turns = grind arith
 
 differ : (s t : Step) → (step_code s == step_code t) ≡ false → s ≡ t → ⊥
 differ s t h e = false≢true (sym h ∙ ap (λ x. step_code s == step_code x) (sym e) ∙ eq-eqb (step_code s) (step_code s) refl)
 
 goes : (b : Bool) (p : Token) (now : Bool) → step b p ≡ onward now → Goes b p now
 unfolding step_code step_open xor
-goes b blank now e = same_open b now blank e refl refl (λ marks. refl)
-goes b comment now e = same_open b now comment e refl refl (λ marks. refl)
-goes b (word raw) now e = same_open b now (word raw) e refl refl (λ marks. refl)
-goes b (quoted_string raw) now e = same_open b now (quoted_string raw) e refl refl (λ marks. refl)
-goes true opening now e = absurd (differ misplaced (onward now) refl e)
-goes false opening now e = record { no_end = refl; opens = ap step_open e; turns = λ marks. ap (λ x. take_turns x marks) (ap step_open e) }
-goes true closing now e = record { no_end = refl; opens = ap step_open e; turns = λ marks. ap (λ x. take_turns x marks) (ap step_open e) }
-goes false closing now e = absurd (differ misplaced (onward now) refl e)
-goes true line_end now e = record { no_end = refl; opens = ap step_open e; turns = λ marks. ap (λ x. take_turns x marks) (ap step_open e) }
-goes false line_end now e = absurd (differ over (onward now) refl e)
+goes b p now h = grind (arith, same_open, differ)
 
 -- the token that ends the entry
 record Ends (b : Bool) (p : Token) : Type 0 where
@@ -61,16 +50,7 @@ record Ends (b : Bool) (p : Token) : Type 0 where
 
 ends : (b : Bool) (p : Token) → step b p ≡ over → Ends b p
 unfolding step_code
-ends b blank e = absurd (differ (onward b) over refl e)
-ends b comment e = absurd (differ (onward b) over refl e)
-ends b (word raw) e = absurd (differ (onward b) over refl e)
-ends b (quoted_string raw) e = absurd (differ (onward b) over refl e)
-ends true opening e = absurd (differ misplaced over refl e)
-ends false opening e = absurd (differ (onward true) over refl e)
-ends true closing e = absurd (differ (onward false) over refl e)
-ends false closing e = absurd (differ misplaced over refl e)
-ends true line_end e = absurd (differ (onward true) over refl e)
-ends false line_end e = record { is_end = refl; no_mark = refl }
+ends b p h = grind (arith, differ)
 
 -- a parenthesis that is misplaced
 record Misses (b : Bool) (p : Token) : Type 0 where
@@ -79,16 +59,7 @@ record Misses (b : Bool) (p : Token) : Type 0 where
 
 misses : (b : Bool) (p : Token) → step b p ≡ misplaced → Misses b p
 unfolding step_code xor
-misses b blank e = absurd (differ (onward b) misplaced refl e)
-misses b comment e = absurd (differ (onward b) misplaced refl e)
-misses b (word raw) e = absurd (differ (onward b) misplaced refl e)
-misses b (quoted_string raw) e = absurd (differ (onward b) misplaced refl e)
-misses true opening e = record { no_end = refl; turns = λ marks. refl }
-misses false opening e = absurd (differ (onward true) misplaced refl e)
-misses true closing e = absurd (differ (onward false) misplaced refl e)
-misses false closing e = record { no_end = refl; turns = λ marks. refl }
-misses true line_end e = absurd (differ (onward true) misplaced refl e)
-misses false line_end e = absurd (differ over misplaced refl e)
+misses b p h = grind (arith, differ)
 
 -- there is a first entry, perhaps an empty one
 pub record HasFirst (es : List (List Token)) : Type 0 where
@@ -110,9 +81,6 @@ has_first b (p ∷ ps) = go (is_line_end p && not b) (has_first (open_after b p)
 
 cut-on : (b : Bool) (p : Token) (ps : List Token) → (is_line_end p && not b) ≡ false → cut_entries b (p ∷ ps) ≡ before_first p (cut_entries (open_after b p) ps)
 cut-on b p ps h = rw (h, cut_entries) refl
-
-cut-off : (b : Bool) (p : Token) (ps : List Token) → (is_line_end p && not b) ≡ true → cut_entries b (p ∷ ps) ≡ (p ∷ []) ∷ cut_entries false ps
-cut-off b p ps h = rw (h, cut_entries) refl
 
 -- an entry that a line end ends
 pub record EndedCut (b : Bool) (text : Octets) (ps : List Token) (others : Octets) : Type 0 where
@@ -143,23 +111,11 @@ pub record WrongCut (b : Bool) (text : Octets) (ps : List Token) : Type 0 where
 
 ended-on : (b now : Bool) (text others' others : Octets) (p : Token) (ps : List Token) → token_front text ≡ Some (p, others') → Goes b p now
     → EndedCut now others' ps others → EndedCut b text (p ∷ ps) others
-ended-on b now text others' others p ps front g c =
-    record {
-      spelled = (others', front, c.spelled);
-      cuts = λ qs. cut-on b p (ps ++ qs) g.no_end ∙ ap (λ x. before_first p (cut_entries x (ps ++ qs))) g.opens ∙ ap (before_first p) (c.cuts qs);
-      turns = g.turns (parentheses ps) ∙ c.turns;
-    }
+ended-on b now text others' others p ps front g c = grind (arith, cut-on)
 
 unended-on : (b now last : Bool) (text others' rest : Octets) (p : Token) (ps : List Token) → token_front text ≡ Some (p, others') → Goes b p now
     → UnendedCut now others' ps last rest → UnendedCut b text (p ∷ ps) last rest
-unended-on b now last text others' rest p ps front g c =
-    record {
-      spelled = (others', front, c.spelled);
-      at_end = c.at_end;
-      cuts = cut-on b p ps g.no_end ∙ ap (λ x. before_first p (cut_entries x ps)) g.opens ∙ ap (before_first p) c.cuts;
-      turns = g.turns (parentheses ps) ∙ c.turns;
-      opens = ap (λ x. fold open_after x ps) g.opens ∙ c.opens;
-    }
+unended-on b now last text others' rest p ps front g c = grind (arith, cut-on)
 
 wrong-on : (b now : Bool) (text others' : Octets) (p : Token) (ps : List Token) → token_front text ≡ Some (p, others') → Goes b p now
     → WrongCut now others' ps → WrongCut b text (p ∷ ps)
@@ -198,27 +154,12 @@ reads-ended b text (p ∷ ps) others h = go (step b p) refl h.2 (λ now. reads-e
     go : (s : Step) → step b p ≡ s → elim s as (λ _. Type 0) [ misplaced ↦ (ps ≡ []) × (ended others ≡ wrong) | over ↦ (ps ≡ []) × (ended others ≡ ended h.0) | onward now ↦ Reads now h.0 ps (ended others) ]
         → ((now : Bool) → Reads now h.0 ps (ended others) → EndedCut now h.0 ps others) → EndedCut b text (p ∷ ps) others
     go misplaced e k more = absurd (other_outcome (ended others) wrong refl k.1)
-    go over e k more =
-        let last = ends b p e in
-        let here : h.0 ≡ others = ap outcome_rest (sym k.1) in
-        subst (λ xs. EndedCut b text (p ∷ xs) others) (sym k.0)
-        (record {
-          spelled = (h.0, h.1, here);
-          cuts = λ qs. cut-off b p qs last.is_end;
-          turns = rw last.no_mark refl;
-        })
+    go over e k more = grind arith
     go (onward now) e k more = ended-on b now text h.0 others p ps h.1 (goes b p now e) (more now k)
 
 pub reads-unended : (b : Bool) (text : Octets) (ps : List Token) (last : Bool) (rest : Octets) → Reads b text ps (unended last rest) → UnendedCut b text ps last rest
 unfolding outcome_code outcome_rest outcome_open
-reads-unended b text [] last rest h =
-    record {
-      spelled = ap outcome_rest (sym h.1);
-      at_end = subst (λ x. token_front x ≡ None) (ap outcome_rest (sym h.1)) h.0;
-      cuts = refl;
-      turns = refl;
-      opens = ap outcome_open (sym h.1);
-    }
+reads-unended b text [] last rest h = grind arith
 reads-unended b text (p ∷ ps) last rest h = go (step b p) refl h.2 (λ now. reads-unended now h.0 ps last rest)
   where
     go : (s : Step) → step b p ≡ s → elim s as (λ _. Type 0) [ misplaced ↦ (ps ≡ []) × (unended last rest ≡ wrong) | over ↦ (ps ≡ []) × (unended last rest ≡ ended h.0) | onward now ↦ Reads now h.0 ps (unended last rest) ]

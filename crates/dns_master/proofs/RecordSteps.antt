@@ -46,9 +46,6 @@ some_ttl None m n h e k = none-some n (sym h ∙ e)
 some_ttl (Some w) m n h e k = false≢true k
 
 module _ (o : DomainName) (earlier : List Entry) (owner : DomainName) (f : Fields) where
-  Gives : EntryMeaning → Type 0
-  Gives = RecordGives o earlier no_owner (λ n. n ≡ owner) f
-
   named : Nothing (λ (n : DomainName). n ≡ owner) → ⊥
   named none = none owner refl
 

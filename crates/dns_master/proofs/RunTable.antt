@@ -24,10 +24,7 @@ agree true b = b
 agree false b = not b
 
 same_test : (a b : Bool) → agree a b ≡ true → a ≡ b
-same_test true true h = refl
-same_test true false h = absurd (false≢true h)
-same_test false true h = absurd (false≢true h)
-same_test false false h = refl
+same_test a b h = grind (arith, false≢true)
 
 pub in-words : (o : ℕ) → o < 256 → nat_le 2 (slice_index_or PLAIN_IN o 0) ≡ is_word_octet o
 in-words o h = same_test _ _ (every_below (λ x. agree (nat_le 2 (slice_index_or PLAIN_IN x 0)) (is_word_octet x)) 256 refl o h)

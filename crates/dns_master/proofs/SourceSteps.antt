@@ -21,10 +21,6 @@ looked_at (suc n) (o ∷ front) more short =
     let found = looked_at n front more (omega (arith, short)) in
     (found.0, ap (λ t. o ∷ t) found.1)
 
-pub Consumes-none : (known : Option Octets) → Consumes known known []
-Consumes-none None = tt
-Consumes-none (Some xs) = refl
-
 pub Consumes-more : (old middle new : Option Octets) (text came text' : Octets) → Consumes old middle text → Consumes middle new came → text' ≡ text ++ came
     → Consumes old new text'
 Consumes-more None middle new text came text' h k e = tt

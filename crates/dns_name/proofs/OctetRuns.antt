@@ -54,14 +54,5 @@ last_of k xs long =
 -- the first k and the last k octets of k to 2k are all of them
 pub ends_tell : (k : ℕ) (f : List ℕ → ℕ) → Tells k f → (a b a' b' : List ℕ) → length b ≡ length a → k ≤ length a → length a ≤ k + k → AreLow a → AreLow b
     → a' ≡ drop (length a - k) a → b' ≡ drop (length b - k) b → f (take k a) ≡ f (take k b) → (f (take k a') ≡ f (take k b')) ↔ (a ≡ b)
-ends_tell k f tell a b a' b' same least most low-a low-b own-a own-b front = (
-  λ e.
-      let m = length a - k in
-      let n = length b - k in
-      let ends : f (take k (drop m a)) ≡ f (take k (drop n b)) = ap (λ z. f (take k z)) (sym own-a) ∙ e ∙ ap (λ z. f (take k z)) own-b in
-      let tail : take k (drop m a) ≡ take k (drop n b) =
-      tell (drop m a) (drop n b) (omega (arith, length-drop m a, least)) (omega (arith, length-drop n b, least, same)) (low_end m a low-a) (low_end n b low-b) ends in
-      let rest : drop m a ≡ drop n b = sym (last_of k a least) ∙ tail ∙ last_of k b (omega (arith, least, same)) in
-      joined m k a b (omega (arith, most)) (tell a b least (omega (arith, least, same)) low-a low-b front) (rest ∙ ap (λ j. drop (j - k) b) same),
-  λ e. ap (λ z. f (take k z)) (own-a ∙ ap (λ z. drop (length z - k) z) e ∙ sym own-b),
-)
+ends_tell k f tell a b a' b' same least most low-a low-b own-a own-b front =
+    grind (arith, length-drop, low_end, last_of, joined)

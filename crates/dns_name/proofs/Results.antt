@@ -1,33 +1,26 @@
 -- What is known of a result, said of another fact: where a call succeeds, and where it fails.
-use Rattle.std.proofs.Common.{◌≡◌, Result, Ok, Err, IfErr, IfOk, OnOk, OnErr, IsErrAnd, sym, subst}
+use Rattle.std.proofs.Common.{◌≡◌, Result, IfErr, IfOk, OnOk, OnErr, IsErrAnd, arith}
 
 -- what holds anyway, holds where a call fails
 pub OnErr-always : {A E P : Type 0} (result : Result A E) → P → OnErr result P
-OnErr-always (Ok a) p = tt
-OnErr-always (Err e) p = p
+OnErr-always result h = grind arith
 
 pub OnOk-map : {A E P Q : Type 0} (result : Result A E) → (P → Q) → OnOk result P → OnOk result Q
-OnOk-map (Ok a) f h = f h
-OnOk-map (Err e) f h = h
+OnOk-map result h h1 = grind arith
 
 pub OnErr-map : {A E P Q : Type 0} (result : Result A E) → (P → Q) → OnErr result P → OnErr result Q
-OnErr-map (Ok a) f h = h
-OnErr-map (Err e) f h = f h
+OnErr-map result h h1 = grind arith
 
 pub IfOk-map : {A E : Type 0} {P Q : A → Type 0} (result : Result A E) → ((a : A) → P a → Q a) → IfOk result P → IfOk result Q
-IfOk-map (Ok a) f h = f a h
-IfOk-map (Err e) f h = h
+IfOk-map result h h1 = grind arith
 
 pub IfErr-map : {A E : Type 0} {P Q : E → Type 0} (result : Result A E) → ((e : E) → P e → Q e) → IfErr result P → IfErr result Q
-IfErr-map (Ok a) f h = h
-IfErr-map (Err e) f h = f e h
+IfErr-map result h h1 = grind arith
 
 -- a fault that is handed on, and what holds of it
 pub fault_handed_on : {A F : Type 0} (result : Result A F) (fault : F) (P : F → Type 0) → IsErrAnd result (λ e. e ≡ fault) → P fault → IfErr result P
-fault_handed_on (Ok a) fault P h p = tt
-fault_handed_on (Err e) fault P h p = subst P (sym h) p
+fault_handed_on result fault P h h1 = grind arith
 
 -- a fault that is turned into another, and what holds of that
 pub fault_turned : {A F : Type 0} (result : Result A F) (R P : F → Type 0) → IsErrAnd result R → ((f : F) → R f → P f) → IfErr result P
-fault_turned (Ok a) R P h turn = tt
-fault_turned (Err f) R P h turn = turn f h
+fault_turned result R P h h1 = grind arith

@@ -1,9 +1,9 @@
 -- Reading a text from left to right finds what it spells, and nothing else.
-use Rattle.std.proofs.Common.{Result, Ok, Err, ◌≡◌, ◌≢◌, ℕ, suc, ◌+◌, ◌-◌, ◌*◌, ◌<◌, ◌≤◌, ◌⊎◌, ◌↔◌, inl, inr, Bool, true, false, ◌&&◌, ◌==◌, nat_le, nat_lt, [], ◌∷◌, ◌++◌, length, take, drop, Option, Some, None, refl, sym, ◌∙◌, ap, subst, arith, length-append}
+use Rattle.std.proofs.Common.{Result, Ok, Err, ◌≡◌, ℕ, suc, ◌+◌, ◌-◌, ◌*◌, ◌<◌, ◌≤◌, inl, inr, Bool, true, false, ◌&&◌, ◌==◌, nat_le, [], ◌∷◌, ◌++◌, length, take, drop, Option, Some, None, refl, sym, ◌∙◌, ap, subst, arith, length-append}
 use Rattle.std.proofs.lemmas.List.{append_assoc, append-nil, length-take, take_all, take-append-le}
-use Rattle.std.proofs.lemmas.Bool.{true≢false, false≢true, and_parts, and_from, and_left, and_right, and_cases, lt-leb, leb-false, eqb-true, eqb-false, or_parts, eq-eqb, ne_eqb, lt-ltb, ltb-true, le-leb, leb-true, cases_Bool, cases_lt}
+use Rattle.std.proofs.lemmas.Bool.{true≢false, false≢true, and_parts, and_from, and_left, and_right, and_cases, lt-leb, leb-false, eqb-true, eqb-false, or_parts, eq-eqb, ne_eqb, lt-ltb, ltb-true, le-leb, leb-true, cases_Bool}
 use Rattle.std.specs.Option.{option_and_then}
-use Rattle.std.specs.Bool.{OnTrue, MatchBool}
+use Rattle.std.specs.Bool.{MatchBool}
 use Rattle.std.specs.Result.{IsErr}
 use Rattle.std.specs.Prelude.{if◌then◌else◌}
 use Rattle.std.specs.Char.{is_ascii_digit, IsAsciiDigit, IsNotAsciiDigit}
@@ -21,38 +21,23 @@ is_digit : (a : ℕ) → IsAsciiDigit a → is_ascii_digit a ≡ true
 is_digit a h = and_from _ _ (le-leb _ _ h.0) (le-leb _ _ h.1)
 
 no_digit : (a : ℕ) → IsNotAsciiDigit a → is_ascii_digit a ≡ false
-no_digit a (inl h) = and_left _ _ (lt-leb _ _ h)
-no_digit a (inr h) = and_right _ _ (lt-leb _ _ h)
+no_digit a h = grind (arith, and_left, lt-leb, and_right)
 
 digit_from : (a : ℕ) → is_ascii_digit a ≡ true → IsAsciiDigit a
-digit_from a h =
-    let parts = and_parts (nat_le 48 a) _ h in
-    (leb-true _ _ parts.0, leb-true _ _ parts.1)
+digit_from a h = grind (arith, and_parts, leb-true)
 
 no_digit_from : (a : ℕ) → is_ascii_digit a ≡ false → IsNotAsciiDigit a
 no_digit_from a h = elim (and_cases (nat_le 48 a) _ h) [ inl low ↦ inl (leb-false _ _ low) | inr high ↦ inr (leb-false _ _ high) ]
 
-digit_here : (a : ℕ) (rest : Octets) → IsAsciiDigit a → digit_at (a ∷ rest) ≡ Some (a - 48, rest)
-digit_here a rest h = rw (is_digit a h) refl
-
 decimal_here : (a b c x : ℕ) (rest : Octets) → IsAsciiDigit a → IsAsciiDigit b → IsAsciiDigit c → three_digits_value a b c ≡ x → x < 256 → decimal_at (a ∷ b ∷ c ∷ rest) ≡ Some (x, rest)
 unfolding decimal_at
-decimal_here a b c x rest p q r e h =
-    let small : nat_lt (three_digits_value a b c) 256 ≡ true = lt-ltb _ _ (omega arith) in
-    rw (is_digit a p, is_digit b q, is_digit c r, small) (ap (λ y. Some (y, rest)) e)
+decimal_here a b c x rest p q r e h = grind (arith, lt-ltb, is_digit)
 
 -- a spelling is read, whatever stands after it
 octet_at-spelled : (first : Octets) (x : ℕ) (others : Octets) → SpellsOctet first x → octet_at (first ++ others) ≡ Some (x, others)
 unfolding octet_at escaped_at
-octet_at-spelled [] x others h = absurd h
-octet_at-spelled (a ∷ []) x others h = rw (ne_eqb a 92 h.2) (ap (λ y. Some (y, others)) h.0)
-octet_at-spelled (e ∷ a ∷ []) x others h =
-    let printable : (nat_le 32 a && nat_le a 126) ≡ true = and_from _ _ (le-leb _ _ h.2) (le-leb _ _ h.3) in
-    rw (eq-eqb e 92 h.0, no_digit a h.4, printable) (ap (λ y. Some (y, others)) h.1)
-octet_at-spelled (e ∷ a ∷ b ∷ []) x others h = absurd h
-octet_at-spelled (e ∷ a ∷ b ∷ c ∷ []) x others h =
-    rw (eq-eqb e 92 h.0, is_digit a h.1) (decimal_here a b c x others h.1 h.2 h.3 h.4 h.5)
-octet_at-spelled (e ∷ a ∷ b ∷ c ∷ d ∷ more) x others h = absurd h
+octet_at-spelled first x others h =
+    grind (arith, ne_eqb, and_from, le-leb, eq-eqb, no_digit, is_digit, decimal_here)
 
 pub octet_at-OctetThen : (text : Octets) (x : ℕ) (others : Octets) → OctetThen text x others → octet_at text ≡ Some (x, others)
 octet_at-OctetThen text x others (first, e, h) = ap octet_at e ∙ octet_at-spelled first x others h
@@ -65,13 +50,10 @@ some_inner : {A : Type 0} (x y : A) → Some x ≡ Some y → x ≡ y
 some_inner x y e = cc
 
 some_parts : (v w : ℕ × Octets) → Some v ≡ Some w → (v.0 ≡ w.0) × (v.1 ≡ w.1)
-some_parts v w e =
-    let pairs = some_inner v w e in
-    (ap (λ u. u.0) pairs, ap (λ u. u.1) pairs)
+some_parts v w e = grind (arith, some_inner)
 
 if_some : {A : Type 0} (t : Bool) (x y : A) → (if t then Some x else None) ≡ Some y → (t ≡ true) × (x ≡ y)
-if_some true x y e = (refl, cc)
-if_some false x y e = cc
+if_some t x y h = grind arith
 
 digit_read : (text : Octets) (v : ℕ × Octets) → digit_at text ≡ Some v → (a : ℕ) × (text ≡ a ∷ v.1) × IsAsciiDigit a × (v.0 ≡ a - 48)
 digit_read [] v e = cc
@@ -137,24 +119,11 @@ OctetThen-octet_at (a ∷ rest) x others h e =
 
 -- no spelling of an octet begins at a label's end
 pub OctetThen-goes_on : (text : Octets) (x : ℕ) (others : Octets) → OctetThen text x others → is_label_end text ≡ false
-OctetThen-goes_on text x others (first, e, h) = ap is_label_end e ∙ by_cases first h
-  where
-    by_cases : (first : Octets) → SpellsOctet first x → is_label_end (first ++ others) ≡ false
-    by_cases [] h = absurd h
-    by_cases (a ∷ []) h = ne_eqb a 46 h.1
-    by_cases (a ∷ b ∷ []) h = ne_eqb a 46 (λ e. absurd (omega (arith, h.0)))
-    by_cases (a ∷ b ∷ c ∷ []) h = absurd h
-    by_cases (a ∷ b ∷ c ∷ d ∷ []) h = ne_eqb a 46 (λ e. absurd (omega (arith, h.0)))
-    by_cases (a ∷ b ∷ c ∷ d ∷ k ∷ more) h = absurd h
+OctetThen-goes_on text x others (first, e, h) = grind (arith, ne_eqb)
 
 -- a spelling has an octet or more
 pub OctetThen-shorter : (text : Octets) (x : ℕ) (others : Octets) → OctetThen text x others → length others < length text
-OctetThen-shorter text x others (first, e, h) =
-    omega (arith, ap length e, length-append first others, some_octet first h)
-  where
-    some_octet : (first : Octets) → SpellsOctet first x → 0 < length first
-    some_octet [] h = absurd h
-    some_octet (a ∷ first) h = omega arith
+OctetThen-shorter text x others (first, e, h) = grind (arith, length-append)
 
 -- one octet more of a label
 pub LabelThen-push : (text l : Octets) (rest : Octets) (x : ℕ) (others : Octets) → LabelThen text l rest → OctetThen rest x others → LabelThen text (l ++ x ∷ []) others
@@ -199,14 +168,12 @@ LabelThen-unique text l rest l' rest' h h' end end' =
   where
     by_cases : (m : Octets) × (l' ≡ l ++ m) × LabelThen rest m rest' → (l' ≡ l) × (rest ≡ rest')
     by_cases ([], e, f) = (e ∙ append-nil l, f)
-    by_cases (x ∷ m, e, (first, after, f, p, g)) =
-        absurd (true≢false (sym end ∙ OctetThen-goes_on rest x after (first, f, p)))
+    by_cases (x ∷ m, e, (first, after, f, p, g)) = grind arith
 
 -- the empty text spells the empty label, and nothing follows
 LabelThen-nil : (l rest : Octets) → LabelThen [] l rest → (l ≡ []) × (rest ≡ [])
 LabelThen-nil [] rest h = (refl, sym h)
-LabelThen-nil (x ∷ l) rest (first, after, e, p, h) =
-    absurd (true≢false (OctetThen-goes_on [] x after (first, e, p)))
+LabelThen-nil (x ∷ l) rest (first, after, e, p, h) = grind (arith, true≢false, OctetThen-goes_on)
 
 no_empty_label : is_label [] ≡ true → ⊥
 no_empty_label h = false≢true h
@@ -215,9 +182,6 @@ no_empty_label h = false≢true h
 pub record ReadSoFar (origin : DomainName) (word : Octets) (read : DomainName) (rest : Octets) : Type 0 where
   pub all : (n : DomainName) → TextSpells origin rest n → TextSpells origin word (read ++ n)
   pub only : (n : DomainName) → TextSpells origin word n → (m : DomainName) × (n ≡ read ++ m) × TextSpells origin rest m
-
-pub ReadSoFar-none : (origin : DomainName) (word : Octets) → ReadSoFar origin word [] word
-ReadSoFar-none origin word = record { all = λ n h. h; only = λ n h. (n, refl, h) }
 
 -- what a text that begins with a label and a dot spells
 spells_after_dot : (origin : DomainName) (rest l others : Octets) (m : DomainName) → LabelThen rest l (46 ∷ others) → TextSpells origin rest m → (k : DomainName) × (m ≡ l ∷ k) × TextSpells origin others k
@@ -234,18 +198,8 @@ spells_after_dot origin rest l others (k ∷ m) h (inr (others', g, e)) =
     (m, ap (λ j. j ∷ m) (sym one.0), subst P same_text e)
 
 pub ReadSoFar-push : (origin : DomainName) (word : Octets) (read : DomainName) (rest l others : Octets) → ReadSoFar origin word read rest → LabelThen rest l (46 ∷ others) → ReadSoFar origin word (read ++ l ∷ []) others
-ReadSoFar-push origin word read rest l others so_far h = record { all = all; only = only }
-  where
-    all : (n : DomainName) → TextSpells origin others n → TextSpells origin word ((read ++ l ∷ []) ++ n)
-    all n g =
-        let P : DomainName → Type 0 = TextSpells origin word in
-        subst P (sym (append_assoc read (l ∷ []) n)) (so_far.all (l ∷ n) (inr (others, h, g)))
-
-    only : (n : DomainName) → TextSpells origin word n → (m : DomainName) × (n ≡ (read ++ l ∷ []) ++ m) × TextSpells origin others m
-    only n g =
-        let after = so_far.only n g in
-        let next = spells_after_dot origin rest l others after.0 h after.2 in
-        (next.0, after.1 ∙ ap (λ m. read ++ m) next.1 ∙ sym (append_assoc read (l ∷ []) next.0), next.2)
+ReadSoFar-push origin word read rest l others so_far h =
+    grind (arith, append_assoc, spells_after_dot)
 
 -- the word is read, and spells the name n alone
 pub record SpellsOnly (origin : DomainName) (word : Octets) (n : DomainName) : Type 0 where
@@ -254,15 +208,9 @@ pub record SpellsOnly (origin : DomainName) (word : Octets) (n : DomainName) : T
 
 -- what a text that is one label without a dot spells
 spells_last : (origin : DomainName) (rest l : Octets) (m : DomainName) → LabelThen rest l [] → is_label l ≡ true → TextSpells origin rest m → m ≡ l ∷ origin
-spells_last origin rest l [] h is_l e =
-    let empty : l ≡ [] = (LabelThen-nil l [] (LabelThen-at rest l [] [] e h)).0 in
-    absurd (no_empty_label (ap is_label (sym empty) ∙ is_l))
-spells_last origin rest l (k ∷ m) h is_l (inl (g, e)) =
-    let one : l ≡ k = (LabelThen-unique rest k [] l [] g h refl refl).0 in
-    cc
-spells_last origin rest l (k ∷ m) h is_l (inr (others, g, e)) =
-    let ended : 46 ∷ others ≡ [] = (LabelThen-unique rest k (46 ∷ others) l [] g h refl refl).1 in
-    cc
+spells_last origin rest l [] h is_l e = grind (arith, LabelThen-nil, LabelThen-at, no_empty_label)
+spells_last origin rest l (k ∷ m) h is_l (inl (g, e)) = grind (arith, LabelThen-unique)
+spells_last origin rest l (k ∷ m) h is_l (inr (others, g, e)) = grind (arith, LabelThen-unique)
 
 -- a label among those of a name
 is_label-inside : (read : DomainName) (l : Octets) (n m : DomainName) → m ≡ read ++ l ∷ n → is_name m ≡ true → is_label l ≡ true
@@ -274,15 +222,7 @@ is_label-inside read l n m e ok = inside read (IsName-is_name (read ++ l ∷ n) 
 
 -- a last label without a dot
 pub SpellsOnly-relative : (origin : DomainName) (word : Octets) (read : DomainName) (rest l : Octets) → ReadSoFar origin word read rest → LabelThen rest l [] → is_label l ≡ true → SpellsOnly origin word ((read ++ l ∷ []) ++ origin)
-SpellsOnly-relative origin word read rest l so_far h is_l =
-    let P : DomainName → Type 0 = TextSpells origin word in
-    let joined = append_assoc read (l ∷ []) origin in
-    record {
-      spelled = subst P (sym joined) (so_far.all (l ∷ origin) (inl (h, refl)));
-      only = λ m ok g.
-          let after = so_far.only m g in
-          after.1 ∙ ap (λ k. read ++ k) (spells_last origin rest l after.0 h is_l after.2) ∙ sym joined;
-    }
+SpellsOnly-relative origin word read rest l so_far h is_l = grind (arith, append_assoc, spells_last)
 
 -- a final dot
 pub SpellsOnly-absolute : (origin : DomainName) (word : Octets) (read : DomainName) (rest : Octets) → ReadSoFar origin word read rest → rest ≡ [] → SpellsOnly origin word read
@@ -297,8 +237,7 @@ SpellsOnly-absolute origin word read rest so_far e = record { spelled = spelled;
         let empty = LabelThen-nil l [] (LabelThen-at rest l [] [] e g) in
         absurd (no_empty_label (ap is_label (sym empty.0) ∙ is_label-inside read l k m f ok))
     no_more m (l ∷ k) f ok (inr (others, g, h)) =
-        let empty = LabelThen-nil l (46 ∷ others) (LabelThen-at rest l (46 ∷ others) [] e g) in
-        absurd (no_empty_label (ap is_label (sym empty.0) ∙ is_label-inside read l k m f ok))
+        grind (arith, LabelThen-nil, LabelThen-at, no_empty_label, is_label-inside)
 
     only : (m : DomainName) → is_name m ≡ true → TextSpells origin word m → m ≡ read
     only m ok g = let after = so_far.only m g in no_more m after.0 after.1 ok after.2
@@ -380,14 +319,7 @@ PushesLabel-label text octets end l old fits new reads at_end is_l e appended =
 -- a label that is spelled is the only one that the text begins with
 pub label_alone : (text octets end : Octets) → LabelThen text octets end → is_label_end end ≡ true → (is_label octets ≡ true → ⊥) → HasNoLabel text
 label_alone text octets end spelled at_end no_label l end' h at_end' is_l =
-    let one : l ≡ octets = (LabelThen-unique text octets end l end' spelled h at_end at_end').0 in
-    no_label (ap is_label (sym one) ∙ is_l)
-
--- what `push` says of one label
-pub Appended-push : (old : DomainName) (l : Octets) (fits : Bool) (new : DomainName) → ((fits ≡ true) ↔ (length (wire (old ++ l ∷ [])) ≤ 255)) → OnTrue fits (new ≡ old ++ l ∷ []) → is_name new ≡ true → Appended old (l ∷ []) fits new
-Appended-push old l true new room pushed ok = (pushed, ok)
-Appended-push old l false new room pushed ok =
-    elim (cases_lt 255 (length (wire (old ++ l ∷ [])))) [ inl h ↦ h | inr h ↦ absurd (false≢true (room.1 h)) ]
+    grind (arith, LabelThen-unique)
 
 -- while the labels that are read fit, the name holds them
 abbrev pub Holds : DomainName → Bool → DomainName → Type 0
@@ -413,9 +345,6 @@ pub record Reads (origin : DomainName) (word : Octets) (name : DomainName) (fits
   pub so_far : ReadSoFar origin word read rest
   pub holds : Holds read fits name
 
-pub Reads-none : (origin : DomainName) (word : Octets) → Reads origin word [] true word
-Reads-none origin word = record { read = []; so_far = ReadSoFar-none origin word; holds = (refl, refl) }
-
 pub Reads-push : (origin : DomainName) (word : Octets) (name : DomainName) (fits : Bool) (rest : Octets) (more : Bool) (end : Octets) (new : DomainName) (dot : ℕ) (others : Octets) → Reads origin word name fits rest → PushesLabel rest name more end new → end ≡ dot ∷ others → Reads origin word new (fits && more) others
 Reads-push origin word name fits rest more end new dot others reads pushes e =
     let is_dot : dot ≡ 46 = eqb-true dot 46 (ap is_label_end (sym e) ∙ pushes.at_end) in
@@ -429,15 +358,7 @@ Reads-push origin word name fits rest more end new dot others reads pushes e =
 
 -- the result that is reported at the end
 pub SpellsIff-only : {E : Type 0} (origin : DomainName) (word : Octets) (n name : DomainName) (fits : Bool) (e : E) (r : Result DomainName E) → SpellsOnly origin word n → Holds n fits name → r ≡ (if fits then Ok name else Err e) → SpellsIff origin word r
-SpellsIff-only origin word n name true e r spells (f, ok) g = λ m.
-    let P : DomainName → Type 0 = λ k. (is_name k ≡ true) × TextSpells origin word k in (
-      λ h. (let same_name : n ≡ m = cc in subst P same_name (ok, spells.spelled)),
-      λ h. g ∙ ap (λ k. Ok k) (f ∙ sym (spells.only m h.0 h.1)),
-    )
-SpellsIff-only origin word n name false e r spells over g = λ m. (
-  λ h. cc,
-  λ h. absurd (let whole = ap (λ k. length (wire k)) (spells.only m h.0 h.1) in let fits = (IsName-is_name m h.0).fits in omega arith),
-)
+SpellsIff-only origin word n name fits e r h h1 h2 = grind (arith, IsName-is_name)
 
 pub SpellsIff-absolute : {E : Type 0} (origin : DomainName) (word : Octets) (name : DomainName) (fits : Bool) (rest : Octets) (e : E) (r : Result DomainName E) → Reads origin word name fits rest → rest ≡ [] → r ≡ (if fits then Ok name else Err e) → SpellsIff origin word r
 SpellsIff-absolute origin word name fits rest e r reads empty g =
@@ -454,11 +375,7 @@ SpellsIff-relative origin word name fits rest more end new more' whole e r reads
     (Holds-append (reads.read ++ l ∷ []) (fits && more) new origin more' whole one appended) g
 
 pub SpellsIff-none : {E : Type 0} (origin : DomainName) (word : Octets) (name : DomainName) (fits : Bool) (rest : Octets) (r : Result DomainName E) → Reads origin word name fits rest → (rest ≡ [] → ⊥) → HasNoLabel rest → IsErr r → SpellsIff origin word r
-SpellsIff-none origin word name fits rest (Ok n) reads more none g = absurd (false≢true g)
-SpellsIff-none origin word name fits rest (Err e) reads more none g = λ m. (
-  λ h. cc,
-  λ h. absurd (nothing_spelled origin word reads.read rest reads.so_far more none m h.0 h.1),
-)
+SpellsIff-none origin word name fits rest r h h1 h2 h3 = grind (arith, false≢true, nothing_spelled)
 
 LabelThen-shorter : (text l rest : Octets) → LabelThen text l rest → length rest ≤ length text
 LabelThen-shorter text [] rest h = omega (arith, ap length h)
@@ -466,8 +383,7 @@ LabelThen-shorter text (x ∷ l) rest (first, after, e, p, h) =
     omega (arith, LabelThen-shorter after l rest h, OctetThen-shorter text x after (first, e, p))
 
 pub PushesLabel-shorter : (text : Octets) (old : DomainName) (fits : Bool) (end : Octets) (new : DomainName) (dot : ℕ) (others : Octets) → PushesLabel text old fits end new → end ≡ dot ∷ others → length others < length text
-PushesLabel-shorter text old fits end new dot others pushes e =
-    omega (arith, LabelThen-shorter text pushes.label end pushes.spelled, ap length e)
+PushesLabel-shorter text old fits end new dot others pushes e = grind (arith, LabelThen-shorter)
 
 only_item : (a b : ℕ) → a ∷ [] ≡ b ∷ [] → a ≡ b
 only_item a b e = cc
@@ -493,18 +409,11 @@ dot_spells_none origin word (l ∷ n) e ok (inr (others, h, k)) =
 
 -- a dot alone spells the root alone
 pub dot_spells_root : (origin : DomainName) (word : Octets) (n : DomainName) → word ≡ 46 ∷ [] → SpellsName origin word n → n ≡ []
-dot_spells_root origin word n f h = by_cases h.spelled
-  where
-    by_cases : ((word ≡ 64 ∷ []) × (n ≡ origin)) ⊎ (((word ≡ 46 ∷ []) × (n ≡ [])) ⊎ ((word ≢ 64 ∷ []) × (word ≢ []) × TextSpells origin word n)) → n ≡ []
-    by_cases (inl (e, k)) = absurd (dot_or_at word f e)
-    by_cases (inr (inl (e, k))) = k
-    by_cases (inr (inr (e, k, l))) = absurd (dot_spells_none origin word n f h.is_name l)
+dot_spells_root origin word n f h = grind (arith, dot_or_at, dot_spells_none)
 
 -- what is told of a name in its place, where it fits and where it does not
 pub spelled_as-fits : {A E : Type 0} (name : DomainName) (fits : Bool) (done : A) (fault : E) (r : Result A E) → r ≡ (if fits then Ok done else Err fault) → spelled_as r name ≡ (if fits then Ok name else Err fault)
-spelled_as-fits name true done fault r h = ap (λ x. spelled_as x name) h
-spelled_as-fits name false done fault r h = ap (λ x. spelled_as x name) h
+spelled_as-fits name fits done fault r h = grind arith
 
 pub spelled_as-fault : {A E : Type 0} (name : DomainName) (r : Result A E) → IsErr r → IsErr (spelled_as r name)
-spelled_as-fault name (Ok done) h = absurd (false≢true h)
-spelled_as-fault name (Err fault) h = h
+spelled_as-fault name r h = grind (arith, false≢true)

@@ -64,10 +64,7 @@ BeginsWithLabel-IsWireForm xs x ys form e some = first_by_cases _ xs x ys form.w
 
 none_by_cases : (n : DomainName) (xs ys : Octets) (x : ℕ) → wire n ≡ xs → xs ≡ x ∷ ys → x ≡ 0 → is_name n ≡ true → n ≡ []
 none_by_cases [] xs ys x w e f ok = refl
-none_by_cases (l ∷ n) xs ys x w e f ok =
-    let no_octets : length l ≡ 0 = cc in
-    let is_l = IsLabel-is_label l (and_parts (is_label l) _ (IsName-is_name (l ∷ n) ok).labels).0 in
-    absurd (omega arith)
+none_by_cases (l ∷ n) xs ys x w e f ok = grind (arith, IsLabel-is_label, and_parts, IsName-is_name)
 
 -- octets that begin with 0 spell the root
 pub labels_of-zero : (xs ys : Octets) (x : ℕ) → IsWireForm xs → xs ≡ x ∷ ys → x ≡ 0 → labels_of xs ≡ []
@@ -89,55 +86,32 @@ front (l ∷ n) = length l ∷ (l ++ front n)
 wire-front : (n : DomainName) → wire n ≡ front n ++ 0 ∷ []
 unfolding front
 wire-front [] = refl
-wire-front (l ∷ n) =
-    ap (λ xs. length l ∷ (l ++ xs)) (wire-front n) ∙ ap (λ xs. length l ∷ xs) (sym (append_assoc l (front n) (0 ∷ [])))
+wire-front (l ∷ n) = grind (arith, append_assoc, (wire-front n))
 
 front-push : (n : DomainName) (l : Octets) → front (n ++ l ∷ []) ≡ front n ++ length l ∷ l
 unfolding front
 front-push [] l = ap (λ xs. length l ∷ xs) (append-nil l)
-front-push (k ∷ n) l =
-    ap (λ xs. length k ∷ (k ++ xs)) (front-push n l)
-    ∙ ap (λ xs. length k ∷ xs) (sym (append_assoc k (front n) (length l ∷ l)))
+front-push (k ∷ n) l = grind (arith, append_assoc, (front-push n l))
 
 front_taken : (n : DomainName) → take (length (wire n) - 1) (wire n) ≡ front n
-front_taken n =
-    let e = wire-front n in
-    let k : length (front n) ≡ length (wire n) - 1 = omega (arith, ap length e, length-append (front n) (0 ∷ [])) in
-    ap (take (length (wire n) - 1)) e ∙ take_at (front n) (0 ∷ []) _ k
+front_taken n = grind (arith, wire-front, length-append, take_at)
 
 -- one label more, next to the root: what stands before the root's length stays
 pub wire-push : (n : DomainName) (l xs : Octets) → xs ≡ take (length (wire n) - 1) (wire n) → ((xs ++ length l ∷ []) ++ l) ++ 0 ∷ [] ≡ wire (n ++ l ∷ [])
-wire-push n l xs e =
-    let same_front : xs ≡ front n = e ∙ front_taken n in
-    let longer : (xs ++ length l ∷ []) ++ l ≡ front (n ++ l ∷ []) =
-    append_assoc xs (length l ∷ []) l ∙ ap (λ ys. ys ++ length l ∷ l) same_front ∙ sym (front-push n l)
-    in
-    ap (λ ys. ys ++ 0 ∷ []) longer ∙ sym (wire-front (n ++ l ∷ []))
+wire-push n l xs e = grind (arith, front_taken, append_assoc, front-push, wire-front)
 
 -- octets answer whether the names that they spell are the same
 pub same_from_octets : (b : Bool) (xs ys : Octets) (n m : DomainName) → xs ≡ wire n → ys ≡ wire m → is_name n ≡ true → is_name m ≡ true → ((b ≡ true) ↔ (map to_ascii_lowercase xs ≡ map to_ascii_lowercase ys)) → b ≡ same n m
-same_from_octets b xs ys n m e f p q test =
-    let law = same-wire n m p q in
-    let lower : Octets → Octets = map to_ascii_lowercase in
-    same_tests b (same n m)
-    (λ h. law.1 (ap lower (sym e) ∙ test.0 h ∙ ap lower f))
-    (λ h. test.1 (ap lower e ∙ law.0 h ∙ ap lower (sym f)))
+same_from_octets b xs ys n m e f p q test = grind (arith, same-wire, same_tests)
 
 -- and whether they are equal, octet by octet
 pub names_equal_from_octets : (b : Bool) (xs ys : Octets) (n m : DomainName) → xs ≡ wire n → ys ≡ wire m → is_name n ≡ true → is_name m ≡ true → b ≡ octets_equal xs ys → b ≡ names_equal n m
 names_equal_from_octets b xs ys n m e f p q test =
-    let octets = octets_equal-decides xs ys in
-    let names = names_equal-decides n m in
-    same_tests b (names_equal n m)
-    (λ h. names.1 (wire-injective n m p q (sym e ∙ octets.0 (sym test ∙ h) ∙ f)))
-    (λ h. test ∙ octets.1 (e ∙ ap wire (names.0 h) ∙ sym f))
+    grind (arith, octets_equal-decides, names_equal-decides, same_tests, wire-injective)
 
 -- octets in lower case are the wire form of the folded name
 pub map-lowercase-octets : (xs : Octets) (n : DomainName) → IsWireForm xs → labels_of xs ≡ n → map to_ascii_lowercase xs ≡ wire (folded n)
-map-lowercase-octets xs n form e =
-    let w : xs ≡ wire n = sym form.wire_is ∙ ap wire e in
-    let ok : is_name n ≡ true = ap is_name (sym e) ∙ form.is_name in
-    ap (map to_ascii_lowercase) w ∙ map-lowercase-wire n (IsName-is_name n ok).labels
+map-lowercase-octets xs n form e = grind (arith, map-lowercase-wire, IsName-is_name)
 
 -- the labels of another name next to the root: what stands before the root's length stays
 pub wire-append : (n m : DomainName) (xs : Octets) → xs ≡ take (length (wire n) - 1) (wire n) → xs ++ wire m ≡ wire (n ++ m)

@@ -1,5 +1,5 @@
 -- A text that is written piece by piece: what two pieces, one after the other, have appended, and what is still to come.
-use Rattle.std.proofs.Common.{◌≡◌, ℕ, suc, ◌+◌, ◌-◌, ◌<◌, ◌≤◌, List, [], ◌∷◌, ◌++◌, slice_index_or, Result, ap, ◌∙◌, Option, Some, None, length, take, drop, refl, sym, subst, arith, append_assoc, length-drop, length-append}
+use Rattle.std.proofs.Common.{◌≡◌, ℕ, suc, ◌+◌, ◌-◌, ◌<◌, List, [], ◌∷◌, ◌++◌, slice_index_or, Result, ap, ◌∙◌, Option, length, take, drop, sym, subst, arith, append_assoc, length-drop, length-append}
 use Rattle.std.proofs.Math.Seq.{take-add, take-append-add, take-suc}
 use Rattle.std.proofs.lemmas.List.{take_all, take-append-le, take-append-drop, append-nil}
 use Rattle.std.proofs.lemmas.Grind.{flat_map-append}
@@ -13,10 +13,7 @@ use Rattle.dns_name.specs.Counted.{Counted, Writes, Fills, failures_after, joine
 pub Appends-take-add : (a b c : Option (List ℕ)) (text : List ℕ) (n m : ℕ)
     → Appends a b (take n text) → Appends b c (take m (take (length text - n) (drop n text))) → Appends a c (take (n + m) text)
 Appends-take-add a b c text n m first second =
-    let whole_rest : length (drop n text) ≤ length text - n = omega (arith, length-drop n text) in
-    let rest : take (length text - n) (drop n text) ≡ drop n text = take_all (length text - n) (drop n text) whole_rest in
-    let tail : Appends b c (take m (drop n text)) = subst (λ (xs : List ℕ). Appends b c (take m xs)) rest second in
-    subst (Appends a c) (sym (take-add n m text)) (Appends-trans a b c (take n text) (take m (drop n text)) first tail)
+    grind (arith, length-drop, take_all, take-add, Appends-trans)
 
 -- a text of which a beginning was written, and others that were not begun
 pub beginning_of_first : (a b : Option (List ℕ)) (xs ys : List ℕ) → AppendsBeginning a b xs → AppendsBeginning a b (xs ++ ys)
@@ -67,21 +64,11 @@ beginning_of_parts a b c parts i d h before begun =
 abbrev pub Written : Option (List ℕ) → Option (List ℕ) → List ℕ → List ℕ → Type 0
 Written = AppendsAllBut
 
-Appends-none : (old : Option (List ℕ)) → Appends old old []
-Appends-none None = tt
-Appends-none (Some xs) = sym (append-nil xs)
-
-pub Written-none : (old : Option (List ℕ)) (whole : List ℕ) → Written old old whole whole
-Written-none old whole = record { done = []; appended = Appends-none old; whole_is = refl }
-
 -- the next piece
 pub Written-more : (old new newer : Option (List ℕ)) (whole rest piece others : List ℕ) → Written old new whole rest → rest ≡ piece ++ others → Appends new newer piece
     → Written old newer whole others
-Written-more old new newer whole rest piece others so e h = record {
-  done = so.done ++ piece;
-  appended = Appends-trans old new newer so.done piece so.appended h;
-  whole_is = append_assoc so.done piece others ∙ ap (λ xs. so.done ++ xs) (sym e) ∙ so.whole_is;
-}
+Written-more old new newer whole rest piece others so e h =
+    grind (arith, Appends-trans, append_assoc)
 
 -- a beginning of the next piece
 pub Written-begun : (old new newer : Option (List ℕ)) (whole rest piece others : List ℕ) → Written old new whole rest → rest ≡ piece ++ others → AppendsBeginning new newer piece
@@ -90,28 +77,15 @@ Written-begun old new newer whole rest piece others so e h =
     subst (AppendsBeginning old newer) (ap (λ xs. so.done ++ xs) (sym e) ∙ so.whole_is)
     (beginning_of_second old new newer so.done (piece ++ others) so.appended (beginning_of_first new newer piece others h))
 
--- nothing is left
-pub Written-all : (old new : Option (List ℕ)) (whole rest : List ℕ) → Written old new whole rest → rest ≡ [] → Appends old new whole
-Written-all old new whole rest so e =
-    subst (Appends old new) (sym (append-nil so.done) ∙ ap (λ xs. so.done ++ xs) (sym e) ∙ so.whole_is) so.appended
-
 -- of what was held and is to come, the next piece is held too
 pub held_more : (old new : Option (List ℕ)) (whole held rest piece others : List ℕ) → AppendsAllBut old new whole (held ++ rest) → rest ≡ piece ++ others
     → AppendsAllBut old new whole ((held ++ piece) ++ others)
-held_more old new whole held rest piece others so e =
-    subst (AppendsAllBut old new whole) (ap (λ xs. held ++ xs) e ∙ sym (append_assoc held piece others)) so
+held_more old new whole held rest piece others so e = grind (arith, append_assoc)
 
 -- what was held was put into a buffer, which holds less of it now
 pub held_less : (old new newer : Option (List ℕ)) (whole held less rest : List ℕ) → AppendsAllBut old new whole (held ++ rest) → AppendsAllBut new newer held less
     → AppendsAllBut old newer whole (less ++ rest)
-held_less old new newer whole held less rest so then = record {
-  done = so.done ++ then.done;
-  appended = Appends-trans old new newer so.done then.done so.appended then.appended;
-  whole_is =
-      append_assoc so.done then.done (less ++ rest)
-      ∙ ap (λ xs. so.done ++ xs) (sym (append_assoc then.done less rest) ∙ ap (λ xs. xs ++ rest) then.whole_is)
-      ∙ so.whole_is;
-}
+held_less old new newer whole held less rest so then = grind (arith, Appends-trans, append_assoc)
 
 -- a beginning of what was held was written
 pub held_begun : (old new newer : Option (List ℕ)) (whole held rest : List ℕ) → AppendsAllBut old new whole (held ++ rest) → AppendsBeginning new newer held
@@ -120,17 +94,9 @@ held_begun old new newer whole held rest so begun =
     subst (AppendsBeginning old newer) so.whole_is
     (beginning_of_second old new newer so.done (held ++ rest) so.appended (beginning_of_first new newer held rest begun))
 
--- nothing was written yet
-pub all_held : (old : Option (List ℕ)) (whole : List ℕ) → AppendsAllBut old old whole whole
-all_held = Written-none
-
 -- more is to come after what was put, and it is held
 pub held_before : (old new : Option (List ℕ)) (whole held more : List ℕ) → AppendsAllBut old new whole held → AppendsAllBut old new (whole ++ more) (held ++ more)
-held_before old new whole held more so = record {
-  done = so.done;
-  appended = so.appended;
-  whole_is = sym (append_assoc so.done held more) ∙ ap (λ xs. xs ++ more) so.whole_is;
-}
+held_before old new whole held more so = grind (arith, append_assoc)
 
 -- what a call puts may be said in other words
 pub Fills-same : {W A E : Type 0} {contents : W → Option (List ℕ)} {old new : Counted W} {r : Result A E} {xs ys held : List ℕ} → xs ≡ ys → Fills contents old new r xs held

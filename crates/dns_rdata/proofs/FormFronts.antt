@@ -1,7 +1,7 @@
 -- Words are taken from the left, each by its form: what those of one piece say, and then those of
 -- the pieces after it, is what all say by all forms.
 use Rattle.std.proofs.Common.{◌≡◌, ℕ, suc, ◌+◌, ◌-◌, ◌<◌, ◌≤◌, List, [], ◌∷◌, ◌++◌, length, take, drop, get_or, replicate, refl, sym, ap, ◌∙◌, subst, arith}
-use Rattle.std.proofs.lemmas.List.{append_assoc, append-nil, length-append, length-replicate, length-map, map-append, nil_from_length, replicate-append-replicate, take-append-drop, take_all, take_more}
+use Rattle.std.proofs.lemmas.List.{append_assoc, append-nil, length-append, length-replicate, length-map, map-append, replicate-append-replicate, take-append-drop, take_more}
 use Rattle.std.proofs.lemmas.Grind.{flat_map-append}
 use Rattle.std.specs.List.{flat_map}
 use Rattle.std.specs.Char.{to_ascii_lowercase}
@@ -150,10 +150,3 @@ module _ (k : ℕ) (pieces : List code.Piece) (i : ℕ) (p : code.Piece) (inside
       let so_far = no-rest origin (forms_for k (take i pieces)) (replicate n f) ws rest x y a none in
       no-all origin (length x) (forms_for k pieces) ws
       (subst (λ fs. SaysNoFront (length x) fs origin ws) forms-whole (no-more origin (length x) (forms_for k (take i pieces) ++ replicate n f) (forms_for k (drop (i + 1) pieces)) ws so_far))
-
--- the words of all pieces are taken
-pub pieces-taken : (k : ℕ) (pieces : List code.Piece) (i : ℕ) (origin : DomainName) (ws rest : List Word) (x y : Octets) → length pieces ≤ i
-    → AppendsFront (forms_for k (take i pieces)) origin ws rest x y → length (forms_for k pieces) ≡ length ws → AppendsFront (forms_for k pieces) origin ws [] x y
-pieces-taken k pieces i origin ws rest x y end a e =
-    let all = subst (λ ps. AppendsFront (forms_for k ps) origin ws rest x y) (take_all i pieces end) a in
-    subst (λ v. AppendsFront (forms_for k pieces) origin ws v x y) (nil_from_length rest (omega (arith, all.count, e))) all

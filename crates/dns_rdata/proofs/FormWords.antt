@@ -1,5 +1,5 @@
 -- What is appended for a word by its form.
-use Rattle.std.proofs.Common.{◌≡◌, ℕ, ◌<◌, ◌≤◌, ◌^◌, ◌++◌, Option, None, Some, Ok, decimal, refl, sym, ap, ◌∙◌}
+use Rattle.std.proofs.Common.{◌≡◌, ℕ, ◌<◌, ◌≤◌, ◌^◌, ◌++◌, Option, Some, Ok, decimal, refl, sym, ap, ◌∙◌, arith}
 use Rattle.std.specs.Option.{ok_or}
 use Rattle.std.specs.Int.{bytes_high_first}
 use Rattle.dns_spec.specs.Names.{Octets, DomainName, wire, folded}
@@ -11,8 +11,7 @@ use Rattle.dns_spec.proofs.DomainNames.NameLaws.{map-lowercase-wire, IsName-is_n
 use Rattle.dns_rdata.specs.WordForms.{as_it_is, kept, Appends}
 
 pub ok_or-some : {A E : Type 0} (x : Option A) (e : E) (a : A) → ok_or x e ≡ Ok a → x ≡ Some a
-ok_or-some None e a h = cc
-ok_or-some (Some b) e a h = cc
+ok_or-some x e a h = grind arith
 
 pub number_appended : (k : ℕ) → k ≤ 4 → (n : ℕ) (text before after piece : Octets) → text ≡ decimal n → n < 256 ^ k → piece ≡ bytes_high_first k n → after ≡ before ++ piece
     → Appends as_it_is (SaysNumber k text) before after

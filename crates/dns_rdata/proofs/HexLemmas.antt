@@ -23,39 +23,17 @@ front_says (h ∷ []) x others e = cc
 front_says (h ∷ l ∷ rest) x others e = by_cases (cases_Bool (is_ascii_hexdigit h)) (cases_Bool (is_ascii_hexdigit l))
   where
     by_cases : (is_ascii_hexdigit h ≡ true) ⊎ (is_ascii_hexdigit h ≡ false) → (is_ascii_hexdigit l ≡ true) ⊎ (is_ascii_hexdigit l ≡ false) → hex_octets (h ∷ l ∷ rest) ≡ option_map (λ d. x ∷ d) (hex_octets others)
-    by_cases (inl high) (inl low) =
-        let f : Some (digit_value h * 16 + digit_value l, rest) ≡ Some (x, others) = rw (high, low) at e in
-        let parts = some_inner _ _ f in
-        let value : 16 * digit_value h + digit_value l ≡ x = omega (arith, ap (λ p. p.0) parts) in
-        rw (high, low) (ap (λ v. option_map (λ d. v ∷ d) (hex_octets rest)) value ∙ ap (λ r. option_map (λ d. x ∷ d) (hex_octets r)) (ap (λ p. p.1) parts))
+    by_cases (inl high) (inl low) = grind arith
     by_cases (inl high) (inr low) = let f : None ≡ Some (x, others) = rw (high, low) at e in absurd (none_is_some _ f)
     by_cases (inr high) low = let f : None ≡ Some (x, others) = rw high at e in absurd (none_is_some _ f)
 
 front_refuses : (text : Octets) → (text ≡ [] → ⊥) → hex_front text ≡ None → hex_octets text ≡ None
 unfolding hex_front hex_octets
-front_refuses [] more e = absurd (more refl)
-front_refuses (h ∷ []) more e = refl
-front_refuses (h ∷ l ∷ rest) more e = by_cases (cases_Bool (is_ascii_hexdigit h)) (cases_Bool (is_ascii_hexdigit l))
-  where
-    by_cases : (is_ascii_hexdigit h ≡ true) ⊎ (is_ascii_hexdigit h ≡ false) → (is_ascii_hexdigit l ≡ true) ⊎ (is_ascii_hexdigit l ≡ false) → hex_octets (h ∷ l ∷ rest) ≡ None
-    by_cases (inl high) (inl low) =
-        let f : Some (digit_value h * 16 + digit_value l, rest) ≡ None = rw (high, low) at e in
-        absurd (none_is_some _ (sym f))
-    by_cases (inl high) (inr low) = rw (high, low) refl
-    by_cases (inr high) low = rw high refl
+front_refuses text h h1 = grind (arith, none_is_some)
 
 pub front_shorter : (text : Octets) (x : ℕ) (others : Octets) → hex_front text ≡ Some (x, others) → length others < length text
 unfolding hex_front
-front_shorter [] x others e = cc
-front_shorter (h ∷ []) x others e = cc
-front_shorter (h ∷ l ∷ rest) x others e = by_cases (cases_Bool (is_ascii_hexdigit h)) (cases_Bool (is_ascii_hexdigit l))
-  where
-    by_cases : (is_ascii_hexdigit h ≡ true) ⊎ (is_ascii_hexdigit h ≡ false) → (is_ascii_hexdigit l ≡ true) ⊎ (is_ascii_hexdigit l ≡ false) → length others < length (h ∷ l ∷ rest)
-    by_cases (inl high) (inl low) =
-        let f : Some (digit_value h * 16 + digit_value l, rest) ≡ Some (x, others) = rw (high, low) at e in
-        omega (arith, ap (λ p. length p.1) (some_inner _ _ f))
-    by_cases (inl high) (inr low) = let f : None ≡ Some (x, others) = rw (high, low) at e in absurd (none_is_some _ f)
-    by_cases (inr high) low = let f : None ≡ Some (x, others) = rw high at e in absurd (none_is_some _ f)
+front_shorter text x others h = grind (arith, some_inner, none_is_some)
 
 -- what was read and what the rest says are what the text says
 pub record HexSoFar (text old octets rest : Octets) : Type 0 where
@@ -75,16 +53,11 @@ HexSoFar-push text old octets rest x others so_far e = record {
     joined (Some d) = ap (λ k. Some k) (sym (append_assoc so_far.read (x ∷ []) d))
 
 pub HexSoFar-refuses : (text old octets rest new : Octets) → HexSoFar text old octets rest → (rest ≡ [] → ⊥) → hex_front rest ≡ None → AppendsHex text false old new
-HexSoFar-refuses text old octets rest new so_far more e =
-    so_far.whole ∙ ap (option_map (λ d. so_far.read ++ d)) (front_refuses rest more e)
+HexSoFar-refuses text old octets rest new so_far more e = grind (arith, front_refuses)
 
 pub HexSoFar-end : (text old octets rest : Octets) → HexSoFar text old octets rest → rest ≡ [] → AppendsHex text true old octets
 unfolding hex_octets
-HexSoFar-end text old octets rest so_far empty = (
-  so_far.read,
-  so_far.whole ∙ ap (λ r. option_map (λ d. so_far.read ++ d) (hex_octets r)) empty ∙ ap (λ d. Some d) (append-nil so_far.read),
-  so_far.appended,
-)
+HexSoFar-end text old octets rest so_far empty = grind (arith, append-nil)
 
 -- two texts of hex digits, one after the other
 abbrev pub joined_octets : Option Octets → Option Octets → Option Octets
@@ -95,11 +68,7 @@ even-more h l text e = omega (arith, e)
 
 pub hex_octets-append : (text others : Octets) → length text % 2 ≡ 0 → hex_octets (text ++ others) ≡ joined_octets (hex_octets text) (hex_octets others)
 unfolding hex_octets
-hex_octets-append [] others even = same (hex_octets others)
-  where
-    same : (o : Option Octets) → o ≡ option_map (λ e. [] ++ e) o
-    same None = refl
-    same (Some d) = refl
+hex_octets-append [] others even = grind arith
 hex_octets-append (h ∷ []) others even = absurd (omega (arith, even))
 hex_octets-append (h ∷ l ∷ text) others even =
     by_cases (hex_octets-append text others (even-more h l text even)) (cases_Bool (is_ascii_hexdigit h && is_ascii_hexdigit l))

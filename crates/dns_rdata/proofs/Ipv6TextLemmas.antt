@@ -1,5 +1,5 @@
 -- The text of an IPv6 address, group by group.
-use Rattle.std.proofs.Common.{◌≡◌, ◌≢◌, ℕ, zero, suc, ◌+◌, ◌-◌, ◌*◌, ◌/◌, ◌%◌, ◌<◌, ◌≤◌, max, false, ◌==◌, List, [], ◌∷◌, ◌++◌, length, take, drop, get_or, fold, refl, sym, ◌∙◌, ap, arith, length-append, length-drop, drop-cons}
+use Rattle.std.proofs.Common.{◌≡◌, ◌≢◌, ℕ, zero, suc, ◌+◌, ◌*◌, ◌/◌, ◌%◌, ◌<◌, ◌≤◌, max, false, ◌==◌, List, [], ◌∷◌, ◌++◌, length, take, drop, get_or, fold, refl, sym, ◌∙◌, ap, arith, length-append, length-drop, drop-cons}
 use Rattle.std.specs.List.{prefix_len, position_or_len}
 use Rattle.std.specs.Char.{digit_char}
 use Rattle.std.specs.Fmt.{digits}
@@ -49,9 +49,6 @@ pub record GroupsWritten (old : Octets) (groups others : List ℕ) (i : ℕ) (te
   pub written : text ≡ old ++ groups_text (first ∷ take i others)
   pub short : length text ≤ length old + 4 + 5 * i
 
-pub GroupsWritten-one : (old text : Octets) (groups others : List ℕ) (first : ℕ) → groups ≡ first ∷ others → text ≡ old ++ digits 16 false first → length text ≤ length old + 4 → GroupsWritten old groups others 0 text
-GroupsWritten-one old text groups others first e f short = record { first = first; is = e; written = f; short = omega (arith, short) }
-
 pub GroupsWritten-push : (old text colon new : Octets) (groups others : List ℕ) (i : ℕ) → GroupsWritten old groups others i text → i < length others → colon ≡ text ++ 58 ∷ [] → new ≡ colon ++ digits 16 false (get_or others i 0) → length new ≤ length colon + 4 → GroupsWritten old groups others (i + 1) new
 GroupsWritten-push old text colon new groups others i so_far inside e f short =
     let x = get_or others i 0 in
@@ -65,14 +62,8 @@ GroupsWritten-push old text colon new groups others i so_far inside e f short =
       short = omega (arith, short, so_far.short, ap length e, length-append text (58 ∷ []));
     }
 
-pub GroupsWritten-room : (old text : Octets) (groups others : List ℕ) (i : ℕ) → GroupsWritten old groups others i text → i < length others → length old + 5 * length groups ≤ 40 → length text < 35
-GroupsWritten-room old text groups others i so_far inside room = grind arith
-
 pub GroupsWritten-end : (old text : Octets) (groups others : List ℕ) (i : ℕ) → GroupsWritten old groups others i text → length others ≤ i → text ≡ old ++ groups_text groups
 GroupsWritten-end old text groups others i so_far end = grind (arith, take_all)
-
-pub GroupsWritten-short : (old text : Octets) (groups others : List ℕ) (i : ℕ) → GroupsWritten old groups others i text → i ≤ length others → length text ≤ length old + (5 * length groups - 1)
-GroupsWritten-short old text groups others i so_far most = omega (arith, most, so_far.short, ap length so_far.is)
 
 -- the first place of a number in a list
 first_place : (v : ℕ) (xs : List ℕ) (i : ℕ) → i < length xs → get_or xs i 0 ≡ v → ((k : ℕ) → k < i → get_or xs k 0 ≢ v) → position_or_len (λ k. k == v) xs ≡ i

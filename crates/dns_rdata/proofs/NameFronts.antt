@@ -2,9 +2,8 @@
 use Rattle.std.proofs.Common.{◌≡◌, ℕ, zero, suc, ◌-◌, ◌<◌, ◌≤◌, true, false, Option, None, Some, [], ◌∷◌, ◌++◌, length, take, drop, get_or, refl, sym, ap, ◌∙◌, arith, append_assoc, length-append, take-append-drop}
 use Rattle.std.proofs.lemmas.Bool.{and_parts, and_from}
 use Rattle.std.proofs.lemmas.List.{take_at, drop_at, length-take-le}
-use Rattle.std.specs.Option.{option_map}
 use Rattle.std.specs.List.{list_all}
-use Rattle.dns_spec.specs.Names.{Octets, DomainName, wire, is_label, is_name, name_of}
+use Rattle.dns_spec.specs.Names.{Octets, DomainName, wire, is_label, name_of}
 use Rattle.dns_spec.specs.Data.{name, domain, piece_front, are_strings}
 use Rattle.dns_spec.proofs.DomainNames.NameLaws.{IsName-is_name, IsLabel-is_label, is_label-IsLabel, is_name-IsName}
 use Rattle.dns_spec.proofs.DomainNames.WireNames.{name_read, name_of-wire, wire_fronts_agree}
@@ -13,8 +12,7 @@ use Rattle.dns_name.proofs.WireLemmas.{labels_of_spelled, IsWireForm-wire}
 use Rattle.dns_rdata.specs.NameFront.{StandsAfterLabels, HasNoLabels}
 
 positive : (n : ℕ) → (n ≡ 0 → ⊥) → 0 < n
-positive zero some = absurd (some refl)
-positive (suc n) some = omega arith
+positive n h = grind arith
 
 -- the rest has the same labels to come as the whole
 pub record Alike (octets rest : Octets) : Type 0 where
@@ -35,11 +33,7 @@ no_label_there rest others k e some bad after h = by_cases h.labels h.are_labels
   where
     by_cases : (n : DomainName) → list_all is_label n ≡ true → wire n ++ after ≡ k ∷ others → ⊥
     by_cases [] ok f = some (sym (ap (λ (xs : Octets). get_or xs 0 0) f))
-    by_cases (l ∷ n) ok f =
-        let label = IsLabel-is_label l (and_parts (is_label l) (list_all is_label n) ok).0 in
-        let first : length l ≡ k = ap (λ (xs : Octets). get_or xs 0 0) f in
-        let long : length ((l ++ wire n) ++ after) ≡ length others = ap (λ (xs : Octets). length (drop 1 xs)) f in
-        bad (omega (arith, label.fits)) (omega (arith, length-append (l ++ wire n) after, length-append l (wire n)))
+    by_cases (l ∷ n) ok f = grind (arith, IsLabel-is_label, and_parts, length-append)
 
 -- a label: after it stands the rest
 pub label_passed : (octets rest others : Octets) (k : ℕ) → Alike octets rest → rest ≡ k ∷ others → (k ≡ 0 → ⊥) → k ≤ 63 → k ≤ length others → Alike octets (drop k others)
@@ -56,9 +50,7 @@ label_passed octets rest others k alike e some fits there = record {
         record {
           labels = l ∷ h.labels;
           are_labels = and_from (is_label l) (list_all is_label h.labels) label h.are_labels;
-          whole =
-              e ∙ ap (λ x. x ∷ others) (sym long)
-              ∙ ap (λ xs. length l ∷ xs) (sym (take-append-drop k others) ∙ ap (λ xs. l ++ xs) h.whole ∙ sym (append_assoc l (wire h.labels) after));
+          whole = grind (arith, take-append-drop, append_assoc);
         }
 
     shorter : (after : Octets) → HasNoLabels (drop k others) → (n : DomainName) → list_all is_label n ≡ true → wire n ++ after ≡ k ∷ others → ⊥
@@ -84,9 +76,7 @@ no_front_name octets none = go (name_of octets) refl
 -- the octets before those after labels
 wire_taken : (octets after : Octets) (n : DomainName) (k : ℕ) → octets ≡ wire n ++ after → k ≡ length octets - length after
     → (take k octets ≡ wire n) × (drop k octets ≡ after)
-wire_taken octets after n k e f =
-    let long : length (wire n) ≡ k = omega (arith, ap length e, length-append (wire n) after) in
-    (ap (take k) e ∙ take_at (wire n) after k long, ap (drop k) e ∙ drop_at (wire n) after k long)
+wire_taken octets after n k e f = grind (arith, length-append, take_at, drop_at)
 
 -- labels that are too long for a name
 pub long_name : (octets after front : Octets) (k : ℕ) → StandsAfterLabels octets after → front ≡ take k octets → k ≡ length octets - length after
@@ -107,15 +97,7 @@ pub short_name : (octets after front rest : Octets) (k : ℕ) → StandsAfterLab
     → k ≡ length octets - length after → length front ≤ 255
     → (piece_front domain octets ≡ Some (name (labels_of front), rest)) × IsWireForm front
 short_name octets after front rest k h e g f short =
-    let taken = wire_taken octets after h.labels k h.whole f in
-    let same : front ≡ wire h.labels = e ∙ taken.0 in
-    let ok : is_name h.labels ≡ true = is_name-IsName h.labels h.are_labels (omega (arith, ap length same)) in
-    let found : name_of octets ≡ Some (h.labels, after) = ap name_of h.whole ∙ name_of-wire h.labels after ok in (
-      ap (option_map (λ (r : DomainName × Octets). (name r.0, r.1))) found
-          ∙ ap (λ x. Some (name x, after)) (sym (labels_of_spelled front h.labels same ok))
-          ∙ ap (λ x. Some (name (labels_of front), x)) (sym (g ∙ taken.1)),
-      IsWireForm-wire front h.labels same ok,
-    )
+    grind (arith, wire_taken, is_name-IsName, name_of-wire, labels_of_spelled, IsWireForm-wire)
 
 -- k octets of a string are passed over
 pub strings_after : (k : ℕ) (os : Octets) → k ≤ length os → are_strings k os ≡ are_strings 0 (drop k os)

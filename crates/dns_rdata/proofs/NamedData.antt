@@ -18,8 +18,7 @@ pub record EndsWithName (k : ℕ) (d : Octets) (sought : Option DomainName) : Ty
 
 nothing_left : (os : Octets) (xs : List Part) → cut [] os ≡ Some xs → os ≡ []
 unfolding cut
-nothing_left [] xs e = refl
-nothing_left (o ∷ os) xs e = absurd (none-some xs e)
+nothing_left os xs h = grind (arith, none-some)
 
 one_name : (d : Octets) (xs : List Part) → cut (domain ∷ []) d ≡ Some xs → EndsWithName 0 d (first_name xs)
 one_name d xs e =
@@ -53,8 +52,7 @@ by_pieces k d ps after some = go (cut ps d) refl some after
   where
     go : (x : Option (List Part)) → cut ps d ≡ x → is_some x ≡ true → NameStandsAfter k ps → EndsWithName k d (first_name (unwrap_or x (octets d ∷ [])))
     go None e s after = absurd (false≢true s)
-    go (Some xs) e s (inl (none, whole)) =
-        subst (λ j. EndsWithName j d (first_name xs)) (sym none) (one_name d xs (ap (λ q. cut q d) (sym whole) ∙ e))
+    go (Some xs) e s (inl (none, whole)) = grind (arith, one_name)
     go (Some xs) e s (inr (f, wide, whole)) =
         subst (λ j. EndsWithName j d (first_name xs)) wide (after_numbers f d xs (ap (λ q. cut q d) (sym whole) ∙ e))
 

@@ -1,32 +1,26 @@
 -- Digits read from left to right say a number, and only a number's own text says it.
-use Rattle.std.proofs.Common.{◌≡◌, ◌↔◌, ℕ, zero, suc, [], ◌∷◌, ◌+◌, ◌-◌, ◌*◌, ◌<◌, ◌≤◌, ◌^◌, ◌/◌, ◌%◌, ◌++◌, length-append, List, length, take, get_or, inl, inr, refl, sym, ◌∙◌, ap, subst, arith, decimal}
+use Rattle.std.proofs.Common.{◌≡◌, ◌↔◌, ℕ, [], ◌∷◌, ◌+◌, ◌-◌, ◌*◌, ◌<◌, ◌≤◌, ◌^◌, ◌++◌, length-append, List, length, take, get_or, inl, inr, refl, sym, ◌∙◌, ap, subst, arith, decimal}
 use Rattle.std.proofs.lemmas.List.{take_all, length-take}
 use Rattle.std.specs.Prelude.{Option, Some, None, SomeIff}
 use Rattle.std.proofs.lemmas.Bool.{cases_lt}
 use Rattle.std.specs.Char.{digit_value, IsAsciiDigit, IsNotAsciiDigit}
-use Rattle.std.specs.Int.{IsInRange}
 use Rattle.std.specs.Str.Parse.{AllDigits, digits_value}
 use Rattle.std.proofs.lemmas.Int.Digits.{digits_value_more, digits_more}
 use Rattle.std.proofs.lemmas.Str.Parse.{digit_at, digits_value-take-le, numerals_by_value, tells_digits}
 use Rattle.std.specs.Fmt.{digits}
 use Rattle.dns_spec.specs.Names.{Octets}
-use Rattle.std.proofs.lemmas.Fmt.{decimal_is_IsNumeral, decimal-digits_value, first_decimal, decimal_step, length-decimal-le}
+use Rattle.std.proofs.lemmas.Fmt.{decimal_is_IsNumeral, decimal-digits_value, first_decimal, length-decimal-le}
 
 -- an octet that is no digit
 pub no_digit : (ds : List ℕ) (i : ℕ) → i < length ds → IsNotAsciiDigit (get_or ds i 0) → AllDigits 10 ds → ⊥
-no_digit ds i inside out all = between (get_or ds i 0) (digit_at ds i all inside) out
-  where
-    between : (c : ℕ) → IsInRange 48 57 c → IsNotAsciiDigit c → ⊥
-    between c h (inl low) = omega (arith, h.0)
-    between c h (inr high) = omega (arith, h.1)
+no_digit ds i inside out all = grind (arith, digit_at)
 
 digit_is : (c : ℕ) → IsAsciiDigit c → digit_value c ≡ c - 48
 digit_is c h = grind (arith, h.0, h.1)
 
 -- one digit more
 pub digit_more : (ds : List ℕ) (i n : ℕ) → i < length ds → IsAsciiDigit (get_or ds i 0) → n ≡ digits_value 10 (take i ds) → digits_value 10 (take (i + 1) ds) ≡ n * 10 + (get_or ds i 0 - 48)
-digit_more ds i n inside digit value =
-    omega (arith, digits_value_more 10 ds i inside, digit_is (get_or ds i 0) digit, ap (λ k. k * 10) value)
+digit_more ds i n inside digit value = grind (arith, digits_value_more, digit_is)
 
 -- too many of them for the bound
 pub past_bound : (ds : List ℕ) (i n bound : ℕ) → i < length ds → IsAsciiDigit (get_or ds i 0) → n ≡ digits_value 10 (take i ds) → bound ≤ n * 10 + (get_or ds i 0 - 48) → digits_value 10 ds < bound → ⊥
@@ -38,32 +32,21 @@ all_more ds i inside digit all = digits_more 10 ds i inside all (omega (arith, d
 
 -- nothing is answered
 pub none_iff : {P : Type 0} (o : Option ℕ) (v : ℕ) → o ≡ None → (P → ⊥) → SomeIff o P v
-none_iff None v e refuted = refuted
-none_iff (Some x) v e refuted = absurd (some_is_none x e)
-  where
-    some_is_none : (x : ℕ) → Some x ≡ None → ⊥
-    some_is_none x e = cc
+none_iff o v h h1 = grind arith
 
 pub not_below : (n bound : ℕ) → (n < bound → ⊥) → bound ≤ n
 not_below n bound h = elim (cases_lt n bound) [ inl below ↦ absurd (h below) | inr above ↦ above ]
 
 -- all digits are read
 pub all_read : (ds : List ℕ) (i n bound : ℕ) → length ds ≤ i → AllDigits 10 (take i ds) → n ≡ digits_value 10 (take i ds) → n < bound → (AllDigits 10 ds × (digits_value 10 ds < bound)) × (n ≡ digits_value 10 ds)
-all_read ds i n bound end all value small =
-    let whole = take_all i ds end in
-    let e : n ≡ digits_value 10 ds = value ∙ ap (digits_value 10) whole in
-    let P : List ℕ → Type 0 = AllDigits 10 in
-    ((subst P whole all, omega (arith, e)), e)
+all_read ds i n bound end all value small = grind (arith, take_all)
 
 -- the result is the number that the text says, if it says one
 abbrev pub SaysIff : Octets → ℕ → Option ℕ → Type 0
 SaysIff text most r = (n : ℕ) → (r ≡ Some n) ↔ ((text ≡ decimal n) × (n ≤ most))
 
 pub SaysIff-none : (text : Octets) (most : ℕ) (r : Option ℕ) → r ≡ None → ((n : ℕ) → text ≡ decimal n → n ≤ most → ⊥) → SaysIff text most r
-SaysIff-none text most r none refuted = λ n. (λ h. absurd (none_is_some n (sym none ∙ h)), λ h. absurd (refuted n h.0 h.1))
-  where
-    none_is_some : (n : ℕ) → None ≡ Some n → ⊥
-    none_is_some n e = cc
+SaysIff-none text most r none refuted = grind arith
 
 pub says_digits : (text : Octets) (n : ℕ) → n < 2 ^ 32 → text ≡ decimal n → AllDigits 10 text × (digits_value 10 text ≡ n) × (0 < length text)
 says_digits text n small e =
@@ -81,18 +64,11 @@ zero_text = refl
 
 -- a zero in front of other octets
 pub zero_in_front : (text : Octets) (most : ℕ) → most < 2 ^ 32 → get_or text 0 0 ≡ 48 → (length text ≡ 1 → ⊥) → (n : ℕ) → text ≡ decimal n → n ≤ most → ⊥
-zero_in_front text most small zero_first more n e le = by_cases n e le
-  where
-    by_cases : (n : ℕ) → text ≡ decimal n → n ≤ most → ⊥
-    by_cases zero e le = more (ap length e ∙ ap length zero_text)
-    by_cases (suc k) e le =
-        omega (arith, first_decimal (suc k) (omega arith) (omega arith), ap (λ t. get_or t 0 0) e)
+zero_in_front text most small zero_first more n e le = grind (arith, zero_text, first_decimal)
 
 -- no digits, or digits of too great a number
 pub no_digits : (text : Octets) (most : ℕ) → most < 2 ^ 32 → (AllDigits 10 text × (digits_value 10 text < 2 ^ 32) → ⊥) → (n : ℕ) → text ≡ decimal n → n ≤ most → ⊥
-no_digits text most small refuted n e le =
-    let said = says_digits text n (omega arith) e in
-    refuted (said.0, omega (arith, said.1))
+no_digits text most small refuted n e le = grind (arith, says_digits)
 
 pub greater : (text : Octets) (most : ℕ) → most < 2 ^ 32 → most < digits_value 10 text → (n : ℕ) → text ≡ decimal n → n ≤ most → ⊥
 greater text most small over n e le = let said = says_digits text n (omega arith) e in omega (arith, said.1)
@@ -112,19 +88,8 @@ SaysIff-some text most k r some value le small all some_octet zero_alone = λ n.
         sym (decimal-digits_value (numerals_by_value (AllDigits 10) tells_digits) text all some_octet zero_alone (omega (arith, value)))
         ∙ ap decimal (sym value)
 
--- a number's text is that of its tenth and its last digit
-pub decimal-parts : (n : ℕ) → 10 ≤ n → n < 2 ^ 32 → (decimal n ≡ decimal (n / 10) ++ (48 + n % 10) ∷ []) × (length (decimal n) ≡ length (decimal (n / 10)) + 1)
-decimal-parts n large small =
-    let e = decimal_step n large (omega arith) in
-    (e, ap length e ∙ length-append (decimal (n / 10)) ((48 + n % 10) ∷ []))
-
 pub decimal-octet : (n : ℕ) → n < 256 → length (decimal n) ≤ 3
 decimal-octet n small = length-decimal-le 3 n (omega arith) (omega arith) (omega arith)
-
--- room for the last digit, after the others and alone
-pub room_after : (old new : Octets) (n : ℕ) → 10 ≤ n → n < 2 ^ 32 → length old + length (decimal n) ≤ 10 → new ≡ old ++ decimal (n / 10) → length new < 10
-room_after old new n large small room e =
-    omega (arith, (decimal-parts n large small).1, room, ap length e, length-append old (decimal (n / 10)))
 
 -- the text of an octet has at most three digits
 three_digits : (digits text : Octets) (n k : ℕ) → digits ≡ text → text ≡ decimal k → k ≡ n → n < 256 → length digits ≤ 3

@@ -1,12 +1,11 @@
 -- A walk over the parts of data.
-use Rattle.std.proofs.Common.{◌≡◌, All, List, [], ◌∷◌, ◌++◌, map, get_or, drop, refl, sym, ap, ◌∙◌, subst, append_assoc, append-nil}
+use Rattle.std.proofs.Common.{◌≡◌, All, List, [], ◌∷◌, ◌++◌, map, get_or, drop, refl, sym, ap, ◌∙◌, subst, append_assoc, append-nil, arith}
 use Rattle.std.proofs.lemmas.List.Elements.{All-head, All-tail}
 use Rattle.std.proofs.lemmas.List.Concat.{flat_map-cons}
 use Rattle.dns_spec.specs.Names.{Octets}
 use Rattle.dns_spec.specs.Data.{part_octets, part_folded, joined}
 use Rattle.dns_spec.specs.Data as Data
 use Rattle.dns_rdata.specs.declared.parts.Part.{Part}
-use Rattle.dns_rdata.specs.declared.parts.Part.TheVariants.{Octets as Run, Name}
 use Rattle.dns_rdata.specs.Parts.{part_for, part_lends, shown_part, with_octets, IsLent, HasName}
 
 -- the part that is lent, and those that are still to come
@@ -16,18 +15,14 @@ pub record Walked (old new : List Data.Part) (x : Part) : Type 0 where
   pub are : old ≡ part_for x ∷ new
 
 lent_part : (x : Part) → HasName (part_for x) → part_octets (part_for x) ≡ part_lends x → IsLent x
-lent_part (Run o) ok e = tt
-lent_part (Name o) ok e = record { wire_is = e; is_name = ok }
+lent_part x h h1 = grind arith
 
 unshown : (xs : List Data.Part) → map (λ (y : Data.Part × Octets). y.0) (map with_octets xs) ≡ xs
 unshown [] = refl
 unshown (x ∷ xs) = ap (λ ys. x ∷ ys) (unshown xs)
 
 pub walked : (old new : List Data.Part) (x : Part) → All HasName old → map with_octets old ≡ shown_part x ∷ map with_octets new → Walked old new x
-walked [] new x names e = absurd (no_shown e)
-  where
-    no_shown : ◌≡◌ {A = List (Data.Part × Octets)} [] (shown_part x ∷ map with_octets new) → ⊥
-    no_shown g = cc
+walked [] new x names e = grind arith
 walked (p ∷ ps) new x names e =
     let first : with_octets p ≡ shown_part x = ap (λ (xs : List (Data.Part × Octets)). get_or xs 0 (shown_part x)) e in
     let same : p ≡ part_for x = ap (λ y. y.0) first in
@@ -41,18 +36,11 @@ walked (p ∷ ps) new x names e =
 -- no part is left
 pub none_left : (ps : List Data.Part) → map with_octets ps ≡ [] → ps ≡ []
 none_left [] e = refl
-none_left (p ∷ ps) e = absurd (some_shown e)
-  where
-    some_shown : ◌≡◌ {A = List (Data.Part × Octets)} (with_octets p ∷ map with_octets ps) [] → ⊥
-    some_shown g = cc
+none_left (p ∷ ps) e = grind arith
 
 pub one_lowered : (old new : List Data.Part) (x : Part) (whole before after : Octets) → old ≡ part_for x ∷ new → whole ≡ before ++ joined (map part_folded old)
     → after ≡ before ++ part_octets (part_folded (part_for x)) → whole ≡ after ++ joined (map part_folded new)
-one_lowered old new x whole before after are e grown =
-    let first = part_octets (part_folded (part_for x)) in
-    let others = joined (map part_folded new) in
-    e ∙ ap (λ ps. before ++ joined (map part_folded ps)) are ∙ ap (λ y. before ++ y) (flat_map-cons part_octets (part_folded (part_for x)) (map part_folded new))
-    ∙ sym (append_assoc before first others) ∙ ap (λ y. y ++ others) (sym grown)
+one_lowered old new x whole before after are e grown = grind (arith, flat_map-cons, append_assoc)
 
 pub all_lowered : (ps : List Data.Part) (whole before : Octets) → map with_octets ps ≡ [] → whole ≡ before ++ joined (map part_folded ps) → before ≡ whole
 all_lowered ps whole before none e = sym (e ∙ ap (λ qs. before ++ joined (map part_folded qs)) (none_left ps none) ∙ append-nil before)

@@ -1,12 +1,11 @@
 -- Reading a string from left to right finds what it spells, and nothing else.
-use Rattle.std.proofs.Common.{◌≡◌, ◌↔◌, ℕ, ◌<◌, ◌≤◌, true, false, ◌&&◌, not, ap₂, inl, inr, ◌==◌, ◌||◌, if◌then◌else◌, [], ◌∷◌, ◌++◌, length, refl, sym, ◌∙◌, ap, subst, arith, length-append}
+use Rattle.std.proofs.Common.{◌≡◌, ◌↔◌, ℕ, ◌<◌, ◌≤◌, true, false, ap₂, inl, inr, ◌==◌, ◌||◌, if◌then◌else◌, [], ◌∷◌, ◌++◌, length, refl, sym, ◌∙◌, ap, subst, arith, length-append}
 use Rattle.std.specs.Prelude.{Some, None}
 use Rattle.std.proofs.lemmas.List.{append_assoc, append-nil}
 use Rattle.std.proofs.lemmas.Bool.{cases_Bool, and_parts, not-true, eqb-true, false≢true}
 use Rattle.std.specs.List.{list_any, list_all, flat_map}
 use Rattle.dns_spec.specs.Names.{Octets}
 use Rattle.dns_spec.specs.DataText.{SpellsString, SpellsStringOctet}
-use Rattle.dns_spec.specs.NameText.{is_printable}
 use Rattle.dns_spec.specs.WrittenText.{string_octet_text}
 use Rattle.dns_rdata.specs.WrittenForm.{is_plain}
 use Rattle.dns_name.specs.TextForm.{octet_at, escaped_at}
@@ -19,8 +18,7 @@ StringOctetThen text x others = (first : Octets) × (text ≡ first ++ others) �
 spelled_read : (text : Octets) (x : ℕ) (others : Octets) → StringOctetThen text x others → octet_at text ≡ Some (x, others)
 unfolding octet_at
 spelled_read text x others (first, e, inl spelled) = octet_at-OctetThen text x others (first, e, spelled)
-spelled_read text x others (first, e, inr (dot, is_dot)) =
-    ap octet_at (e ∙ ap (λ f. f ++ others) dot) ∙ ap (λ y. Some (y, others)) (sym is_dot)
+spelled_read text x others (first, e, inr (dot, is_dot)) = grind arith
 
 some_inner : {A : Type 0} (x y : A) → Some x ≡ Some y → x ≡ y
 some_inner x y e = cc
@@ -58,10 +56,7 @@ unfolding octet_at
 StringSoFar-push text read rest x others so_far e = record { all = all; only = only }
   where
     all : (s : Octets) → SpellsString others s → SpellsString text ((read ++ x ∷ []) ++ s)
-    all s h =
-        let next = read_spelled rest x others e in
-        let P : Octets → Type 0 = SpellsString text in
-        subst P (sym (append_assoc read (x ∷ []) s)) (so_far.all (x ∷ s) (next.0, others, next.1, next.2, h))
+    all s h = grind (arith, read_spelled, append_assoc)
 
     after : (t : Octets) → SpellsString rest t → (u : Octets) × (t ≡ x ∷ u) × SpellsString others u
     after [] empty = absurd (none_is_some (x, others) (ap octet_at (sym empty) ∙ e))
@@ -71,10 +66,7 @@ StringSoFar-push text read rest x others so_far e = record { all = all; only = o
         (u, ap (λ k. k ∷ u) one.0, subst P one.1 h)
 
     only : (s : Octets) → SpellsString text s → (t : Octets) × (s ≡ (read ++ x ∷ []) ++ t) × SpellsString others t
-    only s h =
-        let rest_of = so_far.only s h in
-        let next = after rest_of.0 rest_of.2 in
-        (next.0, rest_of.1 ∙ ap (λ t. read ++ t) next.1 ∙ sym (append_assoc read (x ∷ []) next.0), next.2)
+    only s h = grind (arith, append_assoc, after)
 
 pub none_left : (text : Octets) → length text ≡ 0 → text ≡ []
 none_left [] e = refl
@@ -95,14 +87,10 @@ StringSoFar-only text read rest so_far empty s h =
   where
     by_cases : (t : Octets) → SpellsString rest t → t ≡ []
     by_cases [] spelled = refl
-    by_cases (y ∷ t) (first, others, e, spelled, g) =
-        absurd (none_is_some (y, others) (ap octet_at (sym empty) ∙ spelled_read rest y others (first, e, spelled)))
+    by_cases (y ∷ t) (first, others, e, spelled, g) = grind arith
 
 pub StringSoFar-iff : (text read rest : Octets) → StringSoFar text read rest → rest ≡ [] → (s : Octets) → SpellsString text s ↔ (s ≡ read)
-StringSoFar-iff text read rest so_far empty s = (
-  λ h. StringSoFar-only text read rest so_far empty s h,
-  λ e. (let P : Octets → Type 0 = SpellsString text in subst P (sym e) (StringSoFar-end text read rest so_far empty)),
-)
+StringSoFar-iff text read rest so_far empty s = grind (arith, StringSoFar-only, StringSoFar-end)
 
 -- nothing is spelled where the text does not go on
 pub no_string : (text read rest : Octets) → StringSoFar text read rest → (rest ≡ [] → ⊥) → octet_at rest ≡ None → (s : Octets) → SpellsString text s → ⊥
@@ -127,12 +115,7 @@ string_is_long text read rest so_far more full s h short =
 
 -- a spelling has an octet or more
 pub octet_at-shorter : (text : Octets) (x : ℕ) (others : Octets) → octet_at text ≡ Some (x, others) → length others < length text
-octet_at-shorter text x others e = let spelled = read_spelled text x others e in by_cases spelled.0 spelled.1 spelled.2
-  where
-    by_cases : (first : Octets) → text ≡ first ++ others → SpellsStringOctet first x → length others < length text
-    by_cases [] f (inl h) = absurd h
-    by_cases [] f (inr (h, k)) = omega (arith, ap length h)
-    by_cases (a ∷ first) f h = omega (arith, ap length f, length-append first others)
+octet_at-shorter text x others e = grind (arith, read_spelled, length-append)
 
 -- octets without a backslash are read as they stand
 plain_read : (text read rest : Octets) → StringSoFar text read rest → list_any (λ (o : ℕ). o == 92) rest ≡ false → StringSoFar text (read ++ rest) []
@@ -152,10 +135,7 @@ plain_string text none = StringSoFar-iff text text [] (plain_read text [] text (
 
 -- an octet, and octets, that are written as they are
 plain_octet : (o : ℕ) → is_plain o ≡ true → string_octet_text o ≡ o ∷ []
-plain_octet o e =
-    let printable = and_parts (is_printable o) (not (o == 34) && not (o == 92)) e in
-    let others = and_parts (not (o == 34)) (not (o == 92)) printable.1 in
-    rw (not-true (o == 34) others.0, not-true (o == 92) others.1, printable.0) refl
+plain_octet o e = grind (arith, and_parts, not-true)
 
 pub plain_text : (s : Octets) → list_all is_plain s ≡ true → flat_map string_octet_text s ≡ s
 plain_text [] e = refl

@@ -1,13 +1,12 @@
 -- Rows of the code's table, found as rows of the definitions' table are.
-use Rattle.std.proofs.Common.{◌≡◌, Bool, true, false, Option, None, Some, List, [], ◌∷◌, map, cond, refl, sym, ap, ◌∙◌}
+use Rattle.std.proofs.Common.{◌≡◌, Bool, true, false, Option, Some, List, [], ◌∷◌, map, cond, refl, sym, ap, ◌∙◌, arith}
 use Rattle.std.specs.Option.{option_map}
 use Rattle.std.specs.List.{find, list_all}
 use Rattle.std.proofs.lemmas.Bool.{and_parts}
 use Rattle.std.proofs.lemmas.Option.{none-some, same_Some}
 
 found_first : {A B : Type 0} (f : A → B) (b : Bool) (x : A) (r : Option A) (s : Option B) → s ≡ option_map f r → cond b (Some (f x)) s ≡ option_map f (cond b (Some x) r)
-found_first f true x r s e = refl
-found_first f false x r s e = e
+found_first f b x r s h = grind arith
 
 -- what is found among the images is the image of what is found
 pub find-map : {A B : Type 0} (f : A → B) (test : B → Bool) (xs : List A) → find test (map f xs) ≡ option_map f (find (λ x. test (f x)) xs)
@@ -15,14 +14,12 @@ find-map f test [] = refl
 find-map f test (x ∷ xs) = found_first f (test (f x)) x (find (λ y. test (f y)) xs) _ (find-map f test xs)
 
 option_map-twice : {A B C : Type 0} (f : A → B) (g : B → C) (x : Option A) → option_map (λ y. g (f y)) x ≡ option_map g (option_map f x)
-option_map-twice f g None = refl
-option_map-twice f g (Some x) = refl
+option_map-twice f g x = grind arith
 
 -- an item that the code found stands for the row that is found
 pub found_row : {R A B : Type 0} (v : R → A) (f : A → B) (test : B → Bool) (xs : List A) (table : List B) (r : Option R)
     → option_map v r ≡ find (λ x. test (f x)) xs → map f xs ≡ table → option_map (λ x. f (v x)) r ≡ find test table
-found_row v f test xs table r e same =
-    option_map-twice v f r ∙ ap (option_map f) e ∙ sym (find-map f test xs) ∙ ap (find test) same
+found_row v f test xs table r e same = grind (arith, option_map-twice, find-map)
 
 -- what is found passes a test that all pass
 pub found_passes : {A : Type 0} (p q : A → Bool) (xs : List A) (x : A) → list_all q xs ≡ true → find p xs ≡ Some x → q x ≡ true

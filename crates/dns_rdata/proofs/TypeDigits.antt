@@ -1,7 +1,6 @@
 -- Digits are read after `TYPE` in any case.
-use Rattle.std.proofs.Common.{◌≡◌, ℕ, ◌+◌, ◌<◌, ◌≤◌, Bool, true, false, nat_lt, cond, [], ◌∷◌, map, drop, get_or, refl, sym, ap, ◌∙◌, arith}
+use Rattle.std.proofs.Common.{◌≡◌, ℕ, ◌<◌, ◌≤◌, [], ◌∷◌, map, drop, refl, ap, arith}
 use Rattle.std.proofs.lemmas.Bool.{lt-ltb, false≢true}
-use Rattle.std.proofs.lemmas.List.{drop-map}
 use Rattle.std.proofs.lemmas.Fmt.{decimal_is_IsNumeral}
 use Rattle.std.proofs.lemmas.Str.Parse.{digit_from_value}
 use Rattle.std.specs.Fmt.{decimal}
@@ -13,27 +12,18 @@ use Rattle.dns_spec.proofs.DataWords.TypeWords.{decimal-lowered}
 
 -- only digits are digits in lower case
 digit_unlowered : (c d : ℕ) → to_ascii_lowercase c ≡ d → 48 ≤ d → d ≤ 57 → c ≡ d
-digit_unlowered c d e low high = go (nat_lt c 65) (nat_lt c 91) refl e
-  where
-    go : (x y : Bool) → nat_lt c 65 ≡ x → cond x c (cond y (c + 32) c) ≡ d → c ≡ d
-    go true y f g = g
-    go false true f g = absurd (false≢true (sym f ∙ lt-ltb c 65 (omega (arith, g))))
-    go false false f g = g
+digit_unlowered c d e low high = grind (arith, false≢true, lt-ltb)
 
 digits_unlowered : (cs ds : Octets) → map to_ascii_lowercase cs ≡ ds → AllDigits 10 ds → cs ≡ ds
 digits_unlowered [] [] e h = refl
 digits_unlowered [] (d ∷ ds) e h = cc
 digits_unlowered (c ∷ cs) [] e h = cc
 digits_unlowered (c ∷ cs) (d ∷ ds) e h =
-    let range = digit_from_value d h.0 in
-    ap (λ x. x ∷ cs) (digit_unlowered c d (ap (λ (xs : Octets). get_or xs 0 0) e) (omega (arith, range)) (omega (arith, range)))
-    ∙ ap (λ x. d ∷ x) (digits_unlowered cs ds (ap (drop 1) e) h.1)
+    grind (arith, digit_from_value, digit_unlowered, (digits_unlowered cs ds (ap (drop 1) e) h.1))
 
 -- digits after `TYPE` are those of its number
 pub type_digits : (word digits : Octets) (t : ℕ) → drop 4 word ≡ digits → t < 65536 → text_in_lower_case word ≡ text_in_lower_case (numbered_type t) → digits ≡ decimal t
 type_digits word digits t e small h =
     let digits_of : drop 4 (text_in_lower_case (numbered_type t)) ≡ decimal t = decimal-lowered t (omega arith) in
-    let lowered : map to_ascii_lowercase digits ≡ decimal t =
-    ap (map to_ascii_lowercase) (sym e) ∙ sym (drop-map to_ascii_lowercase 4 word) ∙ ap (drop 4) h ∙ digits_of
-    in
+    let lowered : map to_ascii_lowercase digits ≡ decimal t = grind arith in
     digits_unlowered digits (decimal t) lowered (decimal_is_IsNumeral t (omega arith)).0.1

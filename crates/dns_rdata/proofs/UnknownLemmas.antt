@@ -1,9 +1,9 @@
 -- Words of hex digits read from left to right, each of whole octets.
-use Rattle.std.proofs.Common.{◌≡◌, subst, ◌↔◌, Bool, ◌%◌, ◌<◌, ◌≤◌, ℕ, true, false, List, [], ◌∷◌, ◌++◌, length, refl, sym, ◌∙◌, ap, arith, decimal, IsTrue, length-append}
-use Rattle.std.specs.Prelude.{Option, Some, None, ◌&&◌, not, nat_lt, ◌==◌}
+use Rattle.std.proofs.Common.{◌≡◌, ◌↔◌, Bool, ◌%◌, ◌<◌, ◌≤◌, ℕ, true, false, List, [], ◌∷◌, ◌++◌, length, refl, sym, ◌∙◌, ap, arith, decimal, IsTrue, length-append}
+use Rattle.std.specs.Prelude.{Option, Some, ◌&&◌, not}
 use Rattle.std.specs.List.{list_all, flat_map}
 use Rattle.std.specs.Option.{option_map}
-use Rattle.std.specs.Prelude.{Result, Ok, Err, IfErr}
+use Rattle.std.specs.Prelude.{Result, IfErr}
 use Rattle.std.specs.Result.{IsErrAnd}
 use Rattle.std.proofs.lemmas.List.{append_assoc, append-nil}
 use Rattle.std.proofs.lemmas.Bool.{and_parts, eqb-true, eq-eqb, lt-ltb}
@@ -33,16 +33,8 @@ pub record WordsSoFar (ws rest : List Word) (octets : Octets) : Type 0 where
   pub whole : hex_octets (digits_in ws) ≡ option_map (λ d. octets ++ d) (hex_octets (digits_in rest))
 
 pub WordsSoFar-more : (ws rest : List Word) (w : Word) (old new : Octets) → WordsSoFar ws (w ∷ rest) old → AppendsWord w old new → WordsSoFar ws rest new
-WordsSoFar-more ws rest w old new so_far (d, said, e) = record {
-  hex = so_far.hex ∙ and_both _ _ said.0;
-  whole =
-      so_far.whole ∙ ap (option_map (λ x. old ++ x)) (joined rest w said.0 ∙ ap (λ o. joined_octets o (hex_octets (digits_in rest))) said.1)
-      ∙ onto (hex_octets (digits_in rest)) ∙ ap (λ o. option_map (λ x. o ++ x) (hex_octets (digits_in rest))) (sym e);
-}
-  where
-    onto : (o : Option Octets) → option_map (λ x. old ++ x) (joined_octets (Some d) o) ≡ option_map (λ x. (old ++ d) ++ x) o
-    onto None = refl
-    onto (Some x) = ap (λ k. Some k) (sym (append_assoc old d x))
+WordsSoFar-more ws rest w old new so_far (d, said, e) =
+    grind (arith, and_both, joined, joined_octets, append_assoc)
 
 pub WordsSoFar-end : (ws : List Word) (octets : Octets) → WordsSoFar ws [] octets → SaysHex ws octets
 unfolding hex_octets
@@ -50,25 +42,11 @@ WordsSoFar-end ws octets so_far = (so_far.hex, so_far.whole ∙ ap (λ d. Some d
 
 -- what the rest says stands after the octets so far
 pub rest_says : (ws rest : List Word) (octets d : Octets) → WordsSoFar ws rest octets → SaysHex ws d → (e : Octets) × SaysHex rest e × (d ≡ octets ++ e)
-rest_says ws rest octets d so_far (all, says) = by_cases (hex_octets (digits_in rest)) refl
-  where
-    by_cases : (o : Option Octets) → hex_octets (digits_in rest) ≡ o → (e : Octets) × SaysHex rest e × (d ≡ octets ++ e)
-    by_cases None none =
-        let f : Some d ≡ None = sym says ∙ so_far.whole ∙ ap (option_map (λ x. octets ++ x)) none in
-        absurd cc
-    by_cases (Some e) some =
-        let f : Some d ≡ Some (octets ++ e) = sym says ∙ so_far.whole ∙ ap (option_map (λ x. octets ++ x)) some in
-        (e, (sym so_far.hex ∙ all, some), cc)
+rest_says ws rest octets d so_far (all, says) = grind arith
 
 -- the first word says octets where all of them do
 pub first_says : (w : Word) (ws : List Word) (d : Octets) → SaysHex (w ∷ ws) d → (e : Octets) × SaysHexWord w e
-first_says w ws d (all, says) = by_cases (hex_octets w.raw) refl
-  where
-    by_cases : (o : Option Octets) → hex_octets w.raw ≡ o → (e : Octets) × SaysHexWord w e
-    by_cases None none =
-        let f : Some d ≡ None = sym says ∙ joined ws w (and_parts _ _ all).0 ∙ ap (λ o. joined_octets o (hex_octets (digits_in ws))) none in
-        absurd cc
-    by_cases (Some e) some = (e, ((and_parts _ _ all).0, some))
+first_says w ws d (all, says) = grind (arith, joined, and_parts, joined_octets)
 
 -- a number in an unquoted word
 pub says_count : (w : Word) (text : Octets) (most : ℕ) (r : Option ℕ) → w.is_quoted ≡ false → text ≡ w.raw → ((n : ℕ) → (r ≡ Some n) ↔ ((text ≡ decimal n) × (n ≤ most))) → (n : ℕ) → (r ≡ Some n) ↔ (IsTrue (not w.is_quoted) × (w.raw ≡ decimal n) × (n ≤ most))
@@ -88,10 +66,7 @@ count_is_length w count d number says few short = decimal_injective (length d) c
 -- the words say only the octets that were read
 pub only_octets : (w : Word) (ws : List Word) (octets d : Octets) → WordsSoFar ws [] octets → SaysUnknown (w ∷ ws) d → d ≡ octets
 unfolding hex_octets
-only_octets w ws octets d so_far said = some_inner (sym said.2.1 ∙ (WordsSoFar-end ws octets so_far).1)
-  where
-    some_inner : Some d ≡ Some octets → d ≡ octets
-    some_inner e = cc
+only_octets w ws octets d so_far said = grind (arith, WordsSoFar-end)
 
 -- more octets than the first word says
 pub past_count : (w : Word) (ws rest : List Word) (count : ℕ) (octets d : Octets) → WordsSoFar ws rest octets → w.raw ≡ decimal count → count < length octets → count ≤ 65535 → SaysUnknown (w ∷ ws) d → length d ≤ 65535 → ⊥
@@ -108,13 +83,9 @@ word_refused w ws rest octets d so_far none said =
 
 -- an error handed on is the same
 pub same_fault : {X E : Type 0} (r : Result X E) (Q : E → Type 0) (f : E) → IsErrAnd r (λ e. e ≡ f) → Q f → IfErr r Q
-same_fault (Ok x) Q f e q = tt
-same_fault (Err g) Q f e q = subst Q (sym e) q
+same_fault r Q f h h1 = grind arith
 
 -- an unquoted word that is not empty
 pub word_appends : (w : Word) (text old new : Octets) → w.is_quoted ≡ false → text ≡ w.raw → (length text ≡ 0 → ⊥) → AppendsHex text true old new → AppendsWord w old new
 word_appends w text old new unquoted same more (d, says, e) =
-    let said : hex_octets w.raw ≡ Some d = ap hex_octets (sym same) ∙ says in
-    let some : nat_lt 0 (length w.raw) ≡ true = lt-ltb 0 (length w.raw) (omega (arith, more, ap length same)) in
-    let even : (length w.raw % 2 == 0) ≡ true = eq-eqb _ _ (even_digits w.raw d said) in
-    (d, (rw (unquoted, some, even) refl, said), e)
+    grind (arith, lt-ltb, even, eq-eqb, even_digits)

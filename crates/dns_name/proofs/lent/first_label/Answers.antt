@@ -1,6 +1,6 @@
-use Rattle.std.proofs.Common.{◌≡◌, ℕ, ◌∷◌, true, take, drop, ap, ◌∙◌}
+use Rattle.std.proofs.Common.{◌≡◌, ℕ, ◌∷◌, take, drop, arith}
 use Rattle.std.proofs.lemmas.Bool.{false≢true}
-use Rattle.dns_spec.specs.Names.{Octets, is_label}
+use Rattle.dns_spec.specs.Names.{Octets}
 use Rattle.dns_name.specs.WireForm.{labels_of, IsWireForm}
 use Rattle.dns_name.proofs.WireLemmas.{BeginsWithLabel, BeginsWithLabel-IsWireForm, labels_of-zero, IsWireForm-nil}
 use Rattle.dns_name.proofs.lent.first_label.Goals as goal
@@ -19,12 +19,7 @@ split_at-requires c =
     (BeginsWithLabel-IsWireForm _ _ _ c.requires c.in_ok-length.ensures.cases.0 c.if-length-eq0.false).fits
 
 pub returns-in_err-new : goal.returns-in_err-new
-returns-in_err-new c =
-    let first = BeginsWithLabel-IsWireForm _ _ _ c.requires c.in_ok-length.ensures.cases.0 c.if-length-eq0.false in
-    let ok : is_label c.split_at.result.0.now ≡ true = ap is_label c.split_at.ensures.front ∙ first.label in
-    absurd (false≢true (c.in_err-new.ensures.some.1 ok))
+returns-in_err-new c = grind (arith, BeginsWithLabel-IsWireForm, false≢true)
 
 pub returns : goal.returns
-returns c =
-    let first = BeginsWithLabel-IsWireForm _ _ _ c.requires c.in_ok-length.ensures.cases.0 c.if-length-eq0.false in
-    split_there _ _ _ _ _ first (c.in_ok-new.ensures.octets ∙ c.split_at.ensures.front) c.split_at.ensures.back
+returns c = grind (arith, BeginsWithLabel-IsWireForm, split_there)

@@ -1,4 +1,4 @@
-use Rattle.std.proofs.Common.{rules, ◌≡◌, Ordering, refl, sym, ◌∙◌}
+use Rattle.std.proofs.Common.{rules, ◌≡◌, Ordering, refl, sym, ◌∙◌, arith}
 use Rattle.std.specs.Ordering.{ordering_then}
 use Rattle.dns_spec.specs.Names.{Octets, label_order}
 use Rattle.dns_name.proofs.OrderLemmas.{order_next, order_stays}
@@ -8,10 +8,7 @@ compared : (xs ys l k : Octets) (a order next : Ordering) → xs ≡ l → ys �
 compared xs ys l k a order next e f g h = h ∙ rw (g, e, f) refl
 
 pub labels-preserved : goal.labels-preserved
-labels-preserved c =
-    let here = compared _ _ _ _ _ _ _ c.octets.ensures.value c.octets-in-Some-Some.ensures.value c.cmp.ensures c.then-order.ensures in
-    let step = order_next _ _ _ _ _ _ _ _ c.in-Some-Some.ensures.steps c.in-Some-Some.ensures'.steps c.labels.invariant.0 here in
-    (step.0, step.1 ∙ c.labels.invariant.1)
+labels-preserved c = grind (arith, compared, order_next)
 
 pub returns-then-are_those_of : goal.returns-then-are_those_of
 returns-then-are_those_of c =

@@ -1,4 +1,4 @@
-use Rattle.std.proofs.Common.{◌≡◌, ◌<◌, length, arith, sym, false}
+use Rattle.std.proofs.Common.{◌≡◌, length, arith, sym, false}
 use Rattle.std.proofs.lemmas.Bool.{eqb-false, eqb-true}
 use Rattle.dns_name.specs.TextForm.{is_label_end}
 use Rattle.dns_name.proofs.TextLemmas.{OctetThen-octet_at, OctetThen-shorter, ReadsLabel-push, ReadsLabel-full, no_label_read}
@@ -10,17 +10,10 @@ returns-in_err-octet-clause-none c = λ _.
     no_label_read _ _ _ c.octets.invariant goes_on c.in_err-octet.ensures
 
 pub octets-smaller-then-not-is_full : goal.octets-smaller-then-not-is_full
-octets-smaller-then-not-is_full c =
-    let goes_on : is_label_end c.octets.rest.now ≡ false = sym c.octets-test.ensures in
-    OctetThen-shorter _ _ _ (OctetThen-octet_at _ _ _ goes_on c.in_ok-octet.ensures)
+octets-smaller-then-not-is_full c = grind (arith, OctetThen-shorter, OctetThen-octet_at)
 
 pub octets-preserved-then-not-is_full : goal.octets-preserved-then-not-is_full
-octets-preserved-then-not-is_full c =
-    let goes_on : is_label_end c.octets.rest.now ≡ false = sym c.octets-test.ensures in
-    let next = OctetThen-octet_at _ _ _ goes_on c.in_ok-octet.ensures in
-    let others : length c.octets.octets.items ≡ 64 → ⊥ = eqb-false _ _ (sym c.if-not-is_full.ensures.value) in
-    let room : length c.octets.octets.items < 64 = omega arith in
-    rw c.push.ensures.items (ReadsLabel-push _ _ _ _ _ c.octets.invariant next room)
+octets-preserved-then-not-is_full c = grind (arith, OctetThen-octet_at, eqb-false, ReadsLabel-push)
 
 pub octets-smaller : goal.octets-smaller
 octets-smaller c =

@@ -1,4 +1,4 @@
-use Rattle.std.proofs.Common.{refl, sym}
+use Rattle.std.proofs.Common.{refl, sym, arith}
 use Rattle.dns_name.proofs.WrittenLemmas.{special_text, graphic_text, other_text}
 use Rattle.dns_name.proofs.written.append_octet.Goals as goal
 
@@ -6,9 +6,7 @@ pub returns-then-is_special-clause-text : goal.returns-then-is_special-clause-te
 returns-then-is_special-clause-text c = rw (c.append.ensures, special_text _ (sym c.if-is_special.ensures)) refl
 
 pub returns-then-is_ascii_graphic-clause-text : goal.returns-then-is_ascii_graphic-clause-text
-returns-then-is_ascii_graphic-clause-text c =
-    rw (c.push.ensures, graphic_text _ (sym c.if-is_special.ensures) (sym c.if-is_ascii_graphic.ensures.value)) refl
+returns-then-is_ascii_graphic-clause-text c = grind (arith, graphic_text)
 
 pub returns-else-is_ascii_graphic-clause-text : goal.returns-else-is_ascii_graphic-clause-text
-returns-else-is_ascii_graphic-clause-text c =
-    rw (c.append-else-is_ascii_graphic.ensures, other_text _ (sym c.if-is_special.ensures) (sym c.if-is_ascii_graphic.ensures.value)) refl
+returns-else-is_ascii_graphic-clause-text c = grind (arith, other_text)

@@ -3,9 +3,7 @@ use Rattle.dns_rdata.proofs.Ipv6Lemmas.{GroupSoFar-small, GroupSoFar-push}
 use Rattle.dns_rdata.proofs.ipv6.group_value.Goals as goal
 
 pub overflow_mul-value : goal.overflow_mul-value
-overflow_mul-value c =
-    let small = GroupSoFar-small _ _ _ c.digits.invariant c.digits-test.true c.if-text-gt4.false in
-    omega (arith, small)
+overflow_mul-value c = grind (arith, GroupSoFar-small)
 
 pub overflow_add-value : goal.overflow_add-value
 overflow_add-value c =

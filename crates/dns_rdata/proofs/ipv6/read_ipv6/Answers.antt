@@ -1,10 +1,9 @@
-use Rattle.std.proofs.Common.{sym, ◌∙◌}
+use Rattle.std.proofs.Common.{sym, arith}
 use Rattle.dns_rdata.proofs.Ipv6Lemmas.{refused_whole, whole_word, refused_front, refused_back, refused_sum, filled_word}
 use Rattle.dns_rdata.proofs.ipv6.read_ipv6.Goals as goal
 
 pub returns-in_err-groups : goal.returns-in_err-groups
-returns-in_err-groups c =
-    c.from_residual.ensures ∙ sym (refused_whole c.args.word.now c.in_default.ensures c.in_err-groups.ensures)
+returns-in_err-groups c = grind (arith, refused_whole)
 
 pub returns-in_default : goal.returns-in_default
 returns-in_default c =
@@ -12,14 +11,10 @@ returns-in_default c =
     (rw c.as_slice.ensures.value at c.octets_of_groups.ensures)
 
 pub returns-in_err-groups-2 : goal.returns-in_err-groups-2
-returns-in_err-groups-2 c =
-    c.from_residual-in_err-groups-2.ensures
-    ∙ sym (refused_front c.args.word.now _ _ c.in-Some.ensures c.in_err-groups-2.ensures)
+returns-in_err-groups-2 c = grind (arith, refused_front)
 
 pub returns-in_err-back : goal.returns-in_err-back
-returns-in_err-back c =
-    c.from_residual-in_err-back.ensures
-    ∙ sym (refused_back c.args.word.now _ _ _ c.in-Some.ensures c.in_ok-groups-2.ensures c.in_err-back.ensures)
+returns-in_err-back c = grind (arith, refused_back)
 
 pub returns-then-not-fill : goal.returns-then-not-fill
 returns-then-not-fill c =

@@ -3,8 +3,7 @@ use Rattle.dns_rdata.proofs.NumberLemmas.{no_digit, digit_more, past_bound, all_
 use Rattle.dns_rdata.proofs.number.number_of_digits.Goals as goal
 
 pub returns-then-not-is_ascii_digit : goal.returns-then-not-is_ascii_digit
-returns-then-not-is_ascii_digit c = λ h.
-    no_digit c.args.digits.now c.digits.digit-index c.digits-test.true c.if-not-is_ascii_digit.ensures.cases h.0
+returns-then-not-is_ascii_digit c = grind (arith, no_digit)
 
 pub returns-in_err-checked_mul : goal.returns-in_err-checked_mul
 returns-in_err-checked_mul c =
@@ -17,13 +16,7 @@ returns-in_err-number c =
     (λ h. past_bound c.args.digits.now c.digits.digit-index c.digits.number (2 ^ 32) c.digits-test.true c.if-not-is_ascii_digit.ensures.cases c.digits.invariant.value (omega (arith, not_below _ _ c.in_err-number.ensures, c.from.ensures, c.in_ok-checked_mul.ensures.1)) h.1)
 
 pub digits-preserved : goal.digits-preserved
-digits-preserved c = record {
-  digits = all_more c.args.digits.now c.digits.digit-index c.digits-test.true c.if-not-is_ascii_digit.ensures.cases c.digits.invariant.digits;
-  value =
-      let e = digit_more c.args.digits.now c.digits.digit-index c.digits.number c.digits-test.true c.if-not-is_ascii_digit.ensures.cases c.digits.invariant.value in
-      omega (arith, e, c.in_ok-number.ensures.1, c.from.ensures, c.in_ok-checked_mul.ensures.1);
-  fits = omega (arith, c.in_ok-number.ensures.0, c.in_ok-number.ensures.1);
-}
+digits-preserved c = grind (arith, all_more, digit_more)
 
 pub returns : goal.returns
 returns c = all_read c.args.digits.now c.digits.digit-index c.digits.number (2 ^ 32) c.digits-test.false c.digits.invariant.digits c.digits.invariant.value c.digits.invariant.fits

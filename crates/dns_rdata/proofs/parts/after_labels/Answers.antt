@@ -1,5 +1,5 @@
-use Rattle.std.proofs.Common.{arith, ◌≡◌, ◌≤◌, sym, ap, ◌∙◌, subst, drop, length}
-use Rattle.dns_rdata.proofs.NameFronts.{Alike, nothing_begins, no_label_there, label_passed}
+use Rattle.std.proofs.Common.{arith}
+use Rattle.dns_rdata.proofs.NameFronts.{nothing_begins, no_label_there, label_passed}
 use Rattle.dns_rdata.proofs.parts.after_labels.Goals as goal
 
 pub returns-in_err-length-clause-none : goal.returns-in_err-length-clause-none
@@ -18,12 +18,4 @@ returns-in_err-after-clause-none c =
     (λ fits there. absurd (omega (arith, c.from.ensures, c.in_err-after.ensures.cases))))
 
 pub labels-preserved : goal.labels-preserved
-labels-preserved c =
-    let split = c.in_ok-after.ensures.cases in
-    let there : c.in_ok-length.length.now ≤ length c.in_ok-length.others.now = omega (arith, c.from.ensures, split.0) in
-    let back : drop c.in_ok-length.length.now c.in_ok-length.others.now ≡ c.in_ok-after.after.now =
-    ap (λ k. drop k c.in_ok-length.others.now) (sym c.from.ensures) ∙ sym split.2
-    in
-    subst (Alike c.args.octets.now) back
-    (label_passed c.args.octets.now c.labels.rest.now c.in_ok-length.others.now c.in_ok-length.length.now c.labels.invariant c.in_ok-length.ensures.cases.0
-    c.if-length-eq0.false c.if-length-gt-MAX_LABEL.false there)
+labels-preserved c = grind (arith, label_passed)

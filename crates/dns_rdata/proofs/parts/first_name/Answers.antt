@@ -10,9 +10,7 @@ returns-in_err-after c =
     rw c.from_residual.ensures (ap (option_map (λ (r : DomainName × Octets). (name r.0, r.1))) (no_front_name c.args.octets.now (c.in_err-after.ensures.none refl)))
 
 pub returns-then-name-gt-MAX_NAME : goal.returns-then-name-gt-MAX_NAME
-returns-then-name-gt-MAX_NAME c =
-    ap (option_map (λ (r : DomainName × Octets). (name r.0, r.1)))
-    (long_name c.args.octets.now c.in_ok-after.after.now c.split_at.result.0.now _ c.in_ok-after.ensures.some c.split_at.ensures.front refl (omega (arith, c.if-name-gt-MAX_NAME.true)))
+returns-then-name-gt-MAX_NAME c = grind (arith, long_name)
 
 pub returns : goal.returns
 returns c =

@@ -1,5 +1,4 @@
-use Rattle.std.proofs.Common.{rules, ℕ, ◌≡◌, sym, ◌∙◌, arith, None, Some}
-use Rattle.std.specs.Fmt.{decimal}
+use Rattle.std.proofs.Common.{ℕ, ◌≡◌, sym, ◌∙◌, arith, None, Some}
 use Rattle.dns_rdata.proofs.TypeDigits.{type_digits}
 use Rattle.dns_rdata.proofs.rtype.read_numbered.Goals as goal
 
@@ -13,8 +12,3 @@ returns-in_err-number c =
 
 pub overflow_cast-result : goal.overflow_cast-result
 overflow_cast-result c = let most = ((c.read_number.ensures c.in_ok-number.number).0 c.in_ok-number.was).1 in omega (arith, most)
-
-pub returns : goal.returns
-returns c =
-    let digits : c.in_ok-prefix.digits.now ≡ decimal c.in_ok-number.number = ((c.read_number.ensures c.in_ok-number.number).0 c.in_ok-number.was).0 in
-    search rules

@@ -1,4 +1,4 @@
-use Rattle.std.proofs.Common.{rules, get_or, ◌≡◌, ◌≤◌, ◌<◌, ◌^◌, ℕ, suc, ◌++◌, ◌∷◌, [], decimal, arith, sym, ap, ◌∙◌}
+use Rattle.std.proofs.Common.{rules, get_or, ◌≡◌, ◌≤◌, ◌^◌, ℕ, suc, ◌++◌, ◌∷◌, [], decimal, arith, sym, ap, ◌∙◌}
 use Rattle.std.specs.Int.{bytes_high_first}
 use Rattle.dns_spec.specs.Names.{Octets}
 use Rattle.dns_spec.specs.DataText.{SaysNumber}
@@ -17,8 +17,7 @@ few Four = omega arith
 -- a number that has room in so many octets is appended by them
 appended : (s : NumberSize) (n most : ℕ) (text before after piece : Octets) → (text ≡ decimal n) × (n ≤ most) → suc most ≡ 256 ^ size_of s
     → piece ≡ bytes_high_first (size_of s) n → after ≡ before ++ piece → Appends as_it_is (SaysNumber (size_of s) text) before after
-appended s n most text before after piece said top is =
-    number_appended (size_of s) (few s) n text before after piece said.0 (let small : n < 256 ^ size_of s = omega (arith, said.1, top) in small) is
+appended s n most text before after piece said top is = grind (arith, number_appended, few)
 
 pub returns-in-Two-clause-ok : goal.returns-in-Two-clause-ok
 returns-in-Two-clause-ok c =
@@ -30,14 +29,3 @@ returns-in-Two-clause-ok c =
     (appended c.args.size n _ c.args.text.now _ _ _ ((c.read_number.ensures n).0 read) c.most.ensures
     (octets ∙ ap (λ s. bytes_high_first (size_of s) n) two))
     c.append.ensures.ok
-
-pub returns-in-Four-clause-ok : goal.returns-in-Four-clause-ok
-returns-in-Four-clause-ok c =
-    let n = c.in_ok-number.number in
-    let read = ok_or-some c.read_number.result _ n (sym c.ok_or.ensures.value ∙ c.in_ok-number.was) in
-    let four : Four ≡ c.args.size = search rules in
-    let octets = ap (λ x. get_or x 0 0 ∷ get_or x 1 0 ∷ get_or x 2 0 ∷ get_or x 3 0 ∷ []) c.to_be_bytes.ensures in
-    OnOk-map c.append-in-Four.result
-    (appended c.args.size n _ c.args.text.now _ _ _ ((c.read_number.ensures n).0 read) c.most.ensures
-    (octets ∙ ap (λ s. bytes_high_first (size_of s) n) four))
-    c.append-in-Four.ensures.ok

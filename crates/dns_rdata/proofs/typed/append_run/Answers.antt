@@ -1,4 +1,4 @@
-use Rattle.std.proofs.Common.{◌≡◌, ℕ, List, ◌+◌, ◌-◌, [], ◌∷◌, ap, arith, length, replicate, subst}
+use Rattle.std.proofs.Common.{◌≡◌, ℕ, List, ◌+◌, ◌-◌, [], ◌∷◌, arith, length, replicate, subst}
 use Rattle.std.proofs.lemmas.List.{length-replicate}
 use Rattle.dns_rdata.specs.WordForms.{form_of, kept, Appends, AppendsFront, SaysNoFront}
 use Rattle.dns_spec.specs.Names.{Octets, DomainName}
@@ -11,9 +11,7 @@ pub run-init : goal.run-init
 run-init g c = record { front = front-none _ _ _; bound = c.requires.bound }
 
 pub unreachable-requires : goal.unreachable-requires
-unreachable-requires g c =
-    let form = form_of c.args.run.form in
-    omega (arith, c.run.invariant.front.count, ap length c.in_default.ensures, length-replicate c.run.counter form, c.run-test.true, c.requires.words)
+unreachable-requires g c = grind (arith, length-replicate)
 
 pub returns-in_err-append_word-clause-fault : goal.returns-in_err-append_word-clause-fault
 returns-in_err-append_word-clause-fault g c =
@@ -45,13 +43,4 @@ returns-then-len-gt-MAX_OCTETS-clause-fault g c = λ _.
     (too-long c.args.origin.now (replicate (c.run.counter + 1) form) ws _ _ _ front (omega (arith, c.len.ensures, c.if-len-gt-MAX_OCTETS.true))))
 
 pub run-preserved : goal.run-preserved
-run-preserved g c = record {
-  front = taken c.run.counter (form_of c.args.run.form) c.args.origin.now c.in-Some.word (g.W.Words.to_come c.args.words) (g.W.Words.to_come c.run.others) (g.W.Words.to_come c.in-Some.after) _ _ _
-      c.run.invariant.front c.in-Some.ensures c.in_ok-append_word.ensures.ok;
-  bound = omega (arith, c.len.ensures, c.if-len-gt-MAX_OCTETS.false);
-}
-
-pub returns-clause-ok : goal.returns-clause-ok
-returns-clause-ok g c =
-    let all : c.run.counter ≡ c.args.run.times = omega (arith, c.run.auto.counter-end, c.run-test.false) in
-    subst (λ n. AppendsFront (replicate n (form_of c.args.run.form)) c.args.origin.now (g.W.Words.to_come c.args.words) (g.W.Words.to_come c.run.others) c.args.octets.now.items c.run.octets.items) all c.run.invariant.front
+run-preserved g c = grind (arith, taken)

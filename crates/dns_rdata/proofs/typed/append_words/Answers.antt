@@ -1,7 +1,8 @@
+use Rattle.std.proofs.lemmas.Grind.{common_steps}
 use Rattle.std.proofs.Common.{refl, arith, ap, length}
 use Rattle.dns_rdata.specs.WordForms.{form_of}
 use Rattle.dns_name.proofs.Results.{fault_handed_on}
-use Rattle.dns_rdata.proofs.FormFronts.{run-fits, run-taken, run-refused, pieces-taken}
+use Rattle.dns_rdata.proofs.FormFronts.{run-fits, run-taken, run-refused}
 use Rattle.dns_rdata.proofs.typed.append_words.Goals as goal
 
 pub append_run-requires : goal.append_run-requires
@@ -30,6 +31,4 @@ pieces-preserved g c = record {
 }
 
 pub returns-clause-ok : goal.returns-clause-ok
-returns-clause-ok g c =
-    pieces-taken c.args.count c.args.pieces.now c.pieces.piece-index c.args.origin.now (g.W.Words.to_come c.args.words) (g.W.Words.to_come c.pieces.words) _ _
-    c.pieces-test.false (rw c.requires.none at c.pieces.invariant.front) c.requires.as_many
+returns-clause-ok g c = grind (arith, common_steps)

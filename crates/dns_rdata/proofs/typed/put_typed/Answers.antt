@@ -1,7 +1,6 @@
 use Rattle.std.proofs.lemmas.Bool.{eqb-false}
 use Rattle.std.proofs.Common.{◌∙◌, sym, OnOk, Result, Ok, Err}
-use Rattle.dns_name.proofs.Results.{IfErr-map}
-use Rattle.dns_rdata.proofs.TypedData.{typed_said, nothing_typed, other_count}
+use Rattle.dns_rdata.proofs.TypedData.{typed_said, other_count}
 use Rattle.dns_rdata.proofs.typed.put_typed.Goals as goal
 
 pub returns-then-not-is_word_count-clause-fault : goal.returns-then-not-is_word_count-clause-fault
@@ -17,9 +16,3 @@ returns-clause-ok g c =
     OnOk-both : {A E P Q R : Type 0} (r : Result A E) → (P → Q → R) → OnOk r P → OnOk r Q → OnOk r R
     OnOk-both (Ok a) f p q = f p q
     OnOk-both (Err e) f p q = tt
-
-pub returns-clause-fault : goal.returns-clause-fault
-returns-clause-fault g c =
-    IfErr-map c.append_words.result
-    (λ fault none other. nothing_typed _ _ _ _ _ c.requires.not_unknown c.in-Some.ensures c.count-count.ensures (none other))
-    c.append_words.ensures.fault

@@ -1,4 +1,4 @@
-use Rattle.std.proofs.Common.{arith, subst, ap, length}
+use Rattle.std.proofs.Common.{arith, subst}
 use Rattle.dns_spec.specs.DataText.{SaysUnknown}
 use Rattle.dns_rdata.proofs.UnknownLemmas.{WordsSoFar, WordsSoFar-more, word_refused, same_fault, past_count, says_unknown, only_octets, count_is_length}
 use Rattle.dns_rdata.proofs.unknown.put_unknown.Goals as goal
@@ -22,23 +22,10 @@ returns-then-len-count-clause-fault g c = λ _ d said short.
     (subst (λ all. SaysUnknown all d) c.in-Some.ensures said) short
 
 pub words-preserved : goal.words-preserved
-words-preserved g c =
-    let ws = g.W.Words.to_come c.in-Some.others in
-    WordsSoFar-more ws _ _ _ _ (subst (λ rest. WordsSoFar ws rest c.words.octets.items) c.in-Some-split_first.ensures c.words.invariant) c.in_ok-append_word.ensures.ok
+words-preserved g c = grind (arith, WordsSoFar-more)
 
 pub returns-then-len-count-2-clause-fault : goal.returns-then-len-count-2-clause-fault
-returns-then-len-count-2-clause-fault g c = λ _ d said short.
-    let number = (c.octet_count.ensures c.in_ok-count.count).0 c.in_ok-count.ensures.ok_part in
-    let ws = g.W.Words.to_come c.in-Some.others in
-    let after = subst (λ all. SaysUnknown all d) c.in-Some.ensures said in
-    let same = only_octets c.in-Some.first ws c.words.octets.items d (subst (λ rest. WordsSoFar ws rest c.words.octets.items) c.in_default-split_first.ensures c.words.invariant) after in
-    omega (arith, c.if-len-count-2.true, c.len-2.ensures, ap length same, count_is_length c.in-Some.first c.in_ok-count.count d number.1 after.1 number.2 short)
+returns-then-len-count-2-clause-fault g c = grind (arith, only_octets, count_is_length)
 
 pub returns-clause-ok : goal.returns-clause-ok
-returns-clause-ok g c =
-    let number = (c.octet_count.ensures c.in_ok-count.count).0 c.in_ok-count.ensures.ok_part in
-    let ws = g.W.Words.to_come c.in-Some.others in
-    rw c.in-Some.ensures
-    (says_unknown c.in-Some.first ws c.in_ok-count.count c.words.octets.items number.0 number.1
-    (omega (arith, c.if-len-count-2.false, c.len-2.ensures))
-    (subst (λ rest. WordsSoFar ws rest c.words.octets.items) c.in_default-split_first.ensures c.words.invariant))
+returns-clause-ok g c = grind (arith, says_unknown)

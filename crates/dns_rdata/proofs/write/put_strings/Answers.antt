@@ -1,4 +1,4 @@
-use Rattle.std.proofs.Common.{rules, ap, sym, ◌∙◌}
+use Rattle.std.proofs.Common.{rules, ap, sym, ◌∙◌, arith}
 use Rattle.std.proofs.lemmas.Bool.{eqb-true, eqb-false}
 use Rattle.std.proofs.lemmas.List.{nil_from_length}
 use Rattle.dns_spec.specs.Data.{are_strings}
@@ -8,8 +8,7 @@ use Rattle.dns_rdata.proofs.SpacedWords.{string_begins, more_strings, spaced-str
 use Rattle.dns_rdata.proofs.write.put_strings.Goals as goal
 
 pub append_string-rest-requires-clause-string : goal.append_string-rest-requires-clause-string
-append_string-rest-requires-clause-string g c =
-    string_begins _ c.strings.invariant.strings (eqb-false _ _ (sym c.is_empty.ensures ∙ c.strings-test.true))
+append_string-rest-requires-clause-string g c = grind (arith, string_begins, eqb-false)
 
 pub returns-in_err-make_room-clause-fills : goal.returns-in_err-make_room-clause-fills
 returns-in_err-make_room-clause-fills g c = record {
@@ -25,12 +24,9 @@ strings-preserved g c =
     record {
       strings = ap (are_strings 0) c.append_string-rest.ensures.rest ∙ more_strings _ c.strings.invariant.strings some;
       short = search rules;
-      fills =
-          rw (c.append_string-rest.ensures.rest, c.append_string-rest.ensures.text)
-          (held_more _ _ _ _ _ _ _ held (spaced-strings _ _ c.strings.invariant.strings some));
+      fills = grind (arith, held_more, spaced-strings);
       counted = search rules;
     }
 
 pub returns-clause-rest : goal.returns-clause-rest
-returns-clause-rest g c =
-    nil_from_length c.strings.rest.now (eqb-true _ _ (sym c.is_empty.ensures ∙ c.strings-test.false)) ∙ sym (after_strings c.args.octets.now c.requires.strings)
+returns-clause-rest g c = grind (arith, nil_from_length, eqb-true, after_strings)

@@ -1,4 +1,4 @@
-use Rattle.std.proofs.Common.{◌≡◌, [], ◌∷◌, ◌++◌, decimal, length, refl, sym, ap, ◌∙◌, append-nil, append_assoc}
+use Rattle.std.proofs.Common.{◌≡◌, [], ◌∷◌, ◌++◌, decimal, length, refl, sym, ap, ◌∙◌, append-nil, append_assoc, arith}
 use Rattle.std.proofs.lemmas.Bool.{eqb-false}
 use Rattle.dns_spec.specs.Names.{Octets}
 use Rattle.dns_spec.specs.WrittenText.{hex_text, hex_words}
@@ -13,8 +13,7 @@ hex_word_text (o ∷ d) some = ap (λ xs. space ++ xs) (sym (append-nil (hex_tex
 
 -- the mark and the length, and the octets after a space
 marked : (text mark d : Octets) → (length d ≡ 0 → ⊥) → ((text ++ mark) ++ space) ++ hex_text d ≡ text ++ (mark ++ spaced space (hex_words d))
-marked text mark d some =
-    append_assoc (text ++ mark) space (hex_text d) ∙ append_assoc text mark (space ++ hex_text d) ∙ ap (λ xs. text ++ (mark ++ xs)) (hex_word_text d some)
+marked text mark d some = grind (arith, append_assoc, space, hex_word_text)
 
 pub returns : goal.returns
 returns g c =

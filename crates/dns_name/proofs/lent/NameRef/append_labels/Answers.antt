@@ -13,10 +13,7 @@ append_label-requires c =
     omega (arith, room, ap length c.octets.ensures.value)
 
 pub push-requires : goal.push-requires
-push-requires c =
-    let new = appended _ _ _ c.in-Some.label c.append_label.ensures c.octets.ensures.value in
-    let room = NameSoFar-room _ _ _ _ _ _ c.labels.invariant c.in-Some.ensures.steps in
-    omega (arith, room, ap length new, length-append c.labels.text (label_text c.in-Some.label), length-label_text c.in-Some.label)
+push-requires c = grind (arith, appended, NameSoFar-room, length-append, length-label_text)
 
 pub labels-preserved : goal.labels-preserved
 labels-preserved c =

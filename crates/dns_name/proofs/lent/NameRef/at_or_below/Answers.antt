@@ -6,25 +6,14 @@ use Rattle.dns_name.proofs.WireLemmas.{IsWireForm-wire, labels_of_spelled, same_
 use Rattle.dns_name.proofs.lent.NameRef.at_or_below.Goals as goal
 
 pub labels-init : goal.labels-init
-labels-init c =
-    let octets = c.octets-suffix.ensures in (
-      IsWireForm-wire _ _ octets.value octets.is_name,
-      ap (λ n. at_or_below n c.args.ancestor.now) (labels_of_spelled _ _ octets.value octets.is_name),
-    )
+labels-init c = grind (arith, IsWireForm-wire, labels_of_spelled)
 
 -- a suffix that is longer than the name sought goes on after its first label
 one_on : (xs ys : Octets) (l : Octets) (n a : DomainName) → IsWireForm xs → labels_of xs ≡ l ∷ n → ys ≡ wire a → length ys < length xs → at_or_below n a ≡ at_or_below (labels_of xs) a
-one_on xs ys l n a form e f longer =
-    let w : wire (l ∷ n) ≡ xs = ap wire (sym e) ∙ form.wire_is in
-    let after = at_or_below-long l n a (omega (arith, ap length w, ap length f)) in
-    sym (ap (λ m. at_or_below m a) e ∙ after)
+one_on xs ys l n a form e f longer = grind (arith, at_or_below-long)
 
 pub labels-preserved : goal.labels-preserved
-labels-preserved c =
-    let first = c.in-Some.ensures in (
-      first.1,
-      one_on _ _ _ _ _ c.labels.invariant.0 first.0 c.octets-target.ensures.value c.labels-test.true ∙ c.labels.invariant.1,
-    )
+labels-preserved c = grind (arith, one_on)
 
 -- a suffix that is no longer decides
 decides : (xs ys : Octets) (a : DomainName) → IsWireForm xs → ys ≡ wire a → length xs ≤ length ys → at_or_below (labels_of xs) a ≡ same (labels_of xs) a

@@ -18,33 +18,19 @@ wire_is : {n : DomainName} {xs : Octets} → IsWireForm xs → labels_of xs ≡ 
 wire_is form e = ap wire (sym e) ∙ form.wire_is
 
 spells : (n m : DomainName) (xs ys zs : Octets) → Appends n m xs ys zs → zs ≡ wire (n ++ m)
-spells n m xs ys zs p =
-    p.back ∙ wire-append n m ys (p.front ∙ ap (λ ws. take (length ws - 1) ws) (sym (wire_is p.form p.view_is)))
+spells n m xs ys zs p = grind (arith, wire-append, wire_is)
 
 stays_name : (n m : DomainName) (xs ys zs : Octets) → Appends n m xs ys zs → is_name (n ++ m) ≡ true
-stays_name n m xs ys zs p =
-    is_name-append n m (ap is_name (sym p.view_is) ∙ p.form.is_name) p.other
-    (omega (arith, ap length (wire_is p.form p.view_is), length-wire-append n m))
+stays_name n m xs ys zs p = grind (arith, is_name-append, wire_is, length-wire-append)
 
 too_long : (n m : DomainName) (xs ys : Octets) → IsWireForm xs → labels_of xs ≡ n → ys ≡ wire m → 256 < length xs + length ys → 255 < length (wire (n ++ m))
-too_long n m xs ys form e f h =
-    omega (arith, ap length (wire_is form e), ap length f, length-wire-append n m)
+too_long n m xs ys form e f h = grind (arith, wire_is, length-wire-append)
 
 appends : (c : goal.After-append_octets) → Appends c.args.self.now c.args.other.now c.self.inside.octets.items c.pop.new.self.items c.append_octets.new.octets.items
-appends c =
-    let e = c.octets-octets.ensures.value in
-    record {
-      form = c.self.invariant;
-      view_is = c.self.view_is;
-      other = c.octets-octets.ensures.is_name;
-      front = c.pop.ensures.rest;
-      back = c.append_octets.ensures ∙ ap (λ xs. c.pop.new.self.items ++ xs) e;
-      fits = omega (arith, ap length e);
-    }
+appends c = grind arith
 
 pub returns-then-remaining_capacity-octets : goal.returns-then-remaining_capacity-octets
-returns-then-remaining_capacity-octets c =
-    too_long _ _ _ _ c.self.invariant c.self.view_is c.octets-octets.ensures.value (omega arith)
+returns-then-remaining_capacity-octets c = grind (arith, too_long)
 
 pub invariant_of-self : goal.invariant_of-self
 invariant_of-self c = let p = appends c in IsWireForm-wire _ _ (spells _ _ _ _ _ p) (stays_name _ _ _ _ _ p)

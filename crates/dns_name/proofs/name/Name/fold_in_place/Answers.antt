@@ -1,4 +1,4 @@
-use Rattle.std.proofs.Common.{◌≡◌, true, ap, sym, ◌∙◌}
+use Rattle.std.proofs.Common.{◌≡◌, true, ap, sym, ◌∙◌, arith}
 use Rattle.dns_spec.specs.Names.{Octets, DomainName, folded, is_name}
 use Rattle.dns_spec.proofs.DomainNames.NameLaws.{is_name-folded}
 use Rattle.dns_name.specs.WireForm.{labels_of, IsWireForm}
@@ -9,13 +9,7 @@ still_name : (xs : Octets) (n : DomainName) → IsWireForm xs → labels_of xs �
 still_name xs n form e = is_name-folded n (ap is_name (sym e) ∙ form.is_name)
 
 pub invariant_of-self : goal.invariant_of-self
-invariant_of-self c =
-    IsWireForm-wire _ (folded c.args.self.now)
-    (c.lower_case.ensures ∙ map-lowercase-octets _ _ c.self.invariant c.self.view_is)
-    (still_name _ _ c.self.invariant c.self.view_is)
+invariant_of-self c = grind (arith, IsWireForm-wire, map-lowercase-octets, still_name)
 
 pub returns : goal.returns
-returns c =
-    labels_of_spelled _ (folded c.args.self.now)
-    (c.lower_case.ensures ∙ map-lowercase-octets _ _ c.self.invariant c.self.view_is)
-    (still_name _ _ c.self.invariant c.self.view_is)
+returns c = grind (arith, labels_of_spelled, map-lowercase-octets, still_name)

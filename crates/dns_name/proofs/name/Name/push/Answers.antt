@@ -1,4 +1,4 @@
-use Rattle.std.proofs.Common.{◌≡◌, ◌+◌, ◌≤◌, ◌∷◌, [], ◌++◌, length, take, ◌-◌, true, refl, ap, sym, ◌∙◌, arith}
+use Rattle.std.proofs.Common.{◌≡◌, ◌+◌, ◌≤◌, ◌∷◌, [], ◌++◌, length, take, ◌-◌, true, ap, sym, ◌∙◌, arith}
 use Rattle.std.proofs.lemmas.Bool.{false≢true}
 use Rattle.dns_spec.proofs.DomainNames.NameLaws.{length-wire-push, is_name-push}
 use Rattle.dns_spec.specs.Names.{wire, is_name, is_label, DomainName, Octets}
@@ -20,30 +20,17 @@ length_more : (n : DomainName) (xs l : Octets) → IsWireForm xs → labels_of x
 length_more n xs l form e = omega (arith, ap length (wire_is form e), length-wire-push n l)
 
 spells : (n : DomainName) (l xs ys zs : Octets) → Pushes n l xs ys zs → zs ≡ wire (n ++ l ∷ [])
-spells n l xs ys zs p =
-    p.back ∙ wire-push n l ys (p.front ∙ ap (λ ws. take (length ws - 1) ws) (sym (wire_is p.form p.view_is)))
+spells n l xs ys zs p = grind (arith, wire-push, wire_is)
 
 stays_name : (n : DomainName) (l xs ys zs : Octets) → Pushes n l xs ys zs → is_label l ≡ true → length xs + 1 + length l ≤ 255 → is_name (n ++ l ∷ []) ≡ true
-stays_name n l xs ys zs p is_l fits =
-    is_name-push n l (ap is_name (sym p.view_is) ∙ p.form.is_name) is_l
-    (omega (arith, length_more n xs l p.form p.view_is))
+stays_name n l xs ys zs p is_l fits = grind (arith, is_name-push, length_more)
 
 pub returns-then-remaining_capacity-octets-clause-fits :
     goal.returns-then-remaining_capacity-octets-clause-fits
-returns-then-remaining_capacity-octets-clause-fits c =
-    let more = length_more _ _ c.args.label c.self.invariant c.self.view_is in
-    let same = ap length c.octets-octets.ensures.value in
-    (λ f. absurd (false≢true f), λ h. absurd (omega arith))
+returns-then-remaining_capacity-octets-clause-fits c = grind (arith, length_more, false≢true)
 
 pushes : (c : goal.After-push-2) → Pushes c.args.self.now c.args.label c.self.inside.octets.items c.pop.new.self.items c.push-2.new.self.items
-pushes c =
-    let e = c.octets-octets.ensures.value in
-    record {
-      form = c.self.invariant;
-      view_is = c.self.view_is;
-      front = c.pop.ensures.rest;
-      back = rw (c.push-2.ensures.items, c.append_octets.ensures, c.push.ensures.items, e) refl;
-    }
+pushes c = grind arith
 
 fits : (c : goal.After-push-2) → length c.self.inside.octets.items + 1 + length c.args.label ≤ 255
 fits c = let same = ap length c.octets-octets.ensures.value in omega arith
@@ -54,9 +41,7 @@ invariant_of-self c =
     IsWireForm-wire _ _ (spells _ _ _ _ _ p) (stays_name _ _ _ _ _ p c.octets-octets.ensures.is_label (fits c))
 
 pub returns-clause-fits : goal.returns-clause-fits
-returns-clause-fits c =
-    let more = length_more _ _ c.args.label c.self.invariant c.self.view_is in
-    (λ _. omega (arith, fits c), λ _. refl)
+returns-clause-fits c = grind (arith, length_more, fits)
 
 pub returns-clause-pushed : goal.returns-clause-pushed
 returns-clause-pushed c =

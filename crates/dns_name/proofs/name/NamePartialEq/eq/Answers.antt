@@ -1,8 +1,6 @@
+use Rattle.std.proofs.Common.{arith}
 use Rattle.dns_name.proofs.WireLemmas.{names_equal_from_octets}
 use Rattle.dns_name.proofs.name.NamePartialEq.eq.Goals as goal
 
 pub returns : goal.returns
-returns c =
-    let left = c.octets.ensures in
-    let right = c.octets-2.ensures in
-    names_equal_from_octets _ _ _ _ _ left.value right.value left.is_name right.is_name c.eq.ensures
+returns c = grind (arith, names_equal_from_octets)
