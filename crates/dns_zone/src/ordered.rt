@@ -102,10 +102,8 @@ fn once_in_front(keys: &[u8], records: &mut [Entry], starts: &mut [u32]) -> Opti
         match order(keys, &records[last], start, &records[at], after) {
             Ordering::Less => {
                 last += 1;
-                if last < at {
-                    records.swap(last, at);
-                    starts.swap(last, at);
-                }
+                records.swap(last, at);
+                starts.swap(last, at);
             }
             Ordering::Equal => {}
             Ordering::Greater => return None,
