@@ -16,8 +16,7 @@ rises_at : (ls : List Octets) (i j : ℕ) → Rises label_order ls → i < j →
     → label_order (get_or ls i []) (get_or ls j []) ≡ Less
 rises_at [] i j r h l = absurd (omega arith)
 rises_at (x ∷ ls) zero zero r h l = absurd (omega arith)
-rises_at (x ∷ ls) zero (suc j) r h l =
-    each_get (λ y. label_order x y ≡ Less) ls j [] r.0 (omega arith)
+rises_at (x ∷ ls) zero (suc j) r h l = grind (arith, each_get)
 rises_at (x ∷ ls) (suc i) zero r h l = absurd (omega arith)
 rises_at (x ∷ ls) (suc i) (suc j) r h l = rises_at ls i j r.1 (omega arith) (omega arith)
 
@@ -33,19 +32,11 @@ pub record Searching (rs : List ResourceRecord) (kids : List Row) (label : Octet
 
 -- half of a room, rounded, is the room after one more comparison
 pub half_room : (left turn : ℕ) → left ≤ room_after turn → left / 2 ≤ room_after (turn + 1)
-half_room left turn h =
-    let next : room_after (turn + 1) ≡ room_after turn / 2 = ap room_after (add-one turn) in
-    omega arith
+half_room left turn h = grind (arith, add-one)
 
 module _ (rs : List ResourceRecord) (kids : List Row) (label : Octets) where
   pub start : length kids ≤ 100000 → Searching rs kids label 0 (length kids) 0
-  start h = record {
-    order = omega arith;
-    inside = omega arith;
-    room = omega arith;
-    before = λ k l. absurd (omega arith);
-    after = λ k l m. absurd (omega arith);
-  }
+  start h = grind arith
 
   pub left : (low high turn : ℕ) → Searching rs kids label low high turn
       → high - low ≤ room_after turn
@@ -54,15 +45,7 @@ module _ (rs : List ResourceRecord) (kids : List Row) (label : Octets) where
   -- where a child is left to look at, fewer than 17 comparisons were made
   pub one_more : (low high turn : ℕ) → Searching rs kids label low high turn → turn ≤ 17
       → low < high → turn + 1 ≤ 17
-  one_more low high turn s h some = go (cases_lt turn 17)
-    where
-      go : (turn < 17) ⊎ (17 ≤ turn) → turn + 1 ≤ 17
-      go (inl l) = omega arith
-      go (inr l) =
-          let last : turn ≡ 17 = omega arith in
-          let none : high ≤ low + room_after 17 =
-          subst (λ (t : ℕ). high ≤ low + room_after t) last s.room in
-          absurd (omega arith)
+  one_more low high turn s h some = grind (arith, cases_lt)
 
   module _ (rising : Rises label_order (map (row_label rs) kids)) where
     label_at : (k : ℕ) → k < length kids

@@ -36,8 +36,7 @@ row_is rs row n h = labels_of_spelled (row_octets rs row) n h.octets h.is_name
 rises_push : (xs : List Octets) (y : Octets) → Rises label_order xs
     → Each (λ x. label_order x y ≡ Less) xs → Rises label_order (xs ++ y ∷ [])
 rises_push [] y r e = (tt, tt)
-rises_push (x ∷ xs) y r e =
-    (each_push (λ z. label_order x z ≡ Less) xs y r.0 e.0, rises_push xs y r.1 e.1)
+rises_push (x ∷ xs) y r e = grind (arith, each_push, (rises_push xs y r.1 e.1))
 
 -- the children of the records before a place have their rows, after the rows so far
 pub record Adding (rs : List ResourceRecord) (n : DomainName) (own_end : ℕ) (old new : List Row)
@@ -171,9 +170,7 @@ module _ (rs : List ResourceRecord) (canonical : IsCanonical rs) (n : DomainName
     rest = drop_more rs k blank k_inside
 
     any_here : list_any (is_under m) (drop k rs) ≡ true
-    any_here =
-        any_there (is_under m) (drop k rs) first (subst (Among first) (sym rest) (inl refl))
-        first_under
+    any_here = grind (arith, any_there, is_under, rest, first_under)
 
     any_later : (p : ResourceRecord → Bool) → list_any p (drop kid.end rs) ≡ true
         → list_any p (drop k rs) ≡ true

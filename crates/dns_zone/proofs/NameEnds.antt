@@ -36,9 +36,7 @@ module _ (least : ℕ) (n : DomainName) (xs : Octets) (k : ℕ) (h : GoesOn leas
   size = let f = h.fits in omega (arith, ap length h.octets, length-drop k xs)
 
   first : get_or (wire h.rest) 0 0 ≡ x
-  first =
-      let at : k + 0 ≡ k = omega arith in
-      ap (λ ys. get_or ys 0 0) (sym h.octets) ∙ get_or-drop k xs 0 0 ∙ ap (λ i. get_or xs i 0) at
+  first = grind (arith, get_or-drop)
 
   pub inside : k < length xs
   inside = omega (arith, size, some_octets h.rest)

@@ -50,13 +50,7 @@ under-trans n m a h k = under-from n a (joined (under-is n m h) (under-is m a k)
 
 -- only the lower case of a name counts
 pub same-under : (n m a : DomainName) → same n m ≡ true → at_or_below n a ≡ at_or_below m a
-same-under n m a h =
-    let e = same-is n m h in
-    same_tests _ _ (λ k. under-from m a (go m n (sym e) (under-is n a k)))
-    (λ k. under-from n a (go n m e (under-is m a k)))
-  where
-    go : (x y : DomainName) → folded x ≡ folded y → Under y a → Under x a
-    go x y f (p, e) = (p, f ∙ e)
+same-under n m a h = grind (arith, same-is, same_tests, under-from, under-is)
 
 pub itself-under : (n m : DomainName) → same n m ≡ true → at_or_below n m ≡ true
 itself-under n m h = under-from n m ([], same-is n m h)
@@ -93,8 +87,7 @@ not_after_longer : (xs zs : List Octets) → is_gt (slice_cmp label_order xs (xs
 not_after_longer [] [] = refl
 not_after_longer [] (z ∷ zs) = refl
 not_after_longer (x ∷ xs) zs =
-    ap (λ c. is_gt (ordering_then c (slice_cmp label_order xs (xs ++ zs))))
-    (tied_itself nat_list_cmp_total x) ∙ not_after_longer xs zs
+    grind (arith, tied_itself, nat_list_cmp_total, (not_after_longer xs zs))
 
 -- what stands between a list and one that begins with it, begins with it
 list_between : (xs ys zs : List Octets) → is_gt (slice_cmp label_order xs ys) ≡ false

@@ -33,9 +33,7 @@ front p xs h =
 -- of records of a name the first one need not be looked at
 pub one_more : (n : DomainName) (r : ResourceRecord) (rs : List ResourceRecord) (k : ℕ)
     → n ≡ r.owner → k ≡ prefix_len (is_at n) rs → 1 + k ≡ prefix_len (is_at n) (r ∷ rs)
-one_more n r rs k e f =
-    ap (λ j. 1 + j) f
-    ∙ sym (ap (λ b. cond b (1 + prefix_len (is_at n) rs) 0) (same-from r.owner n (ap folded (sym e))))
+one_more n r rs k e f = grind (arith, is_at, same-from)
 
 -- a part of ordered records is ordered
 ordered_filter : (p : ResourceRecord → Bool) (rs : List ResourceRecord) → AreOrdered rs → AreOrdered (filter p rs)
