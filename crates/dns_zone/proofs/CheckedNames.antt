@@ -107,8 +107,7 @@ module _ (z : ZoneContents) where
               ⊎ (list_any (λ (s : ResourceRecord). same s.owner c && s.rtype == type_ns) rs ≡ true)
               → (list_any (λ (s : ResourceRecord). same s.owner c && s.rtype == type_ns) rs ≡ true
               → Among c (owners rs)) → (c ≡ folded r.owner) ⊎ Among c (owners rs)
-          by_first (inl k) f =
-              inl (sym low ∙ sym (same-is r.owner c (and_parts (same r.owner c) _ k).0))
+          by_first (inl k) f = grind (arith, same-is, and_parts)
           by_first (inr k) f = inr (f k)
 
   pub none_at : (m : DomainName) → Lower m → (Among m (owners_once z.records) → ⊥) → at z m ≡ []

@@ -37,8 +37,7 @@ longer_below m n h l = grind (arith, below_unless_same, same-length-wire)
 pub child_end : (n owner : DomainName) → below owner n ≡ true → folded owner ≡ owner
     → folded n ≡ n → IsChildOf n owner (ending (length (wire n) + 1) owner)
 child_end n [] b low lower =
-    let less : length n < 0 =
-    ltb-true _ _ (and_parts (nat_lt (length n) 0) (at_or_below [] n) b).0 in
+    let less : length n < 0 = grind arith in
     absurd (omega arith)
 child_end n (l ∷ o) b low lower =
     go (nat_lt (length (wire o)) (length (wire n) + 1)) refl
@@ -55,9 +54,7 @@ child_end n (l ∷ o) b low lower =
         let is_same : same o n ≡ true = sym (at_or_below-short o n (omega arith)) ∙ at in
         record {
           label = l;
-          labels =
-              ap (λ (m : DomainName). l ∷ m)
-              (sym (ap (drop 1) low) ∙ same-is o n is_same ∙ lower);
+          labels = grind (arith, same-is);
           lower = low;
           above = under-from (l ∷ o) (l ∷ o) ([], refl);
           front = [];
@@ -72,9 +69,7 @@ child_end n (l ∷ o) b low lower =
           lower = h.lower;
           above = under-trans (l ∷ o) o _ (cons_under l o) h.above;
           front = length l ∷ (l ++ h.front);
-          end =
-              ap (λ xs. length l ∷ (l ++ xs)) h.end
-              ∙ ap (λ xs. length l ∷ xs) (sym (append_assoc l h.front _));
+          end = grind (arith, append_assoc);
         }
 
 -- an owner has one name of each length above it

@@ -39,8 +39,7 @@ ends_whole n e f h = go f.front f.whole
   where
     go : (front : DomainName) → n ≡ front ++ e → n ≡ e
     go [] w = w
-    go (l ∷ ls) w =
-        absurd (omega (arith, h, ap (λ x. length (wire x)) w, more ls e, length-append l (wire (ls ++ e))))
+    go (l ∷ ls) w = grind (arith, more, length-append)
 
 -- and a longer name ends so after its first label
 pub ends_after : (n m e : DomainName) (l : Octets) → EndsWith n e → n ≡ l ∷ m

@@ -59,9 +59,7 @@ all-inside z kept =
     (λ s h. h.lower_owner) (each_all IsReadRecord z.records kept.each) in
     let fine : (is_owner z r.owner && not (at_or_below r.owner z.origin)) ≡ false =
     (checks_at z kept.low lows kept.passes r m).1.1.1.1.0 in
-    let own : Among r (at z r.owner) =
-    filter_among (λ (s : ResourceRecord). same s.owner r.owner) r z.records
-    (same-from r.owner r.owner refl) m in
+    let own : Among r (at z r.owner) = grind (arith, filter_among, same-from) in
     let owner : is_owner z r.owner ≡ true = lt-ltb 0 _ (some_length r (at z r.owner) own) in
     inside (at_or_below r.owner z.origin)
     (sym (ap (λ b. b && not (at_or_below r.owner z.origin)) owner) ∙ fine))

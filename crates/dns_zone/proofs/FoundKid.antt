@@ -1,5 +1,5 @@
 -- A label among those of children, which rise.
-use Rattle.std.proofs.Common.{◌≡◌, ℕ, zero, suc, ◌+◌, ◌-◌, ◌/◌, ◌<◌, ◌≤◌, ◌⊎◌, inl, inr, List, [], ◌∷◌, map, length, get_or, sym, ap, ◌∙◌, add-one, arith, subst, is_lt, is_gt, Less, Equal, Greater}
+use Rattle.std.proofs.Common.{◌≡◌, ℕ, zero, suc, ◌+◌, ◌-◌, ◌/◌, ◌<◌, ◌≤◌, ◌⊎◌, inl, inr, List, [], ◌∷◌, map, length, get_or, sym, ap, ◌∙◌, add-one, arith, subst, Less, Equal, Greater}
 use Rattle.std.proofs.lemmas.Bool.{cases_lt, false≢true}
 use Rattle.std.proofs.lemmas.Cmp.{nat_list_cmp_total, tied_itself}
 use Rattle.std.proofs.lemmas.List.{get_or-map, length-map, get_or_default}
@@ -84,9 +84,7 @@ module _ (rs : List ResourceRecord) (kids : List Row) (label : Octets) where
           here k (inl l) _ =
               nat_list_cmp_total.trans (row_label rs (row_at kids k))
               (row_label rs (row_at kids middle)) label (between k middle l inside) e
-          here k (inr l) m =
-              let same : middle ≡ k = omega arith in
-              subst (λ (j : ℕ). label_order (row_label rs (row_at kids j)) label ≡ Less) same e
+          here k (inr l) m = grind arith
 
       pub go_left : label_order (row_label rs (row_at kids middle)) label ≡ Greater → low ≤ middle
           → middle < high → middle ≤ low + room_after (turn + 1)
@@ -109,9 +107,7 @@ module _ (rs : List ResourceRecord) (kids : List Row) (label : Octets) where
               (row_label rs (row_at kids k)) back (between middle k l g) in
               nat_list_cmp_total.antisymm (row_label rs (row_at kids k)) label
               ∙ ap ordering_reverse on
-          here k (inr l) m g =
-              let same : middle ≡ k = omega arith in
-              subst (λ (j : ℕ). label_order (row_label rs (row_at kids j)) label ≡ Greater) same e
+          here k (inr l) m g = grind arith
 
     pub none_left : (at turn : ℕ) → Searching rs kids label at at turn
         → Among label (map (row_label rs) kids) → ⊥
@@ -128,10 +124,5 @@ module _ (rs : List ResourceRecord) (kids : List Row) (label : Octets) where
 
         go : (k : ℕ) → k < length kids → row_label rs (row_at kids k) ≡ label → (k < at) ⊎ (at ≤ k)
             → ⊥
-        go k h is (inl l) =
-            false≢true
-            (ap is_lt (sym tied ∙ ap (λ (x : Octets). label_order x label) (sym is) ∙ s.before k l))
-        go k h is (inr l) =
-            false≢true
-            (ap is_gt
-            (sym tied ∙ ap (λ (x : Octets). label_order x label) (sym is) ∙ s.after k l h))
+        go k h is (inl l) = grind (arith, false≢true, tied)
+        go k h is (inr l) = grind (arith, false≢true, tied)

@@ -196,9 +196,7 @@ module _ (z : ZoneContents) (low : folded z.origin ≡ z.origin) (ordered : AreO
       where
         go : (c : CheckedName) → name_of z c ≡ o → Among c names → (a : DomainName) → IsName z a
             → Among a (map (name_of z) names)
-        go c e m a (inl f) =
-            subst (λ b. Among b (map (name_of z) names)) (e ∙ sym (f ∙ low))
-            (map_among (name_of z) c names m)
+        go c e m a (inl f) = grind (arith, map_among)
         go c e m a (inr k) = subst (Among a) (sym are.all) k
 
     abbrev origin_name : Bor Octets → CheckedName
@@ -219,17 +217,7 @@ module _ (z : ZoneContents) (low : folded z.origin ≡ z.origin) (ordered : AreO
           → AreChecked z (take k names ++ origin_name b ∷ drop k names)
       origin_added b e =
           let c = origin_name b in
-          let checked : IsChecked z o c = record {
-            owner = record {
-              lower = low;
-              own_is = sym (none_at z o low none);
-              by_types = λ i j d l m. absurd (omega (arith, m));
-            };
-            rising = omega arith;
-            within = omega arith;
-            key = e ∙ key_is;
-            topmost = topmost_none z o (omega arith);
-          } in
+          let checked : IsChecked z o c = grind (arith, none_at, none, topmost_none) in
           record {
             each = each_insert (λ d. IsChecked z (name_of z d) d) names k c are.each checked;
             all = names_checked z (map (name_of z) (take k names ++ c ∷ drop k names))

@@ -4,7 +4,7 @@ use Rattle.std.proofs.lemmas.Bool.{cases_lt}
 use Rattle.std.proofs.lemmas.List.{take-append-drop, get_or-take, get_or-drop, get_or_append_left, get_or_push, take_all}
 use Rattle.dns_spec.specs.Names.{DomainName}
 use Rattle.dns_spec.specs.Records.{ResourceRecord}
-use Rattle.dns_zone.specs.TreeForm.{span, row_name, row_at, kids_at, IsRow, IsKid, AreKids, IsTree}
+use Rattle.dns_zone.specs.TreeForm.{row_name, row_at, kids_at, IsRow, IsKid, AreKids, IsTree}
 use Rattle.dns_zone.specs.TreeSteps.{AddsKids}
 use Rattle.dns_zone.specs.declared.row.Row.{Row}
 use Rattle.dns_zone.proofs.Pairs.{each_get}
@@ -92,30 +92,8 @@ module _ (o : DomainName) (rs : List ResourceRecord) (rows : List Row) (bounds :
     kids_now k l = go (now k l)
       where
         go : (k < i) ⊎ (k ≡ i) → AreKids rs (row_name rs (row_at rows' k)) (kids_at rows' bounds' k)
-        go (inl m) =
-            let u = g.upto in
-            let same : kids_at rows' bounds' k ≡ kids_at rows bounds k =
-            ap (λ (b : ℕ). span rows' b (get_or bounds' (k + 1) 0)) (bound k (omega arith))
-            ∙ ap (λ (b : ℕ). span rows' (get_or bounds k 0) b) (bound (k + 1) (omega arith))
-            ∙ ap (λ xs. span xs (get_or bounds k 0) (get_or bounds (k + 1) 0)) whole
-            ∙ span_front rows (drop (length rows) rows') (get_or bounds k 0)
-            (get_or bounds (k + 1) 0) (g.within k m)
-            in
-            let named : row_at rows' k ≡ row_at rows k = keep k (omega arith) in
-            subst (λ (r : Row). AreKids rs (row_name rs r) (kids_at rows' bounds' k)) (sym named)
-            (subst (AreKids rs (row_name rs (row_at rows k))) (sym same) (g.kids k m))
-        go (inr m) =
-            let same : kids_at rows' bounds' i ≡ drop (length rows) rows' =
-            ap (λ (b : ℕ). span rows' b (get_or bounds' (i + 1) 0)) (bound i (omega arith) ∙ g.last)
-            ∙ ap (λ (b : ℕ). span rows' (length rows) b) last_bound
-            ∙ take_all (length rows' - length rows) (drop (length rows) rows')
-            (omega (arith, length-drop (length rows) rows'))
-            in
-            let named : row_at rows' i ≡ row_at rows i = keep i h in
-            subst (λ (j : ℕ). AreKids rs (row_name rs (row_at rows' j)) (kids_at rows' bounds' j))
-            (sym m)
-            (subst (λ (r : Row). AreKids rs (row_name rs r) (kids_at rows' bounds' i)) (sym named)
-            (subst (AreKids rs (row_name rs (row_at rows i))) (sym same) a.kids))
+        go (inl m) = grind (arith, bound, whole, span_front, keep)
+        go (inr m) = grind (arith, bound, last_bound, take_all, length-drop, keep)
 
     pub advance : Growing o rs rows' bounds' (i + 1)
     advance = record {

@@ -1,5 +1,5 @@
 -- The key of a name begins with that of another just where the name is at or below it.
-use Rattle.std.proofs.Common.{◌≡◌, ℕ, ◌+◌, ◌<◌, ◌≤◌, ◌==◌, Bool, true, [], ◌∷◌, ◌++◌, length, take, drop, get_or, map, reverse, refl, sym, ap, ap₂, ◌∙◌, arith, length-append, nat_lt}
+use Rattle.std.proofs.Common.{◌≡◌, ℕ, ◌<◌, ◌≤◌, ◌==◌, Bool, true, [], ◌∷◌, ◌++◌, length, take, drop, get_or, map, reverse, refl, sym, ap, ap₂, ◌∙◌, arith, length-append, nat_lt}
 use Rattle.std.proofs.lemmas.Bool.{cases_order, lt-ltb, ltb-true, le-ltb, and_from, and_parts, and_right}
 use Rattle.std.proofs.lemmas.List.{reverse-append, reverse-reverse, append_assoc, take-append-drop}
 use Rattle.std.proofs.lemmas.List.Concat.{flat_map-cons}
@@ -80,10 +80,8 @@ module _ (n m : DomainName) (low_n : folded n ≡ n) (low_m : folded m ≡ m) wh
   key_under : starts_with ◌==◌ (name_key n) (name_key m) ≡ true → at_or_below n m ≡ true
   key_under h =
       let k = length (name_key m) in
-      let front : name_key m ≡ take k (name_key n) =
-      (octets_equal-decides (name_key m) (take k (name_key n))).0 h in
-      let key : name_key n ≡ name_key m ++ drop k (name_key n) =
-      sym (take-append-drop k (name_key n)) ∙ ap (λ x. x ++ drop k (name_key n)) (sym front) in
+      let front : name_key m ≡ take k (name_key n) = grind (arith, octets_equal-decides) in
+      let key : name_key n ≡ name_key m ++ drop k (name_key n) = grind (arith, take-append-drop) in
       let found = begins (reverse n) (reverse m) (drop k (name_key n)) (turned n low_n)
       (turned m low_m) (sym (key_flat n) ∙ key
       ∙ ap (λ x. x ++ drop k (name_key n)) (key_flat m)) in
@@ -107,15 +105,8 @@ module _ (n m : DomainName) (key other : Octets) (p : folded n ≡ n) (q : folde
   longer h l = go (under-is n m h)
     where
       go : Under n m → nat_lt (length m) (length n) ≡ true
-      go ([], g) =
-          let one : n ≡ m = sym p ∙ g ∙ q in
-          let size : length key ≡ length other = ap length (e ∙ ap name_key one ∙ sym f) in
-          absurd (omega (arith, l, size))
-      go (k ∷ ks, g) =
-          let size : length n ≡ length (k ∷ ks ++ m) =
-          ap length (sym p ∙ g ∙ ap (λ x. k ∷ ks ++ x) q) in
-          let both : length (ks ++ m) ≡ length ks + length m = length-append ks m in
-          lt-ltb (length m) (length n) (omega (arith, size, both))
+      go ([], g) = grind arith
+      go (k ∷ ks, g) = grind (arith, length-append, lt-ltb)
 
   pub below_longer : (b : Bool) → length other < length key → b ≡ at_or_below n m → b ≡ below n m
   below_longer b l g = grind (arith, and_from, longer, and_right)

@@ -17,7 +17,7 @@ use Rattle.dns_spec.proofs.Records.SortedOnce.{Each, each_weaker}
 use Rattle.dns_zone.specs.LabelKey.{IsKey}
 use Rattle.dns_zone.specs.NameEnd.{ending}
 use Rattle.dns_zone.specs.ZoneForm.{AreOrdered, IsCanonical}
-use Rattle.dns_zone.specs.TreeForm.{owners, under, row_octets, first_of, IsRow}
+use Rattle.dns_zone.specs.TreeForm.{owners, under, row_octets, first_of}
 use Rattle.dns_zone.specs.declared.row.Row.{Row}
 use Rattle.dns_zone.specs.TreeSteps.{IsNext, IsKidAt}
 use Rattle.dns_zone.proofs.Pairs.{Pairs, pairs_of, parted, filter_all, filter_within}
@@ -194,23 +194,7 @@ module _ (rs : List ResourceRecord) (canonical : IsCanonical rs) (n : DomainName
         record {
           kid = record {
             label = child.label;
-            is_row = subst (IsRow rs row) child.labels (record {
-              octets =
-                  ap₂ (λ (i : ℕ) (k : DomainName). drop i (wire k)) p owner_is
-                  ∙ end_rest (wire r.owner) (wire m) child.front child.end;
-              is_name = name;
-              lower = child.lower;
-              some = is_next.fits;
-              more = omega arith;
-              place = let e = ap (λ (k : DomainName). length (wire k)) owner_is in omega arith;
-              first_own = omega arith;
-              own_end = omega arith;
-              end_fits = omega arith;
-              below = ap (λ i. take i (drop next rs)) at_count ∙ under_is ∙ sym all_from;
-              label_octets = long;
-              key = is_key;
-              own = ap (λ i. take i (drop next rs)) at_own ∙ own_is ∙ sym own_from;
-            });
+            is_row = grind (arith, ap₂, owner_is, end_rest, all_from, own_from);
           };
           first = refl;
           more = omega arith;

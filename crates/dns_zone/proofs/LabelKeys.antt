@@ -1,13 +1,13 @@
 -- The order of labels is that of their keys, where these differ; where they are the same it is that
 -- of what follows the keys, or of the labels' lengths.
-use Rattle.std.proofs.Common.{◌≡◌, ℕ, zero, suc, ◌+◌, ◌*◌, ◌^◌, ◌<◌, ◌≤◌, ◌⊎◌, inl, inr, [], ◌∷◌, ◌-◌, ◌/◌, add-one, drop-cons, map, length, drop, get_or, refl, sym, ap, ◌∙◌, arith, Ordering, Less, Greater, nat_cmp}
+use Rattle.std.proofs.Common.{◌≡◌, ℕ, zero, suc, ◌+◌, ◌*◌, ◌^◌, ◌<◌, ◌≤◌, ◌⊎◌, inl, inr, [], ◌∷◌, ◌-◌, ◌/◌, add-one, drop-cons, map, length, drop, get_or, refl, sym, ap, ◌∙◌, arith, Less, Greater, nat_cmp}
 use Rattle.std.proofs.Math.Nat.{mul-le-mul_right, one-le-pow}
 use Rattle.std.proofs.lemmas.Bool.{cases_lt, cases_order}
 use Rattle.std.proofs.lemmas.Cmp.{nat_list_cmp_total}
 use Rattle.std.proofs.lemmas.Str.Ascii.{lowercase_is}
 use Rattle.std.specs.Char.{to_ascii_lowercase}
 use Rattle.std.specs.Cmp.{nat_cmp_is}
-use Rattle.std.specs.Ordering.{ordering_then, ordering_reverse}
+use Rattle.std.specs.Ordering.{ordering_reverse}
 use Rattle.dns_spec.specs.Names.{Octets, DomainName, folded, label_order}
 use Rattle.dns_zone.specs.LabelKey.{IsKey, key_of}
 use Rattle.dns_zone.specs.TreeForm.{first_of}
@@ -65,8 +65,7 @@ lesser (suc n) (x ∷ a) (y ∷ b) v w h =
     go : (x < y) ⊎ ((x ≡ y) × (key_of n a < key_of n b))
         → (key_of n a < key_of n b → label_order a b ≡ Less)
         → label_order (x ∷ a) (y ∷ b) ≡ Less
-    go (inl l) rest =
-        ap (λ (o : Ordering). ordering_then o (label_order a b)) (sym (nat_cmp_is x y Less l))
+    go (inl l) rest = grind arith
     go (inr (e, l)) rest = same_head x y a b e ∙ rest l
 
 alike : (n x y : ℕ) (a b : Octets) → Low (x ∷ a) → Low (y ∷ b)

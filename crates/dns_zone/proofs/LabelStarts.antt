@@ -30,15 +30,12 @@ begins-next octets k p here more =
     let root = ap length (sym here.labels ∙ labels_of-zero _ ys x here.form front none) in
     absurd (omega (arith, root, length-drop k (labels_of octets), more)) in
     let first = BeginsWithLabel-IsWireForm _ x ys here.form front some in
-    let place : drop x ys ≡ drop (p + (1 + x)) octets =
-    drop-drop x (p + 1) octets
-    ∙ ap (λ i. drop i octets) {x = p + 1 + x} {y = p + (1 + x)} (omega arith) in
+    let place : drop x ys ≡ drop (p + (1 + x)) octets = grind (arith, drop-drop) in
     let form = subst IsWireForm place first.rest in
     record {
       inside = omega (arith, some-octet _ form, length-drop (p + (1 + x)) octets);
       form = form;
-      labels = ap labels_of (sym place)
-          ∙ sym (after-label k _ _ _ (sym here.labels ∙ first.labels));
+      labels = grind (arith, after-label);
     }
 
 before_or_last : (j k : ℕ) → j < k + 1 → (j < k) ⊎ (j ≡ k)

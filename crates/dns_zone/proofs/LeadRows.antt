@@ -1,6 +1,5 @@
 -- The rows on the way from the origin to a target.
-use Rattle.std.proofs.Common.{◌≡◌, ◌⊎◌, inl, inr, ℕ, ◌<◌, ◌≤◌, true, false, List, [], ◌∷◌, ◌++◌, map, length, length-append, get_or, None, refl, sym, ap, ◌∙◌, arith}
-use Rattle.dns_zone.proofs.ChildNames.{cons_under}
+use Rattle.std.proofs.Common.{◌≡◌, ◌⊎◌, inl, inr, ℕ, ◌<◌, ◌≤◌, true, false, List, [], ◌∷◌, ◌++◌, map, length, length-append, get_or, None, refl, ap, arith}
 use Rattle.std.specs.Char.{to_ascii_lowercase}
 use Rattle.std.specs.Option.{is_some}
 use Rattle.std.proofs.lemmas.Bool.{cases_lt}
@@ -9,12 +8,12 @@ use Rattle.dns_spec.specs.Names.{Octets, DomainName, folded, at_or_below, below}
 use Rattle.dns_spec.specs.Data.{type_ns, type_cname}
 use Rattle.dns_spec.specs.Records.{ResourceRecord, ZoneContents, rrset}
 use Rattle.dns_spec.specs.Sets.{set_of}
-use Rattle.dns_spec.specs.Tree.{cut_of, is_cut}
+use Rattle.dns_spec.specs.Tree.{cut_of}
 use Rattle.dns_zone.specs.NodeForm.{IsNodeAt, IsZoneTree, IsLeadRow, IsLeadAt, AreLeads}
 use Rattle.dns_zone.specs.TreeForm.{row_name, row_at}
 use Rattle.dns_zone.specs.declared.row.Row.{Row}
 use Rattle.dns_zone.specs.declared.tree.Tree.{Tree}
-use Rattle.dns_zone.proofs.NameTree.{itself-under, under-trans, below-cons}
+use Rattle.dns_zone.proofs.NameTree.{itself-under, below-cons}
 use Rattle.dns_zone.proofs.NameOrder.{same-from}
 use Rattle.dns_zone.proofs.NodeRows.{node_is, is_row}
 use Rattle.dns_zone.proofs.GrowingKids.{row_is}
@@ -39,8 +38,7 @@ begins t rtype kept =
     let size = ap length named in
     record {
       at = record { kept = kept; row = kept.tree.some };
-      inside = ap (λ n. at_or_below n t.zone.origin) named
-          ∙ itself-under t.zone.origin t.zone.origin (same-from t.zone.origin t.zone.origin refl);
+      inside = grind (arith, itself-under, same-from);
       longer = inl refl;
       long = omega arith;
       uncut = λ e. no_cut-at_origin z (name_at t 0) (omega arith);
@@ -58,17 +56,13 @@ goes_on t rtype k j l way at named servers =
     let kid = map to_ascii_lowercase l in
     let size = ap length named in
     let lower : folded (name_at t j) ≡ name_at t j = (is_row t j at).lower in
-    let below_origin : below (name_at t j) t.zone.origin ≡ true =
-    ap (λ m. below m t.zone.origin) named ∙ below-cons kid n t.zone.origin ∙ way.inside in
+    let below_origin : below (name_at t j) t.zone.origin ≡ true = grind (arith, below-cons) in
     record {
       at = at;
-      inside = ap (λ m. at_or_below m t.zone.origin) named
-          ∙ under-trans (kid ∷ n) n t.zone.origin (cons_under kid n) way.inside;
+      inside = grind arith;
       longer = inr (omega (arith, size, way.long));
       long = omega (arith, size, way.long);
-      uncut = λ e. ap (cut_of z) named ∙ cut-none z kid n (way.uncut e)
-          (ap (λ m. is_cut z (folded m)) (sym named) ∙ ap (is_cut z) lower
-          ∙ cut-by_set z (name_at t j) below_origin ∙ servers e);
+      uncut = grind (arith, cut-none, cut-by_set);
     }
 
 pub lead_is : (t : Tree) (rtype k : ℕ) → IsOnWay t rtype k → IsLeadAt t.zone t.rows rtype k

@@ -31,8 +31,7 @@ under-from n a (p, e) =
     let k = length n - length a in
     let len_n : length (folded n) ≡ length n = length-map n (map to_ascii_lowercase) in
     let len_a : length (folded a) ≡ length a = length-map a (map to_ascii_lowercase) in
-    let both : length (folded n) ≡ length p + length (folded a) =
-    ap length e ∙ length-append p (folded a) in
+    let both : length (folded n) ≡ length p + length (folded a) = grind (arith, length-append) in
     let fits : length a ≤ length n = omega arith in
     let rest : drop (length (folded n) - length (folded a)) (folded n) ≡ folded a =
     end_rest (folded n) (folded a) p e in
@@ -60,12 +59,7 @@ pub below-cons : (l : Octets) (n a : DomainName) → below (l ∷ n) a ≡ at_or
 below-cons l n a = go (at_or_below n a) refl
   where
     go : (b : Bool) → at_or_below n a ≡ b → below (l ∷ n) a ≡ b
-    go true e =
-        let fits =
-        leb-true _ _
-        (and_parts (nat_le (length a) (length n)) (same (last_labels (length a) n) a) e).0 in
-        and_from _ _ (lt-ltb (length a) (suc (length n)) (omega arith))
-        (at_or_below-cons l n a ∙ or_right (same (l ∷ n) a) (at_or_below n a) e)
+    go true e = grind (arith, leb-true, and_parts, and_from, lt-ltb, at_or_below-cons, or_right)
     go false e = false_from_ne_true (below (l ∷ n) a) (λ h.
         let parts = and_parts (nat_lt (length a) (suc (length n))) (at_or_below (l ∷ n) a) h in
         let shorter = ltb-true _ _ parts.0 in

@@ -113,11 +113,7 @@ module _ (z : ZoneContents) (kept : IsBuilt z) (n : DomainName) where
         shown : (r : ResourceRecord) (rs : List ResourceRecord) → rrset z n t ≡ r ∷ rs
             → Each (IsOf (folded n) k t) (r ∷ rs)
             → records_at n r.ttl (lent r.rtype r.ttl (r ∷ rs)) ≡ rrset z n r.rtype
-        shown r rs p own =
-            ap (λ (o : DomainName). records_at o r.ttl (lent r.rtype r.ttl (r ∷ rs))) (sym low)
-            ∙ ap (λ j. records_at (folded n) j (lent r.rtype j (r ∷ rs))) own.0.ttl
-            ∙ ap (λ u. records_at (folded n) k (lent u k (r ∷ rs))) own.0.rtype
-            ∙ sym (as_set (folded n) k t (r ∷ rs) own) ∙ sym p ∙ ap (rrset z n) (sym own.0.rtype)
+        shown r rs p own = grind (arith, as_set, k)
 
         go : (xs : List ResourceRecord) → rrset z n t ≡ xs → set_of xs ≡ Some s
             → (s.rtype ≡ t) × IsSetOf (record { zone = z; name = n }) s
@@ -133,12 +129,7 @@ module _ (z : ZoneContents) (kept : IsBuilt z) (n : DomainName) where
               own.0.rtype,
               record {
                 records = shown r rs p own;
-                few =
-                    omega (
-                      arith,
-                      length-map (r ∷ rs) (λ (q : ResourceRecord). q.rdata),
-                      ap length p,
-                    );
+                few = grind (arith, few, length-map);
                 ttl = read.0.0.ttl;
                 valid = lent_is.valid;
               },

@@ -46,11 +46,7 @@ none_differs r s [] l h n d = refl
 none_differs r s (q ∷ rs) l h n d =
     let parts = or_parts (differ s q) (neighbours_differ (q ∷ rs)) n in
     let next = h.0.0 in
-    let here : differ r q ≡ false = differ_from r q (λ e.
-    let a : r.rtype ≡ s.rtype = omega arith in
-    let b : s.rtype ≡ q.rtype = omega arith in
-    same_ttl r s d a ∙ same_ttl s q parts.0 b)
-    in
+    let here : differ r q ≡ false = grind arith in
     ap₂ ◌||◌ here (none_differs r q rs (omega arith) h.1 parts.1 here)
 
 first_differs : (r : ResourceRecord) (rs : List ResourceRecord) → Pairs TypeUpTo (r ∷ rs) → neighbours_differ rs ≡ false → list_any (differ r) rs ≡ next_differs r rs
@@ -105,10 +101,7 @@ run_after t (suc k) (s ∷ rs) e h = go (eqb s.rtype t) refl (run_after t k rs e
   where
     go : (b : Bool) → eqb s.rtype t ≡ b → nat_lt k (length (of_number t rs)) ≡ begins_with_type t (drop k rs) → nat_lt (suc k) (length (cond b (s ∷ of_number t rs) (of_number t rs))) ≡ begins_with_type t (drop k rs)
     go true f rest = lt_suc k (length (of_number t rs)) ∙ rest
-    go false f rest =
-        let above = other_than t s.rtype e.0 (eqb-false s.rtype t f) in
-        let all = above_all t s rs above h.0 in
-        ap (λ xs. nat_lt (suc k) (length xs)) (no_more t rs all) ∙ le-ltb (suc k) 0 (omega arith) ∙ sym (none_after t k rs all)
+    go false f rest = grind (arith, other_than, eqb-false, above_all, no_more, le-ltb, none_after)
 
 first_run : (k : ℕ) (r : ResourceRecord) (rs : List ResourceRecord) → Pairs TypeUpTo (r ∷ rs) → is_large k (r ∷ rs) r ≡ begins_with_type r.rtype (drop k rs)
 first_run k r rs h = grind (arith, eq-eqb, lt_suc, run_after)

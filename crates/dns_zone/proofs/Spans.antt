@@ -54,12 +54,9 @@ module _ {X : Type 0} (p : X → Bool) (xs : List X) (a b : ℕ) (h : a ≤ b)
   pub in_span : (k : ℕ) (d : X) → a ≤ k → k < b → b ≤ length xs → p (get_or xs k d) ≡ true
   in_span k d l m f =
       let at : a + (k - a) ≡ k = omega arith in
-      let fits : k - a < length (span xs a b) =
-      omega (arith, length-take (b - a) (drop a xs), length-drop a xs) in
+      let fits : k - a < length (span xs a b) = grind (arith, length-take, length-drop) in
       let here : get_or (span xs a b) (k - a) d ≡ get_or xs k d =
-      get_or-take (b - a) (drop a xs) (k - a) d (omega arith) ∙ get_or-drop a xs (k - a) d
-      ∙ ap (λ i. get_or xs i d) at
-      in
+      grind (arith, get_or-take, get_or-drop) in
       subst (λ x. p x ≡ true) here
       (each_get (λ x. p x ≡ true) (span xs a b) (k - a) d
       (subst (Each (λ x. p x ≡ true)) (sym e) (filter_each p xs)) fits)

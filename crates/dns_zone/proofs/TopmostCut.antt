@@ -136,10 +136,7 @@ module _ (z : ZoneContents) where
               above = itself n;
               octets = refl;
             };
-            least = λ c d is u.
-                let size : length (name_key c) ≡ length (name_key n) =
-                ap (λ m. length (name_key m)) (only c d is u) in
-                (octets (cases_lt 0 (length (name_key n))) labels, omega (arith, size));
+            least = grind (arith, cases_lt, octets);
           }
         where
           octets : (0 < length (name_key n)) ⊎ (length (name_key n) ≤ 0) → 0 < length n
@@ -148,8 +145,7 @@ module _ (z : ZoneContents) where
           octets (inr l) h = absurd (some n h (omega arith))
       go false e = record {
         some = λ h. absurd (omega (arith, h));
-        least = λ c d is u.
-            absurd (false≢true (sym e ∙ ap (is_cut z) (sym (only c d is u)) ∙ is));
+        least = grind arith;
       }
 
   -- A name after another, whose cuts are not after that one, or the name itself.
@@ -167,13 +163,8 @@ module _ (z : ZoneContents) where
         let some = ltb-true 0 k parts.0 in
         let cut = t.some some in
         let begins = under_begins o cut.cut low_o cut.lower cut.above in
-        let front : take k (name_key o) ≡ name_key cut.cut =
-        ap (λ i. take i (name_key o)) cut.octets
-        ∙ ap (take (length (name_key cut.cut))) begins.1
-        ∙ take-append_seam (name_key cut.cut) begins.0 in
-        let under : at_or_below n cut.cut ≡ true =
-        sym (starts_under n cut.cut low_n cut.lower)
-        ∙ ap (starts_with ◌==◌ (name_key n)) (sym front) ∙ parts.1 in
+        let front : take k (name_key o) ≡ name_key cut.cut = grind (arith, take-append_seam) in
+        let under : at_or_below n cut.cut ≡ true = grind (arith, starts_under) in
         let octets = cut.octets in
         let short = no_shorter n cut.cut low_n cut.lower under in
         let fits : k ≤ length (name_key n) = omega (arith, octets, short) in
@@ -209,12 +200,9 @@ module _ (z : ZoneContents) where
             let more = least.1 in
             let own = under_begins n c low_n d u in
             let other = under_begins o c low_o d under in
-            let front : take k (name_key o) ≡ take k (name_key n) =
-            ap (take k) other.1 ∙ take-append-le k (name_key c) other.0 more
-            ∙ sym (ap (take k) own.1 ∙ take-append-le k (name_key c) own.0 more) in
+            let front : take k (name_key o) ≡ take k (name_key n) = grind (arith, take-append-le) in
             let short = no_shorter o c low_o d under in
-            let size : length (take k (name_key o)) ≡ k =
-            length-take k (name_key o) ∙ min-eq_left (omega (arith, more, short)) in
+            let size : length (take k (name_key o)) ≡ k = grind (arith, length-take, min-eq_left) in
             let starts = (octets_equal-decides (take k (name_key o))
             (take (length (take k (name_key o))) (name_key n))).1
             (front ∙ ap (λ i. take i (name_key n)) (sym size)) in

@@ -1,6 +1,6 @@
 -- Records that stand by their types: the types of one owner.
 use Rattle.std.proofs.Common.{◌≡◌, ◌==◌, ℕ, ◌-◌, ◌<◌, ◌≤◌, length, get_or, Bool, true, false, not, ◌||◌, ◌⊎◌, cond, nat_lt, eqb, Some, None, List, [], ◌∷◌, refl, sym, ap, ap₂, ◌∙◌, arith, filter, inl, inr}
-use Rattle.std.proofs.lemmas.Bool.{ltb-true, ltb-false, eqb-true, eq-eqb, ne_eqb, eqb-false, cases_lt, le-ltb, not-true}
+use Rattle.std.proofs.lemmas.Bool.{ltb-true, ltb-false, eqb-true, eq-eqb, ne_eqb, eqb-false, cases_lt, le-ltb}
 use Rattle.std.proofs.lemmas.List.{take_all}
 use Rattle.std.specs.List.{list_any, slice_get}
 use Rattle.std.specs.List.Sorted.{IsPartitionedBy, IsNonDecreasingBy}
@@ -62,10 +62,7 @@ module _ (t : ℕ) where
       (filter_each not_below rs) (pairs_filter (λ r s. r.rtype ≤ s.rtype) not_below rs (pairs_rising (λ (r : ResourceRecord). r.rtype) rs h)))
     where
       level : (r s : ResourceRecord) → not_below r ≡ true → not_below s ≡ true → r.rtype ≤ s.rtype → of_t s ≡ true → of_t r ≡ true
-      level r s p q l e =
-          let a : t ≤ r.rtype = ltb-false r.rtype t (not-true _ p) in
-          let b : s.rtype ≡ t = eqb-true s.rtype t e in
-          eq-eqb r.rtype t (omega arith)
+      level r s p q l e = grind arith
 
   pub type_others : (rs : List ResourceRecord) → filter of_t (filter not_below rs) ≡ filter of_t rs
   type_others rs = grind (arith, filter_within, eqb-true, le-ltb)
