@@ -18,7 +18,6 @@ use Rattle.dns_zone.specs.LabelKey.{IsKey}
 use Rattle.dns_zone.specs.NameEnd.{ending}
 use Rattle.dns_zone.specs.ZoneForm.{AreOrdered, IsCanonical}
 use Rattle.dns_zone.specs.TreeForm.{owners, under, row_octets, first_of}
-use Rattle.dns_zone.specs.declared.row.Row.{Row}
 use Rattle.dns_zone.specs.TreeSteps.{IsNext, IsKidAt}
 use Rattle.dns_zone.proofs.Pairs.{Pairs, pairs_of, parted, filter_all, filter_within}
 use Rattle.dns_zone.proofs.NameTree.{itself-under, under-order, between}
@@ -183,14 +182,6 @@ module _ (rs : List ResourceRecord) (canonical : IsCanonical rs) (n : DomainName
         let some = some_under in
         let at_count : next + count - next ≡ count = omega arith in
         let at_own : next + own - next ≡ own = omega arith in
-        let row : Row = record {
-          first = next;
-          own_end = next + own;
-          end = next + count;
-          place = place;
-          label_octets = label;
-          key = key;
-        } in
         record {
           kid = record {
             label = child.label;

@@ -53,7 +53,6 @@ module _ {X : Type 0} (p : X → Bool) (xs : List X) (a b : ℕ) (h : a ≤ b)
   -- and each element of it passes
   pub in_span : (k : ℕ) (d : X) → a ≤ k → k < b → b ≤ length xs → p (get_or xs k d) ≡ true
   in_span k d l m f =
-      let at : a + (k - a) ≡ k = omega arith in
       let fits : k - a < length (span xs a b) = grind (arith, length-take, length-drop) in
       let here : get_or (span xs a b) (k - a) d ≡ get_or xs k d =
       grind (arith, get_or-take, get_or-drop) in

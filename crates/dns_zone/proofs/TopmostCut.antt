@@ -127,7 +127,6 @@ module _ (z : ZoneContents) where
       go true e =
           let parts = and_parts (below n z.origin) (owns z n type_ns) e in
           let long = (and_parts (nat_lt (length z.origin) (length n)) _ parts.0).0 in
-          let labels : 0 < length n = omega (arith, ltb-true _ _ long) in
           record {
             some = λ h. record {
               cut = n;
