@@ -2,7 +2,7 @@
 use Rattle.std.proofs.Common.{◌≡◌, ℕ, zero, suc, ◌+◌, ◌<◌, ◌≤◌, Bool, true, false, ◌&&◌, ◌||◌, not, cond, nat_lt, eqb, ◌==◌, List, [], ◌∷◌, map, length, drop, refl, sym, ap, ap₂, ◌∙◌, arith, filter}
 use Rattle.dns_zone.proofs.Spans.{filter_again}
 use Rattle.std.proofs.Math.ListN.{drop_of_length-le}
-use Rattle.std.proofs.lemmas.Bool.{ltb-false, eqb-true, ne_eqb, eqb-false, eq-eqb, cases_lt, lt-ltb, le-ltb, or_right, or_parts, true≢false}
+use Rattle.std.proofs.lemmas.Bool.{ltb-false, eqb-true, ne_eqb, eqb-false, eq-eqb, cases_lt, lt-ltb, le-ltb, or_right, or_parts}
 use Rattle.std.specs.List.{list_any}
 use Rattle.dns_spec.specs.Records.{ResourceRecord, distinct}
 use Rattle.dns_spec.proofs.Records.SortedOnce.{Each, each_weaker, each_distinct}
@@ -33,12 +33,6 @@ differ_turned r s = ap₂ (λ a b. a && not b) (eqb_turned r.rtype s.rtype) (eqb
 
 differ_itself : (r : ResourceRecord) → differ r r ≡ false
 differ_itself r = ap₂ (λ a b. a && not b) (eq-eqb r.rtype r.rtype refl) (eq-eqb r.ttl r.ttl refl)
-
-same_ttl : (r s : ResourceRecord) → differ r s ≡ false → r.rtype ≡ s.rtype → r.ttl ≡ s.ttl
-same_ttl r s h e = grind (arith, eqb-true, true≢false, ap₂, eq-eqb)
-
-differ_from : (r s : ResourceRecord) → (r.rtype ≡ s.rtype → r.ttl ≡ s.ttl) → differ r s ≡ false
-differ_from r s f = grind (arith, eq-eqb, eqb-true)
 
 -- where neighbours do not differ, none does
 none_differs : (r s : ResourceRecord) (rs : List ResourceRecord) → TypeUpTo r s → Pairs TypeUpTo (s ∷ rs) → neighbours_differ (s ∷ rs) ≡ false → differ r s ≡ false → list_any (differ r) rs ≡ false
