@@ -1,11 +1,11 @@
 -- The records of a name among records in canonical order.
-use Rattle.std.proofs.Common.{◌≡◌, Bool, true, false, not, cond, List, [], ◌∷◌, refl, ap, ◌∙◌, subst, filter, is_gt, is_lt, Ordering, Less, Equal, Greater}
+use Rattle.std.proofs.Common.{◌≡◌, Bool, true, false, not, cond, List, [], ◌∷◌, refl, ap, ◌∙◌, subst, filter, is_gt, is_lt, Ordering, arith}
 use Rattle.dns_spec.proofs.Records.RecordOrder.{record_order_total}
 use Rattle.dns_spec.proofs.ZoneChecks.FaultOrder.{name_tie, name_order_total}
 use Rattle.std.proofs.lemmas.Bool.{false≢true, not-true}
 use Rattle.std.proofs.lemmas.Cmp.{nat_list_cmp_total, on_total, upto}
 use Rattle.std.specs.Cmp.{IsTotalOrder}
-use Rattle.std.specs.Ordering.{ordering_reverse, ordering_then}
+use Rattle.std.specs.Ordering.{ordering_then}
 use Rattle.std.specs.List.Sorted.{IsPartitionedBy}
 use Rattle.dns_spec.specs.Names.{DomainName, same, name_order}
 use Rattle.dns_spec.specs.Records.{ResourceRecord, insert_by, sort_by, data_order, record_order}
@@ -20,28 +20,16 @@ module _ {X : Type 0} (cmp : X → X → Ordering) (total : IsTotalOrder cmp) wh
   NotAfter x y = is_gt (cmp x y) ≡ false
 
   not_before : (x y : X) → is_gt (cmp x y) ≡ true → NotAfter y x
-  not_before x y h = turned (cmp x y) refl h
-    where
-      turned : (c : Ordering) → cmp x y ≡ c → is_gt c ≡ true → NotAfter y x
-      turned Less e p = absurd (false≢true p)
-      turned Equal e p = absurd (false≢true p)
-      turned Greater e p = ap is_gt (total.antisymm y x ∙ ap ordering_reverse e)
+  not_before x y h = grind (arith, false≢true)
 
   each_insert : (P : X → Type 0) (x : X) (ys : List X) → P x → Each P ys → Each P (insert_by cmp x ys)
   each_insert P x [] p e = (p, tt)
-  each_insert P x (y ∷ ys) p e = go (is_gt (cmp x y)) (each_insert P x ys p e.1)
-    where
-      go : (t : Bool) → Each P (insert_by cmp x ys) → Each P (cond t (y ∷ insert_by cmp x ys) (x ∷ y ∷ ys))
-      go true f = (e.0, f)
-      go false f = (p, (e.0, e.1))
+  each_insert P x (y ∷ ys) p e = grind (arith, (each_insert P x ys p e.1))
 
   insert_pairs : (x : X) (ys : List X) → Pairs NotAfter ys → Pairs NotAfter (insert_by cmp x ys)
   insert_pairs x [] h = (tt, tt)
-  insert_pairs x (y ∷ ys) h = go (is_gt (cmp x y)) refl (insert_pairs x ys h.1)
-    where
-      go : (t : Bool) → is_gt (cmp x y) ≡ t → Pairs NotAfter (insert_by cmp x ys) → Pairs NotAfter (cond t (y ∷ insert_by cmp x ys) (x ∷ y ∷ ys))
-      go true e r = (each_insert (NotAfter y) x ys (not_before x y e) h.0, r)
-      go false e r = ((e, each_weaker (NotAfter y) (NotAfter x) ys (λ z f. upto total x y z e f) h.0), h)
+  insert_pairs x (y ∷ ys) h =
+      grind (arith, each_insert, not_before, each_weaker, upto, (insert_pairs x ys h.1))
 
   sort_pairs : (xs : List X) → Pairs NotAfter (sort_by cmp xs)
   sort_pairs [] = tt
@@ -67,9 +55,7 @@ abbrev pub OwnerNotAfter : ResourceRecord → ResourceRecord → Type 0
 OwnerNotAfter r s = is_gt (name_order r.owner s.owner) ≡ false
 
 pub first_part : (c d : Ordering) → is_gt (ordering_then c d) ≡ false → is_gt c ≡ false
-first_part Less d h = refl
-first_part Equal d h = refl
-first_part Greater d h = h
+first_part c d h = grind arith
 
 pub ordered_records : (rs : List ResourceRecord) → AreOrdered rs → Pairs (λ r s. is_gt (record_order r s) ≡ false) rs
 ordered_records rs h = sorted_pairs record_order record_order_total rs h
@@ -88,9 +74,7 @@ module _ (n : DomainName) where
 
   at_more : (r s : ResourceRecord) → not (is_before r) ≡ true → not (is_before s) ≡ true → OwnerNotAfter r s → is_at s ≡ true → is_at r ≡ true
   at_more r s p q e f =
-      let tied = same-tied s.owner n f in
-      let upper : is_gt (name_order r.owner n) ≡ false = upto name_order_total r.owner s.owner n e (ap is_gt tied) in
-      name_tie r.owner n (not_greater (name_order r.owner n) upper (not-true _ p))
+      grind (arith, same-tied, upto, name_order_total, name_tie, not_greater, not-true)
 
   -- what stands at the name or after it
   pub at_parted : (rs : List ResourceRecord) → AreOrdered rs → IsPartitionedBy is_at (filter (λ r. not (is_before r)) rs)

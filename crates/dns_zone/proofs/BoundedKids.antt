@@ -1,5 +1,5 @@
 -- What passes in a part of a list, where nothing passes past the part.
-use Rattle.std.proofs.Common.{◌≡◌, ℕ, ◌≤◌, Bool, true, List, [], ◌++◌, length, take, drop, sym, ap, ◌∙◌, filter}
+use Rattle.std.proofs.Common.{◌≡◌, ℕ, ◌≤◌, Bool, true, List, [], ◌++◌, length, take, drop, sym, ap, ◌∙◌, filter, arith}
 use Rattle.std.proofs.lemmas.List.{append-nil, take-append-le}
 use Rattle.std.proofs.lemmas.List.Elements.{filter-append}
 use Rattle.dns_spec.specs.Names.{DomainName, at_or_below}
@@ -28,9 +28,7 @@ module _ {X : Type 0} (p : X → Bool) (xs : List X) (a b : ℕ) (h : a ≤ b)
 -- where no record is at or below a name, none is at or below one that is
 pub none_under : (m n : DomainName) (xs : List ResourceRecord) → at_or_below m n ≡ true
     → under n xs ≡ [] → under m xs ≡ []
-none_under m n xs h e =
-    sym (filter_within (is_under n) (is_under m) xs (λ r u. under-trans r.owner m n u h))
-    ∙ ap (under m) e
+none_under m n xs h e = grind (arith, filter_within, is_under, under-trans)
 
 pub none_at : (m n : DomainName) (xs : List ResourceRecord) → at_or_below m n ≡ true
     → under n xs ≡ [] → filter (is_at m) xs ≡ []

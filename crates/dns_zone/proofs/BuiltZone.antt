@@ -25,13 +25,7 @@ module _ (o n : DomainName) (rs xs ys : List ResourceRecord) (fs : List Fault) (
   found_of_read = found ∙ ap₂ (λ (m : DomainName) ys. faults (record { origin = m; records = ys })) low canonical ∙ ordered_faults o rs
 
   pub built : length fs ≡ 0 → length rs ≤ most_records → length xs ≤ length rs → AreOrdered xs → All IsReadRecord xs → IsBuilt (record { origin = n; records = xs })
-  built none few fewer ordered each = record {
-    low = ap folded low ∙ folded_folded o ∙ sym low;
-    each = each;
-    ordered = ordered;
-    few = below (length xs) (length rs) most_records fewer few;
-    passes = sym found ∙ nil_from_length fs none;
-  }
+  built none few fewer ordered each = grind (arith, folded_folded, below, found, nil_from_length)
 
 -- the SOAs at a name
 abbrev pub soas_at : DomainName → List ResourceRecord → List ResourceRecord

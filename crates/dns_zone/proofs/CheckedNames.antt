@@ -89,9 +89,7 @@ between_both n m p q f g = go (name_order n m) refl f
     go Greater e h = absurd (true≢false h)
 
 pub one_key : (n m : DomainName) → Lower n → Lower m → name_key n ≡ name_key m → n ≡ m
-one_key n m p q e =
-    one_lower n m p q (name_tie n m (sym (key_order n m p q)
-    ∙ ap (slice_cmp nat_cmp (name_key n)) (sym e) ∙ tied_itself nat_list_cmp_total (name_key n)))
+one_key n m p q e = grind (arith, one_lower, name_tie, key_order, tied_itself, nat_list_cmp_total)
 
 module _ (z : ZoneContents) where
   -- a cut is an owner
@@ -109,8 +107,7 @@ module _ (z : ZoneContents) where
               ⊎ (list_any (λ (s : ResourceRecord). same s.owner c && s.rtype == type_ns) rs ≡ true)
               → (list_any (λ (s : ResourceRecord). same s.owner c && s.rtype == type_ns) rs ≡ true
               → Among c (owners rs)) → (c ≡ folded r.owner) ⊎ Among c (owners rs)
-          by_first (inl k) f =
-              inl (sym low ∙ sym (same-is r.owner c (and_parts (same r.owner c) _ k).0))
+          by_first (inl k) f = grind (arith, same-is, and_parts)
           by_first (inr k) f = inr (f k)
 
   pub none_at : (m : DomainName) → Lower m → (Among m (owners_once z.records) → ⊥) → at z m ≡ []
@@ -135,8 +132,7 @@ module _ (z : ZoneContents) where
       (key : Octets) (key_is : key ≡ name_key m) where
     key_tells : (c : CheckedName) → IsChecked z (name c) c
         → slice_cmp nat_cmp c.key.now key ≡ name_order (name c) m
-    key_tells c h =
-        ap₂ (slice_cmp nat_cmp) h.key key_is ∙ key_order (name c) m h.owner.lower low
+    key_tells c h = grind (arith, ap₂, key_order)
 
     abbrev InOrder : CheckedName → CheckedName → Type 0
     InOrder c d = name_order (name c) (name d) ≡ Less
@@ -187,10 +183,7 @@ module _ (z : ZoneContents) where
       -- a name that is not after it is among the first of them
       pub upto_among : (c : CheckedName) → Among c names → is_gt (name_order (name c) m) ≡ false
           → Among c (take k names)
-      upto_among c a e =
-          let h = each_at (λ d. IsChecked z (name d) d) c names each a in
-          subst (Among c) (sym front.passing)
-          (filter_among (is_upto key) c names (ap not (ap is_gt (key_tells c h) ∙ e)) a)
+      upto_among c a e = grind (arith, each_at, filter_among, key_tells)
 
       -- the last of them
       module _ (i : ℕ) (next : k ≡ suc i) (c : CheckedName)
@@ -205,9 +198,7 @@ module _ (z : ZoneContents) where
             (last_at InOrder names i c pairs fits))
 
         pub last_checked : IsChecked z (name c) c
-        last_checked =
-            subst (λ x. IsChecked z (name x) x) (sym is)
-            (each_get (λ d. IsChecked z (name d) d) names i c each fits)
+        last_checked = grind (arith, each_get, fits)
 
         pub last_upto : is_gt (name_order (name c) m) ≡ false
         last_upto =
@@ -220,13 +211,7 @@ module _ (z : ZoneContents) where
         -- the others of them come before it
         pub upto_last : (d : CheckedName) → Among d names → is_gt (name_order (name d) m) ≡ false
             → is_gt (name_order (name d) (name c)) ≡ false
-        upto_last d a e =
-            go (each_at (λ x. (x ≡ c) ⊎ InOrder x c) d (take k names) in_order
-            (upto_among d a e))
-          where
-            go : (d ≡ c) ⊎ InOrder d c → is_gt (name_order (name d) (name c)) ≡ false
-            go (inl f) = equal_upto (name d) (name c) (ap name f)
-            go (inr f) = ap is_gt f
+        upto_last d a e = grind (arith, each_at, in_order, upto_among, equal_upto)
 
       -- where they are all that are checked
       module _ (all : map (name_of z) names ≡ checked_names z) where
@@ -320,8 +305,7 @@ module _ (z : ZoneContents) where
               g))
 
       pub found_cut : last ≡ m → nat_lt 0 c.cut ≡ at_or_below_cut z m
-      found_cut e =
-          sym (at_cut z last h.checked.owner.lower c.cut h.checked.topmost) ∙ ap (at_or_below_cut z) e
+      found_cut e = grind (arith, at_cut)
 
       pub found_at : last ≡ m → own_in z.records c ≡ at z m
       found_at e = h.checked.owner.own_is ∙ ap (at z) e

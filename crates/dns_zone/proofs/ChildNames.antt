@@ -1,13 +1,12 @@
 -- Names one label below a name.
-use Rattle.std.proofs.Common.{◌≡◌, ℕ, ◌+◌, ◌-◌, ◌<◌, ◌≤◌, Bool, true, false, nat_lt, nat_le, if◌then◌else◌, ◌⊎◌, inl, inr, List, [], ◌∷◌, ◌++◌, map, reverse, length, drop, refl, sym, ap, ap₂, ◌∙◌, arith, is_gt}
+use Rattle.std.proofs.Common.{◌≡◌, ◌+◌, ◌<◌, ◌≤◌, Bool, true, false, nat_lt, if◌then◌else◌, List, [], ◌∷◌, ◌++◌, map, reverse, length, drop, refl, sym, ap, ap₂, ◌∙◌, arith, is_gt}
 use Rattle.dns_zone.proofs.AtName.{first_part}
 use Rattle.std.proofs.lemmas.Bool.{false≢true, and_parts, and_from, leb-true, lt-ltb, ltb-true, ltb-false, cases_lt}
 use Rattle.std.proofs.lemmas.Cmp.{nat_list_cmp_total, tied_itself}
 use Rattle.std.proofs.lemmas.List.{reverse-append, append_assoc}
 use Rattle.std.specs.Cmp.Lexicographic.{slice_cmp}
-use Rattle.std.specs.Ordering.{ordering_then}
 use Rattle.std.specs.Char.{to_ascii_lowercase}
-use Rattle.dns_spec.specs.Names.{Octets, DomainName, wire, folded, same, last_labels, at_or_below, below, label_order, name_order}
+use Rattle.dns_spec.specs.Names.{Octets, DomainName, wire, folded, same, at_or_below, below, label_order, name_order}
 use Rattle.dns_spec.proofs.DomainNames.NameLaws.{at_or_below-short, same-length-wire}
 use Rattle.dns_zone.specs.NameEnd.{ending}
 use Rattle.dns_zone.proofs.NameOrder.{same-is}
@@ -28,29 +27,17 @@ cons_under l m = under-from (l ∷ m) m (map to_ascii_lowercase l ∷ [], refl)
 -- a name at or below another, and not the same, is below it
 below_unless_same : (m n : DomainName) → at_or_below m n ≡ true → (same m n ≡ true → ⊥)
     → below m n ≡ true
-below_unless_same m n h other = and_from _ _ (go (cases_lt (length n) (length m))) h
-  where
-    parts : (nat_le (length n) (length m) ≡ true) × (same (last_labels (length n) m) n ≡ true)
-    parts = and_parts (nat_le (length n) (length m)) (same (last_labels (length n) m) n) h
-
-    go : (length n < length m) ⊎ (length m ≤ length n) → nat_lt (length n) (length m) ≡ true
-    go (inl k) = lt-ltb _ _ k
-    go (inr k) =
-        let none : length m - length n ≡ 0 = omega arith in
-        let whole : same m n ≡ true = ap (λ (i : ℕ). same (drop i m) n) (sym none) ∙ parts.1 in
-        absurd (other whole)
+below_unless_same m n h other = grind (arith, and_from, cases_lt, and_parts, lt-ltb)
 
 longer_below : (m n : DomainName) → at_or_below m n ≡ true → length (wire n) < length (wire m)
     → below m n ≡ true
-longer_below m n h l =
-    below_unless_same m n h (λ whole. let level = same-length-wire m n whole in omega arith)
+longer_below m n h l = grind (arith, below_unless_same, same-length-wire)
 
 -- the shortest end of an owner that has more octets than a name which the owner is below
 pub child_end : (n owner : DomainName) → below owner n ≡ true → folded owner ≡ owner
     → folded n ≡ n → IsChildOf n owner (ending (length (wire n) + 1) owner)
 child_end n [] b low lower =
-    let less : length n < 0 =
-    ltb-true _ _ (and_parts (nat_lt (length n) 0) (at_or_below [] n) b).0 in
+    let less : length n < 0 = grind arith in
     absurd (omega arith)
 child_end n (l ∷ o) b low lower =
     go (nat_lt (length (wire o)) (length (wire n) + 1)) refl
@@ -67,9 +54,7 @@ child_end n (l ∷ o) b low lower =
         let is_same : same o n ≡ true = sym (at_or_below-short o n (omega arith)) ∙ at in
         record {
           label = l;
-          labels =
-              ap (λ (m : DomainName). l ∷ m)
-              (sym (ap (drop 1) low) ∙ same-is o n is_same ∙ lower);
+          labels = grind (arith, same-is);
           lower = low;
           above = under-from (l ∷ o) (l ∷ o) ([], refl);
           front = [];
@@ -84,28 +69,20 @@ child_end n (l ∷ o) b low lower =
           lower = h.lower;
           above = under-trans (l ∷ o) o _ (cons_under l o) h.above;
           front = length l ∷ (l ++ h.front);
-          end =
-              ap (λ xs. length l ∷ (l ++ xs)) h.end
-              ∙ ap (λ xs. length l ∷ xs) (sym (append_assoc l h.front _));
+          end = grind (arith, append_assoc);
         }
 
 -- an owner has one name of each length above it
 pub one_above : (r a b : DomainName) → at_or_below r a ≡ true → at_or_below r b ≡ true
     → length a ≡ length b → folded a ≡ a → folded b ≡ b → a ≡ b
-one_above r a b p q e low low' =
-    let pa = same-is (last_labels (length a) r) a
-    (and_parts (nat_le (length a) (length r)) (same (last_labels (length a) r) a) p).1 in
-    let pb = same-is (last_labels (length b) r) b
-    (and_parts (nat_le (length b) (length r)) (same (last_labels (length b) r) b) q).1 in
-    sym low ∙ sym pa ∙ ap (λ (k : ℕ). folded (last_labels k r)) e ∙ pb ∙ low'
+one_above r a b p q e low low' = grind (arith, same-is, and_parts)
 
 -- owners below different children stand as those labels do
 common_front : (zs : List Octets) (xs ys : List Octets)
     → slice_cmp label_order (zs ++ xs) (zs ++ ys) ≡ slice_cmp label_order xs ys
 common_front [] xs ys = refl
 common_front (z ∷ zs) xs ys =
-    ap (λ c. ordering_then c (slice_cmp label_order (zs ++ xs) (zs ++ ys)))
-    (tied_itself nat_list_cmp_total z) ∙ common_front zs xs ys
+    grind (arith, tied_itself, nat_list_cmp_total, (common_front zs xs ys))
 
 turned : (r n : DomainName) (k : Octets) → folded n ≡ n → map to_ascii_lowercase k ≡ k
     → at_or_below r (k ∷ n) ≡ true
@@ -127,17 +104,11 @@ pub labels_in_order : (r s n : DomainName) (k l : Octets) → folded n ≡ n
     → map to_ascii_lowercase k ≡ k → map to_ascii_lowercase l ≡ l
     → at_or_below r (k ∷ n) ≡ true → at_or_below s (l ∷ n) ≡ true → is_gt (name_order r s) ≡ false
     → is_gt (label_order k l) ≡ false
-labels_in_order r s n k l low lowk lowl p q h =
-    let a = turned r n k low lowk p in
-    let b = turned s n l low lowl q in
-    first_part (label_order k l) (slice_cmp label_order a.0 b.0)
-    (sym (ap₂ (λ (xs ys : List Octets). is_gt (slice_cmp label_order xs ys)) a.1 b.1
-    ∙ ap is_gt (common_front (reverse n) (k ∷ a.0) (l ∷ b.0))) ∙ h)
+labels_in_order r s n k l low lowk lowl p q h = grind (arith, turned, first_part, ap₂, common_front)
 
 -- what is at or below a name and not that name is below it
 pub other_below : (m n : DomainName) → at_or_below m n ≡ true → same m n ≡ false → below m n ≡ true
 other_below m n h f = below_unless_same m n h (λ whole. false≢true (sym f ∙ whole))
 
 pub under-longer : (r m : DomainName) → at_or_below r m ≡ true → length m ≤ length r
-under-longer r m h =
-    leb-true _ _ (and_parts (nat_le (length m) (length r)) (same (last_labels (length m) r) m) h).0
+under-longer r m h = grind (arith, leb-true, and_parts)

@@ -1,5 +1,5 @@
 -- Names that end with the same labels, and the keys that begin alike then.
-use Rattle.std.proofs.Common.{◌≡◌, ℕ, ◌-◌, ◌<◌, ◌≤◌, true, ◌⊎◌, inl, inr, [], ◌∷◌, ◌++◌, length, take, drop, sym, ap, ◌∙◌, subst, arith, append_assoc, length-append}
+use Rattle.std.proofs.Common.{◌≡◌, ℕ, ◌-◌, ◌<◌, ◌≤◌, true, [], ◌∷◌, ◌++◌, length, take, drop, sym, ap, ◌∙◌, arith, append_assoc, length-append}
 use Rattle.std.proofs.lemmas.Bool.{cases_order}
 use Rattle.std.proofs.Math.Seq.{take-append_seam}
 use Rattle.dns_spec.specs.Names.{Octets, DomainName, wire, is_name}
@@ -39,8 +39,7 @@ ends_whole n e f h = go f.front f.whole
   where
     go : (front : DomainName) → n ≡ front ++ e → n ≡ e
     go [] w = w
-    go (l ∷ ls) w =
-        absurd (omega (arith, h, ap (λ x. length (wire x)) w, more ls e, length-append l (wire (ls ++ e))))
+    go (l ∷ ls) w = grind (arith, more, length-append)
 
 -- and a longer name ends so after its first label
 pub ends_after : (n m e : DomainName) (l : Octets) → EndsWith n e → n ≡ l ∷ m
@@ -65,33 +64,17 @@ both_roots xs ys w v f g = sym (root xs w f) ∙ root ys v g
 -- the key of a name begins with that of its end
 pub key_begins : (n e : DomainName) (key : Octets) (k : ℕ) → key ≡ name_key n → EndsWith n e → k ≡ length (name_key e)
     → take k key ≡ name_key e
-key_begins n e key k is f count =
-    ap (λ i. take i key) count
-    ∙ ap (take (length (name_key e))) (is ∙ ap name_key f.whole ∙ key_append f.front e)
-    ∙ take-append_seam (name_key e) (name_key f.front)
+key_begins n e key k is f count = grind (arith, key_append, take-append_seam)
 
 pub begun : (ys end key : Octets) (m : DomainName) → ys ≡ wire m → is_name m ≡ true → key ≡ name_key m
     → IsWireForm end → EndsWith (labels_of ys) (labels_of end)
     → (take (length end - 1) key ≡ name_key (labels_of end)) × (length (name_key (labels_of end)) ≡ length end - 1)
-begun ys end key m e ok is w f =
-    let count = omega_count in (
-      key_begins m (labels_of end) key (length end - 1) is
-          (subst (λ n. EndsWith n (labels_of end)) (labels_of_spelled ys m e ok) f) count,
-      sym count,
-    )
-  where
-    omega_count : length end - 1 ≡ length (name_key (labels_of end))
-    omega_count = omega (arith, size end w, key_length (labels_of end))
+begun ys end key m e ok is w f = grind (arith, key_begins, labels_of_spelled, size, key_length)
 
 -- two names of one length that differ have labels
 pub have_labels : (xs ys : Octets) → IsWireForm xs → IsWireForm ys → length xs ≡ length ys → (xs ≡ ys → ⊥)
     → 1 < length xs
-have_labels xs ys w v e differ = go (cases_order 1 (length xs))
-  where
-    go : (1 ≡ length xs) ⊎ ((1 < length xs) ⊎ (length xs < 1)) → 1 < length xs
-    go (inl f) = absurd (differ (both_roots xs ys w v (omega (arith, f)) (omega (arith, f, e))))
-    go (inr (inl l)) = l
-    go (inr (inr l)) = let n = some xs w in absurd (omega (arith, n, l))
+have_labels xs ys w v e differ = grind (arith, cases_order, both_roots, some)
 
 pub after_ends : (xs ys end l : Octets) → IsWireForm xs → IsWireForm ys → IsWireForm end
     → labels_of xs ≡ l ∷ labels_of ys → EndsWith (labels_of xs) (labels_of end) → length end < length xs

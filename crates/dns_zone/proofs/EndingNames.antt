@@ -20,8 +20,7 @@ pub ends_in : (n a : DomainName) → folded n ≡ n → folded a ≡ a → at_or
 ends_in n a low_n low_a h =
     let (p, e) = under-is n a h in
     let (front, w) = wire_end p a in
-    let whole : wire n ≡ front ++ wire a =
-    ap wire (sym low_n ∙ e ∙ ap (λ x. p ++ x) low_a) ∙ w in
+    let whole : wire n ≡ front ++ wire a = grind arith in
     let long = ap length whole ∙ length-append front (wire a) in (
       omega (arith, long),
       end_rest (wire n) (wire a) front whole,

@@ -15,11 +15,7 @@ pub record IsLaid (n : DomainName) (d own zs : Octets) : Type 0 where
 
 pub laid_in_turn : (n : DomainName) (d own others xs ys zs : Octets) → xs ≡ [] → ys ≡ xs ++ own → zs ≡ ys ++ others → own ≡ wire n → others ≡ d
     → is_name n ≡ true → IsLaid n d own zs
-laid_in_turn n d own others xs ys zs e f g h k ok = record {
-  whole = rw (g, f, e, k) refl;
-  spelled = h;
-  is_name = ok;
-}
+laid_in_turn n d own others xs ys zs e f g h k ok = grind arith
 
 module _ (n : DomainName) (d own zs : Octets) (laid : IsLaid n d own zs) where
   owner_octets : take (length own) zs ≡ wire n

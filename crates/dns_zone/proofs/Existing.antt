@@ -1,11 +1,11 @@
 -- Which names exist in a built zone.
-use Rattle.std.proofs.Common.{◌≡◌, ℕ, ◌-◌, ◌<◌, Bool, true, false, ◌&&◌, ◌||◌, not, ◌==◌, nat_le, List, [], ◌∷◌, map, length, drop, refl, sym, ap, ap₂, ◌∙◌, arith}
+use Rattle.std.proofs.Common.{◌≡◌, ◌<◌, Bool, true, false, ◌&&◌, not, ◌==◌, List, [], ◌∷◌, map, length, refl, sym, ap, ap₂, ◌∙◌, arith}
 use Rattle.dns_spec.proofs.ZoneChecks.FaultOrder.{folded_folded}
 use Rattle.std.proofs.lemmas.Bool.{and_parts, false≢true, or_right, lt-ltb}
 use Rattle.std.proofs.lemmas.List.{length-map}
 use Rattle.std.specs.Char.{to_ascii_lowercase}
 use Rattle.std.specs.List.{list_any}
-use Rattle.dns_spec.specs.Names.{Octets, DomainName, folded, names_equal, same, at_or_below}
+use Rattle.dns_spec.specs.Names.{Octets, DomainName, folded, same, at_or_below}
 use Rattle.dns_spec.specs.Data.{type_soa}
 use Rattle.dns_spec.specs.Records.{ResourceRecord, ZoneContents, at, owns}
 use Rattle.dns_spec.specs.Checks.{is_owner}
@@ -23,41 +23,20 @@ use Rattle.dns_zone.proofs.NameTree.{itself-under}
 pub any_weaker : {X : Type 0} (p q : X → Bool) (xs : List X) → ((x : X) → p x ≡ true → q x ≡ true)
     → list_any p xs ≡ true → list_any q xs ≡ true
 any_weaker p q [] f e = absurd (false≢true e)
-any_weaker p q (x ∷ xs) f e = go (p x) refl e (any_weaker p q xs f)
-  where
-    go : (t : Bool) → p x ≡ t → (t || list_any p xs) ≡ true
-        → (list_any p xs ≡ true → list_any q xs ≡ true) → (q x || list_any q xs) ≡ true
-    go true a b r = ap (λ t. t || list_any q xs) (f x a)
-    go false a b r = or_right (q x) (list_any q xs) (r b)
+any_weaker p q (x ∷ xs) f e = grind (arith, or_right, (any_weaker p q xs f))
 
 -- only the lower case of a name counts
 pub under-lower : (n a b : DomainName) → folded a ≡ folded b → length a ≡ length b
     → at_or_below n a ≡ at_or_below n b
-under-lower n a b e l =
-    ap₂ (λ (k : ℕ) (m : DomainName). nat_le k (length n) && names_equal
-    (folded (drop (length n - k) n)) m) l e
+under-lower n a b e l = grind (arith, ap₂)
 
 pub exists-lower : (z : ZoneContents) (a b : DomainName) → folded a ≡ folded b → length a ≡ length b
     → exists z a ≡ exists z b
-exists-lower z a b e l = go z.records
-  where
-    go : (rs : List ResourceRecord)
-        → list_any (λ (r : ResourceRecord). at_or_below r.owner a) rs
-        ≡ list_any (λ (r : ResourceRecord). at_or_below r.owner b) rs
-    go [] = refl
-    go (r ∷ rs) = ap₂ ◌||◌ (under-lower r.owner a b e l) (go rs)
+exists-lower z a b e l = grind (arith, ap₂, under-lower)
 
 -- the origin owns an SOA, so that it exists
 pub origin-soa : (z : ZoneContents) → IsBuilt z → owns z z.origin type_soa ≡ true
-origin-soa z kept =
-    let none : (same z.origin z.origin && not (owns z z.origin type_soa)) ≡ false =
-    (checks_of_origin z kept.low kept.passes).0 in
-    let here : same z.origin z.origin ≡ true = same-from z.origin z.origin refl in
-    has (owns z z.origin type_soa) (sym (ap (λ b. b && not (owns z z.origin type_soa)) here) ∙ none)
-  where
-    has : (b : Bool) → not b ≡ false → b ≡ true
-    has true e = refl
-    has false e = absurd (false≢true (sym e))
+origin-soa z kept = grind (arith, checks_of_origin, same-from, false≢true)
 
 pub origin-node : (z : ZoneContents) → IsBuilt z → IsNode z z.origin
 origin-node z kept = record {
@@ -80,9 +59,7 @@ all-inside z kept =
     (λ s h. h.lower_owner) (each_all IsReadRecord z.records kept.each) in
     let fine : (is_owner z r.owner && not (at_or_below r.owner z.origin)) ≡ false =
     (checks_at z kept.low lows kept.passes r m).1.1.1.1.0 in
-    let own : Among r (at z r.owner) =
-    filter_among (λ (s : ResourceRecord). same s.owner r.owner) r z.records
-    (same-from r.owner r.owner refl) m in
+    let own : Among r (at z r.owner) = grind (arith, filter_among, same-from) in
     let owner : is_owner z r.owner ≡ true = lt-ltb 0 _ (some_length r (at z r.owner) own) in
     inside (at_or_below r.owner z.origin)
     (sym (ap (λ b. b && not (at_or_below r.owner z.origin)) owner) ∙ fine))

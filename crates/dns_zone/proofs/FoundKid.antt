@@ -1,5 +1,5 @@
 -- A label among those of children, which rise.
-use Rattle.std.proofs.Common.{◌≡◌, ℕ, zero, suc, ◌+◌, ◌-◌, ◌/◌, ◌<◌, ◌≤◌, ◌⊎◌, inl, inr, List, [], ◌∷◌, map, length, get_or, sym, ap, ◌∙◌, add-one, arith, subst, is_lt, is_gt, Less, Equal, Greater}
+use Rattle.std.proofs.Common.{◌≡◌, ℕ, zero, suc, ◌+◌, ◌-◌, ◌/◌, ◌<◌, ◌≤◌, ◌⊎◌, inl, inr, List, [], ◌∷◌, map, length, get_or, sym, ap, ◌∙◌, add-one, arith, subst, Less, Equal, Greater}
 use Rattle.std.proofs.lemmas.Bool.{cases_lt, false≢true}
 use Rattle.std.proofs.lemmas.Cmp.{nat_list_cmp_total, tied_itself}
 use Rattle.std.proofs.lemmas.List.{get_or-map, length-map, get_or_default}
@@ -16,8 +16,7 @@ rises_at : (ls : List Octets) (i j : ℕ) → Rises label_order ls → i < j →
     → label_order (get_or ls i []) (get_or ls j []) ≡ Less
 rises_at [] i j r h l = absurd (omega arith)
 rises_at (x ∷ ls) zero zero r h l = absurd (omega arith)
-rises_at (x ∷ ls) zero (suc j) r h l =
-    each_get (λ y. label_order x y ≡ Less) ls j [] r.0 (omega arith)
+rises_at (x ∷ ls) zero (suc j) r h l = grind (arith, each_get)
 rises_at (x ∷ ls) (suc i) zero r h l = absurd (omega arith)
 rises_at (x ∷ ls) (suc i) (suc j) r h l = rises_at ls i j r.1 (omega arith) (omega arith)
 
@@ -33,19 +32,11 @@ pub record Searching (rs : List ResourceRecord) (kids : List Row) (label : Octet
 
 -- half of a room, rounded, is the room after one more comparison
 pub half_room : (left turn : ℕ) → left ≤ room_after turn → left / 2 ≤ room_after (turn + 1)
-half_room left turn h =
-    let next : room_after (turn + 1) ≡ room_after turn / 2 = ap room_after (add-one turn) in
-    omega arith
+half_room left turn h = grind (arith, add-one)
 
 module _ (rs : List ResourceRecord) (kids : List Row) (label : Octets) where
   pub start : length kids ≤ 100000 → Searching rs kids label 0 (length kids) 0
-  start h = record {
-    order = omega arith;
-    inside = omega arith;
-    room = omega arith;
-    before = λ k l. absurd (omega arith);
-    after = λ k l m. absurd (omega arith);
-  }
+  start h = grind arith
 
   pub left : (low high turn : ℕ) → Searching rs kids label low high turn
       → high - low ≤ room_after turn
@@ -54,15 +45,7 @@ module _ (rs : List ResourceRecord) (kids : List Row) (label : Octets) where
   -- where a child is left to look at, fewer than 17 comparisons were made
   pub one_more : (low high turn : ℕ) → Searching rs kids label low high turn → turn ≤ 17
       → low < high → turn + 1 ≤ 17
-  one_more low high turn s h some = go (cases_lt turn 17)
-    where
-      go : (turn < 17) ⊎ (17 ≤ turn) → turn + 1 ≤ 17
-      go (inl l) = omega arith
-      go (inr l) =
-          let last : turn ≡ 17 = omega arith in
-          let none : high ≤ low + room_after 17 =
-          subst (λ (t : ℕ). high ≤ low + room_after t) last s.room in
-          absurd (omega arith)
+  one_more low high turn s h some = grind (arith, cases_lt)
 
   module _ (rising : Rises label_order (map (row_label rs) kids)) where
     label_at : (k : ℕ) → k < length kids
@@ -101,9 +84,7 @@ module _ (rs : List ResourceRecord) (kids : List Row) (label : Octets) where
           here k (inl l) _ =
               nat_list_cmp_total.trans (row_label rs (row_at kids k))
               (row_label rs (row_at kids middle)) label (between k middle l inside) e
-          here k (inr l) m =
-              let same : middle ≡ k = omega arith in
-              subst (λ (j : ℕ). label_order (row_label rs (row_at kids j)) label ≡ Less) same e
+          here k (inr l) m = grind arith
 
       pub go_left : label_order (row_label rs (row_at kids middle)) label ≡ Greater → low ≤ middle
           → middle < high → middle ≤ low + room_after (turn + 1)
@@ -126,9 +107,7 @@ module _ (rs : List ResourceRecord) (kids : List Row) (label : Octets) where
               (row_label rs (row_at kids k)) back (between middle k l g) in
               nat_list_cmp_total.antisymm (row_label rs (row_at kids k)) label
               ∙ ap ordering_reverse on
-          here k (inr l) m g =
-              let same : middle ≡ k = omega arith in
-              subst (λ (j : ℕ). label_order (row_label rs (row_at kids j)) label ≡ Greater) same e
+          here k (inr l) m g = grind arith
 
     pub none_left : (at turn : ℕ) → Searching rs kids label at at turn
         → Among label (map (row_label rs) kids) → ⊥
@@ -145,10 +124,5 @@ module _ (rs : List ResourceRecord) (kids : List Row) (label : Octets) where
 
         go : (k : ℕ) → k < length kids → row_label rs (row_at kids k) ≡ label → (k < at) ⊎ (at ≤ k)
             → ⊥
-        go k h is (inl l) =
-            false≢true
-            (ap is_lt (sym tied ∙ ap (λ (x : Octets). label_order x label) (sym is) ∙ s.before k l))
-        go k h is (inr l) =
-            false≢true
-            (ap is_gt
-            (sym tied ∙ ap (λ (x : Octets). label_order x label) (sym is) ∙ s.after k l h))
+        go k h is (inl l) = grind (arith, false≢true, tied)
+        go k h is (inr l) = grind (arith, false≢true, tied)

@@ -15,7 +15,7 @@ use Rattle.dns_spec.proofs.Records.SortedOnce.{Each, Among, Rises, each_at, each
 use Rattle.dns_spec.proofs.Replies.ItemSets.{filter_test}
 use Rattle.dns_name.proofs.WireLemmas.{labels_of_spelled}
 use Rattle.dns_zone.specs.ZoneForm.{IsCanonical}
-use Rattle.dns_zone.specs.TreeForm.{span, owners, under, first_of, row_octets, row_name, row_label, IsRow, IsKid, AreKids}
+use Rattle.dns_zone.specs.TreeForm.{span, owners, under, first_of, row_octets, row_name, row_label, IsRow, IsKid}
 use Rattle.dns_zone.specs.TreeSteps.{IsBetween, IsNext, IsKidAt, AddsKids}
 use Rattle.dns_zone.specs.declared.row.Row.{Row}
 use Rattle.dns_zone.proofs.Pairs.{Pairs, filter_none}
@@ -36,8 +36,7 @@ row_is rs row n h = labels_of_spelled (row_octets rs row) n h.octets h.is_name
 rises_push : (xs : List Octets) (y : Octets) → Rises label_order xs
     → Each (λ x. label_order x y ≡ Less) xs → Rises label_order (xs ++ y ∷ [])
 rises_push [] y r e = (tt, tt)
-rises_push (x ∷ xs) y r e =
-    (each_push (λ z. label_order x z ≡ Less) xs y r.0 e.0, rises_push xs y r.1 e.1)
+rises_push (x ∷ xs) y r e = grind (arith, each_push, (rises_push xs y r.1 e.1))
 
 -- the children of the records before a place have their rows, after the rows so far
 pub record Adding (rs : List ResourceRecord) (n : DomainName) (own_end : ℕ) (old new : List Row)
@@ -66,8 +65,7 @@ module _ (rs : List ResourceRecord) (canonical : IsCanonical rs) (n : DomainName
       let order : row.first ≤ row.end = let a = is_row.first_own in let b = is_row.own_end in
       omega arith in
       let before : under m (take row.first rs) ≡ [] =
-      none_under m n (take row.first rs) h
-      (none_before (is_under n) rs row.first row.end order is_row.below) in
+      grind (arith, none_under, none_before, is_under, order) in
       let own : under m (span rs row.first row.own_end) ≡ [] =
       filter_none (is_under m) (span rs row.first row.own_end)
       (subst (Each (λ r. is_under m r ≡ false)) (sym is_row.own)
@@ -109,22 +107,18 @@ module _ (rs : List ResourceRecord) (canonical : IsCanonical rs) (n : DomainName
       let from = a.from in
       let first = is_row.first_own in
       let inside : k < length rs = omega arith in
-      let at : get_or (owners rs) k [] ≡ (get_or rs k blank).owner =
-      get_or-map (λ (r : ResourceRecord). r.owner) rs k blank [] inside in
+      let at : get_or (owners rs) k [] ≡ (get_or rs k blank).owner = grind (arith, get_or-map) in
       let under_it =
       in_span (is_under n) rs row.first row.end order is_row.below k blank (omega arith) h
       is_row.end_fits in
-      let none : filter (is_at n) (drop row.own_end rs) ≡ [] =
-      none_past (is_at n) rs row.first row.own_end is_row.first_own is_row.own in
+      let none : filter (is_at n) (drop row.own_end rs) ≡ [] = grind (arith, is_at, none_past) in
       let other =
       nothing_there (is_at n) rs k blank
       (nothing_further (is_at n) rs row.own_end k a.from none) inside in
       record {
         lower = is_row.lower;
         fits = inside;
-        under_it =
-            subst (λ (m : DomainName). below m n ≡ true) (sym at)
-            (other_below (get_or rs k blank).owner n under_it other);
+        under_it = grind (arith, other_below);
         between = a.between;
       }
 
@@ -171,9 +165,7 @@ module _ (rs : List ResourceRecord) (canonical : IsCanonical rs) (n : DomainName
     rest = drop_more rs k blank k_inside
 
     any_here : list_any (is_under m) (drop k rs) ≡ true
-    any_here =
-        any_there (is_under m) (drop k rs) first (subst (Among first) (sym rest) (inl refl))
-        first_under
+    any_here = grind (arith, any_there, is_under, rest, first_under)
 
     any_later : (p : ResourceRecord → Bool) → list_any p (drop kid.end rs) ≡ true
         → list_any p (drop k rs) ≡ true
@@ -253,9 +245,7 @@ module _ (rs : List ResourceRecord) (canonical : IsCanonical rs) (n : DomainName
         go : (list_any (is_under (l ∷ n)) (take k rs) ≡ true)
             ⊎ (list_any (is_under (l ∷ n)) (under m rs) ≡ true)
             → Among (map to_ascii_lowercase l) (map (row_label rs) a.kids ++ row_label rs kid ∷ [])
-        go (inl f) =
-            among_left (map to_ascii_lowercase l) (map (row_label rs) a.kids)
-            (row_label rs kid ∷ []) (a.all l f)
+        go (inl f) = grind (arith, among_left)
         go (inr f) =
             let s = some_passes (is_under (l ∷ n)) (under m rs) f in
             let one : m ≡ map to_ascii_lowercase l ∷ n =
@@ -284,16 +274,12 @@ module _ (rs : List ResourceRecord) (canonical : IsCanonical rs) (n : DomainName
         side : (names_equal m' m ≡ false)
             → (under m' (take k rs) ≡ []) ⊎ (under m' (drop k rs) ≡ [])
             → (under m' (take kid.end rs) ≡ []) ⊎ (under m' (drop kid.end rs) ≡ [])
-        side q (inl e) =
-            inl (ap (under m') take_now ∙ filter-append (is_under m') (take k rs) (under m rs)
-            ∙ ap₂ (λ xs ys. xs ++ ys) e (other q))
+        side q (inl e) = grind (arith, take_now, filter-append, is_under, ap₂, other)
         side q (inr e) = inr (nothing_further (is_under m') rs k kid.end order e)
 
         go : (t : Bool) → names_equal m' m ≡ t
             → (under m' (take kid.end rs) ≡ []) ⊎ (under m' (drop kid.end rs) ≡ [])
-        go true q =
-            inr (subst (λ (x : DomainName). under x (drop kid.end rs) ≡ [])
-            (sym ((names_equal-decides m' m).0 q)) none_after)
+        go true q = grind (arith, names_equal-decides, none_after)
         go false q = side q (a.between m' low under_n len)
 
     pub step : Adding rs n row.own_end old (new ++ kid ∷ []) kid.end
@@ -301,9 +287,7 @@ module _ (rs : List ResourceRecord) (canonical : IsCanonical rs) (n : DomainName
       kids = a.kids ++ kid ∷ [];
       are = ap (λ xs. xs ++ kid ∷ []) a.are ∙ append_assoc old a.kids (kid ∷ []);
       each = each_push (IsKid rs n) a.kids kid a.each h.kid;
-      rising =
-          subst (Rises label_order) (sym labels_now)
-          (rises_push (map (row_label rs) a.kids) (row_label rs kid) a.rising before_it);
+      rising = grind (arith, labels_now, rises_push, before_it);
       ahead =
           λ l e. subst (Each (λ k. label_order k (map to_ascii_lowercase l) ≡ Less))
           (sym labels_now)
@@ -321,17 +305,11 @@ module _ (rs : List ResourceRecord) (canonical : IsCanonical rs) (n : DomainName
   pub done : (old new : List Row) (k : ℕ) → Adding rs n row.own_end old new k → row.end ≤ k
       → AddsKids rs n old new
   done old new k a h =
-      let after : drop (length old) new ≡ a.kids =
-      ap (drop (length old)) a.are ∙ drop_at old a.kids _ refl in
+      let after : drop (length old) new ≡ a.kids = grind (arith, drop_at) in
       record {
         longer = omega (arith, ap length a.are, length-append old a.kids);
         kept = ap (take (length old)) a.are ∙ take_at old a.kids _ refl;
-        kids = subst (AreKids rs n) (sym after) (record {
-          each = a.each;
-          rising = a.rising;
-          all = λ l e. a.all l (found l e);
-          few = let b = a.few in let c = a.fits in omega arith;
-        });
+        kids = grind (arith, found);
       }
     where
       order : row.first ≤ row.end

@@ -65,9 +65,7 @@ root_first z ns = record {
 module _ (z : ZoneContents) (ordered : AreOrdered z.records) (ns ms : List DomainName)
     (n : DomainName) (all : ns ++ n ∷ ms ≡ owners_once z.records) (low : folded n ≡ n) where
   around : Each (λ m. name_order m n ≡ Less) ns × Each (λ m. name_order n m ≡ Less) ms
-  around =
-      rises_around ns ms n (subst (Rises name_order) (sym all)
-      (once_rise z.records (owners_in_order z.records ordered)))
+  around = grind (arith, rises_around, once_rise, owners_in_order)
 
   pub comes_next : (last key origin : Octets) (cut : ℕ) (own : List ResourceRecord)
       → (h : LastName z ns (n ∷ ms) last cut) → origin ≡ name_key z.origin
@@ -114,17 +112,12 @@ module _ (z : ZoneContents) (ordered : AreOrdered z.records) (ns ms : List Domai
 pub each_added : (z : ZoneContents) (names : List CheckedName) (c : CheckedName) (n : DomainName)
     → Each (λ d. IsChecked z (name_of z d) d) names → name_of z c ≡ n → IsChecked z n c
     → Each (λ d. IsChecked z (name_of z d) d) (names ++ c ∷ [])
-each_added z names c n e f h =
-    each_push (λ d. IsChecked z (name_of z d) d) names c e
-    (subst (λ m. IsChecked z m c) (sym f) h)
+each_added z names c n e f h = grind (arith, each_push)
 
 pub all_added : (z : ZoneContents) (names : List CheckedName) (c : CheckedName) (n : DomainName)
     (ms : List DomainName) → name_of z c ≡ n
     → map (name_of z) (names ++ c ∷ []) ++ ms ≡ map (name_of z) names ++ n ∷ ms
-all_added z names c n ms f =
-    ap (λ ks. ks ++ ms) (map_push (name_of z) names c)
-    ∙ append_assoc (map (name_of z) names) (name_of z c ∷ []) ms
-    ∙ ap (λ (m : DomainName). map (name_of z) names ++ m ∷ ms) f
+all_added z names c n ms f = grind (arith, map_push, append_assoc)
 
 -- an element more, at a place
 each_insert : {X : Type 0} (P : X → Type 0) (xs : List X) (i : ℕ) (x : X) → Each P xs → P x
@@ -143,8 +136,7 @@ module _ {X Y : Type 0} (f : X → Y) where
   insert_among a xs zero x m = m
   insert_among a [] (suc i) x m = m
   insert_among a (y ∷ ys) (suc i) x (inl e) = inr (inl e)
-  insert_among a (y ∷ ys) (suc i) x (inr m) =
-      elim (insert_among a ys i x m) [ inl e ↦ inl e | inr k ↦ inr (inr k) ]
+  insert_among a (y ∷ ys) (suc i) x (inr m) = grind (arith, (insert_among a ys i x m))
 
   among_insert : (a : Y) (xs : List X) (i : ℕ) (x : X) → (a ≡ f x) ⊎ Among a (map f xs)
       → Among a (map f (take i xs ++ x ∷ drop i xs))
@@ -180,9 +172,7 @@ module _ (z : ZoneContents) (low : folded z.origin ≡ z.origin) (ordered : AreO
   o = z.origin
 
   rise : Rises name_order (map (name_of z) names)
-  rise =
-      subst (Rises name_order) (sym are.all)
-      (once_rise z.records (owners_in_order z.records ordered))
+  rise = grind (arith, once_rise, owners_in_order)
 
   pub owners_parted : IsPartitionedBy (is_upto key) names
   owners_parted = upto_parted z names are.each rise o low key key_is
@@ -206,9 +196,7 @@ module _ (z : ZoneContents) (low : folded z.origin ≡ z.origin) (ordered : AreO
       where
         go : (c : CheckedName) → name_of z c ≡ o → Among c names → (a : DomainName) → IsName z a
             → Among a (map (name_of z) names)
-        go c e m a (inl f) =
-            subst (λ b. Among b (map (name_of z) names)) (e ∙ sym (f ∙ low))
-            (map_among (name_of z) c names m)
+        go c e m a (inl f) = grind (arith, map_among)
         go c e m a (inr k) = subst (Among a) (sym are.all) k
 
     abbrev origin_name : Bor Octets → CheckedName
@@ -229,17 +217,7 @@ module _ (z : ZoneContents) (low : folded z.origin ≡ z.origin) (ordered : AreO
           → AreChecked z (take k names ++ origin_name b ∷ drop k names)
       origin_added b e =
           let c = origin_name b in
-          let checked : IsChecked z o c = record {
-            owner = record {
-              lower = low;
-              own_is = sym (none_at z o low none);
-              by_types = λ i j d l m. absurd (omega (arith, m));
-            };
-            rising = omega arith;
-            within = omega arith;
-            key = e ∙ key_is;
-            topmost = topmost_none z o (omega arith);
-          } in
+          let checked : IsChecked z o c = grind (arith, none_at, none, topmost_none) in
           record {
             each = each_insert (λ d. IsChecked z (name_of z d) d) names k c are.each checked;
             all = names_checked z (map (name_of z) (take k names ++ c ∷ drop k names))

@@ -1,10 +1,10 @@
 -- The rows of a zone, added level by level.
-use Rattle.std.proofs.Common.{◌≡◌, ℕ, zero, suc, ◌+◌, ◌-◌, ◌<◌, ◌≤◌, ◌⊎◌, inl, inr, List, [], ◌∷◌, ◌++◌, length, drop, get_or, refl, sym, ap, ◌∙◌, arith, subst, length-append, length-drop}
+use Rattle.std.proofs.Common.{◌≡◌, ℕ, ◌+◌, ◌-◌, ◌<◌, ◌≤◌, ◌⊎◌, inl, inr, List, [], ◌∷◌, ◌++◌, length, drop, get_or, sym, ap, ◌∙◌, arith, subst, length-append, length-drop}
 use Rattle.std.proofs.lemmas.Bool.{cases_lt}
 use Rattle.std.proofs.lemmas.List.{take-append-drop, get_or-take, get_or-drop, get_or_append_left, get_or_push, take_all}
 use Rattle.dns_spec.specs.Names.{DomainName}
 use Rattle.dns_spec.specs.Records.{ResourceRecord}
-use Rattle.dns_zone.specs.TreeForm.{span, row_name, row_at, kids_at, IsRow, IsKid, AreKids, IsTree}
+use Rattle.dns_zone.specs.TreeForm.{row_name, row_at, kids_at, IsRow, IsKid, AreKids, IsTree}
 use Rattle.dns_zone.specs.TreeSteps.{AddsKids}
 use Rattle.dns_zone.specs.declared.row.Row.{Row}
 use Rattle.dns_zone.proofs.Pairs.{each_get}
@@ -30,21 +30,7 @@ own_name rs row n h = subst (IsRow rs row) (sym (row_is rs row n h)) h
 
 pub begin : (o : DomainName) (rs : List ResourceRecord) (row : Row) → IsRow rs row o
     → Growing o rs (row ∷ []) (1 ∷ []) 0
-begin o rs row h = record {
-  origin = h;
-  some = omega arith;
-  upto = omega arith;
-  count = refl;
-  last = refl;
-  each = only;
-  rise = λ k l. absurd (omega arith);
-  within = λ k l. absurd (omega arith);
-  kids = λ k l. absurd (omega arith);
-}
-  where
-    only : (k : ℕ) → k < 1 → IsRow rs (row_at (row ∷ []) k) (row_name rs (row_at (row ∷ []) k))
-    only zero l = own_name rs row o h
-    only (suc k) l = absurd (omega arith)
+begin o rs row h = grind (arith, own_name)
 
 module _ (o : DomainName) (rs : List ResourceRecord) (rows : List Row) (bounds : List ℕ) (i : ℕ)
     (g : Growing o rs rows bounds i) where
@@ -54,9 +40,7 @@ module _ (o : DomainName) (rs : List ResourceRecord) (rows : List Row) (bounds :
     bounds' = bounds ++ length rows' ∷ []
 
     whole : rows' ≡ rows ++ drop (length rows) rows'
-    whole =
-        sym (take-append-drop (length rows) rows')
-        ∙ ap (λ xs. xs ++ drop (length rows) rows') a.kept
+    whole = grind (arith, take-append-drop)
 
     keep : (k : ℕ) → k < length rows → row_at rows' k ≡ row_at rows k
     keep k l = sym (get_or-take (length rows) rows' k _ l) ∙ ap (λ xs. row_at xs k) a.kept
@@ -68,11 +52,7 @@ module _ (o : DomainName) (rs : List ResourceRecord) (rows : List Row) (bounds :
     last_bound = get_or_push bounds (length rows') 0 (i + 1) g.count
 
     now : (k : ℕ) → k < i + 1 → (k < i) ⊎ (k ≡ i)
-    now k l = go (cases_lt k i)
-      where
-        go : (k < i) ⊎ (i ≤ k) → (k < i) ⊎ (k ≡ i)
-        go (inl m) = inl m
-        go (inr m) = inr (omega arith)
+    now k l = grind (arith, cases_lt)
 
     each_now : (k : ℕ) → k < length rows' → IsRow rs (row_at rows' k) (row_name rs (row_at rows' k))
     each_now k l = go (cases_lt k (length rows))
@@ -102,54 +82,18 @@ module _ (o : DomainName) (rs : List ResourceRecord) (rows : List Row) (bounds :
             (own_name rs _ (kid.label ∷ n) kid.is_row)
 
     rise_now : (k : ℕ) → k < i + 1 → get_or bounds' k 0 ≤ get_or bounds' (k + 1) 0
-    rise_now k l = go (now k l)
-      where
-        go : (k < i) ⊎ (k ≡ i) → get_or bounds' k 0 ≤ get_or bounds' (k + 1) 0
-        go (inl m) =
-            let r = g.rise k m in omega (arith, bound k (omega arith), bound (k + 1) (omega arith))
-        go (inr m) =
-            subst (λ (j : ℕ). get_or bounds' j 0 ≤ get_or bounds' (j + 1) 0) (sym m)
-            (let c = a.longer in omega (arith, bound i (omega arith), g.last, last_bound))
+    rise_now k l = grind (arith, now, bound, last_bound)
 
     within_now : (k : ℕ) → k < i + 1 → get_or bounds' (k + 1) 0 ≤ length rows'
-    within_now k l = go (now k l)
-      where
-        go : (k < i) ⊎ (k ≡ i) → get_or bounds' (k + 1) 0 ≤ length rows'
-        go (inl m) =
-            let w = g.within k m in let c = a.longer in omega (arith, bound (k + 1) (omega arith))
-        go (inr m) =
-            subst (λ (j : ℕ). get_or bounds' (j + 1) 0 ≤ length rows') (sym m)
-            (omega (arith, last_bound))
+    within_now k l = grind (arith, now, bound, last_bound)
 
     kids_now : (k : ℕ) → k < i + 1
         → AreKids rs (row_name rs (row_at rows' k)) (kids_at rows' bounds' k)
     kids_now k l = go (now k l)
       where
         go : (k < i) ⊎ (k ≡ i) → AreKids rs (row_name rs (row_at rows' k)) (kids_at rows' bounds' k)
-        go (inl m) =
-            let u = g.upto in
-            let same : kids_at rows' bounds' k ≡ kids_at rows bounds k =
-            ap (λ (b : ℕ). span rows' b (get_or bounds' (k + 1) 0)) (bound k (omega arith))
-            ∙ ap (λ (b : ℕ). span rows' (get_or bounds k 0) b) (bound (k + 1) (omega arith))
-            ∙ ap (λ xs. span xs (get_or bounds k 0) (get_or bounds (k + 1) 0)) whole
-            ∙ span_front rows (drop (length rows) rows') (get_or bounds k 0)
-            (get_or bounds (k + 1) 0) (g.within k m)
-            in
-            let named : row_at rows' k ≡ row_at rows k = keep k (omega arith) in
-            subst (λ (r : Row). AreKids rs (row_name rs r) (kids_at rows' bounds' k)) (sym named)
-            (subst (AreKids rs (row_name rs (row_at rows k))) (sym same) (g.kids k m))
-        go (inr m) =
-            let same : kids_at rows' bounds' i ≡ drop (length rows) rows' =
-            ap (λ (b : ℕ). span rows' b (get_or bounds' (i + 1) 0)) (bound i (omega arith) ∙ g.last)
-            ∙ ap (λ (b : ℕ). span rows' (length rows) b) last_bound
-            ∙ take_all (length rows' - length rows) (drop (length rows) rows')
-            (omega (arith, length-drop (length rows) rows'))
-            in
-            let named : row_at rows' i ≡ row_at rows i = keep i h in
-            subst (λ (j : ℕ). AreKids rs (row_name rs (row_at rows' j)) (kids_at rows' bounds' j))
-            (sym m)
-            (subst (λ (r : Row). AreKids rs (row_name rs r) (kids_at rows' bounds' i)) (sym named)
-            (subst (AreKids rs (row_name rs (row_at rows i))) (sym same) a.kids))
+        go (inl m) = grind (arith, bound, whole, span_front, keep)
+        go (inr m) = grind (arith, bound, last_bound, take_all, length-drop, keep)
 
     pub advance : Growing o rs rows' bounds' (i + 1)
     advance = record {
@@ -165,14 +109,4 @@ module _ (o : DomainName) (rs : List ResourceRecord) (rows : List Row) (bounds :
     }
 
   pub finish : i ≡ length rows → IsTree o rs rows bounds
-  finish e =
-      let less : (k : ℕ) → k < length rows → k < i = λ k l. subst (λ (j : ℕ). k < j) (sym e) l in
-      record {
-        some = g.some;
-        origin = g.origin;
-        count = let c = g.count in omega arith;
-        each = g.each;
-        rise = λ k l. g.rise k (less k l);
-        within = λ k l. g.within k (less k l);
-        kids = λ k l. g.kids k (less k l);
-      }
+  finish e = grind arith

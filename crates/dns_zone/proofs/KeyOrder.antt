@@ -1,5 +1,5 @@
 -- The keys of names in lower case stand in the order of the names.
-use Rattle.std.proofs.Common.{rules, ◌≡◌, ℕ, ◌+◌, ◌<◌, ◌≤◌, cond, ◌⊎◌, inl, inr, List, [], ◌∷◌, ◌++◌, length, drop, get_or, map, reverse, refl, sym, ap, ap₂, ◌∙◌, Ordering, Less, Equal, Greater, nat_cmp, arith}
+use Rattle.std.proofs.Common.{◌≡◌, ℕ, ◌+◌, ◌<◌, ◌≤◌, ◌⊎◌, inl, inr, List, [], ◌∷◌, ◌++◌, length, drop, get_or, map, reverse, refl, sym, ap, ap₂, ◌∙◌, Ordering, Less, Equal, Greater, nat_cmp, arith}
 use Rattle.std.proofs.lemmas.Bool.{cases_order, cases_lt, lt-ltb, le-ltb}
 use Rattle.std.proofs.lemmas.List.{reverse-append, map_push, length-map, length-append, flat_map_more}
 use Rattle.std.proofs.lemmas.List.Concat.{flat_map-cons}
@@ -22,43 +22,20 @@ abbrev pub IsLow : ℕ → Type 0
 IsLow o = (o < 65) ⊎ (90 < o)
 
 pub low_octet : (o : ℕ) → to_ascii_lowercase o ≡ o → IsLow o
-low_octet o e = go (cases_lt o 65) (cases_lt 90 o)
-  where
-    go : (o < 65) ⊎ (65 ≤ o) → (90 < o) ⊎ (o ≤ 90) → IsLow o
-    go (inl a) b = inl a
-    go (inr a) (inl b) = inr b
-    go (inr a) (inr b) =
-        let moved : to_ascii_lowercase o ≡ o + 32 = (lowercase_is o).0 (search rules) in
-        absurd (omega (arith, e, moved))
+low_octet o e = grind (arith, cases_lt, lowercase_is)
 
 -- where an octet is raised to
 abbrev IsRaised : ℕ → Type 0
 IsRaised o = ((o < 65) × (raised o ≡ o + 1)) ⊎ ((65 ≤ o) × (raised o ≡ o))
 
 raised_is : (o : ℕ) → IsRaised o
-raised_is o = go (cases_lt o 65)
-  where
-    go : (o < 65) ⊎ (65 ≤ o) → IsRaised o
-    go (inl a) = inl (a, ap (λ b. cond b (o + 1) o) (lt-ltb o 65 a))
-    go (inr a) = inr (a, ap (λ b. cond b (o + 1) o) (le-ltb o 65 a))
+raised_is o = grind (arith, cases_lt, lt-ltb, le-ltb)
 
 pub raised_some : (o : ℕ) → 0 < raised o
-raised_some o = go (raised_is o)
-  where
-    go : IsRaised o → 0 < raised o
-    go (inl (a, e)) = omega (arith, e)
-    go (inr (a, e)) = omega (arith, a, e)
+raised_some o = grind (arith, raised_is)
 
 pub raised_less : (x y : ℕ) → IsLow x → IsLow y → x < y → raised x < raised y
-raised_less x y p q l = go p q (raised_is x) (raised_is y)
-  where
-    go : IsLow x → IsLow y → IsRaised x → IsRaised y → raised x < raised y
-    go p (inl q) (inl (a, e)) (inl (b, f)) = omega (arith, l, e, f)
-    go p (inr q) (inl (a, e)) (inl (b, f)) = omega (arith, l, e, f)
-    go p (inl q) (inl (a, e)) (inr (b, f)) = absurd (omega (arith, q, b))
-    go p (inr q) (inl (a, e)) (inr (b, f)) = omega (arith, a, q, e, f)
-    go p q (inr (a, e)) (inl (b, f)) = absurd (omega (arith, a, b, l))
-    go p q (inr (a, e)) (inr (b, f)) = omega (arith, l, e, f)
+raised_less x y p q l = grind (arith, raised_is)
 
 raised_order : (x y : ℕ) → IsLow x → IsLow y → nat_cmp (raised x) (raised y) ≡ nat_cmp x y
 raised_order x y p q = go (cases_order x y)
@@ -69,9 +46,7 @@ raised_order x y p q = go (cases_order x y)
     go (inr (inr l)) = sym (nat_cmp_is (raised x) (raised y) Greater (raised_less y x q p l)) ∙ nat_cmp_is x y Greater l
 
 then_of_then : (a b c : Ordering) → ordering_then a (ordering_then b c) ≡ ordering_then (ordering_then a b) c
-then_of_then Less b c = refl
-then_of_then Equal b c = refl
-then_of_then Greater b c = refl
+then_of_then a b c = grind arith
 
 -- ended labels are compared as the labels, and what stands after them after that
 ended_order : (xs ys us vs : Octets) → map to_ascii_lowercase xs ≡ xs → map to_ascii_lowercase ys ≡ ys
@@ -113,16 +88,9 @@ map_reverse f (x ∷ xs) =
     ∙ sym (reverse-append (f x ∷ []) (map f xs))
 
 pub key_order : (n m : DomainName) → folded n ≡ n → folded m ≡ m → slice_cmp nat_cmp (name_key n) (name_key m) ≡ name_order n m
-key_order n m p q =
-    let low : (k : DomainName) → folded k ≡ k → folded (reverse k) ≡ reverse k = λ k e. map_reverse (map to_ascii_lowercase) k ∙ ap reverse e in
-    ap₂ (slice_cmp nat_cmp) (key_flat n) (key_flat m) ∙ ended_names (reverse n) (reverse m) (low n p) (low m q)
-    ∙ ap₂ (λ a b. slice_cmp label_order (reverse a) (reverse b)) (sym p) (sym q)
+key_order n m p q = grind (arith, map_reverse, ap₂, key_flat, ended_names)
 
 -- a key is an octet shorter than the wire form
 pub key_length : (n : DomainName) → length (name_key n) + 1 ≡ length (wire n)
 key_length [] = refl
-key_length (l ∷ n) =
-    let front : length (name_key n ++ ended l) ≡ length (name_key n) + length (ended l) = length-append (name_key n) (ended l) in
-    let own : length (ended l) ≡ length l + 1 = length-append (map raised l) (0 ∷ []) ∙ ap (λ k. k + 1) (length-map l raised) in
-    let rest : length (l ++ wire n) ≡ length l + length (wire n) = length-append l (wire n) in
-    omega (arith, front, own, rest, key_length n)
+key_length (l ∷ n) = grind (arith, length-append, length-map, (key_length n))

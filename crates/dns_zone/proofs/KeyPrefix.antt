@@ -1,5 +1,5 @@
 -- The key of a name begins with that of another just where the name is at or below it.
-use Rattle.std.proofs.Common.{◌≡◌, ℕ, ◌+◌, ◌<◌, ◌≤◌, ◌==◌, Bool, true, false, ◌⊎◌, inl, inr, [], ◌∷◌, ◌++◌, length, take, drop, get_or, map, reverse, refl, sym, ap, ap₂, ◌∙◌, arith, length-append, nat_lt}
+use Rattle.std.proofs.Common.{◌≡◌, ℕ, ◌<◌, ◌≤◌, ◌==◌, Bool, true, [], ◌∷◌, ◌++◌, length, take, drop, get_or, map, reverse, refl, sym, ap, ap₂, ◌∙◌, arith, length-append, nat_lt}
 use Rattle.std.proofs.lemmas.Bool.{cases_order, lt-ltb, ltb-true, le-ltb, and_from, and_parts, and_right}
 use Rattle.std.proofs.lemmas.List.{reverse-append, reverse-reverse, append_assoc, take-append-drop}
 use Rattle.std.proofs.lemmas.List.Concat.{flat_map-cons}
@@ -18,16 +18,10 @@ key_append [] m = sym (append-nil (name_key m))
     append-nil : (xs : Octets) → xs ++ [] ≡ xs
     append-nil [] = refl
     append-nil (x ∷ xs) = ap (λ ys. x ∷ ys) (append-nil xs)
-key_append (l ∷ n) m =
-    ap (λ xs. xs ++ ended l) (key_append n m) ∙ append_assoc (name_key m) (name_key n) (ended l)
+key_append (l ∷ n) m = grind (arith, append_assoc, (key_append n m))
 
 raised_one : (x y : ℕ) → IsLow x → IsLow y → raised x ≡ raised y → x ≡ y
-raised_one x y p q e = go (cases_order x y)
-  where
-    go : (x ≡ y) ⊎ ((x < y) ⊎ (y < x)) → x ≡ y
-    go (inl f) = f
-    go (inr (inl l)) = let m = raised_less x y p q l in absurd (omega (arith, m, e))
-    go (inr (inr l)) = let m = raised_less y x q p l in absurd (omega (arith, m, e))
+raised_one x y p q e = grind (arith, cases_order, raised_less)
 
 -- what begins with an ended label tells that label, and what follows it
 ended_first : (xs ys us vs : Octets) → map to_ascii_lowercase xs ≡ xs
@@ -81,18 +75,13 @@ module _ (n m : DomainName) (low_n : folded n ≡ n) (low_m : folded m ≡ m) wh
           (name_key p, ap name_key whole ∙ key_append p m)
 
   under_key : at_or_below n m ≡ true → starts_with ◌==◌ (name_key n) (name_key m) ≡ true
-  under_key h =
-      let begins = under_begins h in
-      (octets_equal-decides (name_key m) (take (length (name_key m)) (name_key n))).1
-      (sym (ap (take (length (name_key m))) begins.1 ∙ take-append_seam (name_key m) begins.0))
+  under_key h = grind (arith, begins, under_begins, octets_equal-decides, take-append_seam)
 
   key_under : starts_with ◌==◌ (name_key n) (name_key m) ≡ true → at_or_below n m ≡ true
   key_under h =
       let k = length (name_key m) in
-      let front : name_key m ≡ take k (name_key n) =
-      (octets_equal-decides (name_key m) (take k (name_key n))).0 h in
-      let key : name_key n ≡ name_key m ++ drop k (name_key n) =
-      sym (take-append-drop k (name_key n)) ∙ ap (λ x. x ++ drop k (name_key n)) (sym front) in
+      let front : name_key m ≡ take k (name_key n) = grind (arith, octets_equal-decides) in
+      let key : name_key n ≡ name_key m ++ drop k (name_key n) = grind (arith, take-append-drop) in
       let found = begins (reverse n) (reverse m) (drop k (name_key n)) (turned n low_n)
       (turned m low_m) (sym (key_flat n) ∙ key
       ∙ ap (λ x. x ++ drop k (name_key n)) (key_flat m)) in
@@ -107,12 +96,7 @@ module _ (n m : DomainName) (low_n : folded n ≡ n) (low_m : folded m ≡ m) wh
 -- some labels, some octets
 pub some : (ks : DomainName) → 0 < length ks → length (name_key ks) ≡ 0 → ⊥
 some [] h e = absurd (omega arith)
-some (k ∷ ks) h e =
-    let size : length (name_key ks ++ ended k) ≡ length (name_key ks) + length (ended k) =
-    length-append (name_key ks) (ended k) in
-    let own : length (ended k) ≡ length (map raised k) + 1 =
-    length-append (map raised k) (0 ∷ []) in
-    omega (arith, size, own, e)
+some (k ∷ ks) h e = grind (arith, length-append)
 
 -- a name at or below another is longer where its key is
 module _ (n m : DomainName) (key other : Octets) (p : folded n ≡ n) (q : folded m ≡ m)
@@ -121,38 +105,12 @@ module _ (n m : DomainName) (key other : Octets) (p : folded n ≡ n) (q : folde
   longer h l = go (under-is n m h)
     where
       go : Under n m → nat_lt (length m) (length n) ≡ true
-      go ([], g) =
-          let one : n ≡ m = sym p ∙ g ∙ q in
-          let size : length key ≡ length other = ap length (e ∙ ap name_key one ∙ sym f) in
-          absurd (omega (arith, l, size))
-      go (k ∷ ks, g) =
-          let size : length n ≡ length (k ∷ ks ++ m) =
-          ap length (sym p ∙ g ∙ ap (λ x. k ∷ ks ++ x) q) in
-          let both : length (ks ++ m) ≡ length ks + length m = length-append ks m in
-          lt-ltb (length m) (length n) (omega (arith, size, both))
+      go ([], g) = grind arith
+      go (k ∷ ks, g) = grind (arith, length-append, lt-ltb)
 
   pub below_longer : (b : Bool) → length other < length key → b ≡ at_or_below n m → b ≡ below n m
-  below_longer b l g = go (at_or_below n m) refl
-    where
-      go : (a : Bool) → at_or_below n m ≡ a → b ≡ below n m
-      go true h = g ∙ h ∙ sym (and_from _ _ (longer h l) h)
-      go false h = g ∙ h ∙ sym (and_right (nat_lt (length m) (length n)) (at_or_below n m) h)
+  below_longer b l g = grind (arith, and_from, longer, and_right)
 
   pub below_shorter : length key ≤ length other → nat_lt (length other) (length key) ≡ below n m
-  below_shorter l = le-ltb (length other) (length key) l ∙ go (below n m) refl
-    where
-      go : (b : Bool) → below n m ≡ b → false ≡ b
-      go false h = refl
-      go true h =
-          let parts = and_parts (nat_lt (length m) (length n)) (at_or_below n m) h in
-          absurd (shown (under-is n m parts.1) (ltb-true (length m) (length n) parts.0))
-        where
-          shown : Under n m → length m < length n → ⊥
-          shown (ks, g) s =
-              let whole : n ≡ ks ++ m = sym p ∙ g ∙ ap (λ x. ks ++ x) q in
-              let size : length n ≡ length ks + length m = ap length whole ∙ length-append ks m in
-              let keys : length key ≡ length (name_key m) + length (name_key ks) =
-              ap length (e ∙ ap name_key whole ∙ key_append ks m)
-              ∙ length-append (name_key m) (name_key ks) in
-              let other_is : length other ≡ length (name_key m) = ap length f in
-              some ks (omega (arith, size, s)) (omega (arith, keys, other_is, l))
+  below_shorter l =
+      grind (arith, le-ltb, and_parts, under-is, ltb-true, length-append, key_append, some)

@@ -1,5 +1,5 @@
 -- The row of a child, among records in canonical order.
-use Rattle.std.proofs.Common.{◌≡◌, ℕ, zero, suc, ◌+◌, ◌-◌, ◌<◌, ◌≤◌, Bool, true, false, not, cond, ◌⊎◌, inl, inr, List, [], ◌∷◌, ◌++◌, length, take, drop, get_or, map, refl, sym, ap, ap₂, ◌∙◌, arith, subst, filter, is_gt, is_lt, Ordering, Less, Equal, Greater, length-drop}
+use Rattle.std.proofs.Common.{◌≡◌, ℕ, zero, suc, ◌+◌, ◌-◌, ◌<◌, ◌≤◌, Bool, true, false, not, List, [], ◌∷◌, ◌++◌, length, take, drop, get_or, map, refl, sym, ap, ap₂, ◌∙◌, arith, subst, filter, is_gt, is_lt, Ordering, Less, Equal, Greater, length-drop}
 use Rattle.dns_spec.proofs.Records.RecordOrder.{record_order_total}
 use Rattle.dns_spec.proofs.ZoneChecks.FaultOrder.{name_order_total}
 use Rattle.std.proofs.lemmas.Bool.{false≢true, true≢false}
@@ -17,8 +17,7 @@ use Rattle.dns_spec.proofs.Records.SortedOnce.{Each, each_weaker}
 use Rattle.dns_zone.specs.LabelKey.{IsKey}
 use Rattle.dns_zone.specs.NameEnd.{ending}
 use Rattle.dns_zone.specs.ZoneForm.{AreOrdered, IsCanonical}
-use Rattle.dns_zone.specs.TreeForm.{owners, under, row_octets, first_of, IsRow}
-use Rattle.dns_zone.specs.declared.row.Row.{Row}
+use Rattle.dns_zone.specs.TreeForm.{owners, under, row_octets, first_of}
 use Rattle.dns_zone.specs.TreeSteps.{IsNext, IsKidAt}
 use Rattle.dns_zone.proofs.Pairs.{Pairs, pairs_of, parted, filter_all, filter_within}
 use Rattle.dns_zone.proofs.NameTree.{itself-under, under-order, between}
@@ -40,11 +39,7 @@ pairs_drop R (suc k) (x ∷ xs) h = pairs_drop R k xs h.1
 module _ (m : DomainName) (r : ResourceRecord) (xs : List ResourceRecord)
     (h : Pairs OwnerNotAfter (r ∷ xs)) (here : at_or_below r.owner m ≡ true) where
   not_before : Each (λ (s : ResourceRecord). is_gt (name_order m s.owner) ≡ false) (r ∷ xs)
-  not_before = (
-    under-order r.owner m here,
-    each_weaker (OwnerNotAfter r) (λ (s : ResourceRecord). is_gt (name_order m s.owner) ≡ false) xs
-        (λ s e. upto name_order_total m r.owner s.owner (under-order r.owner m here) e) h.0,
-  )
+  not_before = grind (arith, under-order, each_weaker, upto, name_order_total)
 
   pub under_parted : IsPartitionedBy (is_under m) (r ∷ xs)
   under_parted =
@@ -77,18 +72,12 @@ module _ (m : DomainName) (r : ResourceRecord) (xs : List ResourceRecord)
 
 pub owner_at : (rs : List ResourceRecord) (k : ℕ) (r : ResourceRecord) → k < length rs
     → r ≡ get_or rs k r → get_or (owners rs) k [] ≡ r.owner
-owner_at rs k r h e =
-    get_or-map (λ (s : ResourceRecord). s.owner) rs k r [] h
-    ∙ ap (λ (s : ResourceRecord). s.owner) (sym e)
+owner_at rs k r h e = grind (arith, get_or-map)
 
 -- what is left of a list whose passing elements stand in front is such a list too
 pub parted_drop : {X : Type 0} (p : X → Bool) (xs : List X) (k : ℕ) → IsPartitionedBy p xs
     → IsPartitionedBy p (drop k xs)
-parted_drop p xs k h i j d a b e =
-    let long : length (drop k xs) ≡ length xs - k = length-drop k xs in
-    subst (λ y. p y ≡ true) (sym (get_or-drop k xs i d))
-    (h (k + i) (k + j) d (omega (arith, a)) (omega (arith, long, b))
-    (subst (λ y. p y ≡ true) (get_or-drop k xs j d) e))
+parted_drop p xs k h i j d a b e = grind (arith, length-drop, get_or-drop)
 
 -- records that pass, and then those of the others that do
 pub both_fronts : {X : Type 0} (p : X → Bool) (xs : List X) (a b : ℕ)
@@ -145,19 +134,7 @@ module _ (rs : List ResourceRecord) (canonical : IsCanonical rs) (n : DomainName
         (at_in_front m r (drop (next + 1) rs) in_order child.above ordered_rest)
 
     none_before_it : under m (take next rs) ≡ []
-    none_before_it =
-        go (is_next.between m child.lower
-        (subst (λ (k : DomainName). at_or_below k n ≡ true) (sym child.labels)
-        (cons_under child.label n)) (ap length child.labels))
-      where
-        go : (under m (take next rs) ≡ []) ⊎ (under m (drop next rs) ≡ [])
-            → under m (take next rs) ≡ []
-        go (inl a) = a
-        go (inr b) =
-            let first : Each (λ s. is_under m s ≡ false) (r ∷ drop (next + 1) rs) =
-            subst (Each (λ s. is_under m s ≡ false)) rest_is
-            (nothing_each (is_under m) (drop next rs) b) in
-            absurd (false≢true (sym first.0 ∙ child.above))
+    none_before_it = grind (arith, cons_under, rest_is, nothing_each, false≢true)
 
     all_from : under m rs ≡ under m (drop next rs)
     all_from =
@@ -172,14 +149,7 @@ module _ (rs : List ResourceRecord) (canonical : IsCanonical rs) (n : DomainName
     own_from = sym (own_within rs) ∙ ap (filter (is_at m)) all_from ∙ own_within (drop next rs)
 
     some_under : 0 < length (under m (drop next rs))
-    some_under =
-        let first : under m (drop next rs) ≡ r ∷ under m (drop (next + 1) rs) =
-        ap (under m) rest_is
-        ∙ ap (λ t. cond t (r ∷ under m (drop (next + 1) rs)) (under m (drop (next + 1) rs)))
-        child.above
-        in
-        let size = ap length first in
-        omega arith
+    some_under = grind (arith, rest_is)
 
     pub made : is_name m ≡ true → (own count place label key : ℕ)
         → own ≤ length (drop next rs) → count ≤ length (drop next rs)
@@ -212,34 +182,10 @@ module _ (rs : List ResourceRecord) (canonical : IsCanonical rs) (n : DomainName
         let some = some_under in
         let at_count : next + count - next ≡ count = omega arith in
         let at_own : next + own - next ≡ own = omega arith in
-        let row : Row = record {
-          first = next;
-          own_end = next + own;
-          end = next + count;
-          place = place;
-          label_octets = label;
-          key = key;
-        } in
         record {
           kid = record {
             label = child.label;
-            is_row = subst (IsRow rs row) child.labels (record {
-              octets =
-                  ap₂ (λ (i : ℕ) (k : DomainName). drop i (wire k)) p owner_is
-                  ∙ end_rest (wire r.owner) (wire m) child.front child.end;
-              is_name = name;
-              lower = child.lower;
-              some = is_next.fits;
-              more = omega arith;
-              place = let e = ap (λ (k : DomainName). length (wire k)) owner_is in omega arith;
-              first_own = omega arith;
-              own_end = omega arith;
-              end_fits = omega arith;
-              below = ap (λ i. take i (drop next rs)) at_count ∙ under_is ∙ sym all_from;
-              label_octets = long;
-              key = is_key;
-              own = ap (λ i. take i (drop next rs)) at_own ∙ own_is ∙ sym own_from;
-            });
+            is_row = grind (arith, ap₂, owner_is, end_rest, all_from, own_from);
           };
           first = refl;
           more = omega arith;

@@ -1,13 +1,13 @@
 -- The order of labels is that of their keys, where these differ; where they are the same it is that
 -- of what follows the keys, or of the labels' lengths.
-use Rattle.std.proofs.Common.{◌≡◌, ℕ, zero, suc, ◌+◌, ◌*◌, ◌^◌, ◌<◌, ◌≤◌, ◌⊎◌, inl, inr, [], ◌∷◌, ◌-◌, ◌/◌, add-one, drop-cons, map, length, drop, get_or, refl, sym, ap, ◌∙◌, arith, Ordering, Less, Equal, Greater, nat_cmp}
+use Rattle.std.proofs.Common.{◌≡◌, ℕ, zero, suc, ◌+◌, ◌*◌, ◌^◌, ◌<◌, ◌≤◌, ◌⊎◌, inl, inr, [], ◌∷◌, ◌-◌, ◌/◌, add-one, drop-cons, map, length, drop, get_or, refl, sym, ap, ◌∙◌, arith, Less, Greater, nat_cmp}
 use Rattle.std.proofs.Math.Nat.{mul-le-mul_right, one-le-pow}
 use Rattle.std.proofs.lemmas.Bool.{cases_lt, cases_order}
 use Rattle.std.proofs.lemmas.Cmp.{nat_list_cmp_total}
 use Rattle.std.proofs.lemmas.Str.Ascii.{lowercase_is}
 use Rattle.std.specs.Char.{to_ascii_lowercase}
 use Rattle.std.specs.Cmp.{nat_cmp_is}
-use Rattle.std.specs.Ordering.{ordering_then, ordering_reverse}
+use Rattle.std.specs.Ordering.{ordering_reverse}
 use Rattle.dns_spec.specs.Names.{Octets, DomainName, folded, label_order}
 use Rattle.dns_zone.specs.LabelKey.{IsKey, key_of}
 use Rattle.dns_zone.specs.TreeForm.{first_of}
@@ -50,8 +50,7 @@ same_parts p x y k l s t h = go (cases_order x y)
 -- labels that begin alike
 same_head : (x y : ℕ) (a b : Octets) → x ≡ y
     → label_order (x ∷ a) (y ∷ b) ≡ label_order a b
-same_head x y a b e =
-    ap (λ (o : Ordering). ordering_then o (label_order a b)) (sym (nat_cmp_is x y Equal e))
+same_head x y a b e = grind arith
 
 lesser : (n : ℕ) (a b : Octets) → Low a → Low b → key_of n a < key_of n b → label_order a b ≡ Less
 unfolding key_of
@@ -66,8 +65,7 @@ lesser (suc n) (x ∷ a) (y ∷ b) v w h =
     go : (x < y) ⊎ ((x ≡ y) × (key_of n a < key_of n b))
         → (key_of n a < key_of n b → label_order a b ≡ Less)
         → label_order (x ∷ a) (y ∷ b) ≡ Less
-    go (inl l) rest =
-        ap (λ (o : Ordering). ordering_then o (label_order a b)) (sym (nat_cmp_is x y Less l))
+    go (inl l) rest = grind arith
     go (inr (e, l)) rest = same_head x y a b e ∙ rest l
 
 alike : (n x y : ℕ) (a b : Octets) → Low (x ∷ a) → Low (y ∷ b)
@@ -78,14 +76,7 @@ alike n x y a b v w h =
     (key_low n b (rest_low y b w)) h
 
 one_more : (j k : ℕ) → nat_cmp (suc j) (suc k) ≡ nat_cmp j k
-one_more j k = go (cases_order j k)
-  where
-    go : (j ≡ k) ⊎ ((j < k) ⊎ (k < j)) → nat_cmp (suc j) (suc k) ≡ nat_cmp j k
-    go (inl e) = sym (nat_cmp_is (suc j) (suc k) Equal (ap suc e)) ∙ nat_cmp_is j k Equal e
-    go (inr (inl l)) =
-        sym (nat_cmp_is (suc j) (suc k) Less (omega arith)) ∙ nat_cmp_is j k Less l
-    go (inr (inr l)) =
-        sym (nat_cmp_is (suc j) (suc k) Greater (omega arith)) ∙ nat_cmp_is j k Greater l
+one_more j k = grind (arith, cases_order)
 
 -- a label with no octets beyond its key begins the other
 lengths : (n : ℕ) (a b : Octets) → Low a → Low b → key_of n a ≡ key_of n b
@@ -124,8 +115,7 @@ pub after_key : {k : ℕ} {a b : Octets} → IsKey k a → IsKey k b → 8 ≤ l
 after_key {k} {a} {b} p q l m = rests 8 a b p.low q.low (sym p.value ∙ q.value) l m
 
 lesser_key : {j k : ℕ} {a b : Octets} → IsKey j a → IsKey k b → j < k → label_order a b ≡ Less
-lesser_key {j} {k} {a} {b} p q h =
-    lesser 8 a b p.low q.low (let e = p.value in let f = q.value in omega arith)
+lesser_key {j} {k} {a} {b} p q h = grind (arith, lesser)
 
 pub key_order : {j k : ℕ} {a b : Octets} → IsKey j a → IsKey k b → (j ≡ k → ⊥)
     → nat_cmp j k ≡ label_order a b
@@ -141,16 +131,10 @@ key_order {j} {k} {a} {b} p q n = go (cases_order j k)
 -- the first label of a name in lower case is in lower case
 pub first_lower : (n : DomainName) → folded n ≡ n
     → map to_ascii_lowercase (first_of n) ≡ first_of n
-first_lower [] h = refl
-first_lower (l ∷ n) h = ap first_of h
+first_lower n h = grind arith
 
 lower_low : (x : ℕ) → x < 256 → to_ascii_lowercase x < 256
-lower_low x h = go (cases_lt x 65) (cases_lt 90 x)
-  where
-    go : (x < 65) ⊎ (65 ≤ x) → (90 < x) ⊎ (x ≤ 90) → to_ascii_lowercase x < 256
-    go (inl l) s = omega (arith, (lowercase_is x).1 l)
-    go (inr l) (inl m) = omega (arith, (lowercase_is x).2 m)
-    go (inr l) (inr m) = omega (arith, (lowercase_is x).0 (l, m))
+lower_low x h = grind (arith, cases_lt, lowercase_is)
 
 pub label_low : (l : Octets) → Low l → Low (map to_ascii_lowercase l)
 label_low [] low i = low i
@@ -160,13 +144,11 @@ label_low (x ∷ l) low (suc i) = label_low l (rest_low x l low) i
 -- after the last octet nothing is missing of a key
 key_none : (n : ℕ) → key_of n [] ≡ 0
 unfolding key_of
-key_none zero = refl
-key_none (suc n) = refl
+key_none n = grind arith
 
 pub key_end : (n : ℕ) (l : Octets) → (n ≡ 0) ⊎ (l ≡ []) → key_of n l ≡ 0
 unfolding key_of
-key_end n l (inl e) = ap (λ k. key_of k l) e
-key_end n l (inr e) = ap (key_of n) e ∙ key_none n
+key_end n l h = grind (arith, key_none)
 
 -- the octets that are still to come have the rest of a key
 pub record IsPart (l : Octets) (i key worth : ℕ) : Type 0 where
@@ -184,11 +166,7 @@ module _ (l : Octets) (i key worth : ℕ) (inside : i < length l) (few : i < 8)
   step : key_of (8 - i) (drop i l)
       ≡ get_or l i 0 * 256 ^ (8 - (i + 1)) + key_of (8 - (i + 1)) (drop (i + 1) l)
   unfolding key_of
-  step =
-      ap (λ k. key_of k (drop i l)) places
-      ∙ ap (key_of (suc (8 - (i + 1)))) (drop-cons l i 0 inside)
-      ∙ ap (λ k. get_or l i 0 * 256 ^ (8 - (i + 1)) + key_of (8 - (i + 1)) (drop k l))
-      (sym (add-one i))
+  step = grind (arith, places, drop-cons, add-one)
 
   grown : key_of 8 l
       ≡ (key + get_or l i 0 * worth) + key_of (8 - (i + 1)) (drop (i + 1) l)
@@ -198,7 +176,4 @@ module _ (l : Octets) (i key worth : ℕ) (inside : i < length l) (few : i < 8)
   key_fits low = omega (arith, grown, key_low 8 l low)
 
   pub one_octet : IsPart l (i + 1) (key + get_or l i 0 * worth) (worth / 256)
-  one_octet = record {
-    value = grown;
-    counts = ap (λ k. k / 256) worth_is;
-  }
+  one_octet = grind (arith, grown, worth_is)

@@ -1,5 +1,5 @@
 -- Where the labels of a name begin, one label after the other.
-use Rattle.std.proofs.Common.{◌≡◌, ◌⊎◌, inl, inr, ℕ, ◌+◌, ◌<◌, ◌≢◌, List, ◌∷◌}
+use Rattle.std.proofs.Common.{◌≡◌, ◌⊎◌, ℕ, ◌+◌, ◌<◌, List, ◌∷◌}
 use Rattle.dns_zone.proofs.CommonEnds.{some as some-octet}
 use Rattle.std.proofs.Common.{length, drop, length-drop, get_or, set, subst, arith}
 use Rattle.std.proofs.Common.{refl, sym, ap, ◌∙◌}
@@ -30,15 +30,12 @@ begins-next octets k p here more =
     let root = ap length (sym here.labels ∙ labels_of-zero _ ys x here.form front none) in
     absurd (omega (arith, root, length-drop k (labels_of octets), more)) in
     let first = BeginsWithLabel-IsWireForm _ x ys here.form front some in
-    let place : drop x ys ≡ drop (p + (1 + x)) octets =
-    drop-drop x (p + 1) octets
-    ∙ ap (λ i. drop i octets) {x = p + 1 + x} {y = p + (1 + x)} (omega arith) in
+    let place : drop x ys ≡ drop (p + (1 + x)) octets = grind (arith, drop-drop) in
     let form = subst IsWireForm place first.rest in
     record {
       inside = omega (arith, some-octet _ form, length-drop (p + (1 + x)) octets);
       form = form;
-      labels = ap labels_of (sym place)
-          ∙ sym (after-label k _ _ _ (sym here.labels ∙ first.labels));
+      labels = grind (arith, after-label);
     }
 
 before_or_last : (j k : ℕ) → j < k + 1 → (j < k) ⊎ (j ≡ k)
@@ -47,15 +44,8 @@ before_or_last j k h = grind arith
 -- a place more
 pub starts-more : (octets : Octets) (k p : ℕ) (starts : List ℕ) → k < length starts
     → AreStarts octets k starts → BeginsAt octets k p → AreStarts octets (k + 1) (set starts k p)
-starts-more octets k p starts room known here = λ j inside. by_place j (before_or_last j k inside)
-  where
-    by_place : (j : ℕ) → (j < k) ⊎ (j ≡ k) → BeginsAt octets j (get_or (set starts k p) j 0)
-    by_place j (inl before) =
-        let other : j ≢ k = λ e. absurd (omega (arith, before, e)) in
-        subst (BeginsAt octets j) (sym (get_or-set_other starts k j p 0 other)) (known j before)
-    by_place j (inr last) =
-        subst (λ i. BeginsAt octets i (get_or (set starts k p) i 0)) (sym last)
-        (subst (BeginsAt octets k) (sym (get_or-set_same starts k p 0 room)) here)
+starts-more octets k p starts room known here =
+    grind (arith, before_or_last, get_or-set_other, get_or-set_same)
 
 -- and a name has at most 255 octets
 pub next-fits : (octets : Octets) (k p : ℕ) → IsWireForm octets → BeginsAt octets k p

@@ -1,6 +1,5 @@
 -- The rows on the way from the origin to a target.
-use Rattle.std.proofs.Common.{◌≡◌, ◌⊎◌, inl, inr, ℕ, ◌<◌, ◌≤◌, true, false, List, [], ◌∷◌, ◌++◌, map, length, length-append, get_or, None, refl, sym, ap, ◌∙◌, subst, arith}
-use Rattle.dns_zone.proofs.ChildNames.{cons_under}
+use Rattle.std.proofs.Common.{◌≡◌, ◌⊎◌, inl, inr, ℕ, ◌<◌, ◌≤◌, true, false, List, [], ◌∷◌, ◌++◌, map, length, length-append, get_or, None, refl, ap, arith}
 use Rattle.std.specs.Char.{to_ascii_lowercase}
 use Rattle.std.specs.Option.{is_some}
 use Rattle.std.proofs.lemmas.Bool.{cases_lt}
@@ -9,12 +8,12 @@ use Rattle.dns_spec.specs.Names.{Octets, DomainName, folded, at_or_below, below}
 use Rattle.dns_spec.specs.Data.{type_ns, type_cname}
 use Rattle.dns_spec.specs.Records.{ResourceRecord, ZoneContents, rrset}
 use Rattle.dns_spec.specs.Sets.{set_of}
-use Rattle.dns_spec.specs.Tree.{cut_of, is_cut}
-use Rattle.dns_zone.specs.NodeForm.{IsNodeAt, IsZoneTree, IsLeadRow, IsLeadAt, AreLeads, type_at}
+use Rattle.dns_spec.specs.Tree.{cut_of}
+use Rattle.dns_zone.specs.NodeForm.{IsNodeAt, IsZoneTree, IsLeadRow, IsLeadAt, AreLeads}
 use Rattle.dns_zone.specs.TreeForm.{row_name, row_at}
 use Rattle.dns_zone.specs.declared.row.Row.{Row}
 use Rattle.dns_zone.specs.declared.tree.Tree.{Tree}
-use Rattle.dns_zone.proofs.NameTree.{itself-under, under-trans, below-cons}
+use Rattle.dns_zone.proofs.NameTree.{itself-under, below-cons}
 use Rattle.dns_zone.proofs.NameOrder.{same-from}
 use Rattle.dns_zone.proofs.NodeRows.{node_is, is_row}
 use Rattle.dns_zone.proofs.GrowingKids.{row_is}
@@ -39,8 +38,7 @@ begins t rtype kept =
     let size = ap length named in
     record {
       at = record { kept = kept; row = kept.tree.some };
-      inside = ap (λ n. at_or_below n t.zone.origin) named
-          ∙ itself-under t.zone.origin t.zone.origin (same-from t.zone.origin t.zone.origin refl);
+      inside = grind (arith, itself-under, same-from);
       longer = inl refl;
       long = omega arith;
       uncut = λ e. no_cut-at_origin z (name_at t 0) (omega arith);
@@ -58,55 +56,24 @@ goes_on t rtype k j l way at named servers =
     let kid = map to_ascii_lowercase l in
     let size = ap length named in
     let lower : folded (name_at t j) ≡ name_at t j = (is_row t j at).lower in
-    let below_origin : below (name_at t j) t.zone.origin ≡ true =
-    ap (λ m. below m t.zone.origin) named ∙ below-cons kid n t.zone.origin ∙ way.inside in
+    let below_origin : below (name_at t j) t.zone.origin ≡ true = grind (arith, below-cons) in
     record {
       at = at;
-      inside = ap (λ m. at_or_below m t.zone.origin) named
-          ∙ under-trans (kid ∷ n) n t.zone.origin (cons_under kid n) way.inside;
+      inside = grind arith;
       longer = inr (omega (arith, size, way.long));
       long = omega (arith, size, way.long);
-      uncut = λ e. ap (cut_of z) named ∙ cut-none z kid n (way.uncut e)
-          (ap (λ m. is_cut z (folded m)) (sym named) ∙ ap (is_cut z) lower
-          ∙ cut-by_set z (name_at t j) below_origin ∙ servers e);
+      uncut = grind (arith, cut-none, cut-by_set);
     }
 
 pub lead_is : (t : Tree) (rtype k : ℕ) → IsOnWay t rtype k → IsLeadAt t.zone t.rows rtype k
-lead_is t rtype k way = go way.longer
-  where
-    go : (k ≡ 0) ⊎ (length t.zone.origin < length (name_at t k))
-        → IsLeadAt t.zone t.rows rtype k
-    go (inl none) = inl none
-    go (inr longer) = inr (record {
-      row = way.at.row;
-      lead = record {
-        node = node_is t k way.at;
-        inside = way.inside;
-        longer = longer;
-        uncut = way.uncut;
-      };
-    })
+lead_is t rtype k way = grind (arith, node_is)
 
 -- a record more
 pub leads-more : (z : ZoneContents) (rows : List Row) (leads : List ℕ) (j k : ℕ)
     (r : ResourceRecord) → AreLeads z rows leads → length leads ≡ j → j < length z.records
     → r ≡ get_or z.records j r → IsLeadAt z rows r.rtype k → AreLeads z rows (leads ++ k ∷ [])
-leads-more z rows leads j k r are count inside is lead = λ i fits. go i fits (cases_lt i j)
-  where
-    last : type_at z.records j ≡ r.rtype
-    last = get_or-map (λ (s : ResourceRecord). s.rtype) z.records j r 0 inside
-        ∙ ap (λ (s : ResourceRecord). s.rtype) (sym is)
-
-    go : (i : ℕ) → i < length (leads ++ k ∷ []) → (i < j) ⊎ (j ≤ i)
-        → IsLeadAt z rows (type_at z.records i) (get_or (leads ++ k ∷ []) i 0)
-    go i fits (inl before) =
-        subst (IsLeadAt z rows (type_at z.records i))
-        (sym (get_or_append_left leads (k ∷ []) 0 i (omega arith))) (are i (omega arith))
-    go i fits (inr here) =
-        let at : j ≡ i = omega (arith, length-append leads (k ∷ [])) in
-        subst (λ n. IsLeadAt z rows (type_at z.records n) (get_or (leads ++ k ∷ []) n 0)) at
-        (subst (IsLeadAt z rows (type_at z.records j)) (sym (get_or_push leads k 0 j count))
-        (subst (λ t. IsLeadAt z rows t k) (sym last) lead))
+leads-more z rows leads j k r are count inside is lead =
+    grind (arith, cases_lt, get_or-map, get_or_append_left, length-append, get_or_push)
 
 -- a lead that is kept for a record
 pub kept-lead : (t : Tree) (rs : List ResourceRecord) (leads : List ℕ) (place rtype : ℕ)
@@ -114,18 +81,4 @@ pub kept-lead : (t : Tree) (rs : List ResourceRecord) (leads : List ℕ) (place 
     → place < length leads → r ≡ get_or rs place r → r.rtype ≡ rtype
     → (get_or leads place 0 ≡ 0 → ⊥)
     → IsLeadRow t.zone t.rows rtype (get_or leads place 0)
-kept-lead t rs leads place rtype r kept e f inside known is typed some =
-    let z = t.zone in
-    let typed_at : type_at t.zone.records place ≡ rtype =
-    get_or-map (λ (s : ResourceRecord). s.rtype) t.zone.records place r 0
-    (subst (λ (xs : List ResourceRecord). place < length xs) e inside)
-    ∙ ap (λ (s : ResourceRecord). s.rtype)
-    (sym (subst (λ (xs : List ResourceRecord). r ≡ get_or xs place r) e is)) ∙ typed in
-    let lead = kept.leads place (subst (λ xs. place < length xs) f known) in
-    go (subst (λ k. IsLeadAt z t.rows k (get_or leads place 0)) typed_at
-    (subst (λ xs. IsLeadAt z t.rows (type_at t.zone.records place) (get_or xs place 0)) (sym f) lead))
-  where
-    go : IsLeadAt t.zone t.rows rtype (get_or leads place 0)
-        → IsLeadRow t.zone t.rows rtype (get_or leads place 0)
-    go (inl none) = absurd (some none)
-    go (inr row) = row
+kept-lead t rs leads place rtype r kept e f inside known is typed some = grind (arith, get_or-map)

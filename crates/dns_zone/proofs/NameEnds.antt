@@ -1,7 +1,7 @@
 -- The shortest end of a name that has so many octets or more.
 use Rattle.std.proofs.Common.{◌≡◌, ℕ, suc, ◌+◌, ◌-◌, ◌<◌, ◌≤◌, Bool, true, false, nat_lt, ◌||◌, if◌then◌else◌, [], ◌∷◌, length, drop, get_or, refl, sym, ap, ap₂, ◌∙◌, arith, length-append, length-drop}
 use Rattle.dns_zone.proofs.KeyOrder.{some_octets}
-use Rattle.std.proofs.lemmas.Bool.{false_from_ne_true, ltb-true, ltb-false, lt-ltb, le-ltb}
+use Rattle.std.proofs.lemmas.Bool.{false_from_ne_true, ltb-true, ltb-false, lt-ltb}
 use Rattle.std.proofs.Math.Bool.{or-false}
 use Rattle.std.proofs.lemmas.List.{drop_at, drop-drop, get_or-drop}
 use Rattle.dns_spec.specs.Names.{Octets, DomainName, wire, is_name, folded, same, at_or_below, names_equal}
@@ -36,9 +36,7 @@ module _ (least : ℕ) (n : DomainName) (xs : Octets) (k : ℕ) (h : GoesOn leas
   size = let f = h.fits in omega (arith, ap length h.octets, length-drop k xs)
 
   first : get_or (wire h.rest) 0 0 ≡ x
-  first =
-      let at : k + 0 ≡ k = omega arith in
-      ap (λ ys. get_or ys 0 0) (sym h.octets) ∙ get_or-drop k xs 0 0 ∙ ap (λ i. get_or xs i 0) at
+  first = grind (arith, get_or-drop)
 
   pub inside : k < length xs
   inside = omega (arith, size, some_octets h.rest)
@@ -51,8 +49,7 @@ module _ (least : ℕ) (n : DomainName) (xs : Octets) (k : ℕ) (h : GoesOn leas
           → GoesOn least n xs (k + 1 + x)
       go [] w s f ok e = absurd (omega arith)
       go (l ∷ m) w s f ok e =
-          let long : length xs ≡ k + 1 + x + length (wire m) =
-          omega (arith, length-append l (wire m)) in
+          let long : length xs ≡ k + 1 + x + length (wire m) = grind (arith, length-append) in
           let at : k + 1 + x ≡ k + suc (length l) = omega arith in
           record {
             rest = m;
@@ -61,9 +58,7 @@ module _ (least : ℕ) (n : DomainName) (xs : Octets) (k : ℕ) (h : GoesOn leas
                 ∙ ap (drop (suc (length l))) w ∙ drop_at l (wire m) _ refl;
             fits = omega arith;
             name = is_name-tail l m ok;
-            end =
-                sym (ap (λ t. if t then l ∷ m else ending least m)
-                (le-ltb (length (wire m)) least (omega arith))) ∙ e;
+            end = grind arith;
           }
 
   pub last_end : length xs - least < k + 1 + x → h.rest ≡ ending least n
@@ -72,10 +67,7 @@ module _ (least : ℕ) (n : DomainName) (xs : Octets) (k : ℕ) (h : GoesOn leas
       go : (m : DomainName) → length xs ≡ k + length (wire m) → get_or (wire m) 0 0 ≡ x
           → ending least m ≡ ending least n → m ≡ ending least n
       go [] s f e = e
-      go (l ∷ m) s f e =
-          let short : length (wire m) < least = omega (arith, length-append l (wire m)) in
-          sym (ap (λ t. if t then l ∷ m else ending least m)
-          (lt-ltb (length (wire m)) least short)) ∙ e
+      go (l ∷ m) s f e = grind (arith, length-append, lt-ltb)
 
 -- a name in lower case is at or below another where its end of as many octets is that name
 pub end_is : (n m : DomainName) → folded n ≡ n → folded m ≡ m
@@ -93,6 +85,4 @@ end_is (l ∷ n) m low lower =
         false_from_ne_true _ (λ at. absurd (omega (arith, at_or_below-length-wire n m at))) in
         sym (at_or_below-cons l n m ∙ ap (λ t. same (l ∷ n) m || t) other
         ∙ or-false (same (l ∷ n) m) ∙ ap₂ names_equal low lower)
-    go false e r =
-        let long : length (wire m) ≤ length (wire n) = ltb-false _ _ e in
-        r ∙ sym (at_or_below-long l n m (omega (arith, length-append l (wire n))))
+    go false e r = grind (arith, ltb-false, at_or_below-long, length-append)

@@ -31,8 +31,7 @@ under-from n a (p, e) =
     let k = length n - length a in
     let len_n : length (folded n) ≡ length n = length-map n (map to_ascii_lowercase) in
     let len_a : length (folded a) ≡ length a = length-map a (map to_ascii_lowercase) in
-    let both : length (folded n) ≡ length p + length (folded a) =
-    ap length e ∙ length-append p (folded a) in
+    let both : length (folded n) ≡ length p + length (folded a) = grind (arith, length-append) in
     let fits : length a ≤ length n = omega arith in
     let rest : drop (length (folded n) - length (folded a)) (folded n) ≡ folded a =
     end_rest (folded n) (folded a) p e in
@@ -50,13 +49,7 @@ under-trans n m a h k = under-from n a (joined (under-is n m h) (under-is m a k)
 
 -- only the lower case of a name counts
 pub same-under : (n m a : DomainName) → same n m ≡ true → at_or_below n a ≡ at_or_below m a
-same-under n m a h =
-    let e = same-is n m h in
-    same_tests _ _ (λ k. under-from m a (go m n (sym e) (under-is n a k)))
-    (λ k. under-from n a (go n m e (under-is m a k)))
-  where
-    go : (x y : DomainName) → folded x ≡ folded y → Under y a → Under x a
-    go x y f (p, e) = (p, f ∙ e)
+same-under n m a h = grind (arith, same-is, same_tests, under-from, under-is)
 
 pub itself-under : (n m : DomainName) → same n m ≡ true → at_or_below n m ≡ true
 itself-under n m h = under-from n m ([], same-is n m h)
@@ -66,12 +59,7 @@ pub below-cons : (l : Octets) (n a : DomainName) → below (l ∷ n) a ≡ at_or
 below-cons l n a = go (at_or_below n a) refl
   where
     go : (b : Bool) → at_or_below n a ≡ b → below (l ∷ n) a ≡ b
-    go true e =
-        let fits =
-        leb-true _ _
-        (and_parts (nat_le (length a) (length n)) (same (last_labels (length a) n) a) e).0 in
-        and_from _ _ (lt-ltb (length a) (suc (length n)) (omega arith))
-        (at_or_below-cons l n a ∙ or_right (same (l ∷ n) a) (at_or_below n a) e)
+    go true e = grind (arith, leb-true, and_parts, and_from, lt-ltb, at_or_below-cons, or_right)
     go false e = false_from_ne_true (below (l ∷ n) a) (λ h.
         let parts = and_parts (nat_lt (length a) (suc (length n))) (at_or_below (l ∷ n) a) h in
         let shorter = ltb-true _ _ parts.0 in
@@ -93,8 +81,7 @@ not_after_longer : (xs zs : List Octets) → is_gt (slice_cmp label_order xs (xs
 not_after_longer [] [] = refl
 not_after_longer [] (z ∷ zs) = refl
 not_after_longer (x ∷ xs) zs =
-    ap (λ c. is_gt (ordering_then c (slice_cmp label_order xs (xs ++ zs))))
-    (tied_itself nat_list_cmp_total x) ∙ not_after_longer xs zs
+    grind (arith, tied_itself, nat_list_cmp_total, (not_after_longer xs zs))
 
 -- what stands between a list and one that begins with it, begins with it
 list_between : (xs ys zs : List Octets) → is_gt (slice_cmp label_order xs ys) ≡ false

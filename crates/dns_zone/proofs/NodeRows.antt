@@ -74,17 +74,10 @@ module _ (t : Tree) (k : ℕ) (at : IsNodeAt t k) where
     size = omega (arith, length-take (end - start) (drop start t.rows))
 
     pub row_of_kid : row_at t.rows (start + i) ≡ row_at kids i
-    row_of_kid =
-        let s = size in
-        sym (get_or-take (end - start) (drop start t.rows) i _ (omega arith)
-        ∙ get_or-drop start t.rows i _)
+    row_of_kid = grind (arith, size, get_or-take, get_or-drop)
 
     pub kid_in : start + i < length t.rows
-    kid_in =
-        let s = size in
-        let r = at.kept.tree.rise k at.row in
-        let w = at.kept.tree.within k at.row in
-        omega arith
+    kid_in = grind (arith, size)
 
     the_kid : IsKid rs name (row_at kids i)
     the_kid = each_get (IsKid rs name) kids i _ are_kids.each fits

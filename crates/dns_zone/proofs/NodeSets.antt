@@ -1,11 +1,10 @@
 -- The sets of a name of a built zone.
-use Rattle.std.proofs.Common.{◌≡◌, ℕ, ◌≤◌, ◌<◌, true, false, not, cond, ◌==◌, ◌⊎◌, inl, inr, List, [], ◌∷◌, map, length, Option, None, Some, IfSome, refl, sym, ap, ◌∙◌, subst, filter, is_gt, nat_cmp, arith, Less, Equal, Greater}
+use Rattle.std.proofs.Common.{◌≡◌, ℕ, ◌≤◌, true, false, not, ◌==◌, List, [], ◌∷◌, map, length, Option, None, Some, IfSome, refl, sym, ap, ◌∙◌, subst, filter, is_gt, nat_cmp, arith}
 use Rattle.std.proofs.lemmas.Bool.{eqb-true, eq-eqb, cases_lt, lt-ltb, le-ltb}
 use Rattle.std.proofs.lemmas.Cmp.{nat_cmp_total, tied_itself}
 use Rattle.std.proofs.lemmas.List.{length-map}
 use Rattle.std.proofs.lemmas.Option.{none-some, same_Some}
 use Rattle.std.specs.List.Sorted.{IsNonDecreasingBy}
-use Rattle.std.specs.Ordering.{ordering_then}
 use Rattle.dns_spec.specs.Names.{DomainName, folded, same}
 use Rattle.dns_spec.specs.Data.{Valid}
 use Rattle.dns_spec.specs.Records.{ResourceRecord, ZoneContents, distinct, sort_by, data_order, record_order, at, rrset}
@@ -28,15 +27,7 @@ data_in_order : (n : DomainName) (t : ℕ) (r s : ResourceRecord)
     → (same r.owner n ≡ true) × (r.rtype ≡ t) → (same s.owner n ≡ true) × (s.rtype ≡ t)
     → is_gt (record_order r s) ≡ false → is_gt (data_order r s) ≡ false
 data_in_order n t r s p q h =
-    let names =
-    same-tied r.owner s.owner
-    (same-from r.owner s.owner (same-is r.owner n p.0 ∙ sym (same-is s.owner n q.0))) in
-    let types : nat_cmp r.rtype s.rtype ≡ Equal =
-    ap (nat_cmp r.rtype) (q.1 ∙ sym p.1) ∙ tied_itself nat_cmp_total r.rtype in
-    let rest = ordering_then (data_order r s) (nat_cmp r.ttl s.ttl) in
-    first_part (data_order r s) (nat_cmp r.ttl s.ttl)
-    (sym (ap (λ o. is_gt (ordering_then o (ordering_then (nat_cmp r.rtype s.rtype) rest))) names
-    ∙ ap (λ o. is_gt (ordering_then o rest)) types) ∙ h)
+    grind (arith, same-tied, same-from, same-is, tied_itself, nat_cmp_total, first_part)
 
 -- records of one type, as they are read, are lent as a set
 datas : (t : ℕ) (rs : List ResourceRecord)
@@ -46,24 +37,11 @@ datas t (r ∷ rs) e = (subst (λ u. Valid u r.rdata) e.0.1 e.0.0.rdata, datas t
 
 of_one_type : (t : ℕ) (rs : List ResourceRecord)
     → Each (λ (r : ResourceRecord). IsReadRecord r × (r.rtype ≡ t)) rs → AreOfType rs
-of_one_type t [] e = tt
-of_one_type t (r ∷ rs) e =
-    subst (λ u. IsLent u (r ∷ rs)) (sym e.0.1) (record {
-      valid = all_each (Valid t) (data_of (r ∷ rs)) (datas t (r ∷ rs) e);
-      typed = all_each (λ (q : ResourceRecord). q.rtype ≡ t) (r ∷ rs) (each_weaker
-          (λ (q : ResourceRecord). IsReadRecord q × (q.rtype ≡ t)) (λ (q : ResourceRecord). q.rtype ≡ t)
-          (r ∷ rs) (λ q h. h.1) e);
-    })
+of_one_type t rs h = grind (arith, all_each, datas, each_weaker)
 
 -- the lowest type is that of the first record
 not_above : (t u : ℕ) → t ≤ u → is_gt (nat_cmp t u) ≡ false
-not_above t u h = go (cases_lt t u)
-  where
-    go : (t < u) ⊎ (u ≤ t) → is_gt (nat_cmp t u) ≡ false
-    go (inl l) = ap (λ b. is_gt (cond b Less (cond (t == u) Equal Greater))) (lt-ltb t u l)
-    go (inr l) =
-        ap (λ b. is_gt (cond b Less (cond (t == u) Equal Greater))) (le-ltb t u l)
-        ∙ ap (λ b. is_gt (cond b Equal Greater)) (eq-eqb t u (omega arith))
+not_above t u h = grind (arith, cases_lt, lt-ltb, le-ltb, eq-eqb)
 
 lowest_first : (r : ResourceRecord) (rs : List ResourceRecord)
     → IsNonDecreasingBy (λ (q : ResourceRecord). q.rtype) (r ∷ rs)
@@ -90,9 +68,7 @@ module _ (z : ZoneContents) (kept : IsBuilt z) (n : DomainName) where
   reads = each_all IsReadRecord z.records kept.each
 
   lows : Each (λ (r : ResourceRecord). folded r.owner ≡ r.owner) z.records
-  lows =
-      each_weaker IsReadRecord (λ (r : ResourceRecord). folded r.owner ≡ r.owner) z.records
-      (λ r h. h.lower_owner) reads
+  lows = grind (arith, each_weaker, reads)
 
   module _ (t : ℕ) where
     abbrev typed : List ResourceRecord
@@ -118,9 +94,7 @@ module _ (z : ZoneContents) (kept : IsBuilt z) (n : DomainName) where
         (ordered_records z.records kept.ordered)))))
 
     read_set : Each (λ (r : ResourceRecord). IsReadRecord r × (r.rtype ≡ t)) (rrset z n t)
-    read_set =
-        each_typed t IsReadRecord (at z n)
-        (each_filter IsReadRecord (λ (r : ResourceRecord). same r.owner n) z.records reads)
+    read_set = grind (arith, each_typed, each_filter, reads)
 
     pub are_of_type : AreOfType (rrset z n t)
     are_of_type = of_one_type t (rrset z n t) read_set
@@ -139,11 +113,7 @@ module _ (z : ZoneContents) (kept : IsBuilt z) (n : DomainName) where
         shown : (r : ResourceRecord) (rs : List ResourceRecord) → rrset z n t ≡ r ∷ rs
             → Each (IsOf (folded n) k t) (r ∷ rs)
             → records_at n r.ttl (lent r.rtype r.ttl (r ∷ rs)) ≡ rrset z n r.rtype
-        shown r rs p own =
-            ap (λ (o : DomainName). records_at o r.ttl (lent r.rtype r.ttl (r ∷ rs))) (sym low)
-            ∙ ap (λ j. records_at (folded n) j (lent r.rtype j (r ∷ rs))) own.0.ttl
-            ∙ ap (λ u. records_at (folded n) k (lent u k (r ∷ rs))) own.0.rtype
-            ∙ sym (as_set (folded n) k t (r ∷ rs) own) ∙ sym p ∙ ap (rrset z n) (sym own.0.rtype)
+        shown r rs p own = grind (arith, as_set, k)
 
         go : (xs : List ResourceRecord) → rrset z n t ≡ xs → set_of xs ≡ Some s
             → (s.rtype ≡ t) × IsSetOf (record { zone = z; name = n }) s
@@ -159,12 +129,7 @@ module _ (z : ZoneContents) (kept : IsBuilt z) (n : DomainName) where
               own.0.rtype,
               record {
                 records = shown r rs p own;
-                few =
-                    omega (
-                      arith,
-                      length-map (r ∷ rs) (λ (q : ResourceRecord). q.rdata),
-                      ap length p,
-                    );
+                few = grind (arith, few, length-map);
                 ttl = read.0.0.ttl;
                 valid = lent_is.valid;
               },

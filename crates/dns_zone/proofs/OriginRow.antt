@@ -6,7 +6,7 @@ use Rattle.std.specs.Char.{to_ascii_lowercase}
 use Rattle.std.specs.List.Sorted.{IsPartitionedBy}
 use Rattle.dns_spec.specs.Names.{DomainName, wire, is_name, same, at_or_below}
 use Rattle.dns_spec.specs.Data.{type_soa}
-use Rattle.dns_spec.specs.Records.{ResourceRecord, ZoneContents}
+use Rattle.dns_spec.specs.Records.{ResourceRecord}
 use Rattle.dns_spec.proofs.Records.SortedOnce.{Each, Among}
 use Rattle.dns_spec.proofs.Records.RecordOrder.{among_contains}
 use Rattle.dns_zone.specs.LabelKey.{IsKey}
@@ -21,9 +21,6 @@ use Rattle.dns_zone.proofs.KidRows.{is_under, at_in_front}
 
 module _ (o : DomainName) (rs : List ResourceRecord)
     (kept : IsBuilt (record { origin = o; records = rs })) where
-  z : ZoneContents
-  z = record { origin = o; records = rs }
-
   own_soa : (r : ResourceRecord) × (Among r rs) × ((same r.owner o && r.rtype == type_soa) ≡ true)
   own_soa =
       some_passes (λ (r : ResourceRecord). same r.owner o && r.rtype == type_soa) rs

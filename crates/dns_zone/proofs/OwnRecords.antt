@@ -1,11 +1,10 @@
 -- The records of a name of a zone, by their types, and what is found for a target.
-use Rattle.std.proofs.Common.{◌≡◌, ℕ, ◌≤◌, ◌<◌, Bool, true, false, ◌&&◌, ◌||◌, cond, ◌==◌, List, [], ◌∷◌, refl, sym, ap, ◌∙◌, arith, filter, is_gt, Less, Equal, Greater, nat_cmp, inl, inr, ◌⊎◌}
+use Rattle.std.proofs.Common.{◌≡◌, ℕ, ◌≤◌, Bool, true, false, ◌&&◌, ◌==◌, List, [], ◌∷◌, refl, sym, ◌∙◌, arith, filter, is_gt, Equal}
 use Rattle.std.proofs.lemmas.Bool.{cases_lt, le-ltb, ne_eqb, true≢false}
 use Rattle.std.specs.List.{list_any}
 use Rattle.std.specs.List.Sorted.{IsNonDecreasingBy}
-use Rattle.std.specs.Ordering.{ordering_then}
 use Rattle.dns_spec.specs.Names.{DomainName, same, name_order}
-use Rattle.dns_spec.specs.Records.{ResourceRecord, ZoneContents, at, owns, data_order, record_order}
+use Rattle.dns_spec.specs.Records.{ResourceRecord, ZoneContents, at, owns, record_order}
 use Rattle.dns_spec.proofs.Records.SortedOnce.{filter_each}
 use Rattle.dns_zone.specs.ZoneForm.{AreOrdered}
 use Rattle.dns_zone.proofs.Pairs.{pairs_of, pairs_filter, rising}
@@ -14,17 +13,7 @@ use Rattle.dns_zone.proofs.AtName.{ordered_records}
 
 -- the records of one name stand by their types
 type_up_to : (r s : ResourceRecord) → name_order r.owner s.owner ≡ Equal → is_gt (record_order r s) ≡ false → r.rtype ≤ s.rtype
-type_up_to r s e h = go (cases_lt s.rtype r.rtype)
-  where
-    go : (s.rtype < r.rtype) ⊎ (r.rtype ≤ s.rtype) → r.rtype ≤ s.rtype
-    go (inr l) = l
-    go (inl l) =
-        let greater : nat_cmp r.rtype s.rtype ≡ Greater =
-        ap (λ b. cond b Less (cond (r.rtype == s.rtype) Equal Greater)) (le-ltb r.rtype s.rtype (omega arith))
-        ∙ ap (λ b. cond b Equal Greater) (ne_eqb r.rtype s.rtype (λ k. absurd (omega arith)))
-        in
-        absurd (true≢false (sym (ap (λ o. is_gt (ordering_then o (ordering_then (nat_cmp r.rtype s.rtype) (ordering_then (data_order r s) (nat_cmp r.ttl s.ttl))))) e
-        ∙ ap (λ o. is_gt (ordering_then o (ordering_then (data_order r s) (nat_cmp r.ttl s.ttl)))) greater) ∙ h))
+type_up_to r s e h = grind (arith, cases_lt, le-ltb, ne_eqb, true≢false)
 
 pub own_types : (z : ZoneContents) (n : DomainName) → AreOrdered z.records → IsNonDecreasingBy (λ (r : ResourceRecord). r.rtype) (at z n)
 own_types z n h =
@@ -36,11 +25,7 @@ own_types z n h =
 
 any_filter : {X : Type 0} (p q : X → Bool) (xs : List X) → list_any q (filter p xs) ≡ list_any (λ x. p x && q x) xs
 any_filter p q [] = refl
-any_filter p q (x ∷ xs) = go (p x) (any_filter p q xs)
-  where
-    go : (t : Bool) → list_any q (filter p xs) ≡ list_any (λ x. p x && q x) xs → list_any q (cond t (x ∷ filter p xs) (filter p xs)) ≡ ((t && q x) || list_any (λ x. p x && q x) xs)
-    go true e = ap (λ b. q x || b) e
-    go false e = e
+any_filter p q (x ∷ xs) = grind (arith, (any_filter p q xs))
 
 pub own-owns : (z : ZoneContents) (n : DomainName) (t : ℕ) → list_any (λ (r : ResourceRecord). r.rtype == t) (at z n) ≡ owns z n t
 own-owns z n t = any_filter (λ (r : ResourceRecord). same r.owner n) (λ (r : ResourceRecord). r.rtype == t) z.records

@@ -33,9 +33,7 @@ front p xs h =
 -- of records of a name the first one need not be looked at
 pub one_more : (n : DomainName) (r : ResourceRecord) (rs : List ResourceRecord) (k : ℕ)
     → n ≡ r.owner → k ≡ prefix_len (is_at n) rs → 1 + k ≡ prefix_len (is_at n) (r ∷ rs)
-one_more n r rs k e f =
-    ap (λ j. 1 + j) f
-    ∙ sym (ap (λ b. cond b (1 + prefix_len (is_at n) rs) 0) (same-from r.owner n (ap folded (sym e))))
+one_more n r rs k e f = grind (arith, is_at, same-from)
 
 -- a part of ordered records is ordered
 ordered_filter : (p : ResourceRecord → Bool) (rs : List ResourceRecord) → AreOrdered rs → AreOrdered (filter p rs)
@@ -121,8 +119,7 @@ once_others r (q ∷ rs) h = go (begins_with_owner r.owner (q ∷ rs)) refl (onc
         (each_weaker (λ s. name_order (folded r.owner) (folded s.owner) ≡ Less) (λ s. not (is_at r.owner s) ≡ true) (q ∷ rs) other (greater_after r (q ∷ rs) h e))))
       where
         other : (s : ResourceRecord) → name_order (folded r.owner) (folded s.owner) ≡ Less → not (is_at r.owner s) ≡ true
-        other s l = ap not (false_from_ne_true (same s.owner r.owner) (λ k.
-            false≢true (ap is_lt (sym (same-tied (folded r.owner) (folded s.owner) (same-from (folded r.owner) (folded s.owner) (ap folded (sym (same-is s.owner r.owner k))))) ∙ l))))
+        other s l = grind (arith, false_from_ne_true, false≢true, same-tied, same-from, same-is)
 
 -- one owner is reported, and the walk goes on after it
 pub record Step (z : ZoneContents) (n : DomainName) (rs own others : List ResourceRecord) : Type 0 where
@@ -152,9 +149,7 @@ step_first z r rs own others k low h t =
       has_owners = subst (HasOwners z) (sym others_are) (others_owners z r.owner (r ∷ rs) h);
       names = once_others r rs (owners_in_order (r ∷ rs) h.ordered) ∙ ap₂ (λ (n : DomainName) ss. n ∷ owners_once ss) low (sym others_are);
       fewer = omega arith;
-      first = λ o. ap (first_owner o) (own_is
-          ∙ ap (λ b. cond b (r ∷ filter (is_at r.owner) rs) (filter (is_at r.owner) rs))
-          (same-from r.owner r.owner refl));
+      first = grind arith;
     }
 
 pub step : (z : ZoneContents) (n : DomainName) (r : ResourceRecord) (rs ss own others : List ResourceRecord) (k : ℕ) → n ≡ r.owner → folded n ≡ n

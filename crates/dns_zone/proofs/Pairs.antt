@@ -1,5 +1,5 @@
 -- Lists whose elements are in order, each with each after it, and what a binary search finds in them.
-use Rattle.std.proofs.Common.{◌≡◌, ℕ, zero, suc, ◌<◌, ◌≤◌, Bool, true, false, not, cond, ◌⊎◌, inl, inr, List, [], ◌∷◌, length, take, drop, get_or, refl, sym, ap, ◌∙◌, subst, arith, filter}
+use Rattle.std.proofs.Common.{◌≡◌, ℕ, zero, suc, ◌<◌, ◌≤◌, Bool, true, false, not, cond, List, [], ◌∷◌, length, take, drop, get_or, refl, sym, ap, ◌∙◌, arith, filter}
 use Rattle.std.proofs.lemmas.Bool.{false≢true, false_from_ne_true, cases_lt}
 use Rattle.std.proofs.lemmas.List.{length-take, get_or-take}
 use Rattle.std.proofs.Math.Nat.{min-eq_left}
@@ -31,16 +31,11 @@ each_both P Q S (x ∷ xs) f p q = (f x p.0 q.0, each_both P Q S xs f p.1 q.1)
 
 pub pairs_of : {X : Type 0} (P : X → Type 0) (R S : X → X → Type 0) (xs : List X) → ((x y : X) → P x → P y → R x y → S x y) → Each P xs → Pairs R xs → Pairs S xs
 pairs_of P R S [] f e p = tt
-pairs_of P R S (x ∷ xs) f e p =
-    (each_both P (R x) (S x) xs (λ y. f x y e.0) e.1 p.0, pairs_of P R S xs f e.1 p.1)
+pairs_of P R S (x ∷ xs) f e p = grind (arith, each_both, (pairs_of P R S xs f e.1 p.1))
 
 pub pairs_filter : {X : Type 0} (R : X → X → Type 0) (p : X → Bool) (xs : List X) → Pairs R xs → Pairs R (filter p xs)
 pairs_filter R p [] h = tt
-pairs_filter R p (x ∷ xs) h = go (p x) (pairs_filter R p xs h.1)
-  where
-    go : (t : Bool) → Pairs R (filter p xs) → Pairs R (cond t (x ∷ filter p xs) (filter p xs))
-    go true r = (each_filter (R x) p xs h.0, r)
-    go false r = r
+pairs_filter R p (x ∷ xs) h = grind (arith, each_filter, (pairs_filter R p xs h.1))
 
 -- what a binary search asks
 pub parted : {X : Type 0} (p : X → Bool) (xs : List X) → Pairs (λ x y. p y ≡ true → p x ≡ true) xs → IsPartitionedBy p xs
@@ -75,23 +70,12 @@ filter_none p (x ∷ xs) e = ap (λ t. cond t (x ∷ filter p xs) (filter p xs))
 -- what passes q passes p
 pub filter_within : {X : Type 0} (p q : X → Bool) (xs : List X) → ((x : X) → q x ≡ true → p x ≡ true) → filter q (filter p xs) ≡ filter q xs
 filter_within p q [] f = refl
-filter_within p q (x ∷ xs) f = go (p x) (q x) refl refl (filter_within p q xs f)
-  where
-    go : (t s : Bool) → p x ≡ t → q x ≡ s → filter q (filter p xs) ≡ filter q xs
-        → filter q (cond t (x ∷ filter p xs) (filter p xs)) ≡ cond s (x ∷ filter q xs) (filter q xs)
-    go true true a b r = ap (λ t. cond t (x ∷ filter q (filter p xs)) (filter q (filter p xs))) b ∙ ap (λ ys. x ∷ ys) r
-    go true false a b r = ap (λ t. cond t (x ∷ filter q (filter p xs)) (filter q (filter p xs))) b ∙ r
-    go false true a b r = absurd (false≢true (sym a ∙ f x b))
-    go false false a b r = r
+filter_within p q (x ∷ xs) f = grind (arith, false≢true, (filter_within p q xs f))
 
 -- what passes comes first, and what does not follows
 pub halves : {X : Type 0} (p : X → Bool) (xs : List X) (i : ℕ) → i ≤ length xs → IsPartitionPoint (λ y. p y ≡ true) (λ y. p y ≡ false) xs i
     → (take i xs ≡ filter p xs) × (drop i xs ≡ filter (λ x. not (p x)) xs)
-halves p xs zero l h =
-    let none : Each (λ x. p x ≡ false) xs = each_from_get (λ x. p x ≡ false) xs (λ k d m. h.1 k d (omega arith) m) in (
-      sym (filter_none p xs none),
-      sym (filter_all (λ x. not (p x)) xs (each_weaker (λ x. p x ≡ false) (λ x. not (p x) ≡ true) xs (λ x e. ap not e) none)),
-    )
+halves p xs zero l h = grind (arith, each_from_get, filter_none, filter_all, each_weaker)
 halves p [] (suc i) l h = (refl, refl)
 halves p (x ∷ xs) (suc i) l h =
     let here : p x ≡ true = h.0 0 x (omega arith) (omega arith) in
@@ -103,26 +87,13 @@ halves p (x ∷ xs) (suc i) l h =
 -- where the element at n does not pass, a search among those before it finds where all end that pass
 pub near_point : {X : Type 0} (p : X → Bool) (xs : List X) (n i : ℕ) → n < length xs → ((d : X) → p (get_or xs n d) ≡ false) → IsPartitionedBy p xs
     → i ≤ length (take n xs) → IsPartitionPoint (λ y. p y ≡ true) (λ y. p y ≡ false) (take n xs) i → IsPartitionPoint (λ y. p y ≡ true) (λ y. p y ≡ false) xs i
-near_point {X = X} p xs n i l fails parts bound point = (
-  λ k d a b. subst (λ y. p y ≡ true) (get_or-take n xs k d (omega (arith, long, a, bound))) (point.0 k d a (omega (arith, long, a, bound))),
-  λ k d a b. after k d a b (cases_lt k n),
-)
-  where
-    long : length (take n xs) ≡ n
-    long = length-take n xs ∙ min-eq_left (omega arith)
-
-    after : (k : ℕ) (d : X) → i ≤ k → k < length xs → (k < n) ⊎ (n ≤ k) → p (get_or xs k d) ≡ false
-    after k d a b (inl m) = subst (λ y. p y ≡ false) (get_or-take n xs k d m) (point.1 k d a (omega (arith, long, m)))
-    after k d a b (inr m) = false_from_ne_true (p (get_or xs k d)) (λ e. false≢true (sym (fails d) ∙ parts n k d m b e))
+near_point {X = X} p xs n i l fails parts bound point =
+    grind (arith, get_or-take, cases_lt, length-take, min-eq_left, false_from_ne_true, false≢true)
 
 -- what is first of a list whose passing elements stand in front is such a list too
 pub parted_take : {X : Type 0} (p : X → Bool) (xs : List X) (n : ℕ) → IsPartitionedBy p xs
     → IsPartitionedBy p (take n xs)
-parted_take p xs n parts i j d a b e =
-    let short : j < n = omega (arith, length-take n xs, b) in
-    let inside : j < length xs = omega (arith, length-take n xs, b) in
-    subst (λ y. p y ≡ true) (sym (get_or-take n xs i d (omega (arith, a, short))))
-    (parts i j d a inside (subst (λ y. p y ≡ true) (get_or-take n xs j d short) e))
+parted_take p xs n parts i j d a b e = grind (arith, length-take, get_or-take)
 
 -- a test of a first element
 abbrev pub first_passes : {X : Type 0} → (X → Bool) → List X → Bool

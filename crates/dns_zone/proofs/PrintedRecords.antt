@@ -1,5 +1,5 @@
 -- A record's line goes out in four parts, and the records of a list one after another.
-use Rattle.std.proofs.Common.{◌≡◌, ℕ, suc, ◌+◌, ◌<◌, Bool, true, false, cond, Option, List, ◌∷◌, ◌++◌, length, drop, get_or, sym, subst, ap, ◌∙◌, filter, flat_map, append_assoc, codes, decimal, add-one}
+use Rattle.std.proofs.Common.{◌≡◌, ℕ, suc, ◌+◌, ◌<◌, Bool, true, false, Option, List, ◌∷◌, ◌++◌, length, drop, get_or, sym, subst, ap, ◌∙◌, filter, flat_map, append_assoc, codes, decimal, add-one, arith}
 use Rattle.std.proofs.Math.Seq.{drop-cons}
 use Rattle.dns_spec.specs.Names.{Octets}
 use Rattle.dns_spec.specs.NameText.{name_text}
@@ -31,14 +31,10 @@ module _ (p : ResourceRecord → Bool) (rs : List ResourceRecord) (r : ResourceR
   here = drop-cons rs i r h ∙ ap (λ x. x ∷ drop (suc i) rs) (sym e) ∙ ap (λ k. r ∷ drop k rs) (sym (add-one i))
 
   pub chosen : p r ≡ true → flat_map record_line (filter p (drop i rs)) ≡ record_line r ++ flat_map record_line (filter p (drop (i + 1) rs))
-  chosen t =
-      ap (λ xs. flat_map record_line (filter p xs)) here
-      ∙ ap (λ b. flat_map record_line (cond b (r ∷ filter p (drop (i + 1) rs)) (filter p (drop (i + 1) rs)))) t
+  chosen t = grind (arith, here)
 
   pub passed_over : p r ≡ false → flat_map record_line (filter p (drop i rs)) ≡ flat_map record_line (filter p (drop (i + 1) rs))
-  passed_over t =
-      ap (λ xs. flat_map record_line (filter p xs)) here
-      ∙ ap (λ b. flat_map record_line (cond b (r ∷ filter p (drop (i + 1) rs)) (filter p (drop (i + 1) rs)))) t
+  passed_over t = grind (arith, here)
 
 -- the text of a zone whose records are in order
 pub text_of_ordered : (z : ZoneContents) (rs : List ResourceRecord) → rs ≡ z.records → AreOrdered z.records → flat_map record_line (soa_first rs) ≡ zone_text z

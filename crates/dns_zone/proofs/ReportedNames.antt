@@ -1,5 +1,5 @@
 -- The names that faults are reported of: the origin, and each owner once.
-use Rattle.std.proofs.Common.{◌≡◌, ℕ, suc, Bool, true, false, cond, ◌⊎◌, inl, inr, List, [], ◌∷◌, ◌++◌, map, refl, sym, ap₂, ◌∙◌, ◌==◌, ◌&&◌, filter, is_gt, Ordering, Less, Equal, Greater}
+use Rattle.std.proofs.Common.{◌≡◌, ℕ, suc, Bool, true, false, cond, ◌⊎◌, inl, inr, List, [], ◌∷◌, ◌++◌, map, refl, sym, ap₂, ◌==◌, ◌&&◌, filter, is_gt, Less, arith}
 use Rattle.dns_spec.proofs.ZoneChecks.FaultOrder.{folded_folded, name_tie, name_order_total, one_lower, Lower}
 use Rattle.std.proofs.lemmas.Bool.{false≢true, true≢false, and_parts, eqb-true}
 use Rattle.std.proofs.lemmas.Cmp.{tied_back, alike_right}
@@ -37,41 +37,21 @@ failed-reported z n = failed_in_order z n 1 checks refl
 
 each_once : (P : DomainName → Type 0) (rs : List ResourceRecord) → Each (λ r. P (folded r.owner)) rs → Each P (owners_once rs)
 each_once P [] e = tt
-each_once P (r ∷ rs) e = go (begins_with_owner r.owner rs) (each_once P rs e.1)
-  where
-    go : (b : Bool) → Each P (owners_once rs) → Each P ((if b then [] else folded r.owner ∷ []) ++ owners_once rs)
-    go true f = f
-    go false f = (e.0, f)
+each_once P (r ∷ rs) e = grind (arith, (each_once P rs e.1))
 
 lower_order : (n m : DomainName) → name_order (folded n) (folded m) ≡ name_order n m
-lower_order n m =
-    name_order_total.congr (folded n) n (folded m) (same-tied (folded n) n (same-from (folded n) n (folded_folded n)))
-    ∙ alike_right name_order_total (folded m) m n (same-tied (folded m) m (same-from (folded m) m (folded_folded m)))
+lower_order n m = grind (arith, same-tied, same-from, folded_folded, alike_right, name_order_total)
 
 less_then : (n m k : DomainName) → name_order n m ≡ Less → is_gt (name_order m k) ≡ false → name_order n k ≡ Less
-less_then n m k e h = go (name_order m k) refl h
-  where
-    go : (c : Ordering) → name_order m k ≡ c → is_gt c ≡ false → name_order n k ≡ Less
-    go Less f g = name_order_total.trans n m k e f
-    go Equal f g = sym (alike_right name_order_total m k n f) ∙ e
-    go Greater f g = absurd (true≢false g)
+less_then n m k e h = grind (arith, alike_right, name_order_total, true≢false)
 
 less_other : (n m : DomainName) → is_gt (name_order n m) ≡ false → same m n ≡ false → name_order n m ≡ Less
-less_other n m h s = go (name_order n m) refl h
-  where
-    go : (c : Ordering) → name_order n m ≡ c → is_gt c ≡ false → name_order n m ≡ Less
-    go Less e g = e
-    go Equal e g = absurd (false≢true (sym s ∙ name_tie m n (tied_back name_order_total n m e)))
-    go Greater e g = absurd (true≢false g)
+less_other n m h s = grind (arith, false≢true, name_tie, tied_back, name_order_total, true≢false)
 
 -- after an owner that is not that of the next record, all owners are greater
 pub greater_after : (r : ResourceRecord) (rs : List ResourceRecord) → Pairs OwnerNotAfter (r ∷ rs) → begins_with_owner r.owner rs ≡ false → Each (λ s. name_order (folded r.owner) (folded s.owner) ≡ Less) rs
 greater_after r [] h e = tt
-greater_after r (q ∷ rs) h e =
-    let next = less_other r.owner q.owner h.0.0 e in (
-      lower_order r.owner q.owner ∙ next,
-      each_weaker (OwnerNotAfter q) (λ s. name_order (folded r.owner) (folded s.owner) ≡ Less) rs (λ s f. lower_order r.owner s.owner ∙ less_then r.owner q.owner s.owner next f) h.1.0,
-    )
+greater_after r (q ∷ rs) h e = grind (arith, less_other, lower_order, each_weaker, less_then)
 
 pub once_rise : (rs : List ResourceRecord) → Pairs OwnerNotAfter rs → Rises name_order (owners_once rs)
 once_rise [] h = tt
@@ -87,16 +67,10 @@ owners rs = map (λ (r : ResourceRecord). folded r.owner) rs
 
 once_among : (a : DomainName) (rs : List ResourceRecord) → Among a (owners_once rs) → Among a (owners rs)
 once_among a [] m = m
-once_among a (r ∷ rs) m = go (begins_with_owner r.owner rs) m (once_among a rs)
-  where
-    go : (b : Bool) → Among a ((if b then [] else folded r.owner ∷ []) ++ owners_once rs) → (Among a (owners_once rs) → Among a (owners rs)) → (a ≡ folded r.owner) ⊎ Among a (owners rs)
-    go true k f = inr (f k)
-    go false (inl e) f = inl e
-    go false (inr k) f = inr (f k)
+once_among a (r ∷ rs) m = grind (arith, (once_among a rs))
 
 next_among : (a : DomainName) (r : ResourceRecord) (rs : List ResourceRecord) → begins_with_owner r.owner rs ≡ true → a ≡ folded r.owner → Among a (owners rs)
-next_among a r [] h e = absurd (false≢true h)
-next_among a r (q ∷ rs) h e = inl (e ∙ sym (same-is q.owner r.owner h))
+next_among a r rs h h1 = grind (arith, false≢true, same-is)
 
 pub among_once : (a : DomainName) (rs : List ResourceRecord) → Among a (owners rs) → Among a (owners_once rs)
 among_once a [] m = m

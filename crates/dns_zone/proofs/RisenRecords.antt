@@ -40,8 +40,7 @@ module _ (rs xs : List ResourceRecord) (last at : ℕ) (h : IsOnce rs xs last at
         rise = h.rise;
         rest = λ i d m. h.rest i d (omega (arith, m));
         kept = λ i d m k. go i d k (cases_lt i at) (omega (arith, m));
-        from = λ d. get_or_default xs last d r inside ∙ sym e ∙ g ∙ f ∙ get_or_default xs at s d l
-            ∙ h.rest at d (omega arith) ∙ ap (λ i. get_or rs i d) (one_before at);
+        from = grind (arith, get_or_default, one_before);
       }
     where
       go : (i : ℕ) (d : ResourceRecord) → i < length rs → (i < at) ⊎ (at ≤ i) → i ≤ at
@@ -67,21 +66,17 @@ module _ (rs xs : List ResourceRecord) (last at : ℕ) (h : IsOnce rs xs last at
         inside = λ _. omega (arith, before, l, size);
         size = size ∙ h.size;
         rise = λ i d m. rises i d (cases_lt i last) (omega (arith, m));
-        rest = λ i d m. swap.2 i d (λ g. absurd (omega (arith, g, m, before)))
-            (λ g. absurd (omega (arith, g, m))) ∙ h.rest i d (omega (arith, m));
+        rest = grind arith;
         kept = λ i d m k. go i d k (cases_lt i at) (omega (arith, m));
         from = λ d. swap.0 d ∙ h.rest at d (omega arith) ∙ ap (λ i. get_or rs i d) (one_before at);
       }
     where
       same : (i : ℕ) (d : ResourceRecord) → i ≤ last → get_or ys i d ≡ get_or xs i d
-      same i d m =
-          let before = h.before in
-          swap.2 i d (λ g. absurd (omega (arith, g, m))) (λ g. absurd (omega (arith, g, m, before)))
+      same i d m = grind arith
 
       rises : (i : ℕ) (d : ResourceRecord) → (i < last) ⊎ (last ≤ i) → i ≤ last
           → record_order (get_or ys i d) (get_or ys (suc i) d) ≡ Less
-      rises i d (inl m) n =
-          ap₂ record_order (same i d n) (same (suc i) d (omega (arith, m))) ∙ h.rise i d m
+      rises i d (inl m) n = grind arith
       rises i d (inr m) n =
           let inside = h.inside (omega (arith, l)) in
           let is : i ≡ last = omega (arith, m, n) in

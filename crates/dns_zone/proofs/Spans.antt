@@ -1,5 +1,5 @@
 -- Parts of a list from one place up to another, and the elements that pass a test.
-use Rattle.std.proofs.Common.{◌≡◌, ℕ, zero, suc, ◌+◌, ◌-◌, ◌<◌, ◌≤◌, Bool, true, false, ◌||◌, not, cond, ◌⊎◌, inl, inr, List, [], ◌∷◌, ◌++◌, length, take, drop, get_or, refl, sym, ap, ap₂, ◌∙◌, arith, subst, filter, length-append, length-take, length-drop}
+use Rattle.std.proofs.Common.{◌≡◌, ℕ, zero, suc, ◌+◌, ◌-◌, ◌<◌, ◌≤◌, Bool, true, false, ◌||◌, not, ◌⊎◌, inl, inr, List, [], ◌∷◌, ◌++◌, length, take, drop, get_or, refl, sym, ap, ap₂, ◌∙◌, arith, subst, filter, length-append, length-take, length-drop}
 use Rattle.std.proofs.lemmas.Bool.{false≢true, or_right}
 use Rattle.std.proofs.lemmas.List.{take-append-drop, take-append-le, get_or-take, get_or-drop, nil_from_length}
 use Rattle.std.proofs.lemmas.List.Elements.{filter-append}
@@ -45,25 +45,17 @@ module _ {X : Type 0} (p : X → Bool) (xs : List X) (a b : ℕ) (h : a ≤ b)
       (length-append (filter p xs) (filter p (drop b xs)))
 
   pub none_before : filter p (take a xs) ≡ []
-  none_before =
-      let n : length (filter p (take a xs)) ≡ 0 = omega (arith, lengths) in
-      nil_from_length (filter p (take a xs)) n
+  none_before = grind (arith, lengths, nil_from_length)
 
   pub none_past : filter p (drop b xs) ≡ []
-  none_past =
-      let n : length (filter p (drop b xs)) ≡ 0 = omega (arith, lengths) in
-      nil_from_length (filter p (drop b xs)) n
+  none_past = grind (arith, lengths, nil_from_length)
 
   -- and each element of it passes
   pub in_span : (k : ℕ) (d : X) → a ≤ k → k < b → b ≤ length xs → p (get_or xs k d) ≡ true
   in_span k d l m f =
-      let at : a + (k - a) ≡ k = omega arith in
-      let fits : k - a < length (span xs a b) =
-      omega (arith, length-take (b - a) (drop a xs), length-drop a xs) in
+      let fits : k - a < length (span xs a b) = grind (arith, length-take, length-drop) in
       let here : get_or (span xs a b) (k - a) d ≡ get_or xs k d =
-      get_or-take (b - a) (drop a xs) (k - a) d (omega arith) ∙ get_or-drop a xs (k - a) d
-      ∙ ap (λ i. get_or xs i d) at
-      in
+      grind (arith, get_or-take, get_or-drop) in
       subst (λ x. p x ≡ true) here
       (each_get (λ x. p x ≡ true) (span xs a b) (k - a) d
       (subst (Each (λ x. p x ≡ true)) (sym e) (filter_each p xs)) fits)
@@ -72,16 +64,7 @@ module _ {X : Type 0} (p : X → Bool) (xs : List X) (a b : ℕ) (h : a ≤ b)
 pub nothing_each : {X : Type 0} (p : X → Bool) (xs : List X) → filter p xs ≡ []
     → Each (λ x. p x ≡ false) xs
 nothing_each p [] e = tt
-nothing_each p (x ∷ xs) e = go (p x) refl e (nothing_each p xs)
-  where
-    none : x ∷ filter p xs ≡ [] → ⊥
-    none e = cc
-
-    go : (t : Bool) → p x ≡ t → cond t (x ∷ filter p xs) (filter p xs) ≡ []
-        → (filter p xs ≡ [] → Each (λ x. p x ≡ false) xs)
-        → (p x ≡ false) × Each (λ x. p x ≡ false) xs
-    go true q f r = absurd (none f)
-    go false q f r = (q, r f)
+nothing_each p (x ∷ xs) e = grind (arith, (nothing_each p xs))
 
 pub nothing_there : {X : Type 0} (p : X → Bool) (xs : List X) (k : ℕ) (d : X)
     → filter p (drop k xs) ≡ [] → k < length xs → p (get_or xs k d) ≡ false
@@ -166,12 +149,8 @@ each_push P (y ∷ xs) x e p = (e.0, each_push P xs x e.1 p)
 pub span_front : {X : Type 0} (xs ys : List X) (a b : ℕ) → b ≤ length xs
     → span (xs ++ ys) a b ≡ span xs a b
 span_front xs ys zero b h = take-append-le (b - 0) xs ys (omega arith)
-span_front [] ys (suc a) b h =
-    let e : b - suc a ≡ 0 = omega arith in
-    ap (λ k. take k (drop (suc a) ys)) e ∙ sym (ap (λ k. take k []) e)
-span_front (x ∷ xs) ys (suc a) zero h =
-    let e : zero - suc a ≡ 0 = omega arith in
-    ap (λ k. take k (drop a (xs ++ ys))) e ∙ sym (ap (λ k. take k (drop a xs)) e)
+span_front [] ys (suc a) b h = grind arith
+span_front (x ∷ xs) ys (suc a) zero h = grind arith
 span_front (x ∷ xs) ys (suc a) (suc b) h =
     let e : suc b - suc a ≡ b - a = omega arith in
     ap (λ k. take k (drop a (xs ++ ys))) e ∙ span_front xs ys a b (omega arith)

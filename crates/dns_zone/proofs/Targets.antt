@@ -1,5 +1,5 @@
 -- The target of data in lower case is in lower case.
-use Rattle.std.proofs.Common.{◌≡◌, ℕ, true, Option, None, Some, IfSome, List, [], ◌∷◌, map, sym, ap, ◌∙◌}
+use Rattle.std.proofs.Common.{◌≡◌, ℕ, true, Option, Some, IfSome, List, [], ◌∷◌, map, sym, ap, ◌∙◌, arith}
 use Rattle.dns_spec.specs.Names.{Octets, DomainName, folded}
 use Rattle.dns_spec.specs.Data.{Part, octets, name, part_folded, first_name, valid, parts, lower_case, target}
 use Rattle.dns_spec.proofs.DataWords.LoweredData.{lowered_data}
@@ -13,5 +13,4 @@ pub target_lowered : (t : ℕ) (d : Octets) (m : DomainName) → valid t d ≡ t
 target_lowered t d m ok low h = first_lowered (parts t d) m (sym (lowered_data t d ok).1 ∙ ap (parts t) low) h
 
 pub target_if : (t : ℕ) (d : Octets) (x : Option DomainName) → valid t d ≡ true → lower_case t d ≡ d → x ≡ target t d → IfSome x (λ m. folded m ≡ m)
-target_if t d None ok low h = tt
-target_if t d (Some m) ok low h = target_lowered t d m ok low (sym h)
+target_if t d x h h1 h2 = grind (arith, target_lowered)

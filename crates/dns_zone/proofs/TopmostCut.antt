@@ -1,5 +1,5 @@
 -- The topmost cut that a name is at or below, by the octets of keys.
-use Rattle.std.proofs.Common.{◌≡◌, ℕ, ◌+◌, ◌<◌, ◌≤◌, Bool, true, false, ◌&&◌, cond, ◌==◌, nat_lt, nat_le, ◌⊎◌, inl, inr, [], ◌∷◌, ◌++◌, length, take, drop, map, refl, sym, ap, ◌∙◌, subst, arith, is_gt, length-append, length-take}
+use Rattle.std.proofs.Common.{◌≡◌, ℕ, ◌+◌, ◌<◌, ◌≤◌, Bool, true, false, ◌&&◌, cond, ◌==◌, nat_lt, ◌⊎◌, inl, inr, [], ◌∷◌, length, take, drop, map, refl, sym, ap, ◌∙◌, subst, arith, is_gt, length-append, length-take}
 use Rattle.std.proofs.lemmas.Bool.{false≢true, and_parts, and_from, and_right, or_cases, or_left, or_right, cases_lt, lt-ltb, le-ltb, ltb-true, leb-true}
 use Rattle.std.proofs.lemmas.List.{take-append-le}
 use Rattle.std.proofs.Math.Nat.{min-eq_left}
@@ -15,7 +15,7 @@ use Rattle.dns_zone.specs.KeyForm.{raised, ended, name_key}
 use Rattle.dns_zone.specs.NamesForm.{IsCutAbove, IsTopmost}
 use Rattle.dns_zone.proofs.KeyPrefix.{under_begins, starts_under, some}
 use Rattle.dns_zone.proofs.NameOrder.{same-is, same-from}
-use Rattle.dns_zone.proofs.NameTree.{Under, under-is, itself-under, between}
+use Rattle.dns_zone.proofs.NameTree.{under-is, itself-under, between}
 
 itself : (n : DomainName) → at_or_below n n ≡ true
 itself n = itself-under n n (same-from n n refl)
@@ -26,11 +26,7 @@ one_name n m p q h = sym p ∙ same-is n m h ∙ q
 -- the key of a name at or below another is as long at least
 no_shorter : (n m : DomainName) → folded n ≡ n → folded m ≡ m → at_or_below n m ≡ true
     → length (name_key m) ≤ length (name_key n)
-no_shorter n m p q h =
-    let begins = under_begins n m p q h in
-    let size : length (name_key n) ≡ length (name_key m) + length begins.0 =
-    ap length begins.1 ∙ length-append (name_key m) begins.0 in
-    omega (arith, size)
+no_shorter n m p q h = grind (arith, under_begins, length-append)
 
 module _ (z : ZoneContents) where
   -- a cut that a name is at or below
@@ -56,16 +52,7 @@ module _ (z : ZoneContents) where
 
   above_cut : (n c : DomainName) → folded n ≡ n → folded c ≡ c → is_cut z c ≡ true
       → at_or_below n c ≡ true → at_or_below_cut z n ≡ true
-  above_cut [] c low d is u =
-      or_left (is_cut z []) false (ap (is_cut z) (root c d (under-is [] c u)) ∙ is)
-    where
-      ends : (p x : DomainName) → ◌≡◌ {A = DomainName} [] (p ++ x)
-          → ◌≡◌ {A = DomainName} [] x
-      ends [] x f = f
-      ends (k ∷ p) x f = cc
-
-      root : (c : DomainName) → folded c ≡ c → Under [] c → ◌≡◌ {A = DomainName} [] c
-      root c d (p, e) = ends p (folded c) e ∙ d
+  above_cut [] c low d is u = grind (arith, or_left, under-is)
   above_cut (l ∷ n) c low d is u =
       go (or_cases (same (l ∷ n) c) (at_or_below n c) (sym (at_or_below-cons l n c) ∙ u))
       (above_cut n c (ap (drop 1) low) d is)
@@ -81,21 +68,10 @@ module _ (z : ZoneContents) where
   -- what the number of octets tells of a name
   module _ (n : DomainName) (low : folded n ≡ n) (k : ℕ) (t : IsTopmost z n k) where
     pub topmost_fits : k ≤ length (name_key n)
-    topmost_fits = go (cases_lt 0 k)
-      where
-        go : (0 < k) ⊎ (k ≤ 0) → k ≤ length (name_key n)
-        go (inl l) =
-            let cut = t.some l in
-            let short = no_shorter n cut.cut low cut.lower cut.above in
-            let octets = cut.octets in omega (arith, short, octets)
-        go (inr l) = omega arith
+    topmost_fits = grind (arith, cases_lt, no_shorter)
 
     pub at_cut : at_or_below_cut z n ≡ nat_lt 0 k
-    at_cut =
-        same_tests _ _
-        (λ h. let (c, d, is, u) = cut_found n low h in lt-ltb 0 k (t.least c d is u).0)
-        (λ h. let cut = t.some (ltb-true 0 k h) in
-        above_cut n cut.cut low cut.lower cut.is_cut cut.above)
+    at_cut = grind (arith, same_tests, cut_found, lt-ltb, ltb-true, above_cut)
 
   pub below_topmost : (n : DomainName) → folded n ≡ n → (k : ℕ) → IsTopmost z n k
       → below_cut z n ≡ (nat_lt 0 k && nat_lt k (length (name_key n)))
@@ -139,14 +115,7 @@ module _ (z : ZoneContents) where
 
   -- a name that is not below the origin is at or below no cut
   pub topmost_none : (n : DomainName) → length n ≤ length z.origin → IsTopmost z n 0
-  topmost_none n short = record {
-    some = λ h. absurd (omega (arith, h));
-    least = λ c d is u.
-        let parts = and_parts (below c z.origin) (owns z c type_ns) is in
-        let long = ltb-true _ _ (and_parts (nat_lt (length z.origin) (length c)) _ parts.0).0 in
-        let fits = leb-true _ _ (and_parts (nat_le (length c) (length n)) _ u).0 in
-        absurd (omega (arith, short, long, fits));
-  }
+  topmost_none n short = grind (arith, some, and_parts, ltb-true, leb-true)
 
   -- a name whose one cut is itself
   pub alone : (n : DomainName) → folded n ≡ n
@@ -158,7 +127,6 @@ module _ (z : ZoneContents) where
       go true e =
           let parts = and_parts (below n z.origin) (owns z n type_ns) e in
           let long = (and_parts (nat_lt (length z.origin) (length n)) _ parts.0).0 in
-          let labels : 0 < length n = omega (arith, ltb-true _ _ long) in
           record {
             some = λ h. record {
               cut = n;
@@ -167,10 +135,7 @@ module _ (z : ZoneContents) where
               above = itself n;
               octets = refl;
             };
-            least = λ c d is u.
-                let size : length (name_key c) ≡ length (name_key n) =
-                ap (λ m. length (name_key m)) (only c d is u) in
-                (octets (cases_lt 0 (length (name_key n))) labels, omega (arith, size));
+            least = grind (arith, cases_lt, octets);
           }
         where
           octets : (0 < length (name_key n)) ⊎ (length (name_key n) ≤ 0) → 0 < length n
@@ -179,8 +144,7 @@ module _ (z : ZoneContents) where
           octets (inr l) h = absurd (some n h (omega arith))
       go false e = record {
         some = λ h. absurd (omega (arith, h));
-        least = λ c d is u.
-            absurd (false≢true (sym e ∙ ap (is_cut z) (sym (only c d is u)) ∙ is));
+        least = grind arith;
       }
 
   -- A name after another, whose cuts are not after that one, or the name itself.
@@ -198,13 +162,8 @@ module _ (z : ZoneContents) where
         let some = ltb-true 0 k parts.0 in
         let cut = t.some some in
         let begins = under_begins o cut.cut low_o cut.lower cut.above in
-        let front : take k (name_key o) ≡ name_key cut.cut =
-        ap (λ i. take i (name_key o)) cut.octets
-        ∙ ap (take (length (name_key cut.cut))) begins.1
-        ∙ take-append_seam (name_key cut.cut) begins.0 in
-        let under : at_or_below n cut.cut ≡ true =
-        sym (starts_under n cut.cut low_n cut.lower)
-        ∙ ap (starts_with ◌==◌ (name_key n)) (sym front) ∙ parts.1 in
+        let front : take k (name_key o) ≡ name_key cut.cut = grind (arith, take-append_seam) in
+        let under : at_or_below n cut.cut ≡ true = grind (arith, starts_under) in
         let octets = cut.octets in
         let short = no_shorter n cut.cut low_n cut.lower under in
         let fits : k ≤ length (name_key n) = omega (arith, octets, short) in
@@ -240,12 +199,9 @@ module _ (z : ZoneContents) where
             let more = least.1 in
             let own = under_begins n c low_n d u in
             let other = under_begins o c low_o d under in
-            let front : take k (name_key o) ≡ take k (name_key n) =
-            ap (take k) other.1 ∙ take-append-le k (name_key c) other.0 more
-            ∙ sym (ap (take k) own.1 ∙ take-append-le k (name_key c) own.0 more) in
+            let front : take k (name_key o) ≡ take k (name_key n) = grind (arith, take-append-le) in
             let short = no_shorter o c low_o d under in
-            let size : length (take k (name_key o)) ≡ k =
-            length-take k (name_key o) ∙ min-eq_left (omega (arith, more, short)) in
+            let size : length (take k (name_key o)) ≡ k = grind (arith, length-take, min-eq_left) in
             let starts = (octets_equal-decides (take k (name_key o))
             (take (length (take k (name_key o))) (name_key n))).1
             (front ∙ ap (λ i. take i (name_key n)) (sym size)) in

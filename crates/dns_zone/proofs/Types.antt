@@ -1,6 +1,6 @@
 -- Records that stand by their types: the types of one owner.
 use Rattle.std.proofs.Common.{◌≡◌, ◌==◌, ℕ, ◌-◌, ◌<◌, ◌≤◌, length, get_or, Bool, true, false, not, ◌||◌, ◌⊎◌, cond, nat_lt, eqb, Some, None, List, [], ◌∷◌, refl, sym, ap, ap₂, ◌∙◌, arith, filter, inl, inr}
-use Rattle.std.proofs.lemmas.Bool.{ltb-true, ltb-false, eqb-true, eq-eqb, ne_eqb, eqb-false, cases_lt, le-ltb, not-true}
+use Rattle.std.proofs.lemmas.Bool.{ltb-true, ltb-false, eqb-true, eq-eqb, ne_eqb, eqb-false, cases_lt, le-ltb}
 use Rattle.std.proofs.lemmas.List.{take_all}
 use Rattle.std.specs.List.{list_any, slice_get}
 use Rattle.std.specs.List.Sorted.{IsPartitionedBy, IsNonDecreasingBy}
@@ -13,23 +13,19 @@ none_pass p [] e = refl
 none_pass p (x ∷ xs) e = ap₂ ◌||◌ e.0 (none_pass p xs e.1)
 
 pub first_is : {X : Type 0} (p : X → Bool) (x : X) (xs : List X) → Some x ≡ slice_get xs 0 → p x ≡ first_passes p xs
-first_is p x [] e = cc
-first_is p x (y ∷ ys) e = let same : x ≡ y = cc in ap p same
+first_is p x xs h = grind arith
 
 pub first_rest : {X : Type 0} (x : X) (xs : List X) → Some x ≡ slice_get xs 0 → (ys : List X) × (xs ≡ x ∷ ys)
 first_rest x [] e = cc
 first_rest x (y ∷ ys) e = let same : y ≡ x = cc in (ys, ap (λ z. z ∷ ys) same)
 
 pub first_none : {X : Type 0} (p : X → Bool) (xs : List X) → None ≡ slice_get xs 0 → false ≡ first_passes p xs
-first_none p [] e = refl
-first_none p (y ∷ ys) e = cc
+first_none p xs h = grind arith
 
 module _ {X : Type 0} (n : X → ℕ) (t : ℕ) where
   greater : (x : X) (xs : List X) → t < n x → Each (λ y. n x ≤ n y) xs → Each (λ y. eqb (n y) t ≡ false) xs
   greater x [] l e = tt
-  greater x (y ∷ ys) l e =
-      let first = e.0 in
-      (ne_eqb (n y) t (λ k. absurd (omega arith)), greater x ys l e.1)
+  greater x (y ∷ ys) l e = grind (arith, ne_eqb, (greater x ys l e.1))
 
   -- one has the number exactly where the first that is not below it has
   pub found_first : (xs : List X) → Pairs (λ x y. n x ≤ n y) xs → list_any (λ x. eqb (n x) t) xs ≡ first_passes (λ x. eqb (n x) t) (filter (λ x. not (nat_lt (n x) t)) xs)
@@ -66,16 +62,10 @@ module _ (t : ℕ) where
       (filter_each not_below rs) (pairs_filter (λ r s. r.rtype ≤ s.rtype) not_below rs (pairs_rising (λ (r : ResourceRecord). r.rtype) rs h)))
     where
       level : (r s : ResourceRecord) → not_below r ≡ true → not_below s ≡ true → r.rtype ≤ s.rtype → of_t s ≡ true → of_t r ≡ true
-      level r s p q l e =
-          let a : t ≤ r.rtype = ltb-false r.rtype t (not-true _ p) in
-          let b : s.rtype ≡ t = eqb-true s.rtype t e in
-          eq-eqb r.rtype t (omega arith)
+      level r s p q l e = grind arith
 
   pub type_others : (rs : List ResourceRecord) → filter of_t (filter not_below rs) ≡ filter of_t rs
-  type_others rs =
-      filter_within not_below of_t rs (λ r e.
-      let b : r.rtype ≡ t = eqb-true r.rtype t e in
-      ap not (le-ltb r.rtype t (omega arith)))
+  type_others rs = grind (arith, filter_within, eqb-true, le-ltb)
 
   -- where the first and the last one have the type, all have
   pub all_of_type : (rs : List ResourceRecord) → IsNonDecreasingBy (λ (r : ResourceRecord). r.rtype) rs → 0 < length rs

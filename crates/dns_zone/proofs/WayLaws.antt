@@ -1,12 +1,10 @@
 -- How the way down to a name goes on from the name above it.
-use Rattle.std.proofs.Common.{◌≡◌, ℕ, suc, ◌+◌, ◌-◌, ◌≤◌, Bool, true, false, cond, ◌||◌, ◌&&◌, List, [], ◌∷◌, map, reverse, length, drop, None, Some, refl, sym, ap, ◌∙◌, arith}
+use Rattle.std.proofs.Common.{◌≡◌, ℕ, suc, ◌+◌, ◌≤◌, Bool, true, false, cond, ◌||◌, ◌&&◌, List, [], ◌∷◌, map, reverse, length, None, Some, refl, sym, ap, ◌∙◌, arith}
 use Rattle.dns_zone.proofs.ChildNames.{cons_under}
 use Rattle.dns_spec.proofs.ZoneChecks.FaultOrder.{folded_folded}
 use Rattle.std.proofs.lemmas.Bool.{false≢true, and_parts, ltb-true, false_from_ne_true}
 use Rattle.std.proofs.lemmas.List.{length-map, reverse-append}
 use Rattle.std.proofs.lemmas.List.Folds.{find-append}
-use Rattle.std.specs.Prelude.{nat_lt, nat_le, ◌==◌}
-use Rattle.std.specs.Ordering.{is_gt}
 use Rattle.std.specs.Char.{to_ascii_lowercase}
 use Rattle.std.specs.List.{find, filter, list_any}
 use Rattle.std.specs.Option.{option_or, is_some}
@@ -16,8 +14,7 @@ use Rattle.dns_spec.specs.Records.{ResourceRecord, ZoneContents, at, owns, rrset
 use Rattle.dns_spec.specs.Sets.{set_of}
 use Rattle.dns_spec.specs.Tree.{exists, is_cut, cut_of, closest_encloser, without_first}
 use Rattle.dns_spec.proofs.DomainNames.NameLaws.{at_or_below-cons, same-length}
-use Rattle.dns_zone.proofs.NameOrder.{same-from}
-use Rattle.dns_zone.proofs.NameTree.{under-trans, itself-under}
+use Rattle.dns_zone.proofs.NameTree.{under-trans}
 use Rattle.dns_zone.proofs.OwnRecords.{own-owns}
 use Rattle.dns_zone.proofs.Existing.{exists-lower}
 pub use Rattle.dns_zone.proofs.Existing.{any_weaker}
@@ -31,9 +28,7 @@ above_under l n a k h len = go (same (l ∷ n) a) refl (sym (at_or_below-cons l 
     go false e f = f
 
 pub under_same : (n a : DomainName) → at_or_below n a ≡ true → length n ≡ length a → same n a ≡ true
-under_same n a h len =
-    let none : length n - length a ≡ 0 = omega arith in
-    ap (λ k. same (drop k n) a) (sym none) ∙ (and_parts (nat_le (length a) (length n)) (same (drop (length n - length a) n) a) h).1
+under_same n a h len = grind (arith, and_parts)
 
 -- the cuts on the way
 cut_from : (z : ZoneContents) (l : Octets) (n : DomainName) → cut_of z (l ∷ n) ≡ option_or (cut_of z n) (cond (is_cut z (folded (l ∷ n))) (Some (folded (l ∷ n))) None)
@@ -53,27 +48,17 @@ cut-none z l n e f = cut_from z l n ∙ ap (λ x. option_or x (cond (is_cut z (f
 -- records of a type make a set where there is one
 insert_some : (r : ResourceRecord) (rs : List ResourceRecord) → is_some (set_of (insert_by data_order r rs)) ≡ true
 insert_some r [] = refl
-insert_some r (s ∷ rs) = go (is_gt (data_order r s))
-  where
-    go : (b : Bool) → is_some (set_of (cond b (s ∷ insert_by data_order r rs) (r ∷ s ∷ rs))) ≡ true
-    go true = refl
-    go false = refl
+insert_some r (s ∷ rs) = grind arith
 
 sorted_some : (rs : List ResourceRecord) → is_some (set_of (sort_by data_order rs)) ≡ is_some (set_of rs)
-sorted_some [] = refl
-sorted_some (r ∷ rs) = insert_some r (sort_by data_order rs)
+sorted_some rs = grind (arith, insert_some)
 
 filtered_some : (p : ResourceRecord → Bool) (rs : List ResourceRecord) → is_some (set_of (filter p rs)) ≡ list_any p rs
 filtered_some p [] = refl
-filtered_some p (r ∷ rs) = go (p r) (filtered_some p rs)
-  where
-    go : (b : Bool) → is_some (set_of (filter p rs)) ≡ list_any p rs → is_some (set_of (cond b (r ∷ filter p rs) (filter p rs))) ≡ (b || list_any p rs)
-    go true e = refl
-    go false e = e
+filtered_some p (r ∷ rs) = grind (arith, (filtered_some p rs))
 
 pub set-owned : (z : ZoneContents) (n : DomainName) (t : ℕ) → is_some (set_of (rrset z n t)) ≡ owns z n t
-set-owned z n t =
-    sorted_some (filter (λ (r : ResourceRecord). r.rtype == t) (at z n)) ∙ filtered_some (λ (r : ResourceRecord). r.rtype == t) (at z n) ∙ own-owns z n t
+set-owned z n t = grind (arith, sorted_some, filtered_some, own-owns)
 
 -- a name below the origin is a cut where it owns NS
 pub cut-by_set : (z : ZoneContents) (n : DomainName) → below n z.origin ≡ true → is_cut z n ≡ is_some (set_of (rrset z n type_ns))
@@ -82,9 +67,6 @@ cut-by_set z n h = ap (λ b. b && owns z n type_ns) h ∙ sym (set-owned z n typ
 -- names that exist
 pub exists-folded : (z : ZoneContents) (n : DomainName) → exists z (folded n) ≡ exists z n
 exists-folded z n = exists-lower z (folded n) n (folded_folded n) (length-map n (map to_ascii_lowercase))
-
-itself : (n : DomainName) → at_or_below n n ≡ true
-itself n = itself-under n n (same-from n n refl)
 
 pub exists-up : (z : ZoneContents) (l : Octets) (n : DomainName) → exists z n ≡ false → exists z (l ∷ n) ≡ false
 exists-up z l n e = false_from_ne_true (exists z (l ∷ n)) (λ h.
@@ -104,11 +86,7 @@ encloser-above z l n e = first_suffix z (folded n) ∙ ap (λ b. cond b (Some (f
 
 -- at the origin no cut is on the way
 short_cut : (z : ZoneContents) (n : DomainName) → length n ≤ length z.origin → is_cut z n ≡ false
-short_cut z n h = go (nat_lt (length z.origin) (length n)) refl
-  where
-    go : (b : Bool) → nat_lt (length z.origin) (length n) ≡ b → ((b && at_or_below n z.origin) && owns z n type_ns) ≡ false
-    go true e = absurd (let lt = ltb-true (length z.origin) (length n) e in omega arith)
-    go false e = refl
+short_cut z n h = grind (arith, ltb-true)
 
 pub no_cut-at_origin : (z : ZoneContents) (n : DomainName) → length n ≤ length z.origin → cut_of z n ≡ None
 no_cut-at_origin z [] h = ap (λ b. cond b (Some []) None) (short_cut z [] h)
