@@ -8,7 +8,7 @@ use Rattle.std.proofs.lemmas.List.{take-append-drop, get_or-map, drop_more, appe
 use Rattle.std.proofs.lemmas.List.Elements.{filter-append}
 use Rattle.std.specs.List.{list_any}
 use Rattle.std.specs.Char.{to_ascii_lowercase}
-use Rattle.dns_spec.specs.Names.{Octets, DomainName, folded, same, names_equal, at_or_below, below, label_order}
+use Rattle.dns_spec.specs.Names.{Octets, DomainName, folded, same, names_equal, at_or_below, label_order}
 use Rattle.dns_spec.specs.Records.{ResourceRecord}
 use Rattle.dns_spec.proofs.DomainNames.NameLaws.{names_equal-decides, same-length}
 use Rattle.dns_spec.proofs.Records.SortedOnce.{Each, Among, Rises, each_at, each_weaker, filter_each}
