@@ -1,12 +1,26 @@
-use Rattle.std.proofs.Common.{map, ap, ◌∙◌}
+use Rattle.std.proofs.Common.{◌≡◌, ◌++◌, List, [], ◌∷◌, map, get_or, drop, refl, sym, ap, ◌∙◌}
 use Rattle.std.proofs.lemmas.Iterator.Consumers.{YieldsList-from_first, YieldsList-end}
-use Rattle.dns_spec.specs.Data.{parts}
+use Rattle.std.proofs.lemmas.List.Concat.{flat_map-cons}
+use Rattle.std.specs.List.{flat_map}
+use Rattle.dns_spec.specs.Names.{Octets}
+use Rattle.dns_spec.specs.Data.{parts, part_octets, joined}
 use Rattle.dns_spec.specs.Data as Data
 use Rattle.dns_spec.proofs.DataWords.LoweredData.{joined-parts}
-use Rattle.std.proofs.Common.{List}
-use Rattle.dns_rdata.specs.Parts.{shown_part, with_octets}
-use Rattle.dns_rdata.proofs.PartLemmas.{lent_joined}
+use Rattle.dns_rdata.specs.declared.parts.Part.{Part}
+use Rattle.dns_rdata.specs.Parts.{part_lends, shown_part, with_octets}
 use Rattle.dns_rdata.proofs.tests.rdata.joined.Goals as goal
+
+-- what a walk over the parts of data was lent is the data
+lent_joined : (xs : List Part) (ps : List Data.Part) → map shown_part xs ≡ map with_octets ps → flat_map part_lends xs ≡ joined ps
+lent_joined [] [] e = refl
+lent_joined [] (p ∷ ps) e = cc
+lent_joined (x ∷ xs) [] e = cc
+lent_joined (x ∷ xs) (p ∷ ps) e =
+    let first : part_lends x ≡ part_octets p = ap (λ (ys : List (Data.Part × Octets)). (get_or ys 0 (shown_part x)).1) e in
+    flat_map-cons part_lends x xs
+    ∙ ap (λ ys. ys ++ flat_map part_lends xs) first
+    ∙ ap (λ ys. part_octets p ++ ys) (lent_joined xs ps (ap (λ (ys : List (Data.Part × Octets)). drop 1 ys) e))
+    ∙ sym (flat_map-cons part_octets p ps)
 
 pub returns : goal.returns
 returns c =
