@@ -133,7 +133,7 @@ run-front run (suc n) (o ∷ text) h e =
     let more = run-front run n text (omega (arith, h)) parts.1 in
     omega (arith, first, more)
 
--- what comes after the blanks of a text comes after those that stand behind its first one
+-- what comes after the blanks of a text comes after those that follow its first one
 pub blank-first : (o : ℕ) (text : Octets) → is_blank o ≡ true → drop (prefix_len is_blank text) text ≡ drop (prefix_len is_blank (o ∷ text)) (o ∷ text)
 blank-first o text e =
     let one : suc (prefix_len is_blank text) ≡ 1 + prefix_len is_blank text = omega arith in

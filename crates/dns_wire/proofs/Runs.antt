@@ -47,6 +47,7 @@ module _ (b : Octets) (s i k : ℕ) (inside : i < length b) (is : get_or b i 0 �
   pub no_label : 0 < k → k < 64 → length (drop (i + 1) b) < k → NoRunAt b s i
   no_label some short past n e run = grind (arith, goes_on_at, first_is, length-drop)
 
+-- a beginning of a name is no longer than the name
 pub length-wire-front : (n m : DomainName) → length (wire n) ≤ length (wire (n ++ m))
 length-wire-front [] [] = omega arith
 length-wire-front [] (l ∷ m) = omega arith

@@ -188,6 +188,7 @@ module _ (b : Octets) (bound : ℕ) (ms : List Placed) (known : Known b bound ms
   pub name_shared : (n : DomainName) (i : ℕ) → bound ≤ i → is_name n ≡ true → Stands b i (shared_octets ms n) → NameAt b i n (i + length (shared_octets ms n))
   name_shared n i after name at = grind (arith, run_shared, and_parts)
 
+-- without earlier names nothing is shared
 pub nothing_known : (b : Octets) (bound : ℕ) → Known b bound []
 nothing_known b bound l n p e = absurd (none-some p e)
 

@@ -314,5 +314,6 @@ module _ (d : Octets) (i : ℕ) where
   pub run12_high : (o : ℕ) → slice_get d i ≡ Some o → 64 ≤ o → run12 d i ≡ None
   run12_high o at from = search (rules, run12_suc, high12, octet_at)
 
+-- the name at place 12 is read so
 pub name_at_12 : (d : Octets) → name_at d 12 ≡ option_and_then name_if_short (run12 d 12)
 name_at_12 d = name_at_is d 12 ∙ ap (option_and_then name_if_short) (sym (run12_is (runs_before d 12) d (length d) 12 (omega arith)))

@@ -111,6 +111,7 @@ module _ (z : ZoneContents) (origin : folded z.origin ≡ z.origin) (low : Each 
   unfolding outcome_at
   targets_few q t = grind (arith, targets_last, outcome_few)
 
+-- sets
 item_one : (s : Section) (rs : List ResourceRecord) → length (item s rs) ≤ 1
 item_one s rs = grind arith
 
@@ -147,6 +148,7 @@ module _ (z : ZoneContents) (origin : folded z.origin ≡ z.origin) (low : All (
   unfolding items outcome outcome_at
   few_items = grind (arith, length-append, main_one, alias_items_few, extra_few, few_targets)
 
+-- nodes
 fold_from : (k : ℕ) (xs : List ℕ) → fold ◌+◌ k xs ≡ k + sum xs
 fold_from k [] = omega arith
 fold_from k (x ∷ xs) = omega (arith, fold_from (k + x) xs, fold_from (0 + x) xs)

@@ -121,6 +121,7 @@ module _ (z : ZoneContents) where
   unfolding chain
   chain_named q t h = grind (arith, chain_from_named, Each)
 
+-- Over a zone whose records fit a message.
 module _ (z : ZoneContents) (w : Writable z.records) where
   found_writable : (q : DomainName) (rs : List ResourceRecord) → Named q → found z q ≡ Some rs → Writable rs
   found_writable q rs h e = grind (arith, with_owner_writable, at_writable, none-some, same_Some)
