@@ -1,11 +1,7 @@
 -- What the header says of a whole answer, and what all of it takes.
 use Rattle.std.proofs.Common.{◌≡◌, ℕ, suc, ◌+◌, ◌*◌, ◌≤◌, Bool, true, false, cond, ◌&&◌, not, List, [], ◌∷◌, ◌++◌, map, sum, length, is_some, refl, ap, ◌∙◌, arith}
-use Rattle.std.proofs.lemmas.Bool.{eqb-true, false_from_ne_true}
+use Rattle.dns_spec.proofs.Common.{eqb-true, false_from_ne_true, flat_map, DomainName, ResourceRecord, ZoneContents, answer, Item}
 use Rattle.std.specs.Prelude.{◌==◌}
-use Rattle.std.specs.List.{flat_map}
-use Rattle.dns_spec.specs.Names.{DomainName}
-use Rattle.dns_spec.specs.Records.{ResourceRecord, ZoneContents}
-use Rattle.dns_spec.specs.Layout.{answer, Item}
 use Rattle.dns_spec.specs.Answer.{most_aliases, item, follows_alias, alias_set, alias_items, chain, chain_from, has_any, outcome, is_authoritative, targets, nodes_to, targets_in_zone, most_visits, most_comparisons}
 use Rattle.dns_zone.specs.Nodes.{Walk}
 use Rattle.dns_answer.specs.Walks.{Took, labels_below}

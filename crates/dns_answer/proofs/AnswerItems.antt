@@ -1,21 +1,9 @@
 -- The sets of an answer are its aliases, and the sets that end it.
-use Rattle.std.proofs.Common.{◌≡◌, ℕ, ◌+◌, ◌*◌, length, length-append, Bool, true, false, cond, ◌||◌, ◌&&◌, ◌⊎◌, inl, inr, not, min, List, [], ◌∷◌, ◌++◌, map, Option, None, Some, refl, sym, ap, ap₂, ◌∙◌, subst, append-nil, append_assoc, arith}
-use Rattle.std.proofs.lemmas.Bool.{not-true}
+use Rattle.dns_spec.proofs.Common.{◌≡◌, ℕ, ◌+◌, ◌*◌, length, length-append, Bool, true, false, cond, ◌||◌, ◌&&◌, ◌⊎◌, inl, inr, not, min, List, [], ◌∷◌, ◌++◌, map, Option, None, Some, refl, sym, ap, ap₂, ◌∙◌, subst, append-nil, append_assoc, arith, not-true, flat_map-append, filter-append, list_any-append, DomainName, same, at_or_below, type_a, type_ns, type_cname, type_soa, type_aaaa, qtype_any, target, soa_minimum, ResourceRecord, ZoneContents, at, rrset, of_type, with_owner, rising_types, of_first_type, of_lowest_type, cut_of, found, no_error, name_error, Section, answer, authority, Item, records_of, most_aliases, item, follows_alias, alias_items, last_sought, has_any, asked_records, Outcome, referral_to, negative, negative_soa, positive, outcome_by, outcome_at, outcome, targets_of, targets_inside, targets, extra, main_items, items, required_items, chain, targets_in_zone, is_authoritative}
 use Rattle.std.proofs.lemmas.Bool.Decides.{nat_tests}
 use Rattle.std.proofs.lemmas.Map.Views.{any-filter_same}
-use Rattle.std.proofs.lemmas.Grind.{flat_map-append}
-use Rattle.std.proofs.lemmas.List.Elements.{filter-append}
-use Rattle.std.proofs.lemmas.List.Folds.{list_any-append}
 use Rattle.std.specs.Prelude.{◌==◌, is_some}
 use Rattle.std.specs.List.{list_any, filter, filter_map}
-use Rattle.dns_spec.specs.Names.{DomainName, same, at_or_below}
-use Rattle.dns_spec.specs.Data.{type_a, type_ns, type_cname, type_soa, type_aaaa, qtype_any, target, soa_minimum}
-use Rattle.dns_spec.specs.Records.{ResourceRecord, ZoneContents, at, rrset, of_type, with_owner}
-use Rattle.dns_spec.specs.Sets.{rising_types, of_first_type, of_lowest_type}
-use Rattle.dns_spec.specs.Tree.{cut_of, found}
-use Rattle.dns_spec.specs.Reading.{no_error, name_error}
-use Rattle.dns_spec.specs.Layout.{Section, answer, authority, Item, records_of}
-use Rattle.dns_spec.specs.Answer.{most_aliases, item, follows_alias, alias_items, last_sought, has_any, asked_records, Outcome, referral_to, negative, negative_soa, positive, outcome_by, outcome_at, outcome, targets_of, targets_inside, targets, extra, main_items, items, required_items, chain, targets_in_zone, is_authoritative}
 use Rattle.dns_spec.proofs.Records.SortedOnce.{Each, each_weaker, filter_each}
 use Rattle.dns_spec.proofs.Replies.WritableItems.{each_append, each_flat_map}
 use Rattle.dns_spec.proofs.Replies.RequiredItems.{IsAlias, target_of, each_of_type, each_alias_item}

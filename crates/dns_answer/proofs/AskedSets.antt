@@ -1,13 +1,6 @@
 -- The outcome of records that are found, by the set asked for.
-use Rattle.std.proofs.Common.{◌≡◌, ℕ, Bool, true, false, cond, ◌&&◌, List, [], ◌∷◌, None, Some, refl, sym, ap, ◌∙◌}
+use Rattle.dns_spec.proofs.Common.{◌≡◌, ℕ, Bool, true, false, cond, ◌&&◌, List, [], ◌∷◌, None, Some, refl, sym, ap, ◌∙◌, DomainName, type_cname, qtype_any, ResourceRecord, ZoneContents, at, of_type, with_owner, RecordSet, set_of, records_at, rising_types, of_first_type, of_lowest_type, no_error, answer, item, has_any, asked_records, follows_alias, positive, negative, outcome_by}
 use Rattle.std.specs.Prelude.{◌==◌}
-use Rattle.dns_spec.specs.Names.{DomainName}
-use Rattle.dns_spec.specs.Data.{type_cname, qtype_any}
-use Rattle.dns_spec.specs.Records.{ResourceRecord, ZoneContents, at, of_type, with_owner}
-use Rattle.dns_spec.specs.Sets.{RecordSet, set_of, records_at, rising_types, of_first_type, of_lowest_type}
-use Rattle.dns_spec.specs.Reading.{no_error}
-use Rattle.dns_spec.specs.Layout.{answer}
-use Rattle.dns_spec.specs.Answer.{item, has_any, asked_records, follows_alias, positive, negative, outcome_by}
 use Rattle.dns_spec.proofs.Records.SortedOnce.{Each}
 use Rattle.dns_spec.proofs.Replies.ItemSets.{each_typed}
 use Rattle.dns_zone.specs.Nodes.{ZoneNode, IsSetOf}

@@ -1,14 +1,5 @@
 -- What is still to come of an answer, by what is found at a name of the chain.
-use Rattle.std.proofs.Common.{◌≡◌, ℕ, zero, suc, ◌+◌, ◌*◌, Bool, true, false, cond, ◌&&◌, ◌⊎◌, inl, inr, not, List, [], ◌∷◌, ◌++◌, map, sum, length, None, Some, refl, sym, ap, ◌∙◌, arith, add-one, append-nil, append_assoc}
-use Rattle.std.proofs.Math.Bool.{and-false}
-use Rattle.std.specs.List.{flat_map, list_any}
-use Rattle.std.specs.Option.{option_and_then}
-use Rattle.dns_spec.specs.Names.{DomainName, same, at_or_below}
-use Rattle.dns_spec.specs.Data.{type_cname}
-use Rattle.dns_spec.specs.Records.{ResourceRecord, ZoneContents, of_type}
-use Rattle.dns_spec.specs.Tree.{cut_of, found}
-use Rattle.dns_spec.specs.Reading.{name_error}
-use Rattle.dns_spec.specs.Layout.{answer, Item}
+use Rattle.dns_spec.proofs.Common.{◌≡◌, ℕ, zero, suc, ◌+◌, ◌*◌, Bool, true, false, cond, ◌&&◌, ◌⊎◌, inl, inr, not, List, [], ◌∷◌, ◌++◌, map, sum, length, None, Some, refl, sym, ap, ◌∙◌, arith, add-one, append-nil, append_assoc, and-false, flat_map, list_any, option_and_then, DomainName, same, at_or_below, type_cname, ResourceRecord, ZoneContents, of_type, cut_of, found, name_error, answer, Item}
 use Rattle.dns_spec.specs.Answer.{item, follows_alias, alias_set, first_target, next_sought, chain_from, last_of, has_any, Outcome, positive, negative, referral_to, outcome_by, outcome_at}
 use Rattle.dns_answer.specs.Walks.{labels_below}
 use Rattle.dns_answer.specs.Ending.{ending, after_sets, ending_items, ending_required}

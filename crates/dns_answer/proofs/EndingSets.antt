@@ -1,13 +1,8 @@
 -- The sets that end an answer, by the sets of nodes.
-use Rattle.std.proofs.Common.{◌≡◌, ℕ, Bool, true, false, cond, ◌||◌, List, [], ◌∷◌, map, Option, None, Some, refl, ap, ap₂, ◌∙◌, append-nil, arith}
+use Rattle.dns_spec.proofs.Common.{◌≡◌, ℕ, Bool, true, false, cond, ◌||◌, List, [], ◌∷◌, map, Option, None, Some, refl, ap, ap₂, ◌∙◌, append-nil, arith, Octets, DomainName, target, type_ns, type_mx, type_srv, ResourceRecord, of_type, with_owner, sort_by, insert_by, data_order, distinct, RecordSet, set_of, records_at, rising_types, of_first_type, of_lowest_type, Section}
 use Rattle.std.specs.Prelude.{◌==◌}
 use Rattle.std.specs.List.{filter, filter_map, cons_option}
 use Rattle.std.specs.Ordering.{nat_cmp}
-use Rattle.dns_spec.specs.Names.{Octets, DomainName}
-use Rattle.dns_spec.specs.Data.{target, type_ns, type_mx, type_srv}
-use Rattle.dns_spec.specs.Records.{ResourceRecord, of_type, with_owner, sort_by, insert_by, data_order, distinct}
-use Rattle.dns_spec.specs.Sets.{RecordSet, set_of, records_at, rising_types, of_first_type, of_lowest_type}
-use Rattle.dns_spec.specs.Layout.{Section}
 use Rattle.dns_spec.specs.Answer.{item, has_target_type, targets_of, asked_records}
 use Rattle.dns_answer.specs.Targets.{set_targets}
 

@@ -1,16 +1,6 @@
 -- How the sets that end an answer are offered.
-use Rattle.std.proofs.Common.{◌≡◌, ◌⊎◌, inl, inr, ℕ, ◌<◌, Bool, true, false, cond, not, min, List, [], ◌∷◌, ◌++◌, map, reverse, length, get_or, None, Some, refl, sym, ap, ap₂, ◌∙◌, arith, subst}
-use Rattle.std.proofs.lemmas.Bool.{and_parts}
-use Rattle.std.proofs.lemmas.List.{length-map}
+use Rattle.dns_spec.proofs.Common.{◌≡◌, ◌⊎◌, inl, inr, ℕ, ◌<◌, Bool, true, false, cond, not, min, List, [], ◌∷◌, ◌++◌, map, reverse, length, get_or, None, Some, refl, sym, ap, ap₂, ◌∙◌, arith, subst, and_parts, length-map, is_some, Octets, DomainName, folded, suffixes, below, type_ns, type_soa, soa_minimum, ResourceRecord, ZoneContents, rrset, owns, with_owner, RecordSet, set_of, records_at, authority, Item, item, Outcome, main_items, targets_of, negative_soa, negative, positive, referral_to, is_cut, cut_of, no_error}
 use Rattle.std.specs.List.{filter, find, list_all}
-use Rattle.std.specs.Option.{is_some}
-use Rattle.dns_spec.specs.Names.{Octets, DomainName, folded, suffixes, below}
-use Rattle.dns_spec.specs.Data.{type_ns, type_soa, soa_minimum}
-use Rattle.dns_spec.specs.Records.{ResourceRecord, ZoneContents, rrset, owns, with_owner}
-use Rattle.dns_spec.specs.Sets.{RecordSet, set_of, records_at}
-use Rattle.dns_spec.specs.Layout.{authority, Item}
-use Rattle.dns_spec.specs.Answer.{item, Outcome, main_items, targets_of, negative_soa, negative, positive, referral_to}
-use Rattle.dns_spec.specs.Tree.{is_cut, cut_of}
 use Rattle.dns_spec.proofs.ZoneChecks.PassedChecks.{few_soa, one_soa}
 use Rattle.dns_zone.specs.ZoneForm.{IsBuilt}
 use Rattle.dns_wire.specs.QueryForm.{code_of}
@@ -25,7 +15,6 @@ use Rattle.dns_answer.proofs.Offering.{Offers-is, Offers-nothing, Offers-empty, 
 use Rattle.dns_answer.proofs.TargetLaws.{side_items-none, items-untaken}
 use Rattle.dns_zone.proofs.WayLaws.{set-owned}
 use Rattle.dns_zone.specs.Nodes.{Walk, ZoneNode, IsSetOf}
-use Rattle.dns_spec.specs.Reading.{no_error}
 use Rattle.dns_answer.proofs.EndingSets.{is_target_type, targets_of_set, item-shown}
 
 -- the sets of an outcome are offered in their order

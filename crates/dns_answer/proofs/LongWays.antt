@@ -1,13 +1,8 @@
 -- The way down to a name that has several labels below the node where it begins.
-use Rattle.std.proofs.Common.{◌≡◌, ℕ, zero, suc, Bool, true, ◌+◌, ◌-◌, ◌≤◌, ◌<◌, [], ◌∷◌, length, drop, length-drop, Option, None, Some, reverse, refl, sym, ap, ◌∙◌, subst, arith}
-use Rattle.dns_spec.specs.Names.{Octets, DomainName, folded, at_or_below, suffixes}
-use Rattle.dns_spec.specs.Records.{ZoneContents}
+use Rattle.dns_spec.proofs.Common.{◌≡◌, ℕ, zero, suc, Bool, true, ◌+◌, ◌-◌, ◌≤◌, ◌<◌, [], ◌∷◌, length, drop, length-drop, Option, None, Some, reverse, refl, sym, ap, ◌∙◌, subst, arith, Octets, DomainName, folded, at_or_below, suffixes, ZoneContents, find, is_some, exists, is_cut, cut_of}
 use Rattle.dns_zone.specs.Nodes.{ZoneNode}
 use Rattle.dns_zone.specs.declared.sought.Sought.{Sought}
 use Rattle.dns_zone.specs.Starts.{IsBelow}
-use Rattle.std.specs.List.{find}
-use Rattle.std.specs.Option.{is_some}
-use Rattle.dns_spec.specs.Tree.{exists, is_cut, cut_of}
 use Rattle.dns_answer.specs.Walks.{node_of, node_or, labels_below, one_if, IsApex, IsAim, IsThere, IsMissing, IsBelowCut}
 use Rattle.dns_zone.proofs.NameOrder.{same-is, same-from}
 use Rattle.dns_zone.proofs.NameTree.{itself-under, under-trans}

@@ -1,8 +1,5 @@
 -- Sets offered one after the other: what is kept of them, and when one is missing.
-use Rattle.std.proofs.Common.{◌≡◌, ℕ, ◌+◌, ◌<◌, ◌≤◌, Bool, true, false, cond, nat_le, nat_lt, List, [], ◌∷◌, ◌++◌, length, Some, refl, sym, ap, ◌∙◌, arith, length-append}
-use Rattle.std.proofs.lemmas.Bool.{ltb-true, lt-ltb}
-use Rattle.dns_spec.specs.Reading.{MessageQuestion}
-use Rattle.dns_spec.specs.Layout.{Item}
+use Rattle.dns_spec.proofs.Common.{◌≡◌, ℕ, ◌+◌, ◌<◌, ◌≤◌, Bool, true, false, cond, nat_le, nat_lt, List, [], ◌∷◌, ◌++◌, length, Some, refl, sym, ap, ◌∙◌, arith, length-append, ltb-true, lt-ltb, MessageQuestion, Item}
 use Rattle.dns_spec.specs.Reply.{kept, fitting}
 use Rattle.dns_spec.proofs.Layouts.GrowingSize.{size_grows, kept_is_fitting}
 use Rattle.dns_answer.specs.Draft.{Draft, empty_draft, size_with, offer, offered}

@@ -1,11 +1,6 @@
 -- Sets that are offered in two steps.
-use Rattle.std.proofs.Common.{◌≡◌, ◌↔◌, ℕ, ◌≤◌, Bool, true, false, cond, nat_le, IsTrue, List, [], ◌∷◌, ◌++◌, Option, refl, sym, ◌∙◌, subst, arith}
-use Rattle.std.proofs.lemmas.Bool.{le-leb, false≢true}
+use Rattle.dns_spec.proofs.Common.{◌≡◌, ◌↔◌, ℕ, ◌≤◌, Bool, true, false, cond, nat_le, IsTrue, List, [], ◌∷◌, ◌++◌, Option, refl, sym, ◌∙◌, subst, arith, le-leb, false≢true, Octets, MessageQuestion, Item, size}
 use Rattle.std.specs.Bool.{OnTrue, OnFalse}
-use Rattle.dns_spec.specs.Names.{Octets}
-use Rattle.dns_spec.specs.Reading.{MessageQuestion}
-use Rattle.dns_spec.specs.Layout.{Item}
-use Rattle.dns_spec.specs.LayoutSize.{size}
 use Rattle.dns_wire.specs.Draft as wire
 use Rattle.dns_wire.specs.Draft.{IsDraft}
 use Rattle.dns_wire.specs.QuickNumbers.{quick_number}

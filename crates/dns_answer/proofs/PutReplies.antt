@@ -1,13 +1,7 @@
 -- What is put at the front of the buffer is the reply that the definitions state.
 use Rattle.std.proofs.Common.{◌≡◌, ℕ, ◌+◌, ◌≤◌, Bool, true, false, cond, not, ◌&&◌, nat_lt, nat_le, List, [], ◌∷◌, ◌++◌, length, take, Option, Some, is_some, refl, sym, ap, ◌∙◌, subst, arith, length-take}
-use Rattle.dns_spec.specs.Names.{Octets, DomainName, is_name}
-use Rattle.dns_spec.specs.Records.{ZoneContents}
-use Rattle.dns_spec.specs.Reading.{Header, MessageQuestion}
+use Rattle.dns_spec.proofs.Common.{Octets, DomainName, is_name, ZoneContents, Header, MessageQuestion, Item, layout, size, most_aliases, outcome, items, is_authoritative, option_map}
 use Rattle.dns_spec.specs.Query.{reply_head}
-use Rattle.dns_spec.specs.Layout.{Item, layout}
-use Rattle.dns_spec.specs.LayoutSize.{size}
-use Rattle.dns_spec.specs.Answer.{most_aliases, outcome, items, is_authoritative}
-use Rattle.std.specs.Option.{option_map}
 use Rattle.dns_spec.specs.Reply.{Decision, kept, truncated, answered, keep_longest, reply_of, reply_octets}
 use Rattle.dns_spec.proofs.Replies.FewItems.{few_nodes}
 use Rattle.dns_spec.proofs.Layouts.LayoutSize.{length-layout}

@@ -1,13 +1,5 @@
 -- What seeking a name has offered and taken, by what is found for it.
-use Rattle.std.proofs.Common.{◌≡◌, ◌⊎◌, inl, inr, ℕ, ◌+◌, ◌*◌, ◌<◌, ◌≤◌, Bool, true, false, cond, ◌&&◌, ◌||◌, not, List, [], ◌∷◌, ◌++◌, map, reverse, length, get_or, Option, None, Some, refl, sym, ap, ap₂, ◌∙◌, arith, subst}
-use Rattle.std.specs.List.{list_any}
-use Rattle.dns_spec.specs.Names.{Octets, DomainName, folded, names_equal, same, at_or_below}
-use Rattle.dns_spec.specs.Data.{target, type_cname}
-use Rattle.dns_spec.specs.Records.{ResourceRecord, ZoneContents, at, of_type, with_owner}
-use Rattle.dns_spec.specs.Sets.{RecordSet, set_of, records_at}
-use Rattle.dns_spec.specs.Reading.{no_error}
-use Rattle.dns_spec.specs.Layout.{answer, Item}
-use Rattle.dns_spec.specs.Answer.{most_aliases, item, follows_alias, alias_set, first_target, next_sought, has_any, Outcome, outcome_by, positive, negative}
+use Rattle.dns_spec.proofs.Common.{◌≡◌, ◌⊎◌, inl, inr, ℕ, ◌+◌, ◌*◌, ◌<◌, ◌≤◌, Bool, true, false, cond, ◌&&◌, ◌||◌, not, List, [], ◌∷◌, ◌++◌, map, reverse, length, get_or, Option, None, Some, refl, sym, ap, ap₂, ◌∙◌, arith, subst, list_any, Octets, DomainName, folded, names_equal, same, at_or_below, target, type_cname, ResourceRecord, ZoneContents, at, of_type, with_owner, RecordSet, set_of, records_at, no_error, answer, Item, most_aliases, item, follows_alias, alias_set, first_target, next_sought, has_any, Outcome, outcome_by, positive, negative, and_from, and_right, list_any-append}
 use Rattle.dns_zone.specs.Nodes.{Walk, ZoneNode, IsSetOf}
 use Rattle.dns_answer.specs.Draft as spec
 use Rattle.dns_answer.specs.Draft.{offered}
@@ -23,9 +15,7 @@ use Rattle.std.specs.Prelude.{All, drop}
 use Rattle.std.proofs.lemmas.List.Elements.{All-nil, All-cons, All-head, All-tail, All-append}
 use Rattle.dns_answer.proofs.TargetLaws.{same-lower}
 use Rattle.std.proofs.Math.Bool.{or_comm, or-false}
-use Rattle.std.proofs.lemmas.Bool.{and_from, and_right}
 use Rattle.std.proofs.lemmas.List.{length-map, length-reverse, map-append, reverse-append}
-use Rattle.std.proofs.lemmas.List.Folds.{list_any-append}
 use Rattle.dns_answer.proofs.Taking.{Took-then, HasRoom-after}
 use Rattle.dns_answer.proofs.Offered.{offered-append}
 use Rattle.dns_answer.proofs.Offering.{Offers-then}

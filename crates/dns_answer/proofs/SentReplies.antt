@@ -1,15 +1,9 @@
 -- What is sent is the reply that the definitions state, by the query that a datagram was read as.
 use Rattle.std.proofs.Common.{◌≡◌, ◌↔◌, ℕ, ◌<◌, ◌≤◌, Bool, true, false, not, cond, Option, None, Some, IsTrue, IsNone, IfSome, All, length, take, refl, sym, ap, subst, ◌∙◌, arith}
-use Rattle.std.proofs.lemmas.Bool.{true≢false}
-use Rattle.std.proofs.lemmas.List.Elements.{All-weaker}
+use Rattle.dns_spec.proofs.Common.{true≢false, All-weaker, option_map, Octets, ResourceRecord, ZoneContents, IsWritable, IsReadRecord}
 use Rattle.std.specs.Prelude.{◌==◌}
-use Rattle.std.specs.Option.{option_map}
-use Rattle.dns_spec.specs.Names.{Octets}
-use Rattle.dns_spec.specs.Records.{ResourceRecord, ZoneContents}
 use Rattle.dns_spec.specs.Reading.{MessageQuestion, Spells, format_error, not_implemented}
 use Rattle.dns_spec.specs.Query.{field16, opcode, head_of, refusal_head, counts_are_one_question, question_at, is_ignored, QueryRead, absent, refused_with, query, query_or_error, query_read}
-use Rattle.dns_spec.specs.Laws.{IsWritable}
-use Rattle.dns_spec.specs.ZonePrinted.{IsReadRecord}
 use Rattle.dns_spec.specs.Reply.{Decision, decide_query, decide, Reply, reply_of, keep_longest, reply_with, reply, reply_octets, reply_message, octets_of}
 use Rattle.dns_spec.proofs.Replies.ReplySpelled.{reply_spells}
 use Rattle.dns_zone.specs.Nodes.{Walk}

@@ -1,15 +1,6 @@
 -- The additional sets of a reply are the addresses of the targets that did not stand before.
-use Rattle.std.proofs.Common.{◌≡◌, ℕ, Bool, true, false, cond, ◌||◌, ◌&&◌, ◌⊎◌, inl, inr, not, List, [], ◌∷◌, ◌++◌, refl, sym, ap, ap₂, ◌∙◌, Some}
-use Rattle.std.proofs.Math.Bool.{or-false, and-false}
-use Rattle.std.proofs.lemmas.Bool.{false≢true, false_from_ne_true, and_right, or_parts}
-use Rattle.std.proofs.lemmas.Grind.{flat_map-append}
-use Rattle.std.proofs.lemmas.List.Folds.{list_any-append}
+use Rattle.dns_spec.proofs.Common.{◌≡◌, ℕ, Bool, true, false, cond, ◌||◌, ◌&&◌, ◌⊎◌, inl, inr, not, List, [], ◌∷◌, ◌++◌, refl, sym, ap, ap₂, ◌∙◌, Some, or-false, and-false, false≢true, false_from_ne_true, and_right, or_parts, flat_map-append, list_any-append, list_any, DomainName, folded, names_equal, same, type_a, type_aaaa, ResourceRecord, ZoneContents, at, rrset, of_type, additional, Item, records_of}
 use Rattle.std.specs.Prelude.{◌==◌}
-use Rattle.std.specs.List.{list_any}
-use Rattle.dns_spec.specs.Names.{DomainName, folded, names_equal, same}
-use Rattle.dns_spec.specs.Data.{type_a, type_aaaa}
-use Rattle.dns_spec.specs.Records.{ResourceRecord, ZoneContents, at, rrset, of_type}
-use Rattle.dns_spec.specs.Layout.{additional, Item, records_of}
 use Rattle.dns_spec.specs.Answer.{item, stands, has_any, address_set, address_sets, extra}
 use Rattle.dns_spec.proofs.Records.SortedOnce.{Each, each_weaker}
 use Rattle.dns_spec.proofs.Replies.ItemSets.{each_typed, each_among, filter_test}

@@ -1,25 +1,13 @@
 -- The targets of a set, one after the other, and what was offered for those before.
-use Rattle.std.proofs.Common.{◌≡◌, ℕ, zero, suc, ◌+◌, ◌-◌, ◌<◌, ◌≤◌, Bool, true, false, cond, ◌||◌, ◌&&◌, ◌⊎◌, inl, inr, not, List, [], ◌∷◌, ◌++◌, map, sum, length, take, drop, get_or, Option, None, Some, refl, sym, ap, ap₂, ◌∙◌, arith, add-one, append_assoc, append-nil, length-append, subst}
+use Rattle.dns_spec.proofs.Common.{◌≡◌, ℕ, zero, suc, ◌+◌, ◌-◌, ◌<◌, ◌≤◌, Bool, true, false, cond, ◌||◌, ◌&&◌, ◌⊎◌, inl, inr, not, List, [], ◌∷◌, ◌++◌, map, sum, length, take, drop, get_or, Option, None, Some, refl, sym, ap, ap₂, ◌∙◌, arith, add-one, append_assoc, append-nil, length-append, subst, take-append-drop, list_all-append, list_any-append, option_to_list, Octets, DomainName, folded, names_equal, same, at_or_below, target, type_a, type_aaaa, ResourceRecord, ZoneContents, at, of_type, RecordSet, set_of, Section, additional, item, targets_in_zone, exists, lt-ltb, IsReadRecord}
 use Rattle.std.proofs.Math.Seq.{take-suc}
 use Rattle.std.proofs.Math.Bool.{and-true, and-false}
 use Rattle.std.proofs.lemmas.Bool.{false≢true, false_from_ne_true, or_left, or_right, cases_lt}
-use Rattle.std.proofs.lemmas.List.{take-append-drop}
 use Rattle.std.proofs.lemmas.List.Elements.{filter-append, filter_map-append}
-use Rattle.std.proofs.lemmas.List.Folds.{list_all-append, list_any-append}
-use Rattle.std.specs.Option.{option_to_list}
 use Rattle.std.specs.List.{list_all, list_any, filter, filter_map, cons_option}
-use Rattle.dns_spec.specs.Names.{Octets, DomainName, folded, names_equal, same, at_or_below}
-use Rattle.dns_spec.specs.Data.{target, type_a, type_aaaa}
-use Rattle.dns_spec.specs.Records.{ResourceRecord, ZoneContents, at, of_type}
-use Rattle.dns_spec.specs.Sets.{RecordSet, set_of}
-use Rattle.dns_spec.specs.Layout.{Section, additional}
-use Rattle.dns_spec.specs.Answer.{item, targets_in_zone}
-use Rattle.dns_spec.specs.Tree.{exists}
 use Rattle.dns_zone.specs.Nodes.{Walk}
 use Rattle.dns_zone.specs.ZoneForm.{IsBuilt}
 use Rattle.std.specs.Prelude.{nat_lt}
-use Rattle.std.proofs.lemmas.Bool.{lt-ltb}
-use Rattle.dns_spec.specs.ZonePrinted.{IsReadRecord}
 use Rattle.dns_spec.specs.Checks.{is_owner, outside}
 use Rattle.dns_spec.proofs.Records.SortedOnce.{Among, filter_among, each_weaker}
 use Rattle.dns_spec.proofs.ZoneChecks.PassedChecks.{checks_at}

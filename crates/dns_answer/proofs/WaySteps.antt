@@ -1,15 +1,6 @@
 -- A label more on the way down to a name.
-use Rattle.std.proofs.Common.{◌≡◌, ℕ, suc, Bool, true, false, ◌&&◌, ◌∷◌, map, Option, None, Some, refl, sym, ap, ◌∙◌, subst}
-use Rattle.std.proofs.lemmas.Bool.{false≢true, and_parts, false_from_ne_true}
-use Rattle.std.proofs.lemmas.List.{length-map}
+use Rattle.dns_spec.proofs.Common.{◌≡◌, ℕ, suc, Bool, true, false, ◌&&◌, ◌∷◌, map, Option, None, Some, refl, sym, ap, ◌∙◌, subst, false≢true, and_parts, false_from_ne_true, length-map, to_ascii_lowercase, is_some, Octets, DomainName, folded, same, at_or_below, below, type_ns, type_cname, ResourceRecord, ZoneContents, owns, rrset, set_of, exists, is_cut}
 use Rattle.std.specs.Prelude.{◌==◌, IfSome}
-use Rattle.std.specs.Char.{to_ascii_lowercase}
-use Rattle.std.specs.Option.{is_some}
-use Rattle.dns_spec.specs.Names.{Octets, DomainName, folded, same, at_or_below, below}
-use Rattle.dns_spec.specs.Data.{type_ns, type_cname}
-use Rattle.dns_spec.specs.Records.{ResourceRecord, ZoneContents, owns, rrset}
-use Rattle.dns_spec.specs.Sets.{set_of}
-use Rattle.dns_spec.specs.Tree.{exists, is_cut}
 use Rattle.dns_zone.specs.Nodes.{ZoneNode, IsLead}
 use Rattle.dns_zone.proofs.NameOrder.{same-from, lower_twice}
 use Rattle.dns_zone.proofs.NameTree.{itself-under, below-cons, same-under}

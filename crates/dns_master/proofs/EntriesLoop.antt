@@ -1,8 +1,5 @@
 -- The entries of a text one after another: what the rest means, with the records so far before it, the whole means.
-use Rattle.std.proofs.Common.{◌≡◌, Bool, List, [], ◌++◌, length, take, nat_lt, append_assoc, arith}
-use Rattle.dns_spec.specs.Names.{Octets, DomainName}
-use Rattle.dns_spec.specs.Records.{ResourceRecord}
-use Rattle.dns_spec.specs.Meaning.{Meaning, after, Means}
+use Rattle.dns_spec.proofs.Common.{◌≡◌, Bool, List, [], ◌++◌, length, take, nat_lt, append_assoc, arith, Octets, DomainName, ResourceRecord, Meaning, after, Means}
 use Rattle.dns_master.specs.EntryForm.{TextMeans}
 
 pub after-append : (rs taken : List ResourceRecord) (m : Meaning) → after rs (after taken m) ≡ after (rs ++ taken) m

@@ -1,12 +1,7 @@
 -- What reading an entry token by token says of the entries that a text's tokens are cut into.
-use Rattle.std.proofs.Common.{◌≡◌, ℕ, Bool, true, false, ◌&&◌, ◌==◌, not, List, [], ◌∷◌, ◌++◌, refl, sym, ap, ◌∙◌, subst, Some, None, ◌⊎◌, inl, inr, arith}
-use Rattle.std.proofs.lemmas.Bool.{false≢true, eq-eqb}
-use Rattle.std.proofs.lemmas.Option.{none-some}
+use Rattle.dns_spec.proofs.Common.{◌≡◌, ℕ, Bool, true, false, ◌&&◌, ◌==◌, not, List, [], ◌∷◌, ◌++◌, refl, sym, ap, ◌∙◌, subst, Some, None, ◌⊎◌, inl, inr, arith, false≢true, eq-eqb, none-some, cons_option, Octets, Token, token_front, TokensThen, parenthesis, parentheses, is_line_end, open_after, before_first, cut_entries, take_turns, is_cut_short}
 use Rattle.std.specs.Prelude.{fold}
 use mathlib.Core.Bool.{xor}
-use Rattle.std.specs.List.{cons_option}
-use Rattle.dns_spec.specs.Names.{Octets}
-use Rattle.dns_spec.specs.ZoneText.{Token, token_front, TokensThen, parenthesis, parentheses, is_line_end, open_after, before_first, cut_entries, take_turns, is_cut_short}
 use Rattle.dns_spec.proofs.ZoneTexts.Beginnings.{Loose, front_kept, cut_none}
 use Rattle.dns_master.specs.EntryForm.{Step, misplaced, over, onward, step, Outcome, ended, unended, wrong, Reads}
 

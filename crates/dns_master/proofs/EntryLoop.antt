@@ -1,9 +1,6 @@
 -- An entry is read token by token: what the tokens so far and those to come give, all give.
-use Rattle.std.proofs.Common.{◌≡◌, ℕ, ◌+◌, ◌≤◌, ◌<◌, Bool, true, false, cond, List, [], ◌∷◌, ◌++◌, length, refl, sym, ap, ◌∙◌, subst, arith, append_assoc, append-nil, Option, Some, None}
+use Rattle.dns_spec.proofs.Common.{◌≡◌, ℕ, ◌+◌, ◌≤◌, ◌<◌, Bool, true, false, cond, List, [], ◌∷◌, ◌++◌, length, refl, sym, ap, ◌∙◌, subst, arith, append_assoc, append-nil, Option, Some, None, Octets, Word, Token, token_front, TokensThen, is_line_end, word_of}
 use Rattle.std.specs.List.{filter, cons_option}
-use Rattle.dns_spec.specs.Names.{Octets}
-use Rattle.dns_spec.specs.DataText.{Word}
-use Rattle.dns_spec.specs.ZoneText.{Token, token_front, TokensThen, is_line_end, word_of}
 use Rattle.dns_spec.proofs.ZoneTexts.TextTokens.{front-shorter}
 use Rattle.dns_master.specs.EntryForm.{misplaced, over, onward, step, Outcome, ended, unended, wrong, Reads, token_words, line_ends, EntryRead, IsWrong}
 

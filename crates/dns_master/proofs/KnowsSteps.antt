@@ -1,16 +1,6 @@
 -- What an entry changes of what is known of the entries so far.
-use Rattle.std.proofs.Common.{◌≡◌, ◌==◌, ℕ, ◌+◌, ◌≤◌, Bool, true, false, cond, List, [], ◌∷◌, length, refl, sym, ap, ◌∙◌, subst, arith, inl, inr, ◌⊎◌, codes, Option, Some, None}
-use Rattle.std.proofs.lemmas.Bool.{eqb-true}
-use Rattle.std.specs.Prelude.{MatchOption, if◌then◌else◌}
-use Rattle.std.specs.Option.{option_or}
+use Rattle.dns_spec.proofs.Common.{◌≡◌, ◌==◌, ℕ, ◌+◌, ◌≤◌, Bool, true, false, cond, List, [], ◌∷◌, length, refl, sym, ap, ◌∙◌, subst, arith, inl, inr, ◌⊎◌, codes, Option, Some, None, eqb-true, MatchOption, if◌then◌else◌, option_or, DomainName, folded, SpellsName, Word, text_in_lower_case, ResourceRecord, Entry, directive_words, no_owner, FileFault, bad_owner}
 use Rattle.std.specs.List.{filter}
-use Rattle.dns_spec.specs.Names.{DomainName, folded}
-use Rattle.dns_spec.specs.NameText.{SpellsName}
-use Rattle.dns_spec.specs.DataText.{Word}
-use Rattle.dns_spec.specs.TypeText.{text_in_lower_case}
-use Rattle.dns_spec.specs.Records.{ResourceRecord}
-use Rattle.dns_spec.specs.ZoneText.{Entry}
-use Rattle.dns_spec.specs.FileFaults.{directive_words, no_owner, FileFault, bad_owner}
 use Rattle.dns_spec.specs.Meaning.{Nothing, EntryKind, no_words, directive, owned, unowned, kind_of, kind_by_words, is_directive, Fields, fields, EntryMeaning, faulty, gives, OriginIs, NameIs, OneWord, OwnerBefore, TtlSays, nearest, directive_word, owner_word, ttl_word, is_record, IsRecord, RecordGives, KindGives}
 use Rattle.dns_master.specs.RecordForm.{TtlOf, Inherited, LastOwner, SpelledName}
 use Rattle.dns_master.specs.ReaderForm.{Knows, RecordTaken, EntryTaken, owner_of}

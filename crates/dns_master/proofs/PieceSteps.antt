@@ -1,15 +1,7 @@
 -- What is read of a beginning of a text holds of every text that goes on from it.
-use Rattle.std.proofs.Common.{◌≡◌, ℕ, ◌+◌, ◌-◌, ◌≤◌, ◌<◌, ◌⊎◌, inl, inr, Option, None, Some, Bool, true, false, List, [], ◌++◌, length, length-append, append-nil, append_assoc, refl, sym, ap, ◌∙◌, subst, arith}
-use Rattle.dns_spec.specs.Names.{Octets, DomainName}
-use Rattle.dns_spec.specs.FileFaults.{FileFault, too_long}
-use Rattle.std.specs.Option.{unwrap_or}
-use Rattle.std.specs.Bool.{MatchBool}
-use Rattle.std.proofs.lemmas.Bool.{false≢true}
+use Rattle.dns_spec.proofs.Common.{◌≡◌, ℕ, ◌+◌, ◌-◌, ◌≤◌, ◌<◌, ◌⊎◌, inl, inr, Option, None, Some, Bool, true, false, List, [], ◌++◌, length, length-append, append-nil, append_assoc, refl, sym, ap, ◌∙◌, subst, arith, Octets, DomainName, FileFault, too_long, unwrap_or, MatchBool, false≢true, ResourceRecord, Meaning, records, fault_at, after, EntriesMean, Word}
 use Rattle.dns_spec.specs.ZoneText.{Token, Entry, EntriesOf, extent_by, with_end, cut_entries, beginning, stop_at, stop_fault}
-use Rattle.dns_spec.specs.Records.{ResourceRecord}
-use Rattle.dns_spec.specs.Meaning.{Meaning, records, fault_at, after, EntriesMean}
 use Rattle.dns_spec.proofs.ZoneTexts.BeginningsMean.{beginning_decides}
-use Rattle.dns_spec.specs.DataText.{Word}
 use Rattle.dns_master.specs.EntryForm.{TextMeans, EntryRead, IsWhole, Reads, outcome_of, unended}
 use Rattle.dns_master.proofs.EntryCuts.{reads-more}
 use Rattle.dns_master.proofs.TextSteps.{over-at_end, nothing-means, past-means}

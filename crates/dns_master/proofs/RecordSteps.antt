@@ -1,17 +1,7 @@
 -- The parts of a record one after another: the first that is wrong is the fault that is reported.
-use Rattle.std.proofs.Common.{◌≡◌, ℕ, true, false, List, [], ◌∷◌, drop, refl, sym, ap, ◌∙◌, subst, inl, inr, arith, Option, Some, None}
-use Rattle.std.proofs.lemmas.Bool.{false≢true}
-use Rattle.std.proofs.lemmas.Option.{none-some, same_Some}
+use Rattle.dns_spec.proofs.Common.{◌≡◌, ℕ, true, false, List, [], ◌∷◌, drop, refl, sym, ap, ◌∙◌, subst, inl, inr, arith, Option, Some, None, false≢true, none-some, same_Some, option_or, is_none, is_some, Octets, DomainName, folded, ResourceRecord, lower_case, cut, Word, Says, Entry, bad_data, bad_type, no_owner, no_ttl, other_class, too_many_records, Nothing, Lowest, IsRecord, Fields, EntryMeaning, faulty, gives, OriginIs, TtlSays, ttl_in_force, TypeIs, DataIs, IsNoTtl, is_other_class, are_too_many, RecordGives}
 use Rattle.std.specs.Prelude.{MatchOption, IfSome, if◌then◌else◌}
-use Rattle.std.specs.Option.{option_or, is_none, is_some}
 use Rattle.std.specs.Bool.{IsTrue}
-use Rattle.dns_spec.specs.Names.{Octets, DomainName, folded}
-use Rattle.dns_spec.specs.Records.{ResourceRecord}
-use Rattle.dns_spec.specs.Data.{lower_case, cut}
-use Rattle.dns_spec.specs.DataText.{Word, Says}
-use Rattle.dns_spec.specs.ZoneText.{Entry}
-use Rattle.dns_spec.specs.FileFaults.{bad_data, bad_type, no_owner, no_ttl, other_class, too_many_records}
-use Rattle.dns_spec.specs.Meaning.{Nothing, Lowest, IsRecord, Fields, EntryMeaning, faulty, gives, OriginIs, TtlSays, ttl_in_force, TypeIs, DataIs, IsNoTtl, is_other_class, are_too_many, RecordGives}
 use Rattle.dns_spec.proofs.DataWords.LoweredData.{lowered-twice}
 use Rattle.dns_spec.proofs.DataWords.TypeWords.{one_type}
 use Rattle.dns_master.specs.RecordForm.{IsKept, TtlOf}

@@ -1,6 +1,5 @@
 -- Why entries are refused, and faults of their file.
-use Rattle.std.proofs.Common.{◌≡◌, ℕ, ◌≤◌, sym, ap, ◌∙◌, arith}
-use Rattle.dns_spec.specs.FileFaults.{FileFault, too_long}
+use Rattle.dns_spec.proofs.Common.{◌≡◌, ℕ, ◌≤◌, sym, ap, ◌∙◌, arith, FileFault, too_long}
 use Rattle.dns_master.specs.Codes.{ForFault, OfEntry, code_number, fault_of, IsFaultOn}
 use Rattle.dns_master.specs.declared.fault.ReadFault.{ReadFault}
 use Rattle.dns_master.specs.declared.fault.ReadCode.{ReadCode}

@@ -2,16 +2,10 @@
 use Rattle.std.proofs.Common.{eqb-true, get_or, ◌≡◌, ℕ, zero, suc, sym, cond, nat_lt, ◌+◌, ◌≤◌, ◌<◌, Bool, true, false, [], ◌∷◌, length, take, drop, refl, ◌∙◌, ap, arith, Option, None, Some, ◌==◌}
 use Rattle.std.specs.Prelude.{not, nat_eq, MatchOption}
 use Rattle.std.specs.List.{list_all, position, position_or_len, prefix_len}
-use Rattle.std.specs.Option.{unwrap_or}
+use Rattle.dns_spec.proofs.Common.{unwrap_or, and_parts, false≢true, ltb-false, none-some, same_Some, prefix_len-le-length, Octets, is_blank, escape_left, unit_left, run_length, is_word_octet, is_string_octet}
 use Rattle.std.specs.Cmp.Lexicographic.{pointwise, same_text}
-use Rattle.std.proofs.lemmas.Bool.{and_parts, false≢true, ltb-false}
-use Rattle.std.proofs.lemmas.Option.{none-some, same_Some}
 use Rattle.std.proofs.lemmas.List.{drop_all, drop-drop, at_drop_more}
-use Rattle.std.proofs.lemmas.List.Sums.{prefix_len-le-length}
-use Rattle.dns_spec.specs.Names.{Octets}
-use Rattle.dns_spec.specs.ZoneText.{is_blank, escape_left, unit_left, run_length}
 use Rattle.dns_spec.proofs.NameTexts.Escapes.{counted_escape, escape-counted}
-use Rattle.dns_spec.specs.DataText.{is_word_octet, is_string_octet}
 use Rattle.dns_master.specs.TokenForm.{by_itself}
 use Rattle.dns_master.specs.declared.run.Run.{Run}
 use Rattle.dns_master.specs.declared.run.Run.TheVariants.{Word as WordRun, String as StringRun}

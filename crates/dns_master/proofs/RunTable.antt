@@ -1,8 +1,6 @@
 -- The table of where each octet stands by itself says what the definitions say of it.
-use Rattle.std.proofs.Common.{◌≡◌, ℕ, zero, suc, ◌<◌, Bool, true, false, ◌&&◌, ◌==◌, not, refl, subst, arith, inl, inr}
+use Rattle.dns_spec.proofs.Common.{◌≡◌, ℕ, zero, suc, ◌<◌, Bool, true, false, ◌&&◌, ◌==◌, not, refl, subst, arith, inl, inr, false≢true, and_parts, eqb-true, cases_Bool, eqb-false, is_word_octet, is_string_octet}
 use Rattle.std.specs.Prelude.{slice_index_or, nat_le}
-use Rattle.std.proofs.lemmas.Bool.{false≢true, and_parts, eqb-true, cases_Bool, eqb-false}
-use Rattle.dns_spec.specs.DataText.{is_word_octet, is_string_octet}
 use Rattle.dns_master.specs.declared.run.TheConstants.{PLAIN_IN}
 
 abbrev all_below : (ℕ → Bool) → ℕ → Bool

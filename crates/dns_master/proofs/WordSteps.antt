@@ -1,9 +1,5 @@
 -- The words of a text, by its tokens: each token's word, and those of the text after it.
-use Rattle.std.proofs.Common.{◌≡◌, ℕ, zero, suc, ◌+◌, ◌≤◌, ◌<◌, List, [], ◌∷◌, ◌++◌, length, take, refl, sym, ap, ◌∙◌, arith, append_assoc, append-nil, Option, Some, None}
-use Rattle.std.specs.List.{cons_option}
-use Rattle.dns_spec.specs.Names.{Octets}
-use Rattle.dns_spec.specs.DataText.{Word}
-use Rattle.dns_spec.specs.ZoneText.{Token, token_front, TokensThen, word_of}
+use Rattle.dns_spec.proofs.Common.{◌≡◌, ℕ, zero, suc, ◌+◌, ◌≤◌, ◌<◌, List, [], ◌∷◌, ◌++◌, length, take, refl, sym, ap, ◌∙◌, arith, append_assoc, append-nil, Option, Some, None, cons_option, Octets, Word, Token, token_front, TokensThen, word_of}
 use Rattle.dns_spec.proofs.ZoneTexts.TextTokens.{front-shorter}
 use Rattle.dns_master.specs.EntryForm.{token_words}
 use Rattle.dns_master.specs.WordsForm.{words_from, words_of_first, words_in, KeptAndCounted, WordTaken}

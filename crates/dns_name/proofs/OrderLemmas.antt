@@ -1,12 +1,8 @@
 -- The order of names, whose labels are compared from the right, goes label by label from the left.
-use Rattle.std.proofs.Common.{◌≡◌, ℕ, zero, suc, ◌+◌, ◌-◌, ◌<◌, ◌≤◌, ◌⊎◌, min, inl, inr, List, [], ◌∷◌, ◌++◌, length, take, drop, reverse, Option, None, Some, Ordering, Less, Equal, Greater, refl, sym, ◌∙◌, ap, arith}
+use Rattle.dns_spec.proofs.Common.{◌≡◌, ℕ, zero, suc, ◌+◌, ◌-◌, ◌<◌, ◌≤◌, ◌⊎◌, min, inl, inr, List, [], ◌∷◌, ◌++◌, length, take, drop, reverse, Option, None, Some, Ordering, Less, Equal, Greater, refl, sym, ◌∙◌, ap, arith, cases_order, nat_cmp_is, slice_cmp, Octets, DomainName, last_labels, label_order}
 use Rattle.std.proofs.lemmas.List.{reverse-append, length-reverse, length-take, length-drop, take-append-drop}
-use Rattle.std.proofs.lemmas.Bool.{cases_order}
-use Rattle.std.specs.Cmp.{nat_cmp_is}
-use Rattle.std.specs.Cmp.Lexicographic.{slice_cmp}
 use Rattle.std.specs.Iterator.{YieldsFirst}
 use Rattle.std.specs.Ordering.{ordering_then, nat_cmp}
-use Rattle.dns_spec.specs.Names.{Octets, DomainName, last_labels, label_order}
 
 drop-one : (k : ℕ) (n : DomainName) → drop 1 (drop k n) ≡ drop (suc k) n
 drop-one zero n = refl

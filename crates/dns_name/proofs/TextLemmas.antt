@@ -1,16 +1,9 @@
 -- Reading a text from left to right finds what it spells, and nothing else.
-use Rattle.std.proofs.Common.{Result, Ok, Err, ◌≡◌, ℕ, suc, ◌+◌, ◌-◌, ◌*◌, ◌<◌, ◌≤◌, inl, inr, Bool, true, false, ◌&&◌, ◌==◌, nat_le, [], ◌∷◌, ◌++◌, length, take, drop, Option, Some, None, refl, sym, ◌∙◌, ap, subst, arith, length-append}
+use Rattle.dns_spec.proofs.Common.{Result, Ok, Err, ◌≡◌, ℕ, suc, ◌+◌, ◌-◌, ◌*◌, ◌<◌, ◌≤◌, inl, inr, Bool, true, false, ◌&&◌, ◌==◌, nat_le, [], ◌∷◌, ◌++◌, length, take, drop, Option, Some, None, refl, sym, ◌∙◌, ap, subst, arith, length-append, option_and_then, MatchBool, if◌then◌else◌, is_ascii_digit, IsAsciiDigit, IsNotAsciiDigit, list_all, position_or_len, Octets, DomainName, wire, is_label, is_name, three_digits_value, SpellsOctet, LabelThen, TextSpells, SpellsName}
 use Rattle.std.proofs.lemmas.List.{append_assoc, append-nil, length-take, take_all, take-append-le}
 use Rattle.std.proofs.lemmas.Bool.{true≢false, false≢true, and_parts, and_from, and_left, and_right, and_cases, lt-leb, leb-false, eqb-true, eqb-false, or_parts, eq-eqb, ne_eqb, lt-ltb, ltb-true, le-leb, leb-true, cases_Bool}
-use Rattle.std.specs.Option.{option_and_then}
-use Rattle.std.specs.Bool.{MatchBool}
 use Rattle.std.specs.Result.{IsErr}
-use Rattle.std.specs.Prelude.{if◌then◌else◌}
-use Rattle.std.specs.Char.{is_ascii_digit, IsAsciiDigit, IsNotAsciiDigit}
-use Rattle.std.specs.List.{list_all, position_or_len}
 use Rattle.dns_spec.proofs.DomainNames.NameLaws.{is_label-head, length-wire-append, IsName-is_name, IsLabel-is_label}
-use Rattle.dns_spec.specs.Names.{Octets, DomainName, wire, is_label, is_name}
-use Rattle.dns_spec.specs.NameText.{three_digits_value, SpellsOctet, LabelThen, TextSpells, SpellsName}
 use Rattle.dns_name.specs.TextForm.{digit_at, decimal_at, escaped_at, octet_at, is_mark, is_label_end, ReadsLabel, PushesLabel, HasNoLabel, Appended, SpellsIff, spelled_as}
 
 -- a text is the spelling of an octet and others

@@ -1,11 +1,7 @@
 -- The wire form and the labels that it spells give one another back.
-use Rattle.std.proofs.Common.{Bool, map, ◌↔◌, ◌≡◌, ℕ, zero, suc, ◌-◌, ◌≤◌, true, [], ◌∷◌, ◌++◌, length, take, drop, refl, sym, ◌∙◌, ap, arith, length-append}
+use Rattle.dns_spec.proofs.Common.{Bool, map, ◌↔◌, ◌≡◌, ℕ, zero, suc, ◌-◌, ◌≤◌, true, [], ◌∷◌, ◌++◌, length, take, drop, refl, sym, ◌∙◌, ap, arith, length-append, and_parts, list_all, to_ascii_lowercase, folded, same, octets_equal, names_equal, Octets, DomainName, wire, is_label, is_name}
 use Rattle.std.proofs.lemmas.List.{take_at, drop_at, append_assoc, append-nil, nil_from_length}
-use Rattle.std.proofs.lemmas.Bool.{and_parts}
-use Rattle.std.specs.List.{list_all}
-use Rattle.std.specs.Char.{to_ascii_lowercase}
 use Rattle.dns_spec.proofs.DomainNames.NameLaws.{same_tests, same-wire, wire-injective, octets_equal-decides, names_equal-decides, map-lowercase-wire, IsLabel-is_label, IsName-is_name, is_name-tail}
-use Rattle.dns_spec.specs.Names.{folded, same, octets_equal, names_equal, Octets, DomainName, wire, is_label, is_name}
 use Rattle.dns_name.specs.WireForm.{labels_up_to, labels_of, IsWireForm}
 
 labels_up_to-wire : (n : DomainName) (most : ℕ) → list_all is_label n ≡ true → length (wire n) ≤ most → labels_up_to most (wire n) ≡ n

@@ -2,10 +2,7 @@
 use Rattle.std.proofs.Common.{◌≡◌, ℕ, suc, ◌+◌, ◌-◌, ◌<◌, List, [], ◌∷◌, ◌++◌, slice_index_or, Result, ap, ◌∙◌, Option, length, take, drop, sym, subst, arith, append_assoc, length-drop, length-append}
 use Rattle.std.proofs.Math.Seq.{take-add, take-append-add, take-suc}
 use Rattle.std.proofs.lemmas.List.{take_all, take-append-le, take-append-drop, append-nil}
-use Rattle.std.proofs.lemmas.Grind.{flat_map-append}
-use Rattle.std.specs.Borrow.{Bor}
-use Rattle.std.specs.Io.KnownBytes.{Appends}
-use Rattle.std.proofs.KnownBytes.{Appends-trans}
+use Rattle.dns_spec.proofs.Common.{flat_map-append, Bor, Appends, Appends-trans}
 use Rattle.dns_name.proofs.Results.{OnOk-map, OnErr-map}
 use Rattle.dns_name.specs.Counted.{Counted, Writes, Fills, failures_after, joined, AppendsBeginning, AppendsAllBut}
 

@@ -1,10 +1,7 @@
 -- What is written for an octet, a label and a name, as it is put together, and how long it can get.
-use Rattle.std.proofs.Common.{◌≡◌, ℕ, ◌+◌, ◌-◌, ◌*◌, ◌<◌, ◌≤◌, true, false, [], ◌∷◌, ◌++◌, length, map, take, refl, ap₂, arith, length-append}
+use Rattle.dns_spec.proofs.Common.{◌≡◌, ℕ, ◌+◌, ◌-◌, ◌*◌, ◌<◌, ◌≤◌, true, false, [], ◌∷◌, ◌++◌, length, map, take, refl, ap₂, arith, length-append, join_with_byte, Octets, DomainName, wire, is_special, three_digits, octet_text, label_text, labels_text, name_text}
 use Rattle.std.proofs.lemmas.List.{append_assoc, append-nil, take_at}
 use Rattle.std.specs.Char.{is_ascii_graphic}
-use Rattle.std.specs.List.{join_with_byte}
-use Rattle.dns_spec.specs.Names.{Octets, DomainName, wire}
-use Rattle.dns_spec.specs.NameText.{is_special, three_digits, octet_text, label_text, labels_text, name_text}
 use Rattle.dns_spec.specs.Report.{bare_name_text}
 
 pub special_text : (x : ℕ) → is_special x ≡ true → octet_text x ≡ 92 ∷ x ∷ []

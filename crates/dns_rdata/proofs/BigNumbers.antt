@@ -1,9 +1,6 @@
 -- The number that octets spell, as `byteorder` reads it.
-use Rattle.std.proofs.Common.{◌≡◌, ℕ, ◌-◌, ◌≤◌, length, take, drop, arith, length-drop}
-use Rattle.std.proofs.lemmas.List.{take_all}
+use Rattle.dns_spec.proofs.Common.{◌≡◌, ℕ, ◌-◌, ◌≤◌, length, take, drop, arith, length-drop, take_all, Octets, number_of}
 use Rattle.byteorder.specs.Endian.{big_number}
-use Rattle.dns_spec.specs.Names.{Octets}
-use Rattle.dns_spec.specs.Data.{number_of}
 
 pub big_number-four : (xs : Octets) → 4 ≤ length xs → big_number 4 xs ≡ number_of (take 4 xs)
 big_number-four xs h = grind arith

@@ -1,12 +1,7 @@
 -- Words are taken from the left, each by its form: what those of one piece say, and then those of
 -- the pieces after it, is what all say by all forms.
-use Rattle.std.proofs.Common.{◌≡◌, ℕ, suc, ◌+◌, ◌-◌, ◌<◌, ◌≤◌, List, [], ◌∷◌, ◌++◌, length, take, drop, get_or, replicate, refl, sym, ap, ◌∙◌, subst, arith}
+use Rattle.dns_spec.proofs.Common.{◌≡◌, ℕ, suc, ◌+◌, ◌-◌, ◌<◌, ◌≤◌, List, [], ◌∷◌, ◌++◌, length, take, drop, get_or, replicate, refl, sym, ap, ◌∙◌, subst, arith, flat_map-append, flat_map, to_ascii_lowercase, Octets, DomainName, Word, WordForm, number_word, ipv4_word, ipv6_word, name_word, string_word, SaysWord, SaysForms, forms_in}
 use Rattle.std.proofs.lemmas.List.{append_assoc, append-nil, length-append, length-replicate, length-map, map-append, replicate-append-replicate, take-append-drop, take_more}
-use Rattle.std.proofs.lemmas.Grind.{flat_map-append}
-use Rattle.std.specs.List.{flat_map}
-use Rattle.std.specs.Char.{to_ascii_lowercase}
-use Rattle.dns_spec.specs.Names.{Octets, DomainName}
-use Rattle.dns_spec.specs.DataText.{Word, WordForm, number_word, ipv4_word, ipv6_word, name_word, string_word, SaysWord, SaysForms, forms_in}
 use Rattle.dns_rdata.specs.declared.table.Piece as code
 use Rattle.dns_rdata.specs.TypeRows.{piece_of, pieces_in}
 use Rattle.dns_rdata.specs.WordForms.{kept, Appends, SaysKept, AppendsFront, SaysNoFront}

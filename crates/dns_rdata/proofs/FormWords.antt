@@ -1,10 +1,7 @@
 -- What is appended for a word by its form.
-use Rattle.std.proofs.Common.{◌≡◌, ℕ, ◌<◌, ◌≤◌, ◌^◌, ◌++◌, Option, Some, Ok, decimal, refl, sym, ap, ◌∙◌, arith}
+use Rattle.dns_spec.proofs.Common.{◌≡◌, ℕ, ◌<◌, ◌≤◌, ◌^◌, ◌++◌, Option, Some, Ok, decimal, refl, sym, ap, ◌∙◌, arith, bytes_high_first, Octets, DomainName, wire, folded, SpellsName}
 use Rattle.std.specs.Option.{ok_or}
-use Rattle.std.specs.Int.{bytes_high_first}
-use Rattle.dns_spec.specs.Names.{Octets, DomainName, wire, folded}
 use Rattle.dns_spec.specs.DataText.{SaysNumber, SaysName, name_word}
-use Rattle.dns_spec.specs.NameText.{SpellsName}
 use Rattle.dns_spec.proofs.DataWords.OneData.{number_once}
 use Rattle.dns_spec.proofs.NameTexts.OneName.{name_once}
 use Rattle.dns_spec.proofs.DomainNames.NameLaws.{map-lowercase-wire, IsName-is_name}

@@ -1,12 +1,7 @@
 -- Hex digits read from left to right, two an octet.
-use Rattle.std.proofs.Common.{◌%◌, ◌&&◌, ◌≡◌, ℕ, ◌+◌, ◌*◌, ◌<◌, inl, inr, ◌⊎◌, true, false, [], ◌∷◌, ◌++◌, length, refl, sym, ◌∙◌, ap, arith}
+use Rattle.dns_spec.proofs.Common.{◌%◌, ◌&&◌, ◌≡◌, ℕ, ◌+◌, ◌*◌, ◌<◌, inl, inr, ◌⊎◌, true, false, [], ◌∷◌, ◌++◌, length, refl, sym, ◌∙◌, ap, arith, option_map, option_and_then, is_ascii_hexdigit, digit_value, cases_Bool, Octets, hex_octets}
 use Rattle.std.specs.Prelude.{Option, Some, None}
-use Rattle.std.specs.Option.{option_map, option_and_then}
-use Rattle.std.specs.Char.{is_ascii_hexdigit, digit_value}
 use Rattle.std.proofs.lemmas.List.{append_assoc, append-nil}
-use Rattle.std.proofs.lemmas.Bool.{cases_Bool}
-use Rattle.dns_spec.specs.Names.{Octets}
-use Rattle.dns_spec.specs.DataText.{hex_octets}
 use Rattle.dns_rdata.specs.HexForm.{hex_front, AppendsHex}
 
 none_is_some : {A : Type 0} (x : A) → None ≡ Some x → ⊥

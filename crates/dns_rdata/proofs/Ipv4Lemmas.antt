@@ -1,13 +1,9 @@
 -- The numbers of an address stand between its dots.
-use Rattle.std.proofs.Common.{◌≡◌, ◌↔◌, ℕ, [], ◌∷◌, ◌++◌, ◌+◌, ◌*◌, ◌/◌, ◌%◌, ◌<◌, ◌≤◌, ◌⊎◌, true, ◌==◌, length, refl, sym, ◌∙◌, ap, subst, arith, decimal}
-use Rattle.std.proofs.lemmas.Bool.{ne_eqb, eqb-false, lt-ltb, ltb-true, le-leb, leb-true, and_from, and_parts, cases_lt}
+use Rattle.dns_spec.proofs.Common.{◌≡◌, ◌↔◌, ℕ, [], ◌∷◌, ◌++◌, ◌+◌, ◌*◌, ◌/◌, ◌%◌, ◌<◌, ◌≤◌, ◌⊎◌, true, ◌==◌, length, refl, sym, ◌∙◌, ap, subst, arith, decimal, ne_eqb, eqb-false, lt-ltb, ltb-true, le-leb, leb-true, and_from, and_parts, cases_lt, is_ascii_digit, Octets, SaysIpv4}
 use Rattle.std.proofs.lemmas.Fmt.{decimal_digit, decimal_step, decimal_injective}
 use Rattle.std.proofs.lemmas.List.{append-nil}
-use Rattle.std.specs.Char.{is_ascii_digit}
 use Rattle.dns_name.specs.TextForm.{digit_at}
 use Rattle.std.specs.Prelude.{Option, Some, None, if◌then◌else◌}
-use Rattle.dns_spec.specs.Names.{Octets}
-use Rattle.dns_spec.specs.AddressText.{SaysIpv4}
 use Rattle.dns_spec.proofs.DataWords.OneData.{four_numbers}
 use Rattle.dns_rdata.specs.AddressForm.{OctetThen, number_at, number_on, number_end}
 

@@ -1,21 +1,12 @@
 -- Groups of an IPv6 address, read from left to right.
-use Rattle.std.proofs.Common.{◌≡◌, ℕ, ◌+◌, ◌-◌, ◌*◌, ◌^◌, ◌<◌, ◌≤◌, Bool, true, false, ◌&&◌, ◌==◌, List, [], ◌∷◌, ◌++◌, length, take, drop, get_or, replicate, nat_lt, nat_le, refl, sym, ◌∙◌, ap, subst, arith, length-append, length-drop}
+use Rattle.dns_spec.proofs.Common.{◌≡◌, ℕ, ◌+◌, ◌-◌, ◌*◌, ◌^◌, ◌<◌, ◌≤◌, Bool, true, false, ◌&&◌, ◌==◌, List, [], ◌∷◌, ◌++◌, length, take, drop, get_or, replicate, nat_lt, nat_le, refl, sym, ◌∙◌, ap, subst, arith, length-append, length-drop, option_map, option_and_then, list_all, slice_split, position_or_len, flat_map, bytes_high_first, OnTrue, is_ascii_hexdigit, digit_value, digits_value, and_from, true≢false, false≢true, eq-eqb, le-leb, lt-leb, ltb-true, ltb-false, le-ltb, leb-false, and_parts, eqb-true, same_Some, none-some, cond_some, option_and_then_some, Octets}
 use Rattle.std.specs.Prelude.{Option, Some, None, if◌then◌else◌, position, MatchOption}
-use Rattle.std.specs.Option.{option_map, option_and_then}
-use Rattle.std.specs.List.{list_all, slice_split, position_or_len, flat_map}
-use Rattle.std.specs.Int.{bytes_high_first}
-use Rattle.std.specs.Bool.{OnTrue}
-use Rattle.std.specs.Char.{is_ascii_hexdigit, digit_value}
-use Rattle.std.specs.Str.Parse.{digits_value}
 use Rattle.std.proofs.lemmas.List.{append_assoc, take_all, length-replicate}
 use Rattle.std.proofs.lemmas.List.Folds.{list_all_more}
 use Rattle.std.proofs.lemmas.List.Splits.{slice_split_first}
-use Rattle.std.proofs.lemmas.Bool.{and_from, true≢false, false≢true, eq-eqb, le-leb, lt-leb, ltb-true, ltb-false, le-ltb, leb-false, and_parts, eqb-true}
-use Rattle.std.proofs.lemmas.Option.{same_Some, none-some, cond_some, option_and_then_some}
 use Rattle.std.proofs.lemmas.Int.Digits.{digits_value_more}
 use Rattle.std.proofs.Math.Nat.{pow-le-pow_right, pow-suc}
 use Rattle.std.proofs.Math.Numerals.{add-one}
-use Rattle.dns_spec.specs.Names.{Octets}
 use Rattle.dns_spec.specs.AddressText.{is_group, group_values, groups_said, around_gap, filled_groups, eight_groups, groups_by, ipv6_groups, ipv6_octets, SaysIpv6}
 use Rattle.dns_rdata.specs.HexForm.{digit_of}
 use Rattle.dns_rdata.specs.AddressForm.{few_groups}

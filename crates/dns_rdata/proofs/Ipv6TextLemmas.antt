@@ -1,12 +1,8 @@
 -- The text of an IPv6 address, group by group.
 use Rattle.std.proofs.Common.{◌≡◌, ◌≢◌, ℕ, zero, suc, ◌+◌, ◌*◌, ◌/◌, ◌%◌, ◌<◌, ◌≤◌, max, false, ◌==◌, List, [], ◌∷◌, ◌++◌, length, take, drop, get_or, fold, refl, sym, ◌∙◌, ap, arith, length-append, length-drop, drop-cons}
-use Rattle.std.specs.List.{prefix_len, position_or_len}
-use Rattle.std.specs.Char.{digit_char}
-use Rattle.std.specs.Fmt.{digits}
+use Rattle.dns_spec.proofs.Common.{prefix_len, position_or_len, digit_char, digits, ne_eqb, eq-eqb, cases_lt, Octets}
 use Rattle.std.proofs.lemmas.List.{append_assoc, take_more, take_all}
-use Rattle.std.proofs.lemmas.Bool.{ne_eqb, eq-eqb, cases_lt}
 use Rattle.std.proofs.Math.Numerals.{suc-eq-add-one}
-use Rattle.dns_spec.specs.Names.{Octets}
 use Rattle.dns_spec.specs.AddressText.{groups_text, zero_runs}
 use Rattle.dns_spec.proofs.DataWords.GroupDigits.{one_digit, two_digits, three_of, four_of}
 use Rattle.dns_spec.proofs.DataWords.ZeroRuns.{is_zero, length-zero_runs, run_at}

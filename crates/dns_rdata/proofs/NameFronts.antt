@@ -1,10 +1,6 @@
 -- Octets that begin with labels: what is after a label decides of them.
 use Rattle.std.proofs.Common.{◌≡◌, ℕ, zero, suc, ◌-◌, ◌<◌, ◌≤◌, true, false, Option, None, Some, [], ◌∷◌, ◌++◌, length, take, drop, get_or, refl, sym, ap, ◌∙◌, arith, append_assoc, length-append, take-append-drop}
-use Rattle.std.proofs.lemmas.Bool.{and_parts, and_from}
-use Rattle.std.proofs.lemmas.List.{take_at, drop_at, length-take-le}
-use Rattle.std.specs.List.{list_all}
-use Rattle.dns_spec.specs.Names.{Octets, DomainName, wire, is_label, name_of}
-use Rattle.dns_spec.specs.Data.{name, domain, piece_front, are_strings}
+use Rattle.dns_spec.proofs.Common.{and_parts, and_from, take_at, drop_at, length-take-le, list_all, Octets, DomainName, wire, is_label, name_of, name, domain, piece_front, are_strings}
 use Rattle.dns_spec.proofs.DomainNames.NameLaws.{IsName-is_name, IsLabel-is_label, is_label-IsLabel, is_name-IsName}
 use Rattle.dns_spec.proofs.DomainNames.WireNames.{name_read, name_of-wire, wire_fronts_agree}
 use Rattle.dns_name.specs.WireForm.{labels_of, IsWireForm}

@@ -1,10 +1,6 @@
 -- Data that is a name, or ends with one after numbers, has that name as its target.
 use Rattle.std.proofs.Common.{◌≡◌, ℕ, ◌≤◌, inl, inr, true, List, [], ◌∷◌, ◌++◌, length, take, drop, Option, None, Some, is_some, unwrap_or, refl, sym, ap, ◌∙◌, subst, arith, append-nil, length-append, nat_le}
-use Rattle.std.proofs.lemmas.Bool.{false≢true, and_parts}
-use Rattle.std.proofs.lemmas.Option.{none-some}
-use Rattle.std.proofs.Math.Seq.{drop-append_seam}
-use Rattle.dns_spec.specs.Names.{Octets, DomainName, wire, is_name}
-use Rattle.dns_spec.specs.Data.{Fixed, width, Piece, fixed, domain, Part, octets, pieces_of, cut, valid, first_name, target}
+use Rattle.dns_spec.proofs.Common.{false≢true, and_parts, none-some, drop-append_seam, Octets, DomainName, wire, is_name, Fixed, width, Piece, fixed, domain, Part, octets, pieces_of, cut, valid, first_name, target}
 use Rattle.dns_spec.proofs.DataWords.WrittenData.{cut_into, name_part, octets_part, front_taken}
 use Rattle.dns_rdata.specs.Parts.{NameStandsAfter}
 

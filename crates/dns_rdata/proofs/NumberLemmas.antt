@@ -1,14 +1,9 @@
 -- Digits read from left to right say a number, and only a number's own text says it.
-use Rattle.std.proofs.Common.{◌≡◌, ◌↔◌, ℕ, [], ◌∷◌, ◌+◌, ◌-◌, ◌*◌, ◌<◌, ◌≤◌, ◌^◌, ◌++◌, length-append, List, length, take, get_or, inl, inr, refl, sym, ◌∙◌, ap, subst, arith, decimal}
+use Rattle.dns_spec.proofs.Common.{◌≡◌, ◌↔◌, ℕ, [], ◌∷◌, ◌+◌, ◌-◌, ◌*◌, ◌<◌, ◌≤◌, ◌^◌, ◌++◌, length-append, List, length, take, get_or, inl, inr, refl, sym, ◌∙◌, ap, subst, arith, decimal, cases_lt, digit_value, IsAsciiDigit, IsNotAsciiDigit, AllDigits, digits_value, digits, Octets}
 use Rattle.std.proofs.lemmas.List.{take_all, length-take}
 use Rattle.std.specs.Prelude.{Option, Some, None, SomeIff}
-use Rattle.std.proofs.lemmas.Bool.{cases_lt}
-use Rattle.std.specs.Char.{digit_value, IsAsciiDigit, IsNotAsciiDigit}
-use Rattle.std.specs.Str.Parse.{AllDigits, digits_value}
 use Rattle.std.proofs.lemmas.Int.Digits.{digits_value_more, digits_more}
 use Rattle.std.proofs.lemmas.Str.Parse.{digit_at, digits_value-take-le, numerals_by_value, tells_digits}
-use Rattle.std.specs.Fmt.{digits}
-use Rattle.dns_spec.specs.Names.{Octets}
 use Rattle.std.proofs.lemmas.Fmt.{decimal_is_IsNumeral, decimal-digits_value, first_decimal, length-decimal-le}
 
 -- an octet that is no digit

@@ -1,9 +1,5 @@
 -- A walk over the parts of data.
-use Rattle.std.proofs.Common.{◌≡◌, All, List, [], ◌∷◌, ◌++◌, map, get_or, drop, refl, sym, ap, ◌∙◌, subst, append_assoc, append-nil, arith}
-use Rattle.std.proofs.lemmas.List.Elements.{All-head, All-tail}
-use Rattle.std.proofs.lemmas.List.Concat.{flat_map-cons}
-use Rattle.dns_spec.specs.Names.{Octets}
-use Rattle.dns_spec.specs.Data.{part_octets, part_folded, joined}
+use Rattle.dns_spec.proofs.Common.{◌≡◌, All, List, [], ◌∷◌, ◌++◌, map, get_or, drop, refl, sym, ap, ◌∙◌, subst, append_assoc, append-nil, arith, All-head, All-tail, flat_map-cons, Octets, part_octets, part_folded, joined}
 use Rattle.dns_spec.specs.Data as Data
 use Rattle.dns_rdata.specs.declared.parts.Part.{Part}
 use Rattle.dns_rdata.specs.Parts.{part_for, part_lends, shown_part, with_octets, IsLent, HasName}

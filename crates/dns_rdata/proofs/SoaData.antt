@@ -1,10 +1,6 @@
 -- The data of an SOA is long enough for the five numbers at its end.
-use Rattle.std.proofs.Common.{◌≡◌, ◌≤◌, true, List, [], ◌∷◌, length, take, refl, ap, arith, length-append, Option, None, Some}
-use Rattle.std.proofs.lemmas.Bool.{false≢true, and_parts}
+use Rattle.dns_spec.proofs.Common.{◌≡◌, ◌≤◌, true, List, [], ◌∷◌, length, take, refl, ap, arith, length-append, Option, None, Some, false≢true, and_parts, is_some, Octets, wire, Part, numbers, domain, fixed, type_soa, pieces_of, cut, valid}
 use Rattle.std.specs.Prelude.{nat_le}
-use Rattle.std.specs.Option.{is_some}
-use Rattle.dns_spec.specs.Names.{Octets, wire}
-use Rattle.dns_spec.specs.Data.{Part, numbers, domain, fixed, type_soa, pieces_of, cut, valid}
 use Rattle.dns_spec.proofs.DataWords.WrittenData.{cut_into, name_part, front_taken}
 
 soa_pieces : (d : Octets) (x : Option (List Part)) → cut (domain ∷ domain ∷ fixed (numbers 5 4) ∷ []) d ≡ x → is_some x ≡ true → 20 ≤ length d

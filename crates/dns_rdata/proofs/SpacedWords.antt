@@ -1,14 +1,5 @@
 -- Words with a space between, and the words of forms and of pieces.
-use Rattle.std.proofs.Common.{◌≡◌, ℕ, zero, suc, ◌+◌, ◌*◌, ◌<◌, ◌≤◌, max, Bool, true, false, List, [], ◌∷◌, ◌++◌, map, length, drop, replicate, Some, refl, sym, ap, ◌∙◌, arith, append_assoc, append-nil}
-use Rattle.std.proofs.lemmas.List.{drop-drop, length-replicate}
-use Rattle.std.proofs.lemmas.Bool.{and_parts, le-leb, ltb-true, false≢true}
-use Rattle.std.proofs.lemmas.Option.{none-some, same_Some, cond_some}
-use Rattle.std.specs.Option.{is_some}
-use Rattle.std.specs.List.{list_all, flat_map, join_with_byte}
-use Rattle.dns_spec.specs.Names.{Octets}
-use Rattle.dns_spec.specs.Data.{Piece, strings, Part, string_front, are_strings, piece_front}
-use Rattle.dns_spec.specs.DataText.{Word, WordForm, number_word, string_word, forms_in}
-use Rattle.dns_spec.specs.WrittenText.{word_text, word_front, form_words, string_count}
+use Rattle.dns_spec.proofs.Common.{◌≡◌, ℕ, zero, suc, ◌+◌, ◌*◌, ◌<◌, ◌≤◌, max, Bool, true, false, List, [], ◌∷◌, ◌++◌, map, length, drop, replicate, Some, refl, sym, ap, ◌∙◌, arith, append_assoc, append-nil, drop-drop, length-replicate, and_parts, le-leb, ltb-true, false≢true, none-some, same_Some, cond_some, is_some, list_all, flat_map, join_with_byte, Octets, Piece, strings, Part, string_front, are_strings, piece_front, Word, WordForm, number_word, string_word, forms_in, word_text, word_front, form_words, string_count}
 use Rattle.dns_spec.proofs.DataWords.WrittenData.{all_strings}
 use Rattle.dns_rdata.specs.WrittenForm.{spaced, form_rest, piece_forms, piece_words, piece_rest, pieces_words, has_words}
 use Rattle.dns_rdata.proofs.NameFronts.{strings_after}

@@ -2,11 +2,7 @@
 use Rattle.std.proofs.Common.{◌≡◌, ◌↔◌, ℕ, ◌<◌, ◌≤◌, true, false, ap₂, inl, inr, ◌==◌, ◌||◌, if◌then◌else◌, [], ◌∷◌, ◌++◌, length, refl, sym, ◌∙◌, ap, subst, arith, length-append}
 use Rattle.std.specs.Prelude.{Some, None}
 use Rattle.std.proofs.lemmas.List.{append_assoc, append-nil}
-use Rattle.std.proofs.lemmas.Bool.{cases_Bool, and_parts, not-true, eqb-true, false≢true}
-use Rattle.std.specs.List.{list_any, list_all, flat_map}
-use Rattle.dns_spec.specs.Names.{Octets}
-use Rattle.dns_spec.specs.DataText.{SpellsString, SpellsStringOctet}
-use Rattle.dns_spec.specs.WrittenText.{string_octet_text}
+use Rattle.dns_spec.proofs.Common.{cases_Bool, and_parts, not-true, eqb-true, false≢true, list_any, list_all, flat_map, Octets, SpellsString, SpellsStringOctet, string_octet_text}
 use Rattle.dns_rdata.specs.WrittenForm.{is_plain}
 use Rattle.dns_name.specs.TextForm.{octet_at, escaped_at}
 use Rattle.dns_name.proofs.TextLemmas.{octet_at-OctetThen, OctetThen-octet_at}

@@ -1,9 +1,5 @@
 -- Rows of the code's table, found as rows of the definitions' table are.
-use Rattle.std.proofs.Common.{◌≡◌, Bool, true, false, Option, Some, List, [], ◌∷◌, map, cond, refl, sym, ap, ◌∙◌, arith}
-use Rattle.std.specs.Option.{option_map}
-use Rattle.std.specs.List.{find, list_all}
-use Rattle.std.proofs.lemmas.Bool.{and_parts}
-use Rattle.std.proofs.lemmas.Option.{none-some, same_Some}
+use Rattle.dns_spec.proofs.Common.{◌≡◌, Bool, true, false, Option, Some, List, [], ◌∷◌, map, cond, refl, sym, ap, ◌∙◌, arith, option_map, find, list_all, and_parts, none-some, same_Some}
 
 found_first : {A B : Type 0} (f : A → B) (b : Bool) (x : A) (r : Option A) (s : Option B) → s ≡ option_map f r → cond b (Some (f x)) s ≡ option_map f (cond b (Some x) r)
 found_first f b x r s h = grind arith

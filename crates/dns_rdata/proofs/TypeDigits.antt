@@ -1,13 +1,6 @@
 -- Digits are read after `TYPE` in any case.
-use Rattle.std.proofs.Common.{◌≡◌, ℕ, ◌<◌, ◌≤◌, [], ◌∷◌, map, drop, refl, ap, arith}
-use Rattle.std.proofs.lemmas.Bool.{lt-ltb, false≢true}
-use Rattle.std.proofs.lemmas.Fmt.{decimal_is_IsNumeral}
-use Rattle.std.proofs.lemmas.Str.Parse.{digit_from_value}
+use Rattle.dns_spec.proofs.Common.{◌≡◌, ℕ, ◌<◌, ◌≤◌, [], ◌∷◌, map, drop, refl, ap, arith, lt-ltb, false≢true, decimal_is_IsNumeral, digit_from_value, to_ascii_lowercase, AllDigits, Octets, text_in_lower_case, numbered_type}
 use Rattle.std.specs.Fmt.{decimal}
-use Rattle.std.specs.Char.{to_ascii_lowercase}
-use Rattle.std.specs.Str.Parse.{AllDigits}
-use Rattle.dns_spec.specs.Names.{Octets}
-use Rattle.dns_spec.specs.TypeText.{text_in_lower_case, numbered_type}
 use Rattle.dns_spec.proofs.DataWords.TypeWords.{decimal-lowered}
 
 -- only digits are digits in lower case

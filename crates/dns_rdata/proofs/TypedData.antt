@@ -1,17 +1,6 @@
 -- What words say by the forms of a type is data of the type, where it is not too long, and what is kept of it is that data
 -- in lower case.
-use Rattle.std.proofs.Common.{◌≡◌, ◌↔◌, ℕ, zero, suc, ◌*◌, ◌≤◌, Bool, true, false, ◌&&◌, nat_le, ◌==◌, List, [], ◌∷◌, ◌++◌, map, max, length, replicate, Option, Some, refl, sym, ap, ◌∙◌, subst, arith, append-nil, append_assoc, length-append}
-use Rattle.std.specs.List.{list_all, flat_map}
-use Rattle.std.specs.Option.{is_some, option_map, unwrap_or}
-use Rattle.std.specs.Prelude.{MatchOption}
-use Rattle.std.specs.Bool.{MatchBool}
-use Rattle.std.specs.Char.{to_ascii_lowercase}
-use Rattle.std.proofs.lemmas.Bool.{and_parts, and_from, le-leb, leb-true, ne_eqb, false≢true}
-use Rattle.std.proofs.lemmas.List.{take_at, drop_at}
-use Rattle.std.proofs.lemmas.List.Concat.{flat_map-cons}
-use Rattle.dns_spec.specs.Names.{Octets, DomainName}
-use Rattle.dns_spec.specs.Data.{Fixed, width, numbers, ipv4, ipv6, Piece, fixed, domain, string, strings, anything, Part, octets, name, part_octets, part_folded, joined, octets_front, strings_front, piece_front, are_strings, cut, TypeRow, type_table, other_type, row_of, pieces_of, Valid}
-use Rattle.dns_spec.specs.DataText.{Word, WordForm, SaysWord, ipv6_word, ipv4_word, number_word, string_word, SaysForms, SaysTyped, SaysUnknown, SaysAsSpelled, Says, forms_in}
+use Rattle.dns_spec.proofs.Common.{◌≡◌, ◌↔◌, ℕ, zero, suc, ◌*◌, ◌≤◌, Bool, true, false, ◌&&◌, nat_le, ◌==◌, List, [], ◌∷◌, ◌++◌, map, max, length, replicate, Option, Some, refl, sym, ap, ◌∙◌, subst, arith, append-nil, append_assoc, length-append, list_all, flat_map, is_some, option_map, unwrap_or, MatchOption, MatchBool, to_ascii_lowercase, and_parts, and_from, le-leb, leb-true, ne_eqb, false≢true, take_at, drop_at, flat_map-cons, Octets, DomainName, Fixed, width, numbers, ipv4, ipv6, Piece, fixed, domain, string, strings, anything, Part, octets, name, part_octets, part_folded, joined, octets_front, strings_front, piece_front, are_strings, cut, TypeRow, type_table, other_type, row_of, pieces_of, Valid, Word, WordForm, SaysWord, ipv6_word, ipv4_word, number_word, string_word, SaysForms, SaysTyped, SaysUnknown, SaysAsSpelled, Says, forms_in}
 use Rattle.dns_spec.proofs.DomainNames.NameLaws.{map-lowercase-wire, IsName-is_name}
 use Rattle.dns_spec.proofs.DataWords.MadeData.{cut-domain, cut-step}
 use Rattle.dns_spec.proofs.DataWords.LoweredData.{cut_whole, length-lowered, lowered_data}

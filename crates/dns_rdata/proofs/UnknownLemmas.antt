@@ -1,14 +1,9 @@
 -- Words of hex digits read from left to right, each of whole octets.
-use Rattle.std.proofs.Common.{◌≡◌, ◌↔◌, Bool, ◌%◌, ◌<◌, ◌≤◌, ℕ, true, false, List, [], ◌∷◌, ◌++◌, length, refl, sym, ◌∙◌, ap, arith, decimal, IsTrue, length-append}
+use Rattle.dns_spec.proofs.Common.{◌≡◌, ◌↔◌, Bool, ◌%◌, ◌<◌, ◌≤◌, ℕ, true, false, List, [], ◌∷◌, ◌++◌, length, refl, sym, ◌∙◌, ap, arith, decimal, IsTrue, length-append, list_all, flat_map, option_map, and_parts, eqb-true, eq-eqb, lt-ltb, decimal_injective, Octets}
 use Rattle.std.specs.Prelude.{Option, Some, ◌&&◌, not}
-use Rattle.std.specs.List.{list_all, flat_map}
-use Rattle.std.specs.Option.{option_map}
 use Rattle.std.specs.Prelude.{Result, IfErr}
 use Rattle.std.specs.Result.{IsErrAnd}
 use Rattle.std.proofs.lemmas.List.{append_assoc, append-nil}
-use Rattle.std.proofs.lemmas.Bool.{and_parts, eqb-true, eq-eqb, lt-ltb}
-use Rattle.std.proofs.lemmas.Fmt.{decimal_injective}
-use Rattle.dns_spec.specs.Names.{Octets}
 use Rattle.dns_spec.specs.DataText.{Word, is_hex_word, hex_octets, SaysHex, SaysUnknown}
 use Rattle.dns_rdata.specs.HexForm.{AppendsHex}
 use Rattle.dns_rdata.specs.UnknownForm.{SaysHexWord, AppendsWord}

@@ -1,10 +1,5 @@
 -- Octets that are not a whole frame, and a message in its frame, by the parts in which they are read.
-use Rattle.std.proofs.Common.{◌≡◌, ℕ, ◌+◌, ◌-◌, ◌*◌, ◌^◌, ◌<◌, ◌≤◌, min, ◌⊎◌, inl, inr, [], ◌∷◌, ◌++◌, length, take, replicate, None, refl, sym, ap, ◌∙◌, arith, append_assoc, append-nil, length-append}
-use Rattle.std.proofs.lemmas.Bool.{cases_lt, leb-true}
-use Rattle.std.proofs.lemmas.List.{take_all, take-append-le}
-use Rattle.dns_spec.specs.Names.{Octets}
-use Rattle.dns_spec.specs.Query.{most_over_udp, field16}
-use Rattle.dns_spec.specs.Layout.{octets16}
+use Rattle.dns_spec.proofs.Common.{◌≡◌, ℕ, ◌+◌, ◌-◌, ◌*◌, ◌^◌, ◌<◌, ◌≤◌, min, ◌⊎◌, inl, inr, [], ◌∷◌, ◌++◌, length, take, replicate, None, refl, sym, ap, ◌∙◌, arith, append_assoc, append-nil, length-append, cases_lt, leb-true, take_all, take-append-le, Octets, most_over_udp, field16, octets16}
 use Rattle.dns_spec.specs.Stream.{first_frame, IsCutFrame}
 use Rattle.dns_spec.proofs.Streams.StreamFrames.{two_octets, two_again, length_zeros}
 

@@ -1,10 +1,6 @@
 -- What a turn does with the datagram that was received.
 use Rattle.std.proofs.lemmas.List.{take_all, length-take}
-use Rattle.std.proofs.Common.{◌≡◌, ℕ, ◌≤◌, arith, List, [], ◌∷◌, append-nil, refl, take, Option, Some, None, true, false, sym, ap, ◌∙◌, subst}
-use Rattle.std.specs.Option.{option_map, is_some}
-use Rattle.dns_spec.specs.Query.{most_over_udp}
-use Rattle.dns_spec.specs.Names.{Octets}
-use Rattle.dns_spec.specs.Records.{ZoneContents}
+use Rattle.dns_spec.proofs.Common.{◌≡◌, ℕ, ◌≤◌, arith, List, [], ◌∷◌, append-nil, refl, take, Option, Some, None, true, false, sym, ap, ◌∙◌, subst, option_map, is_some, most_over_udp, Octets, ZoneContents}
 use Rattle.dns_spec.proofs.Replies.FirstOctets.{first_octets_answer}
 use Rattle.dns_serve.specs.Turns.{Grows, KeepsAll, IsHanded, reply_over_udp, one_or_none, Turn, IsTurn, IsUnsent}
 

@@ -1,13 +1,5 @@
 -- What calls of a source give together.
-use Rattle.std.proofs.Common.{◌≡◌, ℕ, ◌+◌, ◌-◌, ◌^◌, ◌<◌, ◌≤◌, min, All, [], ◌∷◌, ◌++◌, length, take, Option, ◌∙◌, arith, length-append}
-use Rattle.std.proofs.Math.Seq.{take-append-add}
-use Rattle.std.specs.Io.KnownBytes.{Consumes}
-use Rattle.std.proofs.lemmas.List.Elements.{All-head}
-use Rattle.std.proofs.lemmas.List.{take_all, take-append-le}
-use Rattle.std.proofs.KnownBytes.{Consumes-trans}
-use Rattle.dns_spec.specs.Query.{most_over_udp}
-use Rattle.dns_spec.specs.Names.{Octets}
-use Rattle.dns_spec.specs.Layout.{octets16}
+use Rattle.dns_spec.proofs.Common.{◌≡◌, ℕ, ◌+◌, ◌-◌, ◌^◌, ◌<◌, ◌≤◌, min, All, [], ◌∷◌, ◌++◌, length, take, Option, ◌∙◌, arith, length-append, take-append-add, Consumes, All-head, take_all, take-append-le, Consumes-trans, most_over_udp, Octets, octets16}
 use Rattle.dns_serve.specs.Reads.{Gives, GivesFewer, GivesBeginning, GivesPart, GivesPartOfBody, GivesMessage, GivesBody}
 use Rattle.dns_serve.proofs.Frames.{no_frame_short, cut_first, no_frame_inside, cut_inside, kept_front}
 

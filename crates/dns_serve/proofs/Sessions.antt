@@ -1,13 +1,7 @@
 -- What a session has done, message by message.
-use Rattle.std.proofs.Common.{◌≡◌, ℕ, zero, suc, ◌+◌, ◌-◌, ◌^◌, ◌<◌, ◌≤◌, ◌⊎◌, inl, inr, All, List, [], ◌∷◌, ◌++◌, length, take, Option, Some, None, Ok, Err, refl, sym, ap, ◌∙◌, subst, arith, append_assoc, append-nil, length-append}
-use Rattle.std.specs.List.{flat_map}
-use Rattle.std.proofs.lemmas.Grind.{flat_map-append}
+use Rattle.dns_spec.proofs.Common.{◌≡◌, ℕ, zero, suc, ◌+◌, ◌-◌, ◌^◌, ◌<◌, ◌≤◌, ◌⊎◌, inl, inr, All, List, [], ◌∷◌, ◌++◌, length, take, Option, Some, None, Ok, Err, refl, sym, ap, ◌∙◌, subst, arith, append_assoc, append-nil, length-append, flat_map, flat_map-append, Appends, Consumes, IsAtEnd, Appends-trans, Consumes-trans, Octets, ZoneContents}
 use Rattle.std.proofs.lemmas.List.Elements.{All-append}
-use Rattle.std.specs.Io.KnownBytes.{Appends, Consumes, IsAtEnd}
-use Rattle.std.proofs.KnownBytes.{Appends-trans, Consumes-trans}
 use Rattle.dns_spec.specs.Query.{most_over_tcp}
-use Rattle.dns_spec.specs.Names.{Octets}
-use Rattle.dns_spec.specs.Records.{ZoneContents}
 use Rattle.dns_spec.specs.Stream.{frame, frames, first_frame, reply_frame, replies}
 use Rattle.dns_spec.proofs.Streams.StreamFrames.{frames_again}
 use Rattle.dns_spec.proofs.Replies.FirstOctets.{first_octets_answer}

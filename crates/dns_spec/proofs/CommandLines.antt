@@ -1,9 +1,5 @@
 -- The words of a command line say what they ask for: ORIGIN and FILE are the last two, and those before them say the rest.
-use Rattle.std.proofs.Common.{◌≡◌, ℕ, Bool, true, false, List, [], ◌∷◌, ◌++◌, length, get_or, codes, refl, ap, ap₂, arith, length-append, inl, inr}
-use Rattle.std.specs.List.{list_any}
-use Rattle.std.proofs.lemmas.Fmt.{decimal_injective}
-use Rattle.dns_spec.specs.Names.{Octets, octets_equal}
-use Rattle.dns_spec.specs.Report.{Options}
+use Rattle.dns_spec.proofs.Common.{◌≡◌, ℕ, Bool, true, false, List, [], ◌∷◌, ◌++◌, length, get_or, codes, refl, ap, ap₂, arith, length-append, inl, inr, list_any, decimal_injective, Octets, octets_equal, Options}
 use Rattle.dns_spec.specs.CommandWords.{ZoneWords, AreOptions, AskToCheck, ServiceAsked, service_words, HasTurns, AskToServe}
 
 word : ℕ → List Octets → Octets

@@ -1,3 +1,4 @@
+pub mod Common
 pub mod DomainNames
 pub mod NameTexts
 pub mod DataWords

@@ -133,7 +133,7 @@ large_set z n = list_any (λ (r : ResourceRecord). nat_lt most_of_a_set (count z
 abbrev pub many_sets : Check
 many_sets z n = nat_lt most_sets (length (types_of (at z n)))
 
--- the checks by their codes, Z01 to Z15
+-- the checks by their codes, from 1 on
 abbrev pub checks : List (ℕ × Check)
 checks =
     (1, no_soa) ∷ (2, many_soa) ∷ (3, soa_elsewhere) ∷ (4, no_ns) ∷ (5, outside)

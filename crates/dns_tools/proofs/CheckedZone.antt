@@ -1,9 +1,6 @@
 -- What was written of a report of the file is what a check has to write.
 use Rattle.std.proofs.Common.{◌≡◌, ◌≢◌, Bool, List, [], ◌∷◌, Option, Some, None, Result, Ok, Err, IsErrAnd, refl, sym, ap, ◌∙◌, subst, flat_map}
-use Rattle.dns_spec.specs.Names.{Octets, DomainName, folded}
-use Rattle.dns_spec.specs.Records.{ResourceRecord, ZoneContents, records_equal, distinct, zone_of}
-use Rattle.dns_spec.specs.Checks.{Fault, faults}
-use Rattle.dns_spec.specs.Meaning.{Meaning, records, fault_at}
+use Rattle.dns_spec.proofs.Common.{Octets, DomainName, folded, ResourceRecord, ZoneContents, records_equal, distinct, zone_of, Fault, faults, Meaning, records, fault_at}
 use Rattle.dns_spec.specs.Report.{Options, Report, failing, passing, fault_report, report_of_faults, zone_report, report_of_meaning}
 use Rattle.dns_spec.proofs.ZoneChecks.FaultOrder.{folded_folded}
 use Rattle.dns_spec.proofs.PrintedZones.OrderedReport.{ordered_passing}

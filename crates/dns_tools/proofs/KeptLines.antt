@@ -1,17 +1,11 @@
 -- What is kept of a line, octet by octet, and which message it says the line is.
 use Rattle.std.proofs.Common.{◌≡◌, ◌≢◌, ℕ, ◌+◌, ◌<◌, ◌≤◌, ◌==◌, if◌then◌else◌, nat_lt, Bool, true, false, inl, inr, List, [], ◌∷◌, ◌++◌, length, take, drop, get_or, suc, Option, Some, None, refl, sym, ap, ◌∙◌, subst, arith, append_assoc, append-nil, length-append, filter}
-use Rattle.std.proofs.lemmas.Bool.{cases_lt, le-leb, lt-leb, lt-ltb, le-ltb, ltb-true, ltb-false, ne_eqb}
+use Rattle.dns_spec.proofs.Common.{cases_lt, le-leb, lt-leb, lt-ltb, le-ltb, ltb-true, ltb-false, ne_eqb, take_all, take-append-le, take-append-drop, length-take-le, drop-cons, filter-append, Consumes, IsAtEnd, Keeps, Octets, hex_octets}
 use Rattle.std.specs.Prelude.{⊤, ◌-◌, MatchOption, Ok, IfSome, IfNone, IsErr}
 use Rattle.std.specs.Bool.{OnTrue, OnFalse}
 use Rattle.hex.specs.Hex.{decode_of}
 use Rattle.dns_tools.proofs.LineDigits.{line_read, line_refused}
-use Rattle.std.proofs.lemmas.List.{take_all, take-append-le, take-append-drop, length-take-le}
-use Rattle.std.proofs.Math.Seq.{drop-cons}
-use Rattle.std.proofs.lemmas.List.Elements.{filter-append}
-use Rattle.std.specs.Io.KnownBytes.{Consumes, IsAtEnd, Keeps}
 use Rattle.std.proofs.KnownBytes.{Consumes-trans, Consumes-nil, Consumes-kept}
-use Rattle.dns_spec.specs.Names.{Octets}
-use Rattle.dns_spec.specs.DataText.{hex_octets}
 use Rattle.dns_spec.specs.Lines.{begin_line, lines, line_ends, line_message}
 use Rattle.dns_spec.specs.MessageLines.{first_of}
 use Rattle.dns_tools.specs.KeptLine.{KeptLine, no_line, kept_line, kept_message, KeepsOctet}

@@ -1,18 +1,11 @@
 -- The digits of a line, as the library of hexadecimal digits reads and writes them and as the definitions do.
 use Rattle.std.proofs.Common.{◌≡◌, ℕ, zero, suc, ◌+◌, ◌*◌, ◌/◌, ◌%◌, ◌<◌, ◌==◌, if◌then◌else◌, Bool, true, false, ◌&&◌, ◌⊎◌, inl, inr, List, [], ◌∷◌, ◌++◌, length, take, slice_index, Option, Some, None, Result, Ok, Err, refl, sym, ap, ap₂, ◌∙◌, arith}
 use Rattle.std.specs.Prelude.{IsErr}
-use Rattle.std.specs.Char.{is_ascii_hexdigit, digit_value, digit_char}
-use Rattle.std.specs.Option.{option_map}
-use Rattle.std.proofs.lemmas.Bool.{agree_below_at, eqb-true, cases_Bool, cases_lt, le-leb, lt-leb}
-use Rattle.std.proofs.lemmas.List.{take_all, take-append-le}
+use Rattle.dns_spec.proofs.Common.{is_ascii_hexdigit, digit_value, digit_char, option_map, agree_below_at, eqb-true, cases_Bool, cases_lt, le-leb, lt-leb, take_all, take-append-le, Octets, octets16, hex_octets, hex_text}
 use Rattle.hex.specs.Hex.{IsBytes, hex_digit_value, decode_pairs, decode_of, encode_lower, encode_with, lower_digits}
 use Rattle.hex.specs.declared.error.FromHexError.{FromHexError}
 use Rattle.hex.proofs.HexLemmas.{length-encode_with}
 use Rattle.hex.proofs.Pairs.{cons_byte}
-use Rattle.dns_spec.specs.Names.{Octets}
-use Rattle.dns_spec.specs.Layout.{octets16}
-use Rattle.dns_spec.specs.DataText.{hex_octets}
-use Rattle.dns_spec.specs.WrittenText.{hex_text}
 
 abbrev digit : ℕ → Option ℕ
 digit c = if is_ascii_hexdigit c then Some (digit_value c) else None

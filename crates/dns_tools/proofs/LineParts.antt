@@ -1,15 +1,7 @@
 -- Lines of output go out in parts.
 use Rattle.std.proofs.Common.{◌≡◌, ℕ, suc, ◌+◌, ◌<◌, List, [], ◌∷◌, ◌++◌, length, drop, get_or, sym, ap, ◌∙◌, flat_map, append_assoc, append-nil, add-one, codes, decimal}
-use Rattle.std.proofs.Math.Seq.{drop-cons}
-use Rattle.dns_spec.specs.Names.{Octets, DomainName}
-use Rattle.dns_spec.specs.NameText.{name_text}
-use Rattle.dns_spec.specs.TypeText.{type_text}
-use Rattle.dns_spec.specs.WrittenText.{hex_text, data_text}
-use Rattle.dns_spec.specs.FileFaults.{FileFault, fault_code}
-use Rattle.dns_spec.specs.Records.{ZoneContents, zone_serial}
+use Rattle.dns_spec.proofs.Common.{drop-cons, Octets, DomainName, name_text, type_text, hex_text, data_text, FileFault, fault_code, ZoneContents, zone_serial, MessageRecord, DnsMessage, octets16}
 use Rattle.dns_spec.specs.Report.{two_digits, line_report, bare_name_text, loaded_report}
-use Rattle.dns_spec.specs.Reading.{MessageRecord, DnsMessage}
-use Rattle.dns_spec.specs.Layout.{octets16}
 use Rattle.dns_spec.specs.MessageLines.{class_text, header_line, section_line}
 use Rattle.dns_wire.specs.Read.{data_type}
 

@@ -1,16 +1,8 @@
 -- How a run over lines goes on, octet by octet.
 use Rattle.std.proofs.Common.{◌≡◌, ◌≢◌, ℕ, ◌+◌, ◌==◌, ◌/◌, ◌%◌, Bool, true, false, ◌&&◌, List, [], ◌∷◌, ◌++◌, length, take, drop, Option, Some, Result, Ok, Err, OnOk, OnErr, refl, sym, ap, ap₂, ◌∙◌, subst, arith, append_assoc, append-nil, length-append}
-use Rattle.std.specs.Option.{is_some}
-use Rattle.std.proofs.lemmas.Bool.{eqb-true}
-use Rattle.std.proofs.lemmas.List.{take-append-drop}
-use Rattle.std.proofs.lemmas.List.Folds.{list_all-append}
-use Rattle.std.proofs.lemmas.Grind.{flat_map-append}
-use Rattle.std.specs.Io.KnownBytes.{Appends}
+use Rattle.dns_spec.proofs.Common.{is_some, eqb-true, take-append-drop, list_all-append, flat_map-append, Appends, Octets, digit_char, hex_text}
 use Rattle.std.proofs.KnownBytes.{Appends-trans, Appends-nil}
-use Rattle.dns_spec.specs.Names.{Octets}
 use Rattle.dns_spec.specs.Lines.{lines, line_message, reply_line, message_answer, line_answers, are_messages}
-use Rattle.std.specs.Char.{digit_char}
-use Rattle.dns_spec.specs.WrittenText.{hex_text}
 use Rattle.dns_name.specs.Counted.{AppendsBeginning}
 use Rattle.dns_name.proofs.WritesLemmas.{beginning_of_first, beginning_of_second}
 use Rattle.dns_tools.specs.KeptLine.{KeptLine, kept_message, KeepsOctet}

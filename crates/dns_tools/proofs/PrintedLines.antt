@@ -1,8 +1,6 @@
 -- What was printed of a message, a fault or a line is what a run has to print.
-use Rattle.std.proofs.Common.{◌≡◌, ◌≢◌, ℕ, ◌≤◌, Bool, false, Option, Some, None, Result, Ok, Err, codes, refl, sym, subst, arith, inr}
+use Rattle.dns_spec.proofs.Common.{◌≡◌, ◌≢◌, ℕ, ◌≤◌, Bool, false, Option, Some, None, Result, Ok, Err, codes, refl, sym, subst, arith, inr, Octets, Report}
 use Rattle.std.specs.Prelude.{IfErr}
-use Rattle.dns_spec.specs.Names.{Octets}
-use Rattle.dns_spec.specs.Report.{Report}
 use Rattle.dns_spec.specs.MessageLines.{SpellsNone, PrintsOctets, PrintsMessage}
 use Rattle.dns_wire.specs.WireFault.{fault_code, UnlessNoMemory}
 use Rattle.dns_wire.specs.declared.fault.WireFault.{WireFault}

@@ -1,11 +1,8 @@
 -- The name of the question has the places of its suffixes, whatever comes after it; each of them stands so far before its end.
 use Rattle.std.proofs.Common.{◌≡◌, ℕ, zero, suc, ◌+◌, ◌-◌, ◌<◌, ◌≤◌, true, ◌⊎◌, inl, inr, List, [], ◌∷◌, ◌++◌, length, take, drop, refl, sym, ap, ◌∙◌, subst, arith, append_assoc, length-append, take-append-drop, take_at, replicate, ap₂, Option, None, Some, IfSome}
-use Rattle.std.proofs.lemmas.Bool.{and_parts}
+use Rattle.dns_spec.proofs.Common.{and_parts, list_all, Octets, DomainName, wire, is_name, is_label, take-add}
 use Rattle.std.proofs.lemmas.List.{drop-drop, drop-take, take-append-le, length-take, length-drop}
-use Rattle.std.specs.List.{list_all}
-use Rattle.dns_spec.specs.Names.{Octets, DomainName, wire, is_name, is_label}
 use Rattle.dns_spec.proofs.Messages.Places.{Stands, run_written}
-use Rattle.std.proofs.Math.Seq.{take-add}
 use Rattle.dns_name.proofs.WireLemmas.{labels_of_spelled, IsWireForm-wire}
 use Rattle.dns_name.specs.WireForm.{labels_of, IsWireForm}
 use Rattle.dns_wire.specs.Kept.{Kept, IsKept, SpellsName, IsSharedAt, NoneSpelled}

@@ -1,12 +1,8 @@
 -- Octets that a message spells at a place stand there, but for a pointer where the two differ.
 use Rattle.std.proofs.Common.{◌≡◌, ℕ, zero, suc, ◌+◌, ◌<◌, ◌≤◌, Bool, true, false, nat_lt, [], ◌∷◌, ◌++◌, length, take, drop, slice_get, Some, refl, sym, ap, ap₂, ◌∙◌, subst, arith, append_assoc, length-append, drop_at, get_or}
-use Rattle.std.proofs.lemmas.Bool.{ltb-true, ltb-false}
+use Rattle.dns_spec.proofs.Common.{ltb-true, ltb-false, take-add, Octets, DomainName, wire, RunAt, ends, goes_on, jumps}
 use Rattle.std.proofs.lemmas.List.{take_all, length-take-le, length-drop, drop-drop}
 use Rattle.std.proofs.lemmas.Option.{none-some, same_Some, slice_get_within, get_or_from_slice_get, slice_get-get_or}
-use Rattle.std.proofs.Math.Seq.{take-add}
-use Rattle.dns_spec.specs.Names.{Octets, DomainName, wire}
-use Rattle.dns_spec.specs.Reading.{RunAt}
-use Rattle.dns_spec.specs.Reading.RunAt.{ends, goes_on, jumps}
 use Rattle.dns_wire.specs.Labels.{LabelAt, PointerAt, NoRunAt}
 use Rattle.dns_wire.specs.Kept.{SpelledAt, HasAt, IsCommon}
 use Rattle.dns_wire.proofs.Runs.{get_more, label_there}

@@ -1,10 +1,5 @@
 -- Data and records are written part by part.
-use Rattle.std.proofs.Common.{◌≡◌, ◌+◌, ◌-◌, ◌≤◌, ◌∙◌, ℕ, Bool, true, false, List, [], ◌∷◌, ◌++◌, length, take, drop, refl, sym, ap, ap₂, subst, subst₂, arith, append_assoc, append-nil, length-append}
-use Rattle.std.proofs.lemmas.List.{take_at, drop_at}
-use Rattle.std.proofs.Math.Seq.{take-append-add}
-use Rattle.dns_spec.specs.Names.{Octets}
-use Rattle.dns_spec.specs.Data.{class_in, Part, octets, name, laid_parts}
-use Rattle.dns_spec.specs.Layout.{Placed, Laid, laid_front, octets16, octets32, data_laid}
+use Rattle.dns_spec.proofs.Common.{◌≡◌, ◌+◌, ◌-◌, ◌≤◌, ◌∙◌, ℕ, Bool, true, false, List, [], ◌∷◌, ◌++◌, length, take, drop, refl, sym, ap, ap₂, subst, subst₂, arith, append_assoc, append-nil, length-append, take_at, drop_at, take-append-add, Octets, class_in, Part, octets, name, laid_parts, Placed, Laid, laid_front, octets16, octets32, data_laid}
 use Rattle.dns_wire.specs.Kept.{Kept}
 use Rattle.dns_wire.specs.SuffixNumbers.{suffix_number}
 use Rattle.dns_wire.specs.Writing.{Follows, Holds, Layout, octets_laid, name_laid, both_laid, parts_laid, tail_laid}

@@ -1,17 +1,10 @@
 -- A set more in a draft: its size is that of the layout, and it has one set more.
 use Rattle.std.proofs.Common.{◌≡◌, ◌↔◌, ℕ, ◌+◌, ◌≤◌, ◌^◌, Bool, true, false, cond, List, [], ◌∷◌, ◌++◌, length, take, drop, replicate, filter, Option, refl, sym, ap, ap₂, ◌∙◌, subst, subst₂, arith, All, IfSome, Some, append_assoc, append-nil, length-append, ◌<◌, lt_of_not-le}
-use Rattle.std.proofs.lemmas.Bool.{false≢true}
+use Rattle.dns_spec.proofs.Common.{false≢true, take-append-add, Octets, DomainName, wire, RecordSet, records_at, Header, MessageQuestion, Spells, size, Sharing, IsWritable, IsAskable, sections_in_order}
 use Rattle.std.proofs.lemmas.List.{length-map, length-drop}
 use Rattle.std.proofs.lemmas.List.Concat.{flat_map-append}
-use Rattle.std.proofs.Math.Seq.{take-append-add}
-use Rattle.dns_spec.specs.Names.{Octets, DomainName, wire}
-use Rattle.dns_spec.specs.Sets.{RecordSet, records_at}
-use Rattle.dns_spec.specs.Reading.{Header, MessageQuestion, Spells}
 use Rattle.dns_spec.specs.Layout as Layout
 use Rattle.dns_spec.specs.Layout.{Item, Placed, Laid, laid_front, record_laid, records_octets, records_of, in_section, is_section, asked_octets, asked_placed, octets16, question_octets, answer, authority, additional, layout, header_octets, reply_header, message_of}
-use Rattle.dns_spec.specs.LayoutSize.{size}
-use Rattle.dns_spec.specs.Sharing.{Sharing}
-use Rattle.dns_spec.specs.Laws.{IsWritable, IsAskable, sections_in_order}
 use Rattle.dns_spec.proofs.Layouts.SharedNames.{shared_alone}
 use Rattle.dns_spec.proofs.Layouts.SharedLayout.{layout_spells}
 use Rattle.dns_spec.proofs.Layouts.LeastSize.{past_limit}

@@ -1,13 +1,6 @@
 -- Where the name of a question ends: the labels before a place, as they stand in the datagram, are the beginning of it.
-use Rattle.std.proofs.Common.{Bool, true, ◌≡◌, ℕ, suc, ◌+◌, ◌-◌, ◌<◌, ◌≤◌, [], ◌∷◌, ◌++◌, length, take, drop, get_or, refl, sym, ◌∙◌, ap, arith, Option, None, Some, length-append, length-take, length-drop}
-use Rattle.std.proofs.Math.Seq.{take-add, drop-cons}
-use Rattle.std.proofs.lemmas.Bool.{eq-eqb}
-use Rattle.std.specs.Prelude.{if◌then◌else◌}
+use Rattle.dns_spec.proofs.Common.{Bool, true, ◌≡◌, ℕ, suc, ◌+◌, ◌-◌, ◌<◌, ◌≤◌, [], ◌∷◌, ◌++◌, length, take, drop, get_or, refl, sym, ◌∙◌, ap, arith, Option, None, Some, length-append, length-take, length-drop, take-add, drop-cons, eq-eqb, if◌then◌else◌, Octets, DomainName, wire, is_name, MessageQuestion, name_at, field16, question_of, question_at}
 use Rattle.std.proofs.lemmas.List.{append_assoc, append-nil, drop-drop}
-use Rattle.dns_spec.specs.Names.{Octets, DomainName, wire, is_name}
-use Rattle.dns_spec.specs.Reading.{MessageQuestion}
-use Rattle.dns_spec.specs.ComputedReading.{name_at}
-use Rattle.dns_spec.specs.Query.{field16, question_of, question_at}
 use Rattle.dns_spec.proofs.DomainNames.NameLaws.{is_name-push, is_label-IsLabel}
 use Rattle.dns_wire.specs.QueryForm.{NameEnds}
 use Rattle.dns_wire.proofs.NameLoop.{read_on, read_on-start, read_on-root, read_on-label, read_on-past, read_on-high, read_on-long, read_on-missing}

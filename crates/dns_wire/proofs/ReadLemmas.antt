@@ -1,7 +1,5 @@
 -- Questions and records stand one after another, at each place at most one.
-use Rattle.std.proofs.Common.{◌≡◌, ℕ, ◌+◌, ◌<◌, ◌≤◌, List, [], ◌∷◌, ◌++◌, length, refl, sym, ap, ap₂, ◌∙◌, subst, arith, append_assoc, append-nil, length-append}
-use Rattle.dns_spec.specs.Names.{Octets, DomainName}
-use Rattle.dns_spec.specs.Reading.{Header, MessageQuestion, MessageRecord, DnsMessage, NameAt, NumberAt, DataAt, QuestionsAt, RecordsAt, Spells}
+use Rattle.dns_spec.proofs.Common.{◌≡◌, ℕ, ◌+◌, ◌<◌, ◌≤◌, List, [], ◌∷◌, ◌++◌, length, refl, sym, ap, ap₂, ◌∙◌, subst, arith, append_assoc, append-nil, length-append, Octets, DomainName, Header, MessageQuestion, MessageRecord, DnsMessage, NameAt, NumberAt, DataAt, QuestionsAt, RecordsAt, Spells}
 use Rattle.dns_spec.proofs.Messages.OneMessage.{one_number, same_names, same_record, same_questions, same_records}
 use Rattle.dns_wire.specs.Pieces.{NoDataAt}
 use Rattle.dns_wire.specs.declared.message.Counts.{Counts}

@@ -1,11 +1,6 @@
 -- Records are written one after the other.
 use Rattle.std.proofs.Common.{◌≡◌, ℕ, ◌+◌, ◌*◌, ◌<◌, ◌≤◌, Bool, true, false, List, [], ◌∷◌, ◌++◌, length, take, drop, get_or, refl, sym, ap, ap₂, ◌∙◌, subst, arith, add-zero, append_assoc, append-nil, length-append, take-append-drop}
-use Rattle.std.proofs.lemmas.List.{length-map, get_or-map, take_more, take_all}
-use Rattle.dns_spec.specs.Names.{Octets, DomainName}
-use Rattle.dns_spec.specs.Records.{ResourceRecord}
-use Rattle.dns_spec.specs.Sets.{RecordSet, records_at}
-use Rattle.dns_spec.specs.Data.{laid_parts}
-use Rattle.dns_spec.specs.Layout.{Placed, Laid, laid_front, shared_octets, data_laid, record_laid, record_tail, records_octets}
+use Rattle.dns_spec.proofs.Common.{length-map, get_or-map, take_more, take_all, Octets, DomainName, ResourceRecord, RecordSet, records_at, laid_parts, Placed, Laid, laid_front, shared_octets, data_laid, record_laid, record_tail, records_octets}
 use Rattle.dns_spec.proofs.Layouts.LayoutSize.{length-record_tail}
 use Rattle.dns_wire.specs.Writing.{both_laid, shown, records_laid}
 use Rattle.dns_wire.specs.Draft.{Draft, Writes}

@@ -1,10 +1,6 @@
 -- What a run of labels has at a place decides how it goes on.
-use Rattle.std.proofs.Common.{◌≡◌, ℕ, zero, suc, List, ◌+◌, ◌<◌, ◌≤◌, true, IfSome, [], ◌∷◌, ◌++◌, length, take, drop, get_or, slice_get, Option, Some, refl, sym, ap, ◌∙◌, subst, arith, append_assoc, append-nil, length-append}
-use Rattle.std.proofs.lemmas.Option.{none-some, same_Some, slice_get_within, slice_get-get_or}
+use Rattle.dns_spec.proofs.Common.{◌≡◌, ℕ, zero, suc, List, ◌+◌, ◌<◌, ◌≤◌, true, IfSome, [], ◌∷◌, ◌++◌, length, take, drop, get_or, slice_get, Option, Some, refl, sym, ap, ◌∙◌, subst, arith, append_assoc, append-nil, length-append, none-some, same_Some, slice_get_within, slice_get-get_or, Octets, DomainName, wire, is_name, RunAt, NameAt, ends, goes_on, jumps}
 use Rattle.std.proofs.lemmas.List.{length-take-le, length-drop}
-use Rattle.dns_spec.specs.Names.{Octets, DomainName, wire, is_name}
-use Rattle.dns_spec.specs.Reading.{RunAt, NameAt}
-use Rattle.dns_spec.specs.Reading.RunAt.{ends, goes_on, jumps}
 use Rattle.dns_spec.proofs.DomainNames.NameLaws.{IsName-is_name}
 use Rattle.dns_wire.specs.Labels.{LabelAt, PointerAt, NoRunAt, NoNameAt, IsReading, end_or}
 

@@ -1,10 +1,7 @@
 -- What data is cut into whose names take part in compression: one name, a number and a name, or two names and five numbers.
 use Rattle.std.proofs.Common.{◌≡◌, ℕ, ◌-◌, ◌≤◌, true, List, [], ◌∷◌, ◌++◌, length, take, drop, Option, None, Some, refl, sym, ap, ap₂, ◌∙◌, subst, arith, append-nil, length-append, take_at, drop_at}
-use Rattle.std.proofs.lemmas.Bool.{false≢true, and_parts}
-use Rattle.std.proofs.lemmas.Option.{none-some, same_Some}
+use Rattle.dns_spec.proofs.Common.{false≢true, and_parts, none-some, same_Some, Bor, Octets, DomainName, wire, is_name}
 use Rattle.std.proofs.lemmas.List.{length-take, length-drop, take_all}
-use Rattle.std.specs.Borrow.{Bor}
-use Rattle.dns_spec.specs.Names.{Octets, DomainName, wire, is_name}
 use Rattle.dns_spec.specs.Data.{Fixed, width, Piece, domain, fixed, numbers, type_mx, type_soa, Part, octets, name, piece_front, cut, pieces_of, parts, laid_parts, compresses, valid}
 use Rattle.dns_spec.proofs.DataWords.WrittenData.{cut_into, name_part, octets_part, front_taken}
 use Rattle.dns_name.specs.WireForm.{labels_of, IsWireForm}

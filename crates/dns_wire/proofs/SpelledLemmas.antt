@@ -1,12 +1,6 @@
 -- What is spelled from a place on is decided by what stands there and by what comes after it.
 use Rattle.std.proofs.Common.{◌≡◌, ℕ, ◌+◌, ◌<◌, true, [], ◌∷◌, ◌++◌, length, take, drop, slice_get, Some, refl, sym, ap, ◌∙◌, subst, arith, drop_at, take-append-drop, length-append}
-use Rattle.std.proofs.lemmas.Bool.{and_parts}
-use Rattle.std.proofs.lemmas.List.{length-take-le}
-use Rattle.std.proofs.lemmas.Option.{same_Some}
-use Rattle.std.specs.List.{list_all}
-use Rattle.dns_spec.specs.Names.{Octets, DomainName, wire, is_name, is_label}
-use Rattle.dns_spec.specs.Reading.{RunAt}
-use Rattle.dns_spec.specs.Reading.RunAt.{ends, goes_on, jumps}
+use Rattle.dns_spec.proofs.Common.{and_parts, length-take-le, same_Some, list_all, Octets, DomainName, wire, is_name, is_label, RunAt, ends, goes_on, jumps}
 use Rattle.dns_spec.proofs.Messages.Places.{Stands, run_written}
 use Rattle.dns_wire.specs.Labels.{LabelAt, PointerAt}
 use Rattle.dns_wire.specs.Kept.{SpelledFrom, SpellsName, HasAt}

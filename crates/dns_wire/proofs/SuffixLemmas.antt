@@ -1,15 +1,10 @@
 -- What is found for a suffix is where it is shared, and what is kept of a name is just what later names may share of it.
 use Rattle.std.proofs.Common.{◌≡◌, ℕ, zero, suc, ◌+◌, ◌-◌, ◌*◌, ◌<◌, ◌≤◌, Bool, true, false, cond, nat_le, List, [], ◌∷◌, ◌++◌, length, take, drop, get_or, Option, None, Some, refl, sym, ap, ap₂, ◌∙◌, subst, arith, append_assoc, append-nil, length-append, drop_at, le-leb}
-use Rattle.std.proofs.lemmas.Bool.{leb-true}
-use Rattle.std.proofs.lemmas.Option.{same_Some}
-use Rattle.dns_spec.specs.Names.{Octets, DomainName, wire, is_name}
-use Rattle.dns_spec.specs.Reading.{RunAt}
-use Rattle.dns_spec.specs.Layout.{Placed, last_place, shared_place}
+use Rattle.dns_spec.proofs.Common.{leb-true, same_Some, Octets, DomainName, wire, is_name, RunAt, Placed, last_place, shared_place, ends, goes_on, jumps}
 use Rattle.std.proofs.lemmas.List.{length-drop}
 use Rattle.dns_spec.proofs.Messages.Places.{label_parts}
 use Rattle.dns_spec.proofs.DomainNames.NameLaws.{is_name-tail, is_label-head, wire-injective}
 use Rattle.dns_spec.specs.Reading.{pointer_place}
-use Rattle.dns_spec.specs.Reading.RunAt.{ends, goes_on, jumps}
 use Rattle.dns_wire.proofs.Runs.{GoesOn, at_end, at_label, at_pointer, goes_on_at}
 use Rattle.dns_wire.specs.Kept.{Kept, HasPlace, SpelledAt, SpellsName, NoneSpelled}
 use Rattle.dns_wire.specs.Writing.{AfterLabel, front_size, pointed_place, new_places, Holds, Follows}

@@ -1,12 +1,7 @@
 -- Data that is read is data of its type, of at most 65,535 octets.
 use Rattle.std.proofs.Common.{rules, ◌≡◌, ℕ, suc, ◌+◌, ◌-◌, ◌≤◌, Bool, true, ◌&&◌, ◌||◌, not, nat_le, ◌==◌, List, [], ◌∷◌, ◌++◌, length, drop, slice_get, get_or, Some, option_map, is_some, unwrap_or, refl, sym, ap, ◌∙◌, subst, arith, append-nil, add-zero, length-append, if◌then◌else◌}
-use Rattle.std.proofs.lemmas.Bool.{and_from, le-leb, leb-true, ne_eqb, eqb-true}
-use Rattle.std.proofs.lemmas.Option.{same_Some, slice_get_within, slice_get-get_or}
+use Rattle.dns_spec.proofs.Common.{and_from, le-leb, leb-true, ne_eqb, eqb-true, same_Some, slice_get_within, slice_get-get_or, find, Octets, DomainName, wire, class_in, width, Piece, fixed, domain, string, strings, anything, TypeRow, type_table, other_type, pieces_of, Part, octets, name, octets_front, string_front, strings_front, piece_front, are_strings, cut, valid, OctetsAt, PiecesAt, DataAt}
 use Rattle.std.proofs.lemmas.List.{length-take-le, length-drop, take_at, drop_at, nil_from_length, get_or-take, get_or-drop}
-use Rattle.std.specs.List.{find}
-use Rattle.dns_spec.specs.Names.{Octets, DomainName, wire}
-use Rattle.dns_spec.specs.Data.{class_in, width, Piece, fixed, domain, string, strings, anything, TypeRow, type_table, other_type, pieces_of, Part, octets, name, octets_front, string_front, strings_front, piece_front, are_strings, cut, valid}
-use Rattle.dns_spec.specs.Reading.{OctetsAt, PiecesAt, DataAt}
 use Rattle.dns_spec.proofs.DomainNames.NameLaws.{IsName-is_name}
 use Rattle.dns_spec.proofs.DomainNames.WireNames.{name_of-wire}
 use Rattle.dns_rdata.proofs.PartLemmas.{more_are_cut}

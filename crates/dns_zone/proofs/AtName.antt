@@ -1,14 +1,7 @@
 -- The records of a name among records in canonical order.
-use Rattle.std.proofs.Common.{◌≡◌, Bool, true, false, not, cond, List, [], ◌∷◌, refl, ap, ◌∙◌, subst, filter, is_gt, is_lt, Ordering, arith}
+use Rattle.dns_spec.proofs.Common.{◌≡◌, Bool, true, false, not, cond, List, [], ◌∷◌, refl, ap, ◌∙◌, subst, filter, is_gt, is_lt, Ordering, arith, false≢true, not-true, nat_list_cmp_total, on_total, upto, IsTotalOrder, ordering_then, IsPartitionedBy, DomainName, same, name_order, ResourceRecord, insert_by, sort_by, data_order, record_order}
 use Rattle.dns_spec.proofs.Records.RecordOrder.{record_order_total}
 use Rattle.dns_spec.proofs.ZoneChecks.FaultOrder.{name_tie, name_order_total}
-use Rattle.std.proofs.lemmas.Bool.{false≢true, not-true}
-use Rattle.std.proofs.lemmas.Cmp.{nat_list_cmp_total, on_total, upto}
-use Rattle.std.specs.Cmp.{IsTotalOrder}
-use Rattle.std.specs.Ordering.{ordering_then}
-use Rattle.std.specs.List.Sorted.{IsPartitionedBy}
-use Rattle.dns_spec.specs.Names.{DomainName, same, name_order}
-use Rattle.dns_spec.specs.Records.{ResourceRecord, insert_by, sort_by, data_order, record_order}
 use Rattle.dns_spec.proofs.Records.SortedOnce.{Each, each_weaker, filter_each}
 use Rattle.dns_zone.specs.ZoneForm.{AreOrdered}
 use Rattle.dns_zone.proofs.Pairs.{Pairs, pairs_weaker, pairs_of, pairs_filter, parted}

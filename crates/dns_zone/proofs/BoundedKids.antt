@@ -1,9 +1,6 @@
 -- What passes in a part of a list, where nothing passes past the part.
-use Rattle.std.proofs.Common.{◌≡◌, ℕ, ◌≤◌, Bool, true, List, [], ◌++◌, length, take, drop, sym, ap, ◌∙◌, filter, arith}
+use Rattle.dns_spec.proofs.Common.{◌≡◌, ℕ, ◌≤◌, Bool, true, List, [], ◌++◌, length, take, drop, sym, ap, ◌∙◌, filter, arith, filter-append, DomainName, at_or_below, ResourceRecord}
 use Rattle.std.proofs.lemmas.List.{append-nil, take-append-le}
-use Rattle.std.proofs.lemmas.List.Elements.{filter-append}
-use Rattle.dns_spec.specs.Names.{DomainName, at_or_below}
-use Rattle.dns_spec.specs.Records.{ResourceRecord}
 use Rattle.dns_zone.specs.TreeForm.{span, under}
 use Rattle.dns_zone.proofs.AtName.{is_at}
 use Rattle.dns_zone.proofs.KidRows.{is_under}

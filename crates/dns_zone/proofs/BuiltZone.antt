@@ -1,10 +1,5 @@
 -- What a zone that is built keeps, and the serial number of its SOA.
-use Rattle.std.proofs.Common.{◌≡◌, ℕ, ◌≤◌, List, length, sym, ap, ap₂, ◌∙◌, All, filter, arith}
-use Rattle.std.proofs.lemmas.List.{nil_from_length}
-use Rattle.dns_spec.specs.Names.{DomainName, folded, same}
-use Rattle.dns_spec.specs.Records.{ResourceRecord, ZoneContents, zone_of, records_equal, distinct, sort_by, record_order, first_serial, zone_serial}
-use Rattle.dns_spec.specs.Checks.{Fault, faults}
-use Rattle.dns_spec.specs.Meaning.{most_records}
+use Rattle.dns_spec.proofs.Common.{◌≡◌, ℕ, ◌≤◌, List, length, sym, ap, ap₂, ◌∙◌, All, filter, arith, nil_from_length, DomainName, folded, same, ResourceRecord, ZoneContents, zone_of, records_equal, distinct, sort_by, record_order, first_serial, zone_serial, Fault, faults, most_records}
 use Rattle.dns_spec.specs.ZonePrinted.{IsReadRecord, is_soa}
 use Rattle.dns_spec.proofs.ZoneChecks.FaultOrder.{folded_folded}
 use Rattle.dns_spec.proofs.ZoneChecks.PassedChecks.{one_soa}

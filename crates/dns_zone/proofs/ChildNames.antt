@@ -1,12 +1,8 @@
 -- Names one label below a name.
 use Rattle.std.proofs.Common.{◌≡◌, ◌+◌, ◌<◌, ◌≤◌, Bool, true, false, nat_lt, if◌then◌else◌, List, [], ◌∷◌, ◌++◌, map, reverse, length, drop, refl, sym, ap, ap₂, ◌∙◌, arith, is_gt}
 use Rattle.dns_zone.proofs.AtName.{first_part}
-use Rattle.std.proofs.lemmas.Bool.{false≢true, and_parts, and_from, leb-true, lt-ltb, ltb-true, ltb-false, cases_lt}
-use Rattle.std.proofs.lemmas.Cmp.{nat_list_cmp_total, tied_itself}
+use Rattle.dns_spec.proofs.Common.{false≢true, and_parts, and_from, leb-true, lt-ltb, ltb-true, ltb-false, cases_lt, nat_list_cmp_total, tied_itself, slice_cmp, to_ascii_lowercase, Octets, DomainName, wire, folded, same, at_or_below, below, label_order, name_order}
 use Rattle.std.proofs.lemmas.List.{reverse-append, append_assoc}
-use Rattle.std.specs.Cmp.Lexicographic.{slice_cmp}
-use Rattle.std.specs.Char.{to_ascii_lowercase}
-use Rattle.dns_spec.specs.Names.{Octets, DomainName, wire, folded, same, at_or_below, below, label_order, name_order}
 use Rattle.dns_spec.proofs.DomainNames.NameLaws.{at_or_below-short, same-length-wire}
 use Rattle.dns_zone.specs.NameEnd.{ending}
 use Rattle.dns_zone.proofs.NameOrder.{same-is}

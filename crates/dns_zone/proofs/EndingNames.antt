@@ -1,8 +1,6 @@
 -- Names whose wire forms end otherwise are not below one another.
-use Rattle.std.proofs.Common.{◌≡◌, ◌-◌, ◌≤◌, true, [], ◌∷◌, ◌++◌, length, drop, refl, sym, ap, ◌∙◌, arith, length-append}
+use Rattle.dns_spec.proofs.Common.{◌≡◌, ◌-◌, ◌≤◌, true, [], ◌∷◌, ◌++◌, length, drop, refl, sym, ap, ◌∙◌, arith, length-append, end_rest, Octets, DomainName, wire, folded, at_or_below}
 use Rattle.std.proofs.lemmas.List.{append_assoc}
-use Rattle.std.proofs.lemmas.List.Prefix.{end_rest}
-use Rattle.dns_spec.specs.Names.{Octets, DomainName, wire, folded, at_or_below}
 use Rattle.dns_zone.proofs.NameTree.{under-is}
 
 wire_end : (p a : DomainName) → (front : Octets) × (wire (p ++ a) ≡ front ++ wire a)

@@ -1,8 +1,5 @@
 -- The owner and the data of a record stand in its octets, one after the other.
-use Rattle.std.proofs.Common.{◌≡◌, ℕ, true, [], ◌++◌, length, take, drop, refl, ap, ◌∙◌, arith, length-append}
-use Rattle.std.proofs.Math.Seq.{take-append_seam, drop-append_seam}
-use Rattle.dns_spec.specs.Names.{Octets, DomainName, wire, is_name}
-use Rattle.dns_spec.specs.Records.{ResourceRecord}
+use Rattle.dns_spec.proofs.Common.{◌≡◌, ℕ, true, [], ◌++◌, length, take, drop, refl, ap, ◌∙◌, arith, length-append, take-append_seam, drop-append_seam, Octets, DomainName, wire, is_name, ResourceRecord}
 use Rattle.dns_name.proofs.WireLemmas.{labels_of_spelled, IsWireForm-wire}
 use Rattle.dns_master.specs.RecordForm.{IsKept}
 use Rattle.dns_zone.specs.EntryForm.{owner_in, data_in, IsEntry}

@@ -1,16 +1,6 @@
 -- Which names exist in a built zone.
-use Rattle.std.proofs.Common.{◌≡◌, ◌<◌, Bool, true, false, ◌&&◌, not, ◌==◌, List, [], ◌∷◌, map, length, refl, sym, ap, ap₂, ◌∙◌, arith}
+use Rattle.dns_spec.proofs.Common.{◌≡◌, ◌<◌, Bool, true, false, ◌&&◌, not, ◌==◌, List, [], ◌∷◌, map, length, refl, sym, ap, ap₂, ◌∙◌, arith, and_parts, false≢true, or_right, lt-ltb, length-map, to_ascii_lowercase, list_any, Octets, DomainName, folded, same, at_or_below, type_soa, ResourceRecord, ZoneContents, at, owns, is_owner, exists, IsReadRecord}
 use Rattle.dns_spec.proofs.ZoneChecks.FaultOrder.{folded_folded}
-use Rattle.std.proofs.lemmas.Bool.{and_parts, false≢true, or_right, lt-ltb}
-use Rattle.std.proofs.lemmas.List.{length-map}
-use Rattle.std.specs.Char.{to_ascii_lowercase}
-use Rattle.std.specs.List.{list_any}
-use Rattle.dns_spec.specs.Names.{Octets, DomainName, folded, same, at_or_below}
-use Rattle.dns_spec.specs.Data.{type_soa}
-use Rattle.dns_spec.specs.Records.{ResourceRecord, ZoneContents, at, owns}
-use Rattle.dns_spec.specs.Checks.{is_owner}
-use Rattle.dns_spec.specs.Tree.{exists}
-use Rattle.dns_spec.specs.ZonePrinted.{IsReadRecord}
 use Rattle.dns_spec.proofs.Records.SortedOnce.{Each, Among, each_weaker, filter_among}
 use Rattle.dns_spec.proofs.Records.RecordOrder.{each_all}
 use Rattle.dns_spec.proofs.ZoneChecks.PassedChecks.{checks_of_origin, checks_at}

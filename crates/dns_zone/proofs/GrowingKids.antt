@@ -1,15 +1,8 @@
 -- The rows of a name's children, added one by one.
-use Rattle.std.proofs.Common.{◌≡◌, ℕ, suc, ◌+◌, ◌-◌, ◌<◌, ◌≤◌, Bool, true, false, ◌⊎◌, inl, inr, List, [], ◌∷◌, ◌++◌, map, length, take, drop, get_or, refl, sym, ap, ap₂, ◌∙◌, arith, subst, filter, is_gt, Ordering, Less, Equal, Greater, length-append}
+use Rattle.dns_spec.proofs.Common.{◌≡◌, ℕ, suc, ◌+◌, ◌-◌, ◌<◌, ◌≤◌, Bool, true, false, ◌⊎◌, inl, inr, List, [], ◌∷◌, ◌++◌, map, length, take, drop, get_or, refl, sym, ap, ap₂, ◌∙◌, arith, subst, filter, is_gt, Ordering, Less, Equal, Greater, length-append, list_any-append, false≢true, true≢false, false_from_ne_true, or_cases, or_right, filter-append, list_any, to_ascii_lowercase, Octets, DomainName, folded, same, names_equal, at_or_below, label_order, ResourceRecord}
 use Rattle.dns_spec.proofs.ZoneChecks.FaultOrder.{folded_folded}
-use Rattle.std.proofs.lemmas.List.Folds.{list_any-append}
 use Rattle.std.proofs.Math.Seq.{drop-drop}
-use Rattle.std.proofs.lemmas.Bool.{false≢true, true≢false, false_from_ne_true, or_cases, or_right}
 use Rattle.std.proofs.lemmas.List.{take-append-drop, get_or-map, drop_more, append-nil, append_assoc, take_at, drop_at, map-append}
-use Rattle.std.proofs.lemmas.List.Elements.{filter-append}
-use Rattle.std.specs.List.{list_any}
-use Rattle.std.specs.Char.{to_ascii_lowercase}
-use Rattle.dns_spec.specs.Names.{Octets, DomainName, folded, same, names_equal, at_or_below, label_order}
-use Rattle.dns_spec.specs.Records.{ResourceRecord}
 use Rattle.dns_spec.proofs.DomainNames.NameLaws.{names_equal-decides, same-length}
 use Rattle.dns_spec.proofs.Records.SortedOnce.{Each, Among, Rises, each_at, each_weaker, filter_each}
 use Rattle.dns_spec.proofs.Replies.ItemSets.{filter_test}

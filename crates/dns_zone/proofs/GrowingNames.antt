@@ -1,16 +1,9 @@
 -- The owners of a zone, as they are added to the names that are checked, and the origin.
-use Rattle.std.proofs.Common.{append-nil, ◌≡◌, ℕ, zero, suc, true, false, ◌⊎◌, inl, inr, List, [], ◌∷◌, ◌++◌, length, map, take, drop, refl, sym, ap, ◌∙◌, subst, arith, get_or, ◌<◌, is_gt, is_lt, Ordering, Less, Equal, Greater}
+use Rattle.dns_spec.proofs.Common.{append-nil, ◌≡◌, ℕ, zero, suc, true, false, ◌⊎◌, inl, inr, List, [], ◌∷◌, ◌++◌, length, map, take, drop, refl, sym, ap, ◌∙◌, subst, arith, get_or, ◌<◌, is_gt, is_lt, Ordering, Less, Equal, Greater, true≢false, tied_itself, Bor, IsPartitionedBy, ordering_reverse, Octets, DomainName, folded, at_or_below, name_order, ResourceRecord, ZoneContents}
 use Rattle.dns_zone.proofs.SetTests.{each_map}
 use Rattle.dns_zone.proofs.Spans.{each_push, among_append}
 use Rattle.dns_spec.proofs.ZoneChecks.FaultOrder.{name_tie, name_order_total, one_lower}
-use Rattle.std.proofs.lemmas.Bool.{true≢false}
 use Rattle.std.proofs.lemmas.List.{append_assoc, map_push}
-use Rattle.std.proofs.lemmas.Cmp.{tied_itself}
-use Rattle.std.specs.Borrow.{Bor}
-use Rattle.std.specs.List.Sorted.{IsPartitionedBy}
-use Rattle.std.specs.Ordering.{ordering_reverse}
-use Rattle.dns_spec.specs.Names.{Octets, DomainName, folded, at_or_below, name_order}
-use Rattle.dns_spec.specs.Records.{ResourceRecord, ZoneContents}
 use Rattle.dns_spec.proofs.Records.SortedOnce.{Each, Among, Rises, each_at, each_weaker}
 use Rattle.dns_zone.specs.KeyForm.{name_key}
 use Rattle.dns_zone.specs.NamesForm.{name_of, is_upto, IsTopmost, IsChecked, AreChecked, AreOwners, ComesNext}

@@ -1,15 +1,7 @@
 -- The keys of names in lower case stand in the order of the names.
-use Rattle.std.proofs.Common.{◌≡◌, ℕ, ◌+◌, ◌<◌, ◌≤◌, ◌⊎◌, inl, inr, List, [], ◌∷◌, ◌++◌, length, drop, get_or, map, reverse, refl, sym, ap, ap₂, ◌∙◌, Ordering, Less, Equal, Greater, nat_cmp, arith}
-use Rattle.std.proofs.lemmas.Bool.{cases_order, cases_lt, lt-ltb, le-ltb}
+use Rattle.dns_spec.proofs.Common.{◌≡◌, ℕ, ◌+◌, ◌<◌, ◌≤◌, ◌⊎◌, inl, inr, List, [], ◌∷◌, ◌++◌, length, drop, get_or, map, reverse, refl, sym, ap, ap₂, ◌∙◌, Ordering, Less, Equal, Greater, nat_cmp, arith, cases_order, cases_lt, lt-ltb, le-ltb, flat_map-cons, to_ascii_lowercase, nat_cmp_is, slice_cmp, flat_map, ordering_then, Octets, DomainName, folded, label_order, name_order, wire}
 use Rattle.std.proofs.lemmas.List.{reverse-append, map_push, length-map, length-append, flat_map_more}
-use Rattle.std.proofs.lemmas.List.Concat.{flat_map-cons}
 use Rattle.std.proofs.lemmas.Str.Ascii.{lowercase_is}
-use Rattle.std.specs.Char.{to_ascii_lowercase}
-use Rattle.std.specs.Cmp.{nat_cmp_is}
-use Rattle.std.specs.Cmp.Lexicographic.{slice_cmp}
-use Rattle.std.specs.List.{flat_map}
-use Rattle.std.specs.Ordering.{ordering_then}
-use Rattle.dns_spec.specs.Names.{Octets, DomainName, folded, label_order, name_order, wire}
 use Rattle.dns_zone.specs.KeyForm.{raised, ended, name_key}
 
 -- the root's length ends a name

@@ -1,12 +1,6 @@
 -- The key of a name begins with that of another just where the name is at or below it.
-use Rattle.std.proofs.Common.{◌≡◌, ℕ, ◌<◌, ◌≤◌, ◌==◌, Bool, true, [], ◌∷◌, ◌++◌, length, take, drop, get_or, map, reverse, refl, sym, ap, ap₂, ◌∙◌, arith, length-append, nat_lt}
-use Rattle.std.proofs.lemmas.Bool.{cases_order, lt-ltb, ltb-true, le-ltb, and_from, and_parts, and_right}
+use Rattle.dns_spec.proofs.Common.{◌≡◌, ℕ, ◌<◌, ◌≤◌, ◌==◌, Bool, true, [], ◌∷◌, ◌++◌, length, take, drop, get_or, map, reverse, refl, sym, ap, ap₂, ◌∙◌, arith, length-append, nat_lt, cases_order, lt-ltb, ltb-true, le-ltb, and_from, and_parts, and_right, flat_map-cons, take-append_seam, to_ascii_lowercase, flat_map, starts_with, Octets, DomainName, folded, at_or_below, below}
 use Rattle.std.proofs.lemmas.List.{reverse-append, reverse-reverse, append_assoc, take-append-drop}
-use Rattle.std.proofs.lemmas.List.Concat.{flat_map-cons}
-use Rattle.std.proofs.Math.Seq.{take-append_seam}
-use Rattle.std.specs.Char.{to_ascii_lowercase}
-use Rattle.std.specs.List.{flat_map, starts_with}
-use Rattle.dns_spec.specs.Names.{Octets, DomainName, folded, at_or_below, below}
 use Rattle.dns_spec.proofs.DomainNames.NameLaws.{octets_equal-decides, same_tests}
 use Rattle.dns_zone.specs.KeyForm.{raised, ended, name_key}
 use Rattle.dns_zone.proofs.KeyOrder.{IsLow, low_octet, raised_some, raised_less, key_flat, map_reverse}

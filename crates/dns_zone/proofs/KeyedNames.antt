@@ -1,11 +1,8 @@
 -- The keys of owners, in octets that all share.
-use Rattle.std.proofs.Common.{◌≡◌, ℕ, zero, suc, ◌-◌, ◌<◌, ◌≤◌, List, [], ◌∷◌, ◌++◌, length, take, drop, get_or, ap, arith, length-take, length-drop, subst}
-use Rattle.std.proofs.lemmas.Bool.{cases_lt, cases_order}
+use Rattle.dns_spec.proofs.Common.{◌≡◌, ℕ, zero, suc, ◌-◌, ◌<◌, ◌≤◌, List, [], ◌∷◌, ◌++◌, length, take, drop, get_or, ap, arith, length-take, length-drop, subst, cases_lt, cases_order, Octets, DomainName, wire, ResourceRecord}
 use Rattle.std.proofs.lemmas.List.{take-append-le, drop-append-le}
 use Rattle.std.proofs.Math.Seq.{drop-append_seam, take-length}
 use Rattle.std.specs.List.{SwappedAt}
-use Rattle.dns_spec.specs.Names.{Octets, DomainName, wire}
-use Rattle.dns_spec.specs.Records.{ResourceRecord}
 use Rattle.dns_zone.specs.KeyForm.{name_key}
 use Rattle.dns_zone.specs.KeyedForm.{key_in, AreKeyed}
 use Rattle.dns_zone.proofs.KeyOrder.{key_length}

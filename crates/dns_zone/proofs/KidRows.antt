@@ -1,18 +1,7 @@
 -- The row of a child, among records in canonical order.
-use Rattle.std.proofs.Common.{◌≡◌, ℕ, zero, suc, ◌+◌, ◌-◌, ◌<◌, ◌≤◌, Bool, true, false, not, List, [], ◌∷◌, ◌++◌, length, take, drop, get_or, map, refl, sym, ap, ap₂, ◌∙◌, arith, subst, filter, is_gt, is_lt, Ordering, Less, Equal, Greater, length-drop}
+use Rattle.dns_spec.proofs.Common.{◌≡◌, ℕ, zero, suc, ◌+◌, ◌-◌, ◌<◌, ◌≤◌, Bool, true, false, not, List, [], ◌∷◌, ◌++◌, length, take, drop, get_or, map, refl, sym, ap, ap₂, ◌∙◌, arith, subst, filter, is_gt, is_lt, Ordering, Less, Equal, Greater, length-drop, false≢true, true≢false, upto, length-take-le, take-append-drop, get_or-map, get_or-drop, drop_more, end_rest, take-add, filter-append, to_ascii_lowercase, IsPartitionedBy, ordering_reverse, Octets, DomainName, wire, is_name, folded, at_or_below, below, name_order, ResourceRecord, record_order, IsReadRecord}
 use Rattle.dns_spec.proofs.Records.RecordOrder.{record_order_total}
 use Rattle.dns_spec.proofs.ZoneChecks.FaultOrder.{name_order_total}
-use Rattle.std.proofs.lemmas.Bool.{false≢true, true≢false}
-use Rattle.std.proofs.lemmas.Cmp.{upto}
-use Rattle.std.proofs.lemmas.List.{length-take-le, take-append-drop, get_or-map, get_or-drop, drop_more}
-use Rattle.std.proofs.lemmas.List.Prefix.{end_rest}
-use Rattle.std.proofs.Math.Seq.{take-add}
-use Rattle.std.proofs.lemmas.List.Elements.{filter-append}
-use Rattle.std.specs.Char.{to_ascii_lowercase}
-use Rattle.std.specs.List.Sorted.{IsPartitionedBy}
-use Rattle.std.specs.Ordering.{ordering_reverse}
-use Rattle.dns_spec.specs.Names.{Octets, DomainName, wire, is_name, folded, at_or_below, below, name_order}
-use Rattle.dns_spec.specs.Records.{ResourceRecord, record_order}
 use Rattle.dns_spec.proofs.Records.SortedOnce.{Each, each_weaker}
 use Rattle.dns_zone.specs.LabelKey.{IsKey}
 use Rattle.dns_zone.specs.NameEnd.{ending}
@@ -23,7 +12,6 @@ use Rattle.dns_zone.proofs.Pairs.{Pairs, pairs_of, parted, filter_all, filter_wi
 use Rattle.dns_zone.proofs.NameTree.{itself-under, under-order, between}
 use Rattle.dns_zone.proofs.ChildNames.{IsChildOf, cons_under, child_end}
 use Rattle.dns_zone.proofs.Spans.{nothing_each, length-filter-le}
-use Rattle.dns_spec.specs.ZonePrinted.{IsReadRecord}
 use Rattle.dns_zone.proofs.AtName.{unmoved, ordered_records, OwnerNotAfter, owners_in_order, is_at, is_before, at_parted}
 
 abbrev pub is_under : DomainName → ResourceRecord → Bool

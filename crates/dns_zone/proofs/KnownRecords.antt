@@ -1,7 +1,5 @@
 -- The octets of a name are small where those of its wire form are.
-use Rattle.std.proofs.Common.{All, [], ◌∷◌, ◌++◌, length}
-use Rattle.std.proofs.lemmas.List.Elements.{All-nil, All-cons}
-use Rattle.dns_spec.specs.Names.{DomainName, wire}
+use Rattle.dns_spec.proofs.Common.{All, [], ◌∷◌, ◌++◌, length, All-nil, All-cons, DomainName, wire}
 use Rattle.dns_spec.proofs.DomainNames.SmallOctets.{Small, small_tail, small_front, small_back}
 
 pub small_labels : (n : DomainName) → Small (wire n) → All Small n

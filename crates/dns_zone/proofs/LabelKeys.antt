@@ -2,13 +2,8 @@
 -- of what follows the keys, or of the labels' lengths.
 use Rattle.std.proofs.Common.{◌≡◌, ℕ, zero, suc, ◌+◌, ◌*◌, ◌^◌, ◌<◌, ◌≤◌, ◌⊎◌, inl, inr, [], ◌∷◌, ◌-◌, ◌/◌, add-one, drop-cons, map, length, drop, get_or, refl, sym, ap, ◌∙◌, arith, Less, Greater, nat_cmp}
 use Rattle.std.proofs.Math.Nat.{mul-le-mul_right, one-le-pow}
-use Rattle.std.proofs.lemmas.Bool.{cases_lt, cases_order}
-use Rattle.std.proofs.lemmas.Cmp.{nat_list_cmp_total}
+use Rattle.dns_spec.proofs.Common.{cases_lt, cases_order, nat_list_cmp_total, to_ascii_lowercase, nat_cmp_is, ordering_reverse, Octets, DomainName, folded, label_order}
 use Rattle.std.proofs.lemmas.Str.Ascii.{lowercase_is}
-use Rattle.std.specs.Char.{to_ascii_lowercase}
-use Rattle.std.specs.Cmp.{nat_cmp_is}
-use Rattle.std.specs.Ordering.{ordering_reverse}
-use Rattle.dns_spec.specs.Names.{Octets, DomainName, folded, label_order}
 use Rattle.dns_zone.specs.LabelKey.{IsKey, key_of}
 use Rattle.dns_zone.specs.TreeForm.{first_of}
 

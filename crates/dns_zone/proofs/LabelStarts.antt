@@ -1,10 +1,8 @@
 -- Where the labels of a name begin, one label after the other.
-use Rattle.std.proofs.Common.{◌≡◌, ◌⊎◌, ℕ, ◌+◌, ◌<◌, List, ◌∷◌}
+use Rattle.dns_spec.proofs.Common.{◌≡◌, ◌⊎◌, ℕ, ◌+◌, ◌<◌, List, ◌∷◌, refl, sym, ap, ◌∙◌, Octets, DomainName}
 use Rattle.dns_zone.proofs.CommonEnds.{some as some-octet}
 use Rattle.std.proofs.Common.{length, drop, length-drop, get_or, set, subst, arith}
-use Rattle.std.proofs.Common.{refl, sym, ap, ◌∙◌}
 use Rattle.std.proofs.lemmas.List.{drop_more, drop-drop, get_or-set_same, get_or-set_other}
-use Rattle.dns_spec.specs.Names.{Octets, DomainName}
 use Rattle.dns_spec.proofs.DomainNames.NameLaws.{IsName-is_name}
 use Rattle.dns_name.specs.WireForm.{labels_of, IsWireForm}
 use Rattle.dns_name.proofs.WireLemmas.{BeginsWithLabel-IsWireForm, labels_of-zero}

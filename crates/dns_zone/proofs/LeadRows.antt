@@ -1,14 +1,5 @@
 -- The rows on the way from the origin to a target.
-use Rattle.std.proofs.Common.{◌≡◌, ◌⊎◌, inl, inr, ℕ, ◌<◌, ◌≤◌, true, false, List, [], ◌∷◌, ◌++◌, map, length, length-append, get_or, None, refl, ap, arith}
-use Rattle.std.specs.Char.{to_ascii_lowercase}
-use Rattle.std.specs.Option.{is_some}
-use Rattle.std.proofs.lemmas.Bool.{cases_lt}
-use Rattle.std.proofs.lemmas.List.{get_or-map, get_or_append_left, get_or_push}
-use Rattle.dns_spec.specs.Names.{Octets, DomainName, folded, at_or_below, below}
-use Rattle.dns_spec.specs.Data.{type_ns, type_cname}
-use Rattle.dns_spec.specs.Records.{ResourceRecord, ZoneContents, rrset}
-use Rattle.dns_spec.specs.Sets.{set_of}
-use Rattle.dns_spec.specs.Tree.{cut_of}
+use Rattle.dns_spec.proofs.Common.{◌≡◌, ◌⊎◌, inl, inr, ℕ, ◌<◌, ◌≤◌, true, false, List, [], ◌∷◌, ◌++◌, map, length, length-append, get_or, None, refl, ap, arith, to_ascii_lowercase, is_some, cases_lt, get_or-map, get_or_append_left, get_or_push, Octets, DomainName, folded, at_or_below, below, type_ns, type_cname, ResourceRecord, ZoneContents, rrset, set_of, cut_of}
 use Rattle.dns_zone.specs.NodeForm.{IsNodeAt, IsZoneTree, IsLeadRow, IsLeadAt, AreLeads}
 use Rattle.dns_zone.specs.TreeForm.{row_name, row_at}
 use Rattle.dns_zone.specs.declared.row.Row.{Row}

@@ -1,10 +1,7 @@
 -- The shortest end of a name that has so many octets or more.
 use Rattle.std.proofs.Common.{◌≡◌, ℕ, suc, ◌+◌, ◌-◌, ◌<◌, ◌≤◌, Bool, true, false, nat_lt, ◌||◌, if◌then◌else◌, [], ◌∷◌, length, drop, get_or, refl, sym, ap, ap₂, ◌∙◌, arith, length-append, length-drop}
 use Rattle.dns_zone.proofs.KeyOrder.{some_octets}
-use Rattle.std.proofs.lemmas.Bool.{false_from_ne_true, ltb-true, ltb-false, lt-ltb}
-use Rattle.std.proofs.Math.Bool.{or-false}
-use Rattle.std.proofs.lemmas.List.{drop_at, drop-drop, get_or-drop}
-use Rattle.dns_spec.specs.Names.{Octets, DomainName, wire, is_name, folded, same, at_or_below, names_equal}
+use Rattle.dns_spec.proofs.Common.{false_from_ne_true, ltb-true, ltb-false, lt-ltb, or-false, drop_at, drop-drop, get_or-drop, Octets, DomainName, wire, is_name, folded, same, at_or_below, names_equal}
 use Rattle.dns_spec.proofs.DomainNames.NameLaws.{at_or_below-cons, at_or_below-short, at_or_below-long, at_or_below-length-wire, is_name-tail}
 use Rattle.dns_zone.specs.NameEnd.{ending}
 

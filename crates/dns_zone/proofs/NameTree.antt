@@ -1,13 +1,6 @@
 -- Names at or below a name stand side by side in canonical order, directly after it.
-use Rattle.std.proofs.Common.{◌≡◌, suc, ◌+◌, ◌-◌, ◌<◌, ◌≤◌, Bool, true, false, nat_lt, nat_le, ◌⊎◌, inl, inr, List, [], ◌∷◌, ◌++◌, map, reverse, length, take, drop, refl, sym, ap, ap₂, ◌∙◌, arith, length-append, is_eq, is_gt, nat_cmp, Ordering, Less, Equal, Greater}
-use Rattle.std.proofs.lemmas.Bool.{false≢true, true≢false, and_parts, and_from, or_cases, or_right, le-leb, leb-true, lt-ltb, false_from_ne_true, ltb-true}
+use Rattle.dns_spec.proofs.Common.{◌≡◌, suc, ◌+◌, ◌-◌, ◌<◌, ◌≤◌, Bool, true, false, nat_lt, nat_le, ◌⊎◌, inl, inr, List, [], ◌∷◌, ◌++◌, map, reverse, length, take, drop, refl, sym, ap, ap₂, ◌∙◌, arith, length-append, is_eq, is_gt, nat_cmp, Ordering, Less, Equal, Greater, false≢true, true≢false, and_parts, and_from, or_cases, or_right, le-leb, leb-true, lt-ltb, false_from_ne_true, ltb-true, end_rest, nat_list_cmp_total, tied_itself, slice_cmp, lists_ties, ordering_then, ordering_reverse, to_ascii_lowercase, Octets, DomainName, folded, same, last_labels, at_or_below, below, label_order, name_order}
 use Rattle.std.proofs.lemmas.List.{reverse-reverse, reverse-append, take-append-drop, drop-map, length-map, append_assoc}
-use Rattle.std.proofs.lemmas.List.Prefix.{end_rest}
-use Rattle.std.proofs.lemmas.Cmp.{nat_list_cmp_total, tied_itself}
-use Rattle.std.specs.Cmp.Lexicographic.{slice_cmp, lists_ties}
-use Rattle.std.specs.Ordering.{ordering_then, ordering_reverse}
-use Rattle.std.specs.Char.{to_ascii_lowercase}
-use Rattle.dns_spec.specs.Names.{Octets, DomainName, folded, same, last_labels, at_or_below, below, label_order, name_order}
 use Rattle.dns_spec.proofs.DomainNames.NameLaws.{octets_equal-decides, same_tests, same-length, at_or_below-cons}
 use Rattle.dns_zone.proofs.NameOrder.{same-is, same-from}
 use Rattle.dns_spec.proofs.ZoneChecks.FaultOrder.{nat_ties}

@@ -1,10 +1,5 @@
 -- The nodes of a zone by their rows.
-use Rattle.std.proofs.Common.{◌≡◌, ℕ, ◌+◌, ◌-◌, ◌<◌, ◌≤◌, true, List, [], ◌∷◌, length, drop, get_or, sym, ap, ◌∙◌, arith, subst, length-take}
-use Rattle.std.proofs.lemmas.List.{get_or-take, get_or-drop, get_or_default}
-use Rattle.std.specs.List.{list_any}
-use Rattle.dns_spec.specs.Names.{Octets, DomainName, at_or_below}
-use Rattle.dns_spec.specs.Records.{ResourceRecord}
-use Rattle.dns_spec.specs.Tree.{exists}
+use Rattle.dns_spec.proofs.Common.{◌≡◌, ℕ, ◌+◌, ◌-◌, ◌<◌, ◌≤◌, true, List, [], ◌∷◌, length, drop, get_or, sym, ap, ◌∙◌, arith, subst, length-take, get_or-take, get_or-drop, get_or_default, list_any, Octets, DomainName, at_or_below, ResourceRecord, exists}
 use Rattle.dns_spec.proofs.Records.SortedOnce.{Each, each_weaker}
 use Rattle.dns_spec.proofs.Records.RecordOrder.{contains_among}
 use Rattle.dns_zone.specs.Nodes.{IsNode}

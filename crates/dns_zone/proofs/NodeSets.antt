@@ -1,15 +1,5 @@
 -- The sets of a name of a built zone.
-use Rattle.std.proofs.Common.{◌≡◌, ℕ, ◌≤◌, true, false, not, ◌==◌, List, [], ◌∷◌, map, length, Option, None, Some, IfSome, refl, sym, ap, ◌∙◌, subst, filter, is_gt, nat_cmp, arith}
-use Rattle.std.proofs.lemmas.Bool.{eqb-true, eq-eqb, cases_lt, lt-ltb, le-ltb}
-use Rattle.std.proofs.lemmas.Cmp.{nat_cmp_total, tied_itself}
-use Rattle.std.proofs.lemmas.List.{length-map}
-use Rattle.std.proofs.lemmas.Option.{none-some, same_Some}
-use Rattle.std.specs.List.Sorted.{IsNonDecreasingBy}
-use Rattle.dns_spec.specs.Names.{DomainName, folded, same}
-use Rattle.dns_spec.specs.Data.{Valid}
-use Rattle.dns_spec.specs.Records.{ResourceRecord, ZoneContents, distinct, sort_by, data_order, record_order, at, rrset}
-use Rattle.dns_spec.specs.Sets.{RecordSet, records_at, set_of, rising_types, of_lowest_type, of_first_type}
-use Rattle.dns_spec.specs.ZonePrinted.{IsReadRecord}
+use Rattle.dns_spec.proofs.Common.{◌≡◌, ℕ, ◌≤◌, true, false, not, ◌==◌, List, [], ◌∷◌, map, length, Option, None, Some, IfSome, refl, sym, ap, ◌∙◌, subst, filter, is_gt, nat_cmp, arith, eqb-true, eq-eqb, cases_lt, lt-ltb, le-ltb, nat_cmp_total, tied_itself, length-map, none-some, same_Some, IsNonDecreasingBy, DomainName, folded, same, Valid, ResourceRecord, ZoneContents, distinct, sort_by, data_order, record_order, at, rrset, RecordSet, records_at, set_of, rising_types, of_lowest_type, of_first_type, IsReadRecord}
 use Rattle.dns_spec.proofs.Records.SortedOnce.{Each, each_filter, each_distinct, each_sort, each_weaker, filter_each, length-sort_by}
 use Rattle.dns_spec.proofs.Records.RecordOrder.{each_all, all_each}
 use Rattle.dns_spec.proofs.Replies.FewItems.{count_few}

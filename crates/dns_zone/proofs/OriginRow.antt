@@ -1,12 +1,5 @@
 -- The row of the origin of a built zone.
-use Rattle.std.proofs.Common.{◌≡◌, ℕ, ◌-◌, ◌<◌, ◌≤◌, true, ◌&&◌, ◌==◌, List, [], ◌∷◌, length, take, get_or, map, refl, sym, ap, ◌∙◌, arith, subst, filter}
-use Rattle.std.proofs.lemmas.Bool.{and_parts}
-use Rattle.std.proofs.lemmas.List.{get_or-map, take_all, get_or_default}
-use Rattle.std.specs.Char.{to_ascii_lowercase}
-use Rattle.std.specs.List.Sorted.{IsPartitionedBy}
-use Rattle.dns_spec.specs.Names.{DomainName, wire, is_name, same, at_or_below}
-use Rattle.dns_spec.specs.Data.{type_soa}
-use Rattle.dns_spec.specs.Records.{ResourceRecord}
+use Rattle.dns_spec.proofs.Common.{◌≡◌, ℕ, ◌-◌, ◌<◌, ◌≤◌, true, ◌&&◌, ◌==◌, List, [], ◌∷◌, length, take, get_or, map, refl, sym, ap, ◌∙◌, arith, subst, filter, and_parts, get_or-map, take_all, get_or_default, to_ascii_lowercase, IsPartitionedBy, DomainName, wire, is_name, same, at_or_below, type_soa, ResourceRecord}
 use Rattle.dns_spec.proofs.Records.SortedOnce.{Each, Among}
 use Rattle.dns_spec.proofs.Records.RecordOrder.{among_contains}
 use Rattle.dns_zone.specs.LabelKey.{IsKey}

@@ -1,10 +1,5 @@
 -- The records of a name of a zone, by their types, and what is found for a target.
-use Rattle.std.proofs.Common.{◌≡◌, ℕ, ◌≤◌, Bool, true, false, ◌&&◌, ◌==◌, List, [], ◌∷◌, refl, sym, ◌∙◌, arith, filter, is_gt, Equal}
-use Rattle.std.proofs.lemmas.Bool.{cases_lt, le-ltb, ne_eqb, true≢false}
-use Rattle.std.specs.List.{list_any}
-use Rattle.std.specs.List.Sorted.{IsNonDecreasingBy}
-use Rattle.dns_spec.specs.Names.{DomainName, same, name_order}
-use Rattle.dns_spec.specs.Records.{ResourceRecord, ZoneContents, at, owns, record_order}
+use Rattle.dns_spec.proofs.Common.{◌≡◌, ℕ, ◌≤◌, Bool, true, false, ◌&&◌, ◌==◌, List, [], ◌∷◌, refl, sym, ◌∙◌, arith, filter, is_gt, Equal, cases_lt, le-ltb, ne_eqb, true≢false, list_any, IsNonDecreasingBy, DomainName, same, name_order, ResourceRecord, ZoneContents, at, owns, record_order}
 use Rattle.dns_spec.proofs.Records.SortedOnce.{filter_each}
 use Rattle.dns_zone.specs.ZoneForm.{AreOrdered}
 use Rattle.dns_zone.proofs.Pairs.{pairs_of, pairs_filter, rising}

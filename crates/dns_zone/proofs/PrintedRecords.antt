@@ -1,12 +1,6 @@
 -- A record's line goes out in four parts, and the records of a list one after another.
 use Rattle.std.proofs.Common.{◌≡◌, ℕ, suc, ◌+◌, ◌<◌, Bool, true, false, Option, List, ◌∷◌, ◌++◌, length, drop, get_or, sym, subst, ap, ◌∙◌, filter, flat_map, append_assoc, codes, decimal, add-one, arith}
-use Rattle.std.proofs.Math.Seq.{drop-cons}
-use Rattle.dns_spec.specs.Names.{Octets}
-use Rattle.dns_spec.specs.NameText.{name_text}
-use Rattle.dns_spec.specs.TypeText.{type_text}
-use Rattle.dns_spec.specs.WrittenText.{data_text}
-use Rattle.dns_spec.specs.Records.{ResourceRecord, ZoneContents}
-use Rattle.dns_spec.specs.ZonePrinted.{record_line, soa_first, zone_text}
+use Rattle.dns_spec.proofs.Common.{drop-cons, Octets, name_text, type_text, data_text, ResourceRecord, ZoneContents, record_line, soa_first, zone_text}
 use Rattle.dns_name.specs.Counted.{AppendsAllBut}
 use Rattle.dns_name.proofs.WritesLemmas.{held_before}
 use Rattle.dns_zone.specs.ZoneForm.{AreOrdered}

@@ -1,12 +1,7 @@
 -- The names that faults are reported of: the origin, and each owner once.
-use Rattle.std.proofs.Common.{◌≡◌, ℕ, suc, Bool, true, false, cond, ◌⊎◌, inl, inr, List, [], ◌∷◌, ◌++◌, map, refl, sym, ap₂, ◌==◌, ◌&&◌, filter, is_gt, Less, arith}
+use Rattle.dns_spec.proofs.Common.{◌≡◌, ℕ, suc, Bool, true, false, cond, ◌⊎◌, inl, inr, List, [], ◌∷◌, ◌++◌, map, refl, sym, ap₂, ◌==◌, ◌&&◌, filter, is_gt, Less, arith, false≢true, true≢false, and_parts, eqb-true, if◌then◌else◌, DomainName, folded, same, name_order, ResourceRecord, ZoneContents, distinct, Check, checks, checked_names}
 use Rattle.dns_spec.proofs.ZoneChecks.FaultOrder.{folded_folded, name_tie, name_order_total, one_lower, Lower}
-use Rattle.std.proofs.lemmas.Bool.{false≢true, true≢false, and_parts, eqb-true}
 use Rattle.std.proofs.lemmas.Cmp.{tied_back, alike_right}
-use Rattle.std.specs.Prelude.{if◌then◌else◌}
-use Rattle.dns_spec.specs.Names.{DomainName, folded, same, name_order}
-use Rattle.dns_spec.specs.Records.{ResourceRecord, ZoneContents, distinct}
-use Rattle.dns_spec.specs.Checks.{Check, checks, checked_names}
 use Rattle.dns_spec.proofs.Records.SortedOnce.{Each, Among, Rises, each_weaker, sort_rises, apart_distinct, distinct_among, sort_among, among_sort, among_distinct, same_risen}
 use Rattle.dns_zone.specs.ReportedForm.{failed_from, begins_with_owner, owners_once, reported_at}
 use Rattle.dns_zone.proofs.Pairs.{Pairs}

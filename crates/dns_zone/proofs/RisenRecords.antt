@@ -1,12 +1,8 @@
 -- Records moved to the front, each of which comes before the next.
 use Rattle.std.proofs.Common.{◌≡◌, ℕ, zero, suc, ◌+◌, ◌<◌, ◌≤◌, ◌⊎◌, inl, inr, List, [], ◌∷◌, length, take, get_or, refl, sym, ap, ap₂, ◌∙◌, arith, All, IsPermutation, is_eq, is_lt, Less, Equal, Greater, true, ◌-◌, subst}
-use Rattle.std.proofs.lemmas.List.{get_or_default}
-use Rattle.std.proofs.lemmas.Bool.{cases_lt, true≢false}
-use Rattle.std.proofs.lemmas.List.Sorted.{IsPermutation-sym}
+use Rattle.dns_spec.proofs.Common.{get_or_default, cases_lt, true≢false, IsPermutation-sym, ordering_reverse, ResourceRecord, records_equal, distinct, sort_by, record_order}
 use Rattle.std.specs.List.{SwappedAt}
 use Rattle.std.specs.List.Sorted.{IsSorted}
-use Rattle.std.specs.Ordering.{ordering_reverse}
-use Rattle.dns_spec.specs.Records.{ResourceRecord, records_equal, distinct, sort_by, record_order}
 use Rattle.dns_spec.proofs.Records.RecordOrder.{LowerOwner, record_order_total, record_ties, one_record, rises_canonical, each_all, among_permutation}
 use Rattle.dns_spec.proofs.Records.SortedOnce.{Among, Rises, each_weaker, among_sort, sort_among, among_distinct, distinct_among, same_risen}
 

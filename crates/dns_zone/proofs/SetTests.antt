@@ -1,10 +1,7 @@
 -- What walks over records that stand by their types report of the RRsets of an owner.
-use Rattle.std.proofs.Common.{◌≡◌, ℕ, zero, suc, ◌+◌, ◌<◌, ◌≤◌, Bool, true, false, ◌&&◌, ◌||◌, not, cond, nat_lt, eqb, ◌==◌, List, [], ◌∷◌, map, length, drop, refl, sym, ap, ap₂, ◌∙◌, arith, filter}
+use Rattle.dns_spec.proofs.Common.{◌≡◌, ℕ, zero, suc, ◌+◌, ◌<◌, ◌≤◌, Bool, true, false, ◌&&◌, ◌||◌, not, cond, nat_lt, eqb, ◌==◌, List, [], ◌∷◌, map, length, drop, refl, sym, ap, ap₂, ◌∙◌, arith, filter, ltb-false, eqb-true, ne_eqb, eqb-false, eq-eqb, cases_lt, lt-ltb, le-ltb, or_right, or_parts, list_any, ResourceRecord, distinct}
 use Rattle.dns_zone.proofs.Spans.{filter_again}
 use Rattle.std.proofs.Math.ListN.{drop_of_length-le}
-use Rattle.std.proofs.lemmas.Bool.{ltb-false, eqb-true, ne_eqb, eqb-false, eq-eqb, cases_lt, lt-ltb, le-ltb, or_right, or_parts}
-use Rattle.std.specs.List.{list_any}
-use Rattle.dns_spec.specs.Records.{ResourceRecord, distinct}
 use Rattle.dns_spec.proofs.Records.SortedOnce.{Each, each_weaker, each_distinct}
 use Rattle.dns_zone.specs.SetWalks.{begins_with_type, next_differs, neighbours_differ, repeats_after, sets_ended}
 use Rattle.dns_zone.proofs.Pairs.{Pairs, filter_all}

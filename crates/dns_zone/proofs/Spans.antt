@@ -1,11 +1,6 @@
 -- Parts of a list from one place up to another, and the elements that pass a test.
-use Rattle.std.proofs.Common.{◌≡◌, ℕ, zero, suc, ◌+◌, ◌-◌, ◌<◌, ◌≤◌, Bool, true, false, ◌||◌, not, ◌⊎◌, inl, inr, List, [], ◌∷◌, ◌++◌, length, take, drop, get_or, refl, sym, ap, ap₂, ◌∙◌, arith, subst, filter, length-append, length-take, length-drop}
-use Rattle.std.proofs.lemmas.Bool.{false≢true, or_right}
-use Rattle.std.proofs.lemmas.List.{take-append-drop, take-append-le, get_or-take, get_or-drop, nil_from_length}
-use Rattle.std.proofs.lemmas.List.Elements.{filter-append}
-use Rattle.std.proofs.lemmas.List.Filters.{length-filter_both}
+use Rattle.dns_spec.proofs.Common.{◌≡◌, ℕ, zero, suc, ◌+◌, ◌-◌, ◌<◌, ◌≤◌, Bool, true, false, ◌||◌, not, ◌⊎◌, inl, inr, List, [], ◌∷◌, ◌++◌, length, take, drop, get_or, refl, sym, ap, ap₂, ◌∙◌, arith, subst, filter, length-append, length-take, length-drop, false≢true, or_right, take-append-drop, take-append-le, get_or-take, get_or-drop, nil_from_length, filter-append, length-filter_both, list_any}
 use Rattle.std.proofs.Math.Seq.{drop-drop, take-add}
-use Rattle.std.specs.List.{list_any}
 use Rattle.dns_spec.proofs.Records.SortedOnce.{Each, Among, filter_each}
 use Rattle.dns_zone.specs.TreeForm.{span}
 use Rattle.dns_zone.proofs.Pairs.{each_get, filter_all}

@@ -1,7 +1,5 @@
 -- The target of data in lower case is in lower case.
-use Rattle.std.proofs.Common.{◌≡◌, ℕ, true, Option, Some, IfSome, List, [], ◌∷◌, map, sym, ap, ◌∙◌, arith}
-use Rattle.dns_spec.specs.Names.{Octets, DomainName, folded}
-use Rattle.dns_spec.specs.Data.{Part, octets, name, part_folded, first_name, valid, parts, lower_case, target}
+use Rattle.dns_spec.proofs.Common.{◌≡◌, ℕ, true, Option, Some, IfSome, List, [], ◌∷◌, map, sym, ap, ◌∙◌, arith, Octets, DomainName, folded, Part, octets, name, part_folded, first_name, valid, parts, lower_case, target}
 use Rattle.dns_spec.proofs.DataWords.LoweredData.{lowered_data}
 
 first_lowered : (xs : List Part) (m : DomainName) → map part_folded xs ≡ xs → first_name xs ≡ Some m → folded m ≡ m

@@ -1,14 +1,6 @@
 -- The topmost cut that a name is at or below, by the octets of keys.
-use Rattle.std.proofs.Common.{◌≡◌, ℕ, ◌+◌, ◌<◌, ◌≤◌, Bool, true, false, ◌&&◌, cond, ◌==◌, nat_lt, ◌⊎◌, inl, inr, [], ◌∷◌, length, take, drop, map, refl, sym, ap, ◌∙◌, subst, arith, is_gt, length-append, length-take}
+use Rattle.dns_spec.proofs.Common.{◌≡◌, ℕ, ◌+◌, ◌<◌, ◌≤◌, Bool, true, false, ◌&&◌, cond, ◌==◌, nat_lt, ◌⊎◌, inl, inr, [], ◌∷◌, length, take, drop, map, refl, sym, ap, ◌∙◌, subst, arith, is_gt, length-append, length-take, take-append-le, min-eq_left, take-append_seam, starts_with, DomainName, folded, same, at_or_below, below, name_order, type_ns, ZoneContents, owns, is_cut}
 use Rattle.std.proofs.lemmas.Bool.{false≢true, and_parts, and_from, and_right, or_cases, or_left, or_right, cases_lt, lt-ltb, le-ltb, ltb-true, leb-true}
-use Rattle.std.proofs.lemmas.List.{take-append-le}
-use Rattle.std.proofs.Math.Nat.{min-eq_left}
-use Rattle.std.proofs.Math.Seq.{take-append_seam}
-use Rattle.std.specs.List.{starts_with}
-use Rattle.dns_spec.specs.Names.{DomainName, folded, same, at_or_below, below, name_order}
-use Rattle.dns_spec.specs.Data.{type_ns}
-use Rattle.dns_spec.specs.Records.{ZoneContents, owns}
-use Rattle.dns_spec.specs.Tree.{is_cut}
 use Rattle.dns_spec.specs.Checks.{at_or_below_cut, below_cut}
 use Rattle.dns_spec.proofs.DomainNames.NameLaws.{octets_equal-decides, same_tests, at_or_below-cons}
 use Rattle.dns_zone.specs.KeyForm.{raised, ended, name_key}

@@ -1,17 +1,9 @@
 -- How the way down to a name goes on from the name above it.
-use Rattle.std.proofs.Common.{◌≡◌, ℕ, suc, ◌+◌, ◌≤◌, Bool, true, false, cond, ◌||◌, ◌&&◌, List, [], ◌∷◌, map, reverse, length, None, Some, refl, sym, ap, ◌∙◌, arith}
+use Rattle.dns_spec.proofs.Common.{◌≡◌, ℕ, suc, ◌+◌, ◌≤◌, Bool, true, false, cond, ◌||◌, ◌&&◌, List, [], ◌∷◌, map, reverse, length, None, Some, refl, sym, ap, ◌∙◌, arith, false≢true, and_parts, ltb-true, false_from_ne_true, length-map, reverse-append, to_ascii_lowercase, option_or, is_some, Octets, DomainName, folded, names_equal, same, at_or_below, below, suffixes, type_ns, ResourceRecord, ZoneContents, at, owns, rrset, sort_by, insert_by, data_order, set_of}
 use Rattle.dns_zone.proofs.ChildNames.{cons_under}
 use Rattle.dns_spec.proofs.ZoneChecks.FaultOrder.{folded_folded}
-use Rattle.std.proofs.lemmas.Bool.{false≢true, and_parts, ltb-true, false_from_ne_true}
-use Rattle.std.proofs.lemmas.List.{length-map, reverse-append}
 use Rattle.std.proofs.lemmas.List.Folds.{find-append}
-use Rattle.std.specs.Char.{to_ascii_lowercase}
 use Rattle.std.specs.List.{find, filter, list_any}
-use Rattle.std.specs.Option.{option_or, is_some}
-use Rattle.dns_spec.specs.Names.{Octets, DomainName, folded, names_equal, same, at_or_below, below, suffixes}
-use Rattle.dns_spec.specs.Data.{type_ns}
-use Rattle.dns_spec.specs.Records.{ResourceRecord, ZoneContents, at, owns, rrset, sort_by, insert_by, data_order}
-use Rattle.dns_spec.specs.Sets.{set_of}
 use Rattle.dns_spec.specs.Tree.{exists, is_cut, cut_of, closest_encloser, without_first}
 use Rattle.dns_spec.proofs.DomainNames.NameLaws.{at_or_below-cons, same-length}
 use Rattle.dns_zone.proofs.NameTree.{under-trans}

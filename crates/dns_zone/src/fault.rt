@@ -6,8 +6,8 @@ use dns_name::Name;
 use std::alloc::AllocError;
 use std::marker::Model;
 
-/// A fault of a zone: the owner that it is reported of, in lower case, and the number of its code,
-/// 1 to 15 (`Z01` to `Z15`).
+/// A fault of a zone: the owner that it is reported of, in lower case, and the number of its code:
+/// 1 of `Z01`.
 #[derive(Drop)]
 pub struct CheckFault {
     /// The name that it is reported of.

@@ -1,16 +1,7 @@
 -- What is written for numbers, addresses, names and strings has no octet that ends the word.
-use Rattle.std.proofs.Common.{◌≡◌, ℕ, ◌+◌, ◌<◌, ◌^◌, inl, inr, Bool, true, false, ◌||◌, not, ◌==◌, List, [], ◌∷◌, ◌++◌, map, refl, ◌∙◌, ap, arith, append_assoc, decimal, rules}
-use Rattle.std.proofs.lemmas.Bool.{agree_below_at, and_from, cases_Bool, eqb-true, true≢false}
-use Rattle.std.proofs.lemmas.Fmt.{decimal_is_IsNumeral}
-use Rattle.std.proofs.lemmas.Str.Parse.{digit_from_value}
-use Rattle.std.specs.List.{flat_map, join_with_byte}
+use Rattle.dns_spec.proofs.Common.{◌≡◌, ℕ, ◌+◌, ◌<◌, ◌^◌, inl, inr, Bool, true, false, ◌||◌, not, ◌==◌, List, [], ◌∷◌, ◌++◌, map, refl, ◌∙◌, ap, arith, append_assoc, decimal, rules, agree_below_at, and_from, cases_Bool, eqb-true, true≢false, decimal_is_IsNumeral, digit_from_value, flat_map, join_with_byte, AllDigits, Octets, DomainName, is_special, three_digits, octet_text, label_text, labels_text, ipv4_text, is_word_octet}
 use Rattle.std.specs.Char.{is_ascii_graphic, digit_char, IsAsciiDigit}
-use Rattle.std.specs.Str.Parse.{AllDigits}
-use Rattle.dns_spec.specs.Names.{Octets, DomainName}
-use Rattle.dns_spec.specs.NameText.{is_special, three_digits, octet_text, label_text, labels_text}
-use Rattle.dns_spec.specs.AddressText.{ipv4_text}
 use Rattle.dns_spec.specs.WrittenText.{string_octet_text, is_unbroken, is_quotable}
-use Rattle.dns_spec.specs.DataText.{is_word_octet}
 use Rattle.dns_spec.proofs.Records.SortedOnce.{Each}
 use Rattle.dns_spec.proofs.DomainNames.SmallOctets.{Small, small_head, small_tail}
 

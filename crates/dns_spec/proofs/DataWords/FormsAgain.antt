@@ -1,13 +1,7 @@
 -- The word that is written for the front of data says that front again, form by form.
 use Rattle.std.proofs.Common.{◌≡◌, ℕ, zero, suc, ◌+◌, ◌*◌, ◌^◌, ◌<◌, ◌≤◌, All, true, Bool, not, Some, List, [], ◌∷◌, ◌++◌, length, take, drop, replicate, refl, sym, ◌∙◌, ap, subst, arith, take-append-drop, length-drop, add_comm, suc-mul}
-use Rattle.std.proofs.Math.Nat.{pow-le-pow_right}
-use Rattle.std.proofs.lemmas.Bool.{and_from, and_parts, false≢true}
-use Rattle.std.proofs.lemmas.List.{length-take-le, drop-drop}
+use Rattle.dns_spec.proofs.Common.{pow-le-pow_right, and_from, and_parts, false≢true, length-take-le, drop-drop, list_all, Octets, DomainName, wire, is_label, is_name, name_of, are_strings, number_of, Word, WordForm, number_word, ipv4_word, ipv6_word, name_word, string_word, SaysWord, SaysForms, SaysString, is_unknown_mark}
 use Rattle.std.proofs.lemmas.List.Elements.{All-take, All-drop}
-use Rattle.std.specs.List.{list_all}
-use Rattle.dns_spec.specs.Names.{Octets, DomainName, wire, is_label, is_name, name_of}
-use Rattle.dns_spec.specs.Data.{are_strings, number_of}
-use Rattle.dns_spec.specs.DataText.{Word, WordForm, number_word, ipv4_word, ipv6_word, name_word, string_word, SaysWord, SaysForms, SaysString, is_unknown_mark}
 use Rattle.dns_spec.specs.WrittenText.{name_front, word_front, form_words, string_count, quoted, stands_alone}
 use Rattle.dns_spec.proofs.DomainNames.SmallOctets.{Small, small_head, small_tail, small_front, small_back, small_test}
 use Rattle.dns_spec.proofs.Records.SortedOnce.{Each}

@@ -1,9 +1,6 @@
 -- The hex digits of a group of an IPv6 address.
-use Rattle.std.proofs.Common.{◌≡◌, ℕ, ◌/◌, ◌%◌, ◌<◌, ◌≤◌, false, [], ◌∷◌, arith}
-use Rattle.std.specs.Char.{digit_char}
-use Rattle.std.specs.Fmt.{digits}
+use Rattle.dns_spec.proofs.Common.{◌≡◌, ℕ, ◌/◌, ◌%◌, ◌<◌, ◌≤◌, false, [], ◌∷◌, arith, digit_char, digits, ne_eqb, eq-eqb}
 use Rattle.std.proofs.lemmas.Fmt.{hex_one_digit, hex_two_digits}
-use Rattle.std.proofs.lemmas.Bool.{ne_eqb, eq-eqb}
 
 pub one_digit : (n : ℕ) → n < 16 → digits 16 false n ≡ digit_char n ∷ []
 one_digit n small = hex_one_digit false n small

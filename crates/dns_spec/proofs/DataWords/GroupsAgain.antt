@@ -1,14 +1,7 @@
 -- Groups that are written with colons between are read as those groups again, and nothing in their text is a gap.
-use Rattle.std.proofs.Common.{◌≡◌, ℕ, zero, suc, ◌/◌, ◌%◌, ◌<◌, ◌≤◌, inl, inr, Bool, true, false, ◌&&◌, ◌==◌, All, Option, None, Some, List, [], ◌∷◌, ◌++◌, map, length, nat_lt, nat_le, refl, sym, ◌∙◌, ap, subst, arith, append_assoc, append-nil}
-use Rattle.std.proofs.lemmas.Bool.{agree_below_at, and_from, lt-ltb, le-leb, cases_lt}
+use Rattle.dns_spec.proofs.Common.{◌≡◌, ℕ, zero, suc, ◌/◌, ◌%◌, ◌<◌, ◌≤◌, inl, inr, Bool, true, false, ◌&&◌, ◌==◌, All, Option, None, Some, List, [], ◌∷◌, ◌++◌, map, length, nat_lt, nat_le, refl, sym, ◌∙◌, ap, subst, arith, append_assoc, append-nil, agree_below_at, and_from, lt-ltb, le-leb, cases_lt, option_map, list_all, slice_split, is_ascii_hexdigit, digit_char, digits_value, digits, Octets}
 use Rattle.std.proofs.lemmas.Fmt.{digits_is_IsNumeral}
 use Rattle.std.proofs.lemmas.List.Splits.{slice_split_none, slice_split_at}
-use Rattle.std.specs.Option.{option_map}
-use Rattle.std.specs.List.{list_all, slice_split}
-use Rattle.std.specs.Char.{is_ascii_hexdigit, digit_char}
-use Rattle.std.specs.Str.Parse.{digits_value}
-use Rattle.std.specs.Fmt.{digits}
-use Rattle.dns_spec.specs.Names.{Octets}
 use Rattle.dns_spec.specs.AddressText.{is_group, group_values, groups_said, around_gap, groups_text}
 use Rattle.dns_spec.proofs.Records.SortedOnce.{Each}
 use Rattle.dns_spec.proofs.DataWords.GroupDigits.{one_digit, two_digits, three_of, four_of}

@@ -1,12 +1,8 @@
 -- Octets that are written in hex digits are read as those octets again.
-use Rattle.std.proofs.Common.{◌≡◌, ℕ, ◌+◌, ◌*◌, ◌/◌, ◌%◌, ◌<◌, true, [], ◌∷◌, length, refl, ◌∙◌, ap, arith, append-nil}
-use Rattle.std.proofs.lemmas.Bool.{agree_below_at, and_from, eq-eqb, lt-ltb}
+use Rattle.dns_spec.proofs.Common.{◌≡◌, ℕ, ◌+◌, ◌*◌, ◌/◌, ◌%◌, ◌<◌, true, [], ◌∷◌, length, refl, ◌∙◌, ap, arith, append-nil, agree_below_at, and_from, eq-eqb, lt-ltb, is_ascii_hexdigit, digit_char, digit_value, Octets, plain, hex_text, hex_words}
 use Rattle.std.proofs.lemmas.Str.{digit_value-digit_char}
 use Rattle.std.specs.Prelude.{Some, decimal}
-use Rattle.std.specs.Char.{is_ascii_hexdigit, digit_char, digit_value}
-use Rattle.dns_spec.specs.Names.{Octets}
 use Rattle.dns_spec.specs.DataText.{hex_octets, is_hex_word, SaysHex, SaysUnknown}
-use Rattle.dns_spec.specs.WrittenText.{plain, hex_text, hex_words}
 use Rattle.dns_spec.proofs.DomainNames.SmallOctets.{Small, small_head, small_tail}
 
 pub hex_digit : (d : ℕ) → d < 16 → is_ascii_hexdigit (digit_char d) ≡ true

@@ -1,11 +1,5 @@
 -- An IPv6 address that is written as text is read as that address again.
-use Rattle.std.proofs.Common.{◌≡◌, ℕ, zero, suc, ◌+◌, ◌*◌, ◌/◌, ◌%◌, ◌<◌, ◌≤◌, ◌⊎◌, inl, inr, true, false, Some, List, [], ◌∷◌, ◌++◌, length, take, drop, replicate, nat_lt, refl, ◌∙◌, ap, arith, length-drop}
-use Rattle.std.proofs.lemmas.Bool.{cases_Bool, eq-eqb, lt-ltb, ltb-false}
-use Rattle.std.proofs.lemmas.List.{length-take-le}
-use Rattle.std.specs.Prelude.{if◌then◌else◌}
-use Rattle.std.specs.List.{flat_map}
-use Rattle.std.specs.Int.{bytes_high_first}
-use Rattle.dns_spec.specs.Names.{Octets}
+use Rattle.dns_spec.proofs.Common.{◌≡◌, ℕ, zero, suc, ◌+◌, ◌*◌, ◌/◌, ◌%◌, ◌<◌, ◌≤◌, ◌⊎◌, inl, inr, true, false, Some, List, [], ◌∷◌, ◌++◌, length, take, drop, replicate, nat_lt, refl, ◌∙◌, ap, arith, length-drop, cases_Bool, eq-eqb, lt-ltb, ltb-false, length-take-le, if◌then◌else◌, flat_map, bytes_high_first, Octets}
 use Rattle.dns_spec.specs.AddressText.{ipv6_groups, SaysIpv6, groups_of, groups_text, longest_run, longest_place, ipv6_text}
 use Rattle.dns_spec.proofs.DomainNames.SmallOctets.{Small, small_head, small_tail}
 use Rattle.dns_spec.proofs.DataWords.GroupsAgain.{Groups, groups_again, no_gap, gap_after}

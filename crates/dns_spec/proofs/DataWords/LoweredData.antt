@@ -1,14 +1,6 @@
 -- The parts of data joined are the data, and data in lower case is cut into the same pieces.
-use Rattle.std.proofs.lemmas.Grind.{common_steps}
-use Rattle.std.proofs.Common.{◌≡◌, ℕ, ◌≤◌, true, Some, List, [], ◌∷◌, ◌++◌, map, length, refl, sym, ap, ◌∙◌, subst, arith, append-nil, length-append}
-use Rattle.std.proofs.lemmas.Bool.{and_parts, and_from, leb-true, le-leb, false≢true}
-use Rattle.std.proofs.lemmas.Option.{none-some, same_Some}
-use Rattle.std.proofs.lemmas.List.{take_at, drop_at, nil_from_length}
-use Rattle.std.proofs.lemmas.List.Concat.{flat_map-cons}
+use Rattle.dns_spec.proofs.Common.{common_steps, ◌≡◌, ℕ, ◌≤◌, true, Some, List, [], ◌∷◌, ◌++◌, map, length, refl, sym, ap, ◌∙◌, subst, arith, append-nil, length-append, and_parts, and_from, leb-true, le-leb, false≢true, none-some, same_Some, take_at, drop_at, nil_from_length, flat_map-cons, to_ascii_lowercase, Octets, DomainName, folded, width, Piece, fixed, domain, string, strings, anything, pieces_of, Part, octets, name, part_octets, joined, part_folded, octets_front, piece_front, cut, valid, parts, lower_case}
 use Rattle.std.proofs.lemmas.Str.Ascii.{lowercase-lowercase}
-use Rattle.std.specs.Char.{to_ascii_lowercase}
-use Rattle.dns_spec.specs.Names.{Octets, DomainName, folded}
-use Rattle.dns_spec.specs.Data.{width, Piece, fixed, domain, string, strings, anything, pieces_of, Part, octets, name, part_octets, joined, part_folded, octets_front, piece_front, cut, valid, parts, lower_case}
 use Rattle.dns_spec.proofs.DomainNames.NameLaws.{is_name-folded, length-wire-folded}
 use Rattle.dns_spec.proofs.DataWords.WrittenData.{cut_into, name_part, octets_part, front_taken, all_strings}
 use Rattle.dns_spec.proofs.DataWords.MadeData.{cut-domain, cut-step}

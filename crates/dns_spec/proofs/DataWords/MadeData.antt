@@ -1,8 +1,5 @@
 -- Data that begins with a name, or with a piece of any kind, is cut there.
-use Rattle.std.proofs.Common.{◌≡◌, true, List, ◌∷◌, ◌++◌, Some, ap, arith}
-use Rattle.std.specs.Option.{option_map}
-use Rattle.dns_spec.specs.Names.{Octets, DomainName, wire, is_name}
-use Rattle.dns_spec.specs.Data.{Piece, Part, name, piece_front, cut, domain}
+use Rattle.dns_spec.proofs.Common.{◌≡◌, true, List, ◌∷◌, ◌++◌, Some, ap, arith, option_map, Octets, DomainName, wire, is_name, Piece, Part, name, piece_front, cut, domain}
 use Rattle.dns_spec.proofs.DomainNames.WireNames.{name_of-wire}
 
 -- a name

@@ -3,9 +3,7 @@ use Rattle.std.proofs.Common.{◌≡◌, ℕ, zero, suc, ◌+◌, ◌*◌, ◌^�
 use Rattle.std.proofs.lemmas.Nat.{same_from_place, mul-add-lt}
 use Rattle.std.specs.Prelude.{decimal}
 use Rattle.std.specs.Int.{byte_at, bytes_high_first}
-use Rattle.dns_spec.specs.Names.{Octets}
-use Rattle.dns_spec.specs.Data.{number_of}
-use Rattle.dns_spec.specs.DataText.{SaysNumber}
+use Rattle.dns_spec.proofs.Common.{Octets, number_of, SaysNumber}
 use Rattle.dns_spec.proofs.Messages.Places.{length-bytes_high_first, number_of-bytes}
 use Rattle.dns_spec.proofs.DomainNames.SmallOctets.{Small, small_head, small_tail}
 

@@ -1,19 +1,6 @@
 -- Words say at most one piece of data of a type.
-use Rattle.std.proofs.Common.{◌≡◌, ℕ, zero, suc, ◌<◌, ◌≤◌, Bool, true, false, nat_le, List, [], ◌∷◌, ◌++◌, length, replicate, Option, Some, None, refl, sym, ◌∙◌, ap, ap₂, arith, decimal}
+use Rattle.dns_spec.proofs.Common.{◌≡◌, ℕ, zero, suc, ◌<◌, ◌≤◌, Bool, true, false, nat_le, List, [], ◌∷◌, ◌++◌, length, replicate, Option, Some, None, refl, sym, ◌∙◌, ap, ap₂, arith, decimal, MatchBool, list_all, flat_map, find, option_map, AllDigits, pow-le-pow_right, and_parts, and_from, leb-true, ltb-true, same_Some, decimal_is_IsNumeral, decimal_injective, digit_from_value, Octets, DomainName, wire, Piece, fixed, domain, string, strings, anything, numbers, ipv4, ipv6, TypeRow, type_table, row_of, SaysIpv4, SaysIpv6, Word, WordForm, number_word, ipv4_word, ipv6_word, name_word, string_word, SaysNumber, SaysString, SaysForm, SaysForms, forms_in, SaysTyped, SaysUnknown, SaysAsSpelled, is_unknown_mark, Says}
 use Rattle.std.specs.Prelude.{⊤, MatchOption, ◌==◌, if◌then◌else◌}
-use Rattle.std.specs.Bool.{MatchBool}
-use Rattle.std.specs.List.{list_all, flat_map, find}
-use Rattle.std.specs.Option.{option_map}
-use Rattle.std.specs.Str.Parse.{AllDigits}
-use Rattle.std.proofs.Math.Nat.{pow-le-pow_right}
-use Rattle.std.proofs.lemmas.Bool.{and_parts, and_from, leb-true, ltb-true}
-use Rattle.std.proofs.lemmas.Option.{same_Some}
-use Rattle.std.proofs.lemmas.Fmt.{decimal_is_IsNumeral, decimal_injective}
-use Rattle.std.proofs.lemmas.Str.Parse.{digit_from_value}
-use Rattle.dns_spec.specs.Names.{Octets, DomainName, wire}
-use Rattle.dns_spec.specs.Data.{Piece, fixed, domain, string, strings, anything, numbers, ipv4, ipv6, TypeRow, type_table, row_of}
-use Rattle.dns_spec.specs.AddressText.{SaysIpv4, SaysIpv6}
-use Rattle.dns_spec.specs.DataText.{Word, WordForm, number_word, ipv4_word, ipv6_word, name_word, string_word, SaysNumber, SaysString, SaysForm, SaysForms, forms_in, SaysTyped, SaysUnknown, SaysAsSpelled, is_unknown_mark, Says}
 use Rattle.dns_spec.proofs.NameTexts.OneName.{name_once, string_once}
 
 -- numbers of at most 32 bits

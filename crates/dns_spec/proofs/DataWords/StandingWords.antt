@@ -1,16 +1,8 @@
 -- The words that are written stand alone, a reader takes them in whole, and none of them is the mark of the form for data of
 -- any type.
-use Rattle.std.proofs.lemmas.Grind.{common_steps}
-use Rattle.std.proofs.Common.{◌≡◌, ℕ, ◌/◌, ◌%◌, ◌<◌, ◌^◌, Bool, true, false, ◌==◌, List, [], ◌∷◌, ◌++◌, length, refl, sym, ◌∙◌, ap, subst, arith, append_assoc, append-nil, length-append, decimal, rules}
-use Rattle.std.proofs.lemmas.Bool.{and_from, and_right, lt-ltb}
+use Rattle.dns_spec.proofs.Common.{common_steps, ◌≡◌, ℕ, ◌/◌, ◌%◌, ◌<◌, ◌^◌, Bool, true, false, ◌==◌, List, [], ◌∷◌, ◌++◌, length, refl, sym, ◌∙◌, ap, subst, arith, append_assoc, append-nil, length-append, decimal, rules, and_from, and_right, lt-ltb, if◌then◌else◌, digit_char, digits, Octets, DomainName, octets_equal, label_text, labels_text, name_text, Word, is_unknown_mark, is_word_octet, is_string_octet}
 use Rattle.std.proofs.lemmas.Fmt.{decimal_nonempty}
-use Rattle.std.specs.Prelude.{if◌then◌else◌}
-use Rattle.std.specs.Char.{digit_char}
-use Rattle.std.specs.Fmt.{digits}
-use Rattle.dns_spec.specs.Names.{Octets, DomainName, octets_equal}
-use Rattle.dns_spec.specs.NameText.{label_text, labels_text, name_text}
 use Rattle.dns_spec.specs.AddressText.{SaysIpv6, ipv6_groups, ipv4_text, groups_text, ipv6_text}
-use Rattle.dns_spec.specs.DataText.{Word, is_unknown_mark, is_word_octet, is_string_octet}
 use Rattle.dns_spec.specs.WrittenText.{plain, quoted, hex_text, is_unbroken, stands_alone}
 use Rattle.dns_spec.proofs.Records.SortedOnce.{Each}
 use Rattle.dns_spec.proofs.DomainNames.SmallOctets.{Small, small_head, small_tail}

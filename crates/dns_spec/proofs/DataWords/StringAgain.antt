@@ -1,9 +1,5 @@
 -- Strings that are written in quotation marks are read as those strings again.
-use Rattle.std.proofs.Common.{ℕ, ◌<◌, ◌≤◌, [], ◌∷◌, length, refl, arith}
-use Rattle.std.specs.List.{flat_map}
-use Rattle.dns_spec.specs.Names.{Octets}
-use Rattle.dns_spec.specs.DataText.{SpellsStringOctet, SpellsString, SaysString}
-use Rattle.dns_spec.specs.WrittenText.{string_octet_text}
+use Rattle.dns_spec.proofs.Common.{ℕ, ◌<◌, ◌≤◌, [], ◌∷◌, length, refl, arith, flat_map, Octets, SpellsStringOctet, SpellsString, SaysString, string_octet_text}
 use Rattle.dns_spec.proofs.DomainNames.SmallOctets.{Small, small_head, small_tail}
 
 string_octet_said : (o : ℕ) → o < 256 → SpellsStringOctet (string_octet_text o) o

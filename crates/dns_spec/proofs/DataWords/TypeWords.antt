@@ -1,14 +1,6 @@
 -- Words that name types: a name in the table is no number, and a number is read as it is written.
-use Rattle.std.proofs.Common.{◌≡◌, ℕ, ◌^◌, ◌<◌, None, Some, [], ◌∷◌, ◌++◌, map, refl, sym, ap, ◌∙◌, arith, codes}
-use Rattle.std.proofs.lemmas.Option.{none-some, same_Some}
-use Rattle.std.proofs.lemmas.Fmt.{decimal_is_IsNumeral, decimal_injective}
-use Rattle.std.proofs.lemmas.Bool.{lt-ltb}
-use Rattle.std.proofs.lemmas.Str.Parse.{digit_from_value}
+use Rattle.dns_spec.proofs.Common.{◌≡◌, ℕ, ◌^◌, ◌<◌, None, Some, [], ◌∷◌, ◌++◌, map, refl, sym, ap, ◌∙◌, arith, codes, none-some, same_Some, decimal_is_IsNumeral, decimal_injective, lt-ltb, digit_from_value, to_ascii_lowercase, digit_value, AllDigits, Octets, text_in_lower_case, type_by_mnemonic, numbered_type, NamesType}
 use Rattle.std.specs.Fmt.{decimal}
-use Rattle.std.specs.Char.{to_ascii_lowercase, digit_value}
-use Rattle.std.specs.Str.Parse.{AllDigits}
-use Rattle.dns_spec.specs.Names.{Octets}
-use Rattle.dns_spec.specs.TypeText.{text_in_lower_case, type_by_mnemonic, numbered_type, NamesType}
 
 digit_lowered : (c : ℕ) → digit_value c < 10 → to_ascii_lowercase c ≡ c
 digit_lowered c h = let range = digit_from_value c h in rw (lt-ltb c 65 (omega (arith, range))) refl

@@ -1,13 +1,6 @@
 -- How much of what is written a reader takes into a word or a string: all of it.
-use Rattle.std.proofs.Common.{◌≡◌, ℕ, ◌+◌, ◌<◌, Bool, true, false, ◌==◌, Some, None, [], ◌∷◌, ◌++◌, length, nat_lt, refl, ap, arith, append_assoc, length-append, rules}
-use Rattle.std.proofs.lemmas.Bool.{agree_below_at, lt-ltb, not-true, eqb-true}
-use Rattle.std.specs.Char.{is_ascii_digit}
-use Rattle.std.specs.List.{flat_map}
-use Rattle.dns_spec.specs.Names.{Octets, DomainName}
+use Rattle.dns_spec.proofs.Common.{◌≡◌, ℕ, ◌+◌, ◌<◌, Bool, true, false, ◌==◌, Some, None, [], ◌∷◌, ◌++◌, length, nat_lt, refl, ap, arith, append_assoc, length-append, rules, agree_below_at, lt-ltb, not-true, eqb-true, is_ascii_digit, flat_map, Octets, DomainName, string_octet_text, is_word_octet, is_string_octet, unit_left, run_length}
 use Rattle.dns_spec.specs.NameText.{is_special, three_digits_value, three_digits, octet_text, label_text, labels_text, name_text, is_printable}
-use Rattle.dns_spec.specs.WrittenText.{string_octet_text}
-use Rattle.dns_spec.specs.DataText.{is_word_octet, is_string_octet}
-use Rattle.dns_spec.specs.ZoneText.{unit_left, run_length}
 use Rattle.dns_spec.proofs.Records.SortedOnce.{Each}
 use Rattle.dns_spec.proofs.NameTexts.Escapes.{escape-counted}
 use Rattle.dns_spec.proofs.DomainNames.SmallOctets.{Small, small_head, small_tail}

@@ -1,12 +1,6 @@
 -- Data of a type, written without compression, is read back as data of that type.
-use Rattle.std.proofs.lemmas.Grind.{common_steps}
+use Rattle.dns_spec.proofs.Common.{common_steps, and_parts, leb-true, not-true, eqb-false, false≢true, none-some, same_Some, cond_some, some_pair_parts, length-take-le, Octets, DomainName, wire, is_name, class_in, width, Piece, fixed, domain, string, strings, anything, Part, octets, name, are_strings, octets_front, strings_front, piece_front, cut, valid, OctetsAt, PiecesAt, DataAt}
 use Rattle.std.proofs.Common.{◌≡◌, ℕ, suc, ◌+◌, ◌<◌, true, nat_le, List, [], ◌∷◌, ◌++◌, length, take, drop, Some, refl, sym, ap, ◌∙◌, subst, arith, append-nil, length-append, take-append-drop, add-zero}
-use Rattle.std.proofs.lemmas.Bool.{and_parts, leb-true, not-true, eqb-false, false≢true}
-use Rattle.std.proofs.lemmas.Option.{none-some, same_Some, cond_some, some_pair_parts}
-use Rattle.std.proofs.lemmas.List.{length-take-le}
-use Rattle.dns_spec.specs.Names.{Octets, DomainName, wire, is_name}
-use Rattle.dns_spec.specs.Data.{class_in, width, Piece, fixed, domain, string, strings, anything, Part, octets, name, are_strings, octets_front, strings_front, piece_front, cut, valid}
-use Rattle.dns_spec.specs.Reading.{OctetsAt, PiecesAt, DataAt}
 use Rattle.dns_spec.proofs.DomainNames.WireNames.{name_read}
 use Rattle.dns_spec.proofs.Messages.Places.{Stands, stands_front, stands_rest, stands_within, stands_get, octets_at, name_written}
 

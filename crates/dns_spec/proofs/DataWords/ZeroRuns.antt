@@ -1,9 +1,7 @@
 -- The longest run of zero groups stands where it is said to stand.
 use Rattle.std.proofs.Common.{◌≡◌, ℕ, zero, suc, ◌+◌, ◌<◌, ◌≤◌, ◌⊎◌, inl, inr, max, Bool, true, false, ◌==◌, List, [], ◌∷◌, ◌++◌, length, take, drop, get_or, replicate, fold, refl, sym, ◌∙◌, ap, subst, arith, append_assoc, take-append-drop, length-drop}
-use Rattle.std.proofs.lemmas.Bool.{cases_Bool, cases_lt, eqb-true, eq-eqb, true≢false}
-use Rattle.std.proofs.lemmas.List.{drop-drop}
+use Rattle.dns_spec.proofs.Common.{cases_Bool, cases_lt, eqb-true, eq-eqb, true≢false, drop-drop, prefix_len, position_or_len}
 use Rattle.std.proofs.lemmas.List.Sums.{prefix_len-le-length, fails_before_first, passes_at_first}
-use Rattle.std.specs.List.{prefix_len, position_or_len}
 use Rattle.dns_spec.specs.AddressText.{zero_runs, longest_run, longest_place}
 
 abbrev pub is_zero : ℕ → Bool

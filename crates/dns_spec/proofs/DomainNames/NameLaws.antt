@@ -1,13 +1,7 @@
 -- Laws of names: their wire forms tell them apart, folding keeps lengths, and at or below goes label by label.
-use Rattle.std.proofs.lemmas.Grind.{common_steps}
-use Rattle.std.proofs.Common.{◌≡◌, ℕ, zero, suc, ◌+◌, ◌*◌, ◌-◌, ◌<◌, ◌≤◌, Bool, true, false, ◌||◌, ◌⊎◌, [], ◌∷◌, ◌++◌, length, take, drop, map, nat_lt, nat_le, refl, sym, ◌∙◌, ap, arith, inl, inr, length-append, rules}
-use Rattle.std.proofs.lemmas.List.{take_at, drop_at, length-map, map-append}
+use Rattle.dns_spec.proofs.Common.{common_steps, ◌≡◌, ℕ, zero, suc, ◌+◌, ◌*◌, ◌-◌, ◌<◌, ◌≤◌, Bool, true, false, ◌||◌, ◌⊎◌, [], ◌∷◌, ◌++◌, length, take, drop, map, nat_lt, nat_le, refl, sym, ◌∙◌, ap, arith, inl, inr, length-append, rules, take_at, drop_at, length-map, map-append, or-false, list_all, to_ascii_lowercase, Octets, DomainName, wire, is_label, is_name, folded, octets_equal, names_equal, same, at_or_below}
 use Rattle.std.proofs.lemmas.Bool.{and_parts, and_from, and_left, leb-true, le-leb, lt-leb, ltb-true, lt-ltb, eqb-true, eq-eqb, cond-true, cases_order, false_from_ne_true}
-use Rattle.std.proofs.Math.Bool.{or-false}
-use Rattle.std.specs.List.{list_all}
-use Rattle.std.specs.Char.{to_ascii_lowercase}
 use Rattle.std.specs.Cmp.Lexicographic.{pointwise_decides}
-use Rattle.dns_spec.specs.Names.{Octets, DomainName, wire, is_label, is_name, folded, octets_equal, names_equal, same, at_or_below}
 
 -- what a label's test says
 pub record IsLabel (l : Octets) : Type 0 where

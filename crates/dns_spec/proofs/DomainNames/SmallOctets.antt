@@ -1,8 +1,5 @@
 -- Octets below 256, and parts of lists of them.
-use Rattle.std.proofs.Common.{◌≡◌, ℕ, suc, ◌<◌, nat_lt, All, true, [], ◌∷◌, ◌++◌, refl, arith}
-use Rattle.std.proofs.lemmas.Bool.{and_from, lt-ltb}
-use Rattle.std.specs.List.{list_all}
-use Rattle.dns_spec.specs.Names.{Octets}
+use Rattle.dns_spec.proofs.Common.{◌≡◌, ℕ, suc, ◌<◌, nat_lt, All, true, [], ◌∷◌, ◌++◌, refl, arith, and_from, lt-ltb, list_all, Octets}
 
 abbrev pub Small : Octets → Type 0
 Small = All (λ o. o < 256)

@@ -1,10 +1,6 @@
 -- Octets begin with a name's wire form exactly where `name_of` reads that name.
 use Rattle.std.proofs.Common.{◌≡◌, ℕ, zero, suc, ◌+◌, ◌<◌, ◌↔◌, Bool, true, false, nat_le, [], ◌∷◌, ◌++◌, length, take, drop, Option, None, Some, option_map, refl, sym, ap, ◌∙◌, arith, append_assoc, length-append, take-append-drop}
-use Rattle.std.specs.List.{list_all}
-use Rattle.std.proofs.lemmas.Bool.{and_parts, leb-true}
-use Rattle.std.proofs.lemmas.Option.{none-some, same_Some, cond_some, option_and_then_some}
-use Rattle.std.proofs.lemmas.List.{take_at, drop_at, length-take-le}
-use Rattle.dns_spec.specs.Names.{Octets, DomainName, wire, is_label, is_name, with_label, labels_from, name_of}
+use Rattle.dns_spec.proofs.Common.{list_all, and_parts, leb-true, none-some, same_Some, cond_some, option_and_then_some, take_at, drop_at, length-take-le, Octets, DomainName, wire, is_label, is_name, with_label, labels_from, name_of}
 use Rattle.dns_spec.proofs.DomainNames.NameLaws.{IsLabel-is_label, IsName-is_name}
 
 -- fewer than k labels, written as they are on the wire, are read again

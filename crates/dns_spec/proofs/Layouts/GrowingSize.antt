@@ -2,10 +2,7 @@
 -- that does not.
 use Rattle.std.proofs.Common.{◌≡◌, ℕ, zero, suc, ◌+◌, ◌≤◌, Bool, true, false, cond, nat_le, List, [], ◌∷◌, ◌++◌, length, take, Option, refl, sym, ap, ◌∙◌, arith, append_assoc, append-nil, le-leb, leb-true}
 use Rattle.std.proofs.lemmas.List.Concat.{flat_map-append}
-use Rattle.dns_spec.specs.Records.{ResourceRecord}
-use Rattle.dns_spec.specs.Reading.{MessageQuestion}
-use Rattle.dns_spec.specs.Layout.{Item, records_of, Placed}
-use Rattle.dns_spec.specs.LayoutSize.{record_size, record_names, records_size, size}
+use Rattle.dns_spec.proofs.Common.{ResourceRecord, MessageQuestion, Item, records_of, Placed, record_size, record_names, records_size, size}
 use Rattle.dns_spec.specs.Reply.{kept, fitting, greatest}
 
 records_grow : (ms : List Placed) (p : ℕ) (rs ss : List ResourceRecord) → records_size ms p rs ≤ records_size ms p (rs ++ ss)

@@ -1,10 +1,5 @@
 -- The length of a layout is the size that is added up without writing it.
-use Rattle.std.proofs.Common.{◌≡◌, ℕ, ◌+◌, List, [], ◌∷◌, ◌++◌, length, Option, refl, ap, ap₂, ◌∙◌, arith, length-append}
-use Rattle.dns_spec.specs.Names.{Octets, DomainName}
-use Rattle.dns_spec.specs.Data.{class_in, Part, octets, name}
-use Rattle.dns_spec.specs.Records.{ResourceRecord}
-use Rattle.dns_spec.specs.Reading.{Header, MessageQuestion}
-use Rattle.dns_spec.specs.Layout.{octets16, octets32, Item, Placed, shared_octets, data_laid, record_laid, record_tail, records_octets, layout}
+use Rattle.dns_spec.proofs.Common.{◌≡◌, ℕ, ◌+◌, List, [], ◌∷◌, ◌++◌, length, Option, refl, ap, ap₂, ◌∙◌, arith, length-append, Octets, DomainName, class_in, Part, octets, name, ResourceRecord, Header, MessageQuestion, octets16, octets32, Item, Placed, shared_octets, data_laid, record_laid, record_tail, records_octets, layout}
 use Rattle.dns_spec.specs.LayoutSize.{cost, data_size, data_names, record_size, record_names, records_size, size}
 
 pub length-record_tail : (r : ResourceRecord) (d : Octets) → length (record_tail r d) ≡ 10 + length d

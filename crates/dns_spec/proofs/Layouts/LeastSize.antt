@@ -1,12 +1,6 @@
 -- The size of the layout is one that sharing allows, and up to 16,384 octets it is the least.
 use Rattle.std.proofs.Common.{◌≡◌, ℕ, ◌+◌, ◌<◌, ◌≤◌, ◌↔◌, Bool, true, false, nat_le, inr, List, [], ◌∷◌, ◌++◌, length, Option, None, Some, is_some, refl, sym, ap, ◌∙◌, subst, arith}
-use Rattle.std.proofs.lemmas.Bool.{leb-true, leb-false}
-use Rattle.std.proofs.lemmas.List.{map-append}
-use Rattle.dns_spec.specs.Names.{DomainName}
-use Rattle.dns_spec.specs.Data.{Part, octets, name}
-use Rattle.dns_spec.specs.Records.{ResourceRecord}
-use Rattle.dns_spec.specs.Reading.{MessageQuestion}
-use Rattle.dns_spec.specs.Layout.{reach, Item, records_of, Placed, shared_place, asked_octets, asked_placed, parts_of}
+use Rattle.dns_spec.proofs.Common.{leb-true, leb-false, map-append, DomainName, Part, octets, name, ResourceRecord, MessageQuestion, reach, Item, records_of, Placed, shared_place, asked_octets, asked_placed, parts_of}
 use Rattle.dns_spec.specs.LayoutSize.{cost, data_size, data_names, record_size, record_names, records_size, size}
 use Rattle.dns_spec.specs.Sharing.{asked_names, names_in, names_of, NameSize, DataSize, RecordsSize, Sharing}
 use Rattle.dns_spec.specs.Sharing.NameSize.{whole, shared}

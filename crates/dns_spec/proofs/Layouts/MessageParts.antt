@@ -1,10 +1,5 @@
 -- Header, question and sections of a layout, read back where they stand.
-use Rattle.std.proofs.Common.{◌≡◌, ℕ, ◌+◌, ◌^◌, ◌<◌, Bool, true, false, cond, nat_le, List, [], ◌∷◌, ◌++◌, length, Option, IfSome, refl, ◌∙◌, subst, arith, append_assoc, length-append}
-use Rattle.std.proofs.lemmas.Bool.{and_parts, leb-true}
-use Rattle.std.specs.List.{list_all}
-use Rattle.std.specs.Option.{option_to_list}
-use Rattle.dns_spec.specs.Names.{Octets, wire, is_name}
-use Rattle.dns_spec.specs.Reading.{Header, MessageQuestion, NumberAt, QuestionsAt}
+use Rattle.dns_spec.proofs.Common.{◌≡◌, ℕ, ◌+◌, ◌^◌, ◌<◌, Bool, true, false, cond, nat_le, List, [], ◌∷◌, ◌++◌, length, Option, IfSome, refl, ◌∙◌, subst, arith, append_assoc, length-append, and_parts, leb-true, list_all, option_to_list, Octets, wire, is_name, Header, MessageQuestion, NumberAt, QuestionsAt}
 use Rattle.dns_spec.specs.Layout.{octets16, Section, answer, authority, additional, Item, is_section, records_of, in_section, question_octets, asked_octets, header_octets}
 use Rattle.dns_spec.specs.Laws.{section_rank, sections_in_order, IsAskable}
 use Rattle.dns_spec.proofs.Messages.Places.{Stands, stands_front, stands_rest, stands_after, number_at, name_written}

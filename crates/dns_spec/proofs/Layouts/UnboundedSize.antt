@@ -1,12 +1,6 @@
 -- The size of the layout without bound is the length of that layout, and the least that sharing allows.
 use Rattle.std.proofs.Common.{◌≡◌, ℕ, ◌+◌, ◌<◌, ◌≤◌, Bool, true, false, ◌||◌, cond, List, [], ◌∷◌, ◌++◌, map, length, Option, None, Some, is_some, refl, ap, ap₂, ◌∙◌, subst, arith, length-append}
-use Rattle.std.proofs.lemmas.List.{map-append}
-use Rattle.std.specs.List.{list_any}
-use Rattle.dns_spec.specs.Names.{Octets, DomainName, wire}
-use Rattle.dns_spec.specs.Data.{Part, octets, name}
-use Rattle.dns_spec.specs.Records.{ResourceRecord}
-use Rattle.dns_spec.specs.Reading.{Header, MessageQuestion}
-use Rattle.dns_spec.specs.Layout.{Item, pointer, Placed, has_suffix, suffix_place, place_of, asked_placed}
+use Rattle.dns_spec.proofs.Common.{map-append, list_any, Octets, DomainName, wire, Part, octets, name, ResourceRecord, Header, MessageQuestion, Item, pointer, Placed, has_suffix, suffix_place, place_of, asked_placed}
 use Rattle.dns_spec.specs.Sharing.{asked_names, names_in, names_of, labels_size, NameSize, DataSize, RecordsSize, Sharing}
 use Rattle.dns_spec.specs.Sharing.NameSize.{whole, shared}
 use Rattle.dns_spec.specs.Sharing.DataSize.{no_parts, after_octets, after_name}

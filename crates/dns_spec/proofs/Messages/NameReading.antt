@@ -2,10 +2,9 @@
 use Rattle.std.proofs.Common.{◌≡◌, ℕ, zero, suc, ◌+◌, ◌-◌, ◌<◌, ◌≤◌, Bool, true, false, cond, ◌&&◌, ◌↔◌, inl, inr, [], ◌∷◌, length, take, drop, nat_lt, nat_le, Option, None, Some, slice_get, option_map, option_and_then, refl, sym, ap, ◌∙◌, subst, subst₂, arith, lt-ltb, le-ltb, le-leb, ne_eqb, rules}
 use Rattle.std.proofs.lemmas.Bool.{cases_lt, lt-leb, and_from, and_left, and_right, cond-true}
 use Rattle.std.proofs.lemmas.Option.{none-some, same_Some, slice_get_past, slice_get_within, cond_some, option_and_then_some, some_pair_parts}
-use Rattle.dns_spec.specs.Names.{Octets, DomainName, with_label}
+use Rattle.dns_spec.proofs.Common.{Octets, DomainName, with_label, ends, goes_on, jumps}
 use Rattle.dns_spec.specs.Reading.{pointer_place, RunAt, NameAt}
 use Rattle.dns_spec.specs.ComputedReading.{RunStep, run_end, run_label, run_pointer, unlawful, pointer_step, step_of, jump, run, runs_before, name_if_short, name_at}
-use Rattle.dns_spec.specs.Reading.RunAt.{ends, goes_on, jumps}
 
 -- What stands at a place: the seven ways in which a reader of names can go on.
 pub data OctetAt (b : Octets) (i : ℕ) : Type 0 where

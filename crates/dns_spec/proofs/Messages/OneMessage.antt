@@ -1,8 +1,5 @@
 -- Octets spell at most one message.
-use Rattle.std.proofs.Common.{◌≡◌, ℕ, ◌+◌, ◌-◌, List, [], ◌∷◌, ◌++◌, length, take, drop, slice_get, refl, sym, ap, ap₂, ◌∙◌, subst, arith}
-use Rattle.std.proofs.lemmas.Option.{same_Some}
-use Rattle.dns_spec.specs.Names.{Octets, DomainName, wire}
-use Rattle.dns_spec.specs.Data.{width, Piece, fixed, domain, string, strings, anything, number_of}
+use Rattle.dns_spec.proofs.Common.{◌≡◌, ℕ, ◌+◌, ◌-◌, List, [], ◌∷◌, ◌++◌, length, take, drop, slice_get, refl, sym, ap, ap₂, ◌∙◌, subst, arith, same_Some, Octets, DomainName, wire, width, Piece, fixed, domain, string, strings, anything, number_of}
 use Rattle.dns_spec.specs.Reading.{MessageQuestion, MessageRecord, DnsMessage, NameAt, OctetsAt, NumberAt, PiecesAt, DataAt, QuestionsAt, RecordAt, RecordsAt, Spells}
 use Rattle.dns_spec.proofs.Messages.NameReading.{one_name}
 

@@ -1,15 +1,8 @@
 -- What stands at a place of a message is read there: numbers, octets, and names that are written whole or by a pointer.
-use Rattle.std.proofs.lemmas.Grind.{common_steps}
+use Rattle.dns_spec.proofs.Common.{common_steps, pow-le-pow_right, and_parts, leb-true, ltb-true, list_all, Octets, DomainName, wire, is_label, is_name, number_of, RunAt, NameAt, OctetsAt, NumberAt, ends, goes_on}
 use Rattle.std.proofs.Common.{◌≡◌, ℕ, zero, suc, ◌+◌, ◌*◌, ◌%◌, ◌^◌, ◌<◌, ◌≤◌, true, [], ◌∷◌, ◌++◌, length, take, drop, IsTrue, Some, slice_get, refl, sym, ap, ◌∙◌, subst, arith, append_assoc, append-nil, take_at, drop_at, length-append, pow-suc, mul_comm, mod-eq_of_lt}
-use Rattle.std.proofs.Math.Nat.{pow-le-pow_right}
 use Rattle.std.proofs.Math.Arith.{mod-mul}
-use Rattle.std.proofs.lemmas.Bool.{and_parts, leb-true, ltb-true}
 use Rattle.std.specs.Int.{byte_at, bytes_high_first}
-use Rattle.std.specs.List.{list_all}
-use Rattle.dns_spec.specs.Names.{Octets, DomainName, wire, is_label, is_name}
-use Rattle.dns_spec.specs.Data.{number_of}
-use Rattle.dns_spec.specs.Reading.{RunAt, NameAt, OctetsAt, NumberAt}
-use Rattle.dns_spec.specs.Reading.RunAt.{ends, goes_on}
 
 pub length-bytes_high_first : (k n : ℕ) → length (bytes_high_first k n) ≡ k
 length-bytes_high_first zero n = refl

@@ -1,14 +1,5 @@
 -- A question ends by octet 271: directly after the header a name is written out.
-use Rattle.std.proofs.Common.{◌≡◌, ℕ, ◌+◌, ◌≤◌, eqb, nat_le, length, Option, None, Some, refl, arith, length-append, length-drop}
-use Rattle.std.proofs.lemmas.Bool.{and_parts, leb-true, eqb-true}
-use Rattle.std.proofs.lemmas.Option.{none-some, cond_some}
-use Rattle.std.proofs.lemmas.List.{length-take-le}
-use Rattle.std.specs.List.{list_all}
-use Rattle.dns_spec.specs.Names.{Octets, DomainName, wire, is_label}
-use Rattle.dns_spec.specs.Reading.{MessageQuestion, RunAt, NameAt}
-use Rattle.dns_spec.specs.ComputedReading.{name_at}
-use Rattle.dns_spec.specs.Reading.RunAt.{ends, goes_on, jumps}
-use Rattle.dns_spec.specs.Query.{field16, question_of, question_at}
+use Rattle.dns_spec.proofs.Common.{◌≡◌, ℕ, ◌+◌, ◌≤◌, eqb, nat_le, length, Option, None, Some, refl, arith, length-append, length-drop, and_parts, leb-true, eqb-true, none-some, cond_some, length-take-le, list_all, Octets, DomainName, wire, is_label, MessageQuestion, RunAt, NameAt, name_at, ends, goes_on, jumps, field16, question_of, question_at}
 use Rattle.dns_spec.proofs.Messages.NameReading.{name_at_computes}
 
 -- a run that begins by the end of the header has no pointer: it ends after its own labels

@@ -1,12 +1,7 @@
 -- Escapes: what one stands for is what it spells in a name, and how long one is.
-use Rattle.std.proofs.Common.{◌≡◌, ℕ, ◌<◌, inl, inr, Bool, true, false, cond, ◌&&◌, nat_le, nat_lt, Option, Some, None, [], ◌∷◌, ◌++◌, refl, ap, subst, arith}
+use Rattle.dns_spec.proofs.Common.{◌≡◌, ℕ, ◌<◌, inl, inr, Bool, true, false, cond, ◌&&◌, nat_le, nat_lt, Option, Some, None, [], ◌∷◌, ◌++◌, refl, ap, subst, arith, and_parts, and_from, leb-true, le-leb, ltb-true, lt-ltb, cases_lt, cases_Bool, false≢true, none-some, some_pair_parts, is_ascii_digit, IsAsciiDigit, IsNotAsciiDigit, Octets, escape_left}
 use Rattle.std.specs.Prelude.{◌↔◌, ◌==◌, if◌then◌else◌}
-use Rattle.std.proofs.lemmas.Bool.{and_parts, and_from, leb-true, le-leb, ltb-true, lt-ltb, cases_lt, cases_Bool, false≢true}
-use Rattle.std.proofs.lemmas.Option.{none-some, some_pair_parts}
-use Rattle.std.specs.Char.{is_ascii_digit, IsAsciiDigit, IsNotAsciiDigit}
-use Rattle.dns_spec.specs.Names.{Octets}
 use Rattle.dns_spec.specs.NameText.{three_digits_value, SpellsOctet, is_printable, digits_front, escape_front}
-use Rattle.dns_spec.specs.ZoneText.{escape_left}
 
 -- how many octets the escape has, case by case
 abbrev pub counted_digits : Octets → ℕ

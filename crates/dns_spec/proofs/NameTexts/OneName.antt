@@ -1,13 +1,5 @@
 -- A word spells at most one name, and a text at most one string.
-use Rattle.std.proofs.Common.{◌≡◌, ℕ, inl, inr, Bool, true, false, ◌==◌, [], ◌∷◌, ◌++◌, length, get_or, Option, Some, None, refl, sym, ◌∙◌, ap, ap₂, subst, arith, codes}
-use Rattle.std.specs.Prelude.{if◌then◌else◌}
-use Rattle.std.specs.List.{list_all}
-use Rattle.std.specs.Char.{is_ascii_digit}
-use Rattle.std.proofs.lemmas.Bool.{true≢false, false≢true, and_parts}
-use Rattle.std.proofs.lemmas.Option.{none-some}
-use Rattle.dns_spec.specs.Names.{Octets, DomainName, is_label}
-use Rattle.dns_spec.specs.NameText.{three_digits_value, SpellsOctet, LabelThen, TextSpells, SpellsName}
-use Rattle.dns_spec.specs.DataText.{SpellsStringOctet, SpellsString}
+use Rattle.dns_spec.proofs.Common.{◌≡◌, ℕ, inl, inr, Bool, true, false, ◌==◌, [], ◌∷◌, ◌++◌, length, get_or, Option, Some, None, refl, sym, ◌∙◌, ap, ap₂, subst, arith, codes, if◌then◌else◌, list_all, is_ascii_digit, true≢false, false≢true, and_parts, none-some, Octets, DomainName, is_label, three_digits_value, SpellsOctet, LabelThen, TextSpells, SpellsName, SpellsStringOctet, SpellsString}
 
 -- the octet whose spelling a text begins with, where it begins with one, and the text after it
 digits_front : Octets → Option (ℕ × Octets)

@@ -1,12 +1,7 @@
 -- What is written for a name is read back as that name.
-use Rattle.std.proofs.Common.{◌≡◌, ◌≢◌, ℕ, suc, ◌+◌, ◌<◌, ◌≤◌, ◌==◌, All, inl, inr, true, false, [], ◌∷◌, ◌++◌, length, refl, sym, ◌∙◌, ap, subst, arith, length-append}
+use Rattle.dns_spec.proofs.Common.{◌≡◌, ◌≢◌, ℕ, suc, ◌+◌, ◌<◌, ◌≤◌, ◌==◌, All, inl, inr, true, false, [], ◌∷◌, ◌++◌, length, refl, sym, ◌∙◌, ap, subst, arith, length-append, true≢false, false≢true, eqb-true, cases_Bool, or_cases, list_any, IsAsciiDigit, IsNotAsciiDigit, Octets, DomainName, is_name, SpellsOctet, LabelThen, TextSpells, SpellsName, is_special, three_digits, octet_text, label_text, labels_text, name_text}
 use Rattle.std.proofs.lemmas.List.{append_assoc}
-use Rattle.std.proofs.lemmas.Bool.{true≢false, false≢true, eqb-true, cases_Bool, or_cases}
 use Rattle.std.specs.Prelude.{codes}
-use Rattle.std.specs.List.{list_any}
-use Rattle.std.specs.Char.{IsAsciiDigit, IsNotAsciiDigit}
-use Rattle.dns_spec.specs.Names.{Octets, DomainName, is_name}
-use Rattle.dns_spec.specs.NameText.{SpellsOctet, LabelThen, TextSpells, SpellsName, is_special, three_digits, octet_text, label_text, labels_text, name_text}
 use Rattle.dns_spec.proofs.DomainNames.NameLaws.{IsLabel-is_label, is_label-head}
 
 -- an octet that a backslash may stand before

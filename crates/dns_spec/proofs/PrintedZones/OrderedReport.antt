@@ -1,10 +1,6 @@
 -- What is reported of a zone does not depend on the order of its records.
 use Rattle.std.proofs.Common.{◌≡◌, ◌≤◌, Bool, ◌⊎◌, inl, inr, List, [], ◌∷◌, length, refl, sym, ap, ◌∙◌, filter, flat_map, ◌==◌, arith}
-use Rattle.dns_spec.specs.Names.{DomainName, folded, same}
-use Rattle.dns_spec.specs.Data.{type_soa}
-use Rattle.dns_spec.specs.Records.{ResourceRecord, ZoneContents, records_equal, distinct, zone_of, sort_by, record_order, ordered_zone, first_serial, zone_serial}
-use Rattle.dns_spec.specs.Checks.{faults}
-use Rattle.dns_spec.specs.ZonePrinted.{record_line, soa_first, zone_text}
+use Rattle.dns_spec.proofs.Common.{DomainName, folded, same, type_soa, ResourceRecord, ZoneContents, records_equal, distinct, zone_of, sort_by, record_order, ordered_zone, first_serial, zone_serial, faults, record_line, soa_first, zone_text}
 use Rattle.dns_spec.specs.Report.{Options, passing, zone_report}
 use Rattle.dns_spec.proofs.ZoneChecks.FaultOrder.{folded_folded}
 use Rattle.dns_spec.proofs.Records.SortedOnce.{Among, each_at, filter_each, among_filter, filter_among, among_sort, sort_among}

@@ -1,15 +1,6 @@
 -- The canonical text of a zone is its own canonical text, and zones with one such text hold the same records.
-use Rattle.std.proofs.Common.{◌≡◌, ◌≤◌, ◌↔◌, ◌<◌, IsTrue, Bool, All, List, [], ◌∷◌, length, refl, sym, ap, ◌∙◌, subst, arith, is_eq, filter, inl, inr}
-use Rattle.std.proofs.lemmas.Bool.{false≢true}
+use Rattle.dns_spec.proofs.Common.{◌≡◌, ◌≤◌, ◌↔◌, ◌<◌, IsTrue, Bool, All, List, [], ◌∷◌, length, refl, sym, ap, ◌∙◌, subst, arith, is_eq, filter, inl, inr, false≢true, Contains, IsPermutation, Octets, DomainName, folded, ResourceRecord, HoldSameRecords, ZoneContents, records_equal, distinct, zone_of, record_order, most_octets, Meaning, records, fault_at, Means, most_records, IsReadRecord, HasZoneType, printed_records, zone_text, Fault, faults}
 use Rattle.std.proofs.lemmas.List.Sorted.{IsPermutation-trans, IsPermutation-sym, Contains-permutation}
-use Rattle.std.specs.List.{Contains}
-use Rattle.std.specs.List.Sorted.{IsPermutation}
-use Rattle.dns_spec.specs.Names.{Octets, DomainName, folded}
-use Rattle.dns_spec.specs.Records.{ResourceRecord, HoldSameRecords, ZoneContents, records_equal, distinct, zone_of, record_order}
-use Rattle.dns_spec.specs.ZoneText.{most_octets}
-use Rattle.dns_spec.specs.Meaning.{Meaning, records, fault_at, Means, most_records}
-use Rattle.dns_spec.specs.ZonePrinted.{IsReadRecord, HasZoneType, printed_records, zone_text}
-use Rattle.dns_spec.specs.Checks.{Fault, faults}
 use Rattle.dns_spec.specs.Report.{Options, Report, report_of_faults, Reports}
 use Rattle.dns_spec.proofs.Records.SortedOnce.{Each, Among, each_distinct, distinct_among, among_distinct}
 use Rattle.dns_spec.proofs.Records.RecordOrder.{record_order_total, record_ties, LowerOwner, one_record, contains_among, among_contains, each_all, all_each}

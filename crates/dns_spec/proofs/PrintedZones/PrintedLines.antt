@@ -1,17 +1,5 @@
 -- The line of a record is read as the words of the record, and a line end.
-use Rattle.std.proofs.Common.{◌≡◌, ℕ, ◌<◌, Bool, true, false, ◌&&◌, ◌==◌, Some, None, Option, List, [], ◌∷◌, ◌++◌, map, length, nat_lt, refl, sym, ap, subst, arith, append_assoc, codes, decimal, rules}
-use Rattle.std.proofs.lemmas.Bool.{and_parts, ltb-true}
-use Rattle.std.specs.Option.{option_map, unwrap_or}
-use Rattle.std.specs.List.{list_all, prefix_len, filter_map, join_with_byte}
-use Rattle.dns_spec.specs.Names.{Octets}
-use Rattle.dns_spec.specs.NameText.{name_text}
-use Rattle.dns_spec.specs.Data.{TypeRow, type_table, row_of}
-use Rattle.dns_spec.specs.TypeText.{numbered_type, type_text}
-use Rattle.dns_spec.specs.DataText.{Word, is_word_octet}
-use Rattle.dns_spec.specs.WrittenText.{plain, word_text, written_words, data_text, stands_alone}
-use Rattle.dns_spec.specs.Records.{ResourceRecord}
-use Rattle.dns_spec.specs.ZoneText.{Token, blank, line_end, is_blank, TokensThen, parenthesis, cut_entries, parentheses, word_of}
-use Rattle.dns_spec.specs.ZonePrinted.{IsReadRecord, record_line}
+use Rattle.dns_spec.proofs.Common.{◌≡◌, ℕ, ◌<◌, Bool, true, false, ◌&&◌, ◌==◌, Some, None, Option, List, [], ◌∷◌, ◌++◌, map, length, nat_lt, refl, sym, ap, subst, arith, append_assoc, codes, decimal, rules, and_parts, ltb-true, option_map, unwrap_or, list_all, prefix_len, filter_map, join_with_byte, Octets, name_text, TypeRow, type_table, row_of, numbered_type, type_text, Word, is_word_octet, plain, word_text, written_words, data_text, stands_alone, ResourceRecord, Token, blank, line_end, is_blank, TokensThen, parenthesis, cut_entries, parentheses, word_of, IsReadRecord, record_line}
 use Rattle.dns_spec.proofs.Records.SortedOnce.{Each}
 use Rattle.dns_spec.proofs.DataWords.BareWords.{Bare, bare_append, bare_decimal}
 use Rattle.dns_spec.proofs.DataWords.StandingWords.{TakenWhole, Standing, bare_standing, decimal_standing, name_standing}

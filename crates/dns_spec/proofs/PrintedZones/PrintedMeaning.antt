@@ -1,23 +1,9 @@
 -- The text of records means these records.
-use Rattle.std.proofs.Common.{◌≡◌, ℕ, suc, ◌+◌, ◌<◌, ◌≤◌, ◌^◌, inl, inr, Bool, true, false, ◌==◌, All, Some, None, Option, List, [], ◌∷◌, ◌++◌, map, length, take, refl, sym, ◌∙◌, ap, subst, arith, append_assoc, codes, decimal, rules}
-use Rattle.std.proofs.lemmas.Bool.{false≢true, cases_Bool, eqb-true, lt-leb, le-ltb}
-use Rattle.std.proofs.lemmas.List.{take_all}
-use Rattle.std.proofs.lemmas.Option.{none-some, same_Some}
+use Rattle.dns_spec.proofs.Common.{◌≡◌, ℕ, suc, ◌+◌, ◌<◌, ◌≤◌, ◌^◌, inl, inr, Bool, true, false, ◌==◌, All, Some, None, Option, List, [], ◌∷◌, ◌++◌, map, length, take, refl, sym, ◌∙◌, ap, subst, arith, append_assoc, codes, decimal, rules, false≢true, cases_Bool, eqb-true, lt-leb, le-ltb, take_all, none-some, same_Some, MatchOption, if◌then◌else◌, is_ascii_digit, AllDigits, Octets, DomainName, is_special, octet_text, name_text, type_text, NamesType, Word, Says, plain, written_words, ResourceRecord, bad_owner, bad_parenthesis, IsReadRecord, HasZoneType, record_line}
 use Rattle.std.proofs.lemmas.Fmt.{decimal_is_IsNumeral, decimal_nonempty}
-use Rattle.std.specs.Prelude.{MatchOption, if◌then◌else◌}
 use Rattle.std.specs.List.{list_any, find, filter, flat_map}
-use Rattle.std.specs.Char.{is_ascii_digit}
-use Rattle.std.specs.Str.Parse.{AllDigits}
-use Rattle.dns_spec.specs.Names.{Octets, DomainName}
-use Rattle.dns_spec.specs.NameText.{is_special, octet_text, name_text}
-use Rattle.dns_spec.specs.TypeText.{type_text, NamesType}
-use Rattle.dns_spec.specs.DataText.{Word, Says}
-use Rattle.dns_spec.specs.WrittenText.{plain, written_words}
-use Rattle.dns_spec.specs.Records.{ResourceRecord}
 use Rattle.dns_spec.specs.ZoneText.{Token, most_octets, TokensThen, take_turns, cut_entries, begins_with, Entry, Entries, ended, with_end, lexical_fault, whole_text, extent_by}
-use Rattle.dns_spec.specs.FileFaults.{bad_owner, bad_parenthesis}
 use Rattle.dns_spec.specs.Meaning.{faulty, gives, owned, kind_of, Fields, fields, is_ttl_word, directive_word, is_record, OriginIs, NameIs, IsRecord, most_records, RecordGives, KindGives, EntryGives, records, EntriesMean, Means}
-use Rattle.dns_spec.specs.ZonePrinted.{IsReadRecord, HasZoneType, record_line}
 use Rattle.dns_spec.proofs.Records.SortedOnce.{Each}
 use Rattle.dns_spec.proofs.NameTexts.WrittenNames.{name_spelled}
 use Rattle.dns_spec.proofs.DataWords.SaidAgain.{entry_passes, data_said}

@@ -1,11 +1,6 @@
 -- The canonical text of a zone means its records, which it prints in another order.
-use Rattle.std.proofs.Common.{◌≡◌, ◌≤◌, Bool, true, false, cond, not, All, List, [], ◌∷◌, length, refl, sym, subst, is_gt, Ordering}
+use Rattle.dns_spec.proofs.Common.{◌≡◌, ◌≤◌, Bool, true, false, cond, not, All, List, [], ◌∷◌, length, refl, sym, subst, is_gt, Ordering, IsPermutation, DomainName, record_order, ZoneContents, insert_by, sort_by, most_octets, most_records, records, Means}
 use Rattle.std.proofs.lemmas.List.Sorted.{IsPermutation-refl, IsPermutation-cons, IsPermutation-middle, IsPermutation-trans, IsPermutation-sym, IsPermutation-filter_both, All-permutation, length_permutation}
-use Rattle.std.specs.List.Sorted.{IsPermutation}
-use Rattle.dns_spec.specs.Names.{DomainName}
-use Rattle.dns_spec.specs.Records.{record_order, ZoneContents, insert_by, sort_by}
-use Rattle.dns_spec.specs.ZoneText.{most_octets}
-use Rattle.dns_spec.specs.Meaning.{most_records, records, Means}
 use Rattle.dns_spec.specs.ZonePrinted.{IsReadRecord, HasZoneType, is_soa, printed_records, zone_text}
 use Rattle.dns_spec.proofs.PrintedZones.PrintedMeaning.{printed_again}
 

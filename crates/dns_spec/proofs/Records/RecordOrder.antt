@@ -1,18 +1,12 @@
 -- The canonical order of records, and lists of records in it.
 use Rattle.std.proofs.Common.{◌≡◌, zero, suc, Bool, true, false, ◌&&◌, cond, eqb, ◌⊎◌, inl, inr, List, [], ◌∷◌, refl, sym, ap, ap₂, ◌∙◌, arith, All, IsPermutation, is_eq, is_gt, nat_cmp, Ordering, Less, Equal, rules}
-use Rattle.std.proofs.lemmas.Bool.{and_parts, eqb-true}
+use Rattle.dns_spec.proofs.Common.{and_parts, eqb-true, All-head, All-tail, All-nil, All-cons, IsTotalOrder, lists_ties, DomainName, octets_equal, same, name_order, ResourceRecord, zone_of, records_equal, distinct, insert_by, sort_by, data_order, record_order, ordered_zone, faults}
 use Rattle.std.proofs.lemmas.Cmp.{nat_cmp_total, nat_list_cmp_total, on_total, then_total, tied_itself}
-use Rattle.std.proofs.lemmas.List.Elements.{All-head, All-tail, All-nil, All-cons}
 use Rattle.std.proofs.lemmas.List.Sorted.{All-permutation, Contains-permutation, IsPermutation-refl, IsPermutation-sym, IsPermutation-cons, IsPermutation-trans, IsPermutation-middle}
 use Rattle.std.proofs.lemmas.List.Kept.{IsStrictlySortedBy-dedup}
 use Rattle.std.specs.List.{Contains, dedup, dedup_from}
 use Rattle.std.specs.List.Sorted.{IsSorted, IsStrictlySortedBy}
-use Rattle.std.specs.Cmp.{IsTotalOrder}
-use Rattle.std.specs.Cmp.Lexicographic.{lists_ties}
 use Rattle.std.specs.Ordering.{ordering_then, eq_by_cmp}
-use Rattle.dns_spec.specs.Names.{DomainName, octets_equal, same, name_order}
-use Rattle.dns_spec.specs.Records.{ResourceRecord, zone_of, records_equal, distinct, insert_by, sort_by, data_order, record_order, ordered_zone}
-use Rattle.dns_spec.specs.Checks.{faults}
 use Rattle.dns_spec.proofs.DomainNames.NameLaws.{octets_equal-decides, names_equal-decides, same_tests}
 use Rattle.dns_spec.proofs.ZoneChecks.FaultOrder.{faults_in_any_order, nat_ties, name_order_total, name_tie, Lower, one_lower}
 use Rattle.dns_spec.proofs.Records.SortedOnce.{Each, Among, each_sort, each_distinct, apart_distinct, distinct_among, among_sort, sort_among, Rises, sort_rises, same_risen, among_distinct}

@@ -1,13 +1,6 @@
 -- Lists that hold the same records make one zone, with one canonical text and one report.
-use Rattle.std.proofs.Common.{arith, rules}
-use Rattle.std.proofs.Common.{◌≡◌, ◌↔◌, All, List, ap, sym, ◌∙◌, is_eq}
+use Rattle.dns_spec.proofs.Common.{arith, rules, ◌≡◌, ◌↔◌, All, List, ap, sym, ◌∙◌, is_eq, Contains, Octets, DomainName, folded, ResourceRecord, HoldSameRecords, records_equal, distinct, zone_of, sort_by, record_order, ordered_zone, records, Means, IsReadRecord, zone_text, Options, Report, zone_report, report_of_meaning, Reports}
 use Rattle.std.proofs.lemmas.List.Elements.{All-contains, All-weaker}
-use Rattle.std.specs.List.{Contains}
-use Rattle.dns_spec.specs.Names.{Octets, DomainName, folded}
-use Rattle.dns_spec.specs.Records.{ResourceRecord, HoldSameRecords, records_equal, distinct, zone_of, sort_by, record_order, ordered_zone}
-use Rattle.dns_spec.specs.Meaning.{records, Means}
-use Rattle.dns_spec.specs.ZonePrinted.{IsReadRecord, zone_text}
-use Rattle.dns_spec.specs.Report.{Options, Report, zone_report, report_of_meaning, Reports}
 use Rattle.dns_spec.proofs.Records.SortedOnce.{Among, same_sorted}
 use Rattle.dns_spec.proofs.Records.RecordOrder.{record_order_total, record_ties, LowerOwner, one_record, contains_among, among_contains, each_all}
 use Rattle.dns_spec.proofs.PrintedZones.OrderedReport.{ordered_text, ordered_report}

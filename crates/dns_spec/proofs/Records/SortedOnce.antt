@@ -1,11 +1,5 @@
 -- A list sorted, with each element once, depends only on which elements there are.
-use Rattle.std.proofs.Common.{arith}
-use Rattle.std.proofs.Common.{◌≡◌, suc, Bool, true, false, not, ◌⊎◌, inl, inr, List, [], ◌∷◌, length, refl, sym, ap, ap₂, ◌∙◌, subst, filter, is_lt, Ordering, Less, Equal, Greater}
-use Rattle.std.proofs.lemmas.Bool.{false≢true, not-true}
-use Rattle.std.proofs.lemmas.Cmp.{tied_itself}
-use Rattle.std.specs.Ordering.{ordering_reverse}
-use Rattle.std.specs.Cmp.{IsTotalOrder}
-use Rattle.dns_spec.specs.Records.{distinct, insert_by, sort_by}
+use Rattle.dns_spec.proofs.Common.{arith, ◌≡◌, suc, Bool, true, false, not, ◌⊎◌, inl, inr, List, [], ◌∷◌, length, refl, sym, ap, ap₂, ◌∙◌, subst, filter, is_lt, Ordering, Less, Equal, Greater, false≢true, not-true, tied_itself, ordering_reverse, IsTotalOrder, distinct, insert_by, sort_by}
 
 -- P holds of each element, and x is one of them
 abbrev pub Each : {X : Type 0} → (X → Type 0) → List X → Type 0

@@ -1,8 +1,5 @@
 -- A chain of names sought has at most one more than the aliases that are followed.
-use Rattle.std.proofs.Common.{ℕ, zero, suc, ◌≤◌, ◌+◌, List, [], ◌∷◌, length, Option, None, Some, arith}
-use Rattle.dns_spec.specs.Names.{DomainName}
-use Rattle.dns_spec.specs.Records.{ZoneContents}
-use Rattle.dns_spec.specs.Answer.{most_aliases, next_sought, chain_from, chain}
+use Rattle.dns_spec.proofs.Common.{ℕ, zero, suc, ◌≤◌, ◌+◌, List, [], ◌∷◌, length, Option, None, Some, arith, DomainName, ZoneContents, most_aliases, next_sought, chain_from, chain}
 
 chain_from_short : (z : ZoneContents) (k : ℕ) (sought : List DomainName) (s : DomainName) → length (chain_from z k sought s) ≤ k + 1
 unfolding chain_from

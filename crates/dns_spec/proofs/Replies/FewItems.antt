@@ -1,19 +1,9 @@
 -- An answer of a zone that passes has few targets and few sets, and visits few nodes for each name.
 use Rattle.std.proofs.Common.{◌≡◌, ℕ, ◌+◌, ◌*◌, ◌≤◌, nat_lt, Bool, true, false, not, ◌==◌, inl, List, [], ◌∷◌, ◌++◌, map, sum, length, Option, None, Some, All, filter, flat_map, refl, sym, ap, ap₂, ◌∙◌, subst, arith, append-nil, length-append}
-use Rattle.std.proofs.lemmas.Bool.{eqb-true, ltb-false}
-use Rattle.std.proofs.lemmas.Option.{none-some, same_Some}
-use Rattle.std.proofs.lemmas.Grind.{flat_map-append}
-use Rattle.std.proofs.lemmas.List.{length-map}
+use Rattle.dns_spec.proofs.Common.{eqb-true, ltb-false, none-some, same_Some, flat_map-append, length-map, length-filter_both, option_to_list, DomainName, is_name, folded, names_equal, same, at_or_below, type_a, type_aaaa, ResourceRecord, ZoneContents, data_order, at, of_type, with_owner, found, Section, answer, Item, records_of}
 use Rattle.std.proofs.lemmas.List.Elements.{filter_map-append}
-use Rattle.std.proofs.lemmas.List.Filters.{length-filter_both}
 use Rattle.std.specs.List.{filter_map, fold}
-use Rattle.std.specs.Option.{option_to_list}
-use Rattle.dns_spec.specs.Names.{DomainName, is_name, folded, names_equal, same, at_or_below}
-use Rattle.dns_spec.specs.Data.{type_a, type_aaaa}
-use Rattle.dns_spec.specs.Records.{ResourceRecord, ZoneContents, data_order, at, of_type, with_owner}
-use Rattle.dns_spec.specs.Tree.{found}
 use Rattle.dns_spec.specs.Checks.{most_of_a_set, count, large_set, Passes}
-use Rattle.dns_spec.specs.Layout.{Section, answer, Item, records_of}
 use Rattle.dns_spec.specs.Answer.{most_aliases, item, alias_set, last_sought, alias_items, asked_records, Outcome, outcome_by, outcome_at, outcome, targets_of, targets_inside, targets_outside, targets, address_set, address_sets, extra, main_items, items, nodes_to, most_visits, names_looked_up}
 use Rattle.dns_spec.proofs.DomainNames.NameLaws.{names_equal-decides, length-is_name}
 use Rattle.dns_spec.proofs.Records.SortedOnce.{Each, Among, each_filter, among_filter, length-sort_by}

@@ -1,15 +1,8 @@
 -- A reply depends on the first octets of a datagram alone.
 use Rattle.std.proofs.Common.{◌≡◌, ℕ, ◌+◌, ◌-◌, ◌<◌, ◌≤◌, Bool, not, cond, ◌==◌, ◌⊎◌, inl, inr, List, length, take, drop, Option, None, refl, sym, ap, ◌∙◌, arith, take_all, take-take, length-take-le}
-use Rattle.std.proofs.lemmas.Bool.{cases_lt}
-use Rattle.std.proofs.lemmas.List.{drop-take}
-use Rattle.dns_spec.specs.Names.{Octets}
-use Rattle.dns_spec.specs.Data.{number_of}
-use Rattle.dns_spec.specs.Records.{ZoneContents}
+use Rattle.dns_spec.proofs.Common.{cases_lt, drop-take, Octets, number_of, ZoneContents, option_map, Item, decide_query, decide, reply_of, reply_with, keep_longest, reply, reply_octets, octets_of}
 use Rattle.dns_spec.specs.Reading.{Header, MessageQuestion, format_error, not_implemented}
 use Rattle.dns_spec.specs.Query.{most_over_udp, field16, opcode, head_of, refusal_head, question_at, counts_are_one_question, is_ignored, QueryRead, absent, refused_with, query_or_error, query_read}
-use Rattle.std.specs.Option.{option_map}
-use Rattle.dns_spec.specs.Layout.{Item}
-use Rattle.dns_spec.specs.Reply.{decide_query, decide, reply_of, reply_with, keep_longest, reply, reply_octets, octets_of}
 use Rattle.dns_spec.proofs.Messages.Question.{question_ends}
 
 -- what is looked at of a query

@@ -1,18 +1,6 @@
 -- In a zone that passes each item of a reply is the records of a set at an owner, with one TTL.
-use Rattle.std.proofs.lemmas.Grind.{common_steps}
+use Rattle.dns_spec.proofs.Common.{common_steps, eqb-true, eq-eqb, false≢true, or_parts, none-some, same_Some, list_any, DomainName, folded, names_equal, same, type_a, type_ns, type_cname, type_aaaa, qtype_any, ResourceRecord, ZoneContents, at, of_type, rrset, with_owner, records_at, rising_types, of_first_type, of_lowest_type, cut_of, found, ttls_differ, Passes, Section, answer, authority, Item, no_error, item, follows_alias, alias_set, chain, alias_items, asked_records, negative_soa, negative, positive, has_any, outcome_by, outcome_at, outcome, address_set, address_sets, extra, items}
 use Rattle.std.proofs.Common.{◌≡◌, ℕ, ◌≤◌, Bool, true, false, ◌&&◌, not, cond, ◌==◌, ◌⊎◌, inl, inr, List, [], ◌∷◌, ◌++◌, map, length, Option, None, Some, is_some, option_map, unwrap_or, All, filter, flat_map, refl, sym, ap, ap₂, ◌∙◌, subst, arith}
-use Rattle.std.proofs.lemmas.Bool.{eqb-true, eq-eqb, false≢true, or_parts}
-use Rattle.std.proofs.lemmas.Option.{none-some, same_Some}
-use Rattle.std.specs.List.{list_any}
-use Rattle.dns_spec.specs.Names.{DomainName, folded, names_equal, same}
-use Rattle.dns_spec.specs.Data.{type_a, type_ns, type_cname, type_aaaa, qtype_any}
-use Rattle.dns_spec.specs.Records.{ResourceRecord, ZoneContents, at, of_type, rrset, with_owner}
-use Rattle.dns_spec.specs.Sets.{records_at, rising_types, of_first_type, of_lowest_type}
-use Rattle.dns_spec.specs.Tree.{cut_of, found}
-use Rattle.dns_spec.specs.Checks.{ttls_differ, Passes}
-use Rattle.dns_spec.specs.Layout.{Section, answer, authority, Item}
-use Rattle.dns_spec.specs.Reading.{no_error}
-use Rattle.dns_spec.specs.Answer.{item, follows_alias, alias_set, chain, alias_items, asked_records, negative_soa, negative, positive, has_any, outcome_by, outcome_at, outcome, address_set, address_sets, extra, items}
 use Rattle.dns_spec.specs.Laws.{IsSetAt}
 use Rattle.dns_spec.proofs.DomainNames.NameLaws.{names_equal-decides}
 use Rattle.dns_spec.proofs.Records.SortedOnce.{Each, Among, each_at, each_sort, among_filter}

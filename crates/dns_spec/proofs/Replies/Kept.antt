@@ -1,9 +1,6 @@
 -- What is kept of a list of sets is its longest beginning that fits.
 use Rattle.std.proofs.Common.{◌≡◌, ℕ, zero, suc, ◌<◌, ◌≤◌, Bool, true, false, cond, nat_le, ◌⊎◌, inl, inr, List, [], length, take, refl, sym, ap, ◌∙◌, arith, le-leb, leb-true, eq-or-lt_of_le}
-use Rattle.std.proofs.lemmas.Bool.{false≢true}
-use Rattle.std.proofs.lemmas.List.{length-take-le}
-use Rattle.dns_spec.specs.Layout.{Item}
-use Rattle.dns_spec.specs.Reply.{kept, greatest}
+use Rattle.dns_spec.proofs.Common.{false≢true, length-take-le, Item, kept, greatest}
 
 pub greatest_bound : (test : ℕ → Bool) (n : ℕ) → greatest test n ≤ n
 greatest_bound test zero = omega arith

@@ -1,17 +1,9 @@
 -- The octets of a reply spell it, and are no more than its limit.
 use Rattle.std.proofs.Common.{◌≡◌, ℕ, ◌+◌, ◌^◌, ◌<◌, ◌≤◌, Bool, true, false, nat_le, ◌==◌, List, [], ◌∷◌, length, take, drop, Option, None, Some, IfSome, All, refl, subst, arith, length-take, mod-lt}
 use Rattle.std.proofs.lemmas.Bool.{cond_both, and_parts, leb-true}
-use Rattle.std.proofs.lemmas.Option.{none-some, same_Some, cond_some}
+use Rattle.dns_spec.proofs.Common.{none-some, same_Some, cond_some, Octets, DomainName, is_name, number_of, ZoneContents, Header, MessageQuestion, Spells, name_at, Item, layout, message_of, records_size, size, outcome, items, is_authoritative}
 use Rattle.std.proofs.lemmas.List.Elements.{All-nil, All-take, All-drop}
-use Rattle.dns_spec.specs.Names.{Octets, DomainName, is_name}
-use Rattle.dns_spec.specs.Data.{number_of}
-use Rattle.dns_spec.specs.Records.{ZoneContents}
-use Rattle.dns_spec.specs.Reading.{Header, MessageQuestion, Spells}
-use Rattle.dns_spec.specs.ComputedReading.{name_at}
 use Rattle.dns_spec.specs.Query.{field16, bit, head_of, reply_head, refusal_head, question_of, question_at, QueryRead, absent, refused_with, query, query_or_error, query_read}
-use Rattle.dns_spec.specs.Layout.{Item, layout, message_of}
-use Rattle.dns_spec.specs.LayoutSize.{records_size, size}
-use Rattle.dns_spec.specs.Answer.{outcome, items, is_authoritative}
 use Rattle.dns_spec.specs.Reply.{truncated, Decision, silence, header_alone, question_alone, answered, decide_query, decide, Reply, answer_with, reply_of, reply_with, reply_octets, reply_message, keep_longest, reply, greatest}
 use Rattle.dns_spec.specs.Laws.{sections_in_order, IsWritable, IsAskable, HasRoom}
 use Rattle.dns_spec.proofs.Records.SortedOnce.{Each}

@@ -1,14 +1,6 @@
 -- The sets of a reply begin with those that it may not leave out.
-use Rattle.std.proofs.Common.{arith, rules}
+use Rattle.dns_spec.proofs.Common.{arith, rules, eqb-true, take_at, filter_map, DomainName, type_cname, target, ResourceRecord, ZoneContents, data_order, of_type, cut_of, found, Section, answer, Item}
 use Rattle.std.proofs.Common.{◌≡◌, ℕ, Bool, true, false, cond, ◌==◌, ◌⊎◌, inl, inr, List, [], ◌∷◌, ◌++◌, length, take, Option, None, Some, is_some, option_map, unwrap_or, filter, flat_map, refl, sym, ap, ◌∙◌, append_assoc, append-nil}
-use Rattle.std.proofs.lemmas.Bool.{eqb-true}
-use Rattle.std.proofs.lemmas.List.{take_at}
-use Rattle.std.specs.List.{filter_map}
-use Rattle.dns_spec.specs.Names.{DomainName}
-use Rattle.dns_spec.specs.Data.{type_cname, target}
-use Rattle.dns_spec.specs.Records.{ResourceRecord, ZoneContents, data_order, of_type}
-use Rattle.dns_spec.specs.Tree.{cut_of, found}
-use Rattle.dns_spec.specs.Layout.{Section, answer, Item}
 use Rattle.dns_spec.specs.Answer.{item, follows_alias, alias_set, chain, last_sought, alias_items, Outcome, outcome_by, outcome_at, outcome, has_target_type, targets_of, targets_inside, targets_outside, targets, address_sets, extra, main_items, items, required_items}
 use Rattle.dns_spec.proofs.Records.SortedOnce.{Each, each_sort}
 use Rattle.dns_spec.proofs.Replies.WritableItems.{each_flat_map}

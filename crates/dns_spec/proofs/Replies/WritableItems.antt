@@ -1,17 +1,7 @@
 -- The sets of an answer stand in the order of their sections, and their records fit a message where those of the zone do.
 use Rattle.std.proofs.Common.{◌≡◌, ℕ, zero, suc, ◌<◌, ◌≤◌, min, append_assoc, append-nil, Bool, true, false, ◌&&◌, cond, nat_le, List, [], ◌∷◌, ◌++◌, map, reverse, take, Option, None, Some, All, find, flat_map, refl, sym, ap, subst, arith, rules}
 use mathlib.Core.List.{reverse_aux}
-use Rattle.std.proofs.lemmas.Bool.{and_from, le-leb}
-use Rattle.std.proofs.lemmas.Option.{none-some, same_Some, cond_some, option_and_then_some}
-use Rattle.std.proofs.lemmas.List.Elements.{All-nil, All-cons, All-head, All-tail}
-use Rattle.std.specs.List.{list_all}
-use Rattle.dns_spec.specs.Names.{Octets, DomainName, is_name, folded, same, suffixes}
-use Rattle.dns_spec.specs.Data.{type_a, type_ns, type_cname, type_aaaa, Piece, Part, octets, name, piece_front, cut, first_name, target, soa_minimum}
-use Rattle.dns_spec.specs.Records.{ResourceRecord, ZoneContents, at, of_type, rrset, with_owner}
-use Rattle.dns_spec.specs.Sets.{of_lowest_type}
-use Rattle.dns_spec.specs.Tree.{is_cut, cut_of, found}
-use Rattle.dns_spec.specs.Layout.{Section, answer, authority, additional, Item, records_of}
-use Rattle.dns_spec.specs.Reading.{name_error, no_error}
+use Rattle.dns_spec.proofs.Common.{and_from, le-leb, none-some, same_Some, cond_some, option_and_then_some, All-nil, All-cons, All-head, All-tail, list_all, Octets, DomainName, is_name, folded, same, suffixes, type_a, type_ns, type_cname, type_aaaa, Piece, Part, octets, name, piece_front, cut, first_name, target, soa_minimum, ResourceRecord, ZoneContents, at, of_type, rrset, with_owner, of_lowest_type, is_cut, cut_of, found, Section, answer, authority, additional, Item, records_of, name_error, no_error}
 use Rattle.dns_spec.specs.Answer.{item, follows_alias, alias_set, first_target, next_sought, chain_from, chain, last_of, last_sought, alias_items, Outcome, asked_records, negative, positive, has_any, outcome_by, outcome_at, outcome, targets, address_set, address_sets, extra, main_items, items}
 use Rattle.dns_spec.specs.Laws.{section_rank, sections_in_order, IsWritable}
 use Rattle.dns_spec.proofs.DomainNames.NameLaws.{is_name-tail, is_name-folded}

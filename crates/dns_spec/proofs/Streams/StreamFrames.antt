@@ -1,14 +1,6 @@
 -- A stream is its frames and the rest, and the rest after all frames is empty or a frame that was cut.
-use Rattle.std.proofs.lemmas.Grind.{common_steps}
+use Rattle.dns_spec.proofs.Common.{common_steps, leb-true, le-leb, leb-false, none-some, cond_some, take_at, drop_at, length-take-le, All-head, All-tail, All-drop, flat_map, Octets, field16, octets16}
 use Rattle.std.proofs.Common.{◌≡◌, ℕ, zero, suc, ◌+◌, ◌-◌, ◌*◌, ◌^◌, ◌<◌, ◌≤◌, Bool, true, false, cond, nat_le, ◌⊎◌, inl, inr, List, [], ◌∷◌, ◌++◌, length, take, drop, replicate, All, Option, None, Some, refl, sym, ap, ap₂, ◌∙◌, subst, arith, append_assoc, zero-add, length-append, length-drop, mod-eq_of_lt, take-append-drop}
-use Rattle.std.proofs.lemmas.Bool.{leb-true, le-leb, leb-false}
-use Rattle.std.proofs.lemmas.Option.{none-some, cond_some}
-use Rattle.std.proofs.lemmas.List.{take_at, drop_at, length-take-le}
-use Rattle.std.proofs.lemmas.List.Elements.{All-head, All-tail, All-drop}
-use Rattle.std.specs.List.{flat_map}
-use Rattle.dns_spec.specs.Names.{Octets}
-use Rattle.dns_spec.specs.Query.{field16}
-use Rattle.dns_spec.specs.Layout.{octets16}
 use Rattle.dns_spec.specs.Stream.{frame, has_frame, first_frame, frames, after_frames, IsCutFrame}
 use Rattle.dns_spec.proofs.Messages.Places.{number_of-bytes}
 use Rattle.dns_spec.proofs.Replies.WritableItems.{each_from_all}

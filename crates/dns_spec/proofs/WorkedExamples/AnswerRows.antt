@@ -1,13 +1,7 @@
 -- Which sets answer a question, in the corners of its cases, computed from the definitions.
 use Rattle.std.specs.Prelude.{◌≡◌, ℕ, Bool, true, false, List, [], ◌∷◌, ◌++◌, map, length, codes}
-use Rattle.std.specs.Int.{bytes_high_first}
+use Rattle.dns_spec.proofs.Common.{bytes_high_first, Octets, DomainName, wire, labels_from, type_cname, type_mx, cut, ResourceRecord, ZoneContents, faults, Section, answer, authority, additional, Item, chain_from, chain, outcome_at, outcome, extra, items, required_items, is_authoritative}
 use mathlib.Core.Path.{refl}
-use Rattle.dns_spec.specs.Names.{Octets, DomainName, wire, labels_from}
-use Rattle.dns_spec.specs.Data.{type_cname, type_mx, cut}
-use Rattle.dns_spec.specs.Records.{ResourceRecord, ZoneContents}
-use Rattle.dns_spec.specs.Checks.{faults}
-use Rattle.dns_spec.specs.Layout.{Section, answer, authority, additional, Item}
-use Rattle.dns_spec.specs.Answer.{chain_from, chain, outcome_at, outcome, extra, items, required_items, is_authoritative}
 use Rattle.dns_spec.proofs.WorkedExamples.Zones.{dotted, under, entry, in_zone, address, alias, server, net_192, small_zone_with}
 
 abbrev exchange : ℕ → Octets → Octets

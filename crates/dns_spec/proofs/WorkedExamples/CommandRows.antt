@@ -1,9 +1,5 @@
 -- Which words ask for what, in the worked cases.
-use Rattle.std.proofs.Common.{◌≡◌, Bool, not, true, false, List, [], ◌∷◌, ◌++◌, codes, refl, ap, ◌∙◌, lit≤, inl, inr}
-use Rattle.std.specs.Fmt.{digits}
-use Rattle.std.proofs.lemmas.Bool.{false≢true}
-use Rattle.dns_spec.specs.Names.{Octets}
-use Rattle.dns_spec.specs.Report.{Options}
+use Rattle.dns_spec.proofs.Common.{◌≡◌, Bool, not, true, false, List, [], ◌∷◌, ◌++◌, codes, refl, ap, ◌∙◌, lit≤, inl, inr, digits, false≢true, Octets, Options}
 use Rattle.dns_spec.specs.CommandWords.{AreOptions, AskToCheck, AskToServe, is_dashed, by_lines, by_turns, udp, tcp, ZoneWords, ServiceAsked, HasTurns, service_words}
 
 abbrev zone : ZoneWords

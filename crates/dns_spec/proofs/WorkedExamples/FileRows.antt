@@ -1,15 +1,6 @@
 -- A small file and its records; and a whole zone, with the faults of texts that are its but for one
 -- line.
-use Rattle.std.proofs.Common.{ℕ, List, [], ◌∷◌, ◌++◌, refl, codes}
-use Rattle.std.specs.Fmt.{digits}
-use Rattle.dns_spec.specs.Names.{Octets, DomainName, wire, labels_from}
-use Rattle.dns_spec.specs.Data.{cut, type_a, type_ns, type_soa, type_txt, type_aaaa}
-use Rattle.dns_spec.specs.DataText.{hex_octets}
-use Rattle.dns_spec.specs.AddressText.{ipv6_groups}
-use Rattle.dns_spec.specs.Records.{ResourceRecord}
-use Rattle.dns_spec.specs.ZoneText.{run_length}
-use Rattle.dns_spec.specs.Meaning.{records, fault_at, Means}
-use Rattle.dns_spec.specs.FileFaults.{bad_ttl, bad_type, no_ttl}
+use Rattle.dns_spec.proofs.Common.{ℕ, List, [], ◌∷◌, ◌++◌, refl, codes, digits, Octets, DomainName, wire, labels_from, cut, type_a, type_ns, type_soa, type_txt, type_aaaa, hex_octets, ipv6_groups, ResourceRecord, run_length, records, fault_at, Means, bad_ttl, bad_type, no_ttl}
 use Rattle.dns_spec.proofs.WorkedExamples.Zones.{hex, example, under, net_192, soa_of, strings_data, small_records}
 use Rattle.dns_spec.proofs.WorkedExamples.Readings.{tokens_in, Mean, are_found, text_in, reads}
 use mathlib.Core.Bool.{xor}

@@ -1,19 +1,8 @@
 -- Texts past a limit: with an octet too many, and with a record too many.
 use Rattle.std.proofs.Common.{◌≡◌, ℕ, zero, suc, ◌+◌, ◌*◌, ◌<◌, ◌≤◌, inl, true, false, List, [], ◌∷◌, ◌++◌, Option, None, Some, refl, sym, ◌∙◌, ap, subst, codes, length, nat_le, nat_lt, take, drop, arith, lit≤, length-append, le-ltb}
-use Rattle.std.specs.Prelude.{MatchOption}
-use Rattle.std.proofs.Math.Seq.{take-append_seam, drop-append_seam}
+use Rattle.dns_spec.proofs.Common.{MatchOption, take-append_seam, drop-append_seam, and_parts, lt-ltb, ltb-true, le-leb, lt-leb, Octets, SpellsName, Token, blank, word, line_end, most_octets, is_blank, token_front, TokensThen, run_length, Entry, ended, cut_entries, with_end, whole_text, beginning, extent_by, stop_fault, stop_at, bad_escape, bad_octet, bad_owner, too_long, too_many_records, FileFault, no_words, KindGives, faulty, gives, fault_at, most_records, OriginIs, NameIs, IsRecord, is_record, line_after, Fields, fields, EntryGives, EntriesMean, Means, cut, type_txt, Word, ResourceRecord, digits}
 use Rattle.std.specs.List.{list_all, prefix_len, filter}
-use Rattle.std.proofs.lemmas.Bool.{and_parts, lt-ltb, ltb-true, le-leb, lt-leb}
 use Rattle.std.proofs.lemmas.List.{append_assoc, take_all}
-use Rattle.dns_spec.specs.Names.{Octets}
-use Rattle.dns_spec.specs.NameText.{SpellsName}
-use Rattle.dns_spec.specs.ZoneText.{Token, blank, word, line_end, most_octets, is_blank, token_front, TokensThen, run_length, Entry, ended, cut_entries, with_end, whole_text, beginning, extent_by, stop_fault, stop_at}
-use Rattle.dns_spec.specs.FileFaults.{bad_escape, bad_octet, bad_owner, too_long, too_many_records, FileFault}
-use Rattle.dns_spec.specs.Meaning.{no_words, KindGives, faulty, gives, fault_at, most_records, OriginIs, NameIs, IsRecord, is_record, line_after, Fields, fields, EntryGives, EntriesMean, Means}
-use Rattle.dns_spec.specs.Data.{cut, type_txt}
-use Rattle.dns_spec.specs.DataText.{Word}
-use Rattle.dns_spec.specs.Records.{ResourceRecord}
-use Rattle.std.specs.Fmt.{digits}
 use mathlib.Core.Bool.{xor}
 use Rattle.dns_spec.proofs.ZoneTexts.GivenRecords.{record_given, record_but_count, given_then}
 use Rattle.dns_spec.proofs.WorkedExamples.Readings.{data_in, found_is}

@@ -1,15 +1,6 @@
 -- What is printed of inputs, octet for octet, computed from the definitions.
-use Rattle.std.proofs.Common.{◌≡◌, ℕ, ◌≤◌, true, false, [], ◌∷◌, ◌++◌, codes, decimal, refl, sym, ◌∙◌, lit≤, inl, inr}
+use Rattle.dns_spec.proofs.Common.{◌≡◌, ℕ, ◌≤◌, true, false, [], ◌∷◌, ◌++◌, codes, decimal, refl, sym, ◌∙◌, lit≤, inl, inr, digits, none-some, octet_text, Octets, labels_from, cut, hex_octets, data_text, DnsMessage, run, runs_before, name_at, pieces_at, several, message_at}
 use Rattle.std.specs.Prelude.{Option, None, Some}
-use Rattle.std.specs.Fmt.{digits}
-use Rattle.std.proofs.lemmas.Option.{none-some}
-use Rattle.dns_spec.specs.NameText.{octet_text}
-use Rattle.dns_spec.specs.Names.{Octets, labels_from}
-use Rattle.dns_spec.specs.Data.{cut}
-use Rattle.dns_spec.specs.DataText.{hex_octets}
-use Rattle.dns_spec.specs.WrittenText.{data_text}
-use Rattle.dns_spec.specs.Reading.{DnsMessage}
-use Rattle.dns_spec.specs.ComputedReading.{run, runs_before, name_at, pieces_at, several, message_at}
 use Rattle.dns_spec.specs.Lines.{lines, ended_lines, line_message, line_answers, are_messages}
 use Rattle.dns_spec.specs.MessageLines.{section_line, message_text, PrintsMessage, PrintsInput}
 use Rattle.dns_spec.proofs.Messages.MessageReading.{message_at_computes}

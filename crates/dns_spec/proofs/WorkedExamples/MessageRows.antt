@@ -2,13 +2,7 @@
 -- definitions.
 use Rattle.std.specs.Prelude.{◌≡◌, ℕ, zero, suc, ◌+◌, Bool, true, not, List, [], ◌∷◌, ◌++◌, take, drop, replicate, codes}
 use Rattle.std.specs.Prelude.{None, Some}
-use Rattle.std.specs.Option.{is_some, option_map}
-use Rattle.std.specs.List.{list_all}
-use Rattle.dns_spec.specs.Names.{Octets, DomainName, wire}
-use Rattle.dns_spec.specs.Reading.{Header, MessageRecord, DnsMessage}
-use Rattle.dns_spec.specs.ComputedReading.{run, runs_before, name_at, pieces_at, several, message_at}
-use Rattle.dns_spec.specs.Query.{absent, refused_with, query, question_at, query_read}
-use Rattle.dns_spec.specs.Layout.{pointer}
+use Rattle.dns_spec.proofs.Common.{is_some, option_map, list_all, Octets, DomainName, wire, Header, MessageRecord, DnsMessage, run, runs_before, name_at, pieces_at, several, message_at, absent, refused_with, query, question_at, query_read, pointer}
 use Rattle.dns_spec.proofs.WorkedExamples.Zones.{hex, dotted, under, example, net_192, soa_of, letters, www_query}
 
 -- a reply with an address, whose owner is a pointer at place 29

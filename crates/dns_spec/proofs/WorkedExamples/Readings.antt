@@ -1,24 +1,8 @@
 -- Readings that compute: what a text or a part of it means, with the proof that it does, or nothing
 -- where the reading can't tell.
-use Rattle.std.proofs.Common.{◌≡◌, ◌≢◌, ℕ, zero, suc, ◌^◌, ◌⊎◌, inl, inr, Bool, true, false, ◌&&◌, ◌||◌, not, ◌==◌, List, [], ◌∷◌, ◌++◌, Option, Some, None, refl, sym, ◌∙◌, ap, subst, codes, decimal, length, map, take, drop, nat_lt, nat_le, arith}
-use Rattle.std.specs.Prelude.{MatchOption}
-use Rattle.std.specs.Bool.{MatchBool}
-use Rattle.std.specs.Int.{bytes_high_first}
-use Rattle.std.specs.List.{list_all, slice_split, flat_map}
-use Rattle.std.specs.Option.{option_map, is_none}
-use Rattle.std.specs.Str.Parse.{digits_value}
-use Rattle.std.proofs.lemmas.Bool.{and_parts, and_from, false≢true, eqb-true, eqb-false, ltb-true, leb-true, le-leb}
-use Rattle.std.proofs.lemmas.Fmt.{decimal_is_IsNumeral}
-use Rattle.std.proofs.lemmas.Option.{none-some, same_Some}
-use Rattle.dns_spec.specs.Names.{Octets, DomainName, wire, folded, is_name, octets_equal}
-use Rattle.dns_spec.specs.NameText.{SpellsOctet, TextSpells, SpellsName, escape_front}
-use Rattle.dns_spec.specs.TypeText.{text_in_lower_case, type_by_mnemonic, numbered_type, NamesType}
+use Rattle.dns_spec.proofs.Common.{◌≡◌, ◌≢◌, ℕ, zero, suc, ◌^◌, ◌⊎◌, inl, inr, Bool, true, false, ◌&&◌, ◌||◌, not, ◌==◌, List, [], ◌∷◌, ◌++◌, Option, Some, None, refl, sym, ◌∙◌, ap, subst, codes, decimal, length, map, take, drop, nat_lt, nat_le, arith, MatchOption, MatchBool, bytes_high_first, list_all, slice_split, flat_map, option_map, is_none, digits_value, and_parts, and_from, false≢true, eqb-true, eqb-false, ltb-true, leb-true, le-leb, decimal_is_IsNumeral, none-some, same_Some, Octets, DomainName, wire, folded, is_name, octets_equal, SpellsOctet, TextSpells, SpellsName, escape_front, text_in_lower_case, type_by_mnemonic, numbered_type, NamesType, valid, lower_case, ResourceRecord, Entry, most_octets, token_front, lexical_fault, Token, TokensThen, cut_entries, with_end, whole_text, extent_by, FileFault, unknown_directive, directive_words, bad_owner, no_owner, bad_ttl, other_class, bad_type, no_ttl, bad_data, too_many_records}
 use Rattle.dns_spec.specs.AddressText.{ipv4_text, ipv6_octets}
-use Rattle.dns_spec.specs.Data.{valid, lower_case}
 use Rattle.dns_spec.specs.DataText.{Word, WordForm, number_word, ipv4_word, ipv6_word, name_word, string_word, SpellsString, SaysForm, may_be_quoted, SaysForms, forms_of, SaysTyped, hex_octets, is_hex_word, SaysUnknown, is_unknown_mark, SaysAsSpelled, Says}
-use Rattle.dns_spec.specs.Records.{ResourceRecord}
-use Rattle.dns_spec.specs.ZoneText.{Entry, most_octets, token_front, lexical_fault, Token, TokensThen, cut_entries, with_end, whole_text, extent_by}
-use Rattle.dns_spec.specs.FileFaults.{FileFault, unknown_directive, directive_words, bad_owner, no_owner, bad_ttl, other_class, bad_type, no_ttl, bad_data, too_many_records}
 use Rattle.dns_spec.specs.Meaning.{EntryMeaning, faulty, gives, Nothing, EntryKind, no_words, directive, owned, unowned, kind_of, directive_word, owner_word, OriginIs, NameIs, OwnerBefore, most_ttl, TtlSays, ttl_in_force, TtlIs, is_zone_type, TypeIs, DataIs, IsRecord, Fields, fields, IsNoTtl, is_other_class, are_too_many, RecordGives, DirectiveSays, DirectiveGives, KindGives, EntryGives, Meaning, records, fault_at, after, line_after, EntriesMean, Means}
 use Rattle.dns_spec.proofs.DomainNames.NameLaws.{octets_equal-decides}
 use Rattle.dns_spec.proofs.NameTexts.Escapes.{escape_spells}

@@ -1,18 +1,5 @@
 -- What is reported of worked zones, octet for octet.
-use Rattle.std.proofs.Common.{◌≡◌, ℕ, Bool, true, false, List, [], ◌∷◌, ◌++◌, codes, refl, lit<, lit≤, ◌<◌, All}
-use Rattle.std.specs.List.{Contains}
-use Rattle.std.specs.Fmt.{digits}
-use Rattle.dns_spec.specs.NameText.{octet_text}
-use Rattle.dns_spec.specs.Names.{Octets, DomainName, wire, labels_from}
-use Rattle.dns_spec.specs.Data.{type_a, type_ns, type_soa, type_txt, cut}
-use Rattle.dns_spec.specs.DataText.{hex_octets}
-use Rattle.dns_spec.specs.WrittenText.{data_text}
-use Rattle.dns_spec.specs.Records.{ResourceRecord, HoldSameRecords, zone_of}
-use Rattle.dns_spec.specs.Checks.{faults}
-use Rattle.dns_spec.specs.FileFaults.{bad_ttl, bad_type}
-use Rattle.dns_spec.specs.Meaning.{records, fault_at}
-use Rattle.dns_spec.specs.ZonePrinted.{zone_text, IsReadRecord, record_line}
-use Rattle.dns_spec.specs.Report.{Options, Report, Reports, report_of_meaning, zone_report}
+use Rattle.dns_spec.proofs.Common.{◌≡◌, ℕ, Bool, true, false, List, [], ◌∷◌, ◌++◌, codes, refl, lit<, lit≤, ◌<◌, All, Contains, digits, octet_text, Octets, DomainName, wire, labels_from, type_a, type_ns, type_soa, type_txt, cut, hex_octets, data_text, ResourceRecord, HoldSameRecords, zone_of, faults, bad_ttl, bad_type, records, fault_at, zone_text, IsReadRecord, record_line, Options, Report, Reports, report_of_meaning, zone_report}
 use Rattle.dns_spec.proofs.WorkedExamples.FileRows.{small_file, six_records, small_file_means}
 use Rattle.dns_spec.proofs.Records.RecordOrder.{all_each}
 use Rattle.dns_spec.proofs.WorkedExamples.Zones.{dotted, example, entry, in_zone, alias, server, soa_of, strings_data, net_192, small_records, small_zone_with}

@@ -4,18 +4,7 @@
 use Rattle.std.specs.Prelude.{◌≡◌, ℕ, zero, suc, ◌+◌, ◌*◌, List, [], ◌∷◌, ◌++◌, length, take, drop, replicate, codes}
 use mathlib.Core.Path.{refl}
 use Rattle.std.specs.Prelude.{Option, None, Some}
-use Rattle.std.specs.Option.{option_map}
-use Rattle.dns_spec.specs.Names.{Octets, wire, labels_from}
-use Rattle.dns_spec.specs.Data.{cut, type_txt, type_cname, type_srv}
-use Rattle.dns_spec.specs.Records.{ResourceRecord, ZoneContents}
-use Rattle.dns_spec.specs.ComputedReading.{run, runs_before, name_at}
-use Rattle.dns_spec.specs.Layout.{answer, Item, Placed, shared_octets, data_laid, record_laid, header_octets, records_octets, layout}
-use Rattle.dns_spec.specs.LayoutSize.{cost, data_size, records_size, size}
-use Rattle.dns_spec.specs.Answer.{chain_from, chain, outcome_at, outcome, extra, items, required_items}
-use Rattle.dns_spec.specs.Reply.{keep_longest, reply_with, reply, octets_of, decide}
-use Rattle.dns_spec.specs.Query.{question_at, query_read}
-use Rattle.dns_spec.specs.Reading.{Header, MessageQuestion}
-use Rattle.dns_spec.specs.Sharing.{names_of}
+use Rattle.dns_spec.proofs.Common.{option_map, Octets, wire, labels_from, cut, type_txt, type_cname, type_srv, ResourceRecord, ZoneContents, run, runs_before, name_at, answer, Item, Placed, shared_octets, data_laid, record_laid, header_octets, records_octets, layout, cost, data_size, records_size, size, chain_from, chain, outcome_at, outcome, extra, items, required_items, keep_longest, reply_with, reply, octets_of, decide, question_at, query_read, Header, MessageQuestion, names_of}
 use Rattle.dns_spec.specs.Stream.{frame, first_frame, frames, after_frames, replies}
 use Rattle.dns_spec.proofs.WorkedExamples.Zones.{hex, dotted, under, entry, in_zone, addresses, query, asks, www_query, small_zone, small_zone_with, large_zone, deep_zone, deep_name}
 

@@ -1,7 +1,6 @@
 -- Names on the wire and as they are written, computed from the definitions.
 use Rattle.std.specs.Prelude.{◌≡◌, [], ◌∷◌, ◌++◌, replicate, codes, Some, None}
-use Rattle.dns_spec.specs.Names.{labels_from, name_of}
-use Rattle.dns_spec.specs.NameText.{escape_front, octet_text, name_text}
+use Rattle.dns_spec.proofs.Common.{labels_from, name_of, escape_front, octet_text, name_text}
 use Rattle.dns_spec.proofs.WorkedExamples.Zones.{dotted, hex}
 
 text_rows :

@@ -1,8 +1,5 @@
 -- Words that stand alone in a text, and words that do not, computed from the definitions.
-use Rattle.std.proofs.Common.{◌≡◌, true, false, [], ◌∷◌, codes}
-use Rattle.dns_spec.specs.WrittenText.{plain, stands_alone}
-use Rattle.dns_spec.specs.DataText.{Word}
-use Rattle.dns_spec.specs.Names.{Octets}
+use Rattle.dns_spec.proofs.Common.{◌≡◌, true, false, [], ◌∷◌, codes, plain, stands_alone, Word, Octets}
 
 -- a word in quotation marks as it is spelled, its escapes not undone
 abbrev between : Octets → Word

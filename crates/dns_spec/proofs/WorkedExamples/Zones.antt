@@ -1,11 +1,6 @@
 -- The zones and queries of the worked examples, written as a person writes them.
 use Rattle.std.specs.Prelude.{ℕ, zero, suc, ◌+◌, ◌*◌, ◌/◌, ◌%◌, List, [], ◌∷◌, ◌++◌, length, replicate, nat_lt, ◌==◌, if◌then◌else◌, codes}
-use Rattle.std.specs.List.{flat_map}
-use Rattle.std.specs.Int.{bytes_high_first}
-use Rattle.std.specs.Char.{digit_value}
-use Rattle.dns_spec.specs.Names.{Octets, DomainName, wire}
-use Rattle.dns_spec.specs.Data.{type_a, type_ns, type_cname, type_soa, type_mx, type_txt, type_srv}
-use Rattle.dns_spec.specs.Records.{ResourceRecord, ZoneContents, zone_of}
+use Rattle.dns_spec.proofs.Common.{flat_map, bytes_high_first, digit_value, Octets, DomainName, wire, type_a, type_ns, type_cname, type_soa, type_mx, type_txt, type_srv, ResourceRecord, ZoneContents, zone_of}
 
 -- `www.example` is the list of the labels `www` and `example`
 abbrev pub with_letter : ℕ → DomainName → DomainName

@@ -1,14 +1,6 @@
 -- A fault stands among those of a zone exactly where its condition holds, once, by the order of owners and then of codes.
-use Rattle.std.proofs.lemmas.Grind.{common_steps}
-use Rattle.std.proofs.Common.{◌≡◌, ℕ, ◌↔◌, Bool, true, false, ◌&&◌, ◌||◌, ◌⊎◌, inl, inr, List, [], ◌∷◌, ◌++◌, map, ◌==◌, filter, refl, sym, ap, ◌∙◌, subst, arith, Ordering, Less, nat_cmp, is_lt}
-use Rattle.std.specs.List.{Contains, list_any, list_all, flat_map}
+use Rattle.dns_spec.proofs.Common.{common_steps, ◌≡◌, ℕ, ◌↔◌, Bool, true, false, ◌&&◌, ◌||◌, ◌⊎◌, inl, inr, List, [], ◌∷◌, ◌++◌, map, ◌==◌, filter, refl, sym, ap, ◌∙◌, subst, arith, Ordering, Less, nat_cmp, is_lt, Contains, list_any, list_all, flat_map, ordering_then, and_parts, and_from, false≢true, eqb-true, eq-eqb, lt-ltb, tied_itself, flat_map-cons, DomainName, folded, names_equal, same, name_order, ResourceRecord, ZoneContents, at, owns, distinct}
 use Rattle.std.specs.List.Sorted.{IsStrictlySortedBy}
-use Rattle.std.specs.Ordering.{ordering_then}
-use Rattle.std.proofs.lemmas.Bool.{and_parts, and_from, false≢true, eqb-true, eq-eqb, lt-ltb}
-use Rattle.std.proofs.lemmas.Cmp.{tied_itself}
-use Rattle.std.proofs.lemmas.List.Concat.{flat_map-cons}
-use Rattle.dns_spec.specs.Names.{DomainName, folded, names_equal, same, name_order}
-use Rattle.dns_spec.specs.Records.{ResourceRecord, ZoneContents, at, owns, distinct}
 use Rattle.dns_spec.specs.Checks.{Check, is_origin, is_owner, checks, fails, Fault, faults_at, checked_names, faults, fault_order}
 use Rattle.dns_spec.proofs.Records.SortedOnce.{Each, Among, each_at, Rises, apart_distinct, sort_rises, among_sort, among_distinct, among_filter, filter_among, filter_each, each_filter}
 use Rattle.dns_spec.proofs.Records.RecordOrder.{contains_among, among_contains}

@@ -1,11 +1,6 @@
 -- A zone that passes has no fault at its origin.
-use Rattle.std.proofs.lemmas.Grind.{common_steps}
+use Rattle.dns_spec.proofs.Common.{common_steps, ltb-false, folded, same, name_order, type_soa, ResourceRecord, ZoneContents, distinct, sort_by, rrset, at, data_order, Check, checks, faults_at, checked_names, faults, Passes}
 use Rattle.std.proofs.Common.{◌≡◌, ℕ, ◌≤◌, Bool, false, ◌⊎◌, inl, inr, List, [], ◌∷◌, ◌++◌, map, length, refl, sym, ap, subst, ◌∙◌, filter, flat_map, ◌==◌, Ordering, arith}
-use Rattle.std.proofs.lemmas.Bool.{ltb-false}
-use Rattle.dns_spec.specs.Names.{folded, same, name_order}
-use Rattle.dns_spec.specs.Data.{type_soa}
-use Rattle.dns_spec.specs.Records.{ResourceRecord, ZoneContents, distinct, sort_by, rrset, at, data_order}
-use Rattle.dns_spec.specs.Checks.{Check, checks, faults_at, checked_names, faults, Passes}
 use Rattle.dns_spec.proofs.DomainNames.NameLaws.{names_equal-decides}
 use Rattle.dns_spec.proofs.ZoneChecks.FaultOrder.{name_order_total, name_tie, Lower, one_lower}
 use Rattle.dns_spec.proofs.Records.SortedOnce.{Each, Among, each_at, among_sort, among_distinct}

@@ -1,12 +1,6 @@
 -- A text that goes on begins with the tokens of its beginning, but for the last of them, which may go on too.
-use Rattle.std.proofs.Common.{◌≡◌, ℕ, zero, suc, ◌+◌, ◌⊎◌, inl, inr, Bool, true, false, not, ◌==◌, Option, Some, None, [], ◌∷◌, ◌++◌, length, take, drop, refl, sym, ◌∙◌, ap, ap₂, subst, arith}
-use Rattle.std.specs.Prelude.{if◌then◌else◌}
-use Rattle.std.proofs.lemmas.Bool.{and_parts, or_cases, eqb-true, true≢false, false≢true}
-use Rattle.std.proofs.lemmas.Option.{none-some}
-use Rattle.std.specs.List.{prefix_len}
-use Rattle.dns_spec.specs.Names.{Octets}
+use Rattle.dns_spec.proofs.Common.{◌≡◌, ℕ, zero, suc, ◌+◌, ◌⊎◌, inl, inr, Bool, true, false, not, ◌==◌, Option, Some, None, [], ◌∷◌, ◌++◌, length, take, drop, refl, sym, ◌∙◌, ap, ap₂, subst, arith, if◌then◌else◌, and_parts, or_cases, eqb-true, true≢false, false≢true, none-some, prefix_len, Octets, is_word_octet}
 use Rattle.dns_spec.specs.ZoneText.{Token, blank, comment, word, is_blank, unit_left, run_length, word_length, string_length, quoted_front, unquoted_front, line_feed_front, token_front, parenthesis, is_line_end, is_cut_short}
-use Rattle.dns_spec.specs.DataText.{is_word_octet}
 use Rattle.dns_spec.proofs.ZoneTexts.ReadWords.{front_taken}
 use Rattle.dns_spec.proofs.NameTexts.Escapes.{counted_escape, left_by, escape-counted}
 

@@ -1,14 +1,7 @@
 -- The first fault of a beginning of a text is the fault of the text.
-use Rattle.std.proofs.Common.{◌≡◌, ℕ, zero, suc, ◌≤◌, ◌⊎◌, inl, inr, Bool, true, false, ◌&&◌, not, Option, Some, None, List, [], ◌∷◌, ◌++◌, map, length, take, drop, refl, sym, ◌∙◌, ap, subst, arith}
-use Rattle.std.proofs.lemmas.Bool.{false≢true, true≢false}
-use Rattle.std.proofs.lemmas.Option.{none-some, same_Some}
-use Rattle.std.specs.List.{cons_option}
+use Rattle.dns_spec.proofs.Common.{◌≡◌, ℕ, zero, suc, ◌≤◌, ◌⊎◌, inl, inr, Bool, true, false, ◌&&◌, not, Option, Some, None, List, [], ◌∷◌, ◌++◌, map, length, take, drop, refl, sym, ◌∙◌, ap, subst, arith, false≢true, true≢false, none-some, same_Some, cons_option, Octets, DomainName, ResourceRecord, FileFault, bad_parenthesis, too_long, faulty, gives, Meaning, records, fault_at, after, line_after, EntriesMean, Means}
 use mathlib.Core.Bool.{xor}
-use Rattle.dns_spec.specs.Names.{Octets, DomainName}
-use Rattle.dns_spec.specs.Records.{ResourceRecord}
-use Rattle.dns_spec.specs.FileFaults.{FileFault, bad_parenthesis, too_long}
 use Rattle.dns_spec.specs.ZoneText.{most_octets, extent_of, Token, token_front, TokensThen, parenthesis, parentheses, is_line_end, open_after, before_first, cut_entries, take_turns, is_open_at_end, is_cut_short, string_length, Extent, beginning, in_string, in_token, stop_at, token_fault, string_fault, stop_fault, Entry, ended, unended, with_end}
-use Rattle.dns_spec.specs.Meaning.{faulty, gives, Meaning, records, fault_at, after, line_after, EntriesMean, Means}
 use Rattle.dns_spec.specs.Laws.{OctetsMean}
 use Rattle.dns_spec.proofs.ZoneTexts.TextTokens.{has_tokens}
 use Rattle.dns_spec.proofs.ZoneTexts.Beginnings.{Loose, uncut, run_more, dropped_more, stop_place, front_kept, none_kept, cut_none}

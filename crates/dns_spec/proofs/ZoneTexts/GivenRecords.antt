@@ -1,14 +1,5 @@
 -- A record that is one is given, where no code of a fault stands before it.
-use Rattle.std.proofs.Common.{◌≡◌, ℕ, inr, false, List, [], ◌∷◌, Option, refl, sym, ◌∙◌, IsTrue, arith}
-use Rattle.std.specs.Prelude.{MatchOption}
-use Rattle.std.specs.Option.{is_none}
-use Rattle.std.proofs.lemmas.Bool.{false≢true}
-use Rattle.dns_spec.specs.Names.{DomainName}
-use Rattle.dns_spec.specs.DataText.{Word}
-use Rattle.dns_spec.specs.Records.{ResourceRecord}
-use Rattle.dns_spec.specs.ZoneText.{Entry}
-use Rattle.dns_spec.specs.FileFaults.{FileFault, too_many_records}
-use Rattle.dns_spec.specs.Meaning.{EntryMeaning, gives, TtlSays, TtlIs, IsRecord, Fields, IsNoTtl, is_other_class, are_too_many, RecordGives, EntryGives, Meaning, after, EntriesMean, Lowest}
+use Rattle.dns_spec.proofs.Common.{◌≡◌, ℕ, inr, false, List, [], ◌∷◌, Option, refl, sym, ◌∙◌, IsTrue, arith, MatchOption, is_none, false≢true, DomainName, Word, ResourceRecord, Entry, FileFault, too_many_records, EntryMeaning, gives, TtlSays, TtlIs, IsRecord, Fields, IsNoTtl, is_other_class, are_too_many, RecordGives, EntryGives, Meaning, after, EntriesMean, Lowest}
 
 -- a TTL that is stated, and one that is known
 ttl_stated : (earlier : List Entry) (stated : Option Word) (n : ℕ) → TtlIs earlier stated n

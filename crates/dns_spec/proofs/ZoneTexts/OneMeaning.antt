@@ -1,15 +1,5 @@
 -- A text means one thing.
-use Rattle.std.proofs.Common.{◌≡◌, ℕ, inl, inr, Bool, List, [], ◌∷◌, drop, Option, None, refl, sym, ◌∙◌, ap, ap₂, subst, subst₂, arith, codes, rules}
-use Rattle.std.specs.Prelude.{MatchOption}
-use Rattle.std.specs.Bool.{MatchBool}
-use Rattle.std.proofs.lemmas.Option.{some_pair_parts}
-use Rattle.std.proofs.lemmas.Fmt.{decimal_injective}
-use Rattle.dns_spec.specs.Names.{Octets, DomainName, folded}
-use Rattle.dns_spec.specs.NameText.{SpellsName}
-use Rattle.dns_spec.specs.DataText.{Word, Says}
-use Rattle.dns_spec.specs.Records.{ResourceRecord}
-use Rattle.dns_spec.specs.ZoneText.{Token, token_front, TokensThen, Entry, Entries}
-use Rattle.dns_spec.specs.FileFaults.{FileFault, bad_owner, no_owner}
+use Rattle.dns_spec.proofs.Common.{◌≡◌, ℕ, inl, inr, Bool, List, [], ◌∷◌, drop, Option, None, refl, sym, ◌∙◌, ap, ap₂, subst, subst₂, arith, codes, rules, MatchOption, MatchBool, some_pair_parts, decimal_injective, Octets, DomainName, folded, SpellsName, Word, Says, ResourceRecord, Token, token_front, TokensThen, Entry, Entries, FileFault, bad_owner, no_owner}
 use Rattle.dns_spec.specs.Meaning.{EntryMeaning, faulty, gives, Lowest, EntryKind, no_words, directive, owned, unowned, kind_of, directive_word, owner_word, OriginIs, NameIs, OwnerBefore, TtlSays, TtlIs, TypeIs, DataIs, IsRecord, Fields, fields, record_faults, RecordGives, DirectiveSays, DirectiveGives, KindGives, EntryGives, Meaning, fault_at, after, line_after, EntriesMean, Means}
 use Rattle.dns_spec.proofs.NameTexts.OneName.{name_once}
 use Rattle.dns_spec.proofs.DataWords.OneData.{data_once}

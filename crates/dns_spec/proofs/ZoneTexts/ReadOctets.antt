@@ -1,18 +1,6 @@
 -- What the words of a text spell are octets below 256, where the origin's are.
 use Rattle.std.proofs.Common.{◌≡◌, ℕ, ◌+◌, ◌*◌, ◌<◌, inl, inr, Bool, true, false, cond, ◌&&◌, nat_lt, Option, Some, None, List, [], ◌∷◌, ◌++◌, map, length, refl, sym, subst, arith, flat_map}
-use Rattle.std.proofs.lemmas.Bool.{agree_below_at, and_parts, ltb-true}
-use Rattle.std.proofs.lemmas.List.{length-map}
-use Rattle.std.proofs.lemmas.Option.{none-some, same_Some}
-use Rattle.std.specs.Prelude.{MatchOption}
-use Rattle.std.specs.Option.{option_map}
-use Rattle.std.specs.List.{list_all}
-use Rattle.std.specs.Char.{is_ascii_hexdigit, digit_value, to_ascii_lowercase}
-use Rattle.std.specs.Int.{bytes_high_first}
-use Rattle.dns_spec.specs.Names.{Octets, DomainName, wire, is_label, folded}
-use Rattle.dns_spec.specs.NameText.{SpellsOctet, LabelThen, TextSpells, SpellsName}
-use Rattle.dns_spec.specs.Data.{Part, part_octets, joined, part_folded}
-use Rattle.dns_spec.specs.AddressText.{SaysIpv6, ipv6_groups}
-use Rattle.dns_spec.specs.DataText.{Word, SpellsStringOctet, SpellsString, WordForm, number_word, ipv4_word, ipv6_word, name_word, string_word, SaysForm, SaysForms, forms_of, SaysTyped, hex_octets, SaysUnknown, SaysAsSpelled, Says}
+use Rattle.dns_spec.proofs.Common.{agree_below_at, and_parts, ltb-true, length-map, none-some, same_Some, MatchOption, option_map, list_all, is_ascii_hexdigit, digit_value, to_ascii_lowercase, bytes_high_first, Octets, DomainName, wire, is_label, folded, SpellsOctet, LabelThen, TextSpells, SpellsName, Part, part_octets, joined, part_folded, SaysIpv6, ipv6_groups, Word, SpellsStringOctet, SpellsString, WordForm, number_word, ipv4_word, ipv6_word, name_word, string_word, SaysForm, SaysForms, forms_of, SaysTyped, hex_octets, SaysUnknown, SaysAsSpelled, Says}
 use Rattle.dns_spec.proofs.Records.SortedOnce.{Each}
 use Rattle.dns_spec.proofs.DomainNames.NameLaws.{IsName-is_name, IsLabel-is_label}
 use Rattle.dns_spec.proofs.DataWords.NumberAgain.{bytes_below}

@@ -1,18 +1,7 @@
 -- The records that a text means are such as are read, of types that zones have, and few enough.
-use Rattle.std.proofs.Common.{◌≡◌, ℕ, ◌+◌, ◌<◌, ◌≤◌, ◌⊎◌, inl, inr, Bool, true, false, cond, nat_le, All, List, [], ◌∷◌, ◌++◌, length, drop, filter, Option, Some, None, refl, sym, subst, arith, codes, IsTrue, length-append, rules}
-use Rattle.std.proofs.lemmas.Bool.{le-leb, cases_lt}
-use Rattle.std.proofs.lemmas.List.Elements.{All-weaker}
-use Rattle.std.specs.Prelude.{⊤, MatchOption}
-use Rattle.std.specs.Bool.{MatchBool}
-use Rattle.dns_spec.specs.Names.{Octets, DomainName, is_name, folded}
-use Rattle.dns_spec.specs.NameText.{SpellsName}
-use Rattle.dns_spec.specs.Data.{valid, lower_case}
-use Rattle.dns_spec.specs.DataText.{Word}
-use Rattle.dns_spec.specs.Records.{ResourceRecord}
+use Rattle.dns_spec.proofs.Common.{◌≡◌, ℕ, ◌+◌, ◌<◌, ◌≤◌, ◌⊎◌, inl, inr, Bool, true, false, cond, nat_le, All, List, [], ◌∷◌, ◌++◌, length, drop, filter, Option, Some, None, refl, sym, subst, arith, codes, IsTrue, length-append, rules, le-leb, cases_lt, All-weaker, ⊤, MatchOption, MatchBool, Octets, DomainName, is_name, folded, SpellsName, valid, lower_case, Word, ResourceRecord, too_many_records, FileFault, bad_owner, no_owner, IsReadRecord, HasZoneType}
 use Rattle.dns_spec.specs.ZoneText.{Entry, entry_words, begins_blank}
-use Rattle.dns_spec.specs.FileFaults.{too_many_records, FileFault, bad_owner, no_owner}
 use Rattle.dns_spec.specs.Meaning.{EntryMeaning, faulty, gives, EntryKind, no_words, directive, owned, unowned, kind_by_words, kind_of, directive_word, is_record, OriginIs, NameIs, OwnerBefore, most_ttl, TtlIs, TypeIs, DataIs, is_zone_type, Fields, class_after, ttl_after, fields, IsRecord, most_records, are_too_many, RecordGives, DirectiveGives, KindGives, EntryGives, Meaning, records, fault_at, after, EntriesMean, Means}
-use Rattle.dns_spec.specs.ZonePrinted.{IsReadRecord, HasZoneType}
 use Rattle.dns_spec.proofs.ZoneChecks.FaultOrder.{folded_folded}
 use Rattle.dns_spec.proofs.Records.SortedOnce.{Each}
 use Rattle.dns_spec.proofs.Records.RecordOrder.{LowerOwner, all_each, each_all}

@@ -1,10 +1,7 @@
 -- The words and strings in a text are octets below 256: what stands in them by itself, and their escapes, are printable.
 use Rattle.std.proofs.Common.{◌≡◌, ℕ, zero, suc, ◌+◌, ◌<◌, inl, inr, Bool, true, false, cond, not, ◌&&◌, ◌==◌, nat_le, Option, Some, None, List, [], ◌∷◌, take, drop, refl, subst, arith, filter_map}
-use Rattle.std.proofs.lemmas.Bool.{and_parts, eqb-true, leb-true, or_cases}
-use Rattle.std.proofs.lemmas.Option.{none-some, same_Some}
-use Rattle.dns_spec.specs.Names.{Octets}
+use Rattle.dns_spec.proofs.Common.{and_parts, eqb-true, leb-true, or_cases, none-some, same_Some, Octets, is_word_octet, is_string_octet}
 use Rattle.dns_spec.specs.ZoneText.{Token, blank, comment, word, quoted_string, opening, closing, line_end, escape_left, unit_left, run_length, word_length, string_length, closed, quoted_front, unquoted_front, line_feed_front, token_front, TokensThen, is_line_end, open_after, before_first, cut_entries, Entry, with_end, Entries, word_of, entry_words, Extent}
-use Rattle.dns_spec.specs.DataText.{is_word_octet, is_string_octet}
 use Rattle.dns_spec.proofs.Records.SortedOnce.{Each}
 use Rattle.dns_spec.proofs.ZoneTexts.ReadOctets.{Octet, SmallWord}
 

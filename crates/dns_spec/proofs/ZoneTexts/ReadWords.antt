@@ -1,14 +1,5 @@
 -- A word that is written, and something after it that ends it, begin with that word as a token.
-use Rattle.std.proofs.lemmas.Grind.{common_steps}
-use Rattle.std.proofs.Common.{◌≡◌, ℕ, suc, inl, inr, Bool, true, false, ◌||◌, ◌==◌, Some, None, [], ◌∷◌, ◌++◌, length, take, drop, nat_lt, refl, ◌∙◌, ap, arith, append_assoc}
-use Rattle.std.proofs.Math.Seq.{take-append_seam, drop-append_seam}
-use Rattle.std.proofs.lemmas.Bool.{true≢false, false≢true, cases_Bool, eqb-true, and_parts, false_from_ne_true}
-use Rattle.std.specs.Prelude.{if◌then◌else◌}
-use Rattle.std.specs.List.{prefix_len}
-use Rattle.dns_spec.specs.Names.{Octets}
-use Rattle.dns_spec.specs.DataText.{Word, is_word_octet, is_string_octet}
-use Rattle.dns_spec.specs.WrittenText.{word_text, is_unbroken, stands_alone}
-use Rattle.dns_spec.specs.ZoneText.{Token, blank, word, quoted_string, is_blank, run_length, word_length, unquoted_front, token_front}
+use Rattle.dns_spec.proofs.Common.{common_steps, ◌≡◌, ℕ, suc, inl, inr, Bool, true, false, ◌||◌, ◌==◌, Some, None, [], ◌∷◌, ◌++◌, length, take, drop, nat_lt, refl, ◌∙◌, ap, arith, append_assoc, take-append_seam, drop-append_seam, true≢false, false≢true, cases_Bool, eqb-true, and_parts, false_from_ne_true, if◌then◌else◌, prefix_len, Octets, Word, is_word_octet, is_string_octet, word_text, is_unbroken, stands_alone, Token, blank, word, quoted_string, is_blank, run_length, word_length, unquoted_front, token_front}
 use Rattle.dns_spec.proofs.DataWords.WordRuns.{Runs}
 use Rattle.dns_spec.proofs.DataWords.StandingWords.{TakenWhole}
 

@@ -1,10 +1,6 @@
 -- Every text is made of tokens, up to a place where none begins.
-use Rattle.std.proofs.Common.{◌≡◌, ℕ, zero, suc, ◌-◌, ◌<◌, Bool, false, List, [], ◌∷◌, length, drop, take, refl, sym, subst, arith, Option, Some, None, ◌==◌}
-use Rattle.std.specs.Prelude.{⊤, if◌then◌else◌, MatchOption}
+use Rattle.dns_spec.proofs.Common.{◌≡◌, ℕ, zero, suc, ◌-◌, ◌<◌, Bool, false, List, [], ◌∷◌, length, drop, take, refl, sym, subst, arith, Option, Some, None, ◌==◌, ⊤, if◌then◌else◌, MatchOption, eqb-true, false_from_ne_true, Octets, Token, word, closed, line_feed_front, token_front, TokensThen}
 use Rattle.std.proofs.lemmas.List.{length-drop}
-use Rattle.std.proofs.lemmas.Bool.{eqb-true, false_from_ne_true}
-use Rattle.dns_spec.specs.Names.{Octets}
-use Rattle.dns_spec.specs.ZoneText.{Token, word, closed, line_feed_front, token_front, TokensThen}
 
 -- what comes after the token is shorter than so many octets
 Shorter : ℕ → Option (Token × Octets) → Type 0

@@ -1,5 +1,4 @@
-use Rattle.std.proofs.Common.{false, sym, ap, ◌∙◌}
-use Rattle.dns_spec.specs.Tree.{exists}
+use Rattle.dns_spec.proofs.Common.{false, sym, ap, ◌∙◌, exists}
 use Rattle.dns_zone.specs.Nodes.{ZoneNode}
 use Rattle.dns_answer.specs.Targets.{addresses_of}
 use Rattle.dns_answer.proofs.Offering.{Offers-is, Offers-empty, Offers-then}

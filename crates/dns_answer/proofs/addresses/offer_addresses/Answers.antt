@@ -1,8 +1,5 @@
 use Rattle.std.proofs.Common.{inr, ◌≡◌, List, take, take_all, ◌<◌, length, ◌&&◌, refl, sym, ap, ap₂, ◌∙◌, subst, arith}
-use Rattle.dns_spec.specs.Records.{ZoneContents}
-use Rattle.dns_spec.specs.Data.{target}
-use Rattle.std.specs.List.{filter_map, list_all}
-use Rattle.dns_spec.specs.Names.{Octets}
+use Rattle.dns_spec.proofs.Common.{ZoneContents, target, filter_map, list_all, Octets}
 use Rattle.dns_answer.specs.Walks.{Took}
 use Rattle.dns_answer.specs.Targets.{target_at, target_nodes, target_misses, side_takes}
 use Rattle.dns_answer.proofs.Taking.{Took-none, Took-then, Took-within}

@@ -1,8 +1,5 @@
-use Rattle.std.proofs.Common.{refl, sym, ap, ◌∙◌, arith, false}
+use Rattle.dns_spec.proofs.Common.{refl, sym, ap, ◌∙◌, arith, false, list_any, option_to_list, same}
 use Rattle.std.proofs.lemmas.Bool.{or_from}
-use Rattle.std.specs.List.{list_any}
-use Rattle.std.specs.Option.{option_to_list}
-use Rattle.dns_spec.specs.Names.{same}
 use Rattle.dns_answer.proofs.TargetLaws.{any-more, stood-some, same-lower}
 use Rattle.dns_answer.proofs.addresses.stood_before.Goals as goal
 use Rattle.dns_answer.proofs.addresses.stood_before.Goals.{in-Some+else-eq, in_default}

@@ -1,6 +1,4 @@
-use Rattle.std.proofs.Common.{◌≡◌, false}
-use Rattle.std.specs.List.{list_any}
-use Rattle.dns_spec.specs.Names.{same}
+use Rattle.dns_spec.proofs.Common.{◌≡◌, false, list_any, same}
 use Rattle.dns_answer.specs.Targets.{targets_of_first}
 use Rattle.dns_answer.proofs.addresses.stood_before.Given as goal
 

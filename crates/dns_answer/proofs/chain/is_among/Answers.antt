@@ -1,6 +1,4 @@
-use Rattle.std.proofs.Common.{◌||◌, true, refl, sym, ap, ap₂, ◌∙◌}
-use Rattle.std.proofs.lemmas.Bool.{or_right}
-use Rattle.dns_spec.specs.Names.{names_equal, same}
+use Rattle.dns_spec.proofs.Common.{◌||◌, true, refl, sym, ap, ap₂, ◌∙◌, or_right, names_equal, same}
 use Rattle.dns_answer.proofs.SeekSteps.{among-is}
 use Rattle.dns_answer.proofs.chain.is_among.Goals as goal
 

@@ -1,5 +1,4 @@
-use Rattle.std.proofs.Common.{◌∷◌, true, false, sym, ap, ◌∙◌, arith, Some}
-use Rattle.dns_spec.specs.Names.{DomainName, folded, at_or_below}
+use Rattle.dns_spec.proofs.Common.{◌∷◌, true, false, sym, ap, ◌∙◌, arith, Some, DomainName, folded, at_or_below}
 use Rattle.dns_answer.specs.Seeking.{names_of}
 use Rattle.dns_answer.proofs.SeekSteps.{names-count, unsought-is}
 use Rattle.dns_answer.proofs.chain.next_sought.Goals as goal

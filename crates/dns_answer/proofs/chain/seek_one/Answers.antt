@@ -1,8 +1,4 @@
-use Rattle.std.proofs.Common.{◌≡◌, ◌<◌, length, [], ◌∷◌, true, refl, sym, ap, ◌∙◌, subst, arith}
-use Rattle.std.proofs.lemmas.Bool.{false≢true}
-use Rattle.dns_spec.specs.Records.{ZoneContents}
-use Rattle.dns_spec.specs.Answer.{most_aliases, positive, referral_to}
-use Rattle.dns_spec.specs.Data.{type_cname}
+use Rattle.dns_spec.proofs.Common.{◌≡◌, ◌<◌, length, [], ◌∷◌, true, refl, sym, ap, ◌∙◌, subst, arith, false≢true, ZoneContents, most_aliases, positive, referral_to, type_cname}
 use Rattle.dns_zone.specs.Nodes.{ZoneNode}
 use Rattle.dns_answer.specs.Chain.{chain_rest}
 use Rattle.dns_answer.specs.Ending.{Says, TookRest, ending, asked_item}

@@ -1,8 +1,4 @@
-use Rattle.std.proofs.Common.{◌≡◌, ◌∷◌, [], sym, ap, ◌∙◌, min}
-use Rattle.dns_spec.specs.Data.{soa_minimum, type_soa}
-use Rattle.dns_spec.specs.Records.{ZoneContents, rrset}
-use Rattle.dns_spec.specs.Sets.{set_of, records_at}
-use Rattle.dns_spec.specs.Layout.{authority}
+use Rattle.dns_spec.proofs.Common.{◌≡◌, ◌∷◌, [], sym, ap, ◌∙◌, min, soa_minimum, type_soa, ZoneContents, rrset, set_of, records_at, authority}
 use Rattle.dns_wire.specs.QueryForm.{code_of}
 use Rattle.dns_zone.specs.Nodes.{ZoneNode}
 use Rattle.dns_answer.proofs.Offering.{Offers-nothing}

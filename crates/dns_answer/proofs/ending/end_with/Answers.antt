@@ -1,6 +1,5 @@
-use Rattle.std.proofs.Common.{true, false, [], sym, ap, ◌∙◌, subst, length}
+use Rattle.dns_spec.proofs.Common.{true, false, [], sym, ap, ◌∙◌, subst, length, answer}
 use Rattle.std.specs.List.{filter}
-use Rattle.dns_spec.specs.Layout.{answer}
 use Rattle.dns_answer.specs.Ending.{all_names, asked_item}
 use Rattle.dns_answer.specs.Targets.{side_items, side_nodes}
 use Rattle.dns_answer.specs.Walks.{Took}

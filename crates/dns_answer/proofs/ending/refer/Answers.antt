@@ -1,9 +1,4 @@
-use Rattle.std.proofs.Common.{refl, ap, ◌∙◌}
-use Rattle.std.proofs.lemmas.Bool.{false≢true}
-use Rattle.std.specs.Option.{is_some}
-use Rattle.dns_spec.specs.Records.{ZoneContents, rrset}
-use Rattle.dns_spec.specs.Data.{type_ns}
-use Rattle.dns_spec.specs.Sets.{set_of}
+use Rattle.dns_spec.proofs.Common.{refl, ap, ◌∙◌, false≢true, is_some, ZoneContents, rrset, type_ns, set_of}
 use Rattle.dns_answer.specs.Targets.{set_targets}
 use Rattle.dns_answer.proofs.Endings.{Ends-referred, cut-has_servers, Offers-others, Took-referred}
 use Rattle.dns_answer.proofs.Taking.{Took-none}

@@ -1,6 +1,5 @@
-use Rattle.std.proofs.Common.{◌≡◌, true, subst}
+use Rattle.dns_spec.proofs.Common.{◌≡◌, true, subst, at_or_below}
 use Rattle.std.specs.Prelude.{IfSome}
-use Rattle.dns_spec.specs.Names.{at_or_below}
 use Rattle.dns_zone.specs.Starts.{IsBelow}
 use Rattle.dns_zone.proofs.NameTree.{under-trans}
 use Rattle.dns_answer.specs.Walks.{IsLeadTo}

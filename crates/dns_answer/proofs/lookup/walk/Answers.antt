@@ -1,9 +1,4 @@
-use Rattle.std.proofs.Common.{◌≡◌, true, ◌-◌, length, refl, sym, ap, ◌∙◌, subst, arith, Some}
-use Rattle.std.proofs.lemmas.Bool.{false≢true, and_parts}
-use Rattle.std.specs.Option.{is_some}
-use Rattle.dns_spec.specs.Data.{type_ns}
-use Rattle.dns_spec.specs.Records.{rrset}
-use Rattle.dns_spec.specs.Sets.{set_of}
+use Rattle.dns_spec.proofs.Common.{◌≡◌, true, ◌-◌, length, refl, sym, ap, ◌∙◌, subst, arith, Some, false≢true, and_parts, is_some, type_ns, rrset, set_of}
 use Rattle.dns_name.proofs.WireLemmas.{IsWireForm-wire, labels_of_spelled}
 use Rattle.dns_answer.specs.Walks.{IsThere, IsMissing, IsBelowCut, ends_at_cuts}
 use Rattle.dns_answer.proofs.WaySteps.{missing-child, cut-at_child, there-at_child}

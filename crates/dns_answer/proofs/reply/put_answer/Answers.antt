@@ -1,10 +1,5 @@
-use Rattle.std.proofs.Common.{rules, not, ◌&&◌, ◌≡◌, true, sym, ap, ◌∙◌, subst, arith}
-use Rattle.dns_spec.specs.Names.{is_name}
-use Rattle.dns_spec.specs.Records.{ZoneContents}
-use Rattle.dns_spec.specs.Reading.{MessageQuestion}
+use Rattle.dns_spec.proofs.Common.{rules, not, ◌&&◌, ◌≡◌, true, sym, ap, ◌∙◌, subst, arith, is_name, ZoneContents, MessageQuestion, All-nil, folded}
 use Rattle.dns_zone.specs.Starts.{IsBelow}
-use Rattle.std.proofs.lemmas.List.Elements.{All-nil}
-use Rattle.dns_spec.specs.Names.{folded}
 use Rattle.dns_zone.specs.declared.sought.Sought.{Sought}
 use Rattle.dns_answer.specs.Draft.{empty_draft}
 use Rattle.dns_answer.specs.DraftForm.{Holds}

@@ -1,5 +1,4 @@
-use Rattle.std.proofs.Common.{◌+◌, ◌≤◌, List, length}
-use Rattle.dns_spec.specs.DataText.{Word}
+use Rattle.dns_spec.proofs.Common.{◌+◌, ◌≤◌, List, length, Word}
 use Rattle.dns_master.specs.WordsForm.{KeptAndCounted}
 use Rattle.dns_master.proofs.EntryLoop.{EntrySoFar}
 use Rattle.dns_master.proofs.entry.read_entry.Given as goal

@@ -1,9 +1,4 @@
-use Rattle.std.proofs.Common.{rules, ◌≡◌, false, ap, sym, ◌∙◌, subst}
-use Rattle.std.proofs.lemmas.Bool.{false≢true}
-use Rattle.dns_spec.specs.Names.{Octets}
-use Rattle.dns_spec.specs.DataText.{Word}
-use Rattle.dns_spec.specs.TypeText.{NamesType}
-use Rattle.dns_spec.specs.Meaning.{is_zone_type}
+use Rattle.dns_spec.proofs.Common.{rules, ◌≡◌, false, ap, sym, ◌∙◌, subst, false≢true, Octets, Word, NamesType, is_zone_type}
 use Rattle.dns_spec.proofs.DataWords.TypeWords.{one_type}
 use Rattle.dns_master.proofs.fields.read_type.Goals as goal
 

@@ -1,6 +1,5 @@
 use Rattle.std.proofs.Common.{rules, ◌≡◌, ◌≢◌, Option, Result, IfErr, false, ◌∙◌}
-use Rattle.dns_spec.specs.Names.{Octets, DomainName}
-use Rattle.dns_spec.specs.Meaning.{records, fault_at}
+use Rattle.dns_spec.proofs.Common.{Octets, DomainName, records, fault_at}
 use Rattle.dns_master.specs.Codes.{OfEntry, fault_of}
 use Rattle.dns_master.specs.SourceForm.{GivesMeaning, Decides}
 use Rattle.dns_master.specs.PieceForm.{ReaderMeans, TextGathered}

@@ -1,6 +1,4 @@
-use Rattle.std.proofs.Common.{rules, codes, drop, ap, refl, ◌∙◌, ◌∷◌, ◌≡◌}
-use Rattle.std.specs.List.{prefix_len}
-use Rattle.dns_spec.specs.ZoneText.{is_blank}
+use Rattle.dns_spec.proofs.Common.{rules, codes, drop, ap, refl, ◌∙◌, ◌∷◌, ◌≡◌, prefix_len, is_blank}
 use Rattle.dns_master.proofs.RunLemmas.{blank-first, spaces-passed}
 use Rattle.dns_master.proofs.run.after_run.Goals as goal
 

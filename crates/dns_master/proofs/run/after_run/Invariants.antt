@@ -1,6 +1,4 @@
-use Rattle.std.proofs.Common.{◌≡◌, length, drop}
-use Rattle.std.specs.List.{prefix_len}
-use Rattle.dns_spec.specs.ZoneText.{is_blank}
+use Rattle.dns_spec.proofs.Common.{◌≡◌, length, drop, prefix_len, is_blank}
 use Rattle.dns_master.proofs.run.after_run.Given as goal
 
 -- what is after the rest's blanks is what is after those of the whole

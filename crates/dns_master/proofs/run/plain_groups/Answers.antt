@@ -1,9 +1,4 @@
-use Rattle.std.proofs.Common.{rules, ◌≡◌, ◌+◌, ◌≤◌, ◌&&◌, true, take, drop, length, ap, ap₂, sym, ◌∙◌, arith, length-drop}
-use Rattle.std.proofs.Math.Seq.{take-add}
-use Rattle.std.proofs.lemmas.List.{drop-drop}
-use Rattle.std.proofs.lemmas.List.Folds.{list_all-append}
-use Rattle.std.specs.List.{list_all}
-use Rattle.dns_spec.specs.DataText.{is_string_octet}
+use Rattle.dns_spec.proofs.Common.{rules, ◌≡◌, ◌+◌, ◌≤◌, ◌&&◌, true, take, drop, length, ap, ap₂, sym, ◌∙◌, arith, length-drop, take-add, drop-drop, list_all-append, list_all, is_string_octet}
 use Rattle.dns_master.proofs.run.plain_groups.Goals as goal
 
 pub groups-preserved : goal.groups-preserved

@@ -1,6 +1,4 @@
-use Rattle.std.proofs.Common.{◌≡◌, ◌≤◌, true, take, drop, length}
-use Rattle.std.specs.List.{list_all}
-use Rattle.dns_spec.specs.DataText.{is_string_octet}
+use Rattle.dns_spec.proofs.Common.{◌≡◌, ◌≤◌, true, take, drop, length, list_all, is_string_octet}
 use Rattle.dns_master.proofs.run.plain_groups.Given as goal
 
 -- the groups in front are plain, and the rest is left

@@ -1,5 +1,4 @@
-use Rattle.std.proofs.Common.{rules, ap, sym, ◌∙◌}
-use Rattle.dns_spec.specs.DataText.{Word}
+use Rattle.dns_spec.proofs.Common.{rules, ap, sym, ◌∙◌, Word}
 use Rattle.dns_master.proofs.words.read_ttl.Goals as goal
 
 pub returns : goal.returns

@@ -1,6 +1,4 @@
-use Rattle.std.proofs.Common.{◌≡◌, ℕ, ◌∷◌, take, drop, arith}
-use Rattle.std.proofs.lemmas.Bool.{false≢true}
-use Rattle.dns_spec.specs.Names.{Octets}
+use Rattle.dns_spec.proofs.Common.{◌≡◌, ℕ, ◌∷◌, take, drop, arith, false≢true, Octets}
 use Rattle.dns_name.specs.WireForm.{labels_of, IsWireForm}
 use Rattle.dns_name.proofs.WireLemmas.{BeginsWithLabel, BeginsWithLabel-IsWireForm, labels_of-zero, IsWireForm-nil}
 use Rattle.dns_name.proofs.lent.first_label.Goals as goal

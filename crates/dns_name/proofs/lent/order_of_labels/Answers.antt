@@ -1,6 +1,4 @@
-use Rattle.std.proofs.Common.{rules, ◌≡◌, Ordering, refl, sym, ◌∙◌, arith}
-use Rattle.std.specs.Ordering.{ordering_then}
-use Rattle.dns_spec.specs.Names.{Octets, label_order}
+use Rattle.dns_spec.proofs.Common.{rules, ◌≡◌, Ordering, refl, sym, ◌∙◌, arith, ordering_then, Octets, label_order}
 use Rattle.dns_name.proofs.OrderLemmas.{order_next, order_stays}
 use Rattle.dns_name.proofs.lent.order_of_labels.Goals as goal
 

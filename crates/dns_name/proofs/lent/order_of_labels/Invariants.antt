@@ -1,7 +1,4 @@
-use Rattle.std.proofs.Common.{◌≡◌, length, reverse}
-use Rattle.std.specs.Cmp.Lexicographic.{slice_cmp}
-use Rattle.std.specs.Ordering.{ordering_then}
-use Rattle.dns_spec.specs.Names.{DomainName, label_order}
+use Rattle.dns_spec.proofs.Common.{◌≡◌, length, reverse, slice_cmp, ordering_then, DomainName, label_order}
 use Rattle.std.specs.declared.cmp.Ordering.{Ordering}
 use Rattle.dns_name.proofs.lent.order_of_labels.Given as goal
 

@@ -1,5 +1,4 @@
-use Rattle.std.proofs.Common.{rules, sym, ap₂, ◌∙◌}
-use Rattle.dns_spec.specs.Names.{label_order}
+use Rattle.dns_spec.proofs.Common.{rules, sym, ap₂, ◌∙◌, label_order}
 use Rattle.dns_name.proofs.OrderLemmas.{order_of_first}
 use Rattle.dns_name.proofs.lent.order_of_siblings.Goals as goal
 

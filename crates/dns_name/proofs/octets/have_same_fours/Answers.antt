@@ -1,5 +1,4 @@
-use Rattle.std.proofs.Common.{◌∙◌, sym, arith}
-use Rattle.std.proofs.lemmas.Bool.{eqb-true, eq-eqb}
+use Rattle.dns_spec.proofs.Common.{◌∙◌, sym, arith, eqb-true, eq-eqb}
 use Rattle.std.specs.Int.{from_le_bytes, w32}
 use Rattle.dns_name.proofs.OctetRuns.{ends_tell, four_tell}
 use Rattle.dns_name.proofs.octets.have_same_fours.Goals as goal

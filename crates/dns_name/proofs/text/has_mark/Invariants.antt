@@ -1,5 +1,4 @@
-use Rattle.std.proofs.Common.{◌≡◌, take}
-use Rattle.std.specs.List.{list_any}
+use Rattle.dns_spec.proofs.Common.{◌≡◌, take, list_any}
 use Rattle.dns_name.specs.TextForm.{is_mark}
 use Rattle.dns_name.proofs.text.has_mark.Given as goal
 

@@ -1,5 +1,4 @@
-use Rattle.std.proofs.Common.{◌≡◌, length, arith, sym, false}
-use Rattle.std.proofs.lemmas.Bool.{eqb-false, eqb-true}
+use Rattle.dns_spec.proofs.Common.{◌≡◌, length, arith, sym, false, eqb-false, eqb-true}
 use Rattle.dns_name.specs.TextForm.{is_label_end}
 use Rattle.dns_name.proofs.TextLemmas.{OctetThen-octet_at, OctetThen-shorter, ReadsLabel-push, ReadsLabel-full, no_label_read}
 use Rattle.dns_name.proofs.text.label_text.Goals as goal

@@ -1,6 +1,4 @@
-use Rattle.std.proofs.Common.{◌≡◌, [], length, ap, sym}
-use Rattle.std.proofs.lemmas.List.{nil_from_length}
-use Rattle.std.proofs.lemmas.Bool.{eqb-true, eqb-false}
+use Rattle.dns_spec.proofs.Common.{◌≡◌, [], length, ap, sym, nil_from_length, eqb-true, eqb-false}
 use Rattle.dns_name.proofs.TextLemmas.{Reads-push, SpellsIff-none, SpellsIff-relative, SpellsIff-absolute, PushesLabel-shorter, spelled_as-fits, spelled_as-fault}
 use Rattle.dns_name.proofs.text.spell_labels.Goals as goal
 

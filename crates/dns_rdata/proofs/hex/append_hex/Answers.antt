@@ -1,5 +1,4 @@
-use Rattle.std.proofs.Common.{sym, ap, ◌∙◌, length}
-use Rattle.std.proofs.lemmas.Bool.{eqb-true, eqb-false}
+use Rattle.dns_spec.proofs.Common.{sym, ap, ◌∙◌, length, eqb-true, eqb-false}
 use Rattle.dns_rdata.proofs.StringLemmas.{none_left}
 use Rattle.dns_rdata.proofs.HexLemmas.{HexSoFar-push, HexSoFar-refuses, HexSoFar-end, front_shorter}
 use Rattle.dns_rdata.proofs.hex.append_hex.Goals as goal

@@ -1,5 +1,4 @@
-use Rattle.std.proofs.Common.{arith}
-use Rattle.std.proofs.lemmas.Bool.{eqb-true, eqb-false}
+use Rattle.dns_spec.proofs.Common.{arith, eqb-true, eqb-false}
 use Rattle.dns_rdata.proofs.NumberLemmas.{SaysIff-none}
 use Rattle.dns_rdata.proofs.Ipv4Lemmas.{none_alone, more_than_one, one_alone}
 use Rattle.dns_rdata.proofs.ipv4.read_octet.Goals as goal

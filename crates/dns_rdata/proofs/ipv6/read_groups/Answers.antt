@@ -1,5 +1,4 @@
-use Rattle.std.proofs.Common.{sym, ◌∙◌, refl, take, ◌+◌}
-use Rattle.std.proofs.lemmas.Bool.{eqb-false}
+use Rattle.dns_spec.proofs.Common.{sym, ◌∙◌, refl, take, ◌+◌, eqb-false}
 use Rattle.dns_rdata.proofs.Ipv6Lemmas.{GroupsSoFar-push, refused_before_colon, refused_last, all_groups, to_end}
 use Rattle.dns_rdata.proofs.ipv6.read_groups.Goals as goal
 

@@ -1,5 +1,4 @@
-use Rattle.std.proofs.Common.{◌∙◌, ap}
-use Rattle.std.specs.List.{prefix_len}
+use Rattle.dns_spec.proofs.Common.{◌∙◌, ap, prefix_len}
 use Rattle.std.specs.Prelude.{◌==◌}
 use Rattle.dns_rdata.proofs.Ipv6Lemmas.{to_end}
 use Rattle.dns_rdata.proofs.Ipv6TextLemmas.{LongestSoFar-first, LongestSoFar-longer, LongestSoFar-other}

@@ -1,6 +1,4 @@
-use Rattle.std.proofs.Common.{◌≡◌, length}
-use Rattle.std.specs.Option.{is_some}
-use Rattle.dns_spec.specs.Data.{cut}
+use Rattle.dns_spec.proofs.Common.{◌≡◌, length, is_some, cut}
 use Rattle.dns_rdata.specs.TypeRows.{pieces_in}
 use Rattle.dns_rdata.proofs.parts.are_cut.Given as goal
 

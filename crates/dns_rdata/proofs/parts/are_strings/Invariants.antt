@@ -1,5 +1,4 @@
-use Rattle.std.proofs.Common.{◌≡◌, length}
-use Rattle.dns_spec.specs.Data.{are_strings}
+use Rattle.dns_spec.proofs.Common.{◌≡◌, length, are_strings}
 use Rattle.dns_rdata.proofs.parts.are_strings.Given as goal
 
 abbrev pub invariant-strings : goal.invariant-strings

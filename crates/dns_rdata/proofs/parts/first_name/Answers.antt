@@ -1,7 +1,4 @@
-use Rattle.std.proofs.Common.{arith, refl, ap}
-use Rattle.std.specs.Option.{option_map}
-use Rattle.dns_spec.specs.Names.{DomainName, Octets}
-use Rattle.dns_spec.specs.Data.{name}
+use Rattle.dns_spec.proofs.Common.{arith, refl, ap, option_map, DomainName, Octets, name}
 use Rattle.dns_rdata.proofs.NameFronts.{no_front_name, long_name, short_name}
 use Rattle.dns_rdata.proofs.parts.first_name.Goals as goal
 

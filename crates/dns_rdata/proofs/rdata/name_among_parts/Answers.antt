@@ -1,5 +1,4 @@
-use Rattle.std.proofs.Common.{◌∷◌, sym, ap, ◌∙◌, subst}
-use Rattle.dns_spec.specs.Data.{first_name}
+use Rattle.dns_spec.proofs.Common.{◌∷◌, sym, ap, ◌∙◌, subst, first_name}
 use Rattle.dns_rdata.specs.Parts.{part_for, IsLent}
 use Rattle.dns_rdata.proofs.PartsLoop.{walked, none_left}
 use Rattle.dns_rdata.proofs.rdata.name_among_parts.Goals as goal

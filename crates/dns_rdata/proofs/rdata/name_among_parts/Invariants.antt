@@ -1,5 +1,4 @@
-use Rattle.std.proofs.Common.{◌≡◌, All, length}
-use Rattle.dns_spec.specs.Data.{first_name, target}
+use Rattle.dns_spec.proofs.Common.{◌≡◌, All, length, first_name, target}
 use Rattle.dns_rdata.specs.Parts.{HasName}
 use Rattle.dns_rdata.proofs.rdata.name_among_parts.Given as goal
 

@@ -1,6 +1,4 @@
-use Rattle.std.proofs.Common.{◌≡◌, ◌+◌, ◌*◌, ◌≤◌, ◌++◌, length, take}
-use Rattle.std.specs.List.{flat_map}
-use Rattle.dns_spec.specs.WrittenText.{string_octet_text}
+use Rattle.dns_spec.proofs.Common.{◌≡◌, ◌+◌, ◌*◌, ◌≤◌, ◌++◌, length, take, flat_map, string_octet_text}
 use Rattle.dns_rdata.proofs.string.append_octets.Given as goal
 
 -- the octets so far are appended, each by at most four

@@ -1,5 +1,4 @@
-use Rattle.std.proofs.Common.{◌≡◌, take}
-use Rattle.std.specs.List.{list_all}
+use Rattle.dns_spec.proofs.Common.{◌≡◌, take, list_all}
 use Rattle.dns_rdata.specs.WrittenForm.{is_plain}
 use Rattle.dns_rdata.proofs.string.are_plain.Given as goal
 

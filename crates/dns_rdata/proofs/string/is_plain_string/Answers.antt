@@ -1,8 +1,4 @@
-use Rattle.std.proofs.Common.{◌≡◌, ◌↔◌, ℕ, ◌==◌, Bool, true, false, not, sym}
-use Rattle.std.specs.Bool.{OnTrue}
-use Rattle.std.specs.List.{list_any}
-use Rattle.dns_spec.specs.Names.{Octets}
-use Rattle.dns_spec.specs.DataText.{SpellsString}
+use Rattle.dns_spec.proofs.Common.{◌≡◌, ◌↔◌, ℕ, ◌==◌, Bool, true, false, not, sym, OnTrue, list_any, Octets, SpellsString}
 use Rattle.dns_rdata.proofs.StringLemmas.{plain_string}
 use Rattle.dns_rdata.proofs.string.is_plain_string.Goals as goal
 

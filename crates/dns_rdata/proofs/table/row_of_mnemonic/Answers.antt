@@ -1,7 +1,4 @@
-use Rattle.std.specs.Borrow.{Bor}
-use Rattle.dns_spec.specs.Names.{octets_equal}
-use Rattle.dns_spec.specs.Data.{type_table}
-use Rattle.dns_spec.specs.TypeText.{text_in_lower_case}
+use Rattle.dns_spec.proofs.Common.{Bor, octets_equal, type_table, text_in_lower_case}
 use Rattle.dns_spec.specs.Data as Data
 use Rattle.dns_rdata.specs.declared.table.TypeRow.{TypeRow}
 use Rattle.dns_rdata.specs.TypeRows.{row_for}

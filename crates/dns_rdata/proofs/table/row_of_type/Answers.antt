@@ -1,6 +1,4 @@
-use Rattle.std.proofs.Common.{◌==◌}
-use Rattle.std.specs.Borrow.{Bor}
-use Rattle.dns_spec.specs.Data.{type_table}
+use Rattle.dns_spec.proofs.Common.{◌==◌, Bor, type_table}
 use Rattle.dns_spec.specs.Data as Data
 use Rattle.dns_rdata.specs.declared.table.TypeRow.{TypeRow}
 use Rattle.dns_rdata.specs.TypeRows.{row_for}

@@ -1,7 +1,4 @@
-use Rattle.std.proofs.Common.{rules, get_or, ◌≡◌, ◌≤◌, ◌^◌, ℕ, suc, ◌++◌, ◌∷◌, [], decimal, arith, sym, ap, ◌∙◌}
-use Rattle.std.specs.Int.{bytes_high_first}
-use Rattle.dns_spec.specs.Names.{Octets}
-use Rattle.dns_spec.specs.DataText.{SaysNumber}
+use Rattle.dns_spec.proofs.Common.{rules, get_or, ◌≡◌, ◌≤◌, ◌^◌, ℕ, suc, ◌++◌, ◌∷◌, [], decimal, arith, sym, ap, ◌∙◌, bytes_high_first, Octets, SaysNumber}
 use Rattle.dns_name.proofs.Results.{OnOk-map}
 use Rattle.dns_rdata.specs.TypeRows.{size_of}
 use Rattle.dns_rdata.specs.WordForms.{as_it_is, Appends}

@@ -1,8 +1,5 @@
-use Rattle.std.proofs.Common.{◌≡◌, ℕ, List, ◌+◌, ◌-◌, [], ◌∷◌, arith, length, replicate, subst}
-use Rattle.std.proofs.lemmas.List.{length-replicate}
+use Rattle.dns_spec.proofs.Common.{◌≡◌, ℕ, List, ◌+◌, ◌-◌, [], ◌∷◌, arith, length, replicate, subst, length-replicate, Octets, DomainName, Word, WordForm, SaysWord}
 use Rattle.dns_rdata.specs.WordForms.{form_of, kept, Appends, AppendsFront, SaysNoFront}
-use Rattle.dns_spec.specs.Names.{Octets, DomainName}
-use Rattle.dns_spec.specs.DataText.{Word, WordForm, SaysWord}
 use Rattle.dns_name.proofs.Results.{fault_handed_on}
 use Rattle.dns_rdata.proofs.FormFronts.{front-none, front-word, front-joined, no-word, too-long, no-rest, no-more, once_more, one_of}
 use Rattle.dns_rdata.proofs.typed.append_run.Goals as goal

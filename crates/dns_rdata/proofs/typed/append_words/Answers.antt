@@ -1,5 +1,4 @@
-use Rattle.std.proofs.lemmas.Grind.{common_steps}
-use Rattle.std.proofs.Common.{refl, arith, ap, length}
+use Rattle.dns_spec.proofs.Common.{common_steps, refl, arith, ap, length}
 use Rattle.dns_rdata.specs.WordForms.{form_of}
 use Rattle.dns_name.proofs.Results.{fault_handed_on}
 use Rattle.dns_rdata.proofs.FormFronts.{run-fits, run-taken, run-refused}

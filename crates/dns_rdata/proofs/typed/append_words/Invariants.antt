@@ -1,6 +1,4 @@
-use Rattle.std.proofs.Common.{◌≤◌, length, take}
-use Rattle.std.specs.List.{flat_map}
-use Rattle.dns_spec.specs.DataText.{forms_in}
+use Rattle.dns_spec.proofs.Common.{◌≤◌, length, take, flat_map, forms_in}
 use Rattle.dns_rdata.specs.TypeRows.{pieces_in}
 use Rattle.dns_rdata.specs.WordForms.{AppendsFront}
 use Rattle.dns_rdata.proofs.typed.append_words.Given as goal

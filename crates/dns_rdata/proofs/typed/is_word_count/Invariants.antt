@@ -1,6 +1,4 @@
-use Rattle.std.proofs.Common.{◌≡◌, ◌+◌, drop, length}
-use Rattle.std.specs.List.{flat_map}
-use Rattle.dns_spec.specs.DataText.{forms_in}
+use Rattle.dns_spec.proofs.Common.{◌≡◌, ◌+◌, drop, length, flat_map, forms_in}
 use Rattle.dns_rdata.specs.TypeRows.{pieces_in}
 use Rattle.dns_rdata.proofs.typed.is_word_count.Given as goal
 

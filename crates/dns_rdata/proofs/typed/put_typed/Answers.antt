@@ -1,5 +1,4 @@
-use Rattle.std.proofs.lemmas.Bool.{eqb-false}
-use Rattle.std.proofs.Common.{◌∙◌, sym, OnOk, Result, Ok, Err}
+use Rattle.dns_spec.proofs.Common.{eqb-false, ◌∙◌, sym, OnOk, Result, Ok, Err}
 use Rattle.dns_rdata.proofs.TypedData.{typed_said, other_count}
 use Rattle.dns_rdata.proofs.typed.put_typed.Goals as goal
 

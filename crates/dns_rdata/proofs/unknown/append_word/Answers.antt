@@ -1,6 +1,5 @@
-use Rattle.std.proofs.Common.{ap, sym, subst, ◌∙◌}
+use Rattle.dns_spec.proofs.Common.{ap, sym, subst, ◌∙◌, eqb-false}
 use Rattle.dns_rdata.specs.HexForm.{AppendsHex}
-use Rattle.std.proofs.lemmas.Bool.{eqb-false}
 use Rattle.dns_rdata.proofs.UnknownLemmas.{word_appends}
 use Rattle.dns_rdata.proofs.unknown.append_word.Goals as goal
 

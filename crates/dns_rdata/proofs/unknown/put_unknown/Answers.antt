@@ -1,5 +1,4 @@
-use Rattle.std.proofs.Common.{arith, subst}
-use Rattle.dns_spec.specs.DataText.{SaysUnknown}
+use Rattle.dns_spec.proofs.Common.{arith, subst, SaysUnknown}
 use Rattle.dns_rdata.proofs.UnknownLemmas.{WordsSoFar, WordsSoFar-more, word_refused, same_fault, past_count, says_unknown, only_octets, count_is_length}
 use Rattle.dns_rdata.proofs.unknown.put_unknown.Goals as goal
 

@@ -1,5 +1,4 @@
-use Rattle.std.proofs.Common.{◌≡◌, ◌+◌, ◌*◌, ◌++◌, length, take}
-use Rattle.dns_spec.specs.WrittenText.{hex_text}
+use Rattle.dns_spec.proofs.Common.{◌≡◌, ◌+◌, ◌*◌, ◌++◌, length, take, hex_text}
 use Rattle.dns_rdata.proofs.write.append_hex_text.Given as goal
 
 -- the octets so far are appended, two digits each

@@ -1,6 +1,4 @@
-use Rattle.std.proofs.Common.{◌≡◌, ◌≤◌, ◌+◌, ◌*◌, ◌++◌, length, replicate}
-use Rattle.dns_spec.specs.DataText.{number_word}
-use Rattle.dns_spec.specs.WrittenText.{form_words}
+use Rattle.dns_spec.proofs.Common.{◌≡◌, ◌≤◌, ◌+◌, ◌*◌, ◌++◌, length, replicate, number_word, form_words}
 use Rattle.dns_rdata.specs.TypeRows.{size_of}
 use Rattle.dns_rdata.specs.WrittenForm.{spaced, form_rest}
 use Rattle.dns_rdata.proofs.write.append_numbers.Given as goal

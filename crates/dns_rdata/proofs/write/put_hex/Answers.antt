@@ -1,7 +1,4 @@
-use Rattle.std.proofs.Common.{rules, ◌≡◌, ◌++◌, arith}
-use Rattle.std.proofs.lemmas.Grind.{flat_map-append}
-use Rattle.dns_spec.specs.Names.{Octets}
-use Rattle.dns_spec.specs.WrittenText.{hex_text}
+use Rattle.dns_spec.proofs.Common.{rules, ◌≡◌, ◌++◌, arith, flat_map-append, Octets, hex_text}
 use Rattle.dns_name.proofs.Results.{OnErr-always}
 use Rattle.dns_name.proofs.WritesLemmas.{held_more, held_less, held_begun}
 use Rattle.dns_rdata.proofs.write.put_hex.Goals as goal

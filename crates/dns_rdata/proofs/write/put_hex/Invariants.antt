@@ -1,5 +1,4 @@
-use Rattle.std.proofs.Common.{◌≡◌, ◌++◌, length}
-use Rattle.dns_spec.specs.WrittenText.{hex_text}
+use Rattle.dns_spec.proofs.Common.{◌≡◌, ◌++◌, length, hex_text}
 use Rattle.dns_name.specs.Counted.{AppendsAllBut}
 use Rattle.dns_rdata.proofs.write.put_hex.Given as goal
 

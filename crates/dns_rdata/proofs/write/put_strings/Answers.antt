@@ -1,7 +1,4 @@
-use Rattle.std.proofs.Common.{rules, ap, sym, ◌∙◌, arith}
-use Rattle.std.proofs.lemmas.Bool.{eqb-true, eqb-false}
-use Rattle.std.proofs.lemmas.List.{nil_from_length}
-use Rattle.dns_spec.specs.Data.{are_strings}
+use Rattle.dns_spec.proofs.Common.{rules, ap, sym, ◌∙◌, arith, eqb-true, eqb-false, nil_from_length, are_strings}
 use Rattle.dns_name.proofs.Results.{OnErr-always}
 use Rattle.dns_name.proofs.WritesLemmas.{held_more, held_less, held_begun}
 use Rattle.dns_rdata.proofs.SpacedWords.{string_begins, more_strings, spaced-strings, after_strings}

@@ -1,7 +1,4 @@
-use Rattle.std.proofs.Common.{◌≡◌, ◌≤◌, ◌++◌, IsTrue, length, replicate}
-use Rattle.dns_spec.specs.Data.{are_strings}
-use Rattle.dns_spec.specs.DataText.{string_word}
-use Rattle.dns_spec.specs.WrittenText.{form_words, string_count}
+use Rattle.dns_spec.proofs.Common.{◌≡◌, ◌≤◌, ◌++◌, IsTrue, length, replicate, are_strings, string_word, form_words, string_count}
 use Rattle.dns_name.specs.Counted.{AppendsAllBut}
 use Rattle.dns_rdata.specs.WrittenForm.{spaced}
 use Rattle.dns_rdata.proofs.write.put_strings.Given as goal

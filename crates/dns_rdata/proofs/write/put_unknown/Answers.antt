@@ -1,7 +1,4 @@
-use Rattle.std.proofs.Common.{◌≡◌, [], ◌∷◌, ◌++◌, decimal, length, refl, sym, ap, ◌∙◌, append-nil, append_assoc, arith}
-use Rattle.std.proofs.lemmas.Bool.{eqb-false}
-use Rattle.dns_spec.specs.Names.{Octets}
-use Rattle.dns_spec.specs.WrittenText.{hex_text, hex_words}
+use Rattle.dns_spec.proofs.Common.{◌≡◌, [], ◌∷◌, ◌++◌, decimal, length, refl, sym, ap, ◌∙◌, append-nil, append_assoc, arith, eqb-false, Octets, hex_text, hex_words}
 use Rattle.dns_rdata.specs.WrittenForm.{spaced}
 use Rattle.dns_name.proofs.WritesLemmas.{held_before, Fills-same, Fills-after}
 use Rattle.dns_rdata.proofs.SpacedWords.{space}

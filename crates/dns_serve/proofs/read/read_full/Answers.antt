@@ -1,6 +1,4 @@
-use Rattle.std.proofs.Common.{rules, ◌<◌, sym, arith, subst}
-use Rattle.std.proofs.lemmas.Grind.{get_or_default_zero}
-use Rattle.std.specs.Io.KnownBytes.{Consumes}
+use Rattle.dns_spec.proofs.Common.{rules, ◌<◌, sym, arith, subst, get_or_default_zero, Consumes}
 use Rattle.dns_serve.proofs.Readings.{came_after}
 use Rattle.dns_serve.proofs.read.read_full.Goals as goal
 

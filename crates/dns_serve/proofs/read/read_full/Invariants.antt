@@ -1,5 +1,4 @@
-use Rattle.std.proofs.Common.{length, ◌-◌, ◌≡◌, ◌≤◌, ◌<◌, All, take}
-use Rattle.std.specs.Io.KnownBytes.{Consumes}
+use Rattle.dns_spec.proofs.Common.{length, ◌-◌, ◌≡◌, ◌≤◌, ◌<◌, All, take, Consumes}
 use Rattle.dns_serve.proofs.read.read_full.Given as goal
 
 -- what came stands at the front of the buffer

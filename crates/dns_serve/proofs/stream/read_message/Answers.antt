@@ -1,5 +1,4 @@
-use Rattle.std.proofs.Common.{arith, ◌∙◌}
-use Rattle.std.proofs.lemmas.Result.{err_from_is_err_and}
+use Rattle.dns_spec.proofs.Common.{arith, ◌∙◌, err_from_is_err_and}
 use Rattle.dns_serve.proofs.Readings.{short_beginning, first_alone, length_came, fewer_after, fewer_still, beginning_after, part_after, message_after, body_came, body_cut}
 use Rattle.dns_serve.proofs.stream.read_message.Goals as goal
 

@@ -1,5 +1,4 @@
-use Rattle.std.proofs.Common.{rules}
-use Rattle.std.proofs.lemmas.Result.{err_from_is_err_and}
+use Rattle.dns_spec.proofs.Common.{rules, err_from_is_err_and}
 use Rattle.dns_serve.proofs.Sessions.{done_more, served_most, served_all, nothing_read, answered, begun, unread, unwritten}
 use Rattle.dns_serve.proofs.stream.serve_stream_in.Goals as goal
 

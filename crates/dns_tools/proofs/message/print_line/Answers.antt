@@ -1,5 +1,4 @@
-use Rattle.std.proofs.Common.{refl}
-use Rattle.dns_spec.specs.MessageLines.{PrintsMessage}
+use Rattle.dns_spec.proofs.Common.{refl, PrintsMessage}
 use Rattle.dns_tools.specs.KeptLine.{kept_message}
 use Rattle.dns_tools.proofs.CheckedZone.{report_begun}
 use Rattle.dns_tools.proofs.PrintedLines.{line_reported, bad_hex}

@@ -1,6 +1,4 @@
-use Rattle.std.proofs.Common.{rules, ap, ◌∙◌, ◌++◌, codes}
-use Rattle.std.specs.List.{flat_map}
-use Rattle.std.proofs.KnownBytes.{Appends-trans}
+use Rattle.dns_spec.proofs.Common.{rules, ap, ◌∙◌, ◌++◌, codes, flat_map, Appends-trans}
 use Rattle.dns_spec.specs.MessageLines.{header_line, question_line, section_line}
 use Rattle.dns_name.proofs.Results.{OnErr-always}
 use Rattle.dns_name.proofs.WritesLemmas.{beginning_of_first, beginning_of_second, Writes-same, Writes-after}

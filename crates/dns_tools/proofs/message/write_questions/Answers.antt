@@ -1,7 +1,4 @@
-use Rattle.std.proofs.Common.{rules, ◌∙◌, ap, codes}
-use Rattle.dns_spec.specs.NameText.{name_text}
-use Rattle.dns_spec.specs.TypeText.{type_text}
-use Rattle.dns_spec.specs.Reading.{MessageQuestion}
+use Rattle.dns_spec.proofs.Common.{rules, ◌∙◌, ap, codes, name_text, type_text, MessageQuestion}
 use Rattle.dns_spec.specs.MessageLines.{class_text, question_line}
 use Rattle.dns_name.proofs.Results.{OnErr-always}
 use Rattle.dns_name.proofs.WritesLemmas.{Writes-same, Written-more, Written-begun}

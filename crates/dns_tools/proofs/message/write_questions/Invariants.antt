@@ -1,6 +1,4 @@
-use Rattle.std.proofs.Common.{◌≡◌, drop}
-use Rattle.std.specs.List.{flat_map}
-use Rattle.dns_spec.specs.MessageLines.{question_line}
+use Rattle.dns_spec.proofs.Common.{◌≡◌, drop, flat_map, question_line}
 use Rattle.dns_name.proofs.WritesLemmas.{Written}
 use Rattle.dns_tools.proofs.message.write_questions.Given as goal
 

@@ -1,6 +1,4 @@
-use Rattle.std.proofs.Common.{rules, ◌∙◌, ap}
-use Rattle.dns_spec.specs.Reading.{MessageRecord}
-use Rattle.dns_spec.specs.MessageLines.{section_line}
+use Rattle.dns_spec.proofs.Common.{rules, ◌∙◌, ap, MessageRecord, section_line}
 use Rattle.dns_name.proofs.Results.{OnErr-always}
 use Rattle.dns_name.proofs.WritesLemmas.{Writes-same, Written-more, Written-begun}
 use Rattle.dns_tools.specs.Parts.{parts_text}

@@ -1,5 +1,4 @@
-use Rattle.std.proofs.Common.{ap, sym}
-use Rattle.std.specs.Option.{is_some}
+use Rattle.dns_spec.proofs.Common.{ap, sym, is_some}
 use Rattle.dns_tools.specs.Exchanges.{reply_within}
 use Rattle.dns_tools.proofs.LineRuns.{answered_by}
 use Rattle.dns_tools.proofs.once.answer.Goals as goal

@@ -1,6 +1,5 @@
-use Rattle.std.proofs.Common.{rules, ◌≡◌, ◌∙◌}
+use Rattle.dns_spec.proofs.Common.{rules, ◌≡◌, ◌∙◌, octets16}
 use Rattle.hex.specs.Hex.{encode_lower}
-use Rattle.dns_spec.specs.Layout.{octets16}
 use Rattle.dns_tools.proofs.LineDigits.{digits16}
 use Rattle.dns_tools.proofs.parts.hex_of.Goals as goal
 

@@ -1,6 +1,4 @@
-use Rattle.std.proofs.Common.{◌∙◌, ap, codes}
-use Rattle.dns_spec.specs.NameText.{name_text}
-use Rattle.dns_spec.specs.Checks.{Fault}
+use Rattle.dns_spec.proofs.Common.{◌∙◌, ap, codes, name_text, Fault}
 use Rattle.dns_spec.specs.Report.{two_digits, fault_report}
 use Rattle.dns_name.proofs.WritesLemmas.{Writes-same}
 use Rattle.dns_tools.specs.Parts.{parts_text}

@@ -1,7 +1,6 @@
-use Rattle.std.proofs.Common.{rules}
+use Rattle.dns_spec.proofs.Common.{rules, fault_report}
 use Rattle.dns_name.proofs.Results.{OnErr-always}
 use Rattle.dns_name.proofs.WritesLemmas.{Written-more, Written-begun}
-use Rattle.dns_spec.specs.Report.{fault_report}
 use Rattle.dns_tools.proofs.LineParts.{next_piece}
 use Rattle.dns_tools.proofs.report.write_check_faults.Goals as goal
 

@@ -1,6 +1,4 @@
-use Rattle.std.proofs.Common.{◌≡◌, drop}
-use Rattle.std.specs.List.{flat_map}
-use Rattle.dns_spec.specs.Report.{fault_report}
+use Rattle.dns_spec.proofs.Common.{◌≡◌, drop, flat_map, fault_report}
 use Rattle.dns_name.proofs.WritesLemmas.{Written}
 use Rattle.dns_tools.proofs.report.write_check_faults.Given as goal
 

@@ -1,7 +1,4 @@
-use Rattle.std.proofs.Common.{ℕ, List, subst, arith, ◌≡◌}
-use Rattle.std.proofs.lemmas.List.{nil_from_length}
-use Rattle.std.proofs.lemmas.Result.{err_from_is_err_and}
-use Rattle.dns_spec.specs.Names.{Octets}
+use Rattle.dns_spec.proofs.Common.{ℕ, List, subst, arith, ◌≡◌, nil_from_length, err_from_is_err_and, Octets}
 use Rattle.dns_spec.specs.Data as Data
 use Rattle.dns_rdata.specs.TypeRows.{pieces_in}
 use Rattle.dns_rdata.specs.declared.table.Piece.{Piece}

@@ -1,6 +1,4 @@
-use Rattle.std.proofs.Common.{rules, sym, ap, ◌∙◌, take, ◌-◌, arith, subst}
-use Rattle.dns_spec.specs.Data.{Part, piece_front}
-use Rattle.dns_spec.specs.Names.{Octets}
+use Rattle.dns_spec.proofs.Common.{rules, sym, ap, ◌∙◌, take, ◌-◌, arith, subst, Part, piece_front, Octets}
 use Rattle.dns_rdata.specs.TypeRows.{piece_of}
 use Rattle.dns_rdata.proofs.PartLemmas.{lent_octets}
 use Rattle.dns_wire.specs.Pieces.{NoPieceAt}

@@ -1,7 +1,5 @@
 use Rattle.std.proofs.Common.{arith, subst, true, true≢false, sym, length, ◌+◌, ◌≤◌, Some, ◌≡◌, ◌∷◌, [], ◌++◌}
-use Rattle.std.proofs.lemmas.Option.{slice_get_within}
-use Rattle.dns_spec.specs.Names.{is_name, wire}
-use Rattle.dns_spec.specs.Reading.{NameAt}
+use Rattle.dns_spec.proofs.Common.{slice_get_within, is_name, wire, NameAt}
 use Rattle.dns_wire.specs.Labels.{IsReading, StepAt}
 use Rattle.dns_wire.proofs.Runs.{reading_ends, reading_label, label_too_long, reading_jumps, end_fits}
 use Rattle.dns_wire.proofs.name.read_name.Goals as goal

@@ -1,5 +1,4 @@
-use Rattle.std.proofs.Common.{ℕ, ◌+◌, refl, arith, ap, sym, subst, length, ◌∷◌, [], length-append}
-use Rattle.dns_spec.specs.Reading.{MessageQuestion}
+use Rattle.dns_spec.proofs.Common.{ℕ, ◌+◌, refl, arith, ap, sym, subst, length, ◌∷◌, [], length-append, MessageQuestion}
 use Rattle.dns_wire.specs.Read.{QuestionAt, QuestionsRead}
 use Rattle.dns_wire.proofs.Anyway.{anyway}
 use Rattle.dns_wire.proofs.ReadLemmas.{no_qtype, no_qclass, questions_in, read_more, read_none, read_end}

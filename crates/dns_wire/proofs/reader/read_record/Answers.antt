@@ -1,5 +1,4 @@
-use Rattle.std.proofs.Common.{refl, arith, subst, ◌+◌}
-use Rattle.std.proofs.lemmas.Result.{err_from_is_err_and}
+use Rattle.dns_spec.proofs.Common.{refl, arith, subst, ◌+◌, err_from_is_err_and}
 use Rattle.dns_wire.specs.Pieces.{NoDataAt}
 use Rattle.dns_wire.proofs.Anyway.{anyway}
 use Rattle.dns_wire.proofs.ReadLemmas.{too_short, no_room, no_data}

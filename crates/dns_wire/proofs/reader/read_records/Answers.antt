@@ -1,5 +1,4 @@
-use Rattle.std.proofs.Common.{arith, ap, sym, subst, length, ◌∷◌, [], length-append}
-use Rattle.std.proofs.lemmas.Result.{err_from_is_err_and}
+use Rattle.dns_spec.proofs.Common.{arith, ap, sym, subst, length, ◌∷◌, [], length-append, err_from_is_err_and}
 use Rattle.dns_wire.specs.Read.{RecordsRead}
 use Rattle.dns_wire.proofs.ReadLemmas.{records_in, read_more, read_none, read_end}
 use Rattle.dns_wire.proofs.reader.read_records.Goals as goal

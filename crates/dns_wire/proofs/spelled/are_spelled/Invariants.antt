@@ -1,5 +1,4 @@
-use Rattle.std.proofs.Common.{◌≡◌, true, ◌≤◌, length, ◌+◌, ◌-◌, ◌*◌}
-use Rattle.dns_spec.specs.Names.{DomainName, wire, is_name}
+use Rattle.dns_spec.proofs.Common.{◌≡◌, true, ◌≤◌, length, ◌+◌, ◌-◌, ◌*◌, DomainName, wire, is_name}
 use Rattle.dns_wire.specs.Kept.{SpelledFrom}
 use Rattle.dns_wire.proofs.spelled.are_spelled.Given as goal
 

@@ -1,5 +1,4 @@
-use Rattle.std.proofs.Common.{refl, arith, subst}
-use Rattle.std.proofs.lemmas.Option.{slice_get_within}
+use Rattle.dns_spec.proofs.Common.{refl, arith, subst, slice_get_within}
 use Rattle.dns_wire.specs.Kept.{NoneSpelled}
 use Rattle.dns_wire.specs.Writing.{asked_places}
 use Rattle.dns_wire.specs.SuffixNumbers.{suffix_number}

@@ -1,6 +1,4 @@
-use Rattle.std.proofs.Common.{◌-◌, ◌∙◌, ◌++◌, ◌∷◌, drop, refl, sym, ap, subst, length}
-use Rattle.std.proofs.lemmas.Bool.{false≢true, eqb-true, eq-eqb}
-use Rattle.dns_spec.specs.Names.{wire}
+use Rattle.dns_spec.proofs.Common.{◌-◌, ◌∙◌, ◌++◌, ◌∷◌, drop, refl, sym, ap, subst, length, false≢true, eqb-true, eq-eqb, wire}
 use Rattle.dns_wire.specs.Writing.{IsLastOf}
 use Rattle.dns_wire.proofs.AskedLemmas.{last_begins, last_label, last_of, last_here, last_root, wire_split}
 use Rattle.dns_wire.proofs.suffixes.has_last_labels.Goals as goal

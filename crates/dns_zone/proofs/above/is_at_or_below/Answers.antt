@@ -1,6 +1,5 @@
-use Rattle.std.proofs.Common.{length, ap, ◌∙◌, arith}
+use Rattle.dns_spec.proofs.Common.{length, ap, ◌∙◌, arith, names_equal}
 use Rattle.dns_zone.proofs.KeyOrder.{some_octets}
-use Rattle.dns_spec.specs.Names.{names_equal}
 use Rattle.dns_zone.specs.NameEnd.{ending}
 use Rattle.dns_zone.proofs.NameEnds.{end_is}
 use Rattle.dns_zone.proofs.above.is_at_or_below.Goals as goal

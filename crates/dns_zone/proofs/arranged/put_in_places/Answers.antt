@@ -1,5 +1,4 @@
-use Rattle.std.proofs.Common.{◌<◌, ◌∙◌, All, subst}
-use Rattle.std.proofs.lemmas.List.Sorted.{IsPermutation-trans}
+use Rattle.dns_spec.proofs.Common.{◌<◌, ◌∙◌, All, subst, IsPermutation-trans}
 use Rattle.dns_zone.proofs.arranged.put_in_places.Goals as goal
 
 pub places-preserved : goal.places-preserved

@@ -1,6 +1,5 @@
-use Rattle.std.proofs.Common.{◌<◌, ◌∙◌, length, rules, arith}
+use Rattle.dns_spec.proofs.Common.{◌<◌, ◌∙◌, length, rules, arith, IsPermutation-trans}
 use Rattle.std.proofs.lemmas.List.Elements.{All-set}
-use Rattle.std.proofs.lemmas.List.Sorted.{IsPermutation-trans}
 use Rattle.dns_zone.proofs.KeyedNames.{keyed_swapped}
 use Rattle.dns_zone.proofs.arranged.settle.Goals as goal
 

@@ -1,5 +1,4 @@
-use Rattle.std.proofs.Common.{◌≡◌, ◌<◌, All, length}
-use Rattle.std.specs.List.Sorted.{IsPermutation}
+use Rattle.dns_spec.proofs.Common.{◌≡◌, ◌<◌, All, length, IsPermutation}
 use Rattle.dns_zone.specs.KeyedForm.{AreKeyed}
 use Rattle.dns_zone.proofs.arranged.settle.Given as goal
 

@@ -1,9 +1,4 @@
-use Rattle.std.proofs.Common.{◌≡◌, ◌-◌, List, length, map, ap, ◌∙◌, arith, length-take}
-use Rattle.std.proofs.lemmas.List.{take_all}
-use Rattle.std.specs.List.{flat_map}
-use Rattle.dns_spec.specs.Records.{ZoneContents}
-use Rattle.dns_spec.specs.Names.{wire}
-use Rattle.dns_spec.specs.Checks.{Fault, faults}
+use Rattle.dns_spec.proofs.Common.{◌≡◌, ◌-◌, List, length, map, ap, ◌∙◌, arith, length-take, take_all, flat_map, ZoneContents, wire, Fault, faults}
 use Rattle.dns_zone.specs.NamesForm.{name_of}
 use Rattle.dns_zone.specs.ReportedForm.{reported_at}
 use Rattle.dns_zone.specs.declared.names.CheckedName.{CheckedName}

@@ -1,5 +1,4 @@
-use Rattle.std.proofs.Common.{◌≡◌, take, map}
-use Rattle.std.specs.List.{flat_map}
+use Rattle.dns_spec.proofs.Common.{◌≡◌, take, map, flat_map}
 use Rattle.dns_zone.specs.NamesForm.{name_of}
 use Rattle.dns_zone.specs.ReportedForm.{reported_at}
 use Rattle.dns_zone.proofs.faults.faults.Given as goal

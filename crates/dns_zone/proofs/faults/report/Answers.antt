@@ -1,5 +1,4 @@
-use Rattle.std.proofs.Common.{◌≡◌, ℕ, ◌++◌, ap, ◌∙◌, subst, map, List, OnOk}
-use Rattle.dns_spec.specs.Checks.{Check, Fault, checks}
+use Rattle.dns_spec.proofs.Common.{◌≡◌, ℕ, ◌++◌, ap, ◌∙◌, subst, map, List, OnOk, Check, Fault, checks}
 use Rattle.dns_zone.specs.OwnerForm.{NameOfZone}
 use Rattle.dns_zone.specs.ReportedForm.{failed_from, reported_at}
 use Rattle.dns_zone.proofs.ReportedNames.{failed-reported}

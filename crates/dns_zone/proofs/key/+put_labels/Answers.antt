@@ -1,7 +1,4 @@
-use Rattle.std.proofs.Common.{◌≡◌, ℕ, zero, suc, ◌==◌, ◌<◌, false, ◌++◌, length, ap, ◌+◌, ◌∷◌, sym, ◌∙◌, arith, length-append, append-nil}
-use Rattle.std.proofs.lemmas.Bool.{eqb-true, false≢true}
-use Rattle.std.proofs.lemmas.List.{nil_from_length}
-use Rattle.dns_spec.specs.Names.{Octets, wire}
+use Rattle.dns_spec.proofs.Common.{◌≡◌, ℕ, zero, suc, ◌==◌, ◌<◌, false, ◌++◌, length, ap, ◌+◌, ◌∷◌, sym, ◌∙◌, arith, length-append, append-nil, eqb-true, false≢true, nil_from_length, Octets, wire}
 use Rattle.dns_name.specs.WireForm.{labels_of, IsWireForm}
 use Rattle.dns_zone.specs.KeyForm.{name_key}
 use Rattle.dns_zone.proofs.CommonEnds.{size, some, ends_whole, after_ends}

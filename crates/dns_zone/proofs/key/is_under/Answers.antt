@@ -1,5 +1,4 @@
-use Rattle.std.proofs.Common.{◌==◌, ap₂, ◌∙◌}
-use Rattle.std.specs.List.{starts_with}
+use Rattle.dns_spec.proofs.Common.{◌==◌, ap₂, ◌∙◌, starts_with}
 use Rattle.dns_zone.proofs.KeyPrefix.{starts_under}
 use Rattle.dns_zone.proofs.key.is_under.Goals as goal
 

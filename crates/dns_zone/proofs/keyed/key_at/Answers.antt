@@ -1,5 +1,4 @@
-use Rattle.std.proofs.Common.{◌≡◌, length, ap, arith}
-use Rattle.dns_spec.specs.Names.{wire}
+use Rattle.dns_spec.proofs.Common.{◌≡◌, length, ap, arith, wire}
 use Rattle.dns_zone.proofs.KeyOrder.{some_octets}
 use Rattle.dns_zone.proofs.keyed.key_at.Goals as goal
 

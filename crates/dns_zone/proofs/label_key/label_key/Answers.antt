@@ -1,9 +1,5 @@
-use Rattle.std.proofs.Common.{◌≡◌, ◌+◌, ◌-◌, ◌*◌, ◌/◌, ℕ, ◌<◌, ◌^◌, ◌⊎◌, inl, inr, [], map, length, get_or, drop, subst, sym, ◌∙◌, arith}
+use Rattle.dns_spec.proofs.Common.{◌≡◌, ◌+◌, ◌-◌, ◌*◌, ◌/◌, ℕ, ◌<◌, ◌^◌, ◌⊎◌, inl, inr, [], map, length, get_or, drop, subst, sym, ◌∙◌, arith, cases_lt, get_or-map, length-map, to_ascii_lowercase, Octets}
 use Rattle.std.proofs.Math.ListN.{drop_of_length-le}
-use Rattle.std.proofs.lemmas.Bool.{cases_lt}
-use Rattle.std.proofs.lemmas.List.{get_or-map, length-map}
-use Rattle.std.specs.Char.{to_ascii_lowercase}
-use Rattle.dns_spec.specs.Names.{Octets}
 use Rattle.dns_zone.proofs.LabelKeys.{IsPart, label_low, key_end, key_fits, one_octet}
 use Rattle.dns_zone.proofs.label_key.label_key.Goals as goal
 

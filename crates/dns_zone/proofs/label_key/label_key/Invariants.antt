@@ -1,5 +1,4 @@
-use Rattle.std.proofs.Common.{map}
-use Rattle.std.specs.Char.{to_ascii_lowercase}
+use Rattle.dns_spec.proofs.Common.{map, to_ascii_lowercase}
 use Rattle.dns_zone.proofs.LabelKeys.{IsPart}
 use Rattle.dns_zone.proofs.label_key.label_key.Given as goal
 

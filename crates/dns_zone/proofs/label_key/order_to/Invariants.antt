@@ -1,6 +1,4 @@
-use Rattle.std.proofs.Common.{◌≡◌, map, length}
-use Rattle.std.specs.Char.{to_ascii_lowercase}
-use Rattle.dns_spec.specs.Names.{label_order}
+use Rattle.dns_spec.proofs.Common.{◌≡◌, map, length, to_ascii_lowercase, label_order}
 use Rattle.dns_zone.proofs.label_key.order_to.Given as goal
 
 -- the octets so far are alike

@@ -1,5 +1,4 @@
-use Rattle.std.proofs.Common.{◌≡◌, ◌∷◌, [], ◌+◌, ◌<◌, List, length, length-append, get_or, sym, ap, ◌∙◌, subst}
-use Rattle.dns_spec.specs.Records.{ResourceRecord}
+use Rattle.dns_spec.proofs.Common.{◌≡◌, ◌∷◌, [], ◌+◌, ◌<◌, List, length, length-append, get_or, sym, ap, ◌∙◌, subst, ResourceRecord}
 use Rattle.dns_zone.specs.NodeForm.{AreLeads}
 use Rattle.dns_zone.proofs.LeadRows.{leads-more}
 use Rattle.dns_zone.proofs.leads.leads_of.Goals as goal

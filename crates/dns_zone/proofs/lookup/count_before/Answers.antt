@@ -1,7 +1,4 @@
-use Rattle.std.proofs.Common.{rules, ◌≡◌, ◌<◌, ◌≤◌, false, length, take, get_or, ap, sym, ◌∙◌}
-use Rattle.std.proofs.lemmas.List.Sorted.{IsPartitionPoint-from_clause}
-use Rattle.dns_spec.specs.Names.{at_or_below}
-use Rattle.dns_spec.specs.Records.{ResourceRecord}
+use Rattle.dns_spec.proofs.Common.{rules, ◌≡◌, ◌<◌, ◌≤◌, false, length, take, get_or, ap, sym, ◌∙◌, IsPartitionPoint-from_clause, at_or_below, ResourceRecord}
 use Rattle.dns_zone.proofs.Pairs.{halves, near_point, parted_take}
 use Rattle.dns_zone.proofs.lookup.count_before.Goals as goal
 

@@ -1,6 +1,5 @@
-use Rattle.std.proofs.Common.{rules, nat_lt}
+use Rattle.dns_spec.proofs.Common.{rules, nat_lt, ResourceRecord}
 use Rattle.std.proofs.lemmas.List.Sorted.{IsPartitionPoint-from_clause, IsPartitionedBy-ltb}
-use Rattle.dns_spec.specs.Records.{ResourceRecord}
 use Rattle.dns_zone.proofs.Pairs.{halves}
 use Rattle.dns_zone.proofs.lookup.count_below.Goals as goal
 

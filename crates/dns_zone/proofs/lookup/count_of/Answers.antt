@@ -1,6 +1,4 @@
-use Rattle.std.proofs.Common.{rules, ◌==◌}
-use Rattle.std.proofs.lemmas.List.Sorted.{IsPartitionPoint-from_clause}
-use Rattle.dns_spec.specs.Records.{ResourceRecord}
+use Rattle.dns_spec.proofs.Common.{rules, ◌==◌, IsPartitionPoint-from_clause, ResourceRecord}
 use Rattle.dns_zone.proofs.Pairs.{halves}
 use Rattle.dns_zone.proofs.lookup.count_of.Goals as goal
 

@@ -1,7 +1,4 @@
-use Rattle.std.proofs.Common.{rules}
-use Rattle.std.proofs.lemmas.List.Sorted.{IsPartitionPoint-from_clause}
-use Rattle.dns_spec.specs.Names.{at_or_below}
-use Rattle.dns_spec.specs.Records.{ResourceRecord}
+use Rattle.dns_spec.proofs.Common.{rules, IsPartitionPoint-from_clause, at_or_below, ResourceRecord}
 use Rattle.dns_zone.proofs.Pairs.{halves}
 use Rattle.dns_zone.proofs.lookup.count_under.Goals as goal
 

@@ -1,6 +1,4 @@
-use Rattle.std.proofs.Common.{eqb, ap, sym, ◌∙◌}
-use Rattle.std.proofs.lemmas.List.{take_rest}
-use Rattle.dns_spec.specs.Records.{ResourceRecord}
+use Rattle.dns_spec.proofs.Common.{eqb, ap, sym, ◌∙◌, take_rest, ResourceRecord}
 use Rattle.dns_zone.proofs.Pairs.{pairs_rising, first_passes}
 use Rattle.dns_zone.proofs.Types.{found_first, first_is, first_none}
 use Rattle.dns_zone.proofs.lookup.has_type.Goals as goal

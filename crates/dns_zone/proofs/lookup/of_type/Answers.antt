@@ -1,7 +1,4 @@
-use Rattle.std.proofs.Common.{rules, ◌≡◌, ◌==◌, ◌-◌, ◌<◌, length, get_or, arith, sym, ap, ◌∙◌, subst, filter}
-use Rattle.std.proofs.lemmas.List.{take_rest}
-use Rattle.std.specs.List.Sorted.{IsPartitionedBy}
-use Rattle.dns_spec.specs.Records.{ResourceRecord}
+use Rattle.dns_spec.proofs.Common.{rules, ◌≡◌, ◌==◌, ◌-◌, ◌<◌, length, get_or, arith, sym, ap, ◌∙◌, subst, filter, take_rest, IsPartitionedBy, ResourceRecord}
 use Rattle.dns_zone.proofs.Types.{type_parted, type_others, all_of_type, none_above, none_below}
 use Rattle.dns_zone.proofs.lookup.of_type.Goals as goal
 use Rattle.dns_zone.proofs.lookup.of_type.Goals.{then-rtype-first-via-then-rtype-first, then-rtype-first-via-else-rtype-first+then-last-rtype}

@@ -1,5 +1,4 @@
-use Rattle.std.proofs.Common.{refl, ap, ◌∙◌, arith}
-use Rattle.std.specs.Char.{to_ascii_lowercase}
+use Rattle.dns_spec.proofs.Common.{refl, ap, ◌∙◌, arith, to_ascii_lowercase}
 use Rattle.dns_zone.specs.declared.lower_case.TheConstants.{LOWER_CASE}
 use Rattle.dns_zone.proofs.LowerCase.{agree_below, from_table}
 use Rattle.dns_zone.proofs.lower_case.lower_case.Goals as goal

@@ -1,11 +1,6 @@
-use Rattle.std.proofs.Common.{◌≡◌, ◌-◌, suc, take, sym, ◌∙◌, subst, arith, refl}
-use Rattle.std.proofs.lemmas.Bool.{false≢true}
-use Rattle.std.specs.List.Sorted.{IsPartitionedBy}
-use Rattle.dns_spec.specs.Names.{name_order}
-use Rattle.dns_spec.specs.Records.{ZoneContents}
+use Rattle.dns_spec.proofs.Common.{◌≡◌, ◌-◌, suc, take, sym, ◌∙◌, subst, arith, refl, false≢true, IsPartitionedBy, name_order, ZoneContents, Less}
 use Rattle.dns_spec.proofs.Records.SortedOnce.{Each}
 use Rattle.dns_spec.proofs.DomainNames.NameLaws.{octets_equal-decides}
-use Rattle.std.proofs.Common.{Less}
 use Rattle.dns_zone.specs.NamesForm.{is_upto, name_of, AreChecked}
 use Rattle.dns_zone.specs.ZoneForm.{IsFront}
 use Rattle.dns_zone.proofs.GrowingNames.{owners_parted, origin_owns, origin_added, others_before}

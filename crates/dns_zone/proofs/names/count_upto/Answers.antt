@@ -1,5 +1,4 @@
-use Rattle.std.proofs.Common.{rules}
-use Rattle.std.proofs.lemmas.List.Sorted.{IsPartitionPoint-from_clause}
+use Rattle.dns_spec.proofs.Common.{rules, IsPartitionPoint-from_clause}
 use Rattle.dns_zone.specs.NamesForm.{is_upto}
 use Rattle.dns_zone.proofs.CheckedNames.{last_front}
 use Rattle.dns_zone.proofs.Pairs.{halves}

@@ -1,7 +1,4 @@
-use Rattle.std.proofs.Common.{◌≡◌, ℕ, Bool, true, false, cond, List, length, sym, ap₂, ◌∙◌, subst}
-use Rattle.dns_spec.specs.Names.{Octets, DomainName}
-use Rattle.dns_spec.specs.Records.{ResourceRecord, ZoneContents}
-use Rattle.dns_spec.specs.Tree.{is_cut}
+use Rattle.dns_spec.proofs.Common.{◌≡◌, ℕ, Bool, true, false, cond, List, length, sym, ap₂, ◌∙◌, subst, Octets, DomainName, ResourceRecord, ZoneContents, is_cut}
 use Rattle.dns_zone.specs.KeyForm.{name_key}
 use Rattle.dns_zone.specs.NamesForm.{ComesNext, IsTopmost, is_covered}
 use Rattle.dns_zone.proofs.TopmostCut.{covered, uncovered}

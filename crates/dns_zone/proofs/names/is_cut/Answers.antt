@@ -1,7 +1,4 @@
-use Rattle.std.proofs.Common.{◌==◌, ◌&&◌, sym, ap, ◌∙◌}
-use Rattle.std.specs.List.{list_any}
-use Rattle.dns_spec.specs.Data.{type_ns}
-use Rattle.dns_spec.specs.Records.{ResourceRecord, owns}
+use Rattle.dns_spec.proofs.Common.{◌==◌, ◌&&◌, sym, ap, ◌∙◌, list_any, type_ns, ResourceRecord, owns}
 use Rattle.dns_zone.proofs.OwnRecords.{own-owns}
 use Rattle.dns_zone.proofs.names.is_cut.Goals as goal
 

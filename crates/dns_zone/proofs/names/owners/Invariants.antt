@@ -1,5 +1,4 @@
-use Rattle.std.proofs.Common.{◌≡◌, ◌+◌, ◌++◌, length, map, drop}
-use Rattle.dns_spec.specs.Records.{ZoneContents}
+use Rattle.dns_spec.proofs.Common.{◌≡◌, ◌+◌, ◌++◌, length, map, drop, ZoneContents}
 use Rattle.dns_spec.proofs.Records.SortedOnce.{Each}
 use Rattle.dns_zone.specs.NamesForm.{name_of, IsChecked}
 use Rattle.dns_zone.specs.ReportedForm.{HasOwners, owners_once}

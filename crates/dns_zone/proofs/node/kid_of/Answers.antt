@@ -1,9 +1,4 @@
-use Rattle.std.proofs.Common.{◌≡◌, ◌+◌, ◌∷◌, ◌<◌, map, length, refl, true, ℕ, List, sym, ap, ap₂, ◌∙◌, subst}
-use Rattle.std.proofs.lemmas.Bool.{false≢true}
-use Rattle.std.specs.Char.{to_ascii_lowercase}
-use Rattle.dns_spec.specs.Names.{Octets, DomainName}
-use Rattle.dns_spec.specs.Records.{ResourceRecord}
-use Rattle.dns_spec.specs.Tree.{exists}
+use Rattle.dns_spec.proofs.Common.{◌≡◌, ◌+◌, ◌∷◌, ◌<◌, map, length, refl, true, ℕ, List, sym, ap, ap₂, ◌∙◌, subst, false≢true, to_ascii_lowercase, Octets, DomainName, ResourceRecord, exists}
 use Rattle.dns_spec.proofs.Records.SortedOnce.{Each, Among}
 use Rattle.dns_zone.specs.NodeForm.{node_at, IsNodeAt}
 use Rattle.dns_zone.specs.TreeForm.{row_name, row_label, row_at, kids_at, IsRow}

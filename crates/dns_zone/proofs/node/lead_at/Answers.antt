@@ -1,6 +1,4 @@
-use Rattle.std.proofs.Common.{sym, ap, ◌∙◌, subst}
-use Rattle.dns_spec.specs.Records.{ResourceRecord}
-use Rattle.dns_spec.specs.Names.{DomainName}
+use Rattle.dns_spec.proofs.Common.{sym, ap, ◌∙◌, subst, ResourceRecord, DomainName}
 use Rattle.dns_zone.specs.Nodes.{ZoneNode, IsLead}
 use Rattle.dns_zone.proofs.LeadRows.{kept-lead}
 use Rattle.dns_zone.proofs.node.lead_at.Goals as goal

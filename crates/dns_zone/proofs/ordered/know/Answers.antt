@@ -1,8 +1,6 @@
-use Rattle.std.proofs.Common.{◌<◌, arith, ap, sym, ◌∙◌, subst}
+use Rattle.dns_spec.proofs.Common.{◌<◌, arith, ap, sym, ◌∙◌, subst, wire, is_name, ResourceRecord}
 use Rattle.dns_spec.proofs.DomainNames.SmallOctets.{Small}
 use Rattle.dns_master.specs.RecordForm.{IsKept}
-use Rattle.dns_spec.specs.Names.{wire, is_name}
-use Rattle.dns_spec.specs.Records.{ResourceRecord}
 use Rattle.dns_zone.proofs.KnownRecords.{small_labels}
 use Rattle.dns_zone.proofs.ordered.know.Goals as goal
 

@@ -1,6 +1,4 @@
-use Rattle.std.proofs.Common.{subst}
-use Rattle.dns_spec.specs.ZonePrinted.{IsReadRecord}
-use Rattle.std.proofs.lemmas.List.{take_all}
+use Rattle.dns_spec.proofs.Common.{subst, IsReadRecord, take_all}
 use Rattle.std.proofs.lemmas.List.Elements.{All-more}
 use Rattle.std.specs.Prelude.{All}
 use Rattle.dns_zone.proofs.ordered.know_each.Goals as goal

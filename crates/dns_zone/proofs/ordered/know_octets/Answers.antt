@@ -1,5 +1,4 @@
-use Rattle.std.proofs.Common.{arith, ◌<◌, sym, subst}
-use Rattle.std.proofs.lemmas.Grind.{get_or_default_zero}
+use Rattle.dns_spec.proofs.Common.{arith, ◌<◌, sym, subst, get_or_default_zero}
 use Rattle.dns_zone.proofs.ordered.know_octets.Goals as goal
 
 pub returns : goal.returns

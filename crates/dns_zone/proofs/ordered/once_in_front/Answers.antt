@@ -1,7 +1,4 @@
-use Rattle.std.proofs.Common.{◌+◌, refl, sym, arith}
-use Rattle.std.proofs.lemmas.List.Elements.{All-weaker}
-use Rattle.std.proofs.lemmas.List.Sorted.{IsPermutation-trans}
-use Rattle.dns_spec.specs.ZonePrinted.{IsReadRecord}
+use Rattle.dns_spec.proofs.Common.{◌+◌, refl, sym, arith, All-weaker, IsPermutation-trans, IsReadRecord}
 use Rattle.dns_spec.proofs.Records.RecordOrder.{LowerOwner}
 use Rattle.dns_zone.proofs.KeyedNames.{keyed_swapped}
 use Rattle.dns_zone.proofs.RisenRecords.{once_equal, once_less, once_sorted, once_canonical}

@@ -1,5 +1,4 @@
-use Rattle.std.proofs.Common.{◌-◌, length}
-use Rattle.std.specs.List.Sorted.{IsPermutation}
+use Rattle.dns_spec.proofs.Common.{◌-◌, length, IsPermutation}
 use Rattle.dns_zone.specs.KeyedForm.{AreKeyed}
 use Rattle.dns_zone.proofs.RisenRecords.{IsOnce}
 use Rattle.dns_zone.proofs.ordered.once_in_front.Given as goal

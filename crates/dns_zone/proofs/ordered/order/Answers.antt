@@ -1,5 +1,4 @@
-use Rattle.std.proofs.Common.{◌≡◌, is_eq, sym, ap, ◌∙◌, rules}
-use Rattle.dns_spec.specs.Records.{record_order}
+use Rattle.dns_spec.proofs.Common.{◌≡◌, is_eq, sym, ap, ◌∙◌, rules, record_order}
 use Rattle.dns_spec.proofs.Records.RecordOrder.{record_ties, one_record}
 use Rattle.dns_zone.proofs.ordered.order.Goals as goal
 

@@ -1,12 +1,6 @@
-use Rattle.std.proofs.Common.{rules, true, Bool, is_lt, ◌≡◌, ℕ, ◌++◌, List, All, length, take, drop, sym, subst, ap, ◌∙◌, arith}
-use Rattle.std.proofs.Math.Seq.{take-append_seam}
+use Rattle.dns_spec.proofs.Common.{rules, true, Bool, is_lt, ◌≡◌, ℕ, ◌++◌, List, All, length, take, drop, sym, subst, ap, ◌∙◌, arith, take-append_seam, OnTrue, IsPermutation, wire, ResourceRecord, records_equal, distinct, sort_by, record_order, IsReadRecord}
 use Rattle.std.proofs.lemmas.List.Sorted.{length_permutation, ranks_by, IsPermutation-trans}
 use Rattle.std.proofs.lemmas.Fn.{always_returns_same}
-use Rattle.std.specs.Bool.{OnTrue}
-use Rattle.std.specs.List.Sorted.{IsPermutation}
-use Rattle.dns_spec.specs.Names.{wire}
-use Rattle.dns_spec.specs.Records.{ResourceRecord, records_equal, distinct, sort_by, record_order}
-use Rattle.dns_spec.specs.ZonePrinted.{IsReadRecord}
 use Rattle.dns_spec.proofs.Records.RecordOrder.{record_order_total, sort_risen, rises_canonical, all_canonical}
 use Rattle.dns_zone.specs.KeyedForm.{AreKeyed}
 use Rattle.dns_zone.specs.ZoneForm.{AreOrdered}

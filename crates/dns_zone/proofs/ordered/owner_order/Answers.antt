@@ -1,6 +1,4 @@
-use Rattle.std.proofs.Common.{◌≡◌, ◌-◌, length, take, drop, sym, ap, ap₂, subst, ◌∙◌, nat_cmp}
-use Rattle.std.specs.Cmp.Lexicographic.{slice_cmp}
-use Rattle.dns_spec.specs.Names.{DomainName, wire, folded}
+use Rattle.dns_spec.proofs.Common.{◌≡◌, ◌-◌, length, take, drop, sym, ap, ap₂, subst, ◌∙◌, nat_cmp, slice_cmp, DomainName, wire, folded}
 use Rattle.dns_zone.specs.KeyForm.{name_key}
 use Rattle.dns_zone.proofs.CheckedNames.{one_key}
 use Rattle.dns_zone.proofs.KeyOrder.{key_order}

@@ -1,9 +1,4 @@
-use Rattle.std.proofs.Common.{◌≤◌, All, length, subst}
-use Rattle.dns_spec.specs.Names.{DomainName}
-use Rattle.dns_spec.specs.Records.{ZoneContents}
-use Rattle.dns_spec.specs.ZoneText.{most_octets}
-use Rattle.dns_spec.specs.Meaning.{Means, records}
-use Rattle.dns_spec.specs.ZonePrinted.{HasZoneType, printed_records, zone_text}
+use Rattle.dns_spec.proofs.Common.{◌≤◌, All, length, subst, DomainName, ZoneContents, most_octets, Means, records, HasZoneType, printed_records, zone_text}
 use Rattle.dns_zone.proofs.printed.print.Goals as goal
 
 pub returns-clause-meaning : goal.returns-clause-meaning

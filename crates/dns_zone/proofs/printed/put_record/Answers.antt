@@ -1,5 +1,4 @@
-use Rattle.std.proofs.Common.{rules, ◌++◌, codes, ◌∙◌, ap}
-use Rattle.dns_spec.specs.TypeText.{type_text}
+use Rattle.dns_spec.proofs.Common.{rules, ◌++◌, codes, ◌∙◌, ap, type_text}
 use Rattle.dns_name.proofs.Results.{OnErr-always}
 use Rattle.dns_name.proofs.WritesLemmas.{held_less, held_begun}
 use Rattle.dns_zone.proofs.PrintedRecords.{line_held}

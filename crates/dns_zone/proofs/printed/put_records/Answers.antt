@@ -1,6 +1,5 @@
 use Rattle.std.proofs.Common.{sym, filter, flat_map, true, false, ◌++◌, ap, append_assoc, ◌∙◌}
-use Rattle.std.proofs.lemmas.Grind.{flat_map-append}
-use Rattle.dns_spec.specs.ZonePrinted.{record_line}
+use Rattle.dns_spec.proofs.Common.{flat_map-append, record_line}
 use Rattle.dns_name.proofs.WritesLemmas.{Fills-same, Fills-after, held_before}
 use Rattle.dns_zone.specs.ZoneForm.{is_chosen}
 use Rattle.dns_zone.proofs.printed.put_records.Goals as goal

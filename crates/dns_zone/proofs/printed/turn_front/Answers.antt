@@ -1,6 +1,5 @@
-use Rattle.std.proofs.Common.{rules, ◌≡◌, ◌++◌, codes, decimal, sym, ap₂, ◌∙◌}
+use Rattle.dns_spec.proofs.Common.{rules, ◌≡◌, ◌++◌, codes, decimal, sym, ap₂, ◌∙◌, name_text}
 use Rattle.dns_spec.proofs.DomainNames.NameLaws.{names_equal-decides}
-use Rattle.dns_spec.specs.NameText.{name_text}
 use Rattle.dns_zone.proofs.PrintedRecords.{front_text}
 use Rattle.dns_zone.proofs.printed.turn_front.Goals as goal
 

@@ -1,6 +1,4 @@
-use Rattle.std.proofs.Common.{ap, ◌++◌}
-use Rattle.std.specs.List.{flat_map}
-use Rattle.dns_spec.specs.ZonePrinted.{record_line, soa_first}
+use Rattle.dns_spec.proofs.Common.{ap, ◌++◌, flat_map, record_line, soa_first}
 use Rattle.dns_name.proofs.WritesLemmas.{Writes-same, Writes-held}
 use Rattle.dns_zone.proofs.printed.write_records.Goals as goal
 

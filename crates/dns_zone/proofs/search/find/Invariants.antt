@@ -1,5 +1,4 @@
-use Rattle.std.proofs.Common.{◌≡◌, ◌≤◌, ◌+◌, ◌-◌, ℕ, map}
-use Rattle.std.specs.Char.{to_ascii_lowercase}
+use Rattle.dns_spec.proofs.Common.{◌≡◌, ◌≤◌, ◌+◌, ◌-◌, ℕ, map, to_ascii_lowercase}
 use Rattle.dns_zone.proofs.FoundKid.{Searching}
 use Rattle.dns_zone.proofs.search.find.Given as goal
 

@@ -1,8 +1,5 @@
-use Rattle.std.proofs.Common.{List, ◌≤◌, ◌⊎◌, inl, inr, map, length, drop, subst, sym, ap, ap₂, ◌∙◌, nat_cmp, arith}
+use Rattle.dns_spec.proofs.Common.{List, ◌≤◌, ◌⊎◌, inl, inr, map, length, drop, subst, sym, ap, ap₂, ◌∙◌, nat_cmp, arith, to_ascii_lowercase, label_order, ResourceRecord}
 use Rattle.std.proofs.lemmas.List.{length-map, drop-map}
-use Rattle.std.specs.Char.{to_ascii_lowercase}
-use Rattle.dns_spec.specs.Names.{label_order}
-use Rattle.dns_spec.specs.Records.{ResourceRecord}
 use Rattle.dns_zone.specs.LabelKey.{IsKey}
 use Rattle.dns_zone.specs.TreeForm.{row_label, row_name, IsRow}
 use Rattle.dns_zone.specs.declared.row.Row.{Row}

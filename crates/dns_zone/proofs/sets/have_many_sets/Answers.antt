@@ -1,5 +1,4 @@
-use Rattle.std.proofs.Common.{sym, arith}
-use Rattle.std.proofs.lemmas.Bool.{le-ltb}
+use Rattle.dns_spec.proofs.Common.{sym, arith, le-ltb}
 use Rattle.dns_zone.proofs.SetTests.{sets_upto}
 use Rattle.dns_zone.proofs.sets.have_many_sets.Goals as goal
 

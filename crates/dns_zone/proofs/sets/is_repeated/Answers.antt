@@ -1,6 +1,4 @@
-use Rattle.std.proofs.Common.{◌≤◌, length, drop, ap, sym, ◌∙◌, arith}
-use Rattle.std.proofs.lemmas.List.{take_rest, drop_all}
-use Rattle.dns_spec.specs.Records.{ResourceRecord}
+use Rattle.dns_spec.proofs.Common.{◌≤◌, length, drop, ap, sym, ◌∙◌, arith, take_rest, drop_all, ResourceRecord}
 use Rattle.dns_zone.specs.SetWalks.{begins_with_type}
 use Rattle.dns_zone.proofs.sets.is_repeated.Goals as goal
 

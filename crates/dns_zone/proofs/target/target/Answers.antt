@@ -1,5 +1,4 @@
-use Rattle.std.proofs.Common.{rules, ◌≡◌}
-use Rattle.dns_spec.specs.Data.{target}
+use Rattle.dns_spec.proofs.Common.{rules, ◌≡◌, target}
 use Rattle.dns_zone.proofs.Targets.{target_if}
 use Rattle.dns_zone.proofs.target.target.Goals as goal
 

@@ -1,6 +1,4 @@
-use Rattle.std.proofs.Common.{◌≡◌, ℕ, ◌≤◌, ◌<◌, ◌∙◌, ap, sym, subst, List, [], length, drop, get_or, arith}
-use Rattle.std.proofs.lemmas.List.{get_or_default}
-use Rattle.dns_spec.specs.Names.{DomainName}
+use Rattle.dns_spec.proofs.Common.{◌≡◌, ℕ, ◌≤◌, ◌<◌, ◌∙◌, ap, sym, subst, List, [], length, drop, get_or, arith, get_or_default, DomainName}
 use Rattle.dns_zone.specs.TreeForm.{row_at, row_name, under}
 use Rattle.dns_zone.specs.TreeSteps.{IsNext, IsKidAt}
 use Rattle.dns_zone.specs.declared.row.Row.{Row}

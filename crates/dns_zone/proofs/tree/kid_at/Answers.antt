@@ -1,8 +1,4 @@
-use Rattle.std.proofs.Common.{◌≡◌, ◌+◌, ◌-◌, ◌≤◌, true, List, ap, ap₂, sym, ◌∙◌, subst, length, take, drop, map, filter, arith, length-append, length-drop, length-take}
-use Rattle.std.specs.Char.{to_ascii_lowercase}
-use Rattle.std.specs.List.Sorted.{IsPartitionedBy}
-use Rattle.dns_spec.specs.Names.{DomainName, Octets, wire, at_or_below}
-use Rattle.dns_spec.specs.Records.{ResourceRecord}
+use Rattle.dns_spec.proofs.Common.{◌≡◌, ◌+◌, ◌-◌, ◌≤◌, true, List, ap, ap₂, sym, ◌∙◌, subst, length, take, drop, map, filter, arith, length-append, length-drop, length-take, to_ascii_lowercase, IsPartitionedBy, DomainName, Octets, wire, at_or_below, ResourceRecord}
 use Rattle.dns_spec.proofs.Records.SortedOnce.{Each, each_weaker, filter_each}
 use Rattle.dns_name.specs.WireForm.{labels_of}
 use Rattle.dns_zone.specs.LabelKey.{IsKey}

@@ -1,5 +1,4 @@
-use Rattle.std.proofs.Common.{ap, sym, ◌∙◌, drop}
-use Rattle.dns_spec.specs.Names.{DomainName, wire}
+use Rattle.dns_spec.proofs.Common.{ap, sym, ◌∙◌, drop, DomainName, wire}
 use Rattle.dns_name.specs.WireForm.{labels_of}
 use Rattle.dns_name.proofs.WireLemmas.{IsWireForm-wire}
 use Rattle.dns_zone.specs.TreeForm.{row_octets, row_name}

@@ -1,6 +1,4 @@
-use Rattle.std.proofs.Common.{◌≡◌, ap, ◌∙◌, subst, map, filter, take, length}
-use Rattle.std.specs.Char.{to_ascii_lowercase}
-use Rattle.dns_spec.specs.Names.{Octets}
+use Rattle.dns_spec.proofs.Common.{◌≡◌, ap, ◌∙◌, subst, map, filter, take, length, to_ascii_lowercase, Octets}
 use Rattle.dns_zone.specs.LabelKey.{IsKey}
 use Rattle.dns_zone.proofs.AtName.{is_at}
 use Rattle.dns_zone.proofs.OwnersWalk.{front}

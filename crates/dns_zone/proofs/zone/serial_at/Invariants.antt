@@ -1,5 +1,4 @@
-use Rattle.std.proofs.Common.{◌≡◌, drop}
-use Rattle.dns_spec.specs.Records.{first_serial}
+use Rattle.dns_spec.proofs.Common.{◌≡◌, drop, first_serial}
 use Rattle.dns_zone.proofs.BuiltZone.{soas_at}
 use Rattle.dns_zone.proofs.zone.serial_at.Given as goal
 

@@ -1,7 +1,4 @@
-use Rattle.std.proofs.Common.{sym, subst, arith}
-use Rattle.std.proofs.lemmas.Option.{none-some}
-use Rattle.dns_spec.specs.Names.{Octets}
-use Rattle.dns_spec.specs.Meaning.{fault_at}
+use Rattle.dns_spec.proofs.Common.{sym, subst, arith, none-some, Octets, fault_at}
 use Rattle.dns_master.specs.PieceForm.{ReaderMeans}
 use Rattle.dns_master.specs.declared.fault.ReadCode.TheVariants.{TooLong}
 use Rattle.dns_master.proofs.PieceSteps.{all-faulty, all-gathered, all-too_long}

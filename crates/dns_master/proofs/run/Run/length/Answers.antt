@@ -1,5 +1,4 @@
-use Rattle.std.proofs.Common.{rules, length, drop, ap, sym, ◌∙◌, arith}
-use Rattle.std.proofs.lemmas.List.{drop_all}
+use Rattle.dns_spec.proofs.Common.{rules, length, drop, ap, sym, ◌∙◌, arith, drop_all}
 use Rattle.dns_master.specs.TokenForm.{by_itself}
 use Rattle.dns_master.proofs.RunLemmas.{here-itself, here-end, here-escape, here-no_escape, run-front, run-none}
 use Rattle.dns_master.proofs.run.Run.length.Goals as goal

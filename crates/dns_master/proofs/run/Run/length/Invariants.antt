@@ -1,5 +1,4 @@
-use Rattle.std.proofs.Common.{◌≡◌, ◌+◌, ◌-◌, ◌≤◌, length, drop}
-use Rattle.dns_spec.specs.ZoneText.{run_length}
+use Rattle.dns_spec.proofs.Common.{◌≡◌, ◌+◌, ◌-◌, ◌≤◌, length, drop, run_length}
 use Rattle.dns_master.specs.TokenForm.{by_itself}
 use Rattle.dns_master.proofs.run.Run.length.Given as goal
 

@@ -1,6 +1,4 @@
-use Rattle.std.proofs.Common.{rules, ◌≡◌, true, false, sym, ap, ◌∙◌, subst, drop, nat_le, arith}
-use Rattle.dns_spec.specs.DataText.{Says}
-use Rattle.dns_spec.specs.Meaning.{Nothing, Fields, TypeIs, is_other_class, are_too_many}
+use Rattle.dns_spec.proofs.Common.{rules, ◌≡◌, true, false, sym, ap, ◌∙◌, subst, drop, nat_le, arith, Says, Nothing, Fields, TypeIs, is_other_class, are_too_many}
 use Rattle.dns_master.specs.declared.fault.ReadCode.TheVariants.{OtherClass, BadType, NoTtl, TooManyRecords}
 use Rattle.dns_master.specs.RecordForm.{TtlOf}
 use Rattle.dns_name.proofs.Results.{fault_handed_on}

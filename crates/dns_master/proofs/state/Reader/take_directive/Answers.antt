@@ -1,8 +1,4 @@
-use Rattle.std.proofs.Common.{rules, ◌≡◌, ◌≤◌, codes, subst, refl, sym, ◌∙◌, arith}
-use Rattle.std.proofs.lemmas.Option.{none-some, same_Some}
-use Rattle.dns_spec.specs.TypeText.{text_in_lower_case}
-use Rattle.dns_spec.specs.Meaning.{directive, kind_of, KindGives, faulty}
-use Rattle.dns_spec.specs.FileFaults.{directive_words}
+use Rattle.dns_spec.proofs.Common.{rules, ◌≡◌, ◌≤◌, codes, subst, refl, sym, ◌∙◌, arith, none-some, same_Some, text_in_lower_case, directive, kind_of, KindGives, faulty, directive_words}
 use Rattle.dns_master.specs.WordsLeft.{words_left}
 use Rattle.dns_master.specs.declared.fault.ReadCode.TheVariants.{DirectiveWords}
 use Rattle.dns_master.proofs.Refusals.{refused}

@@ -1,8 +1,4 @@
-use Rattle.std.proofs.Common.{◌≡◌, ◌+◌, ◌∷◌, ◌++◌, None, true, subst, sym, ap, ◌∙◌, arith}
-use Rattle.std.specs.Option.{unwrap_or}
-use Rattle.dns_spec.specs.FileFaults.{bad_parenthesis, fault_code}
-use Rattle.dns_spec.specs.ZoneText.{ended}
-use Rattle.dns_spec.specs.Meaning.{EntryKind, KindGives, faulty, line_after}
+use Rattle.dns_spec.proofs.Common.{◌≡◌, ◌+◌, ◌∷◌, ◌++◌, None, true, subst, sym, ap, ◌∙◌, arith, unwrap_or, bad_parenthesis, fault_code, ended, EntryKind, KindGives, faulty, line_after}
 use Rattle.dns_master.specs.EntryForm.{IsWhole}
 use Rattle.dns_name.proofs.Results.{fault_handed_on}
 use Rattle.dns_master.proofs.TextSteps.{wrong-faulty, same_sort, entry-means, entry-faulty, entry-ends_faulty, entry-line, entry-shorter}

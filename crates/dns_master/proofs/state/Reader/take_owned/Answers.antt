@@ -1,6 +1,4 @@
-use Rattle.std.proofs.Common.{rules, refl}
-use Rattle.dns_spec.specs.FileFaults.{bad_owner}
-use Rattle.dns_spec.specs.Meaning.{NameIs, fields}
+use Rattle.dns_spec.proofs.Common.{rules, refl, bad_owner, NameIs, fields}
 use Rattle.dns_master.specs.RecordForm.{SpelledOwner}
 use Rattle.dns_name.proofs.Results.{fault_handed_on}
 use Rattle.dns_master.proofs.KnowsSteps.{owner-read, owned-taken, given-owner}

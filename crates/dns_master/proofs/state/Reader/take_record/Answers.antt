@@ -1,7 +1,5 @@
 use Rattle.std.proofs.Common.{◌≡◌, [], ◌∷◌, subst, ap, ◌∙◌, refl, Some, if◌then◌else◌, IfSome}
-use Rattle.std.specs.Option.{is_some}
-use Rattle.dns_spec.specs.FileFaults.{no_owner}
-use Rattle.dns_spec.specs.Meaning.{Fields, RecordGives, TtlSays, fields, faulty, gives}
+use Rattle.dns_spec.proofs.Common.{is_some, no_owner, Fields, RecordGives, TtlSays, fields, faulty, gives}
 use Rattle.dns_master.specs.OwnedBody.{with_owner}
 use Rattle.dns_name.proofs.Results.{fault_handed_on}
 use Rattle.dns_master.proofs.RecordSteps.{last-stated}

@@ -1,6 +1,4 @@
-use Rattle.std.proofs.Common.{rules, subst}
-use Rattle.dns_spec.specs.FileFaults.{no_owner}
-use Rattle.dns_spec.specs.Meaning.{OwnerBefore, fields}
+use Rattle.dns_spec.proofs.Common.{rules, subst, no_owner, OwnerBefore, fields}
 use Rattle.dns_master.specs.RecordForm.{LastOwner}
 use Rattle.dns_name.proofs.Results.{fault_handed_on}
 use Rattle.dns_master.proofs.KnowsSteps.{unowned-taken, given-owner, owner-known}

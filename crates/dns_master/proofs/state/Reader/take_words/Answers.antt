@@ -1,6 +1,4 @@
-use Rattle.std.proofs.Common.{rules, ◌≡◌, true, false, subst, sym, ap, ◌∙◌}
-use Rattle.dns_spec.specs.DataText.{Word}
-use Rattle.dns_spec.specs.TypeText.{text_in_lower_case}
+use Rattle.dns_spec.proofs.Common.{rules, ◌≡◌, true, false, subst, sym, ap, ◌∙◌, Word, text_in_lower_case}
 use Rattle.dns_spec.specs.Meaning.{EntryKind, KindGives, faulty, directive, owned, unowned, kind_by_words, is_directive}
 use Rattle.dns_name.proofs.Results.{fault_handed_on}
 use Rattle.dns_master.proofs.KnowsSteps.{kind-unowned, kind-owned, kind-directive}

@@ -1,6 +1,4 @@
-use Rattle.std.proofs.Common.{◌≡◌, [], ◌∷◌, ◌++◌, ap, ◌∙◌, arith, length, length-append}
-use Rattle.dns_spec.specs.Names.{Octets}
-use Rattle.dns_spec.specs.NameText.{label_text}
+use Rattle.dns_spec.proofs.Common.{◌≡◌, [], ◌∷◌, ◌++◌, ap, ◌∙◌, arith, length, length-append, Octets, label_text}
 use Rattle.dns_name.proofs.WrittenLemmas.{NameSoFar-next, NameSoFar-room, length-label_text}
 use Rattle.dns_name.proofs.lent.NameRef.append_labels.Goals as goal
 

@@ -1,5 +1,4 @@
-use Rattle.std.proofs.Common.{◌≡◌, length}
-use Rattle.dns_spec.specs.Names.{at_or_below}
+use Rattle.dns_spec.proofs.Common.{◌≡◌, length, at_or_below}
 use Rattle.dns_name.specs.WireForm.{labels_of, IsWireForm}
 use Rattle.dns_name.proofs.lent.NameRef.at_or_below.Given as goal
 

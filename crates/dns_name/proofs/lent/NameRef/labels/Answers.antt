@@ -1,6 +1,5 @@
-use Rattle.std.proofs.Common.{ap, sym, ◌∙◌}
+use Rattle.dns_spec.proofs.Common.{ap, sym, ◌∙◌, is_name}
 use Rattle.dns_spec.proofs.DomainNames.NameLaws.{length-is_name}
-use Rattle.dns_spec.specs.Names.{is_name}
 use Rattle.dns_name.proofs.lent.NameRef.labels.Goals as goal
 
 pub returns-clause-count : goal.returns-clause-count

@@ -1,5 +1,4 @@
-use Rattle.std.proofs.Common.{◌≡◌, ℕ, drop, ap, ◌∙◌, arith}
-use Rattle.dns_spec.specs.Names.{DomainName}
+use Rattle.dns_spec.proofs.Common.{◌≡◌, ℕ, drop, ap, ◌∙◌, arith, DomainName}
 use Rattle.dns_name.proofs.OrderLemmas.{drop-next}
 use Rattle.dns_name.proofs.lent.NameRef.without_first.Goals as goal
 

@@ -1,6 +1,5 @@
-use Rattle.std.proofs.Common.{◌≡◌, ◌+◌, ◌-◌, ◌≤◌, ◌<◌, ◌++◌, length, take, true, ap, sym, ◌∙◌, arith}
+use Rattle.dns_spec.proofs.Common.{◌≡◌, ◌+◌, ◌-◌, ◌≤◌, ◌<◌, ◌++◌, length, take, true, ap, sym, ◌∙◌, arith, wire, is_name, DomainName, Octets}
 use Rattle.dns_spec.proofs.DomainNames.NameLaws.{length-wire-append, is_name-append}
-use Rattle.dns_spec.specs.Names.{wire, is_name, DomainName, Octets}
 use Rattle.dns_name.specs.WireForm.{labels_of, IsWireForm}
 use Rattle.dns_name.proofs.WireLemmas.{labels_of_spelled, IsWireForm-wire, wire-append}
 use Rattle.dns_name.proofs.name.Name.append.Goals as goal

@@ -1,5 +1,4 @@
-use Rattle.std.proofs.Common.{◌≡◌, arith}
-use Rattle.dns_spec.specs.Names.{wire}
+use Rattle.dns_spec.proofs.Common.{◌≡◌, arith, wire}
 use Rattle.dns_name.proofs.WireLemmas.{labels_of_spelled, IsWireForm-wire}
 use Rattle.dns_name.proofs.name.Name.copy_from.Goals as goal
 use Rattle.dns_name.proofs.name.Name.copy_from.Goals.{After-append_octets}

@@ -1,5 +1,4 @@
-use Rattle.std.proofs.Common.{◌≡◌, true, ap, sym, ◌∙◌, arith}
-use Rattle.dns_spec.specs.Names.{Octets, DomainName, folded, is_name}
+use Rattle.dns_spec.proofs.Common.{◌≡◌, true, ap, sym, ◌∙◌, arith, Octets, DomainName, folded, is_name}
 use Rattle.dns_spec.proofs.DomainNames.NameLaws.{is_name-folded}
 use Rattle.dns_name.specs.WireForm.{labels_of, IsWireForm}
 use Rattle.dns_name.proofs.WireLemmas.{IsWireForm-wire, labels_of_spelled, map-lowercase-octets}

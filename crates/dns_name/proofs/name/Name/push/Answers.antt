@@ -1,7 +1,5 @@
-use Rattle.std.proofs.Common.{◌≡◌, ◌+◌, ◌≤◌, ◌∷◌, [], ◌++◌, length, take, ◌-◌, true, ap, sym, ◌∙◌, arith}
-use Rattle.std.proofs.lemmas.Bool.{false≢true}
+use Rattle.dns_spec.proofs.Common.{◌≡◌, ◌+◌, ◌≤◌, ◌∷◌, [], ◌++◌, length, take, ◌-◌, true, ap, sym, ◌∙◌, arith, false≢true, wire, is_name, is_label, DomainName, Octets}
 use Rattle.dns_spec.proofs.DomainNames.NameLaws.{length-wire-push, is_name-push}
-use Rattle.dns_spec.specs.Names.{wire, is_name, is_label, DomainName, Octets}
 use Rattle.dns_name.specs.WireForm.{labels_of, IsWireForm}
 use Rattle.dns_name.proofs.WireLemmas.{labels_of_spelled, IsWireForm-wire, wire-push}
 use Rattle.dns_name.proofs.name.Name.push.Goals as goal

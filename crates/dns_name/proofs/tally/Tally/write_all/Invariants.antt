@@ -1,5 +1,4 @@
-use Rattle.std.proofs.Common.{length, ◌-◌, ◌≡◌, ◌≤◌, take}
-use Rattle.std.specs.Io.KnownBytes.{Appends}
+use Rattle.dns_spec.proofs.Common.{length, ◌-◌, ◌≡◌, ◌≤◌, take, Appends}
 use Rattle.dns_name.proofs.tally.Tally.write_all.Given as goal
 
 abbrev pub invariant-pieces : goal.invariant-pieces

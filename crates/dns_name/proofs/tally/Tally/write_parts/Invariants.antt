@@ -1,5 +1,4 @@
-use Rattle.std.proofs.Common.{◌≡◌, take}
-use Rattle.std.specs.Io.KnownBytes.{Appends}
+use Rattle.dns_spec.proofs.Common.{◌≡◌, take, Appends}
 use Rattle.dns_name.specs.Counted.{joined}
 use Rattle.dns_name.proofs.tally.Tally.write_parts.Given as goal
 

@@ -1,5 +1,4 @@
-use Rattle.std.proofs.Common.{sym, ◌∙◌, ◌≤◌, subst, length}
-use Rattle.dns_spec.specs.Data.{Valid}
+use Rattle.dns_spec.proofs.Common.{sym, ◌∙◌, ◌≤◌, subst, length, Valid}
 use Rattle.dns_spec.proofs.DataWords.LoweredData.{lowered_data}
 use Rattle.dns_rdata.proofs.PartLemmas.{length-lower_case}
 use Rattle.dns_rdata.proofs.PartsLoop.{walked, one_lowered, all_lowered}

@@ -1,6 +1,4 @@
-use Rattle.std.proofs.Common.{◌≤◌, length, arith, ◌∙◌}
-use Rattle.dns_spec.specs.Names.{Octets}
-use Rattle.dns_spec.specs.Data.{Valid, type_soa}
+use Rattle.dns_spec.proofs.Common.{◌≤◌, length, arith, ◌∙◌, Octets, Valid, type_soa}
 use Rattle.dns_rdata.proofs.BigNumbers.{four_long, number_in_last}
 use Rattle.dns_rdata.proofs.SoaData.{soa-long}
 use Rattle.dns_rdata.proofs.rdata.Rdata.soa_minimum.Goals as goal

@@ -1,5 +1,4 @@
-use Rattle.std.proofs.Common.{ap, ◌++◌}
-use Rattle.dns_spec.specs.WrittenText.{data_text}
+use Rattle.dns_spec.proofs.Common.{ap, ◌++◌, data_text}
 use Rattle.dns_name.proofs.WritesLemmas.{Writes-same, Writes-held}
 use Rattle.dns_rdata.proofs.rdata.Rdata.write_text.Goals as goal
 

@@ -1,9 +1,5 @@
-use Rattle.std.proofs.Common.{◌≡◌, ◌++◌, List, [], ◌∷◌, map, get_or, drop, refl, sym, ap, ◌∙◌}
+use Rattle.dns_spec.proofs.Common.{◌≡◌, ◌++◌, List, [], ◌∷◌, map, get_or, drop, refl, sym, ap, ◌∙◌, flat_map-cons, flat_map, Octets, parts, part_octets, joined}
 use Rattle.std.proofs.lemmas.Iterator.Consumers.{YieldsList-from_first, YieldsList-end}
-use Rattle.std.proofs.lemmas.List.Concat.{flat_map-cons}
-use Rattle.std.specs.List.{flat_map}
-use Rattle.dns_spec.specs.Names.{Octets}
-use Rattle.dns_spec.specs.Data.{parts, part_octets, joined}
 use Rattle.dns_spec.specs.Data as Data
 use Rattle.dns_spec.proofs.DataWords.LoweredData.{joined-parts}
 use Rattle.dns_rdata.specs.declared.parts.Part.{Part}

@@ -1,5 +1,4 @@
-use Rattle.std.proofs.Common.{◌≡◌}
-use Rattle.std.specs.List.{flat_map}
+use Rattle.dns_spec.proofs.Common.{◌≡◌, flat_map}
 use Rattle.dns_rdata.specs.Parts.{part_lends}
 use Rattle.dns_rdata.proofs.tests.rdata.joined.Given as goal
 

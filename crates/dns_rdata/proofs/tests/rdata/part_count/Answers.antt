@@ -1,7 +1,5 @@
-use Rattle.std.proofs.Common.{List, map, ap, ◌∙◌}
-use Rattle.std.proofs.lemmas.List.{length-map}
+use Rattle.dns_spec.proofs.Common.{List, map, ap, ◌∙◌, length-map, parts}
 use Rattle.std.proofs.lemmas.Iterator.Consumers.{YieldsList-from_first, count_from_yields_List}
-use Rattle.dns_spec.specs.Data.{parts}
 use Rattle.dns_spec.specs.Data as Data
 use Rattle.dns_rdata.specs.Parts.{shown_part, with_octets}
 use Rattle.dns_rdata.proofs.tests.rdata.part_count.Goals as goal

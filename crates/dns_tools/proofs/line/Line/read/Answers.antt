@@ -1,5 +1,4 @@
-use Rattle.std.proofs.Common.{rules, ◌<◌, ◌≤◌, ◌∙◌, length, refl, sym, take}
-use Rattle.std.proofs.lemmas.Bool.{false≢true}
+use Rattle.dns_spec.proofs.Common.{rules, ◌<◌, ◌≤◌, ◌∙◌, length, refl, sym, take, false≢true}
 use Rattle.dns_tools.proofs.KeptLines.{going_more, going_over, read_ended, longer, first_longer}
 use Rattle.dns_tools.proofs.line.Line.read.Goals as goal
 

@@ -1,5 +1,4 @@
-use Rattle.std.proofs.Common.{arith, ap}
-use Rattle.std.proofs.lemmas.List.{take_all, take_more}
+use Rattle.dns_spec.proofs.Common.{arith, ap, take_all, take_more}
 use Rattle.dns_tools.proofs.KeptLines.{more_unended, more_kept, ended_first, taken_front, taken_first}
 use Rattle.dns_tools.proofs.line.Line.take.Goals as goal
 

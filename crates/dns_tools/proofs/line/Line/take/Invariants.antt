@@ -1,6 +1,4 @@
-use Rattle.std.proofs.Common.{◌≡◌, ◌++◌, take}
-use Rattle.dns_spec.specs.Names.{Octets}
-use Rattle.dns_spec.specs.Lines.{line_ends}
+use Rattle.dns_spec.proofs.Common.{◌≡◌, ◌++◌, take, Octets, line_ends}
 use Rattle.dns_tools.specs.KeptLine.{kept_line}
 use Rattle.dns_tools.specs.FirstLine.{IsFront}
 use Rattle.dns_tools.proofs.line.Line.take.Given as goal

@@ -1,6 +1,4 @@
-use Rattle.std.proofs.Common.{◌++◌, ◌&&◌, ◌∙◌, ap, ap₂}
-use Rattle.std.specs.Option.{is_some}
-use Rattle.dns_spec.specs.Lines.{message_answer}
+use Rattle.dns_spec.proofs.Common.{◌++◌, ◌&&◌, ◌∙◌, ap, ap₂, is_some, message_answer}
 use Rattle.dns_tools.specs.KeptLine.{kept_message}
 use Rattle.dns_tools.proofs.LineRuns.{one_more}
 use Rattle.dns_tools.proofs.once.Exchange.end_line.Goals as goal

@@ -1,5 +1,4 @@
-use Rattle.std.proofs.Common.{◌∙◌, length, sym}
-use Rattle.std.proofs.lemmas.Bool.{eqb-true, eqb-false}
+use Rattle.dns_spec.proofs.Common.{◌∙◌, length, sym, eqb-true, eqb-false}
 use Rattle.dns_name.proofs.Results.{OnOk-map, OnErr-map, IfOk-map, OnErr-always}
 use Rattle.dns_tools.proofs.LineRuns.{begun_flush, grows_begun, grows_trans}
 use Rattle.dns_tools.proofs.LineReads.{finished_empty, finished_line, finished_written, finished_begun, begun_whole}

@@ -1,5 +1,4 @@
-use Rattle.std.proofs.Common.{arith, rules, ◌<◌, ◌≤◌, ◌∙◌, length, refl, sym}
-use Rattle.std.proofs.lemmas.List.{take-append-le}
+use Rattle.dns_spec.proofs.Common.{arith, rules, ◌<◌, ◌≤◌, ◌∙◌, length, refl, sym, take-append-le}
 use Rattle.dns_tools.specs.ExchangeForm.{kept_of, reply_of}
 use Rattle.dns_tools.proofs.LineReads.{AllRead, reading_none, reading_flush, reading_take, reading_begun, taking_begun, reading_failed, all_read, all_flushed, all_answered, all_begun, sink_stopped, source_stopped}
 use Rattle.dns_tools.proofs.once.Exchange.run.Goals as goal

@@ -1,5 +1,4 @@
-use Rattle.std.proofs.Common.{rules, arith, ◌∙◌}
-use Rattle.std.proofs.lemmas.List.{take_all, take_more}
+use Rattle.dns_spec.proofs.Common.{rules, arith, ◌∙◌, take_all, take_more}
 use Rattle.dns_name.proofs.Results.{OnErr-always}
 use Rattle.dns_tools.proofs.LineRuns.{taken_more, taken_all, begun_within, grows_trans}
 use Rattle.dns_tools.proofs.once.Exchange.take.Goals as goal

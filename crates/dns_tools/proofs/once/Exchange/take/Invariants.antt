@@ -1,5 +1,4 @@
-use Rattle.std.proofs.Common.{◌≡◌, ◌++◌, take, Option}
-use Rattle.dns_spec.specs.Names.{Octets}
+use Rattle.dns_spec.proofs.Common.{◌≡◌, ◌++◌, take, Option, Octets}
 use Rattle.dns_tools.specs.ExchangeForm.{kept_of, reply_of}
 use Rattle.dns_tools.specs.Exchanges.{Grows, Progress}
 use Rattle.dns_tools.proofs.once.Exchange.take.Given as goal

@@ -1,5 +1,4 @@
-use Rattle.std.proofs.Common.{◌≡◌, length}
-use Rattle.std.specs.Io.KnownBytes.{Keeps}
+use Rattle.dns_spec.proofs.Common.{◌≡◌, length, Keeps}
 use Rattle.dns_tools.proofs.waiting.WaitingRead.read.Given as goal
 
 -- the calls so far took nothing

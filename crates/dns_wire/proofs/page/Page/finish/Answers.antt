@@ -1,7 +1,5 @@
-use Rattle.std.proofs.Common.{◌≡◌, ◌+◌, ◌∙◌, refl, sym, ap, ap₂, subst, arith, length, take, drop, ◌++◌}
+use Rattle.dns_spec.proofs.Common.{◌≡◌, ◌+◌, ◌∙◌, refl, sym, ap, ap₂, subst, arith, length, take, drop, ◌++◌, Spells, message_of}
 use Rattle.std.proofs.lemmas.List.{take_at, drop-take, length-drop}
-use Rattle.dns_spec.specs.Reading.{Spells}
-use Rattle.dns_spec.specs.Layout.{message_of}
 use Rattle.dns_wire.specs.Draft.{Draft}
 use Rattle.dns_wire.proofs.DraftLemmas.{draft_length, draft_laid, draft_spelled, finished, header_of}
 use Rattle.dns_wire.proofs.page.Page.finish.Goals as goal

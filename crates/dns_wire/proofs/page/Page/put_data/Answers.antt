@@ -1,6 +1,4 @@
-use Rattle.std.proofs.Common.{false, ◌∷◌, [], ◌∙◌, refl, sym, ap, subst}
-use Rattle.std.proofs.lemmas.Bool.{eq-eqb, eqb-true, true≢false}
-use Rattle.dns_spec.specs.Data.{octets, name, type_mx, type_soa}
+use Rattle.dns_spec.proofs.Common.{false, ◌∷◌, [], ◌∙◌, refl, sym, ap, subst, eq-eqb, eqb-true, true≢false, octets, name, type_mx, type_soa}
 use Rattle.dns_name.specs.WireForm.{labels_of}
 use Rattle.dns_wire.specs.Draft.{Writes}
 use Rattle.dns_wire.proofs.SharedData.{one_name_laid, one_left, exchange_laid, server_some, authority_laid}

@@ -1,7 +1,4 @@
-use Rattle.std.proofs.Common.{true, false, ◌≡◌, ℕ, List, append_assoc, length-append, ◌∙◌, refl, sym, ap, ap₂, subst, subst₂, arith, length, take, ◌++◌, ◌∷◌, []}
-use Rattle.std.proofs.lemmas.Bool.{false≢true}
-use Rattle.dns_spec.specs.Names.{Octets}
-use Rattle.dns_spec.specs.Layout.{Placed, shared_octets}
+use Rattle.dns_spec.proofs.Common.{true, false, ◌≡◌, ℕ, List, append_assoc, length-append, ◌∙◌, refl, sym, ap, ap₂, subst, subst₂, arith, length, take, ◌++◌, ◌∷◌, [], false≢true, Octets, Placed, shared_octets}
 use Rattle.dns_wire.specs.declared.message.Counts.{Counts}
 use Rattle.dns_wire.specs.Kept.{Kept}
 use Rattle.dns_wire.specs.Writing.{asked_places, end_octets, new_places, Holds, name_laid}

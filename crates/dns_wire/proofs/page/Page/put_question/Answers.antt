@@ -1,10 +1,5 @@
-use Rattle.std.proofs.Common.{◌≡◌, ◌∙◌, refl, sym, ap, ap₂, subst, subst₂, arith, length, [], ◌++◌, replicate, append_assoc, append-nil, length-append, Option, None, Some}
-use Rattle.std.specs.Borrow.{Bor}
+use Rattle.dns_spec.proofs.Common.{◌≡◌, ◌∙◌, refl, sym, ap, ap₂, subst, subst₂, arith, length, [], ◌++◌, replicate, append_assoc, append-nil, length-append, Option, None, Some, Bor, wire, MessageQuestion, octets16, IsAskable}
 use Rattle.std.specs.Option.{option_copied}
-use Rattle.dns_spec.specs.Names.{wire}
-use Rattle.dns_spec.specs.Reading.{MessageQuestion}
-use Rattle.dns_spec.specs.Layout.{octets16}
-use Rattle.dns_spec.specs.Laws.{IsAskable}
 use Rattle.dns_wire.specs.Writing.{Holds, asked_places}
 use Rattle.dns_wire.specs.SuffixNumbers.{suffix_number}
 use Rattle.dns_wire.specs.Draft.{Draft, draft_of, IsDraft, IsWellKept, no_draft}

@@ -1,5 +1,4 @@
-use Rattle.std.proofs.Common.{◌≡◌, ◌∙◌, ◌∷◌, [], ◌++◌, sym, ap, cond}
-use Rattle.dns_spec.specs.Data.{octets, parts, laid_parts}
+use Rattle.dns_spec.proofs.Common.{◌≡◌, ◌∙◌, ◌∷◌, [], ◌++◌, sym, ap, cond, octets, parts, laid_parts}
 use Rattle.dns_wire.specs.Writing.{octets_laid, name_laid, tail_laid}
 use Rattle.dns_wire.proofs.DataWritten.{plain_laid}
 use Rattle.dns_wire.proofs.Steps.{writes_as, writes_both}

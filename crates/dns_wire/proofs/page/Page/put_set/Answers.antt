@@ -1,6 +1,4 @@
-use Rattle.std.proofs.Common.{◌*◌, ◌∙◌, ap, ap₂, true, false, ◌+◌, ◌≤◌, sym, subst, arith, length, take, []}
-use Rattle.std.specs.Bool.{OnTrue}
-use Rattle.dns_spec.specs.Sets.{records_at}
+use Rattle.dns_spec.proofs.Common.{◌*◌, ◌∙◌, ap, ap₂, true, false, ◌+◌, ◌≤◌, sym, subst, arith, length, take, [], OnTrue, records_at}
 use Rattle.dns_wire.specs.Draft.{Draft, draft_of, IsDraft, IsWellKept, Writes, with_set, with_counted}
 use Rattle.dns_wire.specs.Writing.{shown, octets_laid, records_laid}
 use Rattle.dns_wire.proofs.DraftLemmas.{put_fits, put_in, least_of}

@@ -1,5 +1,4 @@
-use Rattle.std.proofs.Common.{true, ◌≤◌, ◌+◌, take, length}
-use Rattle.dns_spec.specs.Sets.{records_at}
+use Rattle.dns_spec.proofs.Common.{true, ◌≤◌, ◌+◌, take, length, records_at}
 use Rattle.dns_wire.specs.Draft.{Writes}
 use Rattle.dns_wire.specs.Writing.{records_laid}
 use Rattle.dns_wire.proofs.page.Page.put_set.Given as goal

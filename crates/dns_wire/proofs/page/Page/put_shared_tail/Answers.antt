@@ -1,8 +1,6 @@
-use Rattle.std.proofs.Common.{true, ℕ, ◌≡◌, ◌+◌, ◌-◌, ◌≤◌, ◌∙◌, refl, sym, ap, ap₂, subst, subst₂, arith, length, take, drop, ◌++◌, [], append-nil, length-append}
+use Rattle.dns_spec.proofs.Common.{true, ℕ, ◌≡◌, ◌+◌, ◌-◌, ◌≤◌, ◌∙◌, refl, sym, ap, ap₂, subst, subst₂, arith, length, take, drop, ◌++◌, [], append-nil, length-append, Octets, octets16}
 use Rattle.std.specs.List.{refill}
 use Rattle.std.proofs.lemmas.List.{take_at, drop-drop, length-take, length-drop}
-use Rattle.dns_spec.specs.Names.{Octets}
-use Rattle.dns_spec.specs.Layout.{octets16}
 use Rattle.dns_spec.proofs.Layouts.LayoutSize.{length-record_tail}
 use Rattle.dns_wire.specs.Draft.{Draft, with_octets, Writes}
 use Rattle.dns_wire.specs.Writing.{octets_laid, both_laid, parts_laid, tail_laid, shown}

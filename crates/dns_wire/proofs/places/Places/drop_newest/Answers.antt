@@ -1,5 +1,4 @@
-use Rattle.std.proofs.Common.{◌∙◌, sym, ap, subst, ◌++◌, slice_set}
-use Rattle.std.specs.Option.{option_to_list}
+use Rattle.dns_spec.proofs.Common.{◌∙◌, sym, ap, subst, ◌++◌, slice_set, option_to_list}
 use Rattle.dns_wire.specs.Chains.{AreChains}
 use Rattle.dns_wire.proofs.ChainLemmas.{chains_shrink}
 use Rattle.dns_wire.proofs.places.Places.drop_newest.Goals as goal

@@ -1,5 +1,4 @@
-use Rattle.std.proofs.Common.{◌≡◌, ◌-◌, ◌<◌, ◌≤◌, ◌∙◌, ℕ, suc, length, sym, ap, subst, arith, get_or, slice_get, Some}
-use Rattle.std.proofs.lemmas.Bool.{false≢true}
+use Rattle.dns_spec.proofs.Common.{◌≡◌, ◌-◌, ◌<◌, ◌≤◌, ◌∙◌, ℕ, suc, length, sym, ap, subst, arith, get_or, slice_get, Some, false≢true}
 use Rattle.dns_wire.specs.declared.places.Entry.{Entry}
 use Rattle.dns_wire.specs.Chains.{chain_of, entry_at, kept_in}
 use Rattle.dns_wire.specs.Kept.{SpelledAt}

@@ -1,8 +1,5 @@
-use Rattle.std.proofs.Common.{◌∷◌, refl, sym, ap, ◌∙◌}
-use Rattle.std.proofs.lemmas.Bool.{false≢true}
-use Rattle.std.specs.Char.{to_ascii_lowercase}
+use Rattle.dns_spec.proofs.Common.{◌∷◌, refl, sym, ap, ◌∙◌, false≢true, to_ascii_lowercase, exists}
 use Rattle.std.specs.Prelude.{map}
-use Rattle.dns_spec.specs.Tree.{exists}
 use Rattle.dns_zone.specs.Nodes.{ZoneNode}
 use Rattle.dns_zone.proofs.node.Node.down.Goals as goal
 

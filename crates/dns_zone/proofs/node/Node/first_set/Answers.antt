@@ -1,7 +1,4 @@
-use Rattle.std.proofs.Common.{◌≡◌, ◌∷◌, sym, ap, ◌∙◌, subst}
-use Rattle.std.specs.List.Sorted.{IsNonDecreasingBy}
-use Rattle.dns_spec.specs.Records.{ResourceRecord, at, rrset}
-use Rattle.dns_spec.specs.Sets.{set_of}
+use Rattle.dns_spec.proofs.Common.{◌≡◌, ◌∷◌, sym, ap, ◌∙◌, subst, IsNonDecreasingBy, ResourceRecord, at, rrset, set_of}
 use Rattle.dns_zone.proofs.Types.{first_rest}
 use Rattle.dns_zone.proofs.NodeSets.{lowest}
 use Rattle.dns_zone.proofs.node.Node.first_set.Goals as goal

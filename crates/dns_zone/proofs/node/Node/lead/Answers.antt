@@ -1,6 +1,5 @@
-use Rattle.std.proofs.Common.{◌≡◌, ap, subst}
+use Rattle.dns_spec.proofs.Common.{◌≡◌, ap, subst, ZoneContents}
 use Rattle.dns_zone.specs.Nodes.{ZoneNode, IsLead}
-use Rattle.dns_spec.specs.Records.{ZoneContents}
 use Rattle.std.specs.Prelude.{IfSome}
 use Rattle.dns_zone.proofs.node.Node.lead.Goals as goal
 

@@ -1,5 +1,4 @@
-use Rattle.std.proofs.Common.{ap}
-use Rattle.dns_spec.specs.Names.{DomainName}
+use Rattle.dns_spec.proofs.Common.{ap, DomainName}
 use Rattle.dns_zone.specs.TreeForm.{row_at}
 use Rattle.dns_zone.proofs.GrowingKids.{row_is}
 use Rattle.dns_zone.proofs.Existing.{origin-node}

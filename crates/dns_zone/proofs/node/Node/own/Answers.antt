@@ -1,6 +1,4 @@
-use Rattle.std.proofs.Common.{List, sym, ap, ap₂, ◌∙◌, subst}
-use Rattle.std.specs.List.Sorted.{IsNonDecreasingBy}
-use Rattle.dns_spec.specs.Records.{ResourceRecord, at}
+use Rattle.dns_spec.proofs.Common.{List, sym, ap, ap₂, ◌∙◌, subst, IsNonDecreasingBy, ResourceRecord, at}
 use Rattle.dns_zone.specs.Nodes.{ZoneNode, IsNode}
 use Rattle.dns_zone.specs.TreeForm.{span, row_at}
 use Rattle.dns_zone.specs.declared.row.Row.{Row}

@@ -1,6 +1,4 @@
-use Rattle.std.proofs.Common.{sym, ap, ◌∙◌, subst, refl, inl}
-use Rattle.dns_spec.specs.Names.{folded, same}
-use Rattle.dns_spec.specs.Records.{ResourceRecord}
+use Rattle.dns_spec.proofs.Common.{sym, ap, ◌∙◌, subst, refl, inl, folded, same, ResourceRecord}
 use Rattle.dns_spec.proofs.Records.SortedOnce.{Among}
 use Rattle.dns_spec.proofs.Replies.ItemSets.{filter_test}
 use Rattle.dns_zone.proofs.NameOrder.{same-is}

@@ -1,6 +1,4 @@
-use Rattle.std.proofs.Common.{◌==◌, sym, ap, ◌∙◌, subst, filter}
-use Rattle.dns_spec.specs.Records.{ResourceRecord}
-use Rattle.dns_spec.specs.Sets.{set_of}
+use Rattle.dns_spec.proofs.Common.{◌==◌, sym, ap, ◌∙◌, subst, filter, ResourceRecord, set_of}
 use Rattle.dns_zone.specs.SetForm.{AreOfType}
 use Rattle.dns_zone.proofs.NodeSets.{of_type_is, are_of_type, sets_kept}
 use Rattle.dns_zone.proofs.node.Node.set.Goals as goal

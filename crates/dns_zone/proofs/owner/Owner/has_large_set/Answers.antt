@@ -1,7 +1,4 @@
-use Rattle.std.proofs.Common.{◌==◌, nat_lt, length, ap, sym, ◌∙◌, filter, List}
-use Rattle.std.specs.List.{list_any}
-use Rattle.dns_spec.specs.Records.{ResourceRecord}
-use Rattle.dns_spec.specs.Checks.{large_set}
+use Rattle.dns_spec.proofs.Common.{◌==◌, nat_lt, length, ap, sym, ◌∙◌, filter, List, list_any, ResourceRecord, large_set}
 use Rattle.dns_zone.specs.OwnerForm.{NameOfZone}
 use Rattle.dns_zone.proofs.Pairs.{pairs_rising}
 use Rattle.dns_zone.proofs.SetTests.{large-walk}

@@ -1,5 +1,4 @@
-use Rattle.std.proofs.Common.{◌==◌, nat_lt, length, map, ap, sym, ◌∙◌, List}
-use Rattle.dns_spec.specs.Records.{ResourceRecord, distinct}
+use Rattle.dns_spec.proofs.Common.{◌==◌, nat_lt, length, map, ap, sym, ◌∙◌, List, ResourceRecord, distinct}
 use Rattle.dns_spec.specs.Checks.{many_sets}
 use Rattle.dns_zone.specs.OwnerForm.{NameOfZone}
 use Rattle.dns_zone.proofs.Pairs.{pairs_rising}

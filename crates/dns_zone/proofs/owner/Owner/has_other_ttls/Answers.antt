@@ -1,7 +1,4 @@
-use Rattle.std.proofs.Common.{◌==◌, ◌&&◌, not, ap, sym, ◌∙◌, List}
-use Rattle.std.specs.List.{list_any}
-use Rattle.dns_spec.specs.Records.{ResourceRecord}
-use Rattle.dns_spec.specs.Checks.{ttls_differ}
+use Rattle.dns_spec.proofs.Common.{◌==◌, ◌&&◌, not, ap, sym, ◌∙◌, List, list_any, ResourceRecord, ttls_differ}
 use Rattle.dns_zone.specs.OwnerForm.{NameOfZone}
 use Rattle.dns_zone.proofs.Pairs.{pairs_rising}
 use Rattle.dns_zone.proofs.SetTests.{ttls-walk}

@@ -1,5 +1,4 @@
-use Rattle.std.proofs.Common.{◌≡◌, ◌&&◌, nat_lt, length, sym, ap, ◌∙◌, subst}
-use Rattle.dns_spec.specs.Names.{DomainName, Octets, folded, same, octets_equal}
+use Rattle.dns_spec.proofs.Common.{◌≡◌, ◌&&◌, nat_lt, length, sym, ap, ◌∙◌, subst, DomainName, Octets, folded, same, octets_equal}
 use Rattle.dns_spec.proofs.DomainNames.NameLaws.{names_equal-decides, octets_equal-decides, same_tests}
 use Rattle.dns_zone.specs.KeyForm.{name_key}
 use Rattle.dns_zone.specs.OwnerForm.{IsOwner}

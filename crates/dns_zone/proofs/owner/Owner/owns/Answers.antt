@@ -1,6 +1,4 @@
-use Rattle.std.proofs.Common.{◌==◌, ap, ◌∙◌}
-use Rattle.std.specs.List.{list_any}
-use Rattle.dns_spec.specs.Records.{ResourceRecord, owns}
+use Rattle.dns_spec.proofs.Common.{◌==◌, ap, ◌∙◌, list_any, ResourceRecord, owns}
 use Rattle.dns_zone.specs.OwnerForm.{NameOfZone}
 use Rattle.dns_zone.proofs.OwnRecords.{own-owns}
 use Rattle.dns_zone.proofs.owner.Owner.owns.Goals as goal

@@ -1,5 +1,4 @@
-use Rattle.std.proofs.Common.{◌≡◌, ◌||◌, length}
-use Rattle.std.specs.List.{list_any}
+use Rattle.dns_spec.proofs.Common.{◌≡◌, ◌||◌, length, list_any}
 use Rattle.dns_zone.specs.OwnerForm.{is_server_alias, is_server_lost, is_exchange_alias}
 use Rattle.dns_zone.proofs.owner.Owner.target_faults.Given as goal
 

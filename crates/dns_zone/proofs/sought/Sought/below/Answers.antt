@@ -1,5 +1,4 @@
-use Rattle.std.proofs.Common.{◌≡◌, ◌≤◌, ◌<◌, ◌∷◌, length, true, ap, sym, ◌∙◌, arith}
-use Rattle.dns_spec.specs.Names.{Octets, DomainName, wire, same, at_or_below}
+use Rattle.dns_spec.proofs.Common.{◌≡◌, ◌≤◌, ◌<◌, ◌∷◌, length, true, ap, sym, ◌∙◌, arith, Octets, DomainName, wire, same, at_or_below}
 use Rattle.dns_spec.proofs.DomainNames.NameLaws.{at_or_below-short, at_or_below-long, same-length, length-is_name}
 use Rattle.dns_name.specs.WireForm.{labels_of, IsWireForm}
 use Rattle.dns_name.proofs.WireLemmas.{IsWireForm-wire, labels_of_spelled}

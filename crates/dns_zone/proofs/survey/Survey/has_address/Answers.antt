@@ -1,7 +1,4 @@
-use Rattle.std.proofs.Common.{◌==◌, ◌||◌, ap, sym, ◌∙◌}
-use Rattle.std.specs.List.{list_any}
-use Rattle.dns_spec.specs.Data.{type_a, type_aaaa}
-use Rattle.dns_spec.specs.Records.{ResourceRecord, owns}
+use Rattle.dns_spec.proofs.Common.{◌==◌, ◌||◌, ap, sym, ◌∙◌, list_any, type_a, type_aaaa, ResourceRecord, owns}
 use Rattle.dns_zone.proofs.OwnRecords.{own-owns}
 use Rattle.dns_zone.proofs.survey.Survey.has_address.Goals as goal
 

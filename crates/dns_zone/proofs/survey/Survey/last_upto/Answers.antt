@@ -1,6 +1,4 @@
-use Rattle.std.proofs.Common.{◌≡◌, ◌-◌, ◌<◌, ℕ, suc, map, true, List, sym, ap, ◌∙◌, subst, arith}
-use Rattle.dns_spec.specs.Names.{Octets, DomainName, folded, at_or_below, name_order}
-use Rattle.dns_spec.specs.Records.{ZoneContents}
+use Rattle.dns_spec.proofs.Common.{◌≡◌, ◌-◌, ◌<◌, ℕ, suc, map, true, List, sym, ap, ◌∙◌, subst, arith, Octets, DomainName, folded, at_or_below, name_order, ZoneContents}
 use Rattle.dns_spec.proofs.DomainNames.NameLaws.{octets_equal-decides}
 use Rattle.dns_spec.proofs.Records.SortedOnce.{Rises}
 use Rattle.dns_zone.specs.ZoneForm.{IsFront}

@@ -1,8 +1,6 @@
-use Rattle.std.proofs.Common.{◌≡◌, List, [], ◌∷◌, None, refl, ap, ◌∙◌}
+use Rattle.dns_spec.proofs.Common.{◌≡◌, List, [], ◌∷◌, None, refl, ap, ◌∙◌, DomainName, ResourceRecord, ZoneContents}
 use Rattle.std.specs.List.{slice_get}
 use Rattle.dns_name.proofs.WireLemmas.{IsWireForm-wire, labels_of_spelled}
-use Rattle.dns_spec.specs.Names.{DomainName}
-use Rattle.dns_spec.specs.Records.{ResourceRecord, ZoneContents}
 use Rattle.dns_zone.specs.NamesForm.{first_owner}
 use Rattle.dns_zone.proofs.survey.Survey.name.Goals as goal
 

@@ -1,7 +1,4 @@
-use Rattle.std.proofs.Common.{◌&&◌, ◌==◌, ap, sym, ◌∙◌}
-use Rattle.std.specs.List.{list_any}
-use Rattle.dns_spec.specs.Data.{type_cname}
-use Rattle.dns_spec.specs.Records.{ResourceRecord, at, owns}
+use Rattle.dns_spec.proofs.Common.{◌&&◌, ◌==◌, ap, sym, ◌∙◌, list_any, type_cname, ResourceRecord, at, owns}
 use Rattle.dns_zone.specs.KeyForm.{name_key}
 use Rattle.dns_zone.proofs.OwnRecords.{own-owns}
 use Rattle.dns_zone.proofs.survey.Survey.name_faults.Goals as goal

@@ -1,9 +1,4 @@
-use Rattle.std.proofs.Common.{◌≡◌, ap, sym, ◌∙◌, subst, arith, length, vec_len, List}
-use Rattle.std.proofs.lemmas.List.{nil_from_length}
-use Rattle.std.proofs.lemmas.Bool.{false≢true, eqb-true, eq-eqb}
-use Rattle.dns_spec.specs.Names.{DomainName, folded}
-use Rattle.dns_spec.specs.Checks.{faults}
-use Rattle.dns_spec.specs.Records.{ResourceRecord}
+use Rattle.dns_spec.proofs.Common.{◌≡◌, ap, sym, ◌∙◌, subst, arith, length, vec_len, List, nil_from_length, false≢true, eqb-true, eq-eqb, DomainName, folded, faults, ResourceRecord}
 use Rattle.dns_spec.proofs.ZoneChecks.FaultOrder.{folded_folded}
 use Rattle.dns_zone.specs.ZoneForm.{IsBuilt}
 use Rattle.dns_zone.proofs.BuiltZone.{found_of_read, built}

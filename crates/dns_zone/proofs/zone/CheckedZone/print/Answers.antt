@@ -1,5 +1,4 @@
-use Rattle.std.proofs.Common.{rules, subst}
-use Rattle.std.specs.Io.KnownBytes.{Appends}
+use Rattle.dns_spec.proofs.Common.{rules, subst, Appends}
 use Rattle.dns_name.specs.Counted.{AppendsBeginning}
 use Rattle.dns_name.proofs.Results.{OnErr-always}
 use Rattle.dns_spec.proofs.PrintedZones.PrintedZone.{printed_moves, zone_means}

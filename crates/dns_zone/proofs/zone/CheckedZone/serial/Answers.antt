@@ -1,6 +1,4 @@
-use Rattle.std.proofs.Common.{◌≡◌, ap, ◌∙◌, subst}
-use Rattle.dns_spec.specs.Names.{DomainName}
-use Rattle.dns_spec.specs.Records.{ZoneContents, first_serial, zone_serial}
+use Rattle.dns_spec.proofs.Common.{◌≡◌, ap, ◌∙◌, subst, DomainName, ZoneContents, first_serial, zone_serial}
 use Rattle.dns_zone.proofs.BuiltZone.{soas_at, serial_is}
 use Rattle.dns_zone.proofs.zone.CheckedZone.serial.Goals as goal
 
