@@ -1,7 +1,7 @@
 -- The way down to a name that has several labels below the node where it begins.
 use Rattle.dns_spec.proofs.Common.{◌≡◌, ℕ, zero, suc, Bool, true, ◌+◌, ◌-◌, ◌≤◌, ◌<◌, [], ◌∷◌, length, drop, length-drop, Option, None, Some, reverse, refl, sym, ap, ◌∙◌, subst, arith, Octets, DomainName, folded, at_or_below, suffixes, ZoneContents, find, is_some, exists, is_cut, cut_of}
 use Rattle.dns_zone.specs.Nodes.{ZoneNode}
-use Rattle.dns_zone.specs.declared.sought.Sought.{Sought}
+use Rattle.dns_zone.specs.declared.tree.sought.Sought.{Sought}
 use Rattle.dns_zone.specs.Starts.{IsBelow}
 use Rattle.dns_answer.specs.Walks.{node_of, node_or, labels_below, one_if, IsApex, IsAim, IsThere, IsMissing, IsBelowCut}
 use Rattle.dns_zone.proofs.NameOrder.{same-is, same-from}

@@ -9,7 +9,7 @@ use Rattle.dns_answer.specs.Walks.{AreRecords, Took, IsApex, IsAim, labels_below
 use Rattle.dns_answer.specs.Targets.{target_at}
 use Rattle.dns_answer.specs.Chain.{chain_rest}
 use Rattle.dns_answer.specs.Seeking.{names_of, aliases_left, leads_on, unsought, AreTargets, MaySeek, Seeks, HasNoAlias, IsShown, NextIs}
-use Rattle.dns_zone.specs.declared.sought.Sought.{Sought}
+use Rattle.dns_zone.specs.declared.tree.sought.Sought.{Sought}
 use Rattle.dns_answer.specs.declared.ending.Verdict.{Verdict}
 use Rattle.std.specs.Prelude.{All, drop}
 use Rattle.std.proofs.lemmas.List.Elements.{All-nil, All-cons, All-head, All-tail, All-append}

@@ -13,7 +13,7 @@ use Rattle.dns_answer.specs.Draft.{empty_draft}
 use Rattle.dns_answer.specs.DraftForm.{State, Holds, Offers}
 use Rattle.dns_zone.specs.Starts.{IsBelow}
 use Rattle.dns_wire.specs.declared.query.Rcode.{Rcode}
-use Rattle.dns_zone.specs.declared.sought.Sought.{Sought}
+use Rattle.dns_zone.specs.declared.tree.sought.Sought.{Sought}
 
 -- a question is refused with an RCODE, or its name is sought from the origin
 abbrev pub JudgedAs : ZoneContents → MessageQuestion → Result Sought Rcode → Type 0

@@ -17,7 +17,7 @@ use Rattle.dns_answer.specs.Chain.{chain_rest}
 use Rattle.dns_answer.specs.declared.ending.Verdict.{Verdict}
 use Rattle.dns_answer.specs.declared.chain.Next.{Next}
 use Rattle.dns_answer.specs.declared.chain.Next.TheVariants as nexts
-use Rattle.dns_zone.specs.declared.sought.Sought.{Sought}
+use Rattle.dns_zone.specs.declared.tree.sought.Sought.{Sought}
 
 -- the names that were sought, the last one first
 abbrev pub names_of : List Sought → List DomainName

@@ -14,7 +14,7 @@ use Rattle.dns_answer.specs.declared.lookup.Found.{Found}
 use Rattle.dns_answer.specs.declared.lookup.Found.TheVariants as finds
 use Rattle.dns_answer.specs.declared.lookup.Cuts.{Cuts}
 use Rattle.dns_answer.specs.declared.lookup.Cuts.TheVariants.{End, Pass}
-use Rattle.dns_zone.specs.declared.sought.Sought.{Sought}
+use Rattle.dns_zone.specs.declared.tree.sought.Sought.{Sought}
 
 -- the node of a name
 abbrev pub node_of : ZoneContents → DomainName → ZoneNode

@@ -3,7 +3,7 @@ use Rattle.dns_spec.proofs.Common.{◌≡◌, ℕ, zero, suc, ◌+◌, ◌-◌, 
 use Rattle.dns_spec.proofs.Records.SortedOnce.{Among, Rises}
 use Rattle.dns_spec.proofs.Records.RecordOrder.{among_contains}
 use Rattle.dns_zone.specs.TreeForm.{row_label, row_at, room_after}
-use Rattle.dns_zone.specs.declared.row.Row.{Row}
+use Rattle.dns_zone.specs.declared.tree.row.Row.{Row}
 use Rattle.dns_zone.proofs.Pairs.{each_get}
 
 rises_at : (ls : List Octets) (i j : ℕ) → Rises label_order ls → i < j → j < length ls

@@ -10,7 +10,7 @@ use Rattle.dns_name.proofs.WireLemmas.{labels_of_spelled}
 use Rattle.dns_zone.specs.ZoneForm.{IsCanonical}
 use Rattle.dns_zone.specs.TreeForm.{span, owners, under, first_of, row_octets, row_name, row_label, IsRow, IsKid}
 use Rattle.dns_zone.specs.TreeSteps.{IsBetween, IsNext, IsKidAt, AddsKids}
-use Rattle.dns_zone.specs.declared.row.Row.{Row}
+use Rattle.dns_zone.specs.declared.tree.row.Row.{Row}
 use Rattle.dns_zone.proofs.Pairs.{Pairs, filter_none}
 use Rattle.dns_zone.proofs.NameTree.{label-tie}
 use Rattle.dns_zone.proofs.AtName.{OwnerNotAfter, owners_in_order, is_at}

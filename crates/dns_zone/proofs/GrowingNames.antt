@@ -10,7 +10,7 @@ use Rattle.dns_zone.specs.NamesForm.{name_of, is_upto, IsTopmost, IsChecked, Are
 use Rattle.dns_zone.specs.OwnerForm.{IsOwner}
 use Rattle.dns_zone.specs.ReportedForm.{owners_once}
 use Rattle.dns_zone.specs.ZoneForm.{AreOrdered, IsFront}
-use Rattle.dns_zone.specs.declared.names.CheckedName.{CheckedName}
+use Rattle.dns_zone.specs.declared.checks.names.CheckedName.{CheckedName}
 use Rattle.dns_zone.proofs.AtName.{owners_in_order}
 use Rattle.dns_zone.proofs.CheckedNames.{among_map, map_among, itself_upto, equal_upto, one_key, cut_among, none_at, upto_parted, upto_among, after_each, in_order, last_checked, last_upto}
 use Rattle.dns_zone.proofs.NameTree.{under-from, under-order}

@@ -2,7 +2,7 @@
 use Rattle.dns_spec.proofs.Common.{◌≡◌, ℕ, ◌+◌, ◌-◌, ◌<◌, ◌≤◌, ◌⊎◌, inl, inr, List, [], ◌∷◌, ◌++◌, length, drop, get_or, sym, ap, ◌∙◌, arith, subst, length-append, length-drop, cases_lt, take-append-drop, get_or-take, get_or-drop, get_or_append_left, get_or_push, take_all, DomainName, ResourceRecord}
 use Rattle.dns_zone.specs.TreeForm.{row_name, row_at, kids_at, IsRow, IsKid, AreKids, IsTree}
 use Rattle.dns_zone.specs.TreeSteps.{AddsKids}
-use Rattle.dns_zone.specs.declared.row.Row.{Row}
+use Rattle.dns_zone.specs.declared.tree.row.Row.{Row}
 use Rattle.dns_zone.proofs.Pairs.{each_get}
 use Rattle.dns_zone.proofs.Spans.{span_front}
 use Rattle.dns_zone.proofs.GrowingKids.{row_is}

@@ -2,7 +2,7 @@
 use Rattle.dns_spec.proofs.Common.{◌≡◌, ◌⊎◌, inl, inr, ℕ, ◌<◌, ◌≤◌, true, false, List, [], ◌∷◌, ◌++◌, map, length, length-append, get_or, None, refl, ap, arith, to_ascii_lowercase, is_some, cases_lt, get_or-map, get_or_append_left, get_or_push, Octets, DomainName, folded, at_or_below, below, type_ns, type_cname, ResourceRecord, ZoneContents, rrset, set_of, cut_of}
 use Rattle.dns_zone.specs.NodeForm.{IsNodeAt, IsZoneTree, IsLeadRow, IsLeadAt, AreLeads}
 use Rattle.dns_zone.specs.TreeForm.{row_name, row_at}
-use Rattle.dns_zone.specs.declared.row.Row.{Row}
+use Rattle.dns_zone.specs.declared.tree.row.Row.{Row}
 use Rattle.dns_zone.specs.declared.tree.Tree.{Tree}
 use Rattle.dns_zone.proofs.NameTree.{itself-under, below-cons}
 use Rattle.dns_zone.proofs.NameOrder.{same-from}

@@ -5,7 +5,7 @@ use Rattle.dns_spec.proofs.Records.RecordOrder.{contains_among}
 use Rattle.dns_zone.specs.Nodes.{IsNode}
 use Rattle.dns_zone.specs.NodeForm.{IsNodeAt}
 use Rattle.dns_zone.specs.TreeForm.{first_of, row_name, row_label, row_at, kids_at, IsRow, IsKid, AreKids}
-use Rattle.dns_zone.specs.declared.row.Row.{Row}
+use Rattle.dns_zone.specs.declared.tree.row.Row.{Row}
 use Rattle.dns_zone.specs.declared.tree.Tree.{Tree}
 use Rattle.dns_zone.proofs.Pairs.{each_get}
 use Rattle.dns_zone.proofs.Spans.{in_span, any_there}

@@ -13,7 +13,7 @@ use Rattle.dns_zone.specs.TreeForm.{span}
 use Rattle.dns_zone.specs.KeyForm.{name_key}
 use Rattle.dns_zone.specs.OwnerForm.{IsOwner}
 use Rattle.dns_zone.specs.ReportedForm.{owners_once}
-use Rattle.dns_zone.specs.declared.names.CheckedName.{CheckedName}
+use Rattle.dns_zone.specs.declared.checks.names.CheckedName.{CheckedName}
 
 -- the records of a name, and the name: the origin is the one that may have no records
 abbrev pub own_in : List ResourceRecord → CheckedName → List ResourceRecord

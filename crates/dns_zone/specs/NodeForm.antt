@@ -4,7 +4,7 @@ use Rattle.dns_spec.specs.Records.{ResourceRecord, ZoneContents}
 use Rattle.dns_zone.specs.Nodes.{ZoneNode, IsLead}
 use Rattle.dns_zone.specs.ZoneForm.{IsBuilt}
 use Rattle.dns_zone.specs.TreeForm.{IsTree, row_name, row_at}
-use Rattle.dns_zone.specs.declared.row.Row.{Row}
+use Rattle.dns_zone.specs.declared.tree.row.Row.{Row}
 use Rattle.dns_zone.specs.declared.tree.Tree.{Tree}
 
 -- the row of a lead for records of a type

@@ -3,7 +3,7 @@
 use Rattle.std.specs.Prelude.{◌≡◌, ℕ, ◌+◌, ◌<◌, ◌≤◌, true, List, length, drop, get_or}
 use Rattle.dns_spec.specs.Names.{Octets, DomainName, at_or_below}
 use Rattle.dns_name.specs.WireForm.{labels_of, IsWireForm}
-use Rattle.dns_zone.specs.declared.sought.Sought.{Sought}
+use Rattle.dns_zone.specs.declared.tree.sought.Sought.{Sought}
 
 -- the name is so many labels below another one
 pub record IsBelow (s : Sought) (ancestor : DomainName) : Type 0 where

@@ -8,7 +8,7 @@ use Rattle.dns_spec.specs.Records.{ResourceRecord}
 use Rattle.dns_spec.proofs.Records.SortedOnce.{Each, Among, Rises}
 use Rattle.dns_name.specs.WireForm.{labels_of}
 use Rattle.dns_zone.specs.LabelKey.{IsKey}
-use Rattle.dns_zone.specs.declared.row.Row.{Row}
+use Rattle.dns_zone.specs.declared.tree.row.Row.{Row}
 
 -- the elements from place a up to place b
 abbrev pub span : {X : Type 0} → List X → ℕ → ℕ → List X

@@ -3,7 +3,7 @@ use Rattle.std.specs.Prelude.{◌≡◌, ℕ, suc, ◌<◌, ◌≤◌, true, Lis
 use Rattle.dns_spec.specs.Names.{DomainName, folded, at_or_below, below}
 use Rattle.dns_spec.specs.Records.{ResourceRecord}
 use Rattle.dns_zone.specs.TreeForm.{owners, under, IsKid, AreKids}
-use Rattle.dns_zone.specs.declared.row.Row.{Row}
+use Rattle.dns_zone.specs.declared.tree.row.Row.{Row}
 
 -- of each name one label below n, all records stand before a place or none
 abbrev pub IsBetween : List ResourceRecord → DomainName → ℕ → Type 0

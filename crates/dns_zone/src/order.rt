@@ -1,9 +1,15 @@
 //! The canonical order of records (RFC 4034 6.1, 6.3).
+
+pub(crate) mod arranged;
+pub(crate) mod key;
+pub(crate) mod keyed;
+pub(crate) mod ordered;
+
 ghost use Rattle.std.specs.Prelude.{◌≡◌};
 ghost use Rattle.std.specs.Ordering.{nat_cmp, ordering_then};
 ghost use Rattle.dns_spec.specs.Records.{data_order, record_order};
 
-use crate::entry::Entry;
+use crate::store::entry::Entry;
 use std::cmp::Ordering;
 
 // Which of two records comes first: by owner, type and data, and those that agree in these by TTL.

@@ -10,7 +10,7 @@ ghost use Rattle.dns_spec.specs.ZonePrinted.{HasZoneType, record_line, soa_first
 ghost use Rattle.dns_name.specs.Counted.{Writes, Fills};
 ghost use Rattle.dns_zone.specs.ZoneForm.{is_chosen};
 
-use crate::entry::Entry;
+use crate::store::entry::Entry;
 use crate::zone::{CheckedZone, Zone};
 use dns_name::{SinkFailed, Tally, TextBuffer};
 use dns_rdata::{RType, Rdata};

@@ -1,4 +1,7 @@
 //! Records that are gathered one after another, until a zone is made of them.
+
+pub(crate) mod entry;
+
 ghost use Rattle.std.specs.Prelude.{◌≡◌, ◌≢◌, ◌⊎◌, ◌-◌, ◌^◌, ◌<◌, ◌≤◌, [], ◌∷◌, ◌++◌, length, IfOk, IfErr, OnOk, OnErr};
 ghost use Rattle.dns_spec.specs.Records.{zone_of, ordered_zone};
 ghost use Rattle.dns_spec.specs.Checks.{faults};
@@ -7,8 +10,8 @@ ghost use Rattle.dns_master.specs.Codes.{fault_of, failures_after_read};
 ghost use Rattle.dns_master.specs.SourceForm.{GivesMeaning, Decides};
 ghost use Rattle.dns_zone.specs.ZoneForm.{ReportsFaults};
 
-use crate::entry::Entry;
 use crate::fault::BuildFault;
+use crate::store::entry::Entry;
 use crate::zone::CheckedZone;
 use dns_master::{Gathers, ReadCode, ReadFault, Record, read_into};
 use dns_name::{Name, Tally};

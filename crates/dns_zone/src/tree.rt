@@ -1,5 +1,18 @@
 //! The names of a zone as rows, level by level: the children of a row stand side by side, by their
 //! labels.
+
+pub(crate) mod label_key;
+pub(crate) mod labels;
+pub(crate) mod leads;
+pub(crate) mod lookup;
+pub(crate) mod lower_case;
+pub(crate) mod node;
+pub(crate) mod row;
+pub(crate) mod search;
+pub(crate) mod set;
+pub(crate) mod sought;
+pub(crate) mod steps;
+
 ghost use Rattle.std.specs.Prelude.{◌≡◌, ◌<◌, ◌≤◌, [], length, drop, IfOk, OnOk};
 ghost use Rattle.std.specs.List.Sorted.{IsPartitionedBy};
 ghost use Rattle.dns_spec.specs.Names.{folded, at_or_below};
@@ -9,12 +22,12 @@ ghost use Rattle.dns_zone.specs.ZoneForm.{IsBuilt, IsCanonical, IsFront};
 ghost use Rattle.dns_zone.specs.TreeForm.{row_octets, row_name, row_at, under, IsRow, IsTree};
 ghost use Rattle.dns_zone.specs.TreeSteps.{IsNext, IsKidAt, AddsKids};
 
-use crate::above::shortest_end;
-use crate::entry::Entry;
+use crate::checks::above::shortest_end;
 use crate::kept::Kept;
-use crate::label_key::{first_octets, label_key};
-use crate::lookup::{count_in_front, count_under};
-use crate::row::Row;
+use crate::store::entry::Entry;
+use crate::tree::label_key::{first_octets, label_key};
+use crate::tree::lookup::{count_in_front, count_under};
+use crate::tree::row::Row;
 use crate::zone::CheckedZone;
 use dns_name::NameRef;
 use std::alloc::{AllocError, Global};

@@ -10,13 +10,13 @@ ghost use Rattle.dns_spec.specs.ZonePrinted.{is_soa};
 ghost use Rattle.dns_zone.specs.ZoneForm.{IsBuilt, ReportsFaults};
 ghost use Rattle.dns_zone.specs.NodeForm.{IsZoneTree};
 
-use crate::entry::Entry;
+use crate::checks::faults;
 use crate::fault::BuildFault;
-use crate::faults::faults;
 use crate::kept::Kept;
-use crate::leads::leads_of;
-use crate::ordered::{Canonical, ordered};
+use crate::order::ordered::{Canonical, ordered};
 use crate::store::Store;
+use crate::store::entry::Entry;
+use crate::tree::leads::leads_of;
 use crate::tree::{Rows, Tree, rows_of};
 use dns_master::Record;
 use dns_name::{Name, NameRef};

@@ -1,9 +1,9 @@
 //! Records that are arranged before they are sorted.
 
-use crate::arranged::arrange;
-use crate::entry::Entry;
-use crate::keyed::{Keyed, keys_of};
+use crate::order::arranged::arrange;
+use crate::order::keyed::{Keyed, keys_of};
 use crate::order::record_order;
+use crate::store::entry::Entry;
 use dns_master::read_zone;
 use dns_name::{Name, Tally};
 use std::test::Fail;

@@ -1,6 +1,6 @@
 use Rattle.dns_spec.proofs.Common.{rules, not, ◌&&◌, ◌≡◌, true, sym, ap, ◌∙◌, subst, arith, is_name, ZoneContents, MessageQuestion, All-nil, folded}
 use Rattle.dns_zone.specs.Starts.{IsBelow}
-use Rattle.dns_zone.specs.declared.sought.Sought.{Sought}
+use Rattle.dns_zone.specs.declared.tree.sought.Sought.{Sought}
 use Rattle.dns_answer.specs.Draft.{empty_draft}
 use Rattle.dns_answer.specs.DraftForm.{Holds}
 use Rattle.dns_answer.specs.Walks.{IsApex}

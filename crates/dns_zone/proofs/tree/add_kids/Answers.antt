@@ -1,7 +1,7 @@
 use Rattle.dns_spec.proofs.Common.{◌≡◌, ℕ, ◌≤◌, ◌<◌, ◌∙◌, ap, sym, subst, List, [], length, drop, get_or, arith, get_or_default, DomainName}
 use Rattle.dns_zone.specs.TreeForm.{row_at, row_name, under}
 use Rattle.dns_zone.specs.TreeSteps.{IsNext, IsKidAt}
-use Rattle.dns_zone.specs.declared.row.Row.{Row}
+use Rattle.dns_zone.specs.declared.tree.row.Row.{Row}
 use Rattle.dns_zone.proofs.KidRows.{is_under}
 use Rattle.dns_zone.proofs.Spans.{none_past}
 use Rattle.dns_zone.proofs.GrowingKids.{Adding, start, next_is, step, done}

@@ -1,5 +1,5 @@
 use Rattle.dns_spec.proofs.Common.{◌≡◌, ◌<◌, ◌≤◌, ◌⊎◌, inl, inr, ◌∷◌, ◌++◌, [], ◌+◌, ◌∙◌, ap, sym, subst, length, vec_len, ℕ, List, arith, cases_lt}
-use Rattle.dns_zone.specs.declared.row.Row.{Row}
+use Rattle.dns_zone.specs.declared.tree.row.Row.{Row}
 use Rattle.dns_zone.proofs.GrowingTree.{Growing, begin, advance}
 use Rattle.dns_zone.proofs.tree.rows_of.Goals as goal
 

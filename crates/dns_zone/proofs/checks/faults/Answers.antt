@@ -1,0 +1,37 @@
+use Rattle.dns_spec.proofs.Common.{◌≡◌, ◌-◌, List, length, map, ap, ◌∙◌, arith, length-take, take_all, flat_map, ZoneContents, wire, Fault, faults}
+use Rattle.dns_zone.specs.NamesForm.{name_of}
+use Rattle.dns_zone.specs.ReportedForm.{reported_at}
+use Rattle.dns_zone.specs.declared.checks.names.CheckedName.{CheckedName}
+use Rattle.dns_zone.proofs.KeyOrder.{some_octets, key_length}
+use Rattle.dns_zone.proofs.checks.faults.Goals as goal
+
+-- the faults of names, one after another
+abbrev reported : ZoneContents → List CheckedName → List Fault
+reported z names = flat_map (reported_at z) (map (name_of z) names)
+
+pub overflow_sub-octets : goal.overflow_sub-octets
+overflow_sub-octets c =
+    let long : length c.octets.result.now ≡ length (wire c.args.origin.now) =
+    ap length c.octets.ensures.value in
+    omega (arith, long, some_octets c.args.origin.now)
+
+pub split_at-requires : goal.split_at-requires
+split_at-requires c =
+    let long : length c.octets.result.now ≡ length (wire c.args.origin.now) =
+    ap length c.octets.ensures.value in
+    let keys = c.as_slice.ensures.value in
+    let size = ap length c.requires.origin
+    in
+    let inside = length-take (length (wire c.args.origin.now) - 1) c.args.keyed.now.keys.items in
+    omega (arith, long, ap length keys, size, inside, key_length c.args.origin.now)
+
+pub returns : goal.returns
+unfolding faults reported_at
+returns c =
+    let z : ZoneContents = record { origin = c.args.origin.now; records = c.args.records.now } in
+    let items = c.as_slice-one-items.result.now in
+    c.names.invariant
+    ∙ ap (reported c.new-survey.result)
+    (take_all c.names.one-index items c.names-test.false ∙ c.as_slice-one-items.ensures.value)
+    ∙ ap (λ (y : ZoneContents). reported y c.in_ok-names.names.items) c.new-survey.ensures
+    ∙ ap (flat_map (reported_at z)) c.in_ok-names.ensures.all

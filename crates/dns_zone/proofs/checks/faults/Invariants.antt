@@ -1,0 +1,10 @@
+use Rattle.dns_spec.proofs.Common.{◌≡◌, take, map, flat_map}
+use Rattle.dns_zone.specs.NamesForm.{name_of}
+use Rattle.dns_zone.specs.ReportedForm.{reported_at}
+use Rattle.dns_zone.proofs.checks.faults.Given as goal
+
+-- the faults of the names so far
+abbrev pub invariant-names : goal.invariant-names
+invariant-names l =
+    l.found.items ≡ flat_map (reported_at l.survey)
+    (map (name_of l.survey) (take l.one-index l.one-items))

@@ -1,0 +1,23 @@
+use Rattle.dns_spec.proofs.Common.{rules, IsPartitionPoint-from_clause}
+use Rattle.dns_zone.specs.NamesForm.{is_upto}
+use Rattle.dns_zone.proofs.CheckedNames.{last_front}
+use Rattle.dns_zone.proofs.Pairs.{halves}
+use Rattle.dns_zone.proofs.checks.names.count_upto.Goals as goal
+
+pub returns : goal.returns
+returns c =
+    last_front (is_upto c.args.key.now) c.args.names.now _ c.requires c.if-is_last_upto.ensures
+
+pub returns-2 : goal.returns-2
+returns-2 c =
+    let p = is_upto c.args.key.now in
+    let names = c.args.names.now in
+    let parts =
+    halves p names _ c.partition_point.ensures.bound
+    (IsPartitionPoint-from_clause p names _ c.partition_point.ensures.partitioned c.requires
+    (λ a r q k. search rules)) in
+    record {
+      bound = c.partition_point.ensures.bound;
+      passing = parts.0;
+      others = parts.1;
+    }

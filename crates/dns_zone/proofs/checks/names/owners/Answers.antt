@@ -1,0 +1,190 @@
+use Rattle.dns_spec.proofs.Common.{rules, ◌≡◌, ◌+◌, ◌-◌, ◌∷◌, ◌++◌, List, [], length, map, take, drop, sym, ap, ap₂, ◌∙◌, subst, arith, refl, drop-drop, map_push, prefix_len, DomainName, ResourceRecord, ZoneContents}
+use Rattle.dns_spec.proofs.Records.SortedOnce.{Each}
+use Rattle.dns_zone.specs.KeyForm.{name_key}
+use Rattle.dns_zone.specs.KeyedForm.{key_in}
+use Rattle.dns_zone.specs.NamesForm.{own_in, first_owner, name_of, IsTopmost, IsChecked}
+use Rattle.dns_zone.specs.OwnerForm.{IsOwner}
+use Rattle.dns_zone.specs.ReportedForm.{owners_once}
+use Rattle.dns_zone.specs.declared.checks.names.CheckedName.{CheckedName}
+use Rattle.dns_zone.proofs.AtName.{is_at}
+use Rattle.dns_zone.proofs.GrowingNames.{LastName, root_first, comes_next, added_last, each_added, all_added}
+use Rattle.dns_zone.proofs.KeyedNames.{first_keyed}
+use Rattle.dns_zone.proofs.OwnersWalk.{Step, step, all_owners, one_more}
+use Rattle.dns_zone.proofs.TopmostCut.{topmost_fits}
+use Rattle.dns_zone.proofs.checks.names.owners.Goals as goal
+use Rattle.dns_zone.proofs.checks.names.owners.Goals.{In_ok-push}
+
+pub owners-init : goal.owners-init
+owners-init c =
+    let rs = c.args.records.now in
+    let z : ZoneContents = record { origin = c.args.origin.now; records = rs } in
+    let none = sym c.in_ok-names.ensures.items in
+    record {
+      all = ap (λ (ns : List CheckedName). map (name_of z) ns ++ owners_once rs) (sym none);
+      each = subst (Each (λ d. IsChecked z (name_of z d) d)) none tt;
+      whole = all_owners z c.requires.ordered;
+      part = refl;
+      count = omega arith;
+      last = subst (λ ns. LastName z (map (name_of z) ns) (owners_once rs) [] 0) none
+          (root_first z (owners_once rs));
+    }
+
+pub index-requires : goal.index-requires
+index-requires c =
+    let rest_is : c.owners.rest.now ≡ c.in-Some.record.now ∷ c.in-Some.others.now =
+    search rules in
+    let count = c.owners.invariant.count in
+    let starts = c.requires.keyed.count in
+    omega (arith, count, starts, ap length rest_is)
+
+pub cut_of-cut-requires-clause-fits : goal.cut_of-cut-requires-clause-fits
+cut_of-cut-requires-clause-fits c =
+    let z : ZoneContents = record { origin = c.args.origin.now; records = c.args.records.now } in
+    let last = c.owners.invariant.last in
+    let size : length c.owners.last.now ≡ length (name_key last.name) = ap length last.key_is in
+    let fits = topmost_fits z last.name last.lower c.owners.cut last.topmost in
+    omega (arith, size, fits)
+
+pub cut_of-cut-requires-clause-by_types : goal.cut_of-cut-requires-clause-by_types
+cut_of-cut-requires-clause-by_types c =
+    let rest_is : c.owners.rest.now ≡ c.in-Some.record.now ∷ c.in-Some.others.now =
+    search rules in
+    let name_is : c.owner-owner.result ≡ c.in-Some.record.now.owner = search rules in
+    (step _ _ c.in-Some.record.now c.in-Some.others.now _ _ _ _ name_is
+    c.owner-owner.ensures.lower rest_is c.owners.invariant.whole
+    (record {
+      count = one_more _ c.in-Some.record.now _ _ name_is c.count_in_front.ensures.value
+          ∙ ap (prefix_len (is_at c.owner-owner.result)) (sym rest_is);
+      own_is = c.split_at.ensures.front;
+      others_are = c.split_at.ensures.back;
+    })).is_owner.by_types
+
+module _ (c : In_ok-push) where
+  abbrev z : ZoneContents
+  z = record { origin = c.args.origin.now; records = c.args.records.now }
+
+  abbrev n : DomainName
+  n = c.owner-owner.result
+
+  abbrev own : List ResourceRecord
+  own = c.split_at.result.0.now
+
+  abbrev others : List ResourceRecord
+  others = c.split_at.result.1.now
+
+  pub stepped : Step z n c.owners.rest.now own others
+  stepped =
+      let rest_is : c.owners.rest.now ≡ c.in-Some.record.now ∷ c.in-Some.others.now =
+      search rules in
+      let name_is : n ≡ c.in-Some.record.now.owner = search rules in
+      step _ _ c.in-Some.record.now c.in-Some.others.now _ _ _ _ name_is
+      c.owner-owner.ensures.lower rest_is c.owners.invariant.whole
+      (record {
+        count = one_more _ c.in-Some.record.now _ _ name_is c.count_in_front.ensures.value
+            ∙ ap (prefix_len (is_at n)) (sym rest_is);
+        own_is = c.split_at.ensures.front;
+        others_are = c.split_at.ensures.back;
+      })
+
+  abbrev added : CheckedName
+  added = record {
+    key = c.key_at-next.result;
+    first = c.owners.first;
+    end = c.owners.first + length own;
+    cut = c.cut_of-cut.result;
+  }
+
+  both : length own + length others ≡ length c.owners.rest.now
+  both =
+      let front = c.split_at.ensures.front_len in
+      let back = c.split_at.ensures.back_len in
+      let bound = c.count_in_front.ensures.bound in
+      let rest_is : c.owners.rest.now ≡ c.in-Some.record.now ∷ c.in-Some.others.now =
+      search rules in
+      omega (arith, front, back, bound, ap length rest_is)
+
+  own_there : own_in c.args.records.now added ≡ own
+  own_there =
+      let size : (c.owners.first + length own) - c.owners.first ≡ length own = omega arith in
+      let count : length own ≡ 1 + c.count_in_front.result =
+      c.split_at.ensures.front_len in
+      ap₂ (λ k (rs : List ResourceRecord). take k rs) (size ∙ count) (sym c.owners.invariant.part)
+      ∙ sym c.split_at.ensures.front
+
+  name_there : name_of z added ≡ n
+  name_there = ap (first_owner c.args.origin.now) own_there ∙ stepped.first c.args.origin.now
+
+  key : c.key_at-next.result.now ≡ name_key n
+  key =
+      let rest_is : c.owners.rest.now ≡ c.in-Some.record.now ∷ c.in-Some.others.now =
+      search rules in
+      let name_is : c.in-Some.record.now.owner ≡ n = search rules in
+      let count = c.owners.invariant.count in
+      c.key_at-next.ensures.value
+      ∙ ap₂ (λ ks s. key_in ks s c.in-Some.record.now.owner) c.as_slice.ensures.value
+      c.index.ensures
+      ∙ first_keyed _ _ _ c.requires.keyed c.owners.first _ c.in-Some.record.now _
+      (omega (arith, count, ap length rest_is)) (sym c.owners.invariant.part ∙ rest_is)
+      ∙ ap name_key name_is
+
+  whole : map (name_of z) c.owners.names.items ++ n ∷ owners_once others
+      ≡ owners_once c.args.records.now
+  whole =
+      ap (λ (ns : List DomainName). map (name_of z) c.owners.names.items ++ ns)
+      (sym stepped.names) ∙ c.owners.invariant.all
+
+  names : map (name_of z) (c.owners.names.items ++ added ∷ [])
+      ≡ map (name_of z) c.owners.names.items ++ n ∷ []
+  names =
+      map_push (name_of z) c.owners.names.items added
+      ∙ ap (λ (m : DomainName). map (name_of z) c.owners.names.items ++ m ∷ []) name_there
+
+  topmost : IsTopmost z n c.cut_of-cut.result
+  topmost =
+      let last = c.owners.invariant.last in
+      c.cut_of-cut.ensures z _ n
+      (comes_next z c.requires.ordered _ _ n whole c.owner-owner.ensures.lower
+      _ _ _ _ own (subst (λ ns. LastName z (map (name_of z) c.owners.names.items) ns
+      c.owners.last.now c.owners.cut) stepped.names last)
+      c.requires.key c.requires.lower key stepped.is_owner)
+
+  checked : IsChecked z n added
+  checked =
+      let count = c.owners.invariant.count in
+      let size = both in
+      record {
+        owner = subst (IsOwner z n) (sym own_there) stepped.is_owner;
+        rising = omega arith;
+        within = omega (arith, count, size);
+        key = key;
+        topmost = topmost;
+      }
+
+pub owners-smaller : goal.owners-smaller
+owners-smaller c = (stepped c).fewer
+
+pub owners-preserved : goal.owners-preserved
+owners-preserved c =
+    let items = sym c.in_ok-push.ensures.items in
+    let count = c.owners.invariant.count in
+    let size = both c in
+    let old = c.owners.names.items in
+    record {
+      all = subst (λ ns. map (name_of (z c)) ns ++ owners_once (others c)
+          ≡ owners_once c.args.records.now) items
+          (all_added (z c) old (added c) (n c) (owners_once (others c)) (name_there c) ∙ whole c);
+      each = subst (Each (λ d. IsChecked (z c) (name_of (z c) d) d)) items
+          (each_added (z c) old (added c) (n c) c.owners.invariant.each (name_there c) (checked c));
+      whole = (stepped c).has_owners;
+      part = c.split_at.ensures.back ∙ ap (drop (1 + c.count_in_front.result)) c.owners.invariant.part
+          ∙ drop-drop (1 + c.count_in_front.result) c.owners.first c.args.records.now
+          ∙ ap (λ k. drop (c.owners.first + k) c.args.records.now)
+          (sym c.split_at.ensures.front_len);
+      count = omega (arith, count, size);
+      last = subst (λ ns. LastName (z c) (map (name_of (z c)) ns) (owners_once (others c))
+          c.key_at-next.result.now c.cut_of-cut.result) items
+          (subst (λ ms. LastName (z c) ms (owners_once (others c))
+          c.key_at-next.result.now c.cut_of-cut.result) (sym (names c))
+          (added_last (z c) c.requires.ordered (map (name_of (z c)) old) (owners_once (others c))
+          (n c) (whole c) c.owner-owner.ensures.lower _ _ (key c) (topmost c)));
+    }

@@ -1,0 +1,21 @@
+use Rattle.dns_spec.proofs.Common.{◌≡◌, ◌+◌, ◌++◌, length, map, drop, ZoneContents}
+use Rattle.dns_spec.proofs.Records.SortedOnce.{Each}
+use Rattle.dns_zone.specs.NamesForm.{name_of, IsChecked}
+use Rattle.dns_zone.specs.ReportedForm.{HasOwners, owners_once}
+use Rattle.dns_zone.proofs.GrowingNames.{LastName}
+use Rattle.dns_zone.proofs.checks.names.owners.Given as goal
+
+-- with the owners of the rest, those so far are all
+abbrev pub invariant-owners : goal.invariant-owners
+invariant-owners l =
+    let z : ZoneContents = record { origin = l.origin; records = l.records } in record {
+      all : map (name_of z) l.names.items ++ owners_once l.rest ≡ owners_once l.records;
+      each : Each (λ c. IsChecked z (name_of z c) c) l.names.items;
+      whole : HasOwners z l.rest;
+      part : l.rest ≡ drop l.first l.records;
+      count : l.first + length l.rest ≡ length l.records;
+      last : LastName z (map (name_of z) l.names.items) (owners_once l.rest) l.last l.cut;
+    }
+
+abbrev pub decreases-owners : goal.decreases-owners
+decreases-owners l = length l.rest

@@ -1,0 +1,18 @@
+use Rattle.dns_spec.proofs.Common.{◌≡◌, ◌||◌, length, list_any}
+use Rattle.dns_zone.specs.OwnerForm.{is_server_alias, is_server_lost, is_exchange_alias}
+use Rattle.dns_zone.proofs.checks.owner.Owner.target_faults.Given as goal
+
+-- what was found so far, or is found in the rest, is found in all
+abbrev pub invariant-targets : goal.invariant-targets
+invariant-targets l =
+    let z = l.self.zone in
+    let n = l.self.name in
+    ((l.has_alias || list_any (is_server_alias z) l.rest)
+    ≡ list_any (is_server_alias z) l.initial.rest)
+    × ((l.has_lost || list_any (is_server_lost z n) l.rest)
+    ≡ list_any (is_server_lost z n) l.initial.rest)
+    × ((l.has_exchange || list_any (is_exchange_alias z) l.rest)
+    ≡ list_any (is_exchange_alias z) l.initial.rest)
+
+abbrev pub decreases-targets : goal.decreases-targets
+decreases-targets l = length l.rest

@@ -1,0 +1,21 @@
+use Rattle.dns_spec.proofs.Common.{◌≡◌, List, [], ◌∷◌, None, refl, ap, ◌∙◌, DomainName, ResourceRecord, ZoneContents}
+use Rattle.std.specs.List.{slice_get}
+use Rattle.dns_name.proofs.WireLemmas.{IsWireForm-wire, labels_of_spelled}
+use Rattle.dns_zone.specs.NamesForm.{first_owner}
+use Rattle.dns_zone.proofs.checks.survey.Survey.name.Goals as goal
+
+pub new-requires : goal.new-requires
+new-requires c = IsWireForm-wire _ _ c.octets.ensures.value c.octets.ensures.is_name
+
+-- without a first record the name is the origin
+origin_first : (o : DomainName) (rs : List ResourceRecord) → None ≡ slice_get rs 0
+    → o ≡ first_owner o rs
+origin_first o [] e = refl
+origin_first o (r ∷ rs) e = cc
+
+pub returns-in-None : goal.returns-in-None
+returns-in-None c =
+    c.new.ensures.value ∙ labels_of_spelled _ _ c.octets.ensures.value c.octets.ensures.is_name
+    ∙ ap (λ (z : ZoneContents). z.origin) c.self.view_is
+    ∙ origin_first _ _ c.in-None.ensures.value
+    ∙ ap (first_owner c.args.self.now.origin) c.own.ensures

@@ -1,5 +1,0 @@
-use Rattle.std.proofs.Common.{◌-◌}
-use Rattle.dns_zone.proofs.guess.+put_shared.Given as goal
-
-abbrev pub decreases-put_shared : goal.decreases-put_shared
-decreases-put_shared l = l.high - l.low

@@ -1,8 +1,0 @@
-use Rattle.std.proofs.Common.{◌≡◌, length, map, take}
-use Rattle.dns_zone.specs.KeyForm.{raised}
-use Rattle.dns_zone.proofs.key.put_label.Given as goal
-
--- the octets of the label so far are put
-abbrev pub invariant-octets : goal.invariant-octets
-invariant-octets l =
-    (take l.place l.key ≡ map raised (take l.place l.label)) × (length l.key ≡ length l.initial.key)

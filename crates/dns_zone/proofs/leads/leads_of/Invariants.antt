@@ -1,9 +1,0 @@
-use Rattle.std.proofs.Common.{◌≡◌, length}
-use Rattle.dns_zone.specs.NodeForm.{AreLeads}
-use Rattle.dns_zone.proofs.leads.leads_of.Given as goal
-
-abbrev pub invariant-records : goal.invariant-records
-invariant-records l = record {
-  leads : AreLeads l.tree.zone l.tree.rows l.leads.items;
-  count : length l.leads.items ≡ l.record-index;
-}

@@ -1,0 +1,15 @@
+use Rattle.std.proofs.Common.{◌≤◌, ◌-◌, All, length}
+use Rattle.dns_zone.specs.declared.order.arranged.Run.{Run}
+use Rattle.dns_zone.proofs.order.arranged.runs.Given as goal
+
+abbrev pub invariant-runs : goal.invariant-runs
+invariant-runs l = All (λ (r : Run). r.end ≤ length l.records) l.runs.items
+
+abbrev pub decreases-runs : goal.decreases-runs
+decreases-runs l = length l.records - l.at
+
+abbrev pub invariant-alike : goal.invariant-alike
+invariant-alike l = All (λ (r : Run). r.end ≤ length l.records) l.runs.items
+
+abbrev pub decreases-alike : goal.decreases-alike
+decreases-alike l = length l.runs.items - l.first

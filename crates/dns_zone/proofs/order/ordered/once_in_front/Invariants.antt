@@ -1,0 +1,14 @@
+use Rattle.dns_spec.proofs.Common.{◌-◌, length, IsPermutation}
+use Rattle.dns_zone.specs.KeyedForm.{AreKeyed}
+use Rattle.dns_zone.proofs.RisenRecords.{IsOnce}
+use Rattle.dns_zone.proofs.order.ordered.once_in_front.Given as goal
+
+abbrev pub invariant-records : goal.invariant-records
+invariant-records l = record {
+  permutation : IsPermutation l.fn.records l.records;
+  keyed : AreKeyed l.keys l.records l.starts;
+  once : IsOnce l.fn.records l.records l.last l.at;
+}
+
+abbrev pub decreases-records : goal.decreases-records
+decreases-records l = length l.fn.records - l.at

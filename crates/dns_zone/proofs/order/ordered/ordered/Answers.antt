@@ -1,0 +1,99 @@
+use Rattle.dns_spec.proofs.Common.{rules, true, Bool, is_lt, ◌≡◌, ℕ, ◌++◌, List, All, length, take, drop, sym, subst, ap, ◌∙◌, arith, take-append_seam, OnTrue, IsPermutation, wire, ResourceRecord, records_equal, distinct, sort_by, record_order, IsReadRecord}
+use Rattle.std.proofs.lemmas.List.Sorted.{length_permutation, ranks_by, IsPermutation-trans}
+use Rattle.std.proofs.lemmas.Fn.{always_returns_same}
+use Rattle.dns_spec.proofs.Records.RecordOrder.{record_order_total, sort_risen, rises_canonical, all_canonical}
+use Rattle.dns_zone.specs.KeyedForm.{AreKeyed}
+use Rattle.dns_zone.specs.ZoneForm.{AreOrdered}
+use Rattle.dns_zone.proofs.KeyOrder.{some_octets}
+use Rattle.dns_zone.proofs.order.ordered.ordered.Goals as goal
+use Rattle.dns_zone.proofs.order.ordered.ordered.Goals.{Then-leave_out_duplicates, After-drop-keys-2}
+
+abbrev canonical : List ResourceRecord → List ResourceRecord
+canonical rs = sort_by record_order (distinct records_equal rs)
+
+-- the records once they are arranged, which is written to all of their list
+module _ (rs lent near : List ResourceRecord) (count : ℕ) (is : lent ≡ rs)
+    (moves : IsPermutation lent near) (long : length lent ≡ count) where
+  abbrev arranged : List ResourceRecord
+  arranged = take count (near ++ drop (length near) rs)
+
+  written : arranged ≡ near
+  written =
+      subst (λ n. take n (near ++ drop (length near) rs) ≡ near)
+      (length_permutation lent near moves ∙ long) (take-append_seam near (drop (length near) rs))
+
+  moved : IsPermutation rs arranged
+  moved =
+      subst (λ ys. IsPermutation rs ys) (sym written) (subst (λ ys. IsPermutation ys near) is moves)
+
+pub overflow_sub-octets : goal.overflow_sub-octets
+overflow_sub-octets c =
+    let long : length c.octets.result.now ≡ length (wire c.args.origin.now) =
+    ap length c.octets.ensures.value in
+    omega (arith, long, some_octets c.args.origin.now)
+
+module _ (rs xs : List ResourceRecord) (each : All IsReadRecord rs) (is : xs ≡ canonical rs) where
+  in_order : AreOrdered xs
+  in_order = subst AreOrdered (sym is) (sort_risen record_order (canonical rs) (rises_canonical rs))
+
+  all_read : All IsReadRecord xs
+  all_read = subst (All IsReadRecord) (sym is) (all_canonical IsReadRecord rs each)
+
+module _ (c : Then-leave_out_duplicates) where
+  each : All IsReadRecord c.args.records.items
+  each = subst (All IsReadRecord) c.as_slice.ensures.value c.know_each.ensures
+
+  once : c.leave_out_duplicates.new.records.items ≡ canonical c.args.records.items
+  once =
+      c.if-leave_out_duplicates.ensures.once c.args.records.items each
+      (moved c.args.records.items c.as_mut_slice.result.now c.arrange.new.records
+      c.args.records.len c.as_mut_slice.ensures.value c.arrange.ensures.permutation
+      c.as_mut_slice.ensures.len)
+
+pub returns-then-leave_out_duplicates-clause-in_order :
+    goal.returns-then-leave_out_duplicates-clause-in_order
+returns-then-leave_out_duplicates-clause-in_order c = in_order _ _ (each c) (once c)
+
+pub returns-then-leave_out_duplicates-clause-each :
+    goal.returns-then-leave_out_duplicates-clause-each
+returns-then-leave_out_duplicates-clause-each c = all_read _ _ (each c) (once c)
+
+passed : {P : Type 0} (b : Bool) → b ≡ true → OnTrue b P → P
+passed {P} b e h = subst (λ t. OnTrue t P) e h
+
+module _ (c : After-drop-keys-2) where
+  read : All IsReadRecord c.args.records.items
+  read = subst (All IsReadRecord) c.as_slice.ensures.value c.know_each.ensures
+
+  none_later : c.leave_out_duplicates-2.result ≡ true
+  none_later =
+      c.leave_out_duplicates-2.ensures.sorted
+      (c.sort_unstable_by.ensures.sorted (λ r s. is_lt (record_order r s))
+      (ranks_by record_order_total (λ r. r))
+      (always_returns_same _ _ _ (λ a r f' k. search rules)))
+
+  sorted : c.leave_out_duplicates-2.new.records.items ≡ canonical c.args.records.items
+  sorted =
+      passed _ none_later c.leave_out_duplicates-2.ensures.once c.args.records.items read
+      (IsPermutation-trans _ _ _ (IsPermutation-trans _ _ _
+      (moved c.args.records.items c.as_mut_slice.result.now c.arrange.new.records
+      c.args.records.len c.as_mut_slice.ensures.value c.arrange.ensures.permutation
+      c.as_mut_slice.ensures.len) c.if-leave_out_duplicates.ensures.moved)
+      c.sort_unstable_by.ensures.permutation)
+
+pub returns-clause-records : goal.returns-clause-records
+returns-clause-records c = sorted c
+
+pub returns-clause-in_order : goal.returns-clause-in_order
+returns-clause-in_order c = in_order _ _ (read c) (sorted c)
+
+pub returns-clause-each : goal.returns-clause-each
+returns-clause-each c = all_read _ _ (read c) (sorted c)
+
+pub returns-clause-keyed : goal.returns-clause-keyed
+returns-clause-keyed c =
+    subst
+    (λ ks. AreKeyed ks c.leave_out_duplicates-2.new.records.items
+    c.leave_out_duplicates-2.new.starts.items)
+    c.as_slice-6.ensures.value
+    (passed _ (none_later c) c.leave_out_duplicates-2.ensures.keyed)

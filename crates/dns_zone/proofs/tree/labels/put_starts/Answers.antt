@@ -1,0 +1,35 @@
+use Rattle.std.proofs.Common.{◌<◌, ◌∙◌, refl, length, length-set, arith}
+use Rattle.dns_name.specs.WireForm.{labels_of}
+use Rattle.dns_zone.proofs.LabelStarts.{begins-first, begins-next, next-fits, starts-more}
+use Rattle.dns_zone.proofs.tree.labels.put_starts.Goals as goal
+
+pub labels-init : goal.labels-init
+labels-init c = record {
+  here = begins-first c.args.octets.now c.requires.form;
+  known = λ k none. absurd (omega (arith, none));
+  room = refl;
+}
+
+pub overflow_add-start : goal.overflow_add-start
+overflow_add-start c =
+    let fits = next-fits c.args.octets.now c.labels.k c.labels.start c.requires.form
+    c.labels.invariant.here (omega (arith, c.labels-test.true, c.requires.labels)) in
+    omega (arith, fits)
+
+pub overflow_add-start-in-labels : goal.overflow_add-start-in-labels
+overflow_add-start-in-labels c =
+    let fits = next-fits c.args.octets.now c.labels.k c.labels.start c.requires.form
+    c.labels.invariant.here (omega (arith, c.labels-test.true, c.requires.labels)) in
+    omega (arith, fits)
+
+pub labels-preserved : goal.labels-preserved
+labels-preserved c =
+    let inv = c.labels.invariant in
+    let more : c.labels.k < length (labels_of c.args.octets.now) =
+    omega (arith, c.labels-test.true, c.requires.labels) in
+    record {
+      here = begins-next c.args.octets.now c.labels.k c.labels.start inv.here more;
+      known = starts-more c.args.octets.now c.labels.k c.labels.start c.labels.starts
+          (omega (arith, c.labels-test.true, c.requires.room, inv.room)) inv.known inv.here;
+      room = length-set c.labels.starts c.labels.k c.labels.start ∙ inv.room;
+    }

@@ -1,0 +1,11 @@
+use Rattle.std.proofs.Common.{◌≡◌, length}
+use Rattle.dns_zone.specs.Starts.{BeginsAt, AreStarts}
+use Rattle.dns_zone.proofs.tree.labels.put_starts.Given as goal
+
+-- the next label, or the root, begins here, and the places of those before are put
+abbrev pub invariant-labels : goal.invariant-labels
+invariant-labels l = record {
+  here : BeginsAt l.octets l.k l.start;
+  known : AreStarts l.octets l.k l.starts;
+  room : length l.starts ≡ length l.fn.starts;
+}

@@ -1,0 +1,10 @@
+use Rattle.dns_spec.proofs.Common.{refl, ap, ◌∙◌, arith, to_ascii_lowercase}
+use Rattle.dns_zone.specs.declared.tree.lower_case.TheConstants.{LOWER_CASE}
+use Rattle.dns_zone.proofs.LowerCase.{agree_below, from_table}
+use Rattle.dns_zone.proofs.tree.lower_case.lower_case.Goals as goal
+
+pub returns : goal.returns
+unfolding agree_below
+returns c =
+    from_table LOWER_CASE to_ascii_lowercase c.from.result (omega (arith, c.from.ensures)) refl
+    ∙ ap to_ascii_lowercase c.from.ensures

@@ -1,0 +1,89 @@
+use Rattle.dns_spec.proofs.Common.{◌≡◌, ◌+◌, ◌-◌, ℕ, map, ap, sym, ◌∙◌, subst, refl, arith, to_ascii_lowercase}
+use Rattle.dns_zone.specs.Nodes.{Walk}
+use Rattle.dns_zone.proofs.NameTree.{label-tie}
+use Rattle.dns_zone.proofs.FoundKid.{Searching, start, half_room, left, one_more, go_left, go_right, none_left}
+use Rattle.dns_zone.proofs.tree.search.find.Goals as goal
+
+pub halves-init : goal.halves-init
+halves-init c = (
+  0,
+  record {
+    searching =
+        start c.args.records.now c.args.kids.now (map to_ascii_lowercase c.args.label.now)
+        c.requires.few;
+    bound = omega arith;
+    counted = omega arith;
+    visits = refl;
+    zone = refl;
+  },
+)
+
+pub halves-preserved-in-Less : goal.halves-preserved-in-Less
+halves-preserved-in-Less c =
+    let rs = c.args.records.now in
+    let kids = c.args.kids.now in
+    let label = map to_ascii_lowercase c.args.label.now in
+    let low = c.halves.low in
+    let high = c.halves.high in
+    let count = c.halves.invariant.0 in
+    let s = c.halves.invariant.1.searching in
+    let less = c.halves-test.true in
+    let half = half_room (high - low) count (left rs kids label low high count s) in
+    let counted = ap (λ (w : Walk). w.comparisons) c.order.ensures.counted in (
+      count + 1,
+      record {
+        searching =
+            go_right rs kids label c.requires.rising low high count s _
+            (sym c.order.ensures.order ∙ c.in-Less.is) (omega arith) (omega arith);
+        bound = one_more rs kids label low high count s c.halves.invariant.1.bound less;
+        counted = omega arith;
+        visits = ap (λ (w : Walk). w.visits) c.order.ensures.counted ∙ c.halves.invariant.1.visits;
+        zone = ap (λ (w : Walk). w.zone) c.order.ensures.counted ∙ c.halves.invariant.1.zone;
+      },
+    )
+
+pub halves-preserved : goal.halves-preserved
+halves-preserved c =
+    let rs = c.args.records.now in
+    let kids = c.args.kids.now in
+    let label = map to_ascii_lowercase c.args.label.now in
+    let low = c.halves.low in
+    let high = c.halves.high in
+    let count = c.halves.invariant.0 in
+    let s = c.halves.invariant.1.searching in
+    let less = c.halves-test.true in
+    let half = half_room (high - low) count (left rs kids label low high count s) in
+    let counted = ap (λ (w : Walk). w.comparisons) c.order.ensures.counted in (
+      count + 1,
+      record {
+        searching =
+            go_left rs kids label c.requires.rising low high count s _
+            (sym c.order.ensures.order ∙ c.in-Greater.is) (omega arith) (omega arith) (omega arith);
+        bound = one_more rs kids label low high count s c.halves.invariant.1.bound less;
+        counted = omega arith;
+        visits = ap (λ (w : Walk). w.visits) c.order.ensures.counted ∙ c.halves.invariant.1.visits;
+        zone = ap (λ (w : Walk). w.zone) c.order.ensures.counted ∙ c.halves.invariant.1.zone;
+      },
+    )
+
+pub returns-in-Equal-clause-found : goal.returns-in-Equal-clause-found
+returns-in-Equal-clause-found c =
+    let s = c.halves.invariant.1.searching in
+    let less = c.halves-test.true in
+    let inside = s.inside in (
+      omega arith,
+      label-tie _ (map to_ascii_lowercase c.args.label.now)
+          (sym c.order.ensures.order ∙ c.in-Equal.is),
+    )
+
+pub returns-clause-none : goal.returns-clause-none
+returns-clause-none c h =
+    let rs = c.args.records.now in
+    let kids = c.args.kids.now in
+    let label = map to_ascii_lowercase c.args.label.now in
+    let s = c.halves.invariant.1.searching in
+    let order = s.order in
+    let past = c.halves-test.false in
+    let level : c.halves.high ≡ c.halves.low = omega arith in
+    none_left rs kids label c.requires.rising c.halves.low c.halves.invariant.0
+    (subst (λ (high : ℕ). Searching rs kids label c.halves.low high c.halves.invariant.0) level s)

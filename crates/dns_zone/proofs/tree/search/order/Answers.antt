@@ -1,0 +1,55 @@
+use Rattle.dns_spec.proofs.Common.{List, ◌≤◌, ◌⊎◌, inl, inr, map, length, drop, subst, sym, ap, ap₂, ◌∙◌, nat_cmp, arith, to_ascii_lowercase, label_order, ResourceRecord}
+use Rattle.std.proofs.lemmas.List.{length-map, drop-map}
+use Rattle.dns_zone.specs.LabelKey.{IsKey}
+use Rattle.dns_zone.specs.TreeForm.{row_label, row_name, IsRow}
+use Rattle.dns_zone.specs.declared.tree.row.Row.{Row}
+use Rattle.dns_zone.proofs.LabelKeys.{first_lower, key_order, by_length, after_key}
+use Rattle.dns_zone.proofs.tree.search.order.Goals as goal
+use Rattle.dns_zone.proofs.tree.search.order.Goals.{then-count-le-KEY_OCTETS-via-then-count-le-KEY_OCTETS, then-count-le-KEY_OCTETS-via-else-count-le-KEY_OCTETS+then-label-le-KEY_OCTETS}
+
+row_key : (rs : List ResourceRecord) (row : Row) → IsRow rs row (row_name rs row)
+    → IsKey row.key (row_label rs row)
+row_key rs row h = subst (IsKey row.key) (first_lower (row_name rs row) h.lower) h.key
+
+pub returns-then-row-key-clause-order : goal.returns-then-row-key-clause-order
+returns-then-row-key-clause-order c =
+    c.cmp.ensures
+    ∙ key_order (row_key c.args.records.now c.args.row.now c.requires.row) c.requires.key
+    c.if-row-key.true
+
+pub returns-then-count-le-KEY_OCTETS-clause-order : goal.returns-then-count-le-KEY_OCTETS-clause-order
+returns-then-count-le-KEY_OCTETS-clause-order c =
+    let row = c.args.row.now in
+    let own = row_label c.args.records.now row in
+    let label = map to_ascii_lowercase c.args.label.now in
+    let count = length-map c.args.label.now to_ascii_lowercase in
+    let own_key : IsKey c.args.key own =
+    subst (λ k. IsKey k own) c.if-row-key.false (row_key c.args.records.now row c.requires.row) in
+    let own_count = c.requires.row.label_octets in
+    let short : (length own ≤ 8) ⊎ (length label ≤ 8) =
+    elim c.then-count-le-KEY_OCTETS.branch [
+      | then-count-le-KEY_OCTETS-via-then-count-le-KEY_OCTETS w ↦
+          inl (let h = w.if-count-le-KEY_OCTETS.true in omega arith)
+      | then-count-le-KEY_OCTETS-via-else-count-le-KEY_OCTETS+then-label-le-KEY_OCTETS w ↦
+          inr (let h = w.if-label-le-KEY_OCTETS.true in omega arith)
+    ] in
+    c.cmp-then-count-le-KEY_OCTETS.ensures
+    ∙ ap₂ nat_cmp (c.from-count.ensures ∙ own_count) (sym count)
+    ∙ by_length own_key c.requires.key short
+
+pub returns-clause-order : goal.returns-clause-order
+returns-clause-order c =
+    let row = c.args.row.now in
+    let own = row_label c.args.records.now row in
+    let label = map to_ascii_lowercase c.args.label.now in
+    let count = length-map c.args.label.now to_ascii_lowercase in
+    let own_key : IsKey c.args.key own =
+    subst (λ k. IsKey k own) c.if-row-key.false (row_key c.args.records.now row c.requires.row) in
+    let own_count = c.requires.row.label_octets in
+    let long = c.if-count-le-KEY_OCTETS.false in
+    let asked = c.if-label-le-KEY_OCTETS.false in
+    c.order_to.ensures
+    ∙ ap₂ label_order (c.split_at.ensures.back ∙ ap (drop 8) c.label_of-own.ensures)
+    (ap (map to_ascii_lowercase) c.split_at-2.ensures.back
+    ∙ sym (drop-map to_ascii_lowercase 8 c.args.label.now))
+    ∙ after_key own_key c.requires.key (omega arith) (omega arith)

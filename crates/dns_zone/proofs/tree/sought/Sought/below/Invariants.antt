@@ -1,0 +1,14 @@
+use Rattle.dns_spec.proofs.Common.{◌≡◌, ◌+◌, length, at_or_below}
+use Rattle.dns_name.specs.WireForm.{labels_of, IsWireForm}
+use Rattle.dns_zone.proofs.tree.sought.Sought.below.Given as goal
+
+-- the suffix is at or below the ancestor as the name is, and has so many labels less
+abbrev pub invariant-labels : goal.invariant-labels
+invariant-labels l = record {
+  form : IsWireForm l.suffix;
+  below : at_or_below (labels_of l.suffix) l.ancestor ≡ at_or_below l.name l.ancestor;
+  deep : length l.name ≡ length (labels_of l.suffix) + l.depth;
+}
+
+abbrev pub decreases-labels : goal.decreases-labels
+decreases-labels l = length l.suffix

@@ -1,0 +1,109 @@
+//! The faults of a zone, by the order of owners, then by code.
+
+pub(crate) mod above;
+pub(crate) mod guess;
+pub(crate) mod names;
+pub(crate) mod owner;
+pub(crate) mod sets;
+pub(crate) mod survey;
+pub(crate) mod target;
+
+ghost use Rattle.std.specs.Prelude.{◌≡◌, ◌≤◌, ◌++◌, ◌∷◌, [], length, IfOk, OnOk};
+ghost use Rattle.dns_spec.specs.Names.{folded};
+ghost use Rattle.dns_spec.specs.Checks.{faults};
+ghost use Rattle.dns_spec.specs.Meaning.{most_records};
+ghost use Rattle.dns_zone.specs.ZoneForm.{AreOrdered};
+ghost use Rattle.dns_zone.specs.KeyForm.{name_key};
+ghost use Rattle.dns_zone.specs.KeyedForm.{key_in, AreKeyed};
+ghost use Rattle.dns_zone.specs.NamesForm.{IsChecked, name_of};
+ghost use Rattle.dns_zone.specs.ReportedForm.{failed_from, reported_at};
+
+use crate::checks::guess::shared_octets;
+use crate::checks::names::{CheckedName, checked_names};
+use crate::checks::owner::Owner;
+use crate::checks::survey::Survey;
+use crate::checks::target::LastTarget;
+use crate::fault::CheckFault;
+use crate::order::keyed::Keyed;
+use crate::store::entry::Entry;
+use dns_name::NameRef;
+use std::alloc::{AllocError, Global};
+
+/// The faults of the zone of these records, by the order of owners, then by code. They are reported
+/// of all owners, and of the origin where it owns nothing too.
+///
+/// An error only where memory for the list of faults, for keys or for names was not found.
+pub(crate) fn faults(
+    alloc: Global,
+    origin: &NameRef<'_>,
+    records: &[Entry],
+    keyed: &Keyed,
+) -> Result<Vec<CheckFault>, AllocError>
+    requires ordered { AreOrdered records.now }
+    requires few { length records.now ≤ most_records }
+    requires lower { folded origin.now ≡ origin.now }
+    requires origin { key_in keyed.now.keys.items 0 origin.now ≡ name_key origin.now }
+    requires keyed { AreKeyed keyed.now.keys.items records.now keyed.now.starts.items }
+    ensures { IfOk result (λ found. found.items ≡ faults
+        (record { origin = origin.now; records = records.now })) }
+{
+    let (key, _) = keyed.keys.as_slice().split_at(origin.octets().len() - 1);
+    let names = checked_names(alloc, origin, key, records, keyed)?;
+    let shared = shared_octets(alloc, names.as_slice(), keyed.keys.len())?;
+    let survey = Survey::new(origin, key, records, names.as_slice());
+    let mut found = Vec::new(alloc);
+    let mut last = LastTarget::new(shared.as_slice());
+    'names: for one in names.as_slice() {
+        last.pass_name();
+        report(&survey, one, &mut last, &mut found)?;
+    }
+    Ok(found)
+}
+
+// Adds the faults of a name that is checked.
+fn report<'a>(
+    survey: &'a Survey<'a>,
+    one: &'a CheckedName<'a>,
+    last: &mut LastTarget<'_>,
+    found: &mut Vec<CheckFault>,
+) -> Result<(), AllocError>
+    requires { IsChecked survey.now (name_of survey.now one.now) one.now }
+    ensures { OnOk result (found.new.items ≡ found.old.items
+        ++ reported_at survey.now (name_of survey.now one.now)) }
+{
+    let name = survey.name(one);
+    let failed = Owner::new(survey, &name, one).judged(last);
+    add_failed(&name, &failed, found)
+}
+
+// Adds the faults of a name that fails these of the checks from the first on.
+fn add_failed(
+    name: &NameRef<'_>,
+    failed: &[bool],
+    found: &mut Vec<CheckFault>,
+) -> Result<(), AllocError>
+    requires { length failed.now ≤ 254 }
+    ensures { OnOk result (found.new.items ≡ found.old.items ++ failed_from name.now 1 failed.now) }
+{
+    let mut rest = failed;
+    let mut code = 1;
+    'checks: while let Some((fails, others)) = rest.split_first() {
+        if *fails {
+            add(name, code, found)?;
+        }
+        rest = others;
+        code += 1;
+    }
+    Ok(())
+}
+
+fn add(name: &NameRef<'_>, code: u8, found: &mut Vec<CheckFault>) -> Result<(), AllocError>
+    ensures { OnOk result (found.new.items ≡ found.old.items
+        ++ record { owner = name.now; code = code } ∷ []) }
+{
+    found.push(CheckFault {
+        owner: name.to_name(),
+        code,
+    })?;
+    Ok(())
+}

@@ -1,0 +1,127 @@
+//! Where a key probably stands among those of names in order.
+//!
+//! Deep names may share most of their octets, and a binary search by whole keys compares these at
+//! each step. This one compares each of them about once (Manber and Myers, "Suffix arrays", 1993).
+//! Nothing here says that it is right: who needs the place looks.
+ghost use Rattle.std.specs.Prelude.{◌≡◌, ◌<◌, ◌≤◌, length};
+
+use crate::checks::names::CheckedName;
+use std::alloc::{AllocError, Global};
+
+// Where names have no more octets on the average, a search by whole keys costs less than a list.
+const FEW_OCTETS: usize = 48;
+
+/// For each name, how many octets its key shares with those of the two names that a binary search
+/// has found it to be between when it comes to it. Nothing where the keys, which have so many
+/// octets together, are short.
+pub(crate) fn shared_octets(
+    alloc: Global,
+    names: &[CheckedName<'_>],
+    octets: usize,
+) -> Result<Vec<[u8; 2]>, AllocError> {
+    let mut shared = Vec::new(alloc);
+    if octets / FEW_OCTETS > names.len() {
+        shared.resize(names.len(), [0, 0])?;
+        put_shared(names, 0, names.len(), 0, shared.as_mut_slice());
+    }
+    Ok(shared)
+}
+
+// Puts those of names from one place up to another, which share so many octets with each other and
+// with those before and after them.
+fn put_shared(names: &[CheckedName<'_>], low: usize, high: usize, known: u8, shared: &mut [[u8; 2]])
+    requires order { low ≤ high }
+    requires within { high ≤ length names.now }
+    requires count { length shared.old ≡ length names.now }
+    ensures { length shared.new ≡ length shared.old }
+{
+    if low == high {
+        return;
+    }
+    let middle = low + (high - low) / 2;
+    let before = shared_of(names, low.wrapping_sub(1), middle, known);
+    let after = shared_of(names, high, middle, known);
+    shared[middle] = [before, after];
+    put_shared(names, low, middle, before, shared);
+    put_shared(names, middle + 1, high, after, shared);
+}
+
+// How many octets the keys of names at two places share, of which so many are known.
+fn shared_of(names: &[CheckedName<'_>], one: usize, other: usize, known: u8) -> u8 {
+    match (names.get(one), names.get(other)) {
+        (Some(one), Some(other)) => {
+            let (rest, _) = rests(one.key, other.key, known as usize);
+            (one.key.len() - rest.len()).min(255) as u8
+        }
+        _ => 0,
+    }
+}
+
+/// The place of the last name that is probably not after the one whose key this is. None without a
+/// list of what names share.
+pub(crate) fn probable_place(
+    names: &[CheckedName<'_>],
+    shared: &[[u8; 2]],
+    key: &[u8],
+) -> Option<usize> {
+    let (mut low, mut high) = (0, shared.len().min(names.len()));
+    // How many octets the key shares with the names before and after those that are left.
+    let (mut before, mut after) = (0, 0);
+    'halves: while low < high {
+        let middle = low + (high - low) / 2;
+        let [with_before, with_after] = shared[middle];
+        let is_nearer_after = before < after;
+        let (own, known) = if is_nearer_after {
+            (usize::from(with_after), after)
+        } else {
+            (usize::from(with_before), before)
+        };
+        let (is_upto, count) = if own == known {
+            let (rest, others) = rests(names[middle].key, key, known);
+            (rest.first() <= others.first(), key.len() - others.len())
+        } else {
+            ((own > known) != is_nearer_after, own.min(known))
+        };
+        if is_upto {
+            low = middle + 1;
+            before = count;
+        } else {
+            high = middle;
+            after = count;
+        }
+    }
+    low.checked_sub(1)
+}
+
+// What follows the octets that both begin with, of which so many are known.
+fn rests<'a>(one: &'a [u8], other: &'a [u8], known: usize) -> (&'a [u8], &'a [u8])
+    ensures one { length result.0.now ≤ length one.now }
+    ensures other { length result.1.now ≤ length other.now }
+{
+    let (_, one) = one.split_at(known.min(one.len()));
+    let (_, other) = other.split_at(known.min(other.len()));
+    let (one, other) = after_alike::<64>(one, other);
+    let (one, other) = after_alike::<8>(one, other);
+    after_alike::<1>(one, other)
+}
+
+// What follows the runs of so many octets that both begin with.
+fn after_alike<'a, const N: usize>(one: &'a [u8], other: &'a [u8]) -> (&'a [u8], &'a [u8])
+    requires some { 0 < N }
+    requires few { N ≤ 64 }
+    ensures one { length result.0.now ≤ length one.now }
+    ensures other { length result.1.now ≤ length other.now }
+{
+    let (mut one, mut other) = (one, other);
+    'runs: while let Some((front, rest)) = one.split_first_chunk::<N>() {
+        let Some((begin, others)) = other.split_first_chunk::<N>() else {
+            break;
+        };
+        if front != begin {
+            break;
+        }
+        one = rest;
+        other = others;
+    }
+    (one, other)
+}

@@ -1,0 +1,211 @@
+//! The names of a zone that are checked: its origin and all owners, each once, in canonical order.
+ghost use Rattle.std.specs.Prelude.{◌≡◌, ◌≤◌, ◌&&◌, nat_lt, length, IfOk, OnOk};
+ghost use Rattle.std.specs.Bool.{OnTrue};
+ghost use Rattle.std.specs.List.Sorted.{IsNonDecreasingBy, IsPartitionedBy};
+ghost use Rattle.dns_spec.specs.Names.{DomainName, folded};
+ghost use Rattle.dns_spec.specs.Tree.{is_cut};
+ghost use Rattle.dns_spec.specs.Meaning.{most_records};
+ghost use Rattle.dns_spec.specs.Records.{ResourceRecord, ZoneContents, at};
+ghost use Rattle.dns_zone.specs.ZoneForm.{AreOrdered, IsFront};
+ghost use Rattle.dns_zone.specs.KeyForm.{name_key};
+ghost use Rattle.dns_zone.specs.KeyedForm.{AreKeyed};
+ghost use Rattle.dns_zone.specs.NamesForm.{own_in, is_covered, is_upto, IsLastAt, AreChecked, AreOwners, ComesNext, IsTopmost};
+
+use crate::order::key::is_below;
+use crate::order::keyed::{Keyed, key_at};
+use crate::store::entry::Entry;
+use crate::tree::lookup::{count_in_front, has_type};
+use dns_name::NameRef;
+use dns_rdata::RType;
+use std::alloc::{AllocError, Global};
+
+/// A name that is checked.
+#[derive(Drop)]
+pub(crate) struct CheckedName<'a> {
+    /// Its key.
+    pub(crate) key: &'a [u8],
+    /// The first of its records.
+    pub(crate) first: u32,
+    /// The record after its own. The origin may have none.
+    pub(crate) end: u32,
+    /// How many octets the key has of the topmost cut that the name is at or below; 0 where it is
+    /// at or below none.
+    pub(crate) cut: usize,
+}
+
+impl<'a> CheckedName<'a> {
+    /// Its records, by their types.
+    pub(crate) fn own<'b>(&self, records: &'b [Entry]) -> &'b [Entry]
+        requires rising { self.now.first ≤ self.now.end }
+        requires within { self.now.end ≤ length records.now }
+        ensures { result.now ≡ own_in records.now self.now }
+    {
+        &records[self.first as usize..self.end as usize]
+    }
+
+    /// Whether it is below the topmost cut that it is at or below.
+    pub(crate) fn is_below_cut(&self) -> bool
+        ensures { result ≡ (nat_lt 0 self.now.cut
+            && nat_lt self.now.cut (length self.now.key.now)) }
+    {
+        0 < self.cut && self.cut < self.key.len()
+    }
+}
+
+/// The names that are checked of the zone of records in canonical order, with the key of the origin
+/// and those of the owners.
+pub(crate) fn checked_names<'a>(
+    alloc: Global,
+    origin: &NameRef<'_>,
+    key: &'a [u8],
+    records: &[Entry],
+    keyed: &'a Keyed,
+) -> Result<Vec<CheckedName<'a>>, AllocError>
+    requires lower { folded origin.now ≡ origin.now }
+    requires key { key.now ≡ name_key origin.now }
+    requires ordered { AreOrdered records.now }
+    requires few { length records.now ≤ most_records }
+    requires keyed { AreKeyed keyed.now.keys.items records.now keyed.now.starts.items }
+    ensures { IfOk result (λ names. AreChecked
+        (record { origin = origin.now; records = records.now }) names.items) }
+{
+    let mut names = owners(alloc, origin, key, records, keyed)?;
+    add_origin(origin, key, records, &mut names)?;
+    Ok(names)
+}
+
+// The owners among them.
+fn owners<'a>(
+    alloc: Global,
+    origin: &NameRef<'_>,
+    key: &[u8],
+    records: &[Entry],
+    keyed: &'a Keyed,
+) -> Result<Vec<CheckedName<'a>>, AllocError>
+    requires lower { folded origin.now ≡ origin.now }
+    requires key { key.now ≡ name_key origin.now }
+    requires ordered { AreOrdered records.now }
+    requires few { length records.now ≤ most_records }
+    requires keyed { AreKeyed keyed.now.keys.items records.now keyed.now.starts.items }
+    ensures { IfOk result (λ names. AreOwners
+        (record { origin = origin.now; records = records.now }) names.items) }
+{
+    let mut names = Vec::with_capacity(alloc, records.len())?;
+    let mut first = 0;
+    let mut rest = records;
+    let mut last: &[u8] = &[];
+    let mut cut = 0;
+    'owners: while let Some((record, others)) = rest.split_first() {
+        let owner = record.owner();
+        let (own, others) = rest.split_at(1 + count_in_front(others, &owner));
+        let next = key_at(keyed.keys.as_slice(), keyed.starts[first], record);
+        let end = first + own.len();
+        cut = cut_of(key, last, cut, next, own);
+        names.push(CheckedName {
+            key: next,
+            first: first as u32,
+            end: end as u32,
+            cut,
+        })?;
+        first = end;
+        rest = others;
+        last = next;
+    }
+    Ok(names)
+}
+
+// How many octets the key has of the topmost cut that an owner is at or below, where that of the
+// name before it has so many.
+fn cut_of(origin: &[u8], last: &[u8], cut: usize, key: &[u8], own: &[Entry]) -> usize
+    requires fits { cut ≤ length last.now }
+    requires by_types { IsNonDecreasingBy (λ (r : ResourceRecord). r.rtype) own.now }
+    ensures { (z : ZoneContents) (o n : DomainName)
+        → ComesNext z o n cut origin.now last.now key.now own.now → IsTopmost z n result }
+{
+    if is_covered(cut, last, key) {
+        cut
+    } else if is_cut(origin, key, own) {
+        key.len()
+    } else {
+        0
+    }
+}
+
+// Whether a name, with its key and its records, is a cut (RFC 1034 4.2).
+fn is_cut(origin: &[u8], key: &[u8], own: &[Entry]) -> bool
+    requires { IsNonDecreasingBy (λ (r : ResourceRecord). r.rtype) own.now }
+    ensures { (z : ZoneContents) (n : DomainName) → folded z.origin ≡ z.origin → folded n ≡ n
+        → origin.now ≡ name_key z.origin → key.now ≡ name_key n → own.now ≡ at z n
+        → result ≡ is_cut z n }
+{
+    is_below(key, origin) && has_type(own, RType::NS)
+}
+
+/// Whether a key begins with so many octets of another, one at least.
+pub(crate) fn is_covered(cut: usize, last: &[u8], key: &[u8]) -> bool
+    requires { cut ≤ length last.now }
+    ensures { result ≡ is_covered cut last.now key.now }
+{
+    cut > 0 && key.starts_with(&last[..cut])
+}
+
+/// How many of the names are not after the one whose key this is. Whether one at a place that is
+/// `probable` is the last of them is looked at first.
+pub(crate) fn count_upto(names: &[CheckedName<'_>], probable: Option<usize>, key: &[u8]) -> usize
+    requires { IsPartitionedBy (is_upto key.now) names.now }
+    ensures { IsFront (is_upto key.now) names.now result }
+{
+    if let Some(place) = probable
+        && is_last_upto(names, place, key)
+    {
+        return place + 1;
+    }
+    names.partition_point(|one| is_upto(one, key))
+}
+
+fn is_last_upto(names: &[CheckedName<'_>], near: usize, key: &[u8]) -> bool
+    ensures { OnTrue result (IsLastAt (is_upto key.now) names.now near) }
+{
+    let (_, rest) = names.split_at(near.min(names.len()));
+    let Some((one, after)) = rest.split_first() else {
+        return false;
+    };
+    is_upto(one, key) && !after.first().is_some_and(|next| is_upto(next, key))
+}
+
+fn is_upto(one: &CheckedName<'_>, key: &[u8]) -> bool
+    ensures { result ≡ is_upto key.now one.now }
+{
+    !one.key.cmp(key).is_gt()
+}
+
+// Adds the origin, where it owns nothing.
+fn add_origin<'a>(
+    origin: &NameRef<'_>,
+    key: &'a [u8],
+    records: &[Entry],
+    names: &mut Vec<CheckedName<'a>>,
+) -> Result<(), AllocError>
+    requires lower { folded origin.now ≡ origin.now }
+    requires key { key.now ≡ name_key origin.now }
+    requires ordered { AreOrdered records.now }
+    requires owners { AreOwners (record { origin = origin.now; records = records.now })
+        names.old.items }
+    ensures { OnOk result (AreChecked (record { origin = origin.now; records = records.now })
+        names.new.items) }
+{
+    let place = count_upto(names.as_slice(), None, key);
+    if place > 0 && names[place - 1].key == key {
+        return Ok(());
+    }
+    names.insert(
+        place,
+        CheckedName {
+            key,
+            first: 0,
+            end: 0,
+            cut: 0,
+        },
+    )?;
+    Ok(())
+}

@@ -1,0 +1,283 @@
+//! The fifteen checks of a name of a zone.
+ghost use Rattle.std.specs.Prelude.{◌≡◌, ◌==◌, ◌&&◌, ◌||◌, not, map};
+ghost use Rattle.dns_spec.specs.Records.{owns};
+ghost use Rattle.dns_spec.specs.Tree.{is_cut};
+ghost use Rattle.dns_spec.specs.Checks.{is_origin, count, owns_such, is_address_type, below_cut, checks, no_soa, many_soa, soa_elsewhere, no_ns, outside, cname_and_other, many_cname, ttls_differ, ns_target_alias, ns_target_lost, mx_target_alias, data_at_cut, wildcard_ns, large_set, many_sets};
+ghost use Rattle.dns_spec.specs.Data.{type_ns, type_cname};
+ghost use Rattle.dns_zone.specs.OwnerForm.{is_server_alias, is_server_lost, is_exchange_alias};
+ghost use Rattle.dns_zone.specs.NamesForm.{IsChecked};
+
+use crate::checks::names::CheckedName;
+use crate::checks::sets::{have_large_set, have_many_sets, have_other_ttls};
+use crate::checks::survey::Survey;
+use crate::checks::target::LastTarget;
+use crate::order::key::{is_below, is_under};
+use crate::store::entry::Entry;
+use crate::tree::lookup::has_type;
+use dns_name::NameRef;
+use dns_rdata::RType;
+use std::marker::Model;
+
+/// A name of a zone, with its records.
+#[derive(Drop)]
+pub(crate) struct Owner<'a> {
+    survey: &'a Survey<'a>,
+    name: &'a NameRef<'a>,
+    key: &'a [u8],
+    own: &'a [Entry],
+    is_below_cut: bool,
+    // Whether the name is the zone's origin.
+    stands_first: bool,
+}
+
+impl<'a> Model for Owner<'a> {
+    ghost use Rattle.std.specs.Prelude.{◌≡◌};
+    ghost use Rattle.dns_spec.specs.Checks.{is_origin, below_cut};
+    ghost use Rattle.dns_zone.specs.KeyForm.{name_key};
+    ghost use Rattle.dns_zone.specs.OwnerForm.{NameOfZone, IsOwner};
+
+    ghost Value = { NameOfZone };
+
+    ghost view = { λ o. record { zone = o.survey.now; name = o.name.now } };
+
+    ghost invariant = { λ o. IsOwner o.survey.now o.name.now o.own.now
+        × (o.key.now ≡ name_key o.name.now)
+        × (o.is_below_cut ≡ below_cut o.survey.now o.name.now)
+        × (o.stands_first ≡ is_origin o.survey.now o.name.now) };
+}
+
+impl<'a> Owner<'a> {
+    /// A name of a zone.
+    pub(crate) fn new(
+        survey: &'a Survey<'a>,
+        name: &'a NameRef<'a>,
+        one: &CheckedName<'a>,
+    ) -> Owner<'a>
+        requires { IsChecked survey.now name.now one.now }
+        ensures { result ≡ record { zone = survey.now; name = name.now } }
+    {
+        Owner {
+            survey,
+            name,
+            key: one.key,
+            own: survey.own(one),
+            is_below_cut: one.is_below_cut(),
+            stands_first: one.key == survey.key(),
+        }
+    }
+
+    /// Which checks the name fails, by their codes.
+    pub(crate) fn judged(&self, last: &mut LastTarget<'_>) -> [bool; 15]
+        ensures { result ≡ map (λ c. c.1 self.now.zone self.now.name) checks }
+    {
+        let (is_alias, is_lost, is_exchange_alias) = self.target_faults(last);
+        [
+            self.has_no_soa(),
+            self.has_many_soa(),
+            self.has_soa_elsewhere(),
+            self.has_no_ns(),
+            self.is_outside(),
+            self.has_cname_and_other(),
+            self.has_many_cname(),
+            self.has_other_ttls(),
+            is_alias,
+            is_lost,
+            is_exchange_alias,
+            self.has_data_at_cut(),
+            self.has_wildcard_ns(),
+            self.has_large_set(),
+            self.has_many_sets(),
+        ]
+    }
+}
+
+/// The checks (RFC 1034 3.6.2, 4.2; RFC 1035 5.2; RFC 2181 5.2, 10; RFC 4592 4.2).
+impl<'a> Owner<'a> {
+    fn has_no_soa(&self) -> bool
+        ensures { result ≡ no_soa self.now.zone self.now.name }
+    {
+        self.is_origin() && !self.owns(RType::SOA)
+    }
+
+    fn has_many_soa(&self) -> bool
+        ensures { result ≡ many_soa self.now.zone self.now.name }
+    {
+        self.is_origin() && self.count(RType::SOA) > 1
+    }
+
+    fn has_soa_elsewhere(&self) -> bool
+        ensures { result ≡ soa_elsewhere self.now.zone self.now.name }
+    {
+        !self.is_origin() && self.owns(RType::SOA)
+    }
+
+    fn has_no_ns(&self) -> bool
+        ensures { result ≡ no_ns self.now.zone self.now.name }
+    {
+        self.is_origin() && !self.owns(RType::NS)
+    }
+
+    fn is_outside(&self) -> bool
+        ensures { result ≡ outside self.now.zone self.now.name }
+    {
+        !self.own.is_empty() && !is_under(self.key, self.survey.key())
+    }
+
+    fn has_cname_and_other(&self) -> bool
+        ensures { result ≡ cname_and_other self.now.zone self.now.name }
+    {
+        self.owns(RType::CNAME) && self.owns_other_than_cname()
+    }
+
+    fn has_many_cname(&self) -> bool
+        ensures { result ≡ many_cname self.now.zone self.now.name }
+    {
+        self.count(RType::CNAME) > 1
+    }
+
+    fn has_other_ttls(&self) -> bool
+        ensures { result ≡ ttls_differ self.now.zone self.now.name }
+    {
+        have_other_ttls(self.own)
+    }
+
+    // Whether the target of an NS record is an alias, whether that of one lacks an address, and
+    // whether that of an MX or SRV record is an alias. Each is looked up once.
+    fn target_faults(&self, last: &mut LastTarget<'_>) -> (bool, bool, bool)
+        ensures alias { result.0 ≡ ns_target_alias self.now.zone self.now.name }
+        ensures lost { result.1 ≡ ns_target_lost self.now.zone self.now.name }
+        ensures exchange { result.2 ≡ mx_target_alias self.now.zone self.now.name }
+    {
+        let owner_is_cut = self.is_cut();
+        let mut rest = self.own;
+        let (mut has_alias, mut has_lost, mut has_exchange) = (false, false, false);
+        'targets: while let Some((first, others)) = rest.split_first() {
+            let (is_alias, is_lost, is_exchange) = self.record_faults(first, owner_is_cut, last);
+            has_alias |= is_alias;
+            has_lost |= is_lost;
+            has_exchange |= is_exchange;
+            rest = others;
+        }
+        (has_alias, has_lost, has_exchange)
+    }
+
+    // The same of one record, which may be of any type.
+    fn record_faults(
+        &self,
+        entry: &Entry,
+        owner_is_cut: bool,
+        last: &mut LastTarget<'_>,
+    ) -> (bool, bool, bool)
+        requires { owner_is_cut ≡ is_cut self.now.zone self.now.name }
+        ensures alias { result.0 ≡ is_server_alias self.now.zone entry.now }
+        ensures lost { result.1 ≡ is_server_lost self.now.zone self.now.name entry.now }
+        ensures exchange { result.2 ≡ is_exchange_alias self.now.zone entry.now }
+    {
+        let is_server = entry.rtype == RType::NS;
+        if !is_server && entry.rtype != RType::MX && entry.rtype != RType::SRV {
+            return (false, false, false);
+        }
+        let (is_alias, is_lost) = self
+            .survey
+            .target_faults(entry, self.name, owner_is_cut, last);
+        if is_server {
+            (is_alias, is_lost, false)
+        } else {
+            (false, false, is_alias)
+        }
+    }
+
+    fn has_data_at_cut(&self) -> bool
+        ensures { result ≡ data_at_cut self.now.zone self.now.name }
+    {
+        self.has_own_data_at_cut() || self.has_data_below_cut()
+    }
+
+    fn has_wildcard_ns(&self) -> bool
+        ensures { result ≡ wildcard_ns self.now.zone self.now.name }
+    {
+        self.name.is_wildcard() && self.owns(RType::NS)
+    }
+
+    fn has_large_set(&self) -> bool
+        ensures { result ≡ large_set self.now.zone self.now.name }
+    {
+        have_large_set(self.own)
+    }
+
+    fn has_many_sets(&self) -> bool
+        ensures { result ≡ many_sets self.now.zone self.now.name }
+    {
+        have_many_sets(self.own)
+    }
+}
+
+/// What the checks ask.
+impl<'a> Owner<'a> {
+    fn is_origin(&self) -> bool
+        ensures { result ≡ is_origin self.now.zone self.now.name }
+    {
+        self.stands_first
+    }
+
+    fn owns(&self, rtype: RType) -> bool
+        ensures { result ≡ owns self.now.zone self.now.name rtype.0 }
+    {
+        has_type(self.own, rtype)
+    }
+
+    fn count(&self, rtype: RType) -> usize
+        ensures { result ≡ count self.now.zone self.now.name rtype.0 }
+    {
+        self.own.iter().filter(|entry| entry.rtype == rtype).count()
+    }
+
+    fn is_cut(&self) -> bool
+        ensures { result ≡ is_cut self.now.zone self.now.name }
+    {
+        self.owns(RType::NS) && is_below(self.key, self.survey.key())
+    }
+
+    // At a cut stand its NS records and addresses alone. Cuts mostly own no more, which costs less to
+    // see.
+    fn has_own_data_at_cut(&self) -> bool
+        ensures { result ≡ (is_cut self.now.zone self.now.name
+            && owns_such self.now.zone self.now.name
+            (λ t. not (t == type_ns || is_address_type t))) }
+    {
+        self.owns_other_than_delegation() && self.is_cut()
+    }
+
+    // Below a cut stands glue alone.
+    fn has_data_below_cut(&self) -> bool
+        ensures { result ≡ (below_cut self.now.zone self.now.name
+            && owns_such self.now.zone self.now.name (λ t. not (is_address_type t))) }
+    {
+        self.is_below_cut && self.owns_other_than_address()
+    }
+
+    fn owns_other_than_cname(&self) -> bool
+        ensures { result ≡ owns_such self.now.zone self.now.name (λ t. not (t == type_cname)) }
+    {
+        self.own.iter().any(|entry| entry.rtype != RType::CNAME)
+    }
+
+    fn owns_other_than_delegation(&self) -> bool
+        ensures { result ≡ owns_such self.now.zone self.now.name
+            (λ t. not (t == type_ns || is_address_type t)) }
+    {
+        self.own.iter().any(|entry| !(entry.rtype == RType::NS || is_address_type(entry.rtype)))
+    }
+
+    fn owns_other_than_address(&self) -> bool
+        ensures { result ≡ owns_such self.now.zone self.now.name (λ t. not (is_address_type t)) }
+    {
+        self.own.iter().any(|entry| !is_address_type(entry.rtype))
+    }
+}
+
+fn is_address_type(rtype: RType) -> bool
+    ensures { result ≡ is_address_type rtype.0 }
+{
+    rtype == RType::A || rtype == RType::AAAA
+}

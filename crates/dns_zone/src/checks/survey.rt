@@ -1,0 +1,203 @@
+//! A zone under check: its origin, its records in canonical order, and the names that are checked.
+ghost use Rattle.std.specs.Prelude.{◌≡◌, ◌≤◌, length, ◌==◌, ◌&&◌, ◌||◌, not, true, false};
+ghost use Rattle.std.specs.Option.{option_map_or};
+ghost use Rattle.std.specs.List.Sorted.{IsNonDecreasingBy};
+ghost use Rattle.dns_spec.specs.Names.{folded, at_or_below};
+ghost use Rattle.dns_spec.specs.Records.{ResourceRecord, at, owns};
+ghost use Rattle.dns_spec.specs.Data.{type_cname, target};
+ghost use Rattle.dns_spec.specs.Tree.{is_cut};
+ghost use Rattle.dns_spec.specs.Checks.{at_or_below_cut, lacks_address, has_address};
+ghost use Rattle.dns_zone.specs.KeyForm.{name_key};
+ghost use Rattle.dns_zone.specs.NamesForm.{own_in, name_of, AreChecked, IsLastUpto};
+
+use crate::checks::above::{ends_alike, is_at_or_below};
+use crate::checks::names::{CheckedName, count_upto, is_covered};
+use crate::checks::target::{LastTarget, target};
+use crate::order::key::is_under;
+use crate::store::entry::Entry;
+use crate::tree::lookup::has_type;
+use dns_name::NameRef;
+use dns_rdata::RType;
+use std::marker::Model;
+
+/// The zone of an origin and of records in canonical order, whose checks are asked for.
+#[derive(Drop)]
+pub(crate) struct Survey<'a> {
+    origin: &'a NameRef<'a>,
+    // The key of the origin.
+    key: &'a [u8],
+    records: &'a [Entry],
+    names: &'a [CheckedName<'a>],
+}
+
+impl<'a> Model for Survey<'a> {
+    ghost use Rattle.dns_spec.specs.Records.{ZoneContents};
+    ghost use Rattle.dns_zone.specs.NamesForm.{IsSurvey};
+
+    ghost Value = { ZoneContents };
+
+    ghost view = { λ s. record { origin = s.origin.now; records = s.records.now } };
+
+    ghost invariant = { λ s. IsSurvey (record { origin = s.origin.now; records = s.records.now })
+        s.key.now s.names.now };
+}
+
+impl<'a> Survey<'a> {
+    /// The zone of an origin in lower case, with its key, and of records, with the names that are
+    /// checked.
+    pub(crate) fn new(
+        origin: &'a NameRef<'a>,
+        key: &'a [u8],
+        records: &'a [Entry],
+        names: &'a [CheckedName<'a>],
+    ) -> Survey<'a>
+        requires key { key.now ≡ name_key origin.now }
+        requires lower { folded origin.now ≡ origin.now }
+        requires names { AreChecked (record { origin = origin.now; records = records.now })
+            names.now }
+        ensures { result ≡ record { origin = origin.now; records = records.now } }
+    {
+        Survey {
+            origin,
+            key,
+            records,
+            names,
+        }
+    }
+
+    /// The name at and below which the zone speaks.
+    pub(crate) fn origin(&self) -> &NameRef<'_>
+        ensures value { result.now ≡ self.now.origin }
+        ensures lower { folded result.now ≡ result.now }
+    {
+        self.origin
+    }
+
+    /// The key of the origin.
+    pub(crate) fn key(&self) -> &[u8]
+        ensures value { result.now ≡ name_key self.now.origin }
+        ensures lower { folded self.now.origin ≡ self.now.origin }
+    {
+        self.key
+    }
+
+    /// The records of a name that is checked.
+    pub(crate) fn own(&self, one: &CheckedName<'_>) -> &'a [Entry]
+        requires rising { one.now.first ≤ one.now.end }
+        requires within { one.now.end ≤ length self.now.records }
+        ensures { result.now ≡ own_in self.now.records one.now }
+    {
+        one.own(self.records)
+    }
+
+    /// A name that is checked: the owner of its records, or the origin where it has none.
+    pub(crate) fn name(&self, one: &CheckedName<'_>) -> NameRef<'a>
+        requires rising { one.now.first ≤ one.now.end }
+        requires within { one.now.end ≤ length self.now.records }
+        ensures { result ≡ name_of self.now one.now }
+    {
+        match self.own(one).first() {
+            Some(first) => first.owner(),
+            None => NameRef::new(self.origin.octets()),
+        }
+    }
+
+    // The last of the names that is not after a target at or below the origin.
+    fn last_upto(&self, target: &mut LastTarget<'_>) -> &'a CheckedName<'a>
+        requires lower { folded target.old ≡ target.old }
+        requires inside { at_or_below target.old self.now.origin ≡ true }
+        ensures same { target.new ≡ target.old }
+        ensures last { IsLastUpto self.now target.old result.now }
+    {
+        let names = self.names;
+        let probable = target.probable_place(names);
+        if let Some(place) = probable
+            && place < names.len()
+            && names[place].key == target.key()
+        {
+            target.keep_place(place);
+            return &names[place];
+        }
+        let place = count_upto(names, probable, target.key()) - 1;
+        target.keep_place(place);
+        &names[place]
+    }
+
+    // The records at a target at or below the origin, by their types, and whether it is at or below
+    // a cut (RFC 1034 4.2).
+    fn at(&self, target: &mut LastTarget<'_>) -> (&'a [Entry], bool)
+        requires lower { folded target.old ≡ target.old }
+        requires inside { at_or_below target.old self.now.origin ≡ true }
+        ensures own { result.0.now ≡ at self.now target.old }
+        ensures by_types { IsNonDecreasingBy (λ (r : ResourceRecord). r.rtype) result.0.now }
+        ensures cut { result.1 ≡ at_or_below_cut self.now target.old }
+    {
+        let last = self.last_upto(target);
+        let key = target.key();
+        if last.key == key {
+            return (self.own(last), last.cut > 0);
+        }
+        (&[], is_covered(last.cut, last.key, key))
+    }
+
+    /// Whether the record's target is a name of the zone that owns a CNAME (RFC 2181 10.3), and
+    /// whether it is one that lacks an address there (RFC 1034 4.2.1). It is looked up once.
+    pub(crate) fn target_faults(
+        &self,
+        entry: &Entry,
+        owner: &NameRef<'_>,
+        owner_is_cut: bool,
+        last: &mut LastTarget<'_>,
+    ) -> (bool, bool)
+        requires cut { owner_is_cut ≡ is_cut self.now owner.now }
+        requires lower { folded owner.now ≡ owner.now }
+        ensures alias { result.0 ≡ option_map_or
+            (λ m. at_or_below m self.now.origin && owns self.now m type_cname)
+            (target entry.now.rtype entry.now.rdata) false }
+        ensures lost { result.1 ≡ option_map_or
+            (λ m. at_or_below m self.now.origin && lacks_address self.now owner.now m)
+            (target entry.now.rtype entry.now.rdata) false }
+    {
+        match target(entry) {
+            Some(target) => self.name_faults(&target, owner, owner_is_cut, last),
+            None => (false, false),
+        }
+    }
+
+    fn name_faults(
+        &self,
+        target: &NameRef<'_>,
+        owner: &NameRef<'_>,
+        owner_is_cut: bool,
+        last: &mut LastTarget<'_>,
+    ) -> (bool, bool)
+        requires lower { folded target.now ≡ target.now }
+        requires cut { owner_is_cut ≡ is_cut self.now owner.now }
+        requires lower_owner { folded owner.now ≡ owner.now }
+        ensures alias { result.0 ≡ (at_or_below target.now self.now.origin
+            && owns self.now target.now type_cname) }
+        ensures lost { result.1 ≡ (at_or_below target.now self.now.origin
+            && lacks_address self.now owner.now target.now) }
+    {
+        // A name outside of the zone mostly ends otherwise, and needs no key.
+        if !ends_alike(target, self.origin()) {
+            return (false, false);
+        }
+        last.move_to(target);
+        if !is_under(last.key(), self.key()) {
+            return (false, false);
+        }
+        let (own, is_under_cut) = self.at(last);
+        let is_lost = !self.has_address(target, own)
+            && (!is_under_cut || owner_is_cut && is_at_or_below(target, owner));
+        (has_type(own, RType::CNAME), is_lost)
+    }
+
+    fn has_address(&self, name: &NameRef<'_>, own: &[Entry]) -> bool
+        requires own { own.now ≡ at self.now name.now }
+        requires by_types { IsNonDecreasingBy (λ (r : ResourceRecord). r.rtype) own.now }
+        ensures { result ≡ has_address self.now name.now }
+    {
+        has_type(own, RType::A) || has_type(own, RType::AAAA)
+    }
+}

@@ -1,0 +1,108 @@
+//! The name that the data of a record points to.
+ghost use Rattle.std.specs.Prelude.{◌≡◌, [], IfSome};
+ghost use Rattle.dns_spec.specs.Names.{folded};
+ghost use Rattle.dns_spec.specs.Data.{target};
+ghost use Rattle.dns_zone.specs.KeyForm.{name_key};
+
+use crate::checks::guess::probable_place;
+use crate::checks::names::CheckedName;
+use crate::order::key::Key;
+use crate::store::entry::Entry;
+use dns_name::{Name, NameRef};
+use dns_rdata::Rdata;
+use std::marker::Model;
+
+/// The first name in the data: of NS the server, of MX the exchange (RFC 1035 3.3.9, 3.3.11).
+pub(crate) fn target(entry: &Entry) -> Option<NameRef<'_>>
+    ensures value { result ≡ target entry.now.rtype entry.now.rdata }
+    ensures lower { IfSome result (λ m. folded m ≡ m) }
+{
+    Rdata::target_lent(entry.rtype, entry.rdata())
+}
+
+/// The target that was looked for last, with its key, and where it was found. The glue of a cut
+/// mostly stands right after it, and one server after another, so the place after the name that is
+/// judged, or after the last target, is kept too.
+#[derive(Drop)]
+pub(crate) struct LastTarget<'a> {
+    name: Name,
+    key: Key,
+    place: Option<usize>,
+    next: usize,
+    // How many names were passed.
+    passed: usize,
+    // What a search for it among the names that are checked has to know of them.
+    shared: &'a [[u8; 2]],
+}
+
+impl<'a> Model for LastTarget<'a> {
+    ghost use Rattle.std.specs.Prelude.{◌≡◌};
+    ghost use Rattle.dns_spec.specs.Names.{DomainName};
+    ghost use Rattle.dns_zone.specs.KeyForm.{name_key};
+
+    ghost Value = { DomainName };
+
+    ghost view = { λ l. l.name };
+
+    ghost invariant = { λ l. l.key ≡ name_key l.name };
+}
+
+impl<'a> LastTarget<'a> {
+    /// The root, before any target is looked for among names that share so much.
+    pub(crate) fn new(shared: &'a [[u8; 2]]) -> LastTarget<'a>
+        ensures { result ≡ [] }
+    {
+        LastTarget {
+            name: Name::root(),
+            key: Key::new(),
+            place: None,
+            next: 0,
+            passed: 0,
+            shared,
+        }
+    }
+
+    /// Goes on to another target.
+    pub(crate) fn move_to(&mut self, name: &NameRef<'_>)
+        ensures { self.new ≡ name.now }
+    {
+        if self.name.lent() == *name {
+            return;
+        }
+        self.key.move_to(&self.name.lent(), name);
+        self.name.copy_from(name);
+        self.place = None;
+    }
+
+    /// Its key.
+    pub(crate) fn key(&self) -> &[u8]
+        ensures { result.now ≡ name_key self.now }
+    {
+        self.key.octets()
+    }
+
+    /// Goes on to the targets of the next name that is checked.
+    pub(crate) fn pass_name(&mut self)
+        ensures { self.new ≡ self.old }
+    {
+        self.passed = self.passed.saturating_add(1);
+        self.next = self.passed;
+    }
+
+    /// Where it was found, or probably is, among the names that are checked.
+    pub(crate) fn probable_place(&self, names: &[CheckedName<'_>]) -> Option<usize> {
+        match (self.place, names.get(self.next)) {
+            (Some(place), _) => Some(place),
+            (None, Some(next)) if next.key == self.key() => Some(self.next),
+            _ => probable_place(names, self.shared, self.key()),
+        }
+    }
+
+    /// Keeps where it was found.
+    pub(crate) fn keep_place(&mut self, place: usize)
+        ensures { self.new ≡ self.old }
+    {
+        self.place = Some(place);
+        self.next = place.saturating_add(1);
+    }
+}

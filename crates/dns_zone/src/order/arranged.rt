@@ -1,0 +1,294 @@
+//! Records brought into canonical order by few moves.
+//!
+//! A sort compares whole names, which takes time. So runs of records of one owner are sorted in
+//! the records' stead, by the fronts of their keys and then by whole keys, and each record is moved
+//! once.
+ghost use Rattle.std.specs.Prelude.{◌≡◌, ◌<◌, ◌≤◌, All, length, IfOk};
+ghost use Rattle.std.specs.List.Sorted.{IsPermutation};
+ghost use Rattle.dns_spec.specs.Meaning.{most_records};
+ghost use Rattle.dns_zone.specs.KeyedForm.{AreKeyed};
+
+use crate::order::keyed::key_at;
+use crate::order::own_order;
+use crate::store::entry::Entry;
+use std::alloc::{AllocError, Global};
+use std::cmp::Ordering;
+
+// How many octets of an owner's key, after that of the origin, are kept beside it.
+const FRONT_OCTETS: usize = 16;
+
+// Records of one owner that stand side by side, from one place up to another, and the first octets
+// of the owner's key after that of the origin.
+#[derive(Drop)]
+struct Run {
+    front: [u64; 2],
+    at: u32,
+    end: u32,
+}
+
+/// Moves records, with where their keys begin, into canonical order. Duplicates are kept, and
+/// nothing here says that it is that order: who needs it looks, and sorts where it is not. The
+/// first `base` octets of the keys are that of the origin.
+///
+/// Memory is taken for 24 octets for each run of records of one owner, and for 4 octets for each
+/// record.
+pub(crate) fn arrange(
+    alloc: Global,
+    base: usize,
+    keys: &[u8],
+    records: &mut [Entry],
+    starts: &mut [u32],
+) -> Result<(), AllocError>
+    requires keyed { AreKeyed keys.now records.old starts.old }
+    requires few { length records.old ≤ most_records }
+    ensures permutation { IsPermutation records.old records.new }
+    ensures keyed { AreKeyed keys.now records.new starts.new }
+{
+    let runs = runs(alloc, base, keys, records, starts)?;
+    let mut places = places(alloc, keys, records, starts, runs.as_slice())?;
+    put_in_places(keys, records, starts, places.as_mut_slice());
+    Ok(())
+}
+
+// The runs of records whose keys begin at one place, in order.
+fn runs(
+    alloc: Global,
+    base: usize,
+    keys: &[u8],
+    records: &[Entry],
+    starts: &[u32],
+) -> Result<Vec<Run>, AllocError>
+    requires count { length starts.now ≡ length records.now }
+    requires few { length records.now ≤ most_records }
+    ensures { IfOk result (λ runs.
+        All (λ (r : Run). r.end ≤ length records.now) runs.items) }
+{
+    let mut runs = Vec::with_capacity(alloc, records.len())?;
+    let (origin, _) = keys.split_at(base.min(keys.len()));
+    let mut at = 0;
+    'runs: while at < records.len() {
+        let end = end_of_run(starts, at);
+        runs.push(Run {
+            front: front_after(origin, key_at(keys, starts[at], &records[at])),
+            at: at as u32,
+            end: end as u32,
+        })?;
+        at = end;
+    }
+    runs.sort_unstable_by(|one, other| front_order(one, other));
+    let mut first = 0;
+    'alike: while first < runs.len() {
+        let end = end_of_alike(runs.as_slice(), first);
+        if end > first + 1 {
+            sort_alike(keys, records, starts, runs.as_mut_slice(), first, end);
+        }
+        first = end;
+    }
+    Ok(runs)
+}
+
+// Where the runs end that have the front of the one at `first`.
+fn end_of_alike(runs: &[Run], first: usize) -> usize
+    requires { first < length runs.now }
+    ensures after { first < result }
+    ensures within { result ≤ length runs.now }
+{
+    let mut end = first + 1;
+    'runs: while end < runs.len() && front_order(&runs[first], &runs[end]).is_eq() {
+        end += 1;
+    }
+    end
+}
+
+// Sorts runs whose fronts are alike: by the octets after those that all of their keys begin with,
+// and then by their keys.
+fn sort_alike(
+    keys: &[u8],
+    records: &[Entry],
+    starts: &[u32],
+    runs: &mut [Run],
+    first: usize,
+    end: usize,
+)
+    requires order { first < end }
+    requires fits { end ≤ length runs.old }
+    requires within { All (λ (r : Run). r.end ≤ length records.now) runs.old }
+    ensures within { All (λ (r : Run). r.end ≤ length records.now) runs.new }
+    ensures count { length runs.new ≡ length runs.old }
+{
+    let begins = key_of(keys, records, starts, &runs[first]);
+    let mut shared = begins;
+    'shared: for at in first..end {
+        shared = common_front(shared, key_of(keys, records, starts, &runs[at]));
+    }
+    'fronts: for at in first..end {
+        let key = key_of(keys, records, starts, &runs[at]);
+        runs[at].front = front_of(key.split_at(shared.len().min(key.len())).1);
+    }
+    let alike = &mut runs[first..end];
+    alike.sort_unstable_by(|one, other| run_order(keys, records, starts, one, other));
+}
+
+// The octets that both begin with.
+fn common_front<'a>(one: &'a [u8], other: &[u8]) -> &'a [u8] {
+    if other.starts_with(one) {
+        return one;
+    }
+    let count = one
+        .iter()
+        .zip(other.iter())
+        .take_while(|(a, b)| a == b)
+        .count();
+    one.split_at(count.min(one.len())).0
+}
+
+// Where the places end that have the same start as the one at `at`.
+fn end_of_run(starts: &[u32], at: usize) -> usize
+    requires { at < length starts.now }
+    ensures after { at < result }
+    ensures within { result ≤ length starts.now }
+{
+    let mut end = at + 1;
+    'starts: while end < starts.len() && starts[end] == starts[at] {
+        end += 1;
+    }
+    end
+}
+
+// The first octets of an owner's key after that of the origin. An owner outside the zone has those
+// that stand before or after it.
+fn front_after(origin: &[u8], key: &[u8]) -> [u64; 2] {
+    match key.strip_prefix(origin) {
+        Some(inside) => front_of(inside),
+        None => [if key.cmp(origin).is_lt() { 0 } else { u64::MAX }; 2],
+    }
+}
+
+// The first octets of a part of a key, as numbers.
+fn front_of(part: &[u8]) -> [u64; 2] {
+    let mut front = [0; FRONT_OCTETS];
+    let count = part.len().min(FRONT_OCTETS);
+    front[..count].copy_from_slice(&part[..count]);
+    let [a, b, c, d, e, f, g, h, i, j, k, l, m, n, o, p] = front;
+    [
+        u64::from_be_bytes([a, b, c, d, e, f, g, h]),
+        u64::from_be_bytes([i, j, k, l, m, n, o, p]),
+    ]
+}
+
+fn front_order(one: &Run, other: &Run) -> Ordering {
+    let ([a, b], [x, y]) = (one.front, other.front);
+    if a != x {
+        return a.cmp(&x);
+    }
+    b.cmp(&y)
+}
+
+fn run_order(keys: &[u8], records: &[Entry], starts: &[u32], one: &Run, other: &Run) -> Ordering {
+    front_order(one, other).then_with(|| key_of(keys, records, starts, one).cmp(key_of(
+        keys, records, starts, other,
+    )))
+}
+
+// The key of a run's owner.
+fn key_of<'a>(keys: &'a [u8], records: &[Entry], starts: &[u32], run: &Run) -> &'a [u8] {
+    match (starts.get(run.at as usize), records.get(run.at as usize)) {
+        (Some(start), Some(first)) => key_at(keys, *start, first),
+        _ => &[],
+    }
+}
+
+// For each place the one from which its record comes. Records of one owner are sorted.
+fn places(
+    alloc: Global,
+    keys: &[u8],
+    records: &[Entry],
+    starts: &[u32],
+    runs: &[Run],
+) -> Result<Vec<u32>, AllocError>
+    requires { All (λ (r : Run). r.end ≤ length records.now) runs.now }
+    ensures { IfOk result (λ places. All (λ p. p < length records.now) places.items) }
+{
+    let mut places = Vec::with_capacity(alloc, records.len())?;
+    let mut first = 0;
+    let mut rest = runs;
+    'runs: while let Some((run, others)) = rest.split_first() {
+        'places: for at in run.at..run.end {
+            places.push(at)?;
+        }
+        rest = others;
+        if goes_on(keys, records, starts, run, others) {
+            continue;
+        }
+        if places.len() > first + 1 {
+            sort_own(records, places.as_mut_slice(), first);
+        }
+        first = places.len();
+    }
+    Ok(places)
+}
+
+fn goes_on(keys: &[u8], records: &[Entry], starts: &[u32], run: &Run, others: &[Run]) -> bool {
+    match others.first() {
+        Some(next) => run_order(keys, records, starts, run, next).is_eq(),
+        None => false,
+    }
+}
+
+fn sort_own(records: &[Entry], places: &mut [u32], first: usize)
+    requires first { first ≤ length places.old }
+    requires below { All (λ p. p < length records.now) places.old }
+    ensures below { All (λ p. p < length records.now) places.new }
+    ensures count { length places.new ≡ length places.old }
+{
+    let own = &mut places[first..];
+    own.sort_unstable_by(|one, other| order_at(records, *one, *other));
+}
+
+fn order_at(records: &[Entry], one: u32, other: u32) -> Ordering {
+    match (records.get(one as usize), records.get(other as usize)) {
+        (Some(one), Some(other)) => own_order(one, other),
+        _ => Ordering::Equal,
+    }
+}
+
+// Moves to each place the record that comes there.
+fn put_in_places(keys: &[u8], records: &mut [Entry], starts: &mut [u32], places: &mut [u32])
+    requires keyed { AreKeyed keys.now records.old starts.old }
+    requires few { length records.old ≤ most_records }
+    requires below { All (λ p. p < length records.old) places.old }
+    ensures permutation { IsPermutation records.old records.new }
+    ensures keyed { AreKeyed keys.now records.new starts.new }
+{
+    if places.len() != records.len() {
+        return;
+    }
+    'places: for at in 0..records.len() {
+        settle(keys, records, starts, places, at);
+    }
+}
+
+// Moves to the place `first` the record that comes there, and on to the place which that leaves,
+// until the record of `first` is moved.
+fn settle(keys: &[u8], records: &mut [Entry], starts: &mut [u32], places: &mut [u32], first: usize)
+    requires first { first < length records.old }
+    requires keyed { AreKeyed keys.now records.old starts.old }
+    requires few { length records.old ≤ most_records }
+    requires count { length places.old ≡ length records.old }
+    requires below { All (λ p. p < length records.old) places.old }
+    ensures permutation { IsPermutation records.old records.new }
+    ensures keyed { AreKeyed keys.now records.new starts.new }
+    ensures below { All (λ p. p < length records.old) places.new }
+{
+    let mut at = first;
+    'moves: for _ in 0..records.len() {
+        let from = places[at] as usize;
+        places[at] = at as u32;
+        if from == first {
+            return;
+        }
+        records.swap(at, from);
+        starts.swap(at, from);
+        at = from;
+    }
+}

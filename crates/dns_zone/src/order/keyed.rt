@@ -1,0 +1,60 @@
+//! The keys of the owners of records, in octets that all share.
+ghost use Rattle.std.specs.Prelude.{◌≡◌, ◌≤◌, length, IfOk};
+ghost use Rattle.dns_spec.specs.Names.{folded};
+ghost use Rattle.dns_spec.specs.Meaning.{most_records};
+ghost use Rattle.dns_zone.specs.KeyForm.{name_key};
+ghost use Rattle.dns_zone.specs.KeyedForm.{key_in, AreKeyed};
+
+use crate::order::key::Key;
+use crate::store::entry::Entry;
+use dns_name::NameRef;
+use std::alloc::{AllocError, Global};
+
+/// The key of the origin, then those of the owners of records, and where that of each record
+/// begins. Neighbours of one owner share theirs.
+#[derive(Drop)]
+pub(crate) struct Keyed {
+    pub(crate) keys: Vec<u8>,
+    pub(crate) starts: Vec<u32>,
+}
+
+/// The keys of an origin and of the owners of records.
+pub(crate) fn keys_of<'a>(
+    alloc: Global,
+    origin: &'a NameRef<'a>,
+    records: &'a [Entry],
+) -> Result<Keyed, AllocError>
+    requires { length records.now ≤ most_records }
+    ensures origin { IfOk result (λ k.
+        key_in k.keys.items 0 origin.now ≡ name_key origin.now) }
+    ensures records { IfOk result (λ k. AreKeyed k.keys.items records.now k.starts.items) }
+{
+    let mut keys = Vec::new(alloc);
+    let mut starts = Vec::with_capacity(alloc, records.len())?;
+    let mut key = Key::of(origin);
+    keys.extend_from_slice(key.octets())?;
+    let mut last = NameRef::new(origin.octets());
+    let mut start = 0;
+    'records: for each in records {
+        let owner = each.owner();
+        if owner != last {
+            start = keys.len() as u32;
+            key.move_to(&last, &owner);
+            keys.extend_from_slice(key.octets())?;
+            last = owner;
+        }
+        starts.push(start)?;
+    }
+    Ok(Keyed { keys, starts })
+}
+
+/// The key of a record's owner, which begins at `start`.
+pub(crate) fn key_at<'a>(keys: &'a [u8], start: u32, of: &Entry) -> &'a [u8]
+    ensures value { result.now ≡ key_in keys.now start of.now.owner }
+    ensures lower { folded of.now.owner ≡ of.now.owner }
+{
+    let (_, after) = keys.split_at((start as usize).min(keys.len()));
+    after
+        .split_at((of.owner().octets().len() - 1).min(after.len()))
+        .0
+}

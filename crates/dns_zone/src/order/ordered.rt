@@ -1,0 +1,160 @@
+//! Records in canonical order, each once.
+ghost use Rattle.std.specs.Prelude.{List, ◌≡◌, ◌<◌, ◌≤◌, All, length, take, true, IfOk, IfSome, IsSome};
+ghost use Rattle.std.specs.Bool.{OnTrue, OnFalse};
+ghost use Rattle.std.specs.List.Sorted.{IsPermutation, IsSorted};
+ghost use Rattle.dns_spec.specs.Names.{folded, name_order};
+ghost use Rattle.dns_spec.specs.Meaning.{most_records};
+ghost use Rattle.dns_spec.specs.Records.{ResourceRecord, records_equal, distinct, sort_by, record_order};
+ghost use Rattle.dns_spec.specs.ZonePrinted.{IsReadRecord};
+ghost use Rattle.std.specs.Ordering.{is_eq};
+ghost use Rattle.dns_zone.specs.KeyForm.{name_key};
+ghost use Rattle.dns_zone.specs.KeyedForm.{key_in, AreKeyed};
+ghost use Rattle.dns_zone.specs.ZoneForm.{AreOrdered};
+
+use crate::order::arranged::arrange;
+use crate::order::keyed::{Keyed, key_at, keys_of};
+use crate::order::{own_order, record_order};
+use crate::store::entry::Entry;
+use dns_name::NameRef;
+use std::alloc::{AllocError, Global};
+use std::cmp::Ordering;
+
+/// Records in canonical order, each once, with the keys of their owners.
+#[derive(Drop)]
+pub(crate) struct Canonical {
+    pub(crate) records: Vec<Entry>,
+    pub(crate) keyed: Keyed,
+}
+
+/// The records, each once, in canonical order (RFC 4034 6.1, 6.3, RFC 2181 5). They mostly are once
+/// they are arranged, which one walk sees.
+pub(crate) fn ordered(
+    alloc: Global,
+    origin: &NameRef<'_>,
+    mut records: Vec<Entry>,
+) -> Result<Canonical, AllocError>
+    requires { length records.items ≤ most_records }
+    ensures records { IfOk result (λ kept. kept.records.items
+        ≡ sort_by record_order (distinct records_equal records.items)) }
+    ensures in_order { IfOk result (λ kept. AreOrdered kept.records.items) }
+    ensures count { IfOk result (λ kept. length kept.records.items ≤ length records.items) }
+    ensures each { IfOk result (λ kept. All IsReadRecord kept.records.items) }
+    ensures origin { IfOk result (λ kept.
+        key_in kept.keyed.keys.items 0 origin.now ≡ name_key origin.now) }
+    ensures keyed { IfOk result (λ kept. AreKeyed kept.keyed.keys.items kept.records.items
+        kept.keyed.starts.items) }
+{
+    know_each(records.as_slice());
+    let Keyed { keys, mut starts } = keys_of(alloc, &*origin, records.as_slice())?;
+    arrange(
+        alloc,
+        origin.octets().len() - 1,
+        keys.as_slice(),
+        records.as_mut_slice(),
+        starts.as_mut_slice(),
+    )?;
+    if leave_out_duplicates(keys.as_slice(), &mut records, &mut starts) {
+        let keyed = Keyed { keys, starts };
+        return Ok(Canonical { records, keyed });
+    }
+    records.sort_unstable_by(|one, other| record_order(one, other));
+    let Keyed { keys, mut starts } = keys_of(alloc, &*origin, records.as_slice())?;
+    leave_out_duplicates(keys.as_slice(), &mut records, &mut starts);
+    let keyed = Keyed { keys, starts };
+    Ok(Canonical { records, keyed })
+}
+
+// Leaves out each record that is equal to the one before. None is where one comes after the next,
+// which the answer says.
+fn leave_out_duplicates(keys: &[u8], records: &mut Vec<Entry>, starts: &mut Vec<u32>) -> bool
+    requires { AreKeyed keys.now records.old.items starts.old.items }
+    ensures sorted { IsSorted record_order records.old.items → result ≡ true }
+    ensures moved { OnFalse result (IsPermutation records.old.items records.new.items) }
+    ensures bound { length records.new.items ≤ length records.old.items }
+    ensures keyed { OnTrue result (AreKeyed keys.now records.new.items starts.new.items) }
+    ensures once { OnTrue result ((rs : List ResourceRecord) → All IsReadRecord rs
+        → IsPermutation rs records.old.items
+        → records.new.items ≡ sort_by record_order (distinct records_equal rs)) }
+{
+    let Some(count) = once_in_front(keys, records.as_mut_slice(), starts.as_mut_slice()) else {
+        return false;
+    };
+    records.truncate(count);
+    starts.truncate(count);
+    true
+}
+
+// Moves each record that is not equal to the one before to the front, and says how many these are.
+// None where one comes after the next.
+fn once_in_front(keys: &[u8], records: &mut [Entry], starts: &mut [u32]) -> Option<usize>
+    requires { AreKeyed keys.now records.old starts.old }
+    ensures permutation { IsPermutation records.old records.new }
+    ensures keyed { AreKeyed keys.now records.new starts.new }
+    ensures sorted { IsSorted record_order records.old → IsSome result }
+    ensures once { IfSome result (λ k. (rs : List ResourceRecord) → All IsReadRecord rs
+        → IsPermutation rs records.old
+        → take k records.new ≡ sort_by record_order (distinct records_equal rs)) }
+{
+    let mut last = 0;
+    let mut at = 1;
+    'records: while at < records.len() {
+        let (start, after) = (starts[last], starts[at]);
+        match order(keys, &records[last], start, &records[at], after) {
+            Ordering::Less => {
+                last += 1;
+                records.swap(last, at);
+                starts.swap(last, at);
+            }
+            Ordering::Equal => {}
+            Ordering::Greater => return None,
+        }
+        at += 1;
+    }
+    Some(last + 1)
+}
+
+// The order of two records.
+fn order(keys: &[u8], one: &Entry, start: u32, next: &Entry, after: u32) -> Ordering
+    requires one { key_in keys.now start one.now.owner ≡ name_key one.now.owner }
+    requires next { key_in keys.now after next.now.owner ≡ name_key next.now.owner }
+    ensures value { result ≡ record_order one.now next.now }
+    ensures equal { is_eq result ≡ true → one.now ≡ next.now }
+{
+    owner_order(keys, one, start, next, after).then_with(|| own_order(one, next))
+}
+
+// The order of the owners of two records, by their keys: mostly they share one. A file of many
+// records of deep names takes a twelfth less.
+fn owner_order(keys: &[u8], one: &Entry, start: u32, next: &Entry, after: u32) -> Ordering
+    requires one { key_in keys.now start one.now.owner ≡ name_key one.now.owner }
+    requires next { key_in keys.now after next.now.owner ≡ name_key next.now.owner }
+    ensures value { result ≡ name_order one.now.owner next.now.owner }
+    ensures lower { folded one.now.owner ≡ one.now.owner }
+    ensures next { folded next.now.owner ≡ next.now.owner }
+{
+    if start == after && one.owner().octets().len() == next.owner().octets().len() {
+        return Ordering::Equal;
+    }
+    key_at(keys, start, one).cmp(key_at(keys, after, next))
+}
+
+// What each record keeps is known once it is read. Nothing else is done.
+fn know_each(records: &[Entry])
+    ensures { All IsReadRecord records.now }
+{
+    'records: for each in records {
+        know(each);
+    }
+}
+
+fn know(one: &Entry)
+    ensures { IsReadRecord one.now }
+{
+    let _type = one.rtype.0;
+    know_octets(one.owner().octets());
+    know_octets(one.rdata());
+}
+
+fn know_octets(_octets: &[u8])
+    ensures { All (λ o. o < 256) _octets.now }
+{}

@@ -1,0 +1,62 @@
+//! Keys of labels: their first octets as one number, by which most labels are told apart.
+ghost use Rattle.std.specs.Prelude.{◌≡◌, ◌≤◌, map, length};
+ghost use Rattle.std.specs.Char.{to_ascii_lowercase};
+ghost use Rattle.dns_spec.specs.Names.{label_order};
+ghost use Rattle.dns_zone.specs.LabelKey.{IsKey};
+ghost use Rattle.dns_zone.specs.TreeForm.{first_of};
+
+use crate::tree::lower_case::lower_case;
+use dns_name::NameRef;
+use std::cmp::Ordering;
+
+/// How many octets a key has.
+pub(crate) const KEY_OCTETS: usize = 8;
+
+/// The first eight octets of a label in lower case as a number, the first highest; an octet that it
+/// does not have is 0. Of two labels with different keys, the one with the lesser key comes first.
+pub(crate) fn label_key(label: &[u8]) -> u64
+    ensures { IsKey result (map to_ascii_lowercase label.now) }
+{
+    let mut key = 0;
+    // What the next octet counts for.
+    let mut worth = 1 << 56;
+    'octets: for i in 0..label.len().min(KEY_OCTETS) {
+        key += u64::from(lower_case(label[i])) * worth;
+        worth /= 256;
+    }
+    key
+}
+
+/// The octets of a name's first label. The root has none.
+pub(crate) fn first_octets<'a>(name: &NameRef<'a>) -> &'a [u8]
+    ensures value { result.now ≡ first_of name.now }
+    ensures bound { length result.now ≤ 63 }
+{
+    match name.labels().next() {
+        Some(label) => label.octets(),
+        None => &[],
+    }
+}
+
+/// The order of a label in lower case and of another, whose case is ignored.
+pub(crate) fn order_to(lower: &[u8], label: &[u8]) -> Ordering
+    ensures { result ≡ label_order lower.now (map to_ascii_lowercase label.now) }
+{
+    let (mut left, mut right) = (lower, label);
+    'octets: while let Some((one, left_rest)) = left.split_first() {
+        let Some((other, right_rest)) = right.split_first() else {
+            return Ordering::Greater;
+        };
+        let other = lower_case(*other);
+        if *one != other {
+            return one.cmp(&other);
+        }
+        left = left_rest;
+        right = right_rest;
+    }
+    if right.is_empty() {
+        Ordering::Equal
+    } else {
+        Ordering::Less
+    }
+}

@@ -1,0 +1,131 @@
+//! Records of a name, found by binary search among records in canonical order.
+ghost use Rattle.std.specs.Prelude.{◌≡◌, ◌≤◌, ◌==◌, length, take, drop, not, nat_lt, IfSome};
+ghost use Rattle.std.specs.Bool.{OnTrue};
+ghost use Rattle.std.specs.List.{list_any, filter, prefix_len};
+ghost use Rattle.std.specs.List.Sorted.{IsPartitionedBy, IsNonDecreasingBy};
+ghost use Rattle.dns_spec.specs.Names.{folded, same, at_or_below};
+ghost use Rattle.dns_spec.specs.Records.{ResourceRecord};
+ghost use Rattle.dns_zone.specs.ZoneForm.{IsFront};
+
+use crate::checks::above::is_at_or_below;
+use crate::store::entry::Entry;
+use dns_name::NameRef;
+use dns_rdata::RType;
+
+// How many records are looked at before all are: most owners have few records, and most names few
+// below them.
+const NEAR: usize = 4;
+
+/// How many of the records have owners at or below the name, where these stand in front.
+pub(crate) fn count_under(records: &[Entry], name: &NameRef<'_>) -> usize
+    requires in_front { IsPartitionedBy
+        (λ (r : ResourceRecord). at_or_below r.owner name.now) records.now }
+    requires lower { folded name.now ≡ name.now }
+    ensures { IsFront (λ (r : ResourceRecord). at_or_below r.owner name.now) records.now result }
+{
+    if let Some(count) = count_before(records, name, 0) {
+        return count;
+    }
+    if let Some(count) = count_before(records, name, NEAR) {
+        return count;
+    }
+    records.partition_point(|entry| is_under(entry, name))
+}
+
+// The same where the record at `place` is none of them, or nothing.
+fn count_before(records: &[Entry], name: &NameRef<'_>, place: usize) -> Option<usize>
+    requires in_front { IsPartitionedBy
+        (λ (r : ResourceRecord). at_or_below r.owner name.now) records.now }
+    requires lower { folded name.now ≡ name.now }
+    ensures { IfSome result
+        (λ k. IsFront (λ (r : ResourceRecord). at_or_below r.owner name.now) records.now k) }
+{
+    let next = records.get(place)?;
+    if is_under(next, name) {
+        return None;
+    }
+    Some(records[..place].partition_point(|entry| is_under(entry, name)))
+}
+
+/// How many records stand in front whose owner is the name. They are passed one by one.
+pub(crate) fn count_in_front(records: &[Entry], name: &NameRef<'_>) -> usize
+    requires { folded name.now ≡ name.now }
+    ensures value { result ≡ prefix_len
+        (λ (r : ResourceRecord). same r.owner name.now) records.now }
+    ensures bound { result ≤ length records.now }
+{
+    records
+        .iter()
+        .take_while(|entry| is_at(entry, name))
+        .count()
+}
+
+/// Whether one of the records is of the type, where they stand by their types.
+pub(crate) fn has_type(records: &[Entry], rtype: RType) -> bool
+    requires { IsNonDecreasingBy (λ (r : ResourceRecord). r.rtype) records.now }
+    ensures { result ≡ list_any (λ (r : ResourceRecord). r.rtype == rtype.0) records.now }
+{
+    if records.len() <= NEAR {
+        return records.iter().any(|entry| entry.rtype == rtype);
+    }
+    match records[count_below(records, rtype)..].first() {
+        Some(entry) => entry.rtype == rtype,
+        None => false,
+    }
+}
+
+/// The records of a type, where they stand by their types. Most names own records of one type
+/// alone, so that the first and the last one tell.
+pub(crate) fn of_type<'a>(records: &'a [Entry], rtype: RType) -> &'a [Entry]
+    requires { IsNonDecreasingBy (λ (r : ResourceRecord). r.rtype) records.now }
+    ensures { result.now ≡ filter (λ (r : ResourceRecord). r.rtype == rtype.0) records.now }
+{
+    let Some(first) = records.first() else {
+        return records;
+    };
+    let Some(last) = records.last() else {
+        return records;
+    };
+    if rtype.0 < first.rtype.0 || last.rtype.0 < rtype.0 {
+        return &[];
+    }
+    if first.rtype == last.rtype {
+        return records;
+    }
+    let others = &records[count_below(records, rtype)..];
+    &others[..count_of(others, rtype)]
+}
+
+// How many of the records are of the type, where these stand in front.
+fn count_of(records: &[Entry], rtype: RType) -> usize
+    requires { IsPartitionedBy (λ (r : ResourceRecord). r.rtype == rtype.0) records.now }
+    ensures bound { result ≤ length records.now }
+    ensures own { take result records.now
+        ≡ filter (λ (r : ResourceRecord). r.rtype == rtype.0) records.now }
+{
+    records.partition_point(|entry| entry.rtype == rtype)
+}
+
+// How many of the records are of a type below this one.
+fn count_below(records: &[Entry], rtype: RType) -> usize
+    requires { IsNonDecreasingBy (λ (r : ResourceRecord). r.rtype) records.now }
+    ensures bound { result ≤ length records.now }
+    ensures others { drop result records.now
+        ≡ filter (λ (r : ResourceRecord). not (nat_lt r.rtype rtype.0)) records.now }
+{
+    records.partition_point(|entry| entry.rtype.0 < rtype.0)
+}
+
+fn is_under(entry: &Entry, name: &NameRef<'_>) -> bool
+    requires { folded name.now ≡ name.now }
+    ensures { result ≡ at_or_below entry.now.owner name.now }
+{
+    is_at_or_below(&entry.owner(), name)
+}
+
+fn is_at(entry: &Entry, name: &NameRef<'_>) -> bool
+    requires { folded name.now ≡ name.now }
+    ensures { result ≡ same entry.now.owner name.now }
+{
+    entry.owner() == *name
+}

@@ -1,0 +1,253 @@
+//! The nodes of a zone: the names that exist in it (RFC 1034 3.1, RFC 4592 2.2).
+ghost use Rattle.std.specs.Prelude.{◌≡◌, ◌+◌, ◌<◌, ◌≤◌, ◌↔◌, [], ◌∷◌, map, length, get_or, is_some, if◌then◌else◌, IsTrue, IsSome, IsNone, IfSome, MatchOption, true};
+ghost use Rattle.std.specs.Char.{to_ascii_lowercase};
+ghost use Rattle.std.specs.List.Sorted.{IsNonDecreasingBy};
+ghost use Rattle.dns_spec.specs.Names.{folded, wire};
+ghost use Rattle.dns_spec.specs.Records.{ResourceRecord, at, rrset};
+ghost use Rattle.dns_spec.specs.Sets.{set_of, of_lowest_type};
+ghost use Rattle.dns_spec.specs.Tree.{exists};
+ghost use Rattle.dns_zone.specs.Nodes.{IsNode, IsLead, IsSetOf};
+ghost use Rattle.dns_zone.specs.NodeForm.{IsZoneTree, node_at, IsNodeAt};
+ghost use Rattle.dns_zone.specs.TreeForm.{kids_at};
+
+use crate::store::entry::Entry;
+use crate::tree::lookup::of_type;
+use crate::tree::row::{Row, RowNumber};
+use crate::tree::search::find;
+use crate::tree::set::{RecordSet, lent_set};
+use crate::tree::steps::Steps;
+use crate::tree::{Tree, octets_of};
+use dns_name::{Label, NameRef};
+use dns_rdata::RType;
+use std::marker::Model;
+
+/// A name that exists in a zone: it, or a name below it, owns a record (RFC 4592 2.2).
+///
+/// It is lent out of the zone, as are its sets. A node is had from a walk alone, which counts it.
+#[derive(Drop)]
+pub struct Node<'z> {
+    tree: &'z Tree,
+    row: RowNumber,
+}
+
+impl<'z> Model for Node<'z> {
+    ghost use Rattle.dns_zone.specs.Nodes.{ZoneNode};
+
+    ghost Value = { ZoneNode };
+
+    ghost use Rattle.dns_zone.specs.NodeForm.{node_at, IsNodeAt};
+
+    ghost view = { λ n. node_at n.tree.now n.row.0 };
+
+    ghost invariant = { λ n. IsNodeAt n.tree.now n.row.0 };
+}
+
+/// A node that is not handed out yet: its name alone is known.
+#[derive(Drop)]
+pub struct Lead<'z> {
+    node: Node<'z>,
+}
+
+impl<'z> Model for Lead<'z> {
+    ghost use Rattle.dns_zone.specs.Nodes.{ZoneNode};
+
+    ghost Value = { ZoneNode };
+
+    ghost view = { λ l. l.node };
+}
+
+impl<'z> Lead<'z> {
+    /// The node's name, in lower case, lent out of the zone.
+    pub fn name(&self) -> NameRef<'z>
+        ensures { result ≡ self.now.name }
+    {
+        self.node.name()
+    }
+
+    /// Hands out the node, which is counted. Condition: `visits` is below 4,294,967,295.
+    pub fn node(self, steps: &mut Steps<'z>) -> Node<'z>
+        requires { steps.old.visits < 4294967295 }
+        ensures node { result ≡ self.entry }
+        ensures visits { steps.new ≡ record steps.old { visits = steps.old.visits + 1 } }
+    {
+        let Lead { node } = self;
+        steps.count_visit();
+        node
+    }
+}
+
+impl<'z> Node<'z> {
+    // The node of a row.
+    pub(crate) fn at(tree: &'z Tree, row: RowNumber) -> Node<'z>
+        requires { IsNodeAt tree.now row.0 }
+        ensures { result ≡ node_at tree.now row.0 }
+    {
+        Node { tree, row }
+    }
+
+    // The node of the zone's origin.
+    pub(crate) fn of_origin(tree: &'z Tree) -> Node<'z>
+        requires { IsZoneTree tree.now }
+        ensures node { result ≡ record { zone = tree.now.zone; name = tree.now.zone.origin } }
+        ensures exists { IsNode tree.now.zone tree.now.zone.origin }
+    {
+        Node {
+            tree,
+            row: RowNumber(0),
+        }
+    }
+
+    /// The child of this label, if that name exists. Labels are compared without regard to the case
+    /// of ASCII letters (RFC 1035 2.3.3). The node handed out is counted, and each comparison of
+    /// labels.
+    ///
+    /// A node has at most 100,000 children, so that 17 comparisons find a label among theirs.
+    /// Conditions: the steps are over the node's zone, `visits` is below 4,294,967,295, and
+    /// `comparisons` at most 4,294,967,278.
+    pub fn down(&self, label: Label<'_>, steps: &mut Steps<'z>) -> Option<Node<'z>>
+        requires zone { steps.old.zone ≡ self.now.zone }
+        requires visits { steps.old.visits < 4294967295 }
+        requires comparisons { steps.old.comparisons ≤ 4294967278 }
+
+        ensures child { IsSome result ↔ IsTrue
+            (exists self.now.zone (label.entry ∷ self.now.name)) }
+        ensures node { IfSome result (λ n. n ≡ record {
+          zone = self.now.zone;
+          name = map to_ascii_lowercase label.entry ∷ self.now.name;
+        }) }
+
+        ensures visits { steps.new.visits ≡ steps.old.visits + (if is_some result then 1 else 0) }
+        ensures rise { steps.old.comparisons ≤ steps.new.comparisons }
+        ensures bound { steps.new.comparisons ≤ steps.old.comparisons + 17 }
+        ensures compared { IfSome result (λ _. steps.old.comparisons < steps.new.comparisons) }
+        ensures same_zone { steps.new.zone ≡ steps.old.zone }
+    {
+        let row = kid_of(self.tree, self.row, &label, steps)?;
+        steps.count_visit();
+        Some(Node {
+            tree: self.tree,
+            row,
+        })
+    }
+
+    /// The node's name, in lower case, lent out of the zone.
+    pub fn name(&self) -> NameRef<'z>
+        ensures { result ≡ self.now.name }
+    {
+        let row = &self.tree.rows.lent()[self.row.0];
+        NameRef::new(octets_of(self.tree.zone.records(), row))
+    }
+
+    /// A node at which the way to the target of a record may begin, of the record of the type at
+    /// `i`, the first at 0. `None` where none is kept: the way begins at the apex. It is not handed
+    /// out before it is asked for.
+    pub fn lead(&self, rtype: RType, i: usize) -> Option<Lead<'z>>
+        ensures { IfSome result (λ v. (v.zone ≡ self.now.zone)
+            × IsLead self.now.zone rtype.0 v.name) }
+    {
+        let row = &self.tree.rows.lent()[self.row.0];
+        let before = self.own().iter().position(|entry| entry.rtype == rtype)?;
+        let place = (row.first as usize).checked_add(before)?.checked_add(i)?;
+        lead_at(self.tree, place, rtype)
+    }
+
+    /// The records of a type at the name, by their data octets; `None` where there are none
+    /// (RFC 2181 5).
+    pub fn set(&self, rtype: RType) -> Option<RecordSet<'z>>
+        ensures set { result ≡ set_of (rrset self.now.zone self.now.name rtype.0) }
+        ensures rtype { IfSome result (λ s. s.rtype ≡ rtype.0) }
+        ensures kept { IfSome result (IsSetOf self.now) }
+    {
+        lent_set(of_type(self.own(), rtype))
+    }
+
+    /// The node's name in lower case, lent out of the zone, where it owns a record.
+    pub fn owner(&self) -> Option<NameRef<'z>>
+        ensures name { MatchOption result (at self.now.zone self.now.name ≡ [])
+            (λ n. n ≡ self.now.name) }
+        ensures node { IsNode self.now.zone self.now.name }
+    {
+        let first = self.own().first()?;
+        Some(first.owner())
+    }
+
+    /// The records of the lowest type at the name; `None` where it owns none.
+    pub fn first_set(&self) -> Option<RecordSet<'z>>
+        ensures set { result ≡ set_of (of_lowest_type (at self.now.zone self.now.name)) }
+        ensures kept { IfSome result (IsSetOf self.now) }
+    {
+        let own = self.own();
+        let first = own.first()?;
+        self.set(first.rtype)
+    }
+
+    // The records of the name, by their types.
+    fn own(&self) -> &'z [Entry]
+        ensures own { result.now ≡ at self.now.zone self.now.name }
+        ensures by_types { IsNonDecreasingBy (λ (r : ResourceRecord). r.rtype) result.now }
+        ensures node { IsNode self.now.zone self.now.name }
+    {
+        let row = &self.tree.rows.lent()[self.row.0];
+        &self.tree.zone.records()[row.first as usize..row.own_end as usize]
+    }
+}
+
+// The lead of the record at a place, where one is kept and the record is of the type.
+fn lead_at<'z>(tree: &'z Tree, place: usize, rtype: RType) -> Option<Lead<'z>>
+    requires { IsZoneTree tree.now }
+    ensures { IfSome result (λ v. (v.zone ≡ tree.now.zone)
+        × IsLead tree.now.zone rtype.0 v.name) }
+{
+    let (records, leads) = (tree.zone.records(), tree.leads.lent());
+    if place >= records.len() || place >= leads.len() {
+        return None;
+    }
+    let (record, lead) = (&records[place], leads[place]);
+    if lead == 0 || record.rtype.0 != rtype.0 {
+        return None;
+    }
+    Some(Lead {
+        node: Node::at(tree, RowNumber(lead)),
+    })
+}
+
+// The row of the child of this label, if that name exists. Each comparison of labels is counted.
+pub(crate) fn kid_of(
+    tree: &Tree,
+    row: RowNumber,
+    label: &Label<'_>,
+    steps: &mut Steps<'_>,
+) -> Option<RowNumber>
+    requires at { IsNodeAt tree.now row.0 }
+    requires comparisons { steps.old.comparisons ≤ 4294967278 }
+
+    ensures child { IsSome result ↔ IsTrue
+        (exists tree.now.zone (label.now ∷ (node_at tree.now row.0).name)) }
+    ensures at { IfSome result (λ k. IsNodeAt tree.now k.0) }
+    ensures node { IfSome result (λ k. node_at tree.now k.0 ≡ record {
+      zone = tree.now.zone;
+      name = map to_ascii_lowercase label.now ∷ (node_at tree.now row.0).name;
+    }) }
+
+    ensures rise { steps.old.comparisons ≤ steps.new.comparisons }
+    ensures bound { steps.new.comparisons ≤ steps.old.comparisons + 17 }
+    ensures compared { IfSome result (λ _. steps.old.comparisons < steps.new.comparisons) }
+    ensures visits { steps.new.visits ≡ steps.old.visits }
+    ensures same_zone { steps.new.zone ≡ steps.old.zone }
+{
+    let (start, kids) = kids_of(tree, row);
+    let found = find(tree.zone.records(), kids, label.octets(), steps)?;
+    Some(RowNumber(start + found))
+}
+
+// The number of the first child of a row, and its children.
+fn kids_of<'z>(tree: &'z Tree, row: RowNumber) -> (usize, &'z [Row])
+    requires { IsNodeAt tree.now row.0 }
+    ensures start { result.0 ≡ get_or tree.now.bounds row.0 0 }
+    ensures fits { result.0 + length result.1.now ≤ 18446744073709551615 }
+    ensures kids { result.1.now ≡ kids_at tree.now.rows tree.now.bounds row.0 }
+{
+    let bounds = tree.bounds.lent();
+    let start = bounds[row.0];
+    (start, &tree.rows.lent()[start..bounds[row.0 + 1]])
+}

@@ -1,0 +1,87 @@
+//! A label, found among those of children by binary search.
+ghost use Rattle.std.specs.Prelude.{◌≡◌, ◌+◌, ◌<◌, ◌≤◌, map, length, IfSome, IsNone};
+ghost use Rattle.std.specs.Char.{to_ascii_lowercase};
+ghost use Rattle.dns_spec.specs.Names.{label_order};
+ghost use Rattle.dns_spec.specs.Meaning.{most_records};
+ghost use Rattle.dns_spec.proofs.Records.SortedOnce.{Each, Among, Rises};
+ghost use Rattle.dns_zone.specs.LabelKey.{IsKey};
+ghost use Rattle.dns_zone.specs.TreeForm.{row_label, row_name, row_at, IsRow};
+
+use crate::store::entry::Entry;
+use crate::tree::label_key::{KEY_OCTETS, label_key, order_to};
+use crate::tree::octets_of;
+use crate::tree::row::Row;
+use crate::tree::steps::Steps;
+use dns_name::first_label;
+use std::cmp::Ordering;
+
+/// Which of the children has the label, in lower case, if one has it. Each comparison is counted:
+/// they are at most 17, since 100,000 children are fewer than 2 ^ 17.
+pub(crate) fn find(
+    records: &[Entry],
+    kids: &[Row],
+    label: &[u8],
+    steps: &mut Steps<'_>,
+) -> Option<usize>
+    requires rows { Each (λ k. IsRow records.now k (row_name records.now k)) kids.now }
+    requires rising { Rises label_order (map (row_label records.now) kids.now) }
+    requires few { length kids.now ≤ most_records }
+    requires comparisons { steps.old.comparisons ≤ 4294967278 }
+
+    ensures found { IfSome result (λ k. (k < length kids.now)
+        × (row_label records.now (row_at kids.now k) ≡ map to_ascii_lowercase label.now)) }
+    ensures none { IsNone result → Among (map to_ascii_lowercase label.now)
+        (map (row_label records.now) kids.now) → ⊥ }
+
+    ensures rise { steps.old.comparisons ≤ steps.new.comparisons }
+    ensures bound { steps.new.comparisons ≤ steps.old.comparisons + 17 }
+    ensures compared { IfSome result (λ _. steps.old.comparisons < steps.new.comparisons) }
+    ensures visits { steps.new.visits ≡ steps.old.visits }
+    ensures zone { steps.new.zone ≡ steps.old.zone }
+{
+    let key = label_key(label);
+    let (mut low, mut high) = (0, kids.len());
+    'halves: while low < high {
+        let middle = (low + high) / 2;
+        match order(records, &kids[middle], key, label, steps) {
+            Ordering::Less => low = middle + 1,
+            Ordering::Equal => return Some(middle),
+            Ordering::Greater => high = middle,
+        }
+    }
+    None
+}
+
+// The order of a row's label and of another, whose key this is: one comparison, which is counted.
+// Mostly their keys differ. Where these are the same, a label that has no octets beyond its key
+// begins the other.
+fn order(records: &[Entry], row: &Row, key: u64, label: &[u8], steps: &mut Steps<'_>) -> Ordering
+    requires row { IsRow records.now row.now (row_name records.now row.now) }
+    requires key { IsKey key (map to_ascii_lowercase label.now) }
+    requires room { steps.old.comparisons < 4294967295 }
+    ensures order { result ≡ label_order (row_label records.now row.now)
+        (map to_ascii_lowercase label.now) }
+    ensures counted { steps.new ≡ record steps.old { comparisons = steps.old.comparisons + 1 } }
+{
+    steps.count_comparison();
+    if row.key != key {
+        return row.key.cmp(&key);
+    }
+    let count = usize::from(row.label_octets);
+    if count <= KEY_OCTETS || label.len() <= KEY_OCTETS {
+        return count.cmp(&label.len());
+    }
+    let own = label_of(records, row);
+    order_to(own.split_at(KEY_OCTETS).1, label.split_at(KEY_OCTETS).1)
+}
+
+// The first label of a row's name. The root has none.
+fn label_of<'a>(records: &'a [Entry], row: &Row) -> &'a [u8]
+    requires { IsRow records.now row.now (row_name records.now row.now) }
+    ensures { result.now ≡ row_label records.now row.now }
+{
+    match first_label(octets_of(records, row)) {
+        Some((label, _)) => label.octets(),
+        None => &[],
+    }
+}

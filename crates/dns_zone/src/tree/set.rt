@@ -1,0 +1,87 @@
+//! The record sets of a node, lent out of the zone.
+ghost use Rattle.std.specs.Prelude.{◌≡◌, ◌<◌, [], length, get_or, IfSome};
+ghost use Rattle.dns_spec.specs.Names.{folded};
+ghost use Rattle.dns_spec.specs.Data.{target};
+ghost use Rattle.dns_spec.specs.Sets.{set_of};
+ghost use Rattle.dns_zone.specs.SetForm.{AreOfType, data_of};
+
+use crate::checks::target::target;
+use crate::store::entry::Entry;
+use dns_name::NameRef;
+use dns_rdata::{RType, SetView};
+use std::marker::Model;
+
+/// The records of one type at a name of a zone, by their data octets, a beginning first
+/// (RFC 2181 5).
+#[derive(Drop)]
+pub struct RecordSet<'z> {
+    rtype: RType,
+    ttl: u32,
+    records: &'z [Entry],
+}
+
+impl<'z> Model for RecordSet<'z> {
+    ghost use Rattle.dns_spec.specs.Sets.{RecordSet as LentSet};
+    ghost use Rattle.dns_zone.specs.SetForm.{lent, IsLent};
+
+    ghost Value = { LentSet };
+
+    ghost view = { λ s. lent s.rtype.0 s.ttl s.records.now };
+
+    ghost invariant = { λ s. IsLent s.rtype.0 s.records.now };
+}
+
+impl<'z> RecordSet<'z> {
+    /// The first name in the data of the record at `i`, the first at 0, lent out of the zone: of NS
+    /// the server, of CNAME the alias's target, of MX the exchange (RFC 1035 3.3.1, 3.3.9, 3.3.11).
+    /// It is in lower case. Condition: `i` is below `len`.
+    pub fn target(&self, i: usize) -> Option<NameRef<'z>>
+        requires { i < length self.now.rdata }
+        ensures value { result ≡ target self.now.rtype (get_or self.now.rdata i []) }
+        ensures lower { IfSome result (λ m. folded m ≡ m) }
+    {
+        let records = self.records;
+        target(&records[i])
+    }
+}
+
+// The set that records of one type and one TTL make; no records make none.
+pub(crate) fn lent_set<'z>(records: &'z [Entry]) -> Option<RecordSet<'z>>
+    requires { AreOfType records.now }
+    ensures { result ≡ set_of records.now }
+{
+    let first = records.first()?;
+    Some(RecordSet {
+        rtype: first.rtype,
+        ttl: first.ttl,
+        records,
+    })
+}
+
+impl SetView for RecordSet<'_> {
+    ghost set = { λ s. s };
+
+    fn rtype(&self) -> RType {
+        self.rtype
+    }
+
+    fn ttl(&self) -> u32 {
+        self.ttl
+    }
+
+    fn len(&self) -> usize {
+        self.records.len()
+    }
+
+    fn rdata(&self, i: usize) -> &[u8] {
+        data_at(self.records, i)
+    }
+}
+
+fn data_at(records: &[Entry], i: usize) -> &[u8]
+    requires { i < length (data_of records.now) }
+    ensures { result.now ≡ get_or (data_of records.now) i [] }
+{
+    let record = &records[i];
+    record.rdata()
+}
