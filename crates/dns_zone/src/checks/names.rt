@@ -138,7 +138,7 @@ fn is_cut(origin: &[u8], key: &[u8], own: &[Entry]) -> bool
         → origin.now ≡ name_key z.origin → key.now ≡ name_key n → own.now ≡ at z n
         → result ≡ is_cut z n }
 {
-    is_below(key, origin) && has_type(own, RType::NS)
+    has_type(own, RType::NS) && is_below(key, origin)
 }
 
 /// Whether a key begins with so many octets of another, one at least.
