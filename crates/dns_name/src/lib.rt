@@ -18,6 +18,3 @@ pub use name::Name;
 pub use octets::are_equal;
 pub use tally::{SinkFailed, SourceFailed, Tally};
 pub use text::{NameFault, first_digit, first_octet};
-
-#[cfg(test)]
-mod tests;

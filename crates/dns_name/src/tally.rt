@@ -131,6 +131,3 @@ impl<T: Write> Tally<T> {
         Ok(())
     }
 }
-
-#[cfg(test)]
-mod tests;

@@ -12,6 +12,3 @@ pub use datagrams::{Datagrams, Failed};
 pub use fault::{StreamFault, TurnFault};
 pub use stream::{StreamRoom, serve_stream, serve_stream_in};
 pub use turn::{udp_turn, udp_turn_in};
-
-#[cfg(test)]
-mod tests;

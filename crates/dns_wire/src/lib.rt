@@ -24,6 +24,3 @@ pub use query::{QueryRead, QueryRef, Rcode, lent_query, read_query};
 pub use quick_hash::QuickHash;
 pub use reader::read_message;
 pub use writer::Writer;
-
-#[cfg(test)]
-mod tests;

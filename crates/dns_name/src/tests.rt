@@ -1,3 +1,0 @@
-mod comparing;
-mod text;
-mod written;

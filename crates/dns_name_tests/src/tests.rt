@@ -1,0 +1,4 @@
+mod comparing;
+mod tally;
+mod text;
+mod written;

@@ -1,0 +1,152 @@
+ghost use Rattle.std.specs.Prelude.{◌≡◌, IfOk};
+
+use dns_name::{SinkFailed, SourceFailed, Tally};
+use std::io::{self, ErrorKind, Read, Write};
+use std::test::Fail;
+
+/// A device whose first calls work and whose later ones all fail.
+#[derive(Drop)]
+struct Fading {
+    calls_left: u8,
+}
+
+impl Fading {
+    fn call(&mut self, count: usize) -> io::Result<usize>
+        ensures { IfOk result (λ n. n ≡ count) }
+    {
+        if self.calls_left == 0 {
+            return Err(io::Error::from(ErrorKind::Other));
+        }
+        self.calls_left -= 1;
+        Ok(count)
+    }
+}
+
+impl Read for Fading {
+    fn read(&mut self, buf: &mut [u8]) -> io::Result<usize> {
+        self.call(buf.len().min(1))
+    }
+}
+
+impl Write for Fading {
+    fn write(&mut self, piece: &[u8]) -> io::Result<usize> {
+        self.call(piece.len().min(1))
+    }
+
+    fn flush(&mut self) -> io::Result<()> {
+        Ok(())
+    }
+}
+
+#[test]
+fn a_short_read_and_the_end_are_no_failures(rt: HostRuntime) {
+    let mut source = Tally::new(b"abc".as_slice());
+    let mut piece = [0; 2];
+    for wanted in [(2, [b'a', b'b']), (1, [b'c', b'b']), (0, [b'c', b'b'])] {
+        assert_eq!(rt; source.failures(), 0);
+        assert_eq!(rt; source.read(&mut piece), Ok(wanted.0));
+        assert_eq!(rt; piece, wanted.1);
+    }
+    assert_eq!(rt; source.failures(), 0);
+    assert_eq!(rt; source.into_inner().len(), 0);
+}
+
+#[test]
+fn what_is_written_stands_in_the_device(rt: HostRuntime) -> Result<(), Fail> {
+    let mut sink = Tally::new(Vec::new(rt.alloc()));
+    assert_eq!(rt; sink.write(b"ab"), Ok(2));
+    assert_eq!(rt; sink.write_all(b"cd"), Ok(()));
+    assert_eq!(rt; sink.write_parts(&[b"e", b"", b"fg"]), Ok(()));
+    assert_eq!(rt; sink.failures(), 0);
+    assert_eq!(rt; sink.into_inner().as_slice(), b"abcdefg".as_slice());
+    Ok(())
+}
+
+#[test]
+fn each_failure_is_counted_once(rt: HostRuntime) {
+    let mut source = Tally::new(Fading { calls_left: 1 });
+    assert_eq!(rt; source.read(&mut [0; 4]), Ok(1));
+    assert_eq!(rt; source.failures(), 0);
+    assert_eq!(rt; source.read(&mut [0; 4]), Err(SourceFailed));
+    assert_eq!(rt; source.failures(), 1);
+
+    let mut sink = Tally::new(Fading { calls_left: 2 });
+    assert_eq!(rt; sink.write_all(b"abc"), Err(SinkFailed));
+    assert_eq!(rt; sink.failures(), 1);
+    assert_eq!(rt; sink.write_parts(&[b"", b"d", b"e"]), Err(SinkFailed));
+    assert_eq!(rt; sink.failures(), 2);
+}
+
+#[test]
+fn a_write_that_takes_nothing_is_a_failure(rt: HostRuntime) {
+    let mut room = [0; 3];
+    let mut sink = Tally::new(room.as_mut_slice());
+    assert_eq!(rt; sink.write(b""), Ok(0));
+    assert_eq!(rt; sink.write_all(b"abc"), Ok(()));
+    assert_eq!(rt; sink.failures(), 0);
+    assert_eq!(rt; sink.write(b""), Ok(0));
+    assert_eq!(rt; sink.write(b"d"), Err(SinkFailed));
+    assert_eq!(rt; sink.failures(), 1);
+}
+
+/// A device of which one call fails, and which would work again after it. Its calls are counted.
+#[derive(Drop)]
+struct FailsOnce {
+    fails_at: u32,
+    calls: u32,
+}
+
+impl FailsOnce {
+    fn call(&mut self, count: usize) -> io::Result<usize>
+        ensures { IfOk result (λ n. n ≡ count) }
+    {
+        let fails = self.calls == self.fails_at;
+        self.calls = self.calls.saturating_add(1);
+        if fails {
+            return Err(io::Error::from(ErrorKind::Other));
+        }
+        Ok(count)
+    }
+}
+
+impl Read for FailsOnce {
+    fn read(&mut self, buf: &mut [u8]) -> io::Result<usize> {
+        self.call(buf.len().min(1))
+    }
+}
+
+impl Write for FailsOnce {
+    fn write(&mut self, piece: &[u8]) -> io::Result<usize> {
+        self.call(piece.len().min(1))
+    }
+
+    fn flush(&mut self) -> io::Result<()> {
+        Ok(())
+    }
+}
+
+#[test]
+fn nothing_is_asked_after_a_failure(rt: HostRuntime) {
+    for (fails_at, calls) in [(0, 1), (1, 2), (2, 3)] {
+        let mut sink = Tally::new(FailsOnce { fails_at, calls: 0 });
+        assert_eq!(rt; sink.write_all(b"abc"), Err(SinkFailed));
+        assert_eq!(rt; sink.into_inner().calls, calls);
+
+        let mut sink = Tally::new(FailsOnce { fails_at, calls: 0 });
+        assert_eq!(rt; sink.write_parts(&[b"a", b"", b"bc"]), Err(SinkFailed));
+        assert_eq!(rt; sink.into_inner().calls, calls);
+    }
+    let mut sink = Tally::new(FailsOnce {
+        fails_at: 0,
+        calls: 0,
+    });
+    assert_eq!(rt; sink.write(b"abc"), Err(SinkFailed));
+    assert_eq!(rt; sink.into_inner().calls, 1);
+
+    let mut source = Tally::new(FailsOnce {
+        fails_at: 0,
+        calls: 0,
+    });
+    assert_eq!(rt; source.read(&mut [0; 4]), Err(SourceFailed));
+    assert_eq!(rt; source.into_inner().calls, 1);
+}

@@ -1,0 +1,97 @@
+use dns_name::{Name, NameFault};
+use std::test::Fail;
+
+const LABEL: [u8; 63] = [b'x'; 63];
+
+const OCTETS_53: [u8; 53] = [b'y'; 53];
+
+const OCTETS_54: [u8; 54] = [b'y'; 54];
+
+// A name without a final dot goes on with `example.`
+fn read(word: &[u8]) -> Result<Name, NameFault> {
+    let origin = Name::read_text(b"example.", &Name::root())?;
+    Name::read_text(word, &origin)
+}
+
+fn fault(word: &[u8]) -> u8 {
+    match read(word) {
+        Ok(_) => 0,
+        Err(fault) => fault.code(),
+    }
+}
+
+#[test]
+fn names_read(rt: HostRuntime) -> Result<(), Fail> {
+    let rows: [(&[u8], &[u8]); 12] = [
+        (b"www", b"\x03www\x07example\x00"),
+        (b"WwW.a", b"\x03WwW\x01a\x07example\x00"),
+        (b"www.", b"\x03www\x00"),
+        (b"@", b"\x07example\x00"),
+        (b".", b"\x00"),
+        (b"\\@", b"\x01@\x07example\x00"),
+        (b"a@b.", b"\x03a@b\x00"),
+        (b"a\\.b.", b"\x03a.b\x00"),
+        (b"a\\\\.", b"\x02a\\\x00"),
+        (b"\\000\\255.", b"\x02\x00\xff\x00"),
+        (b"\\0656.", b"\x02A6\x00"),
+        (b" \x7f\xff.", b"\x03 \x7f\xff\x00"),
+    ];
+    for (word, octets) in rows {
+        assert_eq!(rt; read(word)?.octets(), octets, "at {word:?}");
+    }
+    Ok(())
+}
+
+// In a label a bad escape goes before an empty or a long label, and a faulty label before a long
+// name.
+#[test]
+fn fault_order(rt: HostRuntime) {
+    let rows: [(&[u8], u8); 15] = [
+        (b"", 1),
+        (b"..", 1),
+        (b".a", 1),
+        (b"a..b", 1),
+        (b"a..\\", 1),
+        (b"\\", 4),
+        (b"a\\", 4),
+        (b"\\1x2", 4),
+        (b"\\12", 4),
+        (b"\\256", 4),
+        (b"\\999.", 4),
+        (b"\\\x1f", 4),
+        (b"\\\x7f", 4),
+        (b"a.\\..", 0),
+        (b"\\1..", 4),
+    ];
+    for (word, code) in rows {
+        assert_eq!(rt; fault(word), code, "at {word:?}");
+    }
+}
+
+// Four labels of 63 octets are faultless, and too long together.
+#[test]
+fn long_labels_and_names(rt: HostRuntime) -> Result<(), Fail> {
+    let label = LABEL.as_slice();
+    let three = [label, b".", label, b".", label, b"."];
+    // With `example.` three of them and one of 53 octets fill 255 octets on the wire.
+    let rows: [(&[&[u8]], u8); 10] = [
+        (&[&OCTETS_53], 0),
+        (&[&OCTETS_54], 3),
+        (&[&OCTETS_54, b"."], 0),
+        (&[label, b"."], 3),
+        (&[label, b"x"], 2),
+        (&[label, b"\\x"], 2),
+        (&[&OCTETS_53, b"\\x"], 3),
+        (&[label, b"..a"], 1),
+        (&[label, b".\\"], 4),
+        (&[label, b"x\\"], 4),
+    ];
+    for (last, code) in rows {
+        let mut word = Vec::new(rt.alloc());
+        for part in three.iter().chain(last.iter()) {
+            word.extend_from_slice(*part)?;
+        }
+        assert_eq!(rt; fault(&word), code, "at {last:?}");
+    }
+    Ok(())
+}

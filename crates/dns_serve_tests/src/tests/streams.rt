@@ -1,0 +1,244 @@
+use super::devices::{Kept, Pieces};
+use super::zones::{WWW, WWW_REPLY, sample};
+use dns_name::Tally;
+use dns_serve::{StreamFault, StreamRoom, serve_stream, serve_stream_in};
+use std::alloc::Global;
+use std::test::Fail;
+
+/// What a session left: its answer, what was written, and how many octets were not read.
+#[derive(Drop)]
+struct Left {
+    answer: Result<u32, StreamFault>,
+    written: Vec<u8>,
+    unread: usize,
+    failures: (u64, u64),
+}
+
+// How the devices behave: how many octets a call moves at most, and how many calls of each work
+// before one fails.
+#[derive(Clone, Copy)]
+struct Devices {
+    most: usize,
+    reads: u32,
+    writes: u32,
+}
+
+const ALL_WORK: Devices = Devices {
+    most: 100_000,
+    reads: 1_000_000,
+    writes: 1_000_000,
+};
+
+fn session(alloc: Global, input: &[u8], most: u32, devices: Devices) -> Result<Left, Fail> {
+    let zone = sample(alloc)?;
+    let mut source = Tally::new(Pieces {
+        text: input,
+        most: devices.most,
+        calls_left: devices.reads,
+    });
+    let mut sink = Tally::new(Kept {
+        text: Vec::new(alloc),
+        most: devices.most,
+        calls_left: devices.writes,
+    });
+    let answer = serve_stream(&zone, &mut source, &mut sink, most);
+    let failures = (source.failures(), sink.failures());
+    let (source, sink) = (source.into_inner(), sink.into_inner());
+    // Both would work again after their failure.
+    if (source.calls_left == u32::MAX) != (answer == Err(StreamFault::SourceFailed)) {
+        return Err(Fail::new("a source that is asked after its failure"));
+    }
+    if (sink.calls_left == u32::MAX) != (answer == Err(StreamFault::SinkFailed)) {
+        return Err(Fail::new("a sink that is asked after its failure"));
+    }
+    Ok(Left {
+        answer,
+        written: sink.text,
+        unread: source.text.len(),
+        failures,
+    })
+}
+
+// What gets no reply: it is shorter than a header.
+const ABSENT: &[u8] = b"\x12\x34\x00\x00\x00\x01\x00\x00\x00\x00\x00";
+
+// The header of a reply to what is no query.
+const REFUSED: &[u8] = b"\x12\x34\x80\x01\x00\x00\x00\x00\x00\x00\x00\x00";
+
+// Adds a message after its length in two octets.
+fn add_frame(octets: &mut Vec<u8>, message: &[u8]) -> Result<(), Fail> {
+    let Ok(length) = u16::try_from(message.len()) else {
+        return Err(Fail::new("a long message"));
+    };
+    octets.extend_from_slice(&length.to_be_bytes())?;
+    octets.extend_from_slice(message)?;
+    Ok(())
+}
+
+// Messages in their frames, a letter for each: `w` the question, `W` its reply, `a` what gets no
+// reply, `e` no octets, `l` the question with zeros up to 600 octets, `R` the reply to that.
+fn frames(alloc: Global, letters: &str) -> Result<Vec<u8>, Fail> {
+    let mut long = Vec::new(alloc);
+    long.extend_from_slice(WWW)?;
+    long.resize(600, 0)?;
+    let mut octets = Vec::new(alloc);
+    for letter in letters.as_bytes() {
+        match letter {
+            b'w' => add_frame(&mut octets, WWW)?,
+            b'W' => add_frame(&mut octets, WWW_REPLY)?,
+            b'a' => add_frame(&mut octets, ABSENT)?,
+            b'l' => add_frame(&mut octets, long.as_slice())?,
+            b'R' => add_frame(&mut octets, REFUSED)?,
+            _ => add_frame(&mut octets, b"")?,
+        }
+    }
+    Ok(octets)
+}
+
+#[test]
+fn messages_and_their_replies(rt: HostRuntime) -> Result<(), Fail> {
+    let alloc = rt.alloc();
+    // The messages, how many are asked for, those that are read, and the replies.
+    let rows = [
+        ("waw", 9, "waw", "WW"),
+        ("ww", 1, "w", "W"),
+        ("w", 0, "", ""),
+        ("e", 9, "e", ""),
+        ("l", 9, "l", "R"),
+        ("", 9, "", ""),
+    ];
+    for (messages, most, read, replies) in rows {
+        let input = frames(alloc, messages)?;
+        let wanted = frames(alloc, replies)?;
+        let unread = input.len().saturating_sub(frames(alloc, read)?.len());
+        for piece in [1, 2, 3, 512, 100_000] {
+            let devices = Devices {
+                most: piece,
+                ..ALL_WORK
+            };
+            let left = session(alloc, input.as_slice(), most, devices)?;
+            assert_eq!(rt; left.answer.map(|count| count as usize), Ok(read.len()));
+            assert!(rt; left.written == wanted, "of {messages}");
+            assert_eq!(rt; left.unread, unread, "of {messages}");
+            assert_eq!(rt; left.failures, (0, 0));
+        }
+    }
+    Ok(())
+}
+
+#[test]
+fn sessions_in_one_room(rt: HostRuntime) -> Result<(), Fail> {
+    let alloc = rt.alloc();
+    let zone = sample(alloc)?;
+    let mut room = StreamRoom::new();
+    for (messages, replies) in [("wal", "WR"), ("w", "W"), ("", ""), ("lw", "RW")] {
+        let input = frames(alloc, messages)?;
+        let mut source = Tally::new(input.as_slice());
+        let mut sink = Tally::new(Vec::new(alloc));
+        let answer = serve_stream_in(&zone, &mut source, &mut sink, 9, &mut room);
+        assert_eq!(rt; answer.map(|count| count as usize), Ok(messages.len()));
+        assert!(rt;
+            sink.into_inner() == frames(alloc, replies)?,
+            "of {messages}"
+        );
+    }
+    Ok(())
+}
+
+#[test]
+fn streams_that_are_cut(rt: HostRuntime) -> Result<(), Fail> {
+    let alloc = rt.alloc();
+    let left = session(alloc, b"\x00", 9, ALL_WORK)?;
+    assert_eq!(rt; left.answer, Err(StreamFault::Cut));
+    assert_eq!(rt; left.written.len(), 0);
+    let two = frames(alloc, "ww")?;
+    let reply = frames(alloc, "W")?;
+    for length in [1, 2, 3, 30, 32, 33, 34, 60, 61] {
+        let Some(input) = two.as_slice().get(..length) else {
+            return Err(Fail::new("too few octets"));
+        };
+        let left = session(alloc, input, 9, ALL_WORK)?;
+        assert_eq!(rt; left.answer, Err(StreamFault::Cut), "at {length}");
+        let due = if length < 31 { 0 } else { reply.len() };
+        assert_eq!(rt; left.written.len(), due, "at {length}");
+        assert!(rt; reply.as_slice().starts_with(left.written.as_slice()));
+    }
+    Ok(())
+}
+
+#[test]
+fn each_read_fails_in_turn(rt: HostRuntime) -> Result<(), Fail> {
+    let alloc = rt.alloc();
+    let input = frames(alloc, "waw")?;
+    let wanted = frames(alloc, "WW")?;
+    for most in [1, 7, 100_000] {
+        for reads in 0..200 {
+            let devices = Devices {
+                most,
+                reads,
+                ..ALL_WORK
+            };
+            let left = session(alloc, input.as_slice(), 9, devices)?;
+            if left.answer == Ok(3) {
+                break;
+            }
+            assert_eq!(rt; left.answer, Err(StreamFault::SourceFailed));
+            assert_eq!(rt; left.failures, (1, 0));
+            // The first message ends after 31 octets, the last one after 75.
+            let due = match input.len().saturating_sub(left.unread) {
+                0..31 => 0,
+                31..75 => 47,
+                _ => 94,
+            };
+            assert_eq!(rt; left.written.len(), due, "after {reads} reads");
+            assert!(rt; wanted.as_slice().starts_with(left.written.as_slice()));
+        }
+    }
+    Ok(())
+}
+
+#[test]
+fn each_write_fails_in_turn(rt: HostRuntime) -> Result<(), Fail> {
+    let alloc = rt.alloc();
+    let input = frames(alloc, "waw")?;
+    let wanted = frames(alloc, "WW")?;
+    for most in [1, 7, 100_000] {
+        for writes in 0..200 {
+            let devices = Devices {
+                most,
+                writes,
+                ..ALL_WORK
+            };
+            let left = session(alloc, input.as_slice(), 9, devices)?;
+            if left.answer == Ok(3) {
+                break;
+            }
+            assert_eq!(rt; left.answer, Err(StreamFault::SinkFailed));
+            assert_eq!(rt; left.failures, (0, 1));
+            // Nothing is read after the message whose reply could not be written.
+            let read = if left.written.len() < 47 { 31 } else { 75 };
+            assert_eq!(rt; input.len().saturating_sub(left.unread), read);
+            assert!(rt; wanted.as_slice().starts_with(left.written.as_slice()));
+        }
+    }
+    Ok(())
+}
+
+#[test]
+fn a_sink_that_takes_nothing_fails(rt: HostRuntime) -> Result<(), Fail> {
+    let zone = sample(rt.alloc())?;
+    let input = frames(rt.alloc(), "waw")?;
+    let mut source = Tally::new(input.as_slice());
+    let mut sink = Tally::new(Kept {
+        text: Vec::new(rt.alloc()),
+        most: 0,
+        calls_left: 9,
+    });
+    let answer = serve_stream(&zone, &mut source, &mut sink, 9);
+    assert_eq!(rt; answer, Err(StreamFault::SinkFailed));
+    assert_eq!(rt; sink.failures(), 1);
+    assert_eq!(rt; sink.into_inner().calls_left, 8);
+    // The first message was read, after its length.
+    assert_eq!(rt; input.len().saturating_sub(source.into_inner().len()), 31);
+    Ok(())
+}

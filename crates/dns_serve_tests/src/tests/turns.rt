@@ -1,0 +1,65 @@
+use super::devices::Mailbox;
+use super::zones::{WWW, WWW_REPLY, sample};
+use dns_answer::UdpDraft;
+use dns_serve::{Datagrams, TurnFault, udp_turn, udp_turn_in};
+use std::test::Fail;
+
+#[test]
+fn a_datagram_and_its_reply(rt: HostRuntime) -> Result<(), Fail> {
+    let zone = sample(rt.alloc())?;
+    let mut long = Vec::new(rt.alloc());
+    long.extend_from_slice(WWW)?;
+    long.resize(600, 0)?;
+    let rows: [(&[u8], bool, &[u8]); 4] = [
+        (WWW, true, WWW_REPLY),
+        (b"", false, b""),
+        (WWW_REPLY, false, b""),
+        (
+            long.as_slice(),
+            true,
+            b"\x12\x34\x80\x01\x00\x00\x00\x00\x00\x00\x00\x00",
+        ),
+    ];
+    let (mut room, mut draft, mut out) = ([0; 512], UdpDraft::new(), [0; 512]);
+    for (datagram, replied, reply) in rows {
+        let mut mailbox = Mailbox {
+            datagram,
+            replies: Vec::new(rt.alloc()),
+            sends: 0,
+            fails_at: 9,
+            calls: 0,
+            failures: 0,
+        };
+        let turn = udp_turn_in(&zone, &mut mailbox, &mut room, &mut draft, &mut out);
+        assert_eq!(rt; turn, Ok(replied));
+        assert_eq!(rt; mailbox.replies.as_slice(), reply);
+        assert_eq!(rt; mailbox.sends, u32::from(replied));
+        assert_eq!(rt; mailbox.failures(), 0);
+    }
+    Ok(())
+}
+
+#[test]
+fn each_call_fails_in_turn(rt: HostRuntime) -> Result<(), Fail> {
+    let zone = sample(rt.alloc())?;
+    let rows = [
+        (0, Err(TurnFault::ReceiveFailed), 1),
+        (1, Err(TurnFault::SendFailed), 2),
+        (2, Ok(true), 2),
+    ];
+    for (fails_at, wanted, calls) in rows {
+        let mut mailbox = Mailbox {
+            datagram: WWW,
+            replies: Vec::new(rt.alloc()),
+            sends: 0,
+            fails_at,
+            calls: 0,
+            failures: 0,
+        };
+        assert_eq!(rt; udp_turn(&zone, &mut mailbox), wanted);
+        assert_eq!(rt; mailbox.calls, calls);
+        assert_eq!(rt; mailbox.failures(), u64::from(wanted.is_err()));
+        assert_eq!(rt; mailbox.sends, u32::from(wanted.is_ok()));
+    }
+    Ok(())
+}
