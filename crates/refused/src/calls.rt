@@ -1,9 +1,10 @@
 //! Calls that take memory, and calls that take none. Each adds what came of it to what is said.
 
-use crate::samples::{CUT_STREAM, FILE, QUERIES, STREAM};
+use crate::samples::{CUT_STREAM, QUERIES, STREAM};
 use dns_answer::{Limit, respond};
 use dns_master::read_zone;
 use dns_name::{Name, NameFault, Tally};
+use dns_samples_tests::MIXED;
 use dns_serve::serve_stream;
 use dns_tools::{FaultWord, Flags, check_zone};
 use dns_zone::{BuildFault, Steps, Zone};
@@ -22,7 +23,7 @@ pub(crate) fn check(alloc: Global, said: &mut String) -> Result<(), FaultWord> {
         print: true,
     };
     let mut room = [0; 1_024];
-    let mut source = Tally::new(FILE.as_bytes());
+    let mut source = Tally::new(MIXED.as_bytes());
     let mut sink = Tally::new(&mut room[..]);
     let outcome = check_zone(alloc, &example()?, flags, &mut source, &mut sink);
     let left = sink.into_inner().len();
@@ -38,7 +39,7 @@ fn written(room: &[u8], left: usize) -> &[u8] {
 
 /// Reads the file and builds its zone.
 pub(crate) fn read_and_build(alloc: Global, said: &mut String) -> Result<(), FaultWord> {
-    let records = match read_zone(alloc, &example()?, &mut Tally::new(FILE.as_bytes())) {
+    let records = match read_zone(alloc, &example()?, &mut Tally::new(MIXED.as_bytes())) {
         Ok(records) => records,
         Err(fault) => return Ok(writeln!(said, "read_zone: {:?}", fault.code)?),
     };

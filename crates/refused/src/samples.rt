@@ -1,17 +1,4 @@
-//! What is read: a zone file, a message, questions and streams.
-
-/// A file with entries over several lines, origins that change, and data of many forms.
-pub(crate) const FILE: &str = "$TTL 60
-@ SOA ns h ( 1 2
- 3 4 ; c
- 5 )
- NS ns
-ns A 192.0.2.1
- AAAA 2001:DB8:0:0:1::1
-$ORIGIN deep
-a\\.b 7 IN TXT hi \"x;y\"
- CLASS1 9 TYPE65280 \\# 3 AB cdef
-";
+//! What is read: a message, questions and streams.
 
 /// A name error: a question, and an SOA with three names that end in pointers.
 pub(crate) const MESSAGE: &[u8] = b"\x12\x34\x84\x03\x00\x01\x00\x00\x00\x01\x00\x00\

@@ -2,22 +2,10 @@
 
 use dns_master::read_zone;
 use dns_name::{Name, Tally};
+use dns_samples_tests::SMALL;
 use dns_zone::{BuildFault, Zone};
 use std::alloc::Global;
 use std::test::Fail;
-
-// A zone with an address, a wildcard, an empty non-terminal, an alias and a cut with glue.
-const SMALL: &str = "$TTL 3600
-@ SOA ns hostmaster 1 7200 900 1209600 300
-@ NS ns
-ns A 192.0.2.1
-www A 192.0.2.10
-alias CNAME www
-*.w TXT \"any\"
-a.b.ent A 192.0.2.11
-sub NS ns.sub
-ns.sub A 192.0.2.53
-";
 
 // Aliases in a ring, and sets with targets.
 const MORE: &str = "r1 CNAME r2

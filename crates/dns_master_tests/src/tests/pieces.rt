@@ -2,9 +2,10 @@
 //! more taken of a source than decides its fault.
 
 use super::reading::{Pieces, Row, by, example, fault, read, repeated};
-use super::records::{MIXED, MIXED_MEANS, judge_all};
+use super::records::{MIXED_MEANS, judge_all};
 use dns_master::read_zone;
 use dns_name::Tally;
+use dns_samples_tests::MIXED;
 use std::alloc::{AllocError, Global};
 use std::test::Fail;
 
@@ -86,10 +87,10 @@ fn a_fault_of_an_entry_of_many_pieces(rt: HostRuntime) -> Result<(), Fail> {
 
 #[test]
 fn a_file_from_sources_of_few_octets(rt: HostRuntime) -> Result<(), Fail> {
-    let text = after_comment(rt.alloc(), 9_000, MIXED)?;
+    let text = after_comment(rt.alloc(), 9_000, MIXED.as_bytes())?;
     for most in [1, 2, 4_095, 4_096, 4_097] {
         let listed = read(rt.alloc(), by(&text, &[most]))??;
-        judge_all(&rt, &listed, MIXED, &MIXED_MEANS)?;
+        judge_all(&rt, &listed, MIXED.as_bytes(), &MIXED_MEANS)?;
     }
     Ok(())
 }
@@ -98,9 +99,9 @@ fn a_file_from_sources_of_few_octets(rt: HostRuntime) -> Result<(), Fail> {
 fn entries_that_cross_the_end_of_a_piece_at_each_octet(rt: HostRuntime) -> Result<(), Fail> {
     for within in 0..=MIXED.len() {
         let length = PIECE.saturating_sub(within);
-        let text = after_comment(rt.alloc(), length, MIXED)?;
+        let text = after_comment(rt.alloc(), length, MIXED.as_bytes())?;
         let listed = read(rt.alloc(), text.as_slice())??;
-        judge_all(&rt, &listed, MIXED, &MIXED_MEANS)?;
+        judge_all(&rt, &listed, MIXED.as_bytes(), &MIXED_MEANS)?;
     }
     Ok(())
 }

@@ -2,6 +2,7 @@
 
 use super::reading::{ONE, by, read};
 use dns_master::Record;
+use dns_samples_tests::MIXED;
 use std::process::Abort;
 use std::test::Fail;
 
@@ -10,18 +11,6 @@ pub(super) type Meant<'a> = (&'a [u8], u32, u16, &'a [u8]);
 
 // A file, and its records.
 type Case<'a> = (&'a [u8], &'a [Meant<'a>]);
-
-pub(super) const MIXED: &[u8] = b"$TTL 60
-@ SOA ns h ( 1 2
- 3 4 ; c
- 5 )
- NS ns
-ns A 192.0.2.1
- AAAA 2001:DB8:0:0:1::1
-$ORIGIN deep
-a\\.b 7 IN TXT hi \"x;y\"
- CLASS1 9 TYPE65280 \\# 3 AB cdef
-";
 
 pub(super) const MIXED_MEANS: [Meant<'static>; 6] = [
     (
@@ -223,7 +212,7 @@ fn judge<R: Abort>(rt: &R, text: &[u8], record: &Record, (owner, ttl, rtype, oct
 
 #[test]
 fn a_file_of_many_forms(rt: HostRuntime) -> Result<(), Fail> {
-    compare(&rt, MIXED, &MIXED_MEANS)
+    compare(&rt, MIXED.as_bytes(), &MIXED_MEANS)
 }
 
 #[test]

@@ -4,37 +4,59 @@ use dns_name::{SinkFailed, SourceFailed, Tally};
 use std::io::{self, ErrorKind, Read, Write};
 use std::test::Fail;
 
-/// A device whose first calls work and whose later ones all fail.
+/// A device whose calls from one on, counted from 0, fail up to another, and would work again after
+/// it. Its calls are counted.
 #[derive(Drop)]
-struct Fading {
-    calls_left: u8,
+struct Failing {
+    from: u32,
+    to: u32,
+    calls: u32,
 }
 
-impl Fading {
+impl Failing {
     fn call(&mut self, count: usize) -> io::Result<usize>
         ensures { IfOk result (λ n. n ≡ count) }
     {
-        if self.calls_left == 0 {
+        let fails = self.from <= self.calls && self.calls < self.to;
+        self.calls = self.calls.saturating_add(1);
+        if fails {
             return Err(io::Error::from(ErrorKind::Other));
         }
-        self.calls_left -= 1;
         Ok(count)
     }
 }
 
-impl Read for Fading {
+impl Read for Failing {
     fn read(&mut self, buf: &mut [u8]) -> io::Result<usize> {
         self.call(buf.len().min(1))
     }
 }
 
-impl Write for Fading {
+impl Write for Failing {
     fn write(&mut self, piece: &[u8]) -> io::Result<usize> {
         self.call(piece.len().min(1))
     }
 
     fn flush(&mut self) -> io::Result<()> {
         Ok(())
+    }
+}
+
+// Its calls fail from one on.
+fn fading(from: u32) -> Failing {
+    Failing {
+        from,
+        to: u32::MAX,
+        calls: 0,
+    }
+}
+
+// One call of it fails.
+fn failing_once(at: u32) -> Failing {
+    Failing {
+        from: at,
+        to: at.saturating_add(1),
+        calls: 0,
     }
 }
 
@@ -64,13 +86,13 @@ fn what_is_written_stands_in_the_device(rt: HostRuntime) -> Result<(), Fail> {
 
 #[test]
 fn each_failure_is_counted_once(rt: HostRuntime) {
-    let mut source = Tally::new(Fading { calls_left: 1 });
+    let mut source = Tally::new(fading(1));
     assert_eq!(rt; source.read(&mut [0; 4]), Ok(1));
     assert_eq!(rt; source.failures(), 0);
     assert_eq!(rt; source.read(&mut [0; 4]), Err(SourceFailed));
     assert_eq!(rt; source.failures(), 1);
 
-    let mut sink = Tally::new(Fading { calls_left: 2 });
+    let mut sink = Tally::new(fading(2));
     assert_eq!(rt; sink.write_all(b"abc"), Err(SinkFailed));
     assert_eq!(rt; sink.failures(), 1);
     assert_eq!(rt; sink.write_parts(&[b"", b"d", b"e"]), Err(SinkFailed));
@@ -89,64 +111,22 @@ fn a_write_that_takes_nothing_is_a_failure(rt: HostRuntime) {
     assert_eq!(rt; sink.failures(), 1);
 }
 
-/// A device of which one call fails, and which would work again after it. Its calls are counted.
-#[derive(Drop)]
-struct FailsOnce {
-    fails_at: u32,
-    calls: u32,
-}
-
-impl FailsOnce {
-    fn call(&mut self, count: usize) -> io::Result<usize>
-        ensures { IfOk result (λ n. n ≡ count) }
-    {
-        let fails = self.calls == self.fails_at;
-        self.calls = self.calls.saturating_add(1);
-        if fails {
-            return Err(io::Error::from(ErrorKind::Other));
-        }
-        Ok(count)
-    }
-}
-
-impl Read for FailsOnce {
-    fn read(&mut self, buf: &mut [u8]) -> io::Result<usize> {
-        self.call(buf.len().min(1))
-    }
-}
-
-impl Write for FailsOnce {
-    fn write(&mut self, piece: &[u8]) -> io::Result<usize> {
-        self.call(piece.len().min(1))
-    }
-
-    fn flush(&mut self) -> io::Result<()> {
-        Ok(())
-    }
-}
-
 #[test]
 fn nothing_is_asked_after_a_failure(rt: HostRuntime) {
     for (fails_at, calls) in [(0, 1), (1, 2), (2, 3)] {
-        let mut sink = Tally::new(FailsOnce { fails_at, calls: 0 });
+        let mut sink = Tally::new(failing_once(fails_at));
         assert_eq!(rt; sink.write_all(b"abc"), Err(SinkFailed));
         assert_eq!(rt; sink.into_inner().calls, calls);
 
-        let mut sink = Tally::new(FailsOnce { fails_at, calls: 0 });
+        let mut sink = Tally::new(failing_once(fails_at));
         assert_eq!(rt; sink.write_parts(&[b"a", b"", b"bc"]), Err(SinkFailed));
         assert_eq!(rt; sink.into_inner().calls, calls);
     }
-    let mut sink = Tally::new(FailsOnce {
-        fails_at: 0,
-        calls: 0,
-    });
+    let mut sink = Tally::new(failing_once(0));
     assert_eq!(rt; sink.write(b"abc"), Err(SinkFailed));
     assert_eq!(rt; sink.into_inner().calls, 1);
 
-    let mut source = Tally::new(FailsOnce {
-        fails_at: 0,
-        calls: 0,
-    });
+    let mut source = Tally::new(failing_once(0));
     assert_eq!(rt; source.read(&mut [0; 4]), Err(SourceFailed));
     assert_eq!(rt; source.into_inner().calls, 1);
 }

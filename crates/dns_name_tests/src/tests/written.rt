@@ -1,6 +1,6 @@
-use arrayvec::ArrayVec;
 use dns_name::{Name, NameFault, SinkFailed, Tally};
-use std::io::{self, ErrorKind, Write};
+use dns_samples_tests::Kept;
+use std::alloc::Global;
 use std::test::Fail;
 
 // The names of RFC 4034 6.1 in their order, after the root.
@@ -16,33 +16,6 @@ const IN_ORDER: [&[u8]; 10] = [
     b"*.z.example.",
     b"\\200.z.example.",
 ];
-
-/// A device that takes at most three octets a call. Once its calls are used up one fails, and later
-/// ones would work.
-#[derive(Drop)]
-struct Failing {
-    calls_left: usize,
-    written: ArrayVec<u8, 64>,
-}
-
-impl Write for Failing {
-    fn write(&mut self, piece: &[u8]) -> io::Result<usize> {
-        if self.calls_left == 0 {
-            self.calls_left = usize::MAX;
-            return Err(io::Error::from(ErrorKind::Other));
-        }
-        self.calls_left -= 1;
-        let count = piece.len().min(3);
-        match self.written.try_extend_from_slice(&piece[..count]) {
-            Ok(()) => Ok(count),
-            Err(_) => Err(io::Error::from(ErrorKind::WriteZero)),
-        }
-    }
-
-    fn flush(&mut self) -> io::Result<()> {
-        Ok(())
-    }
-}
 
 fn read(word: &[u8]) -> Result<Name, NameFault> {
     Name::read_text(word, &Name::root())
@@ -61,39 +34,39 @@ fn canonical_order(rt: HostRuntime) -> Result<(), Fail> {
     Ok(())
 }
 
-#[test]
-fn names_written_without_their_last_dot(rt: HostRuntime) -> Result<(), Fail> {
-    let rows: [(&[u8], &[u8]); 4] = [
-        (b".", b"."),
-        (b"org.", b"org"),
-        (b"WwW.Example.", b"WwW.Example"),
-        (b"a.b\\..", b"a.b\\."),
-    ];
-    for (word, text) in rows {
-        let mut sink = Tally::new(Vec::new(rt.alloc()));
-        assert_eq!(rt; read(word)?.write_bare_text(&mut sink), Ok(()));
-        assert_eq!(rt; sink.into_inner().as_slice(), text);
+// A name as a zone file has it, or without its last dot.
+fn written(alloc: Global, word: &[u8], is_bare: bool) -> Result<Vec<u8>, Fail> {
+    let name = read(word)?;
+    let mut sink = Tally::new(Vec::new(alloc));
+    if is_bare {
+        name.write_bare_text(&mut sink)?;
+    } else {
+        name.write_text(&mut sink)?;
     }
-    Ok(())
+    Ok(sink.into_inner())
 }
 
 #[test]
 fn names_written(rt: HostRuntime) -> Result<(), Fail> {
-    let rows: [(&[u8], &[u8]); 6] = [
-        (b".", b"."),
-        (b"WwW.Example", b"WwW.Example."),
-        (b"\\@", b"\\@."),
+    // Whether the last dot is left out, the word that is read, and what is written of its name.
+    let rows: [(bool, &[u8], &[u8]); 10] = [
+        (false, b".", b"."),
+        (false, b"WwW.Example", b"WwW.Example."),
+        (false, b"\\@", b"\\@."),
         (
+            false,
             b"a\\.b.\\;\\(\\)\\$.\\\"\\\\",
             b"a\\.b.\\;\\(\\)\\$.\\\"\\\\.",
         ),
-        (b"\\032\\127.\\000\\255", b"\\032\\127.\\000\\255."),
-        (b"\\~\\!\\'", b"~!'."),
+        (false, b"\\032\\127.\\000\\255", b"\\032\\127.\\000\\255."),
+        (false, b"\\~\\!\\'", b"~!'."),
+        (true, b".", b"."),
+        (true, b"org.", b"org"),
+        (true, b"WwW.Example.", b"WwW.Example"),
+        (true, b"a.b\\..", b"a.b\\."),
     ];
-    for (word, text) in rows {
-        let mut sink = Tally::new(Vec::new(rt.alloc()));
-        assert_eq!(rt; read(word)?.write_text(&mut sink), Ok(()));
-        assert_eq!(rt; sink.into_inner().as_slice(), text);
+    for (is_bare, word, text) in rows {
+        assert_eq!(rt; written(rt.alloc(), word, is_bare)?.as_slice(), text);
     }
     Ok(())
 }
@@ -104,22 +77,15 @@ fn names_written(rt: HostRuntime) -> Result<(), Fail> {
 fn each_write_of_a_name_fails(rt: HostRuntime) -> Result<(), Fail> {
     let text = b"ns.example.";
     for calls in 0..5 {
-        let mut sink = Tally::new(Failing {
-            calls_left: calls,
-            written: ArrayVec::new(),
-        });
+        let mut sink = Tally::new(Kept::new(rt.alloc(), 3, calls));
         let fails = calls < 4;
         let wanted = if fails { Err(SinkFailed) } else { Ok(()) };
         assert_eq!(rt; read(text)?.write_text(&mut sink), wanted);
         assert_eq!(rt; sink.failures(), u64::from(fails));
         let device = sink.into_inner();
-        assert_eq!(rt; device.calls_left == usize::MAX, fails);
-        let end = text.len().min(3 * calls);
-        assert_eq!(rt;
-            device.written.as_slice(),
-            &text[..end],
-            "after {calls} calls"
-        );
+        assert_eq!(rt; device.has_failed(), fails);
+        let end = text.len().min(3 * calls as usize);
+        assert_eq!(rt; device.text.as_slice(), &text[..end], "after {calls} calls");
     }
     Ok(())
 }

@@ -1,6 +1,6 @@
-use super::devices::{Kept, Pieces};
 use super::zones::{WWW, WWW_REPLY, sample};
 use dns_name::Tally;
+use dns_samples_tests::{Kept, Pieces};
 use dns_serve::{StreamFault, StreamRoom, serve_stream, serve_stream_in};
 use std::alloc::Global;
 use std::test::Fail;

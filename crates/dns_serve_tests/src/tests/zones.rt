@@ -1,25 +1,14 @@
 use dns_master::read_zone;
 use dns_name::{Name, Tally};
+use dns_samples_tests::SMALL;
 use dns_zone::{BuildFault, Zone};
 use std::alloc::Global;
 use std::test::Fail;
 
-const Z0: &str = "$TTL 3600
-@ SOA ns hostmaster 1 7200 900 1209600 300
-@ NS ns
-ns A 192.0.2.1
-www A 192.0.2.10
-alias CNAME www
-*.w TXT \"any\"
-a.b.ent A 192.0.2.11
-sub NS ns.sub
-ns.sub A 192.0.2.53
-";
-
 /// A zone of the origin `example.`.
 pub(super) fn sample(alloc: Global) -> Result<Zone, Fail> {
     let origin = Name::read_text(b"example", &Name::root())?;
-    let records = match read_zone(alloc, &origin, &mut Tally::new(Z0.as_bytes())) {
+    let records = match read_zone(alloc, &origin, &mut Tally::new(SMALL.as_bytes())) {
         Ok(records) => records,
         Err(_) => return Err(Fail::new("a faulty file")),
     };

@@ -1,0 +1,8 @@
+//! What the tests of several crates share: devices of which a call fails, and the texts of zones.
+#![tactic(auto)]
+
+mod devices;
+mod texts;
+
+pub use devices::{Kept, Pieces};
+pub use texts::{LOADED, MIXED, MIXED_PRINTED, SMALL, SMALL_PRINTED};
