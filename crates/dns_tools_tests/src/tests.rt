@@ -1,11 +1,6 @@
-mod check;
-mod devices;
 mod fault;
 mod host;
 mod load;
-mod long;
-mod message;
-mod once;
 mod turns;
 mod waiting;
 mod words;

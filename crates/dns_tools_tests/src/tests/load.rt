@@ -1,29 +1,17 @@
-use super::devices::{Kept, Pieces};
 use dns_name::{Name, Tally};
+use dns_samples_tests::{Kept, Pieces, SMALL};
 use dns_tools::{LoadFault, Refusal, Stop, load_zone, write_refusal};
 use dns_zone::Zone;
 use std::alloc::Global;
 use std::test::Fail;
 
-pub(super) const Z0: &str = "$TTL 3600
-@ SOA ns hostmaster 1 7200 900 1209600 300
-@ NS ns
-ns A 192.0.2.1
-www A 192.0.2.10
-alias CNAME www
-*.w TXT \"any\"
-a.b.ent A 192.0.2.11
-sub NS ns.sub
-ns.sub A 192.0.2.53
-";
-
-pub(super) fn example() -> Result<Name, Fail> {
+fn example() -> Result<Name, Fail> {
     Ok(Name::read_text(b"example", &Name::root())?)
 }
 
 /// The zone of the sample file.
 pub(super) fn sample(alloc: Global) -> Result<Zone, Fail> {
-    match load_zone(alloc, &example()?, &mut Tally::new(Z0.as_bytes())) {
+    match load_zone(alloc, &example()?, &mut Tally::new(SMALL.as_bytes())) {
         Ok(zone) => Ok(zone),
         Err(_) => Err("the sample zone is refused".into()),
     }
@@ -37,11 +25,7 @@ fn outcome(
     most: usize,
     calls_left: u32,
 ) -> Result<Result<u32, Option<Refusal>>, Fail> {
-    let mut source = Tally::new(Pieces {
-        text,
-        most,
-        calls_left,
-    });
+    let mut source = Tally::new(Pieces::new(text, most, calls_left));
     match load_zone(alloc, &example()?, &mut source) {
         Ok(zone) => Ok(Ok(zone.serial())),
         Err(LoadFault::Refused(refusal)) => Ok(Err(Some(refusal))),
@@ -52,11 +36,7 @@ fn outcome(
 
 // The report of a refusal.
 fn report(alloc: Global, refusal: &Refusal) -> Result<Vec<u8>, Fail> {
-    let mut sink = Tally::new(Kept {
-        text: Vec::new(alloc),
-        most: 7,
-        calls_left: 1_000_000,
-    });
+    let mut sink = Tally::new(Kept::new(alloc, 7, 1_000_000));
     write_refusal(refusal, &mut sink)?;
     Ok(sink.into_inner().text)
 }
@@ -79,7 +59,7 @@ fn loaded(
 #[test]
 fn the_sample_file(rt: HostRuntime) -> Result<(), Fail> {
     for most in [1, 7, 1000] {
-        assert_eq!(rt; loaded(rt.alloc(), Z0.as_bytes(), most, 1000)?, Ok(1));
+        assert_eq!(rt; loaded(rt.alloc(), SMALL.as_bytes(), most, 1000)?, Ok(1));
     }
     Ok(())
 }
@@ -102,7 +82,7 @@ fn refusals_in_the_lines_of_the_report(rt: HostRuntime) -> Result<(), Fail> {
         ("www.other. A 192.0.2.1\n", "www.other. Z05\n"),
     ];
     for (lines, wanted) in rows {
-        let text = format!(in rt.alloc(); "{Z0}{lines}")?;
+        let text = format!(in rt.alloc(); "{SMALL}{lines}")?;
         let Err(said) = loaded(rt.alloc(), text.as_bytes(), 100, 1000)? else {
             return Err(Fail::new("no fault"));
         };
@@ -114,7 +94,7 @@ fn refusals_in_the_lines_of_the_report(rt: HostRuntime) -> Result<(), Fail> {
 #[test]
 fn a_source_that_fails(rt: HostRuntime) -> Result<(), Fail> {
     for calls in 0..10 {
-        let found = loaded(rt.alloc(), Z0.as_bytes(), 20, calls)?;
+        let found = loaded(rt.alloc(), SMALL.as_bytes(), 20, calls)?;
         assert_eq!(rt; found, Err(Vec::new(rt.alloc())), "after {calls} reads");
     }
     Ok(())

@@ -1,5 +1,6 @@
-use super::devices::{Kept, Pieces};
+use super::devices::finished;
 use dns_name::Tally;
+use dns_samples_tests::{Kept, Pieces};
 use dns_tools::{Stop, run_message};
 use std::alloc::Global;
 use std::test::Fail;
@@ -12,26 +13,10 @@ fn run(
     reads: u32,
     writes: u32,
 ) -> Result<(Vec<u8>, Result<bool, Stop>), Fail> {
-    let mut source = Tally::new(Pieces {
-        text: input,
-        most,
-        calls_left: reads,
-    });
-    let mut sink = Tally::new(Kept {
-        text: Vec::new(alloc),
-        most,
-        calls_left: writes,
-    });
+    let mut source = Tally::new(Pieces::new(input, most, reads));
+    let mut sink = Tally::new(Kept::new(alloc, most, writes));
     let outcome = run_message(alloc, &mut source, &mut sink);
-    let (source, sink) = (source.into_inner(), sink.into_inner());
-    // Both would work again after their failure.
-    if (source.calls_left == u32::MAX) != (outcome == Err(Stop::Source)) {
-        return Err("a source that is asked after its failure".into());
-    }
-    if (sink.calls_left == u32::MAX) != (outcome == Err(Stop::Sink)) {
-        return Err("a sink that is asked after its failure".into());
-    }
-    Ok((sink.text, outcome))
+    finished(source, sink, outcome)
 }
 
 const ANSWER: &str =

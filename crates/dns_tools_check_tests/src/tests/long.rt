@@ -1,9 +1,9 @@
 //! Long files and long reports.
 
-use super::devices::{Kept, Pieces};
-use super::load::example;
+use super::check::{PLAIN, PRINT, example};
 use dns_master::MOST_RECORDS;
 use dns_name::{Name, Tally};
+use dns_samples_tests::{Kept, LOADED, Pieces};
 use dns_tools::{Flags, Stop, check_zone};
 use std::alloc::Global;
 use std::test::Fail;
@@ -12,18 +12,6 @@ const MOST_OCTETS: usize = 16_777_216;
 
 // A TTL line and three records: what a zone has at least.
 const LEAST: &str = "$TTL 60\n@ SOA ns h 1 2 3 4 5\n@ NS ns\nns A 192.0.2.1\n";
-
-const LOADED: &str = "zone example/IN: loaded serial 1\nOK\n";
-
-const PLAIN: Flags = Flags {
-    quiet: false,
-    print: false,
-};
-
-const PRINT: Flags = Flags {
-    quiet: false,
-    print: true,
-};
 
 // What a check of a text answers, and what it writes to a sink that takes 1,000 octets a call, so
 // many times.
@@ -34,16 +22,8 @@ fn checked(
     text: &str,
     calls: u32,
 ) -> Result<(Result<bool, Stop>, Vec<u8>), Fail> {
-    let mut source = Tally::new(Pieces {
-        text: text.as_bytes(),
-        most: 100_000,
-        calls_left: 10_000,
-    });
-    let mut sink = Tally::new(Kept {
-        text: Vec::new(alloc),
-        most: 1000,
-        calls_left: calls,
-    });
+    let mut source = Tally::new(Pieces::new(text.as_bytes(), 100_000, 10_000));
+    let mut sink = Tally::new(Kept::new(alloc, 1000, calls));
     let outcome = check_zone(alloc, origin, flags, &mut source, &mut sink);
     Ok((outcome, sink.into_inner().text))
 }
@@ -180,11 +160,7 @@ fn a_sink_that_fails_amid_a_long_report(rt: HostRuntime) -> Result<(), Fail> {
     let alloc = rt.alloc();
     let (text, report) = faulty_zone(alloc, 10_000)?;
     let mut source = Tally::new(text.as_str().as_bytes());
-    let mut sink = Tally::new(Kept {
-        text: Vec::new(alloc),
-        most: 7,
-        calls_left: 10_000,
-    });
+    let mut sink = Tally::new(Kept::new(alloc, 7, 10_000));
     let outcome = check_zone(alloc, &example()?, PLAIN, &mut source, &mut sink);
     assert_eq!(rt; outcome, Err(Stop::Sink));
     assert_eq!(rt; sink.failures(), 1);

@@ -1,41 +1,15 @@
-use super::devices::{Kept, Pieces};
-use super::load::example;
-use dns_name::Tally;
+use dns_name::{Name, Tally};
+use dns_samples_tests::{Kept, LOADED, MIXED, MIXED_PRINTED, Pieces, SMALL, SMALL_PRINTED};
 use dns_tools::{Flags, Stop, check_zone};
 use std::alloc::Global;
 use std::test::Fail;
 
-const SAMPLE: &str = "$TTL 3600
-@ SOA ns hostmaster 1 7200 900 1209600 300
-@ NS ns
-ns A 192.0.2.1
-www A 192.0.2.10
-alias CNAME www
-*.w TXT \"any\"
-a.b.ent A 192.0.2.11
-sub NS ns.sub
-ns.sub A 192.0.2.53
-";
-
-const PRINTED: &str = "example. 3600 IN SOA ns.example. hostmaster.example. 1 7200 900 1209600 300
-example. 3600 IN NS ns.example.
-alias.example. 3600 IN CNAME www.example.
-a.b.ent.example. 3600 IN A 192.0.2.11
-ns.example. 3600 IN A 192.0.2.1
-sub.example. 3600 IN NS ns.sub.example.
-ns.sub.example. 3600 IN A 192.0.2.53
-*.w.example. 3600 IN TXT \"any\"
-www.example. 3600 IN A 192.0.2.10
-";
-
-const LOADED: &str = "zone example/IN: loaded serial 1\nOK\n";
-
-const PLAIN: Flags = Flags {
+pub(super) const PLAIN: Flags = Flags {
     quiet: false,
     print: false,
 };
 
-const PRINT: Flags = Flags {
+pub(super) const PRINT: Flags = Flags {
     quiet: false,
     print: true,
 };
@@ -50,18 +24,14 @@ const QUIET_PRINT: Flags = Flags {
     print: true,
 };
 
+pub(super) fn example() -> Result<Name, Fail> {
+    Ok(Name::read_text(b"example", &Name::root())?)
+}
+
 // What a check of a text answers, and what it writes, by devices that move so many octets a call.
 fn checked(alloc: Global, text: &[u8], flags: Flags, most: usize) -> Result<(bool, Vec<u8>), Fail> {
-    let mut source = Tally::new(Pieces {
-        text,
-        most,
-        calls_left: 100_000,
-    });
-    let mut sink = Tally::new(Kept {
-        text: Vec::new(alloc),
-        most,
-        calls_left: 100_000,
-    });
+    let mut source = Tally::new(Pieces::new(text, most, 100_000));
+    let mut sink = Tally::new(Kept::new(alloc, most, 100_000));
     let passes = check_zone(alloc, &example()?, flags, &mut source, &mut sink)?;
     Ok((passes, sink.into_inner().text))
 }
@@ -69,7 +39,7 @@ fn checked(alloc: Global, text: &[u8], flags: Flags, most: usize) -> Result<(boo
 // The sample with a line of it replaced, or with lines after it where `line` is past its end.
 fn changed(alloc: Global, line: usize, others: &str) -> Result<String, Fail> {
     let mut text = String::new(alloc);
-    for (place, old) in SAMPLE.lines().enumerate() {
+    for (place, old) in SMALL.lines().enumerate() {
         text.push_str(if place + 1 == line { others } else { old })?;
         text.push_str("\n")?;
     }
@@ -83,13 +53,13 @@ fn changed(alloc: Global, line: usize, others: &str) -> Result<String, Fail> {
 fn a_zone_that_passes(rt: HostRuntime) -> Result<(), Fail> {
     let rows = [
         (PLAIN, LOADED),
-        (PRINT, PRINTED),
+        (PRINT, SMALL_PRINTED),
         (QUIET, ""),
-        (QUIET_PRINT, PRINTED),
+        (QUIET_PRINT, SMALL_PRINTED),
     ];
     for (flags, wanted) in rows {
         for most in [1, 4096] {
-            let (passes, output) = checked(rt.alloc(), SAMPLE.as_bytes(), flags, most)?;
+            let (passes, output) = checked(rt.alloc(), SMALL.as_bytes(), flags, most)?;
             assert!(rt; passes);
             assert_eq!(rt; output.as_slice(), wanted.as_bytes(), "with {flags:?}");
         }
@@ -135,7 +105,7 @@ fn zones_with_lines_added(rt: HostRuntime) -> Result<(), Fail> {
 fn sets_up_to_their_limits(rt: HostRuntime) -> Result<(), Fail> {
     let alloc = rt.alloc();
     let mut text = String::new(alloc);
-    text.push_str(SAMPLE)?;
+    text.push_str(SMALL)?;
     for place in 1..65 {
         text.push_str(format!(in alloc; "f A 198.51.100.{place}\n")?.as_str())?;
     }
@@ -184,31 +154,13 @@ fn faulty_files(rt: HostRuntime) -> Result<(), Fail> {
 
 #[test]
 fn a_file_as_people_write_it_is_printed(rt: HostRuntime) -> Result<(), Fail> {
-    let text = "$TTL 60
-@ SOA ns h ( 1 2
- 3 4 ; c
- 5 )
- NS ns
-ns A 192.0.2.1
- AAAA 2001:DB8:0:0:1::1
-$ORIGIN deep
-a\\.b 7 IN TXT hi \"x;y\"
- CLASS1 9 TYPE65280 \\# 3 AB cdef
-";
-    let wanted = "example. 60 IN SOA ns.example. h.example. 1 2 3 4 5
-example. 60 IN NS ns.example.
-a\\.b.deep.example. 7 IN TXT \"hi\" \"x;y\"
-a\\.b.deep.example. 9 IN TYPE65280 \\# 3 abcdef
-ns.example. 60 IN A 192.0.2.1
-ns.example. 60 IN AAAA 2001:db8::1:0:0:1
-";
-    let (passes, output) = checked(rt.alloc(), text.as_bytes(), PRINT, 4096)?;
+    let (passes, output) = checked(rt.alloc(), MIXED.as_bytes(), PRINT, 4096)?;
     assert!(rt; passes);
-    assert_eq!(rt; output.as_slice(), wanted.as_bytes());
+    assert_eq!(rt; output.as_slice(), MIXED_PRINTED.as_bytes());
 
     // What was printed is read back as the same zone.
     let (_, again) = checked(rt.alloc(), output.as_slice(), PRINT, 4096)?;
-    assert_eq!(rt; again.as_slice(), wanted.as_bytes());
+    assert_eq!(rt; again.as_slice(), MIXED_PRINTED.as_bytes());
     Ok(())
 }
 
@@ -216,12 +168,8 @@ ns.example. 60 IN AAAA 2001:db8::1:0:0:1
 fn sinks_and_sources_that_fail(rt: HostRuntime) -> Result<(), Fail> {
     let alloc = rt.alloc();
     for calls in 0..36 {
-        let mut sink = Tally::new(Kept {
-            text: Vec::new(alloc),
-            most: 1,
-            calls_left: calls,
-        });
-        let mut source = Tally::new(SAMPLE.as_bytes());
+        let mut sink = Tally::new(Kept::new(alloc, 1, calls));
+        let mut source = Tally::new(SMALL.as_bytes());
         let outcome = check_zone(alloc, &example()?, PLAIN, &mut source, &mut sink);
         assert_eq!(rt; outcome, Err(Stop::Sink), "after {calls} octets");
         let written = calls as usize;
@@ -231,12 +179,8 @@ fn sinks_and_sources_that_fail(rt: HostRuntime) -> Result<(), Fail> {
         assert_eq!(rt; sink.text.as_slice(), &LOADED.as_bytes()[..written]);
     }
     for flags in [PLAIN, PRINT] {
-        let mut sink = Tally::new(Kept {
-            text: Vec::new(alloc),
-            most: 0,
-            calls_left: 9,
-        });
-        let mut source = Tally::new(SAMPLE.as_bytes());
+        let mut sink = Tally::new(Kept::new(alloc, 0, 9));
+        let mut source = Tally::new(SMALL.as_bytes());
         let outcome = check_zone(alloc, &example()?, flags, &mut source, &mut sink);
         assert_eq!(rt; outcome, Err(Stop::Sink), "a sink that takes nothing");
         assert_eq!(rt; sink.failures(), 1);
@@ -244,11 +188,7 @@ fn sinks_and_sources_that_fail(rt: HostRuntime) -> Result<(), Fail> {
     }
     for calls in 0..4 {
         let mut sink = Tally::new(Vec::new(alloc));
-        let mut source = Tally::new(Pieces {
-            text: SAMPLE.as_bytes(),
-            most: 64,
-            calls_left: calls,
-        });
+        let mut source = Tally::new(Pieces::new(SMALL.as_bytes(), 64, calls));
         let outcome = check_zone(alloc, &example()?, PRINT, &mut source, &mut sink);
         assert_eq!(rt; outcome, Err(Stop::Source), "after {calls} reads");
         assert_eq!(rt;

@@ -1,12 +1,20 @@
-use super::devices::{Kept, Pieces};
-use super::load::sample;
+use super::devices::finished;
 use dns_answer::Limit;
-use dns_name::Tally;
-use dns_tools::{Stop, run_once};
+use dns_name::{Name, Tally};
+use dns_samples_tests::{Kept, Pieces, SMALL};
+use dns_tools::{Stop, load_zone, run_once};
 use dns_zone::Zone;
 use std::alloc::Global;
 use std::process::Abort;
 use std::test::Fail;
+
+fn sample(alloc: Global) -> Result<Zone, Fail> {
+    let origin = Name::read_text(b"example", &Name::root())?;
+    match load_zone(alloc, &origin, &mut Tally::new(SMALL.as_bytes())) {
+        Ok(zone) => Ok(zone),
+        Err(_) => Err("the sample zone is refused".into()),
+    }
+}
 
 // What a run over the sample zone, over UDP, writes and answers, for an input in pieces and a
 // number of calls that work.
@@ -29,26 +37,10 @@ fn run_over(
     reads: u32,
     writes: u32,
 ) -> Result<(Vec<u8>, Result<bool, Stop>), Fail> {
-    let mut source = Tally::new(Pieces {
-        text: input,
-        most,
-        calls_left: reads,
-    });
-    let mut sink = Tally::new(Kept {
-        text: Vec::new(alloc),
-        most,
-        calls_left: writes,
-    });
+    let mut source = Tally::new(Pieces::new(input, most, reads));
+    let mut sink = Tally::new(Kept::new(alloc, most, writes));
     let outcome = run_once(alloc, zone, Limit::Udp, &mut source, &mut sink);
-    let (source, sink) = (source.into_inner(), sink.into_inner());
-    // Both would work again after their failure.
-    if (source.calls_left == u32::MAX) != (outcome == Err(Stop::Source)) {
-        return Err("a source that is asked after its failure".into());
-    }
-    if (sink.calls_left == u32::MAX) != (outcome == Err(Stop::Sink)) {
-        return Err("a sink that is asked after its failure".into());
-    }
-    Ok((sink.text, outcome))
+    finished(source, sink, outcome)
 }
 
 const WWW: &str = "12340000000100000000000003777777076578616d706c650000010001";
