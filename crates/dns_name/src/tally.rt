@@ -1,4 +1,4 @@
-ghost use Rattle.std.specs.Prelude.{◌≡◌, ◌+◌, ◌-◌, ◌^◌, ◌<◌, length, IfOk, OnOk, OnErr, is_ok, if◌then◌else◌};
+ghost use Rattle.std.specs.Prelude.{◌≡◌, ◌+◌, ◌-◌, ◌^◌, ◌<◌, [], length, IfOk, OnOk, OnErr, is_ok, if◌then◌else◌};
 ghost use Rattle.std.specs.Io.{ReadsAtMost, WritesAtMost};
 ghost use Rattle.std.specs.Io.KnownBytes.{ReadConsumes, WriteAppends};
 ghost use Rattle.dns_name.specs.Counted.{Writes, failures_after, joined};
@@ -127,6 +127,19 @@ impl<T: Write> Tally<T> {
     {
         'parts: for part in parts {
             self.write_all(*part)?;
+        }
+        Ok(())
+    }
+
+    /// Has the device pass on what it keeps. Where that fails, the failure is counted, and it is
+    /// not tried again.
+    pub fn flush(&mut self) -> Result<(), SinkFailed>
+        requires { self.old.failures < 2 ^ 64 - 1 }
+        ensures { Writes T.contents self.old self.new result [] }
+    {
+        if self.device.flush().is_err() {
+            self.failures += 1;
+            return Err(SinkFailed);
         }
         Ok(())
     }

@@ -48,7 +48,7 @@ impl Read for Pieces<'_> {
 }
 
 /// A writer that keeps what it is given, at most `most` octets a call, until its calls are used up:
-/// then one fails, and later ones would work.
+/// then one fails, and later ones would work. To be flushed is a call too.
 #[derive(Drop)]
 pub struct Kept {
     /// What was written.
@@ -79,18 +79,26 @@ impl Kept {
     }
 }
 
-impl Write for Kept {
-    fn write(&mut self, piece: &[u8]) -> io::Result<usize> {
+impl Kept {
+    // Counts a call, which may be the one that fails.
+    fn count_call(&mut self) -> io::Result<()> {
         if self.calls_left == 0 {
             self.calls_left = u32::MAX;
             return Err(io::Error::from(ErrorKind::Other));
         }
         self.calls_left -= 1;
+        Ok(())
+    }
+}
+
+impl Write for Kept {
+    fn write(&mut self, piece: &[u8]) -> io::Result<usize> {
+        self.count_call()?;
         let most = self.most.min(piece.len());
         self.text.write(&piece[..most])
     }
 
     fn flush(&mut self) -> io::Result<()> {
-        Ok(())
+        self.count_call()
     }
 }

@@ -13,6 +13,7 @@ use byteorder::{BigEndian, ByteOrder};
 use dns_answer::{TcpDraft, respond_in};
 use dns_name::{SinkFailed, Tally};
 use dns_zone::{Steps, Zone};
+use std::cell::Cell;
 use std::io::{Read, Write};
 
 // What is kept of a message: all that a query can have, since a question ends by octet 271.
@@ -29,7 +30,8 @@ const MOST_FRAME: usize = 65_537;
 /// replies to all messages before are written. `SinkFailed`: the replies before that to the last
 /// message read are written, and a beginning of that one; nothing after that message is read. Of a
 /// message the first 512 octets are kept, the rest is read and let go. Nothing is tried again, and
-/// no memory is taken.
+/// no memory is taken. After the last of `most` messages the sink is flushed, and a sink that
+/// keeps what it is given passes it on then.
 ///
 /// The room of the replies, some 197,000 octets, is filled first. Who serves many streams, or has
 /// little stack, keeps a `StreamRoom`, and calls `serve_stream_in`.
@@ -52,7 +54,8 @@ pub fn serve_stream<R: Read, W: Write>(
     ensures source { source.new.failures ≡ source_failures_after source.old.failures result }
     ensures sink { sink.new.failures ≡ sink_failures_after sink.old.failures result }
 {
-    serve_stream_in(zone, source, sink, most, &mut StreamRoom::new())
+    let waits = Cell::new(false);
+    serve_stream_in(zone, source, sink, most, &mut StreamRoom::new(), &waits)
 }
 
 /// Room for a session: for what is kept of a message, for its reply after its length, and for the
@@ -80,13 +83,16 @@ impl StreamRoom {
 /// Reads messages and writes their replies, in room that is lent: all of what `serve_stream` says.
 ///
 /// Nothing is left of the sessions that were served in the room before, and nothing is filled in
-/// its size. No memory is taken.
+/// its size. No memory is taken. The sink is flushed after a message too where the reader of the
+/// source says, by `waits`, that its next call may wait for the peer: a sink that keeps replies
+/// keeps none that is due.
 pub fn serve_stream_in<R: Read, W: Write>(
     zone: &Zone,
     source: &mut Tally<R>,
     sink: &mut Tally<W>,
     most: u32,
     room: &mut StreamRoom,
+    waits: &Cell<bool>,
 ) -> Result<u32, StreamFault>
     requires source { source.old.failures < 2 ^ 64 - 1 }
     requires sink { sink.old.failures < 2 ^ 64 - 1 }
@@ -107,7 +113,15 @@ pub fn serve_stream_in<R: Read, W: Write>(
             break;
         };
         let (message, _) = room.message.split_at(kept);
-        write_reply(zone, message, sink, &mut room.draft, &mut room.reply)?;
+        let is_due = waits.get() || served + 1 == most;
+        write_reply(
+            zone,
+            message,
+            sink,
+            &mut room.draft,
+            &mut room.reply,
+            is_due,
+        )?;
         served += 1;
     }
     Ok(served)
@@ -157,9 +171,31 @@ fn message_length(octets: &[u8]) -> usize
     usize::from(BigEndian::read_u16(octets))
 }
 
+// Writes the reply to a message after its length, and has the sink pass on what it keeps where that
+// is due.
+fn write_reply<W: Write>(
+    zone: &Zone,
+    message: &[u8],
+    sink: &mut Tally<W>,
+    draft: &mut TcpDraft,
+    room: &mut [u8],
+    is_due: bool,
+) -> Result<(), SinkFailed>
+    requires sink { sink.old.failures < 2 ^ 64 - 1 }
+    requires room { length room.old ≡ 65537 }
+    ensures { Writes W.contents sink.old sink.new result
+        (reply_frame (reply_over_tcp zone.now message.now)) }
+{
+    write_frame(zone, message, sink, draft, room)?;
+    if is_due {
+        sink.flush()?;
+    }
+    Ok(())
+}
+
 // Writes the reply to a message after its length, in one call where the sink takes it, or nothing
 // where it gets none.
-fn write_reply<W: Write>(
+fn write_frame<W: Write>(
     zone: &Zone,
     message: &[u8],
     sink: &mut Tally<W>,

@@ -12,7 +12,6 @@ mod message;
 mod once;
 mod parts;
 mod peer;
-mod replies;
 mod report;
 mod socket;
 mod waiting;

@@ -4,14 +4,14 @@ ghost use Rattle.dns_tools.specs.Turns.{TakesTurns};
 
 use crate::fault::{FaultWord, TurnWord};
 use crate::peer::{Messages, Peer};
-use crate::replies::Replies;
 use crate::socket::Socket;
 use dns_answer::UdpDraft;
 use dns_name::Tally;
 use dns_serve::{Datagrams, StreamFault, StreamRoom, serve_stream_in, udp_turn_in};
 use dns_zone::Zone;
 use std::alloc::Global;
-use std::io::{self, BufReader, Read};
+use std::cell::Cell;
+use std::io::{self, BufReader, BufWriter, Read, Write};
 use std::net::{Net, SocketAddr, TcpListener, TcpStream, UdpSocket};
 use std::thread;
 use std::time::{Clock, Duration};
@@ -156,20 +156,20 @@ impl Connections {
             return Err(TurnWord::NotAccepted);
         };
         let peer = Peer::new(stream, rt);
+        let waits = Cell::new(true);
         // Questions that come together are read together, and so are their replies sent, where
         // there is memory for that.
-        let (Ok(source), Ok(replies)) = (
-            buffered(rt.alloc(), &peer),
-            Replies::new(rt.alloc(), &peer),
+        let (Ok(source), Ok(sink)) = (
+            buffered_source(rt.alloc(), &peer),
+            buffered_sink(rt.alloc(), &peer),
         ) else {
             return Err(TurnWord::from(StreamFault::SourceFailed));
         };
-        let served = {
-            let mut source = Tally::new(Messages::new(source, &replies));
-            let mut sink = Tally::new(&replies);
-            serve_stream_in(zone, &mut source, &mut sink, MOST_MESSAGES, room)
-        };
-        let served = with_replies_sent(served, replies);
+        let mut source = Tally::new(Messages::new(source, &waits));
+        let mut sink = Tally::new(sink);
+        let served = serve_stream_in(zone, &mut source, &mut sink, MOST_MESSAGES, room, &waits);
+        // What could not be sent is not tried again.
+        let _unsent = sink.into_inner().into_parts();
         match served {
             Err(StreamFault::Cut) => {}
             Ok(count) if count < MOST_MESSAGES => {}
@@ -182,22 +182,17 @@ impl Connections {
     }
 }
 
-// What came of a session, of which the last replies are sent now.
-fn with_replies_sent<C: Clock>(
-    served: Result<u32, StreamFault>,
-    replies: Replies<'_, C>,
-) -> Result<u32, StreamFault> {
-    if served.is_ok() {
-        let _sent = replies.send();
+// A sink that keeps what it is given until it is full or flushed, or keeps nothing where there is no
+// memory.
+fn buffered_sink<S: Write + Copy + Drop>(alloc: Global, sink: S) -> io::Result<BufWriter<S>> {
+    match BufWriter::new(alloc, sink) {
+        Ok(buffered) => Ok(buffered),
+        Err(_) => BufWriter::with_capacity(alloc, 0, sink),
     }
-    if replies.are_left() {
-        return Err(StreamFault::SinkFailed);
-    }
-    served
 }
 
 // A source that reads ahead, or one without a buffer where there is no memory.
-fn buffered<S: Read + Copy + Drop>(alloc: Global, source: S) -> io::Result<BufReader<S>> {
+fn buffered_source<S: Read + Copy + Drop>(alloc: Global, source: S) -> io::Result<BufReader<S>> {
     match BufReader::new(alloc, source) {
         Ok(buffered) => Ok(buffered),
         Err(_) => BufReader::with_capacity(alloc, 0, source),

@@ -1,7 +1,6 @@
 //! The peer of a connection: a stream whose calls wait as long as a message may take, and no
 //! longer.
 
-use crate::replies::Replies;
 use std::cell::Cell;
 use std::io::{self, BufReader, ErrorKind, Read, Write};
 use std::net::{Shutdown, TcpStream};
@@ -220,34 +219,32 @@ impl Place {
     }
 }
 
-/// What a peer says, by a reader of it that reads ahead: has the replies sent before it waits for
-/// more, and tells the peer where each message begins for who reads them here.
+/// What a peer says, by a reader of it that reads ahead: says whether the message after the one
+/// that is read has not come, and tells the peer where each message begins for who reads them here.
 #[derive(Drop)]
-pub struct Messages<'r, 'a, C: Clock> {
+pub struct Messages<'a, C: Clock> {
     source: BufReader<&'a Peer<'a, C>>,
-    replies: &'r Replies<'a, C>,
+    waits: &'a Cell<bool>,
     place: Place,
 }
 
-impl<'r, 'a, C: Clock> Messages<'r, 'a, C> {
-    /// The messages of a peer, from the first on.
+impl<'a, C: Clock> Messages<'a, C> {
+    /// The messages of a peer, from the first on. After each read `waits` is whether no whole
+    /// message is at hand.
     pub(crate) fn new(
         source: BufReader<&'a Peer<'a, C>>,
-        replies: &'r Replies<'a, C>,
-    ) -> Messages<'r, 'a, C> {
+        waits: &'a Cell<bool>,
+    ) -> Messages<'a, C> {
         Messages {
             source,
-            replies,
+            waits,
             place: Place::Between,
         }
     }
 }
 
-impl<C: Clock> Read for Messages<'_, '_, C> {
+impl<C: Clock> Read for Messages<'_, C> {
     fn read(&mut self, buf: &mut [u8]) -> io::Result<usize> {
-        if self.source.buffer().is_empty() {
-            self.replies.send()?;
-        }
         let peer = *self.source.get_ref();
         let begins = matches!(self.place, Place::Between);
         if begins {
@@ -258,6 +255,17 @@ impl<C: Clock> Read for Messages<'_, '_, C> {
             peer.current.set(Current::Begun);
         }
         self.place = self.place.after(&buf[..count]);
+        self.waits.set(!begin_with_message(self.source.buffer()));
         Ok(count)
+    }
+}
+
+// Whether octets begin with a whole message after its length.
+fn begin_with_message(octets: &[u8]) -> bool {
+    match octets {
+        [high, low, message @ ..] => {
+            message.len() >= usize::from(u16::from_be_bytes([*high, *low]))
+        }
+        _ => false,
     }
 }

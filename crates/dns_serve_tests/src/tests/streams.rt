@@ -3,6 +3,7 @@ use dns_name::Tally;
 use dns_samples_tests::{Kept, Pieces};
 use dns_serve::{StreamFault, StreamRoom, serve_stream, serve_stream_in};
 use std::alloc::Global;
+use std::cell::Cell;
 use std::test::Fail;
 
 /// What a session left: its answer, what was written, and how many octets were not read.
@@ -15,40 +16,35 @@ struct Left {
 }
 
 // How the devices behave: how many octets a call moves at most, and how many calls of each work
-// before one fails.
+// before one fails; and whether the peer is waited for after each message.
 #[derive(Clone, Copy)]
 struct Devices {
     most: usize,
     reads: u32,
     writes: u32,
+    waits: bool,
 }
 
 const ALL_WORK: Devices = Devices {
     most: 100_000,
     reads: 1_000_000,
     writes: 1_000_000,
+    waits: false,
 };
 
 fn session(alloc: Global, input: &[u8], most: u32, devices: Devices) -> Result<Left, Fail> {
     let zone = sample(alloc)?;
-    let mut source = Tally::new(Pieces {
-        text: input,
-        most: devices.most,
-        calls_left: devices.reads,
-    });
-    let mut sink = Tally::new(Kept {
-        text: Vec::new(alloc),
-        most: devices.most,
-        calls_left: devices.writes,
-    });
-    let answer = serve_stream(&zone, &mut source, &mut sink, most);
+    let mut source = Tally::new(Pieces::new(input, devices.most, devices.reads));
+    let mut sink = Tally::new(Kept::new(alloc, devices.most, devices.writes));
+    let (mut room, waits) = (StreamRoom::new(), Cell::new(devices.waits));
+    let answer = serve_stream_in(&zone, &mut source, &mut sink, most, &mut room, &waits);
     let failures = (source.failures(), sink.failures());
     let (source, sink) = (source.into_inner(), sink.into_inner());
     // Both would work again after their failure.
-    if (source.calls_left == u32::MAX) != (answer == Err(StreamFault::SourceFailed)) {
+    if source.has_failed() != (answer == Err(StreamFault::SourceFailed)) {
         return Err(Fail::new("a source that is asked after its failure"));
     }
-    if (sink.calls_left == u32::MAX) != (answer == Err(StreamFault::SinkFailed)) {
+    if sink.has_failed() != (answer == Err(StreamFault::SinkFailed)) {
         return Err(Fail::new("a sink that is asked after its failure"));
     }
     Ok(Left {
@@ -135,7 +131,8 @@ fn sessions_in_one_room(rt: HostRuntime) -> Result<(), Fail> {
         let input = frames(alloc, messages)?;
         let mut source = Tally::new(input.as_slice());
         let mut sink = Tally::new(Vec::new(alloc));
-        let answer = serve_stream_in(&zone, &mut source, &mut sink, 9, &mut room);
+        let waits = Cell::new(false);
+        let answer = serve_stream_in(&zone, &mut source, &mut sink, 9, &mut room, &waits);
         assert_eq!(rt; answer.map(|count| count as usize), Ok(messages.len()));
         assert!(rt;
             sink.into_inner() == frames(alloc, replies)?,
@@ -225,15 +222,32 @@ fn each_write_fails_in_turn(rt: HostRuntime) -> Result<(), Fail> {
 }
 
 #[test]
+fn each_send_fails_in_turn(rt: HostRuntime) -> Result<(), Fail> {
+    let input = frames(rt.alloc(), "waw")?;
+    // What was written and what was read: replies are sent after each message, also after the one
+    // that gets no reply.
+    let rows = [(0, 31), (47, 31), (47, 44), (47, 75), (94, 75)];
+    for call in 0..5 {
+        let devices = Devices {
+            writes: call,
+            waits: true,
+            ..ALL_WORK
+        };
+        let left = session(rt.alloc(), input.as_slice(), 9, devices)?;
+        assert_eq!(rt; left.answer, Err(StreamFault::SinkFailed));
+        assert_eq!(rt; left.failures, (0, 1));
+        let read = input.len().saturating_sub(left.unread);
+        assert_eq!(rt; Some(&(left.written.len(), read)), rows.get(call as usize));
+    }
+    Ok(())
+}
+
+#[test]
 fn a_sink_that_takes_nothing_fails(rt: HostRuntime) -> Result<(), Fail> {
     let zone = sample(rt.alloc())?;
     let input = frames(rt.alloc(), "waw")?;
     let mut source = Tally::new(input.as_slice());
-    let mut sink = Tally::new(Kept {
-        text: Vec::new(rt.alloc()),
-        most: 0,
-        calls_left: 9,
-    });
+    let mut sink = Tally::new(Kept::new(rt.alloc(), 0, 9));
     let answer = serve_stream(&zone, &mut source, &mut sink, 9);
     assert_eq!(rt; answer, Err(StreamFault::SinkFailed));
     assert_eq!(rt; sink.failures(), 1);
