@@ -4,5 +4,5 @@
 mod devices;
 mod texts;
 
-pub use devices::{Kept, Pieces};
+pub use devices::{Calls, Kept, Pieces};
 pub use texts::{LOADED, MIXED, MIXED_PRINTED, SMALL, SMALL_PRINTED};

@@ -83,7 +83,7 @@ fn each_write_of_a_name_fails(rt: HostRuntime) -> Result<(), Fail> {
         assert_eq!(rt; read(text)?.write_text(&mut sink), wanted);
         assert_eq!(rt; sink.failures(), u64::from(fails));
         let device = sink.into_inner();
-        assert_eq!(rt; device.has_failed(), fails);
+        assert_eq!(rt; device.calls.has_failed(), fails);
         let end = text.len().min(3 * calls as usize);
         assert_eq!(rt; device.text.as_slice(), &text[..end], "after {calls} calls");
     }

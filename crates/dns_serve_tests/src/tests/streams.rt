@@ -41,10 +41,10 @@ fn session(alloc: Global, input: &[u8], most: u32, devices: Devices) -> Result<L
     let failures = (source.failures(), sink.failures());
     let (source, sink) = (source.into_inner(), sink.into_inner());
     // Both would work again after their failure.
-    if source.has_failed() != (answer == Err(StreamFault::SourceFailed)) {
+    if source.calls.has_failed() != (answer == Err(StreamFault::SourceFailed)) {
         return Err(Fail::new("a source that is asked after its failure"));
     }
-    if sink.has_failed() != (answer == Err(StreamFault::SinkFailed)) {
+    if sink.calls.has_failed() != (answer == Err(StreamFault::SinkFailed)) {
         return Err(Fail::new("a sink that is asked after its failure"));
     }
     Ok(Left {
@@ -251,7 +251,7 @@ fn a_sink_that_takes_nothing_fails(rt: HostRuntime) -> Result<(), Fail> {
     let answer = serve_stream(&zone, &mut source, &mut sink, 9);
     assert_eq!(rt; answer, Err(StreamFault::SinkFailed));
     assert_eq!(rt; sink.failures(), 1);
-    assert_eq!(rt; sink.into_inner().calls_left, 8);
+    assert_eq!(rt; sink.into_inner().calls.left, 8);
     // The first message was read, after its length.
     assert_eq!(rt; input.len().saturating_sub(source.into_inner().len()), 31);
     Ok(())

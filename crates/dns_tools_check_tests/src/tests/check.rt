@@ -175,7 +175,7 @@ fn sinks_and_sources_that_fail(rt: HostRuntime) -> Result<(), Fail> {
         let written = calls as usize;
         assert_eq!(rt; sink.failures(), 1);
         let sink = sink.into_inner();
-        assert_eq!(rt; sink.calls_left, u32::MAX, "asked after its failure");
+        assert_eq!(rt; sink.calls.left, u32::MAX, "asked after its failure");
         assert_eq!(rt; sink.text.as_slice(), &LOADED.as_bytes()[..written]);
     }
     for flags in [PLAIN, PRINT] {
@@ -184,7 +184,7 @@ fn sinks_and_sources_that_fail(rt: HostRuntime) -> Result<(), Fail> {
         let outcome = check_zone(alloc, &example()?, flags, &mut source, &mut sink);
         assert_eq!(rt; outcome, Err(Stop::Sink), "a sink that takes nothing");
         assert_eq!(rt; sink.failures(), 1);
-        assert_eq!(rt; sink.into_inner().calls_left, 8);
+        assert_eq!(rt; sink.into_inner().calls.left, 8);
     }
     for calls in 0..4 {
         let mut sink = Tally::new(Vec::new(alloc));
@@ -192,7 +192,7 @@ fn sinks_and_sources_that_fail(rt: HostRuntime) -> Result<(), Fail> {
         let outcome = check_zone(alloc, &example()?, PRINT, &mut source, &mut sink);
         assert_eq!(rt; outcome, Err(Stop::Source), "after {calls} reads");
         assert_eq!(rt;
-            source.into_inner().calls_left,
+            source.into_inner().calls.left,
             u32::MAX,
             "asked after its failure"
         );

@@ -11,10 +11,10 @@ pub(super) fn finished(
     outcome: Result<bool, Stop>,
 ) -> Result<(Vec<u8>, Result<bool, Stop>), Fail> {
     let (source, sink) = (source.into_inner(), sink.into_inner());
-    if source.has_failed() != (outcome == Err(Stop::Source)) {
+    if source.calls.has_failed() != (outcome == Err(Stop::Source)) {
         return Err("a source that is asked after its failure".into());
     }
-    if sink.has_failed() != (outcome == Err(Stop::Sink)) {
+    if sink.calls.has_failed() != (outcome == Err(Stop::Sink)) {
         return Err("a sink that is asked after its failure".into());
     }
     Ok((sink.text, outcome))
