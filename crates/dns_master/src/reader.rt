@@ -4,7 +4,7 @@ ghost use Rattle.dns_spec.specs.FileFaults.{bad_data};
 ghost use Rattle.dns_spec.specs.Data.{Valid, lower_case};
 ghost use Rattle.dns_spec.specs.DataText.{Says};
 ghost use Rattle.dns_spec.specs.TypeText.{text_in_lower_case};
-ghost use Rattle.dns_spec.specs.Meaning.{Nothing, TtlSays, gives, faulty, directive, owned, unowned, kind_by_words, fields, records, fault_at, most_records};
+ghost use Rattle.dns_spec.specs.Meaning.{Nothing, TtlSays, gives, faulty, directive, kind_by_words, fields, records, fault_at, most_records};
 ghost use Rattle.dns_master.specs.Codes.{ForFault, fault_of, failures_after_read};
 ghost use Rattle.dns_master.specs.SourceForm.{GivesMeaning, Decides};
 ghost use Rattle.dns_master.specs.OwnedBody.{with_owner};
@@ -159,7 +159,8 @@ impl Reader {
         Ok(Some((taken, rest)))
     }
 
-    // Takes what the words of an entry say.
+    // Takes what the words of an entry say: a directive, or a record, whose owner is that of the
+    // record before where the entry begins with a blank.
     fn take_words(
         &mut self,
         is_blank_led: bool,
@@ -179,14 +180,20 @@ impl Reader {
             return Ok(false);
         };
         if is_blank_led {
-            self.take_unowned(words, room)?;
+            if self.count == 0 {
+                return Err(ReadCode::NoOwner);
+            }
+            self.take_record(words, room)?;
             return Ok(true);
         }
         if is_directive(&first) {
             self.take_directive(first.raw, others)?;
             return Ok(false);
         }
-        self.take_owned(&first, others, room)?;
+        if !self.last.spell_owner(&first, &self.origin) {
+            return Err(ReadCode::BadOwner);
+        }
+        self.take_record(others, room)?;
         Ok(true)
     }
 
@@ -214,47 +221,6 @@ impl Reader {
             return Ok(());
         }
         Err(ReadCode::UnknownDirective)
-    }
-
-    // Takes a record that states its owner: that word, and the words after it.
-    fn take_owned(
-        &mut self,
-        owner: &Word<'_>,
-        words: EntryWords<'_, '_>,
-        room: &mut DataRoom,
-    ) -> Result<(), ReadCode>
-        ensures ok { OnOk result (TakesEntry self.old (owned owner.now (words_left words.entry))
-            (self.new.last ∷ []) self.new) }
-        ensures counted { OnOk result (self.new.count ≡ self.old.count + 1) }
-        ensures line { self.new.line ≡ self.old.line }
-        ensures err { IfErr result (λ code. ForFault code
-            (RefusesEntry self.old (owned owner.now (words_left words.entry)))) }
-    {
-        if !self.last.spell_owner(owner, &self.origin) {
-            return Err(ReadCode::BadOwner);
-        }
-        self.take_record(words, room)?;
-        Ok(())
-    }
-
-    // Takes a record whose owner is that of the record before.
-    fn take_unowned(
-        &mut self,
-        words: EntryWords<'_, '_>,
-        room: &mut DataRoom,
-    ) -> Result<(), ReadCode>
-        ensures ok { OnOk result (TakesEntry self.old (unowned (words_left words.entry))
-            (self.new.last ∷ []) self.new) }
-        ensures counted { OnOk result (self.new.count ≡ self.old.count + 1) }
-        ensures line { self.new.line ≡ self.old.line }
-        ensures err { IfErr result (λ code. ForFault code
-            (RefusesEntry self.old (unowned (words_left words.entry)))) }
-    {
-        if self.count == 0 {
-            return Err(ReadCode::NoOwner);
-        }
-        self.take_record(words, room)?;
-        Ok(())
     }
 
     // Takes the record of the last owner, and of the words after it.
