@@ -300,12 +300,11 @@ fn append_ipv4<'a>(before: &[u8], octets: &'a [u8], text: &mut TextBuffer) -> &'
         ≡ text.old ++ spaced before.now (form_words (ipv4_word ∷ []) octets.now) }
     ensures rest { result.now ≡ (word_front ipv4_word octets.now).1 }
 {
-    let (address, rest) = octets.split_at(4);
-    let Ok(address) = <[u8; 4]>::try_from(address) else {
+    let Some((address, rest)) = octets.split_first_chunk::<4>() else {
         unreachable!();
     };
     text.append(before);
-    text.append(text_of_ipv4(&address).as_slice());
+    text.append(text_of_ipv4(address).as_slice());
     rest
 }
 
@@ -317,12 +316,11 @@ fn append_ipv6<'a>(before: &[u8], octets: &'a [u8], text: &mut TextBuffer) -> &'
         ≡ text.old ++ spaced before.now (form_words (ipv6_word ∷ []) octets.now) }
     ensures rest { result.now ≡ (word_front ipv6_word octets.now).1 }
 {
-    let (address, rest) = octets.split_at(16);
-    let Ok(address) = <[u8; 16]>::try_from(address) else {
+    let Some((address, rest)) = octets.split_first_chunk::<16>() else {
         unreachable!();
     };
     text.append(before);
-    text.append(text_of_ipv6(&address).as_slice());
+    text.append(text_of_ipv6(address).as_slice());
     rest
 }
 
