@@ -1,8 +1,12 @@
--- What holds whatever a call answers is said of its faults too.
-use Rattle.std.proofs.Common.{Result, arith}
+-- What is said of the faults of a call: it holds anyway, or as of the faults that are handed on.
+use Rattle.std.proofs.Common.{◌≡◌, Result, IsErrAnd, arith}
 use Rattle.std.specs.Result.{IfErr}
 use Rattle.dns_wire.specs.declared.fault.WireFault.{WireFault}
 use Rattle.dns_wire.specs.WireFault.{UnlessNoMemory}
 
 pub anyway : {T S : Type 0} (r : Result T WireFault) → S → IfErr r (λ fault. UnlessNoMemory fault S)
 anyway r h = grind arith
+
+pub handed_on : {T P Q : Type 0} (r : Result T WireFault) (fault : WireFault)
+    → IsErrAnd r (λ e. e ≡ fault) → (P → Q) → UnlessNoMemory fault P → IfErr r (λ e. UnlessNoMemory e Q)
+handed_on r fault is turn h = grind arith

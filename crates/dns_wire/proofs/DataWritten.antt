@@ -79,6 +79,11 @@ pub writes_short : {head head' : Octets → ℕ} {d d' : Draft} {t fits : Bool} 
 writes_short x ps is is_too w = writes_past (part_laid x) (all_laid (x ∷ ps)) is is_too
     (λ ms p. let l = part_laid x ms p in omega (arith, ap (λ (z : Laid). length z.written) (data_more x ps ms p), length-append l.written (data_laid (ms ++ l.names) (p + length l.written) ps).written)) w
 
+-- the parts of data
+pub writes_parts : {head head' : Octets → ℕ} {d d' : Draft} {fits : Bool} {ps : List Part} (t : ℕ) (o : Octets) → laid_parts t o ≡ ps
+    → Writes head head' d d' (all_laid ps) fits → Writes head head' d d' (parts_laid t o) fits
+writes_parts {head} {head'} {d} {d'} {fits} t o is w = subst (λ ps. Writes head head' d d' (all_laid ps) fits) (sym is) w
+
 -- The length of data is written after the data, into octets that no name passes over.
 pub tail_written : {head head' : Octets → ℕ} {d d' d'' : Draft} (t ttl : ℕ) (o b : Octets) → d.asked_end ≤ length d.octets → Writes head head d d' (octets_laid (numbers_of t ttl 0)) true
     → Writes head head' d' d'' (parts_laid t o) true

@@ -1,17 +1,9 @@
 use Rattle.std.proofs.Common.{◌∙◌, refl, subst, ◌++◌}
 use Rattle.dns_wire.specs.Kept.{HasPlace, NoneSpelled}
 use Rattle.dns_wire.specs.Writing.{asked_places}
-use Rattle.dns_wire.proofs.SuffixLemmas.{left_begins, left_root, left_found, left_label}
+use Rattle.dns_wire.proofs.SuffixLemmas.{left_root, left_found, left_label}
 use Rattle.dns_wire.specs.SuffixNumbers.{suffix_number}
 use Rattle.dns_wire.proofs.suffixes.shared_suffix.Goals as goal
-
-pub suffixes-init : goal.suffixes-init
-suffixes-init g c =
-    let head = suffix_number (g.H.SuffixHash.numbers c.args.hash.now) in
-    record {
-      left = left_begins head c.args.message.now (asked_places head c.args.message.now c.args.asked_end ++ c.args.places.now) c.args.name.now;
-      same = refl;
-    }
 
 pub returns-in-Some-find_suffix-clause-shared : goal.returns-in-Some-find_suffix-clause-shared
 returns-in-Some-find_suffix-clause-shared g c = λ ms n holds e ok.
