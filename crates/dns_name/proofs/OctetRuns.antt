@@ -1,5 +1,6 @@
 -- Runs of octets are told by their first and their last octets, and these by numbers.
-use Rattle.std.proofs.Common.{◌≡◌, ◌↔◌, ℕ, zero, suc, ◌+◌, ◌-◌, ◌<◌, ◌≤◌, List, [], ◌∷◌, length, take, drop, get_or, refl, sym, ap, ap₂, ◌∙◌, subst, arith}
+use Rattle.std.proofs.Common.{◌≡◌, ◌==◌, ◌↔◌, IsTrue, ℕ, zero, suc, ◌+◌, ◌-◌, ◌<◌, ◌≤◌, List, [], ◌∷◌, length, take, drop, get_or, refl, sym, ap, ap₂, ◌∙◌, subst, arith}
+use Rattle.dns_spec.proofs.Common.{eqb-true, eq-eqb}
 use Rattle.std.proofs.lemmas.Nat.{le_bytes_2, le_bytes_4, le_bytes_8}
 use Rattle.std.proofs.lemmas.List.{length-take-le, length-drop}
 use Rattle.std.proofs.Math.Seq.{take-length}
@@ -51,8 +52,10 @@ last_of k xs long =
     let all : length (drop (length xs - k) xs) ≡ k = omega (arith, length-drop (length xs - k) xs, long) in
     subst (λ j. take j (drop (length xs - k) xs) ≡ drop (length xs - k) xs) all (take-length (drop (length xs - k) xs))
 
--- the first k and the last k octets of k to 2k are all of them
-pub ends_tell : (k : ℕ) (f : List ℕ → ℕ) → Tells k f → (a b a' b' : List ℕ) → length b ≡ length a → k ≤ length a → length a ≤ k + k → AreLow a → AreLow b
-    → a' ≡ drop (length a - k) a → b' ≡ drop (length b - k) b → f (take k a) ≡ f (take k b) → (f (take k a') ≡ f (take k b')) ↔ (a ≡ b)
-ends_tell k f tell a b a' b' same least most low-a low-b own-a own-b front =
-    grind (arith, length-drop, low_end, last_of, joined)
+-- the first k and the last k octets of k to 2k are all of them, and so are their numbers
+pub ends_tell : (k : ℕ) (f : List ℕ → ℕ) → Tells k f → (a b a' b' : List ℕ) {m n m' n' : ℕ}
+    → length b ≡ length a → k ≤ length a → length a ≤ k + k → AreLow a → AreLow b
+    → a' ≡ drop (length a - k) a → b' ≡ drop (length b - k) b → m ≡ f (take k a) → n ≡ f (take k b)
+    → m ≡ n → m' ≡ f (take k a') → n' ≡ f (take k b') → IsTrue (m' == n') ↔ (a ≡ b)
+ends_tell k f tell a b a' b' same least most low-a low-b own-a own-b first second front third fourth =
+    grind (arith, length-drop, low_end, last_of, joined, eqb-true, eq-eqb)

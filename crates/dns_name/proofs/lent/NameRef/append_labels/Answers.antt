@@ -1,14 +1,9 @@
-use Rattle.dns_spec.proofs.Common.{◌≡◌, [], ◌∷◌, ◌++◌, ap, ◌∙◌, arith, length, length-append, Octets, label_text}
+use Rattle.dns_spec.proofs.Common.{◌≡◌, [], ◌∷◌, ◌++◌, ap, ◌∙◌, arith, length-append, Octets, label_text}
 use Rattle.dns_name.proofs.WrittenLemmas.{NameSoFar-next, NameSoFar-room, length-label_text}
 use Rattle.dns_name.proofs.lent.NameRef.append_labels.Goals as goal
 
 appended : (text new octets l : Octets) → new ≡ text ++ label_text octets → octets ≡ l → new ≡ text ++ label_text l
 appended text new octets l e f = e ∙ ap (λ k. text ++ label_text k) f
-
-pub append_label-requires : goal.append_label-requires
-append_label-requires c =
-    let room = NameSoFar-room _ _ _ _ _ _ c.labels.invariant c.in-Some.ensures.steps in
-    omega (arith, room, ap length c.octets.ensures.value)
 
 pub push-requires : goal.push-requires
 push-requires c = grind (arith, appended, NameSoFar-room, length-append, length-label_text)
