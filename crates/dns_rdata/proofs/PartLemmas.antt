@@ -1,5 +1,5 @@
 -- Parts of data, one after another.
-use Rattle.dns_spec.proofs.Common.{◌==◌, ◌≡◌, ℕ, suc, ◌≤◌, true, Option, None, Some, All, List, [], ◌∷◌, map, length, refl, sym, ap, ◌∙◌, subst, arith, leb-true, false≢true, false_from_ne_true, eqb-true, nil_from_length, All-nil, All-cons, none-some, same_Some, is_some, unwrap_or, option_map, Octets, width, fixed, domain, string, strings, anything, octets, name, part_octets, part_folded, joined, cut, piece_front, valid, lower_case, pieces_of, row_of, type_table, other_type}
+use Rattle.dns_spec.proofs.Common.{◌==◌, ◌≡◌, ℕ, suc, ◌≤◌, true, Option, None, Some, All, List, [], ◌∷◌, map, length, refl, sym, ap, ◌∙◌, subst, arith, leb-true, false≢true, false_from_ne_true, eqb-true, nil_from_length, All-nil, All-cons, none-some, same_Some, is_some, unwrap_or, option_map, Octets, cut, piece_front, valid, lower_case, pieces_of}
 use Rattle.dns_spec.specs.Data as Data
 use Rattle.dns_spec.proofs.DataWords.WrittenData.{cut_into, name_part, octets_part, all_strings}
 use Rattle.dns_spec.proofs.DataWords.LoweredData.{cut_data, lowered_data}

@@ -1,6 +1,6 @@
 -- Pieces that are written one after the other, and the rows of the types that have them.
 use Rattle.std.proofs.Common.{◌≡◌, ℕ, ◌+◌, ◌<◌, Bool, true, false, ◌&&◌, ◌==◌, cond, List, [], ◌∷◌, ◌++◌, length, drop, slice_index_or, Option, Some, None, refl, sym, ap, ◌∙◌, arith, add-one}
-use Rattle.dns_spec.proofs.Common.{drop-cons, and_parts, false≢true, none-some, same_Some, is_some, option_map, list_all, find, flat_map, Octets, Piece, Part, cut, piece_front, type_table, other_type, row_of, pieces_of, valid, forms_in}
+use Rattle.dns_spec.proofs.Common.{drop-cons, and_parts, false≢true, none-some, same_Some, is_some, option_map, list_all, find, flat_map, Octets, Piece, Part, cut, piece_front, type_table, row_of, forms_in}
 use Rattle.dns_spec.specs.Data as Data
 use Rattle.dns_spec.specs.WrittenText.{words_by, unknown_words, string_count, data_text}
 use Rattle.dns_rdata.specs.declared.table.Piece as code

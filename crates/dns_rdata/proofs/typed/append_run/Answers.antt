@@ -1,5 +1,5 @@
-use Rattle.dns_spec.proofs.Common.{◌≡◌, ℕ, List, ◌+◌, ◌-◌, [], ◌∷◌, arith, length, replicate, subst, length-replicate, Octets, DomainName, Word, WordForm, SaysWord}
-use Rattle.dns_rdata.specs.WordForms.{form_of, kept, Appends, AppendsFront, SaysNoFront}
+use Rattle.dns_spec.proofs.Common.{◌≡◌, ℕ, List, ◌+◌, [], ◌∷◌, arith, sym, length, replicate, subst, length-replicate, Octets, DomainName, Word, WordForm, SaysWord}
+use Rattle.dns_rdata.specs.WordForms.{form_of, kept, Appends, AppendsFront}
 use Rattle.dns_name.proofs.Results.{fault_handed_on}
 use Rattle.dns_rdata.proofs.FormFronts.{front-none, front-word, front-joined, no-word, too-long, no-rest, no-more, once_more, one_of}
 use Rattle.dns_rdata.proofs.typed.append_run.Goals as goal
@@ -13,15 +13,13 @@ unreachable-requires g c = grind (arith, length-replicate)
 pub returns-in_err-append_word-clause-fault : goal.returns-in_err-append_word-clause-fault
 returns-in_err-append_word-clause-fault g c =
     let form = form_of c.args.run.form in
-    let ws = g.W.Words.to_come c.args.words in
-    let rest = g.W.Words.to_come c.run.others in
-    fault_handed_on c.from_residual.result c.in_err-append_word.field-0.0 _ c.from_residual.ensures.1 (λ other.
-    let n = length c.args.octets.now.items in
-    let none = no-word c.args.origin.now (length c.run.octets.items) form c.in-Some.word rest (g.W.Words.to_come c.in-Some.after) c.in-Some.ensures (c.in_err-append_word.ensures.fault other) in
-    let so_far = no-rest c.args.origin.now (replicate c.run.counter form) (form ∷ []) ws rest _ _ c.run.invariant.front none in
-    let one_more = subst (λ fs. SaysNoFront n fs c.args.origin.now ws) (once_more form c.run.counter) so_far in
-    subst (λ fs. SaysNoFront n fs c.args.origin.now ws) (one_of form c.run.counter c.args.run.times c.run-test.true)
-    (no-more c.args.origin.now n (replicate (c.run.counter + 1) form) (replicate (c.args.run.times - (c.run.counter + 1)) form) ws one_more))
+    let fault = c.in_err-append_word in
+    fault_handed_on c.from_residual.result fault.field-0.0 _ c.from_residual.ensures.1 (λ other.
+    let none = no-word _ (length c.run.octets.items) form _ _ _ c.in-Some.ensures
+    (fault.ensures.fault other) in
+    let so_far = no-rest _ _ (form ∷ []) _ _ _ _ c.run.invariant.front none in
+    rw (sym (one_of form c.run.counter c.args.run.times c.run-test.true))
+    (no-more _ _ _ _ _ (rw (once_more form c.run.counter) at so_far)))
 
 taken : (n : ℕ) (f : WordForm) (origin : DomainName) (w : Word) (ws rest after : List Word) (x y z : Octets) → AppendsFront (replicate n f) origin ws rest x y → rest ≡ w ∷ after
     → Appends (kept f) (SaysWord f origin w) y z → AppendsFront (replicate (n + 1) f) origin ws after x z
@@ -32,12 +30,10 @@ taken n f origin w ws rest after x y z front e word =
 pub returns-then-len-gt-MAX_OCTETS-clause-fault : goal.returns-then-len-gt-MAX_OCTETS-clause-fault
 returns-then-len-gt-MAX_OCTETS-clause-fault g c = λ _.
     let form = form_of c.args.run.form in
-    let ws = g.W.Words.to_come c.args.words in
-    let n = length c.args.octets.now.items in
-    let front = taken c.run.counter form c.args.origin.now c.in-Some.word ws (g.W.Words.to_come c.run.others) (g.W.Words.to_come c.in-Some.after) _ _ _ c.run.invariant.front c.in-Some.ensures c.in_ok-append_word.ensures.ok in
-    subst (λ fs. SaysNoFront n fs c.args.origin.now ws) (one_of form c.run.counter c.args.run.times c.run-test.true)
-    (no-more c.args.origin.now n (replicate (c.run.counter + 1) form) (replicate (c.args.run.times - (c.run.counter + 1)) form) ws
-    (too-long c.args.origin.now (replicate (c.run.counter + 1) form) ws _ _ _ front (omega (arith, c.len.ensures, c.if-len-gt-MAX_OCTETS.true))))
+    let front = taken c.run.counter form _ _ _ _ _ _ _ _ c.run.invariant.front c.in-Some.ensures
+    c.in_ok-append_word.ensures.ok in
+    rw (sym (one_of form c.run.counter c.args.run.times c.run-test.true)) (no-more _ _ _ _ _
+    (too-long _ _ _ _ _ _ front (omega (arith, c.len.ensures, c.if-len-gt-MAX_OCTETS.true))))
 
 pub run-preserved : goal.run-preserved
 run-preserved g c = grind (arith, taken)

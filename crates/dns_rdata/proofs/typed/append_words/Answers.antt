@@ -1,5 +1,4 @@
 use Rattle.dns_spec.proofs.Common.{common_steps, refl, arith, ap, length}
-use Rattle.dns_rdata.specs.WordForms.{form_of}
 use Rattle.dns_name.proofs.Results.{fault_handed_on}
 use Rattle.dns_rdata.proofs.FormFronts.{run-fits, run-taken, run-refused}
 use Rattle.dns_rdata.proofs.typed.append_words.Goals as goal
@@ -8,24 +7,24 @@ pub append_run-requires : goal.append_run-requires
 append_run-requires g c κs = (
   (refl, _),
   (
-    run-fits c.args.count c.args.pieces.now c.pieces.piece-index _ c.pieces-test.true (form_of c.run_of.result.form) c.run_of.result.times c.run_of.ensures
-        c.args.origin.now (g.W.Words.to_come c.args.words) (g.W.Words.to_come c.pieces.words) _ _ c.pieces.invariant.front c.requires.as_many,
+    run-fits _ _ _ _ c.pieces-test.true _ _ c.run_of.ensures _ _ _ _ _ c.pieces.invariant.front
+        c.requires.as_many,
     c.pieces.invariant.bound,
   ),
 )
 
 pub returns-in_err-words-clause-fault : goal.returns-in_err-words-clause-fault
 returns-in_err-words-clause-fault g c =
-    fault_handed_on c.from_residual.result c.in_err-words.field-0.0 _ c.from_residual.ensures.1 (λ other d said short.
-    run-refused c.args.count c.args.pieces.now c.pieces.piece-index _ c.pieces-test.true (form_of c.run_of.result.form) c.run_of.result.times c.run_of.ensures
-    c.args.origin.now (g.W.Words.to_come c.args.words) (g.W.Words.to_come c.pieces.words) _ _ c.pieces.invariant.front (c.in_err-words.ensures.fault other) d said
+    let fault = c.in_err-words in
+    fault_handed_on c.from_residual.result fault.field-0.0 _ c.from_residual.ensures.1
+    (λ other d said short. run-refused _ _ _ _ c.pieces-test.true _ _ c.run_of.ensures _ _ _ _ _
+    c.pieces.invariant.front (fault.ensures.fault other) d said
     (omega (arith, short, ap length c.requires.none)))
 
 pub pieces-preserved : goal.pieces-preserved
 pieces-preserved g c = record {
-  front =
-      run-taken c.args.count c.args.pieces.now c.pieces.piece-index _ c.pieces-test.true (form_of c.run_of.result.form) c.run_of.result.times c.run_of.ensures
-      c.args.origin.now (g.W.Words.to_come c.args.words) (g.W.Words.to_come c.pieces.words) (g.W.Words.to_come c.in_ok-words.words) _ _ _ c.pieces.invariant.front c.in_ok-words.ensures.ok;
+  front = run-taken _ _ _ _ c.pieces-test.true _ _ c.run_of.ensures _ _ _ _ _ _ _
+      c.pieces.invariant.front c.in_ok-words.ensures.ok;
   bound = c.in_ok-words.ensures.bound;
 }
 

@@ -10,7 +10,8 @@ put_piece-requires-clause-piece g c = there-at _ _ _ c.pieces-test.true _ c.piec
 pub returns-in_err-make_room : goal.returns-in_err-make_room
 returns-in_err-make_room g c = record {
   ok = search rules;
-  err = OnErr-always c.from_residual.result (held_begun _ _ _ _ _ _ c.pieces.invariant.fills c.in_err-make_room.ensures.fills.err);
+  err = OnErr-always c.from_residual.result
+      (held_begun _ _ _ _ _ _ c.pieces.invariant.fills c.in_err-make_room.ensures.fills.err);
   counted = search rules;
 }
 
