@@ -1,6 +1,5 @@
-use Rattle.dns_spec.proofs.Common.{◌≡◌, true, ◌-◌, length, refl, sym, ap, ◌∙◌, subst, arith, Some, false≢true, and_parts, is_some, type_ns, rrset, set_of}
+use Rattle.dns_spec.proofs.Common.{◌-◌, length, refl, sym, ap, ◌∙◌, arith, false≢true, and_parts}
 use Rattle.dns_name.proofs.WireLemmas.{IsWireForm-wire, labels_of_spelled}
-use Rattle.dns_answer.specs.Walks.{IsThere, IsMissing, IsBelowCut, ends_at_cuts}
 use Rattle.dns_answer.proofs.WaySteps.{missing-child, cut-at_child, there-at_child}
 use Rattle.dns_answer.proofs.LongWays.{cut-whole, missing-whole, aim-deep, there-above, under-origin, label-before}
 use Rattle.dns_answer.proofs.lookup.walk.Goals as goal
@@ -15,14 +14,11 @@ put_starts-requires-clause-labels c =
 
 pub labels-init : goal.labels-init
 labels-init c =
-    let z = c.args.steps.now.zone in
     let aim = c.requires.aim in
-    let lead = c.handed_out-node.ensures.node in
     let took = c.handed_out-node.ensures.took in
-    let deep = aim-deep z c.args.apex.now _ c.args.sought.now c.requires.apex c.args.lead aim in
+    let deep = aim-deep _ _ _ c.args.sought.now c.requires.apex c.args.lead aim in
     record {
-      there = subst (IsThere z c.args.apex.now (ends_at_cuts c.args.cuts) _) (sym lead)
-          (there-above z c.args.apex.now _ c.args.sought.now c.requires.apex c.args.lead aim);
+      there = rw c.handed_out-node.ensures.node (there-above _ _ _ _ c.requires.apex c.args.lead aim);
       fewer = omega arith;
       zone = took.zone;
       from = took.from;
@@ -37,51 +33,37 @@ label_after-label-requires-clause-inside c =
 
 pub returns-in_default-clause-way : goal.returns-in_default-clause-way
 returns-in_default-clause-way c =
-    let z = c.args.steps.now.zone in
-    let apex = c.args.apex.now in
-    let ends = ends_at_cuts c.args.cuts in
-    let n = c.args.sought.now.name in
     let octets = c.octets-octets.ensures in
-    let label = label-before n _ c.label_after-label.result c.labels.before (labels_of_spelled _ _ octets.value octets.is_name) c.labels-test.true c.label_after-label.ensures in
-    missing-whole z apex ends (c.labels.before - 1) n c.labels.node
-    (subst (λ m. IsMissing z apex ends m c.labels.node) (sym label)
-    (missing-child z apex ends _ _ c.labels.node c.or_apex.result.now c.labels.invariant.there c.or_apex.ensures (λ there. false≢true (c.in_default.ensures.child.1 there))))
+    let label = label-before _ _ _ c.labels.before
+    (labels_of_spelled _ _ octets.value octets.is_name) c.labels-test.true c.label_after-label.ensures in
+    missing-whole _ _ _ (c.labels.before - 1) _ _ (rw label
+    (missing-child _ _ _ _ _ _ _ c.labels.invariant.there c.or_apex.ensures
+    (λ there. false≢true (c.in_default.ensures.child.1 there))))
 
 pub returns-then-is_end-clause-way : goal.returns-then-is_end-clause-way
 returns-then-is_end-clause-way c =
-    let z = c.args.steps.now.zone in
-    let apex = c.args.apex.now in
-    let ends = ends_at_cuts c.args.cuts in
-    let n = c.args.sought.now.name in
-    let child = c.in-Some.child in
     let inv = c.labels.invariant in
     let octets = c.octets-octets.ensures in
-    let label = label-before n _ c.label_after-label.result c.labels.before (labels_of_spelled _ _ octets.value octets.is_name) c.labels-test.true c.label_after-label.ensures in
-    let both = and_parts ends (is_some (set_of (rrset child.zone child.name type_ns))) (sym c.is_end.ensures ∙ c.if-is_end.true) in
-    let under = λ (_ : ends ≡ true). under-origin z apex ends c.args.sought.now c.requires.apex
-    c.args.lead c.requires.aim c.labels.before inv.fewer in (
+    let label = label-before _ _ _ c.labels.before
+    (labels_of_spelled _ _ octets.value octets.is_name) c.labels-test.true c.label_after-label.ensures in
+    let both = and_parts _ _ (sym c.is_end.ensures ∙ c.if-is_end.true) in (
       both.0,
-      cut-whole z (c.labels.before - 1) n child
-          (subst (λ m. IsBelowCut z m child) (sym label)
-          (cut-at_child z apex ends _ _ c.labels.node c.or_apex.result.now child inv.there under c.or_apex.ensures c.in-Some.ensures.node both.0 both.1)),
+      cut-whole _ (c.labels.before - 1) _ _ (rw label (cut-at_child _ _ _ _ _ _ _ _ inv.there
+          (λ _. under-origin _ _ _ _ c.requires.apex c.args.lead c.requires.aim _ inv.fewer)
+          c.or_apex.ensures c.in-Some.ensures.node both.0 both.1)),
     )
 
 pub labels-preserved : goal.labels-preserved
 labels-preserved c =
-    let z = c.args.steps.now.zone in
-    let apex = c.args.apex.now in
-    let ends = ends_at_cuts c.args.cuts in
-    let n = c.args.sought.now.name in
-    let child = c.in-Some.child in
     let inv = c.labels.invariant in
     let down = c.in-Some.ensures in
     let octets = c.octets-octets.ensures in
-    let label = label-before n _ c.label_after-label.result c.labels.before (labels_of_spelled _ _ octets.value octets.is_name) c.labels-test.true c.label_after-label.ensures in
-    let under = λ (_ : ends ≡ true). under-origin z apex ends c.args.sought.now c.requires.apex
-    c.args.lead c.requires.aim c.labels.before inv.fewer in
+    let label = label-before _ _ _ c.labels.before
+    (labels_of_spelled _ _ octets.value octets.is_name) c.labels-test.true c.label_after-label.ensures in
     record {
-      there = subst (λ m. IsThere z apex ends m (Some child)) (sym label)
-          (there-at_child z apex ends _ _ c.labels.node c.or_apex.result.now child inv.there under c.or_apex.ensures down.node (down.child.0 refl) (sym c.is_end.ensures ∙ c.if-is_end.false));
+      there = rw label (there-at_child _ _ _ _ _ _ _ _ inv.there
+          (λ _. under-origin _ _ _ _ c.requires.apex c.args.lead c.requires.aim _ inv.fewer)
+          c.or_apex.ensures down.node (down.child.0 refl) (sym c.is_end.ensures ∙ c.if-is_end.false));
       fewer = omega (arith, inv.fewer);
       zone = down.same_zone ∙ inv.zone;
       from = omega (arith, down.visits, inv.from);
