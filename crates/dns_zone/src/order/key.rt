@@ -99,17 +99,15 @@ fn common_end<'a>(name: &'a [u8], other: &'a [u8]) -> &'a [u8]
     ensures name { EndsWith (labels_of name.now) (labels_of result.now) }
     ensures other { EndsWith (labels_of other.now) (labels_of result.now) }
 {
-    let (mut end, mut others) = (name, other);
-    'labels: while !are_ends_equal(end, others) {
-        let (own, most) = (end.len(), others.len());
-        if own >= most {
-            end = after_first_label(end);
-        }
-        if most >= own {
-            others = after_first_label(others);
-        }
+    if name.len() > other.len() {
+        common_end(after_first_label(name), other)
+    } else if name.len() < other.len() {
+        common_end(name, after_first_label(other))
+    } else if are_ends_equal(name, other) {
+        name
+    } else {
+        common_end(after_first_label(name), after_first_label(other))
     }
-    end
 }
 
 // Whether ends of names are equal. Long ones are compared as slices: a file of deep names takes a
