@@ -1,5 +1,6 @@
 -- The owner and the data of a record stand in its octets, one after the other.
-use Rattle.dns_spec.proofs.Common.{◌≡◌, ℕ, true, [], ◌++◌, length, take, drop, refl, ap, ◌∙◌, arith, length-append, take-append_seam, drop-append_seam, Octets, DomainName, wire, is_name, ResourceRecord}
+use Rattle.dns_spec.proofs.Common.{◌≡◌, ℕ, true, All, [], ◌++◌, length, take, drop, refl, ap, ◌∙◌, arith, length-append, take-append_seam, drop-append_seam, Octets, DomainName, wire, is_name, ResourceRecord}
+use Rattle.dns_spec.proofs.DomainNames.SmallOctets.{Small}
 use Rattle.dns_name.proofs.WireLemmas.{labels_of_spelled, IsWireForm-wire}
 use Rattle.dns_master.specs.RecordForm.{IsKept}
 use Rattle.dns_zone.specs.EntryForm.{owner_in, data_in, IsEntry}
@@ -24,11 +25,14 @@ module _ (n : DomainName) (d own zs : Octets) (laid : IsLaid n d own zs) where
   pub data_is : data_in (length own) zs ≡ d
   data_is = ap (drop (length own)) laid.whole ∙ drop-append_seam own d
 
-  pub entry_kept : (ttl t : ℕ) → IsKept n ttl t d → IsEntry (length own) zs ttl t
-  entry_kept ttl t kept = record {
+  pub entry_kept : (ttl t : ℕ) → IsKept n ttl t d → All Small n → Small d
+      → IsEntry (length own) zs ttl t
+  entry_kept ttl t kept small small_data = record {
     fits = omega (arith, ap length laid.whole, length-append own d);
     wire = IsWireForm-wire (take (length own) zs) n owner_octets laid.is_name;
     kept = rw (owner_is, data_is) kept;
+    owner_octets = rw owner_is small;
+    data_octets = rw data_is small_data;
   }
 
   pub entry_is : (ttl t : ℕ) → ◌≡◌ {A = ResourceRecord} (record { owner = owner_in (length own) zs; ttl = ttl; rtype = t; rdata = data_in (length own) zs })

@@ -1,5 +1,5 @@
 -- The octets of a name are small where those of its wire form are.
-use Rattle.dns_spec.proofs.Common.{All, [], ◌∷◌, ◌++◌, length, All-nil, All-cons, DomainName, wire}
+use Rattle.dns_spec.proofs.Common.{ℕ, ◌<◌, All, [], ◌∷◌, ◌++◌, length, get_or, get_or_default_zero, sym, subst, All-nil, All-cons, Octets, DomainName, wire}
 use Rattle.dns_spec.proofs.DomainNames.SmallOctets.{Small, small_tail, small_front, small_back}
 
 pub small_labels : (n : DomainName) → Small (wire n) → All Small n
@@ -7,3 +7,6 @@ small_labels [] h = All-nil Small
 small_labels (l ∷ n) h =
     let after = small_tail (length l) (l ++ wire n) h in
     All-cons Small l n (small_front l (wire n) after) (small_labels n (small_back l (wire n) after))
+
+pub small_octets : (xs : Octets) → ((k : ℕ) → get_or xs k 0 < 256) → Small xs
+small_octets xs f = λ k d h. subst (λ o. o < 256) (sym (get_or_default_zero xs k d h)) (f k)

@@ -1,5 +1,5 @@
 -- What a reader learns here: how the owner and the data of a record stand in one piece of memory.
-use Rattle.std.specs.Prelude.{ℕ, ◌≤◌, length, take, drop}
+use Rattle.std.specs.Prelude.{ℕ, ◌<◌, ◌≤◌, All, length, take, drop}
 use Rattle.dns_spec.specs.Names.{Octets, DomainName}
 use Rattle.dns_name.specs.WireForm.{labels_of, IsWireForm}
 use Rattle.dns_master.specs.RecordForm.{IsKept}
@@ -16,3 +16,5 @@ pub record IsEntry (k : ℕ) (xs : Octets) (ttl t : ℕ) : Type 0 where
   pub fits : k ≤ length xs
   pub wire : IsWireForm (take k xs)
   pub kept : IsKept (owner_in k xs) ttl t (data_in k xs)
+  pub owner_octets : All (All (λ o. o < 256)) (owner_in k xs)
+  pub data_octets : All (λ o. o < 256) (data_in k xs)

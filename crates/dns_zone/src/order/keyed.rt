@@ -1,7 +1,8 @@
 //! The keys of the owners of records, in octets that all share.
-ghost use Rattle.std.specs.Prelude.{◌≡◌, ◌≤◌, length, IfOk};
+ghost use Rattle.std.specs.Prelude.{◌≡◌, ◌≤◌, All, length, IfOk};
 ghost use Rattle.dns_spec.specs.Names.{folded};
 ghost use Rattle.dns_spec.specs.Meaning.{most_records};
+ghost use Rattle.dns_spec.specs.ZonePrinted.{IsReadRecord};
 ghost use Rattle.dns_zone.specs.KeyForm.{name_key};
 ghost use Rattle.dns_zone.specs.KeyedForm.{key_in, AreKeyed};
 
@@ -28,6 +29,7 @@ pub(crate) fn keys_of<'a>(
     ensures origin { IfOk result (λ k.
         key_in k.keys.items 0 origin.now ≡ name_key origin.now) }
     ensures records { IfOk result (λ k. AreKeyed k.keys.items records.now k.starts.items) }
+    ensures read { IfOk result (λ _. All IsReadRecord records.now) }
 {
     let mut keys = Vec::new(alloc);
     let mut starts = Vec::with_capacity(alloc, records.len())?;

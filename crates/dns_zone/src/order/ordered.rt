@@ -44,7 +44,6 @@ pub(crate) fn ordered(
     ensures keyed { IfOk result (λ kept. AreKeyed kept.keyed.keys.items kept.records.items
         kept.keyed.starts.items) }
 {
-    know_each(records.as_slice());
     let Keyed { keys, mut starts } = keys_of(alloc, &*origin, records.as_slice())?;
     arrange(
         alloc,
@@ -137,24 +136,3 @@ fn owner_order(keys: &[u8], one: &Entry, start: u32, next: &Entry, after: u32) -
     }
     key_at(keys, start, one).cmp(key_at(keys, after, next))
 }
-
-// What each record keeps is known once it is read. Nothing else is done.
-fn know_each(records: &[Entry])
-    ensures { All IsReadRecord records.now }
-{
-    'records: for each in records {
-        know(each);
-    }
-}
-
-fn know(one: &Entry)
-    ensures { IsReadRecord one.now }
-{
-    let _type = one.rtype.0;
-    know_octets(one.owner().octets());
-    know_octets(one.rdata());
-}
-
-fn know_octets(_octets: &[u8])
-    ensures { All (λ o. o < 256) _octets.now }
-{}

@@ -2,6 +2,7 @@
 ghost use Rattle.std.specs.Prelude.{◌≡◌, IfOk};
 ghost use Rattle.dns_spec.specs.Names.{folded};
 ghost use Rattle.dns_spec.specs.Data.{Valid, lower_case};
+ghost use Rattle.dns_spec.specs.ZonePrinted.{IsReadRecord};
 
 use dns_master::Record;
 use dns_name::NameRef;
@@ -59,7 +60,9 @@ impl Entry {
     pub(crate) fn owner(&self) -> NameRef<'_>
         ensures value { result ≡ self.now.owner }
         ensures lower { folded result ≡ result }
+        ensures read { IsReadRecord self.now }
     {
+        let _type = self.rtype.0;
         let count = self.owner_octets as usize;
         NameRef::new(self.octets.as_slice().split_at(count).0)
     }

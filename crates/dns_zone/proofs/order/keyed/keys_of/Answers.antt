@@ -1,5 +1,6 @@
-use Rattle.dns_spec.proofs.Common.{rules, ◌≡◌, ◌≤◌, ◌<◌, length, ℕ, ◌+◌, List, [], ◌∷◌, ◌++◌, get_or, arith, sym, ap, subst, ◌∙◌, inl, inr, ◌⊎◌, length-append, cases_lt, get_or_append_left, get_or_default, Octets, DomainName, ResourceRecord}
+use Rattle.dns_spec.proofs.Common.{rules, ◌≡◌, ◌≤◌, ◌<◌, length, ℕ, ◌+◌, List, [], ◌∷◌, ◌++◌, get_or, arith, sym, ap, subst, ◌∙◌, inl, inr, ◌⊎◌, length-append, cases_lt, get_or_append_left, get_or_default, Octets, DomainName, ResourceRecord, IsReadRecord, All, All-nil, take_all}
 use Rattle.std.proofs.Math.Seq.{get_or-append_seam}
+use Rattle.std.proofs.lemmas.List.Elements.{All-more}
 use Rattle.dns_spec.proofs.DomainNames.NameLaws.{names_equal-decides}
 use Rattle.dns_name.proofs.WireLemmas.{IsWireForm-wire, labels_of_spelled}
 use Rattle.dns_zone.specs.KeyForm.{name_key}
@@ -34,6 +35,7 @@ records-init c =
         ap length (c.octets.ensures.value ∙ c.of-key.ensures),
         c.octets.ensures.bound,
       );
+      read = All-nil IsReadRecord;
     }
 
 abbrev IsAt : Octets → ℕ → DomainName → Type 0
@@ -79,6 +81,8 @@ records-preserved c =
     ∙ sym c.owner-owner.ensures.value in
     let count : length c.push.new.self.items ≡ k + 1 =
     ap length starts ∙ length-append c.records.starts.items _ ∙ ap (λ j. j + 1) inv.count in
+    let read = All-more IsReadRecord rs k c.each-item.result c.records-test.true inv.read
+    (subst IsReadRecord c.each-item.is c.owner-owner.ensures.read) in
     elim c.if-ne.branch [
       | then-ne+in_ok-extend_from_slice-2 w ↦
           let more : w.octets-then-ne.result.now ≡ name_key n =
@@ -102,6 +106,7 @@ records-preserved c =
                 (λ i r s l. stays _ _ (inv.each i r s l))
                 (λ r. subst (λ m. IsAt c.if-ne.keys.items c.if-ne.start m) (sym (here r)) added));
             few = omega (arith, few, size, ap length more, bound);
+            read = read;
           }
       | else-ne w ↦
           let same : n ≡ c.records.last =
@@ -123,5 +128,11 @@ records-preserved c =
                 (λ r. subst (λ m. IsAt c.if-ne.keys.items c.if-ne.start m) (sym (here r ∙ same))
                 last));
             few = omega (arith, few, ap length keys);
+            read = read;
           }
     ]
+
+pub returns-clause-read : goal.returns-clause-read
+returns-clause-read c =
+    subst (All IsReadRecord) (take_all c.records.each-index c.args.records.now c.records-test.false)
+    c.records.invariant.read

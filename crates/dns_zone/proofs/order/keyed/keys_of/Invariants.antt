@@ -1,4 +1,4 @@
-use Rattle.dns_spec.proofs.Common.{◌≡◌, ℕ, ◌+◌, ◌*◌, ◌<◌, ◌≤◌, length, get_or, ResourceRecord}
+use Rattle.dns_spec.proofs.Common.{◌≡◌, ℕ, ◌+◌, ◌*◌, ◌<◌, ◌≤◌, All, length, take, get_or, ResourceRecord, IsReadRecord}
 use Rattle.dns_zone.specs.KeyForm.{name_key}
 use Rattle.dns_zone.specs.KeyedForm.{key_in}
 use Rattle.dns_zone.proofs.order.keyed.keys_of.Given as goal
@@ -14,4 +14,5 @@ invariant-records l = record {
       → key_in l.keys.items (get_or l.starts.items i s) (get_or l.records i r).owner
       ≡ name_key (get_or l.records i r).owner;
   few : length l.keys.items ≤ 255 * (l.each-index + 1);
+  read : All IsReadRecord (take l.each-index l.records);
 }

@@ -41,7 +41,7 @@ module _ (rs xs : List ResourceRecord) (each : All IsReadRecord rs) (is : xs ≡
 
 module _ (c : Then-leave_out_duplicates) where
   each : All IsReadRecord c.args.records.items
-  each = subst (All IsReadRecord) c.as_slice.ensures.value c.know_each.ensures
+  each = subst (All IsReadRecord) c.as_slice.ensures.value c.in_ok-keys.ensures.read
 
   once : c.leave_out_duplicates.new.records.items ≡ canonical c.args.records.items
   once =
@@ -63,7 +63,7 @@ passed {P} b e h = subst (λ t. OnTrue t P) e h
 
 module _ (c : After-drop-keys-2) where
   read : All IsReadRecord c.args.records.items
-  read = subst (All IsReadRecord) c.as_slice.ensures.value c.know_each.ensures
+  read = subst (All IsReadRecord) c.as_slice.ensures.value c.in_ok-keys.ensures.read
 
   none_later : c.leave_out_duplicates-2.result ≡ true
   none_later =
@@ -95,5 +95,5 @@ returns-clause-keyed c =
     subst
     (λ ks. AreKeyed ks c.leave_out_duplicates-2.new.records.items
     c.leave_out_duplicates-2.new.starts.items)
-    c.as_slice-6.ensures.value
+    c.as_slice-5.ensures.value
     (passed _ (none_later c) c.leave_out_duplicates-2.ensures.keyed)

@@ -1,4 +1,6 @@
-use Rattle.std.proofs.Common.{◌∙◌}
+use Rattle.dns_spec.proofs.Common.{rules, subst, ◌∙◌}
+use Rattle.dns_spec.proofs.DomainNames.SmallOctets.{Small}
+use Rattle.dns_zone.proofs.KnownRecords.{small_labels, small_octets}
 use Rattle.dns_zone.proofs.Entries.{IsLaid, laid_in_turn, entry_kept, entry_is}
 use Rattle.dns_zone.proofs.store.entry.Entry.of.Goals as goal
 
@@ -9,7 +11,12 @@ module _ (c : goal.After-result-1) where
       c.octets-owner.ensures.value c.octets-data.ensures.value c.octets-owner.ensures.is_name
 
 pub invariant_of-result : goal.invariant_of-result
-invariant_of-result c = entry_kept _ _ _ _ (laid c) _ _ c.read.invariant
+invariant_of-result c =
+    entry_kept _ _ _ _ (laid c) _ _ c.read.invariant
+    (small_labels _ (subst Small c.octets-owner.ensures.value
+    (small_octets c.octets-owner.result.now (λ k. search rules))))
+    (subst Small c.octets-data.ensures.value
+    (small_octets c.octets-data.result.now (λ k. search rules)))
 
 pub returns : goal.returns
 returns c = entry_is _ _ _ _ (laid c) c.read.inside.ttl c.read.inside.rtype.0 ∙ c.read.view_is
