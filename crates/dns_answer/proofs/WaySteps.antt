@@ -2,7 +2,8 @@
 use Rattle.dns_spec.proofs.Common.{◌≡◌, ℕ, suc, Bool, true, false, ◌&&◌, ◌∷◌, map, Option, None, Some, refl, sym, ap, ◌∙◌, subst, false≢true, and_parts, false_from_ne_true, length-map, to_ascii_lowercase, is_some, Octets, DomainName, folded, same, at_or_below, below, type_ns, type_cname, ResourceRecord, ZoneContents, owns, rrset, set_of, exists, is_cut}
 use Rattle.std.specs.Prelude.{◌==◌, IfSome}
 use Rattle.dns_zone.specs.Nodes.{ZoneNode, IsLead}
-use Rattle.dns_zone.proofs.NameOrder.{same-from, lower_twice}
+use Rattle.dns_spec.proofs.ZoneChecks.FaultOrder.{folded_folded}
+use Rattle.dns_zone.proofs.NameOrder.{same-from}
 use Rattle.dns_zone.proofs.NameTree.{itself-under, below-cons, same-under}
 use Rattle.dns_zone.proofs.WayLaws.{any_weaker}
 use Rattle.dns_zone.proofs.Existing.{exists-lower}
@@ -39,7 +40,7 @@ missing-further z start ends l n node h =
 
 child-lower : (z : ZoneContents) (l : Octets) (n : DomainName) → exists z (l ∷ folded n) ≡ exists z (l ∷ n)
 child-lower z l n =
-    exists-lower z (l ∷ folded n) (l ∷ n) (ap (λ m. map to_ascii_lowercase l ∷ m) (lower_twice n)) (ap suc (length-map n (map to_ascii_lowercase)))
+    exists-lower z (l ∷ folded n) (l ∷ n) (ap (λ m. map to_ascii_lowercase l ∷ m) (folded_folded n)) (ap suc (length-map n (map to_ascii_lowercase)))
 
 pub missing-child : (z : ZoneContents) (start : ZoneNode) (ends : Bool) (l : Octets) (n : DomainName) (node : Option ZoneNode) (at_node : ZoneNode) → IsThere z start ends n node
     → at_node ≡ node_or start node → (exists at_node.zone (l ∷ at_node.name) ≡ true → ⊥) → IsMissing z start ends (l ∷ n) node
@@ -51,13 +52,13 @@ missing-child z start ends l n node at_node h e absent =
       missing = none;
       encloser = encloser-here z l n h.stands ∙ ap (λ (v : ZoneNode). Some v.name) (sym h.at_name);
       zone = ap (λ (v : ZoneNode). v.zone) h.at_name;
-      lower = ap (λ (v : ZoneNode). folded v.name) h.at_name ∙ lower_twice n ∙ ap (λ (v : ZoneNode). v.name) (sym h.at_name);
+      lower = ap (λ (v : ZoneNode). folded v.name) h.at_name ∙ folded_folded n ∙ ap (λ (v : ZoneNode). v.name) (sym h.at_name);
     }
 
 -- a name below the origin stays so in lower case
 below-lower : (z : ZoneContents) (l : Octets) (n : DomainName) → at_or_below n z.origin ≡ true → below (folded (l ∷ n)) z.origin ≡ true
 below-lower z l n under =
-    below-cons (map to_ascii_lowercase l) (folded n) z.origin ∙ same-under (folded n) n z.origin (same-from (folded n) n (lower_twice n)) ∙ under
+    below-cons (map to_ascii_lowercase l) (folded n) z.origin ∙ same-under (folded n) n z.origin (same-from (folded n) n (folded_folded n)) ∙ under
 
 module _ (z : ZoneContents) (start : ZoneNode) (ends : Bool) (l : Octets) (n : DomainName) (above : Option ZoneNode) (at_node node : ZoneNode) (h : IsThere z start ends n above)
     (under : ends ≡ true → at_or_below n z.origin ≡ true) (e : at_node ≡ node_or start above) (f : node ≡ record { zone = at_node.zone; name = map to_ascii_lowercase l ∷ at_node.name }) where

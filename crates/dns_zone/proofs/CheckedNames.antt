@@ -1,5 +1,6 @@
 -- The names that are checked, as a list: what a search among them by keys finds.
 use Rattle.dns_spec.proofs.Common.{◌≡◌, ℕ, ◌+◌, suc, ◌<◌, ◌≤◌, Bool, true, false, ◌&&◌, not, cond, ◌==◌, nat_lt, ◌⊎◌, inl, inr, List, get_or, zero, drop, length-take, [], ◌∷◌, map, length, take, refl, sym, ap, ap₂, ◌∙◌, subst, arith, filter, is_gt, nat_cmp, Ordering, Less, Equal, Greater, false≢true, true≢false, not-true, and_parts, or_cases, false_from_ne_true, cases_lt, nat_list_cmp_total, tied_itself, upto, get_or-take, get_or_default, min-eq_left, slice_cmp, list_any, starts_with, IsPartitionedBy, ordering_reverse, Octets, DomainName, folded, same, at_or_below, name_order, type_ns, ResourceRecord, ZoneContents, at, owns, is_cut, at_or_below_cut, checked_names}
+use Rattle.dns_spec.proofs.DomainNames.NameLaws.{octets_equal-decides}
 use Rattle.dns_spec.proofs.ZoneChecks.FaultOrder.{name_tie, name_order_total, one_lower, Lower}
 use Rattle.dns_spec.proofs.Records.SortedOnce.{Each, Among, Rises, each_at, each_filter, filter_each, filter_among}
 use Rattle.dns_zone.specs.KeyForm.{name_key}
@@ -12,7 +13,9 @@ use Rattle.dns_zone.proofs.NameOrder.{same-is}
 use Rattle.dns_zone.proofs.NameTree.{under-order}
 use Rattle.dns_zone.proofs.Pairs.{Pairs, halves, pairs_of, each_both, each_get, parted, filter_none}
 use Rattle.dns_zone.proofs.ReportedNames.{owners, among_once, among_checked}
-use Rattle.dns_zone.proofs.TopmostCut.{at_cut, covers, covered, uncovered}
+use Rattle.dns_zone.proofs.Spans.{map_each, some_passes}
+use Rattle.dns_spec.proofs.Replies.ItemSets.{each_among}
+use Rattle.dns_zone.proofs.TopmostCut.{at_cut, covers, covered, uncovered, topmost_fits}
 
 pub among_map : {X Y : Type 0} (f : X → Y) (y : Y) (xs : List X) → Among y (map f xs)
     → (x : X) × Among x xs × (y ≡ f x)
@@ -31,12 +34,8 @@ map_among f x (y ∷ ys) (inr m) = inr (map_among f x ys m)
 pub rises_pairs : {X : Type 0} (f : X → DomainName) (xs : List X) → Rises name_order (map f xs)
     → Pairs (λ x y. name_order (f x) (f y) ≡ Less) xs
 rises_pairs f [] h = tt
-rises_pairs {X} f (x ∷ xs) h = (each xs h.0, rises_pairs f xs h.1)
-  where
-    each : (ys : List X) → Each (λ n. name_order (f x) n ≡ Less) (map f ys)
-        → Each (λ y. name_order (f x) (f y) ≡ Less) ys
-    each [] e = tt
-    each (y ∷ ys) e = (e.0, each ys e.1)
+rises_pairs f (x ∷ xs) h =
+    (map_each f (λ n. name_order (f x) n ≡ Less) xs h.0, rises_pairs f xs h.1)
 
 -- those up to place i are the element there, or in order with it
 pub last_at : {X : Type 0} (R : X → X → Type 0) (xs : List X) (i : ℕ) (d : X) → Pairs R xs
@@ -79,36 +78,24 @@ pub one_key : (n m : DomainName) → Lower n → Lower m → name_key n ≡ name
 one_key n m p q e = grind (arith, one_lower, name_tie, key_order, tied_itself, nat_list_cmp_total)
 
 module _ (z : ZoneContents) where
+  owner_among : (m : DomainName) → Lower m → (r : ResourceRecord) → Among r z.records
+      → same r.owner m ≡ true → Among m (owners_once z.records)
+  owner_among m low r a e =
+      among_once m z.records (subst (λ n. Among n (owners z.records)) (same-is r.owner m e ∙ low)
+      (map_among (λ (s : ResourceRecord). folded s.owner) r z.records a))
+
   -- a cut is an owner
   pub cut_among : (c : DomainName) → Lower c → is_cut z c ≡ true → Among c (owners_once z.records)
   cut_among c low h =
-      among_once c z.records (go z.records (and_parts _ (owns z c type_ns) h).1)
-    where
-      go : (rs : List ResourceRecord)
-          → list_any (λ (r : ResourceRecord). same r.owner c && r.rtype == type_ns) rs ≡ true
-          → Among c (owners rs)
-      go [] e = absurd (false≢true e)
-      go (r ∷ rs) e = by_first (or_cases (same r.owner c && r.rtype == type_ns) _ e) (go rs)
-        where
-          by_first : ((same r.owner c && r.rtype == type_ns) ≡ true)
-              ⊎ (list_any (λ (s : ResourceRecord). same s.owner c && s.rtype == type_ns) rs ≡ true)
-              → (list_any (λ (s : ResourceRecord). same s.owner c && s.rtype == type_ns) rs ≡ true
-              → Among c (owners rs)) → (c ≡ folded r.owner) ⊎ Among c (owners rs)
-          by_first (inl k) f = grind (arith, same-is, and_parts)
-          by_first (inr k) f = inr (f k)
+      let s = some_passes (λ (r : ResourceRecord). same r.owner c && r.rtype == type_ns) z.records
+      (and_parts _ (owns z c type_ns) h).1 in
+      owner_among c low s.0 s.1 (and_parts (same s.0.owner c) _ s.2).0
 
   pub none_at : (m : DomainName) → Lower m → (Among m (owners_once z.records) → ⊥) → at z m ≡ []
   none_at m low f =
       filter_none (λ (r : ResourceRecord). same r.owner m) z.records
-      (go z.records (λ k. f (among_once m z.records k)))
-    where
-      go : (rs : List ResourceRecord) → (Among m (owners rs) → ⊥)
-          → Each (λ (r : ResourceRecord). same r.owner m ≡ false) rs
-      go [] g = tt
-      go (r ∷ rs) g = (
-        false_from_ne_true (same r.owner m) (λ e. g (inl (sym low ∙ sym (same-is r.owner m e)))),
-        go rs (λ k. g (inr k)),
-      )
+      (each_among (λ (r : ResourceRecord). same r.owner m ≡ false) z.records
+      (λ r a. false_from_ne_true (same r.owner m) (λ e. f (owner_among m low r a e))))
 
   abbrev name : CheckedName → DomainName
   name = name_of z
@@ -296,3 +283,14 @@ module _ (z : ZoneContents) where
 
       pub found_at : last ≡ m → own_in z.records c ≡ at z m
       found_at e = h.checked.owner.own_is ∙ ap (at z) e
+
+-- what is found for a target
+pub ruleset found_steps = (
+  octets_equal-decides,
+  found_name,
+  found_at,
+  found_cut,
+  none_there,
+  covered_cut,
+  topmost_fits,
+)

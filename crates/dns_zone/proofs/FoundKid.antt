@@ -24,17 +24,17 @@ pub record Searching (rs : List ResourceRecord) (kids : List Row) (label : Octet
   pub after : (k : ℕ) → high ≤ k → k < length kids
       → label_order (row_label rs (row_at kids k)) label ≡ Greater
 
--- half of a room, rounded, is the room after one more comparison
-pub half_room : (left turn : ℕ) → left ≤ room_after turn → left / 2 ≤ room_after (turn + 1)
+half_room : (left turn : ℕ) → left ≤ room_after turn → left / 2 ≤ room_after (turn + 1)
 half_room left turn h = grind (arith, add-one)
 
 module _ (rs : List ResourceRecord) (kids : List Row) (label : Octets) where
   pub start : length kids ≤ 100000 → Searching rs kids label 0 (length kids) 0
   start h = grind arith
 
-  pub left : (low high turn : ℕ) → Searching rs kids label low high turn
-      → high - low ≤ room_after turn
-  left low high turn s = let r = s.room in omega arith
+  -- half of what is left, rounded, is the room after one more comparison
+  pub half : (low high turn : ℕ) → Searching rs kids label low high turn
+      → (high - low) / 2 ≤ room_after (turn + 1)
+  half low high turn s = let r = s.room in half_room (high - low) turn (omega arith)
 
   -- where a child is left to look at, fewer than 17 comparisons were made
   pub one_more : (low high turn : ℕ) → Searching rs kids label low high turn → turn ≤ 17

@@ -1,7 +1,7 @@
 -- The owners of a zone, as they are added to the names that are checked, and the origin.
 use Rattle.dns_spec.proofs.Common.{append-nil, ◌≡◌, ℕ, zero, suc, true, false, ◌⊎◌, inl, inr, List, [], ◌∷◌, ◌++◌, length, map, take, drop, refl, sym, ap, ◌∙◌, subst, arith, get_or, ◌<◌, is_gt, is_lt, Ordering, Less, Equal, Greater, true≢false, tied_itself, Bor, IsPartitionedBy, ordering_reverse, Octets, DomainName, folded, at_or_below, name_order, ResourceRecord, ZoneContents}
 use Rattle.dns_zone.proofs.SetTests.{each_map}
-use Rattle.dns_zone.proofs.Spans.{each_push, among_append}
+use Rattle.dns_zone.proofs.Spans.{each_push, among_append, among_get, map_each}
 use Rattle.dns_spec.proofs.ZoneChecks.FaultOrder.{name_tie, name_order_total, one_lower}
 use Rattle.std.proofs.lemmas.List.{append_assoc, map_push}
 use Rattle.dns_spec.proofs.Records.SortedOnce.{Each, Among, Rises, each_at, each_weaker}
@@ -120,10 +120,6 @@ each_insert P [] (suc i) x e p = (p, tt)
 each_insert P (y ∷ ys) (suc i) x e p = (e.0, each_insert P ys i x e.1 p)
 
 module _ {X Y : Type 0} (f : X → Y) where
-  map_each : (P : Y → Type 0) (xs : List X) → Each P (map f xs) → Each (λ x. P (f x)) xs
-  map_each P [] e = tt
-  map_each P (x ∷ xs) e = (e.0, map_each P xs e.1)
-
   insert_among : (a : Y) (xs : List X) (i : ℕ) (x : X)
       → Among a (map f (take i xs ++ x ∷ drop i xs)) → (a ≡ f x) ⊎ Among a (map f xs)
   insert_among a xs zero x m = m
@@ -151,11 +147,6 @@ insert_rises f (y ∷ ys) (suc i) x h e g = (
       (map_each f (λ n. name_order (f y) n ≡ Less) ys h.0) e.0),
   insert_rises f ys i x h.1 e.1 g,
 )
-
-among_get : {X : Type 0} (xs : List X) (i : ℕ) (d : X) → i < length xs → Among (get_or xs i d) xs
-among_get [] i d l = absurd (omega (arith, l))
-among_get (x ∷ xs) zero d l = inl refl
-among_get (x ∷ xs) (suc i) d l = inr (among_get xs i d (omega arith))
 
 -- the origin
 module _ (z : ZoneContents) (low : folded z.origin ≡ z.origin) (ordered : AreOrdered z.records)

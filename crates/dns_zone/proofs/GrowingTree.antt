@@ -1,6 +1,6 @@
 -- The rows of a zone, added level by level.
 use Rattle.dns_spec.proofs.Common.{◌≡◌, ℕ, ◌+◌, ◌-◌, ◌<◌, ◌≤◌, ◌⊎◌, inl, inr, List, [], ◌∷◌, ◌++◌, length, drop, get_or, sym, ap, ◌∙◌, arith, subst, length-append, length-drop, cases_lt, take-append-drop, get_or-take, get_or-drop, get_or_append_left, get_or_push, take_all, DomainName, ResourceRecord}
-use Rattle.dns_zone.specs.TreeForm.{row_name, row_at, kids_at, IsRow, IsKid, AreKids, IsTree}
+use Rattle.dns_zone.specs.TreeForm.{no_row, row_name, row_at, kids_at, IsRow, IsKid, AreKids, IsTree}
 use Rattle.dns_zone.specs.TreeSteps.{AddsKids}
 use Rattle.dns_zone.specs.declared.tree.row.Row.{Row}
 use Rattle.dns_zone.proofs.Pairs.{each_get}
@@ -57,23 +57,15 @@ module _ (o : DomainName) (rs : List ResourceRecord) (rows : List Row) (bounds :
             → IsRow rs (row_at rows' k) (row_name rs (row_at rows' k))
         go (inl m) = subst (λ (r : Row). IsRow rs r (row_name rs r)) (sym (keep k m)) (g.each k m)
         go (inr m) =
-            let d : Row = record {
-              first = 0;
-              own_end = 0;
-              end = 0;
-              place = 0;
-              label_octets = 0;
-              key = 0;
-            } in
             let n = row_name rs (row_at rows i) in
             let fits : k - length rows < length (drop (length rows) rows') =
             omega (arith, length-drop (length rows) rows') in
             let at : length rows + (k - length rows) ≡ k = omega arith in
             let kid =
-            each_get (IsKid rs n) (drop (length rows) rows') (k - length rows) d a.kids.each
+            each_get (IsKid rs n) (drop (length rows) rows') (k - length rows) no_row a.kids.each
             fits in
-            let there : get_or (drop (length rows) rows') (k - length rows) d ≡ row_at rows' k =
-            get_or-drop (length rows) rows' (k - length rows) d ∙ ap (row_at rows') at in
+            let there : get_or (drop (length rows) rows') (k - length rows) no_row ≡ row_at rows' k =
+            get_or-drop (length rows) rows' (k - length rows) no_row ∙ ap (row_at rows') at in
             subst (λ (r : Row). IsRow rs r (row_name rs r)) there
             (own_name rs _ (kid.label ∷ n) kid.is_row)
 

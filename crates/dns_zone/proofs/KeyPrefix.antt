@@ -1,5 +1,5 @@
 -- The key of a name begins with that of another just where the name is at or below it.
-use Rattle.dns_spec.proofs.Common.{◌≡◌, ℕ, ◌<◌, ◌≤◌, ◌==◌, Bool, true, [], ◌∷◌, ◌++◌, length, take, drop, get_or, map, reverse, refl, sym, ap, ap₂, ◌∙◌, arith, length-append, nat_lt, cases_order, lt-ltb, ltb-true, le-ltb, and_from, and_parts, and_right, flat_map-cons, take-append_seam, to_ascii_lowercase, flat_map, starts_with, Octets, DomainName, folded, at_or_below, below}
+use Rattle.dns_spec.proofs.Common.{◌≡◌, ℕ, ◌<◌, ◌≤◌, ◌==◌, Bool, true, [], ◌∷◌, ◌++◌, length, take, drop, get_or, map, reverse, refl, sym, ap, ap₂, ◌∙◌, arith, length-append, append-nil, nat_lt, cases_order, lt-ltb, ltb-true, le-ltb, and_from, and_parts, and_right, flat_map-cons, take-append_seam, to_ascii_lowercase, flat_map, starts_with, Octets, DomainName, folded, at_or_below, below}
 use Rattle.std.proofs.lemmas.List.{reverse-append, reverse-reverse, append_assoc, take-append-drop}
 use Rattle.dns_spec.proofs.DomainNames.NameLaws.{octets_equal-decides, same_tests}
 use Rattle.dns_zone.specs.KeyForm.{raised, ended, name_key}
@@ -8,10 +8,6 @@ use Rattle.dns_zone.proofs.NameTree.{Under, under-is, under-from}
 
 pub key_append : (n m : DomainName) → name_key (n ++ m) ≡ name_key m ++ name_key n
 key_append [] m = sym (append-nil (name_key m))
-  where
-    append-nil : (xs : Octets) → xs ++ [] ≡ xs
-    append-nil [] = refl
-    append-nil (x ∷ xs) = ap (λ ys. x ∷ ys) (append-nil xs)
 key_append (l ∷ n) m = grind (arith, append_assoc, (key_append n m))
 
 raised_one : (x y : ℕ) → IsLow x → IsLow y → raised x ≡ raised y → x ≡ y

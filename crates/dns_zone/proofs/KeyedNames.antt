@@ -1,5 +1,5 @@
 -- The keys of owners, in octets that all share.
-use Rattle.dns_spec.proofs.Common.{◌≡◌, ℕ, zero, suc, ◌-◌, ◌<◌, ◌≤◌, List, [], ◌∷◌, ◌++◌, length, take, drop, get_or, ap, arith, length-take, length-drop, subst, cases_lt, cases_order, Octets, DomainName, wire, ResourceRecord}
+use Rattle.dns_spec.proofs.Common.{◌≡◌, ℕ, ◌+◌, sym, ◌∙◌, get_or-drop, ◌-◌, ◌<◌, ◌≤◌, List, [], ◌∷◌, ◌++◌, length, take, drop, get_or, ap, arith, length-take, length-drop, subst, cases_lt, cases_order, Octets, DomainName, wire, ResourceRecord}
 use Rattle.std.proofs.lemmas.List.{take-append-le, drop-append-le}
 use Rattle.std.proofs.Math.Seq.{drop-append_seam, take-length}
 use Rattle.std.specs.List.{SwappedAt}
@@ -40,10 +40,9 @@ module _ (keys : Octets) (rs ss : List ResourceRecord) (xs ys : List ℕ) (a b :
 -- the first record of the rest, and its key
 first_at : (rs : List ResourceRecord) (k : ℕ) (r d : ResourceRecord) (ts : List ResourceRecord)
     → drop k rs ≡ r ∷ ts → get_or rs k d ≡ r
-first_at [] zero r d ts e = cc
-first_at [] (suc k) r d ts e = cc
-first_at (x ∷ rs) zero r d ts e = ap (λ ys. get_or ys 0 d) e
-first_at (x ∷ rs) (suc k) r d ts e = first_at rs k r d ts e
+first_at rs k r d ts e =
+    let at : k + 0 ≡ k = omega arith in
+    sym (get_or-drop k rs 0 d ∙ ap (λ i. get_or rs i d) at) ∙ ap (λ ys. get_or ys 0 d) e
 
 pub first_keyed : (keys : Octets) (rs : List ResourceRecord) (xs : List ℕ) → AreKeyed keys rs xs
     → (k s : ℕ) (r : ResourceRecord) (ts : List ResourceRecord) → k < length rs → drop k rs ≡ r ∷ ts

@@ -14,8 +14,8 @@ pub begins-first : (octets : Octets) → IsWireForm octets → BeginsAt octets 0
 begins-first octets form = record { inside = some-octet octets form; form = form; labels = refl }
 
 -- what comes after one label more
-pub after-label : (k : ℕ) (n m : DomainName) (l : Octets) → drop k n ≡ l ∷ m → drop (k + 1) n ≡ m
-after-label k n m l e = sym (drop-drop 1 k n) ∙ ap (drop 1) e
+pub after_label : (k : ℕ) (n m : DomainName) (l : Octets) → drop k n ≡ l ∷ m → drop (k + 1) n ≡ m
+after_label k n m l e = sym (drop-drop 1 k n) ∙ ap (drop 1) e
 
 -- the next label begins after the length octet of this one and as many octets
 pub begins-next : (octets : Octets) (k p : ℕ) → BeginsAt octets k p → k < length (labels_of octets)
@@ -33,7 +33,7 @@ begins-next octets k p here more =
     record {
       inside = omega (arith, some-octet _ form, length-drop (p + (1 + x)) octets);
       form = form;
-      labels = grind (arith, after-label);
+      labels = grind (arith, after_label);
     }
 
 before_or_last : (j k : ℕ) → j < k + 1 → (j < k) ⊎ (j ≡ k)

@@ -60,10 +60,10 @@ pub lead_is : (t : Tree) (rtype k : ℕ) → IsOnWay t rtype k → IsLeadAt t.zo
 lead_is t rtype k way = grind (arith, node_is)
 
 -- a record more
-pub leads-more : (z : ZoneContents) (rows : List Row) (leads : List ℕ) (j k : ℕ)
+pub leads_more : (z : ZoneContents) (rows : List Row) (leads : List ℕ) (j k : ℕ)
     (r : ResourceRecord) → AreLeads z rows leads → length leads ≡ j → j < length z.records
     → r ≡ get_or z.records j r → IsLeadAt z rows r.rtype k → AreLeads z rows (leads ++ k ∷ [])
-leads-more z rows leads j k r are count inside is lead =
+leads_more z rows leads j k r are count inside is lead =
     grind (arith, cases_lt, get_or-map, get_or_append_left, length-append, get_or_push)
 
 -- a lead that is kept for a record

@@ -28,7 +28,7 @@ pub mod GrowingTree
 pub mod FoundKid
 pub mod NodeRows
 pub mod KeyOrder
-mod KeyPrefix
+pub mod KeyPrefix
 pub mod CommonEnds
 pub mod TopmostCut
 pub mod CheckedNames

@@ -1,6 +1,5 @@
 -- The canonical order of names.
 use Rattle.dns_spec.proofs.Common.{◌≡◌, true, false, is_gt, is_lt, Ordering, Equal, arith, false≢true, tied_itself, DomainName, folded, same, name_order}
-pub use Rattle.dns_spec.proofs.ZoneChecks.FaultOrder.{folded_folded as lower_twice}
 use Rattle.dns_spec.proofs.ZoneChecks.FaultOrder.{name_order_total}
 use Rattle.dns_spec.proofs.DomainNames.NameLaws.{names_equal-decides}
 

@@ -22,5 +22,5 @@ any_filter : {X : Type 0} (p q : X → Bool) (xs : List X) → list_any q (filte
 any_filter p q [] = refl
 any_filter p q (x ∷ xs) = grind (arith, (any_filter p q xs))
 
-pub own-owns : (z : ZoneContents) (n : DomainName) (t : ℕ) → list_any (λ (r : ResourceRecord). r.rtype == t) (at z n) ≡ owns z n t
-own-owns z n t = any_filter (λ (r : ResourceRecord). same r.owner n) (λ (r : ResourceRecord). r.rtype == t) z.records
+pub own_owns : (z : ZoneContents) (n : DomainName) (t : ℕ) → list_any (λ (r : ResourceRecord). r.rtype == t) (at z n) ≡ owns z n t
+own_owns z n t = any_filter (λ (r : ResourceRecord). same r.owner n) (λ (r : ResourceRecord). r.rtype == t) z.records

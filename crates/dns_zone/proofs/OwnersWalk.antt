@@ -10,7 +10,9 @@ use Rattle.dns_zone.specs.NamesForm.{first_owner}
 use Rattle.dns_zone.specs.ReportedForm.{HasOwners, begins_with_owner, owners_once}
 use Rattle.dns_zone.proofs.Pairs.{Pairs, pairs_filter, each_both, filter_all, filter_within, halves}
 use Rattle.dns_zone.proofs.NameOrder.{same-is, same-from, same-tied}
-use Rattle.dns_zone.proofs.AtName.{unmoved, is_before, is_at, OwnerNotAfter, ordered_records, owners_in_order, at_parted}
+use Rattle.dns_zone.proofs.AtName.{unmoved, is_at, OwnerNotAfter, ordered_records, owners_in_order}
+use Rattle.dns_zone.proofs.KidRows.{at_in_front}
+use Rattle.dns_zone.proofs.NameTree.{itself-under}
 use Rattle.dns_zone.proofs.OwnRecords.{own_types}
 use Rattle.dns_zone.proofs.ReportedNames.{greater_after}
 
@@ -68,25 +70,13 @@ module _ (z : ZoneContents) where
       by_types = own_types (record { origin = z.origin; records = r ∷ rs }) r.owner h.ordered;
     }
 
-    not_less : (s : ResourceRecord) → OwnerNotAfter r s → not (is_before r.owner s) ≡ true
-    not_less s e = go (name_order r.owner s.owner) refl e
-      where
-        go : (c : Ordering) → name_order r.owner s.owner ≡ c → is_gt c ≡ false → not (is_before r.owner s) ≡ true
-        go Less f g = ap (λ c. not (is_lt c)) (name_order_total.antisymm s.owner r.owner ∙ ap ordering_reverse f)
-        go Equal f g = ap (λ c. not (is_lt c)) (name_order_total.antisymm s.owner r.owner ∙ ap ordering_reverse f)
-        go Greater f g = absurd (true≢false g)
-
     itself : same r.owner r.owner ≡ true
     itself = same-from r.owner r.owner refl
 
     pub first_parted : IsPartitionedBy (is_at r.owner) (r ∷ rs)
     first_parted =
-        subst (IsPartitionedBy (is_at r.owner))
-        (filter_all (λ s. not (is_before r.owner s)) (r ∷ rs) (
-          ap (λ c. not (is_lt c)) (same-tied r.owner r.owner itself),
-          each_weaker (OwnerNotAfter r) (λ s. not (is_before r.owner s) ≡ true) rs not_less (owners_in_order (r ∷ rs) h.ordered).0,
-        ))
-        (at_parted r.owner (r ∷ rs) h.ordered)
+        at_in_front r.owner r rs (owners_in_order (r ∷ rs) h.ordered)
+        (itself-under r.owner r.owner itself) h.ordered
 
 -- the owners are that of the first record, and those of the records at other names
 without_first : (p : ResourceRecord → Bool) (r : ResourceRecord) (rs : List ResourceRecord) → p r ≡ true → filter (λ s. not (p s)) (r ∷ rs) ≡ filter (λ s. not (p s)) rs

@@ -1,5 +1,5 @@
 -- Lists whose elements are in order, each with each after it, and what a binary search finds in them.
-use Rattle.dns_spec.proofs.Common.{◌≡◌, ℕ, zero, suc, ◌<◌, ◌≤◌, Bool, true, false, not, cond, List, [], ◌∷◌, length, take, drop, get_or, refl, sym, ap, ◌∙◌, arith, filter, false≢true, false_from_ne_true, cases_lt, min-eq_left}
+use Rattle.dns_spec.proofs.Common.{◌≡◌, ℕ, zero, suc, ◌<◌, ◌≤◌, Bool, true, false, not, cond, List, [], ◌∷◌, length, take, drop, get_or, refl, sym, ap, ap₂, ◌∙◌, ◌||◌, arith, filter, list_any, false≢true, false_from_ne_true, cases_lt, min-eq_left}
 use Rattle.std.proofs.lemmas.List.{length-take, get_or-take}
 use Rattle.std.specs.List.Sorted.{IsPartitionPoint, IsPartitionedBy, IsNonDecreasingBy}
 use Rattle.dns_spec.proofs.Records.SortedOnce.{Each, each_filter, each_weaker}
@@ -64,6 +64,10 @@ filter_all p (x ∷ xs) e = ap (λ t. cond t (x ∷ filter p xs) (filter p xs)) 
 pub filter_none : {X : Type 0} (p : X → Bool) (xs : List X) → Each (λ x. p x ≡ false) xs → filter p xs ≡ []
 filter_none p [] e = refl
 filter_none p (x ∷ xs) e = ap (λ t. cond t (x ∷ filter p xs) (filter p xs)) e.0 ∙ filter_none p xs e.1
+
+pub none_pass : {X : Type 0} (p : X → Bool) (xs : List X) → Each (λ x. p x ≡ false) xs → list_any p xs ≡ false
+none_pass p [] e = refl
+none_pass p (x ∷ xs) e = ap₂ ◌||◌ e.0 (none_pass p xs e.1)
 
 -- what passes q passes p
 pub filter_within : {X : Type 0} (p q : X → Bool) (xs : List X) → ((x : X) → q x ≡ true → p x ≡ true) → filter q (filter p xs) ≡ filter q xs

@@ -26,9 +26,9 @@ failed_in_order z n k (c ∷ cs) h =
     go f true e = ap₂ (λ (i : ℕ) fs. record { owner = n; code = i } ∷ fs) (sym f) e
     go f false e = e
 
-pub failed-reported : (z : ZoneContents) (n : DomainName) → failed_from n 1 (map (λ (c : ℕ × Check). c.1 z n) checks) ≡ reported_at z n
+pub failed_reported : (z : ZoneContents) (n : DomainName) → failed_from n 1 (map (λ (c : ℕ × Check). c.1 z n) checks) ≡ reported_at z n
 unfolding reported_at
-failed-reported z n = failed_in_order z n 1 checks refl
+failed_reported z n = failed_in_order z n 1 checks refl
 
 each_once : (P : DomainName → Type 0) (rs : List ResourceRecord) → Each (λ r. P (folded r.owner)) rs → Each P (owners_once rs)
 each_once P [] e = tt

@@ -1,10 +1,11 @@
 -- Records moved to the front, each of which comes before the next.
 use Rattle.std.proofs.Common.{◌≡◌, ℕ, zero, suc, ◌+◌, ◌<◌, ◌≤◌, ◌⊎◌, inl, inr, List, [], ◌∷◌, length, take, get_or, refl, sym, ap, ap₂, ◌∙◌, arith, All, IsPermutation, is_eq, is_lt, Less, Equal, Greater, true, ◌-◌, subst}
-use Rattle.dns_spec.proofs.Common.{get_or_default, cases_lt, true≢false, IsPermutation-sym, ordering_reverse, ResourceRecord, records_equal, distinct, sort_by, record_order}
+use Rattle.dns_spec.proofs.Common.{drop, length-take, get_or-take, take-append-drop, get_or_default, cases_lt, true≢false, IsPermutation-sym, ordering_reverse, ResourceRecord, records_equal, distinct, sort_by, record_order}
 use Rattle.std.specs.List.{SwappedAt}
 use Rattle.std.specs.List.Sorted.{IsSorted}
-use Rattle.dns_spec.proofs.Records.RecordOrder.{LowerOwner, record_order_total, record_ties, one_record, rises_canonical, each_all, among_permutation}
+use Rattle.dns_spec.proofs.Records.RecordOrder.{LowerOwner, record_order_total, record_ties, one_record, rises_canonical, each_all, among_permutation, among_contains}
 use Rattle.dns_spec.proofs.Records.SortedOnce.{Among, Rises, each_weaker, among_sort, sort_among, among_distinct, distinct_among, same_risen}
+use Rattle.dns_zone.proofs.Spans.{among_left, among_get}
 
 -- Of the records rs those before place `at` are among the first of xs, up to place `last`, each of
 -- which comes before the next. Those after are where they were.
@@ -122,26 +123,16 @@ rises_front (x ∷ y ∷ xs) (suc k) h =
       rest,
     )
 
-place_of : (a : ResourceRecord) (xs : List ResourceRecord) → Among a xs
-    → (i : ℕ) × (i < length xs) × (get_or xs i a ≡ a)
-place_of a [] m = absurd m
-place_of a (x ∷ xs) (inl e) = (0, omega arith, sym e)
-place_of a (x ∷ xs) (inr m) =
-    let (i, l, e) = place_of a xs m in (suc i, omega (arith, l), e)
-
 among_front : (a : ResourceRecord) (xs : List ResourceRecord) (i k : ℕ) → i ≤ k → i < length xs
     → Among (get_or xs i a) (take (suc k) xs)
-among_front a [] i k l m = absurd (omega (arith, m))
-among_front a (x ∷ xs) zero k l m = inl refl
-among_front a (x ∷ xs) (suc i) zero l m = absurd (omega (arith, l))
-among_front a (x ∷ xs) (suc i) (suc k) l m =
-    inr (among_front a xs i k (omega (arith, l)) (omega (arith, m)))
+among_front a xs i k l m =
+    let fits : i < length (take (suc k) xs) = omega (arith, length-take (suc k) xs) in
+    subst (λ x. Among x (take (suc k) xs)) (get_or-take (suc k) xs i a (omega (arith, l)))
+    (among_get (take (suc k) xs) i a fits)
 
 front_among : (a : ResourceRecord) (xs : List ResourceRecord) (k : ℕ) → Among a (take k xs) → Among a xs
-front_among a xs zero m = absurd m
-front_among a [] (suc k) m = m
-front_among a (x ∷ xs) (suc k) (inl e) = inl e
-front_among a (x ∷ xs) (suc k) (inr m) = inr (front_among a xs k m)
+front_among a xs k m =
+    subst (Among a) (take-append-drop k xs) (among_left a (take k xs) (drop k xs) m)
 
 -- once all are among the first, these are the records in canonical order, each once
 pub once_canonical : (all rs xs : List ResourceRecord) (last at : ℕ) → All LowerOwner all
@@ -165,7 +156,7 @@ once_canonical all rs xs last at low given moved h l =
   where
     there : (a : ResourceRecord) → Among a rs → Among a (take (suc last) xs)
     there a m =
-        let (i, b, e) = place_of a rs m in
+        let (i, b, e) = among_contains a rs m in
         let size = h.size in
         let (j, c, f) = h.kept i a (omega (arith, b, size, l)) b in
         let inside = h.inside (omega (arith, b, size)) in

@@ -1,9 +1,10 @@
 -- Parts of a list from one place up to another, and the elements that pass a test.
-use Rattle.dns_spec.proofs.Common.{◌≡◌, ℕ, zero, suc, ◌+◌, ◌-◌, ◌<◌, ◌≤◌, Bool, true, false, ◌||◌, not, ◌⊎◌, inl, inr, List, [], ◌∷◌, ◌++◌, length, take, drop, get_or, refl, sym, ap, ap₂, ◌∙◌, arith, subst, filter, length-append, length-take, length-drop, false≢true, or_right, take-append-drop, take-append-le, get_or-take, get_or-drop, nil_from_length, filter-append, length-filter_both, list_any}
+use Rattle.dns_spec.proofs.Common.{◌≡◌, ℕ, zero, suc, ◌+◌, ◌-◌, ◌<◌, ◌≤◌, Bool, true, false, ◌||◌, not, ◌⊎◌, inl, inr, List, [], ◌∷◌, ◌++◌, map, length, take, drop, get_or, get_or_default, refl, sym, ap, ap₂, ◌∙◌, arith, subst, filter, length-append, length-take, length-drop, false≢true, or_right, take-append-drop, take-append-le, get_or-take, get_or-drop, nil_from_length, filter-append, length-filter_both, list_any}
 use Rattle.std.proofs.Math.Seq.{drop-drop, take-add}
 use Rattle.dns_spec.proofs.Records.SortedOnce.{Each, Among, filter_each}
+use Rattle.dns_spec.proofs.Records.RecordOrder.{contains_among}
 use Rattle.dns_zone.specs.TreeForm.{span}
-use Rattle.dns_zone.proofs.Pairs.{each_get, filter_all}
+use Rattle.dns_zone.proofs.Pairs.{each_get, filter_all, none_pass}
 
 pub drop_span : {X : Type 0} (a b : ℕ) (xs : List X) → a ≤ b → drop a xs ≡ span xs a b ++ drop b xs
 drop_span a b xs h =
@@ -89,11 +90,7 @@ any_there p (y ∷ xs) x (inr m) e = or_right (p y) (list_any p xs) (any_there p
 
 pub any_nothing : {X : Type 0} (p : X → Bool) (xs : List X) → filter p xs ≡ []
     → list_any p xs ≡ false
-any_nothing {X = X} p xs e = go xs (nothing_each p xs e)
-  where
-    go : (xs : List X) → Each (λ x. p x ≡ false) xs → list_any p xs ≡ false
-    go [] e = refl
-    go (x ∷ xs) e = ap₂ ◌||◌ e.0 (go xs e.1)
+any_nothing p xs e = none_pass p xs (nothing_each p xs e)
 
 -- what passes comes first
 pub among_append : {X : Type 0} (x : X) (xs ys : List X) → Among x (xs ++ ys)
@@ -111,6 +108,14 @@ among_left x (z ∷ xs) ys (inr m) = inr (among_left x xs ys m)
 pub among_right : {X : Type 0} (x : X) (xs ys : List X) → Among x ys → Among x (xs ++ ys)
 among_right x [] ys m = m
 among_right x (z ∷ xs) ys m = inr (among_right x xs ys m)
+
+pub among_get : {X : Type 0} (xs : List X) (i : ℕ) (d : X) → i < length xs → Among (get_or xs i d) xs
+among_get xs i d l = contains_among _ xs (i, l, get_or_default xs i _ d l)
+
+pub map_each : {X Y : Type 0} (f : X → Y) (P : Y → Type 0) (xs : List X) → Each P (map f xs)
+    → Each (λ x. P (f x)) xs
+map_each f P [] e = tt
+map_each f P (x ∷ xs) e = (e.0, map_each f P xs e.1)
 
 pub length-filter-le : {X : Type 0} (p : X → Bool) (xs : List X) → length (filter p xs) ≤ length xs
 length-filter-le p xs = omega (arith, length-filter_both p (λ x. not (p x)) (λ x. refl) xs)

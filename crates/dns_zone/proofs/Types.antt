@@ -2,11 +2,7 @@
 use Rattle.dns_spec.proofs.Common.{◌≡◌, ◌==◌, ℕ, ◌-◌, ◌<◌, ◌≤◌, length, get_or, Bool, true, false, not, ◌||◌, ◌⊎◌, cond, nat_lt, eqb, Some, None, List, [], ◌∷◌, refl, sym, ap, ap₂, ◌∙◌, arith, filter, inl, inr, ltb-true, ltb-false, eqb-true, eq-eqb, ne_eqb, eqb-false, cases_lt, le-ltb, take_all, IsPartitionedBy, IsNonDecreasingBy, ResourceRecord}
 use Rattle.std.specs.List.{list_any, slice_get}
 use Rattle.dns_spec.proofs.Records.SortedOnce.{Each, filter_each}
-use Rattle.dns_zone.proofs.Pairs.{halves, Pairs, pairs_of, pairs_filter, pairs_rising, parted, filter_within, first_passes}
-
-pub none_pass : {X : Type 0} (p : X → Bool) (xs : List X) → Each (λ x. p x ≡ false) xs → list_any p xs ≡ false
-none_pass p [] e = refl
-none_pass p (x ∷ xs) e = ap₂ ◌||◌ e.0 (none_pass p xs e.1)
+use Rattle.dns_zone.proofs.Pairs.{halves, Pairs, pairs_of, pairs_filter, pairs_rising, parted, filter_within, first_passes, none_pass}
 
 pub first_is : {X : Type 0} (p : X → Bool) (x : X) (xs : List X) → Some x ≡ slice_get xs 0 → p x ≡ first_passes p xs
 first_is p x xs h = grind arith

@@ -7,7 +7,7 @@ use Rattle.std.specs.List.{find, filter, list_any}
 use Rattle.dns_spec.specs.Tree.{exists, is_cut, cut_of, closest_encloser, without_first}
 use Rattle.dns_spec.proofs.DomainNames.NameLaws.{at_or_below-cons, same-length}
 use Rattle.dns_zone.proofs.NameTree.{under-trans}
-use Rattle.dns_zone.proofs.OwnRecords.{own-owns}
+use Rattle.dns_zone.proofs.OwnRecords.{own_owns}
 use Rattle.dns_zone.proofs.Existing.{exists-lower}
 pub use Rattle.dns_zone.proofs.Existing.{any_weaker}
 
@@ -50,7 +50,7 @@ filtered_some p [] = refl
 filtered_some p (r ∷ rs) = grind (arith, (filtered_some p rs))
 
 pub set-owned : (z : ZoneContents) (n : DomainName) (t : ℕ) → is_some (set_of (rrset z n t)) ≡ owns z n t
-set-owned z n t = grind (arith, sorted_some, filtered_some, own-owns)
+set-owned z n t = grind (arith, sorted_some, filtered_some, own_owns)
 
 -- a name below the origin is a cut where it owns NS
 pub cut-by_set : (z : ZoneContents) (n : DomainName) → below n z.origin ≡ true → is_cut z n ≡ is_some (set_of (rrset z n type_ns))

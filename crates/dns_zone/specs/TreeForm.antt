@@ -66,15 +66,11 @@ pub record AreKids (rs : List ResourceRecord) (n : DomainName) (kids : List Row)
       → Among (map to_ascii_lowercase l) (map (row_label rs) kids)
   pub few : length kids ≤ length rs
 
+abbrev pub no_row : Row
+no_row = record { first = 0; own_end = 0; end = 0; place = 0; label_octets = 0; key = 0 }
+
 abbrev pub row_at : List Row → ℕ → Row
-row_at rows k = get_or rows k (record {
-  first = 0;
-  own_end = 0;
-  end = 0;
-  place = 0;
-  label_octets = 0;
-  key = 0;
-})
+row_at rows k = get_or rows k no_row
 
 -- the children of row k are the rows from bound k up to the next bound
 abbrev pub kids_at : List Row → List ℕ → ℕ → List Row

@@ -9,7 +9,7 @@ ghost use Rattle.dns_spec.specs.Records.{ResourceRecord, ZoneContents, at};
 ghost use Rattle.dns_zone.specs.ZoneForm.{AreOrdered, IsFront};
 ghost use Rattle.dns_zone.specs.KeyForm.{name_key};
 ghost use Rattle.dns_zone.specs.KeyedForm.{AreKeyed};
-ghost use Rattle.dns_zone.specs.NamesForm.{own_in, is_covered, is_upto, IsLastAt, AreChecked, AreOwners, ComesNext, IsTopmost};
+ghost use Rattle.dns_zone.specs.NamesForm.{is_covered, is_upto, IsLastAt, AreChecked, AreOwners, ComesNext, IsTopmost};
 
 use crate::order::key::is_below;
 use crate::order::keyed::{Keyed, key_at};
@@ -34,15 +34,6 @@ pub(crate) struct CheckedName<'a> {
 }
 
 impl<'a> CheckedName<'a> {
-    /// Its records, by their types.
-    pub(crate) fn own<'b>(&self, records: &'b [Entry]) -> &'b [Entry]
-        requires rising { self.now.first ≤ self.now.end }
-        requires within { self.now.end ≤ length records.now }
-        ensures { result.now ≡ own_in records.now self.now }
-    {
-        &records[self.first as usize..self.end as usize]
-    }
-
     /// Whether it is below the topmost cut that it is at or below.
     pub(crate) fn is_below_cut(&self) -> bool
         ensures { result ≡ (nat_lt 0 self.now.cut
@@ -69,27 +60,6 @@ pub(crate) fn checked_names<'a>(
     ensures { IfOk result (λ names. AreChecked
         (record { origin = origin.now; records = records.now }) names.items) }
 {
-    let mut names = owners(alloc, origin, key, records, keyed)?;
-    add_origin(origin, key, records, &mut names)?;
-    Ok(names)
-}
-
-// The owners among them.
-fn owners<'a>(
-    alloc: Global,
-    origin: &NameRef<'_>,
-    key: &[u8],
-    records: &[Entry],
-    keyed: &'a Keyed,
-) -> Result<Vec<CheckedName<'a>>, AllocError>
-    requires lower { folded origin.now ≡ origin.now }
-    requires key { key.now ≡ name_key origin.now }
-    requires ordered { AreOrdered records.now }
-    requires few { length records.now ≤ most_records }
-    requires keyed { AreKeyed keyed.now.keys.items records.now keyed.now.starts.items }
-    ensures { IfOk result (λ names. AreOwners
-        (record { origin = origin.now; records = records.now }) names.items) }
-{
     let mut names = Vec::with_capacity(alloc, records.len())?;
     let mut first = 0;
     let mut rest = records;
@@ -111,6 +81,7 @@ fn owners<'a>(
         rest = others;
         last = next;
     }
+    add_origin(origin, key, records, &mut names)?;
     Ok(names)
 }
 
@@ -132,6 +103,7 @@ fn cut_of(origin: &[u8], last: &[u8], cut: usize, key: &[u8], own: &[Entry]) -> 
 }
 
 // Whether a name, with its key and its records, is a cut (RFC 1034 4.2).
+#[tactic(auto, using(crate::proofs::OwnRecords::own_owns))]
 fn is_cut(origin: &[u8], key: &[u8], own: &[Entry]) -> bool
     requires { IsNonDecreasingBy (λ (r : ResourceRecord). r.rtype) own.now }
     ensures { (z : ZoneContents) (n : DomainName) → folded z.origin ≡ z.origin → folded n ≡ n

@@ -96,25 +96,25 @@ impl<'a> Owner<'a> {
     fn has_no_soa(&self) -> bool
         ensures { result ≡ no_soa self.now.zone self.now.name }
     {
-        self.is_origin() && !self.owns(RType::SOA)
+        self.stands_first && !self.owns(RType::SOA)
     }
 
     fn has_many_soa(&self) -> bool
         ensures { result ≡ many_soa self.now.zone self.now.name }
     {
-        self.is_origin() && self.count(RType::SOA) > 1
+        self.stands_first && self.count(RType::SOA) > 1
     }
 
     fn has_soa_elsewhere(&self) -> bool
         ensures { result ≡ soa_elsewhere self.now.zone self.now.name }
     {
-        !self.is_origin() && self.owns(RType::SOA)
+        !self.stands_first && self.owns(RType::SOA)
     }
 
     fn has_no_ns(&self) -> bool
         ensures { result ≡ no_ns self.now.zone self.now.name }
     {
-        self.is_origin() && !self.owns(RType::NS)
+        self.stands_first && !self.owns(RType::NS)
     }
 
     fn is_outside(&self) -> bool
@@ -187,10 +187,13 @@ impl<'a> Owner<'a> {
         }
     }
 
+    // At a cut stand its NS records and addresses alone, below it glue alone. Cuts mostly own no
+    // more, which costs less to see.
     fn has_data_at_cut(&self) -> bool
         ensures { result ≡ data_at_cut self.now.zone self.now.name }
     {
-        self.has_own_data_at_cut() || self.has_data_below_cut()
+        self.owns_other_than_delegation() && self.is_cut()
+            || self.is_below_cut && self.owns_other_than_address()
     }
 
     fn has_wildcard_ns(&self) -> bool
@@ -214,12 +217,7 @@ impl<'a> Owner<'a> {
 
 /// What the checks ask.
 impl<'a> Owner<'a> {
-    fn is_origin(&self) -> bool
-        ensures { result ≡ is_origin self.now.zone self.now.name }
-    {
-        self.stands_first
-    }
-
+    #[tactic(auto, using(crate::proofs::OwnRecords::own_owns))]
     fn owns(&self, rtype: RType) -> bool
         ensures { result ≡ owns self.now.zone self.now.name rtype.0 }
     {
@@ -236,24 +234,6 @@ impl<'a> Owner<'a> {
         ensures { result ≡ is_cut self.now.zone self.now.name }
     {
         self.owns(RType::NS) && is_below(self.key, self.survey.key())
-    }
-
-    // At a cut stand its NS records and addresses alone. Cuts mostly own no more, which costs less to
-    // see.
-    fn has_own_data_at_cut(&self) -> bool
-        ensures { result ≡ (is_cut self.now.zone self.now.name
-            && owns_such self.now.zone self.now.name
-            (λ t. not (t == type_ns || is_address_type t))) }
-    {
-        self.owns_other_than_delegation() && self.is_cut()
-    }
-
-    // Below a cut stands glue alone.
-    fn has_data_below_cut(&self) -> bool
-        ensures { result ≡ (below_cut self.now.zone self.now.name
-            && owns_such self.now.zone self.now.name (λ t. not (is_address_type t))) }
-    {
-        self.is_below_cut && self.owns_other_than_address()
     }
 
     fn owns_other_than_cname(&self) -> bool

@@ -87,7 +87,7 @@ impl<'a> Survey<'a> {
         requires within { one.now.end ≤ length self.now.records }
         ensures { result.now ≡ own_in self.now.records one.now }
     {
-        one.own(self.records)
+        &self.records[one.first as usize..one.end as usize]
     }
 
     /// A name that is checked: the owner of its records, or the origin where it has none.
@@ -125,6 +125,7 @@ impl<'a> Survey<'a> {
 
     // The records at a target at or below the origin, by their types, and whether it is at or below
     // a cut (RFC 1034 4.2).
+    #[tactic(auto, using(crate::proofs::CheckedNames::found_steps))]
     fn at(&self, target: &mut LastTarget<'_>) -> (&'a [Entry], bool)
         requires lower { folded target.old ≡ target.old }
         requires inside { at_or_below target.old self.now.origin ≡ true }
@@ -193,6 +194,7 @@ impl<'a> Survey<'a> {
         (has_type(own, RType::CNAME), is_lost)
     }
 
+    #[tactic(auto, using(crate::proofs::OwnRecords::own_owns))]
     fn has_address(&self, name: &NameRef<'_>, own: &[Entry]) -> bool
         requires own { own.now ≡ at self.now name.now }
         requires by_types { IsNonDecreasingBy (λ (r : ResourceRecord). r.rtype) own.now }

@@ -13,6 +13,7 @@ use dns_rdata::Rdata;
 use std::marker::Model;
 
 /// The first name in the data: of NS the server, of MX the exchange (RFC 1035 3.3.9, 3.3.11).
+#[tactic(auto, using(crate::proofs::Targets::target_if))]
 pub(crate) fn target(entry: &Entry) -> Option<NameRef<'_>>
     ensures value { result ≡ target entry.now.rtype entry.now.rdata }
     ensures lower { IfSome result (λ m. folded m ≡ m) }

@@ -76,6 +76,7 @@ impl Key {
 
 /// Whether a name is at or below another, both in lower case, whose keys these are: whether the key
 /// of the other begins its own.
+#[tactic(auto, using(crate::proofs::KeyPrefix::starts_under))]
 pub(crate) fn is_under(key: &[u8], other: &[u8]) -> bool
     ensures { (n m : DomainName) → folded n ≡ n → folded m ≡ m → key.now ≡ name_key n
         → other.now ≡ name_key m → result ≡ at_or_below n m }
@@ -123,6 +124,7 @@ fn are_ends_equal(one: &[u8], other: &[u8]) -> bool
 }
 
 // A name in wire form without its first label. The root has none.
+#[tactic(auto, using(crate::proofs::CommonEnds::ends_first))]
 fn after_first_label(name: &[u8]) -> &[u8]
     requires { IsWireForm name.now }
     ensures wire { IsWireForm result.now }

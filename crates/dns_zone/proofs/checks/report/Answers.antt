@@ -1,7 +1,7 @@
 use Rattle.dns_spec.proofs.Common.{◌≡◌, ℕ, ◌++◌, ap, ◌∙◌, subst, map, List, OnOk, Check, Fault, checks}
 use Rattle.dns_zone.specs.OwnerForm.{NameOfZone}
 use Rattle.dns_zone.specs.ReportedForm.{failed_from, reported_at}
-use Rattle.dns_zone.proofs.ReportedNames.{failed-reported}
+use Rattle.dns_zone.proofs.ReportedNames.{failed_reported}
 use Rattle.dns_zone.proofs.checks.report.Goals as goal
 
 pub returns : goal.returns
@@ -11,6 +11,6 @@ returns c =
     OnOk c.add_failed.result (c.add_failed.new.found.items ≡ c.args.found.now.items ++ fs))
     (ap (failed_from n 1) (c.judged-failed.ensures
     ∙ ap (λ (o : NameOfZone). map (λ (k : ℕ × Check). k.1 o.zone o.name) checks) c.new.ensures)
-    ∙ failed-reported c.args.survey.now n
+    ∙ failed_reported c.args.survey.now n
     ∙ ap (reported_at c.args.survey.now) c.name-name.ensures)
     c.add_failed.ensures

@@ -14,8 +14,7 @@ use Rattle.dns_zone.proofs.tree.kid_at.Goals as goal
 
 pub count_in_front-own-requires : goal.count_in_front-own-requires
 count_in_front-own-requires c =
-    (child_there c.args.records.now c.requires.canonical (labels_of c.args.parent.now) c.args.next
-    c.requires.next c.index-records-next.result c.index-records-next.is c.args.parent.now _ _
+    (child_there _ c.requires.canonical _ _ c.requires.next _ c.index-records-next.is _ _ _
     c.requires.parent.wire_is c.owner-owner.ensures.value c.shortest_end-name.ensures).lower
 
 pub count_under-requires-clause-in_front : goal.count_under-requires-clause-in_front
@@ -26,9 +25,8 @@ count_under-requires-clause-in_front c =
     let r = c.index-records-next.result in
     let m = c.shortest_end-name.result in
     let child =
-    child_there rs c.requires.canonical n next c.requires.next r c.index-records-next.is
-    c.args.parent.now _ m c.requires.parent.wire_is c.owner-owner.ensures.value
-    c.shortest_end-name.ensures in
+    child_there _ c.requires.canonical _ _ c.requires.next _ c.index-records-next.is _ _ _
+    c.requires.parent.wire_is c.owner-owner.ensures.value c.shortest_end-name.ensures in
     subst (λ (ys : List ResourceRecord). IsPartitionedBy (is_under m) ys)
     (sym c.split_at.ensures.back)
     (parted_drop (is_under m) (span rs next c.args.end) c.count_in_front-own.result
@@ -37,15 +35,13 @@ count_under-requires-clause-in_front c =
 
 pub count_under-requires-clause-lower : goal.count_under-requires-clause-lower
 count_under-requires-clause-lower c =
-    (child_there c.args.records.now c.requires.canonical (labels_of c.args.parent.now) c.args.next
-    c.requires.next c.index-records-next.result c.index-records-next.is c.args.parent.now _ _
+    (child_there _ c.requires.canonical _ _ c.requires.next _ c.index-records-next.is _ _ _
     c.requires.parent.wire_is c.owner-owner.ensures.value c.shortest_end-name.ensures).lower
 
 pub overflow_sub-result : goal.overflow_sub-result
 overflow_sub-result c =
     let child =
-    child_there c.args.records.now c.requires.canonical (labels_of c.args.parent.now) c.args.next
-    c.requires.next c.index-records-next.result c.index-records-next.is c.args.parent.now _ _
+    child_there _ c.requires.canonical _ _ c.requires.next _ c.index-records-next.is _ _ _
     c.requires.parent.wire_is c.owner-owner.ensures.value c.shortest_end-name.ensures in
     omega (
       arith,
@@ -63,9 +59,8 @@ returns c =
     let r = c.index-records-next.result in
     let m = c.shortest_end-name.result in
     let child =
-    child_there rs c.requires.canonical n next c.requires.next r c.index-records-next.is
-    c.args.parent.now _ m c.requires.parent.wire_is c.owner-owner.ensures.value
-    c.shortest_end-name.ensures in
+    child_there _ c.requires.canonical _ _ c.requires.next _ c.index-records-next.is _ _ _
+    c.requires.parent.wire_is c.owner-owner.ensures.value c.shortest_end-name.ensures in
     let kid_under : at_or_below m n ≡ true =
     subst (λ (k : DomainName). at_or_below k n ≡ true) (sym child.labels)
     (cons_under child.label n) in

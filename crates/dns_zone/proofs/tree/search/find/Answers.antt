@@ -1,7 +1,7 @@
 use Rattle.dns_spec.proofs.Common.{◌≡◌, ◌+◌, ◌-◌, ℕ, map, ap, sym, ◌∙◌, subst, refl, arith, to_ascii_lowercase}
 use Rattle.dns_zone.specs.Nodes.{Walk}
 use Rattle.dns_zone.proofs.NameTree.{label-tie}
-use Rattle.dns_zone.proofs.FoundKid.{Searching, start, half_room, left, one_more, go_left, go_right, none_left}
+use Rattle.dns_zone.proofs.FoundKid.{Searching, start, half, one_more, go_left, go_right, none_left}
 use Rattle.dns_zone.proofs.tree.search.find.Goals as goal
 
 pub halves-init : goal.halves-init
@@ -20,22 +20,16 @@ halves-init c = (
 
 pub halves-preserved-in-Less : goal.halves-preserved-in-Less
 halves-preserved-in-Less c =
-    let rs = c.args.records.now in
-    let kids = c.args.kids.now in
-    let label = map to_ascii_lowercase c.args.label.now in
-    let low = c.halves.low in
-    let high = c.halves.high in
-    let count = c.halves.invariant.0 in
     let s = c.halves.invariant.1.searching in
     let less = c.halves-test.true in
-    let half = half_room (high - low) count (left rs kids label low high count s) in
+    let half = half _ _ _ _ _ _ s in
     let counted = ap (λ (w : Walk). w.comparisons) c.order.ensures.counted in (
-      count + 1,
+      c.halves.invariant.0 + 1,
       record {
         searching =
-            go_right rs kids label c.requires.rising low high count s _
-            (sym c.order.ensures.order ∙ c.in-Less.is) (omega arith) (omega arith);
-        bound = one_more rs kids label low high count s c.halves.invariant.1.bound less;
+            go_right _ _ _ c.requires.rising _ _ _ s _ (sym c.order.ensures.order ∙ c.in-Less.is)
+            (omega arith) (omega arith);
+        bound = one_more _ _ _ _ _ _ s c.halves.invariant.1.bound less;
         counted = omega arith;
         visits = ap (λ (w : Walk). w.visits) c.order.ensures.counted ∙ c.halves.invariant.1.visits;
         zone = ap (λ (w : Walk). w.zone) c.order.ensures.counted ∙ c.halves.invariant.1.zone;
@@ -44,22 +38,16 @@ halves-preserved-in-Less c =
 
 pub halves-preserved : goal.halves-preserved
 halves-preserved c =
-    let rs = c.args.records.now in
-    let kids = c.args.kids.now in
-    let label = map to_ascii_lowercase c.args.label.now in
-    let low = c.halves.low in
-    let high = c.halves.high in
-    let count = c.halves.invariant.0 in
     let s = c.halves.invariant.1.searching in
     let less = c.halves-test.true in
-    let half = half_room (high - low) count (left rs kids label low high count s) in
+    let half = half _ _ _ _ _ _ s in
     let counted = ap (λ (w : Walk). w.comparisons) c.order.ensures.counted in (
-      count + 1,
+      c.halves.invariant.0 + 1,
       record {
         searching =
-            go_left rs kids label c.requires.rising low high count s _
-            (sym c.order.ensures.order ∙ c.in-Greater.is) (omega arith) (omega arith) (omega arith);
-        bound = one_more rs kids label low high count s c.halves.invariant.1.bound less;
+            go_left _ _ _ c.requires.rising _ _ _ s _ (sym c.order.ensures.order ∙ c.in-Greater.is)
+            (omega arith) (omega arith) (omega arith);
+        bound = one_more _ _ _ _ _ _ s c.halves.invariant.1.bound less;
         counted = omega arith;
         visits = ap (λ (w : Walk). w.visits) c.order.ensures.counted ∙ c.halves.invariant.1.visits;
         zone = ap (λ (w : Walk). w.zone) c.order.ensures.counted ∙ c.halves.invariant.1.zone;

@@ -1,4 +1,4 @@
-use Rattle.dns_spec.proofs.Common.{List, ◌≤◌, ◌⊎◌, inl, inr, map, length, drop, subst, sym, ap, ap₂, ◌∙◌, nat_cmp, arith, to_ascii_lowercase, label_order, ResourceRecord}
+use Rattle.dns_spec.proofs.Common.{List, ℕ, ◌≡◌, refl, ◌≤◌, ◌⊎◌, inl, inr, map, length, drop, subst, sym, ap, ap₂, ◌∙◌, nat_cmp, arith, to_ascii_lowercase, label_order, ResourceRecord}
 use Rattle.std.proofs.lemmas.List.{length-map, drop-map}
 use Rattle.dns_zone.specs.LabelKey.{IsKey}
 use Rattle.dns_zone.specs.TreeForm.{row_label, row_name, IsRow}
@@ -7,14 +7,16 @@ use Rattle.dns_zone.proofs.LabelKeys.{first_lower, key_order, by_length, after_k
 use Rattle.dns_zone.proofs.tree.search.order.Goals as goal
 use Rattle.dns_zone.proofs.tree.search.order.Goals.{then-count-le-KEY_OCTETS-via-then-count-le-KEY_OCTETS, then-count-le-KEY_OCTETS-via-else-count-le-KEY_OCTETS+then-label-le-KEY_OCTETS}
 
-row_key : (rs : List ResourceRecord) (row : Row) → IsRow rs row (row_name rs row)
-    → IsKey row.key (row_label rs row)
-row_key rs row h = subst (IsKey row.key) (first_lower (row_name rs row) h.lower) h.key
+row_key : (rs : List ResourceRecord) (row : Row) (key : ℕ) → IsRow rs row (row_name rs row)
+    → row.key ≡ key → IsKey key (row_label rs row)
+row_key rs row key h e =
+    subst (λ k. IsKey k (row_label rs row)) e
+    (subst (IsKey row.key) (first_lower (row_name rs row) h.lower) h.key)
 
 pub returns-then-row-key-clause-order : goal.returns-then-row-key-clause-order
 returns-then-row-key-clause-order c =
     c.cmp.ensures
-    ∙ key_order (row_key c.args.records.now c.args.row.now c.requires.row) c.requires.key
+    ∙ key_order (row_key _ _ _ c.requires.row refl) c.requires.key
     c.if-row-key.true
 
 pub returns-then-count-le-KEY_OCTETS-clause-order : goal.returns-then-count-le-KEY_OCTETS-clause-order
@@ -23,8 +25,7 @@ returns-then-count-le-KEY_OCTETS-clause-order c =
     let own = row_label c.args.records.now row in
     let label = map to_ascii_lowercase c.args.label.now in
     let count = length-map c.args.label.now to_ascii_lowercase in
-    let own_key : IsKey c.args.key own =
-    subst (λ k. IsKey k own) c.if-row-key.false (row_key c.args.records.now row c.requires.row) in
+    let own_key = row_key c.args.records.now row c.args.key c.requires.row c.if-row-key.false in
     let own_count = c.requires.row.label_octets in
     let short : (length own ≤ 8) ⊎ (length label ≤ 8) =
     elim c.then-count-le-KEY_OCTETS.branch [
@@ -43,8 +44,7 @@ returns-clause-order c =
     let own = row_label c.args.records.now row in
     let label = map to_ascii_lowercase c.args.label.now in
     let count = length-map c.args.label.now to_ascii_lowercase in
-    let own_key : IsKey c.args.key own =
-    subst (λ k. IsKey k own) c.if-row-key.false (row_key c.args.records.now row c.requires.row) in
+    let own_key = row_key c.args.records.now row c.args.key c.requires.row c.if-row-key.false in
     let own_count = c.requires.row.label_octets in
     let long = c.if-count-le-KEY_OCTETS.false in
     let asked = c.if-label-le-KEY_OCTETS.false in

@@ -1,6 +1,6 @@
 use Rattle.dns_spec.proofs.Common.{◌&&◌, ◌==◌, ap, sym, ◌∙◌, list_any, type_cname, ResourceRecord, at, owns}
 use Rattle.dns_zone.specs.KeyForm.{name_key}
-use Rattle.dns_zone.proofs.OwnRecords.{own-owns}
+use Rattle.dns_zone.proofs.OwnRecords.{own_owns}
 use Rattle.dns_zone.proofs.checks.survey.Survey.name_faults.Goals as goal
 
 pub returns-clause-alias : goal.returns-clause-alias
@@ -12,5 +12,5 @@ returns-clause-alias c =
     c.has_type.ensures
     ∙ ap (list_any (λ (r : ResourceRecord). r.rtype == type_cname))
     (c.at-is_under_cut.ensures.own ∙ ap (at z) c.move_to.ensures)
-    ∙ own-owns z m type_cname
+    ∙ own_owns z m type_cname
     ∙ ap (λ b. b && owns z m type_cname) inside

@@ -3,7 +3,7 @@ use Rattle.dns_spec.proofs.Records.SortedOnce.{Each}
 use Rattle.dns_zone.specs.NamesForm.{name_of, IsChecked}
 use Rattle.dns_zone.specs.ReportedForm.{HasOwners, owners_once}
 use Rattle.dns_zone.proofs.GrowingNames.{LastName}
-use Rattle.dns_zone.proofs.checks.names.owners.Given as goal
+use Rattle.dns_zone.proofs.checks.names.checked_names.Given as goal
 
 -- with the owners of the rest, those so far are all
 abbrev pub invariant-owners : goal.invariant-owners

@@ -11,8 +11,8 @@ use Rattle.dns_zone.proofs.GrowingNames.{LastName, root_first, comes_next, added
 use Rattle.dns_zone.proofs.KeyedNames.{first_keyed}
 use Rattle.dns_zone.proofs.OwnersWalk.{Step, step, all_owners, one_more}
 use Rattle.dns_zone.proofs.TopmostCut.{topmost_fits}
-use Rattle.dns_zone.proofs.checks.names.owners.Goals as goal
-use Rattle.dns_zone.proofs.checks.names.owners.Goals.{In_ok-push}
+use Rattle.dns_zone.proofs.checks.names.checked_names.Goals as goal
+use Rattle.dns_zone.proofs.checks.names.checked_names.Goals.{In_ok-push}
 
 pub owners-init : goal.owners-init
 owners-init c =
