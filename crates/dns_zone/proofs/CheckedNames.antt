@@ -1,5 +1,5 @@
 -- The names that are checked, as a list: what a search among them by keys finds.
-use Rattle.dns_spec.proofs.Common.{◌≡◌, ℕ, ◌+◌, suc, ◌<◌, ◌≤◌, Bool, true, false, ◌&&◌, not, cond, ◌==◌, nat_lt, ◌⊎◌, inl, inr, List, get_or, zero, drop, length-take, [], ◌∷◌, map, length, take, refl, sym, ap, ap₂, ◌∙◌, subst, arith, filter, is_gt, nat_cmp, Ordering, Less, Equal, Greater, false≢true, true≢false, not-true, and_parts, or_cases, false_from_ne_true, cases_lt, nat_list_cmp_total, tied_itself, upto, get_or-take, get_or_default, min-eq_left, slice_cmp, list_any, starts_with, IsPartitionedBy, ordering_reverse, Octets, DomainName, folded, same, at_or_below, name_order, type_ns, ResourceRecord, ZoneContents, at, owns, is_cut, at_or_below_cut, checked_names}
+use Rattle.dns_spec.proofs.Common.{◌≡◌, ℕ, ◌+◌, suc, ◌<◌, ◌≤◌, Bool, true, false, ◌&&◌, not, cond, ◌==◌, nat_lt, ◌⊎◌, inl, inr, List, get_or, zero, drop, length-take, [], ◌∷◌, map, length, take, refl, sym, ap, ap₂, ◌∙◌, subst, arith, filter, is_gt, nat_cmp, Ordering, Less, Equal, Greater, false≢true, true≢false, not-true, and_parts, false_from_ne_true, cases_lt, nat_list_cmp_total, tied_itself, upto, get_or-take, get_or_default, min-eq_left, slice_cmp, starts_with, IsPartitionedBy, ordering_reverse, Octets, DomainName, folded, same, at_or_below, name_order, type_ns, ResourceRecord, ZoneContents, at, owns, is_cut, at_or_below_cut, checked_names}
 use Rattle.dns_spec.proofs.DomainNames.NameLaws.{octets_equal-decides}
 use Rattle.dns_spec.proofs.ZoneChecks.FaultOrder.{name_tie, name_order_total, one_lower, Lower}
 use Rattle.dns_spec.proofs.Records.SortedOnce.{Each, Among, Rises, each_at, each_filter, filter_each, filter_among}

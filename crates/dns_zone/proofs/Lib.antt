@@ -38,3 +38,4 @@ pub mod LowerCase
 pub mod LabelStarts
 pub mod WayLaws
 pub mod LeadRows
+pub mod SearchSteps

@@ -1,6 +1,5 @@
 -- A walk over records of a zone in canonical order, owner by owner.
-use Rattle.dns_spec.proofs.Common.{◌≡◌, ℕ, ◌+◌, Bool, true, false, not, cond, List, [], ◌∷◌, ◌++◌, ◌<◌, length, take, drop, refl, sym, ap, ap₂, ◌∙◌, arith, subst, filter, is_gt, is_lt, Ordering, Less, Equal, Greater, false≢true, true≢false, false_from_ne_true, length-filter_both, All-head, prefix_len, IsPartitionedBy, ordering_reverse, DomainName, folded, same, names_equal, name_order, ResourceRecord, ZoneContents, at, record_order}
-use Rattle.dns_spec.proofs.ZoneChecks.FaultOrder.{name_order_total}
+use Rattle.dns_spec.proofs.Common.{◌≡◌, ℕ, ◌+◌, Bool, true, false, not, cond, List, [], ◌∷◌, ◌++◌, ◌<◌, length, take, drop, refl, sym, ap, ap₂, ◌∙◌, arith, subst, filter, is_gt, Less, false≢true, false_from_ne_true, length-filter_both, All-head, prefix_len, IsPartitionedBy, DomainName, folded, same, names_equal, name_order, ResourceRecord, ZoneContents, at, record_order}
 use Rattle.std.proofs.lemmas.List.Sums.{prefix_len_passes, prefix_len_stops, prefix_len-le-length}
 use Rattle.dns_spec.proofs.Records.RecordOrder.{each_all, all_each, record_order_total}
 use Rattle.dns_spec.proofs.Records.SortedOnce.{Each, each_filter, filter_each, each_weaker}

@@ -1,5 +1,5 @@
 -- Records moved to the front, each of which comes before the next.
-use Rattle.std.proofs.Common.{◌≡◌, ℕ, zero, suc, ◌+◌, ◌<◌, ◌≤◌, ◌⊎◌, inl, inr, List, [], ◌∷◌, length, take, get_or, refl, sym, ap, ap₂, ◌∙◌, arith, All, IsPermutation, is_eq, is_lt, Less, Equal, Greater, true, ◌-◌, subst}
+use Rattle.std.proofs.Common.{◌≡◌, ℕ, zero, suc, ◌+◌, ◌<◌, ◌≤◌, ◌⊎◌, inl, inr, List, [], ◌∷◌, length, take, get_or, sym, ap, ap₂, ◌∙◌, arith, All, IsPermutation, is_eq, is_lt, Less, Equal, Greater, true, ◌-◌, subst}
 use Rattle.dns_spec.proofs.Common.{drop, length-take, get_or-take, take-append-drop, get_or_default, cases_lt, true≢false, IsPermutation-sym, ordering_reverse, ResourceRecord, records_equal, distinct, sort_by, record_order}
 use Rattle.std.specs.List.{SwappedAt}
 use Rattle.std.specs.List.Sorted.{IsSorted}

@@ -1,5 +1,5 @@
 -- Parts of a list from one place up to another, and the elements that pass a test.
-use Rattle.dns_spec.proofs.Common.{◌≡◌, ℕ, zero, suc, ◌+◌, ◌-◌, ◌<◌, ◌≤◌, Bool, true, false, ◌||◌, not, ◌⊎◌, inl, inr, List, [], ◌∷◌, ◌++◌, map, length, take, drop, get_or, get_or_default, refl, sym, ap, ap₂, ◌∙◌, arith, subst, filter, length-append, length-take, length-drop, false≢true, or_right, take-append-drop, take-append-le, get_or-take, get_or-drop, nil_from_length, filter-append, length-filter_both, list_any}
+use Rattle.dns_spec.proofs.Common.{◌≡◌, ℕ, zero, suc, ◌+◌, ◌-◌, ◌<◌, ◌≤◌, Bool, true, false, ◌||◌, not, ◌⊎◌, inl, inr, List, [], ◌∷◌, ◌++◌, map, length, take, drop, get_or, get_or_default, refl, sym, ap, ◌∙◌, arith, subst, filter, length-append, length-take, length-drop, false≢true, or_right, take-append-drop, take-append-le, get_or-take, get_or-drop, nil_from_length, filter-append, length-filter_both, list_any}
 use Rattle.std.proofs.Math.Seq.{drop-drop, take-add}
 use Rattle.dns_spec.proofs.Records.SortedOnce.{Each, Among, filter_each}
 use Rattle.dns_spec.proofs.Records.RecordOrder.{contains_among}

@@ -1,5 +1,5 @@
 -- Records that stand by their types: the types of one owner.
-use Rattle.dns_spec.proofs.Common.{◌≡◌, ◌==◌, ℕ, ◌-◌, ◌<◌, ◌≤◌, length, get_or, Bool, true, false, not, ◌||◌, ◌⊎◌, cond, nat_lt, eqb, Some, None, List, [], ◌∷◌, refl, sym, ap, ap₂, ◌∙◌, arith, filter, inl, inr, ltb-true, ltb-false, eqb-true, eq-eqb, ne_eqb, eqb-false, cases_lt, le-ltb, take_all, IsPartitionedBy, IsNonDecreasingBy, ResourceRecord}
+use Rattle.dns_spec.proofs.Common.{◌≡◌, ◌==◌, ℕ, ◌-◌, ◌<◌, ◌≤◌, length, get_or, Bool, true, false, not, ◌||◌, ◌⊎◌, cond, nat_lt, eqb, Some, None, List, [], ◌∷◌, refl, sym, ap, ◌∙◌, arith, filter, inl, inr, ltb-true, ltb-false, eqb-true, eq-eqb, ne_eqb, eqb-false, cases_lt, le-ltb, take_all, IsPartitionedBy, IsNonDecreasingBy, ResourceRecord}
 use Rattle.std.specs.List.{list_any, slice_get}
 use Rattle.dns_spec.proofs.Records.SortedOnce.{Each, filter_each}
 use Rattle.dns_zone.proofs.Pairs.{halves, Pairs, pairs_of, pairs_filter, pairs_rising, parted, filter_within, first_passes, none_pass}

@@ -91,6 +91,7 @@ impl<'a> Survey<'a> {
     }
 
     /// A name that is checked: the owner of its records, or the origin where it has none.
+    #[tactic(auto, using(crate::proofs::SearchSteps::wire_steps))]
     pub(crate) fn name(&self, one: &CheckedName<'_>) -> NameRef<'a>
         requires rising { one.now.first ≤ one.now.end }
         requires within { one.now.end ≤ length self.now.records }

@@ -253,6 +253,7 @@ fn order_at(records: &[Entry], one: u32, other: u32) -> Ordering {
 }
 
 // Moves to each place the record that comes there.
+#[tactic(auto, using(crate::proofs::SearchSteps::swap_steps))]
 fn put_in_places(keys: &[u8], records: &mut [Entry], starts: &mut [u32], places: &mut [u32])
     requires keyed { AreKeyed keys.now records.old starts.old }
     requires few { length records.old ≤ most_records }

@@ -50,6 +50,7 @@ impl Key {
 
     /// Makes the key of one name that of another. The labels that both end with stay, so that names
     /// which are alike but for their first labels take little time, however many they have.
+    #[tactic(auto, using(crate::proofs::SearchSteps::wire_steps))]
     pub(crate) fn move_to(&mut self, from: &NameRef<'_>, name: &NameRef<'_>)
         requires { self.old ≡ name_key from.now }
         ensures { self.new ≡ name_key name.now }

@@ -20,6 +20,7 @@ pub(crate) struct Keyed {
 }
 
 /// The keys of an origin and of the owners of records.
+#[tactic(auto, using(crate::proofs::SearchSteps::wire_steps))]
 pub(crate) fn keys_of<'a>(
     alloc: Global,
     origin: &'a NameRef<'a>,

@@ -28,6 +28,7 @@ pub(crate) struct Canonical {
 
 /// The records, each once, in canonical order (RFC 4034 6.1, 6.3, RFC 2181 5). They mostly are once
 /// they are arranged, which one walk sees.
+#[tactic(auto, using(crate::proofs::KeyOrder::some_octets))]
 pub(crate) fn ordered(
     alloc: Global,
     origin: &NameRef<'_>,

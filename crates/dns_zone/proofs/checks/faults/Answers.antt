@@ -2,18 +2,12 @@ use Rattle.dns_spec.proofs.Common.{◌≡◌, ◌-◌, List, length, map, ap, �
 use Rattle.dns_zone.specs.NamesForm.{name_of}
 use Rattle.dns_zone.specs.ReportedForm.{reported_at}
 use Rattle.dns_zone.specs.declared.checks.names.CheckedName.{CheckedName}
-use Rattle.dns_zone.proofs.KeyOrder.{some_octets, key_length}
+use Rattle.dns_zone.proofs.KeyOrder.{key_length}
 use Rattle.dns_zone.proofs.checks.faults.Goals as goal
 
 -- the faults of names, one after another
 abbrev reported : ZoneContents → List CheckedName → List Fault
 reported z names = flat_map (reported_at z) (map (name_of z) names)
-
-pub overflow_sub-octets : goal.overflow_sub-octets
-overflow_sub-octets c =
-    let long : length c.octets.result.now ≡ length (wire c.args.origin.now) =
-    ap length c.octets.ensures.value in
-    omega (arith, long, some_octets c.args.origin.now)
 
 pub split_at-requires : goal.split_at-requires
 split_at-requires c =

@@ -2,15 +2,12 @@ use Rattle.dns_spec.proofs.Common.{rules, ◌≡◌, ◌≤◌, ◌<◌, length,
 use Rattle.std.proofs.Math.Seq.{get_or-append_seam}
 use Rattle.std.proofs.lemmas.List.Elements.{All-more}
 use Rattle.dns_spec.proofs.DomainNames.NameLaws.{names_equal-decides}
-use Rattle.dns_name.proofs.WireLemmas.{IsWireForm-wire, labels_of_spelled}
+use Rattle.dns_name.proofs.WireLemmas.{labels_of_spelled}
 use Rattle.dns_zone.specs.KeyForm.{name_key}
 use Rattle.dns_zone.specs.KeyedForm.{key_in}
 use Rattle.dns_zone.proofs.KeyedNames.{key_stays, key_added}
 use Rattle.dns_zone.proofs.order.keyed.keys_of.Goals as goal
 use Rattle.dns_zone.proofs.order.keyed.keys_of.Goals.{then-ne+in_ok-extend_from_slice-2, else-ne}
-
-pub new-last-requires : goal.new-last-requires
-new-last-requires c = IsWireForm-wire _ _ c.octets-2.ensures.value c.octets-2.ensures.is_name
 
 pub records-init : goal.records-init
 records-init c =

@@ -1,10 +1,9 @@
-use Rattle.dns_spec.proofs.Common.{rules, true, Bool, is_lt, ◌≡◌, ℕ, ◌++◌, List, All, length, take, drop, sym, subst, ap, ◌∙◌, arith, take-append_seam, OnTrue, IsPermutation, wire, ResourceRecord, records_equal, distinct, sort_by, record_order, IsReadRecord}
+use Rattle.dns_spec.proofs.Common.{rules, true, Bool, is_lt, ◌≡◌, ℕ, ◌++◌, List, All, length, take, drop, sym, subst, ◌∙◌, take-append_seam, OnTrue, IsPermutation, ResourceRecord, records_equal, distinct, sort_by, record_order, IsReadRecord}
 use Rattle.std.proofs.lemmas.List.Sorted.{length_permutation, ranks_by, IsPermutation-trans}
 use Rattle.std.proofs.lemmas.Fn.{always_returns_same}
 use Rattle.dns_spec.proofs.Records.RecordOrder.{record_order_total, sort_risen, rises_canonical, all_canonical}
 use Rattle.dns_zone.specs.KeyedForm.{AreKeyed}
 use Rattle.dns_zone.specs.ZoneForm.{AreOrdered}
-use Rattle.dns_zone.proofs.KeyOrder.{some_octets}
 use Rattle.dns_zone.proofs.order.ordered.ordered.Goals as goal
 use Rattle.dns_zone.proofs.order.ordered.ordered.Goals.{Then-leave_out_duplicates, After-drop-keys-2}
 
@@ -25,12 +24,6 @@ module _ (rs lent near : List ResourceRecord) (count : ℕ) (is : lent ≡ rs)
   moved : IsPermutation rs arranged
   moved =
       subst (λ ys. IsPermutation rs ys) (sym written) (subst (λ ys. IsPermutation ys near) is moves)
-
-pub overflow_sub-octets : goal.overflow_sub-octets
-overflow_sub-octets c =
-    let long : length c.octets.result.now ≡ length (wire c.args.origin.now) =
-    ap length c.octets.ensures.value in
-    omega (arith, long, some_octets c.args.origin.now)
 
 module _ (rs xs : List ResourceRecord) (each : All IsReadRecord rs) (is : xs ≡ canonical rs) where
   in_order : AreOrdered xs

@@ -1,11 +1,8 @@
 use Rattle.dns_spec.proofs.Common.{◌≡◌, List, [], ◌∷◌, None, refl, ap, ◌∙◌, DomainName, ResourceRecord, ZoneContents}
 use Rattle.std.specs.List.{slice_get}
-use Rattle.dns_name.proofs.WireLemmas.{IsWireForm-wire, labels_of_spelled}
+use Rattle.dns_name.proofs.WireLemmas.{labels_of_spelled}
 use Rattle.dns_zone.specs.NamesForm.{first_owner}
 use Rattle.dns_zone.proofs.checks.survey.Survey.name.Goals as goal
-
-pub new-requires : goal.new-requires
-new-requires c = IsWireForm-wire _ _ c.octets.ensures.value c.octets.ensures.is_name
 
 -- without a first record the name is the origin
 origin_first : (o : DomainName) (rs : List ResourceRecord) → None ≡ slice_get rs 0

@@ -5,12 +5,6 @@ use Rattle.dns_zone.specs.KeyForm.{name_key}
 use Rattle.dns_zone.proofs.CommonEnds.{ends_on, some, size, fits, begun}
 use Rattle.dns_zone.proofs.order.key.Key.move_to.Goals as goal
 
-pub after_first_label-requires : goal.after_first_label-requires
-after_first_label-requires c = IsWireForm-wire _ _ c.octets-octets.ensures.value c.octets-octets.ensures.is_name
-
-pub after_first_label-requires-2 : goal.after_first_label-requires-2
-after_first_label-requires-2 c = IsWireForm-wire _ _ c.octets.ensures.value c.octets.ensures.is_name
-
 pub overflow_sub-kept : goal.overflow_sub-kept
 overflow_sub-kept c = some _ c.common_end-end.ensures.wire
 
@@ -21,9 +15,6 @@ overflow_sub-octets c =
     let wire = IsWireForm-wire octets _ c.octets-octets.ensures.value c.octets-octets.ensures.is_name in
     let whole = ends_on c.after_first_label.ensures.end c.common_end-end.ensures.name in
     omega (arith, size octets wire, size end c.common_end-end.ensures.wire, fits _ _ whole)
-
-pub put_labels-requires-clause-wire : goal.put_labels-requires-clause-wire
-put_labels-requires-clause-wire c = IsWireForm-wire _ _ c.octets-octets.ensures.value c.octets-octets.ensures.is_name
 
 pub put_labels-requires-clause-ends : goal.put_labels-requires-clause-ends
 put_labels-requires-clause-ends c = ends_on c.after_first_label.ensures.end c.common_end-end.ensures.name
