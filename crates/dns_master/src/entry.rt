@@ -57,33 +57,27 @@ pub(crate) fn read_entry<'a>(
         (λ fault. (fault ≡ bad_parenthesis) × IsWrong text.now)) }
 {
     kept.clear();
-    let mut later = LaterWords { text, count: 0 };
-    let mut lines = 0;
-    let mut is_open = false;
-    let mut rest = text;
-    'tokens: while let Some((token, others)) = first_token(rest) {
-        later = take_word(kept, later, token, others)?;
-        lines += line_ends(token);
-        rest = others;
-        match step_after(token, is_open) {
+    let mut end = EntryEnd {
+        later: LaterWords { text, count: 0 },
+        lines: 0,
+        is_ended: false,
+        is_open: false,
+        rest: text,
+    };
+    'tokens: while let Some((token, others)) = first_token(end.rest) {
+        end.later = take_word(kept, end.later, token, others)?;
+        end.lines += line_ends(token);
+        end.rest = others;
+        match step_after(token, end.is_open) {
             Step::Misplaced => return Err(ReadCode::Parenthesis),
-            Step::Over => return Ok(EntryEnd {
-                later,
-                lines,
-                is_ended: true,
-                is_open,
-                rest,
-            }),
-            Step::Onward(now_open) => is_open = now_open,
+            Step::Over => {
+                end.is_ended = true;
+                return Ok(end);
+            }
+            Step::Onward(now_open) => end.is_open = now_open,
         }
     }
-    Ok(EntryEnd {
-        later,
-        lines,
-        is_ended: false,
-        is_open,
-        rest,
-    })
+    Ok(end)
 }
 
 // Keeps the word that a token is, before the text that comes then, or counts it.

@@ -16,24 +16,6 @@ use std::marker::Model;
 // has some 82 names, so a suffix is compared by its octets with some 82 of its length at most.
 const HEADS: usize = 128;
 
-/// Chooses the chain in which a suffix is looked for: a number below 1,024, the same at every call
-/// for the same octets.
-///
-/// What a writer writes does not depend on which number that is.
-pub trait SuffixHash {
-    ghost use Rattle.std.specs.Prelude.{ℕ};
-    ghost use Rattle.dns_spec.specs.Names.{Octets};
-
-    /// The number of each suffix.
-    ghost numbers: { Self → Octets → ℕ };
-
-    /// The number of a suffix, given in its wire form.
-    fn head(&mut self, suffix: &[u8]) -> u16
-        ensures value { result ≡ numbers self.old suffix.now }
-        ensures low { result < 1024 }
-        ensures same { numbers self.new ≡ numbers self.old };
-}
-
 // A place, which entry of its chain was kept before it, counted from 1 with 0 for none, and the
 // number of its suffix.
 #[derive(Clone, Copy, Default)]
@@ -153,4 +135,22 @@ fn is_sought(entry: Entry, number: u32, message: &[u8], suffix: &[u8]) -> bool
         → IsTrue result }
 {
     entry.number == number && is_spelled(message, usize::from(entry.place), suffix)
+}
+
+/// Chooses the chain in which a suffix is looked for: a number below 1,024, the same at every call
+/// for the same octets.
+///
+/// What a writer writes does not depend on which number that is.
+pub trait SuffixHash {
+    ghost use Rattle.std.specs.Prelude.{ℕ};
+    ghost use Rattle.dns_spec.specs.Names.{Octets};
+
+    /// The number of each suffix.
+    ghost numbers: { Self → Octets → ℕ };
+
+    /// The number of a suffix, given in its wire form.
+    fn head(&mut self, suffix: &[u8]) -> u16
+        ensures value { result ≡ numbers self.old suffix.now }
+        ensures low { result < 1024 }
+        ensures same { numbers self.new ≡ numbers self.old };
 }

@@ -62,6 +62,7 @@ impl Entry {
         ensures lower { folded result ≡ result }
         ensures read { IsReadRecord self.now }
     {
+        // That its number is below 2 ^ 16 is known where it is read.
         let _type = self.rtype.0;
         let count = self.owner_octets as usize;
         NameRef::new(self.octets.as_slice().split_at(count).0)
