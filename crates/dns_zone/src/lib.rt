@@ -20,6 +20,3 @@ pub use tree::set::RecordSet;
 pub use tree::sought::Sought;
 pub use tree::steps::Steps;
 pub use zone::{CheckedZone, Zone};
-
-#[cfg(test)]
-mod tests;

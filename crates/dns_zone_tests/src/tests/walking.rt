@@ -1,9 +1,9 @@
 //! Walks down the names of zones.
 
 use super::texts::{built, file_with};
-use crate::{Node, Steps, Zone};
 use dns_name::Label;
 use dns_rdata::{RType, SetView};
+use dns_zone::{Node, Steps, Zone};
 use itoa::Buffer;
 use std::alloc::Global;
 use std::test::Fail;

@@ -1,5 +1,5 @@
 use Rattle.std.proofs.Common.{◌≡◌, ◌≤◌}
-use Rattle.dns_zone.proofs.tests.walking.walked.Given as goal
+use Rattle.dns_zone_tests.proofs.tests.walking.walked.Given as goal
 
 -- the walk is over the zone of the node
 abbrev pub invariant-labels : goal.invariant-labels

@@ -1,4 +1,3 @@
-mod arranging;
 mod building;
 mod printing;
 mod texts;

@@ -1,9 +1,10 @@
 //! Zones that are built, and faults that are reported.
 
-use super::texts::{PRINTED, built, file_with};
-use crate::{BuildFault, Store, Zone, print};
+use super::texts::{built, file_with};
 use dns_master::read_zone;
 use dns_name::{Name, Tally};
+use dns_samples_tests::SMALL_PRINTED;
+use dns_zone::{BuildFault, Store, Zone, print};
 use std::test::Fail;
 
 // A fault: the owner's wire form, and the number of the code.
@@ -88,9 +89,9 @@ fn a_zone_is_built_of_a_store(rt: HostRuntime) -> Result<(), Fail> {
     assert_eq!(rt; zone.serial(), 1);
     let mut sink = Tally::new(Vec::new(rt.alloc()));
     assert_eq!(rt; zone.print(&mut sink), Ok(()));
-    assert_eq!(rt; sink.into_inner().as_slice(), PRINTED);
+    assert_eq!(rt; sink.into_inner().as_slice(), SMALL_PRINTED.as_bytes());
     let mut sink = Tally::new(Vec::new(rt.alloc()));
     assert_eq!(rt; print(&Zone::of(rt.alloc(), zone)?, &mut sink), Ok(()));
-    assert_eq!(rt; sink.into_inner().as_slice(), PRINTED);
+    assert_eq!(rt; sink.into_inner().as_slice(), SMALL_PRINTED.as_bytes());
     Ok(())
 }

@@ -1,33 +1,13 @@
 //! The canonical text of zones, and sinks that fail.
 ghost use Rattle.std.specs.Prelude.{◌<◌, ◌-◌, ◌^◌};
 
-use super::texts::{PRINTED, built, file_with};
-use crate::{PrintFault, print};
+use super::texts::{built, file_with};
 use dns_name::Tally;
+use dns_samples_tests::{MIXED, MIXED_PRINTED, SMALL_PRINTED};
+use dns_zone::{PrintFault, print};
 use std::alloc::Global;
 use std::io::{self, ErrorKind, Write};
 use std::test::Fail;
-
-// Words, comments, types and owners of many kinds.
-const MIXED: &[u8] = b"$TTL 60
-@ SOA ns h ( 1 2
- 3 4 ; c
- 5 )
- NS ns
-ns A 192.0.2.1
- AAAA 2001:DB8:0:0:1::1
-$ORIGIN deep
-a\\.b 7 IN TXT hi \"x;y\"
- CLASS1 9 TYPE65280 \\# 3 AB cdef
-";
-
-const MIXED_PRINTED: &[u8] = b"example. 60 IN SOA ns.example. h.example. 1 2 3 4 5
-example. 60 IN NS ns.example.
-a\\.b.deep.example. 7 IN TXT \"hi\" \"x;y\"
-a\\.b.deep.example. 9 IN TYPE65280 \\# 3 abcdef
-ns.example. 60 IN A 192.0.2.1
-ns.example. 60 IN AAAA 2001:db8::1:0:0:1
-";
 
 // The names of RFC 4034 6.1, turned about, and records of one name that differ in type and in data.
 const TURNED: &[u8] = b"$TTL 60
@@ -117,9 +97,9 @@ fn zones_printed(rt: HostRuntime) -> Result<(), Fail> {
     let file = file_with(rt.alloc(), b"")?;
     let repeated = file_with(rt.alloc(), b"WWW A 192.0.2.10\n@ NS ns\n")?;
     let rows: [(&[u8], &[u8], &[u8]); 5] = [
-        (b"example.", &file, PRINTED),
-        (b"example.", &repeated, PRINTED),
-        (b"example.", MIXED, MIXED_PRINTED),
+        (b"example.", &file, SMALL_PRINTED.as_bytes()),
+        (b"example.", &repeated, SMALL_PRINTED.as_bytes()),
+        (b"example.", MIXED.as_bytes(), MIXED_PRINTED.as_bytes()),
         (b"example.", TURNED, TURNED_PRINTED),
         (b".", SHORT, SHORT_PRINTED),
     ];
@@ -135,7 +115,11 @@ fn zones_printed(rt: HostRuntime) -> Result<(), Fail> {
 
 #[test]
 fn the_printed_text_is_printed_again(rt: HostRuntime) -> Result<(), Fail> {
-    for text in [PRINTED, MIXED_PRINTED, TURNED_PRINTED] {
+    for text in [
+        SMALL_PRINTED.as_bytes(),
+        MIXED_PRINTED.as_bytes(),
+        TURNED_PRINTED,
+    ] {
         let mut sink = Tally::new(Vec::new(rt.alloc()));
         let outcome = printed(rt.alloc(), b"example.", text, &mut sink)?;
         assert_eq!(rt; outcome, Some(Ok(())), "at {text:?}");

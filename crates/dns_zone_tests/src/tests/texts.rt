@@ -1,0 +1,30 @@
+//! What the tests share: files of zones, and the zones of files.
+
+use dns_master::read_zone;
+use dns_name::{Name, Tally};
+use dns_samples_tests::SMALL;
+use dns_zone::{BuildFault, Zone};
+use std::alloc::Global;
+use std::test::Fail;
+
+/// The file of the small zone, and lines after it.
+pub(super) fn file_with(alloc: Global, others: &[u8]) -> Result<Vec<u8>, Fail> {
+    let mut text = Vec::new(alloc);
+    text.extend_from_slice(SMALL.as_bytes())?;
+    text.extend_from_slice(others)?;
+    Ok(text)
+}
+
+/// What is built of a file that can be read and has few records; `None` of one with too many.
+pub(super) fn built(
+    alloc: Global,
+    origin: &[u8],
+    text: &[u8],
+) -> Result<Option<Result<Zone, BuildFault>>, Fail> {
+    let origin = Name::read_text(origin, &Name::root())?;
+    let records = read_zone(alloc, &origin, &mut Tally::new(text))?;
+    if records.len() > 100_000 {
+        return Ok(None);
+    }
+    Ok(Some(Zone::build(alloc, &origin, records)))
+}
