@@ -243,6 +243,20 @@ fn each_send_fails_in_turn(rt: HostRuntime) -> Result<(), Fail> {
 }
 
 #[test]
+fn the_reply_to_the_last_message_asked_for_is_sent(rt: HostRuntime) -> Result<(), Fail> {
+    let input = frames(rt.alloc(), "ww")?;
+    // The second call of the sink, which is to send what it keeps, fails.
+    let devices = Devices {
+        writes: 1,
+        ..ALL_WORK
+    };
+    let left = session(rt.alloc(), input.as_slice(), 1, devices)?;
+    assert_eq!(rt; left.answer, Err(StreamFault::SinkFailed));
+    assert_eq!(rt; left.written.len(), 47);
+    Ok(())
+}
+
+#[test]
 fn a_sink_that_takes_nothing_fails(rt: HostRuntime) -> Result<(), Fail> {
     let zone = sample(rt.alloc())?;
     let input = frames(rt.alloc(), "waw")?;
