@@ -1,5 +1,5 @@
 //! Devices that hand out datagrams and send replies.
-ghost use Rattle.std.specs.Prelude.{◌≡◌, ℕ, ◌-◌, ◌^◌, ◌<◌, ◌≤◌, List, Option, IfOk, IsOk, IsTrue, Bool};
+ghost use Rattle.std.specs.Prelude.{◌≡◌, ℕ, ◌-◌, ◌^◌, ◌<◌, List, Option, IsOk, IsTrue, Bool};
 ghost use Rattle.dns_spec.specs.Names.{Octets};
 ghost use Rattle.dns_name.specs.Counted.{failures_after};
 ghost use Rattle.dns_serve.specs.Turns.{Hands, Sends, KeepsAll};

@@ -1,9 +1,9 @@
 //! A session over a stream: messages, each after its length in two octets, and their replies
 //! (RFC 1035 4.2.2).
-ghost use Rattle.std.specs.Prelude.{◌≡◌, ℕ, ◌+◌, ◌-◌, ◌^◌, ◌<◌, ◌≤◌, length, take, IfOk, IfSome};
-ghost use Rattle.dns_name.specs.Counted.{Writes};
+ghost use Rattle.std.specs.Prelude.{◌≡◌, ◌+◌, ◌-◌, ◌^◌, ◌<◌, ◌≤◌, length, IfOk, IfSome};
 ghost use Rattle.dns_spec.specs.Layout.{octets16};
 ghost use Rattle.dns_spec.specs.Stream.{reply_frame};
+ghost use Rattle.dns_name.specs.Counted.{Writes};
 ghost use Rattle.dns_serve.specs.Reads.{MessageRead};
 ghost use Rattle.dns_serve.specs.Streams.{SessionOf, reply_over_tcp, source_failures_after, sink_failures_after};
 
@@ -113,16 +113,11 @@ pub fn serve_stream_in<R: Read, W: Write>(
             break;
         };
         let (message, _) = room.message.split_at(kept);
-        let is_due = waits.get() || served + 1 == most;
-        write_reply(
-            zone,
-            message,
-            sink,
-            &mut room.draft,
-            &mut room.reply,
-            is_due,
-        )?;
+        write_reply(zone, message, sink, &mut room.draft, &mut room.reply)?;
         served += 1;
+        if waits.get() || served == most {
+            sink.flush()?;
+        }
     }
     Ok(served)
 }
@@ -171,31 +166,9 @@ fn message_length(octets: &[u8]) -> usize
     usize::from(BigEndian::read_u16(octets))
 }
 
-// Writes the reply to a message after its length, and has the sink pass on what it keeps where that
-// is due.
-fn write_reply<W: Write>(
-    zone: &Zone,
-    message: &[u8],
-    sink: &mut Tally<W>,
-    draft: &mut TcpDraft,
-    room: &mut [u8],
-    is_due: bool,
-) -> Result<(), SinkFailed>
-    requires sink { sink.old.failures < 2 ^ 64 - 1 }
-    requires room { length room.old ≡ 65537 }
-    ensures { Writes W.contents sink.old sink.new result
-        (reply_frame (reply_over_tcp zone.now message.now)) }
-{
-    write_frame(zone, message, sink, draft, room)?;
-    if is_due {
-        sink.flush()?;
-    }
-    Ok(())
-}
-
 // Writes the reply to a message after its length, in one call where the sink takes it, or nothing
 // where it gets none.
-fn write_frame<W: Write>(
+fn write_reply<W: Write>(
     zone: &Zone,
     message: &[u8],
     sink: &mut Tally<W>,

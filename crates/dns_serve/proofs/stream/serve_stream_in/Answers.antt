@@ -1,4 +1,6 @@
-use Rattle.dns_spec.proofs.Common.{rules, err_from_is_err_and}
+use Rattle.dns_spec.proofs.Common.{rules, [], subst, append-nil, err_from_is_err_and, Appends, Appends-trans}
+use Rattle.dns_name.specs.Counted.{AppendsBeginning}
+use Rattle.dns_name.proofs.WritesLemmas.{beginning_of_second}
 use Rattle.dns_serve.proofs.Sessions.{done_more, served_most, served_all, nothing_read, answered, begun, unread, unwritten}
 use Rattle.dns_serve.proofs.stream.serve_stream_in.Goals as goal
 
@@ -13,9 +15,33 @@ returns-in_err-write_reply-clause-session g c =
     let reply = begun _ _ _ _ _ _ _ _ _ c.in-Some.is c.in_ok-kept.ensures.read c.split_at.ensures.front c.in_err-write_reply.ensures.err in
     rw (p.1, p.2) (unwritten _ _ _ _ _ _ _ _ _ c.messages.invariant.done c.messages-test.true reply)
 
+-- the whole reply was written, and then not passed on
+pub returns-in_err-flush-clause-session : goal.returns-in_err-flush-clause-session
+returns-in_err-flush-clause-session g c =
+    let p = err_from_is_err_and c.from_residual-in_err-flush.result c.from_residual-in_err-flush.ensures.1 in
+    let written =
+    subst (AppendsBeginning _ _) (append-nil _)
+    (beginning_of_second _ _ _ _ [] c.in_ok-write_reply.ensures.ok c.in_err-flush.ensures.err) in
+    let reply = begun _ _ _ _ _ _ _ _ _ c.in-Some.is c.in_ok-kept.ensures.read c.split_at.ensures.front written in
+    rw (p.1, p.2) (unwritten _ _ _ _ _ _ _ _ _ c.messages.invariant.done c.messages-test.true reply)
+
 pub messages-preserved : goal.messages-preserved
 messages-preserved g c =
     let reply = answered _ _ _ _ _ _ _ _ _ c.in-Some.is c.in_ok-kept.ensures.read c.split_at.ensures.front c.in_ok-write_reply.ensures.ok in
+    record {
+      done = done_more _ _ _ _ _ _ _ _ c.messages.invariant.done reply;
+      within = search rules;
+      same = search rules;
+      source = search rules;
+      sink = search rules;
+    }
+
+pub messages-preserved-in-messages : goal.messages-preserved-in-messages
+messages-preserved-in-messages g c =
+    let written =
+    subst (Appends _ _) (append-nil _)
+    (Appends-trans _ _ _ _ [] c.in_ok-write_reply.ensures.ok c.in_ok-flush.ensures.ok) in
+    let reply = answered _ _ _ _ _ _ _ _ _ c.in-Some.is c.in_ok-kept.ensures.read c.split_at.ensures.front written in
     record {
       done = done_more _ _ _ _ _ _ _ _ c.messages.invariant.done reply;
       within = search rules;
