@@ -1,9 +1,8 @@
 //! A line of hexadecimal digits, as it comes.
-ghost use Rattle.std.specs.Prelude.{◌≡◌, ◌-◌, ◌^◌, ◌<◌, ◌≤◌, ◌==◌, ◌++◌, length, take, vec_len, vec_capacity};
-ghost use Rattle.std.specs.Prelude.{◌*◌, ◌+◌, Some, None, Ok, IfOk, OnOk, OnErr, IfSome, IfNone, IsErr};
-ghost use Rattle.hex.specs.Hex.{decode_of};
+ghost use Rattle.std.specs.Prelude.{◌≡◌, ◌-◌, ◌^◌, ◌<◌, ◌≤◌, ◌==◌, ◌++◌, length, take, vec_len, vec_capacity, ◌*◌, ◌+◌, Some, None, Ok, IfOk, OnOk, OnErr, IfSome, IfNone, IsErr};
 ghost use Rattle.std.specs.Bool.{OnTrue, OnFalse};
 ghost use Rattle.dns_spec.specs.Names.{Octets};
+ghost use Rattle.hex.specs.Hex.{decode_of};
 ghost use Rattle.dns_name.specs.Counted.{failures_after};
 ghost use Rattle.dns_tools.specs.declared.line.TheConstants.{MOST_DIGITS, MOST_OCTETS, PIECE};
 

@@ -1,5 +1,5 @@
 //! A zone from its file.
-ghost use Rattle.std.specs.Prelude.{◌≡◌, ◌-◌, ◌^◌, ◌<◌, IfOk};
+ghost use Rattle.std.specs.Prelude.{◌≡◌, ◌-◌, ◌^◌, ◌<◌};
 ghost use Rattle.dns_name.specs.Counted.{Writes};
 ghost use Rattle.dns_tools.specs.declared.fault.Stop.TheVariants.{Memory};
 ghost use Rattle.dns_tools.specs.declared.load.LoadFault.TheVariants.{Stopped};

@@ -1,8 +1,7 @@
 //! A message in hexadecimal digits, printed in lines.
 ghost use Rattle.std.specs.Prelude.{◌≡◌, ◌≢◌, ◌-◌, ◌^◌, ◌<◌, length, Err, IfOk, IfErr};
 ghost use Rattle.std.specs.List.{flat_map};
-ghost use Rattle.dns_spec.specs.MessageLines.{header_line, question_line, section_line};
-ghost use Rattle.dns_spec.specs.MessageLines.{message_text, PrintsOctets, PrintsMessage};
+ghost use Rattle.dns_spec.specs.MessageLines.{header_line, question_line, section_line, message_text, PrintsOctets, PrintsMessage};
 ghost use Rattle.dns_name.specs.Counted.{Writes};
 ghost use Rattle.dns_wire.specs.WireFault.{fault_code};
 ghost use Rattle.dns_tools.specs.Checked.{ReportedAs};

@@ -1,14 +1,11 @@
 //! Messages that come as lines of hexadecimal digits, and the lines that answer them.
-ghost use Rattle.std.specs.Prelude.{◌≡◌, ◌≢◌, ◌+◌, ◌-◌, ◌*◌, ◌^◌, ◌<◌, ◌≤◌, ◌++◌, ◌∷◌, ◌&&◌};
-ghost use Rattle.std.specs.Prelude.{[], false, length, codes, take, vec_len, vec_capacity, Option};
-ghost use Rattle.std.specs.Prelude.{Some, Ok, Err, OnOk, OnErr, IfOk, IfErr, IfSome, IfNone, IsErr};
+ghost use Rattle.std.specs.Prelude.{◌≡◌, ◌≢◌, ◌+◌, ◌-◌, ◌*◌, ◌^◌, ◌<◌, ◌≤◌, ◌++◌, ◌∷◌, ◌&&◌, [], false, length, codes, take, vec_len, vec_capacity, Option, Some, Ok, Err, OnOk, OnErr, IfOk, IfErr, IfSome};
 ghost use Rattle.std.specs.Bool.{OnTrue, OnFalse};
 ghost use Rattle.std.specs.Option.{is_some, option_map};
 ghost use Rattle.std.specs.Io.KnownBytes.{Appends};
 ghost use Rattle.dns_spec.specs.Names.{Octets};
 ghost use Rattle.dns_spec.specs.WrittenText.{hex_text};
-ghost use Rattle.dns_spec.specs.Lines.{are_messages, line_answers, lines};
-ghost use Rattle.dns_spec.specs.Lines.{message_answer, reply_line};
+ghost use Rattle.dns_spec.specs.Lines.{are_messages, line_answers, lines, message_answer, reply_line};
 ghost use Rattle.dns_tools.specs.Exchanges.{Begun, EndsLine, Grows, IsFresh, LinesAnswered, Passes};
 ghost use Rattle.dns_tools.specs.Exchanges.{Progress, reply_within};
 ghost use Rattle.dns_tools.specs.KeptLine.{kept_message};

@@ -1,5 +1,5 @@
 //! The lines of the checker's report.
-ghost use Rattle.std.specs.Prelude.{◌≡◌, ◌-◌, ◌^◌, ◌<◌};
+ghost use Rattle.std.specs.Prelude.{◌-◌, ◌^◌, ◌<◌};
 ghost use Rattle.std.specs.List.{flat_map};
 ghost use Rattle.dns_spec.specs.Report.{line_report, fault_report, loaded_report};
 ghost use Rattle.dns_name.specs.Counted.{Writes};

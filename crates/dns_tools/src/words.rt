@@ -1,8 +1,7 @@
 //! The words of the programs' command lines.
 ghost use Rattle.std.specs.Prelude.{◌≡◌, ◌⊎◌, ◌≤◌, [], ◌∷◌, IsTrue, IfOk, IfErr, IfSome, Err, map, not, decimal};
 ghost use Rattle.std.specs.Bool.{OnTrue};
-ghost use Rattle.dns_spec.specs.CommandWords.{is_dashed, EndWords, AreOptions, AskToCheck, AskToServe};
-ghost use Rattle.dns_spec.specs.CommandWords.{service_words, HasTurns};
+ghost use Rattle.dns_spec.specs.CommandWords.{is_dashed, EndWords, AreOptions, AskToCheck, AskToServe, service_words, HasTurns};
 ghost use Rattle.dns_tools.specs.Checked.{options_of};
 ghost use Rattle.dns_tools.specs.Words.{is_word_fault, service_of, IsOrigin, IsNoOrigin};
 ghost use Rattle.dns_tools.specs.Words.{IsCheckCall, HasBadCheckOrigin};
