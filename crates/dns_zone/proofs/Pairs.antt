@@ -1,8 +1,9 @@
 -- Lists whose elements are in order, each with each after it, and what a binary search finds in them.
-use Rattle.dns_spec.proofs.Common.{◌≡◌, ℕ, zero, suc, ◌<◌, ◌≤◌, Bool, true, false, not, cond, List, [], ◌∷◌, length, take, drop, get_or, refl, sym, ap, ap₂, ◌∙◌, ◌||◌, arith, filter, list_any, false≢true, false_from_ne_true, cases_lt, min-eq_left}
+use Rattle.dns_spec.proofs.Common.{◌≡◌, ℕ, zero, suc, ◌<◌, ◌≤◌, Bool, true, false, not, cond, List, [], ◌∷◌, length, take, drop, get_or, refl, sym, ap, ap₂, ◌∙◌, ◌||◌, arith, filter, list_any, false≢true, false_from_ne_true}
 use Rattle.std.proofs.lemmas.List.{length-take, get_or-take}
 use Rattle.std.specs.List.Sorted.{IsPartitionPoint, IsPartitionedBy, IsNonDecreasingBy}
 use Rattle.dns_spec.proofs.Records.SortedOnce.{Each, each_filter, each_weaker}
+use Rattle.dns_zone.specs.ZoneForm.{IsFront}
 
 -- R holds of each element and each after it
 abbrev pub Pairs : {X : Type 0} → (X → X → Type 0) → List X → Type 0
@@ -86,12 +87,6 @@ halves p (x ∷ xs) (suc i) l h =
       rest.1 ∙ sym (ap (λ t. cond (not t) (x ∷ filter (λ y. not (p y)) xs) (filter (λ y. not (p y)) xs)) here),
     )
 
--- where the element at n does not pass, a search among those before it finds where all end that pass
-pub near_point : {X : Type 0} (p : X → Bool) (xs : List X) (n i : ℕ) → n < length xs → ((d : X) → p (get_or xs n d) ≡ false) → IsPartitionedBy p xs
-    → i ≤ length (take n xs) → IsPartitionPoint (λ y. p y ≡ true) (λ y. p y ≡ false) (take n xs) i → IsPartitionPoint (λ y. p y ≡ true) (λ y. p y ≡ false) xs i
-near_point {X = X} p xs n i l fails parts bound point =
-    grind (arith, get_or-take, cases_lt, length-take, min-eq_left, false_from_ne_true, false≢true)
-
 -- what is first of a list whose passing elements stand in front is such a list too
 pub parted_take : {X : Type 0} (p : X → Bool) (xs : List X) (n : ℕ) → IsPartitionedBy p xs
     → IsPartitionedBy p (take n xs)
@@ -101,3 +96,14 @@ parted_take p xs n parts i j d a b e = grind (arith, length-take, get_or-take)
 abbrev pub first_passes : {X : Type 0} → (X → Bool) → List X → Bool
 first_passes p [] = false
 first_passes p (x ∷ xs) = p x
+
+-- where the first element does not pass, none does
+pub none_in_front : {X : Type 0} (p : X → Bool) (xs : List X) → first_passes p xs ≡ false
+    → IsPartitionedBy p xs → IsFront p xs 0
+none_in_front p [] fails parts = record { bound = omega arith; passing = refl; others = refl }
+none_in_front p (x ∷ xs) fails parts =
+    let none = halves p (x ∷ xs) 0 (omega arith) (
+      λ k d a b. absurd (omega (arith, b)),
+      λ k d a b. let before = parts 0 k d in grind (arith, false_from_ne_true, false≢true),
+    ) in
+    record { bound = omega arith; passing = none.0; others = none.1 }

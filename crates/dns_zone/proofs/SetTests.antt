@@ -1,9 +1,9 @@
--- What walks over records that stand by their types report of the RRsets of an owner.
-use Rattle.dns_spec.proofs.Common.{◌≡◌, ℕ, zero, suc, ◌+◌, ◌<◌, ◌≤◌, Bool, true, false, ◌&&◌, ◌||◌, not, cond, nat_lt, eqb, ◌==◌, List, [], ◌∷◌, map, length, drop, refl, sym, ap, ap₂, ◌∙◌, arith, filter, ltb-false, eqb-true, ne_eqb, eqb-false, eq-eqb, cases_lt, lt-ltb, le-ltb, or_right, or_parts, list_any, ResourceRecord, distinct}
+-- What the neighbours among records that stand by their types tell of the RRsets of an owner.
+use Rattle.dns_spec.proofs.Common.{◌≡◌, ℕ, zero, suc, ◌+◌, ◌<◌, ◌≤◌, Bool, true, false, ◌&&◌, ◌||◌, not, cond, nat_lt, eqb, ◌==◌, List, [], ◌∷◌, map, length, drop, refl, sym, ap, ap₂, ◌∙◌, arith, filter, add-one, drop-drop, drop_all, ltb-false, eqb-true, ne_eqb, eqb-false, eq-eqb, cases_lt, lt-ltb, le-ltb, or_right, or_parts, list_any, ResourceRecord, distinct}
 use Rattle.dns_zone.proofs.Spans.{filter_again}
-use Rattle.std.proofs.Math.ListN.{drop_of_length-le}
+use Rattle.std.specs.List.{zip}
+use Rattle.dns_zone.specs.SetWalks.{begins_with_type, sets_ended}
 use Rattle.dns_spec.proofs.Records.SortedOnce.{Each, each_weaker, each_distinct}
-use Rattle.dns_zone.specs.SetWalks.{begins_with_type, next_differs, neighbours_differ, repeats_after, sets_ended}
 use Rattle.dns_zone.proofs.Pairs.{Pairs, filter_all}
 
 abbrev TypeUpTo : ResourceRecord → ResourceRecord → Type 0
@@ -31,6 +31,14 @@ differ_turned r s = ap₂ (λ a b. a && not b) (eqb_turned r.rtype s.rtype) (eqb
 differ_itself : (r : ResourceRecord) → differ r r ≡ false
 differ_itself r = ap₂ (λ a b. a && not b) (eq-eqb r.rtype r.rtype refl) (eq-eqb r.ttl r.ttl refl)
 
+abbrev next_differs : ResourceRecord → List ResourceRecord → Bool
+next_differs r [] = false
+next_differs r (s ∷ rs) = differ r s
+
+abbrev neighbours_differ : List ResourceRecord → Bool
+neighbours_differ [] = false
+neighbours_differ (r ∷ rs) = next_differs r rs || neighbours_differ rs
+
 -- where neighbours do not differ, none does
 none_differs : (r s : ResourceRecord) (rs : List ResourceRecord) → TypeUpTo r s → Pairs TypeUpTo (s ∷ rs) → neighbours_differ (s ∷ rs) ≡ false → differ r s ≡ false → list_any (differ r) rs ≡ false
 none_differs r s [] l h n d = refl
@@ -43,7 +51,7 @@ none_differs r s (q ∷ rs) l h n d =
 first_differs : (r : ResourceRecord) (rs : List ResourceRecord) → Pairs TypeUpTo (r ∷ rs) → neighbours_differ rs ≡ false → list_any (differ r) rs ≡ next_differs r rs
 first_differs r rs h h1 = grind (arith, none_differs)
 
-pub ttls-walk : (rs : List ResourceRecord) → Pairs TypeUpTo rs → list_any (λ r. list_any (differ r) rs) rs ≡ neighbours_differ rs
+ttls-walk : (rs : List ResourceRecord) → Pairs TypeUpTo rs → list_any (λ r. list_any (differ r) rs) rs ≡ neighbours_differ rs
 ttls-walk [] h = refl
 ttls-walk (r ∷ rs) h =
     ap₂ ◌||◌ (ap (λ b. b || list_any (differ r) rs) (differ_itself r))
@@ -56,9 +64,23 @@ ttls-walk (r ∷ rs) h =
     go true false e f = sym (ap (λ b. b || false) (sym (first_differs r rs h f) ∙ e))
     go false false e f = sym (ap (λ b. b || false) (sym (first_differs r rs h f) ∙ e))
 
+in_pairs : (rs : List ResourceRecord) → list_any (λ p. differ p.0 p.1) (zip rs (drop 1 rs)) ≡ neighbours_differ rs
+in_pairs [] = refl
+in_pairs (r ∷ []) = refl
+in_pairs (r ∷ s ∷ rs) = ap (λ b. differ r s || b) (in_pairs (s ∷ rs))
+
+pub ttls-in_pairs : (rs : List ResourceRecord) → Pairs TypeUpTo rs
+    → list_any (λ p. differ p.0 p.1) (zip rs (drop 1 rs)) ≡ list_any (λ r. list_any (differ r) rs) rs
+ttls-in_pairs rs h = in_pairs rs ∙ sym (ttls-walk rs h)
+
 -- sizes
 abbrev of_number : ℕ → List ResourceRecord → List ResourceRecord
 of_number t rs = filter (λ (s : ResourceRecord). s.rtype == t) rs
+
+-- k records after the next one of some record stands one of its type
+abbrev repeats_after : ℕ → List ResourceRecord → Bool
+repeats_after k [] = false
+repeats_after k (r ∷ rs) = begins_with_type r.rtype (drop k rs) || repeats_after k rs
 
 abbrev is_large : ℕ → List ResourceRecord → ResourceRecord → Bool
 is_large k rs r = nat_lt (suc k) (length (of_number r.rtype rs))
@@ -97,10 +119,38 @@ run_after t (suc k) (s ∷ rs) e h = go (eqb s.rtype t) refl (run_after t k rs e
 first_run : (k : ℕ) (r : ResourceRecord) (rs : List ResourceRecord) → Pairs TypeUpTo (r ∷ rs) → is_large k (r ∷ rs) r ≡ begins_with_type r.rtype (drop k rs)
 first_run k r rs h = grind (arith, eq-eqb, lt_suc, run_after)
 
-pub large-walk : (k : ℕ) (rs : List ResourceRecord) → Pairs TypeUpTo rs → list_any (is_large k rs) rs ≡ repeats_after k rs
+large-walk : (k : ℕ) (rs : List ResourceRecord) → Pairs TypeUpTo rs → list_any (is_large k rs) rs ≡ repeats_after k rs
 large-walk k [] h = refl
 large-walk k (r ∷ rs) h =
     grind (arith, eqb-true, ltb-false, le-ltb, first_run, any_alike, (large-walk k rs h.1))
+
+abbrev same_type : (ResourceRecord × ResourceRecord) → Bool
+same_type p = p.0.rtype == p.1.rtype
+
+no_pairs : (rs : List ResourceRecord) → list_any same_type (zip rs []) ≡ false
+no_pairs [] = refl
+no_pairs (r ∷ rs) = refl
+
+in_runs : (k : ℕ) (rs : List ResourceRecord)
+    → list_any same_type (zip rs (drop (suc k) rs)) ≡ repeats_after k rs
+in_runs k [] = refl
+in_runs k (r ∷ rs) = go (drop k rs) (ap (λ n. drop n rs) (sym (add-one k)) ∙ sym (drop-drop 1 k rs)) (in_runs k rs)
+  where
+    go : (qs : List ResourceRecord) → drop (suc k) rs ≡ drop 1 qs
+        → list_any same_type (zip rs (drop (suc k) rs)) ≡ repeats_after k rs
+        → list_any same_type (zip (r ∷ rs) qs) ≡ (begins_with_type r.rtype qs || repeats_after k rs)
+    go [] d h = sym (sym h ∙ ap (λ xs. list_any same_type (zip rs xs)) d ∙ no_pairs rs)
+    go (q ∷ qs) d h = ap₂ ◌||◌ (eqb_turned r.rtype q.rtype)
+        (ap (λ xs. list_any same_type (zip rs xs)) (sym d) ∙ h)
+
+-- none where there are no more records
+pub few_in_runs : (k : ℕ) (rs : List ResourceRecord) → length rs ≤ k
+    → list_any same_type (zip rs (drop k rs)) ≡ false
+few_in_runs k rs few = ap (λ xs. list_any same_type (zip rs xs)) (drop_all k rs few) ∙ no_pairs rs
+
+pub large-in_runs : (k : ℕ) (rs : List ResourceRecord) → Pairs TypeUpTo rs
+    → list_any same_type (zip rs (drop (suc k) rs)) ≡ list_any (is_large k rs) rs
+large-in_runs k rs h = in_runs k rs ∙ sym (large-walk k rs h)
 
 -- how many types
 pub each_map : {X Y : Type 0} (P : Y → Type 0) (f : X → Y) (xs : List X) → Each (λ x. P (f x)) xs → Each P (map f xs)
@@ -145,10 +195,3 @@ types-walk (r ∷ s ∷ rs) h = go (eqb s.rtype r.rtype) refl (types-walk (s ∷
 pub sets_upto : (rs : List ResourceRecord) → sets_ended rs ≤ length rs
 sets_upto [] = omega arith
 sets_upto (r ∷ rs) = grind (arith, (sets_upto rs))
-
--- no record stands so many after another
-pub few_repeated : (k : ℕ) (rs : List ResourceRecord) → length rs ≤ k + 1 → repeats_after k rs ≡ false
-few_repeated k [] few = refl
-few_repeated k (r ∷ rs) few =
-    rw (drop_of_length-le rs {i = k} (omega (arith, few)))
-    (few_repeated k rs (omega (arith, few)))

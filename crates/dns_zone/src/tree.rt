@@ -14,11 +14,8 @@ pub(crate) mod sought;
 pub(crate) mod steps;
 
 ghost use Rattle.std.specs.Prelude.{◌≡◌, ◌<◌, ◌≤◌, [], length, drop, IfOk, OnOk};
-ghost use Rattle.std.specs.List.Sorted.{IsPartitionedBy};
-ghost use Rattle.dns_spec.specs.Names.{folded, at_or_below};
-ghost use Rattle.dns_spec.specs.Records.{ResourceRecord};
 ghost use Rattle.dns_name.specs.WireForm.{labels_of, IsWireForm};
-ghost use Rattle.dns_zone.specs.ZoneForm.{IsBuilt, IsCanonical, IsFront};
+ghost use Rattle.dns_zone.specs.ZoneForm.{IsBuilt, IsCanonical};
 ghost use Rattle.dns_zone.specs.TreeForm.{row_octets, row_name, row_at, under, IsRow, IsTree};
 ghost use Rattle.dns_zone.specs.TreeSteps.{IsNext, IsKidAt, AddsKids};
 

@@ -2,7 +2,7 @@
 ghost use Rattle.std.specs.Prelude.{◌≡◌, ◌==◌, ◌&&◌, ◌||◌, not, map};
 ghost use Rattle.dns_spec.specs.Records.{owns};
 ghost use Rattle.dns_spec.specs.Tree.{is_cut};
-ghost use Rattle.dns_spec.specs.Checks.{is_origin, count, owns_such, is_address_type, below_cut, checks, no_soa, many_soa, soa_elsewhere, no_ns, outside, cname_and_other, many_cname, ttls_differ, ns_target_alias, ns_target_lost, mx_target_alias, data_at_cut, wildcard_ns, large_set, many_sets};
+ghost use Rattle.dns_spec.specs.Checks.{is_origin, count, owns_such, is_address_type, below_cut, checks, ttls_differ, ns_target_alias, ns_target_lost, mx_target_alias, data_at_cut, large_set, many_sets};
 ghost use Rattle.dns_spec.specs.Data.{type_ns, type_cname};
 ghost use Rattle.dns_zone.specs.OwnerForm.{is_server_alias, is_server_lost, is_exchange_alias};
 ghost use Rattle.dns_zone.specs.NamesForm.{IsChecked};
@@ -66,73 +66,29 @@ impl<'a> Owner<'a> {
         }
     }
 
-    /// Which checks the name fails, by their codes.
+    /// Which checks the name fails, by their codes (RFC 1034 3.6.2, 4.2; RFC 1035 5.2; RFC 2181 5.2,
+    /// 10; RFC 4592 4.2).
     pub(crate) fn judged(&self, last: &mut LastTarget<'_>) -> [bool; 15]
         ensures { result ≡ map (λ c. c.1 self.now.zone self.now.name) checks }
     {
         let (is_alias, is_lost, is_exchange_alias) = self.target_faults(last);
         [
-            self.has_no_soa(),
-            self.has_many_soa(),
-            self.has_soa_elsewhere(),
-            self.has_no_ns(),
-            self.is_outside(),
-            self.has_cname_and_other(),
-            self.has_many_cname(),
+            self.stands_first && !self.owns(RType::SOA),
+            self.stands_first && self.count(RType::SOA) > 1,
+            !self.stands_first && self.owns(RType::SOA),
+            self.stands_first && !self.owns(RType::NS),
+            !self.own.is_empty() && !is_under(self.key, self.survey.key()),
+            self.owns(RType::CNAME) && self.owns_other_than_cname(),
+            self.count(RType::CNAME) > 1,
             self.has_other_ttls(),
             is_alias,
             is_lost,
             is_exchange_alias,
             self.has_data_at_cut(),
-            self.has_wildcard_ns(),
+            self.name.is_wildcard() && self.owns(RType::NS),
             self.has_large_set(),
             self.has_many_sets(),
         ]
-    }
-}
-
-/// The checks (RFC 1034 3.6.2, 4.2; RFC 1035 5.2; RFC 2181 5.2, 10; RFC 4592 4.2).
-impl<'a> Owner<'a> {
-    fn has_no_soa(&self) -> bool
-        ensures { result ≡ no_soa self.now.zone self.now.name }
-    {
-        self.stands_first && !self.owns(RType::SOA)
-    }
-
-    fn has_many_soa(&self) -> bool
-        ensures { result ≡ many_soa self.now.zone self.now.name }
-    {
-        self.stands_first && self.count(RType::SOA) > 1
-    }
-
-    fn has_soa_elsewhere(&self) -> bool
-        ensures { result ≡ soa_elsewhere self.now.zone self.now.name }
-    {
-        !self.stands_first && self.owns(RType::SOA)
-    }
-
-    fn has_no_ns(&self) -> bool
-        ensures { result ≡ no_ns self.now.zone self.now.name }
-    {
-        self.stands_first && !self.owns(RType::NS)
-    }
-
-    fn is_outside(&self) -> bool
-        ensures { result ≡ outside self.now.zone self.now.name }
-    {
-        !self.own.is_empty() && !is_under(self.key, self.survey.key())
-    }
-
-    fn has_cname_and_other(&self) -> bool
-        ensures { result ≡ cname_and_other self.now.zone self.now.name }
-    {
-        self.owns(RType::CNAME) && self.owns_other_than_cname()
-    }
-
-    fn has_many_cname(&self) -> bool
-        ensures { result ≡ many_cname self.now.zone self.now.name }
-    {
-        self.count(RType::CNAME) > 1
     }
 
     fn has_other_ttls(&self) -> bool
@@ -196,12 +152,6 @@ impl<'a> Owner<'a> {
             || self.is_below_cut && self.owns_other_than_address()
     }
 
-    fn has_wildcard_ns(&self) -> bool
-        ensures { result ≡ wildcard_ns self.now.zone self.now.name }
-    {
-        self.name.is_wildcard() && self.owns(RType::NS)
-    }
-
     fn has_large_set(&self) -> bool
         ensures { result ≡ large_set self.now.zone self.now.name }
     {
@@ -213,10 +163,7 @@ impl<'a> Owner<'a> {
     {
         have_many_sets(self.own)
     }
-}
 
-/// What the checks ask.
-impl<'a> Owner<'a> {
     #[tactic(auto, using(crate::proofs::OwnRecords::own_owns))]
     fn owns(&self, rtype: RType) -> bool
         ensures { result ≡ owns self.now.zone self.now.name rtype.0 }

@@ -1,6 +1,7 @@
-//! What walks over the records of one owner report of its RRsets. The records stand by their types.
-ghost use Rattle.std.specs.Prelude.{◌≡◌, drop, nat_lt};
-ghost use Rattle.dns_zone.specs.SetWalks.{begins_with_type, next_differs, neighbours_differ, repeats_after, sets_ended};
+//! What is asked of the RRsets of one owner, whose records stand by their types.
+ghost use Rattle.std.specs.Prelude.{◌≡◌, drop, nat_lt, ◌==◌, ◌&&◌, not};
+ghost use Rattle.std.specs.List.{list_any, zip};
+ghost use Rattle.dns_zone.specs.SetWalks.{begins_with_type, sets_ended};
 
 use crate::store::entry::Entry;
 use dns_rdata::RType;
@@ -11,35 +12,25 @@ const MOST_OF_A_SET: usize = 64;
 // The most RRsets that are served of one owner.
 const MOST_SETS: usize = 32;
 
-/// Whether neighbours of one type have different TTLs (RFC 2181 5.2).
+/// Whether an RRset has other TTLs: then two neighbours of one type have (RFC 2181 5.2).
 pub(crate) fn have_other_ttls(own: &[Entry]) -> bool
-    ensures { result ≡ neighbours_differ own.now }
+    ensures { result ≡ list_any (λ p. p.0.rtype == p.1.rtype && not (p.0.ttl == p.1.ttl))
+        (zip own.now (drop 1 own.now)) }
 {
-    let mut rest = own;
-    'records: while let Some((first, others)) = rest.split_first() {
-        if next_differs(first, others) {
-            return true;
-        }
-        rest = others;
-    }
-    false
+    own.iter().zip(own.iter().skip(1)).any(|(one, next)| one.rtype == next.rtype
+        && one.ttl != next.ttl)
 }
 
-/// Whether an RRset has more than 64 records.
+/// Whether an RRset has more than 64 records: then the 64th after some record is of its type.
 pub(crate) fn have_large_set(own: &[Entry]) -> bool
-    ensures { result ≡ repeats_after 63 own.now }
+    ensures { result ≡ list_any (λ p. p.0.rtype == p.1.rtype) (zip own.now (drop 64 own.now)) }
 {
     if own.len() <= MOST_OF_A_SET {
         return false;
     }
-    let mut rest = own;
-    'records: while let Some((first, others)) = rest.split_first() {
-        if is_repeated(first, others) {
-            return true;
-        }
-        rest = others;
-    }
-    false
+    own.iter()
+        .zip(own.iter().skip(MOST_OF_A_SET))
+        .any(|(one, other)| one.rtype == other.rtype)
 }
 
 /// Whether there are more than 32 RRsets.
@@ -64,30 +55,11 @@ pub(crate) fn have_many_sets(own: &[Entry]) -> bool
     false
 }
 
-// Whether the 64th record after is of the same type.
-fn is_repeated(one: &Entry, others: &[Entry]) -> bool
-    ensures { result ≡ begins_with_type one.now.rtype (drop 63 others.now) }
-{
-    if others.len() < MOST_OF_A_SET {
-        return false;
-    }
-    begins_with_type(&others[MOST_OF_A_SET - 1..], one.rtype)
-}
-
 fn begins_with_type(records: &[Entry], rtype: RType) -> bool
     ensures { result ≡ begins_with_type rtype.0 records.now }
 {
     match records.first() {
         Some(first) => first.rtype == rtype,
-        None => false,
-    }
-}
-
-fn next_differs(one: &Entry, others: &[Entry]) -> bool
-    ensures { result ≡ next_differs one.now others.now }
-{
-    match others.first() {
-        Some(next) => one.rtype == next.rtype && one.ttl != next.ttl,
         None => false,
     }
 }

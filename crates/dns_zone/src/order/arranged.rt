@@ -93,11 +93,12 @@ fn end_of_alike(runs: &[Run], first: usize) -> usize
     ensures after { first < result }
     ensures within { result ≤ length runs.now }
 {
-    let mut end = first + 1;
-    'runs: while end < runs.len() && front_order(&runs[first], &runs[end]).is_eq() {
-        end += 1;
-    }
-    end
+    let others = runs[first + 1..].iter();
+    first
+        + 1
+        + others
+            .take_while(|run| front_order(&runs[first], run).is_eq())
+            .count()
 }
 
 // Sorts runs whose fronts are alike: by the octets after those that all of their keys begin with,
@@ -148,11 +149,8 @@ fn end_of_run(starts: &[u32], at: usize) -> usize
     ensures after { at < result }
     ensures within { result ≤ length starts.now }
 {
-    let mut end = at + 1;
-    'starts: while end < starts.len() && starts[end] == starts[at] {
-        end += 1;
-    }
-    end
+    let others = starts[at + 1..].iter();
+    at + 1 + others.take_while(|start| **start == starts[at]).count()
 }
 
 // The first octets of an owner's key after that of the origin. An owner outside the zone has those

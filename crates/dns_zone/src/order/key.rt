@@ -1,5 +1,5 @@
 //! Keys of names: octets whose plain order is the canonical order of the names.
-ghost use Rattle.std.specs.Prelude.{◌≡◌, ◌↔◌, IsTrue, ◌+◌, ◌<◌, ◌≤◌, ◌++◌, [], length};
+ghost use Rattle.std.specs.Prelude.{◌≡◌, ◌+◌, ◌<◌, ◌≤◌, ◌++◌, [], length};
 ghost use Rattle.dns_spec.specs.Names.{DomainName, folded, at_or_below, below};
 ghost use Rattle.dns_name.specs.WireForm.{labels_of, IsWireForm};
 ghost use Rattle.dns_zone.specs.KeyForm.{raised, ended, name_key, EndsWith};
@@ -9,9 +9,6 @@ use dns_name::{Name, NameRef, are_equal, first_label};
 use std::marker::Model;
 
 const MAX_OCTETS: usize = 255;
-
-// Runs of more octets cost less to compare as slices.
-const LONG_OCTETS: usize = 64;
 
 /// The key of a name in lower case. Keys are compared octet by octet, and stand in the canonical
 /// order (RFC 4034 6.1).
@@ -105,22 +102,10 @@ fn common_end<'a>(name: &'a [u8], other: &'a [u8]) -> &'a [u8]
         common_end(after_first_label(name), other)
     } else if name.len() < other.len() {
         common_end(name, after_first_label(other))
-    } else if are_ends_equal(name, other) {
+    } else if are_equal(name, other) {
         name
     } else {
         common_end(after_first_label(name), after_first_label(other))
-    }
-}
-
-// Whether ends of names are equal. Long ones are compared as slices: a file of deep names takes a
-// thirtieth less.
-fn are_ends_equal(one: &[u8], other: &[u8]) -> bool
-    ensures { IsTrue result ↔ (one.now ≡ other.now) }
-{
-    if one.len() > LONG_OCTETS {
-        one == other
-    } else {
-        are_equal(one, other)
     }
 }
 

@@ -1,5 +1,6 @@
 //! Where the way to the target of a record begins.
-ghost use Rattle.std.specs.Prelude.{◌≡◌, ◌==◌, ◌&&◌, is_some, IfOk};
+ghost use Rattle.std.specs.Prelude.{◌≡◌, ◌==◌, ◌&&◌, IfOk};
+ghost use Rattle.std.specs.Option.{is_some};
 ghost use Rattle.dns_spec.specs.Data.{type_ns, type_cname};
 ghost use Rattle.dns_spec.specs.Records.{rrset};
 ghost use Rattle.dns_spec.specs.Sets.{set_of};

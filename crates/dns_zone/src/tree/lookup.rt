@@ -1,6 +1,5 @@
 //! Records of a name, found by binary search among records in canonical order.
 ghost use Rattle.std.specs.Prelude.{◌≡◌, ◌≤◌, ◌==◌, length, take, drop, not, nat_lt, IfSome};
-ghost use Rattle.std.specs.Bool.{OnTrue};
 ghost use Rattle.std.specs.List.{list_any, filter, prefix_len};
 ghost use Rattle.std.specs.List.Sorted.{IsPartitionedBy, IsNonDecreasingBy};
 ghost use Rattle.dns_spec.specs.Names.{folded, same, at_or_below};
@@ -12,9 +11,8 @@ use crate::store::entry::Entry;
 use dns_name::NameRef;
 use dns_rdata::RType;
 
-// How many records are looked at before all are: most owners have few records, and most names few
-// below them.
-const NEAR: usize = 4;
+// So many records are looked at one by one: most owners have no more.
+const FEW: usize = 4;
 
 /// How many of the records have owners at or below the name, where these stand in front.
 pub(crate) fn count_under(records: &[Entry], name: &NameRef<'_>) -> usize
@@ -23,28 +21,14 @@ pub(crate) fn count_under(records: &[Entry], name: &NameRef<'_>) -> usize
     requires lower { folded name.now ≡ name.now }
     ensures { IsFront (λ (r : ResourceRecord). at_or_below r.owner name.now) records.now result }
 {
-    if let Some(count) = count_before(records, name, 0) {
-        return count;
-    }
-    if let Some(count) = count_before(records, name, NEAR) {
-        return count;
+    // Most names have none below them.
+    let Some(first) = records.first() else {
+        return 0;
+    };
+    if !is_under(first, name) {
+        return 0;
     }
     records.partition_point(|entry| is_under(entry, name))
-}
-
-// The same where the record at `place` is none of them, or nothing.
-fn count_before(records: &[Entry], name: &NameRef<'_>, place: usize) -> Option<usize>
-    requires in_front { IsPartitionedBy
-        (λ (r : ResourceRecord). at_or_below r.owner name.now) records.now }
-    requires lower { folded name.now ≡ name.now }
-    ensures { IfSome result
-        (λ k. IsFront (λ (r : ResourceRecord). at_or_below r.owner name.now) records.now k) }
-{
-    let next = records.get(place)?;
-    if is_under(next, name) {
-        return None;
-    }
-    Some(records[..place].partition_point(|entry| is_under(entry, name)))
 }
 
 /// How many records stand in front whose owner is the name. They are passed one by one.
@@ -65,7 +49,7 @@ pub(crate) fn has_type(records: &[Entry], rtype: RType) -> bool
     requires { IsNonDecreasingBy (λ (r : ResourceRecord). r.rtype) records.now }
     ensures { result ≡ list_any (λ (r : ResourceRecord). r.rtype == rtype.0) records.now }
 {
-    if records.len() <= NEAR {
+    if records.len() <= FEW {
         return records.iter().any(|entry| entry.rtype == rtype);
     }
     match records[count_below(records, rtype)..].first() {

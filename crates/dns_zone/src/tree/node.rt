@@ -1,8 +1,8 @@
 //! The nodes of a zone: the names that exist in it (RFC 1034 3.1, RFC 4592 2.2).
-ghost use Rattle.std.specs.Prelude.{◌≡◌, ◌+◌, ◌<◌, ◌≤◌, ◌↔◌, [], ◌∷◌, map, length, get_or, is_some, if◌then◌else◌, IsTrue, IsSome, IsNone, IfSome, MatchOption, true};
+ghost use Rattle.std.specs.Prelude.{◌≡◌, ◌+◌, ◌<◌, ◌≤◌, ◌↔◌, [], ◌∷◌, map, length, get_or, if◌then◌else◌, IsTrue, IsSome, IfSome, MatchOption};
+ghost use Rattle.std.specs.Option.{is_some};
 ghost use Rattle.std.specs.Char.{to_ascii_lowercase};
 ghost use Rattle.std.specs.List.Sorted.{IsNonDecreasingBy};
-ghost use Rattle.dns_spec.specs.Names.{folded, wire};
 ghost use Rattle.dns_spec.specs.Records.{ResourceRecord, at, rrset};
 ghost use Rattle.dns_spec.specs.Sets.{set_of, of_lowest_type};
 ghost use Rattle.dns_spec.specs.Tree.{exists};

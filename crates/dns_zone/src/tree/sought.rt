@@ -1,5 +1,5 @@
 //! Names that are sought, each from a name above it.
-ghost use Rattle.std.specs.Prelude.{◌≡◌, ◌≤◌, length, false, true, MatchOption};
+ghost use Rattle.std.specs.Prelude.{◌≡◌, false, MatchOption};
 ghost use Rattle.dns_spec.specs.Names.{at_or_below};
 ghost use Rattle.dns_zone.specs.Starts.{IsBelow};
 

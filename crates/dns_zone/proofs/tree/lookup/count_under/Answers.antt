@@ -1,6 +1,12 @@
 use Rattle.dns_spec.proofs.Common.{rules, IsPartitionPoint-from_clause, at_or_below, ResourceRecord}
-use Rattle.dns_zone.proofs.Pairs.{halves}
+use Rattle.dns_zone.proofs.Pairs.{halves, none_in_front}
 use Rattle.dns_zone.proofs.tree.lookup.count_under.Goals as goal
+
+pub returns-in_default : goal.returns-in_default
+returns-in_default c = none_in_front _ _ (search rules) c.requires.in_front
+
+pub returns-then-not-is_under : goal.returns-then-not-is_under
+returns-then-not-is_under c = none_in_front _ _ (search rules) c.requires.in_front
 
 pub returns : goal.returns
 returns c =

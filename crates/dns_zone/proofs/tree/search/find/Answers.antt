@@ -1,4 +1,4 @@
-use Rattle.dns_spec.proofs.Common.{◌≡◌, ◌+◌, ◌-◌, ℕ, map, ap, sym, ◌∙◌, subst, refl, arith, to_ascii_lowercase}
+use Rattle.dns_spec.proofs.Common.{◌≡◌, ◌+◌, ℕ, map, ap, sym, ◌∙◌, subst, refl, arith, to_ascii_lowercase}
 use Rattle.dns_zone.specs.Nodes.{Walk}
 use Rattle.dns_zone.proofs.NameTree.{label-tie}
 use Rattle.dns_zone.proofs.FoundKid.{Searching, start, half, one_more, go_left, go_right, none_left}
