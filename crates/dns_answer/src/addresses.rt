@@ -1,7 +1,7 @@
 //! Addresses of the targets of a set (RFC 1034 4.3.2 step 6).
-ghost use Rattle.std.specs.Prelude.{◌≡◌, ℕ, ◌+◌, ◌*◌, ◌≤◌, ◌<◌, ◌⊎◌, [], ◌∷◌, ◌++◌, length, take, get_or, map, true, false, not, IsTrue, IfSome};
+ghost use Rattle.std.specs.Prelude.{◌≡◌, ◌*◌, ◌≤◌, ◌<◌, ◌⊎◌, [], length, true, false, not, IfSome};
 ghost use Rattle.std.specs.List.{list_any, list_all, filter};
-ghost use Rattle.dns_spec.specs.Names.{same, at_or_below, folded};
+ghost use Rattle.dns_spec.specs.Names.{same, folded};
 ghost use Rattle.dns_spec.specs.Answer.{item};
 ghost use Rattle.dns_spec.specs.Records.{rrset};
 ghost use Rattle.dns_spec.specs.Layout.{additional};

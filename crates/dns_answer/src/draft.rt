@@ -1,6 +1,5 @@
 //! A reply while sets are offered to it: after one for which there is no room none is tried.
-ghost use Rattle.std.specs.Prelude.{◌≡◌, ℕ, ◌*◌, ◌≤◌, List, [], ◌∷◌, false};
-ghost use Rattle.std.specs.Prelude.{Option, length, min, take};
+ghost use Rattle.std.specs.Prelude.{◌≡◌, ◌*◌, ◌≤◌, List, [], ◌∷◌, false, Option, length, min, take};
 ghost use Rattle.std.specs.Option.{option_copied};
 ghost use Rattle.dns_spec.specs.Reading.{MessageQuestion};
 ghost use Rattle.dns_spec.specs.Layout.{Item, layout};

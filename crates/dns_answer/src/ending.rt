@@ -1,9 +1,9 @@
 //! How the answer for the last name sought ends (RFC 1034 4.3.2 step 3, RFC 2308).
-ghost use Rattle.std.specs.Prelude.{◌≡◌, ◌+◌, ◌*◌, ◌≤◌, ◌||◌, ◌==◌, length};
+ghost use Rattle.std.specs.Prelude.{◌≡◌, ◌*◌, ◌||◌, ◌==◌};
 ghost use Rattle.dns_spec.specs.Names.{DomainName};
 ghost use Rattle.dns_spec.specs.Data.{type_ns, type_mx, type_srv};
-ghost use Rattle.dns_zone.specs.Nodes.{IsSetOf};
 ghost use Rattle.dns_spec.specs.Answer.{referral_to, negative};
+ghost use Rattle.dns_zone.specs.Nodes.{IsSetOf};
 ghost use Rattle.dns_wire.specs.QueryForm.{code_of};
 ghost use Rattle.dns_answer.specs.Walks.{IsApex, IsBelowCut, HasRoom};
 ghost use Rattle.dns_answer.specs.Ending.{Ends, TookTargets, IsPlain, EndsWith, TookWith};

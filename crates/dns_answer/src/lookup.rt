@@ -1,5 +1,6 @@
 //! What a zone has for a name (RFC 1034 4.3.2 step 3).
-ghost use Rattle.std.specs.Prelude.{◌≡◌, ◌+◌, ◌<◌, ◌∷◌, ◌&&◌, Bool, IfSome, MatchOption, true, false, is_some};
+ghost use Rattle.std.specs.Prelude.{◌≡◌, ◌<◌, ◌∷◌, ◌&&◌, Bool, IfSome, MatchOption, true, false};
+ghost use Rattle.std.specs.Option.{is_some};
 ghost use Rattle.dns_spec.specs.Data.{type_ns};
 ghost use Rattle.dns_spec.specs.Records.{ZoneContents, rrset};
 ghost use Rattle.dns_spec.specs.Sets.{set_of};

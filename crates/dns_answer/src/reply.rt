@@ -1,12 +1,10 @@
 //! The reply to a datagram (RFC 1034 4.3.2).
-ghost use Rattle.std.specs.Prelude.{◌≡◌, ◌↔◌, ℕ, ◌+◌, ◌*◌, ◌≤◌, [], length, take, true, false, IsTrue, IsNone, IfSome};
-ghost use Rattle.std.specs.Option.{option_map, option_copied};
-ghost use Rattle.dns_spec.specs.Names.{at_or_below, is_name};
+ghost use Rattle.std.specs.Prelude.{◌≡◌, ◌↔◌, ◌*◌, ◌≤◌, length, take, false, IsTrue, IsNone, IfSome};
+ghost use Rattle.std.specs.Option.{option_map};
 ghost use Rattle.dns_spec.specs.Records.{ZoneContents};
 ghost use Rattle.dns_spec.specs.Reading.{Spells};
 ghost use Rattle.dns_spec.specs.Query.{is_ignored};
-ghost use Rattle.dns_spec.specs.Layout.{layout};
-ghost use Rattle.dns_spec.specs.Reply.{answered, decide, is_meta_type, refusal, reply, reply_message, octets_of};
+ghost use Rattle.dns_spec.specs.Reply.{answered, decide, is_meta_type, reply, reply_message, octets_of};
 ghost use Rattle.dns_answer.specs.DraftForm.{blank};
 ghost use Rattle.dns_answer.specs.Limits.{limit_of};
 ghost use Rattle.dns_zone.specs.Starts.{IsBelow};

@@ -3,8 +3,7 @@ ghost use Rattle.std.specs.Prelude.{◌≡◌, ◌≤◌, ◌↔◌, [], ◌∷�
 ghost use Rattle.std.specs.Bool.{OnTrue};
 ghost use Rattle.std.specs.Char.{to_ascii_lowercase};
 ghost use Rattle.std.specs.Cmp.{nat_eq_equiv, partial_equiv_from_equiv};
-ghost use Rattle.std.specs.Cmp.Lexicographic.{lists_per, lists_equiv};
-ghost use Rattle.std.specs.Cmp.Lexicographic.{slice_cmp};
+ghost use Rattle.std.specs.Cmp.Lexicographic.{lists_per, lists_equiv, slice_cmp};
 ghost use Rattle.std.specs.Ordering.{ordering_then};
 ghost use Rattle.std.specs.Iterator.{YieldsFirst, item_count};
 ghost use Rattle.dns_spec.specs.Names.{is_name, wire, folded, same, at_or_below, below, names_equal, label_order, name_order};

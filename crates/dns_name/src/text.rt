@@ -1,9 +1,9 @@
 //! Names in the text of zone files (RFC 1035 5.1).
-ghost use Rattle.std.specs.Prelude.{◌≡◌, ◌≢◌, true, ℕ, if◌then◌else◌, IsNone, ◌↔◌, [], ◌∷◌, ◌++◌, ◌≤◌, length, IsTrue, IfOk, OnOk, OnErr, Ok, IfSome, ◌<◌};
-ghost use Rattle.dns_spec.specs.Names.{Octets, DomainName, is_label, is_name};
-ghost use Rattle.dns_spec.specs.NameText.{LabelThen, TextSpells, SpellsName};
-ghost use Rattle.dns_name.specs.NameFault.{fault_code};
+ghost use Rattle.std.specs.Prelude.{◌≡◌, ◌≢◌, true, if◌then◌else◌, IsNone, ◌↔◌, [], ◌∷◌, ◌≤◌, length, IsTrue, IfOk, OnOk, OnErr, Ok, IfSome, ◌<◌};
+ghost use Rattle.dns_spec.specs.Names.{Octets, DomainName, is_label};
+ghost use Rattle.dns_spec.specs.NameText.{LabelThen, SpellsName};
 ghost use Rattle.std.specs.List.{list_any, position_or_len};
+ghost use Rattle.dns_name.specs.NameFault.{fault_code};
 ghost use Rattle.dns_name.specs.TextForm.{is_mark, ReadsLabel, PushesLabel, HasNoLabel, SpellsIff, spelled_as, Gives, digit_at, decimal_at, escaped_at, octet_at, is_label_end, Appended};
 
 use crate::label::Label;

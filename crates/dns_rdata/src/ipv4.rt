@@ -1,5 +1,6 @@
 //! IPv4 addresses in the text of zone files.
-ghost use Rattle.std.specs.Prelude.{◌≡◌, ◌↔◌, ℕ, IsNone, IfSome, Some, ◌≤◌, decimal, ◌==◌, ◌+◌, ◌++◌, length, position};
+ghost use Rattle.std.specs.Prelude.{◌≡◌, ◌↔◌, ℕ, IsNone, IfSome, Some, ◌≤◌, decimal, ◌==◌, ◌+◌, ◌++◌, length};
+ghost use Rattle.std.specs.List.{position};
 ghost use Rattle.dns_spec.specs.Names.{Octets};
 ghost use Rattle.dns_spec.specs.AddressText.{SaysIpv4, ipv4_text};
 ghost use Rattle.dns_rdata.specs.AddressForm.{OctetThen, number_at};

@@ -79,14 +79,7 @@ fn longest_zero_run(groups: &[u16]) -> (usize, usize)
 fn zero_run(groups: &[u16]) -> usize
     ensures { result ≡ prefix_len (λ n. n == 0) groups.now }
 {
-    let mut run = 0;
-    'groups: for group in groups {
-        if *group != 0 {
-            return run;
-        }
-        run += 1;
-    }
-    run
+    groups.iter().take_while(|group| **group == 0).count()
 }
 
 // Adds groups with colons between.

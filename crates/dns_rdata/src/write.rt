@@ -1,11 +1,10 @@
 //! Data as it is written in zone files (RFC 1035 5.1, RFC 3597 5).
 ghost use Rattle.std.specs.Prelude.{◌≡◌, ◌+◌, ◌≤◌, ◌<◌, ◌-◌, ◌*◌, ◌^◌, ◌++◌, [], ◌∷◌, length, replicate, IfOk, IsTrue, decimal};
 ghost use Rattle.std.specs.Option.{is_some};
-ghost use Rattle.std.specs.List.{flat_map};
 ghost use Rattle.dns_spec.specs.Names.{name_of};
 ghost use Rattle.dns_spec.specs.Data.{Valid, fixed, width, number_of, piece_front, string_front, are_strings};
 ghost use Rattle.dns_spec.specs.DataText.{number_word, ipv4_word, ipv6_word, name_word, string_word};
-ghost use Rattle.dns_spec.specs.WrittenText.{hex_text, hex_words, unknown_words, word_front, form_words, string_count, data_text};
+ghost use Rattle.dns_spec.specs.WrittenText.{hex_text, unknown_words, word_front, form_words, string_count, data_text};
 ghost use Rattle.dns_name.specs.Counted.{Writes, Fills};
 ghost use Rattle.dns_rdata.specs.TypeRows.{size_of, fixed_of, piece_of, pieces_in};
 ghost use Rattle.dns_rdata.specs.Parts.{AreCut};

@@ -1,8 +1,8 @@
 //! Laws of the checks of a zone.
 
-ghost use Rattle.std.specs.Prelude.{◌≡◌, ℕ, ◌↔◌, ◌||◌, IsTrue, List, IsPermutation};
+ghost use Rattle.std.specs.Prelude.{◌≡◌, ℕ, ◌↔◌, ◌||◌, IsTrue, List};
+ghost use Rattle.std.specs.List.Sorted.{IsPermutation, IsStrictlySortedBy};
 ghost use Rattle.std.specs.List.{Contains};
-ghost use Rattle.std.specs.List.Sorted.{IsStrictlySortedBy};
 ghost use Rattle.dns_spec.specs.Names.{DomainName, folded};
 ghost use Rattle.dns_spec.specs.Records.{ResourceRecord, ZoneContents};
 ghost use Rattle.dns_spec.specs.Checks.{is_origin, is_owner, fails, faults, fault_order};

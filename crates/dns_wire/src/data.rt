@@ -1,8 +1,8 @@
 //! Data of records, in which names may go on elsewhere by a pointer (RFC 1035 3.3 and 4.1.4).
 ghost use Rattle.std.specs.Prelude.{◌≡◌, ◌+◌, ◌≤◌, length, IfOk, IfErr};
+ghost use Rattle.dns_spec.specs.Reading.{DataAt};
 ghost use Rattle.dns_rdata.specs.TypeRows.{piece_of, pieces_in};
 ghost use Rattle.dns_rdata.specs.Parts.{part_lends};
-ghost use Rattle.dns_spec.specs.Reading.{DataAt};
 ghost use Rattle.dns_wire.specs.Pieces.{IsPieceRead, NoPieceAt, NoDataAt, data_pieces};
 ghost use Rattle.dns_wire.specs.Read.{IsWireData};
 ghost use Rattle.dns_wire.specs.WireFault.{UnlessNoMemory};

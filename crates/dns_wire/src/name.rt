@@ -1,5 +1,5 @@
 //! Names in a message, which may go on elsewhere by a pointer (RFC 1035 4.1.4).
-ghost use Rattle.std.specs.Prelude.{◌≡◌, ◌≤◌, ◌<◌, length, get_or, IfOk, IsErr, IfSome, IsNone};
+ghost use Rattle.std.specs.Prelude.{◌≤◌, ◌<◌, length, get_or, IfOk, IsErr, IfSome, IsNone};
 ghost use Rattle.dns_spec.specs.Reading.{NameAt};
 ghost use Rattle.dns_wire.specs.Labels.{StepAt, PointerAt, NoRunAt, NoNameAt};
 

@@ -1,5 +1,5 @@
 //! Numbers in a message, the most significant octet first (RFC 1035 2.3.2).
-ghost use Rattle.std.specs.Prelude.{◌≡◌, ◌+◌, ◌<◌, ◌≤◌, length, IfOk, IsErr};
+ghost use Rattle.std.specs.Prelude.{◌+◌, ◌<◌, ◌≤◌, length, IfOk, IsErr};
 ghost use Rattle.dns_spec.specs.Reading.{NumberAt};
 
 use crate::fault::WireFault;

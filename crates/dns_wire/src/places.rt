@@ -1,8 +1,8 @@
 //! The places of the suffixes of names after the question, found by a hash of the suffix (RFC 1035
 //! 4.1.4).
-ghost use Rattle.std.specs.Prelude.{◌≡◌, ◌↔◌, ◌-◌, ◌<◌, ◌≤◌, [], ◌∷◌, ◌++◌, length, take, replicate, get_or, IsTrue, IfSome, IsNone};
+ghost use Rattle.std.specs.Prelude.{◌≡◌, ◌-◌, ◌<◌, ◌≤◌, [], ◌∷◌, ◌++◌, length, take, IsTrue, IfSome, IsNone};
 ghost use Rattle.dns_wire.specs.Chains.{chain_of};
-ghost use Rattle.dns_wire.specs.Kept.{IsKept, HasPlace, SpelledAt, SpellsName, NoneSpelled};
+ghost use Rattle.dns_wire.specs.Kept.{IsKept, SpelledAt, SpellsName, NoneSpelled};
 
 use crate::spelled::is_spelled;
 use arrayvec::ArrayVec;

@@ -1,5 +1,5 @@
 //! Messages read from octets (RFC 1035 4.1).
-ghost use Rattle.std.specs.Prelude.{◌≡◌, ◌≤◌, ◌<◌, length, IfOk, IfErr, IsErr};
+ghost use Rattle.std.specs.Prelude.{◌≤◌, ◌<◌, length, IfOk, IfErr};
 ghost use Rattle.dns_spec.specs.Reading.{Spells};
 ghost use Rattle.dns_wire.specs.Read.{WholeRecordAt, HeaderAt, AreQuestions, AreRecords, NoRecord, NoQuestions, NoRecords, NoMessage};
 ghost use Rattle.dns_wire.specs.WireFault.{UnlessNoMemory};

@@ -1,4 +1,3 @@
-ghost use Rattle.std.specs.Prelude.{◌≡◌};
 
 use crate::tests::plain::plain_message;
 use dns_wire::{Message, WireFault, read_message};
