@@ -1,4 +1,3 @@
-
 use crate::tests::plain::plain_message;
 use dns_wire::{Message, WireFault, read_message};
 use std::alloc::{AllocError, Global};
