@@ -231,6 +231,16 @@ module _ (z : ZoneContents) where
         → at_or_below_cut z m ≡ false
     none_cut b e t = at_cut z m low 0 (subst (λ c. IsTopmost z m (cond c (length (name_key m)) 0)) e t)
 
+    -- the name itself is the last of those
+    pub found_itself : (c : CheckedName) → IsChecked z (name c) c → c.key.now ≡ name_key m
+        → IsLastUpto z m c
+    found_itself c h e =
+        let is = one_key (name c) m h.owner.lower low (sym h.key ∙ e) in record {
+          checked = h;
+          upto = equal_upto (name c) m is;
+          last = λ n a g. subst (λ k. is_gt (name_order n k) ≡ false) (sym is) g;
+        }
+
     module _ (c : CheckedName) (h : IsLastUpto z m c) where
       abbrev last : DomainName
       last = name_of z c

@@ -111,7 +111,15 @@ impl<'a> Survey<'a> {
         ensures last { IsLastUpto self.now target.old result.now }
     {
         let names = self.names;
-        let place = count_upto(names, target.probable_place(names), target.key()) - 1;
+        let probable = target.probable_place(names);
+        if let Some(place) = probable
+            && place < names.len()
+            && names[place].key == target.key()
+        {
+            target.keep_place(place);
+            return &names[place];
+        }
+        let place = count_upto(names, probable, target.key()) - 1;
         target.keep_place(place);
         &names[place]
     }
