@@ -90,21 +90,13 @@ fn add_failed(
     let mut code = 1;
     'checks: while let Some((fails, others)) = rest.split_first() {
         if *fails {
-            add(name, code, found)?;
+            found.push(CheckFault {
+                owner: name.to_name(),
+                code,
+            })?;
         }
         rest = others;
         code += 1;
     }
-    Ok(())
-}
-
-fn add(name: &NameRef<'_>, code: u8, found: &mut Vec<CheckFault>) -> Result<(), AllocError>
-    ensures { OnOk result (found.new.items ≡ found.old.items
-        ++ record { owner = name.now; code = code } ∷ []) }
-{
-    found.push(CheckFault {
-        owner: name.to_name(),
-        code,
-    })?;
     Ok(())
 }

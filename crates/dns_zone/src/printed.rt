@@ -63,28 +63,16 @@ impl CheckedZone {
     }
 }
 
+// The SOA first, then the others in order.
 fn write_records<W: Write>(records: &[Entry], sink: &mut Tally<W>) -> Result<(), SinkFailed>
     requires { sink.old.failures < 2 ^ 64 - 1 }
     ensures { Writes W.contents sink.old sink.new result
         (flat_map record_line (soa_first records.now)) }
 {
     let mut text = TextBuffer::new();
-    put_records(records, &mut text, sink)?;
+    put_chosen(true, records, &mut text, sink)?;
+    put_chosen(false, records, &mut text, sink)?;
     text.finish(sink)
-}
-
-// The SOA first, then the others in order.
-fn put_records<W: Write>(
-    records: &[Entry],
-    text: &mut TextBuffer,
-    sink: &mut Tally<W>,
-) -> Result<(), SinkFailed>
-    requires { sink.old.failures < 2 ^ 64 - 1 }
-    ensures { Fills W.contents sink.old sink.new result
-        (text.old ++ flat_map record_line (soa_first records.now)) text.new }
-{
-    put_chosen(true, records, text, sink)?;
-    put_chosen(false, records, text, sink)
 }
 
 // Those of the records that are an SOA, or those that are none, in order.

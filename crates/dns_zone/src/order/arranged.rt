@@ -215,7 +215,10 @@ fn places(
             places.push(at)?;
         }
         rest = others;
-        if goes_on(keys, records, starts, run, others) {
+        if others
+            .first()
+            .is_some_and(|next| run_order(keys, records, starts, run, next).is_eq())
+        {
             continue;
         }
         if places.len() > first + 1 {
@@ -224,13 +227,6 @@ fn places(
         first = places.len();
     }
     Ok(places)
-}
-
-fn goes_on(keys: &[u8], records: &[Entry], starts: &[u32], run: &Run, others: &[Run]) -> bool {
-    match others.first() {
-        Some(next) => run_order(keys, records, starts, run, next).is_eq(),
-        None => false,
-    }
 }
 
 fn sort_own(records: &[Entry], places: &mut [u32], first: usize)

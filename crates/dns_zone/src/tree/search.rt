@@ -8,11 +8,11 @@ ghost use Rattle.dns_zone.specs.LabelKey.{IsKey};
 ghost use Rattle.dns_zone.specs.TreeForm.{row_label, row_name, row_at, IsRow};
 
 use crate::store::entry::Entry;
-use crate::tree::label_key::{KEY_OCTETS, label_key, order_to};
+use crate::tree::label_key::{KEY_OCTETS, first_octets, label_key, order_to};
 use crate::tree::octets_of;
 use crate::tree::row::Row;
 use crate::tree::steps::Steps;
-use dns_name::first_label;
+use dns_name::NameRef;
 use std::cmp::Ordering;
 
 /// Which of the children has the label, in lower case, if one has it. Each comparison is counted:
@@ -71,17 +71,6 @@ fn order(records: &[Entry], row: &Row, key: u64, label: &[u8], steps: &mut Steps
     if count <= KEY_OCTETS || label.len() <= KEY_OCTETS {
         return count.cmp(&label.len());
     }
-    let own = label_of(records, row);
+    let own = first_octets(&NameRef::new(octets_of(records, row)));
     order_to(own.split_at(KEY_OCTETS).1, label.split_at(KEY_OCTETS).1)
-}
-
-// The first label of a row's name. The root has none.
-fn label_of<'a>(records: &'a [Entry], row: &Row) -> &'a [u8]
-    requires { IsRow records.now row.now (row_name records.now row.now) }
-    ensures { result.now ≡ row_label records.now row.now }
-{
-    match first_label(octets_of(records, row)) {
-        Some((label, _)) => label.octets(),
-        None => &[],
-    }
 }

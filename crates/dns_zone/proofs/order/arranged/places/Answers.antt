@@ -26,8 +26,8 @@ places-preserved c =
       );
     }
 
-pub runs-preserved-then-goes_on : goal.runs-preserved-then-goes_on
-runs-preserved-then-goes_on c =
+pub runs-preserved-then-is_some_and : goal.runs-preserved-then-is_some_and
+runs-preserved-then-is_some_and c =
     let within = λ (r : Run). r.end ≤ length c.args.records.now in
     let rest : c.runs.rest.now ≡ c.in-Some.run'.now ∷ c.in-Some.others.now = search rules in
     record {

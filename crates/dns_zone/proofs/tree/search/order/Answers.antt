@@ -1,7 +1,7 @@
 use Rattle.dns_spec.proofs.Common.{List, ℕ, ◌≡◌, refl, ◌≤◌, ◌⊎◌, inl, inr, map, length, drop, subst, sym, ap, ap₂, ◌∙◌, nat_cmp, arith, to_ascii_lowercase, label_order, ResourceRecord}
 use Rattle.std.proofs.lemmas.List.{length-map, drop-map}
 use Rattle.dns_zone.specs.LabelKey.{IsKey}
-use Rattle.dns_zone.specs.TreeForm.{row_label, row_name, IsRow}
+use Rattle.dns_zone.specs.TreeForm.{row_label, row_name, IsRow, first_of as first_label}
 use Rattle.dns_zone.specs.declared.tree.row.Row.{Row}
 use Rattle.dns_zone.proofs.LabelKeys.{first_lower, key_order, by_length, after_key}
 use Rattle.dns_zone.proofs.tree.search.order.Goals as goal
@@ -49,7 +49,7 @@ returns-clause-order c =
     let long = c.if-count-le-KEY_OCTETS.false in
     let asked = c.if-label-le-KEY_OCTETS.false in
     c.order_to.ensures
-    ∙ ap₂ label_order (c.split_at.ensures.back ∙ ap (drop 8) c.label_of-own.ensures)
+    ∙ ap₂ label_order (c.split_at.ensures.back ∙ ap (drop 8) (c.first_octets-own.ensures.value ∙ ap first_label (c.new.ensures.value ∙ c.octets_of.ensures.name)))
     (ap (map to_ascii_lowercase) c.split_at-2.ensures.back
     ∙ sym (drop-map to_ascii_lowercase 8 c.args.label.now))
     ∙ after_key own_key c.requires.key (omega arith) (omega arith)
