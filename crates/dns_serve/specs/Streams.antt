@@ -9,6 +9,7 @@ use Rattle.dns_spec.specs.Records.{ZoneContents}
 use Rattle.dns_spec.specs.Query.{most_over_tcp}
 use Rattle.dns_spec.specs.Reply.{octets_of}
 use Rattle.dns_spec.specs.Stream.{frame, frames, IsCutFrame, reply_frame, replies}
+use Rattle.dns_name.specs.Counted.{Counted}
 use Rattle.dns_serve.specs.declared.fault.StreamFault.{StreamFault}
 use Rattle.dns_serve.specs.declared.fault.StreamFault.TheVariants.{SourceFailed, SinkFailed, Cut}
 
@@ -23,6 +24,16 @@ pub record Session : Type 0 where
   pub left : Option Octets
   pub held : Option Octets
   pub holds : Option Octets
+
+-- the session of a source and a sink, by what they tell before and after
+abbrev pub session : {R W : Type 0} → (R → Option Octets) → (W → Option Octets)
+    → Counted R → Counted R → Counted W → Counted W → Session
+session remaining contents source source_then sink sink_then = record {
+  unread = remaining source.device;
+  left = remaining source_then.device;
+  held = contents sink.device;
+  holds = contents sink_then.device;
+}
 
 -- The messages are those of the frames that the source began with, at most so many.
 abbrev pub AreFrames : Option Octets → ℕ → List Octets → Type 0

@@ -54,6 +54,16 @@ pub record Turn : Type 0 where
   pub sent : Option (List Octets)
   pub has_sent : Option (List Octets)
 
+-- the turn of a device, by what it tells before and after
+abbrev pub turn : {D : Type 0} → (D → Option (List Octets)) → (D → Option (List Octets)) → D → D
+    → Turn
+turn received sent device device_then = record {
+  had = received device;
+  has = received device_then;
+  sent = sent device;
+  has_sent = sent device_then;
+}
+
 -- one datagram was received, and its reply was sent, or nothing where it gets none
 pub record IsTurn (z : ZoneContents) (t : Turn) (replied : Bool) : Type 0 where
   pub datagram : Octets

@@ -5,7 +5,7 @@ ghost use Rattle.dns_spec.specs.Layout.{octets16};
 ghost use Rattle.dns_spec.specs.Stream.{reply_frame};
 ghost use Rattle.dns_name.specs.Counted.{Writes};
 ghost use Rattle.dns_serve.specs.Reads.{MessageRead};
-ghost use Rattle.dns_serve.specs.Streams.{SessionOf, reply_over_tcp, source_failures_after, sink_failures_after};
+ghost use Rattle.dns_serve.specs.Streams.{SessionOf, session, reply_over_tcp, source_failures_after, sink_failures_after};
 
 use crate::fault::StreamFault;
 use crate::read::read_full;
@@ -44,13 +44,7 @@ pub fn serve_stream<R: Read, W: Write>(
     requires source { source.old.failures < 2 ^ 64 - 1 }
     requires sink { sink.old.failures < 2 ^ 64 - 1 }
     ensures session { SessionOf (reply_over_tcp zone.now) most
-        (record {
-          unread = R.remaining source.old.device;
-          left = R.remaining source.new.device;
-          held = W.contents sink.old.device;
-          holds = W.contents sink.new.device;
-        })
-        result }
+        (session R.remaining W.contents source.old source.new sink.old sink.new) result }
     ensures source { source.new.failures ≡ source_failures_after source.old.failures result }
     ensures sink { sink.new.failures ≡ sink_failures_after sink.old.failures result }
 {
@@ -97,13 +91,7 @@ pub fn serve_stream_in<R: Read, W: Write>(
     requires source { source.old.failures < 2 ^ 64 - 1 }
     requires sink { sink.old.failures < 2 ^ 64 - 1 }
     ensures session { SessionOf (reply_over_tcp zone.now) most
-        (record {
-          unread = R.remaining source.old.device;
-          left = R.remaining source.new.device;
-          held = W.contents sink.old.device;
-          holds = W.contents sink.new.device;
-        })
-        result }
+        (session R.remaining W.contents source.old source.new sink.old sink.new) result }
     ensures source { source.new.failures ≡ source_failures_after source.old.failures result }
     ensures sink { sink.new.failures ≡ sink_failures_after sink.old.failures result }
 {

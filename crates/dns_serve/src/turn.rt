@@ -1,7 +1,7 @@
 //! One turn of a server over UDP: a datagram, and its reply (RFC 1035 4.2.1).
 ghost use Rattle.std.specs.Prelude.{◌≡◌, ◌-◌, ◌^◌, ◌<◌};
 ghost use Rattle.dns_name.specs.Counted.{failures_after};
-ghost use Rattle.dns_serve.specs.Turns.{TurnOf};
+ghost use Rattle.dns_serve.specs.Turns.{TurnOf, turn};
 
 use crate::datagrams::Datagrams;
 use crate::fault::TurnFault;
@@ -20,14 +20,7 @@ const MOST_OCTETS: usize = 512;
 /// The room of the turn is filled first. Who takes many turns keeps it, and calls `udp_turn_in`.
 pub fn udp_turn<D: Datagrams>(zone: &Zone, device: &mut D) -> Result<bool, TurnFault>
     requires { D.count device.old < 2 ^ 64 - 1 }
-    ensures turn { TurnOf zone.now
-        (record {
-          had = D.received device.old;
-          has = D.received device.new;
-          sent = D.sent device.old;
-          has_sent = D.sent device.new;
-        })
-        result }
+    ensures turn { TurnOf zone.now (turn D.received D.sent device.old device.new) result }
     ensures counted { D.count device.new ≡ failures_after (D.count device.old) result }
 {
     let mut room = [0; MOST_OCTETS];
@@ -48,14 +41,7 @@ pub fn udp_turn_in<D: Datagrams>(
     out: &mut [u8; MOST_OCTETS],
 ) -> Result<bool, TurnFault>
     requires { D.count device.old < 2 ^ 64 - 1 }
-    ensures turn { TurnOf zone.now
-        (record {
-          had = D.received device.old;
-          has = D.received device.new;
-          sent = D.sent device.old;
-          has_sent = D.sent device.new;
-        })
-        result }
+    ensures turn { TurnOf zone.now (turn D.received D.sent device.old device.new) result }
     ensures counted { D.count device.new ≡ failures_after (D.count device.old) result }
 {
     let Ok(count) = device.receive(room) else {

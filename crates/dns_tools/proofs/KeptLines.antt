@@ -1,15 +1,15 @@
 -- What is kept of a line, octet by octet, and which message it says the line is.
 use Rattle.std.proofs.Common.{◌≡◌, ◌≢◌, ℕ, ◌+◌, ◌<◌, ◌≤◌, ◌==◌, if◌then◌else◌, nat_lt, Bool, true, false, inl, inr, List, [], ◌∷◌, ◌++◌, length, take, drop, get_or, suc, Option, Some, None, refl, sym, ap, ◌∙◌, subst, arith, append_assoc, append-nil, length-append, filter}
-use Rattle.dns_spec.proofs.Common.{cases_lt, le-leb, lt-leb, lt-ltb, le-ltb, ltb-true, ltb-false, ne_eqb, take_all, take-append-le, take-append-drop, length-take-le, drop-cons, filter-append, Consumes, IsAtEnd, Keeps, Octets, hex_octets}
+use Rattle.dns_spec.proofs.Common.{cases_lt, le-leb, lt-leb, lt-ltb, le-ltb, ltb-true, ltb-false, ne_eqb, take_all, take-append-le, take-append-drop, length-take-le, drop-cons, filter-append, Consumes, IsAtEnd, Octets, hex_octets}
 use Rattle.std.specs.Prelude.{⊤, ◌-◌, MatchOption, Ok, IfSome, IfNone, IsErr}
 use Rattle.std.specs.Bool.{OnTrue, OnFalse}
 use Rattle.hex.specs.Hex.{decode_of}
 use Rattle.dns_tools.proofs.LineDigits.{line_read, line_refused}
-use Rattle.std.proofs.KnownBytes.{Consumes-trans, Consumes-nil, Consumes-kept}
+use Rattle.std.proofs.KnownBytes.{Consumes-trans}
 use Rattle.dns_spec.specs.Lines.{begin_line, lines, line_ends, line_message}
 use Rattle.dns_spec.specs.MessageLines.{first_of}
-use Rattle.dns_tools.specs.KeptLine.{KeptLine, no_line, kept_line, kept_message, KeepsOctet}
-use Rattle.dns_tools.specs.FirstLine.{IsFront, KeepsFirst, HasReadFront, ReadsFirst}
+use Rattle.dns_tools.specs.KeptLine.{KeptLine, kept_line, kept_message, KeepsOctet}
+use Rattle.dns_tools.specs.FirstLine.{IsFront, KeepsFirst, ReadsFirst}
 
 pub ends_append : (x y : Octets) → line_ends (x ++ y) ≡ line_ends x + line_ends y
 ends_append x y = ap length (filter-append (λ o. o == 10) x y) ∙ length-append (filter (λ o. o == 10) x) (filter (λ o. o == 10) y)

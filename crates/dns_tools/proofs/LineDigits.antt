@@ -1,6 +1,7 @@
 -- The digits of a line, as the library of hexadecimal digits reads and writes them and as the definitions do.
-use Rattle.std.proofs.Common.{◌≡◌, ℕ, zero, suc, ◌+◌, ◌*◌, ◌/◌, ◌%◌, ◌<◌, ◌==◌, if◌then◌else◌, Bool, true, false, ◌&&◌, ◌⊎◌, inl, inr, List, [], ◌∷◌, ◌++◌, length, take, slice_index, Option, Some, None, Result, Ok, Err, refl, sym, ap, ap₂, ◌∙◌, arith}
+use Rattle.std.proofs.Common.{◌≡◌, ℕ, zero, suc, ◌+◌, ◌*◌, ◌/◌, ◌%◌, ◌<◌, ◌==◌, if◌then◌else◌, Bool, true, false, ◌&&◌, ◌⊎◌, inl, inr, List, [], ◌∷◌, ◌++◌, length, length-append, take, drop, set, slice_index, Option, Some, None, Result, Ok, Err, refl, sym, ap, ap₂, ◌∙◌, arith}
 use Rattle.std.specs.Prelude.{IsErr}
+use Rattle.std.proofs.lemmas.List.{take_more_set, length-drop}
 use Rattle.dns_spec.proofs.Common.{is_ascii_hexdigit, digit_value, digit_char, option_map, agree_below_at, eqb-true, cases_Bool, cases_lt, le-leb, lt-leb, take_all, take-append-le, Octets, octets16, hex_octets, hex_text}
 use Rattle.hex.specs.Hex.{IsBytes, hex_digit_value, decode_pairs, decode_of, encode_lower, encode_with, lower_digits}
 use Rattle.hex.specs.declared.error.FromHexError.{FromHexError}
@@ -115,8 +116,16 @@ line_refused text h = sym (line_said text) ∙ none_said (decode_of text) h
     none_said (Ok d) h = cc
     none_said (Err e) h = refl
 
--- the digits at the front of a buffer
-pub front_digits : (octets new rest : Octets) → new ≡ encode_lower octets → take (2 * length octets) (new ++ rest) ≡ new
-front_digits octets new rest e =
-    let len : length new ≡ 2 * length octets = ap length e ∙ length-encode_with lower_digits octets in
-    take-append-le (2 * length octets) new rest (omega (arith, len)) ∙ take_all (2 * length octets) new (omega (arith, len))
+-- the digits at the front of a buffer, and the end of their line
+pub line_written : (octets new room : Octets) → new ≡ encode_lower octets → IsBytes octets
+    → 2 * length octets < length room
+    → take (2 * length octets + 1) (set (new ++ drop (2 * length octets) room) (2 * length octets) 10)
+    ≡ hex_text octets ++ 10 ∷ []
+line_written octets new room e bytes fits =
+    let n = 2 * length octets in
+    let rest = drop n room in
+    let len : length new ≡ n = ap length e ∙ length-encode_with lower_digits octets in
+    take_more_set (new ++ rest) n 10
+    (omega (arith, len, length-append new rest, length-drop n room, fits))
+    ∙ ap (λ t. t ++ 10 ∷ []) (take-append-le n new rest (omega (arith, len))
+    ∙ take_all n new (omega (arith, len)) ∙ e ∙ digits_written octets bytes)

@@ -1,19 +1,17 @@
 -- What a reader learns here: what a run over lines has read and written, at its end and on its way.
-use Rattle.std.specs.Prelude.{⊤, ◌≡◌, ◌^◌, ◌-◌, ◌<◌, ◌≤◌, Bool, true, ◌&&◌}
-use Rattle.std.specs.Prelude.{List, [], ◌++◌, length, take}
+use Rattle.std.specs.Prelude.{⊤, ◌≡◌, ◌^◌, ◌-◌, ◌<◌, ◌≤◌, Bool, true}
+use Rattle.std.specs.Prelude.{List, ◌++◌, length, take}
 use Rattle.std.specs.Prelude.{MatchOption, Option, Result, Ok, Err}
-use Rattle.std.specs.Option.{is_some}
 use Rattle.std.specs.Io.KnownBytes.{Appends, Consumes}
 use Rattle.dns_spec.specs.Names.{Octets}
 use Rattle.dns_spec.specs.Records.{ZoneContents}
 use Rattle.dns_spec.specs.Reply.{octets_of}
-use Rattle.dns_spec.specs.Lines.{lines, line_ends, ended_lines}
-use Rattle.dns_spec.specs.Lines.{message_answer, line_answers, are_messages}
+use Rattle.dns_spec.specs.Lines.{lines, line_ends, ended_lines, line_answers, are_messages}
 use Rattle.dns_name.specs.Counted.{AppendsBeginning}
 use Rattle.dns_answer.specs.declared.reply.Limit.{Limit}
 use Rattle.dns_answer.specs.Limits.{limit_of}
 use Rattle.dns_serve.specs.Streams.{Session}
-use Rattle.dns_tools.specs.KeptLine.{KeptLine, no_line, kept_line, kept_message}
+use Rattle.dns_tools.specs.KeptLine.{KeptLine, no_line, kept_line}
 use Rattle.dns_tools.specs.declared.fault.Stop.{Stop}
 use Rattle.dns_tools.specs.declared.fault.Stop.TheVariants.{Memory, Source, Sink}
 
@@ -73,20 +71,15 @@ LinesAnswered reply s (Err Source) = HasAnsweredEnded reply s
 LinesAnswered reply s (Err Sink) = HasBegunAnswers reply s
 LinesAnswered reply s (Err Memory) = (s.left ≡ s.unread) × (s.holds ≡ s.held)
 
--- What was kept of an input so far: a beginning of the line that goes on, the answers that are not
--- written, and whether all lines that are ended are messages.
+-- What was kept of an input so far: a beginning of the line that goes on, and whether all lines
+-- that are ended are messages.
 pub record Kept : Type 0 where
   pub line : KeptLine
-  pub answers : Octets
   pub passes : Bool
-
-abbrev pub kept_as : KeptLine → Octets → Bool → Kept
-kept_as line answers passes = record { line = line; answers = answers; passes = passes }
 
 -- nothing was read
 pub record IsFresh (k : Kept) : Type 0 where
   pub line : k.line ≡ no_line
-  pub answers : k.answers ≡ []
   pub passes : k.passes ≡ true
 
 -- The lines that are ended in the input so far are answered, and the front of the next is kept.
@@ -94,13 +87,11 @@ pub record Progress (reply : Octets → Option Octets) (held holds : Option Octe
     (k : Kept) : Type 0 where
   pub ended : List Octets
   pub front : Octets
-  pub sent : Octets
   pub same : (y : Octets) → lines (x ++ y) ≡ ended ++ lines (front ++ y)
   pub none_ended : line_ends front ≡ 0
   pub count : length ended ≡ line_ends x
   pub kept : k.line ≡ kept_line front
-  pub written : Appends held holds sent
-  pub answered : sent ++ k.answers ≡ line_answers reply ended
+  pub written : Appends held holds (line_answers reply ended)
   pub passes_is : k.passes ≡ are_messages ended
 
 -- Of the answers to an input that begins so, a beginning was written.
@@ -108,15 +99,8 @@ abbrev pub Begun : (Octets → Option Octets) → Option Octets → Option Octet
 Begun reply held holds x =
     (y : Octets) → AppendsBeginning held holds (line_answers reply (lines (x ++ y)))
 
--- Some of the answers that are due were written, and one more is due.
-pub record Passes (old new : Option Octets) (due due_now text : Octets) : Type 0 where
-  pub gone : Octets
-  pub written : Appends old new gone
-  pub rest : gone ++ due_now ≡ due ++ text
-
--- A line was ended, and is answered.
-pub record EndsLine (reply : Octets → Option Octets) (old new : Option Octets) (k n : Kept)
-    : Type 0 where
-  pub passed : Passes old new k.answers n.answers (message_answer reply (kept_message k.line))
-  pub line : n.line ≡ no_line
-  pub passes : n.passes ≡ (k.passes && is_some (kept_message k.line))
+-- The lines of a whole input are answered.
+pub record Answered (reply : Octets → Option Octets) (held holds : Option Octets) (x : Octets)
+    (passes : Bool) : Type 0 where
+  pub written : Appends held holds (line_answers reply (lines x))
+  pub passes_is : passes ≡ are_messages (lines x)

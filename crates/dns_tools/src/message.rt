@@ -3,6 +3,7 @@ ghost use Rattle.std.specs.Prelude.{◌≡◌, ◌≢◌, ◌-◌, ◌^◌, ◌<
 ghost use Rattle.std.specs.List.{flat_map};
 ghost use Rattle.dns_spec.specs.MessageLines.{header_line, question_line, section_line, message_text, PrintsOctets, PrintsMessage};
 ghost use Rattle.dns_name.specs.Counted.{Writes};
+ghost use Rattle.dns_serve.specs.Streams.{session};
 ghost use Rattle.dns_wire.specs.WireFault.{fault_code};
 ghost use Rattle.dns_tools.specs.Checked.{ReportedAs};
 ghost use Rattle.dns_tools.specs.FirstLine.{HasReadFront, ReadsFirst};
@@ -40,13 +41,7 @@ pub fn run_message<R: Read, W: Write>(
     ensures sink { sink.new.failures ≡ sink_failures_after sink.old.failures result }
     ensures unwritten { result ≡ Err Stop.Memory → sink.new ≡ sink.old }
     ensures printed { PrintedAs
-        (record {
-          unread = R.remaining source.old.device;
-          left = R.remaining source.new.device;
-          held = W.contents sink.old.device;
-          holds = W.contents sink.new.device;
-        })
-        result }
+        (session R.remaining W.contents source.old source.new sink.old sink.new) result }
 {
     let mut octets = vec![in alloc; 0; MOST_OCTETS]?;
     match first_line(alloc, source) {

@@ -1,19 +1,16 @@
 //! Messages that come as lines of hexadecimal digits, and the lines that answer them.
-ghost use Rattle.std.specs.Prelude.{◌≡◌, ◌≢◌, ◌+◌, ◌-◌, ◌*◌, ◌^◌, ◌<◌, ◌≤◌, ◌++◌, ◌∷◌, ◌&&◌, [], false, length, codes, take, vec_len, vec_capacity, Option, Some, Ok, Err, OnOk, OnErr, IfOk, IfErr, IfSome};
-ghost use Rattle.std.specs.Bool.{OnTrue, OnFalse};
+ghost use Rattle.std.specs.Prelude.{◌≡◌, ◌≢◌, ◌-◌, ◌*◌, ◌^◌, ◌<◌, ◌≤◌, ◌++◌, ◌&&◌, length, take, vec_len, Option, Some, Err, OnOk, OnErr, IfOk, IfErr, IfSome};
 ghost use Rattle.std.specs.Option.{is_some, option_map};
-ghost use Rattle.std.specs.Io.KnownBytes.{Appends};
 ghost use Rattle.dns_spec.specs.Names.{Octets};
-ghost use Rattle.dns_spec.specs.WrittenText.{hex_text};
-ghost use Rattle.dns_spec.specs.Lines.{are_messages, line_answers, lines, message_answer, reply_line};
-ghost use Rattle.dns_tools.specs.Exchanges.{Begun, EndsLine, Grows, IsFresh, LinesAnswered, Passes};
-ghost use Rattle.dns_tools.specs.Exchanges.{Progress, reply_within};
-ghost use Rattle.dns_tools.specs.KeptLine.{kept_message};
-ghost use Rattle.dns_name.specs.Counted.{AppendsBeginning, failures_after};
+ghost use Rattle.dns_spec.specs.Lines.{line_answers, lines, message_answer, reply_line};
+ghost use Rattle.dns_tools.specs.Exchanges.{Answered, Begun, Grows, IsFresh, LinesAnswered, Progress, reply_within};
+ghost use Rattle.dns_tools.specs.KeptLine.{kept_message, no_line};
+ghost use Rattle.dns_name.specs.Counted.{AppendsBeginning, Writes, failures_after};
+ghost use Rattle.dns_serve.specs.Streams.{session};
 ghost use Rattle.dns_tools.specs.Stops.{source_failures_after, sink_failures_after};
 ghost use Rattle.dns_answer.specs.Limits.{limit_of};
 ghost use Rattle.dns_tools.specs.declared.line.TheConstants.{MOST_OCTETS, PIECE};
-ghost use Rattle.dns_tools.specs.declared.once.TheConstants.{MOST_ANSWER, ANSWERS, DIGITS};
+ghost use Rattle.dns_tools.specs.declared.once.TheConstants.{MOST_ANSWER};
 
 use crate::fault::Stop;
 use crate::line::{Line, MOST_OCTETS, PIECE};
@@ -26,20 +23,14 @@ use std::io::{Read, Write};
 // The digits of the greatest reply, and the end of their line.
 const MOST_ANSWER: usize = 131_071;
 
-// How many octets of answers are gathered before they are written.
-const ANSWERS: usize = 262_144;
-
-// How many digits are spelled at once.
-const DIGITS: usize = 128;
-
 /// Answers each line of the source by one line of the sink, and tells whether each line was a
 /// message.
 ///
 /// A line is a message in hexadecimal digits of either case, at most 131,070 of them; after the
 /// last LF there is a line only where octets follow. Its answer is the reply in lower case digits,
 /// or `none` where there is no reply. A line that is no such message is answered by `bad hex`. At
-/// most 18,446,744,073,709,551,615 octets are read, and the source counts as ended there. All
-/// answers that are due are written before the source is asked for more.
+/// most 18,446,744,073,709,551,615 octets are read, and the source counts as ended there. Each line
+/// is answered as soon as it ends.
 ///
 /// Where it stops, the sink has a beginning of the answers: of the lines that were ended before the
 /// last piece of at most 65,536 octets was read, all of them. No device is used after its failure.
@@ -56,13 +47,7 @@ pub fn run_once<R: Read, W: Write>(
     ensures source { source.new.failures ≡ source_failures_after source.old.failures result }
     ensures sink { sink.new.failures ≡ sink_failures_after sink.old.failures result }
     ensures lines { LinesAnswered (reply_within limit zone.now)
-        (record {
-          unread = R.remaining source.old.device;
-          left = R.remaining source.new.device;
-          held = W.contents sink.old.device;
-          holds = W.contents sink.new.device;
-        })
-        result }
+        (session R.remaining W.contents source.old source.new sink.old sink.new) result }
 
     // Without memory nothing was read and nothing was written.
     ensures unread { result ≡ Err Stop.Memory → source.new ≡ source.old }
@@ -73,23 +58,20 @@ pub fn run_once<R: Read, W: Write>(
     exchange.run(piece.as_mut_slice(), source, sink)
 }
 
-// The lines of one source, as they come, and their answers, as far as they are not written.
+// The lines of one source, as they come.
 #[derive(Drop)]
 struct Exchange<'z> {
     zone: &'z Zone,
     limit: Limit,
     // The line that goes on.
     line: Line,
-    // Where a line is spelled as octets.
-    datagram: Vec<u8>,
+    // Where a line is spelled as octets, and then the digits of its reply.
+    room: Vec<u8>,
     reply: Vec<u8>,
     drafts: Drafts,
-    answers: Vec<u8>,
     are_all_messages: bool,
-    ghost datagram_room: { vec_len datagram ≡ MOST_OCTETS },
-    ghost reply_room: { vec_len reply ≡ limit_of limit },
-    ghost answers_fit: { vec_len answers ≤ ANSWERS },
-    ghost answers_room: { ANSWERS ≤ vec_capacity answers },
+    ghost room_octets: { vec_len room ≡ MOST_ANSWER },
+    ghost reply_octets: { vec_len reply ≡ limit_of limit },
 }
 
 impl<'z> Exchange<'z> {
@@ -103,10 +85,9 @@ impl<'z> Exchange<'z> {
             zone,
             limit,
             line: Line::new(alloc)?,
-            datagram: vec![in alloc; 0; MOST_OCTETS]?,
+            room: vec![in alloc; 0; MOST_ANSWER]?,
             reply: vec![in alloc; 0; limit.octets()]?,
             drafts: Drafts::new(alloc)?,
-            answers: Vec::with_capacity(alloc, ANSWERS)?,
             are_all_messages: true,
         })
     }
@@ -124,18 +105,11 @@ impl<'z> Exchange<'z> {
         ensures source { source.new.failures ≡ source_failures_after source.old.failures result }
         ensures sink { sink.new.failures ≡ sink_failures_after sink.old.failures result }
         ensures lines { LinesAnswered (reply_of self.old)
-            (record {
-              unread = R.remaining source.old.device;
-              left = R.remaining source.new.device;
-              held = W.contents sink.old.device;
-              holds = W.contents sink.new.device;
-            })
-            result }
+            (session R.remaining W.contents source.old source.new sink.old sink.new) result }
         ensures memory { IfErr result (λ stop. stop ≢ Stop.Memory) }
     {
         let mut left = u64::MAX;
         'pieces: while left > 0 {
-            self.flush(sink)?;
             let most = left.min(piece.len() as u64) as usize;
             let count = source.read(&mut piece[..most])?;
             if count == 0 {
@@ -147,42 +121,23 @@ impl<'z> Exchange<'z> {
         Ok(self.finish(sink)?)
     }
 
-    // Answers the line that nothing ends, where there is one, and writes the answers that are due.
+    // Answers the line that nothing ends, where there is one, and tells whether each line was a
+    // message.
     fn finish<W: Write>(&mut self, sink: &mut Tally<W>) -> Result<bool, SinkFailed>
         requires { sink.old.failures < 2 ^ 64 - 1 }
         ensures counted { sink.new.failures ≡ failures_after sink.old.failures result }
-        ensures written { (held : Option Octets) (x : Octets)
+        ensures answered { (held : Option Octets) (x : Octets)
             → Progress (reply_of self.old) held (W.contents sink.old.device) x (kept_of self.old)
-            → OnOk result (Appends held (W.contents sink.new.device)
-            (line_answers (reply_of self.old) (lines x))) }
-        ensures passes { (held : Option Octets) (x : Octets)
-            → Progress (reply_of self.old) held (W.contents sink.old.device) x (kept_of self.old)
-            → IfOk result (λ passes. passes ≡ are_messages (lines x)) }
+            → IfOk result (Answered (reply_of self.old) held (W.contents sink.new.device) x) }
         ensures begun { (held : Option Octets) (x : Octets)
             → Progress (reply_of self.old) held (W.contents sink.old.device) x (kept_of self.old)
             → OnErr result (AppendsBeginning held (W.contents sink.new.device)
             (line_answers (reply_of self.old) (lines x))) }
-        ensures grows { OnErr result (Grows (W.contents sink.old.device)
-            (W.contents sink.new.device)) }
+        ensures grows { Grows (W.contents sink.old.device) (W.contents sink.new.device) }
     {
-        if self.line.is_empty() {
-            return self.conclude(sink);
+        if !self.line.is_empty() {
+            self.end_line(sink)?;
         }
-        self.end_line(sink)?;
-        self.conclude(sink)
-    }
-
-    // Writes the answers that are due, and tells whether each line was a message.
-    fn conclude<W: Write>(&mut self, sink: &mut Tally<W>) -> Result<bool, SinkFailed>
-        requires { sink.old.failures < 2 ^ 64 - 1 }
-        ensures counted { sink.new.failures ≡ failures_after sink.old.failures result }
-        ensures passes { IfOk result (λ passes. passes ≡ self.old.are_all_messages) }
-        ensures written { OnOk result (Appends (W.contents sink.old.device)
-            (W.contents sink.new.device) self.old.answers.items) }
-        ensures begun { OnErr result (AppendsBeginning (W.contents sink.old.device)
-            (W.contents sink.new.device) self.old.answers.items) }
-    {
-        self.flush(sink)?;
         Ok(self.are_all_messages)
     }
 
@@ -202,118 +157,31 @@ impl<'z> Exchange<'z> {
         ensures grows { Grows (W.contents sink.old.device) (W.contents sink.new.device) }
     {
         'octets: for octet in octets {
-            self.take_octet(*octet, sink)?;
+            if *octet == b'\n' {
+                self.end_line(sink)?;
+            } else {
+                self.line.keep(*octet);
+            }
         }
-        Ok(())
-    }
-
-    // Takes the next octet of the source, and answers the line that it ends.
-    fn take_octet<W: Write>(&mut self, octet: u8, sink: &mut Tally<W>) -> Result<(), SinkFailed>
-        requires { sink.old.failures < 2 ^ 64 - 1 }
-        ensures counted { sink.new.failures ≡ failures_after sink.old.failures result }
-        ensures task { OnOk result (reply_of self.new ≡ reply_of self.old) }
-        ensures taken { (held : Option Octets) (x : Octets)
-            → Progress (reply_of self.old) held (W.contents sink.old.device) x (kept_of self.old)
-            → OnOk result (Progress (reply_of self.old) held (W.contents sink.new.device)
-            (x ++ octet ∷ []) (kept_of self.new)) }
-        ensures begun { OnErr result (AppendsBeginning (W.contents sink.old.device)
-            (W.contents sink.new.device) self.old.answers.items) }
-        ensures grows { Grows (W.contents sink.old.device) (W.contents sink.new.device) }
-    {
-        if octet == b'\n' {
-            return self.end_line(sink);
-        }
-        self.line.keep(octet);
         Ok(())
     }
 
     // Answers the line that has ended, and begins the next.
     fn end_line<W: Write>(&mut self, sink: &mut Tally<W>) -> Result<(), SinkFailed>
         requires { sink.old.failures < 2 ^ 64 - 1 }
-        ensures counted { sink.new.failures ≡ failures_after sink.old.failures result }
+        ensures answered { Writes W.contents sink.old sink.new result
+            (message_answer (reply_of self.old) (kept_message self.old.line)) }
+        ensures line { OnOk result (self.new.line ≡ no_line) }
+        ensures passes { OnOk result (self.new.are_all_messages ≡ (self.old.are_all_messages
+            && is_some (kept_message self.old.line))) }
         ensures task { OnOk result (reply_of self.new ≡ reply_of self.old) }
-        ensures ended { OnOk result (EndsLine (reply_of self.old) (W.contents sink.old.device)
-            (W.contents sink.new.device) (kept_of self.old) (kept_of self.new)) }
-        ensures begun { OnErr result (AppendsBeginning (W.contents sink.old.device)
-            (W.contents sink.new.device) self.old.answers.items) }
     {
-        self.make_room(sink)?;
-        self.answer_line();
-        self.line.clear();
-        Ok(())
-    }
-
-    // Writes the answers that are due where there is no room for one more.
-    fn make_room<W: Write>(&mut self, sink: &mut Tally<W>) -> Result<(), SinkFailed>
-        requires { sink.old.failures < 2 ^ 64 - 1 }
-        ensures counted { sink.new.failures ≡ failures_after sink.old.failures result }
-        ensures room { OnOk result (vec_len self.new.answers + MOST_ANSWER ≤ ANSWERS) }
-        ensures passed { OnOk result (Passes (W.contents sink.old.device)
-            (W.contents sink.new.device) self.old.answers.items self.new.answers.items []) }
-        ensures begun { OnErr result (AppendsBeginning (W.contents sink.old.device)
-            (W.contents sink.new.device) self.old.answers.items) }
-        ensures line { self.new.line ≡ self.old.line }
-        ensures passes { self.new.are_all_messages ≡ self.old.are_all_messages }
-        ensures task { reply_of self.new ≡ reply_of self.old }
-    {
-        if ANSWERS - self.answers.len() < MOST_ANSWER {
-            return self.flush(sink);
-        }
-        Ok(())
-    }
-
-    // Answers the line, with room for the answer.
-    fn answer_line(&mut self)
-        requires { vec_len self.old.answers + MOST_ANSWER ≤ ANSWERS }
-        ensures answers { self.new.answers.items ≡ self.old.answers.items
-            ++ message_answer (reply_of self.old)
-            (kept_message self.old.line) }
-        ensures passes { self.new.are_all_messages ≡ (self.old.are_all_messages
-            && is_some (kept_message self.old.line)) }
-        ensures task { reply_of self.new ≡ reply_of self.old }
-    {
-        let datagram = self.datagram.as_mut_slice();
+        let room = self.room.as_mut_slice();
         let reply = self.reply.as_mut_slice();
-        if !answer(
-            self.zone,
-            self.limit,
-            &mut self.drafts,
-            &self.line,
-            datagram,
-            reply,
-            &mut self.answers,
-        ) {
-            self.refuse_line();
-        }
-    }
-
-    // Answers a line that is no message.
-    fn refuse_line(&mut self)
-        requires { vec_len self.old.answers + MOST_ANSWER ≤ ANSWERS }
-        ensures answers { self.new.answers.items ≡ self.old.answers.items ++ codes "bad hex\n" }
-        ensures passes { self.new.are_all_messages ≡ false }
-        ensures task { reply_of self.new ≡ reply_of self.old }
-    {
-        self.are_all_messages = false;
-        put(&mut self.answers, b"bad hex\n");
-    }
-
-    // Writes the answers that are due.
-    fn flush<W: Write>(&mut self, sink: &mut Tally<W>) -> Result<(), SinkFailed>
-        requires { sink.old.failures < 2 ^ 64 - 1 }
-        ensures counted { sink.new.failures ≡ failures_after sink.old.failures result }
-        ensures empty { OnOk result (vec_len self.new.answers ≡ 0) }
-        ensures none { OnOk result (self.new.answers.items ≡ []) }
-        ensures written { OnOk result (Appends (W.contents sink.old.device)
-            (W.contents sink.new.device) self.old.answers.items) }
-        ensures begun { OnErr result (AppendsBeginning (W.contents sink.old.device)
-            (W.contents sink.new.device) self.old.answers.items) }
-        ensures line { self.new.line ≡ self.old.line }
-        ensures passes { self.new.are_all_messages ≡ self.old.are_all_messages }
-        ensures task { reply_of self.new ≡ reply_of self.old }
-    {
-        sink.write_all(self.answers.as_slice())?;
-        self.answers.clear();
+        let drafts = &mut self.drafts;
+        let is_message = answer(self.zone, self.limit, drafts, &self.line, room, reply, sink)?;
+        self.are_all_messages = self.are_all_messages && is_message;
+        self.line.clear();
         Ok(())
     }
 }
@@ -355,77 +223,49 @@ impl Drafts {
     }
 }
 
-// Answers a line that is a message, with room for its octets and for those of the reply. False,
-// with nothing answered, where it is none.
-fn answer(
+// Answers a line, with room for its octets, for those of the reply and for its digits, and tells
+// whether it is a message.
+fn answer<W: Write>(
     zone: &Zone,
     limit: Limit,
     drafts: &mut Drafts,
     line: &Line,
-    datagram: &mut [u8],
+    room: &mut [u8],
     reply: &mut [u8],
-    answers: &mut Vec<u8>,
-) -> bool
-    requires datagram { length datagram.old ≡ MOST_OCTETS }
+    sink: &mut Tally<W>,
+) -> Result<bool, SinkFailed>
+    requires room { length room.old ≡ MOST_ANSWER }
     requires reply { length reply.old ≡ limit_of limit }
-    requires room { vec_len answers.old + MOST_ANSWER ≤ vec_capacity answers.old }
-    ensures len { vec_len answers.new ≤ vec_len answers.old + MOST_ANSWER }
-    ensures capacity { vec_capacity answers.old ≤ vec_capacity answers.new }
-    ensures message { result ≡ is_some (kept_message line.now) }
-    ensures answered { OnTrue result (answers.new.items ≡ answers.old.items
-        ++ message_answer (reply_within limit zone.now) (kept_message line.now)) }
-    ensures refused { OnFalse result (answers.new ≡ answers.old) }
+    requires few { sink.old.failures < 2 ^ 64 - 1 }
+    ensures answered { Writes W.contents sink.old sink.new result
+        (message_answer (reply_within limit zone.now) (kept_message line.now)) }
+    ensures message { IfOk result (λ message. message ≡ is_some (kept_message line.now)) }
 {
-    let Some(len) = line.spell(datagram) else {
-        return false;
+    let Some(len) = line.spell(&mut room[..MOST_OCTETS]) else {
+        sink.write_all(b"bad hex\n")?;
+        return Ok(false);
     };
-    match drafts.respond(zone, limit, &datagram[..len], reply) {
-        Some(len) => put_reply(answers, &reply[..len]),
-        None => put(answers, b"none\n"),
+    match drafts.respond(zone, limit, &room[..len], reply) {
+        Some(len) => write_digits(&reply[..len], room, sink)?,
+        None => sink.write_all(b"none\n")?,
     }
-    true
+    Ok(true)
 }
 
-// Adds a line with the digits of a reply.
-fn put_reply(answers: &mut Vec<u8>, reply: &[u8])
-    requires { vec_len answers.old + 2 * length reply.now + 1 ≤ vec_capacity answers.old }
-    ensures items { answers.new.items ≡ answers.old.items ++ reply_line (Some reply.now) }
-    ensures len { vec_len answers.new ≡ vec_len answers.old + 2 * length reply.now + 1 }
-    ensures capacity { vec_capacity answers.old ≤ vec_capacity answers.new }
+// Writes a line with the digits of a reply, in room for it.
+fn write_digits<W: Write>(
+    reply: &[u8],
+    room: &mut [u8],
+    sink: &mut Tally<W>,
+) -> Result<(), SinkFailed>
+    requires room { 2 * length reply.now < length room.old }
+    requires few { sink.old.failures < 2 ^ 64 - 1 }
+    ensures { Writes W.contents sink.old sink.new result (reply_line (Some reply.now)) }
 {
-    let mut rest = reply;
-    'pieces: while !rest.is_empty() {
-        let (piece, others) = rest.split_at(rest.len().min(DIGITS / 2));
-        put_digits(answers, piece);
-        rest = others;
-    }
-    put(answers, b"\n");
-}
-
-// Adds the digits of a few octets.
-fn put_digits(answers: &mut Vec<u8>, octets: &[u8])
-    requires few { 2 * length octets.now ≤ DIGITS }
-    requires room { vec_len answers.old + 2 * length octets.now ≤ vec_capacity answers.old }
-    ensures items { answers.new.items ≡ answers.old.items ++ hex_text octets.now }
-    ensures len { vec_len answers.new ≡ vec_len answers.old + 2 * length octets.now }
-    ensures capacity { vec_capacity answers.old ≤ vec_capacity answers.new }
-{
-    let mut digits = [0; DIGITS];
-    let end = 2 * octets.len();
-    if hex::encode_to_slice(octets, &mut digits[..end]).is_err() {
+    let end = 2 * reply.len();
+    if hex::encode_to_slice(reply, &mut room[..end]).is_err() {
         unreachable!();
     }
-    put(answers, &digits[..end]);
-}
-
-// Adds a text that there is room for.
-fn put(answers: &mut Vec<u8>, text: &[u8])
-    requires { vec_len answers.old + length text.now ≤ vec_capacity answers.old }
-    ensures items { answers.new.items ≡ answers.old.items ++ text.now }
-    ensures len { vec_len answers.new ≡ vec_len answers.old + length text.now }
-    ensures capacity { vec_capacity answers.old ≤ vec_capacity answers.new }
-{
-    if answers.extend_from_slice(text).is_err() {
-        unreachable!();
-    }
+    room[end] = b'\n';
+    sink.write_all(&room[..end + 1])
 }

@@ -195,21 +195,6 @@ fn a_line_of_the_most_digits_and_one_more(rt: HostRuntime) -> Result<(), Fail> {
 }
 
 #[test]
-fn more_answers_than_are_gathered(rt: HostRuntime) -> Result<(), Fail> {
-    let (mut input, mut wanted) = (Vec::new(rt.alloc()), Vec::new(rt.alloc()));
-    for _ in 0..2000 {
-        input.extend_from_slice(WWW.as_bytes())?;
-        input.push(b'\n')?;
-        wanted.extend_from_slice(WWW_REPLY.as_bytes())?;
-        wanted.push(b'\n')?;
-    }
-    let (output, outcome) = run(rt.alloc(), input.as_slice(), 1_000_000, 1000, 1000)?;
-    assert_eq!(rt; outcome, Ok(true));
-    assert!(rt; output == wanted);
-    Ok(())
-}
-
-#[test]
 fn a_failing_device_stops_the_run_after_a_beginning(rt: HostRuntime) -> Result<(), Fail> {
     let (input, wanted) = (b"\n00\n\n", b"none\nnone\nnone\n".as_slice());
     for reads in 0..5 {

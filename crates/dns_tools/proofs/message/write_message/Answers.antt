@@ -1,4 +1,4 @@
-use Rattle.dns_spec.proofs.Common.{◌≡◌, rules, ap, ◌∙◌, ◌++◌, codes, flat_map, Appends-trans, DnsMessage, Octets, Option, List}
+use Rattle.dns_spec.proofs.Common.{rules, ap, ◌∙◌, ◌++◌, codes, flat_map, Appends-trans, DnsMessage, Octets, Option}
 use Rattle.dns_spec.specs.MessageLines.{header_line, question_line, section_line}
 use Rattle.dns_name.specs.Counted.{AppendsBeginning}
 use Rattle.dns_name.proofs.Results.{OnErr-always}

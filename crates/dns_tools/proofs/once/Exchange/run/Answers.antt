@@ -1,71 +1,77 @@
 use Rattle.dns_spec.proofs.Common.{arith, rules, ◌<◌, ◌≤◌, ◌∙◌, length, refl, sym, take-append-le}
 use Rattle.dns_tools.specs.ExchangeForm.{kept_of, reply_of}
-use Rattle.dns_tools.proofs.LineReads.{AllRead, reading_none, reading_flush, reading_take, reading_begun, taking_begun, reading_failed, all_read, all_flushed, all_answered, all_begun, sink_stopped, source_stopped}
+use Rattle.dns_tools.proofs.LineReads.{AllRead, reading_none, reading_take, taking_begun, reading_failed, all_read, all_given, all_answered, all_begun, sink_stopped, source_stopped}
 use Rattle.dns_tools.proofs.once.Exchange.run.Goals as goal
-use Rattle.dns_tools.proofs.once.Exchange.run.Goals.{else-pieces-test, then-pieces-test+in_ok-flush+in_ok-count+then-count-eq0}
+use Rattle.dns_tools.proofs.once.Exchange.run.Goals.{else-pieces-test, then-pieces-test+in_ok-count+then-count-eq0}
 
 pub pieces-init : goal.pieces-init
 pieces-init g c = record { source = refl; sink = refl; task = refl; reading = reading_none _ _ _ _ c.requires.fresh }
 
-pub returns-in_err-flush-clause-lines : goal.returns-in_err-flush-clause-lines
-returns-in_err-flush-clause-lines g c =
-    sink_stopped _ _ c.from_residual.result c.from_residual.ensures.1
-    (reading_begun _ _ _ _ _ _ _ _ c.in_err-flush.ensures.begun c.pieces.invariant.reading)
-
 pub returns-in_err-count-clause-lines : goal.returns-in_err-count-clause-lines
 returns-in_err-count-clause-lines g c =
-    let e = c.in_ok-flush.ensures in
-    source_stopped _ _ c.from_residual-in_err-count.result c.from_residual-in_err-count.ensures.1
-    (reading_failed _ _ _ _ _ _ c.pieces.left _ e.none (omega (arith, c.pieces-test.true)) c.in_err-count.ensures.bytes
-    (reading_flush _ _ _ _ _ _ _ _ _ e.written e.none e.line e.passes c.pieces.invariant.reading))
+    source_stopped _ _ c.from_residual.result c.from_residual.ensures.1
+    (reading_failed _ _ _ _ _ _ c.pieces.left _ (omega (arith, c.pieces-test.true))
+    c.in_err-count.ensures.bytes c.pieces.invariant.reading)
 
 pub returns-in_err-take-clause-lines : goal.returns-in_err-take-clause-lines
 returns-in_err-take-clause-lines g c =
-    let e = c.in_ok-flush.ensures in
     let bound = c.in_ok-count.ensures.bound in
     let within : c.in_ok-count.count ≤ c.pieces.left = search rules in
     let few : c.in_ok-count.count ≤ 65536 = search rules in
     sink_stopped _ _ c.from_residual-in_err-take.result c.from_residual-in_err-take.ensures.1
-    (taking_begun _ _ _ _ _ _ _ _ c.pieces.left c.in_ok-count.count _ _ _ (e.task ∙ c.pieces.invariant.task)
+    (taking_begun _ _ _ _ _ _ _ _ c.pieces.left c.in_ok-count.count _ _ _ c.pieces.invariant.task
     (take-append-le c.in_ok-count.count c.read.new.buf _ bound.0) (sym bound.1) within few
-    c.in_ok-count.ensures.bytes.0 c.in_err-take.ensures.begun c.in_err-take.ensures.grows e.none
-    (reading_flush _ _ _ _ _ _ _ _ _ e.written e.none e.line e.passes c.pieces.invariant.reading))
+    c.in_ok-count.ensures.bytes.0 c.in_err-take.ensures.grows c.pieces.invariant.reading
+    c.in_err-take.ensures.begun)
 
 pub pieces-preserved : goal.pieces-preserved
-pieces-preserved g c = record {
-  source = search rules;
-  sink = search rules;
-  task = c.in_ok-take.ensures.task ∙ c.in_ok-flush.ensures.task ∙ c.pieces.invariant.task;
-  reading =
-      let e = c.in_ok-flush.ensures in
-      let bound = c.in_ok-count.ensures.bound in
-      let within : c.in_ok-count.count ≤ c.pieces.left = search rules in
-      let few : c.in_ok-count.count ≤ 65536 = search rules in
-      reading_take _ _ _ _ _ _ _ _ c.pieces.left c.in_ok-count.count _ _ _ _ (e.task ∙ c.pieces.invariant.task)
-      (take-append-le c.in_ok-count.count c.read.new.buf _ bound.0) (sym bound.1) within few
-      c.in_ok-count.ensures.bytes.0 c.in_ok-take.ensures.taken c.in_ok-take.ensures.grows e.none
-      (reading_flush _ _ _ _ _ _ _ _ _ e.written e.none e.line e.passes c.pieces.invariant.reading);
-}
+pieces-preserved g c =
+    let bound = c.in_ok-count.ensures.bound in
+    let within : c.in_ok-count.count ≤ c.pieces.left = search rules in
+    let few : c.in_ok-count.count ≤ 65536 = search rules in
+    record {
+      source = search rules;
+      sink = search rules;
+      task = c.in_ok-take.ensures.task ∙ c.pieces.invariant.task;
+      reading = reading_take _ _ _ _ _ _ _ _ c.pieces.left c.in_ok-count.count _ _ _
+          c.pieces.invariant.task (take-append-le c.in_ok-count.count c.read.new.buf _ bound.0)
+          (sym bound.1) within few c.in_ok-count.ensures.bytes.0 c.in_ok-take.ensures.grows
+          c.pieces.invariant.reading _ c.in_ok-take.ensures.taken;
+    }
 
 pub returns-in_err-finish-clause-lines : goal.returns-in_err-finish-clause-lines
 returns-in_err-finish-clause-lines g c =
-    let all : AllRead (reply_of c.args.self.now) (reply_of c.pieces-test.self) (g.R.Read.remaining c.args.source.now.device) (g.R.Read.remaining c.pieces-test.source.device) (g.W.Write.contents c.args.sink.now.device) (g.W.Write.contents c.pieces-test.sink.device) (kept_of c.pieces-test.self) = elim c.pieces-test.branch [
-      | else-pieces-test w ↦ rw (w.self-is, w.source-is, w.sink-is) (all_read _ _ _ _ _ _ c.pieces.left _ c.pieces.invariant.task (omega (arith, w.pieces-test.false)) c.pieces.invariant.reading)
-      | then-pieces-test+in_ok-flush+in_ok-count+then-count-eq0 w ↦
-          let e = w.in_ok-flush.ensures in
+    let inv = c.pieces.invariant in
+    let all : AllRead (reply_of c.args.self.now) (reply_of c.pieces.self)
+    (g.R.Read.remaining c.args.source.now.device) (g.R.Read.remaining c.pieces-test.source.device)
+    (g.W.Write.contents c.args.sink.now.device) (g.W.Write.contents c.pieces.sink.device)
+    (kept_of c.pieces.self) = elim c.pieces-test.branch [
+      | else-pieces-test w ↦
+          rw w.source-is (all_read _ _ _ _ _ _ c.pieces.left _ inv.task
+          (omega (arith, w.pieces-test.false)) inv.reading)
+      | then-pieces-test+in_ok-count+then-count-eq0 w ↦
           let some : 0 < length w.read.new.buf = search rules in
-          rw (w.self-is, w.source-is, w.sink-is) (all_flushed _ _ _ _ _ _ _ _ c.pieces.left _ _ _ _ (e.task ∙ c.pieces.invariant.task) w.in_ok-count.ensures.bytes.0 w.if-count-eq0.true (w.in_ok-count.ensures.bytes.1 w.if-count-eq0.true some) e.written e.none e.line e.passes c.pieces.invariant.reading)
+          let bytes = w.in_ok-count.ensures.bytes in
+          rw w.source-is (all_given _ _ _ _ _ _ _ c.pieces.left _ _ _ inv.task bytes.0
+          w.if-count-eq0.true (bytes.1 w.if-count-eq0.true some) inv.reading)
     ] in
     sink_stopped _ _ c.from_residual-in_err-finish.result c.from_residual-in_err-finish.ensures.1
-    (all_begun _ _ _ _ _ _ _ _ c.in_err-finish.ensures.begun c.in_err-finish.ensures.grows all)
+    (all_begun _ _ _ _ _ _ _ _ all c.in_err-finish.ensures.begun c.in_err-finish.ensures.grows)
 
 pub returns-clause-lines : goal.returns-clause-lines
 returns-clause-lines g c =
-    let all : AllRead (reply_of c.args.self.now) (reply_of c.pieces-test.self) (g.R.Read.remaining c.args.source.now.device) (g.R.Read.remaining c.pieces-test.source.device) (g.W.Write.contents c.args.sink.now.device) (g.W.Write.contents c.pieces-test.sink.device) (kept_of c.pieces-test.self) = elim c.pieces-test.branch [
-      | else-pieces-test w ↦ rw (w.self-is, w.source-is, w.sink-is) (all_read _ _ _ _ _ _ c.pieces.left _ c.pieces.invariant.task (omega (arith, w.pieces-test.false)) c.pieces.invariant.reading)
-      | then-pieces-test+in_ok-flush+in_ok-count+then-count-eq0 w ↦
-          let e = w.in_ok-flush.ensures in
+    let inv = c.pieces.invariant in
+    let all : AllRead (reply_of c.args.self.now) (reply_of c.pieces.self)
+    (g.R.Read.remaining c.args.source.now.device) (g.R.Read.remaining c.pieces-test.source.device)
+    (g.W.Write.contents c.args.sink.now.device) (g.W.Write.contents c.pieces.sink.device)
+    (kept_of c.pieces.self) = elim c.pieces-test.branch [
+      | else-pieces-test w ↦
+          rw w.source-is (all_read _ _ _ _ _ _ c.pieces.left _ inv.task
+          (omega (arith, w.pieces-test.false)) inv.reading)
+      | then-pieces-test+in_ok-count+then-count-eq0 w ↦
           let some : 0 < length w.read.new.buf = search rules in
-          rw (w.self-is, w.source-is, w.sink-is) (all_flushed _ _ _ _ _ _ _ _ c.pieces.left _ _ _ _ (e.task ∙ c.pieces.invariant.task) w.in_ok-count.ensures.bytes.0 w.if-count-eq0.true (w.in_ok-count.ensures.bytes.1 w.if-count-eq0.true some) e.written e.none e.line e.passes c.pieces.invariant.reading)
+          let bytes = w.in_ok-count.ensures.bytes in
+          rw w.source-is (all_given _ _ _ _ _ _ _ c.pieces.left _ _ _ inv.task bytes.0
+          w.if-count-eq0.true (bytes.1 w.if-count-eq0.true some) inv.reading)
     ] in
-    all_answered _ _ _ _ _ _ _ _ _ c.in_ok-finish.ensures.written c.in_ok-finish.ensures.passes all
+    all_answered _ _ _ _ _ _ _ _ all _ c.in_ok-finish.ensures.answered

@@ -1,27 +1,47 @@
-use Rattle.dns_spec.proofs.Common.{rules, arith, ◌∙◌, take_all, take_more}
+use Rattle.dns_spec.proofs.Common.{rules, arith, refl, ◌∙◌, take_all, take_more}
 use Rattle.dns_name.proofs.Results.{OnErr-always}
-use Rattle.dns_tools.proofs.LineRuns.{taken_more, taken_all, begun_within, grows_trans}
+use Rattle.dns_tools.proofs.LineRuns.{kept_more, ended_more, begun_within, taken_all, grows_begun, grows_trans, grows_written}
 use Rattle.dns_tools.proofs.once.Exchange.take.Goals as goal
+use Rattle.dns_tools.proofs.once.Exchange.take.Goals.{then-octet-eq10+in_ok-end_line, else-octet-eq10}
 
 pub octets-preserved : goal.octets-preserved
-octets-preserved g c = record {
-  sink = search rules;
-  task = c.in_ok-take_octet.ensures.task ∙ c.octets.invariant.task;
-  taken = λ held x p. taken_more _ _ _ _ _ x _ _ _ _ _ c.octets.invariant.task
-      (take_more c.args.octets.now c.octets.octet-index 0 c.octets-test.true)
-      c.in_ok-take_octet.ensures.taken (c.octets.invariant.taken held x p);
-  grows = grows_trans _ _ _ c.octets.invariant.grows c.in_ok-take_octet.ensures.grows;
-}
+octets-preserved g c =
+    let inv = c.octets.invariant in
+    let next = take_more c.args.octets.now c.octets.octet-index 0 c.octets-test.true in
+    elim c.if-octet-eq10.branch [
+      | then-octet-eq10+in_ok-end_line w ↦
+          let e = w.in_ok-end_line.ensures in
+          rw (w.self-is, w.sink-is) (record {
+            sink = search rules;
+            task = e.task ∙ inv.task;
+            taken = λ held x p. ended_more _ held _ x _ _ _ _ next (inv.taken held x p) _ _ _ inv.task
+                w.if-octet-eq10.true e.answered.ok e.line e.passes;
+            grows = grows_trans _ _ _ inv.grows (grows_written _ _ _ e.answered.ok);
+          })
+      | else-octet-eq10 w ↦
+          rw (w.self-is, w.sink-is) (record {
+            sink = inv.sink;
+            task = inv.task;
+            taken = λ held x p. kept_more _ held _ x _ _ _ _ next (inv.taken held x p) _
+                w.if-octet-eq10.false w.keep.ensures refl;
+            grows = inv.grows;
+          })
+    ]
 
-pub returns-in_err-take_octet-clause-begun : goal.returns-in_err-take_octet-clause-begun
-returns-in_err-take_octet-clause-begun g c = λ held x p.
+pub returns-in_err-end_line-clause-begun : goal.returns-in_err-end_line-clause-begun
+returns-in_err-end_line-clause-begun g c = λ held x p.
+    let inv = c.octets.invariant in
+    let next = take_more c.args.octets.now c.octets.octet-index 0 c.octets-test.true in
     OnErr-always c.from_residual.result
-    (begun_within _ held _ _ x c.args.octets.now c.octets.octet-index _ c.in_err-take_octet.ensures.begun (c.octets.invariant.taken held x p))
+    (begun_within _ held _ x _ _ _ _ next (inv.taken held x p) _ _ inv.task c.if-octet-eq10.true
+    c.in_err-end_line.ensures.answered.err)
 
-pub returns-in_err-take_octet-clause-grows : goal.returns-in_err-take_octet-clause-grows
-returns-in_err-take_octet-clause-grows g c = grows_trans _ _ _ c.octets.invariant.grows c.in_err-take_octet.ensures.grows
+pub returns-in_err-end_line-clause-grows : goal.returns-in_err-end_line-clause-grows
+returns-in_err-end_line-clause-grows g c =
+    grows_trans _ _ _ c.octets.invariant.grows (grows_begun _ _ _ c.in_err-end_line.ensures.answered.err)
 
 pub returns-clause-taken : goal.returns-clause-taken
 returns-clause-taken g c = λ held x p.
-    taken_all _ held _ x c.args.octets.now c.octets.octet-index _ (take_all c.octets.octet-index c.args.octets.now (omega (arith, c.octets-test.false)))
+    taken_all _ held _ x c.args.octets.now c.octets.octet-index _
+    (take_all c.octets.octet-index c.args.octets.now (omega (arith, c.octets-test.false)))
     (c.octets.invariant.taken held x p)

@@ -11,7 +11,7 @@ invariant-octets g l = record {
   taken : (held : Option Octets) (x : Octets)
       → Progress (reply_of l.initial.self) held (g.W.Write.contents l.initial.sink.device) x
       (kept_of l.initial.self)
-      → Progress (reply_of l.initial.self) held (g.W.Write.contents l.sink.device) (x ++ take l.octet-index l.octets)
-      (kept_of l.self);
+      → Progress (reply_of l.initial.self) held (g.W.Write.contents l.sink.device)
+      (x ++ take l.octet-index l.octets) (kept_of l.self);
   grows : Grows (g.W.Write.contents l.initial.sink.device) (g.W.Write.contents l.sink.device);
 }
