@@ -48,8 +48,20 @@ pub fn serve_stream<R: Read, W: Write>(
     ensures source { source.new.failures ≡ source_failures_after source.old.failures result }
     ensures sink { sink.new.failures ≡ sink_failures_after sink.old.failures result }
 {
-    let waits = Cell::new(false);
-    serve_stream_in(zone, source, sink, most, &mut StreamRoom::new(), &waits)
+    let ahead = Cell::new(Ahead::Message);
+    serve_stream_in(zone, source, sink, most, &mut StreamRoom::new(), &ahead)
+}
+
+/// What a session and the reader of its source tell each other of the octets after those that were
+/// read.
+#[derive(Clone, Copy, PartialEq, Eq)]
+pub enum Ahead {
+    /// A message begins: said by the session, before it reads one.
+    Message,
+    /// They have not come, so that the next call may wait: said by the reader, after each call.
+    Awaited,
+    /// A whole message is at hand, if one begins there: said by the reader.
+    AtHand,
 }
 
 /// Room for a session: for what is kept of a message, for its reply after its length, and for the
@@ -77,16 +89,16 @@ impl StreamRoom {
 /// Reads messages and writes their replies, in room that is lent: all of what `serve_stream` says.
 ///
 /// Nothing is left of the sessions that were served in the room before, and nothing is filled in
-/// its size. No memory is taken. The sink is flushed after a message too where the reader of the
-/// source says, by `waits`, that its next call may wait for the peer: a sink that keeps replies
-/// keeps none that is due.
+/// its size. No memory is taken. The sink is flushed after a message too, unless the reader of the
+/// source says, by `ahead`, that the next is at hand: a sink that keeps replies keeps none while
+/// more is waited for.
 pub fn serve_stream_in<R: Read, W: Write>(
     zone: &Zone,
     source: &mut Tally<R>,
     sink: &mut Tally<W>,
     most: u32,
     room: &mut StreamRoom,
-    waits: &Cell<bool>,
+    ahead: &Cell<Ahead>,
 ) -> Result<u32, StreamFault>
     requires source { source.old.failures < 2 ^ 64 - 1 }
     requires sink { sink.old.failures < 2 ^ 64 - 1 }
@@ -97,13 +109,14 @@ pub fn serve_stream_in<R: Read, W: Write>(
 {
     let mut served = 0;
     'messages: while served < most {
+        ahead.set(Ahead::Message);
         let Some(kept) = read_message(source, &mut room.message, &mut room.reply)? else {
             break;
         };
         let (message, _) = room.message.split_at(kept);
         write_reply(zone, message, sink, &mut room.draft, &mut room.reply)?;
         served += 1;
-        if waits.get() || served == most {
+        if ahead.get() != Ahead::AtHand || served == most {
             sink.flush()?;
         }
     }

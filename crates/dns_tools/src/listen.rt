@@ -7,7 +7,7 @@ use crate::peer::{Messages, Peer};
 use crate::socket::Socket;
 use dns_answer::UdpDraft;
 use dns_name::Tally;
-use dns_serve::{Datagrams, StreamFault, StreamRoom, serve_stream_in, udp_turn_in};
+use dns_serve::{Ahead, Datagrams, StreamFault, StreamRoom, serve_stream_in, udp_turn_in};
 use dns_zone::Zone;
 use std::alloc::Global;
 use std::cell::Cell;
@@ -156,7 +156,7 @@ impl Connections {
             return Err(TurnWord::NotAccepted);
         };
         let peer = Peer::new(stream, rt);
-        let waits = Cell::new(true);
+        let ahead = Cell::new(Ahead::Message);
         // Questions that come together are read together, and so are their replies sent, where
         // there is memory for that.
         let (Ok(source), Ok(sink)) = (
@@ -165,9 +165,9 @@ impl Connections {
         ) else {
             return Err(TurnWord::from(StreamFault::SourceFailed));
         };
-        let mut source = Tally::new(Messages::new(source, &waits));
+        let mut source = Tally::new(Messages::new(source, &ahead));
         let mut sink = Tally::new(sink);
-        let served = serve_stream_in(zone, &mut source, &mut sink, MOST_MESSAGES, room, &waits);
+        let served = serve_stream_in(zone, &mut source, &mut sink, MOST_MESSAGES, room, &ahead);
         // What could not be sent is not tried again.
         let _unsent = sink.into_inner().into_parts();
         match served {

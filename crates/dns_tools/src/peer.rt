@@ -1,6 +1,7 @@
 //! The peer of a connection: a stream whose calls wait as long as a message may take, and no
 //! longer.
 
+use dns_serve::Ahead;
 use std::cell::Cell;
 use std::io::{self, BufReader, ErrorKind, Read, Write};
 use std::net::{Shutdown, TcpStream};
@@ -177,76 +178,28 @@ impl<C: Clock> Write for &Peer<'_, C> {
     }
 }
 
-// Where a reader of messages stands, each of which comes after its length in two octets (RFC 1035
-// 4.2.2).
-#[derive(Clone, Copy)]
-enum Place {
-    // Between two messages.
-    Between,
-    // After the first octet of a length, which it is.
-    Length(u8),
-    // So many octets before the end of a message.
-    Message(usize),
-}
-
-impl Place {
-    // The place after what was read at once: octets of a length, or of a message.
-    fn after(self, octets: &[u8]) -> Place {
-        match self {
-            Place::Between => match octets {
-                [] => Place::Between,
-                [high] => Place::Length(*high),
-                [high, low, ..] => Place::after_length(*high, *low),
-            },
-            Place::Length(high) => match octets.first() {
-                Some(low) => Place::after_length(high, *low),
-                None => Place::Length(high),
-            },
-            Place::Message(left) => Place::before_end(left.saturating_sub(octets.len())),
-        }
-    }
-
-    fn after_length(high: u8, low: u8) -> Place {
-        Place::before_end(usize::from(u16::from_be_bytes([high, low])))
-    }
-
-    fn before_end(left: usize) -> Place {
-        if left == 0 {
-            Place::Between
-        } else {
-            Place::Message(left)
-        }
-    }
-}
-
 /// What a peer says, by a reader of it that reads ahead: says whether the message after the one
-/// that is read has not come, and tells the peer where each message begins for who reads them here.
+/// that is read has come, and tells the peer where each message begins for who reads them here.
 #[derive(Drop)]
 pub struct Messages<'a, C: Clock> {
     source: BufReader<&'a Peer<'a, C>>,
-    waits: &'a Cell<bool>,
-    place: Place,
+    ahead: &'a Cell<Ahead>,
 }
 
 impl<'a, C: Clock> Messages<'a, C> {
-    /// The messages of a peer, from the first on. After each read `waits` is whether no whole
-    /// message is at hand.
+    /// The messages of a peer, from the first on. Who reads them says by `ahead` where one begins.
     pub(crate) fn new(
         source: BufReader<&'a Peer<'a, C>>,
-        waits: &'a Cell<bool>,
+        ahead: &'a Cell<Ahead>,
     ) -> Messages<'a, C> {
-        Messages {
-            source,
-            waits,
-            place: Place::Between,
-        }
+        Messages { source, ahead }
     }
 }
 
 impl<C: Clock> Read for Messages<'_, C> {
     fn read(&mut self, buf: &mut [u8]) -> io::Result<usize> {
         let peer = *self.source.get_ref();
-        let begins = matches!(self.place, Place::Between);
+        let begins = self.ahead.get() == Ahead::Message;
         if begins {
             peer.current.set(Current::Awaited);
         }
@@ -254,18 +207,16 @@ impl<C: Clock> Read for Messages<'_, C> {
         if begins {
             peer.current.set(Current::Begun);
         }
-        self.place = self.place.after(&buf[..count]);
-        self.waits.set(!begin_with_message(self.source.buffer()));
+        self.ahead.set(ahead_of(self.source.buffer()));
         Ok(count)
     }
 }
 
-// Whether octets begin with a whole message after its length.
-fn begin_with_message(octets: &[u8]) -> bool {
+// Whether octets begin with a whole message after its length (RFC 1035 4.2.2).
+fn ahead_of(octets: &[u8]) -> Ahead {
     match octets {
-        [high, low, message @ ..] => {
-            message.len() >= usize::from(u16::from_be_bytes([*high, *low]))
-        }
-        _ => false,
+        [high, low, message @ ..]
+            if message.len() >= usize::from(u16::from_be_bytes([*high, *low])) => { Ahead::AtHand }
+        _ => Ahead::Awaited,
     }
 }

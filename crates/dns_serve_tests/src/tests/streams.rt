@@ -1,9 +1,10 @@
 use super::zones::{WWW, WWW_REPLY, sample};
 use dns_name::Tally;
 use dns_samples_tests::{Kept, Pieces};
-use dns_serve::{StreamFault, StreamRoom, serve_stream, serve_stream_in};
+use dns_serve::{Ahead, StreamFault, StreamRoom, serve_stream, serve_stream_in};
 use std::alloc::Global;
 use std::cell::Cell;
+use std::io::{self, Read};
 use std::test::Fail;
 
 /// What a session left: its answer, what was written, and how many octets were not read.
@@ -22,24 +23,44 @@ struct Devices {
     most: usize,
     reads: u32,
     writes: u32,
-    waits: bool,
+    ahead: Ahead,
+}
+
+// A source that says of each octet after those that it gave the same.
+#[derive(Drop)]
+struct Telling<'a> {
+    source: Pieces<'a>,
+    ahead: &'a Cell<Ahead>,
+    says: Ahead,
+}
+
+impl Read for Telling<'_> {
+    fn read(&mut self, buf: &mut [u8]) -> io::Result<usize> {
+        let count = self.source.read(buf)?;
+        self.ahead.set(self.says);
+        Ok(count)
+    }
 }
 
 const ALL_WORK: Devices = Devices {
     most: 100_000,
     reads: 1_000_000,
     writes: 1_000_000,
-    waits: false,
+    ahead: Ahead::AtHand,
 };
 
 fn session(alloc: Global, input: &[u8], most: u32, devices: Devices) -> Result<Left, Fail> {
     let zone = sample(alloc)?;
-    let mut source = Tally::new(Pieces::new(input, devices.most, devices.reads));
+    let (mut room, ahead) = (StreamRoom::new(), Cell::new(Ahead::Message));
+    let mut source = Tally::new(Telling {
+        source: Pieces::new(input, devices.most, devices.reads),
+        ahead: &ahead,
+        says: devices.ahead,
+    });
     let mut sink = Tally::new(Kept::new(alloc, devices.most, devices.writes));
-    let (mut room, waits) = (StreamRoom::new(), Cell::new(devices.waits));
-    let answer = serve_stream_in(&zone, &mut source, &mut sink, most, &mut room, &waits);
+    let answer = serve_stream_in(&zone, &mut source, &mut sink, most, &mut room, &ahead);
     let failures = (source.failures(), sink.failures());
-    let (source, sink) = (source.into_inner(), sink.into_inner());
+    let (source, sink) = (source.into_inner().source, sink.into_inner());
     // Both would work again after their failure.
     if source.calls.has_failed() != (answer == Err(StreamFault::SourceFailed)) {
         return Err(Fail::new("a source that is asked after its failure"));
@@ -131,8 +152,8 @@ fn sessions_in_one_room(rt: HostRuntime) -> Result<(), Fail> {
         let input = frames(alloc, messages)?;
         let mut source = Tally::new(input.as_slice());
         let mut sink = Tally::new(Vec::new(alloc));
-        let waits = Cell::new(false);
-        let answer = serve_stream_in(&zone, &mut source, &mut sink, 9, &mut room, &waits);
+        let ahead = Cell::new(Ahead::Message);
+        let answer = serve_stream_in(&zone, &mut source, &mut sink, 9, &mut room, &ahead);
         assert_eq!(rt; answer.map(|count| count as usize), Ok(messages.len()));
         assert!(rt;
             sink.into_inner() == frames(alloc, replies)?,
@@ -230,7 +251,7 @@ fn each_send_fails_in_turn(rt: HostRuntime) -> Result<(), Fail> {
     for call in 0..5 {
         let devices = Devices {
             writes: call,
-            waits: true,
+            ahead: Ahead::Awaited,
             ..ALL_WORK
         };
         let left = session(rt.alloc(), input.as_slice(), 9, devices)?;
