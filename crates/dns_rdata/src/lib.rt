@@ -29,6 +29,3 @@ pub use rtype::RType;
 pub use set::SetView;
 pub use table::{Fixed, NumberSize, Piece, pieces_of_type};
 pub use word::{Word, Words};
-
-#[cfg(test)]
-mod tests;

@@ -1,6 +1,6 @@
 ghost use Rattle.dns_spec.specs.Data.{Valid};
 
-use crate::{RType, Rdata, SetView};
+use dns_rdata::{RType, Rdata, SetView};
 use std::test::Fail;
 
 /// A set of one record.

@@ -1,9 +1,7 @@
-ghost use Rattle.std.specs.Prelude.{◌<◌, ◌-◌, ◌^◌};
-
-use crate::{RType, Rdata};
+use crate::tests::said::write;
 use arrayvec::ArrayVec;
-use dns_name::{SinkFailed, Tally};
-use std::alloc::Global;
+use dns_name::Tally;
+use dns_rdata::RType;
 use std::io::{self, ErrorKind, Write};
 use std::test::Fail;
 
@@ -11,8 +9,9 @@ use std::test::Fail;
 const SOA: [u8; 32] =
     *b"\x02Ns\x00\x04mail\x01x\x00\x00\x00\x00\x01\x00\x00\x1c\x20\x00\x00\x03\x84\x00\x12\x75\x00\x00\x00\x01\x2c";
 
-const ROWS: [(RType, &[u8], &[u8]); 21] = [
+const ROWS: [(RType, &[u8], &[u8]); 25] = [
     (RType::A, b"\xc0\x00\x02\x01", b"192.0.2.1"),
+    (RType::A, b"\xff\xff\xff\xff", b"255.255.255.255"),
     (
         RType::AAAA,
         b"\x20\x01\x0d\xb8\x00\x00\x00\x00\x00\x01\x00\x00\x00\x00\x00\x01",
@@ -47,10 +46,13 @@ const ROWS: [(RType, &[u8], &[u8]); 21] = [
     (RType::HINFO, b"\x03A B\x02\\;", b"\"A B\" \"\\\\;\""),
     (RType::TXT, b"\x04a\"b\x09", b"\"a\\\"b\\009\""),
     (RType::TXT, b"\x00", b"\"\""),
+    (RType::TXT, b"\x05 ~\\.;", b"\" ~\\\\.;\""),
+    (RType::TXT, b"\x03\x7f\xff\x00", b"\"\\127\\255\\000\""),
     (RType::TXT, b"\x02AB\x00\x01\xff", b"\"AB\" \"\" \"\\255\""),
     (RType(65280), b"", b"\\# 0"),
     (RType(65280), b"\xab\xcd\xef", b"\\# 3 abcdef"),
     (RType(65280), b"\x00", b"\\# 1 00"),
+    (RType(65280), b"\x00\x9a\xaf\xff", b"\\# 4 009aafff"),
     (RType(0), b"\xc0\x0c", b"\\# 2 c00c"),
     (
         RType(65),
@@ -58,21 +60,6 @@ const ROWS: [(RType, &[u8], &[u8]); 21] = [
         b"\\# 11 000102030405060708090a",
     ),
 ];
-
-// Octets that are no data are written as nothing.
-fn write<W: Write>(
-    alloc: Global,
-    rtype: RType,
-    octets: &[u8],
-    sink: &mut Tally<W>,
-) -> Result<(), SinkFailed>
-    requires { sink.old.failures < 2 ^ 64 - 1 }
-{
-    match Rdata::from_wire(alloc, rtype, octets) {
-        Ok(_) => Rdata::write_text(rtype, octets, sink),
-        Err(_) => Ok(()),
-    }
-}
 
 #[test]
 fn data_written(rt: HostRuntime) -> Result<(), Fail> {

@@ -1,21 +1,24 @@
-use crate::unknown::{is_unknown_mark, put_unknown};
-use crate::{RdataFault, Word};
-use std::alloc::{AllocError, Global};
+use crate::tests::said::read;
+use dns_rdata::{RType, Rdata, RdataFault, Word};
+use std::alloc::Global;
 use std::test::Fail;
 
-// Words of which all are quoted, or none.
-fn words<'a>(alloc: Global, raws: &[&'a [u8]], quoted: bool) -> Result<Vec<Word<'a>>, AllocError> {
+// A type without a layout of its own.
+const ANY: RType = RType(65280);
+
+const MARK: Word<'static> = Word {
+    raw: b"\\#",
+    quoted: false,
+};
+
+// What `\#` and the words after it say, which are all quoted, or none.
+fn said(alloc: Global, raws: &[&[u8]], quoted: bool) -> Result<Result<Rdata, RdataFault>, Fail> {
     let mut words = Vec::new(alloc);
+    words.push(MARK)?;
     for raw in raws {
         words.push(Word { raw: *raw, quoted })?;
     }
-    Ok(words)
-}
-
-fn octets_of(alloc: Global, words: &[Word<'_>]) -> Result<Vec<u8>, RdataFault> {
-    let mut octets = Vec::new(alloc);
-    put_unknown(words, &mut octets)?;
-    Ok(octets)
+    read(alloc, ANY, &words)
 }
 
 #[test]
@@ -30,28 +33,29 @@ fn marks(rt: HostRuntime) -> Result<(), Fail> {
         (b"", false, false),
     ];
     for (raw, quoted, wanted) in rows {
-        assert_eq!(rt;
-            is_unknown_mark(&Word { raw, quoted }),
-            wanted,
-            "at {raw:?}"
-        );
+        let count = Word {
+            raw: b"0",
+            quoted: false,
+        };
+        let said = read(rt.alloc(), ANY, &[Word { raw, quoted }, count])?;
+        assert_eq!(rt; said.is_ok(), wanted, "at {raw:?}");
     }
     Ok(())
 }
 
 #[test]
 fn octets_said(rt: HostRuntime) -> Result<(), Fail> {
-    let rows: [(&[&[u8]], &[u8]); 5] = [
+    let rows: [(&[&[u8]], &[u8]); 6] = [
         (&[b"4", b"C0000201"], b"\xc0\x00\x02\x01"),
         (&[b"0"], b""),
         (&[b"2", b"abcd"], b"\xab\xcd"),
         (&[b"2", b"ab", b"cd"], b"\xab\xcd"),
         (&[b"3", b"aBCd", b"0F"], b"\xab\xcd\x0f"),
+        (&[b"3", b"09aAfF"], b"\x09\xaa\xff"),
     ];
     for (raws, wanted) in rows {
-        let words = words(rt.alloc(), raws, false)?;
-        match octets_of(rt.alloc(), words.as_slice()) {
-            Ok(octets) => assert_eq!(rt; octets.as_slice(), wanted, "at {raws:?}"),
+        match said(rt.alloc(), raws, false)? {
+            Ok(data) => assert_eq!(rt; data.octets(), wanted, "at {raws:?}"),
             Err(_) => return Err("words that say octets".into()),
         }
     }
@@ -60,7 +64,7 @@ fn octets_said(rt: HostRuntime) -> Result<(), Fail> {
 
 #[test]
 fn words_refused(rt: HostRuntime) -> Result<(), Fail> {
-    let rows: [(&[&[u8]], bool); 15] = [
+    let rows: [(&[&[u8]], bool); 19] = [
         (&[], false),
         (&[b""], false),
         (&[b"2", b"abc", b"d"], false),
@@ -72,29 +76,30 @@ fn words_refused(rt: HostRuntime) -> Result<(), Fail> {
         (&[b"2", b"abcd", b""], false),
         (&[b"0", b""], false),
         (&[b"2", b"abcg"], false),
+        (&[b"1", b"0g"], false),
+        (&[b"1", b"g0"], false),
+        (&[b"1", b"0x"], false),
+        (&[b"1", b"@0"], false),
         (&[b"2"], false),
         (&[b"abcd"], false),
         (&[b"+2", b"abcd"], false),
         (&[b"65536", b"abcd"], false),
     ];
     for (raws, quoted) in rows {
-        let words = words(rt.alloc(), raws, quoted)?;
-        match octets_of(rt.alloc(), words.as_slice()) {
+        match said(rt.alloc(), raws, quoted)? {
             Ok(_) => return Err("words that say no octets".into()),
             Err(fault) => assert_eq!(rt; fault.code(), 6, "at {raws:?}"),
         }
     }
-    let words = [
-        Word {
-            raw: b"1",
-            quoted: false,
-        },
-        Word {
-            raw: b"ab",
-            quoted: true,
-        },
-    ];
-    assert!(rt; octets_of(rt.alloc(), words.as_slice()).is_err());
+    let count = Word {
+        raw: b"1",
+        quoted: false,
+    };
+    let digits = Word {
+        raw: b"ab",
+        quoted: true,
+    };
+    assert!(rt; read(rt.alloc(), ANY, &[MARK, count, digits])?.is_err());
     Ok(())
 }
 
@@ -103,12 +108,10 @@ fn words_refused(rt: HostRuntime) -> Result<(), Fail> {
 fn longest_octets(rt: HostRuntime) -> Result<(), Fail> {
     let mut digits = Vec::new(rt.alloc());
     digits.resize(131_070, b'a')?;
-    let said = words(rt.alloc(), &[b"65535", &digits], false)?;
-    match octets_of(rt.alloc(), &said) {
-        Ok(octets) => assert_eq!(rt; octets.len(), 65_535),
+    match said(rt.alloc(), &[b"65535", &digits], false)? {
+        Ok(data) => assert_eq!(rt; data.octets().len(), 65_535),
         Err(_) => return Err("words that say octets".into()),
     }
-    let longer = words(rt.alloc(), &[b"65536", &digits, b"aa"], false)?;
-    assert!(rt; octets_of(rt.alloc(), &longer).is_err());
+    assert!(rt; said(rt.alloc(), &[b"65536", &digits, b"aa"], false)?.is_err());
     Ok(())
 }

@@ -1,5 +1,5 @@
-use crate::{RType, RdataFault};
 use dns_name::Tally;
+use dns_rdata::{RType, RdataFault};
 use std::io::{self, ErrorKind, Write};
 use std::test::Fail;
 

@@ -1,8 +1,7 @@
-mod hex;
-mod ipv4;
-mod ipv6;
+mod addresses;
 mod number;
 mod rdata;
+mod said;
 mod set;
 mod string;
 mod types;

@@ -1,7 +1,8 @@
 ghost use Rattle.std.specs.Prelude.{false, replicate};
 
-use crate::{DataRoom, RType, Rdata, RdataFault, Word, Words};
+use crate::tests::said::read;
 use dns_name::Name;
+use dns_rdata::{DataRoom, RType, Rdata, RdataFault, Word, Words};
 use std::alloc::Global;
 use std::test::Fail;
 
@@ -25,15 +26,8 @@ fn words<'a>(alloc: Global, text: &'a [u8]) -> Result<Vec<Word<'a>>, Fail> {
     Ok(words)
 }
 
-// The data is read twice in one room: nothing is left of what was read before.
-fn read(alloc: Global, rtype: RType, text: &[u8]) -> Result<Result<Rdata, RdataFault>, Fail> {
-    let origin = Name::read_text(b"Example.", &Name::root())?;
-    let words = words(alloc, text)?;
-    let mut room = DataRoom::new(alloc);
-    if let Ok(before) = Rdata::read_words_in(&mut room, rtype, words.as_slice(), &origin) {
-        room.take_back(before);
-    }
-    Ok(Rdata::read_words_in(&mut room, rtype, words.as_slice(), &origin))
+fn read_line(alloc: Global, rtype: RType, text: &[u8]) -> Result<Result<Rdata, RdataFault>, Fail> {
+    read(alloc, rtype, words(alloc, text)?.as_slice())
 }
 
 const ANY: RType = RType(65280);
@@ -82,7 +76,7 @@ fn data_that_words_say(rt: HostRuntime) -> Result<(), Fail> {
         (RType(0), b"\\# 2 c00c", b"\xc0\x0c"),
     ];
     for (rtype, text, wanted) in rows {
-        match read(rt.alloc(), rtype, text)? {
+        match read_line(rt.alloc(), rtype, text)? {
             Ok(data) => assert_eq!(rt; data.octets(), wanted, "at {text:?}"),
             Err(_) => return Err("words that say data".into()),
         }
@@ -129,7 +123,7 @@ fn faults_in_their_order(rt: HostRuntime) -> Result<(), Fail> {
         (ANY, b"\"\\#\" 0", RdataFault::BadHex),
     ];
     for (rtype, text, wanted) in rows {
-        let found = read(rt.alloc(), rtype, text)?.err();
+        let found = read_line(rt.alloc(), rtype, text)?.err();
         assert_eq!(rt; found, Some(wanted), "at {text:?}");
     }
     Ok(())

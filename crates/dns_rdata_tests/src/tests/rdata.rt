@@ -1,7 +1,7 @@
 ghost use Rattle.std.specs.Prelude.{◌≡◌, length, IfOk};
 ghost use Rattle.dns_spec.specs.Data.{Valid, parts};
 
-use crate::{Part, RType, Rdata};
+use dns_rdata::{Part, RType, Rdata};
 use std::alloc::{AllocError, Global};
 use std::process::Abort;
 use std::test::Fail;

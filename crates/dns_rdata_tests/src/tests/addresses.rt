@@ -1,6 +1,32 @@
-use crate::ipv6::read_ipv6;
-use crate::ipv6_text::text_of_ipv6;
+use crate::tests::said::{read, write};
+use dns_name::Tally;
+use dns_rdata::{RType, Word};
 use std::test::Fail;
+
+#[test]
+fn ipv4_read(rt: HostRuntime) -> Result<(), Fail> {
+    let rows: [(&[u8], Option<&[u8]>); 12] = [
+        (b"192.0.2.1", Some(b"\xc0\x00\x02\x01")),
+        (b"0.0.0.0", Some(b"\x00\x00\x00\x00")),
+        (b"255.255.255.255", Some(b"\xff\xff\xff\xff")),
+        (b"256.0.2.1", None),
+        (b"192.0.2.01", None),
+        (b"192.0.2", None),
+        (b"192.0.2.1.", None),
+        (b"192.0.2.1.5", None),
+        (b"192.0..1", None),
+        (b".192.0.2", None),
+        (b"192.0.2.a", None),
+        (b"", None),
+    ];
+    for (raw, wanted) in rows {
+        let word = Word { raw, quoted: false };
+        let address = read(rt.alloc(), RType::A, &[word])?.ok();
+        let octets = address.as_ref().map(|data| data.octets());
+        assert_eq!(rt; octets, wanted, "at {raw:?}");
+    }
+    Ok(())
+}
 
 #[test]
 fn ipv6_read(rt: HostRuntime) -> Result<(), Fail> {
@@ -46,13 +72,11 @@ fn ipv6_read(rt: HostRuntime) -> Result<(), Fail> {
             b"\x00\x0a\x00\x0b\x00\x0c\x00\x0d\x00\x0e\x00\x0f\x00\x00\x00\x00",
         ),
     ];
-    for (word, octets) in rows {
-        let address = read_ipv6(word);
-        assert_eq!(rt;
-            address.as_ref().map(|address| address.as_slice()),
-            Some(octets),
-            "at {word:?}"
-        );
+    for (raw, wanted) in rows {
+        let word = Word { raw, quoted: false };
+        let address = read(rt.alloc(), RType::AAAA, &[word])?.ok();
+        let octets = address.as_ref().map(|data| data.octets());
+        assert_eq!(rt; octets, Some(wanted), "at {raw:?}");
     }
     Ok(())
 }
@@ -77,8 +101,12 @@ fn ipv6_refused(rt: HostRuntime) -> Result<(), Fail> {
         b"1:2:3:4:5:6:7:",
         b"1::2:",
     ];
-    for word in words {
-        assert!(rt; read_ipv6(word).is_none(), "at {word:?}");
+    for raw in words {
+        let word = Word { raw, quoted: false };
+        assert!(rt;
+            read(rt.alloc(), RType::AAAA, &[word])?.is_err(),
+            "at {raw:?}"
+        );
     }
     Ok(())
 }
@@ -97,14 +125,15 @@ fn ipv6_written(rt: HostRuntime) -> Result<(), Fail> {
         b"ffff:1fff:1ff:1f:f:fff0:ff00:f000",
         b"a::b:c:0:0",
     ];
-    for word in words {
-        let address = read_ipv6(word);
-        let text = address.as_ref().map(text_of_ipv6);
-        assert_eq!(rt;
-            text.as_ref().map(|text| text.as_slice()),
-            Some(word),
-            "at {word:?}"
-        );
+    for raw in words {
+        let word = Word { raw, quoted: false };
+        let Ok(address) = read(rt.alloc(), RType::AAAA, &[word])? else {
+            return Err("an address".into());
+        };
+        let mut sink = Tally::new(Vec::new(rt.alloc()));
+        let written = write(rt.alloc(), RType::AAAA, address.octets(), &mut sink);
+        assert_eq!(rt; written, Ok(()));
+        assert_eq!(rt; sink.into_inner().as_slice(), raw);
     }
     Ok(())
 }

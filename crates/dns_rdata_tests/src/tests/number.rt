@@ -1,4 +1,4 @@
-use crate::number::read_number;
+use dns_rdata::read_number;
 use std::test::Fail;
 
 #[test]

@@ -2,7 +2,7 @@ use Rattle.dns_spec.proofs.Common.{List, map, ap, ◌∙◌, length-map, parts}
 use Rattle.std.proofs.lemmas.Iterator.Consumers.{YieldsList-from_first, count_from_yields_List}
 use Rattle.dns_spec.specs.Data as Data
 use Rattle.dns_rdata.specs.Parts.{shown_part, with_octets}
-use Rattle.dns_rdata.proofs.tests.rdata.part_count.Goals as goal
+use Rattle.dns_rdata_tests.proofs.tests.rdata.part_count.Goals as goal
 
 pub returns : goal.returns
 returns c =

@@ -1,0 +1,36 @@
+ghost use Rattle.std.specs.Prelude.{◌<◌, ◌-◌, ◌^◌};
+
+use dns_name::{Name, SinkFailed, Tally};
+use dns_rdata::{DataRoom, RType, Rdata, RdataFault, Word};
+use std::alloc::Global;
+use std::io::Write;
+use std::test::Fail;
+
+// The data that words say. It is read twice in one room: nothing is left of what was read before.
+pub(crate) fn read(
+    alloc: Global,
+    rtype: RType,
+    words: &[Word<'_>],
+) -> Result<Result<Rdata, RdataFault>, Fail> {
+    let origin = Name::read_text(b"Example.", &Name::root())?;
+    let mut room = DataRoom::new(alloc);
+    if let Ok(before) = Rdata::read_words_in(&mut room, rtype, words, &origin) {
+        room.take_back(before);
+    }
+    Ok(Rdata::read_words_in(&mut room, rtype, words, &origin))
+}
+
+// Octets that are no data are written as nothing.
+pub(crate) fn write<W: Write>(
+    alloc: Global,
+    rtype: RType,
+    octets: &[u8],
+    sink: &mut Tally<W>,
+) -> Result<(), SinkFailed>
+    requires { sink.old.failures < 2 ^ 64 - 1 }
+{
+    match Rdata::from_wire(alloc, rtype, octets) {
+        Ok(_) => Rdata::write_text(rtype, octets, sink),
+        Err(_) => Ok(()),
+    }
+}
