@@ -133,7 +133,7 @@ memory:
 	tools/refuse-memory zonecheck
 	tools/refuse-memory zoneserve
 
-# Times how data is read and written, and measures the checker. It decides nothing, and is no part of the gate.
+# Counts how data is read and written and questions answered, and measures the checker. It decides nothing, and is no part of the gate.
 bench:
 	tools/bench
 	tools/bench-checker
