@@ -30,8 +30,8 @@ const MOST_FRAME: usize = 65_537;
 /// replies to all messages before are written. `SinkFailed`: the replies before that to the last
 /// message read are written, and a beginning of that one; nothing after that message is read. Of a
 /// message the first 512 octets are kept, the rest is read and let go. Nothing is tried again, and
-/// no memory is taken. After the last of `most` messages the sink is flushed, and a sink that
-/// keeps what it is given passes it on then.
+/// no memory is taken. The sink is flushed after each message, and one that keeps what it is given
+/// passes it on then.
 ///
 /// The room of the replies, some 197,000 octets, is filled first. Who serves many streams, or has
 /// little stack, keeps a `StreamRoom`, and calls `serve_stream_in`.

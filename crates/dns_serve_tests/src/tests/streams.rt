@@ -7,10 +7,12 @@ use std::cell::Cell;
 use std::io::{self, Read};
 use std::test::Fail;
 
-/// What a session left: its answer, what was written, and how many octets were not read.
+/// What a session left: its answer, how often it said that a message begins, what was written, and
+/// how many octets were not read.
 #[derive(Drop)]
 struct Left {
     answer: Result<u32, StreamFault>,
+    begun: usize,
     written: Vec<u8>,
     unread: usize,
     failures: (u64, u64),
@@ -26,16 +28,21 @@ struct Devices {
     ahead: Ahead,
 }
 
-// A source that says of each octet after those that it gave the same.
+// A source that says of each octet after those that it gave the same, and counts the messages that
+// begin.
 #[derive(Drop)]
 struct Telling<'a> {
     source: Pieces<'a>,
     ahead: &'a Cell<Ahead>,
     says: Ahead,
+    begun: usize,
 }
 
 impl Read for Telling<'_> {
     fn read(&mut self, buf: &mut [u8]) -> io::Result<usize> {
+        if self.ahead.get() == Ahead::Message {
+            self.begun = self.begun.saturating_add(1);
+        }
         let count = self.source.read(buf)?;
         self.ahead.set(self.says);
         Ok(count)
@@ -56,11 +63,13 @@ fn session(alloc: Global, input: &[u8], most: u32, devices: Devices) -> Result<L
         source: Pieces::new(input, devices.most, devices.reads),
         ahead: &ahead,
         says: devices.ahead,
+        begun: 0,
     });
     let mut sink = Tally::new(Kept::new(alloc, devices.most, devices.writes));
     let answer = serve_stream_in(&zone, &mut source, &mut sink, most, &mut room, &ahead);
     let failures = (source.failures(), sink.failures());
-    let (source, sink) = (source.into_inner().source, sink.into_inner());
+    let (telling, sink) = (source.into_inner(), sink.into_inner());
+    let (source, begun) = (telling.source, telling.begun);
     // Both would work again after their failure.
     if source.calls.has_failed() != (answer == Err(StreamFault::SourceFailed)) {
         return Err(Fail::new("a source that is asked after its failure"));
@@ -70,6 +79,7 @@ fn session(alloc: Global, input: &[u8], most: u32, devices: Devices) -> Result<L
     }
     Ok(Left {
         answer,
+        begun,
         written: sink.text,
         unread: source.text.len(),
         failures,
@@ -138,6 +148,8 @@ fn messages_and_their_replies(rt: HostRuntime) -> Result<(), Fail> {
             assert!(rt; left.written == wanted, "of {messages}");
             assert_eq!(rt; left.unread, unread, "of {messages}");
             assert_eq!(rt; left.failures, (0, 0));
+            // The end of the source is found where a message would begin.
+            assert_eq!(rt; left.begun, read.len().saturating_add(1).min(most as usize));
         }
     }
     Ok(())
