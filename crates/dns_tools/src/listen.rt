@@ -31,7 +31,7 @@ pub fn socket_at<R: Net>(rt: &R, address: &str) -> Result<Socket, FaultWord>
     }) }
     ensures fault { IfErr result (λ fault. fault ≡ FaultWord.NotBound) }
 {
-    match bound(rt, address) {
+    match UdpSocket::bind(rt, socket_address(address)?) {
         Ok(socket) => Ok(Socket::new(socket)),
         Err(_) => Err(FaultWord::NotBound),
     }
@@ -71,15 +71,13 @@ pub fn serve_datagrams<E: Eprint, D: Datagrams>(
     are_said
 }
 
-fn bound<R: Net>(rt: &R, address: &str) -> io::Result<UdpSocket> {
-    UdpSocket::bind(rt, socket_address(address)?)
-}
-
 // An address and a port: no name is looked up.
-fn socket_address(address: &str) -> io::Result<SocketAddr> {
-    match address.parse::<SocketAddr>() {
+fn socket_address(address: &str) -> Result<SocketAddr, FaultWord>
+    ensures { IfErr result (λ fault. fault ≡ FaultWord.NotBound) }
+{
+    match address.parse() {
         Ok(address) => Ok(address),
-        Err(_) => Err(io::Error::from(io::ErrorKind::InvalidInput)),
+        Err(_) => Err(FaultWord::NotBound),
     }
 }
 
@@ -109,7 +107,7 @@ where
     R: Net<Listener = TcpListener, Stream = TcpStream> + Clock + Eprint + AllocGlobal,
     ensures { IfErr result (λ fault. fault ≡ FaultWord.NotBound) }
 {
-    let Ok(listener) = listening(rt, address) else {
+    let Ok(listener) = TcpListener::bind(rt, socket_address(address)?) else {
         return Err(FaultWord::NotBound);
     };
     let mut connections = Connections { listener, asked: 0 };
@@ -122,13 +120,6 @@ where
     let are_all_asked = connections.asked == u64::from(turns);
     prove!(are_all_asked);
     Ok(are_said)
-}
-
-fn listening<R: Net<Listener = TcpListener, Stream = TcpStream>>(
-    rt: &R,
-    address: &str,
-) -> io::Result<TcpListener> {
-    TcpListener::bind(rt, socket_address(address)?)
 }
 
 // A listener, with the count of the connections that it was asked for.

@@ -104,25 +104,13 @@ fn print_octets<W: Write>(alloc: Global, octets: &[u8], sink: &mut Tally<W>) -> 
             write_message(&message, sink)?;
             Ok(true)
         }
-        Err(fault) => print_fault(fault, sink),
-    }
-}
-
-// Says that octets are no message, unless no memory was found.
-fn print_fault<W: Write>(fault: WireFault, sink: &mut Tally<W>) -> Result<bool, Stop>
-    requires { sink.old.failures < 2 ^ 64 - 1 }
-    ensures counted { sink.new.failures ≡ sink_failures_after sink.old.failures result }
-    ensures stop { IfErr result (λ stop. stop ≢ Stop.Source) }
-    ensures unwritten { result ≡ Err Stop.Memory → sink.new ≡ sink.old }
-    ensures printed { ReportedAs (IsFaultReport fault) result (W.contents sink.old.device)
-        (W.contents sink.new.device) }
-{
-    match fault {
-        WireFault::NoMemory => Err(Stop::Memory),
-        _ => {
-            write_fault(fault, sink)?;
-            Ok(false)
-        }
+        Err(fault) => match fault {
+            WireFault::NoMemory => Err(Stop::Memory),
+            _ => {
+                write_fault(fault, sink)?;
+                Ok(false)
+            }
+        },
     }
 }
 

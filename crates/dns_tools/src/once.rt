@@ -118,23 +118,7 @@ impl<'z> Exchange<'z> {
             self.take(&piece[..count], sink)?;
             left -= count as u64;
         }
-        Ok(self.finish(sink)?)
-    }
-
-    // Answers the line that nothing ends, where there is one, and tells whether each line was a
-    // message.
-    fn finish<W: Write>(&mut self, sink: &mut Tally<W>) -> Result<bool, SinkFailed>
-        requires { sink.old.failures < 2 ^ 64 - 1 }
-        ensures counted { sink.new.failures ≡ failures_after sink.old.failures result }
-        ensures answered { (held : Option Octets) (x : Octets)
-            → Progress (reply_of self.old) held (W.contents sink.old.device) x (kept_of self.old)
-            → IfOk result (Answered (reply_of self.old) held (W.contents sink.new.device) x) }
-        ensures begun { (held : Option Octets) (x : Octets)
-            → Progress (reply_of self.old) held (W.contents sink.old.device) x (kept_of self.old)
-            → OnErr result (AppendsBeginning held (W.contents sink.new.device)
-            (line_answers (reply_of self.old) (lines x))) }
-        ensures grows { Grows (W.contents sink.old.device) (W.contents sink.new.device) }
-    {
+        // The line that nothing ends, where there is one.
         if !self.line.is_empty() {
             self.end_line(sink)?;
         }

@@ -59,7 +59,7 @@ impl Part<'_> {
             Part::Text(text) => sink.write_all(text),
             Part::Number(number) => write_number(*number, sink),
             Part::Hex(number) => sink.write_all(hex_of(*number).as_slice()),
-            Part::Code(code) => sink.write_all(two_digits(*code).as_slice()),
+            Part::Code(code) => sink.write_all(&[b'0' + *code / 10, b'0' + *code % 10]),
             Part::Name(name) => name.write_text(sink),
             Part::BareName(name) => name.write_bare_text(sink),
             Part::Class(class) => write_class(*class, sink),
@@ -100,10 +100,4 @@ fn hex_of(number: u16) -> [u8; 4]
         unreachable!();
     }
     digits
-}
-
-fn two_digits(code: u8) -> [u8; 2]
-    ensures { result ≡ two_digits code }
-{
-    [b'0' + code / 10, b'0' + code % 10]
 }

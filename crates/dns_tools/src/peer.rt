@@ -212,7 +212,8 @@ impl<C: Clock> Read for Messages<'_, C> {
     }
 }
 
-// Whether octets begin with a whole message after its length (RFC 1035 4.2.2).
+// What octets that were read ahead show: a whole message after its length (RFC 1035 4.2.2), or that
+// the next call may wait.
 fn ahead_of(octets: &[u8]) -> Ahead {
     match octets {
         [high, low, message @ ..]

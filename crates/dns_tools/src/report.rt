@@ -39,22 +39,15 @@ pub(crate) fn write_check_faults<W: Write>(
     ensures { Writes W.contents sink.old sink.new result (flat_map fault_report faults.now) }
 {
     'faults: for fault in faults {
-        write_check_fault(fault, sink)?;
+        let line = [
+            Part::Name(&fault.owner),
+            Part::Text(b" Z"),
+            Part::Code(fault.code),
+            Part::Text(b"\n"),
+        ];
+        write_parts(line.as_slice(), sink)?;
     }
     Ok(())
-}
-
-fn write_check_fault<W: Write>(fault: &CheckFault, sink: &mut Tally<W>) -> Result<(), SinkFailed>
-    requires { sink.old.failures < 2 ^ 64 - 1 }
-    ensures { Writes W.contents sink.old sink.new result (fault_report fault.now) }
-{
-    let line = [
-        Part::Name(&fault.owner),
-        Part::Text(b" Z"),
-        Part::Code(fault.code),
-        Part::Text(b"\n"),
-    ];
-    write_parts(line.as_slice(), sink)
 }
 
 /// Writes the lines of a zone that passes: `zone example/IN: loaded serial 1` and `OK`.

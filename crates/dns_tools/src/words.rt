@@ -128,12 +128,6 @@ fn given_origin(word: &str) -> Result<Name, FaultWord>
     Ok(origin.fold())
 }
 
-fn begins_with_dash(word: &str) -> bool
-    ensures { result ≡ is_dashed word.now }
-{
-    matches!(word.as_bytes(), [b'-', ..])
-}
-
 // How to serve, ORIGIN and FILE as they stand in the words. What is found is compared with them.
 fn serve_values<'a, S: AsStr>(
     alloc: Global,
@@ -169,8 +163,8 @@ fn are_service_words<S: AsStr>(words: &[S], service: &Service<'_>) -> bool
     ensures turns { OnTrue result (HasTurns (service_of service.now)) }
 {
     match service {
-        Service::Once(Limit::Udp) => is_word(words, ONCE),
-        Service::Once(Limit::Tcp) => are_two_words(words, ONCE, TCP_OPTION),
+        Service::Once(Limit::Udp) => are_words(words, &[ONCE]),
+        Service::Once(Limit::Tcp) => are_words(words, &[ONCE, TCP_OPTION]),
         Service::Udp { address, turns } => are_turns(words, UDP, address, *turns),
         Service::Tcp { address, turns } => are_turns(words, TCP, address, *turns),
     }
@@ -182,46 +176,24 @@ fn are_turns<S: AsStr>(words: &[S], transport: &str, address: &str, turns: u32) 
         ≡ transport.now ∷ address.now ∷ decimal turns ∷ []) }
     ensures turns { OnTrue result ((1 ≤ turns) × (turns ≤ 1000000)) }
 {
-    let Some(rest) = after_word(words, transport) else {
-        return false;
-    };
-    let Some(rest) = after_word(rest, address) else {
-        return false;
-    };
-    match rest.split_first() {
-        Some((count, others)) => others.is_empty() && is_count(count.as_str(), turns),
+    match words.split_last() {
+        Some((count, front)) => {
+            are_words(front, &[transport, address]) && is_count(count.as_str(), turns)
+        }
         None => false,
     }
 }
 
-// The words after a first one; `None` where that is another.
-fn after_word<'a, S: AsStr>(words: &'a [S], word: &str) -> Option<&'a [S]>
-    ensures { IfSome result (λ rest. map S.text words.now ≡ word.now ∷ map S.text rest.now) }
+// Whether the words are these.
+fn are_words<S: AsStr>(words: &[S], wanted: &[&str]) -> bool
+    ensures { OnTrue result (map S.text words.now ≡ map (λ w. w.now) wanted.now) }
 {
-    let (first, rest) = words.split_first()?;
-    if first.as_str() == word {
-        return Some(rest);
-    }
-    None
-}
-
-// Whether there is this word alone.
-fn is_word<S: AsStr>(words: &[S], word: &str) -> bool
-    ensures { OnTrue result (map S.text words.now ≡ word.now ∷ []) }
-{
-    match after_word(words, word) {
-        Some(rest) => rest.is_empty(),
-        None => false,
-    }
-}
-
-// Whether there are these words alone.
-fn are_two_words<S: AsStr>(words: &[S], first: &str, second: &str) -> bool
-    ensures { OnTrue result (map S.text words.now ≡ first.now ∷ second.now ∷ []) }
-{
-    match after_word(words, first) {
-        Some(rest) => is_word(rest, second),
-        None => false,
+    match (words.split_first(), wanted.split_first()) {
+        (Some((word, words)), Some((first, wanted))) => {
+            word.as_str() == *first && are_words(words, wanted)
+        }
+        (None, None) => true,
+        _ => false,
     }
 }
 
@@ -249,7 +221,7 @@ fn is_count(word: &str, turns: u32) -> bool
 fn is_value(word: &str, value: &str) -> bool
     ensures { OnTrue result ((word.now ≡ value.now) × IsTrue (not (is_dashed value.now))) }
 {
-    word == value && !begins_with_dash(value)
+    word == value && !matches!(value.as_bytes(), [b'-', ..])
 }
 
 fn serve_command<'a>(alloc: Global) -> Result<Command<'a>, AllocError> {
@@ -349,11 +321,11 @@ fn are_options<S: AsStr>(words: &[S], flags: Flags) -> bool
 {
     match (flags.quiet, flags.print) {
         (false, false) => words.is_empty(),
-        (true, false) => is_word(words, QUIET_OPTION),
-        (false, true) => is_word(words, PRINT_OPTION),
+        (true, false) => are_words(words, &[QUIET_OPTION]),
+        (false, true) => are_words(words, &[PRINT_OPTION]),
         (true, true) => {
-            are_two_words(words, QUIET_OPTION, PRINT_OPTION)
-                || are_two_words(words, PRINT_OPTION, QUIET_OPTION)
+            are_words(words, &[QUIET_OPTION, PRINT_OPTION])
+                || are_words(words, &[PRINT_OPTION, QUIET_OPTION])
         }
     }
 }

@@ -1,22 +1,37 @@
-use Rattle.dns_spec.proofs.Common.{rules, fault_report}
+use Rattle.dns_spec.proofs.Common.{rules, ◌∙◌, ap, codes, name_text, Fault, fault_report}
+use Rattle.dns_spec.specs.Report.{two_digits}
 use Rattle.dns_name.proofs.Results.{OnErr-always}
-use Rattle.dns_name.proofs.WritesLemmas.{Written-more, Written-begun}
-use Rattle.dns_tools.proofs.LineParts.{next_piece}
+use Rattle.dns_name.proofs.WritesLemmas.{Writes-same, Written-more, Written-begun}
+use Rattle.dns_tools.specs.Parts.{parts_text}
+use Rattle.dns_tools.proofs.LineParts.{four_parts, next_piece}
 use Rattle.dns_tools.proofs.report.write_check_faults.Goals as goal
 
 pub faults-preserved : goal.faults-preserved
 faults-preserved g c =
-    let next = next_piece fault_report c.args.faults.now c.fault-item.result c.faults.fault-index c.faults-test.true c.fault-item.is in
+    let f : Fault = record { owner = c.fault.inside.owner; code = c.fault.inside.code } in
+    let line = ap parts_text c.as_slice.ensures
+    ∙ four_parts (name_text f.owner) (codes " Z") (two_digits f.code) (codes "\n")
+    ∙ ap fault_report c.fault.view_is in
+    let next = next_piece fault_report c.args.faults.now c.fault-item.result
+    c.faults.fault-index c.faults-test.true c.fault-item.is in
     record {
-      written = Written-more _ _ _ _ _ _ _ c.faults.invariant.written next c.in_ok-write_check_fault.ensures.ok;
+      written = Written-more _ _ _ _ _ _ _ c.faults.invariant.written next
+          (Writes-same line c.in_ok-write_parts.ensures).ok;
       counted = search rules;
     }
 
-pub returns-in_err-write_check_fault : goal.returns-in_err-write_check_fault
-returns-in_err-write_check_fault g c =
-    let next = next_piece fault_report c.args.faults.now c.fault-item.result c.faults.fault-index c.faults-test.true c.fault-item.is in
+pub returns-in_err-write_parts : goal.returns-in_err-write_parts
+returns-in_err-write_parts g c =
+    let f : Fault = record { owner = c.fault.inside.owner; code = c.fault.inside.code } in
+    let line = ap parts_text c.as_slice.ensures
+    ∙ four_parts (name_text f.owner) (codes " Z") (two_digits f.code) (codes "\n")
+    ∙ ap fault_report c.fault.view_is in
+    let next = next_piece fault_report c.args.faults.now c.fault-item.result
+    c.faults.fault-index c.faults-test.true c.fault-item.is in
     record {
       ok = search rules;
-      err = OnErr-always c.from_residual.result (Written-begun _ _ _ _ _ _ _ c.faults.invariant.written next c.in_err-write_check_fault.ensures.err);
+      err = OnErr-always c.from_residual.result
+          (Written-begun _ _ _ _ _ _ _ c.faults.invariant.written next
+          (Writes-same line c.in_err-write_parts.ensures).err);
       counted = search rules;
     }

@@ -1,8 +1,9 @@
-use Rattle.dns_spec.proofs.Common.{arith, rules, ◌<◌, ◌≤◌, ◌∙◌, length, refl, sym, take-append-le}
+use Rattle.dns_spec.proofs.Common.{arith, rules, ◌<◌, ◌≤◌, ◌∙◌, length, refl, sym, eqb-true, eqb-false, take-append-le}
 use Rattle.dns_tools.specs.ExchangeForm.{kept_of, reply_of}
-use Rattle.dns_tools.proofs.LineReads.{AllRead, reading_none, reading_take, taking_begun, reading_failed, all_read, all_given, all_answered, all_begun, sink_stopped, source_stopped}
+use Rattle.dns_tools.proofs.LineReads.{AllRead, reading_none, reading_take, taking_begun, reading_failed, all_read, all_given, all_answered, all_begun, finished_empty, finished_line, finished_begun, sink_stopped, source_stopped}
+use Rattle.dns_tools.proofs.LineRuns.{grows_begun}
 use Rattle.dns_tools.proofs.once.Exchange.run.Goals as goal
-use Rattle.dns_tools.proofs.once.Exchange.run.Goals.{else-pieces-test, then-pieces-test+in_ok-count+then-count-eq0}
+use Rattle.dns_tools.proofs.once.Exchange.run.Goals.{else-pieces-test, then-pieces-test+in_ok-count+then-count-eq0, then-not-is_empty+in_ok-end_line, else-not-is_empty}
 
 pub pieces-init : goal.pieces-init
 pieces-init g c = record { source = refl; sink = refl; task = refl; reading = reading_none _ _ _ _ c.requires.fresh }
@@ -39,8 +40,8 @@ pieces-preserved g c =
           c.pieces.invariant.reading _ c.in_ok-take.ensures.taken;
     }
 
-pub returns-in_err-finish-clause-lines : goal.returns-in_err-finish-clause-lines
-returns-in_err-finish-clause-lines g c =
+pub returns-in_err-end_line-clause-lines : goal.returns-in_err-end_line-clause-lines
+returns-in_err-end_line-clause-lines g c =
     let inv = c.pieces.invariant in
     let all : AllRead (reply_of c.args.self.now) (reply_of c.pieces.self)
     (g.R.Read.remaining c.args.source.now.device) (g.R.Read.remaining c.pieces-test.source.device)
@@ -55,8 +56,12 @@ returns-in_err-finish-clause-lines g c =
           rw w.source-is (all_given _ _ _ _ _ _ _ c.pieces.left _ _ _ inv.task bytes.0
           w.if-count-eq0.true (bytes.1 w.if-count-eq0.true some) inv.reading)
     ] in
-    sink_stopped _ _ c.from_residual-in_err-finish.result c.from_residual-in_err-finish.ensures.1
-    (all_begun _ _ _ _ _ _ _ _ all c.in_err-finish.ensures.begun c.in_err-finish.ensures.grows)
+    let some = eqb-false (length c.pieces.self.line.front) 0
+    (sym c.is_empty.ensures ∙ c.if-not-is_empty.true) in
+    let begun = c.in_err-end_line.ensures.answered.err in
+    sink_stopped _ _ c.from_residual-in_err-end_line.result c.from_residual-in_err-end_line.ensures.1
+    (all_begun _ _ _ _ _ _ _ _ all
+    (λ held x p. finished_begun _ held _ x _ p some _ begun) (grows_begun _ _ _ begun))
 
 pub returns-clause-lines : goal.returns-clause-lines
 returns-clause-lines g c =
@@ -74,4 +79,14 @@ returns-clause-lines g c =
           rw w.source-is (all_given _ _ _ _ _ _ _ c.pieces.left _ _ _ inv.task bytes.0
           w.if-count-eq0.true (bytes.1 w.if-count-eq0.true some) inv.reading)
     ] in
-    all_answered _ _ _ _ _ _ _ _ all _ c.in_ok-finish.ensures.answered
+    all_answered _ _ _ _ _ _ _ _ all _ (λ held x p. elim c.if-not-is_empty.branch [
+      | then-not-is_empty+in_ok-end_line w ↦
+          let some = eqb-false (length c.pieces.self.line.front) 0
+          (sym c.is_empty.ensures ∙ w.if-not-is_empty.true) in
+          let e = w.in_ok-end_line.ensures in
+          rw (w.self-is, w.sink-is) (finished_line _ held _ x _ p some _ _ e.answered.ok e.passes)
+      | else-not-is_empty w ↦
+          let none = eqb-true (length c.pieces.self.line.front) 0
+          (sym c.is_empty.ensures ∙ w.if-not-is_empty.false) in
+          rw (w.self-is, w.sink-is) (finished_empty _ held _ x _ p none)
+    ])
