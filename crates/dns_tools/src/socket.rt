@@ -1,9 +1,8 @@
 //! A UDP socket, as a device that hands out datagrams.
-ghost use Rattle.std.specs.Prelude.{◌≡◌, ◌≤◌, false, None, IfOk};
+ghost use Rattle.std.specs.Prelude.{◌≡◌, false, None};
 
 use crate::peer::is_interrupted;
 use dns_serve::{Datagrams, Failed};
-use std::io::{self, ErrorKind};
 use std::marker::Model;
 use std::net::{SocketAddr, UdpSocket};
 
@@ -38,6 +37,7 @@ impl Socket {
     }
 }
 
+// A call that the system interrupts is made again: it took nothing, and sent nothing.
 impl Datagrams for Socket {
     ghost received = { λ _. None };
 
@@ -48,55 +48,35 @@ impl Datagrams for Socket {
     ghost has_sender = { λ s. s.has_sender };
 
     fn receive(&mut self, buf: &mut [u8; 512]) -> Result<usize, Failed> {
-        match receive_once(&self.socket, buf) {
-            Ok((count, sender)) => {
-                self.sender = Some(sender);
-                Ok(count)
-            }
-            Err(_) => {
-                self.failures += 1;
-                Err(Failed)
+        'calls: for _ in 0..u64::MAX {
+            match self.socket.recv_from(buf) {
+                Ok((count, sender)) => {
+                    self.sender = Some(sender);
+                    return Ok(count);
+                }
+                Err(error) if is_interrupted(&error) => {}
+                Err(_) => break,
             }
         }
+        self.failures += 1;
+        Err(Failed)
     }
 
     fn send(&mut self, reply: &[u8]) -> Result<(), Failed> {
-        let sent = match self.sender {
-            Some(sender) => send_once(&self.socket, reply, sender).is_ok(),
-            None => false,
-        };
-        if !sent {
-            self.failures += 1;
-            return Err(Failed);
+        if let Some(sender) = self.sender {
+            'calls: for _ in 0..u64::MAX {
+                match self.socket.send_to(reply, sender) {
+                    Ok(_) => return Ok(()),
+                    Err(error) if is_interrupted(&error) => {}
+                    Err(_) => break,
+                }
+            }
         }
-        Ok(())
+        self.failures += 1;
+        Err(Failed)
     }
 
     fn failures(&self) -> u64 {
         self.failures
     }
-}
-
-// Receives a datagram. A call that the system interrupts is made again: it took nothing.
-fn receive_once(socket: &UdpSocket, buf: &mut [u8; 512]) -> io::Result<(usize, SocketAddr)>
-    ensures { IfOk result (λ came. came.0 ≤ 512) }
-{
-    'calls: for _ in 0..u64::MAX {
-        match socket.recv_from(buf) {
-            Err(error) if is_interrupted(&error) => {}
-            came => return came,
-        }
-    }
-    Err(io::Error::from(ErrorKind::Interrupted))
-}
-
-// Sends a datagram. A call that the system interrupts is made again: it sent nothing.
-fn send_once(socket: &UdpSocket, reply: &[u8], sender: SocketAddr) -> io::Result<usize> {
-    'calls: for _ in 0..u64::MAX {
-        match socket.send_to(reply, sender) {
-            Err(error) if is_interrupted(&error) => {}
-            sent => return sent,
-        }
-    }
-    Err(io::Error::from(ErrorKind::Interrupted))
 }
