@@ -61,8 +61,8 @@ impl<'a> NameRef<'a> {
         self.octets
     }
 
-    /// How many labels there are, without the root: 2 of `www.example.`
-    pub fn label_count(&self) -> usize
+    // How many labels there are, without the root.
+    pub(crate) fn label_count(&self) -> usize
         ensures { result ≡ length self.now }
     {
         self.labels().count()
@@ -105,13 +105,6 @@ impl NameRef<'_> {
             suffix = rest;
         }
         same_octets(suffix, target)
-    }
-
-    /// Whether the name is below `ancestor`: at or below it, and not the same name (RFC 1034 3.1).
-    pub fn below(&self, ancestor: &NameRef<'_>) -> bool
-        ensures { result ≡ below self.now ancestor.now }
-    {
-        self.label_count() > ancestor.label_count() && self.at_or_below(ancestor)
     }
 
     /// Whether the name is a wildcard: whether its first label is `*` alone (RFC 4592 2.1.1).

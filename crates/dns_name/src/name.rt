@@ -114,13 +114,6 @@ impl Name {
         NameRef::new(self.octets.as_slice())
     }
 
-    /// How many labels there are, without the root: 2 of `www.example.`
-    pub fn label_count(&self) -> usize
-        ensures { result ≡ length self.now }
-    {
-        self.lent().label_count()
-    }
-
     /// The labels in order, the nearest to the root last.
     ///
     /// There are at most 127, since each has two octets or more on the wire.
@@ -169,22 +162,6 @@ impl Name {
         self.lent().at_or_below(&ancestor.lent())
     }
 
-    /// Whether the name is below `ancestor`: at or below it, and not the same name (RFC 1034 3.1).
-    pub fn below(&self, ancestor: &Name) -> bool
-        ensures { result ≡ below self.now ancestor.now }
-    {
-        self.lent().below(&ancestor.lent())
-    }
-
-    /// Whether the name is a wildcard: whether its first label is `*` alone (RFC 4592 2.1.1).
-    ///
-    /// `*.example.` is one, and `a.*.example.` and `**.example.` are none.
-    pub fn is_wildcard(&self) -> bool
-        ensures { result ≡ first_is_asterisk self.now }
-    {
-        self.lent().is_wildcard()
-    }
-
     /// Which of two names comes first in the canonical order (RFC 4034 6.1).
     ///
     /// Labels are compared from the right, each as octets in lower case. A label comes before one
@@ -196,19 +173,8 @@ impl Name {
         own.lent().order_as_spelled(&others.lent())
     }
 
-    /// The same of two names in lower case, of which no copy is made: what many names are sorted
-    /// by.
-    pub fn order_in_lower_case(&self, other: &Name) -> Ordering
-        requires this { folded self.now ≡ self.now }
-        requires other { folded other.now ≡ other.now }
-        ensures { result ≡ name_order self.now other.now }
-    {
-        self.lent().order_in_lower_case(&other.lent())
-    }
-
-    /// The name whose wire form the octets are, as the octets of a name in data. It takes no
-    /// memory.
-    pub fn from_octets(octets: &[u8]) -> Name
+    // The name whose wire form the octets are.
+    pub(crate) fn from_octets(octets: &[u8]) -> Name
         requires { IsWireForm octets.now }
         ensures value { result ≡ labels_of octets.now }
         ensures is_name { IsTrue (is_name result) }
