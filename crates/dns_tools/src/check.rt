@@ -63,7 +63,6 @@ pub fn check_zone<R: Read, W: Write>(
     }
 }
 
-// Reports the fault of a file, or those of its zone.
 fn report_refusal<W: Write>(
     flags: Flags,
     refusal: &Refusal,
@@ -80,7 +79,6 @@ fn report_refusal<W: Write>(
     Ok(false)
 }
 
-// Reports a zone that passes.
 fn report_zone<W: Write>(
     flags: Flags,
     zone: &CheckedZone,

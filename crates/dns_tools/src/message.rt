@@ -50,7 +50,6 @@ pub fn run_message<R: Read, W: Write>(
     }
 }
 
-// The first line of a source.
 fn first_line<R: Read>(alloc: Global, source: &mut Tally<R>) -> Result<Line, Stop>
     requires { source.old.failures < 2 ^ 64 - 1 }
     ensures counted { source.new.failures ≡ source_failures_after source.old.failures result }
@@ -90,7 +89,6 @@ fn print_line<W: Write>(
     }
 }
 
-// Prints the message that octets are, or its fault.
 fn print_octets<W: Write>(alloc: Global, octets: &[u8], sink: &mut Tally<W>) -> Result<bool, Stop>
     requires { sink.old.failures < 2 ^ 64 - 1 }
     ensures counted { sink.new.failures ≡ sink_failures_after sink.old.failures result }

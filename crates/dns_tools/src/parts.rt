@@ -91,7 +91,6 @@ fn write_class<W: Write>(class: u16, sink: &mut Tally<W>) -> Result<(), SinkFail
     sink.write_parts(&[b" CLASS", number, b" "])
 }
 
-// The four hexadecimal digits of 16 bits.
 fn hex_of(number: u16) -> [u8; 4]
     ensures { result ≡ hex_text (octets16 number) }
 {

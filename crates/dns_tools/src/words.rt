@@ -1,11 +1,9 @@
 //! The words of the programs' command lines.
 ghost use Rattle.std.specs.Prelude.{◌≡◌, ◌⊎◌, ◌≤◌, [], ◌∷◌, IsTrue, IfOk, IfErr, IfSome, Err, map, not, decimal};
 ghost use Rattle.std.specs.Bool.{OnTrue};
-ghost use Rattle.dns_spec.specs.CommandWords.{is_dashed, EndWords, AreOptions, AskToCheck, AskToServe, service_words, HasTurns};
+ghost use Rattle.dns_spec.specs.CommandWords.{is_dashed, EndWords, AskToCheck, AskToServe};
 ghost use Rattle.dns_tools.specs.Checked.{options_of};
-ghost use Rattle.dns_tools.specs.Words.{is_word_fault, service_of, IsOrigin, IsNoOrigin};
-ghost use Rattle.dns_tools.specs.Words.{IsCheckCall, HasBadCheckOrigin};
-ghost use Rattle.dns_tools.specs.Words.{IsServeCall, HasBadServeOrigin};
+ghost use Rattle.dns_tools.specs.Words.{is_word_fault, service_of, IsOrigin, IsNoOrigin, IsCheckCall, HasBadCheckOrigin, IsServeCall, HasBadServeOrigin};
 
 use crate::check::Flags;
 use crate::fault::FaultWord;
@@ -80,12 +78,19 @@ pub fn serve_words<'a, S: AsStr>(alloc: Global, words: &'a [S]) -> Result<ServeW
     ensures origin { result ≡ Err FaultWord.BadOrigin
         → HasBadServeOrigin (map S.text words.entry.now) }
 {
-    let (service, origin, file) = serve_values(alloc, words)?;
-    Ok(ServeWords {
-        service,
-        origin: given_origin(origin)?,
-        file,
-    })
+    let command = serve_command(alloc)?;
+    let matches = command.try_get_matches_from(words)?;
+    // What is found is compared with the words.
+    match given_service(&matches) {
+        Some((service, origin, file)) if ask_to_serve(words, &service, origin, file) => {
+            Ok(ServeWords {
+                service,
+                origin: given_origin(origin)?,
+                file,
+            })
+        }
+        _ => Err(FaultWord::Usage),
+    }
 }
 
 /// What `zonecheck [--quiet] [--print] ORIGIN FILE` is asked for.
@@ -111,12 +116,21 @@ pub fn check_words<'a, S: AsStr>(alloc: Global, words: &'a [S]) -> Result<CheckW
     ensures origin { result ≡ Err FaultWord.BadOrigin
         → HasBadCheckOrigin (map S.text words.entry.now) }
 {
-    let (flags, origin, file) = check_values(alloc, words)?;
-    Ok(CheckWords {
-        flags,
-        origin: given_origin(origin)?,
-        file,
-    })
+    let command = check_command(alloc)?;
+    let matches = command.try_get_matches_from(words)?;
+    let flags = Flags {
+        quiet: matches.get_flag(QUIET),
+        print: matches.get_flag(PRINT),
+    };
+    // What is found is compared with the words.
+    match named_values(&matches) {
+        Some((origin, file)) if ask_to_check(words, flags, origin, file) => Ok(CheckWords {
+            flags,
+            origin: given_origin(origin)?,
+            file,
+        }),
+        _ => Err(FaultWord::Usage),
+    }
 }
 
 // The name that ORIGIN spells, relative to the root and in lower case.
@@ -128,45 +142,18 @@ fn given_origin(word: &str) -> Result<Name, FaultWord>
     Ok(origin.fold())
 }
 
-// How to serve, ORIGIN and FILE as they stand in the words. What is found is compared with them.
-fn serve_values<'a, S: AsStr>(
-    alloc: Global,
-    words: &'a [S],
-) -> Result<(Service<'a>, &'a str, &'a str), FaultWord>
-    ensures fault { IfErr result (λ fault. (fault ≡ FaultWord.Usage)
-        ⊎ (fault ≡ FaultWord.NoMemory)) }
-    ensures asked { IfOk result (λ call. AskToServe (map S.text words.entry.now)
-        (service_of call.0) (record { origin = call.1.now; file = call.2.now })) }
-{
-    let command = serve_command(alloc)?;
-    let matches = command.try_get_matches_from(words)?;
-    match given_service(&matches) {
-        Some(call) if ask_to_serve(words, &call.0, call.1, call.2) => Ok(call),
-        _ => Err(FaultWord::Usage),
-    }
-}
-
-// Whether the words ask the server for this.
 fn ask_to_serve<S: AsStr>(words: &[S], service: &Service<'_>, origin: &str, file: &str) -> bool
     ensures { OnTrue result (AskToServe (map S.text words.now) (service_of service.now)
         (record { origin = origin.now; file = file.now })) }
 {
-    match before_zone(words, origin, file) {
-        Some(front) => are_service_words(front, service),
-        None => false,
-    }
-}
-
-// Whether the words before ORIGIN and FILE are those for the service.
-fn are_service_words<S: AsStr>(words: &[S], service: &Service<'_>) -> bool
-    ensures words { OnTrue result (map S.text words.now ≡ service_words (service_of service.now)) }
-    ensures turns { OnTrue result (HasTurns (service_of service.now)) }
-{
+    let Some(front) = before_zone(words, origin, file) else {
+        return false;
+    };
     match service {
-        Service::Once(Limit::Udp) => are_words(words, &[ONCE]),
-        Service::Once(Limit::Tcp) => are_words(words, &[ONCE, TCP_OPTION]),
-        Service::Udp { address, turns } => are_turns(words, UDP, address, *turns),
-        Service::Tcp { address, turns } => are_turns(words, TCP, address, *turns),
+        Service::Once(Limit::Udp) => are_words(front, &[ONCE]),
+        Service::Once(Limit::Tcp) => are_words(front, &[ONCE, TCP_OPTION]),
+        Service::Udp { address, turns } => are_turns(front, UDP, address, *turns),
+        Service::Tcp { address, turns } => are_turns(front, TCP, address, *turns),
     }
 }
 
@@ -184,7 +171,6 @@ fn are_turns<S: AsStr>(words: &[S], transport: &str, address: &str, turns: u32) 
     }
 }
 
-// Whether the words are these.
 fn are_words<S: AsStr>(words: &[S], wanted: &[&str]) -> bool
     ensures { OnTrue result (map S.text words.now ≡ map (λ w. w.now) wanted.now) }
 {
@@ -210,14 +196,12 @@ fn before_zone<'a, S: AsStr>(words: &'a [S], origin: &str, file: &str) -> Option
     None
 }
 
-// Whether a word is TURNS, of so many turns.
 fn is_count(word: &str, turns: u32) -> bool
     ensures { OnTrue result ((word.now ≡ decimal turns) × (1 ≤ turns) × (turns ≤ 1000000)) }
 {
     turns > 0 && read_number(word.as_bytes(), MOST_TURNS) == Some(turns)
 }
 
-// Whether a word is this ORIGIN or FILE.
 fn is_value(word: &str, value: &str) -> bool
     ensures { OnTrue result ((word.now ≡ value.now) × IsTrue (not (is_dashed value.now))) }
 {
@@ -274,58 +258,25 @@ fn given_service<'a>(matches: &ArgMatches<'a>) -> Option<(Service<'a>, &'a str, 
     Some((service, origin, file))
 }
 
-// ADDR and TURNS.
 fn given_turns<'a>(matches: &ArgMatches<'a>) -> Option<(&'a str, u32)> {
     let turns = read_number(matches.get_str("TURNS")?.as_bytes(), MOST_TURNS)?;
     Some((matches.get_str("ADDR")?, turns))
 }
 
-// The options, ORIGIN and FILE as they stand in the words. What is found is compared with them.
-fn check_values<'a, S: AsStr>(
-    alloc: Global,
-    words: &'a [S],
-) -> Result<(Flags, &'a str, &'a str), FaultWord>
-    ensures fault { IfErr result (λ fault. (fault ≡ FaultWord.Usage)
-        ⊎ (fault ≡ FaultWord.NoMemory)) }
-    ensures asked { IfOk result (λ call. AskToCheck (map S.text words.entry.now)
-        (options_of call.0) (record { origin = call.1.now; file = call.2.now })) }
-{
-    let command = check_command(alloc)?;
-    let matches = command.try_get_matches_from(words)?;
-    let flags = Flags {
-        quiet: matches.get_flag(QUIET),
-        print: matches.get_flag(PRINT),
-    };
-    match named_values(&matches) {
-        Some((origin, file)) if ask_to_check(words, flags, origin, file) => {
-            Ok((flags, origin, file))
-        }
-        _ => Err(FaultWord::Usage),
-    }
-}
-
-// Whether the words ask the checker for this.
 fn ask_to_check<S: AsStr>(words: &[S], flags: Flags, origin: &str, file: &str) -> bool
     ensures { OnTrue result (AskToCheck (map S.text words.now) (options_of flags)
         (record { origin = origin.now; file = file.now })) }
 {
-    match before_zone(words, origin, file) {
-        Some(front) => are_options(front, flags),
-        None => false,
-    }
-}
-
-// Whether the words before ORIGIN and FILE are the options, in either order.
-fn are_options<S: AsStr>(words: &[S], flags: Flags) -> bool
-    ensures { OnTrue result (AreOptions (options_of flags) (map S.text words.now)) }
-{
+    let Some(options) = before_zone(words, origin, file) else {
+        return false;
+    };
     match (flags.quiet, flags.print) {
-        (false, false) => words.is_empty(),
-        (true, false) => are_words(words, &[QUIET_OPTION]),
-        (false, true) => are_words(words, &[PRINT_OPTION]),
+        (false, false) => options.is_empty(),
+        (true, false) => are_words(options, &[QUIET_OPTION]),
+        (false, true) => are_words(options, &[PRINT_OPTION]),
         (true, true) => {
-            are_words(words, &[QUIET_OPTION, PRINT_OPTION])
-                || are_words(words, &[PRINT_OPTION, QUIET_OPTION])
+            are_words(options, &[QUIET_OPTION, PRINT_OPTION])
+                || are_words(options, &[PRINT_OPTION, QUIET_OPTION])
         }
     }
 }
