@@ -44,10 +44,16 @@ pub fn run_message<R: Read, W: Write>(
         (session R.remaining W.contents source.old source.new sink.old sink.new) result }
 {
     let mut octets = vec![in alloc; 0; MOST_OCTETS]?;
-    match first_line(alloc, source) {
-        Ok(line) => print_line(alloc, &line, octets.as_mut_slice(), sink),
-        Err(stop) => Err(stop),
-    }
+    let line = match first_line(alloc, source) {
+        Ok(line) => line,
+        Err(stop) => return Err(stop),
+    };
+    let room = octets.as_mut_slice();
+    let Some(len) = line.spell(room) else {
+        sink.write_all(b"bad hex\n")?;
+        return Ok(false);
+    };
+    print_octets(alloc, &room[..len], sink)
 }
 
 fn first_line<R: Read>(alloc: Global, source: &mut Tally<R>) -> Result<Line, Stop>
@@ -63,30 +69,6 @@ fn first_line<R: Read>(alloc: Global, source: &mut Tally<R>) -> Result<Line, Sto
     let mut line = Line::new(alloc)?;
     line.read(piece.as_mut_slice(), source)?;
     Ok(line)
-}
-
-// Prints the message that a line is, with room for its octets, or says that it is none.
-fn print_line<W: Write>(
-    alloc: Global,
-    line: &Line,
-    octets: &mut [u8],
-    sink: &mut Tally<W>,
-) -> Result<bool, Stop>
-    requires octets { length octets.old ≡ MOST_OCTETS }
-    requires sink { sink.old.failures < 2 ^ 64 - 1 }
-    ensures counted { sink.new.failures ≡ sink_failures_after sink.old.failures result }
-    ensures stop { IfErr result (λ stop. stop ≢ Stop.Source) }
-    ensures unwritten { result ≡ Err Stop.Memory → sink.new ≡ sink.old }
-    ensures printed { ReportedAs (PrintsMessage (kept_message line.now)) result
-        (W.contents sink.old.device) (W.contents sink.new.device) }
-{
-    match line.spell(octets) {
-        Some(len) => print_octets(alloc, &octets[..len], sink),
-        None => {
-            sink.write_all(b"bad hex\n")?;
-            Ok(false)
-        }
-    }
 }
 
 fn print_octets<W: Write>(alloc: Global, octets: &[u8], sink: &mut Tally<W>) -> Result<bool, Stop>

@@ -1,16 +1,34 @@
-use Rattle.std.proofs.Common.{Err, ap}
-use Rattle.dns_tools.proofs.PrintedLines.{kept_source, handed_sink, handed_printed, line_printed}
+use Rattle.dns_spec.proofs.Common.{false, Ok, Err, ap, refl, rules, PrintsMessage}
+use Rattle.dns_tools.specs.KeptLine.{kept_message}
+use Rattle.dns_tools.proofs.CheckedZone.{report_begun}
+use Rattle.dns_tools.proofs.PrintedLines.{kept_source, handed_sink, handed_printed, line_printed, line_reported, bad_hex}
 use Rattle.dns_tools.proofs.message.run_message.Goals as goal
 
-pub returns-in-Ok-clause-source : goal.returns-in-Ok-clause-source
-returns-in-Ok-clause-source g c = kept_source _ _ c.print_line.result c.in-Ok.ensures.counted c.print_line.ensures.stop
+pub returns-in-Err-clause-sink : goal.returns-in-Err-clause-sink
+returns-in-Err-clause-sink g c = handed_sink _ c.in-Err.stop c.in-Err.ensures.stop
 
-pub returns-in-Ok-clause-printed : goal.returns-in-Ok-clause-printed
-returns-in-Ok-clause-printed g c = line_printed _ _ _ _ _ c.print_line.result c.in-Ok.ensures.read c.print_line.ensures.stop c.print_line.ensures.printed
+pub returns-in-Err-clause-printed : goal.returns-in-Err-clause-printed
+returns-in-Err-clause-printed g c =
+    handed_printed _ _ _ c.in-Err.stop c.in-Err.ensures.stop (λ e. c.in-Err.ensures.failed (ap Err e))
 
-pub returns-clause-sink : goal.returns-clause-sink
-returns-clause-sink g c = handed_sink _ c.in-Err.stop c.in-Err.ensures.stop
+pub returns-in_err-write_all-clause-printed : goal.returns-in_err-write_all-clause-printed
+returns-in_err-write_all-clause-printed g c =
+    let stopped = c.from_residual-in_err-write_all in
+    line_printed _ _ _ _ _ stopped.result c.in-Ok.ensures.read (search rules)
+    (report_begun (PrintsMessage (kept_message c.in-Ok.line)) _ stopped.result _ _
+    stopped.ensures.1 (bad_hex _ c.in_default.ensures.none) c.in_err-write_all.ensures.err)
+
+pub returns-in_default-clause-printed : goal.returns-in_default-clause-printed
+returns-in_default-clause-printed g c =
+    line_printed _ _ _ _ _ (Ok false) c.in-Ok.ensures.read tt
+    (_, bad_hex _ c.in_default.ensures.none, (refl, c.in_ok-write_all.ensures.ok))
+
+pub returns-clause-source : goal.returns-clause-source
+returns-clause-source g c =
+    kept_source _ _ c.print_octets.result c.in-Ok.ensures.counted c.print_octets.ensures.stop
 
 pub returns-clause-printed : goal.returns-clause-printed
 returns-clause-printed g c =
-    handed_printed _ _ _ c.in-Err.stop c.in-Err.ensures.stop (λ e. c.in-Err.ensures.failed (ap Err e))
+    line_printed _ _ _ _ _ c.print_octets.result c.in-Ok.ensures.read c.print_octets.ensures.stop
+    (line_reported _ _ c.print_octets.result _ _ c.in-Some.ensures.some
+    c.print_octets.ensures.printed)
