@@ -87,7 +87,10 @@ impl<'z> Exchange<'z> {
             line: Line::new(alloc)?,
             room: vec![in alloc; 0; MOST_ANSWER]?,
             reply: vec![in alloc; 0; limit.octets()]?,
-            drafts: Drafts::new(alloc)?,
+            drafts: Drafts {
+                udp: UdpDraft::new(),
+                tcp: Box::new(alloc, TcpDraft::new())?,
+            },
             are_all_messages: true,
         })
     }
@@ -177,36 +180,6 @@ struct Drafts {
     tcp: Box<TcpDraft>,
 }
 
-impl Drafts {
-    fn new(alloc: Global) -> Result<Drafts, AllocError> {
-        Ok(Drafts {
-            udp: UdpDraft::new(),
-            tcp: Box::new(alloc, TcpDraft::new())?,
-        })
-    }
-
-    // Writes the reply to a datagram in front of the buffer, and answers its length. `None` where
-    // it gets none.
-    fn respond(
-        &mut self,
-        zone: &Zone,
-        limit: Limit,
-        datagram: &[u8],
-        out: &mut [u8],
-    ) -> Option<usize>
-        requires { length out.old ≡ limit_of limit }
-        ensures octets { option_map (λ len. take len out.new) result
-            ≡ reply_within limit zone.now datagram.now }
-        ensures fits { IfSome result (λ len. len ≤ limit_of limit) }
-    {
-        let mut steps = Steps::new(zone);
-        match limit {
-            Limit::Udp => respond_in(&mut steps, datagram, &mut self.udp, out),
-            Limit::Tcp => respond_in(&mut steps, datagram, &mut self.tcp, out),
-        }
-    }
-}
-
 // Answers a line, with room for its octets, for those of the reply and for its digits, and tells
 // whether it is a message.
 fn answer<W: Write>(
@@ -229,7 +202,12 @@ fn answer<W: Write>(
         sink.write_all(b"bad hex\n")?;
         return Ok(false);
     };
-    match drafts.respond(zone, limit, &room[..len], reply) {
+    let (mut steps, datagram) = (Steps::new(zone), &room[..len]);
+    let written = match limit {
+        Limit::Udp => respond_in(&mut steps, datagram, &mut drafts.udp, reply),
+        Limit::Tcp => respond_in(&mut steps, datagram, &mut drafts.tcp, reply),
+    };
+    match written {
         Some(len) => write_digits(&reply[..len], room, sink)?,
         None => sink.write_all(b"none\n")?,
     }
