@@ -6,7 +6,8 @@ ghost use Rattle.dns_tools.specs.declared.load.LoadFault.TheVariants.{Stopped};
 ghost use Rattle.dns_tools.specs.Load.{LoadedAs, failures_after_load, fault_of_read, refusal_report};
 
 use crate::fault::Stop;
-use crate::report::{write_check_faults, write_read_fault};
+use crate::parts::{Part, write_parts};
+use crate::report::write_check_faults;
 use dns_master::{ReadCode, ReadFault};
 use dns_name::{Name, SinkFailed, Tally};
 use dns_zone::{BuildFault, CheckFault, CheckedZone, Store, Zone};
@@ -95,7 +96,17 @@ pub fn write_refusal<W: Write>(refusal: &Refusal, sink: &mut Tally<W>) -> Result
     ensures { Writes W.contents sink.old sink.new result (refusal_report refusal.now) }
 {
     match refusal {
-        Refusal::File(fault) => write_read_fault(fault, sink),
+        // `line 7: R11`
+        Refusal::File(fault) => {
+            let line = [
+                Part::Text(b"line "),
+                Part::Number(u64::from(fault.line)),
+                Part::Text(b": R"),
+                Part::Code(fault.code.number()),
+                Part::Text(b"\n"),
+            ];
+            write_parts(line.as_slice(), sink)
+        }
         Refusal::Zone(faults) => write_check_faults(faults.as_slice(), sink),
     }
 }

@@ -1,34 +1,13 @@
 //! The lines of the checker's report.
 ghost use Rattle.std.specs.Prelude.{◌-◌, ◌^◌, ◌<◌};
 ghost use Rattle.std.specs.List.{flat_map};
-ghost use Rattle.dns_spec.specs.Report.{line_report, fault_report, loaded_report};
+ghost use Rattle.dns_spec.specs.Report.{fault_report, loaded_report};
 ghost use Rattle.dns_name.specs.Counted.{Writes};
-ghost use Rattle.dns_master.specs.Codes.{fault_of};
 
 use crate::parts::{Part, write_parts};
-use dns_master::ReadFault;
 use dns_name::{SinkFailed, Tally};
 use dns_zone::{CheckFault, CheckedZone};
 use std::io::Write;
-
-/// Writes the line of a fault of the file: `line 7: R11`.
-pub(crate) fn write_read_fault<W: Write>(
-    fault: &ReadFault,
-    sink: &mut Tally<W>,
-) -> Result<(), SinkFailed>
-    requires { sink.old.failures < 2 ^ 64 - 1 }
-    ensures { Writes W.contents sink.old sink.new result
-        (line_report (fault_of fault.now.code) fault.now.line) }
-{
-    let line = [
-        Part::Text(b"line "),
-        Part::Number(u64::from(fault.line)),
-        Part::Text(b": R"),
-        Part::Code(fault.code.number()),
-        Part::Text(b"\n"),
-    ];
-    write_parts(line.as_slice(), sink)
-}
 
 /// Writes a line for each fault of the zone: `www.example. Z06`.
 pub(crate) fn write_check_faults<W: Write>(
