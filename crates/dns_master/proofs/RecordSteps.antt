@@ -1,6 +1,7 @@
 -- The parts of a record one after another: the first that is wrong is the fault that is reported.
-use Rattle.dns_spec.proofs.Common.{◌≡◌, ℕ, true, false, List, [], ◌∷◌, drop, refl, sym, ap, ◌∙◌, subst, inl, inr, arith, Option, Some, None, false≢true, none-some, same_Some, option_or, is_none, is_some, Octets, DomainName, folded, ResourceRecord, lower_case, cut, Word, Says, Entry, bad_data, bad_type, no_owner, no_ttl, other_class, too_many_records, Nothing, Lowest, IsRecord, Fields, EntryMeaning, faulty, gives, OriginIs, TtlSays, ttl_in_force, TypeIs, DataIs, IsNoTtl, is_other_class, are_too_many, RecordGives}
-use Rattle.std.specs.Prelude.{MatchOption, IfSome, if◌then◌else◌}
+use Rattle.dns_spec.proofs.Common.{◌≡◌, ℕ, true, false, List, [], ◌∷◌, drop, refl, sym, ap, ◌∙◌, subst, inl, inr, arith, Option, Some, None, false≢true, none-some, same_Some, option_or, is_none, Octets, DomainName, folded, ResourceRecord, lower_case, cut, Word, Says, Entry, bad_data, bad_type, no_owner, no_ttl, other_class, too_many_records, Nothing, Lowest, IsRecord, Fields, EntryMeaning, faulty, gives, OriginIs, TtlSays, ttl_in_force, TypeIs, DataIs, IsNoTtl, is_other_class, are_too_many, RecordGives}
+use Rattle.std.specs.Prelude.{MatchOption, IfSome}
+use Rattle.std.specs.Option.{option_and}
 use Rattle.std.specs.Bool.{IsTrue}
 use Rattle.dns_spec.proofs.DataWords.LoweredData.{lowered-twice}
 use Rattle.dns_spec.proofs.DataWords.TypeWords.{one_type}
@@ -19,7 +20,7 @@ ttl-stated None m h none = none
 ttl-stated (Some w) m h none = none h.0 h.2
 
 pub last-stated : (v w : Option Word) (ttl : ℕ) (old : Option ℕ) → IfSome v (λ x. TtlSays x ttl) → TtlOf w old
-    → TtlOf (option_or v w) (if is_some v then Some ttl else old)
+    → TtlOf (option_or v w) (option_or (option_and v (Some ttl)) old)
 last-stated None w ttl old h k = k
 last-stated (Some v) w ttl old h k = (ttl, refl, h)
 

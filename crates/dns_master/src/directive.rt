@@ -1,21 +1,14 @@
 //! Directives: `$ORIGIN` (RFC 1035 5.1) and `$TTL` (RFC 2308 4).
 ghost use Rattle.std.specs.Prelude.{◌≡◌, ◌↔◌, ℕ, Some};
 ghost use Rattle.dns_spec.specs.Names.{DomainName};
-ghost use Rattle.dns_spec.specs.Meaning.{OneWord, TtlSays, is_directive};
+ghost use Rattle.dns_spec.specs.Meaning.{OneWord, TtlSays};
 ghost use Rattle.dns_master.specs.RecordForm.{OneWordIs, SpelledName};
 ghost use Rattle.dns_master.specs.WordsLeft.{words_left};
 
 use crate::entry_words::EntryWords;
-use crate::words::{read_name, read_ttl};
+use crate::words::read_ttl;
 use dns_name::Name;
 use dns_rdata::{Word, Words};
-
-/// Whether an entry that begins with this word, and no blank, is a directive.
-pub(crate) fn is_directive(word: &Word<'_>) -> bool
-    ensures { result ≡ is_directive word.now }
-{
-    !word.quoted && word.raw.first() == Some(&b'$')
-}
 
 /// The origin that the words of `$ORIGIN` say, which is relative to the one before.
 pub(crate) fn read_origin(words: EntryWords<'_, '_>, origin: &Name) -> Option<Name>
@@ -23,8 +16,8 @@ pub(crate) fn read_origin(words: EntryWords<'_, '_>, origin: &Name) -> Option<Na
         ↔ OneWord (λ w. SpelledName origin.now w n) (words_left words.entry) }
 {
     match only_word(words) {
-        Some(word) => read_name(&word, origin),
-        None => None,
+        Some(word) if !word.quoted => Name::read_text(word.raw, origin).ok(),
+        _ => None,
     }
 }
 

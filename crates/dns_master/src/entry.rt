@@ -1,11 +1,10 @@
 //! The entries of a text: from the beginning of a line to the first line end outside parentheses
 //! (RFC 1035 5.1).
-ghost use Rattle.std.specs.Prelude.{◌≡◌, ◌≢◌, ◌+◌, ◌≤◌, ◌++◌, [], ◌∷◌, true, false, Some, None, length, take, IfOk, IfErr, IfSome};
-ghost use Rattle.std.specs.List.{list_any};
+ghost use Rattle.std.specs.Prelude.{◌≡◌, ◌≢◌, ◌+◌, ◌≤◌, ◌++◌, [], ◌∷◌, true, false, Some, None, length, IfOk, IfErr, IfSome};
 ghost use Rattle.std.specs.Option.{option_map, unwrap_or};
 ghost use Rattle.std.specs.Bool.{MatchBool};
 ghost use Rattle.dns_spec.specs.FileFaults.{bad_parenthesis, too_long};
-ghost use Rattle.dns_spec.specs.ZoneText.{is_blank, begins_line_end, is_cut_short, extent_by, stop_at, stop_fault, string_fault, token_fault, unless_cut_short};
+ghost use Rattle.dns_spec.specs.ZoneText.{is_cut_short, extent_by, stop_at, stop_fault, string_fault, token_fault, unless_cut_short};
 ghost use Rattle.dns_master.specs.TokenForm.{shown_token};
 ghost use Rattle.dns_master.specs.EntryForm.{EntryRead, IsWhole, IsWrong, outcome_of, step, line_ends};
 ghost use Rattle.dns_master.specs.WordsForm.{WordTaken, words_in};
@@ -15,7 +14,7 @@ ghost use Rattle.dns_master.specs.Codes.{ForFault, fault_of};
 
 use crate::entry_words::{LaterWords, word_of};
 use crate::fault::ReadCode;
-use crate::run::{Run, is_blank};
+use crate::run::Run;
 use crate::token::{Token, first_token};
 use dns_rdata::Word;
 
@@ -141,13 +140,6 @@ fn line_ends(token: Token<'_>) -> u32
     }
 }
 
-/// Whether a text begins with a space or a tab.
-pub(crate) fn begins_blank(text: &[u8]) -> bool
-    ensures { result ≡ list_any is_blank (take 1 text.now) }
-{
-    text.first().is_some_and(|first| is_blank(*first))
-}
-
 /// Whether an entry is at hand as a whole: ended by its line end, or by the end of a text that does
 /// not go on. `goes_on` is whether the text goes on past its limit, where that is known.
 ///
@@ -195,16 +187,21 @@ fn end_fault(end: &EntryEnd<'_>, goes_on: bool) -> Option<ReadCode>
 }
 
 // A fault at a place where the text can't go on, unless more octets than are looked at would be
-// needed to tell.
+// needed to tell: it might be the beginning of an escape or of CR LF.
 fn unless_cut_short(goes_on: bool, place: &[u8], fault: ReadCode) -> ReadCode
     ensures value { fault_of result ≡ unless_cut_short (extent_by goes_on) place.now
         (fault_of fault) }
     ensures source { fault ≢ ReadCode.SourceFailed → result ≢ ReadCode.SourceFailed }
 {
-    if goes_on && is_cut_short(place) {
-        return ReadCode::TooLong;
+    let is_cut_short = matches!(
+        place,
+        [] | [b'\\'] | [b'\r'] | [b'\\', b'0'..=b'9'] | [b'\\', b'0'..=b'9', b'0'..=b'9']
+    );
+    if goes_on && is_cut_short {
+        ReadCode::TooLong
+    } else {
+        fault
     }
-    fault
 }
 
 // The fault of a string that can't go on.
@@ -212,10 +209,10 @@ fn string_fault(place: &[u8]) -> ReadCode
     ensures value { fault_of result ≡ string_fault place.now }
     ensures source { result ≢ ReadCode.SourceFailed }
 {
-    if place.is_empty() || begins_line_end(place) {
-        return ReadCode::UnendedString;
+    match place {
+        [] | [b'\n', ..] | [b'\r', b'\n', ..] => ReadCode::UnendedString,
+        _ => token_fault(place),
     }
-    token_fault(place)
 }
 
 // The fault of a text with which no token begins.
@@ -227,25 +224,4 @@ fn token_fault(place: &[u8]) -> ReadCode
         return ReadCode::BadEscape;
     }
     ReadCode::BadOctet
-}
-
-// Whether more octets might end what the text is: an escape or CR LF.
-fn is_cut_short(text: &[u8]) -> bool
-    ensures { result ≡ is_cut_short text.now }
-{
-    match text {
-        [] | [b'\\'] | [b'\r'] => true,
-        [b'\\', a] => a.is_ascii_digit(),
-        [b'\\', a, b] => a.is_ascii_digit() && b.is_ascii_digit(),
-        _ => false,
-    }
-}
-
-fn begins_line_end(text: &[u8]) -> bool
-    ensures { result ≡ begins_line_end text.now }
-{
-    match text {
-        [b'\n', ..] | [b'\r', b'\n', ..] => true,
-        _ => false,
-    }
 }

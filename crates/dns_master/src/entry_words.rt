@@ -53,20 +53,12 @@ impl<'k, 'w> Words<'w> for EntryWords<'k, 'w> {
     fn split_first(self) -> Option<(Word<'w>, EntryWords<'k, 'w>)> {
         if let Some((first, kept)) = self.kept.split_first() {
             let later = self.later;
-            return Some((copied(first), EntryWords { kept, later }));
+            let (raw, quoted) = (first.raw, first.quoted);
+            return Some((Word { raw, quoted }, EntryWords { kept, later }));
         }
         let (first, later) = self.later.split_first()?;
         let kept = self.kept;
         Some((first, EntryWords { kept, later }))
-    }
-}
-
-fn copied<'w>(word: &Word<'w>) -> Word<'w>
-    ensures { result ≡ word.now }
-{
-    Word {
-        raw: word.raw,
-        quoted: word.quoted,
     }
 }
 

@@ -1,8 +1,8 @@
 //! What stands between the owner and the data of a record (RFC 1035 5.1).
-ghost use Rattle.std.specs.Prelude.{◌≡◌, [], ◌∷◌, take, drop, codes, MatchOption, MatchResult};
+ghost use Rattle.std.specs.Prelude.{◌≡◌, [], ◌∷◌, drop, codes, MatchOption, MatchResult};
 ghost use Rattle.std.specs.List.{list_any};
 ghost use Rattle.std.specs.Option.{option_copied};
-ghost use Rattle.dns_spec.specs.Meaning.{Nothing, TypeIs, fields, class_after, ttl_after, is_ttl_word, is_class_word, is_word, is_other_class, is_zone_type, IsNoTtl};
+ghost use Rattle.dns_spec.specs.Meaning.{Nothing, TypeIs, fields, class_after, ttl_after, is_ttl_word, is_class_word, is_word, is_other_class, IsNoTtl};
 ghost use Rattle.dns_master.specs.RecordForm.{TtlOf, NamedType};
 ghost use Rattle.dns_master.specs.WordsLeft.{words_left};
 
@@ -101,7 +101,12 @@ fn is_ttl_word(word: &Word<'_>) -> bool
 fn is_class_word(word: &Word<'_>) -> bool
     ensures { result ≡ is_class_word word.now }
 {
-    !word.quoted && (is_class_name(word.raw) || begins_class(word.raw))
+    let raw = word.raw;
+    !word.quoted
+        && (is_class_name(raw)
+            || raw
+                .split_at_checked(5)
+                .is_some_and(|(prefix, _)| is_word(b"class", prefix)))
 }
 
 fn is_class_name(raw: &[u8]) -> bool
@@ -111,24 +116,14 @@ fn is_class_name(raw: &[u8]) -> bool
     is_word(b"in", raw) || is_word(b"ch", raw) || is_word(b"cs", raw) || is_word(b"hs", raw)
 }
 
-fn begins_class(raw: &[u8]) -> bool
-    ensures { result ≡ is_word (codes "class") (take 5 raw.now) }
-{
-    raw.split_at_checked(5)
-        .is_some_and(|(prefix, _)| is_word(b"class", prefix))
-}
-
 /// The TTL that is stated, if one is: `Ttl` where it is none.
 pub(crate) fn stated_ttl(stated: Option<&Word<'_>>) -> Result<Option<u32>, ReadCode>
     ensures { MatchResult result (λ ttl. TtlOf (option_copied stated.entry) ttl)
         (λ fault. (fault ≡ ReadCode.BadTtl) × IsNoTtl (option_copied stated.entry)) }
 {
-    let Some(word) = stated else {
-        return Ok(None);
-    };
-    match read_ttl(word) {
-        Some(ttl) => Ok(Some(ttl)),
-        None => Err(ReadCode::BadTtl),
+    match stated {
+        Some(word) => Ok(Some(read_ttl(word).ok_or(ReadCode::BadTtl)?)),
+        None => Ok(None),
     }
 }
 
@@ -151,7 +146,8 @@ pub(crate) fn type_and_words<'a, 'w>(
     Some((read_type(&first)?, others))
 }
 
-// The type that a word names, where zones have it.
+// The type that a word names, where zones have it: not 0, none of questions and messages (RFC 6895
+// 3.1), none of DNSSEC and not DNAME.
 fn read_type(word: &Word<'_>) -> Option<RType>
     ensures { MatchOption result (Nothing (NamedType word.now)) (λ r. NamedType word.now r.0) }
 {
@@ -161,17 +157,12 @@ fn read_type(word: &Word<'_>) -> Option<RType>
     let Some(rtype) = RType::read_text(word.raw) else {
         return None;
     };
-    if is_zone_type(rtype.0) {
-        Some(rtype)
-    } else {
+    if matches!(
+        rtype.0,
+        0 | 128..=255 | 39 | 41 | 43 | 46 | 47 | 48 | 50 | 51
+    ) {
         None
+    } else {
+        Some(rtype)
     }
-}
-
-// Whether zones have the type: not 0, none of questions and messages (RFC 6895 3.1), none of DNSSEC
-// and not DNAME.
-fn is_zone_type(rtype: u16) -> bool
-    ensures { result ≡ is_zone_type rtype }
-{
-    !matches!(rtype, 0 | 128..=255 | 39 | 41 | 43 | 46 | 47 | 48 | 50 | 51)
 }

@@ -1,16 +1,16 @@
 //! A zone file that is read piece by piece.
-ghost use Rattle.std.specs.Prelude.{◌≡◌, ◌≢◌, ◌+◌, ◌-◌, ◌^◌, ◌<◌, ◌≤◌, ◌++◌, ◌⊎◌, [], length, IfOk, IfErr, IfSome, OnOk, None};
+ghost use Rattle.std.specs.Prelude.{◌≡◌, ◌≢◌, ◌+◌, ◌-◌, ◌^◌, ◌<◌, ◌≤◌, ◌++◌, ◌⊎◌, [], length, IfOk, IfErr, OnOk, None};
 ghost use Rattle.dns_spec.specs.Meaning.{fault_at, most_records};
 ghost use Rattle.dns_master.specs.Codes.{OfEntry, fault_of, failures_after_read};
 ghost use Rattle.dns_master.specs.ReaderForm.{Knows, handed};
-ghost use Rattle.dns_master.specs.PieceForm.{TakesFirst, FrontFaulty, FrontGathered, PieceTaken, PieceFaulty, ReaderMeans, TextGathered};
+ghost use Rattle.dns_master.specs.PieceForm.{FrontFaulty, FrontGathered, PieceTaken, PieceFaulty, ReaderMeans, TextGathered};
 
 use crate::fault::{ReadCode, ReadFault, entry_fault};
 use crate::gathers::Gathers;
 use crate::source::{MOST_OCTETS, PIECE, append_piece};
 use crate::state::Reader;
 use dns_name::{Name, Tally};
-use dns_rdata::{DataRoom, Word};
+use dns_rdata::DataRoom;
 use std::alloc::Global;
 use std::io::Read;
 
@@ -171,38 +171,17 @@ fn take_entries<'a, G: Gathers>(
 {
     let mut words = Vec::new(alloc);
     let mut rest = text;
-    'entries: while let Some((is_record, others)) = next_entry(
-        reader, rest, goes_on, &mut words, room,
-    )? {
+    'entries: while !rest.is_empty() {
+        let line = reader.line;
+        let (is_record, others) = match reader.take_entry(rest, goes_on, &mut words, room) {
+            Ok(Some(taken)) => taken,
+            Ok(None) => break,
+            Err(code) => return Err(entry_fault(code, line)),
+        };
         add_taken(is_record, reader, found)?;
         rest = others;
     }
     Ok(rest)
-}
-
-// Takes the entry that a text begins with, as `take_entry` of a reader does; `None` at its end too.
-fn next_entry<'a>(
-    reader: &mut Reader,
-    text: &'a [u8],
-    goes_on: Option<bool>,
-    words: &mut Vec<Word<'a>>,
-    room: &mut DataRoom,
-) -> Result<Option<(bool, &'a [u8])>, ReadFault>
-    requires fits { reader.old.line + length text.now ≤ 16777217 }
-    ensures ok { IfOk result (λ next. IfSome next (λ x. TakesFirst goes_on reader.old text.now
-        (handed x.0 reader.new.last) reader.new x.1.now)) }
-    ensures none { IfOk result (λ next. next ≡ None
-        → (reader.new ≡ reader.old) × (goes_on ≢ None → text.now ≡ [])) }
-    ensures err { IfErr result (OfEntry (FrontFaulty goes_on reader.old text.now)) }
-{
-    if text.is_empty() {
-        return Ok(None);
-    }
-    let line = reader.line;
-    match reader.take_entry(text, goes_on, words, room) {
-        Ok(next) => Ok(next),
-        Err(code) => Err(entry_fault(code, line)),
-    }
 }
 
 // Adds the last record, if the entry that was taken is one.

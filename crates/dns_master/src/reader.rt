@@ -1,10 +1,7 @@
 //! The reader of zone files (RFC 1035 section 5).
-ghost use Rattle.std.specs.Prelude.{◌≡◌, ◌≢◌, ◌+◌, ◌-◌, ◌^◌, ◌≤◌, ◌<◌, ◌⊎◌, length, [], ◌∷◌, IfOk, IfErr, OnOk, IfSome, Some, None, true, if◌then◌else◌};
-ghost use Rattle.dns_spec.specs.FileFaults.{bad_data};
-ghost use Rattle.dns_spec.specs.Data.{Valid, lower_case};
-ghost use Rattle.dns_spec.specs.DataText.{Says};
+ghost use Rattle.std.specs.Prelude.{◌≡◌, ◌≢◌, ◌+◌, ◌-◌, ◌^◌, ◌≤◌, ◌<◌, ◌⊎◌, length, [], ◌∷◌, IfOk, IfErr, OnOk, IfSome, Some, None, true};
 ghost use Rattle.dns_spec.specs.TypeText.{text_in_lower_case};
-ghost use Rattle.dns_spec.specs.Meaning.{Nothing, TtlSays, gives, faulty, directive, kind_by_words, fields, records, fault_at, most_records};
+ghost use Rattle.dns_spec.specs.Meaning.{TtlSays, gives, faulty, directive, kind_by_words, fields, records, fault_at, most_records};
 ghost use Rattle.dns_master.specs.Codes.{ForFault, fault_of, failures_after_read};
 ghost use Rattle.dns_master.specs.SourceForm.{GivesMeaning, Decides};
 ghost use Rattle.dns_master.specs.OwnedBody.{with_owner};
@@ -13,14 +10,15 @@ ghost use Rattle.dns_master.specs.ReaderForm.{Knows, TakesEntry, RefusesEntry, R
 ghost use Rattle.dns_master.specs.PieceForm.{TakesFirst, FrontFaulty};
 ghost use Rattle.dns_master.specs.WordsLeft.{words_left};
 
-use crate::directive::{is_directive, read_default_ttl, read_origin};
-use crate::entry::{begins_blank, is_whole, read_entry};
+use crate::directive::{read_default_ttl, read_origin};
+use crate::entry::{is_whole, read_entry};
 use crate::entry_words::EntryWords;
 use crate::fault::{ReadCode, ReadFault};
 use crate::fields::{Fields, is_other_class, stated_ttl, type_and_words};
 use crate::gathers::{Gathers, WholeRecords};
 use crate::pieces::Begun;
 use crate::record::{Record, RecordBody};
+use crate::run::is_blank;
 use crate::source::{PIECE, append_piece};
 use crate::state::Reader;
 use crate::words::is_word;
@@ -28,6 +26,7 @@ use dns_name::{Name, Tally};
 use dns_rdata::{DataRoom, RType, Rdata, Word, Words};
 use std::alloc::Global;
 use std::io::Read;
+use std::mem::replace;
 
 /// The most records that are read: a limit of this product (`R14`).
 pub const MOST_RECORDS: usize = 100_000;
@@ -115,12 +114,18 @@ impl Reader {
         ensures line { result.line ≡ 1 }
         ensures none { result.count ≡ 0 }
     {
+        let none = Record {
+            owner: Name::root(),
+            ttl: 0,
+            rtype: RType(0),
+            rdata: Rdata::empty(alloc),
+        };
         Reader {
             origin: origin.copied(),
             default_ttl: None,
             stated_ttl: None,
             line: 1,
-            last: Record::without_data(alloc),
+            last: none,
             count: 0,
         }
     }
@@ -154,7 +159,8 @@ impl Reader {
             kept: words.as_slice(),
             later: end.later,
         };
-        let taken = self.take_words(begins_blank(text), found, room)?;
+        let is_blank_led = text.first().is_some_and(|first| is_blank(*first));
+        let taken = self.take_words(is_blank_led, found, room)?;
         self.line += lines;
         Ok(Some((taken, rest)))
     }
@@ -186,7 +192,7 @@ impl Reader {
             self.take_record(words, room)?;
             return Ok(true);
         }
-        if is_directive(&first) {
+        if !first.quoted && first.raw.first() == Some(&b'$') {
             self.take_directive(first.raw, others)?;
             return Ok(false);
         }
@@ -237,8 +243,10 @@ impl Reader {
     {
         let fields = Fields::of(words);
         let body = self.read_body(&fields, room)?;
-        self.stated_ttl = last_stated(fields.ttl.is_some(), body.ttl, self.stated_ttl);
-        room.take_back(self.last.put(body));
+        self.stated_ttl = fields.ttl.and(Some(body.ttl)).or(self.stated_ttl);
+        self.last.ttl = body.ttl;
+        self.last.rtype = body.rtype;
+        room.take_back(replace(&mut self.last.rdata, body.rdata));
         self.count += 1;
         Ok(())
     }
@@ -268,32 +276,10 @@ impl Reader {
         let Some(ttl) = stated.or(self.default_ttl.or(self.stated_ttl)) else {
             return Err(ReadCode::NoTtl);
         };
-        let rdata = self.read_data(rtype, words, room)?;
+        let rdata = Rdata::read_words_in(room, rtype, words, &self.origin)?;
         if self.count >= MOST_RECORDS {
             return Err(ReadCode::TooManyRecords);
         }
         Ok(RecordBody { ttl, rtype, rdata })
     }
-
-    fn read_data(
-        &self,
-        rtype: RType,
-        words: EntryWords<'_, '_>,
-        room: &mut DataRoom,
-    ) -> Result<Rdata, ReadCode>
-        ensures valid { IfOk result (λ d. Valid rtype.0 d) }
-        ensures lowered { IfOk result (λ d. lower_case rtype.0 d ≡ d) }
-        ensures ok { IfOk result (λ d. Says rtype.0 (words_left words.entry) self.now.origin d) }
-        ensures err { IfErr result (λ code. ForFault code (λ fault.
-            (fault ≡ bad_data) × Nothing (Says rtype.0 (words_left words.entry) self.now.origin))) }
-    {
-        Ok(Rdata::read_words_in(room, rtype, words, &self.origin)?)
-    }
-}
-
-// The TTL that was stated last, after a record that states one or not.
-fn last_stated(is_stated: bool, ttl: u32, before: Option<u32>) -> Option<u32>
-    ensures { result ≡ (if is_stated then Some ttl else before) }
-{
-    if is_stated { Some(ttl) } else { before }
 }

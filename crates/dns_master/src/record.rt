@@ -3,14 +3,11 @@ ghost use Rattle.std.specs.Prelude.{◌≡◌, IfOk};
 ghost use Rattle.std.specs.Bool.{OnTrue, OnFalse};
 ghost use Rattle.dns_spec.specs.Names.{DomainName, folded};
 ghost use Rattle.dns_master.specs.RecordForm.{IsKept, SpelledName, SpelledOwner};
-ghost use Rattle.dns_master.specs.OwnedBody.{with_owner};
 
-use crate::words::spell_name;
 use dns_name::Name;
 use dns_rdata::{RType, Rdata, Word};
 use std::alloc::{AllocError, Global};
 use std::marker::Model;
-use std::mem::replace;
 
 /// A record of class IN (RFC 1035 3.2.1). Its owner and the names in its data are in lower case,
 /// and its data is valid for its type.
@@ -51,18 +48,6 @@ pub(crate) struct RecordBody {
 }
 
 impl Record {
-    /// A record of the root without data, of a type without a name.
-    pub(crate) fn without_data(alloc: Global) -> Record
-        ensures { folded result.owner ≡ result.owner }
-    {
-        Record {
-            owner: Name::root(),
-            ttl: 0,
-            rtype: RType(0),
-            rdata: Rdata::empty(alloc),
-        }
-    }
-
     /// Makes its owner the name in lower case that an unquoted word spells, relative to the origin.
     /// False where it spells none; then the owner is some name.
     pub(crate) fn spell_owner(&mut self, word: &Word<'_>, origin: &Name) -> bool
@@ -71,19 +56,9 @@ impl Record {
             ((n : DomainName) → SpelledName origin.now word.now n → ⊥) }
         ensures low { folded self.new.owner ≡ self.new.owner }
     {
-        let is_spelled = spell_name(&mut self.owner, word, origin);
+        let is_spelled = self.owner.spell(word.raw, origin).is_ok();
         self.owner.fold_in_place();
-        is_spelled
-    }
-
-    /// Makes it another record of its owner, where it stands, and hands back the data that it had.
-    pub(crate) fn put(&mut self, body: RecordBody) -> Rdata
-        requires { IsKept self.old.owner body.ttl body.rtype.0 body.rdata }
-        ensures { self.new ≡ with_owner self.old.owner body }
-    {
-        self.ttl = body.ttl;
-        self.rtype = body.rtype;
-        replace(&mut self.rdata, body.rdata)
+        is_spelled && !word.quoted
     }
 
     /// A second record with the same values. Memory is taken once, for the data.

@@ -37,7 +37,11 @@ impl Run {
         ensures value { result ≡ run_length (by_itself self) 0 text.now }
         ensures bound { result ≤ length text.now }
     {
-        let mut place = self.plain_front(text);
+        // Only a string may be long.
+        let mut place = match self {
+            Run::Word => 0,
+            Run::String => plain_groups(text),
+        };
         'units: while place < text.len() {
             let octet = text[place];
             if self.has(octet) {
@@ -54,18 +58,6 @@ impl Run {
             place += 1 + escape;
         }
         place
-    }
-
-    // How many octets in front stand in the run by themselves, as far as it is cheap to tell: those
-    // of a string, which may be long, by groups.
-    fn plain_front(self, text: &[u8]) -> usize
-        ensures bound { result ≤ length text.now }
-        ensures plain { list_all (by_itself self) (take result text.now) ≡ true }
-    {
-        match self {
-            Run::Word => 0,
-            Run::String => plain_groups(text),
-        }
     }
 
     // Whether an octet stands in the run by itself.
@@ -103,15 +95,11 @@ fn are_plain(group: &[u8; GROUP]) -> bool
 {
     let mut all = true;
     'octets: for octet in group {
-        all &= is_plain(*octet);
+        let octet = *octet;
+        all &= (octet == b'\t')
+            | ((octet >= b' ') & (octet <= b'~') & (octet != b'"') & (octet != b'\\'));
     }
     all
-}
-
-fn is_plain(octet: u8) -> bool
-    ensures { result ≡ is_string_octet octet }
-{
-    (octet == b'\t') | ((octet >= b' ') & (octet <= b'~') & (octet != b'"') & (octet != b'\\'))
 }
 
 // How many octets after a backslash belong to its escape: one that is printable and no digit, or
@@ -120,16 +108,10 @@ fn escape_length(text: &[u8]) -> usize
     ensures value { result ≡ counted_escape text.now }
     ensures bound { result ≤ length text.now }
 {
-    let Some(first) = text.first() else {
-        return 0;
-    };
-    if first.is_ascii_digit() {
-        return digits_length(text);
-    }
-    if *first >= b' ' && *first <= b'~' {
-        1
-    } else {
-        0
+    match text.first() {
+        Some(b'0'..=b'9') => digits_length(text),
+        Some(b' '..=b'~') => 1,
+        _ => 0,
     }
 }
 

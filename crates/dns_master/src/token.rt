@@ -1,5 +1,5 @@
 //! The tokens that the text of a zone file is made of (RFC 1035 5.1).
-ghost use Rattle.dns_spec.specs.ZoneText.{token_front, quoted_front, unquoted_front, line_feed_front};
+ghost use Rattle.dns_spec.specs.ZoneText.{token_front, unquoted_front};
 ghost use Rattle.dns_master.specs.TokenForm.{Begins};
 
 use crate::run::{Run, after_blank, after_comment};
@@ -26,25 +26,16 @@ pub(crate) fn first_token(text: &[u8]) -> Option<(Token<'_>, &[u8])>
     match *first {
         b' ' | b'\t' => Some((Token::Blank, after_blank(others))),
         b';' => Some((Token::Comment, after_comment(others))),
-        b'"' => first_quoted(others),
+        b'"' => {
+            let (raw, end) = others.split_at(Run::String.length(others));
+            Some((Token::Quoted(raw), end.strip_prefix(b"\"")?))
+        }
         b'(' => Some((Token::Opening, others)),
         b')' => Some((Token::Closing, others)),
         b'\n' => Some((Token::LineEnd, others)),
-        b'\r' => first_line_feed(others),
+        b'\r' => Some((Token::LineEnd, others.strip_prefix(b"\n")?)),
         _ => first_word(text),
     }
-}
-
-// After a quotation mark: the string up to the next one, and the text after that.
-fn first_quoted(text: &[u8]) -> Option<(Token<'_>, &[u8])>
-    ensures { Begins result (quoted_front text.now) }
-{
-    let (raw, end) = text.split_at(Run::String.length(text));
-    let (first, others) = end.split_first()?;
-    if *first != b'"' {
-        return None;
-    }
-    Some((Token::Quoted(raw), others))
 }
 
 fn first_word(text: &[u8]) -> Option<(Token<'_>, &[u8])>
@@ -56,15 +47,4 @@ fn first_word(text: &[u8]) -> Option<(Token<'_>, &[u8])>
     }
     let (raw, others) = text.split_at(length);
     Some((Token::Word(raw), others))
-}
-
-// After CR.
-fn first_line_feed(text: &[u8]) -> Option<(Token<'_>, &[u8])>
-    ensures { Begins result (line_feed_front text.now) }
-{
-    let (first, others) = text.split_first()?;
-    if *first != b'\n' {
-        return None;
-    }
-    Some((Token::LineEnd, others))
 }

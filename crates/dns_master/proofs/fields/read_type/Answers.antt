@@ -7,8 +7,8 @@ returns-in_default c = λ t h.
     let none = c.in_default.ensures in
     none t (subst (λ (raw : Octets). NamesType raw t) (ap (λ (w : Word). w.raw) (sym c.word.view_is)) h.1)
 
-pub returns-else-is_zone_type : goal.returns-else-is_zone_type
-returns-else-is_zone_type c = λ t h.
+pub returns-then-matches : goal.returns-then-matches
+returns-then-matches c = λ t h.
     let same = ap (λ (w : Word). w.raw) (sym c.word.view_is) in
     let here : t ≡ c.in-Some.rtype.0 = one_type _ t c.in-Some.rtype.0 (subst (λ (raw : Octets). NamesType raw t) same h.1) c.in-Some.ensures in
     let other : is_zone_type c.in-Some.rtype.0 ≡ false = search rules in

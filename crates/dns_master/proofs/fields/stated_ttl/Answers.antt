@@ -1,5 +1,5 @@
-use Rattle.std.proofs.Common.{refl}
+use Rattle.std.proofs.Common.{rules, refl}
 use Rattle.dns_master.proofs.fields.stated_ttl.Goals as goal
 
-pub returns-in-Some-read_ttl : goal.returns-in-Some-read_ttl
-returns-in-Some-read_ttl c = rw c.in-Some.is (_, refl, (c.read_ttl.ensures _).0 c.in-Some-read_ttl.is)
+pub returns-in_ok-ok_or-in-Some : goal.returns-in_ok-ok_or-in-Some
+returns-in_ok-ok_or-in-Some c = rw c.in-Some.is (_, refl, (c.read_ttl.ensures _).0 (search rules))

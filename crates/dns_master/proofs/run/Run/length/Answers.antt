@@ -1,13 +1,17 @@
 use Rattle.dns_spec.proofs.Common.{rules, length, drop, ap, sym, ◌∙◌, arith, drop_all}
 use Rattle.dns_master.specs.TokenForm.{by_itself}
+use Rattle.dns_master.specs.declared.run.Run.TheVariants.{String}
 use Rattle.dns_master.proofs.RunLemmas.{here-itself, here-end, here-escape, here-no_escape, run-front, run-none}
+use Rattle.dns_master.proofs.run.Run.length.Goals.{in-Word, in-String}
 use Rattle.dns_master.proofs.run.Run.length.Goals as goal
 
 pub units-init : goal.units-init
-units-init c = record {
-  whole = run-front c.args.self c.plain_front-place.result c.args.text.now c.plain_front-place.ensures.bound c.plain_front-place.ensures.plain;
-  bound = c.plain_front-place.ensures.bound;
-}
+units-init c = elim c.match-self.branch [
+  | in-Word w ↦ rw w.place-is (record { whole = omega arith; bound = omega arith })
+  | in-String w ↦
+      let front = w.plain_groups-place in
+      rw (w.place-is, w.in-String.is) (record { whole = run-front String _ c.args.text.now front.ensures.bound front.ensures.plain; bound = front.ensures.bound })
+]
 
 pub units-preserved-then-has : goal.units-preserved-then-has
 units-preserved-then-has c =

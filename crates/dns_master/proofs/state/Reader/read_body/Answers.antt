@@ -1,8 +1,8 @@
-use Rattle.dns_spec.proofs.Common.{rules, ◌≡◌, true, false, sym, ap, ◌∙◌, nat_le, arith, are_too_many}
-use Rattle.dns_master.specs.declared.fault.ReadCode.TheVariants.{OtherClass, BadType, NoTtl, TooManyRecords}
-use Rattle.dns_name.proofs.Results.{fault_handed_on}
-use Rattle.dns_master.proofs.RecordSteps.{ttl-or, class-fault, type-fault, no_ttl-fault, data-fault, count-fault, record-given}
-use Rattle.dns_master.proofs.Refusals.{refused, ForFault-map}
+use Rattle.dns_spec.proofs.Common.{rules, ◌≡◌, true, false, sym, ap, ◌∙◌, nat_le, arith, inl, inr, are_too_many}
+use Rattle.dns_master.specs.declared.fault.ReadCode.TheVariants.{OtherClass, BadType, NoTtl, BadData, TooManyRecords}
+use Rattle.dns_name.proofs.Results.{fault_turned}
+use Rattle.dns_master.proofs.RecordSteps.{said-lowered, ttl-or, class-fault, type-fault, no_ttl-fault, data-fault, count-fault, record-given}
+use Rattle.dns_master.proofs.Refusals.{refused, no-memory}
 use Rattle.dns_master.proofs.state.Reader.read_body.Goals as goal
 
 pub returns-then-is_other_class-clause-err : goal.returns-then-is_other_class-clause-err
@@ -24,14 +24,15 @@ returns-in_default-or-clause-err c = refused NoTtl _ (omega arith) (λ o earlier
 
 pub returns-in_err-rdata-clause-err : goal.returns-in_err-rdata-clause-err
 returns-in_err-rdata-clause-err c =
-    fault_handed_on c.from_residual-in_err-rdata.result c.in_err-rdata.field-0.0 _
-    c.from_residual-in_err-rdata.ensures.1
-    (ForFault-map c.in_err-rdata.field-0.0 (λ fault reported o earlier before known.
-    let stated = rw c.as_ref.ensures.value at c.in_ok-stated.ensures in
-    let in_force = ttl-or _ _ _ _ stated (ttl-or _ _ _ _ known.default_is known.stated_is) in
-    rw (sym c.fields.view_is, reported.0)
-    (data-fault o earlier _ _ _ _ _ stated (search rules) c.in-Some.ensures.0 in_force
-    c.in-Some-or.ttl (search rules) _ known.origin_is known.no_other (rw c.in-Some.ensures.1 at reported.1))) c.in_err-rdata.ensures.err)
+    fault_turned c.from_residual-in_err-rdata.result _ _ c.from_residual-in_err-rdata.ensures.1 (λ refusal turned. elim turned [
+      | inl h ↦ no-memory _ _ h.1
+      | inr h ↦ rw h.1 (refused BadData _ (omega arith) (λ o earlier before known.
+          let stated = rw c.as_ref.ensures.value at c.in_ok-stated.ensures in
+          let in_force = ttl-or _ _ _ _ stated (ttl-or _ _ _ _ known.default_is known.stated_is) in
+          rw (sym c.fields.view_is)
+          (data-fault o earlier _ _ _ _ _ stated (search rules) c.in-Some.ensures.0 in_force
+          c.in-Some-or.ttl (search rules) _ known.origin_is known.no_other (rw c.in-Some.ensures.1 at c.in_err-rdata.ensures.fault h.0))))
+    ])
 
 pub returns-then-self-ge-MOST_RECORDS-clause-err : goal.returns-then-self-ge-MOST_RECORDS-clause-err
 returns-then-self-ge-MOST_RECORDS-clause-err c = refused TooManyRecords _ (omega arith) (λ o earlier before known.
@@ -41,6 +42,10 @@ returns-then-self-ge-MOST_RECORDS-clause-err c = refused TooManyRecords _ (omega
     rw (sym c.fields.view_is)
     (count-fault o earlier _ _ _ _ _ stated (search rules) c.in-Some.ensures.0 in_force
     c.in-Some-or.ttl (search rules) _ known.origin_is known.no_other _ (rw c.in-Some.ensures.1 at c.in_ok-rdata.ensures.ok) many))
+
+pub returns-clause-kept : goal.returns-clause-kept
+returns-clause-kept c =
+    record { low = c.args.self.now.low; short = search rules; is_valid = c.in_ok-rdata.ensures.valid; lowered = said-lowered _ _ _ _ c.in_ok-rdata.ensures.ok }
 
 pub returns-clause-ok : goal.returns-clause-ok
 returns-clause-ok c = λ o earlier before known.

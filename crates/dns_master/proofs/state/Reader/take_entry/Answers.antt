@@ -1,4 +1,4 @@
-use Rattle.dns_spec.proofs.Common.{◌≡◌, ◌+◌, ◌∷◌, ◌++◌, None, true, subst, sym, ap, ◌∙◌, arith, unwrap_or, bad_parenthesis, fault_code, ended, EntryKind, KindGives, faulty, line_after}
+use Rattle.dns_spec.proofs.Common.{rules, ◌≡◌, ◌+◌, ◌∷◌, ◌++◌, None, true, subst, sym, ap, ◌∙◌, arith, unwrap_or, bad_parenthesis, fault_code, ended, EntryKind, KindGives, faulty, line_after}
 use Rattle.dns_master.specs.EntryForm.{IsWhole}
 use Rattle.dns_name.proofs.Results.{fault_handed_on}
 use Rattle.dns_master.proofs.TextSteps.{wrong-faulty, same_sort, entry-means, entry-faulty, entry-ends_faulty, entry-line, entry-shorter}
@@ -23,8 +23,8 @@ returns-in_err-is_whole-clause-err c =
 
 pub returns-in_err-taken-clause-err : goal.returns-in_err-taken-clause-err
 returns-in_err-taken-clause-err c =
-    let sort = same_sort c.args.text.now c.read_entry.new.kept.items c.as_slice.result.now (later_words c.in_ok-end.end.later) _ _ c.begins_blank.result c.in_ok-end.ensures.ok
-    c.begins_blank.ensures c.as_slice.ensures.value in
+    let sort = same_sort c.args.text.now c.read_entry.new.kept.items c.as_slice.result.now (later_words c.in_ok-end.end.later) _ _ c.is_some_and-is_blank_led.result c.in_ok-end.ensures.ok
+    (search rules) c.as_slice.ensures.value in
     let whole = always (IsWhole c.args.goes_on c.in_ok-end.end.is_ended c.in_ok-end.end.is_open c.in_ok-end.end.rest.now) (c.args.goes_on ≡ None) _ c.if-not-branch.false c.in_ok-is_whole.ensures.ok in
     fault_handed_on c.from_residual-in_err-taken.result c.in_err-taken.field-0.0 _ c.from_residual-in_err-taken.ensures.1 (ForFault-map c.in_err-taken.field-0.0 (λ fault given more past may o earlier known line.
     let on = entry-on c.args.goes_on more past c.args.text.now c.in_ok-end.end.rest.now _ _ _ _ may whole c.in_ok-end.ensures.ok in
@@ -33,8 +33,8 @@ returns-in_err-taken-clause-err c =
 
 pub returns-clause-ok : goal.returns-clause-ok
 returns-clause-ok c =
-    let sort = same_sort c.args.text.now c.read_entry.new.kept.items c.as_slice.result.now (later_words c.in_ok-end.end.later) _ _ c.begins_blank.result c.in_ok-end.ensures.ok
-    c.begins_blank.ensures c.as_slice.ensures.value in
+    let sort = same_sort c.args.text.now c.read_entry.new.kept.items c.as_slice.result.now (later_words c.in_ok-end.end.later) _ _ c.is_some_and-is_blank_led.result c.in_ok-end.ensures.ok
+    (search rules) c.as_slice.ensures.value in
     let whole = always (IsWhole c.args.goes_on c.in_ok-end.end.is_ended c.in_ok-end.end.is_open c.in_ok-end.end.rest.now) (c.args.goes_on ≡ None) _ c.if-not-branch.false c.in_ok-is_whole.ensures.ok in
     record {
       taken = λ more past later may h o earlier known line.

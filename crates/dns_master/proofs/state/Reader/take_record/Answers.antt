@@ -1,5 +1,6 @@
-use Rattle.std.proofs.Common.{◌≡◌, [], ◌∷◌, subst, ap, ◌∙◌, refl, Some, if◌then◌else◌, IfSome}
-use Rattle.dns_spec.proofs.Common.{is_some, no_owner, Fields, RecordGives, TtlSays, fields, faulty, gives}
+use Rattle.std.proofs.Common.{rules, ◌≡◌, [], ◌∷◌, subst, ◌∙◌, refl, Some, IfSome}
+use Rattle.std.specs.Option.{option_or, option_and}
+use Rattle.dns_spec.proofs.Common.{no_owner, Fields, RecordGives, TtlSays, fields, faulty, gives}
 use Rattle.dns_master.specs.OwnedBody.{with_owner}
 use Rattle.dns_name.proofs.Results.{fault_handed_on}
 use Rattle.dns_master.proofs.RecordSteps.{last-stated}
@@ -16,22 +17,19 @@ pub returns-clause-ok : goal.returns-clause-ok
 returns-clause-ok c = λ o earlier stated known.
     let body = c.in_ok-body.body in
     let owner = c.args.self.now.last.owner in
-    let now : c.last_stated-self.result ≡ (if is_some (fields (words_left c.args.words)).ttl then Some body.ttl else c.args.self.now.stated_ttl) =
-    let some : c.is_some.result ≡ is_some (fields (words_left c.args.words)).ttl =
-    c.is_some.ensures ∙ ap (λ (f : Fields). is_some f.ttl) (c.fields.view_is ∙ c.of-fields.ensures) in
-    c.last_stated-self.ensures
-    ∙ ap (λ b. if b then Some body.ttl else c.args.self.now.stated_ttl) some in
+    let same = c.fields.view_is ∙ c.of-fields.ensures in
     record {
       taken = with_owner owner body;
-      last_is = c.put.ensures;
+      last_is = search rules;
       owner_is = refl;
       given = subst (λ (f : Fields). RecordGives o earlier no_owner (λ n. n ≡ owner) f (gives (with_owner owner body ∷ []))) c.of-fields.ensures
           (c.in_ok-body.ensures.ok o earlier stated known);
-      origin_is = refl;
-      default_is = refl;
+      origin_is = search rules;
+      default_is = search rules;
       stated_is = λ w h.
           let reported : IfSome (fields (words_left c.args.words)).ttl (λ x. TtlSays x body.ttl) =
           subst (λ (f : Fields). IfSome f.ttl (λ x. TtlSays x body.ttl)) c.of-fields.ensures c.in_ok-body.ensures.ttl in
+          let now : c.or-self-inside.result ≡ option_or (option_and (fields (words_left c.args.words)).ttl (Some body.ttl)) c.args.self.now.stated_ttl = search rules in
           rw now (last-stated (fields (words_left c.args.words)).ttl w body.ttl c.args.self.now.stated_ttl reported h);
-      count_is = refl;
+      count_is = search rules;
     }

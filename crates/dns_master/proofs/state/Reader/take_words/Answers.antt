@@ -24,8 +24,8 @@ returns-then-is_blank_led-clause-ok c = λ o earlier e known is.
     unowned-taken o earlier e _ _ known (words_left c.args.words) last.0 _ (is ∙ kind)
     last.1 last.2 c.args.self.now.low (c.in_ok-take_record.ensures.ok o earlier _ known)
 
-pub returns-then-is_directive-clause-ok : goal.returns-then-is_directive-clause-ok
-returns-then-is_directive-clause-ok c = λ o earlier e known is.
+pub returns-then-eq-clause-ok : goal.returns-then-eq-clause-ok
+returns-then-eq-clause-ok c = λ o earlier e known is.
     let led : is_directive c.in-Some.first ≡ true = search rules in
     let kind = kind-directive _ _ c.in-Some.first _ c.if-is_blank_led.false led c.in-Some.ensures
     ∙ ap (λ (w : Word). directive (text_in_lower_case w.raw) (words_left c.in-Some.others))
