@@ -36,9 +36,5 @@ fn only_word<'w>(words: EntryWords<'_, 'w>) -> Option<Word<'w>>
     ensures { OneWordIs result (words_left words.entry) }
 {
     let (first, others) = words.split_first()?;
-    if others.count() == 0 {
-        Some(first)
-    } else {
-        None
-    }
+    (others.count() == 0).then_some(first)
 }

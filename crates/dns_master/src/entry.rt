@@ -97,10 +97,8 @@ fn take_word<'a>(
         return Ok(later);
     };
     if later.count > 0 || kept.len() >= MOST_KEPT {
-        return Ok(LaterWords {
-            text: later.text,
-            count: later.count + 1,
-        });
+        let count = later.count + 1;
+        return Ok(LaterWords { count, ..later });
     }
     kept.push(word)?;
     Ok(LaterWords {
@@ -170,13 +168,10 @@ fn end_fault(end: &EntryEnd<'_>, goes_on: bool) -> Option<ReadCode>
     ensures source { IfSome result (λ code. code ≢ ReadCode.SourceFailed) }
 {
     let Some((first, others)) = end.rest.split_first() else {
-        if goes_on {
-            return Some(ReadCode::TooLong);
-        }
-        return if end.is_open {
-            Some(ReadCode::Parenthesis)
-        } else {
-            None
+        return match (goes_on, end.is_open) {
+            (true, _) => Some(ReadCode::TooLong),
+            (_, true) => Some(ReadCode::Parenthesis),
+            _ => None,
         };
     };
     if *first == b'"' {

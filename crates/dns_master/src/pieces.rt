@@ -7,10 +7,11 @@ ghost use Rattle.dns_master.specs.PieceForm.{FrontFaulty, FrontGathered, PieceTa
 
 use crate::fault::{ReadCode, ReadFault, entry_fault};
 use crate::gathers::Gathers;
+use crate::record::Record;
 use crate::source::{MOST_OCTETS, PIECE, append_piece};
 use crate::state::Reader;
 use dns_name::{Name, Tally};
-use dns_rdata::DataRoom;
+use dns_rdata::{DataRoom, RType, Rdata};
 use std::alloc::Global;
 use std::io::Read;
 
@@ -38,9 +39,23 @@ impl Begun {
         ensures nothing { result.held.items ≡ [] }
         ensures all { result.left ≡ 16777216 }
     {
+        let none = Record {
+            owner: Name::root(),
+            ttl: 0,
+            rtype: RType(0),
+            rdata: Rdata::empty(alloc),
+        };
+        let reader = Reader {
+            origin: origin.copied(),
+            default_ttl: None,
+            stated_ttl: None,
+            line: 1,
+            last: none,
+            count: 0,
+        };
         Begun {
             alloc,
-            reader: Reader::new(alloc, origin),
+            reader,
             room: DataRoom::new(alloc),
             held: Vec::new(alloc),
             left: MOST_OCTETS,

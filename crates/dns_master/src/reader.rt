@@ -109,27 +109,6 @@ pub fn read_into<R: Read, G: Gathers>(
 }
 
 impl Reader {
-    pub(crate) fn new(alloc: Global, origin: &Name) -> Reader
-        ensures known { Knows origin.now [] result }
-        ensures line { result.line ≡ 1 }
-        ensures none { result.count ≡ 0 }
-    {
-        let none = Record {
-            owner: Name::root(),
-            ttl: 0,
-            rtype: RType(0),
-            rdata: Rdata::empty(alloc),
-        };
-        Reader {
-            origin: origin.copied(),
-            default_ttl: None,
-            stated_ttl: None,
-            line: 1,
-            last: none,
-            count: 0,
-        }
-    }
-
     /// Takes the entry that a text begins with: gives whether it is a record, which is the last one
     /// then, and the text after it. `goes_on` is whether the text goes on past its limit. Where
     /// that is not known, more of it may come: `None` where that would be needed to tell, and then

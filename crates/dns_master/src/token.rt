@@ -34,17 +34,9 @@ pub(crate) fn first_token(text: &[u8]) -> Option<(Token<'_>, &[u8])>
         b')' => Some((Token::Closing, others)),
         b'\n' => Some((Token::LineEnd, others)),
         b'\r' => Some((Token::LineEnd, others.strip_prefix(b"\n")?)),
-        _ => first_word(text),
+        _ => {
+            let (raw, others) = text.split_at(Run::Word.length(text));
+            (!raw.is_empty()).then_some((Token::Word(raw), others))
+        }
     }
-}
-
-fn first_word(text: &[u8]) -> Option<(Token<'_>, &[u8])>
-    ensures { Begins result (unquoted_front text.now) }
-{
-    let length = Run::Word.length(text);
-    if length == 0 {
-        return None;
-    }
-    let (raw, others) = text.split_at(length);
-    Some((Token::Word(raw), others))
 }
