@@ -7,6 +7,12 @@ use Rattle.dns_wire.specs.Kept.{SpelledFrom, SpellsName, HasAt}
 use Rattle.dns_wire.proofs.Runs.{GoesOn, at_end, at_label, at_pointer, goes_on_at}
 use Rattle.dns_wire.proofs.SuffixLemmas.{next_label}
 
+-- the root alone has a wire form of one octet
+pub root_alone : (m : DomainName) → length (wire m) ≡ 1 → wire m ≡ 0 ∷ []
+root_alone [] h = refl
+root_alone (l ∷ []) h = absurd (omega (arith, h, length-append l (wire [])))
+root_alone (l ∷ k ∷ m) h = absurd (omega (arith, h, length-append l (wire (k ∷ m))))
+
 -- the root's length ends a name
 pub spelled_end : {b : Octets} {s i : ℕ} {o : Octets} → slice_get b i ≡ Some 0 → (o ≡ 0 ∷ [] → SpelledFrom b s i o) × (SpelledFrom b s i o → o ≡ 0 ∷ [])
 spelled_end {b} {s} {i} {o} root = (λ e. ([], i + 1, ends i root, sym e), λ h. back h.0 h.1 h.3 (goes_on_at h.2))

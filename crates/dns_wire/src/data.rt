@@ -1,9 +1,9 @@
 //! Data of records, in which names may go on elsewhere by a pointer (RFC 1035 3.3 and 4.1.4).
 ghost use Rattle.std.specs.Prelude.{◌≡◌, ◌+◌, ◌≤◌, length, IfOk, IfErr};
 ghost use Rattle.dns_spec.specs.Reading.{DataAt};
-ghost use Rattle.dns_rdata.specs.TypeRows.{piece_of, pieces_in};
+ghost use Rattle.dns_rdata.specs.TypeRows.{piece_of};
 ghost use Rattle.dns_rdata.specs.Parts.{part_lends};
-ghost use Rattle.dns_wire.specs.Pieces.{IsPieceRead, NoPieceAt, NoDataAt, data_pieces};
+ghost use Rattle.dns_wire.specs.Pieces.{IsPieceRead, NoPieceAt, NoDataAt};
 ghost use Rattle.dns_wire.specs.Read.{IsWireData};
 ghost use Rattle.dns_wire.specs.WireFault.{UnlessNoMemory};
 
@@ -35,7 +35,12 @@ pub(crate) fn read_data(
 {
     let mut data = Vec::new(alloc);
     let mut place = at;
-    let mut pieces = pieces_of_data(rtype, rclass);
+    // The types have their forms in class IN alone.
+    let mut pieces = if rclass == CLASS_IN {
+        pieces_of_type(rtype)
+    } else {
+        &[Piece::Anything]
+    };
     'pieces: while let Some((piece, others)) = pieces.split_first() {
         place = read_piece(message, *piece, place, end, &mut data)?;
         pieces = others;
@@ -44,17 +49,6 @@ pub(crate) fn read_data(
         return Err(WireFault::BadData);
     }
     Ok(data)
-}
-
-// The types have their forms in class IN alone.
-fn pieces_of_data(rtype: RType, rclass: u16) -> &'static [Piece]
-    ensures { pieces_in result.now ≡ data_pieces rtype.0 rclass }
-{
-    if rclass == CLASS_IN {
-        pieces_of_type(rtype)
-    } else {
-        &[Piece::Anything]
-    }
 }
 
 // Appends the piece at a place, and answers the place after it, which is not past the end of the

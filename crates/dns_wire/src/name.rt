@@ -62,12 +62,18 @@ pub(crate) fn step_at(message: &[u8], run: usize, place: usize) -> Result<Step<'
     };
     match *octet {
         0 => Ok(Step::End),
-        1..=63 => label_at(message, run, place),
+        1..=63 => {
+            let (_, rest) = message.split_at(place + 1);
+            let Some((octets, _)) = rest.split_at_checked(usize::from(*octet)) else {
+                return Err(WireFault::Short);
+            };
+            match Label::new(octets) {
+                Some(label) => Ok(Step::Label(label)),
+                None => unreachable!(),
+            }
+        }
         64..=191 => Err(WireFault::ReservedLabel),
-        192..=255 => match pointer_at(message, run, place) {
-            Ok(target) => Ok(Step::Jump(target)),
-            Err(fault) => Err(fault),
-        },
+        192..=255 => Ok(Step::Jump(pointer_at(message, run, place)?)),
     }
 }
 
@@ -81,25 +87,6 @@ pub(crate) fn jump_at(message: &[u8], run: usize, place: usize) -> Option<usize>
         return None;
     }
     pointer_at(message, run, place).ok()
-}
-
-// A label, after its length of 1 to 63 octets.
-fn label_at(message: &[u8], run: usize, place: usize) -> Result<Step<'_>, WireFault>
-    requires inside { place < length message.now }
-    requires some { 0 < get_or message.now place 0 }
-    requires short { get_or message.now place 0 < 64 }
-    ensures step { IfOk result (λ step. StepAt message.now run place step) }
-    ensures none { IsErr result → NoRunAt message.now run place }
-{
-    let length = usize::from(message[place]);
-    let (_, rest) = message.split_at(place + 1);
-    let Some((octets, _)) = rest.split_at_checked(length) else {
-        return Err(WireFault::Short);
-    };
-    match Label::new(octets) {
-        Some(label) => Ok(Step::Label(label)),
-        None => unreachable!(),
-    }
 }
 
 // Where a pointer of two octets leads, the first from 192 on.

@@ -1,8 +1,8 @@
 //! The places of the suffixes of names after the question, found by a hash of the suffix (RFC 1035
 //! 4.1.4).
-ghost use Rattle.std.specs.Prelude.{◌≡◌, ◌-◌, ◌<◌, ◌≤◌, [], ◌∷◌, ◌++◌, length, take, IsTrue, IfSome, IsNone};
+ghost use Rattle.std.specs.Prelude.{◌≡◌, ◌-◌, ◌<◌, ◌≤◌, [], ◌∷◌, ◌++◌, length, take, IfSome, IsNone};
 ghost use Rattle.dns_wire.specs.Chains.{chain_of};
-ghost use Rattle.dns_wire.specs.Kept.{IsKept, SpelledAt, SpellsName, NoneSpelled};
+ghost use Rattle.dns_wire.specs.Kept.{IsKept, SpellsName, NoneSpelled};
 
 use crate::spelled::is_spelled;
 use arrayvec::ArrayVec;
@@ -87,15 +87,9 @@ impl<const N: usize> Places<N> {
         ensures { self.new ≡ take count self.old }
     {
         'places: while self.len() > count {
-            self.drop_newest();
-        }
-    }
-
-    fn drop_newest(&mut self)
-        ensures { self.new ≡ take (length self.old - 1) self.old }
-    {
-        if let Some(newest) = self.entries.pop() {
-            self.heads[chain_of(newest.number)] = newest.next;
+            if let Some(newest) = self.entries.pop() {
+                self.heads[chain_of(newest.number)] = newest.next;
+            }
         }
     }
 
@@ -110,7 +104,8 @@ impl<const N: usize> Places<N> {
         let mut newest = self.heads[chain_of(number)];
         'chain: while newest > 0 {
             let entry = self.entries.as_slice()[usize::from(newest) - 1];
-            if is_sought(entry, number, message, suffix) {
+            let place = usize::from(entry.place);
+            if entry.number == number && is_spelled(message, place, suffix) {
                 return Some(entry.place);
             }
             newest = entry.next;
@@ -125,16 +120,6 @@ fn chain_of(number: u32) -> usize
     ensures low { result < 128 }
 {
     (number % HEADS as u32) as usize
-}
-
-// Whether an entry has this number, and the message spells the suffix at its place.
-fn is_sought(entry: Entry, number: u32, message: &[u8], suffix: &[u8]) -> bool
-    ensures yes { IsTrue result
-        → (entry.number ≡ number) × SpellsName message.now entry.place suffix.now }
-    ensures no { (entry.number ≡ number) × SpelledAt message.now entry.place suffix.now
-        → IsTrue result }
-{
-    entry.number == number && is_spelled(message, usize::from(entry.place), suffix)
 }
 
 /// Chooses the chain in which a suffix is looked for: a number below 1,024, the same at every call

@@ -1,7 +1,7 @@
 //! Queries, read: a header and one question (RFC 1035 4.1).
 ghost use Rattle.std.specs.Prelude.{◌≡◌, ◌+◌, ◌≤◌, length, IfSome, IsNone, None};
 ghost use Rattle.dns_spec.specs.ComputedReading.{name_at};
-ghost use Rattle.dns_spec.specs.Query.{field16, reply_head, is_ignored, counts_are_one_question, question_at, query_read};
+ghost use Rattle.dns_spec.specs.Query.{field16, reply_head, question_at, query_read};
 ghost use Rattle.dns_wire.specs.QueryForm.{as_lent, as_read, code_of, NameEnds};
 
 use crate::message::{HEADER_OCTETS, Head, Question, QuestionRef};
@@ -106,7 +106,7 @@ pub fn read_query(datagram: &[u8]) -> QueryRead
 pub fn lent_query(datagram: &[u8]) -> QueryRef<'_>
     ensures { as_lent result ≡ query_read datagram.now }
 {
-    if is_ignored(datagram) {
+    if datagram.len() < HEADER_OCTETS || field(datagram, 2) / 0x8000 >= 1 {
         return QueryRef::Absent;
     }
     let head = Head {
@@ -116,7 +116,11 @@ pub fn lent_query(datagram: &[u8]) -> QueryRef<'_>
     if head.flags / 0x800 % 16 != 0 {
         return QueryRef::Refused(head.reply(false, false, Rcode::NotImplemented));
     }
-    if !counts_are_one_question(datagram) {
+    if field(datagram, 4) != 1
+        || field(datagram, 6) != 0
+        || field(datagram, 8) != 0
+        || field(datagram, 10) != 0
+    {
         return QueryRef::Refused(head.reply(false, false, Rcode::FormatError));
     }
     match lent_question(datagram) {
@@ -131,24 +135,6 @@ fn field(datagram: &[u8], at: usize) -> u16
     ensures { result ≡ field16 datagram.now at }
 {
     BigEndian::read_u16(&datagram[at..])
-}
-
-// Nothing is owed to what is shorter than a header, or is a reply itself.
-fn is_ignored(datagram: &[u8]) -> bool
-    ensures { result ≡ is_ignored datagram.now }
-{
-    datagram.len() < HEADER_OCTETS || field(datagram, 2) / 0x8000 >= 1
-}
-
-// One question and no record.
-fn counts_are_one_question(datagram: &[u8]) -> bool
-    requires { 12 ≤ length datagram.now }
-    ensures { result ≡ counts_are_one_question datagram.now }
-{
-    field(datagram, 4) == 1
-        && field(datagram, 6) == 0
-        && field(datagram, 8) == 0
-        && field(datagram, 10) == 0
 }
 
 // The question that is all that stands after the header.

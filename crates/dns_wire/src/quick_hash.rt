@@ -1,6 +1,4 @@
 //! A hash of suffixes that looks at few of their octets.
-ghost use Rattle.std.specs.Prelude.{◌≡◌, ◌<◌, get_or};
-
 use crate::places::SuffixHash;
 
 // 2^32 divided by the golden ratio.
@@ -20,18 +18,7 @@ impl SuffixHash for QuickHash {
         // An odd number carries each octet into the highest bits.
         match suffix.first_chunk::<4>() {
             Some(front) => (u32::from_le_bytes(*front).wrapping_mul(SPREAD) / 4_194_304) as u16,
-            None => octet_at(suffix, 1),
+            None => suffix.get(1).map_or(0, |octet| u16::from(*octet)),
         }
-    }
-}
-
-// The octet at a place, or 0 after the end.
-fn octet_at(octets: &[u8], at: usize) -> u16
-    ensures value { result ≡ get_or octets.now at 0 }
-    ensures low { result < 256 }
-{
-    match octets.get(at) {
-        Some(octet) => u16::from(*octet),
-        None => 0,
     }
 }

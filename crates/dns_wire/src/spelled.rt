@@ -1,5 +1,5 @@
 //! Whether a message spells a suffix at a place, pointers followed (RFC 1035 4.1.4).
-ghost use Rattle.std.specs.Prelude.{◌≡◌, ◌↔◌, ◌≤◌, [], ◌∷◌, ◌++◌, length, take, drop, IsTrue, IfSome, IsNone};
+ghost use Rattle.std.specs.Prelude.{◌≡◌, ◌≤◌, ◌∷◌, ◌++◌, length, take, drop, IsTrue, IfSome, IsNone};
 ghost use Rattle.dns_spec.specs.Names.{Octets};
 ghost use Rattle.dns_wire.specs.Kept.{SpelledAt, SpellsName, HasAt, IsCommon};
 
@@ -95,7 +95,8 @@ fn are_spelled(message: &[u8], at: usize, suffix: &[u8]) -> bool
             return false;
         };
         match step {
-            Step::End => return is_root(rest),
+            // The root alone has a wire form of one octet.
+            Step::End => return rest.len() == 1,
             Step::Label(label) => {
                 let Some(after) = after_label(rest, label.octets()) else {
                     return false;
@@ -118,22 +119,10 @@ fn are_spelled(message: &[u8], at: usize, suffix: &[u8]) -> bool
 fn has_at(message: &[u8], at: usize, octets: &[u8]) -> bool
     ensures { IsTrue result → HasAt message.now at octets.now }
 {
-    match message.split_at_checked(at) {
-        Some((_, rest)) => match rest.split_at_checked(octets.len()) {
-            Some((front, _)) => are_equal(front, octets),
-            None => false,
-        },
-        None => false,
-    }
-}
-
-fn is_root(wire: &[u8]) -> bool
-    ensures { IsTrue result ↔ (wire.now ≡ 0 ∷ []) }
-{
-    match wire {
-        [octet] => *octet == 0,
-        _ => false,
-    }
+    message
+        .split_at_checked(at)
+        .and_then(|(_, rest)| rest.split_at_checked(octets.len()))
+        .is_some_and(|(front, _)| are_equal(front, octets))
 }
 
 // What follows the label, where the octets begin with it.
@@ -147,8 +136,5 @@ fn after_label<'a>(wire: &'a [u8], label: &[u8]) -> Option<&'a [u8]>
         return None;
     }
     let (front, after) = rest.split_at_checked(label.len())?;
-    if !are_equal(front, label) {
-        return None;
-    }
-    Some(after)
+    are_equal(front, label).then_some(after)
 }

@@ -39,11 +39,10 @@ fn octets_number(octets: &[u8]) -> u32
 fn few_number(octets: &[u8]) -> u64
     ensures { result ≡ few_number octets.now }
 {
-    let mut number: u64 = 0;
-    'octets: for octet in octets {
-        number = number.wrapping_mul(256) ^ u64::from(*octet);
-    }
-    number
+    octets.iter().fold(
+        0,
+        |number: u64, octet| number.wrapping_mul(256) ^ u64::from(*octet),
+    )
 }
 
 // Each bit of a number counts for all bits of what it is mixed to.

@@ -1,16 +1,18 @@
-use Rattle.std.proofs.Common.{refl, arith}
-use Rattle.dns_wire.proofs.SpelledLemmas.{spelled_end, spelled_label, spelled_jump, spelled_whole, named_after, spelled_front}
+use Rattle.std.proofs.Common.{rules, refl, arith, ap, sym, ◌∙◌, length}
+use Rattle.dns_wire.proofs.SpelledLemmas.{spelled_end, root_alone, spelled_label, spelled_jump, spelled_whole, named_after, spelled_front}
 use Rattle.dns_wire.proofs.spelled.are_spelled.Goals as goal
 
 pub returns-in-End-clause-yes : goal.returns-in-End-clause-yes
 returns-in-End-clause-yes c = λ yes n e ok.
     let root = rw c.in-End.is at c.in-Ok.ensures.step in
-    c.steps.invariant.forth ((spelled_end root).0 (c.is_root.ensures.0 yes))
+    let m = c.steps.invariant.named n e ok in
+    c.steps.invariant.forth ((spelled_end root).0 (m.1 ∙ root_alone m.0 (ap length (sym m.1) ∙ search rules)))
 
 pub returns-in-End-clause-no : goal.returns-in-End-clause-no
 returns-in-End-clause-no c = λ there.
     let root = rw c.in-End.is at c.in-Ok.ensures.step in
-    c.is_root.ensures.1 ((spelled_end root).1 (c.steps.invariant.back there))
+    let ends = (spelled_end root).1 (c.steps.invariant.back there) in
+    search rules
 
 pub steps-preserved-in-Label : goal.steps-preserved-in-Label
 steps-preserved-in-Label c =

@@ -3,6 +3,7 @@ use Rattle.dns_wire.specs.declared.places.Entry.{Entry}
 use Rattle.dns_wire.specs.Chains.{chain_of, entry_at, kept_in}
 use Rattle.dns_wire.specs.Kept.{SpelledAt}
 use Rattle.dns_wire.proofs.ChainLemmas.{Chain, read_entry, chain_begins, chain_next, entry_kept, kept_entry}
+use Rattle.dns_wire.proofs.places.Places.find.Goals.{else-entry-number-via-then-entry-number+else-is_spelled, else-entry-number-via-else-entry-number}
 use Rattle.dns_wire.proofs.places.Places.find.Goals as goal
 use Rattle.dns_wire.proofs.places.Places.find.Given as given
 
@@ -14,26 +15,25 @@ chain-init g c =
     let begun = chain_begins P (chain_of c.args.number) es c.self.inside.heads c.self.invariant (omega (arith, low, c.chain_of.ensures.chain)) in
     subst (λ k. Chain P (chain_of c.args.number) es (get_or c.self.inside.heads k 0)) (sym c.chain_of.ensures.chain) begun
 
-module _ (g : given.Over) (c : goal.Then-is_sought g) where
+module _ (g : given.Over) (c : goal.Then-is_spelled g) where
   found : (k : ℕ) × (c.chain.newest ≡ suc k) × (get_or c.as_slice.result.now (c.from.result - 1) (record { place = 0; number = 0; next = 0 }) ≡ entry_at c.self.inside.entries.items k)
   found = let positive = c.chain-test.true in read_entry (omega (arith, positive)) c.as_slice.ensures.value c.from.ensures
 
   low : found.0 < length c.self.inside.entries.items
   low = let inside = c.chain.invariant.inside in let is = found.1 in omega (arith, inside, is)
 
-pub returns-then-is_sought-clause-kept : goal.returns-then-is_sought-clause-kept
-returns-then-is_sought-clause-kept g c =
+pub returns-then-is_spelled-clause-kept : goal.returns-then-is_spelled-clause-kept
+returns-then-is_spelled-clause-kept g c =
     let r = found g c in
-    let number = (c.is_sought.ensures.yes c.if-is_sought.true).0 in
     let e = get_or c.as_slice.result.now (c.from.result - 1) (record { place = 0; number = 0; next = 0 }) in
-    (r.0, ap (λ x. slice_get x r.0) (sym c.self.view_is) ∙ entry_kept c.self.inside.entries.items r.0 (low g c) ∙ ap (λ (x : Entry). Some (kept_in x)) (sym r.2) ∙ ap (λ n. Some (record { place = e.place; number = n })) number)
+    (r.0, ap (λ x. slice_get x r.0) (sym c.self.view_is) ∙ entry_kept c.self.inside.entries.items r.0 (low g c) ∙ ap (λ (x : Entry). Some (kept_in x)) (sym r.2) ∙ ap (λ n. Some (record { place = e.place; number = n })) c.if-entry-number.true)
 
-pub returns-then-is_sought-clause-reached : goal.returns-then-is_sought-clause-reached
-returns-then-is_sought-clause-reached g c =
+pub returns-then-is_spelled-clause-reached : goal.returns-then-is_spelled-clause-reached
+returns-then-is_spelled-clause-reached g c =
     let r = found g c in
     subst (λ (e : Entry). e.place < 16384) (sym r.2) (c.self.invariant.linked r.0 (low g c)).0
 
-module _ (g : given.Over) (c : goal.Else-is_sought g) where
+module _ (g : given.Over) (c : goal.Joined-else-entry-number g) where
   passed : (k : ℕ) × (c.chain.newest ≡ suc k) × (get_or c.as_slice.result.now (c.from.result - 1) (record { place = 0; number = 0; next = 0 }) ≡ entry_at c.self.inside.entries.items k)
   passed = let positive = c.chain-test.true in read_entry (omega (arith, positive)) c.as_slice.ensures.value c.from.ensures
 
@@ -43,7 +43,11 @@ module _ (g : given.Over) (c : goal.Else-is_sought g) where
   next =
       let P = λ (e : Entry). (e.number ≡ c.args.number) × SpelledAt c.args.message.now e.place c.args.suffix.now in
       let es = c.self.inside.entries.items in
-      let other : P (entry_at es passed.0) → ⊥ = λ there. false≢true (sym c.if-is_sought.false ∙ c.is_sought.ensures.no (subst P (sym passed.2) there)) in
+      let other : P (entry_at es passed.0) → ⊥ = λ there. let sought = subst P (sym passed.2) there in elim c.else-entry-number.branch [
+        | else-entry-number-via-then-entry-number+else-is_spelled w ↦ false≢true (sym w.if-is_spelled.false
+            ∙ w.is_spelled.ensures.no (subst (λ q. SpelledAt c.args.message.now q c.args.suffix.now) (sym c.from-place.ensures) sought.1))
+        | else-entry-number-via-else-entry-number w ↦ w.if-entry-number.false sought.0
+      ] in
       chain_next P (chain_of c.args.number) es c.self.inside.heads passed.0 c.self.invariant (subst (Chain P (chain_of c.args.number) es) passed.1 c.chain.invariant) other
 
 pub chain-smaller : goal.chain-smaller

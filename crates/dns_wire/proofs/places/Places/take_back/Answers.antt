@@ -1,7 +1,7 @@
 use Rattle.dns_spec.proofs.Common.{◌∙◌, sym, ap, subst, ◌++◌, slice_set, option_to_list}
 use Rattle.dns_wire.specs.Chains.{AreChains}
 use Rattle.dns_wire.proofs.ChainLemmas.{chains_shrink}
-use Rattle.dns_wire.proofs.places.Places.drop_newest.Goals as goal
+use Rattle.dns_wire.proofs.places.Places.take_back.Goals as goal
 
 pub invariant_of-self : goal.invariant_of-self
 invariant_of-self g c =
