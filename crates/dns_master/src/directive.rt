@@ -25,10 +25,7 @@ pub(crate) fn read_origin(words: EntryWords<'_, '_>, origin: &Name) -> Option<Na
 pub(crate) fn read_default_ttl(words: EntryWords<'_, '_>) -> Option<u32>
     ensures { (n : ℕ) → (result ≡ Some n) ↔ OneWord (λ w. TtlSays w n) (words_left words.entry) }
 {
-    match only_word(words) {
-        Some(word) => read_ttl(&word),
-        None => None,
-    }
+    only_word(words).and_then(|word| read_ttl(&word))
 }
 
 // The word of a list of one.

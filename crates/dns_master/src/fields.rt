@@ -39,53 +39,37 @@ impl<'a, 'w> Fields<'a, 'w> {
     pub(crate) fn of(words: EntryWords<'a, 'w>) -> Fields<'a, 'w>
         ensures { result ≡ fields (words_left words.entry) }
     {
-        if let Some((first, others)) = words.split_first() {
-            if is_ttl_word(&first) {
-                return Fields::after_ttl(first, others);
-            }
-            if is_class_word(&first) {
-                return Fields::after_class(first, others);
-            }
-        }
-        Fields {
-            ttl: None,
-            class: None,
-            others: words,
-        }
-    }
-
-    fn after_ttl(ttl: Word<'w>, words: EntryWords<'a, 'w>) -> Fields<'a, 'w>
-        ensures { result ≡ class_after ttl.entry (words_left words.entry) }
-    {
         match words.split_first() {
-            Some((first, others)) if is_class_word(&first) => Fields {
-                ttl: Some(ttl),
-                class: Some(first),
-                others,
-            },
+            Some((first, others)) if is_ttl_word(&first) => Fields::after_ttl(first, others),
+            Some((first, others)) if is_class_word(&first) => Fields::after_class(first, others),
             _ => Fields {
-                ttl: Some(ttl),
+                ttl: None,
                 class: None,
                 others: words,
             },
         }
     }
 
+    fn after_ttl(ttl: Word<'w>, words: EntryWords<'a, 'w>) -> Fields<'a, 'w>
+        ensures { result ≡ class_after ttl.entry (words_left words.entry) }
+    {
+        let (class, others) = match words.split_first() {
+            Some((first, others)) if is_class_word(&first) => (Some(first), others),
+            _ => (None, words),
+        };
+        let ttl = Some(ttl);
+        Fields { ttl, class, others }
+    }
+
     fn after_class(class: Word<'w>, words: EntryWords<'a, 'w>) -> Fields<'a, 'w>
         ensures { result ≡ ttl_after class.entry (words_left words.entry) }
     {
-        match words.split_first() {
-            Some((first, others)) if is_ttl_word(&first) => Fields {
-                ttl: Some(first),
-                class: Some(class),
-                others,
-            },
-            _ => Fields {
-                ttl: None,
-                class: Some(class),
-                others: words,
-            },
-        }
+        let (ttl, others) = match words.split_first() {
+            Some((first, others)) if is_ttl_word(&first) => (Some(first), others),
+            _ => (None, words),
+        };
+        let class = Some(class);
+        Fields { ttl, class, others }
     }
 }
 

@@ -6,7 +6,7 @@ ghost use Rattle.dns_master.specs.Codes.{ForFault, fault_of, failures_after_read
 ghost use Rattle.dns_master.specs.SourceForm.{GivesMeaning, Decides};
 ghost use Rattle.dns_master.specs.OwnedBody.{with_owner};
 ghost use Rattle.dns_master.specs.RecordForm.{IsKept};
-ghost use Rattle.dns_master.specs.ReaderForm.{Knows, TakesEntry, RefusesEntry, RecordMeans, TakesRecord, handed};
+ghost use Rattle.dns_master.specs.ReaderForm.{TakesEntry, RefusesEntry, RecordMeans, TakesRecord, handed};
 ghost use Rattle.dns_master.specs.PieceForm.{TakesFirst, FrontFaulty};
 ghost use Rattle.dns_master.specs.WordsLeft.{words_left};
 
@@ -23,7 +23,7 @@ use crate::source::{PIECE, append_piece};
 use crate::state::Reader;
 use crate::words::is_word;
 use dns_name::{Name, Tally};
-use dns_rdata::{DataRoom, RType, Rdata, Word, Words};
+use dns_rdata::{DataRoom, Rdata, Word, Words};
 use std::alloc::Global;
 use std::io::Read;
 use std::mem::replace;

@@ -3,7 +3,7 @@ ghost use Rattle.std.specs.Prelude.{◌≡◌, ◌==◌, ◌≤◌, true, not, l
 ghost use Rattle.std.specs.List.{list_all, prefix_len, position};
 ghost use Rattle.dns_spec.specs.ZoneText.{is_blank, run_length};
 ghost use Rattle.dns_spec.specs.DataText.{is_string_octet};
-ghost use Rattle.dns_spec.proofs.NameTexts.Escapes.{counted_digits, counted_escape};
+ghost use Rattle.dns_spec.proofs.NameTexts.Escapes.{counted_escape};
 ghost use Rattle.dns_master.specs.TokenForm.{by_itself};
 
 /// What a run is made of, beside escapes.

@@ -1,5 +1,5 @@
 //! The tokens that the text of a zone file is made of (RFC 1035 5.1).
-ghost use Rattle.dns_spec.specs.ZoneText.{token_front, unquoted_front};
+ghost use Rattle.dns_spec.specs.ZoneText.{token_front};
 ghost use Rattle.dns_master.specs.TokenForm.{Begins};
 
 use crate::run::{Run, after_blank, after_comment};
