@@ -1,8 +1,7 @@
 //! Data of records, in which names may go on elsewhere by a pointer (RFC 1035 3.3 and 4.1.4).
-ghost use Rattle.std.specs.Prelude.{◌≡◌, ◌+◌, ◌≤◌, length, IfOk, IfErr};
+ghost use Rattle.std.specs.Prelude.{◌+◌, ◌≤◌, length, IfOk, IfErr};
 ghost use Rattle.dns_spec.specs.Reading.{DataAt};
 ghost use Rattle.dns_rdata.specs.TypeRows.{piece_of};
-ghost use Rattle.dns_rdata.specs.Parts.{part_lends};
 ghost use Rattle.dns_wire.specs.Pieces.{IsPieceRead, NoPieceAt, NoDataAt};
 ghost use Rattle.dns_wire.specs.Read.{IsWireData};
 ghost use Rattle.dns_wire.specs.WireFault.{UnlessNoMemory};
@@ -81,15 +80,7 @@ fn read_piece(
     let Some((part, after)) = first_part(piece, own) else {
         return Err(WireFault::BadData);
     };
-    written.extend_from_slice(octets_of(part))?;
+    let (Part::Octets(octets) | Part::Name(octets)) = part;
+    written.extend_from_slice(octets)?;
     Ok(end - after.len())
-}
-
-fn octets_of(part: Part<'_>) -> &[u8]
-    ensures { result.now ≡ part_lends part.entry }
-{
-    match part {
-        Part::Octets(octets) => octets,
-        Part::Name(octets) => octets,
-    }
 }

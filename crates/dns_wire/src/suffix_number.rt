@@ -1,7 +1,7 @@
 //! The number by which the places of a suffix are told from those of others, and chosen.
 ghost use Rattle.std.specs.Prelude.{◌≡◌, ◌<◌, ◌≤◌, ◌^◌, length, take, drop, ◌+◌};
 ghost use Rattle.std.specs.Int.{from_le_bytes, w64};
-ghost use Rattle.dns_wire.specs.SuffixNumbers.{suffix_number, octets_number, few_number, mixed};
+ghost use Rattle.dns_wire.specs.SuffixNumbers.{suffix_number, octets_number, mixed};
 
 use crate::places::SuffixHash;
 
@@ -26,23 +26,16 @@ fn octets_number(octets: &[u8]) -> u32
     ensures low { result < 2 ^ 22 }
 {
     if octets.len() <= 8 {
-        return (mixed(few_number(octets)) >> 42) as u32;
+        let few = octets.iter().fold(0, |number: u64, octet| {
+            number.wrapping_mul(256) ^ u64::from(*octet)
+        });
+        return (mixed(few) >> 42) as u32;
     }
     let mut number = eight_at(octets, octets.len() - 8);
     'eights: for i in 0..(octets.len() - 1) / 8 {
         number = mixed(number ^ eight_at(octets, 8 * i));
     }
     (number >> 42) as u32
-}
-
-// Few octets, one after another in a number.
-fn few_number(octets: &[u8]) -> u64
-    ensures { result ≡ few_number octets.now }
-{
-    octets.iter().fold(
-        0,
-        |number: u64, octet| number.wrapping_mul(256) ^ u64::from(*octet),
-    )
 }
 
 // Each bit of a number counts for all bits of what it is mixed to.

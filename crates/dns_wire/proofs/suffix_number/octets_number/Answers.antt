@@ -1,4 +1,4 @@
-use Rattle.std.proofs.Common.{◌≡◌, ◌-◌, ◌/◌, ◌^◌, ◌∙◌, cond, sym, ap, arith, length, le-leb}
+use Rattle.std.proofs.Common.{rules, ◌≡◌, ◌-◌, ◌/◌, ◌^◌, ◌∙◌, cond, sym, ap, arith, length, le-leb}
 use Rattle.std.proofs.lemmas.Bool.{lt-leb}
 use Rattle.dns_wire.specs.SuffixNumbers.{octets_number, mixed, few_number, with_eights}
 use Rattle.dns_wire.proofs.suffix_number.octets_number.Goals as goal
@@ -8,7 +8,7 @@ unfolding octets_number
 returns-then-octets-le8-clause-value c =
     let o = c.args.octets.now in
     let few = le-leb (length o) 8 c.if-octets-le8.true in
-    ap (λ n. n / 2 ^ 42) (c.mixed.ensures ∙ ap mixed c.few_number.ensures)
+    ap (λ n. n / 2 ^ 42) (c.mixed.ensures ∙ ap mixed (search rules))
     ∙ sym (ap (λ t. cond t (mixed (few_number o)) (with_eights ((length o - 1) / 8) o) / 2 ^ 42) few)
 
 pub returns-clause-value : goal.returns-clause-value
