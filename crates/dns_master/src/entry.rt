@@ -1,12 +1,12 @@
 //! The entries of a text: from the beginning of a line to the first line end outside parentheses
 //! (RFC 1035 5.1).
-ghost use Rattle.std.specs.Prelude.{◌≡◌, ◌≢◌, ◌+◌, ◌≤◌, ◌++◌, [], ◌∷◌, true, false, Some, None, length, IfOk, IfErr, IfSome};
+ghost use Rattle.std.specs.Prelude.{◌≡◌, ◌≢◌, ◌+◌, ◌≤◌, ◌++◌, [], true, false, Some, None, length, IfOk, IfErr, IfSome};
 ghost use Rattle.std.specs.Option.{option_map, unwrap_or};
 ghost use Rattle.std.specs.Bool.{MatchBool};
 ghost use Rattle.dns_spec.specs.FileFaults.{bad_parenthesis, too_long};
 ghost use Rattle.dns_spec.specs.ZoneText.{is_cut_short, extent_by, stop_at, stop_fault, string_fault, token_fault, unless_cut_short};
 ghost use Rattle.dns_master.specs.TokenForm.{shown_token};
-ghost use Rattle.dns_master.specs.EntryForm.{EntryRead, IsWhole, IsWrong, outcome_of, shown_step, step, line_ends};
+ghost use Rattle.dns_master.specs.EntryForm.{EntryRead, IsWhole, IsWrong, outcome_of, shown_step, step};
 ghost use Rattle.dns_master.specs.WordsForm.{WordTaken, words_in};
 ghost use Rattle.dns_master.specs.WordsLeft.{later_words};
 ghost use Rattle.dns_master.specs.Codes.{ForFault, fault_of};
@@ -64,7 +64,7 @@ pub(crate) fn read_entry<'a>(
     };
     'tokens: while let Some((token, others)) = first_token(end.rest) {
         end.later = take_word(kept, end.later, token, others)?;
-        end.lines += line_ends(token);
+        end.lines += u32::from(matches!(token, Token::LineEnd));
         end.rest = others;
         let Some(now_open) = open_after(token, end.is_open)? else {
             end.is_ended = true;
@@ -80,10 +80,10 @@ fn take_word<'a>(
     kept: &mut Vec<Word<'a>>,
     later: LaterWords<'a>,
     token: Token<'a>,
-    others: &'a [u8],
+    text: &'a [u8],
 ) -> Result<LaterWords<'a>, ReadCode>
     requires { later.count ≤ 16777217 }
-    ensures ok { IfOk result (λ now. WordTaken (shown_token token.entry) others.now
+    ensures ok { IfOk result (λ now. WordTaken (shown_token token.entry) text.now
         kept.old.items later.entry.text.now later.entry.count
         kept.new.items now.text.now now.count) }
     ensures bound { IfOk result (λ now. now.count ≤ later.entry.count + 1) }
@@ -97,10 +97,7 @@ fn take_word<'a>(
         return Ok(LaterWords { count, ..later });
     }
     kept.push(word)?;
-    Ok(LaterWords {
-        text: others,
-        count: 0,
-    })
+    Ok(LaterWords { text, count: 0 })
 }
 
 // Whether an entry goes on inside parentheses after a token. `None` where it has ended, and
@@ -116,15 +113,6 @@ fn open_after(token: Token<'_>, is_open: bool) -> Result<Option<bool>, ReadCode>
         Token::Closing => Err(ReadCode::Parenthesis),
         Token::LineEnd if !is_open => Ok(None),
         _ => Ok(Some(is_open)),
-    }
-}
-
-fn line_ends(token: Token<'_>) -> u32
-    ensures { result ≡ line_ends (shown_token token.entry ∷ []) }
-{
-    match token {
-        Token::LineEnd => 1,
-        _ => 0,
     }
 }
 

@@ -21,11 +21,8 @@ impl<'w> LaterWords<'w> {
         ensures { MatchOption result (self.entry.count ≡ 0) (λ x. (self.entry.count ≡ x.1.count + 1)
             × (words_in self.entry.text.now ≡ x.0 ∷ words_in x.1.text.now)) }
     {
-        if self.count == 0 {
-            return None;
-        }
+        let count = self.count.checked_sub(1)?;
         let (first, text) = first_word(self.text)?;
-        let count = self.count - 1;
         Some((first, LaterWords { text, count }))
     }
 }
