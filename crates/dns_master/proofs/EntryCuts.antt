@@ -41,7 +41,6 @@ goes b p now h = grind (arith, same_open, differ)
 -- the token that ends the entry
 record Ends (b : Bool) (p : Token) : Type 0 where
   is_end : (is_line_end p && not b) ≡ true
-  no_mark : parenthesis p ≡ None
 
 ends : (b : Bool) (p : Token) → step b p ≡ over → Ends b p
 unfolding step_code

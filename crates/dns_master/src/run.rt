@@ -119,20 +119,10 @@ fn escape_length(text: &[u8]) -> usize
     }
 }
 
-/// The text after its spaces and tabs. Spaces go by eights after the first one, since a line may be
-/// filled up with them.
-pub(crate) fn after_blank(text: &[u8]) -> &[u8]
-    ensures { result.now ≡ drop (prefix_len is_blank text.now) text.now }
-{
-    match text.first() {
-        Some(first) if is_blank(*first) => after_run(text),
-        _ => text,
-    }
-}
-
-// The same of a text that begins with one, which is rare: most blanks are one octet.
+/// The text after its spaces and tabs, where it begins with one, which is rare: most blanks are one
+/// octet. Spaces go by eights after the first one, since a line may be filled up with them.
 #[inline(never)]
-fn after_run(text: &[u8]) -> &[u8]
+pub(crate) fn after_run(text: &[u8]) -> &[u8]
     ensures { result.now ≡ drop (prefix_len is_blank text.now) text.now }
 {
     let mut rest = text;
