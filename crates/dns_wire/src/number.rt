@@ -3,7 +3,6 @@ ghost use Rattle.std.specs.Prelude.{◌+◌, ◌<◌, ◌≤◌, length, IfOk, I
 ghost use Rattle.dns_spec.specs.Reading.{NumberAt};
 
 use crate::fault::WireFault;
-use byteorder::{BigEndian, ByteOrder};
 
 /// The 16 bits at a place. `Short` where the octets end before.
 pub(crate) fn read_u16(message: &[u8], at: usize) -> Result<u16, WireFault>
@@ -11,11 +10,8 @@ pub(crate) fn read_u16(message: &[u8], at: usize) -> Result<u16, WireFault>
     ensures ok { IfOk result (λ number. NumberAt message.now at 2 number) }
     ensures err { IsErr result → length message.now < at + 2 }
 {
-    let (_, rest) = message.split_at(at);
-    if rest.len() < 2 {
-        return Err(WireFault::Short);
-    }
-    Ok(BigEndian::read_u16(rest))
+    let octets = message.split_at(at).1.first_chunk::<2>();
+    Ok(u16::from_be_bytes(*octets.ok_or(WireFault::Short)?))
 }
 
 /// The 32 bits at a place. `Short` where the octets end before.
@@ -24,9 +20,6 @@ pub(crate) fn read_u32(message: &[u8], at: usize) -> Result<u32, WireFault>
     ensures ok { IfOk result (λ number. NumberAt message.now at 4 number) }
     ensures err { IsErr result → length message.now < at + 4 }
 {
-    let (_, rest) = message.split_at(at);
-    if rest.len() < 4 {
-        return Err(WireFault::Short);
-    }
-    Ok(BigEndian::read_u32(rest))
+    let octets = message.split_at(at).1.first_chunk::<4>();
+    Ok(u32::from_be_bytes(*octets.ok_or(WireFault::Short)?))
 }

@@ -380,7 +380,5 @@ fn number_octets(number: u16) -> [u8; 2]
     ensures octets { result ≡ octets16 number }
     ensures fits { number < 2 ^ 16 }
 {
-    let mut octets = [0; 2];
-    BigEndian::write_u16(&mut octets, number);
-    octets
+    number.to_be_bytes()
 }
