@@ -115,8 +115,8 @@ impl<const N: usize, const SIZE: usize> Page<N, SIZE> {
         if let Some(question) = question {
             extend(&mut self.octets, question.name.octets());
             self.asked_end = self.octets.len();
-            extend(&mut self.octets, &number_octets(question.qtype));
-            extend(&mut self.octets, &number_octets(question.qclass));
+            extend(&mut self.octets, &question.qtype.to_be_bytes());
+            extend(&mut self.octets, &question.qclass.to_be_bytes());
             self.counts.questions = 1;
         }
     }
@@ -300,7 +300,7 @@ impl<const N: usize, const SIZE: usize> Page<N, SIZE> {
         ensures unchanged { OnFalse result (self.new ≡ self.old) }
     {
         match place {
-            Some(place) => self.append(front, &number_octets(0xc000 + place)),
+            Some(place) => self.append(front, &(0xc000 + place).to_be_bytes()),
             None => self.append(front, &[0]),
         }
     }
@@ -374,11 +374,4 @@ fn record_numbers(rtype: RType, ttl: u32, length: u16) -> [u8; 10]
     BigEndian::write_u32(&mut octets[4..], ttl);
     BigEndian::write_u16(&mut octets[8..], length);
     octets
-}
-
-fn number_octets(number: u16) -> [u8; 2]
-    ensures octets { result ≡ octets16 number }
-    ensures fits { number < 2 ^ 16 }
-{
-    number.to_be_bytes()
 }

@@ -1,4 +1,4 @@
-use Rattle.dns_spec.proofs.Common.{◌≡◌, ◌∙◌, refl, sym, ap, ap₂, subst, subst₂, arith, length, [], ◌++◌, replicate, append_assoc, append-nil, length-append, Option, None, Some, Bor, wire, MessageQuestion, octets16, IsAskable}
+use Rattle.dns_spec.proofs.Common.{rules, ◌≡◌, ◌∙◌, refl, sym, ap, ap₂, subst, subst₂, arith, length, [], ◌++◌, replicate, append_assoc, append-nil, length-append, Option, None, Some, Bor, wire, MessageQuestion, octets16, IsAskable}
 use Rattle.std.specs.Option.{option_copied}
 use Rattle.dns_wire.specs.Writing.{Holds, asked_places}
 use Rattle.dns_wire.specs.SuffixNumbers.{suffix_number}
@@ -24,7 +24,7 @@ module _ (g : given.Over) (c : goal.After-self-in-Some-1 g) where
   now =
       let qtype = octets16 c.question.inside.qtype in
       let qclass = octets16 c.question.inside.qclass in
-      let octets = c.extend-in-Some-2.ensures ∙ ap₂ ◌++◌ (c.extend-in-Some.ensures ∙ ap₂ ◌++◌ name c.number_octets.ensures.octets) c.number_octets-in-Some.ensures.octets
+      let octets = c.extend-in-Some-2.ensures ∙ ap₂ ◌++◌ (c.extend-in-Some.ensures ∙ ap₂ ◌++◌ name c.to_be_bytes.ensures) c.to_be_bytes-in-Some.ensures
       ∙ append_assoc (replicate 12 0 ++ wire asked.qname) qtype qclass ∙ sym (question_whole asked) in
       let end = c.len-self-inside.ensures.value ∙ ap length name ∙ length-append (replicate 12 0) (wire asked.qname) in
       ap (λ (d : Draft). draft_of d.limit c.extend-in-Some-2.new.octets.items c.len-self-inside.result d.kept (record d.counts { questions = 1 })) begun
@@ -46,7 +46,7 @@ invariant_of-self g c =
 pub returns-in-Some-clause-draft : goal.returns-in-Some-clause-draft
 returns-in-Some-clause-draft g c =
     let head = g.H.SuffixHash.numbers c.args.hash.now in
-    let askable : IsAskable (asked g c) = record { qname = c.octets.ensures.is_name; qtype = c.number_octets.ensures.fits; qclass = c.number_octets-in-Some.ensures.fits } in
+    let askable : IsAskable (asked g c) = record { qname = c.octets.ensures.is_name; qtype = search rules; qclass = search rules } in
     let begun = subst (λ q. IsDraft head (Some q) [] (asked_draft c.args.self.now.limit (asked g c))) c.question.view_is (asked_begins head c.args.self.now.limit (asked g c) askable) in
     subst₂ (λ (o : Option (Bor MessageQuestion)) (d : Draft). IsDraft head (option_copied o) [] d) (sym c.in-Some.is) (sym (now g c)) begun
 
