@@ -57,9 +57,7 @@ pub(crate) fn step_at(message: &[u8], run: usize, place: usize) -> Result<Step<'
     ensures step { IfOk result (λ step. StepAt message.now run place step) }
     ensures none { IsErr result → NoRunAt message.now run place }
 {
-    let Some(octet) = message.get(place) else {
-        return Err(WireFault::Short);
-    };
+    let octet = message.get(place).ok_or(WireFault::Short)?;
     match *octet {
         0 => Ok(Step::End),
         1..=63 => {
@@ -96,9 +94,7 @@ fn pointer_at(message: &[u8], run: usize, place: usize) -> Result<usize, WireFau
     ensures jump { IfOk result (λ target. PointerAt message.now run place target) }
     ensures none { IsErr result → NoRunAt message.now run place }
 {
-    let Some(second) = message.get(place + 1) else {
-        return Err(WireFault::Short);
-    };
+    let second = message.get(place + 1).ok_or(WireFault::Short)?;
     let target = (usize::from(message[place]) - 192) * 256 + usize::from(*second);
     if target < HEADER_OCTETS || target >= run {
         return Err(WireFault::BadPointer);

@@ -2,14 +2,14 @@ use Rattle.std.proofs.Common.{rules, arith, length, take, ap, ap₂, ◌∙◌}
 use Rattle.dns_wire.proofs.Runs.{no_label, label_stands}
 use Rattle.dns_wire.proofs.name.step_at.Goals as goal
 
-pub returns-in_default-split_at_checked-clause-none : goal.returns-in_default-split_at_checked-clause-none
-returns-in_default-split_at_checked-clause-none c _ =
-    no_label c.args.message.now c.args.run c.args.place c.in-Some.octet.now (search rules) (search rules) (search rules) (search rules)
-    (omega (arith, c.in_default-split_at_checked.ensures.cases, ap length c.split_at.ensures.back, c.from.ensures))
+pub returns-in_default-clause-none : goal.returns-in_default-clause-none
+returns-in_default-clause-none c _ =
+    no_label c.args.message.now c.args.run c.args.place c.in_ok-octet.octet.now (search rules) (search rules) (search rules) (search rules)
+    (omega (arith, c.in_default.ensures.cases, ap length c.split_at.ensures.back, c.from.ensures))
 
 pub returns-in-Some-new-clause-step : goal.returns-in-Some-new-clause-step
 returns-in-Some-new-clause-step c =
-    let cut = c.in-Some-split_at_checked.ensures.cases in
-    label_stands c.args.message.now _ c.args.place c.in-Some.octet.now (search rules) (search rules) (search rules) (search rules)
+    let cut = c.in-Some.ensures.cases in
+    label_stands c.args.message.now _ c.args.place c.in_ok-octet.octet.now (search rules) (search rules) (search rules) (search rules)
     (omega (arith, cut.0, ap length c.split_at.ensures.back, c.from.ensures))
     (c.in-Some-new.ensures.octets ∙ cut.1 ∙ ap₂ take c.from.ensures c.split_at.ensures.back)
