@@ -138,9 +138,7 @@ fn read_type(word: &Word<'_>) -> Option<RType>
     if word.quoted {
         return None;
     }
-    let Some(rtype) = RType::read_text(word.raw) else {
-        return None;
-    };
+    let rtype = RType::read_text(word.raw)?;
     if matches!(
         rtype.0,
         0 | 128..=255 | 39 | 41 | 43 | 46 | 47 | 48 | 50 | 51
