@@ -77,28 +77,18 @@ fn push_group(groups: &mut ArrayVec<u16, GROUPS>, text: &[u8]) -> bool
     ensures value { OnTrue result (groups.new.items ≡ groups.old.items
         ++ digits_value 16 text.now ∷ []) }
 {
-    let Some(group) = group_value(text) else {
+    if text.is_empty() || text.len() > 4 || groups.is_full() {
         return false;
-    };
-    if groups.is_full() {
-        return false;
+    }
+    let mut group: u16 = 0;
+    'digits: for digit in text {
+        let Some(value) = digit_value(*digit) else {
+            return false;
+        };
+        group = group * 16 + u16::from(value);
     }
     groups.push(group);
     true
-}
-
-// The number of 1 to 4 hex digits.
-fn group_value(text: &[u8]) -> Option<u16>
-    ensures { result ≡ (if is_group text.now then Some (digits_value 16 text.now) else None) }
-{
-    if text.is_empty() || text.len() > 4 {
-        return None;
-    }
-    let mut value: u16 = 0;
-    'digits: for digit in text {
-        value = value * 16 + u16::from(digit_value(*digit)?);
-    }
-    Some(value)
 }
 
 // Adds zero groups, one at least, and the groups after them, where there is room.

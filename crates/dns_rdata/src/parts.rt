@@ -2,7 +2,7 @@
 ghost use Rattle.std.specs.Prelude.{◌≡◌, ◌≤◌, map, length, All, IfSome, IsNone};
 ghost use Rattle.std.specs.Option.{is_some};
 ghost use Rattle.std.specs.Iterator.{YieldsFirstBy, item_count};
-ghost use Rattle.dns_spec.specs.Data.{Valid, parts, cut, piece_front, octets_front, domain, strings_front, are_strings};
+ghost use Rattle.dns_spec.specs.Data.{Valid, parts, cut, piece_front, octets_front, domain, are_strings};
 ghost use Rattle.dns_rdata.specs.TypeRows.{piece_of, pieces_in};
 ghost use Rattle.dns_rdata.specs.NameFront.{StandsAfterLabels, HasNoLabels};
 ghost use Rattle.dns_rdata.specs.Parts.{Cuts, shown_part, with_octets, HasName};
@@ -97,8 +97,9 @@ pub fn first_part(piece: Piece, octets: &[u8]) -> Option<(Part<'_>, &[u8])>
         Piece::Fixed(fixed) => first_run(octets, fixed.width()),
         Piece::Domain => first_name(octets),
         Piece::String => first_run(octets, 1 + usize::from(*octets.first()?)),
-        Piece::Strings => all_strings(octets),
-        Piece::Anything => Some((Part::Octets(octets), &[])),
+        // RFC 1035 3.3.14
+        Piece::Strings if octets.is_empty() || !are_strings(octets) => None,
+        Piece::Strings | Piece::Anything => Some((Part::Octets(octets), &[])),
     }
 }
 
@@ -138,16 +139,6 @@ fn after_labels(octets: &[u8]) -> Option<&[u8]>
         let (_, after) = others.split_at_checked(usize::from(*length))?;
         rest = after;
     }
-}
-
-// RFC 1035 3.3.14
-fn all_strings(octets: &[u8]) -> Option<(Part<'_>, &[u8])>
-    ensures { Cuts result (strings_front octets.now) }
-{
-    if octets.is_empty() || !are_strings(octets) {
-        return None;
-    }
-    Some((Part::Octets(octets), &[]))
 }
 
 // Whether octets are character-strings, one after the other (RFC 1035 3.3).

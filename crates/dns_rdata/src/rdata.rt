@@ -77,7 +77,7 @@ impl Rdata {
             (λ fault. fault ≡
             (if valid rtype.0 octets.now then RdataFault.NoMemory else RdataFault.NotOfType)) }
     {
-        if !is_valid(rtype, octets) {
+        if octets.len() > MAX_OCTETS || !are_cut(pieces_of_type(rtype), octets) {
             return Err(RdataFault::NotOfType);
         }
         let mut lowered = memory;
@@ -162,13 +162,6 @@ fn name_among_parts(rtype: RType, octets: &[u8]) -> Option<NameRef<'_>>
         }
     }
     None
-}
-
-// Whether octets are data of the type, names in either case.
-fn is_valid(rtype: RType, octets: &[u8]) -> bool
-    ensures { result ≡ valid rtype.0 octets.now }
-{
-    octets.len() <= MAX_OCTETS && are_cut(pieces_of_type(rtype), octets)
 }
 
 // Appends a part of data, a name in lower case.

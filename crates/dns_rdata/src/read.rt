@@ -1,5 +1,5 @@
 //! Data from the words of a zone file (RFC 1035 5.1, RFC 3597 5).
-ghost use Rattle.std.specs.Prelude.{◌≡◌, ◌≢◌, [], length, IfOk, IfErr};
+ghost use Rattle.std.specs.Prelude.{◌≡◌, ◌≢◌, length, IfOk, IfErr};
 ghost use Rattle.dns_spec.specs.Names.{Octets};
 ghost use Rattle.dns_spec.specs.Data.{Valid};
 ghost use Rattle.dns_spec.specs.DataText.{Says};
@@ -11,7 +11,7 @@ use crate::typed::{USUAL_OCTETS, put_typed};
 use crate::unknown::{is_unknown_mark, put_unknown};
 use crate::word::{Word, Words};
 use dns_name::Name;
-use std::alloc::{AllocError, Global};
+use std::alloc::Global;
 use std::mem::replace;
 
 /// Room in which the data of one record after another is read: memory that it asked for is kept.
@@ -38,18 +38,6 @@ impl DataRoom {
     /// Takes back the memory of data that is no longer wanted.
     pub fn take_back(&mut self, data: Rdata) {
         self.octets = data.octets;
-    }
-
-    // Memory for the octets of data, without any, with room for those that most data has.
-    fn cleared(&mut self) -> Result<Vec<u8>, AllocError>
-        ensures { IfOk result (λ octets. octets.items ≡ []) }
-    {
-        let mut octets = replace(&mut self.octets, Vec::new(self.alloc));
-        octets.clear();
-        if octets.capacity() < USUAL_OCTETS {
-            return Vec::with_capacity(self.alloc, USUAL_OCTETS);
-        }
-        Ok(octets)
     }
 }
 
@@ -95,7 +83,9 @@ impl Rdata {
         ensures fault { IfErr result (λ fault. fault ≢ RdataFault.NoMemory → (d : Octets)
             → Says rtype.0 (W.to_come words) origin.now d → ⊥) }
     {
-        let mut octets = room.cleared()?;
+        let mut octets = replace(&mut room.octets, Vec::new(room.alloc));
+        octets.clear();
+        octets.reserve_exact(USUAL_OCTETS)?;
         if let Some((first, others)) = words.split_first() {
             if is_unknown_mark(&first) {
                 room.spelled.clear();

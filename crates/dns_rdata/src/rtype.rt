@@ -83,7 +83,10 @@ impl RType {
     {
         match row_of_type(self) {
             Some(row) => text.append(row.mnemonic),
-            None => append_numbered(self.0, text),
+            None => {
+                text.append(b"TYPE");
+                text.append(Buffer::new().format(self.0).as_bytes());
+            }
         }
     }
 }
@@ -100,14 +103,4 @@ fn read_numbered(word: &[u8]) -> Option<RType>
     }
     let number = read_number(digits, u32::from(u16::MAX))?;
     Some(RType(number as u16))
-}
-
-fn append_numbered(number: u16, text: &mut TextBuffer)
-    requires { length text.old + 9 ≤ 4096 }
-    ensures text { text.new ≡ text.old ++ numbered_type number }
-    ensures upto { length text.new ≤ length text.old + 9 }
-{
-    let mut digits = Buffer::new();
-    text.append(b"TYPE");
-    text.append(digits.format(number).as_bytes());
 }

@@ -1,7 +1,7 @@
 //! Character-strings in the text of zone files.
 ghost use Rattle.std.specs.Prelude.{◌≡◌, ◌↔◌, ◌≤◌, ◌+◌, ◌*◌, ◌++◌, length, IsNone, IfSome};
 ghost use Rattle.std.specs.Bool.{OnTrue};
-ghost use Rattle.std.specs.List.{list_all, flat_map};
+ghost use Rattle.std.specs.List.{list_all};
 ghost use Rattle.dns_spec.specs.NameText.{is_printable};
 ghost use Rattle.dns_spec.specs.Names.{Octets};
 ghost use Rattle.dns_spec.specs.DataText.{SpellsString};
@@ -59,22 +59,14 @@ pub(crate) fn append_string_text(string: &[u8], text: &mut TextBuffer)
     ensures { text.new ≡ text.old ++ string_text string.now }
 {
     text.push(b'"');
-    append_octets(string, text);
-    text.push(b'"');
-}
-
-fn append_octets(string: &[u8], text: &mut TextBuffer)
-    requires { length text.old + 4 * length string.now ≤ 4096 }
-    ensures text { text.new ≡ text.old ++ flat_map string_octet_text string.now }
-    ensures upto { length text.new ≤ length text.old + 4 * length string.now }
-{
     if are_plain(string) {
         text.append(string);
-        return;
+    } else {
+        'octets: for octet in string {
+            append_octet(text, *octet);
+        }
     }
-    'octets: for octet in string {
-        append_octet(text, *octet);
-    }
+    text.push(b'"');
 }
 
 fn append_octet(text: &mut TextBuffer, octet: u8)

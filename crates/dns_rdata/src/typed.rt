@@ -3,7 +3,6 @@ ghost use Rattle.std.specs.Prelude.{◌≡◌, ◌≢◌, ◌≤◌, ◌==◌, �
 ghost use Rattle.std.specs.List.{flat_map};
 ghost use Rattle.dns_spec.specs.Names.{Octets};
 ghost use Rattle.dns_spec.specs.DataText.{name_word, SaysNumber, SaysName, SaysString, SaysForm, SaysWord, SaysForms, Says, forms_in};
-ghost use Rattle.dns_spec.specs.AddressText.{SaysIpv4, SaysIpv6};
 ghost use Rattle.dns_rdata.specs.TypeRows.{size_of, piece_of, pieces_in};
 ghost use Rattle.dns_rdata.specs.WordForms.{form_of, as_it_is, kept, Appends, AppendsFront, SaysNoFront, is_marked};
 
@@ -203,8 +202,8 @@ fn append_form(
 {
     match form {
         WordForm::Number(size) => append_number(size, text, octets),
-        WordForm::Ipv4 => append_ipv4(text, octets),
-        WordForm::Ipv6 => append_ipv6(text, octets),
+        WordForm::Ipv4 => append(octets, &read_ipv4(text).ok_or(RdataFault::BadAddress)?),
+        WordForm::Ipv6 => append(octets, &read_ipv6(text).ok_or(RdataFault::BadAddress)?),
         WordForm::Domain => append_name(text, origin, name, octets),
         WordForm::String => append_string(text, octets),
     }
@@ -223,26 +222,6 @@ fn append_number(size: NumberSize, text: &[u8], octets: &mut Vec<u8>) -> Result<
         NumberSize::Two => append(octets, &[c, d]),
         NumberSize::Four => append(octets, &[a, b, c, d]),
     }
-}
-
-fn append_ipv4(text: &[u8], octets: &mut Vec<u8>) -> Result<(), RdataFault>
-    ensures ok { OnOk result (Appends as_it_is (SaysIpv4 text.now)
-        octets.old.items octets.new.items) }
-    ensures fault { IfErr result (λ fault. fault ≢ RdataFault.NoMemory → (d : Octets)
-        → SaysIpv4 text.now d → ⊥) }
-{
-    let address = read_ipv4(text).ok_or(RdataFault::BadAddress)?;
-    append(octets, &address)
-}
-
-fn append_ipv6(text: &[u8], octets: &mut Vec<u8>) -> Result<(), RdataFault>
-    ensures ok { OnOk result (Appends as_it_is (SaysIpv6 text.now)
-        octets.old.items octets.new.items) }
-    ensures fault { IfErr result (λ fault. fault ≢ RdataFault.NoMemory → (d : Octets)
-        → SaysIpv6 text.now d → ⊥) }
-{
-    let address = read_ipv6(text).ok_or(RdataFault::BadAddress)?;
-    append(octets, &address)
 }
 
 // The name is spelled where `name` stands, and put in lower case there.

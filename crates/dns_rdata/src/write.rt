@@ -2,11 +2,11 @@
 ghost use Rattle.std.specs.Prelude.{◌≡◌, ◌+◌, ◌≤◌, ◌<◌, ◌-◌, ◌*◌, ◌^◌, ◌++◌, [], ◌∷◌, length, replicate, IfOk, IsTrue, decimal};
 ghost use Rattle.std.specs.Option.{is_some};
 ghost use Rattle.dns_spec.specs.Names.{name_of};
-ghost use Rattle.dns_spec.specs.Data.{Valid, fixed, width, number_of, piece_front, string_front, are_strings};
+ghost use Rattle.dns_spec.specs.Data.{Valid, piece_front, string_front, are_strings};
 ghost use Rattle.dns_spec.specs.DataText.{number_word, ipv4_word, ipv6_word, name_word, string_word};
 ghost use Rattle.dns_spec.specs.WrittenText.{hex_text, unknown_words, word_front, form_words, string_count, data_text};
 ghost use Rattle.dns_name.specs.Counted.{Writes, Fills};
-ghost use Rattle.dns_rdata.specs.TypeRows.{size_of, fixed_of, piece_of, pieces_in};
+ghost use Rattle.dns_rdata.specs.TypeRows.{size_of, piece_of, pieces_in};
 ghost use Rattle.dns_rdata.specs.Parts.{AreCut};
 ghost use Rattle.dns_rdata.specs.WrittenForm.{spaced, form_rest, piece_words, piece_rest, pieces_words, have_words};
 
@@ -121,7 +121,11 @@ fn put_piece<'a, W: Write>(
     ensures rest { IfOk result (λ rest. rest.now ≡ piece_rest (piece_of piece) octets.now) }
 {
     match piece {
-        Piece::Fixed(kind) => Ok(append_fixed(kind, before, octets, text)),
+        Piece::Fixed(Fixed::Numbers { count, size }) => {
+            Ok(append_numbers(count, size, before, octets, text))
+        }
+        Piece::Fixed(Fixed::Ipv4) => Ok(append_ipv4(before, octets, text)),
+        Piece::Fixed(Fixed::Ipv6) => Ok(append_ipv6(before, octets, text)),
         Piece::Domain => Ok(append_name(before, octets, text)),
         Piece::String => Ok(append_string(before, octets, text)),
         Piece::Strings => put_strings(before, octets, text, sink),
@@ -167,23 +171,13 @@ fn put_unknown<W: Write>(
         (text.old ++ spaced [] (unknown_words octets.now)) text.new }
 {
     text.make_room(PIECE_ROOM, sink)?;
-    append_length(octets.len() as u32, text);
+    text.append(b"\\# ");
+    text.append(Buffer::new().format(octets.len() as u32).as_bytes());
     if octets.is_empty() {
         return Ok(());
     }
     text.append(SPACE);
     put_hex(octets, text, sink)
-}
-
-// What stands before the octets: `\#` and their count.
-fn append_length(count: u32, text: &mut TextBuffer)
-    requires { length text.old + 13 ≤ 4096 }
-    ensures text { text.new ≡ text.old ++ 92 ∷ 35 ∷ 32 ∷ decimal count }
-    ensures upto { length text.new ≤ length text.old + 13 }
-{
-    let mut digits = Buffer::new();
-    text.append(b"\\# ");
-    text.append(digits.format(count).as_bytes());
 }
 
 fn put_hex<W: Write>(
@@ -215,22 +209,6 @@ fn append_hex_text(octets: &[u8], text: &mut TextBuffer)
     }
 }
 
-// Numbers or an address.
-fn append_fixed<'a>(kind: Fixed, before: &[u8], octets: &'a [u8], text: &mut TextBuffer) -> &'a [u8]
-    requires long { width (fixed_of kind) ≤ length octets.now }
-    requires short { length before.now ≤ 1 }
-    requires room { length text.old + 2805 ≤ 4096 }
-    ensures text { text.new ≡ text.old
-        ++ spaced before.now (piece_words (fixed (fixed_of kind)) octets.now) }
-    ensures rest { result.now ≡ piece_rest (fixed (fixed_of kind)) octets.now }
-{
-    match kind {
-        Fixed::Numbers { count, size } => append_numbers(count, size, before, octets, text),
-        Fixed::Ipv4 => append_ipv4(before, octets, text),
-        Fixed::Ipv6 => append_ipv6(before, octets, text),
-    }
-}
-
 // So many numbers.
 fn append_numbers<'a>(
     count: u8,
@@ -258,7 +236,7 @@ fn append_numbers<'a>(
     rest
 }
 
-// A number in decimal.
+// A number in decimal, whose most significant octet comes first (RFC 1035 2.3.2).
 fn append_number<'a>(
     size: NumberSize,
     before: &[u8],
@@ -274,21 +252,13 @@ fn append_number<'a>(
     ensures rest { result.now ≡ (word_front (number_word (size_of size)) octets.now).1 }
 {
     let (number, rest) = octets.split_at(size.octets());
-    let mut digits = Buffer::new();
+    let number = match size {
+        NumberSize::Two => u32::from(BigEndian::read_u16(number)),
+        NumberSize::Four => BigEndian::read_u32(number),
+    };
     text.append(before);
-    text.append(digits.format(number_of(size, number)).as_bytes());
+    text.append(Buffer::new().format(number).as_bytes());
     rest
-}
-
-// The number that the octets of its size spell, the most significant first (RFC 1035 2.3.2).
-fn number_of(size: NumberSize, octets: &[u8]) -> u32
-    requires { length octets.now ≡ size_of size }
-    ensures { result ≡ number_of octets.now }
-{
-    match size {
-        NumberSize::Two => u32::from(BigEndian::read_u16(octets)),
-        NumberSize::Four => BigEndian::read_u32(octets),
-    }
 }
 
 fn append_ipv4<'a>(before: &[u8], octets: &'a [u8], text: &mut TextBuffer) -> &'a [u8]

@@ -17,6 +17,6 @@ returns g c =
     let some = eqb-false _ _ (sym c.is_empty.ensures ∙ c.if-is_empty.false) in
     let d = c.args.octets.now in
     let mark = 92 ∷ 35 ∷ 32 ∷ decimal (length d) in
-    let before = c.append.ensures ∙ ap (λ t. t ++ space) c.append_length.ensures.text in
+    let before : c.append-3.new.self ≡ (c.make_room.new.self ++ mark) ++ space = grind (arith, append_assoc) in
     Fills-after _ _ _ (held_before _ _ _ _ (mark ++ spaced space (hex_words d)) c.in_ok-make_room.ensures.fills.ok) c.in_ok-make_room.ensures.fills.counted
     (Fills-same (ap (λ t. t ++ hex_text d) before ∙ marked _ mark d some) c.put_hex.ensures)

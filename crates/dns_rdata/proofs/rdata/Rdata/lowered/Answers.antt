@@ -1,4 +1,4 @@
-use Rattle.dns_spec.proofs.Common.{sym, ◌∙◌, ◌≤◌, subst, length, Valid}
+use Rattle.dns_spec.proofs.Common.{rules, sym, ◌≤◌, subst, length, Valid}
 use Rattle.dns_spec.proofs.DataWords.LoweredData.{lowered_data}
 use Rattle.dns_rdata.proofs.PartLemmas.{length-lower_case}
 use Rattle.dns_rdata.proofs.PartsLoop.{walked, one_lowered, all_lowered}
@@ -15,13 +15,13 @@ parts-preserved c =
 pub invariant_of-result : goal.invariant_of-result
 invariant_of-result c =
     subst (λ d. length d ≤ 65535) (sym (all_lowered _ _ _ c.in_default.ensures.steps.0 c.parts.invariant.whole))
-    (length-lower_case c.args.rtype.0 c.args.octets.now (sym c.is_valid.ensures ∙ c.if-not-is_valid.false))
+    (length-lower_case c.args.rtype.0 c.args.octets.now (search rules))
 
 pub returns-clause-valid : goal.returns-clause-valid
 returns-clause-valid c =
     subst (Valid c.args.rtype.0) (sym (all_lowered _ _ _ c.in_default.ensures.steps.0 c.parts.invariant.whole))
-    (lowered_data c.args.rtype.0 c.args.octets.now (sym c.is_valid.ensures ∙ c.if-not-is_valid.false)).0
+    (lowered_data c.args.rtype.0 c.args.octets.now (search rules)).0
 
 pub returns-clause-value : goal.returns-clause-value
 returns-clause-value c =
-    (sym c.is_valid.ensures ∙ c.if-not-is_valid.false, all_lowered _ _ _ c.in_default.ensures.steps.0 c.parts.invariant.whole)
+    (search rules, all_lowered _ _ _ c.in_default.ensures.steps.0 c.parts.invariant.whole)

@@ -1,5 +1,5 @@
 use Rattle.dns_spec.proofs.Common.{◌≡◌, ◌+◌, ◌*◌, ◌≤◌, ◌++◌, length, take, flat_map, string_octet_text}
-use Rattle.dns_rdata.proofs.string.append_octets.Given as goal
+use Rattle.dns_rdata.proofs.string.append_string_text.Given as goal
 
 -- the octets so far are appended, each by at most four
 abbrev pub invariant-octets : goal.invariant-octets

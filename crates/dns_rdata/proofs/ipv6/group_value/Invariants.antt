@@ -1,5 +1,0 @@
-use Rattle.dns_rdata.proofs.Ipv6Lemmas.{GroupSoFar}
-use Rattle.dns_rdata.proofs.ipv6.group_value.Given as goal
-
-abbrev pub invariant-digits : goal.invariant-digits
-invariant-digits l = GroupSoFar l.text l.digit-index l.value
