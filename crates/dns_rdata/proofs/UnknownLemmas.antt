@@ -1,6 +1,6 @@
 -- Words of hex digits read from left to right, each of whole octets.
-use Rattle.dns_spec.proofs.Common.{◌≡◌, ◌↔◌, Bool, ◌%◌, ◌<◌, ◌≤◌, ℕ, true, false, List, [], ◌∷◌, ◌++◌, length, refl, sym, ◌∙◌, ap, arith, decimal, IsTrue, length-append, list_all, flat_map, option_map, and_parts, eqb-true, eq-eqb, lt-ltb, decimal_injective, Octets}
-use Rattle.std.specs.Prelude.{Option, Some, ◌&&◌, not}
+use Rattle.dns_spec.proofs.Common.{◌≡◌, Bool, ◌%◌, ◌<◌, ◌≤◌, ℕ, true, false, List, [], ◌∷◌, ◌++◌, length, refl, sym, ◌∙◌, ap, arith, decimal, IsTrue, length-append, list_all, flat_map, option_map, and_parts, eqb-true, eq-eqb, lt-ltb, decimal_injective, Octets}
+use Rattle.std.specs.Prelude.{Some, ◌&&◌, not}
 use Rattle.std.specs.Prelude.{Result, IfErr}
 use Rattle.std.specs.Result.{IsErrAnd}
 use Rattle.std.proofs.lemmas.List.{append_assoc, append-nil}
@@ -42,13 +42,6 @@ rest_says ws rest octets d so_far (all, says) = grind arith
 -- the first word says octets where all of them do
 pub first_says : (w : Word) (ws : List Word) (d : Octets) → SaysHex (w ∷ ws) d → (e : Octets) × SaysHexWord w e
 first_says w ws d (all, says) = grind (arith, joined, and_parts, joined_octets)
-
--- a number in an unquoted word
-pub says_count : (w : Word) (text : Octets) (most : ℕ) (r : Option ℕ) → w.is_quoted ≡ false → text ≡ w.raw → ((n : ℕ) → (r ≡ Some n) ↔ ((text ≡ decimal n) × (n ≤ most))) → (n : ℕ) → (r ≡ Some n) ↔ (IsTrue (not w.is_quoted) × (w.raw ≡ decimal n) × (n ≤ most))
-says_count w text most r unquoted same h n = (
-  λ e. let said = (h n).0 e in (rw unquoted refl, sym same ∙ said.0, said.1),
-  λ said. (h n).1 (same ∙ said.1, said.2),
-)
 
 -- data as long as a first word says, of the octets of the other words
 pub says_unknown : (w : Word) (ws : List Word) (count : ℕ) (octets : Octets) → IsTrue (not w.is_quoted) → w.raw ≡ decimal count → length octets ≡ count → WordsSoFar ws [] octets → SaysUnknown (w ∷ ws) octets

@@ -124,13 +124,17 @@ impl Rdata {
         requires { Valid rtype.0 octets.now }
         ensures { result ≡ target rtype.0 octets.now }
     {
-        match octets_before_name(rtype) {
-            Some(count) => {
-                let (_, name) = octets.split_at(count);
-                Some(NameRef::new(name))
-            }
-            None => name_among_parts(rtype, octets),
+        if let Some(count) = octets_before_name(rtype) {
+            let (_, name) = octets.split_at(count);
+            return Some(NameRef::new(name));
         }
+        let mut parts = Rdata::parts(rtype, octets);
+        'parts: while let Some(part) = parts.next() {
+            if let Part::Name(octets) = part {
+                return Some(NameRef::new(octets));
+            }
+        }
+        None
     }
 }
 
@@ -139,29 +143,12 @@ impl Rdata {
 fn octets_before_name(rtype: RType) -> Option<usize>
     ensures { IfSome result (λ k. NameStandsAfter k (pieces_of rtype.0)) }
 {
-    if rtype == RType::NS || rtype == RType::CNAME || rtype == RType::PTR {
-        Some(0)
-    } else if rtype == RType::MX {
-        Some(2)
-    } else if rtype == RType::SRV {
-        Some(6)
-    } else {
-        None
+    match rtype {
+        RType::NS | RType::CNAME | RType::PTR => Some(0),
+        RType::MX => Some(2),
+        RType::SRV => Some(6),
+        _ => None,
     }
-}
-
-// The first name among the parts of data.
-fn name_among_parts(rtype: RType, octets: &[u8]) -> Option<NameRef<'_>>
-    requires { Valid rtype.0 octets.now }
-    ensures { result ≡ target rtype.0 octets.now }
-{
-    let mut parts = Rdata::parts(rtype, octets);
-    'parts: while let Some(part) = parts.next() {
-        if let Part::Name(octets) = part {
-            return Some(NameRef::new(octets));
-        }
-    }
-    None
 }
 
 // Appends a part of data, a name in lower case.

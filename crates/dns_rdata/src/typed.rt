@@ -2,7 +2,7 @@
 ghost use Rattle.std.specs.Prelude.{◌≡◌, ◌≢◌, ◌≤◌, ◌==◌, ◌++◌, false, [], length, replicate, OnOk, IfOk, IfErr};
 ghost use Rattle.std.specs.List.{flat_map};
 ghost use Rattle.dns_spec.specs.Names.{Octets};
-ghost use Rattle.dns_spec.specs.DataText.{name_word, SaysNumber, SaysName, SaysString, SaysForm, SaysWord, SaysForms, Says, forms_in};
+ghost use Rattle.dns_spec.specs.DataText.{SaysNumber, SaysString, SaysForm, SaysWord, Says, forms_in};
 ghost use Rattle.dns_rdata.specs.TypeRows.{size_of, piece_of, pieces_in};
 ghost use Rattle.dns_rdata.specs.WordForms.{form_of, as_it_is, kept, Appends, AppendsFront, SaysNoFront, is_marked};
 
@@ -39,7 +39,7 @@ struct FormRun {
 }
 
 /// Puts the data that words say in the form of the type, names in lower case, where no octets are
-/// yet.
+/// yet. `name` is room for those that are names.
 ///
 /// `BadHex` where the type has no such form, `WordCount` where it has another number of words; else
 /// the fault of the first word from the left that is none of its form, or `BadString` where the
@@ -64,7 +64,11 @@ pub(crate) fn put_typed<'w, W: Words<'w>>(
     if !is_word_count(row.pieces, count) {
         return Err(RdataFault::WordCount);
     }
-    append_words(row.pieces, count, words, origin, name, octets)
+    let mut words = words;
+    'pieces: for piece in row.pieces {
+        words = append_run(run_of(*piece, count), words, origin, name, octets)?;
+    }
+    Ok(())
 }
 
 // Whether pieces have so many words, where the record has so many.
@@ -99,33 +103,6 @@ fn run_of(piece: Piece, count: usize) -> FormRun
         Piece::Anything => (WordForm::String, 0),
     };
     FormRun { form, times }
-}
-
-// Appends what words say, each by its form, piece by piece from the left. `name` is room for those
-// that are names.
-fn append_words<'w, W: Words<'w>>(
-    pieces: &[Piece],
-    count: usize,
-    words: W,
-    origin: &Name,
-    name: &mut Name,
-    octets: &mut Vec<u8>,
-) -> Result<(), RdataFault>
-    requires none { octets.old.items ≡ [] }
-    requires as_many { length (flat_map (forms_in count) (pieces_in pieces.now))
-        ≡ length (W.to_come words) }
-    ensures ok { OnOk result (AppendsFront (flat_map (forms_in count) (pieces_in pieces.now))
-        origin.now (W.to_come words) [] [] octets.new.items) }
-    ensures bound { OnOk result (length octets.new.items ≤ 65535) }
-    ensures fault { IfErr result (λ fault. fault ≢ RdataFault.NoMemory → (d : Octets)
-        → SaysForms (flat_map (forms_in count) (pieces_in pieces.now)) origin.now
-        (W.to_come words) d → length d ≤ 65535 → ⊥) }
-{
-    let mut words = words;
-    'pieces: for piece in pieces {
-        words = append_run(run_of(*piece, count), words, origin, name, octets)?;
-    }
-    Ok(())
 }
 
 // Appends what the first words say, all by one form, and answers the words after them.
@@ -204,7 +181,11 @@ fn append_form(
         WordForm::Number(size) => append_number(size, text, octets),
         WordForm::Ipv4 => append(octets, &read_ipv4(text).ok_or(RdataFault::BadAddress)?),
         WordForm::Ipv6 => append(octets, &read_ipv6(text).ok_or(RdataFault::BadAddress)?),
-        WordForm::Domain => append_name(text, origin, name, octets),
+        WordForm::Domain => {
+            name.spell(text, origin)?;
+            name.fold_in_place();
+            append(octets, name.octets())
+        }
         WordForm::String => append_string(text, octets),
     }
 }
@@ -222,23 +203,6 @@ fn append_number(size: NumberSize, text: &[u8], octets: &mut Vec<u8>) -> Result<
         NumberSize::Two => append(octets, &[c, d]),
         NumberSize::Four => append(octets, &[a, b, c, d]),
     }
-}
-
-// The name is spelled where `name` stands, and put in lower case there.
-fn append_name(
-    text: &[u8],
-    origin: &Name,
-    name: &mut Name,
-    octets: &mut Vec<u8>,
-) -> Result<(), RdataFault>
-    ensures ok { OnOk result (Appends (kept name_word) (SaysName origin.now text.now)
-        octets.old.items octets.new.items) }
-    ensures fault { IfErr result (λ fault. fault ≢ RdataFault.NoMemory → (d : Octets)
-        → SaysName origin.now text.now d → ⊥) }
-{
-    name.spell(text, origin)?;
-    name.fold_in_place();
-    append(octets, name.octets())
 }
 
 // A string after its length (RFC 1035 3.3). Most have no escape: their octets are taken from the

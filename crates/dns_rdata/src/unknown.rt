@@ -1,5 +1,5 @@
 //! Data in the form that serves any type: its length and its octets in hex digits (RFC 3597 5).
-ghost use Rattle.std.specs.Prelude.{◌≡◌, ◌≢◌, ◌≤◌, ◌↔◌, ℕ, [], length, not, decimal, Some, OnOk, IfOk, IfErr, IsTrue};
+ghost use Rattle.std.specs.Prelude.{◌≡◌, ◌≢◌, ◌≤◌, [], length, OnOk, IfOk, IfErr};
 ghost use Rattle.dns_spec.specs.Names.{Octets};
 ghost use Rattle.dns_spec.specs.DataText.{SaysUnknown, is_unknown_mark};
 ghost use Rattle.dns_rdata.specs.UnknownForm.{AppendsWord, SaysHexWord};
@@ -36,7 +36,10 @@ pub(crate) fn put_unknown<'w, W: Words<'w>>(
     let Some((first, others)) = words.split_first() else {
         return Err(RdataFault::BadHex);
     };
-    let count = octet_count(&first).ok_or(RdataFault::BadHex)?;
+    if first.quoted {
+        return Err(RdataFault::BadHex);
+    }
+    let count = read_number(first.raw, MOST_OCTETS).ok_or(RdataFault::BadHex)?;
     let mut others = others;
     'words: while let Some((word, after)) = others.split_first() {
         append_word(&word, octets)?;
@@ -51,17 +54,6 @@ pub(crate) fn put_unknown<'w, W: Words<'w>>(
     Ok(())
 }
 
-// The number of octets that an unquoted word says.
-fn octet_count(word: &Word<'_>) -> Option<u32>
-    ensures { (n : ℕ) → (result ≡ Some n) ↔ (IsTrue (not word.now.is_quoted)
-        × (word.now.raw ≡ decimal n) × (n ≤ 65535)) }
-{
-    if word.quoted {
-        return None;
-    }
-    read_number(word.raw, MOST_OCTETS)
-}
-
 // Appends the octets that an unquoted word of whole octets says, one at least.
 fn append_word(word: &Word<'_>, octets: &mut Vec<u8>) -> Result<(), RdataFault>
     ensures ok { IfOk result (λ _. AppendsWord word.now octets.old.items octets.new.items) }
@@ -69,13 +61,8 @@ fn append_word(word: &Word<'_>, octets: &mut Vec<u8>) -> Result<(), RdataFault>
         → SaysHexWord word.now d → ⊥) }
     ensures kind { IfErr result (λ fault. fault ≢ RdataFault.NoMemory → fault ≡ RdataFault.BadHex) }
 {
-    if word.quoted || word.raw.is_empty() {
+    if word.quoted || word.raw.is_empty() || !append_hex(word.raw, octets)? {
         return Err(RdataFault::BadHex);
     }
-    let said = append_hex(word.raw, octets)?;
-    if said {
-        Ok(())
-    } else {
-        Err(RdataFault::BadHex)
-    }
+    Ok(())
 }

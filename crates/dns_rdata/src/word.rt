@@ -46,13 +46,7 @@ impl<'a, 'w> Words<'w> for &'a [Word<'w>] {
 
     fn split_first(self) -> Option<(Word<'w>, Self)> {
         match self {
-            [first, others @ ..] => {
-                let word = Word {
-                    raw: first.raw,
-                    quoted: first.quoted,
-                };
-                Some((word, others))
-            }
+            [first, others @ ..] => Some((Word { ..*first }, others)),
             [] => None,
         }
     }

@@ -3,7 +3,7 @@ use Rattle.dns_rdata.specs.HexForm.{AppendsHex}
 use Rattle.dns_rdata.proofs.UnknownLemmas.{word_appends}
 use Rattle.dns_rdata.proofs.unknown.append_word.Goals as goal
 
-pub returns-then-said-clause-ok : goal.returns-then-said-clause-ok
-returns-then-said-clause-ok c =
+pub returns-clause-ok : goal.returns-clause-ok
+returns-clause-ok c =
     word_appends _ _ _ _ (sym (ap (λ w. w.is_quoted) c.word.view_is) ∙ c.if-word.false) (ap (λ w. w.raw) c.word.view_is)
-    (eqb-false _ _ (sym c.is_empty.ensures ∙ c.if-is_empty.false)) (subst (λ b. AppendsHex c.word.inside.raw.now b c.args.octets.now.items c.append_hex.new.octets.items) c.if-said.true c.in_ok-said.ensures)
+    (eqb-false _ _ (sym c.is_empty.ensures ∙ c.if-is_empty.false)) (subst (λ b. AppendsHex c.word.inside.raw.now b c.args.octets.now.items c.append_hex.new.octets.items) c.if-not-branch.false c.in_ok-append_hex.ensures)

@@ -1,4 +1,4 @@
-use Rattle.dns_spec.proofs.Common.{arith, subst, SaysUnknown}
+use Rattle.dns_spec.proofs.Common.{arith, ap, sym, ◌∙◌, subst, SaysUnknown}
 use Rattle.dns_rdata.proofs.UnknownLemmas.{WordsSoFar, WordsSoFar-more, word_refused, same_fault, past_count, says_unknown, only_octets, count_is_length}
 use Rattle.dns_rdata.proofs.unknown.put_unknown.Goals as goal
 
@@ -13,11 +13,11 @@ returns-in_err-append_word-clause-fault g c =
 
 pub returns-then-len-count-clause-fault : goal.returns-then-len-count-clause-fault
 returns-then-len-count-clause-fault g c = λ _ d said short.
-    let number = (c.octet_count.ensures c.in_ok-count.count).0 c.in_ok-count.ensures.ok_part in
+    let number = (c.read_number.ensures c.in_ok-count.count).0 c.in_ok-count.ensures.ok_part in
     let ws = g.W.Words.to_come c.in-Some.others in
     past_count c.in-Some.first ws _ c.in_ok-count.count c.append_word.new.octets.items d
     (WordsSoFar-more ws _ _ _ _ (subst (λ rest. WordsSoFar ws rest c.words.octets.items) c.in-Some-split_first.ensures c.words.invariant) c.in_ok-append_word.ensures.ok)
-    number.1 (omega (arith, c.if-len-count.true, c.len.ensures)) number.2
+    (sym (ap (λ w. w.raw) c.first.view_is) ∙ number.0) (omega (arith, c.if-len-count.true, c.len.ensures)) number.1
     (subst (λ all. SaysUnknown all d) c.in-Some.ensures said) short
 
 pub words-preserved : goal.words-preserved

@@ -1,6 +1,6 @@
 use Rattle.dns_spec.proofs.Common.{◌≡◌, All, length, first_name, target}
 use Rattle.dns_rdata.specs.Parts.{HasName}
-use Rattle.dns_rdata.proofs.rdata.name_among_parts.Given as goal
+use Rattle.dns_rdata.proofs.rdata.Rdata.target_lent.Given as goal
 
 -- the first name is still to come
 abbrev pub invariant-parts : goal.invariant-parts
