@@ -22,7 +22,10 @@ pub(crate) fn read_ipv4(word: &[u8]) -> Option<[u8; 4]>
     let (first, rest) = octet_and_dot(word)?;
     let (second, rest) = octet_and_dot(rest)?;
     let (third, rest) = octet_and_dot(rest)?;
-    let fourth = read_octet(rest)?;
+    let (fourth, end) = first_number(rest)?;
+    if !end.is_empty() {
+        return None;
+    }
     Some([first, second, third, fourth])
 }
 
@@ -66,13 +69,6 @@ fn octet_and_dot(text: &[u8]) -> Option<(u8, &[u8])>
         return None;
     }
     Some((octet, rest))
-}
-
-fn read_octet(text: &[u8]) -> Option<u8>
-    ensures { (n : ℕ) → (result ≡ Some n) ↔ ((text.now ≡ decimal n) × (n ≤ 255)) }
-{
-    let (octet, end) = first_number(text)?;
-    if end.is_empty() { Some(octet) } else { None }
 }
 
 // The number that a text begins with, without zeros in front, and the text after its digits, three

@@ -1,7 +1,7 @@
 //! Types of records.
-ghost use Rattle.std.specs.Prelude.{◌≡◌, ◌≢◌, ℕ, ◌-◌, ◌^◌, ◌<◌, MatchOption, ◌+◌, ◌≤◌, ◌++◌, length};
+ghost use Rattle.std.specs.Prelude.{◌≡◌, ℕ, ◌-◌, ◌^◌, ◌<◌, MatchOption, ◌+◌, ◌≤◌, ◌++◌, length};
 ghost use Rattle.dns_spec.specs.Data.{compresses};
-ghost use Rattle.dns_spec.specs.TypeText.{NamesType, text_in_lower_case, numbered_type, type_text};
+ghost use Rattle.dns_spec.specs.TypeText.{NamesType, type_text};
 ghost use Rattle.dns_name.specs.Counted.{Writes};
 
 use crate::number::read_number;
@@ -56,10 +56,15 @@ impl RType {
         ensures { MatchOption result ((t : ℕ) → NamesType word.now t → ⊥)
             (λ r. NamesType word.now r.0) }
     {
-        match row_of_mnemonic(word) {
-            Some(row) => Some(RType(row.number)),
-            None => read_numbered(word),
+        if let Some(row) = row_of_mnemonic(word) {
+            return Some(RType(row.number));
         }
+        let (prefix, digits) = word.split_at_checked(4)?;
+        if !same_text(prefix, b"TYPE") {
+            return None;
+        }
+        let number = read_number(digits, u32::from(u16::MAX))?;
+        Some(RType(number as u16))
     }
 
     /// Writes the type by its name, or as `TYPE` and its number where it has none. It takes no
@@ -89,18 +94,4 @@ impl RType {
             }
         }
     }
-}
-
-// The type that `TYPE` and a number name.
-fn read_numbered(word: &[u8]) -> Option<RType>
-    ensures { MatchOption result ((t : ℕ) → t < 65536
-        → text_in_lower_case word.now ≢ text_in_lower_case (numbered_type t))
-        (λ r. text_in_lower_case word.now ≡ text_in_lower_case (numbered_type r.0)) }
-{
-    let (prefix, digits) = word.split_at_checked(4)?;
-    if !same_text(prefix, b"TYPE") {
-        return None;
-    }
-    let number = read_number(digits, u32::from(u16::MAX))?;
-    Some(RType(number as u16))
 }

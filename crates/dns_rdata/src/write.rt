@@ -177,18 +177,6 @@ fn put_unknown<W: Write>(
         return Ok(());
     }
     text.append(SPACE);
-    put_hex(octets, text, sink)
-}
-
-fn put_hex<W: Write>(
-    octets: &[u8],
-    text: &mut TextBuffer,
-    sink: &mut Tally<W>,
-) -> Result<(), SinkFailed>
-    requires { sink.old.failures < 2 ^ 64 - 1 }
-    ensures { Fills W.contents sink.old sink.new result
-        (text.old ++ hex_text octets.now) text.new }
-{
     let mut rest = octets;
     'chunks: while !rest.is_empty() {
         let (chunk, others) = rest.split_at(rest.len().min(CHUNK));
