@@ -1,6 +1,6 @@
 -- Digits read from left to right say a number, and only a number's own text says it.
-use Rattle.dns_spec.proofs.Common.{◌≡◌, ◌↔◌, ℕ, [], ◌∷◌, ◌+◌, ◌-◌, ◌*◌, ◌<◌, ◌≤◌, ◌^◌, ◌++◌, length-append, List, length, take, get_or, inl, inr, refl, sym, ◌∙◌, ap, subst, arith, decimal, cases_lt, digit_value, IsAsciiDigit, IsNotAsciiDigit, AllDigits, digits_value, digits, Octets}
-use Rattle.std.proofs.lemmas.List.{take_all, length-take}
+use Rattle.dns_spec.proofs.Common.{◌≡◌, ◌↔◌, ℕ, [], ◌∷◌, ◌+◌, ◌-◌, ◌*◌, ◌<◌, ◌≤◌, ◌^◌, List, length, take, get_or, inl, inr, refl, sym, ◌∙◌, ap, subst, arith, decimal, cases_lt, digit_value, IsAsciiDigit, IsNotAsciiDigit, AllDigits, digits_value, digits, Octets}
+use Rattle.std.proofs.lemmas.List.{take_all}
 use Rattle.std.specs.Prelude.{Option, Some, None, SomeIff}
 use Rattle.std.proofs.lemmas.Int.Digits.{digits_value_more, digits_more}
 use Rattle.std.proofs.lemmas.Str.Parse.{digit_at, digits_value-take-le, numerals_by_value, tells_digits}
@@ -87,13 +87,5 @@ pub decimal-octet : (n : ℕ) → n < 256 → length (decimal n) ≤ 3
 decimal-octet n small = length-decimal-le 3 n (omega arith) (omega arith) (omega arith)
 
 -- the text of an octet has at most three digits
-three_digits : (digits text : Octets) (n k : ℕ) → digits ≡ text → text ≡ decimal k → k ≡ n → n < 256 → length digits ≤ 3
+pub three_digits : (digits text : Octets) (n k : ℕ) → digits ≡ text → text ≡ decimal k → k ≡ n → n < 256 → length digits ≤ 3
 three_digits digits text n k e f g small = omega (arith, ap length (e ∙ f ∙ ap decimal g), decimal-octet n small)
-
-pub octet_short : (old new digits text : Octets) (n k i : ℕ) → new ≡ old ++ take i digits → digits ≡ text → text ≡ decimal k → k ≡ n → n < 256 → length new ≤ length old + 3
-octet_short old new digits text n k i h e f g small =
-    omega (arith, ap length h, length-append old (take i digits), length-take i digits, three_digits digits text n k e f g small)
-
-pub octet_room : (old new digits text : Octets) (n k i : ℕ) → new ≡ old ++ take i digits → digits ≡ text → text ≡ decimal k → k ≡ n → n < 256 → i < length digits → length old + 3 ≤ 15 → length new < 15
-octet_room old new digits text n k i h e f g small inside room =
-    omega (arith, ap length h, length-append old (take i digits), length-take i digits, three_digits digits text n k e f g small)

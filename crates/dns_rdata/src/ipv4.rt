@@ -53,8 +53,8 @@ fn push_octet(text: &mut ArrayVec<u8, MOST_IPV4_OCTETS>, octet: u8)
 {
     let mut number = Buffer::new();
     let digits = number.format(u32::from(octet)).as_bytes();
-    'digits: for digit in digits {
-        text.push(*digit);
+    if text.try_extend_from_slice(digits).is_err() {
+        unreachable!();
     }
 }
 

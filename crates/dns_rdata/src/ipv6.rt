@@ -102,10 +102,7 @@ fn fill(groups: &mut ArrayVec<u16, GROUPS>, back: &[u16]) -> bool
     'zeros: while groups.len() + back.len() < GROUPS {
         groups.push(0);
     }
-    'back: for group in back {
-        groups.push(*group);
-    }
-    true
+    groups.try_extend_from_slice(back).is_ok()
 }
 
 // The octets of eight groups, the high octet of each first.

@@ -6,9 +6,8 @@ ghost use Rattle.dns_spec.specs.Data.{Valid, piece_front, string_front, are_stri
 ghost use Rattle.dns_spec.specs.DataText.{number_word, ipv4_word, ipv6_word, name_word, string_word};
 ghost use Rattle.dns_spec.specs.WrittenText.{hex_text, unknown_words, word_front, form_words, string_count, data_text};
 ghost use Rattle.dns_name.specs.Counted.{Writes, Fills};
-ghost use Rattle.dns_rdata.specs.TypeRows.{size_of, piece_of, pieces_in};
-ghost use Rattle.dns_rdata.specs.Parts.{AreCut};
-ghost use Rattle.dns_rdata.specs.WrittenForm.{spaced, form_rest, piece_words, piece_rest, pieces_words, have_words};
+ghost use Rattle.dns_rdata.specs.TypeRows.{size_of, piece_of};
+ghost use Rattle.dns_rdata.specs.WrittenForm.{spaced, form_rest, piece_words, piece_rest};
 
 use crate::hex::hex_digits;
 use crate::ipv4::text_of_ipv4;
@@ -73,34 +72,18 @@ impl Rdata {
         ensures { Fills W.contents sink.old sink.new result
             (text.old ++ data_text rtype.0 octets.now) text.new }
     {
-        match row_of_type(rtype) {
-            Some(row) => put_pieces(row.pieces, octets, text, sink),
-            None => put_unknown(octets, text, sink),
+        let Some(row) = row_of_type(rtype) else {
+            return put_unknown(octets, text, sink);
+        };
+        let mut before: &[u8] = b"";
+        let mut rest = octets;
+        'pieces: for piece in row.pieces {
+            text.make_room(PIECE_ROOM, sink)?;
+            rest = put_piece(*piece, before, rest, text, sink)?;
+            before = SPACE;
         }
+        Ok(())
     }
-}
-
-// Puts the words of data that is cut into these pieces.
-fn put_pieces<W: Write>(
-    pieces: &[Piece],
-    octets: &[u8],
-    text: &mut TextBuffer,
-    sink: &mut Tally<W>,
-) -> Result<(), SinkFailed>
-    requires cut { AreCut pieces.now octets.now }
-    requires words { IsTrue (have_words (pieces_in pieces.now)) }
-    requires few_failures { sink.old.failures < 2 ^ 64 - 1 }
-    ensures { Fills W.contents sink.old sink.new result
-        (text.old ++ spaced [] (pieces_words (pieces_in pieces.now) octets.now)) text.new }
-{
-    let mut before: &[u8] = b"";
-    let mut rest = octets;
-    'pieces: for piece in pieces {
-        text.make_room(PIECE_ROOM, sink)?;
-        rest = put_piece(*piece, before, rest, text, sink)?;
-        before = SPACE;
-    }
-    Ok(())
 }
 
 // Puts the words of the piece that octets begin with, the first of them after `before`, and answers

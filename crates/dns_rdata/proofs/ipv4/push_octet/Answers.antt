@@ -1,13 +1,11 @@
-use Rattle.std.proofs.Common.{lit<}
-use Rattle.dns_rdata.proofs.NumberLemmas.{octet_short, octet_room}
+use Rattle.std.proofs.Common.{arith, length-append}
+use Rattle.dns_rdata.proofs.NumberLemmas.{three_digits}
 use Rattle.dns_rdata.proofs.ipv4.push_octet.Goals as goal
 
-pub push-requires : goal.push-requires
-push-requires c = (
-  lit< tt,
-  octet_room _ _ _ _ c.args.octet _ c.digits.digit-index c.digits.invariant c.as_bytes-digits.ensures.value c.format.ensures.text c.from.ensures c.ranges.octet.fits c.digits-test.true c.requires,
-)
+pub unreachable-requires : goal.unreachable-requires
+unreachable-requires c =
+    let few = three_digits _ _ c.args.octet _ c.as_bytes-digits.ensures.value c.format.ensures.text c.from.ensures c.ranges.octet.fits in grind (arith, few)
 
 pub returns-clause-short : goal.returns-clause-short
 returns-clause-short c =
-    octet_short _ _ _ _ c.args.octet _ c.digits.digit-index c.digits.invariant c.as_bytes-digits.ensures.value c.format.ensures.text c.from.ensures c.ranges.octet.fits
+    let few = three_digits _ _ c.args.octet _ c.as_bytes-digits.ensures.value c.format.ensures.text c.from.ensures c.ranges.octet.fits in grind (arith, few, length-append)
