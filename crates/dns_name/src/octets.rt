@@ -30,10 +30,15 @@ fn are_others_equal(left: &[u8], right: &[u8]) -> bool
         return are_many_equal(left, right);
     }
     if count > 3 {
-        return have_same_fours(left, right);
+        let (_, left_end) = left.split_at(count - 4);
+        let (_, right_end) = right.split_at(right.len() - 4);
+        return first_four(left) == first_four(right)
+            && first_four(left_end) == first_four(right_end);
     }
     if count > 1 {
-        return have_same_twos(left, right);
+        let (_, left_end) = left.split_at(count - 2);
+        let (_, right_end) = right.split_at(right.len() - 2);
+        return first_two(left) == first_two(right) && first_two(left_end) == first_two(right_end);
     }
     left.is_empty() || left[0] == right[0]
 }
@@ -66,28 +71,6 @@ fn have_same_eights(left: &[u8], right: &[u8]) -> bool
     let (_, left_end) = left.split_at(left.len() - 8);
     let (_, right_end) = right.split_at(right.len() - 8);
     first_eight(left) == first_eight(right) && first_eight(left_end) == first_eight(right_end)
-}
-
-fn have_same_fours(left: &[u8], right: &[u8]) -> bool
-    requires least { 4 ≤ length left.now }
-    requires most { length left.now ≤ 8 }
-    requires same { length right.now ≡ length left.now }
-    ensures { IsTrue result ↔ (left.now ≡ right.now) }
-{
-    let (_, left_end) = left.split_at(left.len() - 4);
-    let (_, right_end) = right.split_at(right.len() - 4);
-    first_four(left) == first_four(right) && first_four(left_end) == first_four(right_end)
-}
-
-fn have_same_twos(left: &[u8], right: &[u8]) -> bool
-    requires least { 2 ≤ length left.now }
-    requires most { length left.now ≤ 4 }
-    requires same { length right.now ≡ length left.now }
-    ensures { IsTrue result ↔ (left.now ≡ right.now) }
-{
-    let (_, left_end) = left.split_at(left.len() - 2);
-    let (_, right_end) = right.split_at(right.len() - 2);
-    first_two(left) == first_two(right) && first_two(left_end) == first_two(right_end)
 }
 
 // The first eight octets as a number, which tells them.

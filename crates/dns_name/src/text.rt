@@ -121,7 +121,7 @@ fn push_label<'a>(name: &mut Name, text: &'a [u8]) -> Result<(bool, &'a [u8]), N
     ensures ok { IfOk result (λ x. PushesLabel text.now name.old x.0 x.1.now name.new) }
     ensures err { OnErr result (HasNoLabel text.now) }
 {
-    let (octets, end) = plain_octets(text);
+    let (octets, end) = text.split_at(plain_length(text));
     if at_label_end(end) {
         return Ok((push_octets(name, octets)?, end));
     }
@@ -144,14 +144,6 @@ fn push_octets(name: &mut Name, octets: &[u8]) -> Result<bool, NameFault>
         return Err(NameFault::LabelTooLong);
     };
     Ok(name.push(label))
-}
-
-// The octets at the beginning of a text that spell themselves, up to a dot or a backslash, and the
-// text from there on.
-fn plain_octets(text: &[u8]) -> (&[u8], &[u8])
-    ensures { LabelThen text.now result.0.now result.1.now }
-{
-    text.split_at(plain_length(text))
 }
 
 // How many octets stand before the first dot or backslash. Groups without one are passed, which
@@ -223,29 +215,22 @@ fn label_text(text: &[u8]) -> Option<(ArrayVec<u8, KEPT_OCTETS>, &[u8])>
 ///
 /// `None` at the end of the text, and where a backslash begins no escape. A dot is an octet as
 /// others are.
-#[tactic(auto, unfolding(crate::specs::TextForm::octet_at))]
+#[tactic(auto, unfolding(crate::specs::TextForm::octet_at, crate::specs::TextForm::escaped_at))]
 pub fn first_octet(text: &[u8]) -> Option<(u8, &[u8])>
     ensures { Gives result (octet_at text.now) }
 {
     let (first, rest) = text.split_first()?;
-    if *first == b'\\' {
-        return escaped(rest);
+    if *first != b'\\' {
+        return Some((*first, rest));
     }
-    Some((*first, rest))
-}
-
-#[tactic(auto, unfolding(crate::specs::TextForm::escaped_at))]
-fn escaped(text: &[u8]) -> Option<(u8, &[u8])>
-    ensures { Gives result (escaped_at text.now) }
-{
-    let (first, rest) = text.split_first()?;
-    if first.is_ascii_digit() {
-        return decimal(text);
+    let (escaped, end) = rest.split_first()?;
+    if escaped.is_ascii_digit() {
+        return decimal(rest);
     }
-    if *first < b' ' || *first > b'~' {
+    if *escaped < b' ' || *escaped > b'~' {
         return None;
     }
-    Some((*first, rest))
+    Some((*escaped, end))
 }
 
 #[tactic(auto, unfolding(crate::specs::TextForm::decimal_at))]

@@ -1,6 +1,6 @@
 //! Names as they are written in zone files (RFC 1035 5.1).
 ghost use Rattle.std.specs.Prelude.{◌≡◌, ◌+◌, ◌-◌, ◌*◌, ◌^◌, ◌<◌, ◌≤◌, ◌++◌, length};
-ghost use Rattle.dns_spec.specs.NameText.{is_special, octet_text, label_text, labels_text, name_text};
+ghost use Rattle.dns_spec.specs.NameText.{is_special, octet_text, label_text, name_text};
 ghost use Rattle.dns_spec.specs.Report.{bare_name_text};
 ghost use Rattle.dns_name.specs.Counted.{Writes};
 
@@ -35,7 +35,12 @@ impl Name {
         requires { sink.old.failures < 2 ^ 64 - 1 }
         ensures { Writes W.contents sink.old sink.new result (bare_name_text self.now) }
     {
-        self.lent().bare_text().finish(sink)
+        let mut bare = TextBuffer::new();
+        self.lent().append_text(&mut bare);
+        if self.label_count() > 0 {
+            bare.pop();
+        }
+        bare.finish(sink)
     }
 }
 
@@ -62,27 +67,6 @@ impl NameRef<'_> {
             text.push(b'.');
             return;
         }
-        self.append_labels(text);
-    }
-
-    // The name as it is written, but for the dot after its last label.
-    fn bare_text(&self) -> TextBuffer
-        ensures { result ≡ bare_name_text self.now }
-    {
-        let mut bare = TextBuffer::new();
-        self.append_text(&mut bare);
-        if self.label_count() > 0 {
-            bare.pop();
-        }
-        bare
-    }
-
-    // Appends the labels, each with a dot after it.
-    fn append_labels(&self, text: &mut TextBuffer)
-        requires { length text.old + 1020 ≤ 4096 }
-        ensures text { text.new ≡ text.old ++ labels_text self.now }
-        ensures upto { length text.new ≤ length text.old + 1020 }
-    {
         'labels: for label in self.labels() {
             append_label(text, label.octets());
             text.push(b'.');
