@@ -1,5 +1,5 @@
 //! Domain names that are lent as their wire form, and their labels.
-ghost use Rattle.std.specs.Prelude.{◌≡◌, ◌≤◌, ◌↔◌, [], ◌∷◌, length, map, reverse, drop, IsTrue, IfSome, MatchOption};
+ghost use Rattle.std.specs.Prelude.{◌≡◌, ◌≤◌, ◌↔◌, [], ◌∷◌, length, map, reverse, drop, IsTrue, MatchOption};
 ghost use Rattle.std.specs.Bool.{OnTrue};
 ghost use Rattle.std.specs.Char.{to_ascii_lowercase};
 ghost use Rattle.std.specs.Cmp.{nat_eq_equiv, partial_equiv_from_equiv};
@@ -132,12 +132,16 @@ impl NameRef<'_> {
         self.order_as_spelled(other)
     }
 
-    // Labels are compared from the right, with regard to case.
+    // Labels are compared from the right, with regard to case. Two names of a zone mostly stand
+    // below one name: their first labels decide, and none need be counted.
     pub(crate) fn order_as_spelled(&self, other: &NameRef<'_>) -> Ordering
         ensures { result ≡ slice_cmp label_order (reverse self.now) (reverse other.now) }
     {
-        if let Some(order) = order_of_siblings(self, other) {
-            return order;
+        let (mut left, mut right) = (self.labels(), other.labels());
+        if let (Some(first), Some(second)) = (left.next(), right.next()) {
+            if left.are_those_of(&right) {
+                return first.octets().cmp(second.octets());
+            }
         }
         let (own_count, other_count) = (self.label_count(), other.label_count());
         let shared = own_count.min(other_count);
@@ -230,20 +234,6 @@ pub fn first_label(octets: &[u8]) -> Option<(Label<'_>, &[u8])>
     }
     let (label, rest) = rest.split_at(length);
     Some((Label::new(label)?, rest))
-}
-
-// The order of two names below one name, which is that of their first labels. Most names of a zone
-// are such, so that their labels need not be counted.
-fn order_of_siblings(one: &NameRef<'_>, other: &NameRef<'_>) -> Option<Ordering>
-    ensures { IfSome result (λ order. order ≡ slice_cmp label_order (reverse one.now)
-        (reverse other.now)) }
-{
-    let (mut left, mut right) = (one.labels(), other.labels());
-    let (first, second) = (left.next()?, right.next()?);
-    if !left.are_those_of(&right) {
-        return None;
-    }
-    Some(first.octets().cmp(second.octets()))
 }
 
 // The order of as many labels on both sides, compared from the right, and `longer` where they are
