@@ -53,87 +53,39 @@ pub(crate) struct TypeRow {
     pub(crate) compresses: bool,
 }
 
+// So many numbers of a size, as a piece.
+macro_rules! numbers {
+    ($count:expr, $size:ident) => {
+        Piece::Fixed(Fixed::Numbers {
+            count: $count,
+            size: NumberSize::$size,
+        })
+    };
+}
+
+macro_rules! type_row {
+    ($rtype:ident, $mnemonic:expr, $pieces:expr, compresses: $compresses:expr) => {
+        TypeRow {
+            number: RType::$rtype.0,
+            mnemonic: $mnemonic,
+            pieces: $pieces,
+            compresses: $compresses,
+        }
+    };
+}
+
 // RFC 1035 3.3 and 3.4, RFC 3596 2.2, RFC 2782
 const TYPES: [TypeRow; 10] = [
-    TypeRow {
-        number: RType::A.0,
-        mnemonic: b"A",
-        pieces: &[Piece::Fixed(Fixed::Ipv4)],
-        compresses: false,
-    },
-    TypeRow {
-        number: RType::NS.0,
-        mnemonic: b"NS",
-        pieces: &[Piece::Domain],
-        compresses: true,
-    },
-    TypeRow {
-        number: RType::CNAME.0,
-        mnemonic: b"CNAME",
-        pieces: &[Piece::Domain],
-        compresses: true,
-    },
-    TypeRow {
-        number: RType::SOA.0,
-        mnemonic: b"SOA",
-        pieces: &[
-            Piece::Domain,
-            Piece::Domain,
-            Piece::Fixed(Fixed::Numbers {
-                count: 5,
-                size: NumberSize::Four,
-            }),
-        ],
-        compresses: true,
-    },
-    TypeRow {
-        number: RType::PTR.0,
-        mnemonic: b"PTR",
-        pieces: &[Piece::Domain],
-        compresses: true,
-    },
-    TypeRow {
-        number: RType::HINFO.0,
-        mnemonic: b"HINFO",
-        pieces: &[Piece::String, Piece::String],
-        compresses: false,
-    },
-    TypeRow {
-        number: RType::MX.0,
-        mnemonic: b"MX",
-        pieces: &[
-            Piece::Fixed(Fixed::Numbers {
-                count: 1,
-                size: NumberSize::Two,
-            }),
-            Piece::Domain,
-        ],
-        compresses: true,
-    },
-    TypeRow {
-        number: RType::TXT.0,
-        mnemonic: b"TXT",
-        pieces: &[Piece::Strings],
-        compresses: false,
-    },
-    TypeRow {
-        number: RType::AAAA.0,
-        mnemonic: b"AAAA",
-        pieces: &[Piece::Fixed(Fixed::Ipv6)],
-        compresses: false,
-    },
-    TypeRow {
-        number: RType::SRV.0,
-        mnemonic: b"SRV",
-        pieces: &[
-            Piece::Fixed(Fixed::Numbers {
-                count: 3,
-                size: NumberSize::Two,
-            }),
-            Piece::Domain,
-        ],
-        compresses: false,
-    },
+    type_row!(A, b"A", &[Piece::Fixed(Fixed::Ipv4)], compresses: false),
+    type_row!(NS, b"NS", &[Piece::Domain], compresses: true),
+    type_row!(CNAME, b"CNAME", &[Piece::Domain], compresses: true),
+    type_row!(SOA, b"SOA", &[Piece::Domain, Piece::Domain, numbers!(5, Four)], compresses: true),
+    type_row!(PTR, b"PTR", &[Piece::Domain], compresses: true),
+    type_row!(HINFO, b"HINFO", &[Piece::String, Piece::String], compresses: false),
+    type_row!(MX, b"MX", &[numbers!(1, Two), Piece::Domain], compresses: true),
+    type_row!(TXT, b"TXT", &[Piece::Strings], compresses: false),
+    type_row!(AAAA, b"AAAA", &[Piece::Fixed(Fixed::Ipv6)], compresses: false),
+    type_row!(SRV, b"SRV", &[numbers!(3, Two), Piece::Domain], compresses: false),
 ];
 
 impl NumberSize {
