@@ -1,6 +1,6 @@
 -- What a reader learns here: how the words of data are written from left to right, by the cases of
 -- the code.
-use Rattle.std.specs.Prelude.{ℕ, Bool, ◌&&◌, ◌==◌, not, List, [], ◌∷◌, ◌++◌, length, nat_lt}
+use Rattle.std.specs.Prelude.{◌≡◌, ℕ, Bool, ◌&&◌, ◌==◌, not, List, [], ◌∷◌, ◌++◌, length, nat_lt}
 use Rattle.std.specs.List.{list_all}
 use Rattle.dns_spec.specs.Names.{Octets}
 use Rattle.dns_spec.specs.NameText.{is_printable}
@@ -17,6 +17,11 @@ spaced before (w ∷ ws) = before ++ (word_text w ++ spaced (32 ∷ []) ws)
 abbrev pub form_rest : List WordForm → Octets → Octets
 form_rest [] d = d
 form_rest (f ∷ fs) d = form_rest fs (word_front f d).1
+
+-- the word that octets begin with was appended to a text after `before`, and these octets are left
+pub record PutsWord (f : WordForm) (before octets old new left : Octets) : Type 0 where
+  pub text : new ≡ old ++ spaced before (form_words (f ∷ []) octets)
+  pub rest : left ≡ (word_front f octets).1
 
 -- the forms of the words of the piece that octets begin with
 abbrev pub piece_forms : Piece → Octets → List WordForm

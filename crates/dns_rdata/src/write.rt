@@ -7,7 +7,7 @@ ghost use Rattle.dns_spec.specs.DataText.{number_word, ipv4_word, ipv6_word, nam
 ghost use Rattle.dns_spec.specs.WrittenText.{hex_text, unknown_words, word_front, form_words, string_count, data_text};
 ghost use Rattle.dns_name.specs.Counted.{Writes, Fills};
 ghost use Rattle.dns_rdata.specs.TypeRows.{size_of, piece_of};
-ghost use Rattle.dns_rdata.specs.WrittenForm.{spaced, form_rest, piece_words, piece_rest};
+ghost use Rattle.dns_rdata.specs.WrittenForm.{spaced, form_rest, piece_words, piece_rest, PutsWord};
 
 use crate::hex::hex_digits;
 use crate::ipv4::text_of_ipv4;
@@ -236,9 +236,7 @@ fn append_ipv4<'a>(before: &[u8], octets: &'a [u8], text: &mut TextBuffer) -> &'
     requires long { 4 ≤ length octets.now }
     requires short { length before.now ≤ 1 }
     requires room { length text.old + 16 ≤ 4096 }
-    ensures text { text.new
-        ≡ text.old ++ spaced before.now (form_words (ipv4_word ∷ []) octets.now) }
-    ensures rest { result.now ≡ (word_front ipv4_word octets.now).1 }
+    ensures { PutsWord ipv4_word before.now octets.now text.old text.new result.now }
 {
     let Some((address, rest)) = octets.split_first_chunk::<4>() else {
         unreachable!();
@@ -252,9 +250,7 @@ fn append_ipv6<'a>(before: &[u8], octets: &'a [u8], text: &mut TextBuffer) -> &'
     requires long { 16 ≤ length octets.now }
     requires short { length before.now ≤ 1 }
     requires room { length text.old + 40 ≤ 4096 }
-    ensures text { text.new
-        ≡ text.old ++ spaced before.now (form_words (ipv6_word ∷ []) octets.now) }
-    ensures rest { result.now ≡ (word_front ipv6_word octets.now).1 }
+    ensures { PutsWord ipv6_word before.now octets.now text.old text.new result.now }
 {
     let Some((address, rest)) = octets.split_first_chunk::<16>() else {
         unreachable!();
@@ -268,9 +264,7 @@ fn append_name<'a>(before: &[u8], octets: &'a [u8], text: &mut TextBuffer) -> &'
     requires name { IsTrue (is_some (name_of octets.now)) }
     requires short { length before.now ≤ 1 }
     requires room { length text.old + 1021 ≤ 4096 }
-    ensures text { text.new
-        ≡ text.old ++ spaced before.now (form_words (name_word ∷ []) octets.now) }
-    ensures rest { result.now ≡ (word_front name_word octets.now).1 }
+    ensures { PutsWord name_word before.now octets.now text.old text.new result.now }
 {
     let Some((Part::Name(name), rest)) = first_name(octets) else {
         unreachable!();
@@ -285,9 +279,7 @@ fn append_string<'a>(before: &[u8], octets: &'a [u8], text: &mut TextBuffer) -> 
     requires string { IsTrue (is_some (string_front octets.now)) }
     requires short { length before.now ≤ 1 }
     requires room { length text.old + 1023 ≤ 4096 }
-    ensures text { text.new
-        ≡ text.old ++ spaced before.now (form_words (string_word ∷ []) octets.now) }
-    ensures rest { result.now ≡ (word_front string_word octets.now).1 }
+    ensures { PutsWord string_word before.now octets.now text.old text.new result.now }
 {
     let Some((length, others)) = octets.split_first() else {
         unreachable!();
