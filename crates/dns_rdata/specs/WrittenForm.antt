@@ -18,10 +18,11 @@ abbrev pub form_rest : List WordForm → Octets → Octets
 form_rest [] d = d
 form_rest (f ∷ fs) d = form_rest fs (word_front f d).1
 
--- the word that octets begin with was appended to a text after `before`, and these octets are left
-pub record PutsWord (f : WordForm) (before octets old new left : Octets) : Type 0 where
-  pub text : new ≡ old ++ spaced before (form_words (f ∷ []) octets)
-  pub rest : left ≡ (word_front f octets).1
+-- the words that octets begin with were appended to a text, the first after `before`, and these
+-- octets are left
+pub record PutsWords (fs : List WordForm) (before octets old new left : Octets) : Type 0 where
+  pub text : new ≡ old ++ spaced before (form_words fs octets)
+  pub rest : left ≡ form_rest fs octets
 
 -- the forms of the words of the piece that octets begin with
 abbrev pub piece_forms : Piece → Octets → List WordForm

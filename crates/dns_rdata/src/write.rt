@@ -7,7 +7,7 @@ ghost use Rattle.dns_spec.specs.DataText.{number_word, ipv4_word, ipv6_word, nam
 ghost use Rattle.dns_spec.specs.WrittenText.{hex_text, unknown_words, word_front, form_words, string_count, data_text};
 ghost use Rattle.dns_name.specs.Counted.{Writes, Fills};
 ghost use Rattle.dns_rdata.specs.TypeRows.{size_of, piece_of};
-ghost use Rattle.dns_rdata.specs.WrittenForm.{spaced, form_rest, piece_words, piece_rest, PutsWord};
+ghost use Rattle.dns_rdata.specs.WrittenForm.{spaced, form_rest, piece_words, piece_rest, PutsWords};
 
 use crate::hex::hex_digits;
 use crate::ipv4::text_of_ipv4;
@@ -191,10 +191,8 @@ fn append_numbers<'a>(
     requires long { count * size_of size ≤ length octets.now }
     requires short { length before.now ≤ 1 }
     requires room { length text.old + 11 * count ≤ 4096 }
-    ensures text { text.new ≡ text.old ++ spaced before.now
-        (form_words (replicate count (number_word (size_of size))) octets.now) }
-    ensures rest { result.now
-        ≡ form_rest (replicate count (number_word (size_of size))) octets.now }
+    ensures { PutsWords (replicate count (number_word (size_of size))) before.now octets.now
+        text.old text.new result.now }
 {
     let mut left = count;
     let mut before = before;
@@ -217,10 +215,9 @@ fn append_number<'a>(
     requires long { size_of size ≤ length octets.now }
     requires short { length before.now ≤ 1 }
     requires room { length text.old + 11 ≤ 4096 }
-    ensures text { text.new ≡ text.old ++ spaced before.now
-        (form_words (number_word (size_of size) ∷ []) octets.now) }
+    ensures words { PutsWords (number_word (size_of size) ∷ []) before.now octets.now
+        text.old text.new result.now }
     ensures upto { length text.new ≤ length text.old + 11 }
-    ensures rest { result.now ≡ (word_front (number_word (size_of size)) octets.now).1 }
 {
     let (number, rest) = octets.split_at(size.octets());
     let number = match size {
@@ -236,7 +233,7 @@ fn append_ipv4<'a>(before: &[u8], octets: &'a [u8], text: &mut TextBuffer) -> &'
     requires long { 4 ≤ length octets.now }
     requires short { length before.now ≤ 1 }
     requires room { length text.old + 16 ≤ 4096 }
-    ensures { PutsWord ipv4_word before.now octets.now text.old text.new result.now }
+    ensures { PutsWords (ipv4_word ∷ []) before.now octets.now text.old text.new result.now }
 {
     let Some((address, rest)) = octets.split_first_chunk::<4>() else {
         unreachable!();
@@ -250,7 +247,7 @@ fn append_ipv6<'a>(before: &[u8], octets: &'a [u8], text: &mut TextBuffer) -> &'
     requires long { 16 ≤ length octets.now }
     requires short { length before.now ≤ 1 }
     requires room { length text.old + 40 ≤ 4096 }
-    ensures { PutsWord ipv6_word before.now octets.now text.old text.new result.now }
+    ensures { PutsWords (ipv6_word ∷ []) before.now octets.now text.old text.new result.now }
 {
     let Some((address, rest)) = octets.split_first_chunk::<16>() else {
         unreachable!();
@@ -264,7 +261,7 @@ fn append_name<'a>(before: &[u8], octets: &'a [u8], text: &mut TextBuffer) -> &'
     requires name { IsTrue (is_some (name_of octets.now)) }
     requires short { length before.now ≤ 1 }
     requires room { length text.old + 1021 ≤ 4096 }
-    ensures { PutsWord name_word before.now octets.now text.old text.new result.now }
+    ensures { PutsWords (name_word ∷ []) before.now octets.now text.old text.new result.now }
 {
     let Some((Part::Name(name), rest)) = first_name(octets) else {
         unreachable!();
@@ -279,7 +276,7 @@ fn append_string<'a>(before: &[u8], octets: &'a [u8], text: &mut TextBuffer) -> 
     requires string { IsTrue (is_some (string_front octets.now)) }
     requires short { length before.now ≤ 1 }
     requires room { length text.old + 1023 ≤ 4096 }
-    ensures { PutsWord string_word before.now octets.now text.old text.new result.now }
+    ensures { PutsWords (string_word ∷ []) before.now octets.now text.old text.new result.now }
 {
     let Some((length, others)) = octets.split_first() else {
         unreachable!();
