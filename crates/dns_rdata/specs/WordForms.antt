@@ -1,12 +1,14 @@
 -- What a reader learns here: what the code's forms of words are in the words of the definitions,
 -- and what is appended for a word.
-use Rattle.std.specs.Prelude.{◌≡◌, ℕ, ◌+◌, ◌≤◌, Bool, false, List, [], ◌∷◌, ◌++◌, length, map}
+use Rattle.std.specs.Prelude.{◌≡◌, ◌≢◌, Result, OnOk, IfErr, ℕ, ◌+◌, ◌≤◌, Bool, false, List, [], ◌∷◌, ◌++◌, length, map}
 use Rattle.std.specs.Char.{to_ascii_lowercase}
 use Rattle.dns_spec.specs.Names.{Octets, DomainName}
 use Rattle.dns_spec.specs.DataText as text
 use Rattle.dns_spec.specs.DataText.{number_word, ipv4_word, ipv6_word, name_word, string_word, SaysWord, SaysForms, is_unknown_mark}
 use Rattle.dns_rdata.specs.TypeRows.{size_of}
 use Rattle.dns_rdata.specs.declared.typed.WordForm.{WordForm}
+use Rattle.dns_rdata.specs.declared.fault.RdataFault.{RdataFault}
+use Rattle.dns_rdata.specs.declared.fault.RdataFault.TheVariants.{NoMemory}
 use Rattle.dns_rdata.specs.declared.typed.WordForm.TheVariants.{Number, Ipv4, Ipv6, Domain, String}
 
 abbrev pub form_of : WordForm → text.WordForm
@@ -31,6 +33,13 @@ pub record Appends (keeps : Octets → Octets) (says : Octets → Type 0) (befor
   pub said : says spelled
   pub only : (d : Octets) → says d → d ≡ spelled
   pub grown : after ≡ before ++ keeps spelled
+
+-- octets grew by what is kept of those that are said, or there is a fault, and where memory was
+-- found none are said
+pub record AppendsSaid {A : Type 0} (keeps : Octets → Octets) (says : Octets → Type 0) (before after : Octets)
+    (result : Result A RdataFault) : Type 0 where
+  pub ok : OnOk result (Appends keeps says before after)
+  pub fault : IfErr result (λ fault. fault ≢ NoMemory → (d : Octets) → says d → ⊥)
 
 -- the words spell d one after the other, as many words as forms, and e is what is kept of it
 abbrev pub SaysKept : List text.WordForm → DomainName → List text.Word → Octets → Octets → Type 0

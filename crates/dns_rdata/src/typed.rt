@@ -4,7 +4,7 @@ ghost use Rattle.std.specs.List.{flat_map};
 ghost use Rattle.dns_spec.specs.Names.{Octets};
 ghost use Rattle.dns_spec.specs.DataText.{SaysNumber, SaysString, SaysForm, SaysWord, Says, forms_in};
 ghost use Rattle.dns_rdata.specs.TypeRows.{size_of, piece_of, pieces_in};
-ghost use Rattle.dns_rdata.specs.WordForms.{form_of, as_it_is, kept, Appends, AppendsFront, SaysNoFront, is_marked};
+ghost use Rattle.dns_rdata.specs.WordForms.{form_of, as_it_is, kept, AppendsSaid, AppendsFront, SaysNoFront, is_marked};
 
 use crate::fault::RdataFault;
 use crate::ipv4::read_ipv4;
@@ -144,10 +144,8 @@ fn append_word(
     name: &mut Name,
     octets: &mut Vec<u8>,
 ) -> Result<(), RdataFault>
-    ensures ok { OnOk result (Appends (kept (form_of form))
-        (SaysWord (form_of form) origin.now word.now) octets.old.items octets.new.items) }
-    ensures fault { IfErr result (λ fault. fault ≢ RdataFault.NoMemory → (d : Octets)
-        → SaysWord (form_of form) origin.now word.now d → ⊥) }
+    ensures { AppendsSaid (kept (form_of form)) (SaysWord (form_of form) origin.now word.now)
+        octets.old.items octets.new.items result }
 {
     if word.quoted && !matches!(form, WordForm::String) {
         return Err(fault_of(form));
@@ -172,10 +170,8 @@ fn append_form(
     name: &mut Name,
     octets: &mut Vec<u8>,
 ) -> Result<(), RdataFault>
-    ensures ok { OnOk result (Appends (kept (form_of form))
-        (SaysForm (form_of form) origin.now text.now) octets.old.items octets.new.items) }
-    ensures fault { IfErr result (λ fault. fault ≢ RdataFault.NoMemory → (d : Octets)
-        → SaysForm (form_of form) origin.now text.now d → ⊥) }
+    ensures { AppendsSaid (kept (form_of form)) (SaysForm (form_of form) origin.now text.now)
+        octets.old.items octets.new.items result }
 {
     match form {
         WordForm::Number(size) => append_number(size, text, octets),
@@ -192,10 +188,8 @@ fn append_form(
 
 // A number, the most significant octet first (RFC 1035 2.3.2).
 fn append_number(size: NumberSize, text: &[u8], octets: &mut Vec<u8>) -> Result<(), RdataFault>
-    ensures ok { OnOk result (Appends as_it_is (SaysNumber (size_of size) text.now)
-        octets.old.items octets.new.items) }
-    ensures fault { IfErr result (λ fault. fault ≢ RdataFault.NoMemory → (d : Octets)
-        → SaysNumber (size_of size) text.now d → ⊥) }
+    ensures { AppendsSaid as_it_is (SaysNumber (size_of size) text.now) octets.old.items
+        octets.new.items result }
 {
     let number = read_number(text, size.most()).ok_or(RdataFault::BadNumber)?;
     let [a, b, c, d] = number.to_be_bytes();
@@ -208,10 +202,8 @@ fn append_number(size: NumberSize, text: &[u8], octets: &mut Vec<u8>) -> Result<
 // A string after its length (RFC 1035 3.3). Most have no escape: their octets are taken from the
 // text itself.
 fn append_string(text: &[u8], octets: &mut Vec<u8>) -> Result<(), RdataFault>
-    ensures ok { OnOk result (Appends as_it_is (SaysString text.now)
-        octets.old.items octets.new.items) }
-    ensures fault { IfErr result (λ fault. fault ≢ RdataFault.NoMemory → (d : Octets)
-        → SaysString text.now d → ⊥) }
+    ensures { AppendsSaid as_it_is (SaysString text.now) octets.old.items octets.new.items
+        result }
 {
     if is_plain_string(text) {
         append(octets, &[text.len() as u8])?;

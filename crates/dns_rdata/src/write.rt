@@ -4,7 +4,7 @@ ghost use Rattle.std.specs.Option.{is_some};
 ghost use Rattle.dns_spec.specs.Names.{name_of};
 ghost use Rattle.dns_spec.specs.Data.{Valid, piece_front, string_front, are_strings};
 ghost use Rattle.dns_spec.specs.DataText.{number_word, ipv4_word, ipv6_word, name_word, string_word};
-ghost use Rattle.dns_spec.specs.WrittenText.{hex_text, unknown_words, word_front, form_words, string_count, data_text};
+ghost use Rattle.dns_spec.specs.WrittenText.{hex_text, unknown_words, form_words, string_count, data_text};
 ghost use Rattle.dns_name.specs.Counted.{Writes, Fills};
 ghost use Rattle.dns_rdata.specs.TypeRows.{size_of, piece_of};
 ghost use Rattle.dns_rdata.specs.WrittenForm.{spaced, form_rest, piece_words, piece_rest, PutsWords};

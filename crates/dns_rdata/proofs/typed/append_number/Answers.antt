@@ -16,13 +16,16 @@ appended : (s : NumberSize) (n most : ℕ) (text before after piece : Octets) �
     → piece ≡ bytes_high_first (size_of s) n → after ≡ before ++ piece → Appends as_it_is (SaysNumber (size_of s) text) before after
 appended s n most text before after piece said top is = grind (arith, number_appended, few)
 
-pub returns-in-Two-clause-ok : goal.returns-in-Two-clause-ok
-returns-in-Two-clause-ok c =
+pub returns-in-Two : goal.returns-in-Two
+returns-in-Two c =
     let n = c.in_ok-number.number in
     let read = ok_or-some c.read_number.result _ n (sym c.ok_or.ensures.value ∙ c.in_ok-number.was) in
     let two : Two ≡ c.args.size = search rules in
     let octets = ap (λ x. get_or x 2 0 ∷ get_or x 3 0 ∷ []) c.to_be_bytes.ensures in
-    OnOk-map c.append.result
-    (appended c.args.size n _ c.args.text.now _ _ _ ((c.read_number.ensures n).0 read) c.most.ensures
-    (octets ∙ ap (λ s. bytes_high_first (size_of s) n) two))
-    c.append.ensures.ok
+    record {
+      ok = OnOk-map c.append.result
+          (appended c.args.size n _ c.args.text.now _ _ _ ((c.read_number.ensures n).0 read) c.most.ensures
+          (octets ∙ ap (λ s. bytes_high_first (size_of s) n) two))
+          c.append.ensures.ok;
+      fault = search rules;
+    }
