@@ -1,11 +1,13 @@
 -- What is appended for a word by its form.
 use Rattle.dns_spec.proofs.Common.{◌≡◌, ℕ, ◌<◌, ◌≤◌, ◌^◌, ◌++◌, Option, Some, Ok, decimal, refl, sym, ap, ◌∙◌, arith, bytes_high_first, Octets, DomainName, wire, folded, SpellsName}
 use Rattle.std.specs.Option.{ok_or}
-use Rattle.dns_spec.specs.DataText.{SaysNumber, SaysName, name_word}
+use Rattle.std.specs.Prelude.{Result, IsTrue, ◌||◌, not}
+use Rattle.dns_spec.specs.DataText.{Word, WordForm, SaysNumber, SaysName, SaysForm, SaysWord, may_be_quoted, name_word}
+use Rattle.dns_rdata.specs.declared.fault.RdataFault.{RdataFault}
 use Rattle.dns_spec.proofs.DataWords.OneData.{number_once}
 use Rattle.dns_spec.proofs.NameTexts.OneName.{name_once}
 use Rattle.dns_spec.proofs.DomainNames.NameLaws.{map-lowercase-wire, IsName-is_name}
-use Rattle.dns_rdata.specs.WordForms.{as_it_is, kept, Appends}
+use Rattle.dns_rdata.specs.WordForms.{as_it_is, kept, Appends, AppendsSaid}
 
 pub ok_or-some : {A E : Type 0} (x : Option A) (e : E) (a : A) → ok_or x e ≡ Ok a → x ≡ Some a
 ok_or-some x e a h = grind arith
@@ -26,3 +28,8 @@ name_appended origin text before after n spelled grown =
       only = λ d h. h.2 ∙ ap wire (name_once origin text h.0 n h.1 spelled);
       grown = grown ∙ ap (λ x. before ++ x) (sym (map-lowercase-wire n (IsName-is_name n spelled.is_name).labels));
     }
+
+-- what the text of a word says by a form, the word says, where it may stand as it does
+pub word_said : {A : Type 0} (f : WordForm) (origin : DomainName) (w : Word) (text x y : Octets) (r : Result A RdataFault) → w.raw ≡ text → IsTrue (may_be_quoted f || not w.is_quoted)
+    → AppendsSaid (kept f) (SaysForm f origin text) x y r → AppendsSaid (kept f) (SaysWord f origin w) x y r
+word_said f origin w text x y r same quotes said = grind arith

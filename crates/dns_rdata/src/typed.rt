@@ -2,7 +2,7 @@
 ghost use Rattle.std.specs.Prelude.{◌≡◌, ◌≢◌, ◌≤◌, ◌==◌, ◌++◌, false, [], length, replicate, OnOk, IfOk, IfErr};
 ghost use Rattle.std.specs.List.{flat_map};
 ghost use Rattle.dns_spec.specs.Names.{Octets};
-ghost use Rattle.dns_spec.specs.DataText.{SaysNumber, SaysString, SaysForm, SaysWord, Says, forms_in};
+ghost use Rattle.dns_spec.specs.DataText.{SaysNumber, SaysString, SaysWord, Says, forms_in};
 ghost use Rattle.dns_rdata.specs.TypeRows.{size_of, piece_of, pieces_in};
 ghost use Rattle.dns_rdata.specs.WordForms.{form_of, as_it_is, kept, AppendsSaid, AppendsFront, SaysNoFront, is_marked};
 
@@ -150,7 +150,17 @@ fn append_word(
     if word.quoted && !matches!(form, WordForm::String) {
         return Err(fault_of(form));
     }
-    append_form(form, word.raw, origin, name, octets)
+    match form {
+        WordForm::Number(size) => append_number(size, word.raw, octets),
+        WordForm::Ipv4 => append(octets, &read_ipv4(word.raw).ok_or(RdataFault::BadAddress)?),
+        WordForm::Ipv6 => append(octets, &read_ipv6(word.raw).ok_or(RdataFault::BadAddress)?),
+        WordForm::Domain => {
+            name.spell(word.raw, origin)?;
+            name.fold_in_place();
+            append(octets, name.octets())
+        }
+        WordForm::String => append_string(word.raw, octets),
+    }
 }
 
 // The fault of a word that is none of this form.
@@ -160,29 +170,6 @@ fn fault_of(form: WordForm) -> RdataFault {
         WordForm::Ipv4 | WordForm::Ipv6 => RdataFault::BadAddress,
         WordForm::Domain => RdataFault::BadName,
         WordForm::String => RdataFault::BadString,
-    }
-}
-
-fn append_form(
-    form: WordForm,
-    text: &[u8],
-    origin: &Name,
-    name: &mut Name,
-    octets: &mut Vec<u8>,
-) -> Result<(), RdataFault>
-    ensures { AppendsSaid (kept (form_of form)) (SaysForm (form_of form) origin.now text.now)
-        octets.old.items octets.new.items result }
-{
-    match form {
-        WordForm::Number(size) => append_number(size, text, octets),
-        WordForm::Ipv4 => append(octets, &read_ipv4(text).ok_or(RdataFault::BadAddress)?),
-        WordForm::Ipv6 => append(octets, &read_ipv6(text).ok_or(RdataFault::BadAddress)?),
-        WordForm::Domain => {
-            name.spell(text, origin)?;
-            name.fold_in_place();
-            append(octets, name.octets())
-        }
-        WordForm::String => append_string(text, octets),
     }
 }
 
