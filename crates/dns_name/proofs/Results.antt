@@ -1,5 +1,5 @@
 -- What is known of a result, said of another fact: where a call succeeds, and where it fails.
-use Rattle.std.proofs.Common.{◌≡◌, Result, IfErr, IfOk, OnOk, OnErr, IsErrAnd, arith}
+use Rattle.std.proofs.Common.{◌≡◌, Result, IfErr, OnOk, OnErr, IsErrAnd, arith}
 
 -- what holds anyway, holds where a call fails
 pub OnErr-always : {A E P : Type 0} (result : Result A E) → P → OnErr result P
@@ -10,9 +10,6 @@ OnOk-map result h h1 = grind arith
 
 pub OnErr-map : {A E P Q : Type 0} (result : Result A E) → (P → Q) → OnErr result P → OnErr result Q
 OnErr-map result h h1 = grind arith
-
-pub IfOk-map : {A E : Type 0} {P Q : A → Type 0} (result : Result A E) → ((a : A) → P a → Q a) → IfOk result P → IfOk result Q
-IfOk-map result h h1 = grind arith
 
 pub IfErr-map : {A E : Type 0} {P Q : E → Type 0} (result : Result A E) → ((e : E) → P e → Q e) → IfErr result P → IfErr result Q
 IfErr-map result h h1 = grind arith
