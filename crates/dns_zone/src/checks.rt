@@ -4,7 +4,6 @@ pub(crate) mod above;
 pub(crate) mod guess;
 pub(crate) mod names;
 pub(crate) mod owner;
-pub(crate) mod sets;
 pub(crate) mod survey;
 pub(crate) mod target;
 

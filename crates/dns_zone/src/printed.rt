@@ -45,7 +45,7 @@ pub fn print<W: Write>(zone: &Zone, sink: &mut Tally<W>) -> Result<(), PrintFaul
         → (o : DomainName) → Means o (zone_text zone.now) (records (printed_records zone.now)) }
     ensures same_records { IsPermutation zone.now.records (printed_records zone.now) }
 {
-    zone.checked().print(sink)
+    zone.tree.zone.print(sink)
 }
 
 impl CheckedZone {
@@ -89,19 +89,13 @@ fn put_chosen<W: Write>(
     let mut front = TextBuffer::new();
     let mut last = None;
     'records: for entry in records {
-        if is_chosen(is_soa, entry) {
+        if (entry.rtype == RType::SOA) == is_soa {
             turn_front(&mut front, last, entry);
             put_record(entry, front.octets(), text, sink)?;
             last = Some(entry);
         }
     }
     Ok(())
-}
-
-fn is_chosen(is_soa: bool, entry: &Entry) -> bool
-    ensures { result ≡ is_chosen is_soa entry.now }
-{
-    (entry.rtype == RType::SOA) == is_soa
 }
 
 // A record on a line of its own, whose front is given.
@@ -137,10 +131,11 @@ fn turn_front(front: &mut TextBuffer, last: Option<&Entry>, entry: &Entry)
         ++ decimal entry.now.ttl) ++ codes " IN " }
     ensures short { length front.new ≤ 1035 }
 {
-    if let Some(last) = last {
-        if last.ttl == entry.ttl && last.owner() == entry.owner() {
-            return;
-        }
+    if let Some(last) = last
+        && last.ttl == entry.ttl
+        && last.owner() == entry.owner()
+    {
+        return;
     }
     let mut digits = Buffer::new();
     front.clear();

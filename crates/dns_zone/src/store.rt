@@ -10,7 +10,10 @@ ghost use Rattle.dns_master.specs.Codes.{fault_of, failures_after_read};
 ghost use Rattle.dns_master.specs.SourceForm.{GivesMeaning, Decides};
 ghost use Rattle.dns_zone.specs.ZoneForm.{ReportsFaults};
 
+use crate::checks::faults;
 use crate::fault::BuildFault;
+use crate::kept::Kept;
+use crate::order::ordered::{Canonical, ordered};
 use crate::store::entry::Entry;
 use crate::zone::CheckedZone;
 use dns_master::{Gathers, ReadCode, ReadFault, Record, read_into};
@@ -108,7 +111,15 @@ impl Store {
         ensures faults { IfErr result (λ fault. ReportsFaults fault (zone_of origin.now self)) }
     {
         let Store { entries, .. } = self;
-        CheckedZone::of_entries(alloc, origin, entries)
+        let origin = origin.fold();
+        let Canonical { records, keyed } = ordered(alloc, &origin.lent(), entries)?;
+        let found = faults(alloc, &origin.lent(), records.as_slice(), &keyed)?;
+        drop(keyed);
+        if !found.is_empty() {
+            return Err(BuildFault::Faults(found));
+        }
+        let records = Kept::new(records);
+        Ok(CheckedZone { origin, records })
     }
 }
 

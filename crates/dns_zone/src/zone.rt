@@ -7,12 +7,9 @@ ghost use Rattle.dns_spec.specs.Checks.{faults};
 ghost use Rattle.dns_spec.specs.Meaning.{most_records};
 ghost use Rattle.dns_spec.specs.ZonePrinted.{is_soa};
 ghost use Rattle.dns_zone.specs.ZoneForm.{IsBuilt, ReportsFaults};
-ghost use Rattle.dns_zone.specs.NodeForm.{IsZoneTree};
 
-use crate::checks::faults;
 use crate::fault::BuildFault;
 use crate::kept::Kept;
-use crate::order::ordered::{Canonical, ordered};
 use crate::store::Store;
 use crate::store::entry::Entry;
 use crate::tree::leads::leads_of;
@@ -29,8 +26,8 @@ use std::marker::Model;
 /// It may be printed. To be served it is made a `Zone`, whose names can be walked.
 #[derive(Drop)]
 pub struct CheckedZone {
-    origin: Name,
-    records: Kept<Entry>,
+    pub(crate) origin: Name,
+    pub(crate) records: Kept<Entry>,
 }
 
 impl Model for CheckedZone {
@@ -45,29 +42,6 @@ impl Model for CheckedZone {
 }
 
 impl CheckedZone {
-    // The zone of an origin and of records, each kept once, in canonical order; or all its faults.
-    pub(crate) fn of_entries(
-        alloc: Global,
-        origin: &Name,
-        records: Vec<Entry>,
-    ) -> Result<CheckedZone, BuildFault>
-        requires { length records.items ≤ most_records }
-        ensures ok { IfOk result (λ zone. zone ≡ ordered_zone origin.now records.items) }
-        ensures passes { IfOk result (λ zone. faults (zone_of origin.now records.items) ≡ []) }
-        ensures faults { IfErr result (λ fault. ReportsFaults fault
-            (zone_of origin.now records.items)) }
-    {
-        let origin = origin.fold();
-        let Canonical { records, keyed } = ordered(alloc, &origin.lent(), records)?;
-        let found = faults(alloc, &origin.lent(), records.as_slice(), &keyed)?;
-        drop(keyed);
-        if !found.is_empty() {
-            return Err(BuildFault::Faults(found));
-        }
-        let records = Kept::new(records);
-        Ok(CheckedZone { origin, records })
-    }
-
     /// The name at and below which the zone speaks, in lower case.
     pub fn origin(&self) -> &Name
         ensures origin { result.now ≡ self.now.origin }
@@ -96,7 +70,7 @@ impl CheckedZone {
 /// A zone that has no fault, and whose names can be walked: it may be served.
 #[derive(Drop)]
 pub struct Zone {
-    tree: Tree,
+    pub(crate) tree: Tree,
 }
 
 impl Model for Zone {
@@ -165,21 +139,6 @@ impl Zone {
         ensures { result ≡ zone_serial self.now }
     {
         self.tree.zone.serial()
-    }
-
-    // The zone that was checked.
-    pub(crate) fn checked(&self) -> &CheckedZone
-        ensures { result.now ≡ self.now }
-    {
-        &self.tree.zone
-    }
-
-    // Its names.
-    pub(crate) fn tree(&self) -> &Tree
-        ensures zone { result.now.zone ≡ self.now }
-        ensures tree { IsZoneTree result.now }
-    {
-        &self.tree
     }
 }
 

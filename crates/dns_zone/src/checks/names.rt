@@ -33,16 +33,6 @@ pub(crate) struct CheckedName<'a> {
     pub(crate) cut: usize,
 }
 
-impl<'a> CheckedName<'a> {
-    /// Whether it is below the topmost cut that it is at or below.
-    pub(crate) fn is_below_cut(&self) -> bool
-        ensures { result ≡ (nat_lt 0 self.now.cut
-            && nat_lt self.now.cut (length self.now.key.now)) }
-    {
-        0 < self.cut && self.cut < self.key.len()
-    }
-}
-
 /// The names that are checked of the zone of records in canonical order, with the key of the origin
 /// and those of the owners.
 pub(crate) fn checked_names<'a>(

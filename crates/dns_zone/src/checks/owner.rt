@@ -1,14 +1,15 @@
 //! The fifteen checks of a name of a zone.
-ghost use Rattle.std.specs.Prelude.{◌≡◌, ◌==◌, ◌&&◌, ◌||◌, not, map};
+ghost use Rattle.std.specs.Prelude.{◌≡◌, ◌==◌, ◌&&◌, ◌||◌, not, map, drop, nat_lt};
+ghost use Rattle.std.specs.List.{list_any, zip};
 ghost use Rattle.dns_spec.specs.Records.{owns};
 ghost use Rattle.dns_spec.specs.Tree.{is_cut};
 ghost use Rattle.dns_spec.specs.Checks.{is_origin, count, owns_such, is_address_type, below_cut, checks, ttls_differ, ns_target_alias, ns_target_lost, mx_target_alias, data_at_cut, large_set, many_sets};
 ghost use Rattle.dns_spec.specs.Data.{type_ns, type_cname};
 ghost use Rattle.dns_zone.specs.OwnerForm.{is_server_alias, is_server_lost, is_exchange_alias};
 ghost use Rattle.dns_zone.specs.NamesForm.{IsChecked};
+ghost use Rattle.dns_zone.specs.SetWalks.{sets_ended};
 
 use crate::checks::names::CheckedName;
-use crate::checks::sets::{have_large_set, have_many_sets, have_other_ttls};
 use crate::checks::survey::Survey;
 use crate::checks::target::LastTarget;
 use crate::order::key::{is_below, is_under};
@@ -17,6 +18,12 @@ use crate::tree::lookup::has_type;
 use dns_name::NameRef;
 use dns_rdata::RType;
 use std::marker::Model;
+
+// The most records of an RRset that is served.
+const MOST_OF_A_SET: usize = 64;
+
+// The most RRsets that are served of one owner.
+const MOST_SETS: usize = 32;
 
 /// A name of a zone, with its records.
 #[derive(Drop)]
@@ -61,7 +68,7 @@ impl<'a> Owner<'a> {
             name,
             key: one.key,
             own: survey.own(one),
-            is_below_cut: one.is_below_cut(),
+            is_below_cut: 0 < one.cut && one.cut < one.key.len(),
             stands_first: one.key == survey.key(),
         }
     }
@@ -207,4 +214,47 @@ fn is_address_type(rtype: RType) -> bool
     ensures { result ≡ is_address_type rtype.0 }
 {
     rtype == RType::A || rtype == RType::AAAA
+}
+
+// Whether an RRset has other TTLs: then two neighbours of one type have (RFC 2181 5.2).
+fn have_other_ttls(own: &[Entry]) -> bool
+    ensures { result ≡ list_any (λ p. p.0.rtype == p.1.rtype && not (p.0.ttl == p.1.ttl))
+        (zip own.now (drop 1 own.now)) }
+{
+    own.iter().zip(own.iter().skip(1)).any(|(one, next)| one.rtype == next.rtype
+        && one.ttl != next.ttl)
+}
+
+// Whether an RRset has more than 64 records: then the 64th after some record is of its type.
+fn have_large_set(own: &[Entry]) -> bool
+    ensures { result ≡ list_any (λ p. p.0.rtype == p.1.rtype) (zip own.now (drop 64 own.now)) }
+{
+    if own.len() <= MOST_OF_A_SET {
+        return false;
+    }
+    own.iter()
+        .zip(own.iter().skip(MOST_OF_A_SET))
+        .any(|(one, other)| one.rtype == other.rtype)
+}
+
+// Whether there are more than 32 RRsets.
+fn have_many_sets(own: &[Entry]) -> bool
+    ensures { result ≡ nat_lt 32 (sets_ended own.now) }
+{
+    if own.len() <= MOST_SETS {
+        return false;
+    }
+    let mut rest = own;
+    let mut left = MOST_SETS;
+    'records: while let Some((first, others)) = rest.split_first() {
+        rest = others;
+        if others.first().is_some_and(|next| next.rtype == first.rtype) {
+            continue;
+        }
+        if left == 0 {
+            return true;
+        }
+        left -= 1;
+    }
+    false
 }

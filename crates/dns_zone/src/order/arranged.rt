@@ -32,6 +32,7 @@ struct Run {
 ///
 /// Memory is taken for 24 octets for each run of records of one owner, and for 4 octets for each
 /// record.
+#[tactic(auto, using(crate::proofs::SearchSteps::swap_steps))]
 pub(crate) fn arrange(
     alloc: Global,
     base: usize,
@@ -46,7 +47,12 @@ pub(crate) fn arrange(
 {
     let runs = runs(alloc, base, keys, records, starts)?;
     let mut places = places(alloc, keys, records, starts, runs.as_slice())?;
-    put_in_places(keys, records, starts, places.as_mut_slice());
+    let sources = places.as_mut_slice();
+    if sources.len() == records.len() {
+        'places: for at in 0..records.len() {
+            settle(keys, records, starts, sources, at);
+        }
+    }
     Ok(())
 }
 
@@ -67,7 +73,8 @@ fn runs(
     let (origin, _) = keys.split_at(base.min(keys.len()));
     let mut at = 0;
     'runs: while at < records.len() {
-        let end = end_of_run(starts, at);
+        let others = starts[at + 1..].iter();
+        let end = at + 1 + others.take_while(|start| **start == starts[at]).count();
         runs.push(Run {
             front: front_after(origin, key_at(keys, starts[at], &records[at])),
             at: at as u32,
@@ -141,16 +148,6 @@ fn common_front<'a>(one: &'a [u8], other: &[u8]) -> &'a [u8] {
         .take_while(|(a, b)| a == b)
         .count();
     one.split_at(count.min(one.len())).0
-}
-
-// Where the places end that have the same start as the one at `at`.
-fn end_of_run(starts: &[u32], at: usize) -> usize
-    requires { at < length starts.now }
-    ensures after { at < result }
-    ensures within { result ≤ length starts.now }
-{
-    let others = starts[at + 1..].iter();
-    at + 1 + others.take_while(|start| **start == starts[at]).count()
 }
 
 // The first octets of an owner's key after that of the origin. An owner outside the zone has those
@@ -243,23 +240,6 @@ fn order_at(records: &[Entry], one: u32, other: u32) -> Ordering {
     match (records.get(one as usize), records.get(other as usize)) {
         (Some(one), Some(other)) => own_order(one, other),
         _ => Ordering::Equal,
-    }
-}
-
-// Moves to each place the record that comes there.
-#[tactic(auto, using(crate::proofs::SearchSteps::swap_steps))]
-fn put_in_places(keys: &[u8], records: &mut [Entry], starts: &mut [u32], places: &mut [u32])
-    requires keyed { AreKeyed keys.now records.old starts.old }
-    requires few { length records.old ≤ most_records }
-    requires below { All (λ p. p < length records.old) places.old }
-    ensures permutation { IsPermutation records.old records.new }
-    ensures keyed { AreKeyed keys.now records.new starts.new }
-{
-    if places.len() != records.len() {
-        return;
-    }
-    'places: for at in 0..records.len() {
-        settle(keys, records, starts, places, at);
     }
 }
 

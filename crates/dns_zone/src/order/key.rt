@@ -2,7 +2,7 @@
 ghost use Rattle.std.specs.Prelude.{◌≡◌, ◌+◌, ◌<◌, ◌≤◌, ◌++◌, [], length};
 ghost use Rattle.dns_spec.specs.Names.{DomainName, folded, at_or_below, below};
 ghost use Rattle.dns_name.specs.WireForm.{labels_of, IsWireForm};
-ghost use Rattle.dns_zone.specs.KeyForm.{raised, ended, name_key, EndsWith};
+ghost use Rattle.dns_zone.specs.KeyForm.{ended, name_key, EndsWith};
 
 use arrayvec::ArrayVec;
 use dns_name::{Name, NameRef, are_equal, first_label};
@@ -142,21 +142,15 @@ fn put_labels(octets: &[u8], end: &[u8], key: &mut [u8])
     put_labels(after, end, others);
 }
 
-// Puts a label and its end.
+// Puts a label in lower case and its end. Octets below 65 are one more, since 65 to 90 do not stand
+// in it, so that 0 is left to end it.
 fn put_label(label: &[u8], key: &mut [u8])
     requires { length key.old ≡ length label.now + 1 }
     ensures { key.new ≡ ended label.now }
 {
     'octets: for place in 0..label.len() {
-        key[place] = raised(label[place]);
+        let octet = label[place];
+        key[place] = if octet < 65 { octet + 1 } else { octet };
     }
     key[label.len()] = 0;
-}
-
-// An octet of a name in lower case, where 65 to 90 do not stand: those below are one more, so that
-// 0 is left to end a label.
-pub(crate) fn raised(octet: u8) -> u8
-    ensures { result ≡ raised octet }
-{
-    if octet < 65 { octet + 1 } else { octet }
 }

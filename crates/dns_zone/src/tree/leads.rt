@@ -65,20 +65,11 @@ fn last_on_way(tree: &Tree, sought: &Sought<'_>, rtype: RType) -> usize
         let Some(kid) = kid_of(tree, row, &label, &mut Steps::over(tree)) else {
             break;
         };
-        if ends_before(tree, kid, rtype) {
+        if rtype == RType::CNAME && Node::at(tree, kid).set(RType::NS).is_some() {
             break;
         }
         row = kid;
         before -= 1;
     }
     row.0
-}
-
-// Whether the way to a target of the type ends before a node: that of an alias before a cut.
-fn ends_before(tree: &Tree, row: RowNumber, rtype: RType) -> bool
-    requires { IsNodeAt tree.now row.0 }
-    ensures { result ≡ (rtype.0 == type_cname
-        && is_some (set_of (rrset tree.now.zone (node_at tree.now row.0).name type_ns))) }
-{
-    rtype == RType::CNAME && Node::at(tree, row).set(RType::NS).is_some()
 }

@@ -40,7 +40,7 @@ pub(crate) fn count_in_front(records: &[Entry], name: &NameRef<'_>) -> usize
 {
     records
         .iter()
-        .take_while(|entry| is_at(entry, name))
+        .take_while(|entry| entry.owner() == *name)
         .count()
 }
 
@@ -64,10 +64,7 @@ pub(crate) fn of_type<'a>(records: &'a [Entry], rtype: RType) -> &'a [Entry]
     requires { IsNonDecreasingBy (λ (r : ResourceRecord). r.rtype) records.now }
     ensures { result.now ≡ filter (λ (r : ResourceRecord). r.rtype == rtype.0) records.now }
 {
-    let Some(first) = records.first() else {
-        return records;
-    };
-    let Some(last) = records.last() else {
+    let (Some(first), Some(last)) = (records.first(), records.last()) else {
         return records;
     };
     if rtype.0 < first.rtype.0 || last.rtype.0 < rtype.0 {
@@ -77,17 +74,7 @@ pub(crate) fn of_type<'a>(records: &'a [Entry], rtype: RType) -> &'a [Entry]
         return records;
     }
     let others = &records[count_below(records, rtype)..];
-    &others[..count_of(others, rtype)]
-}
-
-// How many of the records are of the type, where these stand in front.
-fn count_of(records: &[Entry], rtype: RType) -> usize
-    requires { IsPartitionedBy (λ (r : ResourceRecord). r.rtype == rtype.0) records.now }
-    ensures bound { result ≤ length records.now }
-    ensures own { take result records.now
-        ≡ filter (λ (r : ResourceRecord). r.rtype == rtype.0) records.now }
-{
-    records.partition_point(|entry| entry.rtype == rtype)
+    &others[..others.partition_point(|entry| entry.rtype == rtype)]
 }
 
 // How many of the records are of a type below this one.
@@ -105,11 +92,4 @@ fn is_under(entry: &Entry, name: &NameRef<'_>) -> bool
     ensures { result ≡ at_or_below entry.now.owner name.now }
 {
     is_at_or_below(&entry.owner(), name)
-}
-
-fn is_at(entry: &Entry, name: &NameRef<'_>) -> bool
-    requires { folded name.now ≡ name.now }
-    ensures { result ≡ same entry.now.owner name.now }
-{
-    entry.owner() == *name
 }

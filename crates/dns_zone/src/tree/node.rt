@@ -85,18 +85,6 @@ impl<'z> Node<'z> {
         Node { tree, row }
     }
 
-    // The node of the zone's origin.
-    pub(crate) fn of_origin(tree: &'z Tree) -> Node<'z>
-        requires { IsZoneTree tree.now }
-        ensures node { result ≡ record { zone = tree.now.zone; name = tree.now.zone.origin } }
-        ensures exists { IsNode tree.now.zone tree.now.zone.origin }
-    {
-        Node {
-            tree,
-            row: RowNumber(0),
-        }
-    }
-
     /// The child of this label, if that name exists. Labels are compared without regard to the case
     /// of ASCII letters (RFC 1035 2.3.3). The node handed out is counted, and each comparison of
     /// labels.

@@ -74,14 +74,7 @@ impl SetView for RecordSet<'_> {
     }
 
     fn rdata(&self, i: usize) -> &[u8] {
-        data_at(self.records, i)
+        let records = self.records;
+        records[i].rdata()
     }
-}
-
-fn data_at(records: &[Entry], i: usize) -> &[u8]
-    requires { i < length (data_of records.now) }
-    ensures { result.now ≡ get_or (data_of records.now) i [] }
-{
-    let record = &records[i];
-    record.rdata()
 }

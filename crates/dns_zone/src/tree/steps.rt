@@ -7,6 +7,7 @@ ghost use Rattle.dns_zone.specs.ZoneForm.{IsBuilt};
 
 use crate::tree::Tree;
 use crate::tree::node::Node;
+use crate::tree::row::RowNumber;
 use crate::zone::Zone;
 use dns_name::Name;
 use std::marker::Model;
@@ -42,7 +43,7 @@ impl<'z> Steps<'z> {
     pub fn new(zone: &'z Zone) -> Steps<'z>
         ensures { result ≡ record { zone = zone.now; visits = 0; comparisons = 0 } }
     {
-        Steps::over(zone.tree())
+        Steps::over(&zone.tree)
     }
 
     // The same over the tree of a zone that is being made.
@@ -94,7 +95,7 @@ impl<'z> Steps<'z> {
         ensures zone { self.new.zone ≡ self.old.zone }
     {
         self.count_visit();
-        Node::of_origin(self.tree)
+        Node::at(self.tree, RowNumber(0))
     }
 
     // Counts a node that is handed out.

@@ -5,4 +5,4 @@ pub returns-clause-meaning : goal.returns-clause-meaning
 returns-clause-meaning g c =
     subst (λ (z : ZoneContents). All HasZoneType z.records → length (zone_text z) ≤ most_octets
     → (o : DomainName) → Means o (zone_text z) (records (printed_records z)))
-    c.checked.ensures c.print.ensures.meaning
+    c.zone.view_is c.print.ensures.meaning

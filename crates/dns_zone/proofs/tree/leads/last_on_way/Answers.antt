@@ -1,9 +1,9 @@
-use Rattle.std.proofs.Common.{◌≡◌, ◌==◌, ◌&&◌, false, ℕ, Bool, length, sym, ap, ◌∙◌, arith, eq-eqb}
-use Rattle.dns_spec.specs.Data.{type_cname}
+use Rattle.std.proofs.Common.{rules, length, ap, arith, eq-eqb}
 use Rattle.dns_name.proofs.WireLemmas.{IsWireForm-wire, labels_of_spelled}
 use Rattle.dns_zone.specs.Nodes.{ZoneNode}
 use Rattle.dns_zone.proofs.LeadRows.{begins, goes_on, lead_is}
 use Rattle.dns_zone.proofs.tree.leads.last_on_way.Goals as goal
+use Rattle.dns_zone.proofs.tree.leads.last_on_way.Goals.{else-eq-via-then-eq+else-is_some, else-eq-via-else-eq}
 
 pub put_starts-requires-clause-form : goal.put_starts-requires-clause-form
 put_starts-requires-clause-form c =
@@ -35,10 +35,6 @@ label_after-label-requires-clause-inside c =
       c.labels-test.true,
     )
 
--- what is no alias, or owns no servers
-no_servers : (t : ℕ) (b : Bool) → (t == type_cname && b) ≡ false → t ≡ type_cname → b ≡ false
-no_servers t b h e = ap (λ a. a && b) (sym (eq-eqb t type_cname e)) ∙ h
-
 pub labels-preserved : goal.labels-preserved
 labels-preserved c =
     let t = c.args.tree.now in
@@ -47,7 +43,10 @@ labels-preserved c =
     record {
       way = goes_on t c.args.rtype.0 c.labels.row.0 kid c.label_after-label.result way
           c.in-Some.ensures.at (ap (λ (v : ZoneNode). v.name) c.in-Some.ensures.node)
-          (no_servers _ _ (sym c.ends_before.ensures ∙ c.if-ends_before.false));
+          (λ alias. elim c.else-eq.branch [
+            | else-eq-via-then-eq+else-is_some w ↦ search rules
+            | else-eq-via-else-eq w ↦ grind (arith, eq-eqb)
+          ]);
       fewer = omega (arith, c.labels.invariant.fewer);
     }
 
@@ -59,6 +58,6 @@ pub returns-in_default : goal.returns-in_default
 returns-in_default c =
     lead_is c.args.tree.now c.args.rtype.0 c.labels.row.0 c.labels.invariant.way
 
-pub returns-then-ends_before : goal.returns-then-ends_before
-returns-then-ends_before c =
+pub returns-then-is_some : goal.returns-then-is_some
+returns-then-is_some c =
     lead_is c.args.tree.now c.args.rtype.0 c.labels.row.0 c.labels.invariant.way

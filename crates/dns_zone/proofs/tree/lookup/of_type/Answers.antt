@@ -1,4 +1,5 @@
-use Rattle.dns_spec.proofs.Common.{rules, ◌≡◌, ◌==◌, ◌-◌, ◌<◌, length, get_or, arith, sym, ap, ◌∙◌, subst, filter, take_rest, IsPartitionedBy, ResourceRecord}
+use Rattle.dns_spec.proofs.Common.{rules, ◌≡◌, ◌==◌, ◌-◌, ◌<◌, length, get_or, arith, sym, ap, ◌∙◌, subst, filter, take_rest, IsPartitionedBy, IsPartitionPoint-from_clause, ResourceRecord}
+use Rattle.dns_zone.proofs.Pairs.{halves}
 use Rattle.dns_zone.proofs.Types.{type_parted, type_others, all_of_type, none_above, none_below}
 use Rattle.dns_zone.proofs.tree.lookup.of_type.Goals as goal
 use Rattle.dns_zone.proofs.tree.lookup.of_type.Goals.{then-rtype-first-via-then-rtype-first, then-rtype-first-via-else-rtype-first+then-last-rtype}
@@ -24,17 +25,13 @@ returns-then-eq c =
     let same : c.first-2.inside.rtype.0 ≡ c.last-2.inside.rtype.0 = search rules in
     all_of_type t rs c.requires some (λ d. omega (arith, first d, same, c.if-rtype-first.false, c.if-last-rtype.false)) (λ d. omega (arith, last d, same, c.if-rtype-first.false, c.if-last-rtype.false))
 
-pub count_of-requires : goal.count_of-requires
-count_of-requires c =
-    let rs = c.args.records.now in
-    let t = c.args.rtype.0 in
-    subst (IsPartitionedBy (λ (r : ResourceRecord). r.rtype == t))
-    (sym (take_rest rs c.count_below.result ∙ c.count_below.ensures.others))
-    (type_parted t rs c.requires)
-
 pub returns : goal.returns
 returns c =
     let rs = c.args.records.now in
     let t = c.args.rtype.0 in
-    c.count_of.ensures.own ∙ ap (filter (λ (r : ResourceRecord). r.rtype == t))
-    (take_rest rs c.count_below.result ∙ c.count_below.ensures.others) ∙ type_others t rs
+    let p = λ (r : ResourceRecord). r.rtype == t in
+    let others = take_rest rs c.count_below.result ∙ c.count_below.ensures.others in
+    (halves p _ _ c.partition_point.ensures.bound
+    (IsPartitionPoint-from_clause p _ _ c.partition_point.ensures.partitioned
+    (subst (IsPartitionedBy p) (sym others) (type_parted t rs c.requires)) (λ a r q k. search rules))).0
+    ∙ ap (filter p) others ∙ type_others t rs

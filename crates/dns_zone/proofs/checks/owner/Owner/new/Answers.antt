@@ -1,4 +1,4 @@
-use Rattle.dns_spec.proofs.Common.{◌≡◌, ◌&&◌, nat_lt, length, sym, ap, ◌∙◌, subst, DomainName, Octets, folded, same, octets_equal}
+use Rattle.dns_spec.proofs.Common.{rules, ◌≡◌, ◌&&◌, nat_lt, length, sym, ap, ◌∙◌, subst, DomainName, Octets, folded, same, octets_equal}
 use Rattle.dns_spec.proofs.DomainNames.NameLaws.{names_equal-decides, octets_equal-decides, same_tests}
 use Rattle.dns_zone.specs.KeyForm.{name_key}
 use Rattle.dns_zone.specs.OwnerForm.{IsOwner}
@@ -23,7 +23,8 @@ invariant_of-result c =
     let k = c.args.one.now.cut in (
       subst (IsOwner z n) (sym c.own.ensures) c.requires.owner,
       c.requires.key,
-      c.is_below_cut.ensures ∙ ap (λ x. nat_lt 0 k && nat_lt k (length x)) c.requires.key
+      (let below : c.if-one-gt0.result ≡ (nat_lt 0 k && nat_lt k (length c.args.one.now.key.now)) = search rules in below)
+          ∙ ap (λ x. nat_lt 0 k && nat_lt k (length x)) c.requires.key
           ∙ sym (below_topmost z n c.requires.owner.lower k c.requires.topmost),
       c.eq.ensures ∙ same_keys n z.origin _ _ c.requires.owner.lower c.key.ensures.lower
           c.requires.key c.key.ensures.value,

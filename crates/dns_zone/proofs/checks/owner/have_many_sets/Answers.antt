@@ -1,6 +1,6 @@
 use Rattle.dns_spec.proofs.Common.{sym, arith, le-ltb}
 use Rattle.dns_zone.proofs.SetTests.{sets_upto}
-use Rattle.dns_zone.proofs.checks.sets.have_many_sets.Goals as goal
+use Rattle.dns_zone.proofs.checks.owner.have_many_sets.Goals as goal
 
 pub returns-then-own-le-MOST_SETS : goal.returns-then-own-le-MOST_SETS
 returns-then-own-le-MOST_SETS c =

@@ -1,6 +1,6 @@
 use Rattle.std.proofs.Common.{◌≡◌, length, nat_lt}
 use Rattle.dns_zone.specs.SetWalks.{sets_ended}
-use Rattle.dns_zone.proofs.checks.sets.have_many_sets.Given as goal
+use Rattle.dns_zone.proofs.checks.owner.have_many_sets.Given as goal
 
 abbrev pub invariant-records : goal.invariant-records
 invariant-records l = nat_lt l.left (sets_ended l.rest) ≡ nat_lt 32 (sets_ended l.own)

@@ -1,8 +1,11 @@
-use Rattle.dns_spec.proofs.Common.{◌≡◌, ap, sym, ◌∙◌, subst, arith, length, vec_len, List, nil_from_length, false≢true, eqb-true, eq-eqb, DomainName, folded, faults, ResourceRecord}
+use Rattle.dns_spec.proofs.Common.{◌≡◌, ◌≤◌, sort_by, record_order, distinct, records_equal, ap, sym, ◌∙◌, subst, arith, length, vec_len, List, nil_from_length, false≢true, eqb-true, eq-eqb, DomainName, folded, faults, ResourceRecord}
 use Rattle.dns_spec.proofs.ZoneChecks.FaultOrder.{folded_folded}
 use Rattle.dns_zone.specs.ZoneForm.{IsBuilt}
 use Rattle.dns_zone.proofs.BuiltZone.{found_of_read, built}
-use Rattle.dns_zone.proofs.zone.CheckedZone.of_entries.Goals as goal
+use Rattle.dns_zone.proofs.store.Store.check.Goals as goal
+
+abbrev canonical : List ResourceRecord → List ResourceRecord
+canonical rs = sort_by record_order (distinct records_equal rs)
 
 pub faults-requires-clause-lower : goal.faults-requires-clause-lower
 faults-requires-clause-lower c =
@@ -12,9 +15,9 @@ faults-requires-clause-lower c =
 pub returns-then-not-is_empty-clause-faults : goal.returns-then-not-is_empty-clause-faults
 returns-then-not-is_empty-clause-faults c =
     let same =
-    found_of_read c.args.origin.now c.fold-origin.result c.args.records.items
+    found_of_read c.args.origin.now c.fold-origin.result c.args.self
     c.in_ok-records.field-0.records.items _ c.in_ok-found.found.items c.fold-origin.ensures
-    c.in_ok-records.ensures.records c.as_slice.ensures.value (c.in_ok-found.ensures
+    (c.in_ok-records.ensures.records ∙ ap canonical c.self.view_is) c.as_slice.ensures.value (c.in_ok-found.ensures
     ∙ ap (λ (o : DomainName). faults (record { origin = o; records = c.as_slice.result.now }))
     c.lent-2.ensures.value) in (
       same,
@@ -34,12 +37,12 @@ invariant_of-result c =
     in
     subst (λ (xs : List ResourceRecord). IsBuilt
     (record { origin = c.fold-origin.result; records = xs })) (sym c.new-records.ensures)
-    (built c.args.origin.now c.fold-origin.result c.args.records.items
+    (built c.args.origin.now c.fold-origin.result c.args.self
     c.in_ok-records.field-0.records.items _ c.in_ok-found.found.items c.fold-origin.ensures
-    c.in_ok-records.ensures.records c.as_slice.ensures.value (c.in_ok-found.ensures
+    (c.in_ok-records.ensures.records ∙ ap canonical c.self.view_is) c.as_slice.ensures.value (c.in_ok-found.ensures
     ∙ ap (λ (o : DomainName). faults (record { origin = o; records = c.as_slice.result.now }))
     c.lent-2.ensures.value) (omega (arith, c.in_ok-found.found.ok.0)) c.requires
-    c.in_ok-records.ensures.count c.in_ok-records.ensures.in_order c.in_ok-records.ensures.each)
+    (subst (λ rs. length c.in_ok-records.field-0.records.items ≤ length rs) c.self.view_is c.in_ok-records.ensures.count) c.in_ok-records.ensures.in_order c.in_ok-records.ensures.each)
 
 pub returns-clause-passes : goal.returns-clause-passes
 returns-clause-passes c =
@@ -47,9 +50,9 @@ returns-clause-passes c =
     eqb-true (vec_len c.in_ok-found.found) 0 (sym c.is_empty.ensures ∙ c.if-not-is_empty.false)
     in
     let none : length c.in_ok-found.found.items ≡ 0 = omega (arith, c.in_ok-found.found.ok.0) in
-    sym (found_of_read c.args.origin.now c.fold-origin.result c.args.records.items
+    sym (found_of_read c.args.origin.now c.fold-origin.result c.args.self
     c.in_ok-records.field-0.records.items _ c.in_ok-found.found.items c.fold-origin.ensures
-    c.in_ok-records.ensures.records c.as_slice.ensures.value (c.in_ok-found.ensures
+    (c.in_ok-records.ensures.records ∙ ap canonical c.self.view_is) c.as_slice.ensures.value (c.in_ok-found.ensures
     ∙ ap (λ (o : DomainName). faults (record { origin = o; records = c.as_slice.result.now }))
     c.lent-2.ensures.value))
     ∙ nil_from_length c.in_ok-found.found.items none

@@ -1,6 +1,6 @@
 use Rattle.std.proofs.Common.{sym}
 use Rattle.dns_zone.proofs.SetTests.{few_in_runs}
-use Rattle.dns_zone.proofs.checks.sets.have_large_set.Goals as goal
+use Rattle.dns_zone.proofs.checks.owner.have_large_set.Goals as goal
 
 pub returns-then-own-le-MOST_OF_A_SET : goal.returns-then-own-le-MOST_OF_A_SET
 returns-then-own-le-MOST_OF_A_SET c =
