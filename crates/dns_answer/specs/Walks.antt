@@ -126,8 +126,3 @@ pub record TookWay (s s' : Walk) (nodes misses : ℕ) : Type 0 where
 
 abbrev pub one_if : Bool → ℕ
 one_if b = if b then 1 else 0
-
-pub record TookChild (s s' : Walk) (is_there : Bool) : Type 0 where
-  pub zone : s'.zone ≡ s.zone
-  pub visits : s'.visits ≡ s.visits + one_if is_there
-  pub comparisons : s'.comparisons ≤ s.comparisons + 17

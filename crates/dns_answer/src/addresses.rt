@@ -1,5 +1,5 @@
 //! Addresses of the targets of a set (RFC 1034 4.3.2 step 6).
-ghost use Rattle.std.specs.Prelude.{◌≡◌, ◌*◌, ◌≤◌, ◌<◌, ◌⊎◌, [], length, true, false, not, IfSome};
+ghost use Rattle.std.specs.Prelude.{◌≡◌, ◌*◌, ◌≤◌, ◌<◌, ◌⊎◌, [], length, true, false, IfSome};
 ghost use Rattle.std.specs.List.{list_any, list_all, filter};
 ghost use Rattle.dns_spec.specs.Names.{same, folded};
 ghost use Rattle.dns_spec.specs.Answer.{item};

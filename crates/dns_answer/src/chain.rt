@@ -173,13 +173,7 @@ fn is_among(name: &NameRef<'_>, last: &Sought<'_>, earlier: &[Sought<'_>]) -> bo
     let Some((first, targets)) = earlier.split_first() else {
         return name.same(&last.name);
     };
-    if *name == last.name {
-        return true;
-    }
-    if has_equal(targets, name) {
-        return true;
-    }
-    name.same(&first.name)
+    *name == last.name || has_equal(targets, name) || name.same(&first.name)
 }
 
 // Whether a name is one of others, octet by octet.

@@ -1,7 +1,6 @@
 //! How the answer for the last name sought ends (RFC 1034 4.3.2 step 3, RFC 2308).
-ghost use Rattle.std.specs.Prelude.{◌≡◌, ◌*◌, ◌||◌, ◌==◌};
+ghost use Rattle.std.specs.Prelude.{◌≡◌, ◌*◌};
 ghost use Rattle.dns_spec.specs.Names.{DomainName};
-ghost use Rattle.dns_spec.specs.Data.{type_ns, type_mx, type_srv};
 ghost use Rattle.dns_spec.specs.Answer.{referral_to, negative};
 ghost use Rattle.dns_zone.specs.Nodes.{IsSetOf};
 ghost use Rattle.dns_wire.specs.QueryForm.{code_of};
@@ -10,7 +9,6 @@ ghost use Rattle.dns_answer.specs.Ending.{Ends, TookTargets, IsPlain, EndsWith, 
 
 use crate::addresses::{Side, offer_addresses};
 use crate::draft::Draft;
-use dns_name::NameRef;
 use dns_rdata::{RType, Rdata, SetView};
 use dns_wire::{Rcode, Section};
 use dns_zone::{Node, RecordSet, Steps};
@@ -115,15 +113,10 @@ pub(crate) fn end_with<'z, const N: usize, const SIZE: usize>(
     ensures took { TookWith steps.old steps.new set.now }
 {
     let verdict = ended(Rcode::NoError, draft);
-    if has_targets(set.rtype()) {
+    // Addresses of the targets of these types are of use to the asker.
+    let rtype = set.rtype();
+    if rtype == RType::NS || rtype == RType::MX || rtype == RType::SRV {
         offer_addresses(node, set, Side::All, apex, steps, draft);
     }
     verdict
-}
-
-// Addresses of the targets of these types are of use to the asker.
-fn has_targets(rtype: RType) -> bool
-    ensures { result ≡ (rtype.0 == type_ns || rtype.0 == type_mx || rtype.0 == type_srv) }
-{
-    rtype == RType::NS || rtype == RType::MX || rtype == RType::SRV
 }

@@ -1,11 +1,7 @@
 //! What a zone has for a name (RFC 1034 4.3.2 step 3).
-ghost use Rattle.std.specs.Prelude.{◌≡◌, ◌<◌, ◌∷◌, ◌&&◌, Bool, IfSome, MatchOption, true, false};
-ghost use Rattle.std.specs.Option.{is_some};
-ghost use Rattle.dns_spec.specs.Data.{type_ns};
-ghost use Rattle.dns_spec.specs.Records.{ZoneContents, rrset};
-ghost use Rattle.dns_spec.specs.Sets.{set_of};
-ghost use Rattle.dns_spec.specs.Tree.{exists, asterisk};
-ghost use Rattle.dns_answer.specs.Walks.{IsApex, IsLeadTo, IsAim, IsAimed, labels_below, node_or, ends_at_cuts, WalkedTo, FoundAs, HasRoom, Took, TookWay, TookChild, missed, one_if};
+ghost use Rattle.std.specs.Prelude.{◌≡◌, Bool, IfSome, true};
+ghost use Rattle.dns_spec.specs.Records.{ZoneContents};
+ghost use Rattle.dns_answer.specs.Walks.{IsApex, IsLeadTo, IsAim, IsAimed, labels_below, node_or, ends_at_cuts, WalkedTo, FoundAs, HasRoom, Took, TookWay, missed};
 
 use dns_name::{Label, NameRef};
 use dns_rdata::RType;
@@ -55,13 +51,18 @@ pub(crate) fn look_up<'z>(
     ensures found { FoundAs steps.old.zone apex.now sought.now.name result }
     ensures took { Took steps.old steps.new (labels_below steps.old.zone sought.now.name) 2 }
 {
-    match walk(sought, lead, apex, Cuts::End, steps) {
-        Way::Cut(node) => Found::Cut(node),
-        Way::Name(node) => Found::Records(node),
-        Way::Encloser(node) => match wildcard_below(or_apex(&node, &*apex), steps) {
-            Some(node) => Found::Records(Some(node)),
-            None => Found::Nothing,
-        },
+    let encloser = match walk(sought, lead, apex, Cuts::End, steps) {
+        Way::Cut(node) => return Found::Cut(node),
+        Way::Name(node) => return Found::Records(node),
+        Way::Encloser(node) => node,
+    };
+    // The wildcard below it (RFC 4592 2.1.1).
+    let Some(label) = Label::new(b"*") else {
+        unreachable!();
+    };
+    match or_apex(&encloser, &*apex).down(label, steps) {
+        Some(node) => Found::Records(Some(node)),
+        None => Found::Nothing,
     }
 }
 
@@ -73,22 +74,6 @@ pub(crate) fn or_apex<'a, 'z>(node: &'a Option<Node<'z>>, apex: &'a Node<'z>) ->
         Some(node) => node,
         None => apex,
     }
-}
-
-// The wildcard below a name (RFC 4592 2.1.1).
-fn wildcard_below<'z>(encloser: &Node<'z>, steps: &mut Steps<'z>) -> Option<Node<'z>>
-    requires zone { steps.old.zone ≡ encloser.now.zone }
-    requires room { HasRoom steps.old 1 }
-    ensures node { MatchOption result
-        (exists encloser.now.zone (asterisk ∷ encloser.now.name) ≡ false)
-        (λ n. (exists encloser.now.zone (asterisk ∷ encloser.now.name) ≡ true)
-        × (n ≡ record { zone = encloser.now.zone; name = asterisk ∷ encloser.now.name })) }
-    ensures took { TookChild steps.old steps.new (is_some result) }
-{
-    let Some(label) = Label::new(b"*") else {
-        return None;
-    };
-    encloser.down(label, steps)
 }
 
 /// Where the way down to a name begins: at a lead, where one is kept that the name is at or below,
@@ -131,38 +116,21 @@ pub(crate) fn walk<'z>(
     let octets = sought.name.octets();
     let mut starts = [0; MOST_LABELS];
     put_starts(octets, sought.depth, &mut starts);
-    let mut node = handed_out(lead, steps);
+    let mut node = match lead {
+        Some(lead) => Some(lead.node(steps)),
+        None => None,
+    };
     let mut before = sought.depth;
     'labels: while before > 0 {
         let label = label_after(octets, &starts, before - 1);
         let Some(child) = or_apex(&node, &*apex).down(label, steps) else {
             return Way::Encloser(node);
         };
-        if is_end(&child, cuts) {
+        if matches!(cuts, Cuts::End) && child.set(RType::NS).is_some() {
             return Way::Cut(child);
         }
         node = Some(child);
         before -= 1;
     }
     Way::Name(node)
-}
-
-// The node of a lead, if there is one.
-fn handed_out<'z>(lead: Option<Lead<'z>>, steps: &mut Steps<'z>) -> Option<Node<'z>>
-    requires { steps.old.visits < 4294967295 }
-    ensures node { result ≡ lead.entry }
-    ensures took { Took steps.old steps.new (one_if (is_some lead.entry)) 0 }
-{
-    Some(lead?.node(steps))
-}
-
-// Whether a way ends at a node since that is a cut.
-fn is_end(node: &Node<'_>, cuts: Cuts) -> bool
-    ensures { result ≡ (ends_at_cuts cuts
-        && is_some (set_of (rrset node.now.zone node.now.name type_ns))) }
-{
-    match cuts {
-        Cuts::End => node.set(RType::NS).is_some(),
-        Cuts::Pass => false,
-    }
 }

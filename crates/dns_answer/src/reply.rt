@@ -1,10 +1,10 @@
 //! The reply to a datagram (RFC 1034 4.3.2).
-ghost use Rattle.std.specs.Prelude.{◌≡◌, ◌↔◌, ◌*◌, ◌≤◌, length, take, false, IsTrue, IsNone, IfSome};
+ghost use Rattle.std.specs.Prelude.{◌≡◌, ◌↔◌, ◌*◌, ◌≤◌, length, take, IsTrue, IsNone, IfSome};
 ghost use Rattle.std.specs.Option.{option_map};
 ghost use Rattle.dns_spec.specs.Records.{ZoneContents};
 ghost use Rattle.dns_spec.specs.Reading.{Spells};
 ghost use Rattle.dns_spec.specs.Query.{is_ignored};
-ghost use Rattle.dns_spec.specs.Reply.{answered, decide, is_meta_type, reply, reply_message, octets_of};
+ghost use Rattle.dns_spec.specs.Reply.{answered, decide, reply, reply_message, octets_of};
 ghost use Rattle.dns_answer.specs.DraftForm.{blank};
 ghost use Rattle.dns_answer.specs.Limits.{limit_of};
 ghost use Rattle.dns_zone.specs.Starts.{IsBelow};
@@ -136,17 +136,11 @@ fn judge<'q>(question: &QuestionRef<'q>, origin: &Name) -> Result<Sought<'q>, Rc
     if question.qclass != CLASS_IN {
         return Err(Rcode::Refused);
     }
-    if is_meta_type(question.qtype) {
+    // A type that no record has: 0, OPT, and 128 to 254 (RFC 6895 3.1).
+    if matches!(question.qtype, 0 | 41 | 128..=254) {
         return Err(Rcode::NotImplemented);
     }
     Sought::below(&question.name, &origin.lent()).ok_or(Rcode::Refused)
-}
-
-// A type that no record has: 0, OPT, and 128 to 254 (RFC 6895 3.1).
-fn is_meta_type(qtype: u16) -> bool
-    ensures { result ≡ is_meta_type qtype }
-{
-    qtype == 0 || qtype == 41 || (128 <= qtype && qtype <= 254)
 }
 
 // Puts the answer to a question, whose name is sought.

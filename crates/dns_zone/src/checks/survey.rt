@@ -1,5 +1,5 @@
 //! A zone under check: its origin, its records in canonical order, and the names that are checked.
-ghost use Rattle.std.specs.Prelude.{◌≡◌, ◌≤◌, length, ◌==◌, ◌&&◌, ◌||◌, not, true, false};
+ghost use Rattle.std.specs.Prelude.{◌≡◌, ◌≤◌, length, ◌&&◌, true, false};
 ghost use Rattle.std.specs.Option.{option_map_or};
 ghost use Rattle.std.specs.List.Sorted.{IsNonDecreasingBy};
 ghost use Rattle.dns_spec.specs.Names.{folded, at_or_below};

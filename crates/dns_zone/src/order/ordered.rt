@@ -1,5 +1,5 @@
 //! Records in canonical order, each once.
-ghost use Rattle.std.specs.Prelude.{List, ◌≡◌, ◌<◌, ◌≤◌, All, length, take, true, IfOk, IfSome, IsSome};
+ghost use Rattle.std.specs.Prelude.{List, ◌≡◌, ◌≤◌, All, length, take, true, IfOk, IfSome, IsSome};
 ghost use Rattle.std.specs.Bool.{OnTrue, OnFalse};
 ghost use Rattle.std.specs.List.Sorted.{IsPermutation, IsSorted};
 ghost use Rattle.dns_spec.specs.Names.{folded, name_order};

@@ -1,10 +1,6 @@
 //! Where the way to the target of a record begins.
-ghost use Rattle.std.specs.Prelude.{◌≡◌, ◌==◌, ◌&&◌, IfOk};
-ghost use Rattle.std.specs.Option.{is_some};
-ghost use Rattle.dns_spec.specs.Data.{type_ns, type_cname};
-ghost use Rattle.dns_spec.specs.Records.{rrset};
-ghost use Rattle.dns_spec.specs.Sets.{set_of};
-ghost use Rattle.dns_zone.specs.NodeForm.{IsZoneTree, node_at, IsNodeAt, IsLeadAt, AreLeads};
+ghost use Rattle.std.specs.Prelude.{IfOk};
+ghost use Rattle.dns_zone.specs.NodeForm.{IsZoneTree, IsLeadAt, AreLeads};
 ghost use Rattle.dns_zone.specs.Starts.{IsBelow};
 
 use crate::checks::target::target;

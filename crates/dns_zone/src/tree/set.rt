@@ -3,7 +3,7 @@ ghost use Rattle.std.specs.Prelude.{◌≡◌, ◌<◌, [], length, get_or, IfSo
 ghost use Rattle.dns_spec.specs.Names.{folded};
 ghost use Rattle.dns_spec.specs.Data.{target};
 ghost use Rattle.dns_spec.specs.Sets.{set_of};
-ghost use Rattle.dns_zone.specs.SetForm.{AreOfType, data_of};
+ghost use Rattle.dns_zone.specs.SetForm.{AreOfType};
 
 use crate::checks::target::target;
 use crate::store::entry::Entry;

@@ -1,36 +1,36 @@
-use Rattle.dns_spec.proofs.Common.{true, false, [], sym, ap, ◌∙◌, subst, length, answer}
+use Rattle.dns_spec.proofs.Common.{rules, true, false, [], sym, ap, subst, length, answer}
 use Rattle.std.specs.List.{filter}
 use Rattle.dns_answer.specs.Ending.{all_names, asked_item}
 use Rattle.dns_answer.specs.Targets.{side_items, side_nodes}
 use Rattle.dns_answer.specs.Walks.{Took}
 use Rattle.dns_answer.proofs.Offering.{Offers-is}
 use Rattle.dns_answer.proofs.Endings.{Ends-positive, Offers-none}
-use Rattle.dns_answer.proofs.EndingSets.{is_target_type, targets_of_set}
+use Rattle.dns_answer.proofs.EndingSets.{targets_of_set}
 use Rattle.dns_answer.proofs.ending.end_with.Goals as goal
 
-pub returns-then-has_targets-clause-ends : goal.returns-then-has_targets-clause-ends
-returns-then-has_targets-clause-ends g c = λ n begun offers.
+pub returns-then-eq-clause-ends : goal.returns-then-eq-clause-ends
+returns-then-eq-clause-ends g c = λ n begun offers.
     let z = c.args.steps.now.zone in
     let set = c.args.set.now in
     let ts = targets_of_set answer n set.ttl set true
-    (ap is_target_type (sym c.rtype.ensures) ∙ sym c.if-has_targets.ensures) in
+    (search rules) in
     Ends-positive z (asked_item n set) offers
     (Offers-is _ _ _ _ (ap (side_items z all_names []) (sym ts)) c.offer_addresses.ensures.offers)
     c.ended-verdict.ensures
 
-pub returns-then-has_targets-clause-took : goal.returns-then-has_targets-clause-took
-returns-then-has_targets-clause-took g c = λ n.
+pub returns-then-eq-clause-took : goal.returns-then-eq-clause-took
+returns-then-eq-clause-took g c = λ n.
     let z = c.args.steps.now.zone in
     let set = c.args.set.now in
     let ts = targets_of_set answer n set.ttl set true
-    (ap is_target_type (sym c.rtype.ensures) ∙ sym c.if-has_targets.ensures) in
+    (search rules) in
     subst (λ ms. Took c.args.steps.now c.offer_addresses.new.steps (side_nodes z all_names ms)
     (length (filter all_names ms))) (sym ts) c.offer_addresses.ensures.took
 
-pub returns-else-has_targets-clause-ends : goal.returns-else-has_targets-clause-ends
-returns-else-has_targets-clause-ends g c = λ n begun offers.
+pub returns-else-eq-3-clause-ends : goal.returns-else-eq-3-clause-ends
+returns-else-eq-3-clause-ends g c = λ n begun offers.
     let set = c.args.set.now in
     Ends-positive c.args.steps.now.zone (asked_item n set) offers
     (Offers-none c.args.steps.now.zone _ (targets_of_set answer n set.ttl set false
-    (ap is_target_type (sym c.rtype.ensures) ∙ sym c.if-has_targets.ensures)))
+    (search rules)))
     c.ended-verdict.ensures

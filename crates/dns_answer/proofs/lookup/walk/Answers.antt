@@ -1,5 +1,6 @@
-use Rattle.dns_spec.proofs.Common.{◌-◌, length, refl, sym, ap, ◌∙◌, arith, false≢true, and_parts}
+use Rattle.dns_spec.proofs.Common.{rules, is_some, ◌+◌, ◌≡◌, true, ◌-◌, length, refl, ap, ◌∙◌, arith, false≢true}
 use Rattle.dns_name.proofs.WireLemmas.{IsWireForm-wire, labels_of_spelled}
+use Rattle.dns_answer.specs.Walks.{ends_at_cuts, one_if}
 use Rattle.dns_answer.proofs.WaySteps.{missing-child, cut-at_child, there-at_child}
 use Rattle.dns_answer.proofs.LongWays.{cut-whole, missing-whole, aim-deep, there-above, under-origin, label-before}
 use Rattle.dns_answer.proofs.lookup.walk.Goals as goal
@@ -15,15 +16,16 @@ put_starts-requires-clause-labels c =
 pub labels-init : goal.labels-init
 labels-init c =
     let aim = c.requires.aim in
-    let took = c.handed_out-node.ensures.took in
     let deep = aim-deep _ _ _ c.args.sought.now c.requires.apex c.args.lead aim in
+    let node : c.match-lead.node ≡ c.args.lead = search rules in
+    let visits : c.match-lead.steps.visits ≡ c.args.steps.now.visits + one_if (is_some c.args.lead) = search rules in
     record {
-      there = rw c.handed_out-node.ensures.node (there-above _ _ _ _ c.requires.apex c.args.lead aim);
+      there = rw node (there-above _ _ _ _ c.requires.apex c.args.lead aim);
       fewer = omega arith;
-      zone = took.zone;
-      from = took.from;
-      visits = omega (arith, took.visits, deep);
-      comparisons = omega (arith, took.comparisons);
+      zone = search rules;
+      from = omega (arith, visits);
+      visits = omega (arith, visits, deep);
+      comparisons = search rules;
     }
 
 pub label_after-label-requires-clause-inside : goal.label_after-label-requires-clause-inside
@@ -40,30 +42,30 @@ returns-in_default-clause-way c =
     (missing-child _ _ _ _ _ _ _ c.labels.invariant.there c.or_apex.ensures
     (λ there. false≢true (c.in_default.ensures.child.1 there))))
 
-pub returns-then-is_end-clause-way : goal.returns-then-is_end-clause-way
-returns-then-is_end-clause-way c =
+pub returns-then-is_some-clause-way : goal.returns-then-is_some-clause-way
+returns-then-is_some-clause-way c =
     let inv = c.labels.invariant in
     let octets = c.octets-octets.ensures in
     let label = label-before _ _ _ c.labels.before
     (labels_of_spelled _ _ octets.value octets.is_name) c.labels-test.true c.label_after-label.ensures in
-    let both = and_parts _ _ (sym c.is_end.ensures ∙ c.if-is_end.true) in (
-      both.0,
+    let ends : ends_at_cuts c.args.cuts ≡ true = search rules in (
+      ends,
       cut-whole _ (c.labels.before - 1) _ _ (rw label (cut-at_child _ _ _ _ _ _ _ _ inv.there
           (λ _. under-origin _ _ _ _ c.requires.apex c.args.lead c.requires.aim _ inv.fewer)
-          c.or_apex.ensures c.in-Some.ensures.node both.0 both.1)),
+          c.or_apex.ensures c.in-Some-down.ensures.node ends (search rules))),
     )
 
 pub labels-preserved : goal.labels-preserved
 labels-preserved c =
     let inv = c.labels.invariant in
-    let down = c.in-Some.ensures in
+    let down = c.in-Some-down.ensures in
     let octets = c.octets-octets.ensures in
     let label = label-before _ _ _ c.labels.before
     (labels_of_spelled _ _ octets.value octets.is_name) c.labels-test.true c.label_after-label.ensures in
     record {
       there = rw label (there-at_child _ _ _ _ _ _ _ _ inv.there
           (λ _. under-origin _ _ _ _ c.requires.apex c.args.lead c.requires.aim _ inv.fewer)
-          c.or_apex.ensures down.node (down.child.0 refl) (sym c.is_end.ensures ∙ c.if-is_end.false));
+          c.or_apex.ensures down.node (down.child.0 refl) (search rules));
       fewer = omega (arith, inv.fewer);
       zone = down.same_zone ∙ inv.zone;
       from = omega (arith, down.visits, inv.from);

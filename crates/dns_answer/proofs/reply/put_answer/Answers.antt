@@ -1,4 +1,4 @@
-use Rattle.dns_spec.proofs.Common.{rules, not, ◌&&◌, ◌≡◌, true, sym, ap, ◌∙◌, subst, arith, is_name, ZoneContents, MessageQuestion, All-nil, folded}
+use Rattle.dns_spec.proofs.Common.{rules, ◌≡◌, true, sym, ap, subst, arith, is_name, ZoneContents, MessageQuestion, All-nil, folded}
 use Rattle.dns_zone.specs.Starts.{IsBelow}
 use Rattle.dns_zone.specs.declared.tree.sought.Sought.{Sought}
 use Rattle.dns_answer.specs.Draft.{empty_draft}
@@ -38,13 +38,7 @@ returns-clause-reply g c =
     c.apex-apex.ensures.zone c.requires.asked
     (ap (λ (q : MessageQuestion). q.qtype) c.question.view_is)
     c.seek-followed_alias.ensures.seeks c.seek-followed_alias.ensures.followed
-    (elim c.if-verdict.branch [
-      | then-verdict w ↦
-          ap not (w.only_refers-is ∙ ap (λ b. b && not followed) (sym w.if-verdict.true))
-      | else-verdict w ↦
-          ap not
-          (w.only_refers-is ∙ w.if-verdict.false ∙ ap (λ b. b && not followed) (sym w.if-verdict.false))
-    ])
+    (search rules)
     c.reply-head.ensures in
     answer-put _ _ _ g.row.SIZE _ _ c.reply-head.result _ _ begun answers
     (λ d h. c.finish.ensures.length _ _ h.written) (λ d h. c.finish.ensures.octets _ _ h.written)
