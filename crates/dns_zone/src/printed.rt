@@ -131,11 +131,10 @@ fn turn_front(front: &mut TextBuffer, last: Option<&Entry>, entry: &Entry)
         ++ decimal entry.now.ttl) ++ codes " IN " }
     ensures short { length front.new ≤ 1035 }
 {
-    if let Some(last) = last
-        && last.ttl == entry.ttl
-        && last.owner() == entry.owner()
-    {
-        return;
+    if let Some(last) = last {
+        if last.ttl == entry.ttl && last.owner() == entry.owner() {
+            return;
+        }
     }
     let mut digits = Buffer::new();
     front.clear();

@@ -13,7 +13,7 @@ ghost use Rattle.dns_zone.specs.ZoneForm.{ReportsFaults};
 use crate::checks::faults;
 use crate::fault::BuildFault;
 use crate::kept::Kept;
-use crate::order::ordered::{Canonical, ordered};
+use crate::order::ordered::ordered;
 use crate::store::entry::Entry;
 use crate::zone::CheckedZone;
 use dns_master::{Gathers, ReadCode, ReadFault, Record, read_into};
@@ -112,7 +112,7 @@ impl Store {
     {
         let Store { entries, .. } = self;
         let origin = origin.fold();
-        let Canonical { records, keyed } = ordered(alloc, &origin.lent(), entries)?;
+        let (records, keyed) = ordered(alloc, &origin.lent(), entries)?;
         let found = faults(alloc, &origin.lent(), records.as_slice(), &keyed)?;
         drop(keyed);
         if !found.is_empty() {

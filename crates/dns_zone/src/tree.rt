@@ -39,21 +39,15 @@ pub(crate) struct Tree {
     pub(crate) leads: Kept<usize>,
 }
 
-/// Rows, and for each row the number of its first child; the children of the next row follow.
-#[derive(Drop)]
-pub(crate) struct Rows {
-    pub(crate) rows: Kept<Row>,
-    pub(crate) bounds: Kept<usize>,
-}
-
-/// The rows of all names of a zone. Memory is taken for 32 octets for each name.
+/// The rows of all names of a zone, and for each row the number of its first child; the children of
+/// the next row follow. Memory is taken for 32 octets for each name.
 pub(crate) fn rows_of(
     alloc: Global,
     origin: &NameRef<'_>,
     records: &[Entry],
-) -> Result<Rows, AllocError>
+) -> Result<(Kept<Row>, Kept<usize>), AllocError>
     requires { IsBuilt (record { origin = origin.now; records = records.now }) }
-    ensures { IfOk result (λ t. IsTree origin.now records.now t.rows t.bounds) }
+    ensures { IfOk result (λ (rows, bounds). IsTree origin.now records.now rows bounds) }
 {
     let mut rows = Vec::new(alloc);
     let mut bounds = Vec::new(alloc);
@@ -66,10 +60,7 @@ pub(crate) fn rows_of(
         add_kids(records, number, &mut rows)?;
         bounds.push(rows.len())?;
     }
-    Ok(Rows {
-        rows: Kept::new(rows),
-        bounds: Kept::new(bounds),
-    })
+    Ok((Kept::new(rows), Kept::new(bounds)))
 }
 
 // The row of the origin: all records of a zone are at or below it, and the first is its own.

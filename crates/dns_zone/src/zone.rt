@@ -13,7 +13,7 @@ use crate::kept::Kept;
 use crate::store::Store;
 use crate::store::entry::Entry;
 use crate::tree::leads::leads_of;
-use crate::tree::{Rows, Tree, rows_of};
+use crate::tree::{Tree, rows_of};
 use dns_master::Record;
 use dns_name::{Name, NameRef};
 use dns_rdata::{RType, Rdata};
@@ -113,7 +113,7 @@ impl Zone {
     pub fn of(alloc: Global, zone: CheckedZone) -> Result<Zone, AllocError>
         ensures { IfOk result (λ whole. whole ≡ zone) }
     {
-        let Rows { rows, bounds } = rows_of(alloc, &zone.origin().lent(), zone.records())?;
+        let (rows, bounds) = rows_of(alloc, &zone.origin().lent(), zone.records())?;
         let leads = Kept::new(Vec::new(alloc));
         let mut tree = Tree {
             zone,

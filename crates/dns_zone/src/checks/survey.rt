@@ -65,14 +65,6 @@ impl<'a> Survey<'a> {
         }
     }
 
-    /// The name at and below which the zone speaks.
-    pub(crate) fn origin(&self) -> &NameRef<'_>
-        ensures value { result.now ≡ self.now.origin }
-        ensures lower { folded result.now ≡ result.now }
-    {
-        self.origin
-    }
-
     /// The key of the origin.
     pub(crate) fn key(&self) -> &[u8]
         ensures value { result.now ≡ name_key self.now.origin }
@@ -182,7 +174,7 @@ impl<'a> Survey<'a> {
             && lacks_address self.now owner.now target.now) }
     {
         // A name outside of the zone mostly ends otherwise, and needs no key.
-        if !ends_alike(target, self.origin()) {
+        if !ends_alike(target, self.origin) {
             return (false, false);
         }
         last.move_to(target);

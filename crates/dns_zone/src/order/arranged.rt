@@ -85,27 +85,15 @@ fn runs(
     runs.sort_unstable_by(|one, other| front_order(one, other));
     let mut first = 0;
     'alike: while first < runs.len() {
-        let end = end_of_alike(runs.as_slice(), first);
+        let others = runs.as_slice()[first + 1..].iter();
+        let alike = others.take_while(|run| front_order(&runs[first], run).is_eq());
+        let end = first + 1 + alike.count();
         if end > first + 1 {
             sort_alike(keys, records, starts, runs.as_mut_slice(), first, end);
         }
         first = end;
     }
     Ok(runs)
-}
-
-// Where the runs end that have the front of the one at `first`.
-fn end_of_alike(runs: &[Run], first: usize) -> usize
-    requires { first < length runs.now }
-    ensures after { first < result }
-    ensures within { result ≤ length runs.now }
-{
-    let others = runs[first + 1..].iter();
-    first
-        + 1
-        + others
-            .take_while(|run| front_order(&runs[first], run).is_eq())
-            .count()
 }
 
 // Sorts runs whose fronts are alike: by the octets after those that all of their keys begin with,
@@ -233,14 +221,13 @@ fn sort_own(records: &[Entry], places: &mut [u32], first: usize)
     ensures count { length places.new ≡ length places.old }
 {
     let own = &mut places[first..];
-    own.sort_unstable_by(|one, other| order_at(records, *one, *other));
-}
-
-fn order_at(records: &[Entry], one: u32, other: u32) -> Ordering {
-    match (records.get(one as usize), records.get(other as usize)) {
+    own.sort_unstable_by(|one, other| match (
+        records.get(*one as usize),
+        records.get(*other as usize),
+    ) {
         (Some(one), Some(other)) => own_order(one, other),
         _ => Ordering::Equal,
-    }
+    });
 }
 
 // Moves to the place `first` the record that comes there, and on to the place which that leaves,

@@ -19,31 +19,24 @@ use dns_name::NameRef;
 use std::alloc::{AllocError, Global};
 use std::cmp::Ordering;
 
-/// Records in canonical order, each once, with the keys of their owners.
-#[derive(Drop)]
-pub(crate) struct Canonical {
-    pub(crate) records: Vec<Entry>,
-    pub(crate) keyed: Keyed,
-}
-
-/// The records, each once, in canonical order (RFC 4034 6.1, 6.3, RFC 2181 5). They mostly are once
-/// they are arranged, which one walk sees.
+/// The records, each once, in canonical order (RFC 4034 6.1, 6.3, RFC 2181 5), with the keys of
+/// their owners. They mostly are once they are arranged, which one walk sees.
 #[tactic(auto, using(crate::proofs::KeyOrder::some_octets))]
 pub(crate) fn ordered(
     alloc: Global,
     origin: &NameRef<'_>,
     mut records: Vec<Entry>,
-) -> Result<Canonical, AllocError>
+) -> Result<(Vec<Entry>, Keyed), AllocError>
     requires { length records.items ≤ most_records }
-    ensures records { IfOk result (λ kept. kept.records.items
+    ensures records { IfOk result (λ (kept, _). kept.items
         ≡ sort_by record_order (distinct records_equal records.items)) }
-    ensures in_order { IfOk result (λ kept. AreOrdered kept.records.items) }
-    ensures count { IfOk result (λ kept. length kept.records.items ≤ length records.items) }
-    ensures each { IfOk result (λ kept. All IsReadRecord kept.records.items) }
-    ensures origin { IfOk result (λ kept.
-        key_in kept.keyed.keys.items 0 origin.now ≡ name_key origin.now) }
-    ensures keyed { IfOk result (λ kept. AreKeyed kept.keyed.keys.items kept.records.items
-        kept.keyed.starts.items) }
+    ensures in_order { IfOk result (λ (kept, _). AreOrdered kept.items) }
+    ensures count { IfOk result (λ (kept, _). length kept.items ≤ length records.items) }
+    ensures each { IfOk result (λ (kept, _). All IsReadRecord kept.items) }
+    ensures origin { IfOk result (λ (_, keyed).
+        key_in keyed.keys.items 0 origin.now ≡ name_key origin.now) }
+    ensures keyed { IfOk result (λ (kept, keyed). AreKeyed keyed.keys.items kept.items
+        keyed.starts.items) }
 {
     let Keyed { keys, mut starts } = keys_of(alloc, &*origin, records.as_slice())?;
     arrange(
@@ -54,14 +47,12 @@ pub(crate) fn ordered(
         starts.as_mut_slice(),
     )?;
     if leave_out_duplicates(keys.as_slice(), &mut records, &mut starts) {
-        let keyed = Keyed { keys, starts };
-        return Ok(Canonical { records, keyed });
+        return Ok((records, Keyed { keys, starts }));
     }
     records.sort_unstable_by(|one, other| record_order(one, other));
     let Keyed { keys, mut starts } = keys_of(alloc, &*origin, records.as_slice())?;
     leave_out_duplicates(keys.as_slice(), &mut records, &mut starts);
-    let keyed = Keyed { keys, starts };
-    Ok(Canonical { records, keyed })
+    Ok((records, Keyed { keys, starts }))
 }
 
 // Leaves out each record that is equal to the one before. None is where one comes after the next,

@@ -25,23 +25,16 @@ pub(crate) fn leads_of(alloc: Global, tree: &Tree) -> Result<Vec<usize>, AllocEr
     let records = tree.zone.records();
     let mut leads = Vec::with_capacity(alloc, records.len())?;
     'records: for record in records {
-        leads.push(lead_of(tree, record))?;
+        let lead = match target(record) {
+            Some(name) => match Sought::below(&name, &tree.zone.origin().lent()) {
+                Some(sought) => last_on_way(tree, &sought, record.rtype),
+                None => 0,
+            },
+            None => 0,
+        };
+        leads.push(lead)?;
     }
     Ok(leads)
-}
-
-// The row of a record's lead, or 0.
-fn lead_of(tree: &Tree, entry: &Entry) -> usize
-    requires { IsZoneTree tree.now }
-    ensures { IsLeadAt tree.now.zone tree.now.rows entry.now.rtype result }
-{
-    match target(entry) {
-        Some(name) => match Sought::below(&name, &tree.zone.origin().lent()) {
-            Some(sought) => last_on_way(tree, &sought, entry.rtype),
-            None => 0,
-        },
-        None => 0,
-    }
 }
 
 // The row of the last name that exists on the way from the origin to a name, or 0 where that is the

@@ -16,7 +16,7 @@ pub returns-then-not-is_empty-clause-faults : goal.returns-then-not-is_empty-cla
 returns-then-not-is_empty-clause-faults c =
     let same =
     found_of_read c.args.origin.now c.fold-origin.result c.args.self
-    c.in_ok-records.field-0.records.items _ c.in_ok-found.found.items c.fold-origin.ensures
+    c.in_ok-records.records.items _ c.in_ok-found.found.items c.fold-origin.ensures
     (c.in_ok-records.ensures.records ∙ ap canonical c.self.view_is) c.as_slice.ensures.value (c.in_ok-found.ensures
     ∙ ap (λ (o : DomainName). faults (record { origin = o; records = c.as_slice.result.now }))
     c.lent-2.ensures.value) in (
@@ -38,11 +38,11 @@ invariant_of-result c =
     subst (λ (xs : List ResourceRecord). IsBuilt
     (record { origin = c.fold-origin.result; records = xs })) (sym c.new-records.ensures)
     (built c.args.origin.now c.fold-origin.result c.args.self
-    c.in_ok-records.field-0.records.items _ c.in_ok-found.found.items c.fold-origin.ensures
+    c.in_ok-records.records.items _ c.in_ok-found.found.items c.fold-origin.ensures
     (c.in_ok-records.ensures.records ∙ ap canonical c.self.view_is) c.as_slice.ensures.value (c.in_ok-found.ensures
     ∙ ap (λ (o : DomainName). faults (record { origin = o; records = c.as_slice.result.now }))
     c.lent-2.ensures.value) (omega (arith, c.in_ok-found.found.ok.0)) c.requires
-    (subst (λ rs. length c.in_ok-records.field-0.records.items ≤ length rs) c.self.view_is c.in_ok-records.ensures.count) c.in_ok-records.ensures.in_order c.in_ok-records.ensures.each)
+    (subst (λ rs. length c.in_ok-records.records.items ≤ length rs) c.self.view_is c.in_ok-records.ensures.count) c.in_ok-records.ensures.in_order c.in_ok-records.ensures.each)
 
 pub returns-clause-passes : goal.returns-clause-passes
 returns-clause-passes c =
@@ -51,7 +51,7 @@ returns-clause-passes c =
     in
     let none : length c.in_ok-found.found.items ≡ 0 = omega (arith, c.in_ok-found.found.ok.0) in
     sym (found_of_read c.args.origin.now c.fold-origin.result c.args.self
-    c.in_ok-records.field-0.records.items _ c.in_ok-found.found.items c.fold-origin.ensures
+    c.in_ok-records.records.items _ c.in_ok-found.found.items c.fold-origin.ensures
     (c.in_ok-records.ensures.records ∙ ap canonical c.self.view_is) c.as_slice.ensures.value (c.in_ok-found.ensures
     ∙ ap (λ (o : DomainName). faults (record { origin = o; records = c.as_slice.result.now }))
     c.lent-2.ensures.value))
