@@ -33,11 +33,11 @@ use std::alloc::{AllocError, Global};
 ///
 /// An error only where memory for the list of faults, for keys or for names was not found.
 #[tactic(auto, using(crate::proofs::KeyOrder::some_octets))]
-pub(crate) fn faults(
+pub(crate) fn faults<'a>(
     alloc: Global,
-    origin: &NameRef<'_>,
-    records: &[Entry],
-    keyed: &Keyed,
+    origin: &'a NameRef<'a>,
+    records: &'a [Entry],
+    keyed: &'a Keyed,
 ) -> Result<Vec<CheckFault>, AllocError>
     requires ordered { AreOrdered records.now }
     requires few { length records.now ≤ most_records }
@@ -50,7 +50,12 @@ pub(crate) fn faults(
     let (key, _) = keyed.keys.as_slice().split_at(origin.octets().len() - 1);
     let names = checked_names(alloc, origin, key, records, keyed)?;
     let shared = shared_octets(alloc, names.as_slice(), keyed.keys.len())?;
-    let survey = Survey::new(origin, key, records, names.as_slice());
+    let survey = Survey {
+        origin,
+        key,
+        records,
+        names: names.as_slice(),
+    };
     let mut found = Vec::new(alloc);
     let mut last = LastTarget::new(shared.as_slice());
     'names: for one in names.as_slice() {

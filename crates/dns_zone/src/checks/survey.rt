@@ -8,7 +8,7 @@ ghost use Rattle.dns_spec.specs.Data.{type_cname, target};
 ghost use Rattle.dns_spec.specs.Tree.{is_cut};
 ghost use Rattle.dns_spec.specs.Checks.{at_or_below_cut, lacks_address, has_address};
 ghost use Rattle.dns_zone.specs.KeyForm.{name_key};
-ghost use Rattle.dns_zone.specs.NamesForm.{own_in, name_of, AreChecked, IsLastUpto};
+ghost use Rattle.dns_zone.specs.NamesForm.{own_in, name_of, IsLastUpto};
 
 use crate::checks::above::{ends_alike, is_at_or_below};
 use crate::checks::names::{CheckedName, count_upto, is_covered};
@@ -23,11 +23,11 @@ use std::marker::Model;
 /// The zone of an origin and of records in canonical order, whose checks are asked for.
 #[derive(Drop)]
 pub(crate) struct Survey<'a> {
-    origin: &'a NameRef<'a>,
-    // The key of the origin.
-    key: &'a [u8],
-    records: &'a [Entry],
-    names: &'a [CheckedName<'a>],
+    pub(crate) origin: &'a NameRef<'a>,
+    /// The key of the origin.
+    pub(crate) key: &'a [u8],
+    pub(crate) records: &'a [Entry],
+    pub(crate) names: &'a [CheckedName<'a>],
 }
 
 impl<'a> Model for Survey<'a> {
@@ -43,28 +43,6 @@ impl<'a> Model for Survey<'a> {
 }
 
 impl<'a> Survey<'a> {
-    /// The zone of an origin in lower case, with its key, and of records, with the names that are
-    /// checked.
-    pub(crate) fn new(
-        origin: &'a NameRef<'a>,
-        key: &'a [u8],
-        records: &'a [Entry],
-        names: &'a [CheckedName<'a>],
-    ) -> Survey<'a>
-        requires key { key.now ≡ name_key origin.now }
-        requires lower { folded origin.now ≡ origin.now }
-        requires names { AreChecked (record { origin = origin.now; records = records.now })
-            names.now }
-        ensures { result ≡ record { origin = origin.now; records = records.now } }
-    {
-        Survey {
-            origin,
-            key,
-            records,
-            names,
-        }
-    }
-
     /// The key of the origin.
     pub(crate) fn key(&self) -> &[u8]
         ensures value { result.now ≡ name_key self.now.origin }

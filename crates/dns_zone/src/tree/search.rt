@@ -63,7 +63,7 @@ fn order(records: &[Entry], row: &Row, key: u64, label: &[u8], steps: &mut Steps
         (map to_ascii_lowercase label.now) }
     ensures counted { steps.new ≡ record steps.old { comparisons = steps.old.comparisons + 1 } }
 {
-    steps.count_comparison();
+    steps.comparisons += 1;
     if row.key != key {
         return row.key.cmp(&key);
     }

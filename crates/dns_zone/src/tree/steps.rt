@@ -20,7 +20,7 @@ use std::marker::Model;
 pub struct Steps<'z> {
     tree: &'z Tree,
     visits: u32,
-    comparisons: u32,
+    pub(crate) comparisons: u32,
 }
 
 impl<'z> Model for Steps<'z> {
@@ -104,13 +104,5 @@ impl<'z> Steps<'z> {
         ensures { self.new ≡ record self.old { visits = self.old.visits + 1 } }
     {
         self.visits += 1;
-    }
-
-    // Counts a comparison of labels.
-    pub(crate) fn count_comparison(&mut self)
-        requires { self.old.comparisons < 4294967295 }
-        ensures { self.new ≡ record self.old { comparisons = self.old.comparisons + 1 } }
-    {
-        self.comparisons += 1;
     }
 }

@@ -25,7 +25,6 @@ returns c =
     let z : ZoneContents = record { origin = c.args.origin.now; records = c.args.records.now } in
     let items = c.as_slice-one-items.result.now in
     c.names.invariant
-    ∙ ap (reported c.new-survey.result)
+    ∙ ap (reported z)
     (take_all c.names.one-index items c.names-test.false ∙ c.as_slice-one-items.ensures.value)
-    ∙ ap (λ (y : ZoneContents). reported y c.in_ok-names.names.items) c.new-survey.ensures
     ∙ ap (flat_map (reported_at z)) c.in_ok-names.ensures.all
