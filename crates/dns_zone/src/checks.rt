@@ -77,8 +77,15 @@ fn report<'a>(
         ++ reported_at survey.now (name_of survey.now one.now)) }
 {
     let name = survey.name(one);
-    let failed = Owner::new(survey, &name, one).judged(last);
-    add_failed(&name, &failed, found)
+    let owner = Owner {
+        survey,
+        name: &name,
+        key: one.key,
+        own: survey.own(one),
+        is_below_cut: 0 < one.cut && one.cut < one.key.len(),
+        stands_first: one.key == survey.key(),
+    };
+    add_failed(&name, &owner.judged(last), found)
 }
 
 // Adds the faults of a name that fails these of the checks from the first on.

@@ -6,10 +6,8 @@ ghost use Rattle.dns_spec.specs.Tree.{is_cut};
 ghost use Rattle.dns_spec.specs.Checks.{is_origin, count, owns_such, is_address_type, below_cut, checks, ttls_differ, ns_target_alias, ns_target_lost, mx_target_alias, data_at_cut, large_set, many_sets};
 ghost use Rattle.dns_spec.specs.Data.{type_ns, type_cname};
 ghost use Rattle.dns_zone.specs.OwnerForm.{is_server_alias, is_server_lost, is_exchange_alias};
-ghost use Rattle.dns_zone.specs.NamesForm.{IsChecked};
 ghost use Rattle.dns_zone.specs.SetWalks.{sets_ended};
 
-use crate::checks::names::CheckedName;
 use crate::checks::survey::Survey;
 use crate::checks::target::LastTarget;
 use crate::order::key::{is_below, is_under};
@@ -28,13 +26,13 @@ const MOST_SETS: usize = 32;
 /// A name of a zone, with its records.
 #[derive(Drop)]
 pub(crate) struct Owner<'a> {
-    survey: &'a Survey<'a>,
-    name: &'a NameRef<'a>,
-    key: &'a [u8],
-    own: &'a [Entry],
-    is_below_cut: bool,
-    // Whether the name is the zone's origin.
-    stands_first: bool,
+    pub(crate) survey: &'a Survey<'a>,
+    pub(crate) name: &'a NameRef<'a>,
+    pub(crate) key: &'a [u8],
+    pub(crate) own: &'a [Entry],
+    pub(crate) is_below_cut: bool,
+    /// Whether the name is the zone's origin.
+    pub(crate) stands_first: bool,
 }
 
 impl<'a> Model for Owner<'a> {
@@ -54,25 +52,6 @@ impl<'a> Model for Owner<'a> {
 }
 
 impl<'a> Owner<'a> {
-    /// A name of a zone.
-    pub(crate) fn new(
-        survey: &'a Survey<'a>,
-        name: &'a NameRef<'a>,
-        one: &CheckedName<'a>,
-    ) -> Owner<'a>
-        requires { IsChecked survey.now name.now one.now }
-        ensures { result ≡ record { zone = survey.now; name = name.now } }
-    {
-        Owner {
-            survey,
-            name,
-            key: one.key,
-            own: survey.own(one),
-            is_below_cut: 0 < one.cut && one.cut < one.key.len(),
-            stands_first: one.key == survey.key(),
-        }
-    }
-
     /// Which checks the name fails, by their codes (RFC 1034 3.6.2, 4.2; RFC 1035 5.2; RFC 2181 5.2,
     /// 10; RFC 4592 4.2).
     pub(crate) fn judged(&self, last: &mut LastTarget<'_>) -> [bool; 15]
