@@ -51,7 +51,16 @@ pub(crate) fn rows_of(
 {
     let mut rows = Vec::new(alloc);
     let mut bounds = Vec::new(alloc);
-    rows.push(origin_row(origin, records))?;
+    let label = first_octets(origin);
+    // All records of a zone are at or below the origin, and the first is its own.
+    rows.push(Row {
+        first: 0,
+        own_end: count_in_front(records, origin) as u32,
+        end: records.len() as u32,
+        place: 0,
+        label_octets: label.len() as u8,
+        key: label_key(label),
+    })?;
     bounds.push(1)?;
     'rows: for number in 0..usize::MAX {
         if number == rows.len() {
@@ -61,22 +70,6 @@ pub(crate) fn rows_of(
         bounds.push(rows.len())?;
     }
     Ok((Kept::new(rows), Kept::new(bounds)))
-}
-
-// The row of the origin: all records of a zone are at or below it, and the first is its own.
-fn origin_row(origin: &NameRef<'_>, records: &[Entry]) -> Row
-    requires { IsBuilt (record { origin = origin.now; records = records.now }) }
-    ensures { IsRow records.now result origin.now }
-{
-    let label = first_octets(origin);
-    Row {
-        first: 0,
-        own_end: count_in_front(records, origin) as u32,
-        end: records.len() as u32,
-        place: 0,
-        label_octets: label.len() as u8,
-        key: label_key(label),
-    }
 }
 
 // Adds the rows of a row's children after all rows.
