@@ -1,4 +1,4 @@
-use Rattle.std.proofs.Common.{rules, length, ap, arith, eq-eqb}
+use Rattle.std.proofs.Common.{rules, length, ap, arith}
 use Rattle.dns_name.proofs.WireLemmas.{IsWireForm-wire, labels_of_spelled}
 use Rattle.dns_zone.specs.Nodes.{ZoneNode}
 use Rattle.dns_zone.proofs.LeadRows.{begins, goes_on, lead_is}
@@ -43,10 +43,7 @@ labels-preserved c =
     record {
       way = goes_on t c.args.rtype.0 c.labels.row.0 kid c.label_after-label.result way
           c.in-Some.ensures.at (ap (λ (v : ZoneNode). v.name) c.in-Some.ensures.node)
-          (λ alias. elim c.else-eq.branch [
-            | else-eq-via-then-eq+else-is_some w ↦ search rules
-            | else-eq-via-else-eq w ↦ grind (arith, eq-eqb)
-          ]);
+          (λ alias. search rules);
       fewer = omega (arith, c.labels.invariant.fewer);
     }
 
