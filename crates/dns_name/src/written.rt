@@ -35,9 +35,9 @@ impl Name {
         requires { sink.old.failures < 2 ^ 64 - 1 }
         ensures { Writes W.contents sink.old sink.new result (bare_name_text self.now) }
     {
-        let mut bare = TextBuffer::new();
-        self.lent().append_text(&mut bare);
-        if self.label_count() > 0 {
+        let (name, mut bare) = (self.lent(), TextBuffer::new());
+        name.append_text(&mut bare);
+        if name.label_count() > 0 {
             bare.pop();
         }
         bare.finish(sink)
