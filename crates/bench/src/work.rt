@@ -12,20 +12,19 @@ use std::fs;
 use std::rt::Files;
 
 /// Does the work of a line so often, and gives how many octets it has: those of the data that
-/// `read TYPE WORDS` reads or `write TYPE WORDS` writes, those of the name of `name NAME`, those of
-/// the reply to `udp FILE NAME TYPE` or `tcp FILE NAME TYPE` over the zone of a file.
+/// `read TYPE WORDS` reads or `write TYPE WORDS` writes, those of the reply to `udp FILE NAME TYPE`
+/// or `tcp FILE NAME TYPE` over the zone of a file.
 pub(crate) fn octets_of_work<R: Files + AllocGlobal>(
     rt: &R,
     line: &str,
     rounds: u32,
 ) -> Result<usize, FaultWord> {
     let alloc = rt.alloc();
-    let (work, of) = halves(line);
-    let (first, others) = halves(of);
+    let (work, others) = halves(line);
+    let (first, others) = halves(others);
     match work {
         "read" => read_data(alloc, first, others, rounds),
         "write" => write_data(alloc, first, others, rounds),
-        "name" => write_name(alloc, of, rounds),
         "udp" => answer_udp(&zone_of(rt, first)?, &query(alloc, others)?, rounds),
         "tcp" => answer_tcp(alloc, &zone_of(rt, first)?, &query(alloc, others)?, rounds),
         _ => Err(FaultWord::Usage),
@@ -84,19 +83,6 @@ fn write_data(alloc: Global, rtype: &str, text: &str, rounds: u32) -> Result<usi
     Ok(rdata.octets().len())
 }
 
-fn write_name(alloc: Global, name: &str, rounds: u32) -> Result<usize, FaultWord> {
-    let name = Name::read_text(name.as_bytes(), &Name::root())?;
-    let mut room = Vec::new(alloc);
-    for _ in 0..rounds {
-        room.truncate(0);
-        let mut sink = Tally::new(room);
-        let written = name.write_text(&mut sink);
-        room = sink.into_inner();
-        written.map_err(|_| FaultWord::SinkFailed)?;
-    }
-    Ok(name.octets().len())
-}
-
 // The zone `example.` of a file.
 fn zone_of<R: Files + AllocGlobal>(rt: &R, path: &str) -> Result<Zone, FaultWord> {
     let origin = Name::read_text(b"example.", &Name::root())?;
@@ -105,7 +91,6 @@ fn zone_of<R: Files + AllocGlobal>(rt: &R, path: &str) -> Result<Zone, FaultWord
     zone.map_err(|_| FaultWord::SourceFailed)
 }
 
-// The query for a name and a type.
 fn query(alloc: Global, question: &str) -> Result<Vec<u8>, FaultWord> {
     let (name, rtype) = halves(question);
     let name = Name::read_text(name.as_bytes(), &Name::root())?;

@@ -30,7 +30,6 @@ pub(crate) enum Side<'c, 'n> {
 }
 
 impl Side<'_, '_> {
-    // Whether the target is meant.
     fn takes(self, target: &NameRef<'_>) -> bool
         ensures { result ≡ side_takes self.entry target.now }
     {

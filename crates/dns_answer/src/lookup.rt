@@ -66,7 +66,6 @@ pub(crate) fn look_up<'z>(
     }
 }
 
-/// The node, or the apex.
 pub(crate) fn or_apex<'a, 'z>(node: &'a Option<Node<'z>>, apex: &'a Node<'z>) -> &'a Node<'z>
     ensures { result.now ≡ node_or apex.now node.now }
 {

@@ -143,7 +143,6 @@ fn judge<'q>(question: &QuestionRef<'q>, origin: &Name) -> Result<Sought<'q>, Rc
     Sought::below(&question.name, &origin.lent()).ok_or(Rcode::Refused)
 }
 
-// Puts the answer to a question, whose name is sought.
 fn put_answer<'q, 'z: 'q, const N: usize, const SIZE: usize>(
     steps: &mut Steps<'z>,
     head: &Head,

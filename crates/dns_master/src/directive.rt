@@ -28,7 +28,6 @@ pub(crate) fn read_default_ttl(words: EntryWords<'_, '_>) -> Option<u32>
     only_word(words).and_then(|word| read_ttl(&word))
 }
 
-// The word of a list of one.
 fn only_word<'w>(words: EntryWords<'_, 'w>) -> Option<Word<'w>>
     ensures { OneWordIs result (words_left words.entry) }
 {

@@ -59,7 +59,6 @@ impl<'k, 'w> Words<'w> for EntryWords<'k, 'w> {
     }
 }
 
-/// The word that a token is, if it is one.
 pub(crate) fn word_of(token: Token<'_>) -> Option<Word<'_>>
     ensures { result ≡ word_of (shown_token token.entry) }
 {

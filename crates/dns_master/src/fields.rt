@@ -35,7 +35,6 @@ impl<'a, 'w> Model for Fields<'a, 'w> {
 }
 
 impl<'a, 'w> Fields<'a, 'w> {
-    /// The fields of the words after the owner.
     pub(crate) fn of(words: EntryWords<'a, 'w>) -> Fields<'a, 'w>
         ensures { result ≡ fields (words_left words.entry) }
     {
@@ -111,7 +110,6 @@ pub(crate) fn stated_ttl(stated: Option<&Word<'_>>) -> Result<Option<u32>, ReadC
     }
 }
 
-/// Whether a class is stated that is not IN.
 pub(crate) fn is_other_class(stated: Option<&Word<'_>>) -> bool
     ensures { result ≡ is_other_class (option_copied stated.entry) }
 {

@@ -31,7 +31,6 @@ pub(crate) struct Begun {
 }
 
 impl Begun {
-    /// Nothing was read so far.
     pub(crate) fn new(alloc: Global, origin: &Name) -> Begun
         ensures known { Knows origin.now [] result.reader }
         ensures line { result.reader.line ≡ 1 }

@@ -182,7 +182,6 @@ impl Reader {
         Ok(true)
     }
 
-    // Takes a directive: its name, and the words after it.
     fn take_directive(&mut self, name: &[u8], words: EntryWords<'_, '_>) -> Result<(), ReadCode>
         ensures ok { OnOk result (TakesEntry self.old
             (directive (text_in_lower_case name.now) (words_left words.entry)) [] self.new) }
@@ -230,7 +229,6 @@ impl Reader {
         Ok(())
     }
 
-    // What the fields after the last owner say.
     fn read_body(
         &self,
         fields: &Fields<'_, '_>,

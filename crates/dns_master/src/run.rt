@@ -135,7 +135,6 @@ pub(crate) fn after_run(text: &[u8]) -> &[u8]
     rest
 }
 
-/// A space or a tab.
 pub(crate) fn is_blank(octet: u8) -> bool
     ensures { result ≡ is_blank octet }
 {
@@ -152,7 +151,6 @@ pub(crate) fn after_comment(text: &[u8]) -> &[u8]
     }
 }
 
-// Where the first LF stands.
 fn line_feed_place(text: &[u8]) -> Option<usize>
     ensures { result ≡ position (λ x. x == 10) text.now }
 {

@@ -61,7 +61,6 @@ impl<'a> NameRef<'a> {
         self.octets
     }
 
-    // How many labels there are, without the root.
     pub(crate) fn label_count(&self) -> usize
         ensures { result ≡ length self.now }
     {
@@ -153,7 +152,6 @@ impl NameRef<'_> {
         )
     }
 
-    // The labels without the first `extra` ones.
     fn without_first(&self, extra: usize) -> Labels<'_>
         ensures { result ≡ drop extra self.now }
     {

@@ -173,7 +173,6 @@ impl Name {
         own.lent().order_as_spelled(&others.lent())
     }
 
-    // The name whose wire form the octets are.
     pub(crate) fn from_octets(octets: &[u8]) -> Name
         requires { IsWireForm octets.now }
         ensures value { result ≡ labels_of octets.now }

@@ -74,7 +74,6 @@ impl NameRef<'_> {
     }
 }
 
-// Appends what is written for a label, without its dot.
 fn append_label(text: &mut TextBuffer, label: &[u8])
     requires { length text.old + 4 * length label.now ≤ 4096 }
     ensures { text.new ≡ text.old ++ label_text label.now }

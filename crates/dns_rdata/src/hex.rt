@@ -25,7 +25,6 @@ pub(crate) fn append_hex(text: &[u8], octets: &mut Vec<u8>) -> Result<bool, Allo
     Ok(true)
 }
 
-/// The two hex digits of an octet, in lower case.
 pub(crate) fn hex_digits(octet: u8) -> [u8; 2]
     ensures { result ≡ digit_char (octet / 16) ∷ digit_char (octet % 16) ∷ [] }
 {
@@ -53,7 +52,6 @@ fn first_pair(text: &[u8]) -> Option<(u8, &[u8])>
     Some((octet, rest))
 }
 
-// The value of a hex digit of either case.
 pub(crate) fn digit_value(digit: u8) -> Option<u8>
     ensures value { result ≡ digit_of digit }
     ensures bound { IfSome result (λ value. value < 16) }

@@ -92,7 +92,6 @@ fn first_number(text: &[u8]) -> Option<(u8, &[u8])>
     Some((number, end))
 }
 
-// Where the first such octet stands.
 pub(crate) fn place_of(text: &[u8], wanted: u8) -> Option<usize>
     ensures { result ≡ position (λ octet. octet == wanted) text.now }
 {

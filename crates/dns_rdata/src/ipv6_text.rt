@@ -34,7 +34,6 @@ pub(crate) fn text_of_ipv6(address: &[u8; 16]) -> ArrayVec<u8, MOST_IPV6_OCTETS>
     text
 }
 
-// The groups of an address, each of two octets.
 fn groups_of_octets(address: &[u8; 16]) -> [u16; 8]
     ensures { result ≡ groups_of address.now }
 {
@@ -75,14 +74,12 @@ fn longest_zero_run(groups: &[u16]) -> (usize, usize)
     (place, longest)
 }
 
-// How many zero groups stand in front.
 fn zero_run(groups: &[u16]) -> usize
     ensures { result ≡ prefix_len (λ n. n == 0) groups.now }
 {
     groups.iter().take_while(|group| **group == 0).count()
 }
 
-// Adds groups with colons between.
 fn push_groups(text: &mut ArrayVec<u8, MOST_IPV6_OCTETS>, groups: &[u16])
     requires { length text.old.items + 5 * length groups.now ≤ 40 }
     ensures text { text.new.items ≡ text.old.items ++ groups_text groups.now }
@@ -98,7 +95,6 @@ fn push_groups(text: &mut ArrayVec<u8, MOST_IPV6_OCTETS>, groups: &[u16])
     }
 }
 
-// Adds the digits of a group.
 fn push_group(text: &mut ArrayVec<u8, MOST_IPV6_OCTETS>, group: u16)
     requires { length text.old.items + 4 ≤ 39 }
     ensures text { text.new.items ≡ text.old.items ++ digits 16 false group }

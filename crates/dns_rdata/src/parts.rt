@@ -43,7 +43,6 @@ impl<'a> Model for Parts<'a> {
 }
 
 impl<'a> Parts<'a> {
-    /// The parts of data of the type.
     pub(crate) fn new(rtype: RType, octets: &'a [u8]) -> Parts<'a>
         requires { Valid rtype.0 octets.now }
         ensures parts { result ≡ parts rtype.0 octets.now }
@@ -73,7 +72,6 @@ impl<'a> Iterator for Parts<'a> {
     }
 }
 
-// Whether octets are cut into these pieces.
 pub(crate) fn are_cut(pieces: &[Piece], octets: &[u8]) -> bool
     ensures { result ≡ is_some (cut (pieces_in pieces.now) octets.now) }
 {

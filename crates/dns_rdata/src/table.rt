@@ -130,7 +130,6 @@ pub(crate) fn types() -> &'static [TypeRow]
     &TYPES
 }
 
-/// The row of a type, if it has a name.
 pub(crate) fn row_of_type(rtype: RType) -> Option<&'static TypeRow>
     ensures { option_map (λ r. row_for r.now) result ≡ row_of rtype.0 }
 {

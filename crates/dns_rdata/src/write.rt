@@ -170,7 +170,6 @@ fn put_unknown<W: Write>(
     Ok(())
 }
 
-// Two hex digits an octet.
 fn append_hex_text(octets: &[u8], text: &mut TextBuffer)
     requires { length text.old + 2 * length octets.now ≤ 4096 }
     ensures { text.new ≡ text.old ++ hex_text octets.now }
@@ -180,7 +179,6 @@ fn append_hex_text(octets: &[u8], text: &mut TextBuffer)
     }
 }
 
-// So many numbers.
 fn append_numbers<'a>(
     count: u8,
     size: NumberSize,

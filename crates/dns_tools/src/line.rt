@@ -40,7 +40,6 @@ impl Line {
     ghost use Rattle.dns_tools.specs.KeptLine.{no_line, kept_message, KeepsOctet};
     ghost use Rattle.dns_tools.specs.FirstLine.{IsFront, KeepsFirst, HasReadFront, ReadsFirst};
 
-    /// A line that has not begun.
     pub(crate) fn new(alloc: Global) -> Result<Line, AllocError>
         ensures { IfOk result (λ line. line ≡ no_line) }
     {

@@ -173,8 +173,7 @@ impl Connections {
     }
 }
 
-// A sink that keeps what it is given until it is full or flushed, or keeps nothing where there is no
-// memory.
+// A sink that keeps what it is given, or keeps nothing where there is no memory.
 fn buffered_sink<S: Write + Copy + Drop>(alloc: Global, sink: S) -> io::Result<BufWriter<S>> {
     match BufWriter::new(alloc, sink) {
         Ok(buffered) => Ok(buffered),

@@ -335,7 +335,6 @@ fn extend<const SIZE: usize>(octets: &mut ArrayVec<u8, SIZE>, more: &[u8])
     }
 }
 
-// Counts so many records more in a section.
 fn count_records(counts: &mut Counts, section: Section, count: u16)
     requires { counts.old.answers + counts.old.authorities + counts.old.additionals + count
         < 2 ^ 16 }

@@ -58,7 +58,6 @@ impl<const N: usize> Places<N> {
         }
     }
 
-    /// How many places are kept.
     pub(crate) fn len(&self) -> usize
         ensures value { result ≡ length self.now }
         ensures fits { result ≤ N }

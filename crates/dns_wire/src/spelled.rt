@@ -115,7 +115,6 @@ fn are_spelled(message: &[u8], at: usize, suffix: &[u8]) -> bool
     }
 }
 
-// Whether a message has these octets from a place on.
 fn has_at(message: &[u8], at: usize, octets: &[u8]) -> bool
     ensures { IsTrue result → HasAt message.now at octets.now }
 {

@@ -65,7 +65,6 @@ pub(crate) fn faults<'a>(
     Ok(found)
 }
 
-// Adds the faults of a name that is checked.
 fn report<'a>(
     survey: &'a Survey<'a>,
     one: &'a CheckedName<'a>,

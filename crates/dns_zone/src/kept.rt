@@ -18,14 +18,12 @@ impl<T> Model for Kept<T> {
 }
 
 impl<T> Kept<T> {
-    /// Keeps the list.
     pub(crate) fn new(items: Vec<T>) -> Kept<T>
         ensures { result ≡ items.items }
     {
         Kept { items }
     }
 
-    /// The list.
     pub(crate) fn lent(&self) -> &[T]
         ensures { result.now ≡ self.now }
     {

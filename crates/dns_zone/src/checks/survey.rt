@@ -51,7 +51,6 @@ impl<'a> Survey<'a> {
         self.key
     }
 
-    /// The records of a name that is checked.
     pub(crate) fn own(&self, one: &CheckedName<'_>) -> &'a [Entry]
         requires rising { one.now.first ≤ one.now.end }
         requires within { one.now.end ≤ length self.now.records }

@@ -63,7 +63,6 @@ impl<'a> LastTarget<'a> {
         }
     }
 
-    /// Goes on to another target.
     pub(crate) fn move_to(&mut self, name: &NameRef<'_>)
         ensures { self.new ≡ name.now }
     {
@@ -75,7 +74,6 @@ impl<'a> LastTarget<'a> {
         self.place = None;
     }
 
-    /// Its key.
     pub(crate) fn key(&self) -> &[u8]
         ensures { result.now ≡ name_key self.now }
     {
@@ -99,7 +97,6 @@ impl<'a> LastTarget<'a> {
         }
     }
 
-    /// Keeps where it was found.
     pub(crate) fn keep_place(&mut self, place: usize)
         ensures { self.new ≡ self.old }
     {

@@ -125,7 +125,6 @@ fn sort_alike(
     alike.sort_unstable_by(|one, other| run_order(keys, records, starts, one, other));
 }
 
-// The octets that both begin with.
 fn common_front<'a>(one: &'a [u8], other: &[u8]) -> &'a [u8] {
     if other.starts_with(one) {
         return one;
@@ -173,7 +172,6 @@ fn run_order(keys: &[u8], records: &[Entry], starts: &[u32], one: &Run, other: &
     )))
 }
 
-// The key of a run's owner.
 fn key_of<'a>(keys: &'a [u8], records: &[Entry], starts: &[u32], run: &Run) -> &'a [u8] {
     match (starts.get(run.at as usize), records.get(run.at as usize)) {
         (Some(start), Some(first)) => key_at(keys, *start, first),

@@ -19,7 +19,6 @@ pub(crate) struct Keyed {
     pub(crate) starts: Vec<u32>,
 }
 
-/// The keys of an origin and of the owners of records.
 #[tactic(auto, using(crate::proofs::SearchSteps::wire_steps))]
 pub(crate) fn keys_of<'a>(
     alloc: Global,

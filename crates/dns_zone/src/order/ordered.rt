@@ -104,7 +104,6 @@ fn once_in_front(keys: &[u8], records: &mut [Entry], starts: &mut [u32]) -> Opti
     Some(last + 1)
 }
 
-// The order of two records.
 fn order(keys: &[u8], one: &Entry, start: u32, next: &Entry, after: u32) -> Ordering
     requires one { key_in keys.now start one.now.owner ≡ name_key one.now.owner }
     requires next { key_in keys.now after next.now.owner ≡ name_key next.now.owner }

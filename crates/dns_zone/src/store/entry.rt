@@ -68,7 +68,6 @@ impl Entry {
         NameRef::new(self.octets.as_slice().split_at(count).0)
     }
 
-    /// Its data.
     pub(crate) fn rdata(&self) -> &[u8]
         ensures value { result.now ≡ self.now.rdata }
         ensures valid { Valid self.now.rtype self.now.rdata }

@@ -77,7 +77,6 @@ impl<'z> Lead<'z> {
 }
 
 impl<'z> Node<'z> {
-    // The node of a row.
     pub(crate) fn at(tree: &'z Tree, row: RowNumber) -> Node<'z>
         requires { IsNodeAt tree.now row.0 }
         ensures { result ≡ node_at tree.now row.0 }

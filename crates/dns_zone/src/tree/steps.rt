@@ -98,7 +98,6 @@ impl<'z> Steps<'z> {
         Node::at(self.tree, RowNumber(0))
     }
 
-    // Counts a node that is handed out.
     pub(crate) fn count_visit(&mut self)
         requires { self.old.visits < 4294967295 }
         ensures { self.new ≡ record self.old { visits = self.old.visits + 1 } }
