@@ -1,13 +1,12 @@
 -- What a reader learns here: how the tokens of an entry are read from left to right, by the cases
 -- of the code, and what a text means from one of its entries on.
-use Rattle.std.specs.Prelude.{◌≡◌, ℕ, ◌⊎◌, Option, Bool, true, false, List, [], ◌∷◌, length, if◌then◌else◌, Some, None, Result, Ok, Err}
+use Rattle.std.specs.Prelude.{◌≡◌, ℕ, ◌⊎◌, Option, Bool, true, false, List, [], ◌∷◌, length, if◌then◌else◌, Some, None}
 use Rattle.std.specs.List.{filter, filter_map}
 use Rattle.std.specs.Option.{unwrap_or}
 use Rattle.dns_spec.specs.Names.{Octets, DomainName}
 use Rattle.dns_spec.specs.DataText.{Word}
 use Rattle.dns_spec.specs.ZoneText.{Token, blank, comment, word, quoted_string, opening, closing, line_end, Entry, token_front, TokensThen, cut_entries, with_end, is_line_end, word_of, extent_by, stop_at, stop_fault}
 use Rattle.dns_spec.specs.Meaning.{Meaning, EntriesMean}
-use Rattle.dns_master.specs.declared.fault.ReadCode.{ReadCode}
 
 -- How reading goes on after a token: not at all, since a parenthesis is misplaced, or since the
 -- entry has ended; or inside parentheses or outside them.
@@ -24,12 +23,6 @@ step is_open (quoted_string raw) = onward is_open
 step is_open opening = if is_open then misplaced else onward true
 step is_open closing = if is_open then onward false else misplaced
 step is_open line_end = if is_open then onward true else over
-
--- what the code answers of a step
-abbrev pub shown_step : Result (Option Bool) ReadCode → Step
-shown_step (Err code) = misplaced
-shown_step (Ok None) = over
-shown_step (Ok (Some is_open)) = onward is_open
 
 -- Where reading an entry ends: after its line end, at the rest of the text, inside parentheses or
 -- outside them, where no token begins; or at a parenthesis that is misplaced.

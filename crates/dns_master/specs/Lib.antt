@@ -3,6 +3,7 @@ pub mod TokenForm
 pub mod EntryForm
 pub mod WordsForm
 pub mod WordsLeft
+pub mod Steps
 pub mod RecordForm
 pub mod ReaderForm
 pub mod SourceForm

@@ -6,9 +6,10 @@ ghost use Rattle.std.specs.Bool.{MatchBool};
 ghost use Rattle.dns_spec.specs.FileFaults.{bad_parenthesis, too_long};
 ghost use Rattle.dns_spec.specs.ZoneText.{is_cut_short, extent_by, stop_at, stop_fault, string_fault, token_fault, unless_cut_short};
 ghost use Rattle.dns_master.specs.TokenForm.{shown_token};
-ghost use Rattle.dns_master.specs.EntryForm.{EntryRead, IsWhole, IsWrong, outcome_of, shown_step, step};
+ghost use Rattle.dns_master.specs.EntryForm.{EntryRead, IsWhole, IsWrong, outcome_of, step};
 ghost use Rattle.dns_master.specs.WordsForm.{WordTaken, words_in};
 ghost use Rattle.dns_master.specs.WordsLeft.{later_words};
+ghost use Rattle.dns_master.specs.Steps.{shown_step};
 ghost use Rattle.dns_master.specs.Codes.{ForFault, fault_of};
 
 use crate::entry_words::{LaterWords, word_of};
@@ -66,11 +67,14 @@ pub(crate) fn read_entry<'a>(
         end.later = take_word(kept, end.later, token, others)?;
         end.lines += u32::from(matches!(token, Token::LineEnd));
         end.rest = others;
-        let Some(now_open) = open_after(token, end.is_open)? else {
-            end.is_ended = true;
-            return Ok(end);
-        };
-        end.is_open = now_open;
+        match step_after(token, end.is_open) {
+            Step::Misplaced => return Err(ReadCode::Parenthesis),
+            Step::Over => {
+                end.is_ended = true;
+                return Ok(end);
+            }
+            Step::Onward(now_open) => end.is_open = now_open,
+        }
     }
     Ok(end)
 }
@@ -100,19 +104,25 @@ fn take_word<'a>(
     Ok(LaterWords { text, count: 0 })
 }
 
-// Whether an entry goes on inside parentheses after a token. `None` where it has ended, and
-// `Parenthesis` where one is misplaced.
-fn open_after(token: Token<'_>, is_open: bool) -> Result<Option<bool>, ReadCode>
-    ensures step { shown_step result ≡ step is_open (shown_token token.entry) }
-    ensures err { IfErr result (λ code. code ≡ ReadCode.Parenthesis) }
+// How reading an entry goes on after a token: not at all, since a parenthesis is misplaced, or since
+// the entry has ended; or inside parentheses or outside them.
+#[derive(Clone, Copy)]
+enum Step {
+    Misplaced,
+    Over,
+    Onward(bool),
+}
+
+fn step_after(token: Token<'_>, is_open: bool) -> Step
+    ensures { shown_step result ≡ step is_open (shown_token token.entry) }
 {
     match token {
-        Token::Opening if is_open => Err(ReadCode::Parenthesis),
-        Token::Opening => Ok(Some(true)),
-        Token::Closing if is_open => Ok(Some(false)),
-        Token::Closing => Err(ReadCode::Parenthesis),
-        Token::LineEnd if !is_open => Ok(None),
-        _ => Ok(Some(is_open)),
+        Token::Opening if is_open => Step::Misplaced,
+        Token::Opening => Step::Onward(true),
+        Token::Closing if is_open => Step::Onward(false),
+        Token::Closing => Step::Misplaced,
+        Token::LineEnd if !is_open => Step::Over,
+        _ => Step::Onward(is_open),
     }
 }
 

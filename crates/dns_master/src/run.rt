@@ -108,15 +108,21 @@ fn escape_length(text: &[u8]) -> usize
     ensures value { result ≡ counted_escape text.now }
     ensures bound { result ≤ length text.now }
 {
-    match text {
-        [a @ b'0'..=b'9', b @ b'0'..=b'9', c @ b'0'..=b'9', ..] => {
-            let value = 100 * u16::from(a - b'0') + 10 * u16::from(b - b'0') + u16::from(c - b'0');
-            if value < 256 { 3 } else { 0 }
-        }
-        [b'0'..=b'9', ..] => 0,
-        [b' '..=b'~', ..] => 1,
-        _ => 0,
+    let Some(first) = text.first() else {
+        return 0;
+    };
+    if !first.is_ascii_digit() {
+        return usize::from(*first >= b' ' && *first <= b'~');
     }
+    let Some(digits) = text.first_chunk::<3>() else {
+        return 0;
+    };
+    let [a, b, c] = *digits;
+    if !(b.is_ascii_digit() && c.is_ascii_digit()) {
+        return 0;
+    }
+    let value = 100 * u16::from(a - b'0') + 10 * u16::from(b - b'0') + u16::from(c - b'0');
+    if value < 256 { 3 } else { 0 }
 }
 
 /// The text after its spaces and tabs, where it begins with one, which is rare: most blanks are one

@@ -31,15 +31,25 @@ pub(crate) fn first_token(text: &[u8]) -> Option<(Token<'_>, &[u8])>
         b';' => Some((Token::Comment, after_comment(others))),
         b'"' => {
             let (raw, end) = others.split_at(Run::String.length(others));
-            Some((Token::Quoted(raw), end.strip_prefix(b"\"")?))
+            match end {
+                [b'"', after @ ..] => Some((Token::Quoted(raw), after)),
+                _ => None,
+            }
         }
         b'(' => Some((Token::Opening, others)),
         b')' => Some((Token::Closing, others)),
         b'\n' => Some((Token::LineEnd, others)),
-        b'\r' => Some((Token::LineEnd, others.strip_prefix(b"\n")?)),
+        b'\r' => match others {
+            [b'\n', after @ ..] => Some((Token::LineEnd, after)),
+            _ => None,
+        },
         _ => {
-            let (raw, others) = text.split_at(Run::Word.length(text));
-            (!raw.is_empty()).then_some((Token::Word(raw), others))
+            let length = Run::Word.length(text);
+            if length == 0 {
+                return None;
+            }
+            let (raw, others) = text.split_at(length);
+            Some((Token::Word(raw), others))
         }
     }
 }

@@ -1,0 +1,11 @@
+-- What a reader learns here: what the code's steps from token to token are in the words of the
+-- entry's reading.
+use Rattle.dns_master.specs.EntryForm.{misplaced, over, onward}
+use Rattle.dns_master.specs.EntryForm as form
+use Rattle.dns_master.specs.declared.entry.Step.{Step}
+use Rattle.dns_master.specs.declared.entry.Step.TheVariants.{Misplaced, Over, Onward}
+
+abbrev pub shown_step : Step → form.Step
+shown_step Misplaced = misplaced
+shown_step Over = over
+shown_step (Onward is_open) = onward is_open
