@@ -31,7 +31,6 @@ pub(crate) fn octets_of_work<R: Files + AllocGlobal>(
     }
 }
 
-// What stands before the first space, and after it.
 fn halves(text: &str) -> (&str, &str) {
     text.split_once(' ').unwrap_or((text, ""))
 }

@@ -72,7 +72,6 @@ impl<const N: usize, const SIZE: usize> Draft<N, SIZE> {
         self.page.put_question(&mut self.hash, question);
     }
 
-    /// Whether a set did not fit.
     pub(crate) fn is_full(&self) -> bool
         ensures { result ≡ self.now.full }
     {

@@ -21,7 +21,6 @@ pub(crate) fn read_origin(words: EntryWords<'_, '_>, origin: &Name) -> Option<Na
     }
 }
 
-/// The TTL that the words of `$TTL` say.
 pub(crate) fn read_default_ttl(words: EntryWords<'_, '_>) -> Option<u32>
     ensures { (n : ℕ) → (result ≡ Some n) ↔ OneWord (λ w. TtlSays w n) (words_left words.entry) }
 {

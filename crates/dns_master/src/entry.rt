@@ -187,7 +187,6 @@ fn unless_cut_short(goes_on: bool, place: &[u8], fault: ReadCode) -> ReadCode
     }
 }
 
-// The fault of a string that can't go on.
 fn string_fault(place: &[u8]) -> ReadCode
     ensures value { fault_of result ≡ string_fault place.now }
     ensures source { result ≢ ReadCode.SourceFailed }

@@ -116,7 +116,6 @@ pub(crate) fn is_other_class(stated: Option<&Word<'_>>) -> bool
     stated.is_some_and(|word| !(is_word(b"in", word.raw) || is_word(b"class1", word.raw)))
 }
 
-/// The type that the first word names, and the words of the data after it.
 pub(crate) fn type_and_words<'a, 'w>(
     words: EntryWords<'a, 'w>,
 ) -> Option<(RType, EntryWords<'a, 'w>)>

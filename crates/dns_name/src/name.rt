@@ -226,7 +226,6 @@ impl Eq for Name {
     ghost laws = { lists_equiv (lists_equiv nat_eq_equiv) };
 }
 
-// Appends octets that there is room for.
 fn append_octets(octets: &mut ArrayVec<u8, MAX_OCTETS>, part: &[u8])
     requires { array_vec_len octets.old + length part.now ≤ MAX_OCTETS }
     ensures { octets.new.items ≡ octets.old.items ++ part.now }

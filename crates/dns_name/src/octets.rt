@@ -61,7 +61,6 @@ fn are_many_equal(left: &[u8], right: &[u8]) -> bool
     have_same_eights(left_rest, right_rest)
 }
 
-// Whether the first eight octets are equal, and the last eight.
 fn have_same_eights(left: &[u8], right: &[u8]) -> bool
     requires least { 8 ≤ length left.now }
     requires most { length left.now ≤ 16 }

@@ -151,7 +151,6 @@ fn octets_before_name(rtype: RType) -> Option<usize>
     }
 }
 
-// Appends a part of data, a name in lower case.
 fn append_lowered(part: Part<'_>, octets: &mut Vec<u8>) -> Result<(), AllocError>
     requires { IsLent part }
     ensures { OnOk result (octets.new.items

@@ -152,7 +152,6 @@ pub fn pieces_of_type(rtype: RType) -> &'static [Piece]
     }
 }
 
-/// The row of the type with this name, in any case.
 pub(crate) fn row_of_mnemonic(word: &[u8]) -> Option<&'static TypeRow>
     ensures { option_map (λ r. row_for r.now) result ≡ row_by_mnemonic word.now }
 {

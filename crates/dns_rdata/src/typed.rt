@@ -163,7 +163,6 @@ fn append_word(
     }
 }
 
-// The fault of a word that is none of this form.
 fn fault_of(form: WordForm) -> RdataFault {
     match form {
         WordForm::Number(_) => RdataFault::BadNumber,

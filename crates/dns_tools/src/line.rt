@@ -49,7 +49,6 @@ impl Line {
         })
     }
 
-    /// Whether no octet of the line was kept.
     pub(crate) fn is_empty(&self) -> bool
         ensures { result ≡ (length self.now.front == 0) }
     {
@@ -67,7 +66,6 @@ impl Line {
         }
     }
 
-    /// Begins the next line.
     pub(crate) fn clear(&mut self)
         ensures { self.new ≡ no_line }
     {

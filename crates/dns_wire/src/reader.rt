@@ -58,7 +58,6 @@ fn read_header(octets: &[u8]) -> Result<(Head, Counts), WireFault>
     Ok((head, counts))
 }
 
-// So many questions from a place on, and the place after them.
 fn read_questions(
     alloc: Global,
     message: &[u8],
@@ -85,7 +84,6 @@ fn read_questions(
     Ok((questions, place))
 }
 
-// So many records from a place on, and the place after them.
 fn read_records(
     alloc: Global,
     message: &[u8],

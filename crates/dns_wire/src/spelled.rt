@@ -66,7 +66,6 @@ fn common_front(left: &[u8], right: &[u8]) -> usize
     same
 }
 
-// The same in eights.
 fn common_eights(left: &[u8], right: &[u8]) -> usize
     ensures within { result ≤ length left.now }
     ensures most { result ≤ length right.now }

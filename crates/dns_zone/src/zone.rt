@@ -58,7 +58,6 @@ impl CheckedZone {
         serial_at(&self.origin.lent(), self.records.lent())
     }
 
-    // Its records, in canonical order.
     pub(crate) fn records(&self) -> &[Entry]
         ensures records { result.now ≡ self.now.records }
         ensures built { IsBuilt self.now }

@@ -16,7 +16,6 @@ pub(crate) fn example() -> Result<Name, NameFault> {
     Name::read_text(b"example", &Name::root())
 }
 
-/// Prints the file by the checker.
 pub(crate) fn check(alloc: Global, said: &mut String) -> Result<(), FaultWord> {
     let flags = Flags {
         quiet: false,
@@ -37,7 +36,6 @@ fn written(room: &[u8], left: usize) -> &[u8] {
     room.get(..room.len().saturating_sub(left)).unwrap_or(&[])
 }
 
-/// Reads the file and builds its zone.
 pub(crate) fn read_and_build(alloc: Global, said: &mut String) -> Result<(), FaultWord> {
     let records = match read_zone(alloc, &example()?, &mut Tally::new(MIXED.as_bytes())) {
         Ok(records) => records,
@@ -53,7 +51,6 @@ pub(crate) fn read_and_build(alloc: Global, said: &mut String) -> Result<(), Fau
     Ok(())
 }
 
-/// Answers each question, over UDP and over TCP.
 pub(crate) fn answer_questions(zone: &Zone, said: &mut String) -> Result<(), AllocError> {
     let (mut short, mut long) = ([0; 512], [0; 65_535]);
     for query in QUERIES {
@@ -65,7 +62,6 @@ pub(crate) fn answer_questions(zone: &Zone, said: &mut String) -> Result<(), All
     Ok(())
 }
 
-/// Answers each stream.
 pub(crate) fn answer_sessions(zone: &Zone, said: &mut String) -> Result<(), AllocError> {
     for stream in [STREAM, CUT_STREAM] {
         let mut room = [0; 1_024];
@@ -78,7 +74,6 @@ pub(crate) fn answer_sessions(zone: &Zone, said: &mut String) -> Result<(), Allo
     Ok(())
 }
 
-// Adds octets in hexadecimal digits, and ends the line.
 fn add_digits(said: &mut String, octets: &[u8]) -> Result<(), AllocError> {
     for octet in octets {
         write!(said, "{octet:02x}")?;

@@ -6,7 +6,6 @@ ghost use Rattle.dns_zone.specs.NameEnd.{ending};
 
 use dns_name::{NameRef, are_equal};
 
-/// Whether a name is at or below another, both in lower case.
 pub(crate) fn is_at_or_below(name: &NameRef<'_>, other: &NameRef<'_>) -> bool
     requires name { folded name.now ≡ name.now }
     requires other { folded other.now ≡ other.now }

@@ -141,7 +141,6 @@ fn is_upto(one: &CheckedName<'_>, key: &[u8]) -> bool
     !one.key.cmp(key).is_gt()
 }
 
-// Adds the origin, where it owns nothing.
 fn add_origin<'a>(
     origin: &NameRef<'_>,
     key: &'a [u8],

@@ -56,7 +56,6 @@ impl Entry {
         })
     }
 
-    /// The name that it stands at, in lower case.
     pub(crate) fn owner(&self) -> NameRef<'_>
         ensures value { result ≡ self.now.owner }
         ensures lower { folded result ≡ result }

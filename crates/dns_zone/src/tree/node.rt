@@ -169,7 +169,6 @@ impl<'z> Node<'z> {
         self.set(first.rtype)
     }
 
-    // The records of the name, by their types.
     fn own(&self) -> &'z [Entry]
         ensures own { result.now ≡ at self.now.zone self.now.name }
         ensures by_types { IsNonDecreasingBy (λ (r : ResourceRecord). r.rtype) result.now }
@@ -228,7 +227,6 @@ pub(crate) fn kid_of(
     Some(RowNumber(start + found))
 }
 
-// The number of the first child of a row, and its children.
 fn kids_of<'z>(tree: &'z Tree, row: RowNumber) -> (usize, &'z [Row])
     requires { IsNodeAt tree.now row.0 }
     ensures start { result.0 ≡ get_or tree.now.bounds row.0 0 }
