@@ -1,11 +1,11 @@
-use crate::tests::said::{read, write};
+use crate::tests::said::{Row, judge, read, write};
 use dns_name::Tally;
 use dns_rdata::{RType, Word};
 use std::test::Fail;
 
 #[test]
 fn ipv4_read(rt: HostRuntime) -> Result<(), Fail> {
-    let rows: [(&[u8], Option<&[u8]>); 12] = [
+    let rows: [Row<'_>; 12] = [
         (b"192.0.2.1", Some(b"\xc0\x00\x02\x01")),
         (b"0.0.0.0", Some(b"\x00\x00\x00\x00")),
         (b"255.255.255.255", Some(b"\xff\xff\xff\xff")),
@@ -19,94 +19,61 @@ fn ipv4_read(rt: HostRuntime) -> Result<(), Fail> {
         (b"192.0.2.a", None),
         (b"", None),
     ];
-    for (raw, wanted) in rows {
-        let word = Word { raw, quoted: false };
-        let address = read(rt.alloc(), RType::A, &[word])?.ok();
-        let octets = address.as_ref().map(|data| data.octets());
-        assert_eq!(rt; octets, wanted, "at {raw:?}");
-    }
-    Ok(())
+    judge(&rt, RType::A, false, &rows)
 }
 
+// The octets of the eight groups of an address.
+fn octets(groups: [u16; 8]) -> [u8; 16] {
+    let mut octets = [0; 16];
+    for place in 0..8_usize {
+        let [high, low] = groups[place].to_be_bytes();
+        octets[2 * place] = high;
+        octets[2 * place + 1] = low;
+    }
+    octets
+}
+
+// Words, and the groups that they say, if any.
 #[test]
 fn ipv6_read(rt: HostRuntime) -> Result<(), Fail> {
-    let rows: [(&[u8], &[u8]); 10] = [
-        (
-            b"1:0:2:3:4:5:6:7",
-            b"\x00\x01\x00\x00\x00\x02\x00\x03\x00\x04\x00\x05\x00\x06\x00\x07",
-        ),
+    let rows: [(&[u8], Option<[u16; 8]>); 26] = [
+        (b"1:0:2:3:4:5:6:7", Some([1, 0, 2, 3, 4, 5, 6, 7])),
         (
             b"2001:DB8:0:0:1:0:0:1",
-            b"\x20\x01\x0d\xb8\x00\x00\x00\x00\x00\x01\x00\x00\x00\x00\x00\x01",
+            Some([0x2001, 0xdb8, 0, 0, 1, 0, 0, 1]),
         ),
-        (
-            b"1:2:3:4:5:6:7::",
-            b"\x00\x01\x00\x02\x00\x03\x00\x04\x00\x05\x00\x06\x00\x07\x00\x00",
-        ),
-        (
-            b"::2:3:4:5:6:7:8",
-            b"\x00\x00\x00\x02\x00\x03\x00\x04\x00\x05\x00\x06\x00\x07\x00\x08",
-        ),
-        (
-            b"::",
-            b"\x00\x00\x00\x00\x00\x00\x00\x00\x00\x00\x00\x00\x00\x00\x00\x00",
-        ),
-        (
-            b"::1",
-            b"\x00\x00\x00\x00\x00\x00\x00\x00\x00\x00\x00\x00\x00\x00\x00\x01",
-        ),
-        (
-            b"1::",
-            b"\x00\x01\x00\x00\x00\x00\x00\x00\x00\x00\x00\x00\x00\x00\x00\x00",
-        ),
-        (
-            b"1::8",
-            b"\x00\x01\x00\x00\x00\x00\x00\x00\x00\x00\x00\x00\x00\x00\x00\x08",
-        ),
-        (
-            b"0001:ffFF::",
-            b"\x00\x01\xff\xff\x00\x00\x00\x00\x00\x00\x00\x00\x00\x00\x00\x00",
-        ),
+        (b"1:2:3:4:5:6:7::", Some([1, 2, 3, 4, 5, 6, 7, 0])),
+        (b"::2:3:4:5:6:7:8", Some([0, 2, 3, 4, 5, 6, 7, 8])),
+        (b"::", Some([0, 0, 0, 0, 0, 0, 0, 0])),
+        (b"::1", Some([0, 0, 0, 0, 0, 0, 0, 1])),
+        (b"1::", Some([1, 0, 0, 0, 0, 0, 0, 0])),
+        (b"1::8", Some([1, 0, 0, 0, 0, 0, 0, 8])),
+        (b"0001:ffFF::", Some([1, 0xffff, 0, 0, 0, 0, 0, 0])),
         (
             b"a:b:c:d:e:f:0:0",
-            b"\x00\x0a\x00\x0b\x00\x0c\x00\x0d\x00\x0e\x00\x0f\x00\x00\x00\x00",
+            Some([0xa, 0xb, 0xc, 0xd, 0xe, 0xf, 0, 0]),
         ),
+        (b"", None),
+        (b":", None),
+        (b":::", None),
+        (b"1", None),
+        (b"1:2:3:4:5:6:7", None),
+        (b"1:2:3:4:5:6:7:8:9", None),
+        (b"1:2:3:4:5:6:7:8::", None),
+        (b"::1:2:3:4:5:6:7:8", None),
+        (b"1:2:3:4::5:6:7:8", None),
+        (b"1::2::3", None),
+        (b"::1.2.3.4", None),
+        (b"00001::", None),
+        (b"g::", None),
+        (b":1:2:3:4:5:6:7", None),
+        (b"1:2:3:4:5:6:7:", None),
+        (b"1::2:", None),
     ];
-    for (raw, wanted) in rows {
-        let word = Word { raw, quoted: false };
-        let address = read(rt.alloc(), RType::AAAA, &[word])?.ok();
-        let octets = address.as_ref().map(|data| data.octets());
-        assert_eq!(rt; octets, Some(wanted), "at {raw:?}");
-    }
-    Ok(())
-}
-
-#[test]
-fn ipv6_refused(rt: HostRuntime) -> Result<(), Fail> {
-    let words: [&[u8]; 16] = [
-        b"",
-        b":",
-        b":::",
-        b"1",
-        b"1:2:3:4:5:6:7",
-        b"1:2:3:4:5:6:7:8:9",
-        b"1:2:3:4:5:6:7:8::",
-        b"::1:2:3:4:5:6:7:8",
-        b"1:2:3:4::5:6:7:8",
-        b"1::2::3",
-        b"::1.2.3.4",
-        b"00001::",
-        b"g::",
-        b":1:2:3:4:5:6:7",
-        b"1:2:3:4:5:6:7:",
-        b"1::2:",
-    ];
-    for raw in words {
-        let word = Word { raw, quoted: false };
-        assert!(rt;
-            read(rt.alloc(), RType::AAAA, &[word])?.is_err(),
-            "at {raw:?}"
-        );
+    for (raw, groups) in rows {
+        let wanted = groups.map(octets);
+        let wanted = wanted.as_ref().map(|octets| octets.as_slice());
+        judge(&rt, RType::AAAA, false, &[(raw, wanted)])?;
     }
     Ok(())
 }

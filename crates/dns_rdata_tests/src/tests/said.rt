@@ -4,6 +4,7 @@ use dns_name::{Name, SinkFailed, Tally};
 use dns_rdata::{DataRoom, RType, Rdata, RdataFault, Word};
 use std::alloc::Global;
 use std::io::Write;
+use std::process::Abort;
 use std::test::Fail;
 
 // The data that words say. It is read twice in one room: nothing is left of what was read before.
@@ -18,6 +19,24 @@ pub(crate) fn read(
         room.take_back(before);
     }
     Ok(Rdata::read_words_in(&mut room, rtype, words, &origin))
+}
+
+/// A word, and the data that it says, if any.
+pub(crate) type Row<'a> = (&'a [u8], Option<&'a [u8]>);
+
+// Compares the data that each word says, all of one type, with the data that is wanted.
+pub(crate) fn judge<R: Abort + AllocGlobal>(
+    rt: &R,
+    rtype: RType,
+    quoted: bool,
+    rows: &[Row<'_>],
+) -> Result<(), Fail> {
+    for (raw, wanted) in rows {
+        let data = read(rt.alloc(), rtype, &[Word { raw: *raw, quoted }])?.ok();
+        let octets = data.as_ref().map(|data| data.octets());
+        assert_eq!(rt; octets, *wanted, "at {raw:?}");
+    }
+    Ok(())
 }
 
 // Octets that are no data are written as nothing.

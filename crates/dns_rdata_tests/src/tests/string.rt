@@ -1,13 +1,15 @@
-use crate::tests::said::{read, write};
+use crate::tests::said::{Row, judge, write};
 use dns_name::Tally;
-use dns_rdata::{RType, Word};
+use dns_rdata::RType;
 use std::test::Fail;
 
 const LONG: [u8; 256] = [b'x'; 256];
 
 #[test]
 fn strings_read(rt: HostRuntime) -> Result<(), Fail> {
-    let rows: [(&[u8], Option<&[u8]>); 12] = [
+    let mut longest = LONG;
+    longest[0] = 255;
+    let rows: [Row<'_>; 13] = [
         (b"", Some(b"\x00")),
         (b"a\\\"b\\009", Some(b"\x04a\"b\x09")),
         (b"a.b c", Some(b"\x05a.b c")),
@@ -20,19 +22,9 @@ fn strings_read(rt: HostRuntime) -> Result<(), Fail> {
         (b"a\\", None),
         (b"\\\x7f", None),
         (&LONG, None),
+        (&LONG[..255], Some(&longest)),
     ];
-    for (raw, wanted) in rows {
-        let word = Word { raw, quoted: true };
-        let string = read(rt.alloc(), RType::TXT, &[word])?.ok();
-        let octets = string.as_ref().map(|data| data.octets());
-        assert_eq!(rt; octets, wanted, "at {raw:?}");
-    }
-    let most = Word {
-        raw: &LONG.as_slice()[..255],
-        quoted: true,
-    };
-    assert!(rt; read(rt.alloc(), RType::TXT, &[most])?.is_ok());
-    Ok(())
+    judge(&rt, RType::TXT, true, &rows)
 }
 
 // Each octet is written as a backslash and three digits, between two quotation marks.

@@ -1,6 +1,6 @@
 use dns_name::Tally;
 use dns_rdata::{RType, RdataFault};
-use std::io::{self, ErrorKind, Write};
+use dns_samples_tests::Kept;
 use std::test::Fail;
 
 #[test]
@@ -55,29 +55,9 @@ fn types_written(rt: HostRuntime) -> Result<(), Fail> {
     Ok(())
 }
 
-/// A device that takes one octet and fails from then on.
-#[derive(Drop)]
-struct TakesOne {
-    taken: bool,
-}
-
-impl Write for TakesOne {
-    fn write(&mut self, piece: &[u8]) -> io::Result<usize> {
-        if self.taken {
-            return Err(io::Error::from(ErrorKind::Other));
-        }
-        self.taken = true;
-        Ok(piece.len().min(1))
-    }
-
-    fn flush(&mut self) -> io::Result<()> {
-        Ok(())
-    }
-}
-
 #[test]
 fn a_failure_after_the_first_octet_is_told(rt: HostRuntime) {
-    let mut sink = Tally::new(TakesOne { taken: false });
+    let mut sink = Tally::new(Kept::new(rt.alloc(), 1, 1));
     assert!(rt; RType(65).write_text(&mut sink).is_err());
     assert_eq!(rt; sink.failures(), 1);
 }

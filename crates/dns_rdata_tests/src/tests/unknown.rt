@@ -43,52 +43,43 @@ fn marks(rt: HostRuntime) -> Result<(), Fail> {
     Ok(())
 }
 
+// Words, whether they are quoted, and the octets that they say, if any.
 #[test]
 fn octets_said(rt: HostRuntime) -> Result<(), Fail> {
-    let rows: [(&[&[u8]], &[u8]); 6] = [
-        (&[b"4", b"C0000201"], b"\xc0\x00\x02\x01"),
-        (&[b"0"], b""),
-        (&[b"2", b"abcd"], b"\xab\xcd"),
-        (&[b"2", b"ab", b"cd"], b"\xab\xcd"),
-        (&[b"3", b"aBCd", b"0F"], b"\xab\xcd\x0f"),
-        (&[b"3", b"09aAfF"], b"\x09\xaa\xff"),
+    let rows: [(&[&[u8]], bool, Option<&[u8]>); 25] = [
+        (&[b"4", b"C0000201"], false, Some(b"\xc0\x00\x02\x01")),
+        (&[b"0"], false, Some(b"")),
+        (&[b"2", b"abcd"], false, Some(b"\xab\xcd")),
+        (&[b"2", b"ab", b"cd"], false, Some(b"\xab\xcd")),
+        (&[b"3", b"aBCd", b"0F"], false, Some(b"\xab\xcd\x0f")),
+        (&[b"3", b"09aAfF"], false, Some(b"\x09\xaa\xff")),
+        (&[], false, None),
+        (&[b""], false, None),
+        (&[b"2", b"abc", b"d"], false, None),
+        (&[b"3", b"c000"], false, None),
+        (&[b"1", b"c000"], false, None),
+        (&[b"04", b"C0000201"], false, None),
+        (&[b"4", b"C0000201"], true, None),
+        (&[b"0"], true, None),
+        (&[b"2", b"abcd", b""], false, None),
+        (&[b"0", b""], false, None),
+        (&[b"2", b"abcg"], false, None),
+        (&[b"1", b"0g"], false, None),
+        (&[b"1", b"g0"], false, None),
+        (&[b"1", b"0x"], false, None),
+        (&[b"1", b"@0"], false, None),
+        (&[b"2"], false, None),
+        (&[b"abcd"], false, None),
+        (&[b"+2", b"abcd"], false, None),
+        (&[b"65536", b"abcd"], false, None),
     ];
-    for (raws, wanted) in rows {
-        match said(rt.alloc(), raws, false)? {
-            Ok(data) => assert_eq!(rt; data.octets(), wanted, "at {raws:?}"),
-            Err(_) => return Err("words that say octets".into()),
-        }
-    }
-    Ok(())
-}
-
-#[test]
-fn words_refused(rt: HostRuntime) -> Result<(), Fail> {
-    let rows: [(&[&[u8]], bool); 19] = [
-        (&[], false),
-        (&[b""], false),
-        (&[b"2", b"abc", b"d"], false),
-        (&[b"3", b"c000"], false),
-        (&[b"1", b"c000"], false),
-        (&[b"04", b"C0000201"], false),
-        (&[b"4", b"C0000201"], true),
-        (&[b"0"], true),
-        (&[b"2", b"abcd", b""], false),
-        (&[b"0", b""], false),
-        (&[b"2", b"abcg"], false),
-        (&[b"1", b"0g"], false),
-        (&[b"1", b"g0"], false),
-        (&[b"1", b"0x"], false),
-        (&[b"1", b"@0"], false),
-        (&[b"2"], false),
-        (&[b"abcd"], false),
-        (&[b"+2", b"abcd"], false),
-        (&[b"65536", b"abcd"], false),
-    ];
-    for (raws, quoted) in rows {
+    for (raws, quoted, wanted) in rows {
         match said(rt.alloc(), raws, quoted)? {
-            Ok(_) => return Err("words that say no octets".into()),
-            Err(fault) => assert_eq!(rt; fault.code(), 6, "at {raws:?}"),
+            Ok(data) => assert_eq!(rt; Some(data.octets()), wanted, "at {raws:?}"),
+            Err(fault) => {
+                assert_eq!(rt; fault.code(), 6, "at {raws:?}");
+                assert!(rt; wanted.is_none(), "at {raws:?}");
+            }
         }
     }
     let count = Word {

@@ -1,8 +1,7 @@
 use crate::tests::said::write;
-use arrayvec::ArrayVec;
 use dns_name::Tally;
 use dns_rdata::RType;
-use std::io::{self, ErrorKind, Write};
+use dns_samples_tests::Kept;
 use std::test::Fail;
 
 // MNAME, RNAME, SERIAL, REFRESH, RETRY, EXPIRE and MINIMUM (RFC 1035 3.3.13).
@@ -71,49 +70,19 @@ fn data_written(rt: HostRuntime) -> Result<(), Fail> {
     Ok(())
 }
 
-/// A device that takes at most three octets a call. Once its calls are used up one fails, and later
-/// ones would work.
-#[derive(Drop)]
-struct Failing {
-    calls_left: usize,
-    written: ArrayVec<u8, 64>,
-}
-
-impl Write for Failing {
-    fn write(&mut self, piece: &[u8]) -> io::Result<usize> {
-        if self.calls_left == 0 {
-            self.calls_left = usize::MAX;
-            return Err(io::Error::from(ErrorKind::Other));
-        }
-        self.calls_left -= 1;
-        let count = piece.len().min(3);
-        match self.written.try_extend_from_slice(&piece[..count]) {
-            Ok(()) => Ok(count),
-            Err(_) => Err(io::Error::from(ErrorKind::WriteZero)),
-        }
-    }
-
-    fn flush(&mut self) -> io::Result<()> {
-        Ok(())
-    }
-}
-
-// No text is longer than 40 octets, so that 40 calls write it. Where one before the last fails, a
-// beginning was written.
+// No text is longer than 40 octets, so that 40 calls write it, of at most three octets each. Where
+// one before the last fails, a beginning was written.
 #[test]
 fn each_write_fails(rt: HostRuntime) -> Result<(), Fail> {
     for (rtype, octets, text) in ROWS {
         let mut written = 0;
         for calls in 0..41 {
-            let mut sink = Tally::new(Failing {
-                calls_left: calls,
-                written: ArrayVec::new(),
-            });
+            let mut sink = Tally::new(Kept::new(rt.alloc(), 3, calls));
             let result = write(rt.alloc(), rtype, octets, &mut sink);
             assert_eq!(rt; sink.failures(), u64::from(result.is_err()));
             let device = sink.into_inner();
-            assert_eq!(rt; device.calls_left == usize::MAX, result.is_err());
-            let beginning = device.written;
+            assert_eq!(rt; device.calls.has_failed(), result.is_err());
+            let beginning = device.text;
             assert!(rt; text.starts_with(beginning.as_slice()), "at {text:?}");
             assert_eq!(rt; result.is_ok(), beginning.len() == text.len());
             assert!(rt; beginning.len() > written || calls == 0 || written == text.len());
