@@ -1,7 +1,7 @@
 //! Replies past 16,384 octets, where pointers no longer reach the names that are written.
 ghost use Rattle.std.specs.Prelude.{◌≡◌, IfOk, length};
 
-use crate::tests::written::{Offered, OneChain, asked, put};
+use crate::tests::written::{OneChain, Record, asked, offer};
 use dns_rdata::RType;
 use dns_wire::{Head, QuickHash, Section, SuffixHash, Writer};
 use std::test::Fail;
@@ -22,14 +22,8 @@ fn put_strings<H: SuffixHash>(rt: HostRuntime, writer: &mut Writer<'_, H>) -> Re
         let mut string = [b'x'; 256];
         string[0] = 255;
         string[1] = first;
-        let set = Offered {
-            section: Section::Answer,
-            owner: b"x.example",
-            ttl: 3600,
-            rtype: RType::TXT,
-            rdata: &string,
-        };
-        put(rt, writer, &set)?;
+        let record: Record<'_> = (b"x.example", RType::TXT, &string);
+        offer(rt, writer, Section::Answer, record, true)?;
     }
     Ok(())
 }
@@ -42,14 +36,8 @@ fn put_services<H: SuffixHash>(rt: HostRuntime, writer: &mut Writer<'_, H>) -> R
         let mut service = *b"\x00\x01\x00\x02\x00\x35\x03t10\x07example\x00";
         service[8] = b'0' + number / 10;
         service[9] = b'0' + number % 10;
-        let set = Offered {
-            section: Section::Answer,
-            owner: b"y.example",
-            ttl: 3600,
-            rtype: RType::SRV,
-            rdata: &service,
-        };
-        put(rt, writer, &set)?;
+        let record: Record<'_> = (b"y.example", RType::SRV, &service);
+        offer(rt, writer, Section::Answer, record, true)?;
     }
     Ok(())
 }
@@ -66,14 +54,8 @@ fn put_addresses<H: SuffixHash>(
     owner[1] = b'0' + number / 10;
     owner[2] = b'0' + number % 10;
     'addresses: for last in 1..65_u8 {
-        let set = Offered {
-            section: Section::Additional,
-            owner: &owner,
-            ttl: 3600,
-            rtype: RType::A,
-            rdata: &[198, 51, 100, last],
-        };
-        put(rt, writer, &set)?;
+        let record: Record<'_> = (&owner, RType::A, &[198, 51, 100, last]);
+        offer(rt, writer, Section::Additional, record, true)?;
     }
     Ok(())
 }

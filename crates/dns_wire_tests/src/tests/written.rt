@@ -1,9 +1,9 @@
-//! Messages that tests write: sets of one record, and hashes to find their names by.
+//! Messages that tests write of sets of one record, and hashes to find their names by.
 ghost use Rattle.std.specs.Prelude.{◌≡◌, ◌≤◌};
-ghost use Rattle.dns_spec.specs.Data.{Valid};
 
 use dns_name::Name;
-use dns_rdata::{RType, Rdata, SetView};
+use dns_rdata::RType;
+use dns_samples_tests::OneRecord;
 use dns_wire::{CLASS_IN, Head, Question, Section, SuffixHash, Writer};
 use std::test::Fail;
 
@@ -36,55 +36,19 @@ impl SuffixHash for CountingHash {
     }
 }
 
-/// A set of one record.
-#[derive(Drop)]
-struct OneRecord {
-    rtype: RType,
-    ttl: u32,
-    rdata: Rdata,
-    ghost valid: { Valid rtype.0 rdata },
-}
+/// A record: its owner as text, its type, and its data as octets.
+pub(crate) type Record<'a> = (&'a [u8], RType, &'a [u8]);
 
-impl SetView for OneRecord {
-    ghost use Rattle.std.specs.Prelude.{[], ◌∷◌};
-
-    ghost set = { λ s. record { rtype = s.rtype.0; ttl = s.ttl; rdata = s.rdata ∷ [] } };
-
-    fn rtype(&self) -> RType {
-        self.rtype
-    }
-
-    fn ttl(&self) -> u32 {
-        self.ttl
-    }
-
-    fn len(&self) -> usize {
-        1
-    }
-
-    fn rdata(&self, _i: usize) -> &[u8] {
-        self.rdata.octets()
-    }
-}
-
-/// A record in a section, its owner as text and its data as octets.
-#[derive(Clone, Copy)]
-pub(crate) struct Offered<'a> {
-    pub(crate) section: Section,
-    pub(crate) owner: &'a [u8],
-    pub(crate) ttl: u32,
-    pub(crate) rtype: RType,
-    pub(crate) rdata: &'a [u8],
-}
-
-/// A question, the records of its reply, and the octets wanted.
+/// A question, the records of its reply by their section, and the octets wanted.
 #[derive(Clone, Copy)]
 pub(crate) struct Row<'a> {
     pub(crate) name: &'a str,
     pub(crate) qname: &'a [u8],
     pub(crate) qtype: u16,
     pub(crate) flags: u16,
-    pub(crate) sets: &'a [Offered<'a>],
+    pub(crate) answers: &'a [Record<'a>],
+    pub(crate) authorities: &'a [Record<'a>],
+    pub(crate) additionals: &'a [Record<'a>],
     pub(crate) wanted: &'a [u8],
 }
 
@@ -95,63 +59,42 @@ fn name(text: &[u8]) -> Result<Name, Fail> {
     Ok(name)
 }
 
-// Whether there is room for a set of one record, which is put then.
-fn offer<H: SuffixHash>(
+/// Offers a set of one record, for which there has to be room, or none. An SOA record has the TTL
+/// of a negative answer.
+pub(crate) fn offer<H: SuffixHash>(
     rt: HostRuntime,
     writer: &mut Writer<'_, H>,
-    offered: &Offered<'_>,
-) -> Result<bool, Fail>
+    section: Section,
+    record: Record<'_>,
+    has_room: bool,
+) -> Result<(), Fail>
     ensures { writer.new.page.limit ≡ writer.old.page.limit }
 {
-    let rtype = offered.rtype;
-    let Ok(rdata) = Rdata::from_wire(rt.alloc(), rtype, offered.rdata) else {
+    let (owner, rtype, octets) = record;
+    let ttl = if rtype == RType::SOA { 300 } else { 3600 };
+    let Some(set) = OneRecord::new(rt.alloc(), rtype, ttl, octets) else {
         return Err("data of the type".into());
     };
-    let owner = name(offered.owner)?;
-    let ttl = offered.ttl;
-    let set = OneRecord { rtype, ttl, rdata };
-    Ok(writer.put_set(offered.section, &owner, ttl, &set))
-}
-
-/// Puts a set of one record, for which there is room.
-pub(crate) fn put<H: SuffixHash>(
-    rt: HostRuntime,
-    writer: &mut Writer<'_, H>,
-    offered: &Offered<'_>,
-) -> Result<(), Fail>
-    ensures { writer.new.page.limit ≡ writer.old.page.limit }
-{
-    match offer(rt, writer, offered) {
-        Ok(true) => Ok(()),
-        Ok(false) => Err("room for a set".into()),
-        Err(fail) => Err(fail),
+    let owner = name(owner)?;
+    if writer.put_set(section, &owner, ttl, &set) == has_room {
+        Ok(())
+    } else {
+        Err("room for a set where there is none, or none".into())
     }
 }
 
-// Offers a set, for which there is no room.
-fn refuse<H: SuffixHash>(
+// Offers sets of one record each, for all of which there has to be room, or for none.
+fn offer_all<H: SuffixHash>(
     rt: HostRuntime,
     writer: &mut Writer<'_, H>,
-    offered: &Offered<'_>,
+    section: Section,
+    records: &[Record<'_>],
+    has_room: bool,
 ) -> Result<(), Fail>
     ensures { writer.new.page.limit ≡ writer.old.page.limit }
 {
-    match offer(rt, writer, offered) {
-        Ok(true) => Err("no room for a set".into()),
-        Ok(false) => Ok(()),
-        Err(fail) => Err(fail),
-    }
-}
-
-fn put_all<H: SuffixHash>(
-    rt: HostRuntime,
-    writer: &mut Writer<'_, H>,
-    sets: &[Offered<'_>],
-) -> Result<(), Fail>
-    ensures { writer.new.page.limit ≡ writer.old.page.limit }
-{
-    'sets: for set in sets {
-        put(rt, writer, set)?;
+    'records: for record in records {
+        offer(rt, writer, section, *record, has_room)?;
     }
     Ok(())
 }
@@ -180,29 +123,20 @@ fn finished<H: SuffixHash>(
     Ok(octets)
 }
 
-/// The octets of a row's reply, within 512 octets.
+/// The octets of a row's reply, within 512 octets, where sets that do not fit are offered before
+/// the others and after them.
 pub(crate) fn written<H: SuffixHash>(
     rt: HostRuntime,
     hash: &mut H,
     row: &Row<'_>,
+    refused: &[Record<'_>],
 ) -> Result<Vec<u8>, Fail> {
     let question = asked(row.qname, row.qtype)?;
     let mut writer = Writer::new(512, Some(&question), hash);
-    put_all(rt, &mut writer, row.sets)?;
-    finished(rt, writer, row.flags)
-}
-
-/// The same, with a set that is refused before the others and after them.
-pub(crate) fn written_beside<H: SuffixHash>(
-    rt: HostRuntime,
-    hash: &mut H,
-    row: &Row<'_>,
-    refused: &Offered<'_>,
-) -> Result<Vec<u8>, Fail> {
-    let question = asked(row.qname, row.qtype)?;
-    let mut writer = Writer::new(512, Some(&question), hash);
-    refuse(rt, &mut writer, refused)?;
-    put_all(rt, &mut writer, row.sets)?;
-    refuse(rt, &mut writer, refused)?;
+    offer_all(rt, &mut writer, Section::Answer, refused, false)?;
+    offer_all(rt, &mut writer, Section::Answer, row.answers, true)?;
+    offer_all(rt, &mut writer, Section::Authority, row.authorities, true)?;
+    offer_all(rt, &mut writer, Section::Additional, row.additionals, true)?;
+    offer_all(rt, &mut writer, Section::Answer, refused, false)?;
     finished(rt, writer, row.flags)
 }
