@@ -20,51 +20,44 @@ fn fault(word: &[u8]) -> u8 {
     }
 }
 
+// Words, and the octets of their names, or the code of their fault. In a label a bad escape goes
+// before an empty or a long label, and a faulty label before a long name.
 #[test]
-fn names_read(rt: HostRuntime) -> Result<(), Fail> {
-    let rows: [(&[u8], &[u8]); 12] = [
-        (b"www", b"\x03www\x07example\x00"),
-        (b"WwW.a", b"\x03WwW\x01a\x07example\x00"),
-        (b"www.", b"\x03www\x00"),
-        (b"@", b"\x07example\x00"),
-        (b".", b"\x00"),
-        (b"\\@", b"\x01@\x07example\x00"),
-        (b"a@b.", b"\x03a@b\x00"),
-        (b"a\\.b.", b"\x03a.b\x00"),
-        (b"a\\\\.", b"\x02a\\\x00"),
-        (b"\\000\\255.", b"\x02\x00\xff\x00"),
-        (b"\\0656.", b"\x02A6\x00"),
-        (b" \x7f\xff.", b"\x03 \x7f\xff\x00"),
+fn names_read(rt: HostRuntime) {
+    let rows: [(&[u8], Result<&[u8], u8>); 27] = [
+        (b"www", Ok(b"\x03www\x07example\x00")),
+        (b"WwW.a", Ok(b"\x03WwW\x01a\x07example\x00")),
+        (b"www.", Ok(b"\x03www\x00")),
+        (b"@", Ok(b"\x07example\x00")),
+        (b".", Ok(b"\x00")),
+        (b"\\@", Ok(b"\x01@\x07example\x00")),
+        (b"a@b.", Ok(b"\x03a@b\x00")),
+        (b"a\\.b.", Ok(b"\x03a.b\x00")),
+        (b"a\\\\.", Ok(b"\x02a\\\x00")),
+        (b"\\000\\255.", Ok(b"\x02\x00\xff\x00")),
+        (b"\\0656.", Ok(b"\x02A6\x00")),
+        (b" \x7f\xff.", Ok(b"\x03 \x7f\xff\x00")),
+        (b"a.\\..", Ok(b"\x01a\x01.\x00")),
+        (b"", Err(1)),
+        (b"..", Err(1)),
+        (b".a", Err(1)),
+        (b"a..b", Err(1)),
+        (b"a..\\", Err(1)),
+        (b"\\", Err(4)),
+        (b"a\\", Err(4)),
+        (b"\\1x2", Err(4)),
+        (b"\\12", Err(4)),
+        (b"\\256", Err(4)),
+        (b"\\999.", Err(4)),
+        (b"\\\x1f", Err(4)),
+        (b"\\\x7f", Err(4)),
+        (b"\\1..", Err(4)),
     ];
-    for (word, octets) in rows {
-        assert_eq!(rt; read(word)?.octets(), octets, "at {word:?}");
-    }
-    Ok(())
-}
-
-// In a label a bad escape goes before an empty or a long label, and a faulty label before a long
-// name.
-#[test]
-fn fault_order(rt: HostRuntime) {
-    let rows: [(&[u8], u8); 15] = [
-        (b"", 1),
-        (b"..", 1),
-        (b".a", 1),
-        (b"a..b", 1),
-        (b"a..\\", 1),
-        (b"\\", 4),
-        (b"a\\", 4),
-        (b"\\1x2", 4),
-        (b"\\12", 4),
-        (b"\\256", 4),
-        (b"\\999.", 4),
-        (b"\\\x1f", 4),
-        (b"\\\x7f", 4),
-        (b"a.\\..", 0),
-        (b"\\1..", 4),
-    ];
-    for (word, code) in rows {
-        assert_eq!(rt; fault(word), code, "at {word:?}");
+    for (word, wanted) in rows {
+        match read(word) {
+            Ok(name) => assert_eq!(rt; Ok(name.octets()), wanted, "at {word:?}"),
+            Err(fault) => assert_eq!(rt; Err(fault.code()), wanted, "at {word:?}"),
+        }
     }
 }
 
