@@ -3,10 +3,10 @@ ghost use Rattle.std.specs.Prelude.{◌<◌, ◌-◌, ◌^◌};
 
 use super::texts::{built, file_with};
 use dns_name::Tally;
-use dns_samples_tests::{MIXED, MIXED_PRINTED, SMALL_PRINTED};
+use dns_samples_tests::{Kept, MIXED, MIXED_PRINTED, SMALL_PRINTED};
 use dns_zone::{PrintFault, print};
 use std::alloc::Global;
-use std::io::{self, ErrorKind, Write};
+use std::io::Write;
 use std::test::Fail;
 
 // The names of RFC 4034 6.1, turned about, and records of one name that differ in type and in data.
@@ -52,30 +52,6 @@ const SHORT_PRINTED: &[u8] = b". 1 IN SOA ns. . 1 2 3 4 5
 . 1 IN NS ns.
 ns. 1 IN A 192.0.2.1
 ";
-
-// A sink that takes so many octets, and then fails once: later calls would work.
-#[derive(Drop)]
-struct Failing {
-    most: usize,
-    written: Vec<u8>,
-}
-
-impl Write for Failing {
-    fn write(&mut self, piece: &[u8]) -> io::Result<usize> {
-        let count = piece
-            .len()
-            .min(self.most.saturating_sub(self.written.len()));
-        if count == 0 || self.written.extend_from_slice(&piece[..count]).is_err() {
-            self.most = usize::MAX;
-            return Err(io::Error::from(ErrorKind::Other));
-        }
-        Ok(count)
-    }
-
-    fn flush(&mut self) -> io::Result<()> {
-        Ok(())
-    }
-}
 
 // What comes of printing the zone of a file; `None` where there is none.
 fn printed<W: Write>(
@@ -132,17 +108,14 @@ fn the_printed_text_is_printed_again(rt: HostRuntime) -> Result<(), Fail> {
 fn a_sink_that_fails_after_each_octet(rt: HostRuntime) -> Result<(), Fail> {
     for most in 0..SHORT_PRINTED.len() + 1 {
         let whole = most == SHORT_PRINTED.len();
-        let mut sink = Tally::new(Failing {
-            most,
-            written: Vec::new(rt.alloc()),
-        });
+        let mut sink = Tally::new(Kept::new(rt.alloc(), 1, most as u32));
         let outcome = printed(rt.alloc(), b".", SHORT, &mut sink)?;
         let wanted = if whole { Ok(()) } else { Err(PrintFault) };
         assert_eq!(rt; outcome, Some(wanted), "after {most}");
         assert_eq!(rt; sink.failures(), u64::from(!whole), "after {most}");
         let device = sink.into_inner();
-        assert_eq!(rt; device.most == usize::MAX, !whole, "after {most}");
-        assert_eq!(rt; device.written.as_slice(), &SHORT_PRINTED[..most]);
+        assert_eq!(rt; device.calls.has_failed(), !whole, "after {most}");
+        assert_eq!(rt; device.text.as_slice(), &SHORT_PRINTED[..most]);
     }
     Ok(())
 }

@@ -28,3 +28,16 @@ pub(super) fn built(
     }
     Ok(Some(Zone::build(alloc, &origin, records)))
 }
+
+/// The zone of a file.
+pub(super) fn zone_of(alloc: Global, origin: &[u8], text: &[u8]) -> Result<Zone, Fail> {
+    match built(alloc, origin, text)? {
+        Some(Ok(zone)) => Ok(zone),
+        _ => Err(Fail::new("no zone")),
+    }
+}
+
+/// The small zone, with lines after it.
+pub(super) fn zone_with(alloc: Global, others: &[u8]) -> Result<Zone, Fail> {
+    zone_of(alloc, b"example.", file_with(alloc, others)?.as_slice())
+}

@@ -1,11 +1,12 @@
 //! Walks down the names of zones.
 
-use super::texts::{built, file_with};
+use super::texts::{zone_of, zone_with};
 use dns_name::Label;
 use dns_rdata::{RType, SetView};
 use dns_zone::{Node, Steps, Zone};
 use itoa::Buffer;
 use std::alloc::Global;
+use std::process::Abort;
 use std::test::Fail;
 
 // Labels, the nearest to the origin first; how many of them are found; the lowest type at the last
@@ -14,10 +15,7 @@ type Walked<'a> = (&'a [&'a [u8]], usize, u16);
 
 #[test]
 fn names_are_found_label_by_label(rt: HostRuntime) -> Result<(), Fail> {
-    let text = file_with(rt.alloc(), b"")?;
-    let Some(Ok(zone)) = built(rt.alloc(), b"example.", text.as_slice())? else {
-        panic!(rt; "no zone");
-    };
+    let zone = zone_with(rt.alloc(), b"")?;
     let rows: [Walked<'_>; 10] = [
         (&[], 0, 2),
         (&[b"www"], 1, 1),
@@ -32,28 +30,26 @@ fn names_are_found_label_by_label(rt: HostRuntime) -> Result<(), Fail> {
         (&[b"nope"], 0, 2),
         (&[b"www", b"www"], 1, 1),
     ];
+    check_walks(&rt, &zone, &rows)
+}
+
+fn check_walks(rt: &impl Abort, zone: &Zone, rows: &[Walked<'_>]) -> Result<(), Fail> {
     for (labels, found, rtype) in rows {
-        let mut steps = Steps::new(&zone);
-        let Some((count, node)) = walked(&mut steps, labels) else {
-            panic!(rt; "no walk along {labels:?}");
-        };
-        assert_eq!(rt; count, found, "{labels:?}");
-        assert_eq!(rt; steps.visits() as usize, found + 1);
-        assert_eq!(rt; lowest_type(&node), rtype, "{labels:?}");
+        let mut steps = Steps::new(zone);
+        let (count, node) = walked(&mut steps, labels)?;
+        assert_eq!(rt; count, *found, "{labels:?}");
+        assert_eq!(rt; steps.visits() as usize, found.saturating_add(1));
+        assert_eq!(rt; lowest_type(&node), *rtype, "{labels:?}");
+        assert!(rt; steps.comparisons() <= 17);
     }
     Ok(())
 }
 
 #[test]
 fn sets_are_lent_by_their_data(rt: HostRuntime) -> Result<(), Fail> {
-    let text = file_with(rt.alloc(), b"www A 192.0.2.9\nwww TXT \"b\"\nwww TXT \"\"")?;
-    let Some(Ok(zone)) = built(rt.alloc(), b"example.", text.as_slice())? else {
-        panic!(rt; "no zone");
-    };
+    let zone = zone_with(rt.alloc(), b"www A 192.0.2.9\nwww TXT \"b\"\nwww TXT \"\"")?;
     let mut steps = Steps::new(&zone);
-    let Some((_, node)) = walked(&mut steps, &[b"www"]) else {
-        panic!(rt; "no www");
-    };
+    let (_, node) = walked(&mut steps, &[b"www"])?;
     let rows: [(RType, &[&[u8]]); 3] = [
         (RType::A, &[&[192, 0, 2, 9], &[192, 0, 2, 10]]),
         (RType::TXT, &[b"\x00", b"\x01b"]),
@@ -67,14 +63,9 @@ fn sets_are_lent_by_their_data(rt: HostRuntime) -> Result<(), Fail> {
 
 #[test]
 fn targets_are_lent_in_lower_case(rt: HostRuntime) -> Result<(), Fail> {
-    let text = file_with(rt.alloc(), b"m MX 10 WWW.Example.\nm MX 20 www\nm TXT www")?;
-    let Some(Ok(zone)) = built(rt.alloc(), b"example.", text.as_slice())? else {
-        panic!(rt; "no zone");
-    };
+    let zone = zone_with(rt.alloc(), b"m MX 10 WWW.Example.\nm MX 20 www\nm TXT www")?;
     let mut steps = Steps::new(&zone);
-    let Some((_, node)) = walked(&mut steps, &[b"m"]) else {
-        panic!(rt; "no m");
-    };
+    let (_, node) = walked(&mut steps, &[b"m"])?;
     for (rtype, records, wanted) in [(RType::MX, 2, true), (RType::TXT, 1, false)] {
         let Some(set) = node.set(rtype) else {
             panic!(rt; "no set of {rtype:?}");
@@ -99,14 +90,10 @@ fn the_longest_name_has_127_labels(rt: HostRuntime) -> Result<(), Fail> {
         text.extend_from_slice(b"a.")?;
     }
     text.extend_from_slice(b" 60 A 192.0.2.2\n")?;
-    let Some(Ok(zone)) = built(rt.alloc(), b".", text.as_slice())? else {
-        panic!(rt; "no zone");
-    };
+    let zone = zone_of(rt.alloc(), b".", text.as_slice())?;
     let labels: [&[u8]; 128] = [b"a"; 128];
     let mut steps = Steps::new(&zone);
-    let Some((count, node)) = walked(&mut steps, &labels) else {
-        panic!(rt; "no walk");
-    };
+    let (count, node) = walked(&mut steps, &labels)?;
     assert_eq!(rt; count, 127);
     assert_eq!(rt; steps.visits(), 128);
     assert!(rt; has_data(&node, RType::A, &[&[192, 0, 2, 2]]));
@@ -116,9 +103,7 @@ fn the_longest_name_has_127_labels(rt: HostRuntime) -> Result<(), Fail> {
 #[test]
 fn a_name_has_at_most_100_000_children(rt: HostRuntime) -> Result<(), Fail> {
     let text = file_of_children(rt.alloc())?;
-    let Some(Ok(zone)) = built(rt.alloc(), b"example.", text.as_slice())? else {
-        panic!(rt; "no zone");
-    };
+    let zone = zone_of(rt.alloc(), b"example.", text.as_slice())?;
     let rows: [Walked<'_>; 5] = [
         (&[b"ns"], 1, 1),
         (&[b"0"], 1, 1),
@@ -126,16 +111,7 @@ fn a_name_has_at_most_100_000_children(rt: HostRuntime) -> Result<(), Fail> {
         (&[b"99996"], 0, 2),
         (&[b"zz"], 0, 2),
     ];
-    for (labels, found, rtype) in rows {
-        let mut steps = Steps::new(&zone);
-        let Some((count, node)) = walked(&mut steps, labels) else {
-            panic!(rt; "no walk along {labels:?}");
-        };
-        assert_eq!(rt; count, found, "{labels:?}");
-        assert_eq!(rt; lowest_type(&node), rtype, "{labels:?}");
-        assert!(rt; steps.comparisons() <= 17);
-    }
-    Ok(())
+    check_walks(&rt, &zone, &rows)
 }
 
 // A file of 100,000 records, of which 99,997 are at names of their own.
@@ -152,25 +128,25 @@ fn file_of_children(alloc: Global) -> Result<Vec<u8>, Fail> {
     Ok(text)
 }
 
-// Walks down from the origin, as far as there are names; `None` for what is no label.
-fn walked<'z>(steps: &mut Steps<'z>, labels: &[&[u8]]) -> Option<(usize, Node<'z>)> {
+// Walks down from the origin, as far as there are names.
+fn walked<'z>(steps: &mut Steps<'z>, labels: &[&[u8]]) -> Result<(usize, Node<'z>), Fail> {
     if steps.visits() > 1_000_000 {
-        return None;
+        return Err(Fail::new("many visits"));
     }
     let mut node = steps.apex();
     let mut found = 0;
     'labels: for octets in labels {
-        let label = Label::new(octets)?;
+        let label = Label::new(octets).ok_or("a label")?;
         if steps.visits() > 1_000_000 || steps.comparisons() > 1_000_000 {
-            return None;
+            return Err(Fail::new("many steps"));
         }
         let Some(child) = node.down(label, steps) else {
-            return Some((found, node));
+            return Ok((found, node));
         };
         node = child;
         found += 1;
     }
-    Some((found, node))
+    Ok((found, node))
 }
 
 // The lowest type at a name, 0 where it owns nothing.
@@ -199,24 +175,19 @@ fn has_data(node: &Node<'_>, rtype: RType, wanted: &[&[u8]]) -> bool {
 
 #[test]
 fn the_way_to_a_target_begins_at_the_last_name_on_it(rt: HostRuntime) -> Result<(), Fail> {
-    let text = file_with(rt.alloc(), b"m MX 1 x.y.ent\nm MX 2 www\nm MX 3 nowhere")?;
-    let Some(Ok(zone)) = built(rt.alloc(), b"example.", text.as_slice())? else {
-        panic!(rt; "no zone");
-    };
-    assert!(rt; leads_to(&zone, 0, b"\x03ent\x07example\x00"));
-    assert!(rt; leads_to(&zone, 1, b"\x03www\x07example\x00"));
-    assert!(rt; !leads_to(&zone, 2, b"\x07example\x00"));
+    let zone = zone_with(rt.alloc(), b"m MX 1 x.y.ent\nm MX 2 www\nm MX 3 nowhere")?;
+    assert!(rt; leads_to(&zone, 0, b"\x03ent\x07example\x00")?);
+    assert!(rt; leads_to(&zone, 1, b"\x03www\x07example\x00")?);
+    assert!(rt; !leads_to(&zone, 2, b"\x07example\x00")?);
     Ok(())
 }
 
 // Whether the way to the target of the MX record at `i` of the name m begins at the name.
-fn leads_to(zone: &Zone, i: usize, name: &[u8]) -> bool {
+fn leads_to(zone: &Zone, i: usize, name: &[u8]) -> Result<bool, Fail> {
     let mut steps = Steps::new(zone);
-    match walked(&mut steps, &[b"m"]) {
-        Some((1, node)) => match node.lead(RType::MX, i) {
-            Some(lead) => lead.name().octets() == name,
-            None => false,
-        },
-        _ => false,
-    }
+    let (count, node) = walked(&mut steps, &[b"m"])?;
+    Ok(match node.lead(RType::MX, i) {
+        Some(lead) => count == 1 && lead.name().octets() == name,
+        None => false,
+    })
 }
