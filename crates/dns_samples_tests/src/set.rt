@@ -1,23 +1,17 @@
 ghost use Rattle.dns_spec.specs.Data.{Valid};
 
 use dns_rdata::{RType, Rdata, SetView};
-use std::alloc::Global;
 
 /// A set of one record.
 #[derive(Drop)]
 pub struct OneRecord {
-    rtype: RType,
-    ttl: u32,
-    rdata: Rdata,
+    /// Its type.
+    pub rtype: RType,
+    /// Its TTL, in seconds.
+    pub ttl: u32,
+    /// Its data, which is valid for the type.
+    pub rdata: Rdata,
     ghost valid: { Valid rtype.0 rdata },
-}
-
-impl OneRecord {
-    /// The set of a record with these octets as its data; `None` where they are none of its type.
-    pub fn new(alloc: Global, rtype: RType, ttl: u32, octets: &[u8]) -> Option<OneRecord> {
-        let rdata = Rdata::from_wire(alloc, rtype, octets).ok()?;
-        Some(OneRecord { rtype, ttl, rdata })
-    }
 }
 
 impl SetView for OneRecord {

@@ -1,4 +1,4 @@
-use dns_rdata::{RType, SetView};
+use dns_rdata::{RType, Rdata, SetView};
 use dns_samples_tests::OneRecord;
 use std::test::Fail;
 
@@ -12,9 +12,11 @@ fn first_octet<S: SetView>(set: &S) -> Option<u8> {
 
 #[test]
 fn a_set_is_lent(rt: HostRuntime) -> Result<(), Fail> {
-    let Some(set) = OneRecord::new(rt.alloc(), RType::A, 3600, b"ABCD") else {
+    let (rtype, ttl) = (RType::A, 3600);
+    let Ok(rdata) = Rdata::from_wire(rt.alloc(), rtype, b"ABCD") else {
         return Err("an address".into());
     };
+    let set = OneRecord { rtype, ttl, rdata };
     assert_eq!(rt; set.rtype(), RType::A);
     assert_eq!(rt; set.ttl(), 3600);
     assert_eq!(rt; first_octet(&set), Some(b'A'));

@@ -2,7 +2,7 @@
 ghost use Rattle.std.specs.Prelude.{◌≡◌, ◌≤◌};
 
 use dns_name::Name;
-use dns_rdata::RType;
+use dns_rdata::{RType, Rdata};
 use dns_samples_tests::OneRecord;
 use dns_wire::{CLASS_IN, Head, Question, Section, SuffixHash, Writer};
 use std::test::Fail;
@@ -72,10 +72,11 @@ pub(crate) fn offer<H: SuffixHash>(
 {
     let (owner, rtype, octets) = record;
     let ttl = if rtype == RType::SOA { 300 } else { 3600 };
-    let Some(set) = OneRecord::new(rt.alloc(), rtype, ttl, octets) else {
+    let Ok(rdata) = Rdata::from_wire(rt.alloc(), rtype, octets) else {
         return Err("data of the type".into());
     };
     let owner = name(owner)?;
+    let set = OneRecord { rtype, ttl, rdata };
     if writer.put_set(section, &owner, ttl, &set) == has_room {
         Ok(())
     } else {
