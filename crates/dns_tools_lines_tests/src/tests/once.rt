@@ -1,7 +1,7 @@
-use super::devices::finished;
+use super::devices::{Ran, finished};
 use dns_answer::Limit;
 use dns_name::{Name, Tally};
-use dns_samples_tests::{Kept, Pieces, SMALL};
+use dns_samples_tests::{Kept, MESSAGES, Pieces, QUERY, QUESTIONS, REPLIES, SMALL};
 use dns_tools::{Stop, load_zone, run_once};
 use dns_zone::Zone;
 use std::alloc::Global;
@@ -18,25 +18,16 @@ fn sample(alloc: Global) -> Result<Zone, Fail> {
 
 // What a run over the sample zone, over UDP, writes and answers, for an input in pieces and a
 // number of calls that work.
-fn run(
-    alloc: Global,
-    input: &[u8],
-    most: usize,
-    reads: u32,
-    writes: u32,
-) -> Result<(Vec<u8>, Result<bool, Stop>), Fail> {
-    let zone = sample(alloc)?;
-    run_over(alloc, &zone, input, most, reads, writes)
+fn run(alloc: Global, input: &[u8], most: usize, reads: u32, writes: u32) -> Result<Ran, Fail> {
+    run_over(alloc, &sample(alloc)?, (input, most), (reads, writes))
 }
 
 fn run_over(
     alloc: Global,
     zone: &Zone,
-    input: &[u8],
-    most: usize,
-    reads: u32,
-    writes: u32,
-) -> Result<(Vec<u8>, Result<bool, Stop>), Fail> {
+    (input, most): (&[u8], usize),
+    (reads, writes): (u32, u32),
+) -> Result<Ran, Fail> {
     let mut source = Tally::new(Pieces::new(input, most, reads));
     let mut sink = Tally::new(Kept::new(alloc, most, writes));
     let outcome = run_once(alloc, zone, Limit::Udp, &mut source, &mut sink);
@@ -44,6 +35,9 @@ fn run_over(
 }
 
 const WWW: &str = "12340000000100000000000003777777076578616d706c650000010001";
+
+// The same in capital digits.
+const WWW_IN_CAPITALS: &str = "12340000000100000000000003777777076578616D706C650000010001\n";
 
 const WWW_REPLY: &str =
     "12348400000100010000000003777777076578616d706c650000010001c00c0001000100000e100004c000020a";
@@ -65,88 +59,51 @@ fn check_tcp(rt: &impl Abort, alloc: Global, zone: &Zone) -> Result<(), Fail> {
     Ok(())
 }
 
+// The digits of octets in pieces, and of others, and the line end.
+fn line_of(alloc: Global, pieces: &[&[u8]], others: &[&[u8]]) -> Result<String, Fail> {
+    let mut line = String::new(alloc);
+    for piece in pieces.iter().chain(others.iter()) {
+        for octet in *piece {
+            line.push_str(format!(in alloc; "{octet:02x}")?.as_str())?;
+        }
+    }
+    line.push_str("\n")?;
+    Ok(line)
+}
+
+// Compares the line that answers a line with the one that is wanted.
+fn judge<R: Abort + AllocGlobal>(rt: &R, line: &str, wanted: &str) -> Result<(), Fail> {
+    let (output, outcome) = run(rt.alloc(), line.as_bytes(), 1000, 1000, 1000)?;
+    assert_eq!(rt; output.as_slice(), wanted.as_bytes(), "to {line}");
+    assert_eq!(rt; outcome, Ok(true));
+    Ok(())
+}
+
 #[test]
 fn replies_to_one_message(rt: HostRuntime) -> Result<(), Fail> {
-    let rows = [
-        (WWW, WWW_REPLY),
-        (
-            "12340000000100000000000003575757074578616d706c650000010001",
-            "12348400000100010000000003575757074578616d706c650000010001\
-            c00c0001000100000e100004c000020a",
-        ),
-        (
-            "12340000000100000000000003777777076578616D706C650000010001",
-            WWW_REPLY,
-        ),
-        ("1234000000010000000000", "none"),
-        (
-            "12348000000100000000000003777777076578616d706c650000010001",
-            "none",
-        ),
-        ("", "none"),
-        (
-            "12341000000100000000000003777777076578616d706c650000010001",
-            "123490040000000000000000",
-        ),
-        (
-            "12340000000100000000000103777777076578616d706c6500000100010000291000000000000000",
-            "123480010000000000000000",
-        ),
-        (
-            "123400000001000000000000c00c00010001",
-            "123480010000000000000000",
-        ),
-        (
-            "12340000000100000000000003777777076578616d706c65000001000100",
-            "123480010000000000000000",
-        ),
-        (
-            "12340000000100000000000003777777056f746865720000010001",
-            "12348005000100000000000003777777056f746865720000010001",
-        ),
-        (
-            "12340000000100000000000003777777076578616d706c650000010003",
-            "12348005000100000000000003777777076578616d706c650000010003",
-        ),
-        (
-            "123400000001000000000000076578616d706c650000fc0001",
-            "123480040001000000000000076578616d706c650000fc0001",
-        ),
-        (
-            "123400000001000000000000046e6f7065076578616d706c650000010001",
-            "123484030001000000010000046e6f7065076578616d706c650000010001\
-            c011000600010000012c0026026e73c011\
-            0a686f73746d6173746572c0110000000100001c2000000384001275000000012c",
-        ),
-        (
-            "123400000001000000000000017801790177076578616d706c650000100001",
-            "123484000001000100000000017801790177076578616d706c650000100001\
-            c00c0010000100000e10000403616e79",
-        ),
-        (
-            "123400000001000000000000016803737562076578616d706c650000010001",
-            "123480000001000000010001016803737562076578616d706c650000010001\
-            c00e0002000100000e100005026e73c00ec02b0001000100000e100004c0000235",
-        ),
-        (
-            "12340000000100000000000005616c696173076578616d706c650000010001",
-            "12348400000100020000000005616c696173076578616d706c650000010001\
-            c00c0005000100000e10000603777777c012c02b0001000100000e100004c000020a",
-        ),
-        (
-            "123400000001000000000000076578616d706c650000020001",
-            "123484000001000100000001076578616d706c650000020001\
-            c00c0002000100000e100005026e73c00cc0250001000100000e100004c0000201",
-        ),
-    ];
-    for (query, reply) in rows {
-        let input = format!(in rt.alloc(); "{query}\n")?;
-        let (output, outcome) = run(rt.alloc(), input.as_bytes(), 1000, 1000, 1000)?;
-        let wanted = format!(in rt.alloc(); "{reply}\n")?;
-        assert_eq!(rt; output.as_slice(), wanted.as_bytes(), "to {query}");
-        assert_eq!(rt; outcome, Ok(true));
+    for reply in REPLIES {
+        let query = line_of(rt.alloc(), &[QUERY, reply.question], &[])?;
+        let wanted = line_of(rt.alloc(), &[reply.head, reply.question], reply.records)?;
+        judge(&rt, query.as_str(), wanted.as_str())?;
     }
-    Ok(())
+    for (question, head) in QUESTIONS {
+        let query = line_of(rt.alloc(), &[QUERY, question], &[])?;
+        let wanted = line_of(rt.alloc(), &[head, question], &[])?;
+        judge(&rt, query.as_str(), wanted.as_str())?;
+    }
+    for (sent, pieces) in MESSAGES {
+        let reply = line_of(rt.alloc(), pieces, &[])?;
+        let wanted = if pieces.is_empty() {
+            "none\n"
+        } else {
+            reply.as_str()
+        };
+        judge(&rt, line_of(rt.alloc(), sent, &[])?.as_str(), wanted)?;
+    }
+    judge(&rt, "1234000000010000000000\n", "none\n")?;
+    judge(&rt, "\n", "none\n")?;
+    let wanted = format!(in rt.alloc(); "{WWW_REPLY}\n")?;
+    judge(&rt, WWW_IN_CAPITALS, wanted.as_str())
 }
 
 #[test]
