@@ -1,4 +1,3 @@
-mod devices;
 mod streams;
 mod turns;
 mod zones;

@@ -5,6 +5,7 @@ use dns_serve::{Ahead, StreamFault, StreamRoom, serve_stream, serve_stream_in};
 use std::alloc::Global;
 use std::cell::Cell;
 use std::io::{self, Read};
+use std::process::Abort;
 use std::test::Fail;
 
 /// What a session left: its answer, how often it said that a message begins, what was written, and
@@ -196,59 +197,52 @@ fn streams_that_are_cut(rt: HostRuntime) -> Result<(), Fail> {
     Ok(())
 }
 
-#[test]
-fn each_read_fails_in_turn(rt: HostRuntime) -> Result<(), Fail> {
-    let alloc = rt.alloc();
-    let input = frames(alloc, "waw")?;
-    let wanted = frames(alloc, "WW")?;
-    for most in [1, 7, 100_000] {
-        for reads in 0..200 {
-            let devices = Devices {
-                most,
-                reads,
-                ..ALL_WORK
-            };
-            let left = session(alloc, input.as_slice(), 9, devices)?;
-            if left.answer == Ok(3) {
-                break;
-            }
-            assert_eq!(rt; left.answer, Err(StreamFault::SourceFailed));
-            assert_eq!(rt; left.failures, (1, 0));
-            // The first message ends after 31 octets, the last one after 75.
-            let due = match input.len().saturating_sub(left.unread) {
-                0..31 => 0,
-                31..75 => 47,
-                _ => 94,
-            };
-            assert_eq!(rt; left.written.len(), due, "after {reads} reads");
-            assert!(rt; wanted.as_slice().starts_with(left.written.as_slice()));
-        }
+// How many octets of three messages are read, and of their replies written, where a device fails;
+// `None` where its calls are enough.
+fn cut_short<R: Abort + AllocGlobal>(
+    rt: &R,
+    devices: Devices,
+    fault: StreamFault,
+) -> Result<Option<(usize, usize)>, Fail> {
+    let input = frames(rt.alloc(), "waw")?;
+    let wanted = frames(rt.alloc(), "WW")?;
+    let left = session(rt.alloc(), input.as_slice(), 9, devices)?;
+    if left.answer == Ok(3) {
+        return Ok(None);
     }
-    Ok(())
+    assert_eq!(rt; left.answer, Err(fault));
+    let failures = if fault == StreamFault::SourceFailed {
+        (1, 0)
+    } else {
+        (0, 1)
+    };
+    assert_eq!(rt; left.failures, failures);
+    assert!(rt; wanted.as_slice().starts_with(left.written.as_slice()));
+    Ok(Some((input.len().saturating_sub(left.unread), left.written.len())))
 }
 
 #[test]
-fn each_write_fails_in_turn(rt: HostRuntime) -> Result<(), Fail> {
-    let alloc = rt.alloc();
-    let input = frames(alloc, "waw")?;
-    let wanted = frames(alloc, "WW")?;
+fn each_read_and_each_write_fails_in_turn(rt: HostRuntime) -> Result<(), Fail> {
     for most in [1, 7, 100_000] {
-        for writes in 0..200 {
-            let devices = Devices {
-                most,
-                writes,
-                ..ALL_WORK
-            };
-            let left = session(alloc, input.as_slice(), 9, devices)?;
-            if left.answer == Ok(3) {
-                break;
+        for calls in 0..200 {
+            let mut devices = Devices { most, ..ALL_WORK };
+            devices.reads = calls;
+            if let Some((read, written)) = cut_short(&rt, devices, StreamFault::SourceFailed)? {
+                // The first message ends after 31 octets, the last one after 75.
+                let due = match read {
+                    0..31 => 0,
+                    31..75 => 47,
+                    _ => 94,
+                };
+                assert_eq!(rt; written, due, "after {calls} reads");
             }
-            assert_eq!(rt; left.answer, Err(StreamFault::SinkFailed));
-            assert_eq!(rt; left.failures, (0, 1));
-            // Nothing is read after the message whose reply could not be written.
-            let read = if left.written.len() < 47 { 31 } else { 75 };
-            assert_eq!(rt; input.len().saturating_sub(left.unread), read);
-            assert!(rt; wanted.as_slice().starts_with(left.written.as_slice()));
+            let mut devices = Devices { most, ..ALL_WORK };
+            devices.writes = calls;
+            if let Some((read, written)) = cut_short(&rt, devices, StreamFault::SinkFailed)? {
+                // Nothing is read after the message whose reply could not be written.
+                let due = if written < 47 { 31 } else { 75 };
+                assert_eq!(rt; read, due, "after {calls} writes");
+            }
         }
     }
     Ok(())
@@ -256,21 +250,23 @@ fn each_write_fails_in_turn(rt: HostRuntime) -> Result<(), Fail> {
 
 #[test]
 fn each_send_fails_in_turn(rt: HostRuntime) -> Result<(), Fail> {
-    let input = frames(rt.alloc(), "waw")?;
-    // What was written and what was read: replies are sent after each message, also after the one
+    // What was read and what was written: replies are sent after each message, also after the one
     // that gets no reply.
-    let rows = [(0, 31), (47, 31), (47, 44), (47, 75), (94, 75)];
-    for call in 0..5 {
+    let rows = [
+        (0, 31, 0),
+        (1, 31, 47),
+        (2, 44, 47),
+        (3, 75, 47),
+        (4, 75, 94),
+    ];
+    for (writes, read, written) in rows {
         let devices = Devices {
-            writes: call,
+            writes,
             ahead: Ahead::Awaited,
             ..ALL_WORK
         };
-        let left = session(rt.alloc(), input.as_slice(), 9, devices)?;
-        assert_eq!(rt; left.answer, Err(StreamFault::SinkFailed));
-        assert_eq!(rt; left.failures, (0, 1));
-        let read = input.len().saturating_sub(left.unread);
-        assert_eq!(rt; Some(&(left.written.len(), read)), rows.get(call as usize));
+        let found = cut_short(&rt, devices, StreamFault::SinkFailed)?;
+        assert_eq!(rt; found, Some((read, written)), "after {writes} writes");
     }
     Ok(())
 }

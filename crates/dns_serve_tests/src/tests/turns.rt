@@ -1,5 +1,5 @@
-use super::devices::Mailbox;
 use super::zones::{WWW, WWW_REPLY, sample};
+use crate::Mailbox;
 use dns_answer::UdpDraft;
 use dns_serve::{Datagrams, TurnFault, udp_turn, udp_turn_in};
 use std::test::Fail;
@@ -22,14 +22,7 @@ fn a_datagram_and_its_reply(rt: HostRuntime) -> Result<(), Fail> {
     ];
     let (mut room, mut draft, mut out) = ([0; 512], UdpDraft::new(), [0; 512]);
     for (datagram, replied, reply) in rows {
-        let mut mailbox = Mailbox {
-            datagram,
-            replies: Vec::new(rt.alloc()),
-            sends: 0,
-            fails_at: 9,
-            calls: 0,
-            failures: 0,
-        };
+        let mut mailbox = Mailbox::new(rt.alloc(), datagram, 9);
         let turn = udp_turn_in(&zone, &mut mailbox, &mut room, &mut draft, &mut out);
         assert_eq!(rt; turn, Ok(replied));
         assert_eq!(rt; mailbox.replies.as_slice(), reply);
@@ -48,14 +41,7 @@ fn each_call_fails_in_turn(rt: HostRuntime) -> Result<(), Fail> {
         (2, Ok(true), 2),
     ];
     for (fails_at, wanted, calls) in rows {
-        let mut mailbox = Mailbox {
-            datagram: WWW,
-            replies: Vec::new(rt.alloc()),
-            sends: 0,
-            fails_at,
-            calls: 0,
-            failures: 0,
-        };
+        let mut mailbox = Mailbox::new(rt.alloc(), WWW, fails_at);
         assert_eq!(rt; udp_turn(&zone, &mut mailbox), wanted);
         assert_eq!(rt; mailbox.calls, calls);
         assert_eq!(rt; mailbox.failures(), u64::from(wanted.is_err()));

@@ -1,20 +1,38 @@
 ghost use Rattle.std.specs.Prelude.{◌≡◌, None, true};
 
 use dns_serve::{Datagrams, Failed};
+use std::alloc::Global;
 
-/// A device over memory: one datagram, and the replies that were sent. The call `fails_at`, counted
-/// from 0, fails, and later ones work.
+/// A device over memory: one datagram, again and again, and the replies that were sent.
 #[derive(Drop)]
-pub(super) struct Mailbox<'a> {
-    pub datagram: &'a [u8],
+pub struct Mailbox<'a> {
+    datagram: &'a [u8],
+    fails_at: u32,
+    /// The replies, one after another.
     pub replies: Vec<u8>,
+    /// How many they are.
     pub sends: u32,
-    pub fails_at: u32,
+    /// How many calls were made.
     pub calls: u32,
+    /// How many of them failed.
     pub failures: u64,
 }
 
-impl Mailbox<'_> {
+impl<'a> Mailbox<'a> {
+    /// A device whose call `fails_at`, counted from 0, fails; later ones work.
+    pub fn new(alloc: Global, datagram: &'a [u8], fails_at: u32) -> Mailbox<'a>
+        ensures { result.failures ≡ 0 }
+    {
+        Mailbox {
+            datagram,
+            fails_at,
+            replies: Vec::new(alloc),
+            sends: 0,
+            calls: 0,
+            failures: 0,
+        }
+    }
+
     // Whether the next call works.
     fn works(&mut self) -> bool
         ensures { self.new.failures ≡ self.old.failures }
