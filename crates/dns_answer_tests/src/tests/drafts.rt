@@ -1,8 +1,9 @@
 //! Replies that are made in one draft, one after the other.
 
-use super::replies::{QUERY, joined};
-use super::zones::long;
+use super::replies::joined;
+use super::zones::{long, zone};
 use dns_answer::{Limit, TcpDraft, UdpDraft, respond, respond_in};
+use dns_samples_tests::QUERY;
 use dns_zone::{Steps, Zone};
 use std::alloc::Global;
 use std::process::Abort;
@@ -77,7 +78,7 @@ fn is_alike(
 
 #[test]
 fn a_draft_is_used_again(rt: HostRuntime) -> Result<(), Fail> {
-    let zone = long(rt.alloc())?;
+    let zone = zone(rt.alloc(), b"example", &long(rt.alloc())?)?;
     check_drafts(&rt, rt.alloc(), &zone)
 }
 

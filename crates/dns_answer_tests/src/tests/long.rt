@@ -1,8 +1,9 @@
 //! Replies over TCP that are past the limit of UDP, and one that just meets it.
 
-use super::replies::{QUERY, joined, tried};
-use super::zones::{LETTERS, large, long};
+use super::replies::{joined, tried};
+use super::zones::{LETTERS, digits, large, long, zone};
 use dns_answer::Limit;
+use dns_samples_tests::QUERY;
 use dns_zone::Zone;
 use std::alloc::Global;
 use std::process::Abort;
@@ -20,9 +21,10 @@ fn is_reply(
 }
 
 #[test]
-fn strings_about_the_limit_of_udp(rt: HostRuntime) -> Result<(), Fail> {
-    let zone = large(rt.alloc())?;
-    check_limit(&rt, rt.alloc(), &zone)
+fn sets_about_the_limit_of_udp(rt: HostRuntime) -> Result<(), Fail> {
+    let zone = zone(rt.alloc(), b"example", &large(rt.alloc())?)?;
+    check_limit(&rt, rt.alloc(), &zone)?;
+    check_addresses(&rt, rt.alloc(), &zone)
 }
 
 fn check_limit(rt: &impl Abort, alloc: Global, zone: &Zone) -> Result<(), Fail> {
@@ -102,12 +104,6 @@ fn ends_so(
     is_reply(alloc, zone, Limit::Tcp, question, &[wanted.as_slice()])
 }
 
-#[test]
-fn sixty_four_addresses(rt: HostRuntime) -> Result<(), Fail> {
-    let zone = large(rt.alloc())?;
-    check_addresses(&rt, rt.alloc(), &zone)
-}
-
 fn check_addresses(rt: &impl Abort, alloc: Global, zone: &Zone) -> Result<(), Fail> {
     for (question, head, before, owner) in SIXTY_FOUR {
         assert!(rt; ends_so(alloc, zone, question, head, before, owner)?);
@@ -131,11 +127,6 @@ fn is_cut(
     Ok(is_cut && is_whole)
 }
 
-// Two digits of a number below 100.
-fn digits(number: u8) -> [u8; 2] {
-    [b'0' + number / 10 % 10, b'0' + number % 10]
-}
-
 // 64 strings that end with their number.
 fn strings(alloc: Global) -> Result<Vec<u8>, Fail> {
     let mut records = Vec::new(alloc);
@@ -145,21 +136,6 @@ fn strings(alloc: Global) -> Result<Vec<u8>, Fail> {
         records.extend_from_slice(&digits(number))?;
     }
     Ok(records)
-}
-
-#[test]
-fn sixty_four_strings(rt: HostRuntime) -> Result<(), Fail> {
-    let zone = long(rt.alloc())?;
-    check_strings(&rt, rt.alloc(), &zone)
-}
-
-fn check_strings(rt: &impl Abort, alloc: Global, zone: &Zone) -> Result<(), Fail> {
-    let question = b"\x01x\x07example\x00\x00\x10\x00\x01";
-    let head = b"\x12\x34\x84\x00\x00\x01\x00\x40\x00\x00\x00\x00";
-    let strings = strings(alloc)?;
-    assert_eq!(rt; strings.len(), 17_179 - 27);
-    assert!(rt; is_cut(alloc, zone, question, head, strings.as_slice())?);
-    Ok(())
 }
 
 // 17 services, at the targets `t10` to `t26`.
@@ -199,12 +175,17 @@ fn services(alloc: Global) -> Result<Vec<u8>, Fail> {
 }
 
 #[test]
-fn names_past_the_reach_of_a_pointer(rt: HostRuntime) -> Result<(), Fail> {
-    let zone = long(rt.alloc())?;
-    check_services(&rt, rt.alloc(), &zone)
+fn sets_past_the_reach_of_a_pointer(rt: HostRuntime) -> Result<(), Fail> {
+    let zone = zone(rt.alloc(), b"example", &long(rt.alloc())?)?;
+    check_long(&rt, rt.alloc(), &zone)
 }
 
-fn check_services(rt: &impl Abort, alloc: Global, zone: &Zone) -> Result<(), Fail> {
+fn check_long(rt: &impl Abort, alloc: Global, zone: &Zone) -> Result<(), Fail> {
+    let question = b"\x01x\x07example\x00\x00\x10\x00\x01";
+    let head = b"\x12\x34\x84\x00\x00\x01\x00\x40\x00\x00\x00\x00";
+    let strings = strings(alloc)?;
+    assert_eq!(rt; strings.len(), 17_179 - 27);
+    assert!(rt; is_cut(alloc, zone, question, head, strings.as_slice())?);
     let question = b"\x01y\x07example\x00\x00\x21\x00\x01";
     let head = b"\x12\x34\x84\x00\x00\x01\x00\x11\x00\x00\x04\x40";
     let services = services(alloc)?;

@@ -1,12 +1,10 @@
 //! Datagrams, and their replies by a zone.
 
 use dns_answer::{Limit, respond};
+use dns_samples_tests::{QUERY, Reply};
 use dns_zone::{Steps, Zone};
 use std::alloc::Global;
 use std::test::Fail;
-
-/// The header of a query of one question.
-pub(super) const QUERY: &[u8] = b"\x12\x34\x00\x00\x00\x01\x00\x00\x00\x00\x00\x00";
 
 /// Whether a reply is the one that is wanted, and what it took: the nodes that were handed out, and
 /// the labels that were compared.
@@ -64,4 +62,16 @@ pub(super) fn tried(
     }
     let wanted = joined(alloc, wanted)?;
     compare(alloc, zone, limit, sent.as_slice(), Some(wanted.as_slice()))
+}
+
+/// Compares the reply of a zone to a question with the one that is wanted.
+pub(super) fn replied(
+    alloc: Global,
+    zone: &Zone,
+    limit: Limit,
+    reply: &Reply<'_>,
+) -> Result<Compared, Fail> {
+    let records = joined(alloc, reply.records)?;
+    let wanted = [reply.head, reply.question, records.as_slice()];
+    tried(alloc, zone, limit, &[QUERY, reply.question], &wanted)
 }

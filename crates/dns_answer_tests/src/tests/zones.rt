@@ -1,5 +1,6 @@
 //! Zones that tests answer from.
 
+use super::replies::joined;
 use dns_master::read_zone;
 use dns_name::{Name, Tally};
 use dns_samples_tests::SMALL;
@@ -40,95 +41,72 @@ pub(super) fn small(alloc: Global) -> Result<Zone, Fail> {
     zone(alloc, b"example", SMALL.as_bytes())
 }
 
-/// The small zone, chains of aliases, and sets that end near the limit of UDP or far past it.
-pub(super) fn large(alloc: Global) -> Result<Zone, Fail> {
-    let mut text = Vec::new(alloc);
-    push_large(alloc, &mut text)?;
-    zone(alloc, b"example", text.as_slice())
-}
-
-fn push_large(alloc: Global, text: &mut Vec<u8>) -> Result<(), Fail> {
-    push_all(text, &[SMALL.as_bytes(), MORE.as_bytes()])?;
+/// The file of the small zone, chains of aliases, and sets that end near the limit of UDP or far past
+/// it.
+pub(super) fn large(alloc: Global) -> Result<Vec<u8>, Fail> {
+    let mut text = joined(alloc, &[SMALL.as_bytes(), MORE.as_bytes()])?;
     for (owner, count) in [(b"t TXT ", 216), (b"u TXT ", 217)] {
-        push_all(text, &[owner, &LETTERS, b" ", &LETTERS[..count], b"\n"])?;
+        let string = [owner, LETTERS.as_slice(), b" ", &LETTERS[..count], b"\n"];
+        push_all(&mut text, &string)?;
     }
     for number in 1..18_u32 {
-        push_numbered(alloc, text, "c", number, " CNAME ")?;
-        push_numbered(alloc, text, "c", number + 1, "\n")?;
+        push_numbered(alloc, &mut text, "c", number, " CNAME ")?;
+        push_numbered(alloc, &mut text, "c", number + 1, "\n")?;
     }
-    push_addresses(alloc, text, b"big A ")?;
-    push_addresses(alloc, text, b"big.cut A ")
+    push_addresses(alloc, &mut text, b"big A ")?;
+    push_addresses(alloc, &mut text, b"big.cut A ")?;
+    Ok(text)
 }
 
-/// The small zone, and sets that fill a reply over TCP past the reach of pointers.
-pub(super) fn long(alloc: Global) -> Result<Zone, Fail> {
-    let mut text = Vec::new(alloc);
-    push_long(alloc, &mut text)?;
-    zone(alloc, b"example", text.as_slice())
-}
-
-fn push_long(alloc: Global, text: &mut Vec<u8>) -> Result<(), Fail> {
-    push_all(text, &[SMALL.as_bytes()])?;
+/// The file of the small zone, and sets that fill a reply over TCP past the reach of pointers.
+pub(super) fn long(alloc: Global) -> Result<Vec<u8>, Fail> {
+    let mut text = joined(alloc, &[SMALL.as_bytes()])?;
     for number in 0..64_u8 {
-        let digits = [b'0' + number / 10, b'0' + number % 10];
-        push_all(text, &[b"x TXT ", &LETTERS[..253], &digits, b"\n"])?;
+        let digits = digits(number);
+        push_all(&mut text, &[b"x TXT ", &LETTERS[..253], &digits, b"\n"])?;
     }
     for number in 10..27_u8 {
-        let digits = [b'0' + number / 10, b'0' + number % 10];
-        push_all(text, &[b"y SRV 1 2 53 t", &digits, b"\n"])?;
-        let owner = [b't', digits[0], digits[1], b' ', b'A', b' '];
-        push_addresses(alloc, text, &owner)?;
+        let [high, low] = digits(number);
+        push_all(&mut text, &[b"y SRV 1 2 53 t", &[high, low], b"\n"])?;
+        push_addresses(alloc, &mut text, &[b't', high, low, b' ', b'A', b' '])?;
     }
-    Ok(())
+    Ok(text)
 }
 
-/// A zone of 100,000 records, most of them at names of their own below the origin.
-pub(super) fn wide(alloc: Global) -> Result<Zone, Fail> {
-    let mut text = Vec::new(alloc);
-    push_wide(alloc, &mut text)?;
-    zone(alloc, b"example", text.as_slice())
+/// Two digits of a number below 100.
+pub(super) fn digits(number: u8) -> [u8; 2] {
+    [b'0' + number / 10 % 10, b'0' + number % 10]
 }
 
-fn push_wide(alloc: Global, text: &mut Vec<u8>) -> Result<(), Fail> {
-    push_all(text, &[APEX])?;
+/// The file of a zone of 100,000 records, most of them at names of their own below the origin.
+pub(super) fn wide(alloc: Global) -> Result<Vec<u8>, Fail> {
+    let mut text = joined(alloc, &[APEX])?;
     for number in 0..99_997_u32 {
-        push_numbered(alloc, text, "n", number, " A 192.0.2.2\n")?;
+        push_numbered(alloc, &mut text, "n", number, " A 192.0.2.2\n")?;
     }
-    Ok(())
+    Ok(text)
 }
 
-/// A zone at the root, with an address at a name of 127 labels.
-pub(super) fn deep(alloc: Global) -> Result<Zone, Fail> {
-    let mut text = Vec::new(alloc);
-    push_deep(&mut text)?;
-    zone(alloc, b".", text.as_slice())
-}
-
-fn push_deep(text: &mut Vec<u8>) -> Result<(), Fail> {
-    push_all(text, &[b"$TTL 3600\n@ SOA a h 1 2 3 4 5\n@ NS "])?;
+/// The file of a zone at the root, with an address at a name of 127 labels.
+pub(super) fn deep(alloc: Global) -> Result<Vec<u8>, Fail> {
+    let mut text = joined(alloc, &[b"$TTL 3600\n@ SOA a h 1 2 3 4 5\n@ NS "])?;
     for line_ends in [b"\n".as_slice(), b" A 192.0.2.2\n"] {
         for _ in 0..127_u8 {
-            push_all(text, &[b"a."])?;
+            push_all(&mut text, &[b"a."])?;
         }
-        push_all(text, &[line_ends])?;
+        push_all(&mut text, &[line_ends])?;
     }
-    Ok(())
+    Ok(text)
 }
 
-/// A zone with a cut of 64 servers, which have an address each.
-pub(super) fn many_servers(alloc: Global) -> Result<Zone, Fail> {
-    let mut text = Vec::new(alloc);
-    push_servers(alloc, &mut text)?;
-    zone(alloc, b"example", text.as_slice())
-}
-
-fn push_servers(alloc: Global, text: &mut Vec<u8>) -> Result<(), Fail> {
-    push_all(text, &[APEX])?;
+/// The file of a zone with a cut of 64 servers, which have an address each.
+pub(super) fn many_servers(alloc: Global) -> Result<Vec<u8>, Fail> {
+    let mut text = joined(alloc, &[APEX])?;
     for number in 0..64_u32 {
-        push_numbered(alloc, text, "cut NS n", number, ".cut\n")?;
-        push_numbered(alloc, text, "n", number, ".cut A 192.0.2.2\n")?;
+        push_numbered(alloc, &mut text, "cut NS n", number, ".cut\n")?;
+        push_numbered(alloc, &mut text, "n", number, ".cut A 192.0.2.2\n")?;
     }
-    Ok(())
+    Ok(text)
 }
 
 // 64 addresses, each after these octets.
