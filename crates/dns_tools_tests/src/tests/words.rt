@@ -2,10 +2,6 @@ use dns_answer::Limit;
 use dns_tools::{FaultWord, Flags, Service, check_words, serve_words};
 use std::test::Fail;
 
-fn fault(rt: &impl AllocGlobal, words: &[&str]) -> Option<FaultWord> {
-    serve_words(rt.alloc(), words).err()
-}
-
 #[test]
 fn words_that_are_taken(rt: HostRuntime) -> Result<(), Fail> {
     let rows = [
@@ -64,8 +60,31 @@ fn services_that_are_asked_for(rt: HostRuntime) -> Result<(), Fail> {
 }
 
 #[test]
+fn words_of_the_checker_that_are_taken(rt: HostRuntime) -> Result<(), Fail> {
+    let rows: [(&[&str], bool, bool); 6] = [
+        (&["example", "zone"], false, false),
+        (&["--quiet", "example", "zone"], true, false),
+        (&["--print", "example", "zone"], false, true),
+        (&["--quiet", "--print", "example", "zone"], true, true),
+        (&["--print", "--quiet", "Example.", "zone"], true, true),
+        (&["--print", "example", "zone"], false, true),
+    ];
+    for (words, quiet, print) in rows {
+        let said = check_words(rt.alloc(), words)?;
+        assert_eq!(rt; said.flags, Flags { quiet, print }, "at {words:?}");
+        assert_eq!(rt;
+            said.origin.octets(),
+            b"\x07example\x00".as_slice(),
+            "at {words:?}"
+        );
+        assert_eq!(rt; said.file, "zone");
+    }
+    Ok(())
+}
+
+#[test]
 fn words_that_are_refused(rt: HostRuntime) {
-    let usage: [&[&str]; 29] = [
+    let of_server: [&[&str]; 29] = [
         &[],
         &["once"],
         &["once", "example"],
@@ -96,46 +115,11 @@ fn words_that_are_refused(rt: HostRuntime) {
         &["udp", "127.0.0.1:53", "1", "example", "-"],
         &["udp", "--tcp", "127.0.0.1:53", "1", "example", "zone"],
     ];
-    for words in usage {
-        assert_eq!(rt; fault(&rt, words), Some(FaultWord::Usage), "at {words:?}");
+    for words in of_server {
+        let found = serve_words(rt.alloc(), words).err();
+        assert_eq!(rt; found, Some(FaultWord::Usage), "at {words:?}");
     }
-    for origin in ["", "..", "a..b", "\\256", "a\\"] {
-        let words = ["once", origin, "zone"];
-        let words = words.as_slice();
-        assert_eq!(rt;
-            fault(&rt, words),
-            Some(FaultWord::BadOrigin),
-            "at {words:?}"
-        );
-    }
-}
-
-#[test]
-fn words_of_the_checker_that_are_taken(rt: HostRuntime) -> Result<(), Fail> {
-    let rows: [(&[&str], bool, bool); 6] = [
-        (&["example", "zone"], false, false),
-        (&["--quiet", "example", "zone"], true, false),
-        (&["--print", "example", "zone"], false, true),
-        (&["--quiet", "--print", "example", "zone"], true, true),
-        (&["--print", "--quiet", "Example.", "zone"], true, true),
-        (&["--print", "example", "zone"], false, true),
-    ];
-    for (words, quiet, print) in rows {
-        let said = check_words(rt.alloc(), words)?;
-        assert_eq!(rt; said.flags, Flags { quiet, print }, "at {words:?}");
-        assert_eq!(rt;
-            said.origin.octets(),
-            b"\x07example\x00".as_slice(),
-            "at {words:?}"
-        );
-        assert_eq!(rt; said.file, "zone");
-    }
-    Ok(())
-}
-
-#[test]
-fn words_of_the_checker_that_are_refused(rt: HostRuntime) {
-    let usage: [&[&str]; 15] = [
+    let of_checker: [&[&str]; 15] = [
         &[],
         &["example"],
         &["example", "zone", "zone"],
@@ -152,11 +136,14 @@ fn words_of_the_checker_that_are_refused(rt: HostRuntime) {
         &["--help"],
         &["--version"],
     ];
-    for words in usage {
+    for words in of_checker {
         let found = check_words(rt.alloc(), words).err();
         assert_eq!(rt; found, Some(FaultWord::Usage), "at {words:?}");
     }
-    let words = ["--quiet", "a..b", "zone"];
-    let found = check_words(rt.alloc(), words.as_slice()).err();
-    assert_eq!(rt; found, Some(FaultWord::BadOrigin));
+    for origin in ["", "..", "a..b", "\\256", "a\\"] {
+        let found = serve_words(rt.alloc(), &["once", origin, "zone"]).err();
+        assert_eq!(rt; found, Some(FaultWord::BadOrigin), "at {origin:?}");
+        let found = check_words(rt.alloc(), &["--quiet", origin, "zone"]).err();
+        assert_eq!(rt; found, Some(FaultWord::BadOrigin), "at {origin:?}");
+    }
 }
