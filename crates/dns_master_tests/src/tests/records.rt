@@ -32,14 +32,18 @@ pub(super) const MIXED_MEANS: [Meant<'static>; 6] = [
     (b"\x03a.b\x04deep\x07example\x00", 9, 65280, b"\xab\xcd\xef"),
 ];
 
-const OWNERS: [Case<'static>; 7] = [
+// The address 192.0.2.1.
+const HOST: &[u8] = b"\xc0\x00\x02\x01";
+
+const FILES: [Case<'static>; 16] = [
+    // Owners and origins.
     (b"", &[]),
     (b"\n ; c\r\n\t\n( )\n(\n)", &[]),
     (
         b"A.B 1 A 192.0.2.1\n A 192.0.2.2\n\n$ORIGIN x.\n\tA 192.0.2.3\n\
         y A 192.0.2.4\n A 192.0.2.5",
         &[
-            (b"\x01a\x01b\x07example\x00", 1, 1, b"\xc0\x00\x02\x01"),
+            (b"\x01a\x01b\x07example\x00", 1, 1, HOST),
             (b"\x01a\x01b\x07example\x00", 1, 1, b"\xc0\x00\x02\x02"),
             (b"\x01a\x01b\x07example\x00", 1, 1, b"\xc0\x00\x02\x03"),
             (b"\x01y\x01x\x00", 1, 1, b"\xc0\x00\x02\x04"),
@@ -68,19 +72,14 @@ const OWNERS: [Case<'static>; 7] = [
     (
         b"(a\n1) A 192.0.2.1;x\n(\n b) 2 A(192.0.2.2)",
         &[
-            (b"\x01a\x07example\x00", 1, 1, b"\xc0\x00\x02\x01"),
+            (b"\x01a\x07example\x00", 1, 1, HOST),
             (b"\x01b\x07example\x00", 2, 1, b"\xc0\x00\x02\x02"),
         ],
     ),
     (
         b"\\@\\\"\\000.\\$ 1 A 192.0.2.1\n\\IN 1 A 192.0.2.2\r\n*.W 1 A 192.0.2.3",
         &[
-            (
-                b"\x03@\"\x00\x01$\x07example\x00",
-                1,
-                1,
-                b"\xc0\x00\x02\x01",
-            ),
+            (b"\x03@\"\x00\x01$\x07example\x00", 1, 1, HOST),
             (b"\x02in\x07example\x00", 1, 1, b"\xc0\x00\x02\x02"),
             (b"\x01*\x01w\x07example\x00", 1, 1, b"\xc0\x00\x02\x03"),
         ],
@@ -88,57 +87,48 @@ const OWNERS: [Case<'static>; 7] = [
     (
         b"IN IN 1 A 192.0.2.1\n1 2 A 192.0.2.1\nA CLASS1 A 192.0.2.1",
         &[
-            (b"\x02in\x07example\x00", 1, 1, b"\xc0\x00\x02\x01"),
-            (b"\x011\x07example\x00", 2, 1, b"\xc0\x00\x02\x01"),
-            (b"\x01a\x07example\x00", 2, 1, b"\xc0\x00\x02\x01"),
+            (b"\x02in\x07example\x00", 1, 1, HOST),
+            (b"\x011\x07example\x00", 2, 1, HOST),
+            (b"\x01a\x07example\x00", 2, 1, HOST),
         ],
     ),
-];
-
-const TTLS: [Case<'static>; 4] = [
+    // TTLs that are taken over.
     (
         b"a 5 A 192.0.2.1\nb A 192.0.2.1\nc 6 IN A 192.0.2.1\n\
         d IN A 192.0.2.1\ne IN 7 A 192.0.2.1\n A 192.0.2.1",
         &[
-            (b"\x01a\x07example\x00", 5, 1, b"\xc0\x00\x02\x01"),
-            (b"\x01b\x07example\x00", 5, 1, b"\xc0\x00\x02\x01"),
-            (b"\x01c\x07example\x00", 6, 1, b"\xc0\x00\x02\x01"),
-            (b"\x01d\x07example\x00", 6, 1, b"\xc0\x00\x02\x01"),
-            (b"\x01e\x07example\x00", 7, 1, b"\xc0\x00\x02\x01"),
-            (b"\x01e\x07example\x00", 7, 1, b"\xc0\x00\x02\x01"),
+            (b"\x01a\x07example\x00", 5, 1, HOST),
+            (b"\x01b\x07example\x00", 5, 1, HOST),
+            (b"\x01c\x07example\x00", 6, 1, HOST),
+            (b"\x01d\x07example\x00", 6, 1, HOST),
+            (b"\x01e\x07example\x00", 7, 1, HOST),
+            (b"\x01e\x07example\x00", 7, 1, HOST),
         ],
     ),
     (
         b"$TTL 3\na A 192.0.2.1\na 5 A 192.0.2.1\na A 192.0.2.1\n\
         $TTL 4\na A 192.0.2.1\na 6 A 192.0.2.1\n A 192.0.2.1",
         &[
-            (b"\x01a\x07example\x00", 3, 1, b"\xc0\x00\x02\x01"),
-            (b"\x01a\x07example\x00", 5, 1, b"\xc0\x00\x02\x01"),
-            (b"\x01a\x07example\x00", 3, 1, b"\xc0\x00\x02\x01"),
-            (b"\x01a\x07example\x00", 4, 1, b"\xc0\x00\x02\x01"),
-            (b"\x01a\x07example\x00", 6, 1, b"\xc0\x00\x02\x01"),
-            (b"\x01a\x07example\x00", 4, 1, b"\xc0\x00\x02\x01"),
+            (b"\x01a\x07example\x00", 3, 1, HOST),
+            (b"\x01a\x07example\x00", 5, 1, HOST),
+            (b"\x01a\x07example\x00", 3, 1, HOST),
+            (b"\x01a\x07example\x00", 4, 1, HOST),
+            (b"\x01a\x07example\x00", 6, 1, HOST),
+            (b"\x01a\x07example\x00", 4, 1, HOST),
         ],
     ),
     (
         b"a 5 A 192.0.2.1\n$TTL 0\na A 192.0.2.1",
         &[
-            (b"\x01a\x07example\x00", 5, 1, b"\xc0\x00\x02\x01"),
-            (b"\x01a\x07example\x00", 0, 1, b"\xc0\x00\x02\x01"),
+            (b"\x01a\x07example\x00", 5, 1, HOST),
+            (b"\x01a\x07example\x00", 0, 1, HOST),
         ],
     ),
     (
         b"a 2147483647 A 192.0.2.1",
-        &[(
-            b"\x01a\x07example\x00",
-            2_147_483_647,
-            1,
-            b"\xc0\x00\x02\x01",
-        )],
+        &[(b"\x01a\x07example\x00", 2_147_483_647, 1, HOST)],
     ),
-];
-
-const WORDS: [Case<'static>; 5] = [
+    // Words of data.
     (
         b"v 60 TXT ( \"a)\" ; )\n\"b\" )\n",
         &[(b"\x01v\x07example\x00", 60, 16, b"\x02a)\x01b")],
@@ -216,24 +206,8 @@ fn a_file_of_many_forms(rt: HostRuntime) -> Result<(), Fail> {
 }
 
 #[test]
-fn owners_and_origins(rt: HostRuntime) -> Result<(), Fail> {
-    for (text, meant) in OWNERS {
-        compare(&rt, text, meant)?;
-    }
-    Ok(())
-}
-
-#[test]
-fn ttls_that_are_taken_over(rt: HostRuntime) -> Result<(), Fail> {
-    for (text, meant) in TTLS {
-        compare(&rt, text, meant)?;
-    }
-    Ok(())
-}
-
-#[test]
-fn words_of_data(rt: HostRuntime) -> Result<(), Fail> {
-    for (text, meant) in WORDS {
+fn files_and_their_records(rt: HostRuntime) -> Result<(), Fail> {
+    for (text, meant) in FILES {
         compare(&rt, text, meant)?;
     }
     Ok(())

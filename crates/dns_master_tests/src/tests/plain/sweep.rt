@@ -79,54 +79,45 @@ fn agrees(read: &Result<Vec<Record>, ReadFault>, meant: &Result<Vec<Meant>, Stop
     }
 }
 
-// Compares the two on all texts of so many pieces; how many texts have records.
-fn compare<R: Abort + AllocGlobal>(
+// Compares the two on a text; whether it has records.
+fn compare<R: Abort + AllocGlobal>(rt: &R, text: &[u8], origin: &Name) -> Result<bool, Fail> {
+    let meant = plain_meaning(rt.alloc(), text);
+    let read = read_zone(rt.alloc(), origin, &mut Tally::new(text));
+    assert!(rt; agrees(&read, &meant), "at {text:?}");
+    Ok(read.is_ok_and(|records| !records.is_empty()))
+}
+
+// Compares the two on all texts of at most so many pieces, of which at least so many have records.
+fn sweep<R: Abort + AllocGlobal>(
     rt: &R,
     pieces: &[&[u8]; 10],
-    origin: &Name,
-    count: u32,
-) -> Result<u32, Fail> {
+    most: u32,
+    least: u32,
+) -> Result<(), Fail> {
+    let origin = example()?;
     let mut with_records: u32 = 0;
-    for number in 0..10_u32.saturating_pow(count) {
-        let text = text_of(rt.alloc(), pieces, number, count)?;
-        let meant = plain_meaning(rt.alloc(), text.as_slice());
-        let mut source = Tally::new(text.as_slice());
-        let read = read_zone(rt.alloc(), origin, &mut source);
-        assert!(rt; agrees(&read, &meant), "at {text:?}");
-        if read.is_ok_and(|records| !records.is_empty()) {
-            with_records = with_records.saturating_add(1);
+    for count in 0..=most {
+        for number in 0..10_u32.saturating_pow(count) {
+            let text = text_of(rt.alloc(), pieces, number, count)?;
+            let has_records = compare(rt, text.as_slice(), &origin)?;
+            with_records = with_records.saturating_add(u32::from(has_records));
         }
     }
-    Ok(with_records)
+    assert!(rt; with_records >= least);
+    Ok(())
 }
 
 #[test]
 fn all_texts_of_five_octets(rt: HostRuntime) -> Result<(), Fail> {
-    let origin = example()?;
-    for count in 0..6 {
-        compare(&rt, &OCTETS, &origin, count)?;
-    }
-    Ok(())
+    sweep(&rt, &OCTETS, 5, 0)
 }
 
 #[test]
 fn all_texts_of_five_words(rt: HostRuntime) -> Result<(), Fail> {
-    let origin = example()?;
-    let mut with_records: u32 = 0;
-    for count in 0..6 {
-        with_records = with_records.saturating_add(compare(&rt, &ENTRIES, &origin, count)?);
-    }
-    assert!(rt; with_records > 100);
-    Ok(())
+    sweep(&rt, &ENTRIES, 5, 101)
 }
 
 #[test]
 fn all_texts_of_four_lines(rt: HostRuntime) -> Result<(), Fail> {
-    let origin = example()?;
-    let mut with_records: u32 = 0;
-    for count in 0..5 {
-        with_records = with_records.saturating_add(compare(&rt, &LINES, &origin, count)?);
-    }
-    assert!(rt; with_records > 1000);
-    Ok(())
+    sweep(&rt, &LINES, 4, 1001)
 }
