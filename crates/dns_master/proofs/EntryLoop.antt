@@ -1,5 +1,5 @@
 -- An entry is read token by token: what the tokens so far and those to come give, all give.
-use Rattle.dns_spec.proofs.Common.{◌≡◌, ℕ, ◌+◌, ◌≤◌, ◌<◌, Bool, true, false, cond, List, [], ◌∷◌, ◌++◌, length, refl, sym, ap, ◌∙◌, subst, arith, append_assoc, append-nil, Option, Some, None, Octets, Word, Token, token_front, TokensThen, is_line_end, word_of}
+use Rattle.dns_spec.proofs.Common.{◌≡◌, ℕ, ◌+◌, ◌≤◌, Bool, true, false, cond, List, [], ◌∷◌, ◌++◌, length, refl, sym, ap, ◌∙◌, subst, arith, append_assoc, append-nil, Option, Some, None, Octets, Word, Token, token_front, TokensThen, is_line_end, word_of}
 use Rattle.std.specs.List.{filter, cons_option}
 use Rattle.dns_spec.proofs.ZoneTexts.TextTokens.{front-shorter}
 use Rattle.dns_master.specs.EntryForm.{misplaced, over, onward, step, Outcome, ended, unended, wrong, Reads, token_words, line_ends, EntryRead, IsWrong}
@@ -33,17 +33,11 @@ lines-append (p ∷ ps) qs =
     ∙ ap (λ n. n + line_ends qs) (sym (length-cond (is_line_end p) p (filter is_line_end ps)))
 
 line_ends-one : (p : Token) → line_ends (p ∷ []) ≤ 1
-line_ends-one p = go (is_line_end p)
-  where
-    go : (b : Bool) → length (cond b (p ∷ []) []) ≤ 1
-    go true = omega arith
-    go false = omega arith
+line_ends-one p = grind arith
 
 -- each line end is an octet or more
 pub lines-shorter : (text others : Octets) (p : Token) → token_front text ≡ Some (p, others) → line_ends (p ∷ []) + length others ≤ length text
-lines-shorter text others p e =
-    let less : length others < length text = front-shorter text p others e in
-    omega (arith, less, line_ends-one p)
+lines-shorter text others p e = search (arith, front-shorter, line_ends-one)
 
 module _ (text : Octets) where
   -- the tokens so far, with what their words and line ends are, and what comes of those after them

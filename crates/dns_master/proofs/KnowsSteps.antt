@@ -8,11 +8,7 @@ use Rattle.dns_master.specs.declared.state.Reader.{Reader}
 
 -- the owner of the last record
 pub owner-known : (r : Reader) → (r.count ≡ 0 → ⊥) → owner_of r ≡ Some r.last.owner
-owner-known r some = go (r.count == 0) refl
-  where
-    go : (b : Bool) → (r.count == 0) ≡ b → owner_of r ≡ Some r.last.owner
-    go true e = absurd (some (eqb-true r.count 0 e))
-    go false e = rw e refl
+owner-known r some = grind (arith, eqb-true)
 
 otherwise : {F N X Y : Type 0} → (X → Y) → F ⊎ (N × X) → F ⊎ (N × Y)
 otherwise f (inl h) = inl h
@@ -66,15 +62,7 @@ module _ (o : DomainName) (earlier : List Entry) where
 
   known-after : (e : Entry) (origin : DomainName) (owner : Option DomainName) (default_ttl stated_ttl : Option ℕ) (count : ℕ)
       → After (kind_of e) origin owner default_ttl stated_ttl count → Inherited o (e ∷ earlier) origin owner default_ttl stated_ttl count
-  known-after e origin owner default_ttl stated_ttl count h =
-      record {
-        origin_is = h.origin_is;
-        no_other = h.no_other;
-        owner_is = h.owner_is;
-        default_is = h.default_is;
-        stated_is = h.stated_is;
-        count_is = h.count_is ∙ sym (length-counted (is_record e) e (filter is_record earlier));
-      }
+  known-after e origin owner default_ttl stated_ttl count h = grind (arith, length-counted)
 
   known-of_kind : (e : Entry) (s : EntryKind) (origin : DomainName) (owner : Option DomainName) (default_ttl stated_ttl : Option ℕ) (count : ℕ) → kind_of e ≡ s
       → After s origin owner default_ttl stated_ttl count → Inherited o (e ∷ earlier) origin owner default_ttl stated_ttl count
@@ -84,26 +72,14 @@ module _ (o : DomainName) (earlier : List Entry) where
   module _ (e : Entry) (old new : Reader) (known : Knows o earlier old) where
     -- an entry without words
     pub nothing-taken : kind_of e ≡ no_words → EntryTaken o earlier e [] old old
-    nothing-taken is =
-        record {
-          given = subst (λ s. KindGives o earlier s (gives [])) (sym is) refl;
-          known = known-of_kind e no_words _ _ _ _ _ is
-              (record { origin_is = known.origin_is; no_other = known.no_other; owner_is = known.owner_is; default_is = known.default_is; stated_is = known.stated_is; count_is = known.count_is });
-        }
+    nothing-taken is = grind (arith, known-of_kind)
 
     -- what after a record is known, where its owner is the one of its kind
     record_after : (s : EntryKind) (owner : DomainName) (f : Fields) → directive_word (codes "$origin") s ≡ None → directive_word (codes "$ttl") s ≡ None → ttl_word s ≡ f.ttl
         → counts_as_record s ≡ true → (n : DomainName) → OwnerAt s n → owner ≡ folded n → (t : RecordTaken o earlier owner f old new)
         → After s new.origin (owner_of new) new.default_ttl new.stated_ttl new.count
     record_after s owner f no_origin no_ttl ttl counts n is low t =
-        record {
-          origin_is = rw no_origin (rw t.origin_is known.origin_is);
-          no_other = rw no_origin (λ m h. known.no_other m h ∙ sym t.origin_is);
-          owner_is = subst (λ x. MatchOption x (Nothing (OwnerAt s)) (λ f. (n : DomainName) × OwnerAt s n × (f ≡ folded n))) (sym (owner-known new (λ none. omega (arith, none, t.count_is)) ∙ ap Some (ap (λ (r : ResourceRecord). r.owner) t.last_is ∙ t.owner_is))) (n, is, low);
-          default_is = rw no_ttl (rw t.default_is known.default_is);
-          stated_is = rw ttl (t.stated_is _ known.stated_is);
-          count_is = rw counts (t.count_is ∙ ap (λ k. k + 1) known.count_is);
-        }
+        grind (arith, no_origin, owner-known)
 
     pub owned-taken : (w : Word) (ws : List Word) (n owner : DomainName) → kind_of e ≡ owned w ws → NameIs o earlier w n → owner ≡ folded n → folded owner ≡ owner
         → RecordTaken o earlier owner (fields ws) old new → EntryTaken o earlier e (new.last ∷ []) old new

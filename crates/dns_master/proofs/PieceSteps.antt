@@ -1,5 +1,5 @@
 -- What is read of a beginning of a text holds of every text that goes on from it.
-use Rattle.dns_spec.proofs.Common.{◌≡◌, ℕ, ◌+◌, ◌-◌, ◌≤◌, ◌<◌, ◌⊎◌, inl, inr, Option, None, Some, Bool, true, false, List, [], ◌++◌, length, length-append, append-nil, append_assoc, refl, sym, ap, ◌∙◌, subst, arith, Octets, DomainName, FileFault, too_long, unwrap_or, MatchBool, false≢true, ResourceRecord, Meaning, records, fault_at, after, EntriesMean, Word}
+use Rattle.dns_spec.proofs.Common.{◌≡◌, ℕ, ◌+◌, ◌-◌, ◌≤◌, ◌⊎◌, inl, inr, Option, None, Some, Bool, true, false, List, [], ◌++◌, length, length-append, append-nil, append_assoc, refl, sym, ap, ◌∙◌, subst, arith, Octets, DomainName, FileFault, too_long, unwrap_or, MatchBool, false≢true, ResourceRecord, Meaning, records, fault_at, after, EntriesMean, Word}
 use Rattle.dns_spec.specs.ZoneText.{Token, Entry, EntriesOf, extent_by, with_end, cut_entries, beginning, stop_at, stop_fault}
 use Rattle.dns_spec.proofs.ZoneTexts.BeginningsMean.{beginning_decides}
 use Rattle.dns_master.specs.EntryForm.{TextMeans, EntryRead, IsWhole, Reads, outcome_of, unended}
@@ -106,21 +106,11 @@ module _ (past : Bool) (first last : Reader) (held : Octets) (before found : Lis
   all-too_long on = all-taken (fault_at too_long last.line) (λ o earlier known line. rw on (rw line (past-means o earlier)))
 
 pub counted-more : (n m : ℕ) (found rs grown : List ResourceRecord) → length found ≡ n → m ≡ n + length rs → grown ≡ found ++ rs → length grown ≡ m
-counted-more n m found rs grown count more e =
-    let size : length grown ≡ length found + length rs = ap length e ∙ length-append found rs in
-    omega (arith, size, count, more)
+counted-more n m found rs grown count more e = grind (arith, length-append)
 
 -- a piece came, and what it does to the entries at hand
 pub piece-taken : (old new : Option Octets) (before now : Reader) (held text held' : Octets) (left asked : ℕ) (more : Bool) (found found' : List ResourceRecord)
     → (p : AppendsPiece old new asked held text more) → asked ≤ left → FrontGathered None before text now held' found found'
     → PieceTaken old new before held left now held' (left - (length text - length held)) more found found'
 piece-taken old new before now held text held' left asked more found found' p most gathered =
-    let size : length text ≡ length held + length p.came = ap length p.grown ∙ length-append held p.came in
-    record {
-      came = p.came;
-      consumed = p.consumed;
-      size = omega (arith, size, p.short, most);
-      over = p.over;
-      some = λ e. let some : 0 < length p.came = p.some e in omega (arith, size, some, p.short, most);
-      gathered = subst (λ t. FrontGathered None before t now held' found found') p.grown gathered;
-    }
+    grind (arith, length-append)

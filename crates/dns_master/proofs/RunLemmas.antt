@@ -1,6 +1,6 @@
 -- How far a run goes, octet by octet and escape by escape.
-use Rattle.std.proofs.Common.{eqb-true, get_or, ◌≡◌, ℕ, zero, suc, sym, cond, nat_lt, ◌+◌, ◌≤◌, ◌<◌, Bool, true, false, [], ◌∷◌, length, take, drop, refl, ◌∙◌, ap, arith, Option, None, Some, ◌==◌}
-use Rattle.std.specs.Prelude.{not, nat_eq, MatchOption}
+use Rattle.std.proofs.Common.{eqb-true, get_or, ◌≡◌, ℕ, zero, suc, sym, cond, ◌+◌, ◌≤◌, ◌<◌, Bool, true, false, [], ◌∷◌, length, take, drop, refl, ◌∙◌, ap, arith, Option, None, Some, ◌==◌}
+use Rattle.std.specs.Prelude.{nat_eq, MatchOption}
 use Rattle.std.specs.List.{list_all, position, position_or_len, prefix_len}
 use Rattle.dns_spec.proofs.Common.{unwrap_or, and_parts, false≢true, ltb-false, none-some, same_Some, prefix_len-le-length, Octets, is_blank, escape_left, unit_left, run_length, is_word_octet, is_string_octet}
 use Rattle.std.specs.Cmp.Lexicographic.{pointwise, same_text}
@@ -12,31 +12,16 @@ use Rattle.dns_master.specs.declared.run.Run.TheVariants.{Word as WordRun, Strin
 
 -- where the first octet of a sort stands
 pub place-some : (p : ℕ → Bool) (text : Octets) (n : ℕ) → position p text ≡ Some n → n ≡ position_or_len p text
-place-some p text n e = go (nat_lt (position_or_len p text) (length text)) refl
-  where
-    go : (b : Bool) → nat_lt (position_or_len p text) (length text) ≡ b → n ≡ position_or_len p text
-    go true h = sym (same_Some (position_or_len p text) n (sym (ap (λ b. cond b (Some (position_or_len p text)) None) h) ∙ e))
-    go false h = absurd (none-some n (sym (ap (λ b. cond b (Some (position_or_len p text)) None) h) ∙ e))
+place-some p text n e = grind (arith, same_Some, none-some)
 
 place-none : (p : ℕ → Bool) (text : Octets) → position p text ≡ None → length text ≡ position_or_len p text
-place-none p text e = go (nat_lt (position_or_len p text) (length text)) refl
-  where
-    go : (b : Bool) → nat_lt (position_or_len p text) (length text) ≡ b → length text ≡ position_or_len p text
-    go true h = absurd (none-some (position_or_len p text) (sym e ∙ ap (λ b. cond b (Some (position_or_len p text)) None) h))
-    go false h =
-        let few : length text ≤ position_or_len p text = ltb-false (position_or_len p text) (length text) h in
-        let short : position_or_len p text ≤ length text = prefix_len-le-length (λ o. not (p o)) text in
-        omega (arith, few, short)
+place-none p text e = grind (arith, none-some, ltb-false, prefix_len-le-length)
 
 pub none-after : (p : ℕ → Bool) (text : Octets) → position p text ≡ None → [] ≡ drop (position_or_len p text) text
 none-after p text e = let all : length text ≡ position_or_len p text = place-none p text e in sym (drop_all (position_or_len p text) text (omega (arith, all)))
 
 is-other : (by : ℕ → Bool) (o : ℕ) → by 92 ≡ false → by o ≡ true → (o == 92) ≡ false
-is-other by o none h = go (o == 92) refl
-  where
-    go : (b : Bool) → (o == 92) ≡ b → b ≡ false
-    go false e = refl
-    go true e = absurd (false≢true (sym none ∙ ap by (sym (eqb-true o 92 e)) ∙ h))
+is-other by o none h = grind (arith, false≢true, eqb-true)
 
 module _ (by : ℕ → Bool) where
   -- the octets of an escape
@@ -67,12 +52,7 @@ module _ (by : ℕ → Bool) where
   -- an escape
   pub run-escape : (o : ℕ) (text : Octets) → (o == 92) ≡ true → (counted_escape text == 0) ≡ false → counted_escape text ≤ length text
       → run_length by 0 (o ∷ text) ≡ 1 + counted_escape text + run_length by 0 (drop (counted_escape text) text)
-  run-escape o text e h fits =
-      let others : run_length by (counted_escape text) text ≡ counted_escape text + run_length by 0 (drop (counted_escape text) text) =
-      skipped (counted_escape text) text fits in
-      let all : run_length by 0 (o ∷ text) ≡ 1 + run_length by (counted_escape text) text =
-      by_unit o text (Some (counted_escape text)) (unit_of o text e ∙ escape-counted text ∙ rw h refl) in
-      omega (arith, others, all)
+  run-escape o text e h fits = grind (arith, skipped, by_unit, unit_of, escape-counted)
 
   -- a backslash that begins no escape
   pub run-no_escape : (o : ℕ) (text : Octets) → (o == 92) ≡ true → (counted_escape text == 0) ≡ true → run_length by 0 (o ∷ text) ≡ 0
@@ -105,16 +85,10 @@ module _ (run : Run) (text : Octets) (i : ℕ) (inside : i < length text) where
   -- at a backslash, where so many octets after it belong to its escape
   module _ (others : Octets) (k : ℕ) (backslash : (get_or text i 0 == 92) ≡ true) (is : others ≡ drop (i + 1) text) (counted : k ≡ counted_escape others) where
     pub here-escape : (k == 0) ≡ false → k ≤ length others → run_length (by_itself run) 0 (drop i text) ≡ 1 + k + run_length (by_itself run) 0 (drop (i + (1 + k)) text)
-    here-escape some fits =
-        here ∙ ap (λ t. run_length (by_itself run) 0 (get_or text i 0 ∷ t)) (sym is)
-        ∙ run-escape (by_itself run) (get_or text i 0) others backslash (ap (λ n. n == 0) (sym counted) ∙ some) (omega (arith, counted, fits))
-        ∙ ap (λ n. 1 + n + run_length (by_itself run) 0 (drop n others)) (sym counted)
-        ∙ ap (λ t. 1 + k + run_length (by_itself run) 0 t) (ap (drop k) is ∙ drop-drop k (i + 1) text ∙ ap (λ n. drop n text) (one_more i k))
+    here-escape some fits = grind (arith, here, run-escape, drop-drop, one_more)
 
     pub here-no_escape : (k == 0) ≡ true → run_length (by_itself run) 0 (drop i text) ≡ 0
-    here-no_escape none =
-        here ∙ ap (λ t. run_length (by_itself run) 0 (get_or text i 0 ∷ t)) (sym is)
-        ∙ run-no_escape (by_itself run) (get_or text i 0) others backslash (ap (λ n. n == 0) (sym counted) ∙ none)
+    here-no_escape none = grind (arith, here, run-no_escape)
 
 -- where octets in front all stand in a run by themselves, the run goes on after them
 pub run-front : (run : Run) (n : ℕ) (text : Octets) → n ≤ length text → list_all (by_itself run) (take n text) ≡ true

@@ -1,8 +1,8 @@
 -- What a text means from an entry on: what the entry gives, and what the text after it means.
-use Rattle.dns_spec.proofs.Common.{◌≡◌, ℕ, ◌+◌, ◌≤◌, ◌<◌, Bool, true, false, ◌||◌, ◌==◌, List, [], ◌∷◌, ◌++◌, length, take, drop, inl, inr, ◌⊎◌, refl, sym, ap, ◌∙◌, subst, arith, Option, Some, None, false≢true, none-some, if◌then◌else◌, MatchOption, flat_map, list_any, Octets, DomainName, Word, ResourceRecord, bad_parenthesis, too_long, FileFault, EntryMeaning, faulty, gives, Meaning, records, fault_at, after, line_after, KindGives, kind_of, kind_by_words, EntryGives, EntriesMean}
-use Rattle.dns_spec.specs.ZoneText.{Token, quoted_string, line_end, Entry, ended, token_front, TokensThen, is_blank, is_blank_token, begins_blank, closed, line_feed_front, word_length, string_length, cut_entries, with_end, is_open_at_end, take_turns, parentheses, whole_text, extent_by, stop_fault, stop_at, Extent, beginning, in_string, in_token}
+use Rattle.dns_spec.proofs.Common.{◌≡◌, ℕ, ◌+◌, ◌≤◌, ◌<◌, Bool, true, false, ◌||◌, ◌==◌, List, [], ◌∷◌, ◌++◌, length, take, inl, inr, ◌⊎◌, refl, sym, ap, ◌∙◌, subst, arith, Option, Some, None, false≢true, none-some, if◌then◌else◌, MatchOption, list_any, Octets, DomainName, Word, ResourceRecord, bad_parenthesis, too_long, FileFault, EntryMeaning, faulty, gives, Meaning, records, fault_at, after, line_after, KindGives, kind_of, kind_by_words, EntryGives, EntriesMean}
+use Rattle.dns_spec.specs.ZoneText.{Token, quoted_string, line_end, Entry, ended, token_front, TokensThen, is_blank, is_blank_token, begins_blank, closed, line_feed_front, cut_entries, with_end, is_open_at_end, take_turns, parentheses, whole_text, extent_by, stop_fault, stop_at, Extent, beginning, in_string, in_token}
 use Rattle.dns_spec.proofs.ZoneTexts.TextTokens.{has_tokens, front-shorter}
-use Rattle.dns_master.specs.EntryForm.{Reads, unended, wrong, IsWrong, line_ends, token_words, EntryRead, outcome_of, TextMeans}
+use Rattle.dns_master.specs.EntryForm.{Reads, unended, IsWrong, line_ends, EntryRead, outcome_of, TextMeans}
 use Rattle.dns_master.specs.EntryForm as form
 use Rattle.dns_master.proofs.EntryLoop.{lines-append, tokens-append}
 use Rattle.dns_master.proofs.EntryCuts.{EndedCut, HasFirst, has_first, reads-ended, reads-unended, reads-wrong}
@@ -67,15 +67,7 @@ module _ (o : DomainName) (earlier : List Entry) (goes_on : Bool) (text : Octets
 
     last_means : (m : Meaning) → EntriesMean o earlier (last_entry ∷ []) m → TextMeans o earlier goes_on text m
     unfolding last_entry
-    last_means m h =
-        let c = reads-unended false text ps is_open rest reads in
-        record {
-          tokens = ps;
-          rest = rest;
-          spelled = c.spelled;
-          at_end = c.at_end;
-          meant = subst (λ es. EntriesMean o earlier (with_end (extent_by goes_on) rest es) m) (sym c.cuts) h;
-        }
+    last_means m h = grind (arith, reads-unended)
 
     pub unended-end : (code : FileFault) → stop_fault (extent_by goes_on) is_open (stop_at rest) ≡ Some code → TextMeans o earlier goes_on text (fault_at code (line_after earlier))
     unfolding last_entry
@@ -87,15 +79,13 @@ module _ (o : DomainName) (earlier : List Entry) (goes_on : Bool) (text : Octets
         → TextMeans o earlier goes_on text (fault_at code (line_after earlier))
     unfolding last_entry
     unended-faulty code e given =
-        last_means (fault_at code (line_after earlier))
-        (faulty code, by_sort o earlier last_entry (faulty code) (reads-unended false text ps is_open rest reads).turns (same_end ∙ e) given, refl)
+        grind (arith, last_means, by_sort, last_entry, reads-unended, same_end)
 
     pub unended-gives : (rs : List ResourceRecord) → stop_fault (extent_by goes_on) is_open (stop_at rest) ≡ None → KindGives o earlier (kind_of (ended ps)) (gives rs)
         → TextMeans o earlier goes_on text (after rs (records []))
     unfolding last_entry
     unended-gives rs e given =
-        last_means (after rs (records []))
-        (gives rs, by_sort o earlier last_entry (gives rs) (reads-unended false text ps is_open rest reads).turns (same_end ∙ e) given, (records [], refl, refl))
+        grind (arith, last_means, after, by_sort, last_entry, reads-unended, same_end)
 
   -- a parenthesis that is misplaced
   pub wrong-faulty : IsWrong text → TextMeans o earlier goes_on text (fault_at bad_parenthesis (line_after earlier))
@@ -120,10 +110,7 @@ module _ (o : DomainName) (earlier : List Entry) (goes_on : Bool) (text : Octets
 
 -- the line after an entry
 pub line-more : (ps : List Token) (earlier : List Entry) → line_after (ended ps ∷ earlier) ≡ line_after earlier + line_ends ps
-line-more ps earlier =
-    let all : line_ends (ps ++ flat_map (λ (e : Entry). e.tokens) earlier) ≡ line_ends ps + line_ends (flat_map (λ (e : Entry). e.tokens) earlier) =
-    lines-append ps (flat_map (λ (e : Entry). e.tokens) earlier) in
-    omega (arith, all)
+line-more ps earlier = grind (arith, line_ends, lines-append)
 
 -- whether the first token is a blank, by the first octet
 FirstBlank : Bool → Option (Token × Octets) → Type 0
@@ -146,15 +133,7 @@ line_feed-blank b (o ∷ text) h = choose (o == 10) b (Some (line_end, text)) No
 
 first-blank : (o : ℕ) (text : Octets) → FirstBlank (is_blank o) (token_front (o ∷ text))
 unfolding FirstBlank
-first-blank o text =
-    choose (is_blank o) (is_blank o) _ _ (λ h. sym h) (λ h.
-    choose (o == 59) (is_blank o) _ _ (λ _. sym h) (λ _.
-    choose (o == 34) (is_blank o) _ _ (λ _. closed-blank (is_blank o) (take (string_length text) text) (drop (string_length text) text) h) (λ _.
-    choose (o == 40) (is_blank o) _ _ (λ _. sym h) (λ _.
-    choose (o == 41) (is_blank o) _ _ (λ _. sym h) (λ _.
-    choose (o == 10) (is_blank o) _ _ (λ _. sym h) (λ _.
-    choose (o == 13) (is_blank o) _ _ (λ _. line_feed-blank (is_blank o) text h) (λ _.
-    choose (word_length (o ∷ text) == 0) (is_blank o) None _ (λ _. h) (λ _. sym h))))))))
+first-blank o text = search (arith, choose, closed-blank, line_feed-blank)
 
 pub blank-front : (text others : Octets) (p : Token) → token_front text ≡ Some (p, others) → is_blank_token p ≡ list_any is_blank (take 1 text)
 unfolding FirstBlank
@@ -228,9 +207,7 @@ over-at_end false is_open [] e = (refl, refl)
 -- the sort of an entry, by its first words as they are kept and the later ones
 pub same_sort : (text : Octets) (kept kept' later : List Word) (lines : ℕ) (outcome : form.Outcome) (b : Bool) (read : EntryRead text (kept ++ later) lines outcome)
     → b ≡ list_any is_blank (take 1 text) → kept' ≡ kept → kind_of (ended read.tokens) ≡ kind_by_words b (kept' ++ later)
-same_sort text kept kept' later lines outcome b read is same =
-    ap (λ x. kind_by_words x (token_words read.tokens)) (begins-blank false text read.tokens outcome read.reads ∙ sym is)
-    ∙ ap (kind_by_words b) (sym read.words_are) ∙ ap (λ ws. kind_by_words b (ws ++ later)) (sym same)
+same_sort text kept kept' later lines outcome b read is same = grind (arith, begins-blank)
 
 module _ (o : DomainName) (earlier : List Entry) (goes_on : Bool) (text rest : Octets) (words : List Word) (lines : ℕ) (is_ended is_open : Bool)
     (read : EntryRead text words lines (outcome_of is_ended is_open rest)) where

@@ -57,17 +57,10 @@ length-more (x ∷ xs) ys = let more : length xs ≤ length (xs ++ ys) = length-
 -- the words that were counted stand in the text after those that are kept
 module _ (kept : List Word) (later rest : Octets) (count : ℕ) (all : List Word) (h : KeptAndCounted kept later rest count all) where
   pub counted-enough : count ≤ length (words_in later)
-  counted-enough =
-      let more : length (token_words h.passed) ≤ length (token_words h.passed ++ words_in rest) = length-more (token_words h.passed) (words_in rest) in
-      let same : length (words_in later) ≡ length (token_words h.passed ++ words_in rest) = ap length (words-then later rest h.passed h.spelled) in
-      omega (arith, more, same, h.counted)
+  counted-enough = grind (arith, length-more, words-then)
 
   pub counted-words : kept ++ take count (words_in later) ≡ all
-  counted-words =
-      ap (λ n. kept ++ take n (words_in later)) h.counted
-      ∙ ap (λ ws. kept ++ take (length (token_words h.passed)) ws) (words-then later rest h.passed h.spelled)
-      ∙ ap (λ ws. kept ++ ws) (take-length (token_words h.passed) (words_in rest))
-      ∙ sym h.all_are
+  counted-words = grind (arith, words-then, take-length)
 
 module _ (p : Token) (others : Octets) (kept : List Word) (later : Octets) (count : ℕ) where
   one-more : (rest : Octets) → token_front rest ≡ Some (p, others) → (ps : List Token) → TokensThen later ps rest → TokensThen later (ps ++ p ∷ []) others
@@ -79,12 +72,7 @@ module _ (p : Token) (others : Octets) (kept : List Word) (later : Octets) (coun
 
   -- a token that is no word
   pub passed-over : word_of p ≡ None → WordTaken p others kept later count kept later count
-  passed-over is rest all e h = record {
-    passed = h.passed ++ p ∷ [];
-    spelled = one-more rest e h.passed h.spelled;
-    counted = h.counted ∙ ap length (sym (words-append h.passed (p ∷ []) ∙ ap (λ x. token_words h.passed ++ cons_option x []) is ∙ append-nil (token_words h.passed)));
-    all_are = all-more h.passed all h.all_are;
-  }
+  passed-over is rest all e h = grind (arith, one-more, words-append, append-nil, all-more)
 
   -- a word that is counted
   pub word-counted : (w : Word) → word_of p ≡ Some w → WordTaken p others kept later count kept later (count + 1)

@@ -1,19 +1,17 @@
-use Rattle.std.proofs.Common.{sym, ◌∙◌}
+use Rattle.std.proofs.Common.{rules, ◌∙◌}
 use Rattle.dns_spec.proofs.ZoneTexts.TextTokens.{front-shorter}
 use Rattle.dns_master.specs.TokenForm.{shown_token}
 use Rattle.dns_master.proofs.WordSteps.{words-word, words-other, words-none}
 use Rattle.dns_master.proofs.entry_words.first_word.Goals as goal
 
 pub returns-in-Some-word_of : goal.returns-in-Some-word_of
-returns-in-Some-word_of c =
-    c.tokens.invariant ∙ words-word c.tokens.rest.now c.in-Some.others.now (shown_token c.in-Some.token) c.in-Some-word_of.word c.in-Some.ensures (sym c.in-Some-word_of.ensures)
+returns-in-Some-word_of c = search (rules, words-word)
 
 pub tokens-smaller : goal.tokens-smaller
 tokens-smaller c = front-shorter c.tokens.rest.now (shown_token c.in-Some.token) c.in-Some.others.now c.in-Some.ensures
 
 pub tokens-preserved : goal.tokens-preserved
-tokens-preserved c =
-    c.tokens.invariant ∙ words-other c.tokens.rest.now c.in-Some.others.now (shown_token c.in-Some.token) c.in-Some.ensures (sym c.in_default-word_of.ensures)
+tokens-preserved c = search (rules, words-other)
 
 pub returns : goal.returns
 returns c = c.tokens.invariant ∙ words-none c.tokens.rest.now c.in_default.ensures

@@ -1,4 +1,4 @@
-use Rattle.dns_spec.proofs.Common.{rules, ◌≡◌, false, ap, sym, ◌∙◌, subst, false≢true, Octets, Word, NamesType, is_zone_type}
+use Rattle.dns_spec.proofs.Common.{rules, ap, sym, subst, false≢true, Octets, Word, NamesType}
 use Rattle.dns_spec.proofs.DataWords.TypeWords.{one_type}
 use Rattle.dns_master.proofs.fields.read_type.Goals as goal
 
@@ -8,8 +8,4 @@ returns-in_err-rtype c = rw c.from_residual.ensures (λ t h.
     none t (subst (λ (raw : Octets). NamesType raw t) (ap (λ (w : Word). w.raw) (sym c.word.view_is)) h.1))
 
 pub returns-then-matches : goal.returns-then-matches
-returns-then-matches c = λ t h.
-    let same = ap (λ (w : Word). w.raw) (sym c.word.view_is) in
-    let here : t ≡ c.in_ok-rtype.rtype.0 = one_type _ t c.in_ok-rtype.rtype.0 (subst (λ (raw : Octets). NamesType raw t) same h.1) c.in_ok-rtype.ensures in
-    let other : is_zone_type c.in_ok-rtype.rtype.0 ≡ false = search rules in
-    false≢true (sym other ∙ ap is_zone_type (sym here) ∙ h.2)
+returns-then-matches c = search (rules, one_type, false≢true)

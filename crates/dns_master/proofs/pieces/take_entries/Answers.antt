@@ -1,16 +1,10 @@
-use Rattle.std.proofs.Common.{◌≤◌, length, arith, refl}
+use Rattle.std.proofs.Common.{rules, ◌≤◌, length, arith}
 use Rattle.dns_master.proofs.PieceSteps.{nothing-gathered, more-gathered, faulty-after, counted-more}
 use Rattle.dns_master.proofs.Refusals.{OfEntry-map, entry-told}
 use Rattle.dns_master.proofs.pieces.take_entries.Goals as goal
 
 pub entries-init : goal.entries-init
-entries-init g c = record {
-  gathered = nothing-gathered c.args.goes_on c.args.reader.now c.args.text.now (g.G.Gathers.gathered c.args.found.now);
-  count = c.requires.count;
-  bound = omega arith;
-  short = omega arith;
-  same = λ _. refl;
-}
+entries-init g c = search (rules, nothing-gathered)
 
 pub returns-in-Err-clause-err : goal.returns-in-Err-clause-err
 returns-in-Err-clause-err g c =

@@ -1,4 +1,4 @@
-use Rattle.std.proofs.Common.{rules, ◌≢◌, Option, Result, IfErr, None, ◌∙◌}
+use Rattle.std.proofs.Common.{rules, ◌≢◌, Option, Result, IfErr, None}
 use Rattle.dns_spec.proofs.Common.{Octets, DomainName, fault_at}
 use Rattle.dns_master.specs.Codes.{fault_of}
 use Rattle.dns_master.specs.SourceForm.{GivesMeaning, Decides}
@@ -32,14 +32,7 @@ returns-then-not-branch-clause-decided g c =
     c.finish.ensures.err
 
 pub pieces-preserved : goal.pieces-preserved
-pieces-preserved g c =
-    let piece = c.in_ok-take_piece.ensures in
-    record {
-      so_far = piece-given _ _ _ _ _ _ _ _ c.pieces.invariant.so_far _ _ _ _ _ piece.ok;
-      count = piece.count;
-      fits = piece.fits;
-      counted = piece.counted ∙ c.pieces.invariant.counted;
-    }
+pieces-preserved g c = search (rules, piece-given)
 
 pub returns-in-Ok-clause-whole : goal.returns-in-Ok-clause-whole
 returns-in-Ok-clause-whole g c =

@@ -1,6 +1,5 @@
-use Rattle.dns_spec.proofs.Common.{sym, subst, arith, none-some, Octets, fault_at}
+use Rattle.dns_spec.proofs.Common.{rules, subst, none-some, Octets, fault_at}
 use Rattle.dns_master.specs.PieceForm.{ReaderMeans}
-use Rattle.dns_master.specs.declared.fault.ReadCode.TheVariants.{TooLong}
 use Rattle.dns_master.proofs.PieceSteps.{all-faulty, all-gathered, all-too_long}
 use Rattle.dns_master.proofs.Refusals.{refused, entry-told, OfEntry-map}
 use Rattle.dns_name.proofs.Results.{fault_handed_on}
@@ -13,12 +12,7 @@ returns-in_err-take_entries-clause-err g c =
     (all-faulty c.args.goes_on c.args.self.reader c.as_slice.result.now fault line h)) c.in_err-take_entries.ensures.err)
 
 pub returns-then-goes_on-clause-err : goal.returns-then-goes_on-clause-err
-returns-then-goes_on-clause-err g c =
-    entry-told TooLong c.take_entries.new.reader.line c.entry_fault.result _ c.entry_fault.ensures
-    (refused TooLong _ (omega arith) (all-too_long c.args.goes_on c.args.self.reader c.take_entries.new.reader c.args.self.held.items _ _ _ _ c.as_slice.ensures.value (c.in_ok-take_entries.ensures.all (λ e. none-some _ (sym e)))
-    c.in_ok-take_entries.ensures.ok c.if-goes_on.true))
+returns-then-goes_on-clause-err g c = search (rules, entry-told, refused, all-too_long, none-some)
 
 pub returns-clause-ok : goal.returns-clause-ok
-returns-clause-ok g c =
-    all-gathered c.args.goes_on c.args.self.reader c.take_entries.new.reader c.args.self.held.items _ _ _ _ c.as_slice.ensures.value (c.in_ok-take_entries.ensures.all (λ e. none-some _ (sym e)))
-    c.in_ok-take_entries.ensures.ok c.if-goes_on.false
+returns-clause-ok g c = search (rules, all-gathered, none-some)

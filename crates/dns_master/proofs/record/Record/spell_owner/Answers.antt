@@ -1,13 +1,9 @@
+use Rattle.std.proofs.Common.{rules}
 use Rattle.dns_spec.proofs.DataWords.LoweredData.{folded-folded}
 use Rattle.dns_master.proofs.record.Record.spell_owner.Goals as goal
 
 pub invariant_of-self : goal.invariant_of-self
-invariant_of-self c = record {
-  low = rw c.fold_in_place.ensures (folded-folded c.spell.new.self);
-  short = c.self.invariant.short;
-  is_valid = c.self.invariant.is_valid;
-  lowered = c.self.invariant.lowered;
-}
+invariant_of-self c = search (rules, folded-folded)
 
 pub returns-clause-low : goal.returns-clause-low
 returns-clause-low c = rw c.fold_in_place.ensures (folded-folded c.spell.new.self)

@@ -44,8 +44,7 @@ returns-then-self-ge-MOST_RECORDS-clause-err c = refused TooManyRecords _ (omega
     c.in-Some-or.ttl (search rules) _ known.origin_is known.no_other _ (rw c.in-Some.ensures.1 at c.in_ok-rdata.ensures.ok) many))
 
 pub returns-clause-kept : goal.returns-clause-kept
-returns-clause-kept c =
-    record { low = c.args.self.now.low; short = search rules; is_valid = c.in_ok-rdata.ensures.valid; lowered = said-lowered _ _ _ _ c.in_ok-rdata.ensures.ok }
+returns-clause-kept c = search (rules, said-lowered)
 
 pub returns-clause-ok : goal.returns-clause-ok
 returns-clause-ok c = λ o earlier before known.
