@@ -54,9 +54,7 @@ pub ordered_records : (rs : List ResourceRecord) → AreOrdered rs → Pairs (λ
 ordered_records rs h = sorted_pairs record_order record_order_total rs h
 
 pub owners_in_order : (rs : List ResourceRecord) → AreOrdered rs → Pairs OwnerNotAfter rs
-owners_in_order rs h =
-    pairs_weaker (λ r s. is_gt (record_order r s) ≡ false) OwnerNotAfter rs
-    (λ r s e. first_part (name_order r.owner s.owner) _ e) (ordered_records rs h)
+owners_in_order rs h = search (arith, pairs_weaker, first_part, ordered_records)
 
 module _ (n : DomainName) where
   abbrev pub is_before : ResourceRecord → Bool

@@ -1,5 +1,5 @@
 -- The names that are checked, as a list: what a search among them by keys finds.
-use Rattle.dns_spec.proofs.Common.{◌≡◌, ℕ, ◌+◌, suc, ◌<◌, ◌≤◌, Bool, true, false, ◌&&◌, not, cond, ◌==◌, nat_lt, ◌⊎◌, inl, inr, List, get_or, zero, drop, length-take, [], ◌∷◌, map, length, take, refl, sym, ap, ap₂, ◌∙◌, subst, arith, filter, is_gt, nat_cmp, Ordering, Less, Equal, Greater, false≢true, true≢false, not-true, and_parts, false_from_ne_true, cases_lt, nat_list_cmp_total, tied_itself, upto, get_or-take, get_or_default, min-eq_left, slice_cmp, starts_with, IsPartitionedBy, ordering_reverse, Octets, DomainName, folded, same, at_or_below, name_order, type_ns, ResourceRecord, ZoneContents, at, owns, is_cut, at_or_below_cut, checked_names}
+use Rattle.dns_spec.proofs.Common.{◌≡◌, ℕ, ◌+◌, suc, ◌<◌, ◌≤◌, Bool, true, false, ◌&&◌, not, cond, ◌==◌, nat_lt, ◌⊎◌, inl, inr, List, get_or, zero, drop, length-take, [], ◌∷◌, map, length, take, refl, sym, ap, ap₂, ◌∙◌, subst, arith, filter, is_gt, nat_cmp, Ordering, Less, Equal, Greater, false≢true, true≢false, not-true, and_parts, false_from_ne_true, cases_lt, nat_list_cmp_total, tied_itself, upto, get_or-take, get_or_default, min-eq_left, slice_cmp, starts_with, IsPartitionedBy, ordering_reverse, Octets, DomainName, folded, same, at_or_below, name_order, ResourceRecord, ZoneContents, at, is_cut, at_or_below_cut, checked_names}
 use Rattle.dns_spec.proofs.DomainNames.NameLaws.{octets_equal-decides}
 use Rattle.dns_spec.proofs.ZoneChecks.FaultOrder.{name_tie, name_order_total, one_lower, Lower}
 use Rattle.dns_spec.proofs.Records.SortedOnce.{Each, Among, Rises, each_at, each_filter, filter_each, filter_among}
@@ -66,13 +66,7 @@ equal_upto n m e = subst (λ k. is_gt (name_order n k) ≡ false) e (itself_upto
 -- two names, neither of which is after the other
 pub between_both : (n m : DomainName) → Lower n → Lower m → is_gt (name_order n m) ≡ false
     → is_gt (name_order m n) ≡ false → n ≡ m
-between_both n m p q f g = go (name_order n m) refl f
-  where
-    go : (c : Ordering) → name_order n m ≡ c → is_gt c ≡ false → n ≡ m
-    go Less e h =
-        absurd (true≢false (sym (ap is_gt (name_order_total.antisymm m n ∙ ap ordering_reverse e)) ∙ g))
-    go Equal e h = one_lower n m p q (name_tie n m e)
-    go Greater e h = absurd (true≢false h)
+between_both n m p q f g = grind (arith, true≢false, name_order_total, one_lower, name_tie)
 
 pub one_key : (n m : DomainName) → Lower n → Lower m → name_key n ≡ name_key m → n ≡ m
 one_key n m p q e = grind (arith, one_lower, name_tie, key_order, tied_itself, nat_list_cmp_total)
@@ -86,16 +80,10 @@ module _ (z : ZoneContents) where
 
   -- a cut is an owner
   pub cut_among : (c : DomainName) → Lower c → is_cut z c ≡ true → Among c (owners_once z.records)
-  cut_among c low h =
-      let s = some_passes (λ (r : ResourceRecord). same r.owner c && r.rtype == type_ns) z.records
-      (and_parts _ (owns z c type_ns) h).1 in
-      owner_among c low s.0 s.1 (and_parts (same s.0.owner c) _ s.2).0
+  cut_among c low h = grind (arith, some_passes, and_parts, owner_among)
 
   pub none_at : (m : DomainName) → Lower m → (Among m (owners_once z.records) → ⊥) → at z m ≡ []
-  none_at m low f =
-      filter_none (λ (r : ResourceRecord). same r.owner m) z.records
-      (each_among (λ (r : ResourceRecord). same r.owner m ≡ false) z.records
-      (λ r a. false_from_ne_true (same r.owner m) (λ e. f (owner_among m low r a e))))
+  none_at m low f = grind (arith, filter_none, each_among, false_from_ne_true, owner_among)
 
   abbrev name : CheckedName → DomainName
   name = name_of z

@@ -27,13 +27,8 @@ module _ (n : DomainName) (d own zs : Octets) (laid : IsLaid n d own zs) where
 
   pub entry_kept : (ttl t : ℕ) → IsKept n ttl t d → All Small n → Small d
       → IsEntry (length own) zs ttl t
-  entry_kept ttl t kept small small_data = record {
-    fits = omega (arith, ap length laid.whole, length-append own d);
-    wire = IsWireForm-wire (take (length own) zs) n owner_octets laid.is_name;
-    kept = rw (owner_is, data_is) kept;
-    owner_octets = rw owner_is small;
-    data_octets = rw data_is small_data;
-  }
+  entry_kept ttl t kept small small_data =
+      grind (arith, length-append, IsWireForm-wire, owner_octets, is_name, owner_is, data_is)
 
   pub entry_is : (ttl t : ℕ) → ◌≡◌ {A = ResourceRecord} (record { owner = owner_in (length own) zs; ttl = ttl; rtype = t; rdata = data_in (length own) zs })
       (record { owner = n; ttl = ttl; rtype = t; rdata = d })

@@ -1,5 +1,5 @@
 -- A label among those of children, which rise.
-use Rattle.dns_spec.proofs.Common.{◌≡◌, ℕ, zero, suc, ◌+◌, ◌-◌, ◌/◌, ◌<◌, ◌≤◌, ◌⊎◌, inl, inr, List, [], ◌∷◌, map, length, get_or, sym, ap, ◌∙◌, add-one, arith, subst, Less, Equal, Greater, cases_lt, false≢true, nat_list_cmp_total, tied_itself, get_or-map, length-map, get_or_default, ordering_reverse, Octets, label_order, ResourceRecord}
+use Rattle.dns_spec.proofs.Common.{◌≡◌, ℕ, zero, suc, ◌+◌, ◌-◌, ◌/◌, ◌<◌, ◌≤◌, ◌⊎◌, inl, inr, List, [], ◌∷◌, map, length, get_or, sym, ◌∙◌, add-one, arith, subst, Less, Equal, Greater, cases_lt, false≢true, nat_list_cmp_total, tied_itself, get_or-map, length-map, get_or_default, Octets, label_order, ResourceRecord}
 use Rattle.dns_spec.proofs.Records.SortedOnce.{Among, Rises}
 use Rattle.dns_spec.proofs.Records.RecordOrder.{among_contains}
 use Rattle.dns_zone.specs.TreeForm.{row_label, row_at, room_after}
@@ -62,46 +62,12 @@ module _ (rs : List ResourceRecord) (kids : List Row) (label : Octets) where
       pub go_right : label_order (row_label rs (row_at kids middle)) label ≡ Less → middle < high
           → high ≤ middle + 1 + room_after (turn + 1)
           → Searching rs kids label (middle + 1) high (turn + 1)
-      go_right e h room = record {
-        order = omega arith;
-        inside = s.inside;
-        room = room;
-        before = λ k l. here k (cases_lt k middle) l;
-        after = s.after;
-      }
-        where
-          inside : middle < length kids
-          inside = let a = s.inside in omega arith
-
-          here : (k : ℕ) → (k < middle) ⊎ (middle ≤ k) → k < middle + 1
-              → label_order (row_label rs (row_at kids k)) label ≡ Less
-          here k (inl l) _ =
-              nat_list_cmp_total.trans (row_label rs (row_at kids k))
-              (row_label rs (row_at kids middle)) label (between k middle l inside) e
-          here k (inr l) m = grind arith
+      go_right e h room = grind (arith, cases_lt, nat_list_cmp_total, between)
 
       pub go_left : label_order (row_label rs (row_at kids middle)) label ≡ Greater → low ≤ middle
           → middle < high → middle ≤ low + room_after (turn + 1)
           → Searching rs kids label low middle (turn + 1)
-      go_left e order h room = record {
-        order = order;
-        inside = let a = s.inside in omega arith;
-        room = room;
-        before = s.before;
-        after = λ k l m. here k (cases_lt middle k) l m;
-      }
-        where
-          here : (k : ℕ) → (middle < k) ⊎ (k ≤ middle) → middle ≤ k → k < length kids
-              → label_order (row_label rs (row_at kids k)) label ≡ Greater
-          here k (inl l) m g =
-              let back : label_order label (row_label rs (row_at kids middle)) ≡ Less =
-              nat_list_cmp_total.antisymm label (row_label rs (row_at kids middle))
-              ∙ ap ordering_reverse e in
-              let on = nat_list_cmp_total.trans label (row_label rs (row_at kids middle))
-              (row_label rs (row_at kids k)) back (between middle k l g) in
-              nat_list_cmp_total.antisymm (row_label rs (row_at kids k)) label
-              ∙ ap ordering_reverse on
-          here k (inr l) m g = grind arith
+      go_left e order h room = search (arith, cases_lt, nat_list_cmp_total, between)
 
     pub none_left : (at turn : ℕ) → Searching rs kids label at at turn
         → Among label (map (row_label rs) kids) → ⊥

@@ -1,5 +1,5 @@
 -- The row of a child, among records in canonical order.
-use Rattle.dns_spec.proofs.Common.{◌≡◌, ℕ, zero, suc, ◌+◌, ◌-◌, ◌<◌, ◌≤◌, Bool, true, false, not, List, [], ◌∷◌, ◌++◌, length, take, drop, get_or, map, refl, sym, ap, ap₂, ◌∙◌, arith, subst, filter, is_gt, is_lt, Ordering, Less, Equal, Greater, length-drop, false≢true, true≢false, upto, length-take-le, take-append-drop, get_or-map, get_or-drop, drop_more, end_rest, take-add, filter-append, to_ascii_lowercase, IsPartitionedBy, ordering_reverse, Octets, DomainName, wire, is_name, folded, at_or_below, below, name_order, ResourceRecord, record_order, IsReadRecord}
+use Rattle.dns_spec.proofs.Common.{◌≡◌, ℕ, zero, suc, ◌+◌, ◌-◌, ◌<◌, ◌≤◌, Bool, true, false, not, List, [], ◌∷◌, ◌++◌, length, take, drop, get_or, map, refl, sym, ap, ap₂, ◌∙◌, arith, subst, filter, is_gt, length-drop, false≢true, true≢false, upto, length-take-le, take-append-drop, get_or-map, get_or-drop, drop_more, end_rest, take-add, filter-append, to_ascii_lowercase, IsPartitionedBy, Octets, DomainName, wire, is_name, folded, at_or_below, below, name_order, ResourceRecord, record_order, IsReadRecord}
 use Rattle.dns_spec.proofs.Records.RecordOrder.{record_order_total}
 use Rattle.dns_spec.proofs.ZoneChecks.FaultOrder.{name_order_total}
 use Rattle.dns_spec.proofs.Records.SortedOnce.{Each, each_weaker}
@@ -30,28 +30,10 @@ module _ (m : DomainName) (r : ResourceRecord) (xs : List ResourceRecord)
   not_before = grind (arith, under-order, each_weaker, upto, name_order_total)
 
   pub under_parted : IsPartitionedBy (is_under m) (r ∷ xs)
-  under_parted =
-      parted (is_under m) (r ∷ xs)
-      (pairs_of (λ (s : ResourceRecord). is_gt (name_order m s.owner) ≡ false) OwnerNotAfter
-      (λ s t. is_under m t ≡ true → is_under m s ≡ true) (r ∷ xs)
-      (λ s t p q e f. between m s.owner t.owner p e f) not_before h)
+  under_parted = search (arith, parted, pairs_of, between, not_before)
 
   each_not_before : Each (λ s. not (is_before m s) ≡ true) (r ∷ xs)
-  each_not_before =
-      each_weaker (λ (s : ResourceRecord). is_gt (name_order m s.owner) ≡ false)
-      (λ s. not (is_before m s) ≡ true) (r ∷ xs) turn not_before
-    where
-      turn : (s : ResourceRecord) → is_gt (name_order m s.owner) ≡ false
-          → not (is_before m s) ≡ true
-      turn s e = go (name_order m s.owner) refl e
-        where
-          go : (c : Ordering) → name_order m s.owner ≡ c → is_gt c ≡ false
-              → not (is_before m s) ≡ true
-          go Less f g =
-              ap (λ c. not (is_lt c)) (name_order_total.antisymm s.owner m ∙ ap ordering_reverse f)
-          go Equal f g =
-              ap (λ c. not (is_lt c)) (name_order_total.antisymm s.owner m ∙ ap ordering_reverse f)
-          go Greater f g = absurd (true≢false g)
+  each_not_before = grind (arith, each_weaker, not_before, name_order_total, true≢false)
 
   pub at_in_front : AreOrdered (r ∷ xs) → IsPartitionedBy (is_at m) (r ∷ xs)
   at_in_front o =
@@ -105,10 +87,7 @@ module _ (rs : List ResourceRecord) (canonical : IsCanonical rs) (n : DomainName
   -- the name of its child: the end of its owner with more octets than the name, and fewest of those
   pub child_there : (parent : Octets) (owner m : DomainName) → wire n ≡ parent → owner ≡ r.owner
       → m ≡ ending (length parent + 1) owner → IsChildOf n r.owner m
-  child_there parent owner m w o e =
-      subst (IsChildOf n r.owner)
-      (sym (e ∙ ap₂ (λ (xs : Octets) (k : DomainName). ending (length xs + 1) k) (sym w) o))
-      (child_end n r.owner owner_below owner_lower is_next.lower)
+  child_there parent owner m w o e = grind (arith, child_end, owner_below, owner_lower)
 
   module _ (m : DomainName) (child : IsChildOf n r.owner m) where
     pub under_front : IsPartitionedBy (is_under m) (drop next rs)

@@ -2,7 +2,7 @@
 -- of what follows the keys, or of the labels' lengths.
 use Rattle.std.proofs.Common.{◌≡◌, ℕ, zero, suc, ◌+◌, ◌*◌, ◌^◌, ◌<◌, ◌≤◌, ◌⊎◌, inl, inr, [], ◌∷◌, ◌-◌, ◌/◌, add-one, drop-cons, map, length, drop, get_or, refl, sym, ap, ◌∙◌, arith, Less, Greater, nat_cmp}
 use Rattle.std.proofs.Math.Nat.{mul-le-mul_right, one-le-pow}
-use Rattle.dns_spec.proofs.Common.{cases_lt, cases_order, nat_list_cmp_total, to_ascii_lowercase, nat_cmp_is, ordering_reverse, Octets, DomainName, folded, label_order}
+use Rattle.dns_spec.proofs.Common.{cases_lt, cases_order, nat_list_cmp_total, to_ascii_lowercase, nat_cmp_is, Octets, DomainName, folded, label_order}
 use Rattle.std.proofs.lemmas.Str.Ascii.{lowercase_is}
 use Rattle.dns_zone.specs.LabelKey.{IsKey, key_of}
 use Rattle.dns_zone.specs.TreeForm.{first_of}
@@ -114,14 +114,7 @@ lesser_key {j} {k} {a} {b} p q h = grind (arith, lesser)
 
 pub key_order : {j k : ℕ} {a b : Octets} → IsKey j a → IsKey k b → (j ≡ k → ⊥)
     → nat_cmp j k ≡ label_order a b
-key_order {j} {k} {a} {b} p q n = go (cases_order j k)
-  where
-    go : (j ≡ k) ⊎ ((j < k) ⊎ (k < j)) → nat_cmp j k ≡ label_order a b
-    go (inl e) = absurd (n e)
-    go (inr (inl l)) = sym (nat_cmp_is j k Less l) ∙ sym (lesser_key p q l)
-    go (inr (inr l)) =
-        sym (nat_cmp_is j k Greater l)
-        ∙ sym (nat_list_cmp_total.antisymm a b ∙ ap ordering_reverse (lesser_key q p l))
+key_order {j} {k} {a} {b} p q n = grind (arith, cases_order, lesser_key, nat_list_cmp_total)
 
 -- the first label of a name in lower case is in lower case
 pub first_lower : (n : DomainName) → folded n ≡ n

@@ -16,13 +16,7 @@ pub record GoesOn (least : ℕ) (n : DomainName) (xs : Octets) (k : ℕ) : Type 
 
 pub first_end : (least : ℕ) (n : DomainName) (xs : Octets) → xs ≡ wire n → is_name n ≡ true
     → GoesOn least n xs 0
-first_end least n xs e ok = record {
-  rest = n;
-  octets = e;
-  fits = omega arith;
-  name = ok;
-  end = refl;
-}
+first_end least n xs e ok = grind arith
 
 module _ (least : ℕ) (n : DomainName) (xs : Octets) (k : ℕ) (h : GoesOn least n xs k) where
   -- how many octets the next label has

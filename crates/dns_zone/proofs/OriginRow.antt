@@ -15,9 +15,7 @@ use Rattle.dns_zone.proofs.KidRows.{is_under, at_in_front}
 module _ (o : DomainName) (rs : List ResourceRecord)
     (kept : IsBuilt (record { origin = o; records = rs })) where
   own_soa : (r : ResourceRecord) × (Among r rs) × ((same r.owner o && r.rtype == type_soa) ≡ true)
-  own_soa =
-      some_passes (λ (r : ResourceRecord). same r.owner o && r.rtype == type_soa) rs
-      (origin-soa (record { origin = o; records = rs }) kept)
+  own_soa = search (arith, some_passes, origin-soa)
 
   pub own_in_front : IsPartitionedBy (is_at o) rs
   own_in_front = go rs refl

@@ -73,9 +73,7 @@ module _ (z : ZoneContents) where
     itself = same-from r.owner r.owner refl
 
     pub first_parted : IsPartitionedBy (is_at r.owner) (r ∷ rs)
-    first_parted =
-        at_in_front r.owner r rs (owners_in_order (r ∷ rs) h.ordered)
-        (itself-under r.owner r.owner itself) h.ordered
+    first_parted = search (arith, at_in_front, owners_in_order, itself-under, itself)
 
 -- the owners are that of the first record, and those of the records at other names
 without_first : (p : ResourceRecord → Bool) (r : ResourceRecord) (rs : List ResourceRecord) → p r ≡ true → filter (λ s. not (p s)) (r ∷ rs) ≡ filter (λ s. not (p s)) rs

@@ -1,5 +1,5 @@
 -- A record's line goes out in four parts, and the records of a list one after another.
-use Rattle.std.proofs.Common.{◌≡◌, ℕ, suc, ◌+◌, ◌<◌, Bool, true, false, Option, List, ◌∷◌, ◌++◌, length, drop, get_or, sym, subst, ap, ◌∙◌, filter, flat_map, append_assoc, codes, decimal, add-one, arith}
+use Rattle.std.proofs.Common.{◌≡◌, ℕ, suc, ◌+◌, ◌<◌, Bool, true, false, Option, List, ◌∷◌, ◌++◌, length, drop, get_or, sym, ap, ◌∙◌, filter, flat_map, append_assoc, codes, decimal, add-one, arith}
 use Rattle.dns_spec.proofs.Common.{drop-cons, Octets, name_text, type_text, data_text, ResourceRecord, ZoneContents, record_line, soa_first, zone_text}
 use Rattle.dns_name.specs.Counted.{AppendsAllBut}
 use Rattle.dns_name.proofs.WritesLemmas.{held_before}
@@ -16,8 +16,7 @@ regroup t a b c d e f g h = simp append_assoc
 pub line_held : (old new : Option (List ℕ)) (whole held start front d : Octets) (r s : ResourceRecord) → AppendsAllBut old new whole held → start ≡ front_text r → s ≡ r
     → front ≡ ((held ++ start) ++ type_text s.rtype) ++ codes " " → d ≡ r.rdata → AppendsAllBut old new (whole ++ record_line r) ((front ++ data_text s.rtype d) ++ codes "\n")
 line_held old new whole held start front d r s so e same f g =
-    let line = regroup held (name_text r.owner) (codes " ") (decimal r.ttl) (codes " IN ") (type_text r.rtype) (codes " ") (data_text r.rtype r.rdata) (codes "\n") in
-    rw (f, e, g, same) (subst (AppendsAllBut old new (whole ++ record_line r)) line (held_before old new whole held (record_line r) so))
+    search (arith, regroup, held_before)
 
 -- a record of a list that is chosen, or is not
 module _ (p : ResourceRecord → Bool) (rs : List ResourceRecord) (r : ResourceRecord) (i : ℕ) (h : i < length rs) (e : r ≡ get_or rs i r) where

@@ -1,6 +1,6 @@
 -- Records moved to the front, each of which comes before the next.
-use Rattle.std.proofs.Common.{◌≡◌, ℕ, zero, suc, ◌+◌, ◌<◌, ◌≤◌, ◌⊎◌, inl, inr, List, [], ◌∷◌, length, take, get_or, sym, ap, ap₂, ◌∙◌, arith, All, IsPermutation, is_eq, is_lt, Less, Equal, Greater, true, ◌-◌, subst}
-use Rattle.dns_spec.proofs.Common.{drop, length-take, get_or-take, take-append-drop, get_or_default, cases_lt, true≢false, IsPermutation-sym, ordering_reverse, ResourceRecord, records_equal, distinct, sort_by, record_order}
+use Rattle.std.proofs.Common.{◌≡◌, ℕ, zero, suc, ◌+◌, ◌<◌, ◌≤◌, ◌⊎◌, inl, inr, List, [], ◌∷◌, length, take, get_or, sym, ap, ap₂, ◌∙◌, arith, All, IsPermutation, is_eq, Less, Equal, Greater, true, ◌-◌, subst}
+use Rattle.dns_spec.proofs.Common.{drop, length-take, get_or-take, take-append-drop, get_or_default, cases_lt, true≢false, IsPermutation-sym, ResourceRecord, records_equal, distinct, sort_by, record_order}
 use Rattle.std.specs.List.{SwappedAt}
 use Rattle.std.specs.List.Sorted.{IsSorted}
 use Rattle.dns_spec.proofs.Records.RecordOrder.{LowerOwner, record_order_total, record_ties, one_record, rises_canonical, each_all, among_permutation, among_contains}
@@ -94,16 +94,7 @@ module _ (rs xs : List ResourceRecord) (last at : ℕ) (h : IsOnce rs xs last at
   pub once_sorted : (r s : ResourceRecord) → r ≡ get_or xs last r → s ≡ get_or xs at s
       → record_order r s ≡ Greater → at < length xs → IsSorted record_order rs → ⊥
   once_sorted r s e f greater l sorted =
-      let before = h.before in
-      let size = h.size in
-      let inside = h.inside (omega (arith, l)) in
-      let next : at - 1 + 1 ≡ at = omega (arith, before) in
-      true≢false
-      (sym (ap is_lt (ap₂ record_order
-      (ap (λ i. get_or rs i s) next ∙ sym (h.rest at s (omega arith)) ∙ sym f)
-      (sym (h.from s) ∙ get_or_default xs last s r inside ∙ sym e)
-      ∙ record_order_total.antisymm s r ∙ ap ordering_reverse greater))
-      ∙ sorted (at - 1) s (omega arith) (omega (arith, next, l, size)))
+      search (arith, true≢false, get_or_default, record_order_total)
 
 rises_front : (xs : List ResourceRecord) (k : ℕ)
     → ((i : ℕ) (d : ResourceRecord) → i < k
@@ -125,10 +116,7 @@ rises_front (x ∷ y ∷ xs) (suc k) h =
 
 among_front : (a : ResourceRecord) (xs : List ResourceRecord) (i k : ℕ) → i ≤ k → i < length xs
     → Among (get_or xs i a) (take (suc k) xs)
-among_front a xs i k l m =
-    let fits : i < length (take (suc k) xs) = omega (arith, length-take (suc k) xs) in
-    subst (λ x. Among x (take (suc k) xs)) (get_or-take (suc k) xs i a (omega (arith, l)))
-    (among_get (take (suc k) xs) i a fits)
+among_front a xs i k l m = grind (arith, length-take, get_or-take, among_get)
 
 front_among : (a : ResourceRecord) (xs : List ResourceRecord) (k : ℕ) → Among a (take k xs) → Among a xs
 front_among a xs k m =

@@ -1,4 +1,4 @@
-use Rattle.dns_spec.proofs.Common.{◌≡◌, ◌-◌, List, length, map, ap, ◌∙◌, arith, length-take, take_all, flat_map, ZoneContents, wire, Fault, faults}
+use Rattle.dns_spec.proofs.Common.{rules, ◌≡◌, ◌-◌, List, length, map, ap, arith, length-take, take_all, flat_map, ZoneContents, wire, Fault, faults}
 use Rattle.dns_zone.specs.NamesForm.{name_of}
 use Rattle.dns_zone.specs.ReportedForm.{reported_at}
 use Rattle.dns_zone.specs.declared.checks.names.CheckedName.{CheckedName}
@@ -21,10 +21,4 @@ split_at-requires c =
 
 pub returns : goal.returns
 unfolding faults reported_at
-returns c =
-    let z : ZoneContents = record { origin = c.args.origin.now; records = c.args.records.now } in
-    let items = c.as_slice-one-items.result.now in
-    c.names.invariant
-    ∙ ap (reported z)
-    (take_all c.names.one-index items c.names-test.false ∙ c.as_slice-one-items.ensures.value)
-    ∙ ap (flat_map (reported_at z)) c.in_ok-names.ensures.all
+returns c = search (rules, take_all)

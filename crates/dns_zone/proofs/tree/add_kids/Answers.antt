@@ -1,5 +1,5 @@
-use Rattle.dns_spec.proofs.Common.{◌≡◌, ℕ, ◌≤◌, ◌<◌, ◌∙◌, ap, sym, subst, List, [], length, drop, get_or, arith, get_or_default, DomainName}
-use Rattle.dns_zone.specs.TreeForm.{row_at, row_name, under}
+use Rattle.dns_spec.proofs.Common.{rules, ◌≡◌, ℕ, ◌≤◌, ◌<◌, ◌∙◌, ap, sym, subst, List, length, get_or, get_or_default, DomainName}
+use Rattle.dns_zone.specs.TreeForm.{row_at, row_name}
 use Rattle.dns_zone.specs.TreeSteps.{IsNext, IsKidAt}
 use Rattle.dns_zone.specs.declared.tree.row.Row.{Row}
 use Rattle.dns_zone.proofs.KidRows.{is_under}
@@ -12,13 +12,7 @@ same_row : (rows : List Row) (k : ℕ) (r d : Row) → r ≡ get_or rows k d →
 same_row rows k r d e h = e ∙ get_or_default rows k d _ h
 
 pub kids-init : goal.kids-init
-kids-init c =
-    let rs = c.args.records.now in
-    let rows = c.args.rows.now.items in
-    let row = row_at rows c.args.number in
-    let same = same_row rows c.args.number _ _ c.index-row.ensures c.requires.number in
-    subst (λ (r : Row). Adding rs (row_name rs row) row.own_end rows rows r.own_end) (sym same)
-    (start rs c.requires.canonical (row_name rs row) row c.requires.row rows)
+kids-init c = search (rules, same_row, start)
 
 pub kid_at-kid-requires-clause-next : goal.kid_at-kid-requires-clause-next
 kid_at-kid-requires-clause-next c =
@@ -33,25 +27,10 @@ kid_at-kid-requires-clause-next c =
     (subst (λ (r : Row). c.kids.next < r.end) same c.kids-test.true))
 
 pub kid_at-kid-requires-clause-fits : goal.kid_at-kid-requires-clause-fits
-kid_at-kid-requires-clause-fits c =
-    let rows = c.args.rows.now.items in
-    let row = row_at rows c.args.number in
-    let same = same_row rows c.args.number _ _ c.index-row.ensures c.requires.number in
-    subst (λ (r : Row). r.end ≤ length c.args.records.now) (sym same) c.requires.row.end_fits
+kid_at-kid-requires-clause-fits c = search (rules, same_row)
 
 pub kid_at-kid-requires-clause-none : goal.kid_at-kid-requires-clause-none
-kid_at-kid-requires-clause-none c =
-    let rs = c.args.records.now in
-    let rows = c.args.rows.now.items in
-    let row = row_at rows c.args.number in
-    let same = same_row rows c.args.number _ _ c.index-row.ensures c.requires.number in
-    let named = c.octets_of-parent.ensures.name ∙ ap (row_name rs) same in
-    let is_row = c.requires.row in
-    let order : row.first ≤ row.end = let a = is_row.first_own in let b = is_row.own_end in
-    omega arith in
-    subst (λ (n : DomainName). under n (drop c.index-row.result.now.end rs) ≡ []) (sym named)
-    (subst (λ (r : Row). under (row_name rs row) (drop r.end rs) ≡ []) (sym same)
-    (none_past (is_under (row_name rs row)) rs row.first row.end order is_row.below))
+kid_at-kid-requires-clause-none c = search (rules, same_row, none_past, is_under)
 
 pub kids-preserved : goal.kids-preserved
 kids-preserved c =

@@ -1,4 +1,4 @@
-use Rattle.dns_spec.proofs.Common.{◌≡◌, ◌-◌, suc, take, sym, ◌∙◌, subst, arith, refl, false≢true, IsPartitionedBy, name_order, ZoneContents, Less}
+use Rattle.dns_spec.proofs.Common.{rules, ◌≡◌, ◌-◌, suc, take, sym, ◌∙◌, subst, arith, refl, false≢true, IsPartitionedBy, name_order, ZoneContents, Less}
 use Rattle.dns_spec.proofs.Records.SortedOnce.{Each}
 use Rattle.dns_spec.proofs.DomainNames.NameLaws.{octets_equal-decides}
 use Rattle.dns_zone.specs.NamesForm.{is_upto, name_of, AreChecked}
@@ -15,16 +15,7 @@ count_upto-place-requires c =
     c.requires.key)
 
 pub returns-then-eq : goal.returns-then-eq
-returns-then-eq c =
-    let k = c.count_upto-place.result in
-    let front = subst (λ xs. IsFront (is_upto c.args.key.now) xs k) c.as_slice.ensures.value
-    c.count_upto-place.ensures in
-    let next : k ≡ suc (k - 1) = omega arith in
-    origin_owns (record { origin = c.args.origin.now; records = c.args.records.now })
-    c.requires.lower c.requires.ordered c.args.names.now.items c.requires.owners c.args.key.now
-    c.requires.key k front (k - 1) next c.index.result.now c.index.ensures
-    ((octets_equal-decides c.index.result.now.key.now c.args.key.now).0
-    (sym c.eq.ensures ∙ c.if-eq.true))
+returns-then-eq c = search (rules, origin_owns, octets_equal-decides)
 
 pub returns : goal.returns
 returns c =

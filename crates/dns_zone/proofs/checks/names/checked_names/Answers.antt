@@ -1,4 +1,4 @@
-use Rattle.dns_spec.proofs.Common.{rules, ◌≡◌, ◌+◌, ◌-◌, ◌∷◌, ◌++◌, List, [], length, map, take, drop, sym, ap, ap₂, ◌∙◌, subst, arith, refl, drop-drop, map_push, prefix_len, DomainName, ResourceRecord, ZoneContents}
+use Rattle.dns_spec.proofs.Common.{rules, ◌≡◌, ◌+◌, ◌-◌, ◌∷◌, ◌++◌, List, [], length, map, take, drop, sym, ap, ap₂, ◌∙◌, subst, arith, drop-drop, map_push, prefix_len, DomainName, ResourceRecord, ZoneContents}
 use Rattle.dns_spec.proofs.Records.SortedOnce.{Each}
 use Rattle.dns_zone.specs.KeyForm.{name_key}
 use Rattle.dns_zone.specs.KeyedForm.{key_in}
@@ -15,35 +15,13 @@ use Rattle.dns_zone.proofs.checks.names.checked_names.Goals as goal
 use Rattle.dns_zone.proofs.checks.names.checked_names.Goals.{In_ok-push}
 
 pub owners-init : goal.owners-init
-owners-init c =
-    let rs = c.args.records.now in
-    let z : ZoneContents = record { origin = c.args.origin.now; records = rs } in
-    let none = sym c.in_ok-names.ensures.items in
-    record {
-      all = ap (λ (ns : List CheckedName). map (name_of z) ns ++ owners_once rs) (sym none);
-      each = subst (Each (λ d. IsChecked z (name_of z d) d)) none tt;
-      whole = all_owners z c.requires.ordered;
-      part = refl;
-      count = omega arith;
-      last = subst (λ ns. LastName z (map (name_of z) ns) (owners_once rs) [] 0) none
-          (root_first z (owners_once rs));
-    }
+owners-init c = grind (arith, all_owners, root_first)
 
 pub index-requires : goal.index-requires
-index-requires c =
-    let rest_is : c.owners.rest.now ≡ c.in-Some.record.now ∷ c.in-Some.others.now =
-    search rules in
-    let count = c.owners.invariant.count in
-    let starts = c.requires.keyed.count in
-    omega (arith, count, starts, ap length rest_is)
+index-requires c = grind arith
 
 pub cut_of-cut-requires-clause-fits : goal.cut_of-cut-requires-clause-fits
-cut_of-cut-requires-clause-fits c =
-    let z : ZoneContents = record { origin = c.args.origin.now; records = c.args.records.now } in
-    let last = c.owners.invariant.last in
-    let size : length c.owners.last.now ≡ length (name_key last.name) = ap length last.key_is in
-    let fits = topmost_fits z last.name last.lower c.owners.cut last.topmost in
-    omega (arith, size, fits)
+cut_of-cut-requires-clause-fits c = grind (arith, topmost_fits)
 
 pub cut_of-cut-requires-clause-by_types : goal.cut_of-cut-requires-clause-by_types
 cut_of-cut-requires-clause-by_types c =

@@ -1,4 +1,4 @@
-use Rattle.dns_spec.proofs.Common.{◌≡◌, ℕ, zero, suc, ◌==◌, ◌<◌, false, ◌++◌, length, ap, ◌+◌, ◌∷◌, sym, ◌∙◌, arith, length-append, append-nil, eqb-true, false≢true, nil_from_length, Octets, wire}
+use Rattle.dns_spec.proofs.Common.{rules, ◌≡◌, ℕ, zero, suc, ◌==◌, ◌<◌, false, ◌++◌, length, ap, ◌+◌, ◌∷◌, sym, ◌∙◌, arith, length-append, append-nil, eqb-true, false≢true, nil_from_length, Octets, wire}
 use Rattle.dns_name.specs.WireForm.{labels_of, IsWireForm}
 use Rattle.dns_zone.specs.KeyForm.{name_key}
 use Rattle.dns_zone.proofs.CommonEnds.{size, some, ends_whole, after_ends}
@@ -22,16 +22,7 @@ returns-then-is_empty t c =
     ∙ ap (λ xs. name_key (labels_of c.args.end.now) ++ xs) (sym (nil_from_length _ none))
 
 pub unreachable-requires : goal.unreachable-requires
-unreachable-requires t c =
-    let more = positive (length c.args.key.now) c.if-is_empty.ensures in
-    absurd (omega (
-      arith,
-      more,
-      c.requires.room,
-      size _ c.requires.wire,
-      some _ c.requires.end,
-      ap (λ n. length (wire n)) c.in_default.ensures,
-    ))
+unreachable-requires t c = search (rules, positive, size, some)
 
 pub overflow_sub-after : goal.overflow_sub-after
 overflow_sub-after t c =

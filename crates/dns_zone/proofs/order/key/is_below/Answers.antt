@@ -1,10 +1,9 @@
+use Rattle.std.proofs.Common.{rules}
 use Rattle.dns_zone.proofs.KeyPrefix.{below_longer, below_shorter}
 use Rattle.dns_zone.proofs.order.key.is_below.Goals as goal
 
 pub returns-then-key-other : goal.returns-then-key-other
-returns-then-key-other c = λ n m p q e f.
-    below_longer n m c.args.key.now c.args.other.now p q e f _ c.if-key-other.true
-    (c.is_under.ensures n m p q e f)
+returns-then-key-other c = search (rules, below_longer)
 
 pub returns-else-key-other : goal.returns-else-key-other
 returns-else-key-other c = λ n m p q e f.

@@ -1,4 +1,4 @@
-use Rattle.dns_spec.proofs.Common.{◌+◌, refl, sym, arith, All-weaker, IsPermutation-trans, IsReadRecord}
+use Rattle.dns_spec.proofs.Common.{rules, ◌+◌, refl, sym, arith, All-weaker, IsPermutation-trans, IsReadRecord}
 use Rattle.dns_spec.proofs.Records.RecordOrder.{LowerOwner}
 use Rattle.dns_zone.proofs.KeyedNames.{keyed_swapped}
 use Rattle.dns_zone.proofs.RisenRecords.{once_equal, once_less, once_sorted, once_canonical}
@@ -41,7 +41,4 @@ returns-clause-once c = λ rs each moved.
     inv.once (omega (arith, test))
 
 pub returns-in-Greater-clause-sorted : goal.returns-in-Greater-clause-sorted
-returns-in-Greater-clause-sorted c = λ sorted.
-    absurd (once_sorted c.args.records.now c.records.records c.records.last c.records.at
-    c.records.invariant.once _ _ c.index-records-last.is c.index-records-at.is
-    (sym c.in-Greater.ensures.value) c.records-test.true sorted)
+returns-in-Greater-clause-sorted c = search (rules, once_sorted)

@@ -1,4 +1,4 @@
-use Rattle.dns_spec.proofs.Common.{◌≡◌, ◌≤◌, sort_by, record_order, distinct, records_equal, ap, sym, ◌∙◌, subst, arith, length, vec_len, List, nil_from_length, false≢true, eqb-true, eq-eqb, DomainName, folded, faults, ResourceRecord}
+use Rattle.dns_spec.proofs.Common.{rules, ◌≡◌, ◌≤◌, sort_by, record_order, distinct, records_equal, ap, sym, ◌∙◌, subst, arith, length, vec_len, List, nil_from_length, false≢true, eqb-true, eq-eqb, DomainName, faults, ResourceRecord}
 use Rattle.dns_spec.proofs.ZoneChecks.FaultOrder.{folded_folded}
 use Rattle.dns_zone.specs.ZoneForm.{IsBuilt}
 use Rattle.dns_zone.proofs.BuiltZone.{found_of_read, built}
@@ -8,27 +8,10 @@ abbrev canonical : List ResourceRecord → List ResourceRecord
 canonical rs = sort_by record_order (distinct records_equal rs)
 
 pub faults-requires-clause-lower : goal.faults-requires-clause-lower
-faults-requires-clause-lower c =
-    let low = c.lent-2.ensures.value ∙ c.fold-origin.ensures in
-    ap folded low ∙ folded_folded c.args.origin.now ∙ sym low
+faults-requires-clause-lower c = search (rules, folded_folded)
 
 pub returns-then-not-is_empty-clause-faults : goal.returns-then-not-is_empty-clause-faults
-returns-then-not-is_empty-clause-faults c =
-    let same =
-    found_of_read c.args.origin.now c.fold-origin.result c.args.self
-    c.in_ok-records.records.items _ c.in_ok-found.found.items c.fold-origin.ensures
-    (c.in_ok-records.ensures.records ∙ ap canonical c.self.view_is) c.as_slice.ensures.value (c.in_ok-found.ensures
-    ∙ ap (λ (o : DomainName). faults (record { origin = o; records = c.as_slice.result.now }))
-    c.lent-2.ensures.value) in (
-      same,
-      λ none.
-          let length_is : length c.in_ok-found.found.items ≡ 0 = ap length (same ∙ none) in
-          let empty : vec_len c.in_ok-found.found ≡ 0 =
-          omega (arith, c.in_ok-found.found.ok.0) in
-          false≢true
-          (sym c.if-not-is_empty.true ∙ c.is_empty.ensures
-          ∙ eq-eqb (vec_len c.in_ok-found.found) 0 empty),
-    )
+returns-then-not-is_empty-clause-faults c = search (rules, found_of_read, false≢true, eq-eqb)
 
 pub invariant_of-result : goal.invariant_of-result
 invariant_of-result c =
@@ -45,14 +28,4 @@ invariant_of-result c =
     (subst (λ rs. length c.in_ok-records.records.items ≤ length rs) c.self.view_is c.in_ok-records.ensures.count) c.in_ok-records.ensures.in_order c.in_ok-records.ensures.each)
 
 pub returns-clause-passes : goal.returns-clause-passes
-returns-clause-passes c =
-    let empty : vec_len c.in_ok-found.found ≡ 0 =
-    eqb-true (vec_len c.in_ok-found.found) 0 (sym c.is_empty.ensures ∙ c.if-not-is_empty.false)
-    in
-    let none : length c.in_ok-found.found.items ≡ 0 = omega (arith, c.in_ok-found.found.ok.0) in
-    sym (found_of_read c.args.origin.now c.fold-origin.result c.args.self
-    c.in_ok-records.records.items _ c.in_ok-found.found.items c.fold-origin.ensures
-    (c.in_ok-records.ensures.records ∙ ap canonical c.self.view_is) c.as_slice.ensures.value (c.in_ok-found.ensures
-    ∙ ap (λ (o : DomainName). faults (record { origin = o; records = c.as_slice.result.now }))
-    c.lent-2.ensures.value))
-    ∙ nil_from_length c.in_ok-found.found.items none
+returns-clause-passes c = search (rules, eqb-true, found_of_read, nil_from_length)

@@ -1,4 +1,4 @@
-use Rattle.std.proofs.Common.{◌∷◌, length, length-drop, sym, ap, ◌∙◌, arith}
+use Rattle.std.proofs.Common.{rules, length, length-drop, sym, ap, ◌∙◌, arith}
 use Rattle.dns_name.specs.WireForm.{labels_of}
 use Rattle.dns_zone.proofs.LabelStarts.{after_label}
 use Rattle.dns_zone.proofs.tree.labels.label_after.Goals as goal
@@ -11,8 +11,4 @@ unreachable-requires c =
     omega (arith, ap length none, length-drop c.args.count n, c.requires.inside)
 
 pub returns : goal.returns
-returns c =
-    let n = labels_of c.args.octets.now in
-    let first = sym c.requires.start.labels ∙ ap labels_of (sym c.split_at.ensures.back)
-    ∙ c.in-Some.ensures.0 in
-    first ∙ ap (λ m. c.in-Some.label ∷ m) (sym (after_label c.args.count n _ _ first))
+returns c = search (rules, after_label)

@@ -1,26 +1,16 @@
-use Rattle.std.proofs.Common.{◌<◌, ◌∙◌, refl, length, length-set, arith}
+use Rattle.std.proofs.Common.{rules, ◌<◌, ◌∙◌, length, length-set, arith}
 use Rattle.dns_name.specs.WireForm.{labels_of}
 use Rattle.dns_zone.proofs.LabelStarts.{begins-first, begins-next, next-fits, starts-more}
 use Rattle.dns_zone.proofs.tree.labels.put_starts.Goals as goal
 
 pub labels-init : goal.labels-init
-labels-init c = record {
-  here = begins-first c.args.octets.now c.requires.form;
-  known = λ k none. absurd (omega (arith, none));
-  room = refl;
-}
+labels-init c = search (rules, begins-first)
 
 pub overflow_add-start : goal.overflow_add-start
-overflow_add-start c =
-    let fits = next-fits c.args.octets.now c.labels.k c.labels.start c.requires.form
-    c.labels.invariant.here (omega (arith, c.labels-test.true, c.requires.labels)) in
-    omega (arith, fits)
+overflow_add-start c = search (rules, next-fits)
 
 pub overflow_add-start-in-labels : goal.overflow_add-start-in-labels
-overflow_add-start-in-labels c =
-    let fits = next-fits c.args.octets.now c.labels.k c.labels.start c.requires.form
-    c.labels.invariant.here (omega (arith, c.labels-test.true, c.requires.labels)) in
-    omega (arith, fits)
+overflow_add-start-in-labels c = search (rules, next-fits)
 
 pub labels-preserved : goal.labels-preserved
 labels-preserved c =

@@ -1,39 +1,21 @@
-use Rattle.std.proofs.Common.{rules, length, ap, arith}
+use Rattle.std.proofs.Common.{rules, ap, arith}
 use Rattle.dns_name.proofs.WireLemmas.{IsWireForm-wire, labels_of_spelled}
 use Rattle.dns_zone.specs.Nodes.{ZoneNode}
 use Rattle.dns_zone.proofs.LeadRows.{begins, goes_on, lead_is}
 use Rattle.dns_zone.proofs.tree.leads.last_on_way.Goals as goal
-use Rattle.dns_zone.proofs.tree.leads.last_on_way.Goals.{else-eq-via-then-eq+else-is_some, else-eq-via-else-eq}
 
 pub put_starts-requires-clause-form : goal.put_starts-requires-clause-form
 put_starts-requires-clause-form c =
     IsWireForm-wire _ _ c.octets-octets.ensures.value c.octets-octets.ensures.is_name
 
 pub put_starts-requires-clause-labels : goal.put_starts-requires-clause-labels
-put_starts-requires-clause-labels c =
-    let octets = c.octets-octets.ensures in
-    omega (
-      arith,
-      ap length (labels_of_spelled _ _ octets.value octets.is_name),
-      c.requires.below.labels,
-    )
+put_starts-requires-clause-labels c = search (rules, labels_of_spelled)
 
 pub labels-init : goal.labels-init
-labels-init c = record {
-  way = begins c.args.tree.now c.args.rtype.0 c.requires.tree;
-  fewer = omega arith;
-}
+labels-init c = search (rules, begins)
 
 pub label_after-label-requires-clause-inside : goal.label_after-label-requires-clause-inside
-label_after-label-requires-clause-inside c =
-    let octets = c.octets-octets.ensures in
-    omega (
-      arith,
-      ap length (labels_of_spelled _ _ octets.value octets.is_name),
-      c.requires.below.labels,
-      c.labels.invariant.fewer,
-      c.labels-test.true,
-    )
+label_after-label-requires-clause-inside c = search (rules, labels_of_spelled)
 
 pub labels-preserved : goal.labels-preserved
 labels-preserved c =

@@ -1,6 +1,5 @@
-use Rattle.dns_spec.proofs.Common.{◌≡◌, ◌+◌, ◌∷◌, ◌<◌, map, length, refl, true, ℕ, List, sym, ap, ap₂, ◌∙◌, subst, false≢true, to_ascii_lowercase, Octets, DomainName, ResourceRecord, exists}
+use Rattle.dns_spec.proofs.Common.{rules, arith, ◌≡◌, ◌∷◌, ◌<◌, map, length, refl, true, ℕ, List, sym, ap, ap₂, ◌∙◌, subst, false≢true, to_ascii_lowercase, Octets, ResourceRecord, exists}
 use Rattle.dns_spec.proofs.Records.SortedOnce.{Each, Among}
-use Rattle.dns_zone.specs.NodeForm.{node_at, IsNodeAt}
 use Rattle.dns_zone.specs.TreeForm.{row_name, row_label, row_at, kids_at, IsRow}
 use Rattle.dns_zone.specs.declared.tree.row.Row.{Row}
 use Rattle.dns_zone.proofs.Existing.{child-exists}
@@ -47,14 +46,7 @@ found_label rs xs kids rows i asked l e f g h =
     ∙ h ∙ ap (map to_ascii_lowercase) g
 
 pub returns-clause-at : goal.returns-clause-at
-returns-clause-at c =
-    let t = c.args.tree.now in
-    let k = c.args.row.0 in
-    let i = c.in_ok-found.found in
-    let fits = subst (λ (xs : List Row). i < length xs) c.kids_of-start.ensures.kids
-    c.in_ok-found.ensures.found.0 in
-    subst (λ (j : ℕ). IsNodeAt t (j + i)) (sym c.kids_of-start.ensures.start)
-    (kid_at t k c.requires.at i fits)
+returns-clause-at c = grind (arith, kid_at)
 
 pub returns-clause-child : goal.returns-clause-child
 returns-clause-child c =
@@ -74,16 +66,4 @@ returns-clause-child c =
     in (λ h. present, λ h. refl)
 
 pub returns-clause-node : goal.returns-clause-node
-returns-clause-node c =
-    let t = c.args.tree.now in
-    let k = c.args.row.0 in
-    let l = c.args.label.now in
-    let i = c.in_ok-found.found in
-    let fits = subst (λ (xs : List Row). i < length xs) c.kids_of-start.ensures.kids
-    c.in_ok-found.ensures.found.0 in
-    let label = found_label t.zone.records _ _ (kids_at t.rows t.bounds k) i _ l c.records.ensures.records
-    c.kids_of-start.ensures.kids c.octets.ensures.value c.in_ok-found.ensures.found.1 in
-    ap (λ (j : ℕ). node_at t (j + i)) c.kids_of-start.ensures.start
-    ∙ ap (λ (n : DomainName). record { zone = t.zone; name = n })
-    (kid_name t k c.requires.at i fits
-    ∙ ap (λ (x : Octets). x ∷ row_name t.zone.records (row_at t.rows k)) label)
+returns-clause-node c = search (rules, found_label, kid_name)

@@ -1,22 +1,11 @@
-use Rattle.dns_spec.proofs.Common.{◌≡◌, ◌+◌, ℕ, map, ap, sym, ◌∙◌, subst, refl, arith, to_ascii_lowercase}
+use Rattle.dns_spec.proofs.Common.{rules, ◌≡◌, ◌+◌, ℕ, map, ap, sym, ◌∙◌, subst, arith, to_ascii_lowercase}
 use Rattle.dns_zone.specs.Nodes.{Walk}
 use Rattle.dns_zone.proofs.NameTree.{label-tie}
 use Rattle.dns_zone.proofs.FoundKid.{Searching, start, half, one_more, go_left, go_right, none_left}
 use Rattle.dns_zone.proofs.tree.search.find.Goals as goal
 
 pub halves-init : goal.halves-init
-halves-init c = (
-  0,
-  record {
-    searching =
-        start c.args.records.now c.args.kids.now (map to_ascii_lowercase c.args.label.now)
-        c.requires.few;
-    bound = omega arith;
-    counted = omega arith;
-    visits = refl;
-    zone = refl;
-  },
-)
+halves-init c = search (rules, start)
 
 pub halves-preserved-in-Less : goal.halves-preserved-in-Less
 halves-preserved-in-Less c =
@@ -55,14 +44,7 @@ halves-preserved c =
     )
 
 pub returns-in-Equal-clause-found : goal.returns-in-Equal-clause-found
-returns-in-Equal-clause-found c =
-    let s = c.halves.invariant.1.searching in
-    let less = c.halves-test.true in
-    let inside = s.inside in (
-      omega arith,
-      label-tie _ (map to_ascii_lowercase c.args.label.now)
-          (sym c.order.ensures.order ∙ c.in-Equal.is),
-    )
+returns-in-Equal-clause-found c = search (rules, label-tie)
 
 pub returns-clause-none : goal.returns-clause-none
 returns-clause-none c h =

@@ -1,4 +1,4 @@
-use Rattle.dns_spec.proofs.Common.{List, ℕ, ◌≡◌, refl, ◌≤◌, ◌⊎◌, inl, inr, map, length, drop, subst, sym, ap, ap₂, ◌∙◌, nat_cmp, arith, to_ascii_lowercase, label_order, ResourceRecord}
+use Rattle.dns_spec.proofs.Common.{rules, List, ℕ, ◌≡◌, ◌≤◌, ◌⊎◌, inl, inr, map, length, drop, subst, sym, ap, ap₂, ◌∙◌, nat_cmp, arith, to_ascii_lowercase, label_order, ResourceRecord}
 use Rattle.std.proofs.lemmas.List.{length-map, drop-map}
 use Rattle.dns_zone.specs.LabelKey.{IsKey}
 use Rattle.dns_zone.specs.TreeForm.{row_label, row_name, IsRow, first_of as first_label}
@@ -14,10 +14,7 @@ row_key rs row key h e =
     (subst (IsKey row.key) (first_lower (row_name rs row) h.lower) h.key)
 
 pub returns-then-row-key-clause-order : goal.returns-then-row-key-clause-order
-returns-then-row-key-clause-order c =
-    c.cmp.ensures
-    ∙ key_order (row_key _ _ _ c.requires.row refl) c.requires.key
-    c.if-row-key.true
+returns-then-row-key-clause-order c = search (rules, key_order, row_key)
 
 pub returns-then-count-le-KEY_OCTETS-clause-order : goal.returns-then-count-le-KEY_OCTETS-clause-order
 returns-then-count-le-KEY_OCTETS-clause-order c =

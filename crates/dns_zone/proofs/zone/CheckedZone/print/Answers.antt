@@ -1,19 +1,14 @@
-use Rattle.dns_spec.proofs.Common.{rules, subst, Appends}
-use Rattle.dns_name.specs.Counted.{AppendsBeginning}
+use Rattle.dns_spec.proofs.Common.{rules}
 use Rattle.dns_name.proofs.Results.{OnErr-always}
 use Rattle.dns_spec.proofs.PrintedZones.PrintedZone.{printed_moves, zone_means}
 use Rattle.dns_zone.proofs.PrintedRecords.{text_of_ordered}
 use Rattle.dns_zone.proofs.zone.CheckedZone.print.Goals as goal
 
 pub returns-clause-writes : goal.returns-clause-writes
-returns-clause-writes g c =
-    let text = text_of_ordered c.args.self.now c.records.result.now c.records.ensures.records c.records.ensures.built.ordered in
-    record { ok = subst (Appends _ _) text c.in_ok-write_records.ensures.ok; err = search rules; counted = search rules }
+returns-clause-writes g c = search (rules, text_of_ordered)
 
 pub returns-in_err-write_records-clause-writes : goal.returns-in_err-write_records-clause-writes
-returns-in_err-write_records-clause-writes g c =
-    let text = text_of_ordered c.args.self.now c.records.result.now c.records.ensures.records c.records.ensures.built.ordered in
-    record { ok = search rules; err = OnErr-always c.from_residual.result (subst (AppendsBeginning _ _) text c.in_err-write_records.ensures.err); counted = search rules }
+returns-in_err-write_records-clause-writes g c = search (rules, text_of_ordered, OnErr-always)
 
 pub returns-clause-meaning : goal.returns-clause-meaning
 returns-clause-meaning g c = λ types short o.

@@ -1,4 +1,4 @@
-use Rattle.dns_spec.proofs.Common.{◌≡◌, List, [], ◌∷◌, None, refl, ap, ◌∙◌, DomainName, ResourceRecord, ZoneContents}
+use Rattle.dns_spec.proofs.Common.{rules, ◌≡◌, List, [], ◌∷◌, None, refl, DomainName, ResourceRecord}
 use Rattle.std.specs.List.{slice_get}
 use Rattle.dns_name.proofs.WireLemmas.{labels_of_spelled}
 use Rattle.dns_zone.specs.NamesForm.{first_owner}
@@ -11,8 +11,4 @@ origin_first o [] e = refl
 origin_first o (r ∷ rs) e = cc
 
 pub returns-in-None : goal.returns-in-None
-returns-in-None c =
-    c.new.ensures.value ∙ labels_of_spelled _ _ c.octets.ensures.value c.octets.ensures.is_name
-    ∙ ap (λ (z : ZoneContents). z.origin) c.self.view_is
-    ∙ origin_first _ _ c.in-None.ensures.value
-    ∙ ap (first_owner c.args.self.now.origin) c.own.ensures
+returns-in-None c = search (rules, labels_of_spelled, origin_first)

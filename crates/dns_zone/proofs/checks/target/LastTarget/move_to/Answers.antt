@@ -3,7 +3,4 @@ use Rattle.dns_spec.proofs.DomainNames.NameLaws.{names_equal-decides}
 use Rattle.dns_zone.proofs.checks.target.LastTarget.move_to.Goals as goal
 
 pub returns-then-eq : goal.returns-then-eq
-returns-then-eq c =
-    let same = (names_equal-decides c.self.inside.name c.args.name.now).0
-    (search rules) in
-    search rules
+returns-then-eq c = search (rules, names_equal-decides)

@@ -1,5 +1,5 @@
-use Rattle.dns_spec.proofs.Common.{List, sym, ap, ap₂, ◌∙◌, subst, IsNonDecreasingBy, ResourceRecord, at}
-use Rattle.dns_zone.specs.Nodes.{ZoneNode, IsNode}
+use Rattle.dns_spec.proofs.Common.{rules, List, sym, ap, ap₂, ◌∙◌, subst, IsNonDecreasingBy, ResourceRecord, at}
+use Rattle.dns_zone.specs.Nodes.{ZoneNode}
 use Rattle.dns_zone.specs.TreeForm.{span, row_at}
 use Rattle.dns_zone.specs.declared.tree.row.Row.{Row}
 use Rattle.dns_zone.proofs.OwnRecords.{own_types}
@@ -7,9 +7,7 @@ use Rattle.dns_zone.proofs.NodeRows.{is_row, node_is}
 use Rattle.dns_zone.proofs.tree.node.Node.own.Goals as goal
 
 pub returns-clause-node : goal.returns-clause-node
-returns-clause-node c =
-    subst (λ (v : ZoneNode). IsNode v.zone v.name) c.self.view_is
-    (node_is c.self.inside.tree.now c.self.inside.row.0 c.self.invariant)
+returns-clause-node c = search (rules, node_is)
 
 pub returns-clause-own : goal.returns-clause-own
 returns-clause-own c =

@@ -1,4 +1,4 @@
-use Rattle.dns_spec.proofs.Common.{◌==◌, sym, ap, ◌∙◌, subst, filter, ResourceRecord, set_of}
+use Rattle.dns_spec.proofs.Common.{rules, ◌==◌, sym, ap, ◌∙◌, subst, filter, ResourceRecord}
 use Rattle.dns_zone.specs.SetForm.{AreOfType}
 use Rattle.dns_zone.proofs.NodeSets.{of_type_is, are_of_type, sets_kept}
 use Rattle.dns_zone.proofs.tree.node.Node.set.Goals as goal
@@ -14,14 +14,7 @@ lent_set-requires c =
     ∙ of_type_is z c.own.ensures.node.built n t)) (are_of_type z c.own.ensures.node.built n t)
 
 pub returns-clause-set : goal.returns-clause-set
-returns-clause-set c =
-    let z = c.args.self.now.zone in
-    let n = c.args.self.now.name in
-    let t = c.args.rtype.0 in
-    let of_t = filter (λ (r : ResourceRecord). r.rtype == t) in
-    c.lent_set.ensures
-    ∙ ap set_of
-    (c.of_type.ensures ∙ ap of_t c.own.ensures.own ∙ of_type_is z c.own.ensures.node.built n t)
+returns-clause-set c = search (rules, of_type_is)
 
 pub returns-clause-rtype : goal.returns-clause-rtype
 returns-clause-rtype c =

@@ -1,18 +1,11 @@
-use Rattle.dns_spec.proofs.Common.{◌≡◌, ◌≤◌, ◌<◌, ◌∷◌, length, true, ap, sym, ◌∙◌, arith, Octets, DomainName, wire, same, at_or_below}
+use Rattle.dns_spec.proofs.Common.{rules, ◌≡◌, ◌≤◌, ◌<◌, ◌∷◌, length, ap, sym, ◌∙◌, arith, Octets, DomainName, wire, same, at_or_below}
 use Rattle.dns_spec.proofs.DomainNames.NameLaws.{at_or_below-short, at_or_below-long, same-length, length-is_name}
 use Rattle.dns_name.specs.WireForm.{labels_of, IsWireForm}
 use Rattle.dns_name.proofs.WireLemmas.{IsWireForm-wire, labels_of_spelled}
 use Rattle.dns_zone.proofs.tree.sought.Sought.below.Goals as goal
 
 pub labels-init : goal.labels-init
-labels-init c =
-    let octets = c.octets-octets.ensures in
-    let spelled = labels_of_spelled _ _ octets.value octets.is_name in
-    record {
-      form = IsWireForm-wire _ _ octets.value octets.is_name;
-      below = ap (λ n. at_or_below n c.args.ancestor.now) spelled;
-      deep = omega (arith, ap length spelled);
-    }
+labels-init c = search (rules, labels_of_spelled, IsWireForm-wire)
 
 pub overflow_add-depth : goal.overflow_add-depth
 overflow_add-depth c = omega (arith, c.labels.invariant.deep, length-is_name c.args.name.now c.octets-octets.ensures.is_name)
@@ -25,39 +18,17 @@ one_on xs ys l n a form e f longer =
     sym (ap (λ m. at_or_below m a) e ∙ after)
 
 pub labels-preserved : goal.labels-preserved
-labels-preserved c =
-    let first = c.in-Some.ensures in
-    let labels = c.labels.invariant in
-    record {
-      form = first.1;
-      below = one_on _ _ _ _ _ labels.form first.0 c.octets-least.ensures.value c.labels-test.true ∙ labels.below;
-      deep = omega (arith, labels.deep, ap length first.0);
-    }
+labels-preserved c = search (rules, one_on)
 
 -- a suffix that is no longer decides
 decides : (xs ys : Octets) (a : DomainName) → IsWireForm xs → ys ≡ wire a → length xs ≤ length ys → at_or_below (labels_of xs) a ≡ same (labels_of xs) a
 decides xs ys a form f short = at_or_below-short (labels_of xs) a (omega (arith, ap length form.wire_is, ap length f))
 
 pub returns-then-not-same : goal.returns-then-not-same
-returns-then-not-same c =
-    let labels = c.labels.invariant in
-    sym labels.below ∙ decides _ _ _ labels.form c.octets-least.ensures.value c.labels-test.false
-    ∙ ap (λ n. same n c.args.ancestor.now) (sym c.new.ensures.value) ∙ sym c.if-not-same.ensures
+returns-then-not-same c = search (rules, decides)
 
 pub new-requires-2 : goal.new-requires-2
 new-requires-2 c = IsWireForm-wire _ _ c.octets-octets.ensures.value c.octets-octets.ensures.is_name
 
 pub returns : goal.returns
-returns c =
-    let labels = c.labels.invariant in
-    let octets = c.octets-octets.ensures in
-    let is_same : same (labels_of c.labels.suffix.now) c.args.ancestor.now ≡ true = ap (λ n. same n c.args.ancestor.now) (sym c.new.ensures.value) ∙ sym c.if-not-same.ensures in
-    let long = same-length (labels_of c.labels.suffix.now) c.args.ancestor.now is_same in
-    let named : c.new-2.result ≡ c.args.name.now = c.new-2.ensures.value ∙ labels_of_spelled _ _ octets.value octets.is_name in (
-      named,
-      record {
-        below = ap (λ n. at_or_below n c.args.ancestor.now) named ∙ sym labels.below ∙ decides _ _ _ labels.form c.octets-least.ensures.value c.labels-test.false ∙ is_same;
-        labels = omega (arith, labels.deep, long, ap length named);
-        few = omega (arith, length-is_name c.args.name.now octets.is_name, ap length named);
-      },
-    )
+returns c = search (rules, same-length, labels_of_spelled, decides, length-is_name)
