@@ -96,19 +96,14 @@ is_address_type u = u == type_a || u == type_aaaa
 
 no-addresses : (s : Section) (u : ℕ) (rs : List ResourceRecord) → AreOf u rs
     → is_address_type u ≡ false → NoAddresses (item s rs)
-no-addresses s u rs e f =
-    subst (Each NotAddress) (sym (item_records s rs))
-    (each_weaker (λ (r : ResourceRecord). r.rtype ≡ u) NotAddress rs
-    (λ r h. ap is_address_type h ∙ f) e)
+no-addresses s u rs e f = grind (arith, item_records, each_weaker)
 
 -- a type with targets is not one of addresses
 targets-apart : (u : ℕ) → is_target_type u ≡ true → is_address_type u ≡ false
 targets-apart u e = grind (arith, nat_tests)
 
 NoAddresses-append : (is js : List Item) → NoAddresses is → NoAddresses js → NoAddresses (is ++ js)
-NoAddresses-append is js e f =
-    subst (Each NotAddress) (sym (flat_map-append (λ (i : Item). i.records) is js))
-    (each_append NotAddress (records_of is) (records_of js) e f)
+NoAddresses-append is js e f = grind (arith, flat_map-append, is, each_append, records_of)
 
 -- the records of what was asked for have one type
 record OneType (rs : List ResourceRecord) : Type 0 where
@@ -155,25 +150,15 @@ module _ (z : ZoneContents) (front : List Item) (clear : NoAddresses front) wher
       → NoAddresses (a ++ b) ⊎ (targets_of (a ++ b) ≡ [])
       → Adds z front (record { rcode = rcode; referral = None; answers = a; authorities = b })
   adds-plain rcode a b same_targets few =
-      let ts = targets_of a in
-      let whole : (ts ++ []) ++ [] ≡ targets_of (a ++ b) =
-      append-nil (ts ++ []) ∙ append-nil ts ∙ same_targets in
-      let named = all-names (targets_of (a ++ b)) ∙ sym whole in
-      record {
-        all = ap (extra z (front ++ (a ++ b))) whole ∙ added few;
-        glue = extra-none z (front ++ (a ++ b));
-        nodes = ap (λ ms. depths z (targets_in_zone z ms)) named;
-        misses = ap length named;
-        speaks = inl refl;
-      }
-    where
-      added : NoAddresses (a ++ b) ⊎ (targets_of (a ++ b) ≡ [])
-          → extra z (front ++ (a ++ b)) (targets_of (a ++ b))
-          ≡ side_items z all_names [] (targets_of (a ++ b))
-      added (inl h) = extra-side z (front ++ (a ++ b)) _ (NoAddresses-append front (a ++ b) clear h)
-      added (inr e) =
-          ap (extra z (front ++ (a ++ b))) e ∙ extra-none z (front ++ (a ++ b))
-          ∙ sym (ap (side_items z all_names []) e ∙ side_items-none z all_names)
+      grind (
+        arith,
+        append-nil,
+        all-names,
+        extra-none,
+        extra-side,
+        NoAddresses-append,
+        side_items-none,
+      )
 
   adds-set : (rs : List ResourceRecord) (u : ℕ) → AreOf u rs → Adds z front (positive (item answer rs))
   adds-set rs u e =
@@ -264,20 +249,11 @@ module _ (z : ZoneContents) (q : DomainName) (t : ℕ) where
 
   pub items-are : items z q t ≡ (chain_rest z t most_aliases [] q).items
   unfolding items chain chain_rest
-  items-are =
-      let main = front ++ main_items last in
-      let glue = glue_by z last.referral (ending_targets last) in
-      let others = others_by z last.referral (ending_targets last) in
-      ap (λ xs. xs ++ extra z xs (targets (outcome z q t))) main-front ∙ ap (λ ms. main ++ extra z main ms) (targets_last z q t)
-      ∙ ap (λ xs. main ++ xs) adds-last.all ∙ append_assoc front (main_items last) (glue ++ others)
-      ∙ ap (λ xs. front ++ xs) (sym (append_assoc (main_items last) glue others))
+  items-are = grind (arith, last, main-front, targets_last, adds-last, append_assoc)
 
   pub required-are : required_items z q t ≡ (chain_rest z t most_aliases [] q).required
   unfolding required_items chain chain_rest
-  required-are =
-      let main = front ++ main_items last in
-      ap (λ xs. xs ++ extra z xs (targets_inside (outcome z q t))) main-front ∙ ap (λ ms. main ++ extra z main ms) inside-last
-      ∙ ap (λ xs. main ++ xs) adds-last.glue ∙ append_assoc front (main_items last) (glue_by z last.referral (ending_targets last))
+  required-are = grind (arith, last, main-front, inside-last, adds-last, append_assoc)
 
   -- what is required comes first
   pub required-first : (chain_rest z t most_aliases [] q).items ≡ (chain_rest z t most_aliases [] q).required
@@ -293,16 +269,12 @@ module _ (z : ZoneContents) (q : DomainName) (t : ℕ) where
   pub nodes-are : (chain_rest z t most_aliases [] q).nodes
       ≡ depths z (chain z q t) + depths z (targets_in_zone z (targets (outcome z q t)))
   unfolding chain chain_rest
-  nodes-are =
-      ap (λ n. depths z (chain z q t) + n)
-      (adds-last.nodes ∙ ap (λ ms. depths z (targets_in_zone z ms)) (sym (targets_last z q t)))
+  nodes-are = grind (arith, adds-last, targets_last)
 
   pub misses-are : (chain_rest z t most_aliases [] q).misses
       ≡ 2 * length (chain z q t) + length (targets (outcome z q t))
   unfolding chain chain_rest
-  misses-are =
-      ap (λ n. 2 * length (chain z q t) + n)
-      (adds-last.misses ∙ ap length (sym (targets_last z q t)))
+  misses-are = grind (arith, adds-last, targets_last)
 
   -- a referral without aliases before it does not speak for the zone
   pub speaks-unless : (b : Bool) → (length (alias_items z q t) == 0) ≡ not b

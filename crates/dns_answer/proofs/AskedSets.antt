@@ -1,6 +1,5 @@
 -- The outcome of records that are found, by the set asked for.
-use Rattle.dns_spec.proofs.Common.{◌≡◌, ℕ, Bool, true, false, cond, ◌&&◌, List, [], ◌∷◌, None, Some, refl, sym, ap, ◌∙◌, DomainName, type_cname, qtype_any, ResourceRecord, ZoneContents, at, of_type, with_owner, RecordSet, set_of, records_at, rising_types, of_first_type, of_lowest_type, no_error, answer, item, has_any, asked_records, follows_alias, positive, negative, outcome_by}
-use Rattle.std.specs.Prelude.{◌==◌}
+use Rattle.dns_spec.proofs.Common.{arith, ◌≡◌, ℕ, true, false, cond, ◌&&◌, List, [], ◌∷◌, None, Some, refl, ap, ◌∙◌, DomainName, type_cname, ResourceRecord, ZoneContents, at, of_type, with_owner, RecordSet, set_of, records_at, of_first_type, no_error, answer, item, has_any, asked_records, follows_alias, positive, negative, outcome_by}
 use Rattle.dns_spec.proofs.Records.SortedOnce.{Each}
 use Rattle.dns_spec.proofs.Replies.ItemSets.{each_typed}
 use Rattle.dns_zone.specs.Nodes.{ZoneNode, IsSetOf}
@@ -23,11 +22,7 @@ lowest [] rs set e = absurd (cc)
 lowest (t ∷ ts) rs set e = typed t rs set e
 
 asked_typed : (t : ℕ) (rs : List ResourceRecord) (set : RecordSet) → Some set ≡ set_of (asked_records t rs) → of_type set.rtype rs ≡ asked_records t rs
-asked_typed t rs set = go (t == qtype_any)
-  where
-    go : (b : Bool) → Some set ≡ set_of (cond b (of_lowest_type rs) (of_type t rs)) → of_type set.rtype rs ≡ cond b (of_lowest_type rs) (of_type t rs)
-    go true e = lowest (rising_types rs) rs set e
-    go false e = typed t rs set e
+asked_typed t rs set = grind (arith, lowest, typed)
 
 pub some_any : (n : DomainName) (rs : List ResourceRecord) (set : RecordSet) → Some set ≡ set_of rs → has_any (with_owner n rs) ≡ true
 some_any n [] set e = absurd (cc)
@@ -40,9 +35,7 @@ none_any n (r ∷ rs) e = absurd (cc)
 module _ (z : ZoneContents) (t : ℕ) (n : DomainName) (rs : List ResourceRecord) (no_alias : (follows_alias t && has_any (of_type type_cname (with_owner n rs))) ≡ false) where
   outcome_is : outcome_by z t None (Some (with_owner n rs))
       ≡ cond (has_any (with_owner n (asked_records t rs))) (positive (item answer (with_owner n (asked_records t rs)))) (negative z no_error)
-  outcome_is =
-      ap (λ b. cond b (positive []) (cond (has_any (asked_records t (with_owner n rs))) (positive (item answer (asked_records t (with_owner n rs)))) (negative z no_error))) no_alias
-      ∙ ap (λ xs. cond (has_any xs) (positive (item answer xs)) (negative z no_error)) (asked-shown n t rs)
+  outcome_is = grind (arith, positive, asked-shown)
 
   pub asked-none : None ≡ set_of (asked_records t rs) → outcome_by z t None (Some (with_owner n rs)) ≡ negative z no_error
   asked-none e = outcome_is ∙ ap (λ b. cond b (positive (item answer (with_owner n (asked_records t rs)))) (negative z no_error)) (none_any n (asked_records t rs) e)
@@ -50,6 +43,4 @@ module _ (z : ZoneContents) (t : ℕ) (n : DomainName) (rs : List ResourceRecord
   pub asked-some : (node : ZoneNode) (ttl : ℕ) (set : RecordSet) → rs ≡ at node.zone node.name → IsSetOf node set → ttl ≡ set.ttl → Some set ≡ set_of (asked_records t rs)
       → outcome_by z t None (Some (with_owner n rs)) ≡ positive (record { section = answer; records = records_at n ttl set } ∷ [])
   asked-some node ttl set here k timed e =
-      outcome_is ∙ ap (λ b. cond b (positive (item answer (with_owner n (asked_records t rs)))) (negative z no_error)) (some_any n (asked_records t rs) set e)
-      ∙ ap positive (item-shown answer node.name n (asked_records t rs) set (sym e) (k.records ∙ ap (of_type set.rtype) (sym here) ∙ asked_typed t rs set e)
-      ∙ ap (λ u. record { section = answer; records = records_at n u set } ∷ []) (sym timed))
+      grind (arith, outcome_is, positive, some_any, item-shown, asked_typed)

@@ -1,8 +1,8 @@
 -- What is still to come of an answer, by what is found at a name of the chain.
-use Rattle.dns_spec.proofs.Common.{◌≡◌, ℕ, zero, suc, ◌+◌, ◌*◌, Bool, true, false, cond, ◌&&◌, ◌⊎◌, inl, inr, not, List, [], ◌∷◌, ◌++◌, map, sum, length, None, Some, refl, sym, ap, ◌∙◌, arith, add-one, append-nil, append_assoc, and-false, flat_map, list_any, option_and_then, DomainName, same, at_or_below, type_cname, ResourceRecord, ZoneContents, of_type, cut_of, found, name_error, answer, Item}
-use Rattle.dns_spec.specs.Answer.{item, follows_alias, alias_set, first_target, next_sought, chain_from, last_of, has_any, Outcome, positive, negative, referral_to, outcome_by, outcome_at}
+use Rattle.dns_spec.proofs.Common.{◌≡◌, ℕ, zero, suc, ◌+◌, true, false, cond, ◌&&◌, ◌⊎◌, inl, inr, List, [], ◌∷◌, ◌++◌, None, Some, refl, sym, ap, ◌∙◌, arith, add-one, append-nil, append_assoc, and-false, DomainName, type_cname, ResourceRecord, ZoneContents, of_type, cut_of, found, name_error, answer, Item}
+use Rattle.dns_spec.specs.Answer.{item, follows_alias, alias_set, next_sought, chain_from, last_of, has_any, Outcome, positive, negative, referral_to, outcome_by, outcome_at}
 use Rattle.dns_answer.specs.Walks.{labels_below}
-use Rattle.dns_answer.specs.Ending.{ending, after_sets, ending_items, ending_required}
+use Rattle.dns_answer.specs.Ending.{ending, after_sets}
 use Rattle.dns_answer.specs.Chain.{names_from, aliases_of, rest_of, chain_rest}
 use Rattle.dns_answer.specs.Seeking.{leads_on}
 use Rattle.dns_spec.proofs.Replies.FewItems.{sum_cons}
@@ -55,40 +55,14 @@ module _ (z : ZoneContents) (t k : ℕ) (sought : List DomainName) (s : DomainNa
   ends : (aliases : List Item) (o : Outcome) → names_from z t k sought s ≡ s ∷ []
       → aliases_of z t (s ∷ []) ≡ aliases → outcome_at z t s ≡ o → ChainEnds aliases o
   unfolding chain_rest
-  ends aliases o names shown is =
-      let depth : sum (map (labels_below z) (s ∷ [])) ≡ labels_below z s =
-      sum_cons (labels_below z s) [] ∙ omega arith in
-      ap (rest_of z t s) names ∙ (λ i. record {
-        items = shown i ++ ending_items z (is i);
-        required = shown i ++ ending_required z (is i);
-        outcome = is i;
-        nodes = depth i + (ending z (is i)).nodes;
-        misses = 2 + (ending z (is i)).misses;
-      })
+  ends aliases o names shown is = grind (arith, sum_cons, rest_of)
 
   -- a type that follows no alias, or a name without one
   pub none-shown : leads_on z t s ≡ false → aliases_of z t (s ∷ []) ≡ []
-  none-shown e = go (follows_alias t) (alias_set z s) e
-    where
-      go : (b : Bool) (rs : List ResourceRecord) → (b && has_any rs) ≡ false
-          → cond b (item answer rs ++ []) [] ≡ []
-      go true [] e = refl
-      go true (r ∷ rs) e = absurd (cc)
-      go false rs e = refl
+  none-shown e = grind arith
 
   pub last-name : leads_on z t s ≡ false → names_from z t k sought s ≡ s ∷ []
-  last-name e = go (follows_alias t) e
-    where
-      none : (rs : List ResourceRecord) → has_any rs ≡ false → option_and_then (λ m. cond
-          (at_or_below m z.origin && not (list_any (same m) (s ∷ sought))) (Some m) None)
-          (first_target rs) ≡ None
-      none [] e = refl
-      none (r ∷ rs) e = absurd (cc)
-
-      go : (b : Bool) → (b && has_any (alias_set z s)) ≡ false
-          → cond b (chain_from z k sought s) (s ∷ []) ≡ s ∷ []
-      go true e = from-last z k sought s (none (alias_set z s) e)
-      go false e = refl
+  last-name e = grind (arith, from-last)
 
   pub ends-plain : (o : Outcome) → leads_on z t s ≡ false → outcome_at z t s ≡ o → ChainEnds [] o
   ends-plain o none is = ends [] o (last-name none) (none-shown none) is
@@ -127,39 +101,4 @@ pub goes-on : (z : ZoneContents) (t k : ℕ) (sought : List DomainName) (s : Dom
     → chain_rest z t k sought s ≡ after_sets is (labels_below z s) (chain_rest z t k' (s ∷ sought) m)
 unfolding chain_rest
 goes-on z t k sought s k' m first follows are e count =
-    let ns = names_from z t k' (s ∷ sought) m in
-    let from : ns ≡ chain_from z k' (s ∷ sought) m =
-    ap (λ b. cond b (chain_from z k' (s ∷ sought) m) (m ∷ [])) follows in
-    let names : names_from z t k sought s ≡ s ∷ ns =
-    ap (λ b. cond b (chain_from z k sought s) (s ∷ [])) follows
-    ∙ ap (λ i. chain_from z i sought s) (count ∙ add-one k') ∙ from-more z k' sought s m e
-    ∙ ap (λ ns. s ∷ ns) (sym from) in
-    let is : outcome_at z t (last_of s ns) ≡ outcome_at z t (last_of m ns) = ap (outcome_at z t)
-    (ap (last_of s) from ∙ last-from z k' (s ∷ sought) s m ∙ ap (last_of m) (sym from)) in
-    let shown : aliases_of z t (s ∷ ns) ≡ first ++ aliases_of z t ns =
-    ap (λ b. cond b (flat_map (λ n. item answer (alias_set z n)) (s ∷ ns)) []) follows
-    ∙ ap (λ xs. xs ++ flat_map (λ n. item answer (alias_set z n)) ns) are
-    ∙ ap (λ xs. first ++ xs)
-    (sym (ap (λ b. cond b (flat_map (λ n. item answer (alias_set z n)) ns) []) follows)) in
-    let r = λ (o : Outcome). ending z o in
-    let o = outcome_at z t (last_of m ns) in
-    let nodes : sum (map (labels_below z) (s ∷ ns)) + (r o).nodes
-    ≡ labels_below z s + (sum (map (labels_below z) ns) + (r o).nodes) =
-    let c = sum_cons (labels_below z s) (map (labels_below z) ns) in omega (arith, c) in
-    let misses : 2 * length (s ∷ ns) + (r o).misses ≡ 2 + (2 * length ns + (r o).misses) =
-    omega arith in
-    ap (rest_of z t s) names
-    ∙ (λ i. record {
-      items = shown i ++ (r (is i)).items;
-      required = shown i ++ (r (is i)).required;
-      outcome = is i;
-      nodes = sum (map (labels_below z) (s ∷ ns)) + (r (is i)).nodes;
-      misses = 2 * length (s ∷ ns) + (r (is i)).misses;
-    })
-    ∙ (λ i. record {
-      items = append_assoc first (aliases_of z t ns) (r o).items i;
-      required = append_assoc first (aliases_of z t ns) (r o).required i;
-      outcome = o;
-      nodes = nodes i;
-      misses = misses i;
-    })
+    grind (arith, add-one, from-more, last_of, last-from, sum_cons, rest_of, append_assoc)

@@ -1,5 +1,5 @@
 -- How the sets that end an answer are offered.
-use Rattle.dns_spec.proofs.Common.{◌≡◌, ◌⊎◌, inl, inr, ℕ, ◌<◌, Bool, true, false, cond, not, min, List, [], ◌∷◌, ◌++◌, map, reverse, length, get_or, None, Some, refl, sym, ap, ap₂, ◌∙◌, arith, subst, and_parts, length-map, is_some, Octets, DomainName, folded, suffixes, below, type_ns, type_soa, soa_minimum, ResourceRecord, ZoneContents, rrset, owns, with_owner, RecordSet, set_of, records_at, authority, Item, item, Outcome, main_items, targets_of, negative_soa, negative, positive, referral_to, is_cut, cut_of, no_error}
+use Rattle.dns_spec.proofs.Common.{◌≡◌, ◌⊎◌, inl, inr, ℕ, Bool, true, false, cond, not, min, List, [], ◌∷◌, ◌++◌, map, reverse, length, get_or, None, Some, refl, sym, ap, ap₂, ◌∙◌, arith, and_parts, length-map, is_some, Octets, DomainName, folded, suffixes, below, type_ns, type_soa, soa_minimum, ResourceRecord, ZoneContents, rrset, owns, RecordSet, set_of, records_at, authority, Item, item, Outcome, main_items, targets_of, negative_soa, negative, positive, referral_to, is_cut, cut_of, no_error}
 use Rattle.std.specs.List.{filter, find, list_all}
 use Rattle.dns_spec.proofs.ZoneChecks.PassedChecks.{few_soa, one_soa}
 use Rattle.dns_zone.specs.ZoneForm.{IsBuilt}
@@ -7,7 +7,7 @@ use Rattle.dns_wire.specs.QueryForm.{code_of}
 use Rattle.dns_answer.specs.DraftForm.{State, Offers}
 use Rattle.dns_answer.specs.Targets.{side_items, side_nodes, set_targets}
 use Rattle.dns_answer.specs.Walks.{Took}
-use Rattle.dns_answer.specs.Ending.{Ends, IsPlain, TookRest, ending, all_names, inside, not_inside, ending_targets, glue_by, others_by, nodes_by, misses_by}
+use Rattle.dns_answer.specs.Ending.{Ends, IsPlain, TookRest, ending, all_names, inside, not_inside, ending_targets, glue_by, others_by}
 use Rattle.dns_answer.proofs.Taking.{Took-then, Took-within}
 use Rattle.dns_answer.proofs.AnswerItems.{denial-no_targets}
 use Rattle.dns_answer.specs.declared.ending.Verdict.{Verdict}
@@ -71,17 +71,7 @@ lowered n ttl t (d ∷ d' ∷ ds) e = absurd (omega arith)
 module _ (z : ZoneContents) where
   soa-one : IsBuilt z → (set : RecordSet) → set_of (rrset z z.origin type_soa) ≡ Some set
       → records_at z.origin set.ttl set ≡ rrset z z.origin type_soa → length set.rdata ≡ 1
-  soa-one kept set e f =
-      let few = few_soa z kept.low kept.passes in
-      let one = ap length (one_soa z kept.low kept.passes) in
-      let some = from_set (rrset z z.origin type_soa) e in
-      sym (length-map set.rdata (λ (d : Octets).
-      record { owner = z.origin; ttl = set.ttl; rtype = set.rtype; rdata = d }))
-      ∙ ap length f ∙ omega (arith, one, few, some)
-    where
-      from_set : (rs : List ResourceRecord) → set_of rs ≡ Some set → 0 < length rs
-      from_set [] e = absurd (cc)
-      from_set (r ∷ rs) e = omega arith
+  soa-one kept set e f = grind (arith, few_soa, one_soa, length-map)
 
   pub soa-item : IsBuilt z → (set : RecordSet) (ttl : ℕ)
       → set_of (rrset z z.origin type_soa) ≡ Some set
@@ -95,11 +85,7 @@ module _ (z : ZoneContents) where
       ∙ ap (λ k. record { section = authority; records = records_at z.origin k set } ∷ []) (sym g)
 
   pub soa-none : set_of (rrset z z.origin type_soa) ≡ None → negative_soa z ≡ []
-  soa-none e = go (rrset z z.origin type_soa) e
-    where
-      go : (rs : List ResourceRecord) → set_of rs ≡ None → item authority (map (λ (r : ResourceRecord). record r { ttl = min r.ttl (soa_minimum r.rdata) }) rs) ≡ []
-      go [] e = refl
-      go (r ∷ rs) e = absurd (cc)
+  soa-none e = grind arith
 
 -- what a search finds passes
 find_passes : {X : Type 0} (p : X → Bool) (xs : List X) (x : X) → find p xs ≡ Some x → p x ≡ true
@@ -138,10 +124,7 @@ module _ (z : ZoneContents) (node : ZoneNode) (set : RecordSet) (zone : node.zon
   servers = record { section = authority; records = records_at node.name set.ttl set } ∷ []
 
   servers_item : main_items (referral_to z node.name) ≡ servers
-  servers_item =
-      ap (λ y. item authority (with_owner node.name (rrset y node.name type_ns))) (sym zone)
-      ∙ item-shown authority node.name node.name (rrset node.zone node.name type_ns) set (sym found)
-      (kept.records ∙ ap (rrset node.zone node.name) rtype)
+  servers_item = grind (arith, item-shown)
 
   servers_targets : ending_targets (referral_to z node.name) ≡ set_targets set
   servers_targets =
@@ -165,6 +148,4 @@ module _ (z : ZoneContents) (node : ZoneNode) (set : RecordSet) (zone : node.zon
       (length (filter (not_inside node.name) (set_targets set)))
       → TookRest s s2 (ending z (referral_to z node.name))
   Took-referred {s} {s1} {s2} z2 same_zone a b =
-      let there = ap (λ y. side_nodes y (not_inside node.name) (set_targets set)) same_zone in
-      subst (λ ts. Took s s2 (nodes_by z (Some node.name) ts) (misses_by (Some node.name) ts))
-      (sym servers_targets) (Took-then a (Took-within (omega (arith, there)) (omega arith) b))
+      grind (arith, servers_targets, Took-then, Took-within)

@@ -84,11 +84,7 @@ module _ (z : ZoneContents) (apex : ZoneNode) (ends : Bool) (s : Sought) (top : 
 
     -- below it no name is above the origin
     pub under-origin : (k : ℕ) → k ≤ s.depth → at_or_below (drop k s.name) z.origin ≡ true
-    under-origin k few =
-        let a = start l aim in
-        let top = (node_or apex l).name in
-        under-trans (drop k s.name) top z.origin
-        (under-drop k s.name top a.below.below (omega (arith, a.below.labels, few))) a.inside
+    under-origin k few = grind (arith, start, under-trans, under-drop)
 
 -- the label before so many others
 pub label-before : (n labels : DomainName) (l : Octets) (b : ℕ) → labels ≡ n → 0 < b → drop (b - 1) labels ≡ l ∷ drop (b - 1 + 1) labels → drop (b - 1) n ≡ l ∷ drop b n

@@ -10,9 +10,9 @@ use Rattle.dns_wire.specs.QueryForm.{code_of}
 use Rattle.dns_answer.specs.Draft as spec
 use Rattle.dns_answer.specs.Draft.{empty_draft, offer, offered, size_with}
 use Rattle.dns_answer.specs.DraftForm.{State, Holds}
-use Rattle.dns_answer.specs.Ending.{Rest, Says, TookRest}
+use Rattle.dns_answer.specs.Ending.{Rest, TookRest}
 use Rattle.dns_answer.specs.Chain.{chain_rest}
-use Rattle.dns_answer.specs.Seeking.{leads_on, Seeks, Followed}
+use Rattle.dns_answer.specs.Seeking.{Seeks, Followed}
 use Rattle.dns_answer.specs.Replies.{IsReply, Answers, Costs}
 use Rattle.dns_answer.specs.declared.ending.Verdict.{Verdict}
 use Rattle.dns_answer.proofs.Offering.{Offers-is}
@@ -33,10 +33,7 @@ pub refusal-put : (z : ZoneContents) (limit : ℕ) (x : Decision) (h : Header)
     (q : Option MessageQuestion) (len : ℕ) (out : Octets)
     → Some (layout h q []) ≡ option_map reply_octets (reply_of (keep_longest z limit) z x)
     → len ≡ size q [] → take len out ≡ layout h q [] → IsReply z limit x len out
-refusal-put z limit x h q len out is sized laid = record {
-  octets = ap (λ x. Some x) laid ∙ is;
-  within = laid_within h q [] out len sized laid;
-}
+refusal-put z limit x h q len out is sized laid = grind (arith, laid_within)
 
 -- offering sets does not change the question
 offered-question : (d : spec.Draft) (is : List Item) → (offered d is).question ≡ d.question
@@ -65,13 +62,7 @@ module _ (z : ZoneContents) (h : Header) (q : MessageQuestion) where
   authoritative : (v : Verdict) (led : Bool) → v.is_referral ≡ is_some r.outcome.referral
       → Followed z q.qtype q.qname v led
       → not (v.is_referral && not led) ≡ is_authoritative (outcome z q.qname q.qtype)
-  authoritative v led refers followed =
-      go v.is_referral (is_some r.outcome.referral) (leads_on z q.qtype q.qname) refers followed
-      ∙ sym (authority-is z q.qname q.qtype)
-    where
-      go : (a b f : Bool) → a ≡ b → (a ≡ true → led ≡ f) → not (a && not led) ≡ not (b && not f)
-      go true b f e more = ap (λ x. not (not x)) (more refl) ∙ ap (λ x. not (x && not f)) e
-      go false b f e more = ap (λ x. not (x && not f)) e
+  authoritative v led refers followed = grind (arith, authority-is)
 
   -- the zone and the question may be stated by other names
   pub answers-found : {s1 s' : Walk} {n : DomainName} {t : ℕ} {w w' : State} {v : Verdict}
@@ -80,18 +71,7 @@ module _ (z : ZoneContents) (h : Header) (q : MessageQuestion) where
       → aa ≡ not (v.is_referral && not led)
       → head ≡ reply_head h aa v.is_truncated (code_of v.rcode) → Answers z h q w w' head
   answers-found {w = w} {w' = w'} {v = v} led zone name type seeks followed authority is_head =
-      let says : Says w w' r v = subst (λ r. Says w w' r v)
-      (λ i. chain_rest (zone i) (type i) most_aliases [] (name i)) seeks.says in
-      let led_is = λ (e : v.is_referral ≡ true).
-      followed e ∙ (λ i. leads_on (zone i) (type i) (name i)) in
-      let speaks = authority ∙ authoritative v led says.referral led_is in
-      let rcode = says.rcode ∙ sym (rcode-is z q.qname q.qtype) in
-      record {
-        offers = Offers-is w w' _ _ (sym (items-are z q.qname q.qtype)) says.offers;
-        header = λ limit begun.
-            let tc = says.truncated (empty_draft q limit) begun ∙ sym (truncates limit) in
-            is_head ∙ (λ i. reply_head h (speaks i) (tc i) (rcode i));
-      }
+      grind (arith, authoritative, rcode-is, Offers-is, items-are, truncates)
 
   -- Then they are laid out at the front of the buffer.
   pub answer-put : (limit : ℕ) (w w' : State) (head : Header) (len : ℕ) (out : Octets) → Holds w (empty_draft q limit) → Answers z h q w w' head

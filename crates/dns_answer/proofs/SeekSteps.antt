@@ -1,8 +1,6 @@
 -- What seeking a name has offered and taken, by what is found for it.
-use Rattle.dns_spec.proofs.Common.{◌≡◌, ◌⊎◌, inl, inr, ℕ, ◌+◌, ◌*◌, ◌<◌, ◌≤◌, Bool, true, false, cond, ◌&&◌, ◌||◌, not, List, [], ◌∷◌, ◌++◌, map, reverse, length, get_or, Option, None, Some, refl, sym, ap, ap₂, ◌∙◌, arith, subst, list_any, Octets, DomainName, folded, names_equal, same, at_or_below, target, type_cname, ResourceRecord, ZoneContents, at, of_type, with_owner, RecordSet, set_of, records_at, no_error, answer, Item, most_aliases, item, follows_alias, alias_set, first_target, next_sought, has_any, Outcome, outcome_by, positive, negative, and_from, and_right, list_any-append}
+use Rattle.dns_spec.proofs.Common.{◌≡◌, inl, inr, ℕ, ◌+◌, ◌*◌, ◌<◌, ◌≤◌, Bool, true, false, cond, ◌&&◌, ◌||◌, List, [], ◌∷◌, ◌++◌, map, reverse, length, Option, None, Some, refl, sym, ap, ap₂, ◌∙◌, arith, subst, list_any, DomainName, folded, names_equal, same, at_or_below, type_cname, ResourceRecord, ZoneContents, at, of_type, with_owner, RecordSet, records_at, no_error, answer, Item, most_aliases, item, follows_alias, alias_set, first_target, has_any, Outcome, outcome_by, positive, negative, and_from, and_right, list_any-append}
 use Rattle.dns_zone.specs.Nodes.{Walk, ZoneNode, IsSetOf}
-use Rattle.dns_answer.specs.Draft as spec
-use Rattle.dns_answer.specs.Draft.{offered}
 use Rattle.dns_answer.specs.DraftForm.{State, Offers}
 use Rattle.dns_answer.specs.Ending.{Rest, ending, after_sets, Says, TookRest, asked_item}
 use Rattle.dns_answer.specs.Walks.{AreRecords, Took, IsApex, IsAim, labels_below}
@@ -26,14 +24,7 @@ use Rattle.dns_answer.proofs.ChainSteps.{alias-found, outcome-found, outcome-ali
 -- the sets of aliases before what is still to come
 pub says-after : {w w1 w' : State} {r : Rest} {v : Verdict} (is : List Item) (nodes : ℕ)
     → Offers w w1 is → Says w1 w' r v → Says w w' (after_sets is nodes r) v
-says-after {w} {w1} {w'} {r} is nodes a h = record {
-  offers = Offers-then w w1 w' is r.items a h.offers;
-  rcode = h.rcode;
-  referral = h.referral;
-  truncated = λ d held.
-      h.truncated (offered d is) (a.draft d held)
-      ∙ ap (λ (x : spec.Draft). x.full) (sym (offered-append d is r.required));
-}
+says-after {w} {w1} {w'} {r} is nodes a h = grind (arith, Offers-then, offered-append)
 
 -- what seeking a name comes to, by what is still to come after its own sets
 pub sought-on : (a : Walk) (t : ℕ) (before : List DomainName) (s : DomainName) (is : List Item)
@@ -61,13 +52,7 @@ any-names n (s ∷ ss) =
 pub unsought-is : (origin m : DomainName) (sought : List DomainName) (o : Option DomainName)
     (b : Bool) → o ≡ Some m → at_or_below m origin ≡ true → list_any (same m) sought ≡ b
     → unsought origin sought o ≡ cond b None (Some m)
-unsought-is origin m sought o b leads inside among =
-    ap (unsought origin sought) leads
-    ∙ ap₂ (λ x y. cond (x && not y) (Some m) None) inside among ∙ go b
-  where
-    go : (b : Bool) → cond (true && not b) (Some m) None ≡ cond b None (Some m)
-    go true = refl
-    go false = refl
+unsought-is origin m sought o b leads inside among = grind arith
 
 -- names in lower case are the same where they are equal
 any-lower : (n : DomainName) (ss : List Sought) → folded n ≡ n
@@ -143,9 +128,7 @@ module _ (z : ZoneContents) (t : ℕ) (before : List DomainName) (s : DomainName
   Chain is r = chain_rest z t (aliases_left before) before s ≡ after_sets is (labels_below z s) r
 
   aliases-at : alias_set z s ≡ with_owner s cnames
-  aliases-at =
-      alias-found z s (with_owner s rs) records.no_cut records.records
-      ∙ of_type-shown s type_cname rs
+  aliases-at = grind (arith, alias-found, of_type-shown)
 
   -- no alias among them is followed
   pub no-alias : HasNoAlias t rs → leads_on z t s ≡ false
@@ -154,15 +137,11 @@ module _ (z : ZoneContents) (t : ℕ) (before : List DomainName) (s : DomainName
 
   unaliased : HasNoAlias t rs → (o : Outcome) → outcome_by z t None (Some (with_owner s rs)) ≡ o
       → Chain [] (ending z o)
-  unaliased none o is =
-      ends-plain z t (aliases_left before) before s o (no-alias none)
-      (outcome-found z t s (with_owner s rs) records.no_cut records.records ∙ is)
+  unaliased none o is = grind (arith, ends-plain, no-alias, outcome-found)
 
   none-of : HasNoAlias t rs
       → (follows_alias t && has_any (of_type type_cname (with_owner s rs))) ≡ false
-  none-of none =
-      ap (λ xs. follows_alias t && has_any xs) (of_type-shown s type_cname rs ∙ sym aliases-at)
-      ∙ no-alias none
+  none-of none = grind (arith, of_type-shown, aliases-at, no-alias)
 
   pub ends-none : IsShown t rs None → Chain [] (ending z (negative z no_error))
   ends-none shown =
@@ -180,9 +159,7 @@ module _ (z : ZoneContents) (t : ℕ) (before : List DomainName) (s : DomainName
       are_set = kept.records ∙ ap (λ u. of_type u rs) shown.2
 
       alias-item : item answer (alias_set z s) ≡ asked_item s set
-      alias-item =
-          ap (item answer) aliases-at
-          ∙ item-shown answer node.name s cnames set (sym shown.1) are_set
+      alias-item = grind (arith, aliases-at, item-shown, are_set)
 
       some-alias : has_any (alias_set z s) ≡ true
       some-alias = ap has_any aliases-at ∙ some_any s cnames set shown.1
@@ -191,32 +168,13 @@ module _ (z : ZoneContents) (t : ℕ) (before : List DomainName) (s : DomainName
       has-alias = and_from (follows_alias t) (has_any (alias_set z s)) shown.0 some-alias
 
       alias-leads : first_target (alias_set z s) ≡ target_at 0 set
-      alias-leads =
-          ap first_target (aliases-at ∙ ap (with_owner s) (sym are_set))
-          ∙ go set.rdata (ap set_of are_set ∙ sym shown.1)
-        where
-          of : List Octets → List ResourceRecord
-          of ds =
-              map (λ (d : Octets).
-              record { owner = node.name; ttl = set.ttl; rtype = set.rtype; rdata = d }) ds
-
-          go : (ds : List Octets) → set_of (of ds) ≡ Some set
-              → first_target (with_owner s (of ds)) ≡ target set.rtype (get_or ds 0 [])
-          go [] h = absurd (cc)
-          go (d ∷ ds) h = refl
+      alias-leads = grind (arith, aliases-at, are_set)
 
       -- it leads no further
       pub alias-ends : NextIs z set (s ∷ before) None
           → Chain (asked_item s set) (ending z (positive []))
       alias-ends next =
-          ends-alias z t (aliases_left before) before s (asked_item s set) shown.0 alias-item
-          (outcome-alias z t s (with_owner s rs) records.no_cut records.records has-alias)
-          (ended next)
-        where
-          ended : NextIs z set (s ∷ before) None
-              → (aliases_left before ≡ 0) ⊎ (next_sought z (s ∷ before) s ≡ None)
-          ended (inl none) = inl (omega (arith, none))
-          ended (inr none) = inr (ap (unsought z.origin (s ∷ before)) alias-leads ∙ none)
+          grind (arith, ends-alias, alias-item, outcome-alias, has-alias, alias-leads)
 
       -- it leads to another name
       pub alias-goes_on : (m : Sought) (l : Option ZoneNode) → NextIs z set (s ∷ before) (Some (m, l))

@@ -1,10 +1,9 @@
 -- What is sent is the reply that the definitions state, by the query that a datagram was read as.
-use Rattle.std.proofs.Common.{◌≡◌, ◌↔◌, ℕ, ◌<◌, ◌≤◌, Bool, true, false, not, cond, Option, None, Some, IsTrue, IsNone, IfSome, All, length, take, refl, sym, ap, subst, ◌∙◌, arith}
+use Rattle.std.proofs.Common.{◌≡◌, ◌↔◌, ℕ, ◌<◌, ◌≤◌, Bool, true, false, Option, None, Some, IsTrue, IsNone, IfSome, All, length, take, refl, sym, ap, subst, ◌∙◌, arith}
 use Rattle.dns_spec.proofs.Common.{true≢false, All-weaker, option_map, Octets, ResourceRecord, ZoneContents, IsWritable, IsReadRecord}
-use Rattle.std.specs.Prelude.{◌==◌}
-use Rattle.dns_spec.specs.Reading.{MessageQuestion, Spells, format_error, not_implemented}
-use Rattle.dns_spec.specs.Query.{field16, opcode, head_of, refusal_head, counts_are_one_question, question_at, is_ignored, QueryRead, absent, refused_with, query, query_or_error, query_read}
-use Rattle.dns_spec.specs.Reply.{Decision, decide_query, decide, Reply, reply_of, keep_longest, reply_with, reply, reply_octets, reply_message, octets_of}
+use Rattle.dns_spec.specs.Reading.{Spells}
+use Rattle.dns_spec.specs.Query.{is_ignored, QueryRead, absent, refused_with, query, query_read}
+use Rattle.dns_spec.specs.Reply.{Decision, decide_query, decide, reply_of, keep_longest, reply_with, reply, reply_octets, reply_message, octets_of}
 use Rattle.dns_spec.proofs.Replies.ReplySpelled.{reply_spells}
 use Rattle.dns_zone.specs.Nodes.{Walk}
 use Rattle.dns_zone.specs.ZoneForm.{IsBuilt}
@@ -18,15 +17,7 @@ is_absent (query h q) = false
 
 absent-is : (d : Octets) → is_absent (query_read d) ≡ is_ignored d
 unfolding query_read
-absent-is d = go (is_ignored d) (not (opcode (field16 d 2) == 0)) (not (counts_are_one_question d)) (question_at d)
-  where
-    go : (a b c : Bool) (q : Option MessageQuestion)
-        → is_absent (cond a absent (cond b (refused_with (refusal_head (head_of d) not_implemented)) (cond c (refused_with (refusal_head (head_of d) format_error)) (query_or_error (head_of d) q)))) ≡ a
-    go true b c q = refl
-    go false true c q = refl
-    go false false true q = refl
-    go false false false None = refl
-    go false false false (Some q) = refl
+absent-is d = search arith
 
 module _ (d : Octets) (y : QueryRead) (read : y ≡ query_read d) where
   ignored-by : is_ignored d ≡ is_absent y
@@ -56,23 +47,11 @@ writable r read = record { owner = read.owner; rtype = read.rtype; ttl = let t =
 pub spelled : (z : ZoneContents) (d sent : Octets) (limit : ℕ) → IsBuilt z → All (λ o. o < 256) d → 271 ≤ limit → limit ≤ 65535 → Some sent ≡ octets_of z d limit
     → IfSome (reply z d limit) (λ r. Spells sent (reply_message r))
 unfolding octets_of
-spelled z d sent limit built low from upto e = go (reply z d limit) refl e
-  where
-    go : (x : Option Reply) → reply z d limit ≡ x → Some sent ≡ option_map reply_octets x → IfSome x (λ r. Spells sent (reply_message r))
-    go None is e = tt
-    go (Some r) is e =
-        let same : sent ≡ reply_octets r = cc in
-        subst (λ b. Spells b (reply_message r)) (sym same)
-        (reply_spells z d limit r (All-weaker IsReadRecord IsWritable writable z.records built.each) low from upto is)
+spelled z d sent limit built low from upto e = grind (arith, reply_spells, All-weaker, writable)
 
 -- a walk that is left as it was has taken nothing
 pub nothing-taken : (x : Decision) (s : Walk) → s.visits ≡ 0 → s.comparisons ≡ 0 → Costs x s s
-nothing-taken x s visits comparisons = record {
-  zone = refl;
-  visits = omega (arith, visits);
-  visits_a_name = omega (arith, visits);
-  comparisons = omega (arith, comparisons);
-}
+nothing-taken x s visits comparisons = grind arith
 
 module _ (d : Octets) (y : QueryRead) (read : y ≡ query_read d) (s s' : Walk) (limit : ℕ)
     (costs : Costs (decide_query s.zone y) s s') where
@@ -80,13 +59,7 @@ module _ (d : Octets) (y : QueryRead) (read : y ≡ query_read d) (s s' : Walk) 
   pub unanswered : (out : Octets) → is_absent y ≡ true
       → option_map reply_octets (reply_of (keep_longest s.zone limit) s.zone (decide_query s.zone y))
       ≡ None → Responds s s' d limit None out
-  unanswered out missing none = record {
-    absent = silent d y read missing;
-    octets = sym none ∙ octets-by d y read s.zone limit;
-    spells = tt;
-    fits = tt;
-    costs = costs-by d y read s.zone s s' costs;
-  }
+  unanswered out missing none = grind (arith, silent, octets-by, costs-by)
 
   -- the octets of a reply are sent
   pub responded : (len : ℕ) (out : Octets) → is_absent y ≡ false → IsBuilt s.zone

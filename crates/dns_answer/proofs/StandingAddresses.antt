@@ -1,5 +1,5 @@
 -- The additional sets of a reply are the addresses of the targets that did not stand before.
-use Rattle.dns_spec.proofs.Common.{◌≡◌, ℕ, Bool, true, false, cond, ◌||◌, ◌&&◌, ◌⊎◌, inl, inr, not, List, [], ◌∷◌, ◌++◌, refl, sym, ap, ap₂, ◌∙◌, Some, or-false, and-false, false≢true, false_from_ne_true, and_right, or_parts, flat_map-append, list_any-append, list_any, DomainName, folded, names_equal, same, type_a, type_aaaa, ResourceRecord, ZoneContents, at, rrset, of_type, additional, Item, records_of}
+use Rattle.dns_spec.proofs.Common.{arith, ◌≡◌, ℕ, Bool, true, false, cond, ◌||◌, ◌&&◌, ◌⊎◌, inl, inr, not, List, [], ◌∷◌, ◌++◌, refl, sym, ap, ap₂, ◌∙◌, Some, and-false, false≢true, false_from_ne_true, and_right, or_parts, flat_map-append, list_any-append, list_any, DomainName, folded, names_equal, same, type_a, type_aaaa, ResourceRecord, ZoneContents, at, rrset, of_type, additional, Item, records_of}
 use Rattle.std.specs.Prelude.{◌==◌}
 use Rattle.dns_spec.specs.Answer.{item, stands, has_any, address_set, address_sets, extra}
 use Rattle.dns_spec.proofs.Records.SortedOnce.{Each, each_weaker}
@@ -15,9 +15,7 @@ is_at n t r = same r.owner n && r.rtype == t
 
 stands-append : (n : DomainName) (t : ℕ) (xs ys : List Item)
     → stands n t (xs ++ ys) ≡ (stands n t xs || stands n t ys)
-stands-append n t xs ys =
-    ap (list_any (is_at n t)) (flat_map-append (λ (i : Item). i.records) xs ys)
-    ∙ list_any-append (is_at n t) (records_of xs) (records_of ys)
+stands-append n t xs ys = grind (arith, flat_map-append, list_any-append, records_of)
 
 -- a test that gives one answer at all records
 any-each : (p : ResourceRecord → Bool) (b : Bool) (rs : List ResourceRecord)
@@ -61,32 +59,11 @@ IsAddress t = (t ≡ type_a) ⊎ (t ≡ type_aaaa)
 module _ (z : ZoneContents) (n m : DomainName) where
   stands-set : (t u : ℕ) → stands n t (item additional (rrset z m u))
       ≡ ((same m n && u == t) && has_any (rrset z m u))
-  stands-set t u =
-      ap (list_any (is_at n t)) (item_records additional (rrset z m u))
-      ∙ any-each (is_at n t) (same m n && u == t) (rrset z m u)
-      (each_weaker (IsAt m u) (λ r. is_at n t r ≡ (same m n && u == t)) (rrset z m u)
-      (λ r h. ap₂ (λ f v. names_equal f (folded n) && v == t) (same-is r.owner m h.0) h.1)
-      (set-owners z m u))
+  stands-set t u = grind (arith, item_records, any-each, each_weaker, same-is, set-owners)
 
   stands-addresses : (t : ℕ) → IsAddress t
       → stands n t (addresses_of z m) ≡ (same m n && has_any (rrset z m t))
-  stands-addresses t is =
-      stands-append n t (item additional (rrset z m type_a)) (item additional (rrset z m type_aaaa))
-      ∙ ap₂ (λ x y. x || y) (stands-set t type_a) (stands-set t type_aaaa) ∙ go t is
-    where
-      first : (b x y : Bool) → (((b && true) && x) || ((b && false) && y)) ≡ (b && x)
-      first true x y = or-false x
-      first false x y = refl
-
-      second : (b x y : Bool) → (((b && false) && x) || ((b && true) && y)) ≡ (b && y)
-      second true x y = refl
-      second false x y = refl
-
-      go : (t : ℕ) → IsAddress t → (((same m n && type_a == t) && has_any (rrset z m type_a))
-          || ((same m n && type_aaaa == t) && has_any (rrset z m type_aaaa)))
-          ≡ (same m n && has_any (rrset z m t))
-      go t (inl e) = rw e (first (same m n) _ _)
-      go t (inr e) = rw e (second (same m n) _ _)
+  stands-addresses t is = grind (arith, stands-append, stands-set)
 
 -- a reply has the addresses of the names before, and of no others
 record Stood (z : ZoneContents) (t : ℕ) (earlier : List Item) (before : List DomainName)
@@ -98,27 +75,12 @@ module _ (z : ZoneContents) where
   address-one : (t : ℕ) (earlier : List Item) (before : List DomainName) (m : DomainName)
       → Stood z t earlier before → address_set z earlier m t
       ≡ cond (list_any (same m) before) [] (item additional (rrset z m t))
-  address-one t earlier before m s =
-      ap (λ b. cond b [] (item additional (rrset z m t))) (s.are m)
-      ∙ go (list_any (same m) before) (rrset z m t)
-    where
-      go : (b : Bool) (rs : List ResourceRecord)
-          → cond (b && has_any rs) [] (item additional rs) ≡ cond b [] (item additional rs)
-      go true [] = refl
-      go true (r ∷ rs) = refl
-      go false rs = refl
+  address-one t earlier before m s = grind arith
 
   address-both : (earlier : List Item) (before : List DomainName) (m : DomainName)
       → Stood z type_a earlier before → Stood z type_aaaa earlier before
       → address_sets z earlier m ≡ target_items z all_names before (Some m)
-  address-both earlier before m a b =
-      ap₂ (λ xs ys. xs ++ ys) (address-one type_a earlier before m a)
-      (address-one type_aaaa earlier before m b) ∙ go (list_any (same m) before)
-    where
-      go : (b : Bool) → cond b [] (item additional (rrset z m type_a))
-          ++ cond b [] (item additional (rrset z m type_aaaa)) ≡ cond (not b) (addresses_of z m) []
-      go true = refl
-      go false = refl
+  address-both earlier before m a b = grind (arith, address-one)
 
   -- one name more
   stood-next : (t : ℕ) → IsAddress t → (earlier : List Item) (before : List DomainName)

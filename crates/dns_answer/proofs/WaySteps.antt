@@ -1,6 +1,6 @@
 -- A label more on the way down to a name.
-use Rattle.dns_spec.proofs.Common.{◌≡◌, ℕ, suc, Bool, true, false, ◌&&◌, ◌∷◌, map, Option, None, Some, refl, sym, ap, ◌∙◌, subst, false≢true, and_parts, false_from_ne_true, length-map, to_ascii_lowercase, is_some, Octets, DomainName, folded, same, at_or_below, below, type_ns, type_cname, ResourceRecord, ZoneContents, owns, rrset, set_of, exists, is_cut}
-use Rattle.std.specs.Prelude.{◌==◌, IfSome}
+use Rattle.dns_spec.proofs.Common.{arith, ◌≡◌, ℕ, suc, Bool, true, false, ◌&&◌, ◌∷◌, map, Option, None, Some, sym, ap, ◌∙◌, subst, false≢true, and_parts, false_from_ne_true, length-map, to_ascii_lowercase, is_some, Octets, DomainName, folded, at_or_below, below, type_ns, type_cname, ZoneContents, owns, rrset, set_of, exists, is_cut}
+use Rattle.std.specs.Prelude.{IfSome}
 use Rattle.dns_zone.specs.Nodes.{ZoneNode, IsLead}
 use Rattle.dns_spec.proofs.ZoneChecks.FaultOrder.{folded_folded}
 use Rattle.dns_zone.proofs.NameOrder.{same-from}
@@ -12,16 +12,11 @@ use Rattle.dns_zone.proofs.WayLaws.{cut-above, cut-here, cut-none, cut-by_set, e
 
 -- what owns a record exists
 owns-exists : (z : ZoneContents) (n : DomainName) (t : ℕ) → exists z n ≡ false → owns z n t ≡ false
-owns-exists z n t e = false_from_ne_true (owns z n t) (λ h. false≢true (sym e ∙
-    any_weaker (λ (r : ResourceRecord). same r.owner n && r.rtype == t) (λ (r : ResourceRecord). at_or_below r.owner n) z.records
-    (λ r own. itself-under r.owner n (and_parts (same r.owner n) (r.rtype == t) own).0) h))
+owns-exists z n t e =
+    grind (arith, false_from_ne_true, false≢true, any_weaker, itself-under, and_parts)
 
 no_cut-missing : (z : ZoneContents) (n : DomainName) → exists z n ≡ false → is_cut z (folded n) ≡ false
-no_cut-missing z n e = go (below (folded n) z.origin) (owns-exists z (folded n) type_ns (exists-folded z n ∙ e))
-  where
-    go : (b : Bool) → owns z (folded n) type_ns ≡ false → (b && owns z (folded n) type_ns) ≡ false
-    go true f = f
-    go false f = refl
+no_cut-missing z n e = grind (arith, below, owns-exists, exists-folded)
 
 pub cut-further : (z : ZoneContents) (l : Octets) (n : DomainName) (node : ZoneNode) → IsBelowCut z n node → IsBelowCut z (l ∷ n) node
 cut-further z l n node h = record { cut = cut-above z l n node.name h.cut; zone = h.zone }
@@ -69,17 +64,10 @@ module _ (z : ZoneContents) (start : ZoneNode) (ends : Bool) (l : Octets) (n : D
   cut_is ending = cut-by_set z (folded (l ∷ n)) (below-lower z l n (under ending)) ∙ ap (λ (v : ZoneNode). is_some (set_of (rrset v.zone v.name type_ns))) (sym is)
 
   pub cut-at_child : ends ≡ true → is_some (set_of (rrset node.zone node.name type_ns)) ≡ true → IsBelowCut z (l ∷ n) node
-  cut-at_child ending some = record {
-    cut = cut-here z l n (h.no_cut ending) (cut_is ending ∙ some) ∙ ap (λ (v : ZoneNode). Some v.name) (sym is);
-    zone = ap (λ (v : ZoneNode). v.zone) is;
-  }
+  cut-at_child ending some = grind (arith, cut-here, cut_is, is)
 
   pub there-at_child : exists at_node.zone (l ∷ at_node.name) ≡ true → (ends && is_some (set_of (rrset node.zone node.name type_ns))) ≡ false → IsThere z start ends (l ∷ n) (Some node)
-  there-at_child there none = record {
-    no_cut = λ ending. cut-none z l n (h.no_cut ending) (cut_is ending ∙ ap (λ b. b && is_some (set_of (rrset node.zone node.name type_ns))) (sym ending) ∙ none);
-    stands = sym (child-lower z l n) ∙ ap (λ (v : ZoneNode). exists v.zone (l ∷ v.name)) (sym (e ∙ h.at_name)) ∙ there;
-    at_name = is;
-  }
+  there-at_child there none = grind (arith, cut-none, cut_is, child-lower, is)
 
 -- a lead that the zone keeps
 pub leads-to : (z y : ZoneContents) (t : ℕ) (ends : Bool) (lead : Option ZoneNode) → y ≡ z

@@ -1,4 +1,4 @@
-use Rattle.std.proofs.Common.{inr, ◌≡◌, List, take, take_all, ◌<◌, length, ◌&&◌, refl, sym, ap, ap₂, ◌∙◌, subst, arith}
+use Rattle.std.proofs.Common.{rules, inr, ◌≡◌, List, take, take_all, ◌<◌, length, ◌&&◌, sym, ap, ap₂, ◌∙◌, subst, arith}
 use Rattle.dns_spec.proofs.Common.{ZoneContents, target, filter_map, list_all, Octets}
 use Rattle.dns_answer.specs.Walks.{Took}
 use Rattle.dns_answer.specs.Targets.{target_at, target_nodes, target_misses, side_takes}
@@ -8,12 +8,7 @@ use Rattle.dns_answer.proofs.TargetLaws.{side_items-none, side_items-more, Took-
 use Rattle.dns_answer.proofs.addresses.offer_addresses.Goals as goal
 
 pub targets-init : goal.targets-init
-targets-init g c = record {
-  offers = Offers-empty _ (side_items-none c.args.steps.now.zone (side_takes c.args.side));
-  took = Took-none;
-  bound = Took-none;
-  all = refl;
-}
+targets-init g c = search (rules, Offers-empty, side_items-none, Took-none)
 
 pub targets-preserved : goal.targets-preserved
 targets-preserved g c =
@@ -38,9 +33,7 @@ targets-preserved g c =
     }
 
 pub returns-clause-took : goal.returns-clause-took
-returns-clause-took g c =
-    Took-rest c.args.steps.now.zone
-    (side_takes c.args.side) c.args.set.now c.targets.i c.targets.invariant.took
+returns-clause-took g c = search (rules, Took-rest)
 
 pub returns-clause-all : goal.returns-clause-all
 returns-clause-all g c =
@@ -58,6 +51,4 @@ returns-then-is_full-clause-offers g c =
     (sym c.if-is_full.ensures) c.targets.invariant.offers
 
 pub returns-then-is_full-clause-took : goal.returns-then-is_full-clause-took
-returns-then-is_full-clause-took g c =
-    Took-rest c.args.steps.now.zone
-    (side_takes c.args.side) c.args.set.now c.targets.i c.targets.invariant.took
+returns-then-is_full-clause-took g c = search (rules, Took-rest)

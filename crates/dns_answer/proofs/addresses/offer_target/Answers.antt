@@ -1,4 +1,4 @@
-use Rattle.std.proofs.Common.{sym, ap, ◌∙◌, arith}
+use Rattle.std.proofs.Common.{rules, sym, ap, ◌∙◌}
 use Rattle.dns_spec.proofs.DomainNames.NameLaws.{length-is_name}
 use Rattle.dns_answer.specs.Targets.{target_items, targets_of_first, side_takes}
 use Rattle.dns_answer.proofs.Taking.{Took-within}
@@ -23,9 +23,7 @@ returns-then-not-takes-clause-offers g c =
 
 pub returns-then-not-stood_before-clause-bound : goal.returns-then-not-stood_before-clause-bound
 returns-then-not-stood_before-clause-bound g c =
-    let m = c.in-Some.target in
-    Took-within (depth-few c.args.steps.now.zone m (length-is_name m c.octets.ensures.is_name))
-    (omega arith) c.offer_address.ensures.took
+    search (rules, Took-within, depth-few, length-is_name)
 
 pub returns-else-not-stood_before-clause-offers : goal.returns-else-not-stood_before-clause-offers
 returns-else-not-stood_before-clause-offers g c =

@@ -1,4 +1,4 @@
-use Rattle.dns_spec.proofs.Common.{rules, is_some, ◌+◌, ◌≡◌, true, ◌-◌, length, refl, ap, ◌∙◌, arith, false≢true}
+use Rattle.dns_spec.proofs.Common.{rules, is_some, ◌+◌, ◌≡◌, true, ◌-◌, refl, ◌∙◌, arith, false≢true}
 use Rattle.dns_name.proofs.WireLemmas.{IsWireForm-wire, labels_of_spelled}
 use Rattle.dns_answer.specs.Walks.{ends_at_cuts, one_if}
 use Rattle.dns_answer.proofs.WaySteps.{missing-child, cut-at_child, there-at_child}
@@ -9,9 +9,7 @@ pub put_starts-requires-clause-form : goal.put_starts-requires-clause-form
 put_starts-requires-clause-form c = IsWireForm-wire _ _ c.octets-octets.ensures.value c.octets-octets.ensures.is_name
 
 pub put_starts-requires-clause-labels : goal.put_starts-requires-clause-labels
-put_starts-requires-clause-labels c =
-    let octets = c.octets-octets.ensures in
-    omega (arith, ap length (labels_of_spelled _ _ octets.value octets.is_name), c.requires.aim.below.labels)
+put_starts-requires-clause-labels c = search (rules, labels_of_spelled)
 
 pub labels-init : goal.labels-init
 labels-init c =
@@ -29,9 +27,7 @@ labels-init c =
     }
 
 pub label_after-label-requires-clause-inside : goal.label_after-label-requires-clause-inside
-label_after-label-requires-clause-inside c =
-    let octets = c.octets-octets.ensures in
-    omega (arith, ap length (labels_of_spelled _ _ octets.value octets.is_name), c.requires.aim.below.labels, c.labels.invariant.fewer, c.labels-test.true)
+label_after-label-requires-clause-inside c = search (rules, labels_of_spelled)
 
 pub returns-in_default-clause-way : goal.returns-in_default-clause-way
 returns-in_default-clause-way c =

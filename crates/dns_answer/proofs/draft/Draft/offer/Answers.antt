@@ -6,9 +6,7 @@ pub returns-then-self : goal.returns-then-self
 returns-then-self g c = Offers-full _ _ (search rules)
 
 pub returns-then-not-put_set : goal.returns-then-not-put_set
-returns-then-not-put_set g c =
-    let p = c.put_set.ensures in
-    left_out _ _ c.put_set.new.self _ _ _ c.self.view_is (search rules) c.if-self.false c.if-not-put_set.true p.fits p.unchanged
+returns-then-not-put_set g c = search (rules, left_out)
 
 pub returns-else-not-put_set : goal.returns-else-not-put_set
 returns-else-not-put_set g c =
