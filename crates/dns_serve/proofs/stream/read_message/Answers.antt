@@ -1,16 +1,12 @@
-use Rattle.dns_spec.proofs.Common.{arith, ◌∙◌, err_from_is_err_and}
+use Rattle.dns_spec.proofs.Common.{rules, arith, ◌∙◌, err_from_is_err_and}
 use Rattle.dns_serve.proofs.Readings.{short_beginning, first_alone, length_came, fewer_after, fewer_still, beginning_after, part_after, message_after, body_came, body_cut}
 use Rattle.dns_serve.proofs.stream.read_message.Goals as goal
 
 pub returns-in_err-came-clause-read : goal.returns-in_err-came-clause-read
-returns-in_err-came-clause-read g c =
-    let p = err_from_is_err_and c.from_residual.result c.from_residual.ensures.1 in
-    rw (p.1, p.2) (short_beginning _ _ _ c.read_full.auto.buf c.in_err-came.ensures.err)
+returns-in_err-came-clause-read g c = search (rules, short_beginning)
 
 pub returns-then-came-lt2-clause-read : goal.returns-then-came-lt2-clause-read
-returns-then-came-lt2-clause-read g c =
-    first_alone _ _ c.read_full.new.buf _ c.in_ok-came.ensures.low c.read_full.auto.buf
-    (omega (arith, c.if-came-eq0.false, c.if-came-lt2.true)) c.in_ok-came.ensures.ok
+returns-then-came-lt2-clause-read g c = search (rules, first_alone)
 
 pub returns-in_err-read_full-clause-read : goal.returns-in_err-read_full-clause-read
 returns-in_err-read_full-clause-read g c =
@@ -24,22 +20,7 @@ returns-in_err-read_full-clause-read g c =
     (fewer_still _ _ _ _ (omega (arith, front, c.min-kept.ensures)) c.in_err-read_full.ensures.err))
 
 pub returns-then-branch-kept-clause-read : goal.returns-then-branch-kept-clause-read
-returns-then-branch-kept-clause-read g c =
-    let length =
-    length_came _ _ c.read_full.new.buf _ _ c.read_full.auto.buf c.if-came-lt2.false
-    c.message_length-count.ensures.octets c.in_ok-came.ensures.ok in
-    let front = c.read_full-2.auto.buf ∙ c.split_at_mut-front.ensures.front_len in
-    let came = c.in_ok-read_full.ensures.ok in
-    let few = c.if-branch-kept.true in
-    part_after _ _ _ _ c.message_length-count.ensures.below length
-    (record {
-      fewer = record {
-        octets = _;
-        consumed = came.consumed;
-        fewer = omega (arith, came.length_is, few, front, c.min-kept.ensures);
-      };
-      over = came.over (omega (arith, few, front));
-    })
+returns-then-branch-kept-clause-read g c = grind (arith, length_came, part_after)
 
 pub returns-in_err-read_full-2-clause-read : goal.returns-in_err-read_full-2-clause-read
 returns-in_err-read_full-2-clause-read g c =

@@ -26,15 +26,7 @@ returns-in_err-flush-clause-session g c =
     rw (p.1, p.2) (unwritten _ _ _ _ _ _ _ _ _ c.messages.invariant.done c.messages-test.true reply)
 
 pub messages-preserved : goal.messages-preserved
-messages-preserved g c =
-    let reply = answered _ _ _ _ _ _ _ _ _ c.in-Some.is c.in_ok-kept.ensures.read c.split_at.ensures.front c.in_ok-write_reply.ensures.ok in
-    record {
-      done = done_more _ _ _ _ _ _ _ _ c.messages.invariant.done reply;
-      within = search rules;
-      same = search rules;
-      source = search rules;
-      sink = search rules;
-    }
+messages-preserved g c = search (rules, answered, done_more)
 
 pub messages-preserved-in-messages : goal.messages-preserved-in-messages
 messages-preserved-in-messages g c =

@@ -3,14 +3,10 @@ use Rattle.dns_serve.proofs.OneTurn.{turn_without, turn_with, turn_unsent}
 use Rattle.dns_serve.proofs.turn.udp_turn_in.Goals as goal
 
 pub returns-in_default-respond_in-clause-turn : goal.returns-in_default-respond_in-clause-turn
-returns-in_default-respond_in-clause-turn g c =
-    turn_without _ _ (ap (λ s. s.zone) c.new-steps.ensures) _ _ _ _ _ c.receive.new.buf _ c.respond_in.result c.respond_in.new.out c.in-Ok.ensures.datagram c.split_at.ensures.front (search rules)
-    c.respond_in.ensures.octets c.in-Ok.ensures.sent
+returns-in_default-respond_in-clause-turn g c = search (rules, turn_without)
 
 pub returns-in-Ok-send-clause-turn : goal.returns-in-Ok-send-clause-turn
-returns-in-Ok-send-clause-turn g c =
-    turn_with _ _ (ap (λ s. s.zone) c.new-steps.ensures) _ _ _ _ _ _ _ c.receive.new.buf _ c.respond_in.result _ c.respond_in.new.out _ c.in-Ok.ensures.datagram c.split_at.ensures.front c.in-Some.is
-    c.respond_in.ensures.octets c.split_at-2.ensures.front c.in-Ok.ensures.sent c.in-Ok-send.ensures.received c.in-Ok-send.ensures.datagram
+returns-in-Ok-send-clause-turn g c = search (rules, turn_with)
 
 pub returns-in-Err-clause-turn : goal.returns-in-Err-clause-turn
 returns-in-Err-clause-turn g c =
