@@ -36,11 +36,10 @@ module _ (old mid new : Option Octets) (o : DomainName) (r : Reader) (held : Oct
       → GivenSoFar old new o r' held' left' found'
   piece-given r' held' left' more found' p =
       let given : Octets = so.given ++ p.came in
-      let size : length given ≡ length so.given + length p.came = length-append so.given p.came in
       record {
-        given = so.given ++ p.came;
+        given = given;
         consumed = Consumes-more old mid new so.given p.came given so.consumed p.consumed refl;
-        size = omega (arith, size, so.size, p.size);
+        size = omega (arith, length-append so.given p.came, so.size, p.size);
         means = λ rest goes_on later h.
             let step : ReaderMeans r goes_on (held ++ (p.came ++ rest)) (after p.gathered.came later) =
             subst (λ x. ReaderMeans r goes_on x (after p.gathered.came later)) (append_assoc held p.came rest) (p.gathered.taken rest goes_on later tt h) in

@@ -20,18 +20,15 @@ count_in_front-own-requires c =
 pub count_under-requires-clause-in_front : goal.count_under-requires-clause-in_front
 count_under-requires-clause-in_front c =
     let rs = c.args.records.now in
-    let n = labels_of c.args.parent.now in
-    let next = c.args.next in
-    let r = c.index-records-next.result in
     let m = c.shortest_end-name.result in
     let child =
     child_there _ c.requires.canonical _ _ c.requires.next _ c.index-records-next.is _ _ _
     c.requires.parent.wire_is c.owner-owner.ensures.value c.shortest_end-name.ensures in
     subst (λ (ys : List ResourceRecord). IsPartitionedBy (is_under m) ys)
     (sym c.split_at.ensures.back)
-    (parted_drop (is_under m) (span rs next c.args.end) c.count_in_front-own.result
-    (parted_take (is_under m) (drop next rs) (c.args.end - next)
-    (under_front rs c.requires.canonical n next c.requires.next r c.index-records-next.is m child)))
+    (parted_drop (is_under m) (span rs c.args.next c.args.end) c.count_in_front-own.result
+    (parted_take (is_under m) (drop c.args.next rs) (c.args.end - c.args.next)
+    (under_front rs c.requires.canonical _ _ c.requires.next _ c.index-records-next.is m child)))
 
 pub count_under-requires-clause-lower : goal.count_under-requires-clause-lower
 count_under-requires-clause-lower c =

@@ -26,9 +26,8 @@ unreachable-requires t c = search (rules, positive, size, some)
 
 pub overflow_sub-after : goal.overflow_sub-after
 overflow_sub-after t c =
-    let more = positive (length c.args.key.now) c.if-is_empty.ensures in
     (after_ends _ _ _ _ c.requires.wire c.in-Some.ensures.1 c.requires.end c.in-Some.ensures.0
-    c.requires.ends (omega (arith, more, c.requires.room))).1
+    c.requires.ends (omega (arith, positive _ c.if-is_empty.ensures, c.requires.room))).1
 
 -- a name has its first label after its length, and then the others
 parts : (octets after label : Octets) → IsWireForm octets → IsWireForm after
@@ -45,10 +44,9 @@ parts octets after label whole rest first =
 -- the key has room for the first label, and before it for the others
 pub put_label-requires : goal.put_label-requires
 put_label-requires t c =
-    let more = positive (length c.args.key.now) c.if-is_empty.ensures in
     let first = c.in-Some.ensures in
     let on = after_ends _ _ _ _ c.requires.wire first.1 c.requires.end first.0 c.requires.ends
-    (omega (arith, more, c.requires.room)) in
+    (omega (arith, positive _ c.if-is_empty.ensures, c.requires.room)) in
     omega (
       arith,
       on.1,
@@ -60,10 +58,9 @@ put_label-requires t c =
 
 pub put_labels-requires : goal.put_labels-requires
 put_labels-requires t c =
-    let more = positive (length c.args.key.now) c.if-is_empty.ensures in
     let first = c.in-Some.ensures in
     let on = after_ends _ _ _ _ c.requires.wire first.1 c.requires.end first.0 c.requires.ends
-    (omega (arith, more, c.requires.room)) in
+    (omega (arith, positive _ c.if-is_empty.ensures, c.requires.room)) in
     let front = c.split_at_mut-others.ensures.front_len in
     let less : length c.split_at_mut-others.result.0.now < length c.args.key.now = omega (
       arith,

@@ -99,8 +99,7 @@ records-preserved c =
             origin = stays c.args.origin.now 0 inv.origin;
             count = count;
             each = subst (AreFirst c.if-ne.keys.items rs (k + 1)) (sym starts)
-                (each_pushed c.if-ne.keys.items c.records.starts.items rs k c.if-ne.start inv.count
-                (λ i r s l. stays _ _ (inv.each i r s l))
+                (each_pushed _ _ rs k _ inv.count (λ i r s l. stays _ _ (inv.each i r s l))
                 (λ r. subst (λ m. IsAt c.if-ne.keys.items c.if-ne.start m) (sym (here r)) added));
             few = omega (arith, few, size, ap length more, bound);
             read = read;
@@ -120,8 +119,7 @@ records-preserved c =
             origin = stays c.args.origin.now 0 inv.origin;
             count = count;
             each = subst (AreFirst c.if-ne.keys.items rs (k + 1)) (sym starts)
-                (each_pushed c.if-ne.keys.items c.records.starts.items rs k c.if-ne.start inv.count
-                (λ i r s l. stays _ _ (inv.each i r s l))
+                (each_pushed _ _ rs k _ inv.count (λ i r s l. stays _ _ (inv.each i r s l))
                 (λ r. subst (λ m. IsAt c.if-ne.keys.items c.if-ne.start m) (sym (here r ∙ same))
                 last));
             few = omega (arith, few, ap length keys);

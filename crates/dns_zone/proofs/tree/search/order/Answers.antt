@@ -37,11 +37,8 @@ returns-then-count-le-KEY_OCTETS-clause-order c =
 
 pub returns-clause-order : goal.returns-clause-order
 returns-clause-order c =
-    let row = c.args.row.now in
-    let own = row_label c.args.records.now row in
-    let label = map to_ascii_lowercase c.args.label.now in
     let count = length-map c.args.label.now to_ascii_lowercase in
-    let own_key = row_key c.args.records.now row c.args.key c.requires.row c.if-row-key.false in
+    let own_key = row_key _ _ c.args.key c.requires.row c.if-row-key.false in
     let own_count = c.requires.row.label_octets in
     let long = c.if-count-le-KEY_OCTETS.false in
     let asked = c.if-label-le-KEY_OCTETS.false in
