@@ -1,7 +1,8 @@
 -- Octets that are not a whole frame, and a message in its frame, by the parts in which they are read.
-use Rattle.dns_spec.proofs.Common.{◌≡◌, ℕ, ◌+◌, ◌-◌, ◌*◌, ◌^◌, ◌<◌, ◌≤◌, min, ◌⊎◌, inl, inr, [], ◌∷◌, ◌++◌, length, take, replicate, None, refl, sym, ap, ◌∙◌, arith, append_assoc, append-nil, length-append, cases_lt, leb-true, take_all, take-append-le, Octets, most_over_udp, field16, octets16}
+use Rattle.dns_spec.proofs.Common.{◌≡◌, ℕ, ◌+◌, ◌-◌, ◌^◌, ◌<◌, ◌≤◌, min, ◌⊎◌, inl, inr, [], ◌∷◌, ◌++◌, length, take, replicate, None, refl, sym, ap, ◌∙◌, arith, append_assoc, append-nil, length-append, cases_lt, leb-true, take_all, take-append-le, Octets, most_over_udp, field16, octets16}
 use Rattle.dns_spec.specs.Stream.{first_frame, IsCutFrame}
-use Rattle.dns_spec.proofs.Streams.StreamFrames.{two_octets, two_again, length_zeros}
+use Rattle.dns_spec.proofs.Streams.StreamFrames.{two_again, length_zeros, cut_frame}
+use Rattle.std.proofs.lemmas.List.Elements.{All-cons, All-nil}
 
 -- the octets begin with no whole frame, since its length says more
 no_frame : (x : Octets) → length x < 2 + field16 x 0 → first_frame x ≡ None
@@ -28,14 +29,9 @@ cut_inside n part h short =
     }
 
 pub cut_first : (a : ℕ) → a < 256 → IsCutFrame (a ∷ [])
-cut_first a ha = record {
-  message = replicate (a * 256) 0;
-  short = omega (arith, length_zeros (a * 256), ha);
-  missing = 0 ∷ replicate (a * 256) 0;
-  whole = ap (λ n. octets16 n ++ replicate (a * 256) 0) (length_zeros (a * 256) ∙ omega arith) ∙ ap (λ z. z ++ replicate (a * 256) 0) (two_octets a 0 ha (omega arith));
-  some = omega arith;
-  cut = omega arith;
-}
+cut_first a ha =
+    elim (cut_frame (a ∷ []) (All-cons (λ o. o < 256) a [] ha (All-nil (λ o. o < 256)))
+    (no_frame_short (a ∷ []) (omega arith))) [ inl e ↦ absurd (cc) | inr cut ↦ cut ]
 
 -- of a message that is read in two parts the first 512 octets are kept
 pub kept_front : (n : ℕ) (front rest : Octets) → length front ≡ min n most_over_udp → length rest ≡ n - min n most_over_udp → front ≡ take most_over_udp (front ++ rest)
