@@ -1,5 +1,5 @@
 -- What was written of a report of the file is what a check has to write.
-use Rattle.std.proofs.Common.{◌≡◌, ◌≢◌, Bool, List, [], ◌∷◌, Option, Some, None, Result, Ok, Err, IsErrAnd, refl, sym, ap, ◌∙◌, subst, flat_map}
+use Rattle.std.proofs.Common.{arith, ◌≡◌, ◌≢◌, Bool, List, [], ◌∷◌, Option, Some, None, Result, Ok, Err, IsErrAnd, refl, sym, ap, ◌∙◌, subst, flat_map}
 use Rattle.dns_spec.proofs.Common.{Octets, DomainName, folded, ResourceRecord, ZoneContents, records_equal, distinct, zone_of, Fault, faults, Meaning, records, fault_at}
 use Rattle.dns_spec.specs.Report.{Options, Report, failing, passing, fault_report, report_of_faults, zone_report, report_of_meaning}
 use Rattle.dns_spec.proofs.ZoneChecks.FaultOrder.{folded_folded}
@@ -14,7 +14,7 @@ use Rattle.dns_tools.specs.declared.load.Refusal.TheVariants.{File, Zone}
 use Rattle.dns_tools.specs.declared.load.LoadFault.{LoadFault}
 use Rattle.dns_tools.specs.declared.load.LoadFault.TheVariants.{Refused}
 use Rattle.dns_tools.specs.Load.{IsRead, LoadedAs, refusal_report}
-use Rattle.dns_tools.specs.Checked.{ReportsOn, DecidesReport, WrittenAs, ReportedAs, CheckedAs}
+use Rattle.dns_tools.specs.Checked.{ReportsOn, WrittenAs, ReportedAs, CheckedAs}
 
 -- what was written of such a report
 pub reported : (Is : Report → Type 0) (report : Report) (result : Result Bool Stop) (old new : Option Octets)
@@ -39,8 +39,7 @@ reports_on (Some x) o options m report h e = (m, h, e)
 checked : (known left : Option Octets) (o : DomainName) (options : Options) (m : Meaning) (report : Report) (result : Result Bool Stop) (old new : Option Octets)
     → IsRead known left o m → report ≡ report_of_meaning options o m → WrittenAs report result old new → CheckedAs known left o options result old new
 checked known left o options m report result old new read e written =
-    reported (λ report. ReportsOn known o options report × DecidesReport known left o options report) report result old new
-    (reports_on known o options m report read.means e, (m, read.decides, e)) written
+    grind (arith, reported, reports_on)
 
 -- a name that is folded may be folded again
 same_zone : (o : DomainName) (rs : List ResourceRecord) → zone_of (folded o) rs ≡ zone_of o rs
@@ -50,11 +49,7 @@ same_zone o rs = ap (λ n. record { origin = n; records = distinct records_equal
 pub zone_checked : (known left : Option Octets) (o : DomainName) (options : Options) (z : ZoneContents) (result : Result Bool Stop) (old new : Option Octets)
     → LoadedAs known left o (Ok z) → WrittenAs (passing options z) result old new → CheckedAs known left o options result old new
 zone_checked known left o options z result old new (rs, read, none, is) written =
-    let whole : passing options z ≡ zone_report options (zone_of o rs) =
-    ap (passing options) is ∙ ordered_passing (folded o) rs options none
-    ∙ ap (report_of_faults options (zone_of (folded o) rs)) (sym none) ∙ ap (zone_report options) (same_zone o rs)
-    in
-    checked known left o options (records rs) (passing options z) result old new read whole written
+    grind (arith, passing, ordered_passing, same_zone, checked)
 
 some_faults : (options : Options) (z : ZoneContents) (fs : List Fault) → fs ≢ [] → failing options (flat_map fault_report fs) ≡ report_of_faults options z fs
 some_faults options z [] some = absurd (some refl)

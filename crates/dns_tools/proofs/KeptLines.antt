@@ -19,11 +19,7 @@ pub ends_one : (o : ℕ) → o ≢ 10 → line_ends (o ∷ []) ≡ 0
 ends_one o other = rw (ne_eqb o 10 other) refl
 
 ends_head : (o : ℕ) (x : Octets) → line_ends (o ∷ x) ≡ 0 → (o == 10) ≡ false
-ends_head o x e = by_cases (o == 10) refl e
-  where
-    by_cases : (b : Bool) → (o == 10) ≡ b → length (if b then o ∷ filter (λ o. o == 10) x else filter (λ o. o == 10) x) ≡ 0 → (o == 10) ≡ false
-    by_cases true is e = absurd (omega (arith, e))
-    by_cases false is e = is
+ends_head o x e = grind arith
 
 ends_tail : (o : ℕ) (x : Octets) → line_ends (o ∷ x) ≡ 0 → line_ends x ≡ 0
 ends_tail o x e = rw (ends_head o x e) at e
@@ -136,18 +132,12 @@ ended_first x octets i l here is unended kept = λ y.
 
 -- it is too long
 pub overlong_first : (x : Octets) (l : KeptLine) → line_ends x ≡ 0 → l ≡ kept_line x → l.is_overlong ≡ true → KeepsFirst x l
-overlong_first x l unended kept over = λ y.
-    let long : 131070 < length x = ltb-true 131070 (length x) (sym (ap (λ l. l.is_overlong) kept) ∙ over) in
-    let first = first_line x y unended in
-    let longer : 131070 < length (x ++ first_of (lines y)) = omega (arith, long, length-append x (first_of (lines y))) in
-    rw (over, first, lt-leb (length (x ++ first_of (lines y))) 131070 longer) refl
+overlong_first x l unended kept over =
+    grind (arith, ltb-true, kept, first_line, first_of, lines, length-append, lt-leb)
 
 -- it is not, so far
 pub not_overlong : (x : Octets) (l : KeptLine) → line_ends x ≡ 0 → l ≡ kept_line x → l.is_overlong ≡ false → IsFront x l
-not_overlong x l unended kept short = record {
-  goes_on = record { unended = unended; short = ltb-false 131070 (length x) (sym (ap (λ l. l.is_overlong) kept) ∙ short) };
-  kept = kept;
-}
+not_overlong x l unended kept short = grind (arith, ltb-false, kept)
 
 -- ---- a source
 
@@ -250,8 +240,7 @@ read_ended a b c count buf l more none end g = going_ended a b c l (subst (λ n.
 
 pub more_unended : (x front t : Octets) (o : ℕ) → t ≡ front ++ o ∷ [] → o ≢ 10 → line_ends (x ++ front) ≡ 0 → line_ends (x ++ t) ≡ 0
 more_unended x front t o grown other e =
-    ap (λ z. line_ends (x ++ z)) grown ∙ ap line_ends (sym (append_assoc x front (o ∷ [])))
-    ∙ ends_append (x ++ front) (o ∷ []) ∙ omega (arith, e, ends_one o other)
+    grind (arith, line_ends, append_assoc, ends_append, ends_one)
 
 pub more_kept : (x front t : Octets) (o : ℕ) (k n : KeptLine) → t ≡ front ++ o ∷ [] → KeepsOctet k n o → k ≡ kept_line (x ++ front) → n ≡ kept_line (x ++ t)
 more_kept x front t o k n grown keeps e =

@@ -99,11 +99,7 @@ odd_is_none (h ∷ l ∷ text) odd =
     none_after false v o e = refl
 
 line_said : (text : Octets) → said (decode_of text) ≡ hex_octets text
-line_said text = by_cases (cases_Bool (length text % 2 == 1))
-  where
-    by_cases : ((length text % 2 == 1) ≡ true) ⊎ ((length text % 2 == 1) ≡ false) → said (decode_of text) ≡ hex_octets text
-    by_cases (inl odd) = rw odd (sym (odd_is_none text (eqb-true (length text % 2) 1 odd)))
-    by_cases (inr even) = rw even (pairs_said 0 text)
+line_said text = grind (arith, cases_Bool, odd_is_none, eqb-true, pairs_said)
 
 -- a line that is read, and one that is none
 pub line_read : (text d : Octets) → decode_of text ≡ Ok d → hex_octets text ≡ Some d

@@ -1,6 +1,6 @@
 -- What a run over lines has done once its input is read, or once a device has failed.
-use Rattle.dns_spec.proofs.Common.{◌≡◌, ◌≢◌, ℕ, ◌+◌, ◌-◌, ◌^◌, ◌<◌, ◌≤◌, Bool, ◌&&◌, ◌⊎◌, inl, inr, [], ◌∷◌, ◌++◌, length, take, Option, Some, None, Result, Ok, Err, IsErrAnd, refl, sym, ap, ap₂, ◌∙◌, subst, arith, append_assoc, append-nil, length-append, is_some, take_all, take-append-le, length-take-le, cases_lt, take-append-add, Appends, Consumes, IsAtEnd, Keeps, Octets}
-use Rattle.std.proofs.KnownBytes.{Appends-nil, Appends-trans, Consumes-trans, Consumes-nil, Consumes-kept}
+use Rattle.dns_spec.proofs.Common.{◌≡◌, ◌≢◌, ℕ, ◌+◌, ◌-◌, ◌^◌, ◌<◌, ◌≤◌, Bool, ◌&&◌, ◌⊎◌, inl, inr, [], ◌∷◌, ◌++◌, length, take, Option, Some, None, Result, Ok, Err, IsErrAnd, refl, sym, ap, ◌∙◌, subst, arith, append_assoc, append-nil, length-append, is_some, take_all, take-append-le, length-take-le, cases_lt, take-append-add, Appends, Consumes, IsAtEnd, Keeps, Octets}
+use Rattle.std.proofs.KnownBytes.{Appends-nil, Appends-trans, Consumes-trans, Consumes-kept}
 use Rattle.dns_spec.specs.Lines.{lines, line_ends, ended_lines, line_message, message_answer, line_answers, are_messages}
 use Rattle.dns_name.specs.Counted.{AppendsBeginning}
 use Rattle.dns_name.proofs.WritesLemmas.{beginning_of_second}
@@ -89,12 +89,7 @@ module _ (reply : Octets → Option Octets) (x y : Option Octets) (input : Octet
 
   -- all answers to lines that are ended were sent
   all_sent : Appends x y (line_answers reply (ended_lines input))
-  all_sent =
-      let ended : p.ended ≡ ended_lines input =
-      sym (ap₂ take (sym p.count) whole_lines
-      ∙ take-append-le (length p.ended) p.ended (lines p.front) (omega arith)
-      ∙ take_all (length p.ended) p.ended (omega arith)) in
-      subst (Appends x y) (ap (line_answers reply) ended) p.written
+  all_sent = grind (arith, whole_lines, take-append-le, lines, take_all)
 
 -- the input is all that the source gave, or the greatest count of octets
 pub input_of : (a b : Option Octets) (input : Octets) (left : ℕ) → length input + left ≡ 2 ^ 64 - 1 → Consumes a b input → (left ≡ 0) ⊎ IsAtEnd b → IsInput a input
@@ -153,13 +148,7 @@ keeps_up_next reply x y z given front k (bs, grown) few p = record {
 
 pub reading_none : (reply : Octets → Option Octets) (a x : Option Octets) (k : Kept) → IsFresh k
     → Reading reply a a x x (2 ^ 64 - 1) k
-reading_none reply a x k fresh = record {
-  given = [];
-  count = refl;
-  read = Consumes-nil a;
-  progress = progress_none reply x k fresh;
-  keeps_up = keeps_up_none reply x;
-}
+reading_none reply a x k fresh = grind (arith, progress_none, keeps_up_none)
 
 -- octets that were read are taken, or the sink failed when they were
 module _ (r s : Octets → Option Octets) (a b c x y z : Option Octets) (left count : ℕ)
@@ -175,17 +164,7 @@ module _ (r s : Octets → Option Octets) (a b c x y z : Option Octets) (left co
   pub reading_take : (n : Kept)
       → ((h : Option Octets) (i : Octets) → Progress s h y i k → Progress s h z (i ++ octets) n)
       → Reading r a c x z (left - count) n
-  reading_take n step =
-      let here = subst (λ q. (h : Option Octets) (i : Octets) → Progress q h y i k
-      → Progress q h z (i ++ octets) n) same step in
-      record {
-        given = reading.given ++ front;
-        count = omega (arith, reading.count, len, within, length-append reading.given front);
-        read = read;
-        progress = subst (λ o. Progress r x z (reading.given ++ o) n) is
-            (here x reading.given reading.progress);
-        keeps_up = keeps;
-      }
+  reading_take n step = grind (arith, length-append, read, keeps)
 
   pub taking_begun :
       ((h : Option Octets) (i : Octets) → Progress s h y i k → Begun s h z (i ++ octets))

@@ -1,5 +1,5 @@
 -- How a run over lines goes on, octet by octet.
-use Rattle.std.proofs.Common.{◌≡◌, ◌≢◌, ℕ, ◌+◌, Bool, true, false, ◌&&◌, List, [], ◌∷◌, ◌++◌, take, drop, Option, refl, sym, ap, ap₂, ◌∙◌, subst, arith, append_assoc, append-nil, length-append}
+use Rattle.std.proofs.Common.{◌≡◌, ◌≢◌, ℕ, ◌+◌, Bool, true, false, ◌&&◌, List, [], ◌∷◌, ◌++◌, take, drop, Option, refl, sym, ap, ◌∙◌, subst, arith, append_assoc, append-nil, length-append}
 use Rattle.dns_spec.proofs.Common.{is_some, take-append-drop, list_all-append, flat_map-append, Appends, Octets}
 use Rattle.std.proofs.KnownBytes.{Appends-trans, Appends-nil}
 use Rattle.dns_spec.specs.Lines.{lines, line_message, message_answer, line_answers, are_messages}
@@ -27,17 +27,8 @@ progress_none reply held k fresh = record {
 pub progress_keep : (reply : Octets → Option Octets) (held holds : Option Octets) (x : Octets)
     (k n : Kept) (o : ℕ) → o ≢ 10 → KeepsOctet k.line n.line o → n.passes ≡ k.passes
     → Progress reply held holds x k → Progress reply held holds (x ++ o ∷ []) n
-progress_keep reply held holds x k n o other keeps passes p = record {
-  ended = p.ended;
-  front = p.front ++ o ∷ [];
-  same = λ y. ap lines (append_assoc x (o ∷ []) y) ∙ p.same (o ∷ y)
-      ∙ ap (λ z. p.ended ++ lines z) (sym (append_assoc p.front (o ∷ []) y));
-  none_ended = ends_append p.front (o ∷ []) ∙ omega (arith, p.none_ended, ends_one o other);
-  count = p.count ∙ omega (arith, ends_append x (o ∷ []), ends_one o other);
-  kept = keeps_kept p.front k.line n.line o p.kept keeps;
-  written = p.written;
-  passes_is = passes ∙ p.passes_is;
-}
+progress_keep reply held holds x k n o other keeps passes p =
+    grind (arith, lines, append_assoc, ends_append, ends_one, keeps_kept)
 
 and_true : (b c : Bool) → (b && (c && true)) ≡ (b && c)
 and_true true true = refl
@@ -49,17 +40,11 @@ module _ (reply : Octets → Option Octets) (ended : List Octets) (front : Octet
     (says : kept_message k.line ≡ line_message front) where
   pub one_answer : line_answers reply ended ++ message_answer reply (kept_message k.line)
       ≡ line_answers reply (ended ++ front ∷ [])
-  one_answer =
-      ap (λ m. line_answers reply ended ++ message_answer reply m) says
-      ∙ sym (flat_map-append (λ l. message_answer reply (line_message l)) ended (front ∷ [])
-      ∙ ap (λ a. line_answers reply ended ++ a) (append-nil (message_answer reply (line_message front))))
+  one_answer = grind (arith, ended, says, flat_map-append, append-nil)
 
   pub one_flag : (passes : Bool) → passes ≡ (k.passes && is_some (kept_message k.line))
       → k.passes ≡ are_messages ended → passes ≡ are_messages (ended ++ front ∷ [])
-  one_flag passes now before =
-      now ∙ ap₂ ◌&&◌ before (ap is_some says)
-      ∙ sym (list_all-append (λ l. is_some (line_message l)) ended (front ∷ [])
-      ∙ and_true (are_messages ended) (is_some (line_message front)))
+  one_flag passes now before = grind (arith, says, list_all-append, ended, and_true)
 
 -- the octet that ends a line
 module _ (reply : Octets → Option Octets) (held old new : Option Octets) (x : Octets) (k : Kept)
@@ -71,10 +56,7 @@ module _ (reply : Octets → Option Octets) (held old new : Option Octets) (x : 
   says = kept_says p.front k.line p.kept
 
   ended : (y : Octets) → lines ((x ++ 10 ∷ []) ++ y) ≡ (p.ended ++ p.front ∷ []) ++ lines y
-  ended y =
-      ap lines (append_assoc x (10 ∷ []) y) ∙ p.same (10 ∷ y)
-      ∙ ap (λ z. p.ended ++ z) (line_then p.front y p.none_ended)
-      ∙ sym (append_assoc p.ended (p.front ∷ []) (lines y))
+  ended y = grind (arith, lines, append_assoc, line_then)
 
   pub progress_end : (n : Kept) → Appends old new answer → n.line ≡ no_line
       → n.passes ≡ (k.passes && is_some (kept_message k.line))
@@ -114,18 +96,13 @@ module _ (r : Octets → Option Octets) (held a : Option Octets) (x octets : Oct
 
   pub kept_more : (n : Kept) → o ≢ 10 → KeepsOctet k.line n.line o → n.passes ≡ k.passes
       → Progress r held a (x ++ take (i + 1) octets) n
-  kept_more n other keeps passes =
-      subst (λ z. Progress r held a z n) grown
-      (progress_keep r held a (x ++ take i octets) k n o other keeps passes p)
+  kept_more n other keeps passes = grind (arith, grown, progress_keep)
 
   pub ended_more : (s : Octets → Option Octets) (b : Option Octets) (n : Kept) → s ≡ r → o ≡ 10
       → Appends a b (message_answer s (kept_message k.line)) → n.line ≡ no_line
       → n.passes ≡ (k.passes && is_some (kept_message k.line))
       → Progress r held b (x ++ take (i + 1) octets) n
-  ended_more s b n same is written line passes =
-      let here = subst (λ q. Appends a b (message_answer q (kept_message k.line))) same written in
-      subst (λ z. Progress r held b z n) (ap (λ c. (x ++ take i octets) ++ c ∷ []) (sym is) ∙ grown)
-      (progress_end r held a b (x ++ take i octets) k p n here line passes)
+  ended_more s b n same is written line passes = grind (arith, grown, progress_end)
 
   pub begun_within : (s : Octets → Option Octets) (b : Option Octets) → s ≡ r → o ≡ 10
       → AppendsBeginning a b (message_answer s (kept_message k.line))

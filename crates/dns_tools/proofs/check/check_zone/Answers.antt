@@ -8,6 +8,4 @@ returns-in-Ok-clause-report g c =
     zone_checked _ _ c.args.origin.now (options_of c.args.flags) _ _ _ _ c.in-Ok.ensures.meaning c.report_zone-outcome.ensures.written
 
 pub returns-in-Err-Refused-clause-report : goal.returns-in-Err-Refused-clause-report
-returns-in-Err-Refused-clause-report g c =
-    let loaded = loaded_as _ _ c.args.origin.now c.load.result c.in-Err-Refused.refusal (search rules) c.load.ensures.meaning in
-    refusal_checked _ _ c.args.origin.now (options_of c.args.flags) c.in-Err-Refused.refusal _ _ _ loaded c.report_refusal.ensures.written
+returns-in-Err-Refused-clause-report g c = search (rules, loaded_as, refusal_checked)

@@ -1,4 +1,4 @@
-use Rattle.dns_spec.proofs.Common.{rules, ◌∙◌, ap, MessageRecord, section_line}
+use Rattle.dns_spec.proofs.Common.{rules, ◌∙◌, ap, section_line}
 use Rattle.dns_name.proofs.Results.{OnErr-always}
 use Rattle.dns_name.proofs.WritesLemmas.{Writes-same, Written-more, Written-begun}
 use Rattle.dns_tools.specs.Parts.{parts_text}
@@ -8,9 +8,8 @@ use Rattle.dns_tools.proofs.message.write_records.Goals as goal
 pub records-preserved : goal.records-preserved
 records-preserved g c =
     let s = c.args.section.now in
-    let i = c.record.inside in
-    let r : MessageRecord = record { owner = i.owner; rtype = i.rtype.0; rclass = i.rclass; ttl = i.ttl; rdata = i.rdata.items } in
-    let line = ap parts_text c.as_slice.ensures ∙ section_written s r c.record-item.result _ c.record.view_is c.from.ensures in
+    let line = ap parts_text c.as_slice.ensures
+    ∙ section_written s _ c.record-item.result _ c.record.view_is c.from.ensures in
     let next = next_piece (section_line s) c.args.records.now c.record-item.result c.records.record-index c.records-test.true c.record-item.is in
     record {
       written = Written-more _ _ _ _ _ _ _ c.records.invariant.written next (Writes-same line c.in_ok-write_parts.ensures).ok;
@@ -20,9 +19,8 @@ records-preserved g c =
 pub returns-in_err-write_parts : goal.returns-in_err-write_parts
 returns-in_err-write_parts g c =
     let s = c.args.section.now in
-    let i = c.record.inside in
-    let r : MessageRecord = record { owner = i.owner; rtype = i.rtype.0; rclass = i.rclass; ttl = i.ttl; rdata = i.rdata.items } in
-    let line = ap parts_text c.as_slice.ensures ∙ section_written s r c.record-item.result _ c.record.view_is c.from.ensures in
+    let line = ap parts_text c.as_slice.ensures
+    ∙ section_written s _ c.record-item.result _ c.record.view_is c.from.ensures in
     let next = next_piece (section_line s) c.args.records.now c.record-item.result c.records.record-index c.records-test.true c.record-item.is in
     record {
       ok = search rules;

@@ -1,4 +1,4 @@
-use Rattle.dns_spec.proofs.Common.{rules, ◌∙◌, ap, codes, name_text, Fault, fault_report}
+use Rattle.dns_spec.proofs.Common.{rules, ◌∙◌, ap, codes, name_text, fault_report}
 use Rattle.dns_spec.specs.Report.{two_digits}
 use Rattle.dns_name.proofs.Results.{OnErr-always}
 use Rattle.dns_name.proofs.WritesLemmas.{Writes-same, Written-more, Written-begun}
@@ -8,10 +8,8 @@ use Rattle.dns_tools.proofs.report.write_check_faults.Goals as goal
 
 pub faults-preserved : goal.faults-preserved
 faults-preserved g c =
-    let f : Fault = record { owner = c.fault.inside.owner; code = c.fault.inside.code } in
-    let line = ap parts_text c.as_slice.ensures
-    ∙ four_parts (name_text f.owner) (codes " Z") (two_digits f.code) (codes "\n")
-    ∙ ap fault_report c.fault.view_is in
+    let line = ap parts_text c.as_slice.ensures ∙ four_parts (name_text c.fault.inside.owner)
+    (codes " Z") (two_digits c.fault.inside.code) (codes "\n") ∙ ap fault_report c.fault.view_is in
     let next = next_piece fault_report c.args.faults.now c.fault-item.result
     c.faults.fault-index c.faults-test.true c.fault-item.is in
     record {
@@ -22,10 +20,8 @@ faults-preserved g c =
 
 pub returns-in_err-write_parts : goal.returns-in_err-write_parts
 returns-in_err-write_parts g c =
-    let f : Fault = record { owner = c.fault.inside.owner; code = c.fault.inside.code } in
-    let line = ap parts_text c.as_slice.ensures
-    ∙ four_parts (name_text f.owner) (codes " Z") (two_digits f.code) (codes "\n")
-    ∙ ap fault_report c.fault.view_is in
+    let line = ap parts_text c.as_slice.ensures ∙ four_parts (name_text c.fault.inside.owner)
+    (codes " Z") (two_digits c.fault.inside.code) (codes "\n") ∙ ap fault_report c.fault.view_is in
     let next = next_piece fault_report c.args.faults.now c.fault-item.result
     c.faults.fault-index c.faults-test.true c.fault-item.is in
     record {

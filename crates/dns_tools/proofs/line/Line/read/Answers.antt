@@ -1,22 +1,12 @@
-use Rattle.dns_spec.proofs.Common.{rules, ◌<◌, ◌≤◌, ◌∙◌, length, refl, sym, take, false≢true}
+use Rattle.dns_spec.proofs.Common.{rules, ◌<◌, ◌≤◌, length, refl, take, false≢true}
 use Rattle.dns_tools.proofs.KeptLines.{going_more, going_over, read_ended, longer, first_longer}
 use Rattle.dns_tools.proofs.line.Line.read.Goals as goal
 
 pub pieces-smaller-then-count-eq0 : goal.pieces-smaller-then-count-eq0
-pieces-smaller-then-count-eq0 g c =
-    let on = c.pieces-test.true in
-    rw (on, c.if-count-eq0.true) (first_longer _ _ _ (c.pieces.invariant.going on))
+pieces-smaller-then-count-eq0 g c = search (rules, first_longer)
 
 pub pieces-preserved-then-count-eq0 : goal.pieces-preserved-then-count-eq0
-pieces-preserved-then-count-eq0 g c =
-    let some : 0 < length c.read.new.buf = search rules in
-    let bytes = c.in_ok-count.ensures.bytes in
-    record {
-      source = search rules;
-      room = search rules;
-      over = λ e. read_ended _ _ _ _ _ _ bytes.0 c.if-count-eq0.true (bytes.1 c.if-count-eq0.true some) (c.pieces.invariant.going c.pieces-test.true);
-      going = λ e. absurd (false≢true (sym e ∙ search rules));
-    }
+pieces-preserved-then-count-eq0 g c = search (rules, read_ended, false≢true)
 
 pub pieces-smaller : goal.pieces-smaller
 pieces-smaller g c =

@@ -1,11 +1,9 @@
-use Rattle.dns_spec.proofs.Common.{arith, ap, take_all, take_more}
+use Rattle.dns_spec.proofs.Common.{rules, take_all, take_more}
 use Rattle.dns_tools.proofs.KeptLines.{more_unended, more_kept, ended_first, taken_front, taken_first}
 use Rattle.dns_tools.proofs.line.Line.take.Goals as goal
 
 pub returns-then-octet-eq10-clause-over : goal.returns-then-octet-eq10-clause-over
-returns-then-octet-eq10-clause-over c = λ x is.
-    ended_first x c.args.octets.now c.octets.octet-index _ c.octets-test.true c.if-octet-eq10.true
-    (c.octets.invariant.unended x is) (c.octets.invariant.kept x is)
+returns-then-octet-eq10-clause-over c = search (rules, ended_first)
 
 pub octets-preserved : goal.octets-preserved
 octets-preserved c =
@@ -16,11 +14,7 @@ octets-preserved c =
     }
 
 pub returns-clause-more : goal.returns-clause-more
-returns-clause-more c = λ x is.
-    let all = take_all c.octets.octet-index c.args.octets.now (omega (arith, c.octets-test.false)) in
-    taken_front c.self.inside.is_overlong x _ _ _ all (ap (λ l. l.is_overlong) c.self.view_is) (c.octets.invariant.unended x is) (c.octets.invariant.kept x is)
+returns-clause-more c = search (rules, take_all, taken_front)
 
 pub returns-clause-over : goal.returns-clause-over
-returns-clause-over c = λ x is.
-    let all = take_all c.octets.octet-index c.args.octets.now (omega (arith, c.octets-test.false)) in
-    taken_first c.self.inside.is_overlong x _ _ _ all (ap (λ l. l.is_overlong) c.self.view_is) (c.octets.invariant.unended x is) (c.octets.invariant.kept x is)
+returns-clause-over c = search (rules, take_all, taken_first)

@@ -1,4 +1,4 @@
-use Rattle.dns_spec.proofs.Common.{rules, arith, refl, ◌∙◌, take_all, take_more}
+use Rattle.dns_spec.proofs.Common.{rules, refl, ◌∙◌, take_all, take_more}
 use Rattle.dns_name.proofs.Results.{OnErr-always}
 use Rattle.dns_tools.proofs.LineRuns.{kept_more, ended_more, begun_within, taken_all, grows_begun, grows_trans, grows_written}
 use Rattle.dns_tools.proofs.once.Exchange.take.Goals as goal
@@ -41,7 +41,4 @@ returns-in_err-end_line-clause-grows g c =
     grows_trans _ _ _ c.octets.invariant.grows (grows_begun _ _ _ c.in_err-end_line.ensures.answered.err)
 
 pub returns-clause-taken : goal.returns-clause-taken
-returns-clause-taken g c = λ held x p.
-    taken_all _ held _ x c.args.octets.now c.octets.octet-index _
-    (take_all c.octets.octet-index c.args.octets.now (omega (arith, c.octets-test.false)))
-    (c.octets.invariant.taken held x p)
+returns-clause-taken g c = search (rules, taken_all, take_all)
