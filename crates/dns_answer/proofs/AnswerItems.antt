@@ -103,7 +103,7 @@ targets-apart : (u : ℕ) → is_target_type u ≡ true → is_address_type u �
 targets-apart u e = grind (arith, nat_tests)
 
 NoAddresses-append : (is js : List Item) → NoAddresses is → NoAddresses js → NoAddresses (is ++ js)
-NoAddresses-append is js e f = grind (arith, flat_map-append, is, each_append, records_of)
+NoAddresses-append is js e f = grind (arith, flat_map-append, each_append, records_of)
 
 -- the records of what was asked for have one type
 record OneType (rs : List ResourceRecord) : Type 0 where

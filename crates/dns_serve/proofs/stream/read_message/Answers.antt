@@ -5,9 +5,6 @@ use Rattle.dns_serve.proofs.stream.read_message.Goals as goal
 pub returns-in_err-came-clause-read : goal.returns-in_err-came-clause-read
 returns-in_err-came-clause-read g c = search (rules, short_beginning)
 
-pub returns-then-came-lt2-clause-read : goal.returns-then-came-lt2-clause-read
-returns-then-came-lt2-clause-read g c = search (rules, first_alone)
-
 pub returns-in_err-read_full-clause-read : goal.returns-in_err-read_full-clause-read
 returns-in_err-read_full-clause-read g c =
     let p = err_from_is_err_and c.from_residual-in_err-read_full.result
@@ -18,6 +15,9 @@ returns-in_err-read_full-clause-read g c =
     let front = c.read_full-2.auto.buf ∙ c.split_at_mut-front.ensures.front_len in
     rw (p.1, p.2) (beginning_after _ _ _ _ c.message_length-count.ensures.below length
     (fewer_still _ _ _ _ (omega (arith, front, c.min-kept.ensures)) c.in_err-read_full.ensures.err))
+
+pub returns-then-came-lt2-clause-read : goal.returns-then-came-lt2-clause-read
+returns-then-came-lt2-clause-read g c = search (rules, first_alone)
 
 pub returns-then-branch-kept-clause-read : goal.returns-then-branch-kept-clause-read
 returns-then-branch-kept-clause-read g c = grind (arith, length_came, part_after)
