@@ -130,8 +130,5 @@ grows_written a b text w = (text, w)
 pub grows_begun : (a b : Option Octets) (text : Octets) → AppendsBeginning a b text → Grows a b
 grows_begun a b text (n, h, w) = (take n text, w)
 
-pub grows_none : (a : Option Octets) → Grows a a
-grows_none a = ([], Appends-nil a)
-
 pub grows_trans : (a b c : Option Octets) → Grows a b → Grows b c → Grows a c
 grows_trans a b c (bs, h) (cs, k) = (bs ++ cs, Appends-trans a b c bs cs h k)
