@@ -28,7 +28,8 @@ returns-then-not-are_all_inside-clause-took g c =
     let named = c.in-Some-owner.ensures.name in
     Took-referred _ _ c.in-Some.servers c.requires.cut.1.zone set.set set.rtype set.kept
     _ c.offer_addresses-are_all_inside.ensures.took.zone
-    (rw named at c.offer_addresses-are_all_inside.ensures.took) (rw named at c.offer_addresses.ensures.took)
+    (rw named at c.offer_addresses-are_all_inside.ensures.took)
+    (rw named at c.offer_addresses.ensures.took)
 
 -- where all targets are at or below the cut, or the reply is full, nothing is offered for others
 pub returns-else-not-are_all_inside-clause-ends : goal.returns-else-not-are_all_inside-clause-ends
