@@ -1,6 +1,6 @@
 -- What is written for numbers, addresses, names and strings has no octet that ends the word.
-use Rattle.dns_spec.proofs.Common.{◌≡◌, ℕ, ◌+◌, ◌<◌, ◌^◌, inl, inr, Bool, true, false, ◌||◌, not, ◌==◌, List, [], ◌∷◌, ◌++◌, map, refl, ◌∙◌, ap, arith, append_assoc, decimal, rules, agree_below_at, and_from, cases_Bool, eqb-true, true≢false, decimal_is_IsNumeral, digit_from_value, flat_map, join_with_byte, AllDigits, Octets, DomainName, is_special, three_digits, octet_text, label_text, labels_text, ipv4_text, is_word_octet}
-use Rattle.std.specs.Char.{is_ascii_graphic, digit_char, IsAsciiDigit}
+use Rattle.dns_spec.proofs.Common.{◌≡◌, ℕ, ◌+◌, ◌<◌, ◌^◌, inl, inr, Bool, true, false, ◌||◌, not, ◌==◌, List, [], ◌∷◌, ◌++◌, map, refl, arith, append_assoc, decimal, rules, agree_below_at, and_from, cases_Bool, eqb-true, true≢false, decimal_is_IsNumeral, flat_map, join_with_byte, AllDigits, Octets, DomainName, is_special, three_digits, octet_text, label_text, labels_text, ipv4_text, is_word_octet}
+use Rattle.std.specs.Char.{is_ascii_graphic, digit_char}
 use Rattle.dns_spec.specs.WrittenText.{string_octet_text, is_unbroken, is_quotable}
 use Rattle.dns_spec.proofs.Records.SortedOnce.{Each}
 use Rattle.dns_spec.proofs.DomainNames.SmallOctets.{Small, small_head, small_tail}
@@ -19,12 +19,9 @@ bare_joined c f [] between each = tt
 bare_joined c f (x ∷ []) between each = each.0
 bare_joined c f (x ∷ y ∷ xs) between each = bare_append (f x) (c ∷ join_with_byte c (map f (y ∷ xs))) each.0 (between, bare_joined c f (y ∷ xs) between each.1)
 
-bare_digit : (c : ℕ) → IsAsciiDigit c → is_word_octet c ≡ true
-bare_digit c h = grind (arith, agree_below_at)
-
 bare_digits : (ds : Octets) → AllDigits 10 ds → Bare ds
 bare_digits [] all = tt
-bare_digits (c ∷ ds) all = (bare_digit c (digit_from_value c all.0), bare_digits ds all.1)
+bare_digits (c ∷ ds) all = grind (arith, (bare_digits ds all.1))
 
 pub bare_decimal : (n : ℕ) → n < 2 ^ 64 → Bare (decimal n)
 bare_decimal n small = bare_digits (decimal n) (decimal_is_IsNumeral n small).0.1
@@ -38,21 +35,15 @@ bare_ipv4 d small = bare_joined 46 decimal d refl (bare_decimals d small)
 
 pub bare_hex : (ds : List ℕ) → Each (λ d. d < 16) ds → Bare (map digit_char ds)
 bare_hex [] below = tt
-bare_hex (d ∷ ds) below = (agree_below_at (λ e. is_word_octet (digit_char e)) (λ e. true) 16 d refl below.0, bare_hex ds below.1)
+bare_hex (d ∷ ds) below = grind (arith, agree_below_at, (bare_hex ds below.1))
 
--- octet by octet
-plain_octet : (p : ℕ → Bool) (c : ℕ) (rest : Octets) → p c ≡ true → (c == 92) ≡ false → is_unbroken p rest ≡ true → is_unbroken p (c ∷ rest) ≡ true
-plain_octet p c rest h h1 h2 = grind arith
-
-escaped_octet : (p : ℕ → Bool) (x : ℕ) (rest : Octets) → is_ascii_graphic x ≡ true → is_unbroken p rest ≡ true → is_unbroken p (92 ∷ x ∷ rest) ≡ true
-escaped_octet p x rest h after = and_from _ _ h after
-
+-- an octet of a word or of a quoted string is no backslash
 pub no_backslash : (p : ℕ → Bool) (o : ℕ) → p 92 ≡ false → p o ≡ true → (o == 92) ≡ false
 no_backslash p o none h = grind (arith, cases_Bool, inl, true≢false, eqb-true, inr)
 
 pub bare_text : (x rest : Octets) → Bare x → is_unbroken is_word_octet rest ≡ true → is_unbroken is_word_octet (x ++ rest) ≡ true
 bare_text [] rest h after = after
-bare_text (o ∷ x) rest h after = plain_octet is_word_octet o (x ++ rest) h.0 (no_backslash is_word_octet o refl h.0) (bare_text x rest h.1 after)
+bare_text (o ∷ x) rest h after = grind (arith, no_backslash, (bare_text x rest h.1 after))
 
 digits_octet : (p : ℕ → Bool) (x : ℕ) (rest : Octets) → ((e : ℕ) → e < 10 → p (48 + e) ≡ true) → p 92 ≡ false → x < 256 → is_unbroken p rest ≡ true
     → is_unbroken p (92 ∷ three_digits x ++ rest) ≡ true
@@ -60,9 +51,6 @@ digits_octet p x rest digit none small after = grind arith
 
 bare_below_10 : (e : ℕ) → e < 10 → is_word_octet (48 + e) ≡ true
 bare_below_10 e small = agree_below_at (λ d. is_word_octet (48 + d)) (λ d. true) 10 e refl small
-
-quotable_below_10 : (e : ℕ) → e < 10 → is_quotable (48 + e) ≡ true
-quotable_below_10 e small = agree_below_at (λ d. is_quotable (48 + d)) (λ d. true) 10 e refl small
 
 -- a test that follows from another
 pub follows : (a b : Bool) → (not a || b) ≡ true → a ≡ true → b ≡ true
@@ -76,34 +64,27 @@ special_graphic x small special = grind arith
 
 octet_unbroken : (x : ℕ) (rest : Octets) → x < 256 → is_unbroken is_word_octet rest ≡ true → is_unbroken is_word_octet (octet_text x ++ rest) ≡ true
 unfolding octet_text
-octet_unbroken x rest small after =
-    grind (arith, special_graphic, digits_octet, bare_below_10)
+octet_unbroken x rest small after = grind (arith, special_graphic, digits_octet, bare_below_10)
 
 label_unbroken : (l rest : Octets) → Small l → is_unbroken is_word_octet rest ≡ true → is_unbroken is_word_octet (label_text l ++ rest) ≡ true
 label_unbroken [] rest small after = after
 label_unbroken (x ∷ l) rest small after =
-    ap (is_unbroken is_word_octet) (append_assoc (octet_text x) (label_text l) rest)
-    ∙ octet_unbroken x (label_text l ++ rest) (small_head x l small) (label_unbroken l rest (small_tail x l small) after)
+    search (
+      rules,
+      append_assoc,
+      octet_unbroken,
+      small_head,
+      (label_unbroken l rest (small_tail x l small) after),
+    )
 
 pub labels_unbroken : (n : DomainName) → Each Small n → is_unbroken is_word_octet (labels_text n) ≡ true
 labels_unbroken [] small = refl
 labels_unbroken (l ∷ n) small =
-    grind (arith, append_assoc, label_unbroken, plain_octet, (labels_unbroken n small.1))
+    grind (arith, append_assoc, label_unbroken, (labels_unbroken n small.1))
 
 string_octet_unbroken : (o : ℕ) (rest : Octets) → o < 256 → is_unbroken is_quotable rest ≡ true
     → is_unbroken is_quotable (string_octet_text o ++ rest) ≡ true
-string_octet_unbroken o rest small after =
-    search (
-      rules,
-      follows,
-      agree_below_at,
-      escaped_octet,
-      and_from,
-      plain_octet,
-      no_backslash,
-      digits_octet,
-      quotable_below_10,
-    )
+string_octet_unbroken o rest small after = search (rules, digits_octet)
 
 pub string_unbroken : (s : Octets) → Small s → is_unbroken is_quotable (flat_map string_octet_text s) ≡ true
 string_unbroken [] small = refl

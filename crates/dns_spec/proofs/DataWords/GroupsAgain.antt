@@ -1,5 +1,5 @@
 -- Groups that are written with colons between are read as those groups again, and nothing in their text is a gap.
-use Rattle.dns_spec.proofs.Common.{◌≡◌, ℕ, zero, suc, ◌/◌, ◌%◌, ◌<◌, ◌≤◌, inl, inr, Bool, true, false, ◌&&◌, ◌==◌, All, Option, None, Some, List, [], ◌∷◌, ◌++◌, map, length, nat_lt, nat_le, refl, sym, ◌∙◌, ap, subst, arith, append_assoc, append-nil, agree_below_at, and_from, lt-ltb, le-leb, cases_lt, option_map, list_all, slice_split, is_ascii_hexdigit, digit_char, digits_value, digits, Octets}
+use Rattle.dns_spec.proofs.Common.{◌≡◌, ℕ, zero, suc, ◌/◌, ◌%◌, ◌<◌, ◌≤◌, inl, inr, Bool, true, false, ◌&&◌, ◌==◌, All, Option, None, Some, List, [], ◌∷◌, ◌++◌, map, length, nat_lt, nat_le, refl, sym, ◌∙◌, ap, subst, arith, append_assoc, append-nil, agree_below_at, and_from, lt-ltb, le-leb, cases_lt, option_map, list_all, slice_split, is_ascii_hexdigit, digit_char, digits, Octets}
 use Rattle.std.proofs.lemmas.Fmt.{digits_is_IsNumeral}
 use Rattle.std.proofs.lemmas.List.Splits.{slice_split_none, slice_split_at}
 use Rattle.dns_spec.specs.AddressText.{is_group, group_values, groups_said, around_gap, groups_text}
@@ -67,9 +67,6 @@ group_text g small =
     let few : nat_le (length text) 4 ≡ true = le-leb (length text) 4 (omega (arith, long, t.few)) in
     ap is_group t.spelled ∙ and_from (nat_lt 0 (length text) && nat_le (length text) 4) _ (and_from _ _ some few) (all_hex (t.first ∷ t.others) t.below)
 
-group_value : (g : ℕ) → g < 65536 → digits_value 16 (digits 16 false g) ≡ g
-group_value g small = (digits_is_IsNumeral 16 false (omega arith) (omega arith) g (omega arith)).1
-
 -- the text of a group has no colon
 colonless : (g : ℕ) → g < 65536 → Each (λ o. is_colon o ≡ false) (digits 16 false g)
 colonless g small =
@@ -87,13 +84,13 @@ abbrev pub Groups : List ℕ → Type 0
 Groups = Each (λ g. g < 65536)
 
 parts_of : (g : ℕ) (gs : List ℕ) → Groups (g ∷ gs) → slice_split is_colon (groups_text (g ∷ gs)) ≡ map (digits 16 false) (g ∷ gs)
-parts_of g [] small = slice_split_none is_colon (digits 16 false g) (all_colonless (digits 16 false g) (colonless g small.0))
+parts_of g [] small = grind (arith, slice_split_none, all_colonless, colonless)
 parts_of g (h ∷ gs) small =
     grind (arith, slice_split_at, all_colonless, colonless, (parts_of h gs small.1))
 
 values_of : (gs : List ℕ) → Groups gs → group_values (map (digits 16 false) gs) ≡ Some gs
 values_of [] small = refl
-values_of (g ∷ gs) small = rw (group_text g small.0, values_of gs small.1, group_value g small.0) refl
+values_of (g ∷ gs) small = grind (arith, group_text, (values_of gs small.1), digits_is_IsNumeral)
 
 -- the first octet of groups is a digit
 record DigitFirst (text : Octets) : Type 0 where

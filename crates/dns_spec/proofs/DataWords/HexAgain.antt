@@ -6,11 +6,11 @@ use Rattle.dns_spec.specs.DataText.{hex_octets, is_hex_word, SaysHex, SaysUnknow
 use Rattle.dns_spec.proofs.DomainNames.SmallOctets.{Small, small_head, small_tail}
 
 pub hex_digit : (d : ℕ) → d < 16 → is_ascii_hexdigit (digit_char d) ≡ true
-hex_digit d small = agree_below_at (λ e. is_ascii_hexdigit (digit_char e)) (λ e. true) 16 d refl small
+hex_digit d small = grind (arith, agree_below_at)
 
 -- the two digits of an octet
 digits_say : (o : ℕ) → o < 256 → 16 * digit_value (digit_char (o / 16)) + digit_value (digit_char (o % 16)) ≡ o
-digits_say o small = omega (arith, digit_value-digit_char (o / 16) (omega arith), digit_value-digit_char (o % 16) (omega arith))
+digits_say o small = grind (arith, digit_value-digit_char)
 
 pub hex_again : (d : Octets) → Small d → hex_octets (hex_text d) ≡ Some d
 unfolding hex_octets

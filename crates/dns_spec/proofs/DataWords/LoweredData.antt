@@ -1,5 +1,5 @@
 -- The parts of data joined are the data, and data in lower case is cut into the same pieces.
-use Rattle.dns_spec.proofs.Common.{common_steps, ◌≡◌, ℕ, ◌≤◌, true, Some, List, [], ◌∷◌, ◌++◌, map, length, refl, sym, ap, ◌∙◌, subst, arith, append-nil, length-append, and_parts, and_from, leb-true, le-leb, false≢true, none-some, same_Some, take_at, drop_at, nil_from_length, flat_map-cons, to_ascii_lowercase, Octets, DomainName, folded, width, Piece, fixed, domain, string, strings, anything, pieces_of, Part, octets, name, part_octets, joined, part_folded, octets_front, piece_front, cut, valid, parts, lower_case}
+use Rattle.dns_spec.proofs.Common.{common_steps, ◌≡◌, ℕ, ◌≤◌, true, Some, List, [], ◌∷◌, ◌++◌, map, length, refl, sym, ap, ◌∙◌, subst, arith, append-nil, length-append, and_parts, and_from, leb-true, le-leb, false≢true, none-some, same_Some, take_at, drop_at, nil_from_length, flat_map-cons, to_ascii_lowercase, Octets, DomainName, folded, Piece, fixed, domain, string, strings, anything, pieces_of, Part, octets, name, part_octets, joined, part_folded, piece_front, cut, valid, parts, lower_case}
 use Rattle.std.proofs.lemmas.Str.Ascii.{lowercase-lowercase}
 use Rattle.dns_spec.proofs.DomainNames.NameLaws.{is_name-folded, length-wire-folded}
 use Rattle.dns_spec.proofs.DataWords.WrittenData.{cut_into, name_part, octets_part, front_taken, all_strings}
@@ -7,8 +7,8 @@ use Rattle.dns_spec.proofs.DataWords.MadeData.{cut-domain, cut-step}
 
 -- a part, and the octets after it, are the whole
 pub piece_whole : (p : Piece) (os : Octets) (part : Part) (rest : Octets) → piece_front p os ≡ Some (part, rest) → os ≡ part_octets part ++ rest
-piece_whole (fixed f) os part rest h = (front_taken (width f) os part rest h).0 ∙ ap (λ x. part_octets x ++ rest) (octets_part (width f) os rest part h)
-piece_whole domain os part rest h = let m = name_part os rest part h in m.3 ∙ ap (λ x. part_octets x ++ rest) m.1
+piece_whole (fixed f) os part rest h = grind (arith, front_taken, octets_part)
+piece_whole domain os part rest h = grind (arith, name_part)
 piece_whole string [] part rest h = absurd (none-some (part, rest) h)
 piece_whole string (k ∷ os) part rest h = grind (arith, common_steps, front_taken, octets_part)
 piece_whole strings os part rest h = grind (arith, all_strings, append-nil)
@@ -25,16 +25,9 @@ cut_whole (p ∷ ps) os xs h =
     ∙ ap (λ x. part_octets c.part ++ x) (cut_whole ps c.rest c.others c.more)
     ∙ sym (piece_whole p os c.part c.rest c.front)
 
-pub length-part_folded : (x : Part) → length (part_octets (part_folded x)) ≡ length (part_octets x)
-length-part_folded x = grind (arith, length-wire-folded)
-
 pub length-lowered : (xs : List Part) → length (joined (map part_folded xs)) ≡ length (joined xs)
 length-lowered [] = refl
-length-lowered (x ∷ xs) =
-    grind (arith, length-part_folded, flat_map-cons, length-append, (length-lowered xs))
-
-octets_front-append : (k : ℕ) (x rest : Octets) → length x ≡ k → octets_front k (x ++ rest) ≡ Some (octets x, rest)
-octets_front-append k x rest e = grind (arith, le-leb, length-append, take_at, drop_at)
+length-lowered (x ∷ xs) = grind (arith, length-wire-folded, length-append, (length-lowered xs))
 
 none_after : (rest other : Octets) → rest ≡ [] → length other ≡ length rest → other ≡ []
 none_after rest other e f = nil_from_length other (f ∙ ap length e)
@@ -43,18 +36,17 @@ none_after rest other e f = nil_from_length other (f ∙ ap length e)
 piece_lowered : (p : Piece) (os : Octets) (part : Part) (rest other : Octets) → piece_front p os ≡ Some (part, rest) → length other ≡ length rest
     → piece_front p (part_octets (part_folded part) ++ other) ≡ Some (part_folded part, other)
 piece_lowered (fixed f) os part rest other h same =
-    grind (arith, octets_part, octets_front-append, front_taken)
+    grind (arith, length-append, take_at, drop_at, front_taken)
 piece_lowered domain os part rest other h same =
     grind (arith, name_part, cut-domain, is_name-folded)
 piece_lowered string [] part rest other h same = absurd (none-some (part, rest) h)
-piece_lowered string (k ∷ os) part rest other h same =
-    grind (arith, common_steps, octets_part, octets_front-append, front_taken)
+piece_lowered string (k ∷ os) part rest other h same = grind (arith, common_steps)
 piece_lowered strings os part rest other h same = grind (arith, all_strings, none_after, append-nil)
 piece_lowered anything os part rest other h same = grind (arith, same_Some, none_after, append-nil)
 
 pub cut_lowered : (ps : List Piece) (os : Octets) (xs : List Part) → cut ps os ≡ Some xs → cut ps (joined (map part_folded xs)) ≡ Some (map part_folded xs)
 unfolding cut
-cut_lowered [] [] xs h = ap (λ x. cut [] (joined (map part_folded x))) (sym (same_Some [] xs h)) ∙ ap (λ x. Some (map part_folded x)) (same_Some [] xs h)
+cut_lowered [] [] xs h = grind (arith, same_Some)
 cut_lowered [] (o ∷ os) xs h = absurd (none-some xs h)
 cut_lowered (p ∷ ps) os xs h =
     let c = cut_into p ps os xs h in
@@ -67,11 +59,11 @@ cut_lowered (p ∷ ps) os xs h =
 
 label_lowered : (l : Octets) → map to_ascii_lowercase (map to_ascii_lowercase l) ≡ map to_ascii_lowercase l
 label_lowered [] = refl
-label_lowered (o ∷ l) = ap (λ x. x ∷ map to_ascii_lowercase (map to_ascii_lowercase l)) (lowercase-lowercase o) ∙ ap (λ x. to_ascii_lowercase o ∷ x) (label_lowered l)
+label_lowered (o ∷ l) = grind (arith, lowercase-lowercase, (label_lowered l))
 
 pub folded-folded : (n : DomainName) → folded (folded n) ≡ folded n
 folded-folded [] = refl
-folded-folded (l ∷ n) = ap (λ x. x ∷ folded (folded n)) (label_lowered l) ∙ ap (λ x. map to_ascii_lowercase l ∷ x) (folded-folded n)
+folded-folded (l ∷ n) = grind (arith, label_lowered, (folded-folded n))
 
 part_folded-twice : (x : Part) → part_folded (part_folded x) ≡ part_folded x
 part_folded-twice (octets o) = refl
@@ -79,7 +71,7 @@ part_folded-twice (name n) = ap name (folded-folded n)
 
 parts_folded-twice : (xs : List Part) → map part_folded (map part_folded xs) ≡ map part_folded xs
 parts_folded-twice [] = refl
-parts_folded-twice (x ∷ xs) = ap (λ y. y ∷ map part_folded (map part_folded xs)) (part_folded-twice x) ∙ ap (λ y. part_folded x ∷ y) (parts_folded-twice xs)
+parts_folded-twice (x ∷ xs) = grind (arith, part_folded-twice, (parts_folded-twice xs))
 
 -- what valid data is cut into
 pub record CutData (t : ℕ) (d : Octets) : Type 0 where

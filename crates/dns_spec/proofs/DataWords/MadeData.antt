@@ -1,10 +1,10 @@
 -- Data that begins with a name, or with a piece of any kind, is cut there.
-use Rattle.dns_spec.proofs.Common.{◌≡◌, true, List, ◌∷◌, ◌++◌, Some, ap, arith, option_map, Octets, DomainName, wire, is_name, Piece, Part, name, piece_front, cut, domain}
+use Rattle.dns_spec.proofs.Common.{◌≡◌, true, List, ◌∷◌, ◌++◌, Some, arith, Octets, DomainName, wire, is_name, Piece, Part, name, piece_front, cut, domain}
 use Rattle.dns_spec.proofs.DomainNames.WireNames.{name_of-wire}
 
 -- a name
 pub cut-domain : (n : DomainName) (rest : Octets) → is_name n ≡ true → piece_front domain (wire n ++ rest) ≡ Some (name n, rest)
-cut-domain n rest ok = ap (option_map (λ (r : DomainName × Octets). (name r.0, r.1))) (name_of-wire n rest ok)
+cut-domain n rest ok = grind (arith, name_of-wire)
 
 -- a piece, and the pieces after it
 pub cut-step : (p : Piece) (ps : List Piece) (os : Octets) (part : Part) (rest : Octets) (xs : List Part) → piece_front p os ≡ Some (part, rest) → cut ps rest ≡ Some xs

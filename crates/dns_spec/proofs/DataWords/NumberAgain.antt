@@ -2,7 +2,7 @@
 use Rattle.std.proofs.Common.{◌≡◌, ℕ, zero, suc, ◌+◌, ◌*◌, ◌^◌, ◌<◌, [], ◌∷◌, length, refl, sym, ◌∙◌, ap, subst, arith, pow-suc, mul_comm, mod-eq_of_lt}
 use Rattle.std.proofs.lemmas.Nat.{same_from_place, mul-add-lt}
 use Rattle.std.specs.Prelude.{decimal}
-use Rattle.std.specs.Int.{byte_at, bytes_high_first}
+use Rattle.std.specs.Int.{bytes_high_first}
 use Rattle.dns_spec.proofs.Common.{Octets, number_of, SaysNumber}
 use Rattle.dns_spec.proofs.Messages.Places.{length-bytes_high_first, number_of-bytes}
 use Rattle.dns_spec.proofs.DomainNames.SmallOctets.{Small, small_head, small_tail}
@@ -13,12 +13,9 @@ number_of-below (o ∷ x) small =
     let unit = 256 ^ length x in
     omega (arith, pow-suc 256 (length x), mul_comm unit 256, mul-add-lt o unit (number_of x) 256 (small_head o x small) (number_of-below x (small_tail o x small)))
 
-byte_at-below : (i n : ℕ) → byte_at i n < 256
-byte_at-below i n = grind arith
-
 pub bytes_below : (k n : ℕ) → Small (bytes_high_first k n)
 bytes_below zero n i d inside = absurd (omega (arith, inside))
-bytes_below (suc k) n zero d inside = byte_at-below k n
+bytes_below (suc k) n zero d inside = grind arith
 bytes_below (suc k) n (suc i) d inside = bytes_below k n i d (omega (arith, inside))
 
 -- octets are known by their number
@@ -35,8 +32,8 @@ one_spelling (o ∷ x) (p ∷ y) long small small' e =
     let parts = same_from_place o (number_of x) p (number_of y) (256 ^ length x) (number_of-below x (small_tail o x small)) below f in
     ap (λ q. q ∷ x) parts.0 ∙ ap (λ z. p ∷ z) (one_spelling x y same_long (small_tail o x small) (small_tail p y small') parts.1)
 
-pub bytes_again : (k : ℕ) (x : Octets) → length x ≡ k → Small x → bytes_high_first k (number_of x) ≡ x
-bytes_again k x long small =
+pub number_said : (k : ℕ) (x : Octets) → length x ≡ k → Small x → SaysNumber k (decimal (number_of x)) x
+number_said k x long small =
     grind (
       arith,
       number_of-below,
@@ -46,6 +43,3 @@ bytes_again k x long small =
       number_of-bytes,
       mod-eq_of_lt,
     )
-
-pub number_said : (k : ℕ) (x : Octets) → length x ≡ k → Small x → SaysNumber k (decimal (number_of x)) x
-number_said k x long small = grind (arith, number_of-below, bytes_again)

@@ -1,6 +1,6 @@
 -- Words say at most one piece of data of a type.
-use Rattle.dns_spec.proofs.Common.{◌≡◌, ℕ, zero, suc, ◌<◌, ◌≤◌, Bool, true, false, nat_le, List, [], ◌∷◌, ◌++◌, length, replicate, Option, Some, None, refl, sym, ◌∙◌, ap, ap₂, arith, decimal, MatchBool, list_all, flat_map, find, option_map, AllDigits, pow-le-pow_right, and_parts, and_from, leb-true, ltb-true, same_Some, decimal_is_IsNumeral, decimal_injective, digit_from_value, Octets, DomainName, wire, Piece, fixed, domain, string, strings, anything, numbers, ipv4, ipv6, TypeRow, type_table, row_of, SaysIpv4, SaysIpv6, Word, WordForm, number_word, ipv4_word, ipv6_word, name_word, string_word, SaysNumber, SaysString, SaysForm, SaysForms, forms_in, SaysTyped, SaysUnknown, SaysAsSpelled, is_unknown_mark, Says}
-use Rattle.std.specs.Prelude.{⊤, MatchOption, ◌==◌, if◌then◌else◌}
+use Rattle.dns_spec.proofs.Common.{◌≡◌, ℕ, zero, suc, ◌<◌, ◌≤◌, Bool, true, false, nat_le, List, [], ◌∷◌, ◌++◌, length, replicate, Option, Some, None, refl, sym, ◌∙◌, ap, ap₂, arith, decimal, MatchBool, list_all, flat_map, find, option_map, AllDigits, pow-le-pow_right, and_parts, and_from, leb-true, ltb-true, same_Some, decimal_is_IsNumeral, decimal_injective, digit_from_value, Octets, DomainName, wire, Piece, fixed, domain, string, strings, anything, numbers, ipv4, ipv6, TypeRow, type_table, row_of, SaysIpv4, Word, WordForm, number_word, ipv4_word, ipv6_word, name_word, string_word, SaysNumber, SaysForm, SaysForms, forms_in, SaysTyped, SaysUnknown, SaysAsSpelled, is_unknown_mark, Says}
+use Rattle.std.specs.Prelude.{⊤, MatchOption, ◌==◌}
 use Rattle.dns_spec.proofs.NameTexts.OneName.{name_once, string_once}
 
 -- numbers of at most 32 bits
@@ -15,10 +15,7 @@ digits_end [] [] rest others h k e = (refl, cc)
 digits_end [] (c ∷ es) rest others h (digit, k) e = grind (arith, digit_from_value)
 digits_end (c ∷ ds) [] rest others (digit, h) k e = grind (arith, digit_from_value)
 digits_end (c ∷ ds) (b ∷ es) rest others (digit, h) (digit', k) e =
-    let head : c ≡ b = cc (e) in
-    let tail : ds ++ 46 ∷ rest ≡ es ++ 46 ∷ others = cc (e) in
-    let after = digits_end ds es rest others h k tail in
-    (ap₂ (λ z zs. z ∷ zs) head after.0, after.1)
+    grind (arith, (digits_end ds es rest others h k (cc (e))))
 
 -- a text begins with one number in decimal and a dot
 pub number_then_dot : (a b : ℕ) (rest others : Octets) → a < 256 → b < 256 → decimal a ++ 46 ∷ rest ≡ decimal b ++ 46 ∷ others → (a ≡ b) × (rest ≡ others)
@@ -61,13 +58,6 @@ ipv4_once text d e h k =
     let four = decimal_injective p.fourth q.fourth (omega (arith, small)) (omega (arith, small')) three.1 in
     p.is ∙ ap₂ (λ x xs. x ∷ xs) one.0 (ap₂ (λ x xs. x ∷ xs) two.0 (ap₂ (λ x y. x ∷ y ∷ []) three.0 four)) ∙ sym q.is
 
-pub ipv6_once : (text d e : Octets) → SaysIpv6 text d → SaysIpv6 text e → d ≡ e
-ipv6_once text d e h k = same_Some d e (sym h ∙ k)
-
-pub string_data_once : (text d e : Octets) → SaysString text d → SaysString text e → d ≡ e
-string_data_once text d e (s, short, spelled, is) (t, short', spelled', is') =
-    is ∙ ap (λ r. length r ∷ r) (string_once text s t spelled spelled') ∙ sym is'
-
 -- the forms of the table: numbers have at most 32 bits
 is_narrow : WordForm → Bool
 is_narrow (number_word k) = nat_le k 4
@@ -80,10 +70,10 @@ form_once : (f : WordForm) (origin : DomainName) (text d e : Octets) → is_narr
 unfolding is_narrow
 form_once (number_word k) origin text d e narrow h h' = number_once k text d e (leb-true k 4 narrow) h h'
 form_once ipv4_word origin text d e narrow h h' = ipv4_once text d e h h'
-form_once ipv6_word origin text d e narrow h h' = ipv6_once text d e h h'
+form_once ipv6_word origin text d e narrow h h' = grind (arith, same_Some)
 form_once name_word origin text d e narrow (n, spelled, is) (m, spelled', is') =
     is ∙ ap wire (name_once origin text n m spelled spelled') ∙ sym is'
-form_once string_word origin text d e narrow h h' = string_data_once text d e h h'
+form_once string_word origin text d e narrow h h' = grind (arith, string_once)
 
 forms_once : (fs : List WordForm) (origin : DomainName) (ws : List Word) (d e : Octets) → list_all is_narrow fs ≡ true → SaysForms fs origin ws d → SaysForms fs origin ws e → d ≡ e
 forms_once [] origin [] d e narrow h k = h ∙ sym k
@@ -110,15 +100,11 @@ is_narrow_piece string = true
 is_narrow_piece strings = true
 is_narrow_piece anything = true
 
-narrow_in : (k : ℕ) (p : Piece) → is_narrow_piece p ≡ true → list_all is_narrow (forms_in k p) ≡ true
-unfolding is_narrow is_narrow_piece
-narrow_in k p h = grind (arith, all_alike)
-
 narrow_forms : (k : ℕ) (ps : List Piece) → list_all is_narrow_piece ps ≡ true → list_all is_narrow (flat_map (forms_in k) ps) ≡ true
+unfolding is_narrow is_narrow_piece
 narrow_forms k [] h = refl
 narrow_forms k (p ∷ ps) h =
-    let parts = and_parts (is_narrow_piece p) _ h in
-    all_joined is_narrow (forms_in k p) (flat_map (forms_in k) ps) (narrow_in k p parts.0) (narrow_forms k ps parts.1)
+    grind (arith, all_joined, all_alike, (narrow_forms k ps (and_parts (is_narrow_piece p) _ h).1))
 
 has_narrow_pieces : TypeRow → Bool
 has_narrow_pieces row = list_all is_narrow_piece row.pieces
@@ -126,13 +112,7 @@ has_narrow_pieces row = list_all is_narrow_piece row.pieces
 found_row : (p : TypeRow → Bool) (rows : List TypeRow) → list_all has_narrow_pieces rows ≡ true → MatchOption (find p rows) ⊤ (λ row. has_narrow_pieces row ≡ true)
 found_row p [] h = tt
 found_row p (row ∷ rows) h =
-    let parts = and_parts (has_narrow_pieces row) _ h in
-    by_cases (p row) parts.0 (found_row p rows parts.1)
-  where
-    by_cases : (b : Bool) → has_narrow_pieces row ≡ true → MatchOption (find p rows) ⊤ (λ r. has_narrow_pieces r ≡ true)
-        → MatchOption (if b then Some row else find p rows) ⊤ (λ r. has_narrow_pieces r ≡ true)
-    by_cases true here there = here
-    by_cases false here there = there
+    grind (arith, and_parts, (found_row p rows (and_parts (has_narrow_pieces row) _ h).1))
 
 typed_once : (t : ℕ) (origin : DomainName) (ws : List Word) (d e : Octets) → SaysTyped t origin ws d → SaysTyped t origin ws e → d ≡ e
 unfolding has_narrow_pieces is_narrow_piece

@@ -1,5 +1,5 @@
 -- The words that are written for valid data say that data again, each of them stands alone, and a reader takes them in whole.
-use Rattle.dns_spec.proofs.Common.{◌≡◌, ℕ, zero, suc, ◌*◌, ◌<◌, ◌≤◌, ◌⊎◌, inl, inr, true, false, Bool, ◌||◌, ◌==◌, max, Option, None, Some, List, [], ◌∷◌, ◌++◌, length, drop, replicate, nat_le, refl, sym, ◌∙◌, ap, subst, arith, append-nil, false≢true, and_parts, and_from, leb-true, cases_Bool, or_cases, none-some, same_Some, cond_some, some_pair_parts, option_map, unwrap_or, list_all, find, flat_map, Octets, DomainName, name_of, numbers, ipv4, ipv6, Piece, fixed, domain, string, strings, anything, TypeRow, type_table, row_of, other_type, pieces_of, Part, name, part_octets, octets_front, piece_front, cut, valid, lower_case, Word, WordForm, name_word, string_word, forms_in, forms_of, SaysTyped, SaysAsSpelled, Says, is_word_octet}
+use Rattle.dns_spec.proofs.Common.{◌≡◌, ℕ, zero, suc, ◌*◌, ◌<◌, ◌≤◌, ◌⊎◌, inl, inr, true, false, Bool, ◌||◌, max, Option, None, Some, List, [], ◌∷◌, ◌++◌, length, drop, replicate, nat_le, refl, sym, ◌∙◌, ap, subst, arith, append-nil, false≢true, and_parts, and_from, leb-true, cases_Bool, or_cases, none-some, same_Some, cond_some, some_pair_parts, option_map, unwrap_or, list_all, find, flat_map, Octets, DomainName, name_of, numbers, ipv4, ipv6, Piece, fixed, domain, string, strings, anything, TypeRow, row_of, other_type, pieces_of, Part, name, part_octets, octets_front, piece_front, cut, valid, lower_case, Word, WordForm, name_word, string_word, forms_in, forms_of, SaysTyped, SaysAsSpelled, Says, is_word_octet}
 use Rattle.dns_spec.specs.WrittenText.{word_front, form_words, string_count, words_by, written_words, unknown_words, hex_words, stands_alone}
 use Rattle.dns_spec.proofs.Records.SortedOnce.{Each}
 use Rattle.dns_spec.proofs.DomainNames.SmallOctets.{Small, small_back}
@@ -44,7 +44,7 @@ piece_said c origin domain fs d part rest counted h small others = go (name_of d
         let p = some_pair_parts (name n) part tail rest f in
         let r = name_read d n tail e in
         said_step name_word fs origin d tail (name_front_said origin d n tail e r.0 r.1 small) (subst (WordsSaid fs origin) (sym p.1) others)
-piece_said c origin string fs [] part rest counted h small others = absurd (none-some (part, rest) h)
+piece_said c origin string fs [] part rest counted h small others = grind (arith, none-some)
 piece_said c origin string fs (k ∷ d) part rest counted h small others =
     let f = front_dropped (suc k) (k ∷ d) part rest h in
     said_step string_word fs origin (k ∷ d) (drop k d) (string_front_said origin k d (omega (arith, f.0)) small) (subst (WordsSaid fs origin) (sym f.1) others)
@@ -63,14 +63,14 @@ pieces_said c origin (p ∷ ps) d xs counted h small =
     piece_said c origin p (flat_map (forms_in c) ps) d f.part f.rest each.0 f.front small (pieces_said c origin ps f.rest f.others each.1 f.more after)
 
 -- such pieces have the same forms whatever the count
-one_form : (c e : ℕ) (p : Piece) → is_counted p ≡ true → forms_in c p ≡ forms_in e p
-one_form c e p h = grind arith
-
 same_forms : (c e : ℕ) (ps : List Piece) → list_all is_counted ps ≡ true → flat_map (forms_in c) ps ≡ flat_map (forms_in e) ps
 same_forms c e [] counted = refl
 same_forms c e (p ∷ ps) counted =
-    let each = and_parts (is_counted p) (list_all is_counted ps) counted in
-    ap (λ fs. fs ++ flat_map (forms_in c) ps) (one_form c e p each.0) ∙ ap (λ fs. forms_in e p ++ fs) (same_forms c e ps each.1)
+    grind (
+      arith,
+      and_parts,
+      (same_forms c e ps (and_parts (is_counted p) (list_all is_counted ps) counted).1),
+    )
 
 length-form_words : (fs : List WordForm) (d : Octets) → length (form_words fs d) ≡ length fs
 length-form_words [] d = refl
@@ -156,7 +156,7 @@ abbrev has_forms : TypeRow → Bool
 has_forms made = list_all is_counted made.pieces || are_strings_alone made.pieces
 
 row_has_forms : (t : ℕ) (made : TypeRow) → row_of t ≡ Some made → has_forms made ≡ true
-row_has_forms t made e = entry_passes (λ (r : TypeRow). r.number == t) has_forms type_table made e refl
+row_has_forms t made e = grind (arith, entry_passes)
 
 formed : (t : ℕ) (origin : DomainName) (d : Octets) (made : TypeRow) → row_of t ≡ Some made → valid t d ≡ true → Small d → Formed t origin d
 formed t origin d made e ok small = by_cases (or_cases (list_all is_counted made.pieces) (are_strings_alone made.pieces) (row_has_forms t made e))
@@ -190,7 +190,7 @@ said_again t origin d small ok = go (row_of t) refl
     go (Some made) e = typed_said t origin d (formed t origin d made e ok small)
 
 pub data_said : (t : ℕ) (origin : DomainName) (d : Octets) → Small d → valid t d ≡ true → Says t (written_words t d) origin (lower_case t d)
-data_said t origin d small ok = record { as_spelled = d; said = said_again t origin d small ok; is_valid = ok; lower = refl }
+data_said t origin d small ok = grind (arith, said_again)
 
 unknown_alone : (d : Octets) → length d ≤ 65535 → Small d → list_all stands_alone (unknown_words d) ≡ true
 unknown_alone d short small = and_from _ _ refl (and_from _ _ (decimal_standing (length d) (omega (arith, short))).alone (hex d small))

@@ -1,6 +1,6 @@
 -- The words that are written stand alone, a reader takes them in whole, and none of them is the mark of the form for data of
 -- any type.
-use Rattle.dns_spec.proofs.Common.{common_steps, ◌≡◌, ℕ, ◌/◌, ◌%◌, ◌<◌, ◌^◌, Bool, true, false, ◌==◌, List, [], ◌∷◌, ◌++◌, length, refl, sym, ◌∙◌, ap, subst, arith, append_assoc, append-nil, length-append, decimal, rules, and_from, and_right, lt-ltb, if◌then◌else◌, digit_char, digits, Octets, DomainName, octets_equal, label_text, labels_text, name_text, Word, is_unknown_mark, is_word_octet, is_string_octet}
+use Rattle.dns_spec.proofs.Common.{common_steps, ◌≡◌, ℕ, ◌<◌, ◌^◌, Bool, true, false, ◌==◌, List, [], ◌∷◌, ◌++◌, length, refl, sym, ◌∙◌, ap, subst, arith, append_assoc, append-nil, length-append, decimal, rules, and_from, and_right, lt-ltb, if◌then◌else◌, digits, Octets, DomainName, octets_equal, label_text, labels_text, name_text, Word, is_unknown_mark, is_word_octet, is_string_octet}
 use Rattle.std.proofs.lemmas.Fmt.{decimal_nonempty}
 use Rattle.dns_spec.specs.AddressText.{SaysIpv6, ipv6_groups, ipv4_text, groups_text, ipv6_text}
 use Rattle.dns_spec.specs.WrittenText.{plain, quoted, hex_text, is_unbroken, stands_alone}
@@ -10,7 +10,7 @@ use Rattle.dns_spec.proofs.NameTexts.WrittenNames.{labels_text_long}
 use Rattle.dns_spec.proofs.DataWords.WordRuns.{Runs, runs_bare, name_runs, string_runs}
 use Rattle.dns_spec.proofs.DataWords.GroupsAgain.{Groups, group_digits}
 use Rattle.dns_spec.proofs.DataWords.Ipv6Again.{groups_of-small, groups_taken, groups_dropped, ipv6_said}
-use Rattle.dns_spec.proofs.DataWords.BareWords.{Bare, bare_append, bare_joined, bare_decimal, bare_ipv4, bare_hex, bare_text, no_backslash, labels_unbroken, string_unbroken}
+use Rattle.dns_spec.proofs.DataWords.BareWords.{Bare, bare_append, bare_joined, bare_decimal, bare_ipv4, bare_hex, bare_text, labels_unbroken, string_unbroken}
 
 -- what a reader goes on over in a word
 abbrev pub by_itself : Word → ℕ → Bool
@@ -28,21 +28,18 @@ pub record Standing (w : Word) : Type 0 where
 bare_alone : (x : Octets) → 0 < length x → Bare x → stands_alone (plain x) ≡ true
 bare_alone x some bare = and_from _ _ (lt-ltb 0 (length x) some) (ap (is_unbroken is_word_octet) (sym (append-nil x)) ∙ bare_text x [] bare refl)
 
-bare_unmarked : (x : Octets) → Bare x → is_unknown_mark (plain x) ≡ false
-bare_unmarked x h = search (rules, no_backslash)
-
 pub bare_standing : (x : Octets) → 0 < length x → Bare x → Standing (plain x)
-bare_standing x some bare = record { alone = bare_alone x some bare; whole = runs_bare x bare; unmarked = bare_unmarked x bare }
+bare_standing x some bare = grind (arith, bare_alone, runs_bare)
 
 pub decimal_standing : (n : ℕ) → n < 2 ^ 64 → Standing (plain (decimal n))
-decimal_standing n small = bare_standing (decimal n) (decimal_nonempty n small) (bare_decimal n small)
+decimal_standing n small = search (rules, bare_standing, decimal_nonempty, bare_decimal)
 
 ipv4_some : (o : ℕ) (d : Octets) → o < 256 → 0 < length (ipv4_text (o ∷ d))
 ipv4_some o d h = grind (arith, decimal_nonempty, length-append)
 
 pub ipv4_standing : (d : Octets) → length d ≡ 4 → Small d → Standing (plain (ipv4_text d))
 ipv4_standing [] long small = absurd (omega (arith, long))
-ipv4_standing (o ∷ d) long small = bare_standing (ipv4_text (o ∷ d)) (ipv4_some o d (small_head o d small)) (bare_ipv4 (o ∷ d) small)
+ipv4_standing (o ∷ d) long small = search (rules, bare_standing, ipv4_some, small_head, bare_ipv4)
 
 bare_group : (g : ℕ) → g < 65536 → Bare (digits 16 false g)
 bare_group g small = let t = group_digits g small in subst Bare (sym t.spelled) (bare_hex (t.first ∷ t.others) t.below)
@@ -98,13 +95,11 @@ name_standing (l ∷ n) small some = record {
 }
 
 pub string_standing : (s : Octets) → Small s → Standing (quoted s)
-string_standing s small = record { alone = string_unbroken s small; whole = string_runs s small; unmarked = refl }
+string_standing s small = grind (arith, string_unbroken, string_runs)
 
 bare_hex_text : (d : Octets) → Small d → Bare (hex_text d)
 bare_hex_text [] small = tt
-bare_hex_text (o ∷ d) small =
-    let below = small_head o d small in
-    bare_append (digit_char (o / 16) ∷ digit_char (o % 16) ∷ []) (hex_text d) (bare_hex (o / 16 ∷ o % 16 ∷ []) (omega (arith, below), (omega arith, tt))) (bare_hex_text d (small_tail o d small))
+bare_hex_text (o ∷ d) small = grind (arith, small_head, (bare_hex_text d (small_tail o d small)))
 
 pub hex_alone : (o : ℕ) (d : Octets) → Small (o ∷ d) → stands_alone (plain (hex_text (o ∷ d))) ≡ true
 hex_alone o d small = bare_alone (hex_text (o ∷ d)) (omega arith) (bare_hex_text (o ∷ d) small)

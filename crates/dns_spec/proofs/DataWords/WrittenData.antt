@@ -1,6 +1,6 @@
 -- Data of a type, written without compression, is read back as data of that type.
 use Rattle.dns_spec.proofs.Common.{common_steps, and_parts, leb-true, not-true, eqb-false, false≢true, none-some, same_Some, cond_some, some_pair_parts, length-take-le, Octets, DomainName, wire, is_name, class_in, width, Piece, fixed, domain, string, strings, anything, Part, octets, name, are_strings, octets_front, strings_front, piece_front, cut, valid, OctetsAt, PiecesAt, DataAt}
-use Rattle.std.proofs.Common.{◌≡◌, ℕ, suc, ◌+◌, ◌<◌, true, nat_le, List, [], ◌∷◌, ◌++◌, length, take, drop, Some, refl, sym, ap, ◌∙◌, subst, arith, append-nil, length-append, take-append-drop, add-zero}
+use Rattle.std.proofs.Common.{◌≡◌, ℕ, suc, ◌+◌, ◌<◌, true, List, [], ◌∷◌, ◌++◌, length, take, Some, refl, sym, ap, ◌∙◌, subst, arith, append-nil, length-append, take-append-drop, add-zero}
 use Rattle.dns_spec.proofs.DomainNames.WireNames.{name_read}
 use Rattle.dns_spec.proofs.Messages.Places.{Stands, stands_front, stands_rest, stands_within, stands_get, octets_at, name_written}
 
@@ -23,7 +23,7 @@ pub name_part : (os rest : Octets) (part : Part) → piece_front domain os ≡ S
 name_part os rest part h = grind (arith, none-some, some_pair_parts, name_read)
 
 pub octets_part : (k : ℕ) (os rest : Octets) (part : Part) → octets_front k os ≡ Some (part, rest) → octets (take k os) ≡ part
-octets_part k os rest part h = ap (λ z. z.0) (cond_some (nat_le k (length os)) (octets (take k os), drop k os) (part, rest) h).1
+octets_part k os rest part h = grind (arith, cond_some)
 
 -- the octets of data from place i on, and what is after its first part
 module _ {b : Octets} {i : ℕ} (os x rest : Octets) (whole : os ≡ x ++ rest) (at : Stands b i os) where

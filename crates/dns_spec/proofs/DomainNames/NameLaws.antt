@@ -1,6 +1,6 @@
 -- Laws of names: their wire forms tell them apart, folding keeps lengths, and at or below goes label by label.
-use Rattle.dns_spec.proofs.Common.{common_steps, ◌≡◌, ℕ, zero, suc, ◌+◌, ◌*◌, ◌-◌, ◌<◌, ◌≤◌, Bool, true, false, ◌||◌, ◌⊎◌, [], ◌∷◌, ◌++◌, length, take, drop, map, nat_lt, nat_le, refl, sym, ◌∙◌, ap, arith, inl, inr, length-append, rules, take_at, drop_at, length-map, map-append, or-false, list_all, to_ascii_lowercase, Octets, DomainName, wire, is_label, is_name, folded, octets_equal, names_equal, same, at_or_below}
-use Rattle.std.proofs.lemmas.Bool.{and_parts, and_from, and_left, leb-true, le-leb, lt-leb, ltb-true, lt-ltb, eqb-true, eq-eqb, cond-true, cases_order, false_from_ne_true}
+use Rattle.dns_spec.proofs.Common.{common_steps, ◌≡◌, ℕ, zero, suc, ◌+◌, ◌*◌, ◌-◌, ◌<◌, ◌≤◌, Bool, true, false, ◌||◌, ◌⊎◌, [], ◌∷◌, ◌++◌, length, take, drop, map, nat_le, refl, sym, ◌∙◌, ap, arith, inl, inr, length-append, rules, take_at, drop_at, length-map, map-append, list_all, to_ascii_lowercase, Octets, DomainName, wire, is_label, is_name, folded, octets_equal, names_equal, same, at_or_below}
+use Rattle.std.proofs.lemmas.Bool.{and_parts, and_from, and_left, leb-true, le-leb, lt-leb, ltb-true, lt-ltb, eqb-true, eq-eqb, cases_order, false_from_ne_true}
 use Rattle.std.specs.Cmp.Lexicographic.{pointwise_decides}
 
 -- what a label's test says
@@ -39,8 +39,7 @@ length-wire-push (k ∷ n) l = grind (arith, length-append, (length-wire-push n 
 
 -- a label more is a name, where there is room
 pub is_name-push : (n : DomainName) (l : Octets) → is_name n ≡ true → is_label l ≡ true → length (wire (n ++ l ∷ [])) ≤ 255 → is_name (n ++ l ∷ []) ≡ true
-is_name-push n l ok is_l fits =
-    grind (arith, common_steps, is_name-IsName, IsName-is_name, and_from, and_parts)
+is_name-push n l ok is_l fits = grind (arith, common_steps)
 
 -- the wire forms of names tell them apart
 pub wire-injective : (n m : DomainName) → is_name n ≡ true → is_name m ≡ true → wire n ≡ wire m → n ≡ m
@@ -67,19 +66,10 @@ pub same_tests : (a b : Bool) → (a ≡ true → b ≡ true) → (b ≡ true �
 same_tests a b h h1 = grind arith
 
 -- lengths on the wire are no letters, so folding leaves them alone
-lowercase_below : (x : ℕ) → x < 65 → to_ascii_lowercase x ≡ x
-lowercase_below x h = cond-true (nat_lt x 65) _ _ (lt-ltb x 65 h)
-
 pub map-lowercase-wire : (n : DomainName) → list_all is_label n ≡ true → map to_ascii_lowercase (wire n) ≡ wire (folded n)
 map-lowercase-wire [] ok = refl
 map-lowercase-wire (l ∷ n) ok =
-    let parts = and_parts (is_label l) _ ok in
-    let is_l = IsLabel-is_label l parts.0 in
-    let len : to_ascii_lowercase (length l) ≡ length (map to_ascii_lowercase l) = lowercase_below (length l) (omega arith) ∙ sym (length-map l to_ascii_lowercase) in
-    let rest : map to_ascii_lowercase (l ++ wire n) ≡ map to_ascii_lowercase l ++ wire (folded n) =
-    map-append to_ascii_lowercase l (wire n) ∙ ap (λ xs. map to_ascii_lowercase l ++ xs) (map-lowercase-wire n parts.1)
-    in
-    cc
+    grind (arith, length-map, map-append, (map-lowercase-wire n (and_parts (is_label l) _ ok).1))
 
 pub length-wire-folded : (n : DomainName) → length (wire (folded n)) ≡ length (wire n)
 length-wire-folded [] = refl
@@ -87,11 +77,7 @@ length-wire-folded (l ∷ n) = grind (arith, length-map, length-append, (length-
 
 all_folded : (n : DomainName) → list_all is_label n ≡ true → list_all is_label (folded n) ≡ true
 all_folded [] ok = refl
-all_folded (l ∷ n) ok =
-    let parts = and_parts (is_label l) _ ok in
-    let is_l = IsLabel-is_label l parts.0 in
-    let e = length-map l to_ascii_lowercase in
-    and_from _ _ (is_label-IsLabel (map to_ascii_lowercase l) (omega arith) (omega arith)) (all_folded n parts.1)
+all_folded (l ∷ n) ok = grind (arith, length-map, (all_folded n (and_parts (is_label l) _ ok).1))
 
 -- a name folded is a name
 pub is_name-folded : (n : DomainName) → is_name n ≡ true → is_name (folded n) ≡ true
@@ -141,8 +127,7 @@ pub at_or_below-short : (n a : DomainName) → length (wire n) ≤ length (wire 
 at_or_below-short [] [] h = refl
 at_or_below-short [] (k ∷ a) h = and_left _ _ (lt-leb (suc (length a)) 0 (omega arith))
 at_or_below-short (l ∷ n) a h =
-    let above : at_or_below n a ≡ false = false_from_ne_true _ (λ e. absurd (omega (arith, at_or_below-length-wire n a e, length-append l (wire n)))) in
-    at_or_below-cons l n a ∙ rw above (or-false _)
+    grind (arith, at_or_below-length-wire, length-append, at_or_below-cons)
 
 -- where n is longer, its first label doesn't matter
 pub at_or_below-long : (l : Octets) (n a : DomainName) → length (wire a) < length (wire (l ∷ n)) → at_or_below (l ∷ n) a ≡ at_or_below n a
@@ -168,5 +153,4 @@ length-wire-append (l ∷ n) m = grind (arith, length-append, (length-wire-appen
 
 -- they are a name, where there is room
 pub is_name-append : (n m : DomainName) → is_name n ≡ true → is_name m ≡ true → length (wire (n ++ m)) ≤ 255 → is_name (n ++ m) ≡ true
-is_name-append n m p q fits =
-    grind (arith, common_steps, is_name-IsName, IsName-is_name, and_parts, and_from)
+is_name-append n m p q fits = grind (arith, common_steps)

@@ -17,10 +17,7 @@ labels_taken (suc k) ((x ∷ l) ∷ n) rest ok few =
 few_labels : (n : DomainName) → list_all is_label n ≡ true → length n + length n < length (wire n)
 few_labels [] ok = omega arith
 few_labels (l ∷ n) ok =
-    let parts = and_parts (is_label l) (list_all is_label n) ok in
-    let label = IsLabel-is_label l parts.0 in
-    let more = few_labels n parts.1 in
-    omega (arith, label.some, length-append l (wire n))
+    grind (arith, (few_labels n (and_parts (is_label l) (list_all is_label n) ok).1), length-append)
 
 -- a name's wire form is that name, and what follows it
 pub name_of-wire : (n : DomainName) (rest : Octets) → is_name n ≡ true → name_of (wire n ++ rest) ≡ Some (n, rest)
@@ -34,7 +31,7 @@ labels_read : (k : ℕ) (os : Octets) → LabelsRead k os
 unfolding labels_from
 labels_read zero os n rest h = absurd (none-some (n, rest) h)
 labels_read (suc k) [] n rest h = absurd (none-some (n, rest) h)
-labels_read (suc k) (zero ∷ os) n rest h = ap (λ r. wire r.0 ++ r.1) (same_Some ([], os) (n, rest) h)
+labels_read (suc k) (zero ∷ os) n rest h = grind (arith, same_Some)
 labels_read (suc k) (suc i ∷ os) n rest h =
     by_room (λ m tail e. labels_read k (drop (suc i) os) m tail e) (nat_le (suc i) (length os)) refl h
   where
@@ -58,7 +55,7 @@ name_read os n rest h = grind (arith, option_and_then_some, cond_some, labels_re
 
 pub name_of_reads : (octets : Octets) (n : DomainName) (rest : Octets)
     → (name_of octets ≡ Some (n, rest)) ↔ ((octets ≡ wire n ++ rest) × (is_name n ≡ true))
-name_of_reads octets n rest = (λ h. let r = name_read octets n rest h in (r.1, r.0), λ h. ap name_of h.0 ∙ name_of-wire n rest h.1)
+name_of_reads octets n rest = grind (arith, name_read, name_of-wire)
 
 -- labels of octets and what follows them are told apart by the octets
 pub wire_fronts_agree : (n m : DomainName) (rest tail : Octets) → list_all is_label n ≡ true → list_all is_label m ≡ true

@@ -2,7 +2,7 @@
 -- that does not.
 use Rattle.std.proofs.Common.{◌≡◌, ℕ, zero, suc, ◌+◌, ◌≤◌, Bool, true, false, cond, nat_le, List, [], ◌∷◌, ◌++◌, length, take, Option, refl, sym, ap, ◌∙◌, arith, append_assoc, append-nil, le-leb, leb-true}
 use Rattle.std.proofs.lemmas.List.Concat.{flat_map-append}
-use Rattle.dns_spec.proofs.Common.{ResourceRecord, MessageQuestion, Item, records_of, Placed, record_size, record_names, records_size, size}
+use Rattle.dns_spec.proofs.Common.{ResourceRecord, MessageQuestion, Item, Placed, record_size, record_names, records_size, size}
 use Rattle.dns_spec.specs.Reply.{kept, fitting, greatest}
 
 records_grow : (ms : List Placed) (p : ℕ) (rs ss : List ResourceRecord) → records_size ms p rs ≤ records_size ms p (rs ++ ss)
@@ -10,12 +10,9 @@ unfolding records_size
 records_grow ms p [] ss = omega arith
 records_grow ms p (r ∷ rs) ss = let h = records_grow (ms ++ record_names ms p r) (p + record_size ms p r) rs ss in omega (arith, h)
 
-both : (is js : List Item) → records_of (is ++ js) ≡ records_of is ++ records_of js
-both is js = flat_map-append (λ (i : Item). i.records) is js
-
 pub size_grows : (q : Option MessageQuestion) (is js : List Item) → size q is ≤ size q (is ++ js)
 unfolding size
-size_grows q is js = grind (arith, both, records_grow)
+size_grows q is js = grind (arith, flat_map-append, records_grow)
 
 -- where no later number passes a test that 1 fails, the greatest that passes is one more than that of the test after it
 pub greatest-first : (test : ℕ → Bool) (n : ℕ) → ((k : ℕ) → test (suc k) ≡ true → test 1 ≡ true)
@@ -25,7 +22,7 @@ greatest-first test (suc n) h = grind (arith, (greatest-first test n h))
 
 module _ (size_of : List Item → ℕ) (grows : (is js : List Item) → size_of is ≤ size_of (is ++ js)) (limit : ℕ) where
   fits_before : (is js : List Item) → nat_le (size_of (is ++ js)) limit ≡ true → nat_le (size_of is) limit ≡ true
-  fits_before is js e = let h = leb-true (size_of (is ++ js)) limit e in let g = grows is js in le-leb (size_of is) limit (omega (arith, h, g))
+  fits_before is js e = grind (arith, leb-true, le-leb)
 
   stops : (front is : List Item) → fitting size_of limit front is ≡ front ++ take (greatest (λ k. nat_le (size_of (front ++ take k is)) limit) (length is)) is
   stops front [] = sym (append-nil front)

@@ -1,9 +1,9 @@
 -- The length of a layout is the size that is added up without writing it.
-use Rattle.dns_spec.proofs.Common.{◌≡◌, ℕ, ◌+◌, List, [], ◌∷◌, ◌++◌, length, Option, refl, ap, ap₂, ◌∙◌, arith, length-append, Octets, DomainName, class_in, Part, octets, name, ResourceRecord, Header, MessageQuestion, octets16, octets32, Item, Placed, shared_octets, data_laid, record_laid, record_tail, records_octets, layout}
+use Rattle.dns_spec.proofs.Common.{◌≡◌, ℕ, ◌+◌, List, [], ◌∷◌, ◌++◌, length, Option, refl, ap₂, ◌∙◌, arith, length-append, Octets, DomainName, Part, octets, name, ResourceRecord, Header, MessageQuestion, Item, Placed, shared_octets, data_laid, record_laid, record_tail, records_octets, layout}
 use Rattle.dns_spec.specs.LayoutSize.{cost, data_size, data_names, record_size, record_names, records_size, size}
 
 pub length-record_tail : (r : ResourceRecord) (d : Octets) → length (record_tail r d) ≡ 10 + length d
-length-record_tail r d = length-append (octets16 r.rtype ++ octets16 class_in ++ octets32 r.ttl ++ octets16 (length d)) d
+length-record_tail r d = grind (arith, length-append)
 
 -- the layout: a name costs as many octets as are laid out for it
 pub length-shared_octets : (ms : List Placed) (n : DomainName) → length (shared_octets ms n) ≡ cost ms n
@@ -16,21 +16,25 @@ pub length-data_laid : (ms : List Placed) (p : ℕ) (ps : List Part) → length 
 unfolding data_laid data_size
 length-data_laid ms p [] = refl
 length-data_laid ms p (octets o ∷ ps) =
-    length-append o (data_laid ms (p + length o) ps).written ∙ ap (λ z. length o + z) (length-data_laid ms (p + length o) ps)
+    grind (arith, length-append, (length-data_laid ms (p + length o) ps))
 length-data_laid ms p (name n ∷ ps) =
-    let w = shared_octets ms n in
-    let e = length-shared_octets ms n in
-    length-append w (data_laid (ms ++ (n, p) ∷ []) (p + length w) ps).written
-    ∙ ap₂ ◌+◌ e (length-data_laid (ms ++ (n, p) ∷ []) (p + length w) ps ∙ ap (λ z. data_size (ms ++ (n, p) ∷ []) (p + z) ps) e)
+    grind (
+      arith,
+      length-shared_octets,
+      length-append,
+      (length-data_laid (ms ++ (n, p) ∷ []) (p + length (shared_octets ms n)) ps),
+    )
 
 pub names-data_laid : (ms : List Placed) (p : ℕ) (ps : List Part) → (data_laid ms p ps).names ≡ data_names ms p ps
 unfolding data_laid
 names-data_laid ms p [] = refl
 names-data_laid ms p (octets o ∷ ps) = names-data_laid ms (p + length o) ps
 names-data_laid ms p (name n ∷ ps) =
-    let more = ms ++ (n, p) ∷ [] in
-    ap (λ z. (n, p) ∷ z)
-    (names-data_laid more (p + length (shared_octets ms n)) ps ∙ ap (λ z. data_names more (p + z) ps) (length-shared_octets ms n))
+    grind (
+      arith,
+      (names-data_laid (ms ++ (n, p) ∷ []) (p + length (shared_octets ms n)) ps),
+      length-shared_octets,
+    )
 
 pub length-record_laid : (ms : List Placed) (p : ℕ) (r : ResourceRecord) → length (record_laid ms p r).written ≡ record_size ms p r
 length-record_laid ms p r =

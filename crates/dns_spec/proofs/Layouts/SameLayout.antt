@@ -1,27 +1,24 @@
 -- Up to 16,384 octets the layout is the one without bound: all its places are in reach of a pointer.
-use Rattle.dns_spec.proofs.Common.{◌≡◌, ℕ, ◌+◌, ◌-◌, ◌<◌, ◌≤◌, true, ◌⊎◌, inl, inr, List, [], ◌∷◌, ◌++◌, length, drop, Option, None, Some, refl, sym, ap, ◌∙◌, subst, arith, append_assoc, append-nil, length-append, none-some, Octets, DomainName, wire, Part, octets, name, ResourceRecord, Header, MessageQuestion, reach, Item, Placed, has_suffix, suffix_place, place_of, shared_place, shared_octets, Laid, laid_front, data_laid, record_laid, parts_of, record_tail, records_octets, asked_octets, asked_placed, layout, size}
+use Rattle.dns_spec.proofs.Common.{◌≡◌, ℕ, ◌+◌, ◌-◌, ◌<◌, ◌≤◌, true, ◌⊎◌, inl, inr, List, [], ◌∷◌, ◌++◌, length, drop, Option, None, Some, refl, sym, ap, ◌∙◌, subst, arith, append_assoc, append-nil, length-append, none-some, Octets, DomainName, wire, Part, octets, name, ResourceRecord, Header, MessageQuestion, reach, Item, Placed, has_suffix, suffix_place, place_of, shared_octets, Laid, laid_front, data_laid, record_laid, parts_of, record_tail, records_octets, asked_octets, asked_placed, layout, size}
 use Rattle.dns_spec.specs.UnboundedLayout.{unbounded_octets, unbounded_data, unbounded_record, unbounded_records, unbounded_layout, unbounded_size}
 use Rattle.dns_spec.proofs.Layouts.LayoutSize.{length-layout, length-record_tail}
 use Rattle.dns_spec.proofs.Layouts.UnboundedSize.{length-unbounded_layout}
-use Rattle.dns_spec.proofs.Layouts.SharedNames.{suffix_from, place_again, place_pushed, shared_to, shared_none, shared_whole, shared_some, shared_alone}
+use Rattle.dns_spec.proofs.Layouts.SharedNames.{suffix_from, place_again, place_pushed, shared_none, shared_whole, shared_some, shared_alone}
 use Rattle.dns_spec.proofs.Layouts.MessageParts.{length-question_octets}
 
 -- all places are in reach
 abbrev Low : List Placed → Type 0
 Low ms = (l : Octets) (n : DomainName) (p : ℕ) → place_of ms (l ∷ n) ≡ Some p → p < reach
 
-same_place : (ms : List Placed) → Low ms → (l : Octets) (n : DomainName) → shared_place ms (l ∷ n) ≡ place_of ms (l ∷ n)
-same_place ms low l n = grind (arith, shared_none, shared_to)
-
 same_octets : (ms : List Placed) → Low ms → (n : DomainName) → shared_octets ms n ≡ unbounded_octets ms n
 unfolding shared_octets unbounded_octets
 same_octets ms low [] = refl
-same_octets ms low (l ∷ n) = grind (arith, same_place, (same_octets ms low n))
+same_octets ms low (l ∷ n) = grind (arith, (same_octets ms low n))
 
 -- a suffix that is new begins among the octets laid out
 pub begins_inside : (ms : List Placed) (n front : DomainName) (l : Octets) (t : DomainName) → n ≡ front ++ l ∷ t → place_of ms (l ∷ t) ≡ None
     → (length (wire (l ∷ t)) ≤ length (wire n)) × (length (wire n) - length (wire (l ∷ t)) < length (shared_octets ms n))
-begins_inside ms n [] l t e none = let len = ap (λ x. length (wire x)) e in (omega (arith, len), omega (arith, shared_some ms n, len))
+begins_inside ms n [] l t e none = grind (arith, shared_some)
 begins_inside ms [] (x ∷ front) l t e none = absurd (let z = ap length e in omega (arith, z))
 begins_inside ms (k ∷ n) (x ∷ front) l t e none =
     let r = begins_inside ms n front l t (ap (λ (y : DomainName). drop 1 y) e) none in
@@ -150,9 +147,6 @@ pub same_layout : (h : Header) (q : Option MessageQuestion) (items : List Item) 
 unfolding layout unbounded_layout
 same_layout h q items short = go (ends short)
   where
-    from : ℕ
-    from = 12 + length (asked_octets q)
-
     go : Ends 0 (layout h q items) (unbounded_layout h q items) → layout h q items ≡ unbounded_layout h q items
     go e = grind (arith, length-append, asked_low, ends_front, same_records, ends_rest)
 

@@ -36,9 +36,9 @@ no_octets (fixed f ∷ ps) ys h ms i =
     let none : c.rest ≡ [] = sym (ap (λ z. z.1) (cond_some (nat_le k 0) (octets (take k []), drop k []) (c.part, c.rest) c.front).1) ∙ drop_none k in
     let whole : octets [] ∷ c.others ≡ ys = ap (λ z. octets z ∷ c.others) (sym (take_none k)) ∙ ap (λ z. z ∷ c.others) p ∙ c.whole in
     ap (λ z. length (data_octets ms i z)) (sym whole) ∙ no_octets ps c.others (ap (cut ps) (sym none) ∙ c.more) ms (i + 0)
-no_octets (domain ∷ ps) ys h ms i = let c = cut_into domain ps [] ys h in absurd (none-some (c.part, c.rest) c.front)
-no_octets (string ∷ ps) ys h ms i = let c = cut_into string ps [] ys h in absurd (none-some (c.part, c.rest) c.front)
-no_octets (strings ∷ ps) ys h ms i = let c = cut_into strings ps [] ys h in absurd (none-some (c.part, c.rest) c.front)
+no_octets (domain ∷ ps) ys h ms i = grind (arith, cut_into, none-some)
+no_octets (string ∷ ps) ys h ms i = grind (arith, cut_into, none-some)
+no_octets (strings ∷ ps) ys h ms i = grind (arith, cut_into, none-some)
 no_octets (anything ∷ ps) ys h ms i =
     let c = cut_into anything ps [] ys h in
     let p = same_Some (octets [], []) (c.part, c.rest) c.front in
@@ -106,7 +106,7 @@ module _ (b : Octets) (room : length b < 2 ^ 16) where
           }
 
   string_lays : (ps : List Piece) (os rest : Octets) (part : Part) (ys : List Part) → piece_front string os ≡ Some (part, rest) → Lays ps rest ys → Lays (string ∷ ps) os (part ∷ ys)
-  string_lays ps [] rest part ys front lays ms i known header = absurd (none-some (part, rest) front)
+  string_lays ps [] rest part ys front lays ms i known header = grind (arith, none-some)
   string_lays ps (k ∷ os) rest part ys front lays ms i known header =
       subst (λ x. Stands b i (data_octets ms i (x ∷ ys)) → Laid (string ∷ ps) (k ∷ os) ms i (x ∷ ys)) (octets_part (suc k) (k ∷ os) rest part front) laid
     where
@@ -283,7 +283,7 @@ module _ (b : Octets) (room : length b < 2 ^ 16) where
 
 records_split : (b : Octets) (qs rs : List MessageRecord) (i e : ℕ) → RecordsAt b i (qs ++ rs) e → (j : ℕ) × RecordsAt b i qs j × RecordsAt b j rs e
 records_split b [] rs i e h = (i, refl, h)
-records_split b (q ∷ qs) rs i e h = let s = records_split b qs rs (h.0 + 10 + h.1) e h.3 in (s.0, (h.0, h.1, h.2, s.1), s.2)
+records_split b (q ∷ qs) rs i e h = grind (arith, (records_split b qs rs (h.0 + 10 + h.1) e h.3))
 
 -- the name of the question is an earlier name of the records
 asked_known : (b : Octets) (q : Option MessageQuestion) → IfSome q IsAskable → Stands b 12 (asked_octets q)
@@ -351,9 +351,6 @@ section_bound : (s : Section) (is : List Item) → length (in_section s is) ≤ 
 section_bound s [] = omega arith
 section_bound s (i ∷ is) = grind (arith, section_with, length-append, (section_bound s is))
 
-counted : (is : List Item) → length (records_of is) < 2 ^ 16 → HasCounts is
-counted is few = grind (arith, section_bound)
-
 shared_bound : (ms : List Placed) (p : ℕ) (rs : List ResourceRecord) → length rs ≤ records_size ms p rs
 unfolding records_size
 shared_bound ms p [] = omega arith
@@ -361,7 +358,7 @@ shared_bound ms p (r ∷ rs) = let b = shared_bound (ms ++ record_names ms p r) 
 
 few_counts : (q : Option MessageQuestion) (is : List Item) → size q is < 2 ^ 16 → HasCounts is
 unfolding size
-few_counts q is short = let b = shared_bound (asked_placed q) (12 + length (asked_octets q)) (records_of is) in counted is (omega (arith, b))
+few_counts q is short = grind (arith, shared_bound, section_bound)
 
 -- The layout spells its message.
 pub layout_spells : (h : Header) (q : Option MessageQuestion) (items : List Item) → HasRoom h q items → All IsWritable (records_of items) → size q items ≤ 65535

@@ -1,7 +1,7 @@
 -- A name that shares a suffix with an earlier name is read back, and its own new suffixes stand where later names find them.
 use Rattle.std.proofs.Common.{◌≡◌, ℕ, ◌+◌, ◌-◌, ◌/◌, ◌%◌, ◌<◌, ◌≤◌, Bool, true, false, cond, nat_le, ◌⊎◌, inl, inr, List, [], ◌∷◌, ◌++◌, length, take, drop, Option, None, Some, refl, sym, ap, ap₂, ◌∙◌, subst, arith, append_assoc, length-append, take-append-drop, drop_at}
 use Rattle.dns_spec.proofs.Common.{and_parts, and_from, le-leb, leb-true, false≢true, none-some, same_Some, cond_some, list_all, Octets, DomainName, wire, is_label, is_name, names_equal, last_labels, RunAt, NameAt, ends, goes_on, jumps}
-use Rattle.dns_spec.specs.Layout.{reach, pointer, Placed, has_suffix, suffix_place, place_of, last_place, reached, shared_place, shared_octets}
+use Rattle.dns_spec.specs.Layout.{reach, pointer, Placed, has_suffix, suffix_place, place_of, reached, shared_place, shared_octets}
 use Rattle.dns_spec.proofs.Messages.Places.{Stands, stands_front, stands_rest, stands_after, stands_within, stands_get, stands_take, label_parts}
 use Rattle.dns_spec.proofs.DomainNames.NameLaws.{names_equal-decides}
 
@@ -47,7 +47,7 @@ pub shared_is : (ms : List Placed) (s : DomainName) (p : ℕ) → shared_place m
 shared_is ms s p e = grind (arith, none-some, cond_some, leb-true)
 
 pub shared_to : (ms : List Placed) (s : DomainName) (p : ℕ) → place_of ms s ≡ Some p → p < reach → shared_place ms s ≡ Some p
-shared_to ms s p e low = ap reached e ∙ ap (λ t. cond t (Some p) None) (le-leb p last_place (omega arith))
+shared_to ms s p e low = grind (arith, le-leb)
 
 pub shared_none : (ms : List Placed) (s : DomainName) → place_of ms s ≡ None → shared_place ms s ≡ None
 shared_none ms s e = ap reached e
@@ -74,11 +74,11 @@ known_later b bound bound' ms h k l n p e =
 -- how a name with a first label is laid out
 pub shared_whole : (ms : List Placed) (l : Octets) (n : DomainName) → shared_place ms (l ∷ n) ≡ None → shared_octets ms (l ∷ n) ≡ length l ∷ (l ++ shared_octets ms n)
 unfolding shared_octets
-shared_whole ms l n e = ap (λ (x : Option ℕ). elim x as (λ _. Octets) [ None ↦ length l ∷ (l ++ shared_octets ms n) | Some p ↦ pointer p ]) e
+shared_whole ms l n e = grind arith
 
 pub shared_pointed : (ms : List Placed) (l : Octets) (n : DomainName) (p : ℕ) → shared_place ms (l ∷ n) ≡ Some p → shared_octets ms (l ∷ n) ≡ pointer p
 unfolding shared_octets
-shared_pointed ms l n p e = ap (λ (x : Option ℕ). elim x as (λ _. Octets) [ None ↦ length l ∷ (l ++ shared_octets ms n) | Some p ↦ pointer p ]) e
+shared_pointed ms l n p e = grind arith
 
 pub shared_root : (ms : List Placed) → shared_octets ms [] ≡ 0 ∷ []
 unfolding shared_octets

@@ -1,7 +1,7 @@
 -- The size of the layout without bound is the length of that layout, and the least that sharing allows.
-use Rattle.std.proofs.Common.{◌≡◌, ℕ, ◌+◌, ◌<◌, ◌≤◌, Bool, true, false, ◌||◌, cond, List, [], ◌∷◌, ◌++◌, map, length, Option, None, Some, is_some, refl, ap, ap₂, ◌∙◌, subst, arith, length-append}
-use Rattle.dns_spec.proofs.Common.{map-append, list_any, Octets, DomainName, wire, Part, octets, name, ResourceRecord, Header, MessageQuestion, Item, pointer, Placed, has_suffix, suffix_place, place_of, asked_placed}
-use Rattle.dns_spec.specs.Sharing.{asked_names, names_in, names_of, labels_size, NameSize, DataSize, RecordsSize, Sharing}
+use Rattle.std.proofs.Common.{◌≡◌, ℕ, ◌+◌, ◌<◌, ◌≤◌, Bool, true, false, List, [], ◌∷◌, ◌++◌, map, length, Option, None, Some, is_some, refl, ap, ap₂, ◌∙◌, subst, arith, length-append}
+use Rattle.dns_spec.proofs.Common.{map-append, list_any, Octets, DomainName, wire, Part, octets, name, ResourceRecord, Header, MessageQuestion, Item, pointer, Placed, has_suffix, place_of}
+use Rattle.dns_spec.specs.Sharing.{names_in, names_of, labels_size, NameSize, DataSize, RecordsSize, Sharing}
 use Rattle.dns_spec.specs.Sharing.NameSize.{whole, shared}
 use Rattle.dns_spec.specs.Sharing.DataSize.{no_parts, after_octets, after_name}
 use Rattle.dns_spec.specs.Sharing.RecordsSize.{no_records, after_record}
@@ -11,13 +11,9 @@ use Rattle.dns_spec.specs.UnboundedLayout.{unbounded_octets, unbounded_data, unb
 abbrev pub unplaced : List Placed → List DomainName
 unplaced = map (λ (m : Placed). m.0)
 
-placed_else : (m : Placed) (ms : List Placed) (s : DomainName) (t : Bool) → is_some (place_of ms s) ≡ list_any (λ x. has_suffix x s) (unplaced ms)
-    → is_some (cond t (Some (suffix_place m s)) (place_of ms s)) ≡ (t || list_any (λ x. has_suffix x s) (unplaced ms))
-placed_else m ms s t h = grind arith
-
 pub placed : (ms : List Placed) (s : DomainName) → is_some (place_of ms s) ≡ list_any (λ x. has_suffix x s) (unplaced ms)
 placed [] s = refl
-placed (m ∷ ms) s = placed_else m ms s (has_suffix m.0 s) (placed ms s)
+placed (m ∷ ms) s = grind (arith, (placed ms s))
 
 pub length-unbounded_octets : (ms : List Placed) (n : DomainName) → length (unbounded_octets ms n) ≡ unbounded_cost (unplaced ms) n
 unfolding unbounded_octets unbounded_cost
@@ -39,12 +35,15 @@ pub length-unbounded_data : (ms : List Placed) (p : ℕ) (ps : List Part) → le
 unfolding unbounded_data unbounded_data_size
 length-unbounded_data ms p [] = refl
 length-unbounded_data ms p (octets o ∷ ps) =
-    length-append o (unbounded_data ms (p + length o) ps).written ∙ ap (λ z. length o + z) (length-unbounded_data ms (p + length o) ps)
+    grind (arith, length-append, (length-unbounded_data ms (p + length o) ps))
 length-unbounded_data ms p (name n ∷ ps) =
-    let w = unbounded_octets ms n in
-    length-append w (unbounded_data (ms ++ (n, p) ∷ []) (p + length w) ps).written
-    ∙ ap₂ ◌+◌ (length-unbounded_octets ms n)
-    (length-unbounded_data (ms ++ (n, p) ∷ []) (p + length w) ps ∙ ap (λ z. unbounded_data_size z ps) (unplaced-push ms n p))
+    grind (
+      arith,
+      length-append,
+      length-unbounded_octets,
+      (length-unbounded_data (ms ++ (n, p) ∷ []) (p + length (unbounded_octets ms n)) ps),
+      unplaced-push,
+    )
 
 pub unplaced-unbounded_data : (ms : List Placed) (p : ℕ) (ps : List Part) → unplaced (unbounded_data ms p ps).names ≡ names_in ps
 unfolding unbounded_data
@@ -69,28 +68,12 @@ length-unbounded_records ms p (r ∷ rs) =
     ∙ ap₂ ◌+◌ (length-unbounded_record ms p r)
     (length-unbounded_records (ms ++ l.names) (p + length l.written) rs ∙ ap (λ z. unbounded_records_size z rs) (unplaced-unbounded_record ms p r))
 
-unplaced-asked : (q : Option MessageQuestion) → unplaced (asked_placed q) ≡ asked_names q
-unplaced-asked q = grind arith
-
 pub length-unbounded_layout : (h : Header) (q : Option MessageQuestion) (items : List Item) → length (unbounded_layout h q items) ≡ unbounded_size q items
 unfolding unbounded_layout unbounded_size
-length-unbounded_layout h q items =
-    grind (arith, length-append, ap₂, length-unbounded_records, unplaced-asked)
+length-unbounded_layout h q items = grind (arith, length-append, length-unbounded_records)
 
 abbrev any_has : List DomainName → DomainName → Bool
 any_has ms s = list_any (λ m. has_suffix m s) ms
-
-cost_shared : (ms : List DomainName) (l : Octets) (n : DomainName) → any_has ms (l ∷ n) ≡ true → unbounded_cost ms (l ∷ n) ≡ 2
-unfolding unbounded_cost
-cost_shared ms l n e = ap (λ (t : Bool). elim t as (λ _. ℕ) [ true ↦ 2 | false ↦ 1 + length l + unbounded_cost ms n ]) e
-
-cost_labelled : (ms : List DomainName) (l : Octets) (n : DomainName) → any_has ms (l ∷ n) ≡ false → unbounded_cost ms (l ∷ n) ≡ 1 + length l + unbounded_cost ms n
-unfolding unbounded_cost
-cost_labelled ms l n e = ap (λ (t : Bool). elim t as (λ _. ℕ) [ true ↦ 2 | false ↦ 1 + length l + unbounded_cost ms n ]) e
-
-cost_root : (ms : List DomainName) → unbounded_cost ms [] ≡ 1
-unfolding unbounded_cost
-cost_root ms = refl
 
 -- a label more in front of a name
 pub prefixed : {ms : List DomainName} {n : DomainName} {k : ℕ} (l : Octets) → NameSize ms n k → NameSize ms (l ∷ n) (1 + length l + k)
@@ -103,14 +86,14 @@ wire_some [] = omega arith
 wire_some (l ∷ n) = omega arith
 
 cost_whole : (ms : List DomainName) (n : DomainName) → unbounded_cost ms n ≤ length (wire n)
-cost_whole ms [] = let e = cost_root ms in omega (arith, e)
-cost_whole ms (l ∷ n) =
-    grind (arith, cost_shared, length-append, wire_some, cost_labelled, (cost_whole ms n))
+unfolding unbounded_cost
+cost_whole ms [] = grind arith
+cost_whole ms (l ∷ n) = grind (arith, length-append, wire_some, (cost_whole ms n))
 
 cost_before : (ms : List DomainName) (front : DomainName) (l : Octets) (n : DomainName) → any_has ms (l ∷ n) ≡ true → unbounded_cost ms (front ++ l ∷ n) ≤ labels_size front + 2
-cost_before ms [] l n e = let c = cost_shared ms l n e in omega (arith, c)
-cost_before ms (k ∷ front) l n e =
-    grind (arith, cost_shared, cost_labelled, (cost_before ms front l n e))
+unfolding unbounded_cost
+cost_before ms [] l n e = grind arith
+cost_before ms (k ∷ front) l n e = grind (arith, (cost_before ms front l n e))
 
 cost_least : {ms : List DomainName} {n : DomainName} {k : ℕ} → NameSize ms n k → unbounded_cost ms n ≤ k
 cost_least h = grind (arith, cost_whole, cost_before)
@@ -120,13 +103,13 @@ data_least : {ms : List DomainName} {ps : List Part} {k : ℕ} → DataSize ms p
 unfolding unbounded_data_size
 data_least no_parts = omega arith
 data_least (after_octets o ps k d) = let h = data_least d in omega (arith, h)
-data_least (after_name n ps j k c d) = let g = cost_least c in let h = data_least d in omega (arith, g, h)
+data_least (after_name n ps j k c d) = grind (arith, cost_least, (data_least d))
 
 records_least : {ms : List DomainName} {rs : List ResourceRecord} {k : ℕ} → RecordsSize ms rs k → unbounded_records_size ms rs ≤ k
 unfolding unbounded_records_size
 records_least no_records = omega arith
 records_least (after_record r rs i j k c d e) =
-    let f = cost_least c in let g = data_least d in let h = records_least e in omega (arith, f, g, h)
+    grind (arith, cost_least, data_least, (records_least e))
 
 pub unbounded_size_least : (q : Option MessageQuestion) (items : List Item) (z : ℕ) → Sharing q items z → unbounded_size q items ≤ z
 unfolding unbounded_size

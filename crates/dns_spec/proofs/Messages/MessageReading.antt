@@ -81,14 +81,10 @@ module _ (b : Octets) where
   unfolding pieces_at
   piece_given p ps i e j o rest d h g s = grind arith
 
-  nil_given : (i e : ℕ) → i ≡ e → pieces_at b [] i e ≡ Some []
-  unfolding pieces_at
-  nil_given i e h = ap (λ (z : Bool). cond {A = Option Octets} z (Some []) None) (eq-eqb i e h)
-
   pieces_given : (ps : List Piece) (i e : ℕ) (d : Octets) → PiecesAt b ps i e d → pieces_at b ps i e ≡ Some d
-  pieces_given [] i e d h = nil_given i e h.0 ∙ ap (λ x. Some x) (sym h.1)
-  pieces_given (fixed f ∷ ps) i e d h =
-      piece_given (fixed f) ps i e (i + width f) h.0 h.1 d (octets_given i (i + width f) h.0 h.2) (pieces_given ps (i + width f) e h.1 h.4) h.3
+  unfolding pieces_at
+  pieces_given [] i e d h = grind (arith, eq-eqb)
+  pieces_given (fixed f ∷ ps) i e d h = search (rules, (pieces_given ps (i + width f) e h.1 h.4))
   pieces_given (domain ∷ ps) i e d h =
       piece_given domain ps i e h.1 (wire h.0) h.2 d (ap (option_map (λ r. (wire r.0, r.1))) ((name_at_computes b i h.0 h.1).1 h.3)) (pieces_given ps h.1 e h.2 h.5) h.4
   pieces_given (string ∷ ps) i e d h =
@@ -104,9 +100,6 @@ module _ (b : Octets) where
 
   data_found : (t c i e : ℕ) (d : Octets) → data_at b t c i e ≡ Some d → DataAt b t c i e d
   data_found t c i e d h = grind (arith, and_parts, leb-true, pieces_found, none-some)
-
-  data_given : (t c i e : ℕ) (d : Octets) → DataAt b t c i e d → data_at b t c i e ≡ Some d
-  data_given t c i e d h = grind (arith, and_from, le-leb, pieces_given)
 
   -- questions
   questions_found : (k i : ℕ) (qs : List MessageQuestion) (e : ℕ) → several (message_question_at b) k i ≡ Some (qs, e) → QuestionsAt b i qs e × (length qs ≡ k)
@@ -133,15 +126,7 @@ module _ (b : Octets) where
   unfolding several
   questions_given [] i e h = ap (λ z. Some ([], z)) h
   questions_given (q ∷ qs) i e h =
-      let j = h.0 in
-      let name = (name_at_computes b i q.qname j).1 h.1 in
-      let within = h.3.within in
-      let fits : nat_le (j + 4) (length b) ≡ true = le-leb (j + 4) (length b) (omega (arith, within)) in
-      let first : message_question_at b i ≡ Some (q, j + 4) =
-      then_is (question_after b) (name_at b i) (q.qname, j) (q, j + 4) name
-      (λ k. cond (fits k) (Some (record { qname = q.qname; qtype = (sym h.2.spelled) k; qclass = (sym h.3.spelled) k }, j + 4)) None) in
-      then_is (λ r. option_map (λ s. (r.0 ∷ s.0, s.1)) (several (message_question_at b) (length qs) r.1)) (message_question_at b i) (q, j + 4) (q ∷ qs, e) first
-      (ap (option_map (λ s. (q ∷ s.0, s.1))) (questions_given qs (j + 4) e h.4))
+      grind (arith, name_at_computes, (questions_given qs ((h.0) + 4) e h.4))
 
   -- records
   record_found : (i : ℕ) (r : MessageRecord) (e : ℕ) → message_record_at b i ≡ Some (r, e) → (j : ℕ) × (len : ℕ) × RecordAt b i r j len × (j + 10 + len ≡ e)
@@ -167,9 +152,6 @@ module _ (b : Octets) where
           } in
           (j, len, subst (λ z. RecordAt b i z j len) (ap (λ z. z.0) v) found, ap (λ z. z.1) v))
 
-  record_given : (i : ℕ) (r : MessageRecord) (j len : ℕ) → RecordAt b i r j len → message_record_at b i ≡ Some (r, j + 10 + len)
-  record_given i r j len h = grind (arith, name_at_computes, le-leb, data_given, then_is)
-
   records_found : (k i : ℕ) (rs : List MessageRecord) (e : ℕ) → several (message_record_at b) k i ≡ Some (rs, e) → RecordsAt b i rs e × (length rs ≡ k)
   unfolding several
   records_found zero i rs e h = grind (arith, some_pair_parts)
@@ -185,7 +167,7 @@ module _ (b : Octets) where
   unfolding several
   records_given [] i e h = ap (λ z. Some ([], z)) h
   records_given (r ∷ rs) i e h =
-      grind (arith, then_is, record_given, (records_given rs (h.0 + 10 + h.1) e h.3))
+      grind (arith, name_at_computes, pieces_given, (records_given rs (h.0 + 10 + h.1) e h.3))
 
   -- the message
   message_found : (m : DnsMessage) → message_at b ≡ Some m → Spells b m

@@ -1,7 +1,7 @@
 -- The computed reader of names spells what the relation spells, and a place spells at most one name.
-use Rattle.std.proofs.Common.{◌≡◌, ℕ, zero, suc, ◌+◌, ◌-◌, ◌<◌, ◌≤◌, Bool, true, false, cond, ◌&&◌, ◌↔◌, inl, inr, [], ◌∷◌, length, take, drop, nat_lt, nat_le, Option, None, Some, slice_get, option_map, option_and_then, refl, sym, ap, ◌∙◌, subst, subst₂, arith, lt-ltb, le-ltb, le-leb, ne_eqb, rules}
-use Rattle.std.proofs.lemmas.Bool.{cases_lt, lt-leb, and_from, and_left, and_right, cond-true}
-use Rattle.std.proofs.lemmas.Option.{none-some, same_Some, slice_get_past, slice_get_within, cond_some, option_and_then_some, some_pair_parts}
+use Rattle.std.proofs.Common.{◌≡◌, ℕ, zero, suc, ◌+◌, ◌-◌, ◌<◌, ◌≤◌, Bool, cond, ◌↔◌, inl, inr, [], ◌∷◌, length, take, drop, nat_lt, nat_le, Option, None, Some, slice_get, option_map, option_and_then, refl, sym, ap, ◌∙◌, subst, subst₂, arith, lt-ltb, le-ltb, le-leb, ne_eqb, rules}
+use Rattle.std.proofs.lemmas.Bool.{cases_lt, lt-leb, cond-true}
+use Rattle.std.proofs.lemmas.Option.{none-some, same_Some, slice_get_past, slice_get_within, some_pair_parts}
 use Rattle.dns_spec.proofs.Common.{Octets, DomainName, with_label, ends, goes_on, jumps}
 use Rattle.dns_spec.specs.Reading.{pointer_place, RunAt, NameAt}
 use Rattle.dns_spec.specs.ComputedReading.{RunStep, run_end, run_label, run_pointer, unlawful, pointer_step, step_of, jump, run, runs_before, name_if_short, name_at}
@@ -45,10 +45,6 @@ module _ (known : ℕ → Option (DomainName × ℕ)) (b : Octets) (s r i : ℕ)
   at_step (run_pointer p) = jump known s i p
   at_step unlawful = None
 
-  run_suc : run known b s (suc r) i ≡ at_step (step_of b i (slice_get b i))
-  unfolding run
-  run_suc = refl
-
   abbrev high_step : ℕ → Bool → RunStep
   high_step o t = cond t unlawful (pointer_step o (slice_get b (i + 1)))
 
@@ -56,7 +52,8 @@ module _ (known : ℕ → Option (DomainName × ℕ)) (b : Octets) (s r i : ℕ)
   low_step o t = cond t (cond (nat_le (i + 1 + o) (length b)) (run_label o) unlawful) (high_step o (nat_lt o 192))
 
   step_is : (x : Option ℕ) → slice_get b i ≡ x → run known b s (suc r) i ≡ at_step (step_of b i x)
-  step_is x e = run_suc ∙ ap (λ z. at_step (step_of b i z)) e
+  unfolding run
+  step_is x e = grind arith
 
   step_missing : slice_get b i ≡ None → run known b s (suc r) i ≡ None
   step_missing e = step_is None e
@@ -97,22 +94,9 @@ module _ (known : ℕ → Option (DomainName × ℕ)) (b : Octets) (s r i : ℕ)
 after : ℕ → Option (DomainName × ℕ) → Option (DomainName × ℕ)
 after i x = option_map (λ r. (r.0, i + 2)) x
 
-abbrev if_lawful : Option (DomainName × ℕ) → Bool → Option (DomainName × ℕ)
-if_lawful x true = x
-if_lawful x false = None
-
-jump_is : (known : ℕ → Option (DomainName × ℕ)) (s i p : ℕ) → jump known s i p ≡ if_lawful (after i (known p)) (nat_le 12 p && nat_lt p s)
-unfolding after
-jump_is known s i p = grind arith
-
 jump_lawful : (known : ℕ → Option (DomainName × ℕ)) (s i p : ℕ) → 12 ≤ p → p < s → jump known s i p ≡ after i (known p)
-jump_lawful known s i p h l = jump_is known s i p ∙ ap (if_lawful (after i (known p))) (and_from (nat_le 12 p) (nat_lt p s) (le-leb 12 p h) (lt-ltb p s l))
-
-jump_low : (known : ℕ → Option (DomainName × ℕ)) (s i p : ℕ) → p < 12 → jump known s i p ≡ None
-jump_low known s i p h = jump_is known s i p ∙ ap (if_lawful (after i (known p))) (and_left (nat_le 12 p) (nat_lt p s) (lt-leb 12 p h))
-
-jump_high : (known : ℕ → Option (DomainName × ℕ)) (s i p : ℕ) → s ≤ p → jump known s i p ≡ None
-jump_high known s i p h = jump_is known s i p ∙ ap (if_lawful (after i (known p))) (and_right (nat_le 12 p) (nat_lt p s) (le-ltb p s h))
+unfolding after
+jump_lawful known s i p h l = grind arith
 
 -- A pointer's place is lawful, or it is not.
 data PlaceFor (s p : ℕ) : Type 0 where
@@ -137,8 +121,8 @@ past_end known b s r i h = grind (arith, step_missing, slice_get_past)
 
 same_step : (known known' : ℕ → Option (DomainName × ℕ)) (b : Octets) (s r r' i : ℕ) → Alike s known known'
     → ((j : ℕ) → i < j → run known b s r j ≡ run known' b s r' j) → OctetAt b i → run known b s (suc r) i ≡ run known' b s (suc r') i
-same_step known known' b s r r' i a again (missing e) = step_missing known b s r i e ∙ sym (step_missing known' b s r' i e)
-same_step known known' b s r r' i a again (root e) = step_root known b s r i e ∙ sym (step_root known' b s r' i e)
+same_step known known' b s r r' i a again (missing e) = grind (arith, step_missing)
+same_step known known' b s r r' i a again (root e) = grind (arith, step_root)
 same_step known known' b s r r' i a again (label k e g l w) =
     step_label known b s r i k e g l w
     ∙ ap (option_map (with_label (take k (drop (i + 1) b)))) (again (i + 1 + k) (omega arith))
@@ -153,8 +137,8 @@ same_step known known' b s r r' i a again (half_pointer o e g f) = step_half_poi
 
 pub same_run : (known known' : ℕ → Option (DomainName × ℕ)) (b : Octets) (s r r' i : ℕ) → Alike s known known'
     → length b - i ≤ r → length b - i ≤ r' → run known b s r i ≡ run known' b s r' i
-same_run known known' b s zero r' i a h h' = past_end known b s zero i (omega arith) ∙ sym (past_end known' b s r' i (omega arith))
-same_run known known' b s (suc r) zero i a h h' = past_end known b s (suc r) i (omega arith) ∙ sym (past_end known' b s zero i (omega arith))
+same_run known known' b s zero r' i a h h' = grind (arith, past_end, zero)
+same_run known known' b s (suc r) zero i a h h' = grind (arith, past_end, zero)
 same_run known known' b s (suc r) (suc r') i a h h' =
     same_step known known' b s r r' i a (λ j l. same_run known known' b s r r' j a (omega arith) (omega arith)) (octet_at b i)
 
@@ -177,7 +161,7 @@ complete {b} {s} (goes_on i m w n e at pos low inside is rest) k (suc r) h l =
     ∙ ap (option_map (with_label (take m (drop (i + 1) b)))) (complete rest k r h (omega arith))
     ∙ ap (λ x. Some (x ∷ n, e)) (sym is)
 complete {b} {s} (jumps i o o' p n e at high at' is from before rest) k zero h l = absurd (omega (arith, slice_get_within b i o at))
-complete {b} {s} (jumps i o o' p n e at high at' is from before rest) zero (suc r) h l = absurd (omega arith)
+complete {b} {s} (jumps i o o' p n e at high at' is from before rest) zero (suc r) h l = grind arith
 complete {b} {s} (jumps i o o' p n e at high at' is from before rest) (suc k) (suc r) h l =
     step_pointer (runs_before b (suc k)) b s r i o o' at high at'
     ∙ ap (jump (runs_before b (suc k)) s i) (sym is)
@@ -198,12 +182,13 @@ after_parts i (Some (m, d)) n e h = let p = some_pair_parts m n (i + 2) e h in (
 sound_jump : (known : ℕ → Option (DomainName × ℕ)) (b : Octets) → Truthful b known → (s i o o' : ℕ) (n : DomainName) (e : ℕ)
     → slice_get b i ≡ Some o → 192 ≤ o → slice_get b (i + 1) ≡ Some o'
     → PlaceFor s (pointer_place o o') → jump known s i (pointer_place o o') ≡ Some (n, e) → RunAt b s i n e
+unfolding after
 sound_jump known b t s i o o' n e at top at' (lawful from before) is =
     let p = pointer_place o o' in
     let q = after_parts i (known p) n e (sym (jump_lawful known s i p from before) ∙ is) in
     subst (RunAt b s i n) q.2 (jumps i o o' p n q.0 at top at' refl from before (t p n q.0 q.1))
-sound_jump known b t s i o o' n e at top at' (too_low h) is = absurd (none-some (n, e) (sym (jump_low known s i (pointer_place o o') h) ∙ is))
-sound_jump known b t s i o o' n e at top at' (too_high h) is = absurd (none-some (n, e) (sym (jump_high known s i (pointer_place o o') h) ∙ is))
+sound_jump known b t s i o o' n e at top at' (too_low h) is = grind arith
+sound_jump known b t s i o o' n e at top at' (too_high h) is = grind arith
 
 labelled_parts : (l : Octets) (x : Option (DomainName × ℕ)) (n : DomainName) (e : ℕ) → option_map (with_label l) x ≡ Some (n, e)
     → (m : DomainName) × (x ≡ Some (m, e)) × (l ∷ m ≡ n)
@@ -212,7 +197,7 @@ labelled_parts l x n e h = grind arith
 sound_step : (known : ℕ → Option (DomainName × ℕ)) (b : Octets) → Truthful b known → (s r i : ℕ) (n : DomainName) (e : ℕ)
     → ((j : ℕ) (m : DomainName) (d : ℕ) → run known b s r j ≡ Some (m, d) → RunAt b s j m d)
     → OctetAt b i → run known b s (suc r) i ≡ Some (n, e) → RunAt b s i n e
-sound_step known b t s r i n e again (missing at) is = absurd (none-some (n, e) (sym (step_missing known b s r i at) ∙ is))
+sound_step known b t s r i n e again (missing at) is = grind (arith, none-some, step_missing)
 sound_step known b t s r i n e again (root at) is =
     let p = some_pair_parts [] n (i + 1) e (sym (step_root known b s r i at) ∙ is) in
     subst₂ (RunAt b s i) p.0 p.1 (ends i at)
@@ -232,28 +217,22 @@ unfolding run
 sound_run known b t s zero i n e is = absurd (none-some (n, e) is)
 sound_run known b t s (suc r) i n e is = sound_step known b t s r i n e (λ j m d h. sound_run known b t s r j m d h) (octet_at b i) is
 
-none_known : (b : Octets) (p : ℕ) → runs_before b zero p ≡ None
-unfolding runs_before
-none_known b p = refl
-
 sound : (b : Octets) (k : ℕ) → Truthful b (runs_before b k)
-sound b zero p n e is = absurd (none-some (n, e) (sym (none_known b p) ∙ is))
-sound b (suc k) p n e is = sound_run (runs_before b k) b (sound b k) p (length b) p n e (sym (known_is b k p) ∙ is)
+unfolding runs_before
+sound b zero p n e is = grind (arith, none-some)
+sound b (suc k) p n e is = grind (arith, sound_run, (sound b k))
 
 -- the name at a place is the run that begins there, if it is a name
 name_at_is : (b : Octets) (i : ℕ) → name_at b i ≡ option_and_then name_if_short (run (runs_before b i) b i (length b) i)
 unfolding name_at
 name_at_is b i = ap (option_and_then name_if_short) (known_is b i i)
 
-computed : (b : Octets) (i : ℕ) (n : DomainName) (e : ℕ) → name_at b i ≡ Some (n, e) → NameAt b i n e
-computed b i n e h = grind (arith, option_and_then_some, name_at_is, cond_some, sound_run, sound)
-
 related : (b : Octets) (i : ℕ) (n : DomainName) (e : ℕ) → NameAt b i n e → name_at b i ≡ Some (n, e)
 related b i n e h = grind (arith, name_at_is, complete, cond-true)
 
 -- `name_at` computes the relation.
 pub name_at_computes : (b : Octets) (i : ℕ) (n : DomainName) (e : ℕ) → (name_at b i ≡ Some (n, e)) ↔ NameAt b i n e
-name_at_computes b i n e = (computed b i n e, related b i n e)
+name_at_computes b i n e = grind (arith, name_at_is, sound_run, sound, related)
 
 -- A place spells at most one name, with one end.
 pub one_name : (b : Octets) (i : ℕ) (n m : DomainName) (e f : ℕ) → NameAt b i n e → NameAt b i m f → (n ≡ m) × (e ≡ f)
@@ -268,7 +247,7 @@ run12 d i = run (λ p. None) d 12 (length d - i) i
 -- it is what the reader computes, whatever is known of other runs, if it may take so many steps
 pub run12_is : (known : ℕ → Option (DomainName × ℕ)) (d : Octets) (r i : ℕ) → length d - i ≤ r → run12 d i ≡ run known d 12 r i
 unfolding run12
-run12_is known d r i h = same_run (λ p. None) known d 12 (length d - i) r i (λ p from before. absurd (omega arith)) (omega arith) h
+run12_is known d r i h = grind (arith, same_run)
 
 none_before : ℕ → Option (DomainName × ℕ)
 none_before p = None
@@ -294,7 +273,7 @@ module _ (d : Octets) (i : ℕ) where
 
   -- a label that ends past the octets
   pub run12_label_past : (k : ℕ) → slice_get d i ≡ Some k → 0 < k → k < 64 → length d < i + 1 + k → run12 d i ≡ None
-  run12_label_past k at pos low past = run12_suc ∙ step_label_past none_before d 12 (length d - i) i k at pos low past
+  run12_label_past k at pos low past = search (rules, run12_suc, step_label_past)
 
   jump12 : (p : ℕ) → PlaceFor 12 p → jump none_before 12 i p ≡ None
   jump12 p h = grind arith
@@ -303,11 +282,11 @@ module _ (d : Octets) (i : ℕ) where
   high12 o at from (missing e) = step_missing none_before d 12 (length d - i) i e
   high12 o at from (root e) = absurd (omega (arith, same_Some o 0 (sym at ∙ e)))
   high12 o at from (label k e pos low inside) = absurd (omega (arith, same_Some o k (sym at ∙ e)))
-  high12 o at from (label_past k e pos low past) = step_label_past none_before d 12 (length d - i) i k e pos low past
-  high12 o at from (reserved k e above below) = step_reserved none_before d 12 (length d - i) i k e above below
+  high12 o at from (label_past k e pos low past) = grind (arith, step_label_past)
+  high12 o at from (reserved k e above below) = search (rules, step_reserved)
   high12 o at from (pointer k o' e top at') =
       step_pointer none_before d 12 (length d - i) i k o' e top at' ∙ jump12 (pointer_place k o') (place_for 12 (pointer_place k o'))
-  high12 o at from (half_pointer k e top at') = step_half_pointer none_before d 12 (length d - i) i k e top at'
+  high12 o at from (half_pointer k e top at') = search (rules, step_half_pointer)
 
   -- a reserved octet, or a pointer
   pub run12_high : (o : ℕ) → slice_get d i ≡ Some o → 64 ≤ o → run12 d i ≡ None
@@ -315,4 +294,4 @@ module _ (d : Octets) (i : ℕ) where
 
 -- the name at place 12 is read so
 pub name_at_12 : (d : Octets) → name_at d 12 ≡ option_and_then name_if_short (run12 d 12)
-name_at_12 d = name_at_is d 12 ∙ ap (option_and_then name_if_short) (sym (run12_is (runs_before d 12) d (length d) 12 (omega arith)))
+name_at_12 d = grind (arith, name_at_is, run12_is)

@@ -1,6 +1,6 @@
 -- What stands at a place of a message is read there: numbers, octets, and names that are written whole or by a pointer.
 use Rattle.dns_spec.proofs.Common.{common_steps, pow-le-pow_right, and_parts, leb-true, ltb-true, list_all, Octets, DomainName, wire, is_label, is_name, number_of, RunAt, NameAt, OctetsAt, NumberAt, ends, goes_on}
-use Rattle.std.proofs.Common.{◌≡◌, ℕ, zero, suc, ◌+◌, ◌*◌, ◌%◌, ◌^◌, ◌<◌, ◌≤◌, true, [], ◌∷◌, ◌++◌, length, take, drop, IsTrue, Some, slice_get, refl, sym, ap, ◌∙◌, subst, arith, append_assoc, append-nil, take_at, drop_at, length-append, pow-suc, mul_comm, mod-eq_of_lt}
+use Rattle.std.proofs.Common.{◌≡◌, ℕ, zero, suc, ◌+◌, ◌*◌, ◌%◌, ◌^◌, ◌<◌, ◌≤◌, true, [], ◌∷◌, ◌++◌, length, take, drop, IsTrue, Some, slice_get, refl, sym, ap, ◌∙◌, subst, arith, append_assoc, append-nil, take_at, drop_at, length-append, pow-suc, mul_comm}
 use Rattle.std.proofs.Math.Arith.{mod-mul}
 use Rattle.std.specs.Int.{byte_at, bytes_high_first}
 
@@ -24,7 +24,7 @@ pub record Stands (b : Octets) (i : ℕ) (x : Octets) : Type 0 where
   pub place : length before ≡ i
 
 pub stands_front : {b : Octets} {i : ℕ} (x y : Octets) → Stands b i (x ++ y) → Stands b i x
-stands_front x y s = record { before = s.before; after = y ++ s.after; whole = s.whole ∙ ap (λ z. s.before ++ z) (append_assoc x y s.after); place = s.place }
+stands_front x y s = grind (arith, append_assoc)
 
 pub stands_rest : {b : Octets} {i : ℕ} (x y : Octets) → Stands b i (x ++ y) → Stands b (i + length x) y
 stands_rest x y s = record {
@@ -45,11 +45,8 @@ stands_all b = record { before = []; after = []; whole = sym (append-nil b); pla
 pub stands_within : {b : Octets} {i : ℕ} (x : Octets) → Stands b i x → i + length x ≤ length b
 stands_within {b} {i} x s = grind (arith, length-append)
 
-pub stands_drop : {b : Octets} {i : ℕ} (x : Octets) (s : Stands b i x) → drop i b ≡ x ++ s.after
-stands_drop {b} {i} x s = ap (drop i) s.whole ∙ drop_at s.before (x ++ s.after) i s.place
-
 pub stands_take : {b : Octets} {i : ℕ} (x : Octets) → Stands b i x → take (length x) (drop i b) ≡ x
-stands_take {b} {i} x s = ap (take (length x)) (stands_drop x s) ∙ take_at x s.after (length x) refl
+stands_take {b} {i} x s = grind (arith, drop_at, take_at)
 
 get_at : (p q : Octets) (o i : ℕ) → length p ≡ i → slice_get (p ++ o ∷ q) i ≡ Some o
 get_at [] q o zero e = refl
@@ -58,16 +55,11 @@ get_at (a ∷ p) q o zero e = absurd (omega arith)
 get_at (a ∷ p) q o (suc i) e = get_at p q o i (omega arith)
 
 pub stands_get : {b : Octets} {i : ℕ} (o : ℕ) (x : Octets) → Stands b i (o ∷ x) → slice_get b i ≡ Some o
-stands_get {b} {i} o x s = ap (λ z. slice_get z i) s.whole ∙ get_at s.before (x ++ s.after) o i s.place
+stands_get {b} {i} o x s = grind (arith, slice_get, get_at)
 
 -- a number, and octets as they are
 pub number_at : {b : Octets} {i : ℕ} (k v : ℕ) → v < 256 ^ k → Stands b i (bytes_high_first k v) → NumberAt b i k v
-number_at {b} {i} k v low s =
-    let len = length-bytes_high_first k v in
-    record {
-      within = omega (arith, stands_within (bytes_high_first k v) s);
-      spelled = sym (ap (λ z. number_of (take z (drop i b))) (sym len) ∙ ap number_of (stands_take (bytes_high_first k v) s) ∙ number_of-bytes k v ∙ mod-eq_of_lt low);
-    }
+number_at {b} {i} k v low s = grind (arith, common_steps, length-bytes_high_first, number_of-bytes)
 
 pub octets_at : {b : Octets} {i : ℕ} (x : Octets) → Stands b i x → OctetsAt b i (i + length x) x
 octets_at {b} {i} x s = grind (arith, common_steps, stands_within, stands_take)

@@ -1,5 +1,5 @@
 -- Escapes: what one stands for is what it spells in a name, and how long one is.
-use Rattle.dns_spec.proofs.Common.{◌≡◌, ℕ, ◌<◌, inl, inr, Bool, true, false, cond, ◌&&◌, nat_le, nat_lt, Option, Some, None, [], ◌∷◌, ◌++◌, refl, ap, subst, arith, and_parts, and_from, leb-true, le-leb, ltb-true, lt-ltb, cases_lt, cases_Bool, false≢true, none-some, some_pair_parts, is_ascii_digit, IsAsciiDigit, IsNotAsciiDigit, Octets, escape_left}
+use Rattle.dns_spec.proofs.Common.{◌≡◌, ℕ, ◌<◌, Bool, true, false, cond, ◌&&◌, nat_le, nat_lt, Option, Some, None, [], ◌∷◌, ◌++◌, refl, ap, subst, arith, and_parts, leb-true, ltb-true, lt-ltb, none-some, some_pair_parts, is_ascii_digit, IsAsciiDigit, IsNotAsciiDigit, Octets, escape_left}
 use Rattle.std.specs.Prelude.{◌↔◌, ◌==◌, if◌then◌else◌}
 use Rattle.dns_spec.specs.NameText.{three_digits_value, SpellsOctet, is_printable, digits_front, escape_front}
 
@@ -27,10 +27,7 @@ abbrev pub Spelled : Octets → ℕ → Octets → Type 0
 Spelled text x rest = (e : Octets) × (text ≡ e ++ rest) × SpellsOctet (92 ∷ e) x
 
 digit-true : (a : ℕ) → is_ascii_digit a ≡ true → IsAsciiDigit a
-digit-true a h = let p = and_parts (nat_le 48 a) (nat_le a 57) h in (leb-true 48 a p.0, leb-true a 57 p.1)
-
-digit-from : (a : ℕ) → IsAsciiDigit a → is_ascii_digit a ≡ true
-digit-from a h = and_from _ _ (le-leb 48 a h.0) (le-leb a 57 h.1)
+digit-true a h = grind (arith, and_parts, leb-true)
 
 front-spelled : (text : Octets) (x : ℕ) (rest : Octets) → digits_front text ≡ Some (x, rest) → Spelled text x rest
 front-spelled [] x rest e = absurd (none-some (x, rest) e)
@@ -50,10 +47,7 @@ front-spelled (a ∷ b ∷ c ∷ text) x rest e = go (is_ascii_digit a && is_asc
         (a ∷ b ∷ c ∷ [], ap (λ t. a ∷ b ∷ c ∷ t) same.1, (refl, digit-true a both.0, digit-true b both.1, digit-true c third.1, same.0, subst (λ n. n < 256) same.0 small))
 
 not-digit : (a : ℕ) → is_ascii_digit a ≡ false → IsNotAsciiDigit a
-not-digit a h = grind (arith, cases_lt, inl, inr, false≢true, digit-from)
-
-no-digit : (a : ℕ) → IsNotAsciiDigit a → is_ascii_digit a ≡ false
-no-digit a h = grind (arith, cases_Bool, inl, digit-true, inr)
+not-digit a h = grind arith
 
 escape-spelled : (text : Octets) (x : ℕ) (rest : Octets) → escape_front text ≡ Some (x, rest) → Spelled text x rest
 escape-spelled [] x rest e = absurd (none-some (x, rest) e)
@@ -69,7 +63,7 @@ escape-spelled (a ∷ text) x rest e = go (is_ascii_digit a) (is_printable a) re
         (a ∷ [], ap (λ t. a ∷ t) same.1, (refl, same.0, leb-true 32 a range.0, leb-true a 126 range.1, not-digit a digit))
 
 spelled-escape : (e : Octets) (x : ℕ) (rest : Octets) → SpellsOctet (92 ∷ e) x → escape_front (e ++ rest) ≡ Some (x, rest)
-spelled-escape e x rest h = grind (arith, no-digit, le-leb, digit-from, lt-ltb)
+spelled-escape e x rest h = grind (arith, lt-ltb)
 
 pub escape_spells : (text : Octets) (x : ℕ) (rest : Octets) → (escape_front text ≡ Some (x, rest)) ↔ Spelled text x rest
 escape_spells text x rest = grind (arith, escape-spelled, spelled-escape)

@@ -1,5 +1,5 @@
 -- A word spells at most one name, and a text at most one string.
-use Rattle.dns_spec.proofs.Common.{◌≡◌, ℕ, inl, inr, Bool, true, false, ◌==◌, [], ◌∷◌, ◌++◌, length, get_or, Option, Some, None, refl, sym, ◌∙◌, ap, ap₂, subst, arith, codes, if◌then◌else◌, list_all, is_ascii_digit, true≢false, false≢true, and_parts, none-some, Octets, DomainName, is_label, three_digits_value, SpellsOctet, LabelThen, TextSpells, SpellsName, SpellsStringOctet, SpellsString}
+use Rattle.dns_spec.proofs.Common.{◌≡◌, ℕ, inl, inr, Bool, true, ◌==◌, [], ◌∷◌, ◌++◌, length, Option, Some, None, refl, sym, ◌∙◌, ap, ap₂, subst, arith, codes, if◌then◌else◌, list_all, is_ascii_digit, true≢false, false≢true, and_parts, none-some, Octets, DomainName, is_label, three_digits_value, SpellsOctet, LabelThen, TextSpells, SpellsName, SpellsStringOctet, SpellsString}
 
 -- the octet whose spelling a text begins with, where it begins with one, and the text after it
 digits_front : Octets → Option (ℕ × Octets)
@@ -16,27 +16,16 @@ octet_front : Octets → Option (ℕ × Octets)
 octet_front [] = None
 octet_front (a ∷ text) = if a == 92 then escaped_front text else Some (a, text)
 
-octet_front-is : (first : Octets) (x : ℕ) (others : Octets) → SpellsOctet first x → octet_front (first ++ others) ≡ Some (x, others)
-unfolding octet_front escaped_front digits_front
-octet_front-is first x others h = grind arith
-
-string_front-is : (first : Octets) (x : ℕ) (others : Octets) → SpellsStringOctet first x → octet_front (first ++ others) ≡ Some (x, others)
-unfolding octet_front
-string_front-is first x others h = grind (arith, octet_front-is, octet_front)
-
 -- a text begins with the spelling of one octet
 octet_once : (text first first' others others' : Octets) (x y : ℕ) → text ≡ first ++ others → text ≡ first' ++ others' → SpellsStringOctet first x → SpellsStringOctet first' y
     → (x ≡ y) × (others ≡ others')
 octet_once text first first' others others' x y e f h k = grind arith
 
-no_front : (text first others : Octets) (x : ℕ) → text ≡ [] → text ≡ first ++ others → SpellsStringOctet first x → ⊥
-unfolding octet_front
-no_front text first others x e f h = none-some (x, others) (ap octet_front (sym e ∙ f) ∙ string_front-is first x others h)
-
 pub string_once : (text s t : Octets) → SpellsString text s → SpellsString text t → s ≡ t
+unfolding octet_front escaped_front digits_front
 string_once text [] [] h k = refl
-string_once text [] (y ∷ t) h (first, others, e, said, k) = absurd (no_front text first others y h e said)
-string_once text (x ∷ s) [] (first, others, e, said, h) k = absurd (no_front text first others x k e said)
+string_once text [] (y ∷ t) h (first, others, e, said, k) = grind (arith, none-some, octet_front)
+string_once text (x ∷ s) [] (first, others, e, said, h) k = grind (arith, none-some, octet_front)
 string_once text (x ∷ s) (y ∷ t) (first, others, e, said, h) (first', others', e', said', k) =
     let one = octet_once text first first' others others' x y e e' said said' in
     ap₂ (λ z zs. z ∷ zs) one.0 (string_once others s t h (subst (λ r. SpellsString r t) (sym one.1) k))
@@ -46,12 +35,9 @@ ends : Octets → Bool
 ends [] = true
 ends (o ∷ text) = o == 46
 
-goes_on : (first : Octets) (x : ℕ) (others : Octets) → SpellsOctet first x → ends (first ++ others) ≡ false
-unfolding ends
-goes_on first x others h = grind arith
-
 not_ended : (text rest first others : Octets) (x : ℕ) → text ≡ rest → ends rest ≡ true → text ≡ first ++ others → SpellsOctet first x → ⊥
-not_ended text rest first others x e end f h = true≢false (sym end ∙ ap ends (sym e ∙ f) ∙ goes_on first x others h)
+unfolding ends
+not_ended text rest first others x e end f h = grind (arith, true≢false)
 
 -- a text begins with one label
 label_once : (text l rest l' rest' : Octets) → LabelThen text l rest → LabelThen text l' rest' → ends rest ≡ true → ends rest' ≡ true
@@ -64,9 +50,6 @@ label_once text (x ∷ l) rest (y ∷ l') rest' (first, others, e, said, h) (fir
 
 no_empty_label : (l : Octets) → [] ≡ l → is_label l ≡ true → ⊥
 no_empty_label l e h = false≢true (ap is_label e ∙ h)
-
-not_cons : (x : ℕ) (text : Octets) → [] ≡ x ∷ text → ⊥
-not_cons x text e = omega (arith, ap length e)
 
 -- where no label is to be had, a text spells no name of labels
 no_labels : (origin text rest : Octets) (above : DomainName) (l : Octets) (n : DomainName) → text ≡ rest → ends rest ≡ true → list_all is_label (l ∷ n) ≡ true
@@ -86,14 +69,11 @@ spelled_once origin text (l ∷ n) [] all all' h k = absurd (no_labels [] text [
 spelled_once origin text (l ∷ n) (l' ∷ m) all all' (inl (h, e)) (inl (k, f)) =
     ap₂ (λ z zs. z ∷ zs) (label_once text l [] l' [] h k refl refl).0 (e ∙ sym f)
 spelled_once origin text (l ∷ n) (l' ∷ m) all all' (inl (h, e)) (inr (others, k, f)) =
-    absurd (not_cons 46 others (label_once text l [] l' (46 ∷ others) h k refl refl).1)
+    grind (arith, label_once)
 spelled_once origin text (l ∷ n) (l' ∷ m) all all' (inr (others, h, e)) (inl (k, f)) =
-    absurd (not_cons 46 others (label_once text l' [] l (46 ∷ others) k h refl refl).1)
+    grind (arith, label_once)
 spelled_once origin text (l ∷ n) (l' ∷ m) all all' (inr (others, h, e)) (inr (others', k, f)) =
     grind (arith, label_once, and_parts, ap₂, (spelled_once origin others n m))
-
-at_is_no_dot : (word : Octets) → word ≡ codes "@" → word ≡ codes "." → ⊥
-at_is_no_dot word e f = omega (arith, ap (λ t. get_or t 0 0) (sym e ∙ f))
 
 -- `.` spells the root alone
 dot_alone : (origin : DomainName) (word : Octets) (m : DomainName) → word ≡ codes "." → list_all is_label m ≡ true → TextSpells origin word m → ⊥
@@ -102,4 +82,4 @@ dot_alone origin word [] e all h = omega (arith, ap length (sym e ∙ h))
 dot_alone origin word (l ∷ m) e all h = no_labels [] word (codes ".") origin l m e refl all h
 
 pub name_once : (origin : DomainName) (word : Octets) (n m : DomainName) → SpellsName origin word n → SpellsName origin word m → n ≡ m
-name_once origin word n m h k = grind (arith, and_parts, at_is_no_dot, dot_alone, spelled_once)
+name_once origin word n m h k = grind (arith, dot_alone, spelled_once)

@@ -1,6 +1,6 @@
 -- What is reported of a zone does not depend on the order of its records.
-use Rattle.std.proofs.Common.{◌≡◌, ◌≤◌, Bool, ◌⊎◌, inl, inr, List, [], ◌∷◌, length, refl, sym, ap, ◌∙◌, filter, flat_map, ◌==◌, arith}
-use Rattle.dns_spec.proofs.Common.{DomainName, folded, same, type_soa, ResourceRecord, ZoneContents, records_equal, distinct, zone_of, sort_by, record_order, ordered_zone, first_serial, zone_serial, faults, record_line, soa_first, zone_text}
+use Rattle.std.proofs.Common.{◌≡◌, ◌≤◌, Bool, ◌⊎◌, inl, inr, List, [], ◌∷◌, length, refl, sym, ap, ◌∙◌, filter, ◌==◌, arith}
+use Rattle.dns_spec.proofs.Common.{DomainName, folded, same, type_soa, ResourceRecord, ZoneContents, records_equal, distinct, zone_of, sort_by, record_order, ordered_zone, first_serial, zone_serial, faults, zone_text}
 use Rattle.dns_spec.specs.Report.{Options, passing, zone_report}
 use Rattle.dns_spec.proofs.ZoneChecks.FaultOrder.{folded_folded}
 use Rattle.dns_spec.proofs.Records.SortedOnce.{Among, each_at, filter_each, among_filter, filter_among, among_sort, sort_among}
@@ -27,7 +27,7 @@ kept_among p q a xs ys forth m = grind (arith, among_filter, filter_among, each_
 module _ (o : DomainName) (rs : List ResourceRecord) where
   pub ordered_text : zone_text (ordered_zone o rs) ≡ zone_text (zone_of o rs)
   unfolding zone_text
-  ordered_text = ap (λ xs. flat_map record_line (soa_first xs)) (sort_risen record_order (sort_by record_order (distinct records_equal rs)) (rises_canonical rs))
+  ordered_text = grind (arith, sort_risen, rises_canonical)
 
   pub ordered_serial : faults (zone_of o rs) ≡ [] → zone_serial (ordered_zone o rs) ≡ zone_serial (zone_of o rs)
   ordered_serial passes =

@@ -1,5 +1,5 @@
 -- The line of a record is read as the words of the record, and a line end.
-use Rattle.dns_spec.proofs.Common.{◌≡◌, ℕ, ◌<◌, Bool, true, false, ◌&&◌, ◌==◌, Some, None, Option, List, [], ◌∷◌, ◌++◌, map, length, nat_lt, refl, sym, ap, subst, arith, append_assoc, codes, decimal, rules, and_parts, ltb-true, option_map, unwrap_or, list_all, prefix_len, filter_map, join_with_byte, Octets, name_text, TypeRow, type_table, row_of, numbered_type, type_text, Word, is_word_octet, plain, word_text, written_words, data_text, stands_alone, ResourceRecord, Token, blank, line_end, is_blank, TokensThen, parenthesis, cut_entries, parentheses, word_of, IsReadRecord, record_line}
+use Rattle.dns_spec.proofs.Common.{◌≡◌, ℕ, ◌<◌, Bool, true, false, ◌&&◌, Some, None, Option, List, [], ◌∷◌, ◌++◌, map, length, nat_lt, refl, sym, subst, arith, append_assoc, codes, decimal, rules, and_parts, ltb-true, option_map, unwrap_or, list_all, prefix_len, filter_map, join_with_byte, Octets, name_text, TypeRow, row_of, numbered_type, type_text, Word, is_word_octet, plain, word_text, written_words, data_text, stands_alone, ResourceRecord, Token, blank, line_end, is_blank, TokensThen, cut_entries, parentheses, word_of, IsReadRecord, record_line}
 use Rattle.dns_spec.proofs.Records.SortedOnce.{Each}
 use Rattle.dns_spec.proofs.DataWords.BareWords.{Bare, bare_append, bare_decimal}
 use Rattle.dns_spec.proofs.DataWords.StandingWords.{TakenWhole, Standing, bare_standing, decimal_standing, name_standing}
@@ -71,7 +71,7 @@ bare_tested [] all = tt
 bare_tested (o ∷ x) all = let p = and_parts (is_word_octet o) (list_all is_word_octet x) all in (p.0, bare_tested x p.1)
 
 mnemonic_bare : (t : ℕ) (made : TypeRow) → row_of t ≡ Some made → is_bare_text made.mnemonic ≡ true
-mnemonic_bare t made e = entry_passes (λ (r : TypeRow). r.number == t) (λ (r : TypeRow). is_bare_text r.mnemonic) type_table made e refl
+mnemonic_bare t made e = grind (arith, entry_passes)
 
 type_standing : (t : ℕ) → t < 65536 → Standing (plain (type_text t))
 type_standing t small = go (row_of t) refl
@@ -114,21 +114,11 @@ line_read r rest h =
 pub line_pieces_read : (r : ResourceRecord) (rest : Octets) → IsReadRecord r → TokensThen (record_line r ++ rest) (line_tokens r) rest
 line_pieces_read r rest h = (line_read r rest h).tokens
 
--- a word's token is no parenthesis, and gives the word
-no_parenthesis : (w : Word) → parenthesis (word_token w) ≡ None
-no_parenthesis w = grind (arith, word_token)
-
-token_word : (w : Word) → word_of (word_token w) ≡ Some w
-token_word w = grind (arith, word_token)
-
 -- what the tokens after a line's words give
-cut_word : (w : Word) (ps e : List Token) (es : List (List Token)) → cut_entries false ps ≡ e ∷ es → cut_entries false (word_token w ∷ ps) ≡ (word_token w ∷ e) ∷ es
-cut_word w ps e es cut = grind (arith, word_token)
-
 cut_words : (ws : List Word) (ps : List Token) → cut_entries false (words_tokens ws ++ ps) ≡ words_tokens ws ∷ cut_entries false ps
 cut_words [] ps = refl
-cut_words (w ∷ []) ps = cut_word w (line_end ∷ ps) (line_end ∷ []) (cut_entries false ps) refl
-cut_words (w ∷ v ∷ ws) ps = grind (arith, cut_word, (cut_words (v ∷ ws) ps))
+cut_words (w ∷ []) ps = grind (arith, word_token)
+cut_words (w ∷ v ∷ ws) ps = grind (arith, word_token, (cut_words (v ∷ ws) ps))
 
 cut_led : (ws : List Word) (qs ps : List Token) → cut_entries false (qs ++ ps) ≡ qs ∷ cut_entries false ps
     → cut_entries false (led ws qs ++ ps) ≡ led ws qs ∷ cut_entries false ps
@@ -140,24 +130,24 @@ line_cut r ps = grind (arith, cut_led, cut_words)
 
 words_parentheses : (ws : List Word) → parentheses (words_tokens ws) ≡ []
 words_parentheses [] = refl
-words_parentheses (w ∷ []) = rw (no_parenthesis w) refl
-words_parentheses (w ∷ v ∷ ws) = rw (no_parenthesis w) (words_parentheses (v ∷ ws))
+words_parentheses (w ∷ []) = grind (arith, word_token)
+words_parentheses (w ∷ v ∷ ws) = grind (arith, word_token, (words_parentheses (v ∷ ws)))
 
 led_parentheses : (ws : List Word) (ps : List Token) → parentheses ps ≡ [] → parentheses (led ws ps) ≡ []
 led_parentheses [] ps none = none
-led_parentheses (w ∷ ws) ps none = rw (no_parenthesis w) (led_parentheses ws ps none)
+led_parentheses (w ∷ ws) ps none = grind (arith, word_token, (led_parentheses ws ps none))
 
 pub line_parentheses : (r : ResourceRecord) → parentheses (line_tokens r) ≡ []
-line_parentheses r = led_parentheses (first_words r) (words_tokens (written_words r.rtype r.rdata)) (words_parentheses (written_words r.rtype r.rdata))
+line_parentheses r = grind (arith, led_parentheses, words_parentheses)
 
 words_again : (ws : List Word) → filter_map word_of (words_tokens ws) ≡ ws
 words_again [] = refl
-words_again (w ∷ []) = rw (token_word w) refl
-words_again (w ∷ v ∷ ws) = rw (token_word w) (ap (λ x. w ∷ x) (words_again (v ∷ ws)))
+words_again (w ∷ []) = grind (arith, word_token)
+words_again (w ∷ v ∷ ws) = grind (arith, word_token, (words_again (v ∷ ws)))
 
 led_again : (ws vs : List Word) (ps : List Token) → filter_map word_of ps ≡ vs → filter_map word_of (led ws ps) ≡ ws ++ vs
 led_again [] vs ps again = again
-led_again (w ∷ ws) vs ps again = rw (token_word w) (ap (λ x. w ∷ x) (led_again ws vs ps again))
+led_again (w ∷ ws) vs ps again = grind (arith, word_token, (led_again ws vs ps again))
 
 pub line_words_again : (r : ResourceRecord) → filter_map word_of (line_tokens r) ≡ line_words r
-line_words_again r = led_again (first_words r) (written_words r.rtype r.rdata) (words_tokens (written_words r.rtype r.rdata)) (words_again (written_words r.rtype r.rdata))
+line_words_again r = grind (arith, led_again, words_again)

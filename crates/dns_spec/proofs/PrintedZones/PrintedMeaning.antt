@@ -1,12 +1,12 @@
 -- The text of records means these records.
-use Rattle.dns_spec.proofs.Common.{◌≡◌, ℕ, suc, ◌+◌, ◌<◌, ◌≤◌, ◌^◌, inl, inr, Bool, true, false, ◌==◌, All, Some, None, Option, List, [], ◌∷◌, ◌++◌, map, length, take, refl, sym, ◌∙◌, ap, subst, arith, append_assoc, codes, decimal, rules, false≢true, cases_Bool, eqb-true, lt-leb, le-ltb, take_all, none-some, same_Some, MatchOption, if◌then◌else◌, is_ascii_digit, AllDigits, Octets, DomainName, is_special, octet_text, name_text, type_text, NamesType, Word, Says, plain, written_words, ResourceRecord, bad_owner, bad_parenthesis, IsReadRecord, HasZoneType, record_line}
-use Rattle.std.proofs.lemmas.Fmt.{decimal_is_IsNumeral, decimal_nonempty}
+use Rattle.dns_spec.proofs.Common.{◌≡◌, ℕ, suc, ◌+◌, ◌<◌, ◌≤◌, inl, inr, Bool, true, false, All, Some, None, List, [], ◌∷◌, ◌++◌, map, length, take, refl, sym, ◌∙◌, ap, subst, arith, codes, decimal, rules, cases_Bool, lt-leb, le-ltb, take_all, none-some, same_Some, MatchOption, is_ascii_digit, AllDigits, Octets, DomainName, octet_text, name_text, type_text, NamesType, Word, Says, plain, written_words, ResourceRecord, bad_owner, IsReadRecord, HasZoneType, record_line}
+use Rattle.std.proofs.lemmas.Fmt.{decimal_is_IsNumeral}
 use Rattle.std.specs.List.{list_any, find, filter, flat_map}
-use Rattle.dns_spec.specs.ZoneText.{Token, most_octets, TokensThen, take_turns, cut_entries, begins_with, Entry, Entries, ended, with_end, lexical_fault, whole_text, extent_by}
-use Rattle.dns_spec.specs.Meaning.{faulty, gives, owned, kind_of, Fields, fields, is_ttl_word, directive_word, is_record, OriginIs, NameIs, IsRecord, most_records, RecordGives, KindGives, EntryGives, records, EntriesMean, Means}
+use Rattle.dns_spec.specs.ZoneText.{Token, most_octets, TokensThen, cut_entries, begins_with, Entry, Entries, ended, with_end, lexical_fault, whole_text, extent_by}
+use Rattle.dns_spec.specs.Meaning.{faulty, gives, owned, kind_of, Fields, fields, directive_word, is_record, OriginIs, NameIs, IsRecord, most_records, RecordGives, KindGives, EntryGives, records, EntriesMean, Means}
 use Rattle.dns_spec.proofs.Records.SortedOnce.{Each}
 use Rattle.dns_spec.proofs.NameTexts.WrittenNames.{name_spelled}
-use Rattle.dns_spec.proofs.DataWords.SaidAgain.{entry_passes, data_said}
+use Rattle.dns_spec.proofs.DataWords.SaidAgain.{data_said}
 use Rattle.dns_spec.proofs.PrintedZones.PrintedLines.{line_tokens, line_pieces_read, line_cut, line_parentheses, line_words_again}
 use Rattle.dns_spec.proofs.ZoneTexts.GivenRecords.{record_given, given_then}
 
@@ -56,17 +56,11 @@ text_entries rs h short =
     }
 
 -- the text of a name is no directive
-special_other : (x : ℕ) → is_special x ≡ false → (x == 36) ≡ false
-special_other x other = grind (arith, cases_Bool, inl, false≢true, eqb-true, inr)
-
-octet_begins : (x : ℕ) (rest : Octets) → begins_with 36 (octet_text x ++ rest) ≡ false
-unfolding octet_text
-octet_begins x rest = grind (arith, cases_Bool, inl, inr, special_other)
-
 name_begins : (n : DomainName) → begins_with 36 (name_text n) ≡ false
+unfolding octet_text
 name_begins [] = refl
 name_begins ([] ∷ n) = refl
-name_begins ((x ∷ l) ∷ n) = grind (arith, append_assoc, octet_begins)
+name_begins ((x ∷ l) ∷ n) = grind arith
 
 -- what the words of a line are
 abbrev words_after : ResourceRecord → List Word
@@ -78,9 +72,6 @@ line_kind r = grind (arith, line_words_again, name_begins)
 digits_begin : (x : Octets) → 0 < length x → AllDigits 10 x → list_any is_ascii_digit (take 1 x) ≡ true
 digits_begin x h h1 = grind arith
 
-ttl_begins : (n : ℕ) → n < 2 ^ 64 → is_ttl_word (plain (decimal n)) ≡ true
-ttl_begins n small = digits_begin (decimal n) (decimal_nonempty n small) (decimal_is_IsNumeral n small).0.1
-
 abbrev line_fields : ResourceRecord → Fields
 line_fields r = record {
   ttl = Some (plain (decimal r.ttl));
@@ -89,25 +80,18 @@ line_fields r = record {
 }
 
 fields_are : (r : ResourceRecord) → IsReadRecord r → fields (words_after r) ≡ line_fields r
-fields_are r h = rw (ttl_begins r.ttl (omega (arith, h.ttl))) refl
+fields_are r h = grind (arith, digits_begin, decimal_is_IsNumeral)
 
 line_faultless : (r : ResourceRecord) → lexical_fault (line_entry r) ≡ None
-line_faultless r = ap (λ marks. if take_turns false marks then None else Some bad_parenthesis) (line_parentheses r)
+line_faultless r = grind (arith, line_parentheses)
 
 -- a type's word names it
 found_passes : {X : Type 0} (p : X → Bool) (xs : List X) (x : X) → find p xs ≡ Some x → p x ≡ true
 found_passes p [] x e = absurd (none-some x e)
 found_passes p (y ∷ xs) x e = grind (arith, cases_Bool, inl, same_Some, inr, (found_passes p xs x))
 
-abbrev is_number : Option ℕ → ℕ → Bool
-is_number None n = false
-is_number (Some m) n = m == n
-
-number_is : (o : Option ℕ) (n : ℕ) → is_number o n ≡ true → o ≡ Some n
-number_is o n h = grind arith
-
 type_named : (t : ℕ) → t < 65536 → NamesType (type_text t) t
-type_named t small = grind (arith, inr, found_passes, entry_passes, inl, number_is, eqb-true)
+type_named t small = grind arith
 
 -- where no entry before is `$ORIGIN`
 abbrev KeepsOrigin : Entry → Type 0
@@ -152,7 +136,7 @@ line_counts r earlier = grind (arith, line_kind)
 
 lines_mean : (o : DomainName) (earlier : List Entry) (rs : List ResourceRecord) → Each KeepsOrigin earlier → Each IsReadRecord rs → Each HasZoneType rs
     → length (filter is_record earlier) + length rs ≤ most_records → EntriesMean o earlier (lines_entries rs) (records rs)
-lines_mean o earlier [] keeps h types few = given_then o earlier (ended []) [] [] (records []) refl refl
+lines_mean o earlier [] keeps h types few = grind (arith, given_then)
 lines_mean o earlier (r ∷ rs) keeps h types few =
     given_then o earlier (line_entry r) (lines_entries rs) (r ∷ []) (records rs)
     (line_given o earlier r (origin_stays o earlier keeps) h.0 types.0 (omega (arith, few)))

@@ -1,15 +1,13 @@
 -- The canonical order of records, and lists of records in it.
-use Rattle.std.proofs.Common.{◌≡◌, zero, suc, Bool, true, false, ◌&&◌, cond, eqb, ◌⊎◌, inl, inr, List, [], ◌∷◌, refl, sym, ap, ap₂, ◌∙◌, arith, All, IsPermutation, is_eq, is_gt, nat_cmp, Ordering, Less, Equal, rules}
+use Rattle.std.proofs.Common.{◌≡◌, zero, suc, Bool, true, false, ◌&&◌, cond, eqb, inl, inr, List, [], ◌∷◌, refl, sym, ap, ap₂, ◌∙◌, arith, All, IsPermutation, is_eq, is_gt, nat_cmp, Ordering, Less, rules}
 use Rattle.dns_spec.proofs.Common.{and_parts, eqb-true, All-head, All-tail, All-nil, All-cons, IsTotalOrder, lists_ties, DomainName, octets_equal, same, name_order, ResourceRecord, zone_of, records_equal, distinct, insert_by, sort_by, data_order, record_order, ordered_zone, faults}
-use Rattle.std.proofs.lemmas.Cmp.{nat_cmp_total, nat_list_cmp_total, on_total, then_total, tied_itself}
-use Rattle.std.proofs.lemmas.List.Sorted.{All-permutation, Contains-permutation, IsPermutation-refl, IsPermutation-sym, IsPermutation-cons, IsPermutation-trans, IsPermutation-middle}
-use Rattle.std.proofs.lemmas.List.Kept.{IsStrictlySortedBy-dedup}
-use Rattle.std.specs.List.{Contains, dedup, dedup_from}
-use Rattle.std.specs.List.Sorted.{IsSorted, IsStrictlySortedBy}
+use Rattle.std.proofs.lemmas.Cmp.{nat_cmp_total, nat_list_cmp_total, on_total, then_total}
+use Rattle.std.proofs.lemmas.List.Sorted.{Contains-permutation, IsPermutation-refl, IsPermutation-sym, IsPermutation-cons, IsPermutation-trans, IsPermutation-middle}
+use Rattle.std.specs.List.{Contains}
 use Rattle.std.specs.Ordering.{ordering_then, eq_by_cmp}
-use Rattle.dns_spec.proofs.DomainNames.NameLaws.{octets_equal-decides, names_equal-decides, same_tests}
+use Rattle.dns_spec.proofs.DomainNames.NameLaws.{octets_equal-decides, names_equal-decides}
 use Rattle.dns_spec.proofs.ZoneChecks.FaultOrder.{faults_in_any_order, nat_ties, name_order_total, name_tie, Lower, one_lower}
-use Rattle.dns_spec.proofs.Records.SortedOnce.{Each, Among, each_sort, each_distinct, apart_distinct, distinct_among, among_sort, sort_among, Rises, sort_rises, same_risen, among_distinct}
+use Rattle.dns_spec.proofs.Records.SortedOnce.{Each, Among, each_sort, each_distinct, apart_distinct, Rises, sort_rises}
 
 pub record_order_total : IsTotalOrder record_order
 record_order_total =
@@ -17,20 +15,8 @@ record_order_total =
     (then_total (on_total (λ (r : ResourceRecord). r.rtype) nat_cmp_total)
     (then_total (on_total (λ (r : ResourceRecord). r.rdata) nat_list_cmp_total) (on_total (λ (r : ResourceRecord). r.ttl) nat_cmp_total)))
 
-equal_from : (o : Ordering) → is_eq o ≡ true → o ≡ Equal
-equal_from o h = grind arith
-
 name_ties : (n m : DomainName) → same n m ≡ is_eq (name_order n m)
-name_ties n m =
-    grind (
-      arith,
-      same_tests,
-      names_equal-decides,
-      tied_itself,
-      name_order_total,
-      name_tie,
-      equal_from,
-    )
+name_ties n m = grind (arith, names_equal-decides, name_order_total, name_tie)
 
 then_ties : (a b : Ordering) → is_eq (ordering_then a b) ≡ (is_eq a && is_eq b)
 then_ties a b = grind arith
@@ -83,38 +69,6 @@ pub all_each : {X : Type 0} (P : X → Type 0) (xs : List X) → Each P xs → A
 all_each P [] e = All-nil P
 all_each P (x ∷ xs) e = All-cons P x xs e.0 (all_each P xs e.1)
 
--- what is left where each element that equals its neighbour is dropped
-module _ {X : Type 0} (eq : X → X → Bool) where
-  dedup_from_among : (a k : X) (xs : List X) → Among a (dedup_from eq k xs) → (a ≡ k) ⊎ Among a xs
-  dedup_from_among a k [] m = m
-  dedup_from_among a k (x ∷ xs) m =
-      grind (arith, Among, inl, inr, (dedup_from_among a k xs), (dedup_from_among a x xs))
-
-  dedup_among : (a : X) (xs : List X) → Among a (dedup eq xs) → Among a xs
-  dedup_among a [] m = m
-  dedup_among a (x ∷ xs) m = dedup_from_among a x xs m
-
-  module _ (D : X → Type 0) (one : (x y : X) → D x → D y → eq x y ≡ true → x ≡ y) where
-    among_dedup_from : (a k : X) (xs : List X) → D k → Each D xs → (a ≡ k) ⊎ Among a xs → Among a (dedup_from eq k xs)
-    among_dedup_from a k [] d e m = m
-    among_dedup_from a k (x ∷ xs) d e m = go (eq x k) refl m (among_dedup_from a k xs d e.1) (among_dedup_from a x xs e.0 e.1)
-      where
-        go : (t : Bool) → eq x k ≡ t → (a ≡ k) ⊎ ((a ≡ x) ⊎ Among a xs) → ((a ≡ k) ⊎ Among a xs → Among a (dedup_from eq k xs)) → ((a ≡ x) ⊎ Among a xs → Among a (dedup_from eq x xs))
-            → Among a (cond t (dedup_from eq k xs) (k ∷ dedup_from eq x xs))
-        go true q (inl p) f g = f (inl p)
-        go true q (inr (inl p)) f g = f (inl (p ∙ one x k e.0 d q))
-        go true q (inr (inr n)) f g = f (inr n)
-        go false q (inl p) f g = inl p
-        go false q (inr n) f g = inr (g n)
-
-    among_dedup : (a : X) (xs : List X) → Each D xs → Among a xs → Among a (dedup eq xs)
-    among_dedup a [] e m = m
-    among_dedup a (x ∷ xs) e m = among_dedup_from a x xs e.0 e.1 m
-
-rises_sorted : {X : Type 0} (cmp : X → X → Ordering) (xs : List X) → IsStrictlySortedBy cmp xs → Rises cmp xs
-unfolding IsStrictlySortedBy
-rises_sorted cmp xs h = grind arith
-
 -- a list in which each element is before those after it is sorted
 pub sort_risen : {X : Type 0} (cmp : X → X → Ordering) (xs : List X) → Rises cmp xs → sort_by cmp xs ≡ xs
 sort_risen cmp [] r = refl
@@ -145,22 +99,6 @@ pub rises_canonical : (rs : List ResourceRecord) → Rises record_order (sort_by
 rises_canonical rs =
     sort_rises record_order record_order_total records_equal (λ r s e. record_ties r s ∙ ap is_eq e) LowerOwner one_record (distinct records_equal rs)
     (apart_distinct records_equal rs)
-
--- Records sorted, without those that equal the one before them, are the canonical list.
-pub canonical_records : (rs xs : List ResourceRecord) → All LowerOwner rs → IsPermutation rs xs → IsSorted record_order xs
-    → dedup records_equal xs ≡ sort_by record_order (distinct records_equal rs)
-canonical_records rs xs low moved sorted =
-    let tie : (r s : ResourceRecord) → record_order r s ≡ Equal → records_equal r s ≡ true = λ r s e. record_ties r s ∙ ap is_eq e in
-    let low_there = each_all LowerOwner xs (All-permutation LowerOwner rs xs moved low) in
-    let low_here = each_all LowerOwner rs low in
-    same_risen record_order record_order_total records_equal tie LowerOwner one_record (dedup records_equal xs) (sort_by record_order (distinct records_equal rs))
-    (rises_sorted record_order (dedup records_equal xs) (IsStrictlySortedBy-dedup record_order_total record_ties xs sorted))
-    (rises_canonical rs)
-    (λ a m. among_sort record_order a (distinct records_equal rs)
-    (among_distinct record_order record_order_total records_equal tie LowerOwner one_record a rs low_here
-    (among_permutation a xs rs (IsPermutation-sym rs xs moved) (dedup_among records_equal a xs m))))
-    (λ a m. among_dedup records_equal LowerOwner one_record a xs low_there
-    (among_permutation a rs xs moved (distinct_among records_equal a rs (sort_among record_order a (distinct records_equal rs) m))))
 
 -- what holds of all records holds of those of the canonical list
 pub all_canonical : (P : ResourceRecord → Type 0) (rs : List ResourceRecord) → All P rs → All P (sort_by record_order (distinct records_equal rs))

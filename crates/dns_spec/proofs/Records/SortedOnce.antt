@@ -61,7 +61,7 @@ distinct_among eq a (x ∷ xs) (inr m) = inr (distinct_among eq a xs (among_filt
 
 pub each_distinct : {X : Type 0} (P : X → Type 0) (eq : X → X → Bool) (xs : List X) → Each P xs → Each P (distinct eq xs)
 each_distinct P eq [] e = tt
-each_distinct P eq (x ∷ xs) e = (e.0, each_filter P (λ y. not (eq x y)) (distinct eq xs) (each_distinct P eq xs e.1))
+each_distinct P eq (x ∷ xs) e = grind (arith, each_filter, (each_distinct P eq xs e.1))
 
 -- a sort keeps the elements
 module _ {X : Type 0} (cmp : X → X → Ordering) where
@@ -120,7 +120,7 @@ module _ {X : Type 0} (cmp : X → X → Ordering) (order : IsTotalOrder cmp) (e
 
   pub sort_rises : (xs : List X) → Apart eq xs → Rises cmp (sort_by cmp xs)
   sort_rises [] a = tt
-  sort_rises (x ∷ xs) a = insert_rises x (sort_by cmp xs) (sort_rises xs a.1) (each_sort cmp (λ y. eq x y ≡ false) xs a.0)
+  sort_rises (x ∷ xs) a = grind (arith, insert_rises, (sort_rises xs a.1), each_sort)
 
   pub among_distinct : (a : X) (xs : List X) → Each D xs → Among a xs → Among a (distinct eq xs)
   among_distinct a [] d m = m

@@ -1,10 +1,10 @@
 -- An answer of a zone that passes has few targets and few sets, and visits few nodes for each name.
-use Rattle.std.proofs.Common.{◌≡◌, ℕ, ◌+◌, ◌*◌, ◌≤◌, nat_lt, Bool, true, false, not, ◌==◌, inl, List, [], ◌∷◌, ◌++◌, map, sum, length, Option, None, Some, All, filter, flat_map, refl, sym, ap, ap₂, ◌∙◌, subst, arith, append-nil, length-append}
-use Rattle.dns_spec.proofs.Common.{eqb-true, ltb-false, none-some, same_Some, flat_map-append, length-map, length-filter_both, option_to_list, DomainName, is_name, folded, names_equal, same, at_or_below, type_a, type_aaaa, ResourceRecord, ZoneContents, data_order, at, of_type, with_owner, found, Section, answer, Item, records_of}
+use Rattle.std.proofs.Common.{◌≡◌, ℕ, ◌+◌, ◌*◌, ◌≤◌, nat_lt, Bool, true, false, not, ◌==◌, inl, List, [], ◌∷◌, ◌++◌, map, sum, length, Option, None, Some, All, filter, flat_map, refl, sym, ap, ◌∙◌, subst, arith, append-nil, length-append}
+use Rattle.dns_spec.proofs.Common.{eqb-true, ltb-false, none-some, flat_map-append, length-map, length-filter_both, option_to_list, DomainName, is_name, folded, names_equal, same, at_or_below, ResourceRecord, ZoneContents, data_order, at, of_type, with_owner, found, Section, answer, Item, records_of}
 use Rattle.std.proofs.lemmas.List.Elements.{filter_map-append}
 use Rattle.std.specs.List.{filter_map, fold}
 use Rattle.dns_spec.specs.Checks.{most_of_a_set, count, large_set, Passes}
-use Rattle.dns_spec.specs.Answer.{most_aliases, item, alias_set, last_sought, alias_items, asked_records, Outcome, outcome_by, outcome_at, outcome, targets_of, targets_inside, targets_outside, targets, address_set, address_sets, extra, main_items, items, nodes_to, most_visits, names_looked_up}
+use Rattle.dns_spec.specs.Answer.{most_aliases, item, alias_set, last_sought, alias_items, Outcome, outcome_by, outcome_at, outcome, targets_of, targets_inside, targets_outside, targets, address_sets, extra, main_items, items, nodes_to, most_visits, names_looked_up}
 use Rattle.dns_spec.proofs.DomainNames.NameLaws.{names_equal-decides, length-is_name}
 use Rattle.dns_spec.proofs.Records.SortedOnce.{Each, Among, each_filter, among_filter, length-sort_by}
 use Rattle.dns_spec.proofs.Replies.ItemSets.{any_false, filter_test}
@@ -35,7 +35,7 @@ mapped_short f [] = omega arith
 mapped_short {Y = Y} f (x ∷ xs) = grind (arith, (mapped_short f xs))
 
 targets_short : (s : Section) (rs : List ResourceRecord) → length (targets_of (item s rs)) ≤ length rs
-targets_short s rs = subst (λ xs. length (filter_map target_of xs) ≤ length rs) (sym (item_records s rs)) (mapped_short target_of rs)
+targets_short s rs = grind (arith, item_records, mapped_short)
 
 typed_shown : (o : DomainName) (t : ℕ) (rs : List ResourceRecord)
     → length (filter (λ (r : ResourceRecord). r.rtype == t) (with_owner o rs)) ≡ length (filter (λ (r : ResourceRecord). r.rtype == t) rs)
@@ -76,25 +76,17 @@ module _ (z : ZoneContents) (origin : folded z.origin ≡ z.origin) (low : Each 
       let c = count_few n t in
       omega (arith, a, b, c)
 
-  asked_few : (o n : DomainName) (t : ℕ) → length (asked_records t (with_owner o (at z n))) ≤ most_of_a_set
-  asked_few o n t = grind (arith, shown_few)
-
-  found_few : (s : DomainName) (rs : List ResourceRecord) (t : ℕ) → found z s ≡ Some rs → length (asked_records t rs) ≤ most_of_a_set
-  found_few s rs t e = grind (arith, asked_few, none-some, same_Some)
-
   outcome_few : (s : DomainName) (t : ℕ) (x : Option DomainName) (y : Option (List ResourceRecord)) → found z s ≡ y → length (targets (outcome_by z t x y)) ≤ most_of_a_set
   outcome_few s t x y h =
       grind (
         arith,
-        ap₂,
-        append-nil,
         length-append,
         parted,
         targets_short,
         length-map,
         length-sort_by,
         count_few,
-        found_few,
+        shown_few,
       )
 
   targets_few : (q : DomainName) (t : ℕ) → length (targets (outcome z q t)) ≤ most_of_a_set
@@ -102,37 +94,25 @@ module _ (z : ZoneContents) (origin : folded z.origin ≡ z.origin) (low : Each 
   targets_few q t = grind (arith, targets_last, outcome_few)
 
 -- sets
-item_one : (s : Section) (rs : List ResourceRecord) → length (item s rs) ≤ 1
-item_one s rs = grind arith
-
 main_one : (z : ZoneContents) (t : ℕ) (x : Option DomainName) (y : Option (List ResourceRecord)) → length (main_items (outcome_by z t x y)) ≤ 1
 main_one z t x y = grind arith
 
 aliases_few : (z : ZoneContents) (ns : List DomainName) → length (flat_map (λ n. item answer (alias_set z n)) ns) ≤ length ns
 aliases_few z [] = omega arith
-aliases_few z (n ∷ ns) = grind (arith, length-append, item_one, (aliases_few z ns))
+aliases_few z (n ∷ ns) = grind (arith, length-append, (aliases_few z ns))
 
 alias_items_few : (z : ZoneContents) (q : DomainName) (t : ℕ) → length (alias_items z q t) ≤ 1 + most_aliases
 alias_items_few z q t = grind (arith, aliases_few, chain_short)
-
-address_one : (z : ZoneContents) (earlier : List Item) (n : DomainName) (t : ℕ) → length (address_set z earlier n t) ≤ 1
-address_one z earlier n t = grind (arith, item_one)
 
 extra_few : (z : ZoneContents) (earlier : List Item) (ms : List DomainName) → length (extra z earlier ms) ≤ 2 * length ms
 unfolding extra
 extra_few z earlier [] = omega arith
 extra_few z earlier (m ∷ ms) =
-    let sets = address_sets z earlier m in
-    let a = length-append sets (extra z (earlier ++ sets) ms) in
-    let b = length-append (address_set z earlier m type_a) (address_set z earlier m type_aaaa) in
-    let c = address_one z earlier m type_a in
-    let d = address_one z earlier m type_aaaa in
-    let e = extra_few z (earlier ++ sets) ms in
-    omega (arith, a, b, c, d, e)
+    grind (arith, length-append, (extra_few z (earlier ++ (address_sets z earlier m)) ms))
 
 module _ (z : ZoneContents) (origin : folded z.origin ≡ z.origin) (low : All (λ (r : ResourceRecord). folded r.owner ≡ r.owner) z.records) (passes : Passes z) (q : DomainName) (t : ℕ) where
   pub few_targets : length (targets (outcome z q t)) ≤ most_of_a_set
-  few_targets = targets_few z origin (each_from_all (λ (r : ResourceRecord). folded r.owner ≡ r.owner) z.records low) passes q t
+  few_targets = grind (arith, targets_few, each_from_all)
 
   pub few_items : length (items z q t) ≤ 2 + most_aliases + 2 * most_of_a_set
   unfolding items outcome outcome_at

@@ -1,8 +1,8 @@
 -- A reply depends on the first octets of a datagram alone.
-use Rattle.std.proofs.Common.{◌≡◌, ℕ, ◌+◌, ◌-◌, ◌<◌, ◌≤◌, Bool, not, cond, ◌==◌, ◌⊎◌, inl, inr, List, length, take, drop, Option, None, refl, sym, ap, ◌∙◌, arith, take_all, take-take, length-take-le}
-use Rattle.dns_spec.proofs.Common.{cases_lt, drop-take, Octets, number_of, ZoneContents, option_map, Item, decide_query, decide, reply_of, reply_with, keep_longest, reply, reply_octets, octets_of}
+use Rattle.std.proofs.Common.{◌≡◌, ℕ, ◌<◌, ◌≤◌, Bool, not, cond, ◌==◌, ◌⊎◌, inl, inr, List, length, take, Option, None, refl, sym, ap, arith, take_all, length-take-le}
+use Rattle.dns_spec.proofs.Common.{cases_lt, Octets, ZoneContents, option_map, Item, decide_query, decide, reply_of, reply_with, keep_longest, reply, reply_octets, octets_of}
 use Rattle.dns_spec.specs.Reading.{Header, MessageQuestion, format_error, not_implemented}
-use Rattle.dns_spec.specs.Query.{most_over_udp, field16, opcode, head_of, refusal_head, question_at, counts_are_one_question, is_ignored, QueryRead, absent, refused_with, query_or_error, query_read}
+use Rattle.dns_spec.specs.Query.{most_over_udp, opcode, head_of, refusal_head, question_at, counts_are_one_question, is_ignored, QueryRead, absent, refused_with, query_or_error, query_read}
 use Rattle.dns_spec.proofs.Messages.Question.{question_ends}
 
 -- what is looked at of a query
@@ -20,29 +20,11 @@ too_long : (d : Octets) (y : Option MessageQuestion) → 271 < length d → ques
 too_long d y h h1 = grind (arith, question_ends)
 
 module _ (d : Octets) (long : most_over_udp < length d) where
-  field_kept : (i : ℕ) → i ≤ 10 → field16 d i ≡ field16 (take most_over_udp d) i
-  field_kept i h =
-      let whole : i + (most_over_udp - i) ≡ most_over_udp = omega arith in
-      let part : drop i (take most_over_udp d) ≡ take (most_over_udp - i) (drop i d) = ap (λ k. drop i (take k d)) (sym whole) ∙ drop-take i (most_over_udp - i) d in
-      ap number_of (sym (ap (take 2) part ∙ take-take 2 (most_over_udp - i) (drop i d) (omega arith)))
-
   shorter : length (take most_over_udp d) ≡ most_over_udp
   shorter = length-take-le most_over_udp d (omega arith)
 
-  ignored_kept : is_ignored d ≡ is_ignored (take most_over_udp d)
-  ignored_kept = grind arith
-
-  counts_kept : counts_are_one_question d ≡ counts_are_one_question (take most_over_udp d)
-  counts_kept = grind arith
-
-  question_kept : question_at d ≡ question_at (take most_over_udp d)
-  question_kept = too_long d (question_at d) (omega arith) refl ∙ sym (too_long (take most_over_udp d) (question_at (take most_over_udp d)) (omega (arith, shorter)) refl)
-
-  head_kept : head_of d ≡ head_of (take most_over_udp d)
-  head_kept = λ k. record { id = field_kept 0 (omega arith) k; flags = field_kept 2 (omega arith) k }
-
   query_kept : query_read d ≡ query_read (take most_over_udp d)
-  query_kept = query_is d ∙ (λ k. read_by (ignored_kept k) (head_kept k) (counts_kept k) (question_kept k)) ∙ sym (query_is (take most_over_udp d))
+  query_kept = grind (arith, query_is, too_long, shorter)
 
 pub first_octets_read : (d : Octets) → query_read d ≡ query_read (take most_over_udp d)
 first_octets_read d = go (cases_lt most_over_udp (length d))

@@ -1,6 +1,6 @@
 -- In a zone that passes each item of a reply is the records of a set at an owner, with one TTL.
-use Rattle.dns_spec.proofs.Common.{common_steps, eqb-true, eq-eqb, false≢true, or_parts, none-some, same_Some, list_any, DomainName, folded, names_equal, same, type_a, type_ns, type_cname, type_aaaa, qtype_any, ResourceRecord, ZoneContents, at, of_type, rrset, with_owner, records_at, rising_types, of_first_type, of_lowest_type, cut_of, found, ttls_differ, Passes, Section, answer, authority, Item, no_error, item, follows_alias, alias_set, chain, alias_items, asked_records, negative_soa, negative, positive, has_any, outcome_by, outcome_at, outcome, address_set, address_sets, extra, items}
-use Rattle.std.proofs.Common.{◌≡◌, ℕ, ◌≤◌, Bool, true, false, ◌&&◌, not, cond, ◌==◌, ◌⊎◌, inl, inr, List, [], ◌∷◌, ◌++◌, map, length, Option, None, Some, is_some, option_map, unwrap_or, All, filter, flat_map, refl, sym, ap, ap₂, ◌∙◌, subst, arith}
+use Rattle.dns_spec.proofs.Common.{common_steps, eqb-true, eq-eqb, false≢true, or_parts, none-some, same_Some, list_any, DomainName, folded, names_equal, same, type_ns, type_cname, ResourceRecord, ZoneContents, at, of_type, rrset, with_owner, records_at, of_lowest_type, found, ttls_differ, Passes, Section, answer, Item, no_error, item, follows_alias, alias_set, chain, alias_items, asked_records, negative_soa, negative, positive, has_any, outcome_by, outcome_at, outcome, address_sets, extra, items}
+use Rattle.std.proofs.Common.{◌≡◌, ℕ, ◌≤◌, Bool, true, false, ◌&&◌, not, cond, ◌==◌, ◌⊎◌, inl, inr, List, [], ◌∷◌, ◌++◌, map, length, Option, None, Some, All, filter, flat_map, refl, sym, ap, ap₂, ◌∙◌, subst, arith}
 use Rattle.dns_spec.specs.Laws.{IsSetAt}
 use Rattle.dns_spec.proofs.DomainNames.NameLaws.{names_equal-decides}
 use Rattle.dns_spec.proofs.Records.SortedOnce.{Each, Among, each_at, each_sort, among_filter}
@@ -127,9 +127,6 @@ module _ (z : ZoneContents) (origin : folded z.origin ≡ z.origin) (low : Each 
       each_weak [] e = tt
       each_weak (r ∷ rs) e = (record { owner = e.0.0.0; ttl = e.0.0.1 e.0.1; rtype = e.0.1 }, each_weak rs e.1)
 
-  own_set : (n : DomainName) (t : ℕ) → IsSetAt (rrset z n t)
-  own_set n t = one_set (folded n) (first_ttl t (at z n)) t (rrset z n t) (own_records n t)
-
   referral_set : (c : DomainName) → IsSetAt (with_owner c (rrset z c type_ns))
   referral_set c =
       let k = first_ttl type_ns (at z c) in
@@ -147,45 +144,25 @@ module _ (z : ZoneContents) (origin : folded z.origin ≡ z.origin) (low : Each 
   found_shown : (q : DomainName) (rs : List ResourceRecord) → found z q ≡ Some rs → Shown q rs
   found_shown q rs e = grind (arith, none-some, same_Some)
 
-  found_set : (q : DomainName) (rs : List ResourceRecord) (t : ℕ) → Shown q rs → IsSetAt (of_type t rs)
-  found_set q rs t s = subst (λ x. IsSetAt (of_type t x)) s.whole (shown_set q s.source t)
-
   alias_is_set : (s : DomainName) → IsSetAt (alias_set z s)
-  alias_is_set s = go (is_some (cut_of z s)) (some (found z s) refl)
-    where
-      some : (y : Option (List ResourceRecord)) → found z s ≡ y → IsSetAt (unwrap_or (option_map (of_type type_cname) y) [])
-      some None e = one_record_set [] (omega arith)
-      some (Some rs) e = found_set s rs type_cname (found_shown s rs e)
-
-      go : (t : Bool) → IsSetAt (unwrap_or (option_map (of_type type_cname) (found z s)) [])
-          → IsSetAt (cond t [] (unwrap_or (option_map (of_type type_cname) (found z s)) []))
-      go true e = one_record_set [] (omega arith)
-      go false e = e
+  alias_is_set s = grind (arith, one_record_set, shown_set)
 
   units : {X : Type 0} (xs : List X) → Each (λ _. Unit {0}) xs
   units [] = tt
   units (x ∷ xs) = (tt, units xs)
 
   lowest_set : (q : DomainName) (rs : List ResourceRecord) → Shown q rs → IsSetAt (of_lowest_type rs)
-  lowest_set q rs s = go (rising_types rs)
-    where
-      go : (ts : List ℕ) → IsSetAt (of_first_type ts rs)
-      go [] = one_record_set [] (omega arith)
-      go (t ∷ ts) = found_set q rs t s
+  lowest_set q rs s = grind (arith, one_record_set, shown_set)
 
   asked_is_set : (q : DomainName) (rs : List ResourceRecord) (t : ℕ) → Shown q rs → Sets (item answer (asked_records t rs))
-  asked_is_set q rs t s = go (t == qtype_any)
-    where
-      go : (b : Bool) → Sets (item answer (cond b (of_lowest_type rs) (of_type t rs)))
-      go true = item_set answer (of_lowest_type rs) (lowest_set q rs s)
-      go false = item_set answer (of_type t rs) (found_set q rs t s)
+  asked_is_set q rs t s = grind (arith, shown_set)
 
   negative_set : Sets (negative_soa z)
   negative_set = grind (arith, common_steps, item_set, one_soa, few_soa, one_record_set)
 
   main_sets : (t : ℕ) (s : DomainName) (x : Option DomainName) (y : Option (List ResourceRecord)) → found z s ≡ y
       → Sets (outcome_by z t x y).answers × Sets (outcome_by z t x y).authorities
-  main_sets t s (Some c) y e = (tt, item_set authority (with_owner c (rrset z c type_ns)) (referral_set c))
+  main_sets t s (Some c) y e = grind (arith, item_set, referral_set)
   main_sets t s None None e = (tt, negative_set)
   main_sets t s None (Some rs) e = go (follows_alias t && has_any (of_type type_cname rs)) (has_any (asked_records t rs))
     where
@@ -204,18 +181,11 @@ module _ (z : ZoneContents) (origin : folded z.origin ≡ z.origin) (low : Each 
           (λ s _. item_set answer (alias_set z s) (alias_is_set s)) (units (chain z q t))
       go false = tt
 
-  address_is_set : (earlier : List Item) (n : DomainName) (t : ℕ) → Sets (address_set z earlier n t)
-  address_is_set earlier n t = grind (arith, item_set, own_set)
-
   extra_sets : (earlier : List Item) (ms : List DomainName) → Sets (extra z earlier ms)
   unfolding extra
   extra_sets earlier [] = tt
   extra_sets earlier (m ∷ ms) =
-      let P = λ (i : Item). IsSetAt i.records in
-      let sets = address_sets z earlier m in
-      each_append P sets (extra z (earlier ++ sets) ms)
-      (each_append P (address_set z earlier m type_a) (address_set z earlier m type_aaaa) (address_is_set earlier m type_a) (address_is_set earlier m type_aaaa))
-      (extra_sets (earlier ++ sets) ms)
+      grind (arith, one_set, own_records, (extra_sets (earlier ++ (address_sets z earlier m)) ms))
 
   items_sets : (q : DomainName) (t : ℕ) → Sets (items z q t)
   unfolding items outcome outcome_at

@@ -1,5 +1,5 @@
 -- What is kept of a list of sets is its longest beginning that fits.
-use Rattle.std.proofs.Common.{◌≡◌, ℕ, zero, suc, ◌<◌, ◌≤◌, Bool, true, false, cond, nat_le, ◌⊎◌, inl, inr, List, [], length, take, refl, sym, ap, ◌∙◌, arith, le-leb, leb-true, eq-or-lt_of_le}
+use Rattle.std.proofs.Common.{◌≡◌, ℕ, zero, suc, ◌<◌, ◌≤◌, Bool, true, false, cond, nat_le, ◌⊎◌, inl, inr, List, [], length, take, refl, sym, ap, ◌∙◌, arith, eq-or-lt_of_le}
 use Rattle.dns_spec.proofs.Common.{false≢true, length-take-le, Item, kept, greatest}
 
 pub greatest_bound : (test : ℕ → Bool) (n : ℕ) → greatest test n ≤ n
@@ -29,10 +29,10 @@ module _ (size_of : List Item → ℕ) (limit : ℕ) (sets : List Item) where
   -- it fits where nothing does
   pub kept_fits : size_of [] ≤ limit → size_of (kept size_of limit sets) ≤ limit
   unfolding how_many
-  kept_fits h = leb-true (size_of (take how_many sets)) limit (greatest_passes (λ k. nat_le (size_of (take k sets)) limit) (length sets) (le-leb (size_of []) limit h))
+  kept_fits h = grind (arith, greatest_passes)
 
   pub length-kept : length (kept size_of limit sets) ≡ greatest (λ k. nat_le (size_of (take k sets)) limit) (length sets)
-  length-kept = length-take-le (greatest (λ k. nat_le (size_of (take k sets)) limit) (length sets)) sets (greatest_bound (λ k. nat_le (size_of (take k sets)) limit) (length sets))
+  length-kept = grind (arith, length-take-le, greatest_bound)
 
   -- and no longer beginning does
   pub kept_longest : (k : ℕ) → k ≤ length sets → size_of (take k sets) ≤ limit → k ≤ length (kept size_of limit sets)

@@ -3,8 +3,8 @@ use Rattle.std.proofs.Common.{◌≡◌, ℕ, ◌+◌, ◌^◌, ◌<◌, ◌≤�
 use Rattle.std.proofs.lemmas.Bool.{cond_both, and_parts, leb-true}
 use Rattle.dns_spec.proofs.Common.{none-some, same_Some, cond_some, Octets, DomainName, is_name, number_of, ZoneContents, Header, MessageQuestion, Spells, name_at, Item, layout, message_of, records_size, size, outcome, items, is_authoritative}
 use Rattle.std.proofs.lemmas.List.Elements.{All-nil, All-take, All-drop}
-use Rattle.dns_spec.specs.Query.{field16, bit, head_of, reply_head, refusal_head, question_of, question_at, QueryRead, absent, refused_with, query, query_or_error, query_read}
-use Rattle.dns_spec.specs.Reply.{truncated, Decision, silence, header_alone, question_alone, answered, decide_query, decide, Reply, answer_with, reply_of, reply_with, reply_octets, reply_message, keep_longest, reply, greatest}
+use Rattle.dns_spec.specs.Query.{field16, head_of, reply_head, refusal_head, question_of, question_at, query_read}
+use Rattle.dns_spec.specs.Reply.{truncated, Decision, silence, header_alone, question_alone, answered, decide, Reply, answer_with, reply_of, reply_with, reply_octets, reply_message, keep_longest, reply, greatest}
 use Rattle.dns_spec.specs.Laws.{sections_in_order, IsWritable, IsAskable, HasRoom}
 use Rattle.dns_spec.proofs.Records.SortedOnce.{Each}
 use Rattle.dns_spec.proofs.Messages.NameReading.{name_at_computes}
@@ -27,11 +27,8 @@ field_bound d i e =
     (each_from_all (λ o. o < 256) (take 2 (drop i d)) (All-take (λ o. o < 256) 2 (drop i d) (All-drop (λ o. o < 256) i d e)))
 
 -- the header of a reply fits its fields
-bit_bound : (b : Bool) → bit b ≤ 1
-bit_bound b = grind arith
-
 flags_bound : (h : Header) (aa tc : Bool) (rcode : ℕ) → rcode < 16 → (reply_head h aa tc rcode).flags < 2 ^ 16
-flags_bound h aa tc rcode low = grind (arith, mod-lt, bit_bound)
+flags_bound h aa tc rcode low = grind (arith, mod-lt)
 
 -- a question that was read fits its fields
 askable : (d : Octets) (q : MessageQuestion) → All (λ o. o < 256) d → question_at d ≡ Some q → IsAskable q
@@ -51,36 +48,20 @@ record Refuses (d : Octets) (h : Header) : Type 0 where
   low : rcode < 16
   head : refusal_head (head_of d) rcode ≡ h
 
--- what a query that was read says of its header and question
-abbrev IsReadAs : Octets → QueryRead → Type 0
-IsReadAs d absent = Unit {0}
-IsReadAs d (refused_with h) = Refuses d h
-IsReadAs d (query h q) = (question_at d ≡ Some q) × (head_of d ≡ h)
-
-read_or_error : (d : Octets) (y : Option MessageQuestion) → question_at d ≡ y → IsReadAs d (query_or_error (head_of d) y)
-read_or_error d y h = grind arith
-
-read_as : (d : Octets) → IsReadAs d (query_read d)
-unfolding query_read
-read_as d = grind (arith, cond_both, read_or_error)
-
--- and what a decision says
+-- what a decision says
 abbrev Decided : Octets → Decision → Type 0
 Decided d silence = Unit {0}
 Decided d (header_alone h) = Refuses d h
 Decided d (question_alone h q) = (question_at d ≡ Some q) × Refuses d h
 Decided d (answered h q) = (question_at d ≡ Some q) × (head_of d ≡ h)
 
-decided_query : (z : ZoneContents) (d : Octets) (x : QueryRead) → IsReadAs d x → Decided d (decide_query z x)
-decided_query z d x h = grind arith
-
 decided : (z : ZoneContents) (d : Octets) → Decided d (decide z d)
-unfolding decide
-decided z d = decided_query z d (query_read d) (read_as d)
+unfolding decide query_read
+decided z d = grind (arith, cond_both)
 
 -- a question with sets that a message has room for
 roomy : (h : Header) (q : Option MessageQuestion) (is : List Item) → h.id < 2 ^ 16 → h.flags < 2 ^ 16 → IfSome q IsAskable → sections_in_order is ≡ true → HasRoom h q is
-roomy h q is id flags ok ordered = record { id = id; flags = flags; question = ok; in_order = ordered }
+roomy h q is id flags ok ordered = grind arith
 
 bare_size : size None [] ≡ 12
 unfolding size records_size

@@ -11,11 +11,7 @@ pub extra_append : (z : ZoneContents) (earlier : List Item) (ms ns : List Domain
 unfolding extra
 extra_append z earlier [] ns = ap (λ e. extra z e ns) (sym (append-nil earlier))
 extra_append z earlier (m ∷ ms) ns =
-    let sets = address_sets z earlier m in
-    let more = extra z (earlier ++ sets) ms in
-    ap (λ x. sets ++ x) (extra_append z (earlier ++ sets) ms ns)
-    ∙ sym (append_assoc sets more (extra z ((earlier ++ sets) ++ more) ns))
-    ∙ ap (λ e. (sets ++ more) ++ extra z e ns) (append_assoc earlier sets more)
+    grind (arith, (extra_append z (earlier ++ (address_sets z earlier m)) ms ns), append_assoc)
 
 -- aliases have no targets
 abbrev pub IsAlias : ResourceRecord → Type 0

@@ -1,8 +1,8 @@
 -- The sets of an answer stand in the order of their sections, and their records fit a message where those of the zone do.
-use Rattle.std.proofs.Common.{◌≡◌, ℕ, zero, suc, ◌<◌, ◌≤◌, min, append_assoc, append-nil, Bool, true, false, ◌&&◌, cond, nat_le, List, [], ◌∷◌, ◌++◌, map, reverse, take, Option, None, Some, All, find, flat_map, refl, sym, ap, subst, arith, rules}
+use Rattle.std.proofs.Common.{◌≡◌, ℕ, zero, suc, ◌<◌, ◌≤◌, min, append_assoc, append-nil, Bool, true, false, ◌&&◌, cond, nat_le, List, [], ◌∷◌, ◌++◌, map, take, Option, None, Some, All, find, flat_map, refl, sym, subst, arith, rules}
 use mathlib.Core.List.{reverse_aux}
-use Rattle.dns_spec.proofs.Common.{and_from, le-leb, none-some, same_Some, cond_some, option_and_then_some, All-nil, All-cons, All-head, All-tail, list_all, Octets, DomainName, is_name, folded, same, suffixes, type_a, type_ns, type_cname, type_aaaa, Piece, Part, octets, name, piece_front, cut, first_name, target, soa_minimum, ResourceRecord, ZoneContents, at, of_type, rrset, with_owner, of_lowest_type, is_cut, cut_of, found, Section, answer, authority, additional, Item, records_of, name_error, no_error}
-use Rattle.dns_spec.specs.Answer.{item, follows_alias, alias_set, first_target, next_sought, chain_from, chain, last_of, last_sought, alias_items, Outcome, asked_records, negative, positive, has_any, outcome_by, outcome_at, outcome, targets, address_set, address_sets, extra, main_items, items}
+use Rattle.dns_spec.proofs.Common.{and_from, le-leb, none-some, same_Some, All-nil, All-cons, All-head, All-tail, list_all, Octets, DomainName, is_name, same, suffixes, type_ns, type_cname, Piece, Part, octets, name, piece_front, cut, first_name, target, soa_minimum, ResourceRecord, ZoneContents, at, of_type, rrset, with_owner, cut_of, found, Section, answer, authority, additional, Item, records_of, name_error, no_error}
+use Rattle.dns_spec.specs.Answer.{item, follows_alias, alias_set, next_sought, chain_from, chain, last_of, last_sought, alias_items, Outcome, asked_records, negative, positive, has_any, outcome_by, outcome_at, outcome, targets, address_sets, extra, main_items, items}
 use Rattle.dns_spec.specs.Laws.{section_rank, sections_in_order, IsWritable}
 use Rattle.dns_spec.proofs.DomainNames.NameLaws.{is_name-tail, is_name-folded}
 use Rattle.dns_spec.proofs.Records.SortedOnce.{Each, each_filter, each_sort}
@@ -19,7 +19,7 @@ each_take P (suc k) (x ∷ xs) e = (e.0, each_take P k xs e.1)
 
 pub each_flat_map : {X Y : Type 0} (P : Y → Type 0) (Q : X → Type 0) (f : X → List Y) (xs : List X) → ((x : X) → Q x → Each P (f x)) → Each Q xs → Each P (flat_map f xs)
 each_flat_map P Q f [] g e = tt
-each_flat_map P Q f (x ∷ xs) g e = each_append P (f x) (flat_map f xs) (g x e.0) (each_flat_map P Q f xs g e.1)
+each_flat_map P Q f (x ∷ xs) g e = grind (arith, each_append, (each_flat_map P Q f xs g e.1))
 
 pub all_from_each : {X : Type 0} (P : X → Type 0) (xs : List X) → Each P xs → All P xs
 all_from_each P [] e = All-nil P
@@ -32,9 +32,6 @@ each_from_all P (x ∷ xs) a = (All-head P x xs a, each_from_all P xs (All-tail 
 each_reverse_onto : {X : Type 0} (P : X → Type 0) (xs ys : List X) → Each P xs → Each P ys → Each P (reverse_aux xs ys)
 each_reverse_onto P [] ys e f = f
 each_reverse_onto P (x ∷ xs) ys e f = each_reverse_onto P xs (x ∷ ys) e.1 (e.0, f)
-
-each_reverse : {X : Type 0} (P : X → Type 0) (xs : List X) → Each P xs → Each P (reverse xs)
-each_reverse P xs e = each_reverse_onto P xs [] e tt
 
 found_each : {X : Type 0} (P : X → Type 0) (test : X → Bool) (xs : List X) (y : X) → Each P xs → find test xs ≡ Some y → P y
 found_each P test [] y e h = absurd (none-some y h)
@@ -49,7 +46,7 @@ each_suffix [] h = (h, tt)
 each_suffix (l ∷ n) h = (h, each_suffix n (is_name-tail l n h))
 
 pub named_cut : (z : ZoneContents) (q c : DomainName) → Named q → cut_of z q ≡ Some c → Named c
-named_cut z q c h e = found_each Named (is_cut z) (reverse (suffixes (folded q))) c (each_reverse Named (suffixes (folded q)) (each_suffix (folded q) (is_name-folded q h))) e
+named_cut z q c h e = grind (arith, found_each, each_reverse_onto, each_suffix, is_name-folded)
 
 -- the names in data are names
 abbrev NamedPart : Part → Type 0
@@ -87,15 +84,12 @@ of_type_writable t rs w = grind (arith, each_sort, each_filter)
 
 with_owner_writable : (n : DomainName) (rs : List ResourceRecord) → Named n → Writable rs → Writable (with_owner n rs)
 with_owner_writable n [] h w = tt
-with_owner_writable n (r ∷ rs) h w = (record { owner = h; rtype = w.0.rtype; ttl = w.0.ttl; rdata = w.0.rdata }, with_owner_writable n rs h w.1)
+with_owner_writable n (r ∷ rs) h w = grind (arith, (with_owner_writable n rs h w.1))
 
 -- The names sought are names.
 module _ (z : ZoneContents) where
-  first_target_named : (rs : List ResourceRecord) (m : DomainName) → first_target rs ≡ Some m → Named m
-  first_target_named rs m h = grind (arith, none-some, named_target)
-
   next_named : (sought : List DomainName) (s m : DomainName) → next_sought z sought s ≡ Some m → Named m
-  next_named sought s m e = grind (arith, option_and_then_some, cond_some, first_target_named)
+  next_named sought s m e = grind (arith, named_target)
 
   chain_from_named : (k : ℕ) (sought : List DomainName) (s : DomainName) → Named s → Each Named (chain_from z k sought s)
   unfolding chain_from
@@ -150,11 +144,8 @@ module _ (z : ZoneContents) (w : Writable z.records) where
   negative_right : (rcode : ℕ) → rcode < 16 → Right (negative z rcode)
   negative_right rcode low = search (rules, item_stood, negative_writable, rrset_writable)
 
-  lowest_writable : (rs : List ResourceRecord) → Writable rs → Writable (of_lowest_type rs)
-  lowest_writable rs v = grind (arith, of_type_writable)
-
   asked_stood : (t : ℕ) (rs : List ResourceRecord) → Writable rs → Each (Stood answer) (item answer (asked_records t rs))
-  asked_stood t rs v = grind (arith, Each, item_stood, lowest_writable, of_type_writable)
+  asked_stood t rs v = grind (arith, of_type_writable)
 
   answer_from_right : (t : ℕ) (rs : List ResourceRecord) → Writable rs → Right (outcome_by z t None (Some rs))
   answer_from_right t rs v = go (follows_alias t && has_any (of_type type_cname rs)) (has_any (asked_records t rs))
@@ -195,17 +186,11 @@ module _ (z : ZoneContents) (w : Writable z.records) where
         authorities = o.authorities;
       }
 
-  address_set_stood : (earlier : List Item) (n : DomainName) (t : ℕ) → Each (Stood additional) (address_set z earlier n t)
-  address_set_stood earlier n t = grind (arith, Each, item_stood, rrset_writable)
-
   extra_stood : (earlier : List Item) (ms : List DomainName) → Each (Stood additional) (extra z earlier ms)
   unfolding extra
   extra_stood earlier [] = tt
   extra_stood earlier (m ∷ ms) =
-      let sets = address_sets z earlier m in
-      each_append (Stood additional) sets (extra z (earlier ++ sets) ms)
-      (each_append (Stood additional) (address_set z earlier m type_a) (address_set z earlier m type_aaaa) (address_set_stood earlier m type_a) (address_set_stood earlier m type_aaaa))
-      (extra_stood (earlier ++ sets) ms)
+      grind (arith, rrset_writable, (extra_stood (earlier ++ (address_sets z earlier m)) ms))
 
 -- sets in the order of their sections
 abbrev Ordered : List Item → Type 0
@@ -215,14 +200,14 @@ Ordered (i ∷ is) = Each (λ (j : Item). section_rank i.section ≤ section_ran
 ordered_take : (k : ℕ) (is : List Item) → Ordered is → Ordered (take k is)
 ordered_take zero is o = tt
 ordered_take (suc k) [] o = tt
-ordered_take (suc k) (i ∷ is) o = (each_take (λ (j : Item). section_rank i.section ≤ section_rank j.section) k is o.0, ordered_take k is o.1)
+ordered_take (suc k) (i ∷ is) o = grind (arith, each_take, (ordered_take k is o.1))
 
 abbrev NotBefore : Section → Item → Type 0
 NotBefore s j = section_rank s ≤ section_rank j.section
 
 not_before : (s s' : Section) (js : List Item) → section_rank s ≤ section_rank s' → Each (Stood s') js → Each (NotBefore s) js
 not_before s s' [] h g = tt
-not_before s s' (j ∷ js) h g = (let e = ap section_rank g.0.0 in omega (arith, e), not_before s s' js h g.1)
+not_before s s' (j ∷ js) h g = grind (arith, (not_before s s' js h g.1))
 
 -- sets of one section in front of sets of none before it
 ordered_front : (s : Section) (xs ys : List Item) → Each (Stood s) xs → Each (NotBefore s) ys → Ordered ys → Ordered (xs ++ ys)
@@ -249,7 +234,7 @@ stood_records s (i ∷ is) e = (e.0.1, stood_records s is e.1)
 
 records_writable : (is : List Item) → Each (λ (i : Item). Writable i.records) is → Writable (records_of is)
 records_writable [] e = tt
-records_writable (i ∷ is) e = each_append IsWritable i.records (records_of is) e.0 (records_writable is e.1)
+records_writable (i ∷ is) e = grind (arith, each_append, (records_writable is e.1))
 
 module _ (z : ZoneContents) (w : All IsWritable z.records) (q : DomainName) (t : ℕ) (h : is_name q ≡ true) where
   fits : Writable z.records

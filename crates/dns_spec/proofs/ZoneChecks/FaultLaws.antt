@@ -1,5 +1,5 @@
 -- A fault stands among those of a zone exactly where its condition holds, once, by the order of owners and then of codes.
-use Rattle.dns_spec.proofs.Common.{common_steps, ◌≡◌, ℕ, ◌↔◌, Bool, true, false, ◌&&◌, ◌||◌, ◌⊎◌, inl, inr, List, [], ◌∷◌, ◌++◌, map, ◌==◌, filter, refl, sym, ap, ◌∙◌, subst, arith, Ordering, Less, nat_cmp, is_lt, Contains, list_any, list_all, flat_map, ordering_then, and_parts, and_from, false≢true, eqb-true, eq-eqb, lt-ltb, tied_itself, flat_map-cons, DomainName, folded, names_equal, same, name_order, ResourceRecord, ZoneContents, at, owns, distinct}
+use Rattle.dns_spec.proofs.Common.{common_steps, ◌≡◌, ℕ, ◌↔◌, Bool, true, false, ◌&&◌, ◌||◌, ◌⊎◌, inl, inr, List, [], ◌∷◌, ◌++◌, map, ◌==◌, filter, refl, sym, ap, ◌∙◌, subst, arith, Ordering, Less, nat_cmp, is_lt, Contains, list_any, list_all, flat_map, ordering_then, and_parts, and_from, false≢true, eqb-true, eq-eqb, tied_itself, flat_map-cons, DomainName, folded, names_equal, same, name_order, ResourceRecord, ZoneContents, owns, distinct}
 use Rattle.std.specs.List.Sorted.{IsStrictlySortedBy}
 use Rattle.dns_spec.specs.Checks.{Check, is_origin, is_owner, checks, fails, Fault, faults_at, checked_names, faults, fault_order}
 use Rattle.dns_spec.proofs.Records.SortedOnce.{Each, Among, each_at, Rises, apart_distinct, sort_rises, among_sort, among_distinct, among_filter, filter_among, filter_each, each_filter}
@@ -19,13 +19,12 @@ among_back a (x ∷ xs) ys m = inr (among_back a xs ys m)
 among_either : {X : Type 0} (a : X) (xs ys : List X) → Among a (xs ++ ys) → Among a xs ⊎ Among a ys
 among_either a [] ys m = inr m
 among_either a (x ∷ xs) ys (inl e) = inl (inl e)
-among_either a (x ∷ xs) ys (inr m) = elim (among_either a xs ys m) [ inl k ↦ inl (inr k) | inr k ↦ inr k ]
+among_either a (x ∷ xs) ys (inr m) = grind (arith, (among_either a xs ys m))
 
 among_joined : {X Y : Type 0} (f : X → List Y) (a : Y) (x : X) (xs : List X) → Among x xs → Among a (f x) → Among a (flat_map f xs)
 among_joined f a x [] m k = absurd m
 among_joined f a x (y ∷ ys) (inl e) k = grind (arith, flat_map-cons, among_front)
-among_joined f a x (y ∷ ys) (inr m) k =
-    subst (Among a) (sym (flat_map-cons f y ys)) (among_back a (f y) (flat_map f ys) (among_joined f a x ys m k))
+among_joined f a x (y ∷ ys) (inr m) k = grind (arith, among_back, (among_joined f a x ys m k))
 
 joined_among : {X Y : Type 0} (f : X → List Y) (a : Y) (xs : List X) → Among a (flat_map f xs) → (x : X) × Among x xs × Among a (f x)
 joined_among f a [] m = absurd m
@@ -57,10 +56,6 @@ among_any p x (y ∷ ys) (inr m) e = grind (arith, (among_any p x ys m e))
 abbrev IsChecked : ZoneContents → DomainName → Type 0
 IsChecked z n = (is_origin z n ≡ true) ⊎ (is_owner z n ≡ true)
 
--- what holds of a name's records and of no records holds of an owner
-owner_if : (z : ZoneContents) (n : DomainName) (p : List ResourceRecord → Bool) → p [] ≡ false → p (at z n) ≡ true → is_owner z n ≡ true
-owner_if z n p none some = grind (arith, common_steps, false≢true, lt-ltb)
-
 any_of_both : {X : Type 0} (p q : X → Bool) (xs : List X) → list_any (λ x. p x && q x) xs ≡ true → list_any p xs ≡ true
 any_of_both p q xs e = grind (arith, any_among, among_any, and_parts)
 
@@ -74,7 +69,7 @@ abbrev OfChecked : ZoneContents → DomainName → ℕ × Check → Type 0
 OfChecked z n c = c.1 z n ≡ true → IsChecked z n
 
 each_of_checked : (z : ZoneContents) (n : DomainName) → Each (OfChecked z n) checks
-each_of_checked z n = grind (arith, common_steps, and_parts, owner_if_owns, owner_if)
+each_of_checked z n = grind (arith, common_steps, owner_if_owns)
 
 pub failing_is_checked : (z : ZoneContents) (n : DomainName) (code : ℕ) → fails z n code ≡ true → IsChecked z n
 failing_is_checked z n code e =

@@ -1,12 +1,11 @@
 -- The faults of a list of records do not depend on its order.
-use Rattle.std.proofs.Common.{◌≡◌, ℕ, Bool, true, ◌&&◌, ◌||◌, not, eqb, nat_lt, ◌==◌, ◌⊎◌, inl, inr, List, [], ◌∷◌, map, reverse, length, refl, sym, ap, ap₂, ◌∙◌, arith, filter, flat_map, IsPermutation, is_eq, nat_cmp, Equal}
-use Rattle.dns_spec.proofs.Common.{false≢true, lt-ltb, eqb-true, eq-eqb, ne_eqb, ltb-true, reverse-reverse, list_any, IsTotalOrder, lists_ties, to_ascii_lowercase, Octets, DomainName, folded, same, names_equal, at_or_below, below, suffixes, label_order, name_order, type_a, type_ns, type_cname, type_soa, type_mx, type_aaaa, type_srv, ResourceRecord, ZoneContents, at, owns, distinct}
+use Rattle.std.proofs.Common.{◌≡◌, ℕ, Bool, true, ◌&&◌, eqb, nat_lt, ◌==◌, ◌⊎◌, inl, inr, List, [], ◌∷◌, map, reverse, length, refl, sym, ap, ap₂, ◌∙◌, arith, filter, flat_map, IsPermutation, is_eq, nat_cmp, Equal}
+use Rattle.dns_spec.proofs.Common.{false≢true, lt-ltb, eqb-true, eq-eqb, ne_eqb, ltb-true, reverse-reverse, list_any, IsTotalOrder, lists_ties, to_ascii_lowercase, Octets, DomainName, folded, same, names_equal, label_order, name_order, type_ns, ResourceRecord, ZoneContents, at, owns, distinct}
 use Rattle.std.proofs.lemmas.List.Sums.{length-filter}
 use Rattle.std.proofs.lemmas.List.Sorted.{sum_by-IsPermutation}
 use Rattle.std.proofs.lemmas.Cmp.{nat_cmp_total, nat_list_cmp_total, lists_total, on_total}
 use Rattle.std.proofs.lemmas.Str.Ascii.{lowercase-lowercase}
-use Rattle.dns_spec.specs.Tree.{is_cut, without_first}
-use Rattle.dns_spec.specs.Checks.{most_sets, Check, count, has_target, at_or_below_cut, below_cut, has_address, no_soa, many_soa, soa_elsewhere, no_ns, outside, cname_and_other, many_cname, ttls_differ, ns_target_alias, lacks_address, ns_target_lost, mx_target_alias, data_at_cut, first_is_asterisk, wildcard_ns, large_set, many_sets, Fault, faults_at, checked_names, faults}
+use Rattle.dns_spec.specs.Checks.{most_sets, Check, has_target, ttls_differ, ns_target_alias, lacks_address, ns_target_lost, mx_target_alias, data_at_cut, first_is_asterisk, wildcard_ns, large_set, many_sets, Fault, faults_at, checked_names, faults}
 use Rattle.dns_spec.proofs.DomainNames.NameLaws.{names_equal-decides}
 use Rattle.dns_spec.proofs.Records.SortedOnce.{Each, Among, length-sort_by, same_sorted}
 
@@ -29,13 +28,13 @@ filter_twice p q [] = refl
 filter_twice p q (x ∷ xs) = grind (arith, (filter_twice p q xs))
 
 same_filter : {X : Type 0} (p : X → Bool) (xs ys : List X) → SameCounts xs ys → SameCounts (filter p xs) (filter p ys)
-same_filter p xs ys c q = ap length (filter_twice p q xs) ∙ c (λ x. p x && q x) ∙ sym (ap length (filter_twice p q ys))
+same_filter p xs ys c q = grind (arith, filter_twice)
 
 -- the values of a function on such lists are the same
 module _ {X Y : Type 0} (f : X → Y) (eq : Y → Y → Bool) (decides : (a b : Y) → (eq a b ≡ true → a ≡ b) × (a ≡ b → eq a b ≡ true)) where
   any_value : (a : Y) (xs : List X) → Among a (map f xs) → list_any (λ x. eq a (f x)) xs ≡ true
   any_value a [] m = absurd m
-  any_value a (x ∷ xs) (inl e) = ap (λ t. t || list_any (λ x. eq a (f x)) xs) ((decides a (f x)).1 e)
+  any_value a (x ∷ xs) (inl e) = grind arith
   any_value a (x ∷ xs) (inr m) = grind (arith, (any_value a xs m))
 
   value_any : (a : Y) (xs : List X) → list_any (λ x. eq a (f x)) xs ≡ true → Among a (map f xs)
@@ -43,7 +42,7 @@ module _ {X Y : Type 0} (f : X → Y) (eq : Y → Y → Bool) (decides : (a b : 
   value_any a (x ∷ xs) e = grind (arith, Among, inl, inr, (value_any a xs))
 
   same_values : (xs ys : List X) → SameCounts xs ys → (a : Y) → Among a (map f xs) → Among a (map f ys)
-  same_values xs ys c a m = value_any a ys (sym (same_any (λ x. eq a (f x)) xs ys c) ∙ any_value a xs m)
+  same_values xs ys c a m = grind (arith, value_any, same_any, any_value)
 
 pub each_any : {X : Type 0} (xs : List X) → Each (λ _. Unit {0}) xs
 each_any [] = tt
@@ -124,96 +123,52 @@ module _ (o : DomainName) (xs ys : List ResourceRecord) (c : SameCounts xs ys) w
   unfolding z z'
   owns_kept n t = same_any (λ (r : ResourceRecord). same r.owner n && r.rtype == t) xs ys c
 
-  count_kept : (n : DomainName) (t : ℕ) → count z n t ≡ count z' n t
-  count_kept n t = same_at n (λ (r : ResourceRecord). r.rtype == t)
-
-  cut_kept : Kept is_cut
-  unfolding z z'
-  cut_kept n = ap (λ b. below n o && b) (owns_kept n type_ns)
-
   target_kept : (n : DomainName) (type : ℕ → Bool) (p q : DomainName → Bool) → ((m : DomainName) → p m ≡ q m) → has_target z n type p ≡ has_target z' n type q
   unfolding z z'
   target_kept n type p q e = grind (arith, z, any_at)
 
-  at_or_below_cut_kept : Kept at_or_below_cut
-  at_or_below_cut_kept n = ap (λ (h : DomainName → Bool). list_any h (suffixes n)) (λ k m. cut_kept m k)
-
-  below_cut_kept : Kept below_cut
-  below_cut_kept n = ap (λ (h : DomainName → Bool). list_any h (without_first (suffixes n))) (λ k m. cut_kept m k)
-
-  has_address_kept : Kept has_address
-  has_address_kept n = ap₂ ◌||◌ (owns_kept n type_a) (owns_kept n type_aaaa)
-
   lacks_kept : (n m : DomainName) → lacks_address z n m ≡ lacks_address z' n m
-  lacks_kept n m = grind (arith, ap₂, has_address_kept, at_or_below_cut_kept, cut_kept)
-
-  no_soa_kept : Kept no_soa
   unfolding z z'
-  no_soa_kept n = ap (λ b. same n o && not b) (owns_kept n type_soa)
-
-  many_soa_kept : Kept many_soa
-  unfolding z z'
-  many_soa_kept n = ap (λ k. same n o && nat_lt 1 k) (count_kept n type_soa)
-
-  soa_elsewhere_kept : Kept soa_elsewhere
-  unfolding z z'
-  soa_elsewhere_kept n = ap (λ b. not (same n o) && b) (owns_kept n type_soa)
-
-  no_ns_kept : Kept no_ns
-  unfolding z z'
-  no_ns_kept n = ap (λ b. same n o && not b) (owns_kept n type_ns)
-
-  outside_kept : Kept outside
-  unfolding z z'
-  outside_kept n = ap (λ k. nat_lt 0 k && not (at_or_below n o)) (c (λ (r : ResourceRecord). same r.owner n))
-
-  cname_and_other_kept : Kept cname_and_other
-  cname_and_other_kept n = ap₂ ◌&&◌ (owns_kept n type_cname) (any_at n (λ (r : ResourceRecord). not (r.rtype == type_cname)))
-
-  many_cname_kept : Kept many_cname
-  many_cname_kept n = ap (nat_lt 1) (count_kept n type_cname)
+  lacks_kept n m = grind (arith, ap₂, owns_kept)
 
   ttls_differ_kept : Kept ttls_differ
   ttls_differ_kept n = grind (arith, z, any_at, z')
 
   ns_target_alias_kept : Kept ns_target_alias
-  ns_target_alias_kept n = target_kept n (λ t. t == type_ns) (λ m. owns z m type_cname) (λ m. owns z' m type_cname) (λ m. owns_kept m type_cname)
+  ns_target_alias_kept n = grind (arith, target_kept, owns_kept)
 
   ns_target_lost_kept : Kept ns_target_lost
-  ns_target_lost_kept n = target_kept n (λ t. t == type_ns) (lacks_address z n) (lacks_address z' n) (lacks_kept n)
+  ns_target_lost_kept n = grind (arith, target_kept, lacks_kept)
 
   mx_target_alias_kept : Kept mx_target_alias
-  mx_target_alias_kept n = target_kept n (λ t. t == type_mx || t == type_srv) (λ m. owns z m type_cname) (λ m. owns z' m type_cname) (λ m. owns_kept m type_cname)
+  mx_target_alias_kept n = grind (arith, target_kept, owns_kept)
 
   data_at_cut_kept : Kept data_at_cut
-  data_at_cut_kept n = grind (arith, ap₂, cut_kept, any_at, below_cut_kept)
+  unfolding z z'
+  data_at_cut_kept n = grind (arith, owns_kept, any_at)
 
   wildcard_ns_kept : Kept wildcard_ns
   wildcard_ns_kept n = ap (λ b. first_is_asterisk n && b) (owns_kept n type_ns)
 
   large_set_kept : Kept large_set
-  large_set_kept n = grind (arith, z, count_kept, any_at, z')
+  large_set_kept n = grind (arith, same_at, any_at)
 
   many_sets_kept : Kept many_sets
   many_sets_kept n = ap (nat_lt most_sets) (same_type_count (at z n) (at z' n) (same_at n))
 
   faults_at_kept : (n : DomainName) → faults_at z n ≡ faults_at z' n
+  unfolding z z'
   faults_at_kept n =
       grind (
         arith,
-        no_soa_kept,
-        many_soa_kept,
-        soa_elsewhere_kept,
-        no_ns_kept,
-        outside_kept,
-        cname_and_other_kept,
-        many_cname_kept,
+        owns_kept,
+        any_at,
+        same_at,
         ttls_differ_kept,
         ns_target_alias_kept,
         ns_target_lost_kept,
         mx_target_alias_kept,
         data_at_cut_kept,
-        wildcard_ns_kept,
         large_set_kept,
         many_sets_kept,
       )

@@ -1,5 +1,5 @@
 -- A zone that passes has no fault at its origin.
-use Rattle.dns_spec.proofs.Common.{common_steps, ltb-false, folded, same, name_order, type_soa, ResourceRecord, ZoneContents, distinct, sort_by, rrset, at, data_order, Check, checks, faults_at, checked_names, faults, Passes}
+use Rattle.dns_spec.proofs.Common.{common_steps, ltb-false, folded, same, name_order, type_soa, ResourceRecord, ZoneContents, distinct, sort_by, rrset, at, Check, checks, faults_at, checked_names, faults, Passes}
 use Rattle.std.proofs.Common.{◌≡◌, ℕ, ◌≤◌, Bool, false, ◌⊎◌, inl, inr, List, [], ◌∷◌, ◌++◌, map, length, refl, sym, ap, subst, ◌∙◌, filter, flat_map, ◌==◌, Ordering, arith}
 use Rattle.dns_spec.proofs.DomainNames.NameLaws.{names_equal-decides}
 use Rattle.dns_spec.proofs.ZoneChecks.FaultOrder.{name_order_total, name_tie, Lower, one_lower}
@@ -66,4 +66,4 @@ few_soa z low passes = grind (arith, common_steps, checks_of_origin, names_equal
 
 -- so no order is asked of it
 pub one_soa : (z : ZoneContents) → folded z.origin ≡ z.origin → Passes z → rrset z z.origin type_soa ≡ filter (λ (r : ResourceRecord). r.rtype == type_soa) (at z z.origin)
-one_soa z low passes = sort_short data_order (filter (λ (r : ResourceRecord). r.rtype == type_soa) (at z z.origin)) (few_soa z low passes)
+one_soa z low passes = grind (arith, sort_short, few_soa)

@@ -1,8 +1,8 @@
 -- A text that goes on begins with the tokens of its beginning, but for the last of them, which may go on too.
-use Rattle.dns_spec.proofs.Common.{◌≡◌, ℕ, zero, suc, ◌+◌, ◌⊎◌, inl, inr, Bool, true, false, not, ◌==◌, Option, Some, None, [], ◌∷◌, ◌++◌, length, take, drop, refl, sym, ◌∙◌, ap, ap₂, subst, arith, if◌then◌else◌, and_parts, or_cases, eqb-true, true≢false, false≢true, none-some, prefix_len, Octets, is_word_octet}
+use Rattle.dns_spec.proofs.Common.{◌≡◌, ℕ, zero, suc, ◌+◌, ◌⊎◌, inl, inr, Bool, true, false, not, ◌==◌, Option, Some, None, [], ◌∷◌, ◌++◌, length, take, drop, refl, sym, ◌∙◌, ap, subst, arith, if◌then◌else◌, eqb-true, true≢false, false≢true, none-some, prefix_len, Octets, is_word_octet}
 use Rattle.dns_spec.specs.ZoneText.{Token, blank, comment, word, is_blank, unit_left, run_length, word_length, string_length, quoted_front, unquoted_front, line_feed_front, token_front, parenthesis, is_line_end, is_cut_short}
 use Rattle.dns_spec.proofs.ZoneTexts.ReadWords.{front_taken}
-use Rattle.dns_spec.proofs.NameTexts.Escapes.{counted_escape, left_by, escape-counted}
+use Rattle.dns_spec.proofs.NameTexts.Escapes.{counted_escape}
 
 -- what is not cut short is not where the text goes on
 pub uncut : (place more : Octets) → is_cut_short place ≡ false → is_cut_short (place ++ more) ≡ false
@@ -16,13 +16,9 @@ drop_one : (n o : ℕ) (text : Octets) → drop (1 + n) (o ∷ text) ≡ drop n 
 drop_one n o text = let next : 1 + n ≡ suc n = omega arith in ap (λ m. drop m (o ∷ text)) next
 
 module _ (by : ℕ → Bool) where
-  escape_more : (text more : Octets) → (unit_left by 92 text ≡ None → is_cut_short (92 ∷ text) ≡ false)
-      → unit_left by 92 (text ++ more) ≡ unit_left by 92 text
-  escape_more text more h = grind (arith, escape-counted, left_by, counted_more)
-
   unit_more : (o : ℕ) (text more : Octets) → (unit_left by o text ≡ None → is_cut_short (o ∷ text) ≡ false)
       → unit_left by o (text ++ more) ≡ unit_left by o text
-  unit_more o text more h = grind (arith, eqb-true, escape_more)
+  unit_more o text more h = grind arith
 
   -- a run that ends where the text is not cut short ends there too where the text goes on
   pub run_more : (k : ℕ) (text more : Octets) → is_cut_short (drop (run_length by k text) text) ≡ false
@@ -90,13 +86,9 @@ module _ (more : Octets) where
   unfolding Keeps
   up_to place t p text loose = grind (arith, Keeps, inr, inl, prefix_more, dropped_more)
 
-  pub mark_uncut : (rest : Octets) → is_cut_short (34 ∷ rest) ≡ false
-  mark_uncut rest = grind arith
-
   quoted_keeps : (text : Octets) → Keeps (drop (string_length text) text) (quoted_front text) (quoted_front (text ++ more))
   unfolding Keeps
-  quoted_keeps text =
-      grind (arith, run_more, ap₂, taken_more, dropped_more, eqb-true, mark_uncut, true≢false)
+  quoted_keeps text = grind (arith, run_more, taken_more, dropped_more)
 
   line_feed_keeps : (o : ℕ) (text : Octets) → (o == 13) ≡ true → Keeps (o ∷ text) (line_feed_front text) (line_feed_front (text ++ more))
   unfolding Keeps
@@ -152,12 +144,6 @@ module _ (more : Octets) where
   none_kept o text e = subst (λ x. Keeps (stop_place o text) x (token_front (o ∷ (text ++ more)))) e (front_keeps o text)
 
 -- where a text is cut short no token begins
-slash_none : (text : Octets) → counted_escape text ≡ 0 → token_front (92 ∷ text) ≡ None
-unfolding run_length
-slash_none text none = grind (arith, escape-counted, left_by)
-
-at_slash : (o : ℕ) (text : Octets) → (o == 92) ≡ true → counted_escape text ≡ 0 → token_front (o ∷ text) ≡ None
-at_slash o text slash none = ap (λ c. token_front (c ∷ text)) (eqb-true o 92 slash) ∙ slash_none text none
-
 pub cut_none : (text : Octets) → is_cut_short text ≡ true → token_front text ≡ None
-cut_none text h = grind (arith, or_cases, at_slash, eqb-true, and_parts, false≢true)
+unfolding run_length
+cut_none text h = grind (arith, eqb-true)

@@ -1,10 +1,10 @@
 -- The first fault of a beginning of a text is the fault of the text.
 use Rattle.dns_spec.proofs.Common.{◌≡◌, ℕ, zero, suc, ◌≤◌, ◌⊎◌, inl, inr, Bool, true, false, ◌&&◌, not, Option, Some, None, List, [], ◌∷◌, ◌++◌, map, length, take, drop, refl, sym, ◌∙◌, ap, subst, arith, false≢true, true≢false, none-some, same_Some, cons_option, Octets, DomainName, ResourceRecord, FileFault, bad_parenthesis, too_long, faulty, gives, Meaning, records, fault_at, after, line_after, EntriesMean, Means}
 use mathlib.Core.Bool.{xor}
-use Rattle.dns_spec.specs.ZoneText.{most_octets, extent_of, Token, token_front, TokensThen, parenthesis, parentheses, is_line_end, open_after, before_first, cut_entries, take_turns, is_open_at_end, is_cut_short, string_length, Extent, beginning, in_string, in_token, stop_at, token_fault, string_fault, stop_fault, Entry, ended, unended, with_end}
+use Rattle.dns_spec.specs.ZoneText.{most_octets, extent_of, Token, token_front, TokensThen, parenthesis, parentheses, is_line_end, open_after, before_first, cut_entries, take_turns, is_open_at_end, is_cut_short, string_length, Extent, beginning, stop_at, string_fault, stop_fault, Entry, ended, unended, with_end}
 use Rattle.dns_spec.specs.Laws.{OctetsMean}
 use Rattle.dns_spec.proofs.ZoneTexts.TextTokens.{has_tokens}
-use Rattle.dns_spec.proofs.ZoneTexts.Beginnings.{Loose, uncut, run_more, dropped_more, stop_place, front_kept, none_kept, cut_none}
+use Rattle.dns_spec.proofs.ZoneTexts.Beginnings.{Loose, run_more, dropped_more, stop_place, front_kept, none_kept, cut_none}
 
 -- the tokens that a text begins with, wherever it goes on: all of its beginning, or all but the last
 record Settled (more text : Octets) (ts : List Token) (rest : Octets) : Type 0 where
@@ -19,7 +19,7 @@ last_loose : (more text others : Octets) (t : Token) (ts : List Token) (rest : O
     → Settled more text (t ∷ ts) rest
 last_loose more text others t [] rest h cut loose =
     record { sure = []; middle = text; loose = t ∷ []; whole = refl; spelled = refl; ends = inr (t, refl, loose, ap is_cut_short (sym h) ∙ cut) }
-last_loose more text others t (u ∷ ts) rest h cut loose = absurd (none-some (u, h.0) (sym (cut_none others cut) ∙ h.1))
+last_loose more text others t (u ∷ ts) rest h cut loose = grind (arith, none-some, cut_none)
 
 settled : (more text : Octets) (ts : List Token) (rest : Octets) → TokensThen text ts rest → Settled more text ts rest
 settled more text [] rest h =
@@ -130,14 +130,6 @@ no_end [] = refl
 no_end (t ∷ ts) = ap (cons_option (parenthesis t)) (no_end ts)
 
 -- why a beginning can't go on, and why the text can't
-uncut_string : (extent : Extent) (is_open : Bool) (place : Octets) → is_cut_short place ≡ false
-    → stop_fault extent is_open (in_string place) ≡ Some (string_fault place)
-uncut_string extent is_open place h = grind arith
-
-uncut_token : (extent : Extent) (is_open : Bool) (place : Octets) → is_cut_short place ≡ false
-    → stop_fault extent is_open (in_token place) ≡ Some (token_fault place)
-uncut_token extent is_open place h = grind arith
-
 string_fault_more : (place more : Octets) → is_cut_short place ≡ false → string_fault (place ++ more) ≡ string_fault place
 string_fault_more place more h = grind arith
 
@@ -148,7 +140,7 @@ string_stop_more text more whole = grind (arith, false≢true, run_more, dropped
 stop_more : (extent : Extent) (is_open now_open : Bool) (o : ℕ) (text more : Octets) (fault : FileFault) → is_cut_short (stop_place o text) ≡ false
     → stop_fault beginning is_open (stop_at (o ∷ text)) ≡ Some fault → stop_fault extent now_open (stop_at (o ∷ (text ++ more))) ≡ Some fault
 stop_more extent is_open now_open o text more fault =
-    grind (arith, string_stop_more, uncut_string, uncut, string_fault_more, uncut_token)
+    grind (arith, string_stop_more, string_fault_more)
 
 cut_place : (is_open : Bool) (o : ℕ) (text : Octets) → is_cut_short (stop_place o text) ≡ true
     → stop_fault beginning is_open (stop_at (o ∷ text)) ≡ Some too_long
@@ -311,12 +303,7 @@ module _ (o : DomainName) (earlier : List Entry) (fault : FileFault) (line : ℕ
 
   by_loose : (s : Settled more front ts rest) (c : Cuts false s.sure) (t : Token) → s.loose ≡ t ∷ [] → Loose t → is_cut_short rest ≡ true
       → OctetsMean o earlier extent (front ++ more) (fault_at fault line)
-  by_loose s c t is loose cut =
-      let goes : (is_line_end t && not c.now_open) ≡ false = ap (λ b. b && not c.now_open) loose.inside in
-      let is_last : before_all c.part (cut_entries c.now_open s.loose) ≡ (c.part ++ t ∷ []) ∷ [] =
-      ap (λ us. before_all c.part (cut_entries c.now_open us)) is ∙ ap (before_all c.part) (cut-on c.now_open t [] goes)
-      ∙ before_all-cons c.part (t ∷ []) [] in
-      cut_short s c (c.part ++ t ∷ []) is_last (unmarked_end c.part t loose.unmarked) (λ is_open. cut_rest is_open rest cut)
+  by_loose s c t is loose cut = grind (arith, before_all-cons, cut_short, unmarked_end)
 
   decided : OctetsMean o earlier extent (front ++ more) (fault_at fault line)
   decided =

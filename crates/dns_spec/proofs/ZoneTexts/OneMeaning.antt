@@ -1,6 +1,6 @@
 -- A text means one thing.
-use Rattle.dns_spec.proofs.Common.{◌≡◌, ℕ, inl, inr, Bool, List, [], ◌∷◌, drop, Option, None, refl, sym, ◌∙◌, ap, ap₂, subst, subst₂, arith, codes, rules, MatchOption, MatchBool, some_pair_parts, decimal_injective, Octets, DomainName, folded, SpellsName, Word, Says, ResourceRecord, Token, token_front, TokensThen, Entry, Entries, FileFault, bad_owner, no_owner}
-use Rattle.dns_spec.specs.Meaning.{EntryMeaning, faulty, gives, Lowest, EntryKind, no_words, directive, owned, unowned, kind_of, directive_word, owner_word, OriginIs, NameIs, OwnerBefore, TtlSays, TtlIs, TypeIs, DataIs, IsRecord, Fields, fields, record_faults, RecordGives, DirectiveSays, DirectiveGives, KindGives, EntryGives, Meaning, fault_at, after, line_after, EntriesMean, Means}
+use Rattle.dns_spec.proofs.Common.{◌≡◌, ℕ, inl, inr, List, [], ◌∷◌, drop, Option, None, refl, sym, ◌∙◌, ap, ap₂, subst, subst₂, arith, codes, rules, MatchOption, some_pair_parts, decimal_injective, Octets, DomainName, folded, SpellsName, Word, Says, ResourceRecord, Token, token_front, TokensThen, Entry, FileFault}
+use Rattle.dns_spec.specs.Meaning.{EntryMeaning, faulty, gives, Lowest, EntryKind, no_words, directive, owned, unowned, kind_of, directive_word, owner_word, OriginIs, NameIs, OwnerBefore, TtlIs, TypeIs, DataIs, IsRecord, Fields, record_faults, RecordGives, DirectiveGives, KindGives, EntryGives, Meaning, fault_at, after, line_after, EntriesMean, Means}
 use Rattle.dns_spec.proofs.NameTexts.OneName.{name_once}
 use Rattle.dns_spec.proofs.DataWords.OneData.{data_once}
 use Rattle.dns_spec.proofs.DataWords.TypeWords.{one_type}
@@ -9,9 +9,6 @@ use Rattle.dns_spec.proofs.DataWords.TypeWords.{one_type}
 by_option : {X N : Type 0} {P Q : Type 0} {R S : X → Type 0} (o : Option X) (n m : N) → (P → Q → n ≡ m) → ((x : X) → R x → S x → n ≡ m)
     → MatchOption o P R → MatchOption o Q S → n ≡ m
 by_option o n m h h1 h2 h3 = grind arith
-
-by_bool : {N : Type 0} {P Q R S : Type 0} (b : Bool) (n m : N) → (P → Q → n ≡ m) → (R → S → n ≡ m) → MatchBool b P R → MatchBool b Q S → n ≡ m
-by_bool b n m h h1 h2 h3 = grind arith
 
 -- an answer that holds is the only one
 abbrev Once : (EntryMeaning → Type 0) → Type 0
@@ -43,12 +40,8 @@ owner_once o [] n m h k = absurd h
 owner_once o (e ∷ earlier) n m h k =
     by_option (owner_word (kind_of e)) n m (owner_once o earlier n m) (λ w. name_is_once o earlier w n m) h k
 
-ttl_says_once : (w : Word) (n m : ℕ) → TtlSays w n → TtlSays w m → n ≡ m
-ttl_says_once w n m (unquoted, spelled, few) (unquoted', spelled', few') =
-    decimal_injective n m (omega (arith, few)) (omega (arith, few')) (sym spelled ∙ spelled')
-
 ttl_once : (earlier : List Entry) (stated : Option Word) (n m : ℕ) → TtlIs earlier stated n → TtlIs earlier stated m → n ≡ m
-ttl_once earlier stated n m h k = grind (arith, by_option, ttl_says_once)
+ttl_once earlier stated n m h k = grind (arith, by_option, decimal_injective)
 
 pub type_once : (ws : List Word) (t u : ℕ) → TypeIs ws t → TypeIs ws u → t ≡ u
 type_once [] t u h k = absurd h
@@ -78,17 +71,14 @@ record_gives_once o earlier code Owner f one_owner =
 given : (c : EntryMeaning) → Once (λ answer. answer ≡ c)
 given c a b h k = h ∙ sym k
 
-says_once : {A : Type 0} (P : A → Word → Type 0) (ws : List Word) → Once (DirectiveSays P ws)
-says_once {A} P ws = grind arith
-
 directive_gives_once : (o : DomainName) (earlier : List Entry) (name : Octets) (ws : List Word) → Once (DirectiveGives o earlier name ws)
-directive_gives_once o earlier name ws a b = grind (arith, by_bool, says_once, given)
+directive_gives_once o earlier name ws a b = grind (arith, given)
 
 kind_gives_once : (o : DomainName) (earlier : List Entry) (s : EntryKind) → Once (KindGives o earlier s)
 kind_gives_once o earlier no_words = given (gives [])
 kind_gives_once o earlier (directive name ws) = directive_gives_once o earlier name ws
-kind_gives_once o earlier (owned w ws) = record_gives_once o earlier bad_owner (NameIs o earlier w) (fields ws) (name_is_once o earlier w)
-kind_gives_once o earlier (unowned ws) = record_gives_once o earlier no_owner (OwnerBefore o earlier) (fields ws) (owner_once o earlier)
+kind_gives_once o earlier (owned w ws) = search (rules, record_gives_once, name_is_once)
+kind_gives_once o earlier (unowned ws) = search (rules, record_gives_once, owner_once)
 
 entry_gives_once : (o : DomainName) (earlier : List Entry) (e : Entry) → Once (EntryGives o earlier e)
 entry_gives_once o earlier e a b = search (rules, by_option, kind_gives_once, given)
@@ -121,9 +111,5 @@ tokens_once text (p ∷ ps) [] rest others (after, e, h) k end end' = grind arit
 tokens_once text (p ∷ ps) (q ∷ qs) rest others (x, e, h) (y, f, k) end end' =
     grind (arith, some_pair_parts, ap₂, (tokens_once x ps qs rest others h))
 
-one_cut : (text : Octets) (es fs : List Entry) → Entries text es → Entries text fs → es ≡ fs
-one_cut text es fs h k = grind (arith, tokens_once, ap₂)
-
 pub meaning_once : (o : DomainName) (text : Octets) (m n : Meaning) → Means o text m → Means o text n → m ≡ n
-meaning_once o text m n (es, h, is) (fs, k, is') =
-    entries_once o [] fs m n (subst (λ x. EntriesMean o [] x m) (one_cut text es fs h k) is) is'
+meaning_once o text m n (es, h, is) (fs, k, is') = grind (arith, entries_once, tokens_once)

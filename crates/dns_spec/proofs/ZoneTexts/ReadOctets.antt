@@ -1,8 +1,7 @@
 -- What the words of a text spell are octets below 256, where the origin's are.
 use Rattle.std.proofs.Common.{◌≡◌, ℕ, ◌+◌, ◌*◌, ◌<◌, inl, inr, Bool, true, false, cond, ◌&&◌, nat_lt, Option, Some, None, List, [], ◌∷◌, ◌++◌, map, length, refl, sym, subst, arith, flat_map}
-use Rattle.dns_spec.proofs.Common.{agree_below_at, and_parts, ltb-true, length-map, none-some, same_Some, MatchOption, option_map, list_all, is_ascii_hexdigit, digit_value, to_ascii_lowercase, bytes_high_first, Octets, DomainName, wire, is_label, folded, SpellsOctet, LabelThen, TextSpells, SpellsName, Part, part_octets, joined, part_folded, SaysIpv6, ipv6_groups, Word, SpellsStringOctet, SpellsString, WordForm, number_word, ipv4_word, ipv6_word, name_word, string_word, SaysForm, SaysForms, forms_of, SaysTyped, hex_octets, SaysUnknown, SaysAsSpelled, Says}
+use Rattle.dns_spec.proofs.Common.{agree_below_at, and_parts, ltb-true, length-map, none-some, same_Some, MatchOption, option_map, list_all, is_ascii_hexdigit, digit_value, to_ascii_lowercase, bytes_high_first, Octets, DomainName, wire, is_label, folded, SpellsOctet, LabelThen, TextSpells, SpellsName, Part, part_octets, joined, part_folded, SaysIpv6, ipv6_groups, Word, SpellsString, WordForm, SaysForms, forms_of, SaysTyped, hex_octets, SaysUnknown, Says}
 use Rattle.dns_spec.proofs.Records.SortedOnce.{Each}
-use Rattle.dns_spec.proofs.DomainNames.NameLaws.{IsName-is_name, IsLabel-is_label}
 use Rattle.dns_spec.proofs.DataWords.NumberAgain.{bytes_below}
 use Rattle.dns_spec.proofs.DataWords.BareWords.{follows}
 use Rattle.dns_spec.proofs.Records.RecordOrder.{each_all}
@@ -42,7 +41,7 @@ label_small text (x ∷ l) rest (first, others, cut, spelled, h) small =
 
 labels_small : (origin : DomainName) (text : Octets) (n : DomainName) → SmallName origin → TextSpells origin text n → Each Octet text → SmallName n
 labels_small origin text [] from h small = tt
-labels_small origin text (l ∷ n) from (inl (last, is)) small = ((label_small text l [] last small).0, subst SmallName (sym is) from)
+labels_small origin text (l ∷ n) from (inl (last, is)) small = grind (arith, label_small)
 labels_small origin text (l ∷ n) from (inr (others, first, h)) small =
     let both = label_small text l (46 ∷ others) first small in
     (both.0, labels_small origin others n from h both.1.1)
@@ -50,12 +49,9 @@ labels_small origin text (l ∷ n) from (inr (others, first, h)) small =
 pub name_small : (origin : DomainName) (text : Octets) (n : DomainName) → SmallName origin → Each Octet text → SpellsName origin text n → SmallName n
 name_small origin text n from small h = grind (arith, inl, inr, labels_small)
 
-lowercase_small : (o : ℕ) → Octet o → Octet (to_ascii_lowercase o)
-lowercase_small o small = grind (arith, ltb-true)
-
 label_folded_small : (l : Octets) → Each Octet l → Each Octet (map to_ascii_lowercase l)
 label_folded_small [] small = tt
-label_folded_small (o ∷ l) small = (lowercase_small o small.0, label_folded_small l small.1)
+label_folded_small (o ∷ l) small = grind (arith, ltb-true, (label_folded_small l small.1))
 
 pub folded_small : (n : DomainName) → SmallName n → SmallName (folded n)
 folded_small [] small = tt
@@ -65,30 +61,24 @@ folded_small (l ∷ n) small = (label_folded_small l small.0, folded_small n sma
 wire_small : (n : DomainName) → list_all is_label n ≡ true → SmallName n → Each Octet (wire n)
 wire_small [] ok small = let root : 0 < 256 = omega arith in (root, tt)
 wire_small (l ∷ n) ok small =
-    let both = and_parts (is_label l) (list_all is_label n) ok in
-    let fits = (IsLabel-is_label l both.0).fits in
-    let long : length l < 256 = omega (arith, fits) in
-    (long, each_append l (wire n) small.0 (wire_small n both.1 small.1))
-
-string_octet_small : (text : Octets) (x : ℕ) → SpellsStringOctet text x → Each Octet text → Octet x
-string_octet_small text x h h1 = grind arith
+    grind (
+      arith,
+      each_append,
+      (wire_small n (and_parts (is_label l) (list_all is_label n) ok).1 small.1),
+    )
 
 string_small : (text s : Octets) → SpellsString text s → Each Octet text → Each Octet s
 string_small text [] h small = tt
 string_small text (x ∷ s) (first, others, cut, spelled, h) small =
-    let both : Each Octet (first ++ others) = subst (Each Octet) cut small in
-    (string_octet_small first x spelled (each_front first others both), string_small others s h (each_back first others both))
+    grind (arith, (string_small others s h (each_back first others (subst (Each Octet) cut small))))
 
 tested_small : (d : Octets) → list_all (λ x. nat_lt x 256) d ≡ true → Each Octet d
 tested_small [] ok = tt
 tested_small (o ∷ d) ok = let both = and_parts (nat_lt o 256) (list_all (λ x. nat_lt x 256) d) ok in (ltb-true o 256 both.0, tested_small d both.1)
 
-bytes_small : (k n : ℕ) → Each Octet (bytes_high_first k n)
-bytes_small k n = each_all Octet (bytes_high_first k n) (bytes_below k n)
-
 groups_small : (gs : List ℕ) → Each Octet (flat_map (bytes_high_first 2) gs)
 groups_small [] = tt
-groups_small (g ∷ gs) = each_append (bytes_high_first 2 g) (flat_map (bytes_high_first 2) gs) (bytes_small 2 g) (groups_small gs)
+groups_small (g ∷ gs) = grind (arith, (groups_small gs))
 
 ipv6_small : (text d : Octets) → SaysIpv6 text d → Each Octet d
 ipv6_small text d said = go (ipv6_groups text) said
@@ -97,20 +87,23 @@ ipv6_small text d said = go (ipv6_groups text) said
     go None e = absurd (none-some d e)
     go (Some gs) e = subst (Each Octet) (same_Some (flat_map (bytes_high_first 2) gs) d e) (groups_small gs)
 
-form_small : (f : WordForm) (origin : DomainName) (text d : Octets) → SmallName origin → Each Octet text → SaysForm f origin text d → Each Octet d
-form_small (number_word k) origin text d from small (n, below, spelled, is) = subst (Each Octet) (sym is) (bytes_small k n)
-form_small ipv4_word origin text d from small said = tested_small d said.octets
-form_small ipv6_word origin text d from small said = ipv6_small text d said
-form_small name_word origin text d from small (n, spelled, is) =
-    subst (Each Octet) (sym is) (wire_small n (IsName-is_name n spelled.is_name).labels (name_small origin text n from small spelled))
-form_small string_word origin text d from small (s, few, spelled, is) = grind (arith, string_small)
-
 forms_small : (fs : List WordForm) (origin : DomainName) (ws : List Word) (d : Octets) → SmallName origin → Each SmallWord ws → SaysForms fs origin ws d → Each Octet d
 forms_small [] origin [] d from small h = subst (Each Octet) (sym h) tt
 forms_small [] origin (w ∷ ws) d from small h = absurd h
 forms_small (f ∷ fs) origin [] d from small h = absurd h
 forms_small (f ∷ fs) origin (w ∷ ws) d from small (front, back, is, said, h) =
-    grind (arith, Each, each_append, form_small, (forms_small fs origin ws back from small.1 h))
+    grind (
+      arith,
+      each_append,
+      each_all,
+      bytes_below,
+      tested_small,
+      ipv6_small,
+      wire_small,
+      name_small,
+      string_small,
+      (forms_small fs origin ws back from small.1 h),
+    )
 
 typed_small : (t : ℕ) (origin : DomainName) (ws : List Word) (d : Octets) → SmallName origin → Each SmallWord ws → SaysTyped t origin ws d → Each Octet d
 typed_small t origin ws d from small said = go (forms_of t (length ws)) said
@@ -137,29 +130,34 @@ hex_small (h ∷ l ∷ text) d small e = go (is_ascii_hexdigit h && is_ascii_hex
 
 raws_small : (ws : List Word) → Each SmallWord ws → Each Octet (flat_map (λ (w : Word). w.raw) ws)
 raws_small [] small = tt
-raws_small (w ∷ ws) small = each_append w.raw (flat_map (λ (v : Word). v.raw) ws) small.0 (raws_small ws small.1)
+raws_small (w ∷ ws) small = grind (arith, each_append, (raws_small ws small.1))
 
 unknown_small : (ws : List Word) (d : Octets) → Each SmallWord ws → SaysUnknown ws d → Each Octet d
 unknown_small ws d h h1 = grind (arith, hex_small, raws_small)
 
-spelled_small : (t : ℕ) (origin : DomainName) (ws : List Word) (d : Octets) → SmallName origin → Each SmallWord ws → SaysAsSpelled t origin ws d → Each Octet d
-spelled_small t origin ws d h h1 h2 = grind (arith, typed_small, unknown_small)
-
 wire_folded_small : (n : DomainName) → Each Octet (wire n) → Each Octet (wire (folded n))
 wire_folded_small [] small = small
 wire_folded_small (l ∷ n) small =
-    let long : length (map to_ascii_lowercase l) < 256 = subst Octet (sym (length-map l to_ascii_lowercase)) small.0 in
-    (long, each_append (map to_ascii_lowercase l) (wire (folded n)) (label_folded_small l (each_front l (wire n) small.1)) (wire_folded_small n (each_back l (wire n) small.1)))
-
-part_folded_small : (x : Part) → Each Octet (part_octets x) → Each Octet (part_octets (part_folded x))
-part_folded_small x h = grind (arith, wire_folded_small)
+    grind (
+      arith,
+      length-map,
+      each_append,
+      label_folded_small,
+      each_front,
+      (wire_folded_small n (each_back l (wire n) small.1)),
+    )
 
 parts_folded_small : (xs : List Part) → Each Octet (joined xs) → Each Octet (joined (map part_folded xs))
 parts_folded_small [] small = tt
 parts_folded_small (x ∷ xs) small =
-    each_append (part_octets (part_folded x)) (joined (map part_folded xs)) (part_folded_small x (each_front (part_octets x) (joined xs) small))
-    (parts_folded_small xs (each_back (part_octets x) (joined xs) small))
+    grind (
+      arith,
+      each_append,
+      wire_folded_small,
+      each_front,
+      (parts_folded_small xs (each_back (part_octets x) (joined xs) small)),
+    )
 
 pub data_small : (t : ℕ) (origin : DomainName) (ws : List Word) (d : Octets) → SmallName origin → Each SmallWord ws → Says t ws origin d → Each Octet d
 data_small t origin ws d from small h =
-    grind (arith, spelled_small, Each, parts_folded_small, joined-parts)
+    grind (arith, typed_small, unknown_small, parts_folded_small, joined-parts)

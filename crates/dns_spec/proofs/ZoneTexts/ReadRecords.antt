@@ -1,7 +1,7 @@
 -- The records that a text means are such as are read, of types that zones have, and few enough.
-use Rattle.dns_spec.proofs.Common.{◌≡◌, ℕ, ◌+◌, ◌<◌, ◌≤◌, ◌⊎◌, inl, inr, Bool, true, false, cond, nat_le, All, List, [], ◌∷◌, ◌++◌, length, drop, filter, Option, Some, None, refl, sym, subst, arith, codes, IsTrue, length-append, rules, le-leb, cases_lt, All-weaker, ⊤, MatchOption, MatchBool, Octets, DomainName, is_name, folded, SpellsName, valid, lower_case, Word, ResourceRecord, too_many_records, FileFault, bad_owner, no_owner, IsReadRecord, HasZoneType}
-use Rattle.dns_spec.specs.ZoneText.{Entry, entry_words, begins_blank}
-use Rattle.dns_spec.specs.Meaning.{EntryMeaning, faulty, gives, EntryKind, no_words, directive, owned, unowned, kind_by_words, kind_of, directive_word, is_record, OriginIs, NameIs, OwnerBefore, most_ttl, TtlIs, TypeIs, DataIs, is_zone_type, Fields, class_after, ttl_after, fields, IsRecord, most_records, are_too_many, RecordGives, DirectiveGives, KindGives, EntryGives, Meaning, records, fault_at, after, EntriesMean, Means}
+use Rattle.dns_spec.proofs.Common.{◌≡◌, ℕ, ◌+◌, ◌<◌, ◌≤◌, ◌⊎◌, Bool, true, false, cond, All, List, [], ◌∷◌, ◌++◌, length, drop, filter, Option, Some, None, sym, subst, arith, codes, IsTrue, length-append, rules, All-weaker, ⊤, MatchOption, Octets, DomainName, is_name, folded, SpellsName, valid, lower_case, Word, ResourceRecord, FileFault, IsReadRecord, HasZoneType}
+use Rattle.dns_spec.specs.ZoneText.{Entry}
+use Rattle.dns_spec.specs.Meaning.{EntryMeaning, faulty, gives, EntryKind, no_words, directive, owned, unowned, kind_of, directive_word, is_record, OriginIs, NameIs, OwnerBefore, most_ttl, TtlIs, TypeIs, DataIs, is_zone_type, Fields, fields, IsRecord, most_records, RecordGives, KindGives, EntryGives, Meaning, records, fault_at, after, EntriesMean, Means}
 use Rattle.dns_spec.proofs.ZoneChecks.FaultOrder.{folded_folded}
 use Rattle.dns_spec.proofs.Records.SortedOnce.{Each}
 use Rattle.dns_spec.proofs.Records.RecordOrder.{LowerOwner, all_each, each_all}
@@ -17,10 +17,6 @@ IsRecordOf o earlier no_words r = ⊥
 IsRecordOf o earlier (directive name ws) r = ⊥
 IsRecordOf o earlier (owned w ws) r = IsRecord o earlier (NameIs o earlier w) (fields ws) r
 IsRecordOf o earlier (unowned ws) r = IsRecord o earlier (OwnerBefore o earlier) (fields ws) r
-
-by_bool : {P Q R : Type 0} (b : Bool) → (P → R) → (Q → R) → MatchBool b P Q → R
-by_bool true f g h = f h
-by_bool false f g h = g h
 
 -- a fault or what comes after it
 unless_holds : (Q : EntryMeaning → Type 0) → ((code : FileFault) → Q (faulty code)) → {Fault Others : Type 0} (code : FileFault) (answer : EntryMeaning) → (Others → Q answer)
@@ -38,45 +34,30 @@ module _ (o : DomainName) (Kept : Entry → Type 0) (P : ResourceRecord → Type
   Meant (records rs) = Each P rs
   Meant (fault_at code line) = ⊤
 
-  fault_given : (answer : EntryMeaning) (code : FileFault) → answer ≡ faulty code → Given answer
-  fault_given answer code e = subst Given (sym e) tt
-
-  none_given : (answer : EntryMeaning) → answer ≡ gives [] → Given answer
-  none_given answer e = subst Given (sym e) tt
-
-  unless_given : {Fault Others : Type 0} (code : FileFault) (answer : EntryMeaning) → (Others → Given answer) → (Fault × (answer ≡ faulty code)) ⊎ ((Fault → ⊥) × Others)
-      → Given answer
-  unless_given = unless_holds Given (λ code. tt)
-
   record_given : (earlier : List Entry) (code : FileFault) (Owner : DomainName → Type 0) (f : Fields) (answer : EntryMeaning) → ((r : ResourceRecord) → IsRecord o earlier Owner f r → P r)
       → RecordGives o earlier code Owner f answer → Given answer
-  record_given earlier code Owner f answer each = search (rules, unless_given)
-
-  directive_given : (earlier : List Entry) (name : Octets) (ws : List Word) (answer : EntryMeaning) → DirectiveGives o earlier name ws answer → Given answer
-  directive_given earlier name ws answer = grind arith
+  record_given earlier code Owner f answer each = search (rules, unless_holds)
 
   sort_given : (earlier : List Entry) (s : EntryKind) (answer : EntryMeaning) → ((r : ResourceRecord) → IsRecordOf o earlier s r → P r) → KindGives o earlier s answer → Given answer
-  sort_given earlier no_words answer each h = none_given answer h
-  sort_given earlier (directive name ws) answer each h = directive_given earlier name ws answer h
-  sort_given earlier (owned w ws) answer each h = record_given earlier bad_owner (NameIs o earlier w) (fields ws) answer each h
-  sort_given earlier (unowned ws) answer each h = record_given earlier no_owner (OwnerBefore o earlier) (fields ws) answer each h
-
-  entry_given : (earlier : List Entry) (e : Entry) (answer : EntryMeaning) → Each Kept earlier → Kept e → EntryGives o earlier e answer → Given answer
-  entry_given earlier e answer keeps kept = grind (arith, sort_given, fault_given)
+  sort_given earlier no_words answer each h = grind arith
+  sort_given earlier (directive name ws) answer each h = grind arith
+  sort_given earlier (owned w ws) answer each h = search (rules, record_given)
+  sort_given earlier (unowned ws) answer each h = search (rules, record_given)
 
   each_joined : (rs ss : List ResourceRecord) → Each P rs → Each P ss → Each P (rs ++ ss)
   each_joined [] ss h k = k
   each_joined (r ∷ rs) ss h k = (h.0, each_joined rs ss h.1 k)
 
-  after_meant : (rs : List ResourceRecord) (later : Meaning) → Each P rs → Meant later → Meant (after rs later)
-  after_meant rs later h h1 = grind (arith, each_joined)
-
   entries_meant : (earlier es : List Entry) (m : Meaning) → Each Kept earlier → Each Kept es → EntriesMean o earlier es m → Meant m
   entries_meant earlier [] m keeps kept h = subst Meant (sym h) tt
   entries_meant earlier (e ∷ es) m keeps kept (faulty code, given, h) = subst Meant (sym h) tt
   entries_meant earlier (e ∷ es) m keeps kept (gives rs, given, (later, h, is)) =
-      subst Meant (sym is)
-      (after_meant rs later (entry_given earlier e (gives rs) keeps kept.0 given) (entries_meant (e ∷ earlier) es later (kept.0, keeps) kept.1 h))
+      grind (
+        arith,
+        each_joined,
+        sort_given,
+        (entries_meant (e ∷ earlier) es later (kept.0, keeps) kept.1 h),
+      )
 
   records_hold : (es : List Entry) (rs : List ResourceRecord) → Each Kept es → EntriesMean o [] es (records rs) → All P rs
   records_hold es rs kept h = all_each P rs (entries_meant [] es (records rs) tt kept h)
@@ -106,11 +87,8 @@ SmallSort (directive name ws) = Each SmallWord ws
 SmallSort (owned w ws) = SmallWord w × Each SmallWord ws
 SmallSort (unowned ws) = Each SmallWord ws
 
-words_kind : (blank : Bool) (ws : List Word) → Each SmallWord ws → SmallSort (kind_by_words blank ws)
-words_kind blank ws h = grind arith
-
 sort_small : (e : Entry) → SmallEntry e → SmallSort (kind_of e)
-sort_small e small = words_kind (begins_blank e.tokens) (entry_words e) (words_small e small)
+sort_small e small = grind (arith, words_small)
 
 abbrev SmallOption : Option Word → Type 0
 SmallOption None = Unit {0}
@@ -126,14 +104,8 @@ SmallFields f = Each SmallWord f.others
 fields_by : (b : Bool) (f g : Fields) → SmallFields f → SmallFields g → SmallFields (cond b f g)
 fields_by b f g h h1 = grind arith
 
-class_small : (ttl : Word) (ws : List Word) → Each SmallWord ws → SmallFields (class_after ttl ws)
-class_small ttl ws h = grind arith
-
-ttl_small : (class : Word) (ws : List Word) → Each SmallWord ws → SmallFields (ttl_after class ws)
-ttl_small class ws h = grind arith
-
 fields_small : (ws : List Word) → Each SmallWord ws → Each SmallWord (fields ws).others
-fields_small ws h = grind (arith, fields_by, class_small, ttl_small)
+fields_small ws h = grind (arith, fields_by)
 
 drop_small : (ws : List Word) → Each SmallWord ws → Each SmallWord (drop 1 ws)
 drop_small ws h = grind arith
@@ -236,32 +208,9 @@ abbrev Fits : Bool → ℕ → EntryMeaning → Type 0
 Fits is_one count (faulty code) = ⊤
 Fits is_one count (gives rs) = (length rs ≡ cond is_one 1 0) × (length rs + count ≤ most_records)
 
-unless_fits : (is_one : Bool) (count : ℕ) {Fault Others : Type 0} (code : FileFault) (answer : EntryMeaning) → (Others → Fits is_one count answer)
-    → (Fault × (answer ≡ faulty code)) ⊎ ((Fault → ⊥) × Others) → Fits is_one count answer
-unless_fits is_one count = unless_holds (Fits is_one count) (λ code. tt)
-
-none_fits : (count : ℕ) (answer : EntryMeaning) → count ≤ most_records → answer ≡ gives [] → Fits false count answer
-none_fits count answer few e = subst (Fits false count) (sym e) (refl, omega (arith, few))
-
-room_left : (count : ℕ) → (nat_le most_records count ≡ true → ⊥) → 1 + count ≤ most_records
-room_left count none = grind (arith, cases_lt, inl, inr, le-leb)
-
-last_fits : (o : DomainName) (earlier : List Entry) (Owner : DomainName → Type 0) (f : Fields) (answer : EntryMeaning)
-    → (IsTrue (are_too_many earlier) × (answer ≡ faulty too_many_records)) ⊎ ((IsTrue (are_too_many earlier) → ⊥) × ((r : ResourceRecord) × IsRecord o earlier Owner f r × (answer ≡ gives (r ∷ []))))
-    → Fits true (counted earlier) answer
-last_fits o earlier Owner f answer h = grind (arith, room_left)
-
-record_fits : (o : DomainName) (earlier : List Entry) (code : FileFault) (Owner : DomainName → Type 0) (f : Fields) (answer : EntryMeaning)
-    → RecordGives o earlier code Owner f answer → Fits true (counted earlier) answer
-record_fits o earlier code Owner f answer = search (rules, unless_fits, last_fits)
-
-directive_fits : (o : DomainName) (earlier : List Entry) (name : Octets) (ws : List Word) (answer : EntryMeaning) → counted earlier ≤ most_records
-    → DirectiveGives o earlier name ws answer → Fits false (counted earlier) answer
-directive_fits o earlier name ws answer few = grind (arith, none_fits, by_bool, unless_fits)
-
 sort_fits : (o : DomainName) (earlier : List Entry) (s : EntryKind) (answer : EntryMeaning) → counted earlier ≤ most_records → KindGives o earlier s answer
     → Fits (states_record s) (counted earlier) answer
-sort_fits o earlier s answer h h1 = search (rules, none_fits, directive_fits, record_fits)
+sort_fits o earlier s answer h h1 = search rules
 
 entry_fits : (o : DomainName) (earlier : List Entry) (e : Entry) (answer : EntryMeaning) → counted earlier ≤ most_records → EntryGives o earlier e answer
     → Fits (is_record e) (counted earlier) answer
@@ -275,8 +224,8 @@ after_few : (rs : List ResourceRecord) (later : Meaning) (count more : ℕ) → 
 after_few rs later count more h h1 = grind (arith, length-append)
 
 entries_few : (o : DomainName) (earlier es : List Entry) (m : Meaning) → counted earlier ≤ most_records → EntriesMean o earlier es m → Few (counted earlier) m
-entries_few o earlier [] m few h = let all : 0 + counted earlier ≤ most_records = omega (arith, few) in subst (Few (counted earlier)) (sym h) all
-entries_few o earlier (e ∷ es) m few (faulty code, given, h) = subst (Few (counted earlier)) (sym h) tt
+entries_few o earlier [] m few h = grind arith
+entries_few o earlier (e ∷ es) m few (faulty code, given, h) = grind arith
 entries_few o earlier (e ∷ es) m few (gives rs, given, (later, h, is)) =
     let fits = entry_fits o earlier e (gives rs) few given in
     let more : counted (e ∷ earlier) ≡ length rs + counted earlier = grind arith in
@@ -284,7 +233,7 @@ entries_few o earlier (e ∷ es) m few (gives rs, given, (later, h, is)) =
     (after_few rs later (counted earlier) (counted (e ∷ earlier)) more (entries_few o (e ∷ earlier) es later (omega (arith, more, fits.1)) h))
 
 pub records_few : (o : DomainName) (text : Octets) (rs : List ResourceRecord) → Means o text (records rs) → length rs ≤ most_records
-records_few o text rs (es, cut, h) = let few = entries_few o [] es (records rs) (omega arith) h in omega (arith, few)
+records_few o text rs (es, cut, h) = grind (arith, entries_few)
 
 pub records_as_read : (o : DomainName) (text : Octets) (rs : List ResourceRecord) → All (All (λ x. x < 256)) o → Means o text (records rs)
     → All IsReadRecord rs × All HasZoneType rs × (length rs ≤ most_records)

@@ -1,18 +1,9 @@
 -- The words and strings in a text are octets below 256: what stands in them by itself, and their escapes, are printable.
-use Rattle.std.proofs.Common.{◌≡◌, ℕ, zero, suc, ◌+◌, ◌<◌, inl, inr, Bool, true, false, cond, not, ◌&&◌, ◌==◌, nat_le, Option, Some, None, List, [], ◌∷◌, take, drop, refl, subst, arith, filter_map}
-use Rattle.dns_spec.proofs.Common.{and_parts, eqb-true, leb-true, or_cases, none-some, same_Some, Octets, is_word_octet, is_string_octet}
-use Rattle.dns_spec.specs.ZoneText.{Token, blank, comment, word, quoted_string, opening, closing, line_end, escape_left, unit_left, run_length, word_length, string_length, closed, quoted_front, unquoted_front, line_feed_front, token_front, TokensThen, is_line_end, open_after, before_first, cut_entries, Entry, with_end, Entries, word_of, entry_words, Extent}
+use Rattle.std.proofs.Common.{◌≡◌, ℕ, zero, suc, ◌+◌, Bool, true, false, not, ◌&&◌, Option, Some, None, List, [], ◌∷◌, take, refl, arith, filter_map}
+use Rattle.dns_spec.proofs.Common.{eqb-true, leb-true, none-some, same_Some, Octets}
+use Rattle.dns_spec.specs.ZoneText.{Token, blank, comment, word, quoted_string, opening, closing, line_end, escape_left, unit_left, run_length, TokensThen, is_line_end, open_after, before_first, cut_entries, Entry, with_end, Entries, word_of, entry_words, Extent}
 use Rattle.dns_spec.proofs.Records.SortedOnce.{Each}
 use Rattle.dns_spec.proofs.ZoneTexts.ReadOctets.{Octet, SmallWord}
-
-range_small : (low high o : ℕ) → high < 256 → (nat_le low o && nat_le o high) ≡ true → Octet o
-range_small low high o below e = let most = leb-true o high (and_parts (nat_le low o) (nat_le o high) e).1 in omega (arith, most, below)
-
-word_octet_small : (o : ℕ) → is_word_octet o ≡ true → Octet o
-word_octet_small o e = grind arith
-
-string_octet_small : (o : ℕ) → is_string_octet o ≡ true → Octet o
-string_octet_small o e = grind (arith, or_cases, and_parts, Octet, inl, range_small, inr, eqb-true)
 
 escape_left_small : (text : Octets) (k : ℕ) → escape_left text ≡ Some k → Each Octet (take k text)
 escape_left_small text k e = grind arith
@@ -44,31 +35,10 @@ SmallToken opening = Unit {0}
 SmallToken closing = Unit {0}
 SmallToken line_end = Unit {0}
 
-abbrev Front : Option (Token × Octets) → Type 0
-Front None = Unit {0}
-Front (Some r) = SmallToken r.0
-
-front_by : (b : Bool) (x y : Option (Token × Octets)) → Front x → Front y → Front (cond b x y)
-front_by b x y h h1 = grind arith
-
-closed_small : (raw text : Octets) → Each Octet raw → Front (closed raw text)
-closed_small raw text h = grind arith
-
-line_feed_small : (text : Octets) → Front (line_feed_front text)
-line_feed_small text = grind arith
-
-quoted_small : (text : Octets) → Front (quoted_front text)
-quoted_small text = closed_small (take (string_length text) text) (drop (string_length text) text) (run_small is_string_octet string_octet_small 0 text tt)
-
-word_small : (text : Octets) → Front (unquoted_front text)
-word_small text = front_by (word_length text == 0) None _ tt (run_small is_word_octet word_octet_small 0 text tt)
-
-front_small : (text : Octets) → Front (token_front text)
-front_small text = grind (arith, front_by, quoted_small, line_feed_small, word_small)
-
 tokens_small : (text : Octets) (ps : List Token) (rest : Octets) → TokensThen text ps rest → Each SmallToken ps
 tokens_small text [] rest h = tt
-tokens_small text (p ∷ ps) rest (others, e, h) = (subst Front e (front_small text), tokens_small others ps rest h)
+tokens_small text (p ∷ ps) rest (others, e, h) =
+    grind (arith, run_small, leb-true, eqb-true, (tokens_small others ps rest h))
 
 -- the entries that tokens are cut into
 before_small : (p : Token) (pss : List (List Token)) → SmallToken p → Each (Each SmallToken) pss → Each (Each SmallToken) (before_first p pss)

@@ -1,5 +1,5 @@
 -- A word that is written, and something after it that ends it, begin with that word as a token.
-use Rattle.dns_spec.proofs.Common.{common_steps, ◌≡◌, ℕ, suc, inl, inr, Bool, true, false, ◌||◌, ◌==◌, Some, None, [], ◌∷◌, ◌++◌, length, take, drop, nat_lt, refl, ◌∙◌, ap, arith, append_assoc, take-append_seam, drop-append_seam, true≢false, false≢true, cases_Bool, eqb-true, and_parts, false_from_ne_true, if◌then◌else◌, prefix_len, Octets, Word, is_word_octet, is_string_octet, word_text, is_unbroken, stands_alone, Token, blank, word, quoted_string, is_blank, run_length, word_length, unquoted_front, token_front}
+use Rattle.dns_spec.proofs.Common.{common_steps, ◌≡◌, ℕ, suc, Bool, true, ◌||◌, ◌==◌, Some, [], ◌∷◌, ◌++◌, length, take, drop, nat_lt, refl, ◌∙◌, ap, arith, append_assoc, take-append_seam, drop-append_seam, false≢true, eqb-true, and_parts, false_from_ne_true, if◌then◌else◌, prefix_len, Octets, Word, is_word_octet, is_string_octet, word_text, is_unbroken, stands_alone, Token, blank, word, quoted_string, is_blank, run_length, word_length, unquoted_front, token_front}
 use Rattle.dns_spec.proofs.DataWords.WordRuns.{Runs}
 use Rattle.dns_spec.proofs.DataWords.StandingWords.{TakenWhole}
 
@@ -7,17 +7,11 @@ use Rattle.dns_spec.proofs.DataWords.StandingWords.{TakenWhole}
 abbrev begins_word : ℕ → Bool
 begins_word o = o == 92 || is_word_octet o
 
-apart : (o k : ℕ) → begins_word o ≡ true → begins_word k ≡ false → (o == k) ≡ false
-apart o k begins none = grind (arith, cases_Bool, inl, true≢false, eqb-true, inr)
-
 word_reached : (o : ℕ) (text : Octets) → begins_word o ≡ true → token_front (o ∷ text) ≡ unquoted_front (o ∷ text)
 word_reached o text begins = grind arith
 
-not_zero : (k : ℕ) → (suc k == 0) ≡ false
-not_zero k = false_from_ne_true (suc k == 0) (λ h. absurd (omega (arith, eqb-true (suc k) 0 h)))
-
 pub front_taken : (n : ℕ) (text : Octets) → word_length text ≡ suc n → unquoted_front text ≡ Some (word (take (suc n) text), drop (suc n) text)
-front_taken n text e = ap (λ k. if k == 0 then None else Some (word (take k text), drop k text)) e ∙ rw (not_zero n) refl
+front_taken n text e = grind (arith, false_from_ne_true, eqb-true)
 
 -- the token of a word
 abbrev pub word_token : Word → Token
@@ -48,7 +42,7 @@ word_read w c rest alone whole ends = grind (arith, append_assoc, string_read, a
 
 -- a word begins with no blank
 pub no_blank : (w : Word) (rest : Octets) → stands_alone w ≡ true → prefix_len is_blank (word_text w ++ rest) ≡ 0
-no_blank w rest alone = grind (arith, false≢true, and_parts, first_begins, apart)
+no_blank w rest alone = grind (arith, eqb-true)
 
 -- a space, and something after it that is none
 pub blank_read : (text : Octets) → prefix_len is_blank text ≡ 0 → token_front (32 ∷ text) ≡ Some (blank, text)

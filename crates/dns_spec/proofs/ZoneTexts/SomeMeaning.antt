@@ -1,12 +1,11 @@
 -- No text is without a meaning.
 --
 -- What is shown of a question is that it can't be without an answer; so which answer it has need not be found.
-use Rattle.dns_spec.proofs.Common.{arith, rules, ◌≡◌, ℕ, ◌⊎◌, inl, inr, Bool, true, false, List, [], ◌∷◌, Option, Some, None, refl, ap, codes, IsTrue, take, MatchOption, if◌then◌else◌, MatchBool, is_none, option_or, false≢true, none-some, same_Some, Octets, DomainName, folded, octets_equal, Word, ResourceRecord, FileFault, unknown_directive, directive_words, bad_owner, no_owner}
+use Rattle.dns_spec.proofs.Common.{arith, rules, ◌≡◌, ℕ, ◌⊎◌, inl, inr, Bool, true, false, List, [], ◌∷◌, Option, Some, None, refl, ap, codes, IsTrue, take, MatchOption, MatchBool, is_none, option_or, false≢true, none-some, Octets, DomainName, folded, octets_equal, Word, ResourceRecord, FileFault, unknown_directive, directive_words, bad_owner, no_owner}
 use Rattle.dns_spec.specs.ZoneText.{most_octets, Extent, extent_of, Entry, with_end, cut_entries, lexical_fault}
-use Rattle.dns_spec.specs.Meaning.{EntryMeaning, faulty, gives, Nothing, Lowest, EntryKind, no_words, directive, owned, unowned, kind_of, nearest, directive_word, ttl_word, NameIs, OwnerBefore, TtlSays, ttl_in_force, IsRecord, Fields, fields, IsNoTtl, record_faults, RecordGives, OneWord, DirectiveSays, DirectiveGives, KindGives, EntryGives, Meaning, records, fault_at, after, line_after, EntriesMean, Means}
+use Rattle.dns_spec.specs.Meaning.{EntryMeaning, faulty, gives, Nothing, Lowest, EntryKind, no_words, directive, owned, unowned, kind_of, nearest, directive_word, ttl_word, NameIs, OwnerBefore, TtlSays, ttl_in_force, IsRecord, Fields, fields, IsNoTtl, record_faults, RecordGives, OneWord, DirectiveSays, KindGives, EntryGives, Meaning, records, fault_at, after, line_after, EntriesMean, Means}
 use Rattle.dns_spec.specs.Laws.{OctetsMean}
 use Rattle.dns_spec.proofs.ZoneTexts.TextTokens.{has_tokens}
-use Rattle.dns_spec.proofs.DomainNames.NameLaws.{octets_equal-decides}
 
 -- it can't be that there is none
 abbrev Sure : Type 0 → Type 0
@@ -73,28 +72,9 @@ unfolding is_faulty
 faultless rs fault e = false≢true (ap is_faulty e)
 
 module _ (o : DomainName) (earlier : List Entry) where
-  one_says : (v : Word) (ws : List Word) (n : ℕ) → OneWord (λ w. TtlSays w n) (v ∷ ws) → TtlSays v n
-  one_says v ws n h = grind arith
-
-  directive_says : (rs : List ResourceRecord) (name : Octets) (v : Word) (ws : List Word) → DirectiveGives o earlier name (v ∷ ws) (gives rs)
-      → EachSays (if octets_equal name (codes "$ttl") then Some v else None)
-  directive_says rs name v ws h w =
-      grind (
-        arith,
-        none-some,
-        octets_equal-decides,
-        false≢true,
-        faultless,
-        same_Some,
-        and_so,
-        some_there,
-        sure,
-        one_says,
-      )
-
   -- what an entry without fault says of TTLs
   default_says : (rs : List ResourceRecord) (s : EntryKind) → KindGives o earlier s (gives rs) → EachSays (directive_word (codes "$ttl") s)
-  default_says rs s h = search (rules, none-some, directive_says)
+  default_says rs s h = search rules
 
   record_says : (rs : List ResourceRecord) (owner_fault : FileFault) (Owner : DomainName → Type 0) (f : Fields)
       → RecordGives o earlier owner_fault Owner f (gives rs) → EachSays f.ttl
@@ -103,8 +83,8 @@ module _ (o : DomainName) (earlier : List Entry) where
   record_ttl_says : (rs : List ResourceRecord) (s : EntryKind) → KindGives o earlier s (gives rs) → EachSays (ttl_word s)
   record_ttl_says rs no_words h w e = absurd (none-some w e)
   record_ttl_says rs (directive name ws) h w e = absurd (none-some w e)
-  record_ttl_says rs (owned v ws) h w e = record_says rs bad_owner (NameIs o earlier v) (fields ws) h w e
-  record_ttl_says rs (unowned ws) h w e = record_says rs no_owner (OwnerBefore o earlier) (fields ws) h w e
+  record_ttl_says rs (owned v ws) h w e = search (rules, record_says)
+  record_ttl_says rs (unowned ws) h w e = search (rules, record_says)
 
   known_more : (rs : List ResourceRecord) (e : Entry) → Known earlier → KindGives o earlier (kind_of e) (gives rs) → Known (e ∷ earlier)
   known_more rs e known h = search (rules, either_says, default_says, record_ttl_says)
@@ -171,7 +151,7 @@ entries_sure o earlier (e ∷ es) known =
         (λ more. sure (after rs more.0, (gives rs, given, (more.0, more.1, refl))))
 
 nothing_known : Known []
-nothing_known = record { default = λ w e. absurd (none-some w e); stated = λ w e. absurd (none-some w e) }
+nothing_known = grind (arith, none-some)
 
 octets_sure : (o : DomainName) (extent : Extent) (octets : Octets) → Sure ((m : Meaning) × OctetsMean o [] extent octets m)
 octets_sure o extent octets =

@@ -1,37 +1,23 @@
 -- Every text is made of tokens, up to a place where none begins.
-use Rattle.dns_spec.proofs.Common.{◌≡◌, ℕ, zero, suc, ◌-◌, ◌<◌, Bool, false, List, [], ◌∷◌, length, drop, take, refl, sym, subst, arith, Option, Some, None, ◌==◌, ⊤, if◌then◌else◌, MatchOption, eqb-true, false_from_ne_true, Octets, Token, word, closed, line_feed_front, token_front, TokensThen}
+use Rattle.dns_spec.proofs.Common.{◌≡◌, ℕ, zero, suc, ◌<◌, List, [], ◌∷◌, length, drop, take, refl, sym, subst, arith, Option, Some, None, ◌==◌, ⊤, if◌then◌else◌, MatchOption, Octets, Token, word, closed, token_front, TokensThen}
 use Rattle.std.proofs.lemmas.List.{length-drop}
 
 -- what comes after the token is shorter than so many octets
 Shorter : ℕ → Option (Token × Octets) → Type 0
 Shorter n front = MatchOption front ⊤ (λ r. length r.1 < n)
 
-either : (b : Bool) (n : ℕ) (x y : Option (Token × Octets)) → Shorter n x → Shorter n y → Shorter n (if b then x else y)
-unfolding Shorter
-either b n x y h h1 = grind arith
-
-dropped : (k n : ℕ) (text : Octets) → length text < n → length (drop k text) < n
-dropped k n text h = let e : length (drop k text) ≡ length text - k = length-drop k text in omega (arith, e, h)
-
 closed-shorter : (n : ℕ) (raw text : Octets) → length text < n → Shorter n (closed raw text)
 unfolding Shorter
 closed-shorter n raw text h = grind arith
 
-line_feed-shorter : (n : ℕ) (text : Octets) → length text < n → Shorter n (line_feed_front text)
-unfolding Shorter
-line_feed-shorter n text h = grind arith
-
-not_zero : (k : ℕ) → (suc k == 0) ≡ false
-not_zero k = false_from_ne_true (suc k == 0) (λ h. absurd (omega (arith, eqb-true (suc k) 0 h)))
-
 word-shorter : (k : ℕ) (o : ℕ) (text : Octets)
     → Shorter (length (o ∷ text)) (if k == 0 then None else Some (word (take k (o ∷ text)), drop k (o ∷ text)))
 unfolding Shorter
-word-shorter k o text = grind (arith, not_zero, dropped)
+word-shorter k o text = grind (arith, length-drop)
 
 shorter : (text : Octets) → Shorter (length text) (token_front text)
 unfolding Shorter
-shorter text = grind (arith, either, dropped, closed-shorter, line_feed-shorter, word-shorter)
+shorter text = grind (arith, length-drop, closed-shorter)
 
 -- a token has an octet or more
 pub front-shorter : (text : Octets) (p : Token) (others : Octets) → token_front text ≡ Some (p, others) → length others < length text
