@@ -27,10 +27,6 @@ name_same b b' a e = go (a - 12) refl
         let at : 12 + (a - 12) ≡ a = omega (arith, some) in
         sym (drop-take 12 (a - 12) b') ∙ ap (λ k. drop 12 (take k b')) at ∙ ap (drop 12) e ∙ sym (ap (λ k. drop 12 (take k b)) at) ∙ drop-take 12 (a - 12) b
 
-pub asked_same : (head : Octets → ℕ) (b b' : Octets) (a a' : ℕ) → take a b' ≡ take a b → a' ≡ a → asked_places head b' a' ≡ asked_places head b a
-unfolding asked_places
-asked_same head b b' a a' e same = grind (arith, name_same)
-
 front_same : (b b' : Octets) (a : ℕ) → 12 ≤ a → a ≤ length b → a ≤ length b' → take a b' ≡ take a b → take 12 b' ≡ take 12 b
 front_same b b' a after inside inside' e = sym (one b' inside') ∙ ap (take 12) e ∙ one b inside
   where
@@ -45,7 +41,8 @@ is_asked_more {b} {b'} {a} o asked e same =
     grind (arith, is_asked_same, take-append-le, length-append)
 
 pub kept_same : (head : Octets → ℕ) (b b' : Octets) (a a' : ℕ) (ks ks' : List Kept) → take a b' ≡ take a b → a' ≡ a → ks' ≡ ks → asked_places head b' a' ++ ks' ≡ asked_places head b a ++ ks
-kept_same head b b' a a' ks ks' e same places = grind (arith, asked_same)
+unfolding asked_places
+kept_same head b b' a a' ks ks' e same places = grind (arith, name_same)
 
 -- octets after the others leave all places
 pub kept_more : (head : Octets → ℕ) (b b' : Octets) (a a' : ℕ) (ks ks' : List Kept) (o : Octets) → IsAsked b a → b' ≡ b ++ o → a' ≡ a → ks' ≡ ks
@@ -210,9 +207,6 @@ pub record Last (name rest : Octets) (count : ℕ) : Type 0 where
   pub end : rest ≡ drop (length name - length rest) name
   pub all : (n : DomainName) → name ≡ wire n → is_name n ≡ true → LastNow n rest count
 
-pub last_begins : (name : Octets) (count : ℕ) → Last name name count
-last_begins name count = grind arith
-
 pub last_label : {name rest after : Octets} {count : ℕ} (k : ℕ) → Last name rest count → AfterLabel rest k after → count < length rest → Last name after count
 last_label {name} {rest} {after} {count} k last a longer = record {
   shorter = let s = last.shorter in omega (arith, s, ap length a.first, ap length a.cut, length-drop k a.others);
@@ -255,14 +249,6 @@ last_here {name} {rest} {count} last here n front t l e ok whole long =
     go : (left g : DomainName) → rest ≡ wire left → left ≡ g ++ l ∷ t → rest ≡ wire (l ∷ t)
     go left [] spelled is = spelled ∙ ap wire is
     go left (x ∷ g) spelled is = grind (arith, longer_wire, length-append)
-
-pub last_root : {name rest : Octets} {count : ℕ} → Last name rest count → ((m : DomainName) → rest ≡ wire m → is_name m ≡ true → m ≡ []) → (n front t : DomainName) (l : Octets) → name ≡ wire n
-    → is_name n ≡ true → n ≡ front ++ l ∷ t → length (wire (l ∷ t)) ≡ count → ⊥
-last_root last root n front t l e ok whole long =
-    let a = last.all n e ok in
-    let h = a.ahead front t l whole long in
-    let none = root a.left a.spelled a.is_name in
-    omega (arith, ap length (sym none ∙ h.1), length-append h.0 (l ∷ t))
 
 pub two_octets : (l : Octets) (t : DomainName) → 2 ≤ length (wire (l ∷ t))
 two_octets l [] = omega (arith, length-append l (wire []))

@@ -1,20 +1,15 @@
 -- The chains stay whole where an entry comes at the end, or the last one goes.
-use Rattle.std.proofs.Common.{◌≡◌, ap₂, ◌-◌, ℕ, zero, suc, ◌<◌, ◌≤◌, ◌==◌, Bool, true, false, cond, nat_le, List, [], ◌∷◌, ◌++◌, map, length, replicate, get_or, slice_get, slice_set, option_map, Some, refl, sym, ap, ◌∙◌, subst, arith, length-append}
-use Rattle.std.proofs.lemmas.Bool.{false≢true, eqb-true, eq-eqb, leb-true, leb-false}
-use Rattle.std.proofs.lemmas.Option.{same_Some, slice_get_within, slice_get-map, slice_get-get_or}
+use Rattle.std.proofs.Common.{◌≡◌, ap₂, ◌-◌, ℕ, zero, suc, ◌<◌, ◌≤◌, ◌==◌, Bool, true, false, cond, List, [], ◌∷◌, ◌++◌, map, length, replicate, get_or, slice_get, slice_set, option_map, Some, refl, sym, ap, ◌∙◌, subst, arith, length-append}
+use Rattle.std.proofs.lemmas.Bool.{false≢true, eqb-true, eq-eqb, leb-false}
+use Rattle.std.proofs.lemmas.Option.{slice_get_within, slice_get-map, slice_get-get_or}
 use Rattle.std.proofs.lemmas.List.{get_or-set_same, get_or-set_other, get_or-replicate, get_or_append_left, get_or_push, length-map, length-set, length-replicate}
 use Rattle.std.proofs.lemmas.Nat.{mod_below}
 use Rattle.dns_wire.specs.declared.places.Entry.{Entry}
-use Rattle.dns_wire.specs.Kept.{Kept}
 use Rattle.dns_wire.specs.Chains.{kept_in, chain_of, entry_at, last_with, AreChains}
 
 last_bound : (h : ℕ) (es : List Entry) (k : ℕ) → last_with h es k ≤ k
 last_bound h es zero = omega arith
-last_bound h es (suc k) = go (chain_of (entry_at es k).number == h) (last_bound h es k)
-  where
-    go : (t : Bool) → last_with h es k ≤ k → cond t (suc k) (last_with h es k) ≤ suc k
-    go true b = omega arith
-    go false b = omega (arith, b)
+last_bound h es (suc k) = grind (arith, (last_bound h es k))
 
 -- one entry more
 module _ (es : List Entry) (e : Entry) where
@@ -29,42 +24,27 @@ module _ (es : List Entry) (e : Entry) where
   last_before h (suc k) low = ap₂ (λ (x : Entry) m. cond (chain_of x.number == h) (suc k) m) (same_before k (omega (arith, low))) (last_before h k (omega (arith, low)))
 
   last_now : (h : ℕ) → last_with h (es ++ e ∷ []) (length (es ++ e ∷ [])) ≡ cond (chain_of e.number == h) (suc (length es)) (last_with h es (length es))
-  last_now h =
-      let more : length (es ++ e ∷ []) ≡ suc (length es) = omega (arith, length-append es (e ∷ [])) in
-      ap (last_with h (es ++ e ∷ [])) more
-      ∙ ap₂ (λ (x : Entry) m. cond (chain_of x.number == h) (suc (length es)) m) at_end (last_before h (length es) (omega arith))
+  last_now h = grind (arith, length-append, at_end, last_before)
 
   -- the head of its chain is set, and the others stay
   set_head : (heads : List ℕ) (to k h : ℕ) → length heads ≡ 128 → (k ≡ cond (chain_of e.number == h) to (get_or heads h 0)) → get_or (slice_set heads (chain_of e.number) to) h 0 ≡ k
-  set_head heads to k h all is = go (chain_of e.number == h) refl is
-    where
-      go : (t : Bool) → (chain_of e.number == h) ≡ t → k ≡ cond t to (get_or heads h 0) → get_or (slice_set heads (chain_of e.number) to) h 0 ≡ k
-      go true q is =
-          let low = mod_below e.number 128 (omega arith) in
-          ap (λ j. get_or (slice_set heads (chain_of e.number) to) j 0) (sym (eqb-true (chain_of e.number) h q)) ∙ get_or-set_same heads (chain_of e.number) to 0 (omega (arith, all, low)) ∙ sym is
-      go false q is = get_or-set_other heads (chain_of e.number) h to 0 (λ same. false≢true (sym q ∙ eq-eqb (chain_of e.number) h (sym same))) ∙ sym is
+  set_head heads to k h all is =
+      grind (arith, get_or-set_same, get_or-set_other, false≢true, eq-eqb)
 
   pub chains_grow : (heads : List ℕ) → AreChains heads es → e.place < 16384 → e.next ≡ get_or heads (chain_of e.number) 0
       → AreChains (slice_set heads (chain_of e.number) (suc (length es))) (es ++ e ∷ [])
-  chains_grow heads c reach next = record {
-    all = length-set heads (chain_of e.number) (suc (length es)) ∙ c.all;
-    newest = λ h low. set_head heads (suc (length es)) _ h c.all (last_now h ∙ ap (cond (chain_of e.number == h) (suc (length es))) (sym (c.newest h low)));
-    linked = λ k low. go k low (nat_le (length es) k) refl;
-  }
-    where
-      Linked : ℕ → Entry → Type 0
-      Linked k x = (x.place < 16384) × (x.next ≡ last_with (chain_of x.number) (es ++ e ∷ []) k)
-
-      go : (k : ℕ) → k < length (es ++ e ∷ []) → (t : Bool) → nat_le (length es) k ≡ t → Linked k (entry_at (es ++ e ∷ []) k)
-      go k low true q =
-          let past = leb-true (length es) k q in
-          let at : length es ≡ k = omega (arith, low, past, length-append es (e ∷ [])) in
-          let link = next ∙ c.newest (chain_of e.number) (mod_below e.number 128 (omega arith)) ∙ sym (last_before (chain_of e.number) (length es) (omega arith)) in
-          subst (λ j. Linked j (entry_at (es ++ e ∷ []) j)) at (subst (Linked (length es)) (sym at_end) (reach, link))
-      go k low false q =
-          let before = leb-false (length es) k q in
-          let l = c.linked k before in
-          subst (Linked k) (sym (same_before k before)) (l.0, l.1 ∙ sym (last_before (chain_of (entry_at es k).number) k (omega (arith, before))))
+  chains_grow heads c reach next =
+      grind (
+        arith,
+        length-set,
+        set_head,
+        length-append,
+        mod_below,
+        last_before,
+        at_end,
+        leb-false,
+        same_before,
+      )
 
   pub chains_shrink : (heads : List ℕ) → AreChains heads (es ++ e ∷ []) → AreChains (slice_set heads (chain_of e.number) e.next) es
   chains_shrink heads c = record {
@@ -109,41 +89,13 @@ read_entry {number = number} positive same at =
 module _ (P : Entry → Type 0) (h : ℕ) (es : List Entry) where
   chain_at : (m : ℕ) → m ≤ length es → ((k : ℕ) → k < length es → m ≤ k → chain_of (entry_at es k).number ≡ h → P (entry_at es k) → ⊥) → Chain P h es (last_with h es m)
   chain_at zero inside none = record { inside = omega arith; here = λ k e. absurd (omega (arith, e)); after = none }
-  chain_at (suc m) inside none = go (chain_of (entry_at es m).number == h) refl (chain_at m)
-    where
-      go : (t : Bool) → (chain_of (entry_at es m).number == h) ≡ t
-          → (m ≤ length es → ((k : ℕ) → k < length es → m ≤ k → chain_of (entry_at es k).number ≡ h → P (entry_at es k) → ⊥) → Chain P h es (last_with h es m))
-          → Chain P h es (cond t (suc m) (last_with h es m))
-      go true q rest = record {
-        inside = inside;
-        here = λ k e. let at : m ≡ k = omega (arith, e) in subst (λ j. chain_of (entry_at es j).number ≡ h) at (eqb-true (chain_of (entry_at es m).number) h q);
-        after = none;
-      }
-      go false q rest = rest (omega (arith, inside)) (λ k low past is p. next k low past is p (nat_le (suc m) k) refl)
-        where
-          next : (k : ℕ) → k < length es → m ≤ k → chain_of (entry_at es k).number ≡ h → P (entry_at es k) → (t : Bool) → nat_le (suc m) k ≡ t → ⊥
-          next k low past is p true later = none k low (leb-true (suc m) k later) is p
-          next k low past is p false now =
-              let below = leb-false (suc m) k now in
-              let at : k ≡ m = omega (arith, below, past) in
-              false≢true (sym q ∙ eq-eqb (chain_of (entry_at es m).number) h (subst (λ j. chain_of (entry_at es j).number ≡ h) at is))
+  chain_at (suc m) inside none = grind (arith, (chain_at m), eq-eqb)
 
   pub chain_begins : (heads : List ℕ) → AreChains heads es → h < 128 → Chain P h es (get_or heads h 0)
   chain_begins heads c low = subst (Chain P h es) (sym (c.newest h low)) (chain_at (length es) (omega arith) (λ k inside past is p. absurd (omega (arith, inside, past))))
 
   pub chain_next : (heads : List ℕ) (k : ℕ) → AreChains heads es → Chain P h es (suc k) → (P (entry_at es k) → ⊥) → Chain P h es (entry_at es k).next × ((entry_at es k).next ≤ k)
-  chain_next heads k c chain other =
-      let inside = chain.inside in
-      let link = (c.linked k (omega (arith, inside))).1 ∙ ap (λ j. last_with j es k) (chain.here k refl) in
-      let bound = last_bound h es k in
-      (subst (Chain P h es) (sym link) (chain_at k (omega (arith, inside)) (λ j low past is p. next j low past is p (nat_le (suc k) j) refl)), omega (arith, link, bound))
-    where
-      next : (j : ℕ) → j < length es → k ≤ j → chain_of (entry_at es j).number ≡ h → P (entry_at es j) → (t : Bool) → nat_le (suc k) j ≡ t → ⊥
-      next j low past is p true later = chain.after j low (leb-true (suc k) j later) is p
-      next j low past is p false now =
-          let below = leb-false (suc k) j now in
-          let at : j ≡ k = omega (arith, below, past) in
-          other (subst (λ i. P (entry_at es i)) at p)
+  chain_next heads k c chain other = grind (arith, last_bound, chain_at)
 
 -- the pair that an entry stands for
 pub entry_kept : (es : List Entry) (k : ℕ) → k < length es → slice_get (map kept_in es) k ≡ Some (kept_in (entry_at es k))
@@ -151,8 +103,4 @@ entry_kept es k low = slice_get-map kept_in es k ∙ ap (option_map kept_in) (sl
 
 pub kept_entry : (es : List Entry) (k p h : ℕ) → slice_get (map kept_in es) k ≡ Some (record { place = p; number = h })
     → (k < length es) × ((entry_at es k).number ≡ h) × ((entry_at es k).place ≡ p)
-kept_entry es k p h at =
-    let within = slice_get_within (map kept_in es) k _ at in
-    let low : k < length es = omega (arith, within, length-map es kept_in) in
-    let same = same_Some (kept_in (entry_at es k)) (record { place = p; number = h }) (sym (entry_kept es k low) ∙ at) in
-    (low, ap (λ (x : Kept). x.number) same, ap (λ (x : Kept). x.place) same)
+kept_entry es k p h at = grind (arith, slice_get_within, length-map, entry_kept)

@@ -1,7 +1,7 @@
 -- Octets that a message spells at a place stand there, but for a pointer where the two differ.
-use Rattle.std.proofs.Common.{◌≡◌, ℕ, zero, suc, ◌+◌, ◌<◌, ◌≤◌, Bool, true, false, nat_lt, [], ◌∷◌, ◌++◌, length, take, drop, slice_get, Some, refl, sym, ap, ap₂, ◌∙◌, subst, arith, append_assoc, length-append, drop_at, get_or}
+use Rattle.std.proofs.Common.{◌≡◌, ℕ, zero, suc, ◌+◌, ◌<◌, ◌≤◌, [], ◌∷◌, ◌++◌, length, take, drop, slice_get, Some, refl, sym, ap, ap₂, ◌∙◌, subst, arith, append_assoc, length-append, drop_at, get_or}
 use Rattle.dns_spec.proofs.Common.{ltb-true, ltb-false, take-add, Octets, DomainName, wire, RunAt, ends, goes_on, jumps}
-use Rattle.std.proofs.lemmas.List.{take_all, length-take-le, length-drop, drop-drop}
+use Rattle.std.proofs.lemmas.List.{length-take-le, length-drop, drop-drop}
 use Rattle.std.proofs.lemmas.Option.{none-some, same_Some, slice_get_within, get_or_from_slice_get, slice_get-get_or}
 use Rattle.dns_wire.specs.Labels.{LabelAt, PointerAt, NoRunAt}
 use Rattle.dns_wire.specs.Kept.{SpelledAt, HasAt, IsCommon}
@@ -39,14 +39,6 @@ drop_get : (b : Octets) (i k : ℕ) → slice_get b i ≡ Some k → drop i b �
 drop_get [] i k at = absurd (none-some k at)
 drop_get (x ∷ b) zero k at = ap (λ z. z ∷ b) (same_Some x k at)
 drop_get (x ∷ b) (suc i) k at = grind (arith, (drop_get b i k))
-
--- octets alike have the same element at a place
-get_alike : (b o : Octets) (s m k : ℕ) → take m (drop s b) ≡ take m o → k < m
-    → slice_get b (s + k) ≡ slice_get o k
-get_alike b o s m k alike h = grind (arith, get_dropped, get_taken)
-
-get_at : (b x : Octets) (s k : ℕ) → HasAt b s x → k < length x → slice_get b (s + k) ≡ slice_get x k
-get_at b x s k has h = get_alike b x s (length x) k (has.1 ∙ sym (take_all (length x) x (omega arith))) h
 
 -- a label before other octets
 has_label : {b y : Octets} {i : ℕ} (l : Octets) → LabelAt b i l → HasAt b (i + 1 + length l) y
@@ -106,28 +98,20 @@ pub record PointedOn (b : Octets) (s k : ℕ) (o : Octets) : Type 0 where
 
 pub pointed_on : {b o : Octets} {s : ℕ} (k : ℕ) → SpelledAt b s o → IsCommon (drop s b) o k
     → k < length o → PointedOn b s k o
-pointed_on {b} {o} {s} k there common inside = go there.0 there.1 there.2 there.3 (run_ends there.2)
-  where
-    other : slice_get b (s + k) ≡ slice_get o k → ⊥
-    other same = common.other inside (get_dropped s k b ∙ same)
-
-    go : (n : DomainName) (e : ℕ) → RunAt b s s n e → wire n ≡ o → RunEnds b s s n
-        → PointedOn b s k o
-    go n e run w (whole has) = absurd (other (get_at b _ s k has (omega (arith, inside, ap length w)) ∙ ap (λ z. slice_get z k) w))
-    go n e run w (pointed f t p d shape has pointer rest) = cases (nat_lt k (length x)) refl (nat_lt (length x) k) refl
-      where
-        x : Octets
-        x = label_octets f
-
-        own : o ≡ x ++ wire t
-        own = sym w ∙ ap wire shape ∙ wire_front f t
-
-        cases : (u : Bool) → nat_lt k (length x) ≡ u → (v : Bool) → nat_lt (length x) k ≡ v
-            → PointedOn b s k o
-        cases true before v q = grind (arith, ltb-true, get_at, get_front, other, x, own)
-        cases false least true past =
-            grind (arith, get_alike, ltb-true, first_low, get_seam, x, own)
-        cases false least false most = grind (arith, ltb-false, drop_at, x, own)
+pointed_on {b} {o} {s} k there common inside =
+    grind (
+      arith,
+      run_ends,
+      get_dropped,
+      wire_front,
+      ltb-true,
+      get_front,
+      get_taken,
+      first_low,
+      get_seam,
+      ltb-false,
+      drop_at,
+    )
 
 -- where a pointer leads, the octets left are spelled
 pub spelled_after : {b o : Octets} {s k p : ℕ} → PointedOn b s k o → PointerAt b s (s + k) p

@@ -1,5 +1,5 @@
 -- Data and records are written part by part.
-use Rattle.dns_spec.proofs.Common.{◌≡◌, ◌+◌, ◌-◌, ◌≤◌, ◌∙◌, ℕ, Bool, true, false, List, [], ◌∷◌, ◌++◌, length, take, drop, refl, sym, ap, ap₂, subst, subst₂, arith, append_assoc, append-nil, length-append, take_at, drop_at, take-append-add, Octets, class_in, Part, octets, name, laid_parts, Placed, Laid, laid_front, octets16, octets32, data_laid}
+use Rattle.dns_spec.proofs.Common.{◌≡◌, ◌+◌, ◌-◌, ◌≤◌, ◌∙◌, ℕ, Bool, true, false, List, [], ◌∷◌, ◌++◌, length, take, drop, refl, sym, ap, ap₂, subst, subst₂, arith, append_assoc, append-nil, length-append, take_at, drop_at, take-append-add, Octets, class_in, Part, octets, name, laid_parts, Placed, Laid, octets16, octets32, data_laid}
 use Rattle.dns_wire.specs.Kept.{Kept}
 use Rattle.dns_wire.specs.SuffixNumbers.{suffix_number}
 use Rattle.dns_wire.specs.Writing.{Follows, Holds, Layout, octets_laid, name_laid, both_laid, parts_laid, tail_laid}
@@ -16,19 +16,13 @@ part_laid (name n) = name_laid n
 abbrev pub all_laid : List Part → Layout
 all_laid ps ms p = data_laid ms p ps
 
-data_none : (ms : List Placed) (p : ℕ) → data_laid ms p [] ≡ record { written = []; names = [] }
-unfolding data_laid
-data_none ms p = refl
-
 data_more : (x : Part) (ps : List Part) (ms : List Placed) (p : ℕ) → both_laid (part_laid x) (all_laid ps) ms p ≡ data_laid ms p (x ∷ ps)
 unfolding data_laid
 data_more x ps ms p = grind (arith, append-nil)
 
 data_last : (x : Part) (ms : List Placed) (p : ℕ) → part_laid x ms p ≡ data_laid ms p (x ∷ [])
-data_last x ms p =
-    let l = part_laid x ms p in
-    ap₂ (λ o ns. record { written = o; names = ns }) (sym (append-nil l.written)) (sym (append-nil l.names))
-    ∙ ap (laid_front l.written l.names) (sym (data_none (ms ++ l.names) (p + length l.written))) ∙ data_more x [] ms p
+unfolding data_laid
+data_last x ms p = grind (arith, append-nil, data_more)
 
 -- what follows an owner
 abbrev pub numbers_of : ℕ → ℕ → ℕ → Octets

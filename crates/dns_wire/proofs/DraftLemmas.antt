@@ -1,5 +1,5 @@
 -- A set more in a draft: its size is that of the layout, and it has one set more.
-use Rattle.std.proofs.Common.{◌≡◌, ◌↔◌, ℕ, ◌+◌, ◌≤◌, ◌^◌, Bool, true, false, cond, List, [], ◌∷◌, ◌++◌, length, take, drop, replicate, filter, Option, refl, sym, ap, ap₂, ◌∙◌, subst, subst₂, arith, All, IfSome, Some, append_assoc, append-nil, length-append, ◌<◌, lt_of_not-le}
+use Rattle.std.proofs.Common.{◌≡◌, ◌↔◌, ℕ, ◌+◌, ◌≤◌, ◌^◌, Bool, true, false, cond, List, [], ◌∷◌, ◌++◌, length, take, drop, replicate, Option, refl, sym, ap, ◌∙◌, subst, subst₂, arith, All, IfSome, Some, append_assoc, append-nil, length-append, ◌<◌, lt_of_not-le}
 use Rattle.dns_spec.proofs.Common.{false≢true, take-append-add, Octets, DomainName, wire, RecordSet, records_at, Header, MessageQuestion, Spells, size, Sharing, IsWritable, IsAskable, sections_in_order}
 use Rattle.std.proofs.lemmas.List.{length-map, length-drop}
 use Rattle.std.proofs.lemmas.List.Concat.{flat_map-append}
@@ -10,9 +10,9 @@ use Rattle.dns_spec.proofs.Layouts.SharedLayout.{layout_spells}
 use Rattle.dns_spec.proofs.Layouts.LeastSize.{past_limit}
 use Rattle.dns_spec.proofs.Layouts.LayoutSize.{length-records_octets, length-layout}
 use Rattle.dns_wire.specs.declared.page.Section.{Section}
-use Rattle.dns_wire.specs.Writing.{asked_places, new_places, Holds, records_laid, shown}
+use Rattle.dns_wire.specs.Writing.{asked_places, new_places, Holds, records_laid}
 use Rattle.dns_wire.specs.SuffixNumbers.{suffix_number}
-use Rattle.dns_wire.specs.Draft.{Draft, draft_of, known_places, HasNames, IsDraft, Writes, section_of, counted, with_counted, counts_of, item_of, names_so_far}
+use Rattle.dns_wire.specs.Draft.{Draft, draft_of, known_places, HasNames, IsDraft, Writes, with_counted, counts_of, item_of, names_so_far}
 use Rattle.dns_wire.specs.declared.message.Counts.{Counts}
 use Rattle.dns_wire.proofs.AskedLemmas.{asked_whole}
 use Rattle.dns_wire.proofs.NameWritten.{holds_nothing, holds_octets, holds_name}
@@ -22,39 +22,16 @@ records_pushed : (items : List Item) (i : Item) → records_of (items ++ i ∷ [
 records_pushed items i = flat_map-append (λ (x : Item). x.records) items (i ∷ []) ∙ ap (λ z. records_of items ++ z) (append-nil i.records)
 
 section_pushed : (s : Layout.Section) (items : List Item) (i : Item) → length (in_section s (items ++ i ∷ [])) ≡ length (in_section s items) + cond (is_section s i.section) (length i.records) 0
-section_pushed s [] i = go (is_section s i.section)
-  where
-    go : (t : Bool) → length (records_of (cond t (i ∷ []) [])) ≡ 0 + cond t (length i.records) 0
-    go true = omega (arith, length-append i.records [])
-    go false = refl
-section_pushed s (x ∷ items) i = go (is_section s x.section) (section_pushed s items i)
-  where
-    go : (t : Bool) → length (in_section s (items ++ i ∷ [])) ≡ length (in_section s items) + cond (is_section s i.section) (length i.records) 0
-        → length (records_of (cond t (x ∷ filter (λ (j : Item). is_section s j.section) (items ++ i ∷ [])) (filter (λ (j : Item). is_section s j.section) (items ++ i ∷ []))))
-        ≡ length (records_of (cond t (x ∷ filter (λ (j : Item). is_section s j.section) items) (filter (λ (j : Item). is_section s j.section) items))) + cond (is_section s i.section) (length i.records) 0
-    go true h = omega (arith, h, length-append x.records (in_section s (items ++ i ∷ [])), length-append x.records (in_section s items))
-    go false h = h
-
-section_counted : (s : Layout.Section) (items : List Item) (section : Section) (owner : DomainName) (ttl : ℕ) (set : RecordSet)
-    → length (in_section s (items ++ item_of section owner ttl set ∷ [])) ≡ length (in_section s items) + counted s section (length set.rdata)
-section_counted s items section owner ttl set =
-    section_pushed s items (item_of section owner ttl set)
-    ∙ ap (λ k. length (in_section s items) + cond (is_section s (section_of section)) k 0) (length-map set.rdata (λ (d : Octets). shown owner set.rtype ttl d))
+section_pushed s [] i = grind (arith, length-append)
+section_pushed s (x ∷ items) i = grind (arith, (section_pushed s items i), length-append)
 
 module _ (head : Octets → ℕ) (q : Option MessageQuestion) (items : List Item) (d : Draft) (draft : IsDraft head q items d) where
   next_place : length d.octets ≡ 12 + length (asked_octets q) + length (records_laid (records_of items) (asked_placed q) (12 + length (asked_octets q))).written
-  next_place =
-      let w = (records_laid (records_of items) (asked_placed q) (12 + length (asked_octets q))).written in
-      ap length draft.written ∙ omega (arith, length-append (replicate 12 0 ++ asked_octets q) w, length-append (replicate 12 0) (asked_octets q))
+  next_place = grind (arith, length-append)
 
   whole : (i : Item) → records_laid (records_of (items ++ i ∷ [])) (asked_placed q) (12 + length (asked_octets q))
       ≡ laid_front (records_laid (records_of items) (asked_placed q) (12 + length (asked_octets q))).written (records_laid (records_of items) (asked_placed q) (12 + length (asked_octets q))).names (records_laid i.records (names_so_far q items) (length d.octets))
-  whole i =
-      let ms = asked_placed q in
-      let p : ℕ = 12 + length (asked_octets q) in
-      let l = records_laid (records_of items) ms p in
-      ap (λ rs. records_laid rs ms p) (records_pushed items i) ∙ sym (records_split (records_of items) i.records ms p)
-      ∙ ap (λ k. laid_front l.written l.names (records_laid i.records (names_so_far q items) k)) (sym next_place)
+  whole i = grind (arith, records_pushed, records_split, next_place)
 
   pub draft_size : (i : Item) → size q (items ++ i ∷ []) ≡ length (d.octets ++ (records_laid i.records (names_so_far q items) (length d.octets)).written)
   unfolding size
@@ -77,8 +54,7 @@ put_fits {head} {d = d} q items section owner ttl set w draft =
 
 counts_pushed : (q : Option MessageQuestion) (items : List Item) (section : Section) (owner : DomainName) (ttl : ℕ) (set : RecordSet)
     → with_counted (counts_of q items) section (length set.rdata) ≡ counts_of q (items ++ item_of section owner ttl set ∷ [])
-counts_pushed q items section owner ttl set =
-    rw (section_counted answer items section owner ttl set, section_counted authority items section owner ttl set, section_counted additional items section owner ttl set) refl
+counts_pushed q items section owner ttl set = grind (arith, section_pushed, length-map)
 
 -- a set that was put
 pub put_in : {head head' : Octets → ℕ} {d d' : Draft} {n : Counts} (q : Option MessageQuestion) (items : List Item) (section : Section) (owner : DomainName) (ttl : ℕ) (set : RecordSet)
@@ -103,23 +79,14 @@ put_in {head} {d = d} {d'} q items section owner ttl set w counts draft =
 -- a draft without sets
 pub draft_begins : (head : Octets → ℕ) (q : Option MessageQuestion) (d : Draft) → d.octets ≡ replicate 12 0 ++ asked_octets q → HasNames d head (asked_placed q)
     → d.counts ≡ counts_of q [] → IfSome q IsAskable → IsDraft head q [] d
-draft_begins head q d octets holds counts askable =
-    let none = records_none (asked_placed q) (12 + length (asked_octets q)) in
-    let front = replicate 12 0 ++ asked_octets q in
-    record {
-      written = octets ∙ sym (append-nil front) ∙ ap (λ (l : Laid). front ++ l.written) (sym none);
-      holds = subst (HasNames d head) (sym (append-nil (asked_placed q)) ∙ ap (λ (l : Laid). asked_placed q ++ l.names) (sym none)) holds;
-      counts = counts;
-      askable = askable;
-    }
+draft_begins head q d octets holds counts askable = grind (arith, records_none, append-nil)
 
 -- a draft of a question alone
 abbrev pub asked_draft : ℕ → MessageQuestion → Draft
 asked_draft limit q = draft_of limit (replicate 12 0 ++ question_octets q) (12 + length (wire q.qname)) [] (record { questions = 1; answers = 0; authorities = 0; additionals = 0 })
 
 pub question_whole : (q : MessageQuestion) → replicate 12 0 ++ question_octets q ≡ (replicate 12 0 ++ wire q.qname) ++ (octets16 q.qtype ++ octets16 q.qclass)
-question_whole q =
-    ap (λ z. replicate 12 0 ++ z) (append_assoc (wire q.qname) (octets16 q.qtype) (octets16 q.qclass)) ∙ sym (append_assoc (replicate 12 0) (wire q.qname) (octets16 q.qtype ++ octets16 q.qclass))
+question_whole q = grind (arith, append_assoc)
 
 pub asked_begins : (head : Octets → ℕ) (limit : ℕ) (q : MessageQuestion) → IsAskable q → IsDraft head (Some q) [] (asked_draft limit q)
 asked_begins head limit q askable =
@@ -138,12 +105,7 @@ header_of h n = header_octets h n.questions n.answers n.authorities n.additional
 pub draft_laid : {head : Octets → ℕ} (h : Header) (q : Option MessageQuestion) (items : List Item) (d : Draft) → IsDraft head q items d
     → header_of h d.counts ++ drop 12 d.octets ≡ layout h q items
 unfolding layout
-draft_laid h q items d draft =
-    let rest = (records_laid (records_of items) (asked_placed q) (12 + length (asked_octets q))).written in
-    let body : drop 12 d.octets ≡ asked_octets q ++ rest = ap (drop 12) draft.written in
-    let front = reply_header h q items in
-    ap₂ ◌++◌ (ap (header_of h) draft.counts) body ∙ sym (append_assoc front (asked_octets q) rest)
-    ∙ ap (λ z. front ++ asked_octets q ++ z) (octets_of_records (asked_placed q) (12 + length (asked_octets q)) (records_of items))
+draft_laid h q items d draft = grind (arith, append_assoc, octets_of_records)
 
 pub draft_length : {head : Octets → ℕ} (q : Option MessageQuestion) (items : List Item) (d : Draft) → IsDraft head q items d → length d.octets ≡ size q items
 draft_length q items d draft =
@@ -155,9 +117,7 @@ draft_length q items d draft =
 
 -- the header and what follows it, taken from the front of what was lent
 pub finished : (front w out body : Octets) (n : ℕ) → out ≡ front ++ w → length front ≡ 12 → n ≡ 12 + length body → take (length body) w ≡ body → take n out ≡ front ++ body
-finished front w out body n e twelve long is =
-    let at : n ≡ length front + length body = omega (arith, long, twelve) in
-    ap₂ take at e ∙ take-append-add front w (length body) ∙ ap (λ z. front ++ z) is
+finished front w out body n e twelve long is = grind (arith, take-append-add)
 
 -- where the layout is refused, each size that sharing allows is past the limit
 pub least_of : (q : Option MessageQuestion) (items : List Item) (limit : ℕ) (t : Bool) → ((t ≡ true) ↔ (size q items ≤ limit)) → limit ≤ 16384

@@ -1,6 +1,6 @@
 -- A name is read label by label from place 12 on: the labels read so far, and what the octets from the next place on
 -- spell, are the name.
-use Rattle.dns_spec.proofs.Common.{Bool, true, ◌≡◌, ℕ, ◌+◌, ◌<◌, ◌≤◌, [], ◌∷◌, ◌++◌, length, take, drop, get_or, refl, sym, ◌∙◌, ap, arith, Option, None, Some, inl, inr, option_map, option_and_then, Octets, DomainName, wire, is_name, with_label}
+use Rattle.dns_spec.proofs.Common.{true, ◌≡◌, ℕ, ◌+◌, ◌<◌, ◌≤◌, [], ◌∷◌, ◌++◌, length, take, drop, get_or, ◌∙◌, ap, arith, Option, None, Some, inl, inr, option_map, option_and_then, Octets, DomainName, wire, is_name, with_label}
 use Rattle.std.proofs.lemmas.List.{append_assoc, append-nil}
 use Rattle.std.proofs.lemmas.Option.{slice_get-get_or, slice_get_past}
 use Rattle.std.specs.Prelude.{slice_get, ◌⊎◌}
@@ -17,12 +17,9 @@ in_front n (m, e) = (n ++ m, e)
 unfoldable pub read_on : Octets → DomainName → ℕ → Option (DomainName × ℕ)
 read_on d n at = option_and_then name_if_short (option_map (in_front n) (run12 d at))
 
-at_first : (x : Option (DomainName × ℕ)) → option_map (in_front []) x ≡ x
-at_first x = grind arith
-
 pub read_on-start : (d : Octets) → read_on d [] 12 ≡ name_at d 12
 unfolding read_on
-read_on-start d = ap (option_and_then name_if_short) (at_first (run12 d 12)) ∙ sym (name_at_12 d)
+read_on-start d = grind (arith, run12, name_at_12)
 
 read_on-none : (d : Octets) (n : DomainName) (i : ℕ) → run12 d i ≡ None → read_on d n i ≡ None
 unfolding read_on
@@ -31,12 +28,9 @@ read_on-none d n i e = ap (λ x. option_and_then name_if_short (option_map (in_f
 pub read_on-missing : (d : Octets) (n : DomainName) (i : ℕ) → length d ≤ i → read_on d n i ≡ None
 read_on-missing d n i h = read_on-none d n i (run12_missing d i (slice_get_past d i h))
 
-short_name : (n : DomainName) (e : ℕ) → is_name n ≡ true → name_if_short (n, e) ≡ Some (n, e)
-short_name n e h = rw h refl
-
 pub read_on-root : (d : Octets) (n : DomainName) (i : ℕ) → i < length d → get_or d i 0 ≡ 0 → is_name n ≡ true → read_on d n i ≡ Some (n, i + 1)
 unfolding read_on
-read_on-root d n i h z ok = grind (arith, slice_get-get_or, run12_root, append-nil, short_name)
+read_on-root d n i h z ok = grind (arith, slice_get-get_or, run12_root, append-nil)
 
 with_front : (n : DomainName) (l : Octets) (x : Option (DomainName × ℕ)) → option_map (in_front n) (option_map (with_label l) x) ≡ option_map (in_front (n ++ l ∷ [])) x
 with_front n l x = grind (arith, append_assoc)
@@ -63,12 +57,6 @@ pub read_on-high : (d : Octets) (n : DomainName) (i k : ℕ) → i < length d �
 read_on-high d n i k h z high =
     read_on-none d n i (run12_high d i k (slice_get-get_or d i 0 h ∙ ap (λ o. Some o) z) high)
 
-no_name : (n m : DomainName) (e : ℕ) → 255 < length (wire n) → (b : Bool) → is_name (n ++ m) ≡ b → name_if_short (n ++ m, e) ≡ None
-no_name n m e h b h1 = grind (arith, IsName-is_name, length-wire-front)
-
-none_long : (n : DomainName) → 255 < length (wire n) → (x : Option (DomainName × ℕ)) → option_and_then name_if_short (option_map (in_front n) x) ≡ None
-none_long n h x = grind (arith, no_name)
-
 pub read_on-long : (d : Octets) (n : DomainName) (i : ℕ) → 255 < length (wire n) → read_on d n i ≡ None
 unfolding read_on
-read_on-long d n i long = none_long n long (run12 d i)
+read_on-long d n i long = grind (arith, IsName-is_name, length-wire-front, run12)

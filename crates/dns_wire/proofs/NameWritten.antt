@@ -62,9 +62,7 @@ kept_split (y ∷ ks) more p h (suc k, at) = go (kept_split ks more p h (k, at))
 pub kept_complete : (head : Octets → ℕ) (ms : List Placed) (n front : DomainName) (l : Octets) (t : DomainName) (i p : ℕ) → n ≡ front ++ l ∷ t → place_of ms (l ∷ t) ≡ None
     → length (wire (l ∷ t)) ≤ length (wire n) → i + (length (wire n) - length (wire (l ∷ t))) ≡ p → p < 16384 → IsKept (new_places head ms n i) p (head (wire (l ∷ t)))
 kept_complete head ms n [] l t i p e none short at low =
-    let same : i ≡ p = omega (arith, at, ap (λ x. length (wire x)) e) in
-    let more = kept-more head ms l t i (shared_none ms (l ∷ t) none) (omega (arith, same, low)) in
-    (0, ap (λ x. slice_get (new_places head ms x i) 0) e ∙ ap (λ x. slice_get x 0) more ∙ ap (λ j. Some (record { place = j; number = head (wire (l ∷ t)) })) same)
+    grind (arith, kept-more, shared_none, slice_get)
 kept_complete head ms [] (x ∷ front) l t i p e none short at low = absurd (let z = ap length e in omega (arith, z))
 kept_complete head ms (k ∷ n) (x ∷ front) l t i p e none short at low =
     let tail : n ≡ front ++ l ∷ t = ap (λ (y : DomainName). drop 1 y) e in
@@ -122,12 +120,7 @@ kept_sound head ms (l ∷ n) i p h (k, at) = go (shared_place ms (l ∷ n)) refl
 -- the place of a suffix among more names
 place_left : (ms : List Placed) (m : Placed) (s : DomainName) (p : ℕ) → place_of ms s ≡ Some p → place_of (ms ++ m ∷ []) s ≡ Some p
 place_left [] m s p e = absurd (none-some p e)
-place_left (k ∷ ms) m s p e = go (has_suffix k.0 s) e (place_left ms m s p)
-  where
-    go : (t : Bool) → cond t (Some (suffix_place k s)) (place_of ms s) ≡ Some p → (place_of ms s ≡ Some p → place_of (ms ++ m ∷ []) s ≡ Some p)
-        → cond t (Some (suffix_place k s)) (place_of (ms ++ m ∷ []) s) ≡ Some p
-    go true f again = f
-    go false f again = again f
+place_left (k ∷ ms) m s p e = grind (arith, (place_left ms m s p))
 
 place_new : (ms : List Placed) (m : Placed) (s : DomainName) → place_of ms s ≡ None → has_suffix m.0 s ≡ true → place_of (ms ++ m ∷ []) s ≡ Some (suffix_place m s)
 place_new [] m s e is = ap (λ t. cond t (Some (suffix_place m s)) None) is
@@ -218,18 +211,8 @@ module _ (head : Octets → ℕ) (ms : List Placed) (b : Octets) (ks : List Kept
 
 -- octets that are no name leave all as it is
 pub holds_octets : {head : Octets → ℕ} {ms : List Placed} {b : Octets} {ks : List Kept} (x : Octets) → Holds head ms b ks → Holds head ms (b ++ x) ks
-holds_octets {b = b} x holds = record {
-  spelled = λ l n p e. let s = holds.spelled l n p e in let inside = s.1 in (s.0, omega (arith, inside, length-append b x), s.2, run_more x s.3);
-  before = λ l n p e. let old = holds.before l n p e in omega (arith, old, length-append b x);
-  after_header = let h = holds.after_header in omega (arith, h, length-append b x);
-  answers = holds.answers;
-}
+holds_octets {b = b} x holds = grind (arith, length-append, run_more)
 
 -- before the first name nothing is shared
 pub holds_nothing : (head : Octets → ℕ) → Holds head [] (replicate 12 0) []
-holds_nothing head = record {
-  spelled = λ l n p e. absurd (none-some p e);
-  before = λ l n p e. absurd (none-some p e);
-  after_header = omega arith;
-  answers = record { complete = λ l n p e. absurd (none-some p e); sound = λ p h kept. absurd (none-some _ kept.1) };
-}
+holds_nothing head = grind (arith, none-some)

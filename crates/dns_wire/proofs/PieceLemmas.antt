@@ -1,7 +1,7 @@
 -- A piece of data stands at a place, at most one, and what it is decides of the data.
-use Rattle.dns_spec.proofs.Common.{◌≡◌, ◌≢◌, ℕ, zero, suc, ◌+◌, ◌-◌, ◌<◌, ◌≤◌, true, ◌&&◌, not, nat_le, ◌==◌, List, [], ◌∷◌, ◌++◌, length, take, drop, get_or, slice_get, Some, refl, sym, ap, ◌∙◌, subst, arith, append_assoc, append-nil, add-zero, and_parts, leb-true, false≢true, none-some, same_Some, cond_some, slice_get-get_or, Octets, DomainName, wire, width, Piece, fixed, domain, string, strings, anything, Part, octets, part_octets, are_strings, octets_front, string_front, piece_front, RunAt, NameAt, OctetsAt, PiecesAt, ends, goes_on, jumps}
+use Rattle.dns_spec.proofs.Common.{◌≡◌, ◌≢◌, ℕ, zero, suc, ◌+◌, ◌-◌, ◌<◌, ◌≤◌, true, ◌&&◌, not, ◌==◌, List, [], ◌∷◌, ◌++◌, length, take, drop, get_or, slice_get, Some, refl, sym, ap, ◌∙◌, subst, arith, append_assoc, append-nil, add-zero, and_parts, false≢true, none-some, same_Some, cond_some, slice_get-get_or, Octets, DomainName, wire, width, Piece, fixed, domain, string, strings, anything, Part, octets, part_octets, are_strings, octets_front, string_front, piece_front, RunAt, NameAt, OctetsAt, PiecesAt, ends, goes_on, jumps}
 use Rattle.std.proofs.lemmas.List.{length-take-le, length-drop, take-take, get_or-take, get_or-drop}
-use Rattle.dns_spec.proofs.Messages.OneMessage.{same_octets, same_names}
+use Rattle.dns_spec.proofs.Messages.OneMessage.{same_names}
 use Rattle.dns_wire.specs.Pieces.{PieceAt, IsPieceRead, NoPieceAt, NoPiecesAt, ArePiecesRead}
 
 -- the first of some pieces, and the others
@@ -27,16 +27,6 @@ from_first b domain ps i e j front rest h more = (h.0, j, rest, h.1, ap (λ o. o
 from_first b string ps i e j front rest h more = (h.0, front, rest, h.1, h.2, refl, subst (λ k. PiecesAt b ps k e rest) h.3 more)
 from_first b strings ps i e j front rest h more = (front, rest, j, h.0, h.1, h.2, refl, h.3, more)
 from_first b anything ps i e j front rest h more = (front, rest, j, h.0, refl, h.1, more)
-
--- a place has one such piece
-pub one_piece : (b : Octets) (p : Piece) (i e j k : ℕ) (o o' : Octets) → PieceAt b p i e j o → PieceAt b p i e k o' → (j ≡ k) × (o ≡ o')
-one_piece b (fixed f) i e j k o o' g h = (g.1 ∙ sym h.1, same_octets refl refl g.0 h.0)
-one_piece b domain i e j k o o' g h = let s = same_names refl g.1 h.1 in (s.1, g.2 ∙ ap wire s.0 ∙ sym h.2)
-one_piece b string i e j k o o' g h =
-    let s = same_Some g.0 h.0 (sym g.1 ∙ h.1) in
-    (g.3 ∙ ap (λ z. i + 1 + z) s ∙ sym h.3, same_octets refl (ap (λ z. i + 1 + z) s) g.2 h.2)
-one_piece b strings i e j k o o' g h = let s = g.3 ∙ sym h.3 in (s, same_octets refl s g.0 h.0)
-one_piece b anything i e j k o o' g h = let s = g.1 ∙ sym h.1 in (s, same_octets refl s g.0 h.0)
 
 -- pieces end no earlier than they begin
 pub run_forward : {b : Octets} {s i e : ℕ} {n : DomainName} → RunAt b s i n e → i ≤ e
@@ -65,32 +55,15 @@ all_forward b (p ∷ ps) i e d h =
     let later = all_forward b ps c.place e c.rest c.others in
     omega arith
 
--- no such piece, and so no such pieces
-pub none_of : (b : Octets) (p : Piece) (ps : List Piece) (i e : ℕ) → NoPieceAt b p i e → NoPiecesAt b (p ∷ ps) i e
-none_of b p ps i e none d h =
-    let c = first_of b p ps i e d h in
-    none c.place c.front c.first (all_forward b ps c.place e c.rest c.others)
-
 pub piece_more : {b : Octets} {ps : List Piece} {i e j k : ℕ} {p : Piece} {left : List Piece} {so_far now : Octets}
     → ArePiecesRead b ps i e (p ∷ left) j so_far → IsPieceRead b p j e so_far now k → ArePiecesRead b ps i e left k now
-piece_more {b} {ps} {i} {e} {j} {k} {p} {left} {so_far} {now} reading read = record {
-  inside = read.inside;
-  forth = λ rest h. subst (PiecesAt b ps i e) (sym (append_assoc so_far read.octets rest) ∙ ap (λ x. x ++ rest) (sym read.appended))
-      (reading.forth (read.octets ++ rest) (from_first b p left j e k read.octets rest read.there h));
-  back = λ d h.
-      let r = reading.back d h in
-      let c = first_of b p left j e r.0 r.2 in
-      let same = one_piece b p j e c.place k c.front read.octets c.first read.there in (
-        c.rest,
-        r.1 ∙ ap (λ x. so_far ++ x) (c.whole ∙ ap (λ x. x ++ c.rest) same.1) ∙ sym (append_assoc so_far read.octets c.rest)
-            ∙ ap (λ x. x ++ c.rest) (sym read.appended),
-        subst (λ z. PiecesAt b left z e c.rest) same.0 c.others,
-      );
-}
+piece_more {b} {ps} {i} {e} {j} {k} {p} {left} {so_far} {now} reading read =
+    grind (arith, append_assoc, from_first, same_names, same_Some)
 
+-- no such piece, and so no such pieces
 pub pieces_none : {b : Octets} {ps : List Piece} {i e j : ℕ} {p : Piece} {left : List Piece} {so_far : Octets}
     → ArePiecesRead b ps i e (p ∷ left) j so_far → NoPieceAt b p j e → NoPiecesAt b ps i e
-pieces_none {b} {ps} {i} {e} {j} {p} {left} reading none d h = let r = reading.back d h in none_of b p left j e none r.0 r.2
+pieces_none {b} {ps} {i} {e} {j} {p} {left} reading none d h = grind (arith, first_of, all_forward)
 
 pub pieces_end : {b : Octets} {ps : List Piece} {i e j : ℕ} {so_far : Octets} → ArePiecesRead b ps i e [] j so_far → j ≡ e → PiecesAt b ps i e so_far
 pieces_end {b} {ps} {i} {e} {j} {so_far} reading end = subst (PiecesAt b ps i e) (append-nil so_far) (reading.forth [] (end, refl))
@@ -106,16 +79,7 @@ module _ (b : Octets) (i e : ℕ) (ordered : i ≤ e) (within : e ≤ length b) 
   length-own : length own ≡ e - i
   length-own = length-take-le (e - i) (drop i b) (omega (arith, length-drop i b))
 
-  -- its first k octets stand in the message
-  front_there : (k : ℕ) → k ≤ e - i → OctetsAt b i (i + k) (take k own)
-  front_there k fits =
-      let same : i + k - i ≡ k = omega arith in
-      record {
-        ordered = omega arith;
-        within = omega arith;
-        are = ap (λ m. take m (drop i b)) same ∙ sym (take-take k (e - i) (drop i b) fits);
-      }
-
+  -- its octets stand in the message
   all_there : OctetsAt b i e own
   all_there = record { ordered = ordered; within = within; are = refl }
 
@@ -125,16 +89,7 @@ module _ (b : Octets) (i e : ℕ) (ordered : i ≤ e) (within : e ≤ length b) 
   -- k octets in front, and the place after them
   front_stands : (k : ℕ) (part : Part) (rest : Octets) → octets_front k own ≡ Some (part, rest)
       → (o : Octets) × (part ≡ octets o) × OctetsAt b i (i + k) o × (e - length rest ≡ i + k) × (length rest ≤ e - i)
-  front_stands k part rest h =
-      let c = cond_some (nat_le k (length own)) (octets (take k own), drop k own) (part, rest) h in
-      let fits : k ≤ e - i = omega (arith, leb-true _ _ c.0, length-own) in
-      let left : length rest ≡ e - i - k = ap (λ x. length x.1) (sym c.1) ∙ length-drop k own ∙ ap (λ n. n - k) length-own in (
-        take k own,
-        ap (λ x. x.0) (sym c.1),
-        front_there k fits,
-        omega arith,
-        omega arith,
-      )
+  front_stands k part rest h = grind (arith, length-own, length-drop, take-take)
 
   first_octet : (k : ℕ) (os : Octets) → own ≡ k ∷ os → slice_get b i ≡ Some k
   first_octet k os h =
@@ -143,9 +98,7 @@ module _ (b : Octets) (i e : ℕ) (ordered : i ≤ e) (within : e ≤ length b) 
       ∙ ap Some (ap (λ j. get_or b j 0) (sym (add-zero i)) ∙ sym (get_or-drop i b 0 0) ∙ sym (get_or-take (e - i) (drop i b) 0 0 some) ∙ ap (λ xs. get_or xs 0 0) h)
 
   pub run_stands : (p : Piece) (part : Part) (rest : Octets) → p ≢ domain → piece_front p (own_of b i e) ≡ Some (part, rest) → RunStands p part rest
-  run_stands (fixed f) part rest other h =
-      let r = front_stands (width f) part rest h in
-      (r.0, r.1, (r.2, r.3), r.4)
+  run_stands (fixed f) part rest other h = grind (arith, front_stands)
   run_stands domain part rest other h = absurd (other refl)
   run_stands string part rest other h = go own refl h
     where
@@ -169,11 +122,7 @@ module _ (b : Octets) (i e : ℕ) (ordered : i ≤ e) (within : e ≤ length b) 
       positive : (n : ℕ) → not (n == 0) ≡ true → 0 < n
       positive zero f = absurd (false≢true f)
       positive (suc n) f = omega arith
-  run_stands anything part rest other h =
-      let c = same_Some (octets own, []) (part, rest) h in
-      let none : length rest ≡ 0 = ap (λ x. length x.1) (sym c) in
-      let end : e - length rest ≡ e = omega arith in
-      (own, ap (λ x. x.0) (sym c), (subst (λ j. OctetsAt b i j own) (sym end) all_there, end), omega arith)
+  run_stands anything part rest other h = grind (arith, same_Some, all_there)
 
 -- a name that ends past the data
 pub long_name_none : (b : Octets) (i e j : ℕ) (n : DomainName) → NameAt b i n j → e < j → NoPieceAt b domain i e
@@ -183,6 +132,4 @@ long_name_none b i e j n there past k o h inside = let s = same_names refl there
 pub piece_read : (b : Octets) (p : Piece) (i e : ℕ) (part : Part) (rest lent old now : Octets) → i ≤ e → e ≤ length b → p ≢ domain
     → piece_front p (own_of b i e) ≡ Some (part, rest) → part_octets part ≡ lent → now ≡ old ++ lent → IsPieceRead b p i e old now (e - length rest)
 piece_read b p i e part rest lent old now ordered within other front lends appended =
-    let r = run_stands b i e ordered within p part rest other front in
-    let same : lent ≡ r.0 = sym lends ∙ ap part_octets r.1 in
-    record { octets = r.0; there = r.2; appended = appended ∙ ap (λ x. old ++ x) same; inside = omega arith }
+    grind (arith, run_stands)

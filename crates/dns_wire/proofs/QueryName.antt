@@ -1,7 +1,7 @@
 -- Where the name of a question ends: the labels before a place, as they stand in the datagram, are the beginning of it.
-use Rattle.dns_spec.proofs.Common.{Bool, true, ◌≡◌, ℕ, suc, ◌+◌, ◌-◌, ◌<◌, ◌≤◌, [], ◌∷◌, ◌++◌, length, take, drop, get_or, refl, sym, ◌∙◌, ap, arith, Option, None, Some, length-append, length-take, length-drop, take-add, drop-cons, eq-eqb, if◌then◌else◌, Octets, DomainName, wire, is_name, MessageQuestion, name_at, field16, question_of, question_at}
+use Rattle.dns_spec.proofs.Common.{true, ◌≡◌, ℕ, suc, ◌+◌, ◌-◌, ◌<◌, ◌≤◌, [], ◌∷◌, ◌++◌, length, take, drop, get_or, refl, sym, ◌∙◌, ap, arith, None, Some, length-append, length-take, length-drop, take-add, drop-cons, eq-eqb, Octets, DomainName, wire, is_name, MessageQuestion, name_at, field16, question_at}
 use Rattle.std.proofs.lemmas.List.{append_assoc, append-nil, drop-drop}
-use Rattle.dns_spec.proofs.DomainNames.NameLaws.{is_name-push, is_label-IsLabel}
+use Rattle.dns_spec.proofs.DomainNames.NameLaws.{is_name-push}
 use Rattle.dns_wire.specs.QueryForm.{NameEnds}
 use Rattle.dns_wire.proofs.NameLoop.{read_on, read_on-start, read_on-root, read_on-label, read_on-past, read_on-high, read_on-long, read_on-missing}
 
@@ -18,9 +18,7 @@ read_nothing d = record { labels = []; name_is = read_on-start d; is_name = refl
 
 -- what stands at a place after the header
 octets_at : (d : Octets) (at : ℕ) → 12 ≤ at → at < length d → drop (at - 12) (drop 12 d) ≡ get_or d at 0 ∷ drop (suc at) d
-octets_at d at from inside =
-    let whole : 12 + (at - 12) ≡ at = omega (arith, from) in
-    drop-drop (at - 12) 12 d ∙ ap (λ n. drop n d) whole ∙ drop-cons d at 0 inside
+octets_at d at from inside = grind (arith, drop-drop, drop-cons)
 
 module _ (d : Octets) (at : ℕ) (r : ReadTo d at) where
   pub ends_missing : length d ≤ at → name_at d 12 ≡ None
@@ -69,34 +67,23 @@ module _ (d : Octets) (at : ℕ) (r : ReadTo d at) where
             ∙ ap (λ o. take (at - 12) (drop 12 d) ++ (o ∷ take k (drop (suc at) d))) here
             ∙ ap (λ n. take (at - 12) (drop 12 d) ++ (k ∷ take k (drop n d))) next
 
-        labels_octets : (m : DomainName) → wire ((r.labels ++ label ∷ []) ++ m) ≡ take (at + 1 + k - 12) (drop 12 d) ++ wire m
-        labels_octets m =
-            ap wire (append_assoc r.labels (label ∷ []) m) ∙ r.octets (label ∷ m)
-            ∙ ap (λ n. take (at - 12) (drop 12 d) ++ (n ∷ (label ++ wire m))) label_length
-            ∙ sym (append_assoc (take (at - 12) (drop 12 d)) (k ∷ label) (wire m)) ∙ ap (λ os. os ++ wire m) (sym next_octets)
-
         labels_length : length (wire (r.labels ++ label ∷ [])) ≡ at + 1 + k - 12 + 1
-        labels_length =
-            ap length (ap wire (sym (append-nil (r.labels ++ label ∷ []))) ∙ labels_octets [])
-            ∙ length-append (take (at + 1 + k - 12) (drop 12 d)) (0 ∷ [])
-            ∙ simp (length-take, length-drop) (omega (arith, whole, r.from))
+        labels_length = grind (arith, length-append, length-take, length-drop)
 
         pub ends_long : 266 < at + 1 + k → name_at d 12 ≡ None
-        ends_long long =
-            sym label_read ∙ read_on-long d (r.labels ++ label ∷ []) (at + 1 + k) (omega (arith, labels_length, long))
+        ends_long long = grind (arith, label_read, read_on-long, labels_length)
 
         pub read_label : at + 1 + k ≤ 266 → ReadTo d (at + 1 + k)
         read_label short =
-            record {
-              labels = r.labels ++ label ∷ [];
-              name_is = label_read;
-              is_name =
-                  is_name-push r.labels label r.is_name
-                  (is_label-IsLabel label (omega (arith, label_length, some)) (omega (arith, label_length, low)))
-                  (omega (arith, labels_length, short));
-              octets = labels_octets;
-              from = omega (arith, r.from);
-            }
+            grind (
+              arith,
+              label_read,
+              is_name-push,
+              label_length,
+              labels_length,
+              append_assoc,
+              next_octets,
+            )
 
 -- the question that a datagram ends in, four octets after its name
 abbrev pub question_then : Octets → DomainName → ℕ → MessageQuestion
@@ -104,6 +91,4 @@ question_then d n e = record { qname = n; qtype = field16 d e; qclass = field16 
 
 pub question_here : (d : Octets) (n : DomainName) (e : ℕ) → name_at d 12 ≡ Some (n, e) → length d ≡ e + 4 → question_at d ≡ Some (question_then d n e)
 unfolding question_at
-question_here d n e read whole =
-    ap (λ (r : Option (DomainName × ℕ)). elim r [ None ↦ None | Some r ↦ question_of d r ]) read
-    ∙ ap (λ (b : Bool). if b then Some (question_then d n e) else None) (eq-eqb (length d) (e + 4) whole)
+question_here d n e read whole = grind (arith, eq-eqb)

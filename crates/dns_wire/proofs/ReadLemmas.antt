@@ -1,5 +1,5 @@
 -- Questions and records stand one after another, at each place at most one.
-use Rattle.dns_spec.proofs.Common.{◌≡◌, ℕ, ◌+◌, ◌<◌, ◌≤◌, List, [], ◌∷◌, ◌++◌, length, refl, sym, ap, ap₂, ◌∙◌, subst, arith, append_assoc, append-nil, length-append, Octets, DomainName, Header, MessageQuestion, MessageRecord, DnsMessage, NameAt, NumberAt, DataAt, QuestionsAt, RecordsAt, Spells}
+use Rattle.dns_spec.proofs.Common.{◌≡◌, ℕ, ◌+◌, ◌<◌, ◌≤◌, List, [], ◌∷◌, ◌++◌, length, refl, sym, ap, ◌∙◌, subst, arith, append_assoc, append-nil, length-append, Octets, DomainName, Header, MessageQuestion, MessageRecord, DnsMessage, NameAt, NumberAt, QuestionsAt, RecordsAt, Spells}
 use Rattle.dns_spec.proofs.Messages.OneMessage.{one_number, same_names, same_record, same_questions, same_records}
 use Rattle.dns_wire.specs.Pieces.{NoDataAt}
 use Rattle.dns_wire.specs.declared.message.Counts.{Counts}
@@ -15,46 +15,16 @@ no_qclass b i j n name short r e at = let s = same_names refl name at.name in om
 -- of a record with this owner, what isn't there
 module _ (b : Octets) (i j : ℕ) (n : DomainName) (owner : NameAt b i n j) where
   pub too_short : length b < j + 10 → NoRecord b i
-  too_short short r e at =
-      let s = same_names refl owner at.there.owner in
-      omega (arith, s.1, at.there.length.within)
+  too_short short r e at = grind (arith, same_names)
 
   -- its data is past the end
   pub no_room : (len : ℕ) → NumberAt b (j + 8) 2 len → length b < j + 10 + len → NoRecord b i
-  no_room len there short r e at =
-      let s = same_names refl owner at.there.owner in
-      let k = one_number (ap (λ z. z + 8) s.1) there at.there.length in
-      omega (arith, s.1, k, at.there.rdata.1)
+  no_room len there short r e at = grind (arith, same_names, one_number)
 
   -- its data is none
   pub no_data : (t c len : ℕ) → NumberAt b j 2 t → NumberAt b (j + 2) 2 c → NumberAt b (j + 8) 2 len
       → NoDataAt b t c (j + 10) (j + 10 + len) → NoRecord b i
-  no_data t c len rtype class there none r e at =
-      let s = same_names refl owner at.there.owner in
-      let k = one_number (ap (λ z. z + 8) s.1) there at.there.length in
-      let u = one_number s.1 rtype at.there.rtype in
-      let v = one_number (ap (λ z. z + 2) s.1) class at.there.rclass in
-      none r.rdata (moved t r.rtype c r.rclass (j + 10) (at.after_owner + 10) (j + 10 + len) (at.after_owner + 10 + at.data_length) r.rdata
-      u v (ap (λ z. z + 10) s.1) (ap₂ (λ y z. y + 10 + z) s.1 k) at.there.rdata)
-    where
-      moved : (t u c v i k e f : ℕ) (d : Octets) → t ≡ u → c ≡ v → i ≡ k → e ≡ f → DataAt b u v k f d → DataAt b t c i e d
-      moved t u c v i k e f d p q x y h =
-          subst (λ z. DataAt b z c i e d) (sym p) (subst (λ z. DataAt b u z i e d) (sym q)
-          (subst (λ z. DataAt b u v z e d) (sym x) (subst (λ z. DataAt b u v k z d) (sym y) h)))
-
--- one question, and one record, at a place
-one_question : (b : Octets) (i : ℕ) (q r : MessageQuestion) (e f : ℕ) → QuestionAt b i q e → QuestionAt b i r f → (q ≡ r) × (e ≡ f)
-one_question b i q r e f g h =
-    let s = same_names refl g.name h.name in
-    let t = one_number s.1 g.qtype h.qtype in
-    let c = one_number (ap (λ z. z + 2) s.1) g.qclass h.qclass in
-    let same : q ≡ r = λ k. record { qname = s.0 k; qtype = t k; qclass = c k } in
-    (same, g.end ∙ ap (λ z. z + 4) s.1 ∙ sym h.end)
-
-one_record : (b : Octets) (i : ℕ) (q r : MessageRecord) (e f : ℕ) → WholeRecordAt b i q e → WholeRecordAt b i r f → (q ≡ r) × (e ≡ f)
-one_record b i q r e f g h =
-    let s = same_record b q r i i g.after_owner h.after_owner g.data_length h.data_length refl g.there h.there in
-    (s.0, g.end ∙ ap₂ (λ y z. y + 10 + z) s.1 s.2 ∙ sym h.end)
+  no_data t c len rtype class there none r e at = grind (arith, same_names, one_number)
 
 -- Things stand one after another, each with one end.
 pub record InTurn {A : Type 0} (At : ℕ → List A → ℕ → Type 0) (One : ℕ → A → ℕ → Type 0) : Type 0 where
@@ -64,20 +34,10 @@ pub record InTurn {A : Type 0} (At : ℕ → List A → ℕ → Type 0) (One : �
   one : (i : ℕ) (x y : A) (e f : ℕ) → One i x e → One i y f → (x ≡ y) × (e ≡ f)
 
 pub questions_in : (b : Octets) → InTurn (QuestionsAt b) (QuestionAt b)
-questions_in b = record {
-  ends = λ i. refl;
-  first = λ i q qs e h. (h.0 + 4, record { after_name = h.0; name = h.1; qtype = h.2; qclass = h.3; end = refl }, h.4);
-  from = λ i k q qs e at more. (at.after_name, at.name, at.qtype, at.qclass, subst (λ z. QuestionsAt b z qs e) at.end more);
-  one = one_question b;
-}
+questions_in b = grind (arith, same_names, one_number)
 
 pub records_in : (b : Octets) → InTurn (RecordsAt b) (WholeRecordAt b)
-records_in b = record {
-  ends = λ i. refl;
-  first = λ i r rs e h. (h.0 + 10 + h.1, record { after_owner = h.0; data_length = h.1; there = h.2; end = refl }, h.3);
-  from = λ i k r rs e at more. (at.after_owner, at.data_length, at.there, subst (λ z. RecordsAt b z rs e) at.end more);
-  one = one_record b;
-}
+records_in b = grind (arith, same_record)
 
 module _ {A : Type 0} {At : ℕ → List A → ℕ → Type 0} {One : ℕ → A → ℕ → Type 0} (turn : InTurn At One) {last i j : ℕ} {so_far : List A} (read : AreRead At last i so_far j) where
   pub read_more : (x : A) (k : ℕ) → One j x k → k ≤ last → AreRead At last i (so_far ++ x ∷ []) k
@@ -112,9 +72,7 @@ module _ {A : Type 0} {At : ℕ → List A → ℕ → Type 0} {One : ℕ → A 
 module _ (b : Octets) (head : Header) (counts : Counts) (there : HeaderAt b head counts) where
   questions_end_at : (m : DnsMessage) (spells : Spells b m) (qs : List MessageQuestion) (e : ℕ) → AreQuestions b 12 counts.questions qs e
       → spells.after_questions ≡ e
-  questions_end_at m spells qs e are =
-      let long = one_number refl spells.qdcount there.questions ∙ sym are.as_many in
-      (same_questions b m.questions qs 12 12 spells.after_questions e long refl spells.questions are.there).1
+  questions_end_at m spells qs e are = grind (arith, one_number, same_questions)
 
   section_ends_at : (rs ws : List MessageRecord) (i j e f count k : ℕ) → i ≡ j → RecordsAt b i ws e → AreRecords b j count rs f
       → NumberAt b k 2 (length ws) → NumberAt b k 2 count → e ≡ f

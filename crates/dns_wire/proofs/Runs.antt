@@ -37,11 +37,8 @@ label_stands b l i k inside e some short within is = (label_there (there_is b i 
 
 -- what the octet at a place says of how a run goes on
 module _ (b : Octets) (s i k : ℕ) (inside : i < length b) (is : get_or b i 0 ≡ k) where
-  first_is : (o : ℕ) → slice_get b i ≡ Some o → o ≡ k
-  first_is o at = same_Some o k (sym at ∙ there_is b i k inside is)
-
   pub no_label : 0 < k → k < 64 → length (drop (i + 1) b) < k → NoRunAt b s i
-  no_label some short past n e run = grind (arith, goes_on_at, first_is, length-drop)
+  no_label some short past n e run = grind (arith, there_is, length-drop)
 
 -- a beginning of a name is no longer than the name
 pub length-wire-front : (n m : DomainName) → length (wire n) ≤ length (wire (n ++ m))

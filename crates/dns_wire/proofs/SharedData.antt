@@ -31,21 +31,18 @@ first_run f ps d xs h =
     let rest : drop (width f) d ≡ c.rest = ap (drop (width f)) t.0 ∙ drop_at (take (width f) d) c.rest (width f) t.1 in
     (c.others, t.1, sym c.whole ∙ ap (λ p. p ∷ c.others) (sym (octets_part (width f) d c.rest c.part c.front)), ap (cut ps) rest ∙ c.more)
 
-one_name : (d : Octets) (xs : List Part) → cut (domain ∷ []) d ≡ Some xs → (n : DomainName) × (is_name n ≡ true) × (d ≡ wire n) × (xs ≡ name n ∷ [])
-one_name d xs h = grind (arith, first_name, cut_end, append-nil)
-
 -- the parts of valid data of a type whose names take part in compression
 parts_cut : (t : ℕ) (d : Octets) → compresses t ≡ true → valid t d ≡ true → cut (pieces_of t) d ≡ Some (laid_parts t d)
 parts_cut t d shared ok = grind (arith, and_parts, false≢true)
 
 pub one_name_laid : (t : ℕ) (d : Octets) → pieces_of t ≡ domain ∷ [] → compresses t ≡ true → valid t d ≡ true
     → (n : DomainName) × (is_name n ≡ true) × (d ≡ wire n) × (laid_parts t d ≡ name n ∷ [])
-one_name_laid t d pieces shared ok = one_name d (laid_parts t d) (ap (λ ps. cut ps d) (sym pieces) ∙ parts_cut t d shared ok)
+one_name_laid t d pieces shared ok = grind (arith, first_name, cut_end, append-nil)
 
 -- the parts of the data of an MX: a number of two octets and a name
 pub exchange_laid : (t : ℕ) (d : Octets) → t ≡ type_mx → valid t d ≡ true
     → (n : DomainName) × (is_name n ≡ true) × (2 ≤ length d) × (drop 2 d ≡ wire n) × (laid_parts t d ≡ octets (take 2 d) ∷ name n ∷ [])
-exchange_laid t d mx ok = grind (arith, first_run, parts_cut, one_name, length-take)
+exchange_laid t d mx ok = grind (arith, first_run, first_name, cut_end, append-nil, length-take)
 
 authority_cut : (t : ℕ) (d : Octets) → t ≡ type_soa → valid t d ≡ true → cut (domain ∷ domain ∷ fixed (numbers 5 4) ∷ []) d ≡ Some (laid_parts t d)
 authority_cut t d soa ok = grind (arith, parts_cut)

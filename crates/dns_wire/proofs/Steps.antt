@@ -1,5 +1,5 @@
 -- Steps of writing: one after the other they write what is laid out one after the other.
-use Rattle.dns_spec.proofs.Common.{◌≡◌, ℕ, ◌+◌, ◌*◌, ◌<◌, ◌≤◌, Bool, true, false, List, [], ◌++◌, length, take, refl, sym, ap, ap₂, subst, subst₂, arith, append_assoc, append-nil, length-append, false≢true, take-append_seam, OnTrue, Octets, Placed}
+use Rattle.dns_spec.proofs.Common.{◌≡◌, ℕ, ◌+◌, ◌*◌, ◌<◌, ◌≤◌, Bool, true, false, List, [], ◌++◌, length, take, refl, sym, ap, ap₂, subst, subst₂, arith, append_assoc, append-nil, length-append, false≢true, take-append_seam, Octets, Placed}
 use Rattle.dns_wire.specs.Kept.{Kept}
 use Rattle.dns_wire.specs.SuffixNumbers.{suffix_number}
 use Rattle.dns_wire.specs.Writing.{Holds, IsAsked, Layout, octets_laid, both_laid}
@@ -8,12 +8,6 @@ use Rattle.dns_wire.specs.declared.message.Counts.{Counts}
 use Rattle.dns_wire.proofs.AskedLemmas.{is_asked_more, kept_more}
 use Rattle.dns_wire.proofs.NameWritten.{holds_octets}
 use Rattle.dns_wire.proofs.SuffixLemmas.{follows_none, follows_again}
-
-pub on_then : (t : Bool) {P Q : Type 0} → (P → Q) → OnTrue t P → OnTrue t Q
-on_then t h h1 = grind arith
-
-on_not : (t : Bool) (P : Type 0) → t ≡ false → OnTrue t P
-on_not t P h = grind (arith, false≢true)
 
 -- a page stays well kept with other octets, places and counts
 pub kept_with : {N size a : ℕ} {b : Octets} {ks : List Kept} {n : Counts} {d : Draft} → IsWellKept N size d → length b ≤ d.limit → 2 * length ks ≤ length b → IsAsked b a → 12 ≤ length b
@@ -64,13 +58,12 @@ writes_as {head} {d = d} {d'} {fits} f g same w = grind arith
 pub writes_both : {head head' head'' : Octets → ℕ} {d d' d'' : Draft} {t fits : Bool} (f g : Layout) → t ≡ true → Writes head head' d d' f t → Writes head' head'' d' d'' g fits
     → Writes head head'' d d'' (both_laid f g) fits
 writes_both {head} {head'} {head''} {d} {d'} {d''} {t} {fits} f g is first next =
-    grind (arith, grows_again, length-append, append_assoc, on_then, subst₂)
+    grind (arith, length-append, append_assoc)
 
 -- where a part does not fit, the whole does not
 pub writes_past : {head head' : Octets → ℕ} {d d' : Draft} {t fits : Bool} (f g : Layout) → t ≡ false → fits ≡ false
     → ((ms : List Placed) (p : ℕ) → length (f ms p).written ≤ length (g ms p).written) → Writes head head' d d' f t → Writes head head' d d' g fits
-writes_past {d = d} {fits = fits} f g is is_too longer w =
-    grind (arith, false≢true, length-append, on_not)
+writes_past {d = d} {fits = fits} f g is is_too longer w = grind (arith, false≢true, length-append)
 
 pub never_written : (head : Octets → ℕ) (d : Draft) (f : Layout) (k : ℕ) → d.limit < length d.octets + k → ((ms : List Placed) (p : ℕ) → k ≤ length (f ms p).written)
     → Writes head head d d f false

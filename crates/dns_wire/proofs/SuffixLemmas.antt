@@ -92,9 +92,6 @@ pub record Left (head : Octets → ℕ) (b : Octets) (ks : List Kept) (name rest
   pub shorter : length rest ≤ length name
   pub all : (ms : List Placed) (n : DomainName) → Holds head ms b ks → name ≡ wire n → is_name n ≡ true → LeftOf ms name rest n
 
-pub left_begins : (head : Octets → ℕ) (b : Octets) (ks : List Kept) (name : Octets) → Left head b ks name name
-left_begins head b ks name = grind arith
-
 -- the first label of what is left of a name, and what follows it
 pub record NextLabel (left : DomainName) (rest after : Octets) (k : ℕ) : Type 0 where
   pub label : Octets

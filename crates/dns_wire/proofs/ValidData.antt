@@ -1,6 +1,6 @@
 -- Data that is read is data of its type, of at most 65,535 octets.
-use Rattle.std.proofs.Common.{rules, ◌≡◌, ℕ, suc, ◌+◌, ◌-◌, ◌≤◌, Bool, true, ◌&&◌, ◌||◌, not, nat_le, ◌==◌, List, [], ◌∷◌, ◌++◌, length, drop, slice_get, get_or, Some, option_map, is_some, unwrap_or, refl, sym, ap, ◌∙◌, subst, arith, append-nil, add-zero, length-append, if◌then◌else◌}
-use Rattle.dns_spec.proofs.Common.{and_from, le-leb, leb-true, ne_eqb, eqb-true, same_Some, slice_get_within, slice_get-get_or, find, Octets, DomainName, wire, class_in, width, Piece, fixed, domain, string, strings, anything, TypeRow, type_table, other_type, pieces_of, Part, octets, name, octets_front, string_front, strings_front, piece_front, are_strings, cut, valid, OctetsAt, PiecesAt, DataAt}
+use Rattle.std.proofs.Common.{◌≡◌, ℕ, suc, ◌+◌, ◌-◌, ◌≤◌, Bool, true, ◌||◌, nat_le, ◌==◌, List, [], ◌∷◌, ◌++◌, length, drop, slice_get, get_or, Some, is_some, unwrap_or, refl, sym, ap, ◌∙◌, subst, arith, append-nil, add-zero, length-append, if◌then◌else◌}
+use Rattle.dns_spec.proofs.Common.{le-leb, ne_eqb, eqb-true, same_Some, slice_get_within, slice_get-get_or, find, Octets, wire, class_in, width, Piece, fixed, domain, string, strings, anything, TypeRow, other_type, Part, octets, octets_front, string_front, piece_front, cut, valid, OctetsAt, PiecesAt, DataAt}
 use Rattle.std.proofs.lemmas.List.{length-take-le, length-drop, take_at, drop_at, nil_from_length, get_or-take, get_or-drop}
 use Rattle.dns_spec.proofs.DomainNames.NameLaws.{IsName-is_name}
 use Rattle.dns_spec.proofs.DomainNames.WireNames.{name_of-wire}
@@ -71,14 +71,6 @@ pub by_row : (t : ℕ) (P : TypeRow → Type 0) (rows : List TypeRow) → P othe
 by_row t P [] other each = other
 by_row t P (row ∷ others) other each = grind (arith, eqb-true, (by_row t P others other each.1))
 
-row_bounded : (t : ℕ) → bounded (pieces_of t) ≡ true
-unfolding bounded names_among most
-row_bounded t = by_row t (λ row. bounded row.pieces ≡ true) type_table refl (search rules)
-
-short_data : (b : Octets) (ps : List Piece) (i e : ℕ) (d : Octets) → bounded ps ≡ true → e - i ≤ 65535 → PiecesAt b ps i e d → length d ≤ 65535
-unfolding bounded
-short_data b ps i e d ok fits h = grind (arith, unnamed_length, eqb-true, leb-true, named_length)
-
 -- nothing stands between a place and itself
 nothing_between : (b : Octets) (ps : List Piece) (i : ℕ) (d : Octets) → PiecesAt b ps i i d → d ≡ []
 nothing_between b [] i d h = h.1
@@ -109,18 +101,13 @@ cut_more p ps d rest part front more = more_are_cut p ps d part rest front ∙ m
 front_cut : (k : ℕ) (o rest : Octets) → length o ≡ k → octets_front k (o ++ rest) ≡ Some (octets o, rest)
 front_cut k o rest long = grind (arith, le-leb, length-append, take_at, drop_at)
 
-nothing_cut : IsCut [] []
-unfolding cut
-nothing_cut = refl
-
 pieces_cut : (b : Octets) (ps : List Piece) (i e : ℕ) (d : Octets) → PiecesAt b ps i e d → IsCut ps d
-pieces_cut b [] i e d h = subst (IsCut []) (sym h.1) nothing_cut
+unfolding cut
+pieces_cut b [] i e d h = grind arith
 pieces_cut b (fixed f ∷ ps) i e d h =
-    let long : length h.0 ≡ width f = octets_length h.2 ∙ (omega arith) in
-    cut_more (fixed f) ps d h.1 (octets h.0) (ap (octets_front (width f)) h.3 ∙ front_cut (width f) h.0 h.1 long) (pieces_cut b ps (i + width f) e h.1 h.4)
+    grind (arith, octets_length, cut_more, front_cut, (pieces_cut b ps (i + width f) e h.1 h.4))
 pieces_cut b (domain ∷ ps) i e d h =
-    cut_more domain ps d h.2 (name h.0) (ap (piece_front domain) h.4 ∙ ap (option_map (λ (r : DomainName × Octets). (name r.0, r.1))) (name_of-wire h.0 h.2 h.3.1))
-    (pieces_cut b ps h.1 e h.2 h.5)
+    grind (arith, cut_more, name_of-wire, (pieces_cut b ps h.1 e h.2 h.5))
 pieces_cut b (string ∷ ps) i e d h = cut_more string ps d h.2 (octets h.1) (ap string_front h.5 ∙ by_first h.1 refl) (pieces_cut b ps (i + 1 + h.0) e h.2 h.6)
   where
     by_first : (o : Octets) → h.1 ≡ o → string_front (h.1 ++ h.2) ≡ Some (octets h.1, h.2)
@@ -132,21 +119,11 @@ pieces_cut b (string ∷ ps) i e d h = cut_more string ps d h.2 (octets h.1) (ap
         ∙ front_cut (suc k) (k ∷ os) h.2 (long ∙ ap suc (sym first))
         ∙ ap (λ o. Some (octets o, h.2)) (sym p)
 pieces_cut b (strings ∷ ps) i e d h =
-    let none : h.1 ≡ [] = nothing_between b ps e h.1 (subst (λ j. PiecesAt b ps j e h.1) h.7 h.8) in
-    let whole : d ≡ h.0 = h.6 ∙ ap (λ o. h.0 ++ o) none ∙ append-nil h.0 in
-    let tests : (not (length h.0 == 0) && are_strings 0 h.0) ≡ true = and_from _ _ (ap not (ne_eqb (length h.0) 0 (λ z. omega (arith, h.4)))) h.5 in
-    let front : strings_front h.0 ≡ Some (octets h.0, []) = rw tests refl in
-    cut_more strings ps d [] (octets h.0) (ap strings_front whole ∙ front)
-    (subst (IsCut ps) none (pieces_cut b ps h.2 e h.1 h.8))
+    grind (arith, nothing_between, append-nil, ne_eqb, cut_more, (pieces_cut b ps h.2 e h.1 h.8))
 pieces_cut b (anything ∷ ps) i e d h =
-    let none : h.1 ≡ [] = nothing_between b ps e h.1 (subst (λ j. PiecesAt b ps j e h.1) h.5 h.6) in
-    cut_more anything ps d [] (octets d) refl (subst (IsCut ps) none (pieces_cut b ps h.2 e h.1 h.6))
-
-alone : names_among (anything ∷ []) ≡ 0
-unfolding names_among
-alone = refl
+    grind (arith, nothing_between, cut_more, (pieces_cut b ps h.2 e h.1 h.6))
 
 -- The data of a record is valid for its type, or, in another class than IN, for a type of which the data is octets.
 pub data_valid : (b : Octets) (t c i e : ℕ) (d : Octets) → DataAt b t c i e d → e - i ≤ 65535 → valid (if c == class_in then t else 0) d ≡ true
-data_valid b t c i e d h fits =
-    grind (arith, and_from, le-leb, short_data, row_bounded, pieces_cut, unnamed_length, alone)
+unfolding bounded names_among most
+data_valid b t c i e d h fits = grind (arith, named_length, by_row, pieces_cut, unnamed_length)

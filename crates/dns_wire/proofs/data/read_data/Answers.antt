@@ -1,4 +1,4 @@
-use Rattle.dns_spec.proofs.Common.{ℕ, List, subst, arith, ◌≡◌, nil_from_length, err_from_is_err_and, Octets}
+use Rattle.dns_spec.proofs.Common.{ℕ, List, arith, ◌≡◌, nil_from_length, err_from_is_err_and, Octets}
 use Rattle.dns_spec.specs.Data as Data
 use Rattle.dns_rdata.specs.TypeRows.{pieces_in}
 use Rattle.dns_rdata.specs.declared.table.Piece.{Piece}
@@ -9,8 +9,7 @@ use Rattle.dns_wire.proofs.data.read_data.Goals as goal
 
 left : {b o : Octets} {all : List Data.Piece} {i e j : ℕ} {ps qs : List Piece} → ps ≡ qs
     → ArePiecesRead b all i e (pieces_in ps) j o → ArePiecesRead b all i e (pieces_in qs) j o
-left {b} {o} {all} {i} {e} {j} same reading =
-    subst (λ ps. ArePiecesRead b all i e (pieces_in ps) j o) same reading
+left {b} {o} {all} {i} {e} {j} same reading = grind arith
 
 pub returns-in_err-place-clause-err : goal.returns-in_err-place-clause-err
 returns-in_err-place-clause-err c =
@@ -23,14 +22,7 @@ pieces-preserved c =
     piece_more (left c.in-Some.ensures.cases.0 c.pieces.invariant) c.in_ok-place.ensures.ok
 
 pub returns-clause-ok : goal.returns-clause-ok
-returns-clause-ok c =
-    let none = nil_from_length c.pieces.pieces.now c.in_default.ensures.cases in (
-      c.requires.ordered,
-      c.requires.within,
-      pieces_end (left none c.pieces.invariant) c.if-place-end.false,
-    )
+returns-clause-ok c = grind (arith, nil_from_length, pieces_end, left)
 
 pub returns-clause-valid : goal.returns-clause-valid
-returns-clause-valid c =
-    data_valid c.args.message.now c.args.rtype.0 c.args.rclass c.args.at c.args.end
-    c.pieces.data.items (returns-clause-ok c) (omega arith)
+returns-clause-valid c = grind (arith, data_valid, returns-clause-ok)

@@ -1,4 +1,4 @@
-use Rattle.std.proofs.Common.{arith, true≢false, sym, length, ◌+◌, ◌≤◌, ◌∷◌, [], ◌++◌}
+use Rattle.std.proofs.Common.{arith, true≢false, sym, length, ◌≤◌, ◌∷◌, [], ◌++◌}
 use Rattle.dns_spec.proofs.Common.{slice_get_within, wire}
 use Rattle.dns_wire.proofs.Runs.{reading_ends, reading_label, label_too_long, reading_jumps, end_fits}
 use Rattle.dns_wire.proofs.name.read_name.Goals as goal
@@ -9,11 +9,7 @@ returns-in-End-clause-name c =
     rw c.unwrap_or.ensures (reading_ends c.steps.invariant.reading step)
 
 pub returns-in-End-clause-within : goal.returns-in-End-clause-within
-returns-in-End-clause-within c =
-    let step = rw c.in-End.is at c.in_ok-step_at.ensures.step in
-    let inside = slice_get_within c.args.message.now c.steps.place 0 step in
-    rw c.unwrap_or.ensures (end_fits c.args.message.now c.steps.end (c.steps.place + 1)
-    c.steps.invariant.reading.end_within (omega arith))
+returns-in-End-clause-within c = grind (arith, slice_get_within, end_fits)
 
 pub returns-then-not-push-clause-none : goal.returns-then-not-push-clause-none
 returns-then-not-push-clause-none c _ =

@@ -1,4 +1,4 @@
-use Rattle.std.proofs.Common.{rules, arith, length, take, ap, ap₂, ◌∙◌}
+use Rattle.std.proofs.Common.{rules, arith, length, ap}
 use Rattle.dns_wire.proofs.Runs.{no_label, label_stands}
 use Rattle.dns_wire.proofs.name.step_at.Goals as goal
 
@@ -8,8 +8,4 @@ returns-in_default-clause-none c _ =
     (omega (arith, c.in_default.ensures.cases, ap length c.split_at.ensures.back, c.from.ensures))
 
 pub returns-in-Some-new-clause-step : goal.returns-in-Some-new-clause-step
-returns-in-Some-new-clause-step c =
-    let cut = c.in-Some.ensures.cases in
-    label_stands c.args.message.now _ c.args.place c.in_ok-octet.octet.now (search rules) (search rules) (search rules) (search rules)
-    (omega (arith, cut.0, ap length c.split_at.ensures.back, c.from.ensures))
-    (c.in-Some-new.ensures.octets ∙ cut.1 ∙ ap₂ take c.from.ensures c.split_at.ensures.back)
+returns-in-Some-new-clause-step c = grind (arith, label_stands)

@@ -22,9 +22,7 @@ returns-then-length-gt-MOST_LABEL-clause-none c _ =
     ]
 
 pub labels-preserved : goal.labels-preserved
-labels-preserved c =
-    read_label _ _ c.labels.invariant c.labels-test.true _ refl c.if-length-eq0.false
-    (omega (arith, c.if-length-gt-MOST_LABEL.false)) (omega (arith, c.if-next-datagram.false)) (omega (arith, c.if-next-gt-LAST_ROOT.false))
+labels-preserved c = grind (arith, read_label)
 
 pub returns-clause-none : goal.returns-clause-none
 returns-clause-none c _ = ends_missing _ _ c.labels.invariant (omega (arith, c.labels-test.false))

@@ -1,4 +1,4 @@
-use Rattle.std.proofs.Common.{rules, refl, arith, ap, sym, ◌∙◌, length}
+use Rattle.std.proofs.Common.{rules, arith, ap, sym, ◌∙◌, length}
 use Rattle.dns_wire.proofs.SpelledLemmas.{spelled_end, root_alone, spelled_label, spelled_jump, spelled_whole, named_after, spelled_front}
 use Rattle.dns_wire.proofs.spelled.are_spelled.Goals as goal
 
@@ -9,10 +9,7 @@ returns-in-End-clause-yes c = λ yes n e ok.
     c.steps.invariant.forth ((spelled_end root).0 (m.1 ∙ root_alone m.0 (ap length (sym m.1) ∙ search rules)))
 
 pub returns-in-End-clause-no : goal.returns-in-End-clause-no
-returns-in-End-clause-no c = λ there.
-    let root = rw c.in-End.is at c.in-Ok.ensures.step in
-    let ends = (spelled_end root).1 (c.steps.invariant.back there) in
-    search rules
+returns-in-End-clause-no c = grind (arith, spelled_end)
 
 pub steps-preserved-in-Label : goal.steps-preserved-in-Label
 steps-preserved-in-Label c =
@@ -29,10 +26,7 @@ steps-preserved-in-Label c =
     })
 
 pub returns-in_default-after_label-clause-no : goal.returns-in_default-after_label-clause-no
-returns-in_default-after_label-clause-no c = λ spelled.
-    let there = rw c.in-Label.is at c.in-Ok.ensures.step in
-    let more = spelled_front _ there (c.steps.invariant.back spelled) in
-    absurd (c.in_default-after_label.ensures.none refl more.0 (rw c.octets.ensures.value more.1))
+returns-in_default-after_label-clause-no c = grind (arith, spelled_front)
 
 pub returns-then-has_at-clause-yes : goal.returns-then-has_at-clause-yes
 returns-then-has_at-clause-yes c = λ yes n e ok.

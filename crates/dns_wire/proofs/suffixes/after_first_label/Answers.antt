@@ -1,4 +1,4 @@
-use Rattle.std.proofs.Common.{◌∙◌, sym, ap, arith, ◌∷◌}
+use Rattle.std.proofs.Common.{arith}
 use Rattle.dns_wire.proofs.SuffixLemmas.{root_empty, root_zero, root_cut}
 use Rattle.dns_wire.proofs.suffixes.after_first_label.Goals as goal
 
@@ -6,9 +6,7 @@ pub returns-in_err-length-clause-root : goal.returns-in_err-length-clause-root
 returns-in_err-length-clause-root c = λ _ n e ok. root_empty c.args.name.now n e c.in_err-length.ensures.cases
 
 pub returns-then-length-eq0-clause-root : goal.returns-then-length-eq0-clause-root
-returns-then-length-eq0-clause-root c = λ _ n e ok.
-    let others = c.in_ok-length.others.now in
-    root_zero c.args.name.now others n e ok (c.in_ok-length.ensures.cases.0 ∙ ap (λ k. k ∷ others) (sym c.from-length.ensures ∙ c.if-length-eq0.true))
+returns-then-length-eq0-clause-root c = grind (arith, root_zero)
 
 pub returns-in_err-after-clause-root : goal.returns-in_err-after-clause-root
 returns-in_err-after-clause-root c = λ _ n e ok.

@@ -6,15 +6,14 @@ use Rattle.dns_wire.specs.Draft.{Draft, draft_of, known_places, with_octets, IsW
 use Rattle.dns_wire.specs.SuffixNumbers.{suffix_number}
 use Rattle.dns_wire.proofs.AskedLemmas.{kept_more}
 use Rattle.dns_wire.proofs.NameWritten.{shared_cut, holds_name}
-use Rattle.dns_wire.proofs.Steps.{kept_with, grows_not}
+use Rattle.dns_wire.proofs.Steps.{grows_not}
 use Rattle.dns_wire.proofs.page.Page.put_name.Goals as goal
 use Rattle.dns_wire.proofs.page.Page.put_name.Given as given
 
 -- the names of the draft are those of the message that is looked at
 there : {number : Octets → ℕ} {ms : List Placed} {limit a : ℕ} {b message : Octets} {ks : List Kept} {n : Counts} {d : Draft} → draft_of limit b a ks n ≡ d → message ≡ b
     → Holds number ms d.octets (known_places number d) → Holds number ms message (asked_places number message a ++ ks)
-there {number} {ms} {a = a} {ks = ks} view is holds =
-    subst (λ x. Holds number ms x (asked_places number x a ++ ks)) (sym is) (subst (λ (d : Draft). Holds number ms d.octets (known_places number d)) (sym view) holds)
+there {number} {ms} {a = a} {ks = ks} view is holds = grind arith
 
 pub returns-then-not-append_end : goal.returns-then-not-append_end
 returns-then-not-append_end g c = λ n e ok.
@@ -47,11 +46,7 @@ module _ (g : given.Over) (c : goal.After-keep_suffixes g) where
   place = c.len-at.ensures.value ∙ ap (λ (d : Draft). length d.octets) c.self.view_is
 
 pub invariant_of-self : goal.invariant_of-self
-invariant_of-self g c =
-    let s = c.self-2.invariant in
-    let few = c.keep_suffixes.ensures.few in
-    let long = length-append c.split_at.result.0.now (end_octets c.shared_suffix-before.result.1) in
-    kept_with s s.within (omega (arith, few, ap (λ (d : Draft). length d.octets) (is g c), length-append c.args.self.now.octets (end g c), long, c.split_at.ensures.front_len, place g c)) s.asked s.header s.listed
+invariant_of-self g c = grind (arith, length-append)
 
 pub returns : goal.returns
 returns g c = λ n e ok.

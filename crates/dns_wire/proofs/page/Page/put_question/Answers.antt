@@ -1,4 +1,4 @@
-use Rattle.dns_spec.proofs.Common.{rules, ◌≡◌, ◌∙◌, refl, sym, ap, ap₂, subst, subst₂, arith, length, [], ◌++◌, replicate, append_assoc, append-nil, length-append, Option, None, Some, Bor, wire, MessageQuestion, octets16, IsAskable}
+use Rattle.dns_spec.proofs.Common.{rules, ◌≡◌, ◌∙◌, refl, sym, ap, ap₂, subst, subst₂, arith, length, [], ◌++◌, replicate, append-nil, length-append, Option, None, Some, Bor, wire, MessageQuestion, octets16, IsAskable}
 use Rattle.std.specs.Option.{option_copied}
 use Rattle.dns_wire.specs.Writing.{Holds, asked_places}
 use Rattle.dns_wire.specs.SuffixNumbers.{suffix_number}
@@ -21,14 +21,7 @@ module _ (g : given.Over) (c : goal.After-self-in-Some-1 g) where
   name = c.extend.ensures ∙ ap₂ ◌++◌ (ap (λ (d : Draft). d.octets) begun) c.octets.ensures.value
 
   now : draft_of c.self.inside.limit c.extend-in-Some-2.new.octets.items c.len-self-inside.result c.self.inside.places (record c.self.inside.counts { questions = 1 }) ≡ asked_draft c.args.self.now.limit asked
-  now =
-      let qtype = octets16 c.question.inside.qtype in
-      let qclass = octets16 c.question.inside.qclass in
-      let octets = c.extend-in-Some-2.ensures ∙ ap₂ ◌++◌ (c.extend-in-Some.ensures ∙ ap₂ ◌++◌ name c.to_be_bytes.ensures) c.to_be_bytes-in-Some.ensures
-      ∙ append_assoc (replicate 12 0 ++ wire asked.qname) qtype qclass ∙ sym (question_whole asked) in
-      let end = c.len-self-inside.ensures.value ∙ ap length name ∙ length-append (replicate 12 0) (wire asked.qname) in
-      ap (λ (d : Draft). draft_of d.limit c.extend-in-Some-2.new.octets.items c.len-self-inside.result d.kept (record d.counts { questions = 1 })) begun
-      ∙ ap₂ (λ o a. record (asked_draft c.args.self.now.limit asked) { octets = o; asked_end = a }) octets end
+  now = grind (arith, asked_draft)
 
 pub invariant_of-self : goal.invariant_of-self
 invariant_of-self g c =

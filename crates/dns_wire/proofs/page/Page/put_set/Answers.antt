@@ -71,12 +71,7 @@ returns-then-not-put_record-clause-least g c = λ q items draft low.
 
 module _ (g : given.Over) (c : goal.After-count_records g) where
   done : Writes (g.H.SuffixHash.numbers c.args.hash.now) (g.H.SuffixHash.numbers c.records.hash) c.args.self.now c.records.self (records_laid (records_at c.args.owner.now c.args.ttl (g.S.SetView.set c.args.set.now))) true
-  done =
-      let numbers = g.H.SuffixHash.numbers in
-      let set = g.S.SetView.set c.args.set.now in
-      let over = c.records-test.false in
-      subst (λ rs. Writes (numbers c.args.hash.now) (numbers c.records.hash) c.args.self.now c.records.self (records_laid rs) true)
-      (all_taken c.args.owner.now c.args.ttl set c.records.i (omega (arith, over, c.len-i-end.ensures.value))) c.records.invariant.writes
+  done = grind (arith, all_taken)
 
 pub returns-clause-fits : goal.returns-clause-fits
 returns-clause-fits g c = λ q items draft. put_fits q items c.args.section c.args.owner.now c.args.ttl (g.S.SetView.set c.args.set.now) (done g c) draft

@@ -2,7 +2,7 @@ use Rattle.dns_spec.proofs.Common.{true, ℕ, ◌≡◌, ◌+◌, ◌-◌, ◌�
 use Rattle.std.specs.List.{refill}
 use Rattle.std.proofs.lemmas.List.{take_at, drop-drop, length-take, length-drop}
 use Rattle.dns_spec.proofs.Layouts.LayoutSize.{length-record_tail}
-use Rattle.dns_wire.specs.Draft.{Draft, with_octets, Writes}
+use Rattle.dns_wire.specs.Draft.{Draft, Writes}
 use Rattle.dns_wire.specs.Writing.{octets_laid, both_laid, parts_laid, tail_laid, shown}
 use Rattle.dns_wire.proofs.AskedLemmas.{is_asked_same, take_patched}
 use Rattle.dns_wire.proofs.DataWritten.{tail_written}
@@ -43,23 +43,10 @@ module _ (g : given.Over) (c : goal.After-self-3-1 g) where
 
   -- the octets that are written over are two of those after the owner
   inside : (c.len-at.result + 10 ≤ length before) × (c.self-2.inside.asked_end ≤ c.len-at.result)
-  inside =
-      let s = c.self.invariant.asked.inside in
-      let nums = c.record_numbers.result in
-      let more = c.put_data.ensures.grows in
-      let now = c.if-not-append.ensures.put in
-      let at = c.len-at.ensures.value in
-      let long = ap (λ (d : Draft). length d.octets) now ∙ length-append c.args.self.now.octets nums in
-      let end = ap (λ (d : Draft). d.asked_end) c.self-2.view_is ∙ more.asked ∙ ap (λ (d : Draft). d.asked_end) (now ∙ ap (λ (d : Draft). with_octets d nums) (sym c.self.view_is)) in (
-        omega (arith, at, ap (λ (d : Draft). length d.octets) c.self-2.view_is, ap (λ (d : Draft). length d.octets) c.self.view_is, ap length more.octets.whole, length-append c.append.new.self.octets more.octets.more, long, ap length c.record_numbers.ensures),
-        omega (arith, at, s, end),
-      )
+  inside = grind (arith, length-append)
 
   long : length (take (c.len-at.result + 8) before ++ patch c.len-at.result before) ≡ length before
-  long =
-      let a = c.len-at.result in
-      let there = inside.0 in
-      omega (arith, there, length-append (take (a + 8) before) (patch a before), length-take (a + 8) before, length-append (octets16 (length before - a - 10)) (drop (a + 10) before), length-drop (a + 10) before)
+  long = grind (arith, length-append, length-take, length-drop)
 
   set : after ≡ take (c.len-at.result + 8) before ++ patch c.len-at.result before
   set =

@@ -29,9 +29,7 @@ returns-then-is_spelled-clause-kept g c =
     (r.0, ap (λ x. slice_get x r.0) (sym c.self.view_is) ∙ entry_kept c.self.inside.entries.items r.0 (low g c) ∙ ap (λ (x : Entry). Some (kept_in x)) (sym r.2) ∙ ap (λ n. Some (record { place = e.place; number = n })) c.if-entry-number.true)
 
 pub returns-then-is_spelled-clause-reached : goal.returns-then-is_spelled-clause-reached
-returns-then-is_spelled-clause-reached g c =
-    let r = found g c in
-    subst (λ (e : Entry). e.place < 16384) (sym r.2) (c.self.invariant.linked r.0 (low g c)).0
+returns-then-is_spelled-clause-reached g c = grind (arith, found, low)
 
 module _ (g : given.Over) (c : goal.Joined-else-entry-number g) where
   passed : (k : ℕ) × (c.chain.newest ≡ suc k) × (get_or c.as_slice.result.now (c.from.result - 1) (record { place = 0; number = 0; next = 0 }) ≡ entry_at c.self.inside.entries.items k)
@@ -62,8 +60,4 @@ chain-preserved g c =
     subst (λ (e : Entry). Chain (λ (e : Entry). (e.number ≡ c.args.number) × SpelledAt c.args.message.now e.place c.args.suffix.now) (chain_of c.args.number) c.self.inside.entries.items e.next) (sym (passed g c).2) (next g c).0
 
 pub returns-clause-none : goal.returns-clause-none
-returns-clause-none g c = λ none p kept there.
-    let es = c.self.inside.entries.items in
-    let e = kept_entry es kept.0 p c.args.number (ap (λ x. slice_get x kept.0) c.self.view_is ∙ kept.1) in
-    let over = c.chain-test.false in
-    c.chain.invariant.after kept.0 e.0 (omega (arith, over)) (ap chain_of e.1) (e.1, subst (λ q. SpelledAt c.args.message.now q c.args.suffix.now) (sym e.2) there)
+returns-clause-none g c = grind (arith, kept_entry, slice_get)
