@@ -5,14 +5,10 @@ use Rattle.byteorder.specs.Endian.{big_number}
 pub big_number-four : (xs : Octets) → 4 ≤ length xs → big_number 4 xs ≡ number_of (take 4 xs)
 big_number-four xs h = grind arith
 
--- the octets from a place on, as a slice of them is written
-from_place : (xs : Octets) (i : ℕ) → take (length xs - i) (drop i xs) ≡ drop i xs
-from_place xs i = take_all (length xs - i) (drop i xs) (omega (arith, length-drop i xs))
-
 -- the last k octets, of which the first four are a number
 pub four_long : (xs : Octets) (k : ℕ) → 4 ≤ k → k ≤ length xs → 4 ≤ length (take (length xs - (length xs - k)) (drop (length xs - k) xs))
-four_long xs k some long = grind (arith, from_place, length-drop)
+four_long xs k some long = grind (arith, take_all, length-drop)
 
 pub number_in_last : (xs : Octets) (k : ℕ) → 4 ≤ k → k ≤ length xs
     → big_number 4 (take (length xs - (length xs - k)) (drop (length xs - k) xs)) ≡ number_of (take 4 (drop (length xs - k) xs))
-number_in_last xs k some long = grind (arith, from_place, big_number-four, length-drop)
+number_in_last xs k some long = grind (arith, take_all, big_number-four, length-drop)

@@ -36,17 +36,7 @@ module _ (origin : DomainName) where
   -- the first word was taken
   pub front-word : (f : WordForm) (w : Word) (ws rest : List Word) (octets octets' : Octets) → ws ≡ w ∷ rest → Appends (kept f) (SaysWord f origin w) octets octets'
       → AppendsFront (f ∷ []) origin ws rest octets octets'
-  front-word f w ws rest octets octets' e a =
-      subst (λ v. AppendsFront (f ∷ []) origin v rest octets octets') (sym e)
-      (record {
-        spelled = a.spelled;
-        low = kept f a.spelled;
-        grown = a.grown;
-        as_long = length-kept f a.spelled;
-        count = omega arith;
-        on = λ gs d low h. (a.spelled, d, low, refl, refl, a.said, h);
-        back = λ gs d h. (h.1, h.4, h.2 ∙ ap (λ x. x ++ h.1) (a.only h.0 h.3));
-      })
+  front-word f w ws rest octets octets' e a = grind (arith, length-kept)
 
   -- further words were taken
   pub front-joined : (fs gs : List WordForm) (ws mid rest : List Word) (x y z : Octets) → AppendsFront fs origin ws mid x y → AppendsFront gs origin mid rest y z
@@ -66,21 +56,15 @@ module _ (origin : DomainName) where
 
   -- the first word is none of its form
   pub no-word : (n : ℕ) (f : WordForm) (w : Word) (ws rest : List Word) → ws ≡ w ∷ rest → ((d : Octets) → SaysWord f origin w d → ⊥) → SaysNoFront n (f ∷ []) origin ws
-  no-word n f w ws rest e none gs d h short =
-      let said = subst (λ v. SaysForms (f ∷ gs) origin v d) e h in
-      none said.0 said.3
+  no-word n f w ws rest e none gs d h short = grind arith
 
   -- what was appended for the first words is too long
   pub too-long : (fs : List WordForm) (ws rest : List Word) (x y : Octets) → AppendsFront fs origin ws rest x y → 65535 < length y → SaysNoFront (length x) fs origin ws
-  too-long fs ws rest x y a over gs d h short =
-      let r = a.back gs d h in
-      omega (arith, over, short, ap length r.2, length-append a.spelled r.0, ap length a.grown, length-append x a.low, a.as_long)
+  too-long fs ws rest x y a over gs d h short = grind (arith, length-append)
 
   -- the words after those that were taken say nothing
   pub no-rest : (fs gs : List WordForm) (ws mid : List Word) (x y : Octets) → AppendsFront fs origin ws mid x y → SaysNoFront (length y) gs origin mid → SaysNoFront (length x) (fs ++ gs) origin ws
-  no-rest fs gs ws mid x y a none hs d h short =
-      let r = a.back (gs ++ hs) d (subst (λ v. SaysForms v origin ws d) (append_assoc fs gs hs) h) in
-      none hs r.0 r.1 (omega (arith, short, ap length r.2, length-append a.spelled r.0, ap length a.grown, length-append x a.low, a.as_long))
+  no-rest fs gs ws mid x y a none hs d h short = grind (arith, append_assoc, length-append)
 
   -- nor do they with further words
   pub no-more : (n : ℕ) (fs gs : List WordForm) (ws : List Word) → SaysNoFront n fs origin ws → SaysNoFront n (fs ++ gs) origin ws
@@ -96,9 +80,7 @@ once_more f n = replicate-append-replicate n 1 f
 
 -- one of so many of a form
 pub one_of : (f : WordForm) (i n : ℕ) → i < n → replicate (i + 1) f ++ replicate (n - (i + 1)) f ≡ replicate n f
-one_of f i n h =
-    let whole : i + 1 + (n - (i + 1)) ≡ n = omega (arith, h) in
-    replicate-append-replicate (i + 1) (n - (i + 1)) f ∙ ap (λ k. replicate k f) whole
+one_of f i n h = grind (arith, replicate-append-replicate)
 
 -- the forms of the words of pieces, where the record has k words
 abbrev pub forms_for : ℕ → List code.Piece → List WordForm
@@ -121,22 +103,12 @@ module _ (k : ℕ) (pieces : List code.Piece) (i : ℕ) (p : code.Piece) (inside
 
   -- so many words are left
   pub run-fits : (origin : DomainName) (ws rest : List Word) (x y : Octets) → AppendsFront (forms_for k (take i pieces)) origin ws rest x y → length (forms_for k pieces) ≡ length ws → n ≤ length rest
-  run-fits origin ws rest x y a e =
-      omega (
-        arith,
-        e,
-        a.count,
-        ap length forms-whole,
-        length-append (forms_for k (take i pieces) ++ replicate n f) (forms_for k (drop (i + 1) pieces)),
-        length-append (forms_for k (take i pieces)) (replicate n f),
-        length-replicate n f,
-      )
+  run-fits origin ws rest x y a e = grind (arith, forms-whole, length-append, length-replicate)
 
   -- the run is taken after the words of the pieces before it
   pub run-taken : (origin : DomainName) (ws mid rest : List Word) (x y z : Octets) → AppendsFront (forms_for k (take i pieces)) origin ws mid x y → AppendsFront (replicate n f) origin mid rest y z
       → AppendsFront (forms_for k (take (i + 1) pieces)) origin ws rest x z
-  run-taken origin ws mid rest x y z a b =
-      subst (λ fs. AppendsFront fs origin ws rest x z) forms-up (front-joined origin (forms_for k (take i pieces)) (replicate n f) ws mid rest x y z a b)
+  run-taken origin ws mid rest x y z a b = grind (arith, forms-up, front-joined)
 
   -- where the words left say no run, all say nothing
   pub run-refused : (origin : DomainName) (ws rest : List Word) (x y : Octets) → AppendsFront (forms_for k (take i pieces)) origin ws rest x y → SaysNoFront (length y) (replicate n f) origin rest

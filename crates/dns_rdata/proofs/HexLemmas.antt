@@ -7,9 +7,6 @@ use Rattle.dns_rdata.specs.HexForm.{hex_front, AppendsHex}
 none_is_some : {A : Type 0} (x : A) → None ≡ Some x → ⊥
 none_is_some x e = cc
 
-some_inner : {A : Type 0} (x y : A) → Some x ≡ Some y → x ≡ y
-some_inner x y e = cc
-
 -- what two digits and what stands after them say
 front_says : (text : Octets) (x : ℕ) (others : Octets) → hex_front text ≡ Some (x, others) → hex_octets text ≡ option_map (λ d. x ∷ d) (hex_octets others)
 unfolding hex_front hex_octets
@@ -22,13 +19,9 @@ front_says (h ∷ l ∷ rest) x others e = by_cases (cases_Bool (is_ascii_hexdig
     by_cases (inl high) (inr low) = let f : None ≡ Some (x, others) = rw (high, low) at e in absurd (none_is_some _ f)
     by_cases (inr high) low = let f : None ≡ Some (x, others) = rw high at e in absurd (none_is_some _ f)
 
-front_refuses : (text : Octets) → (text ≡ [] → ⊥) → hex_front text ≡ None → hex_octets text ≡ None
-unfolding hex_front hex_octets
-front_refuses text h h1 = grind (arith, none_is_some)
-
 pub front_shorter : (text : Octets) (x : ℕ) (others : Octets) → hex_front text ≡ Some (x, others) → length others < length text
 unfolding hex_front
-front_shorter text x others h = grind (arith, some_inner, none_is_some)
+front_shorter text x others h = grind (arith, none_is_some)
 
 -- what was read and what the rest says are what the text says
 pub record HexSoFar (text old octets rest : Octets) : Type 0 where
@@ -48,7 +41,8 @@ HexSoFar-push text old octets rest x others so_far e = record {
     joined (Some d) = ap (λ k. Some k) (sym (append_assoc so_far.read (x ∷ []) d))
 
 pub HexSoFar-refuses : (text old octets rest new : Octets) → HexSoFar text old octets rest → (rest ≡ [] → ⊥) → hex_front rest ≡ None → AppendsHex text false old new
-HexSoFar-refuses text old octets rest new so_far more e = grind (arith, front_refuses)
+unfolding hex_front hex_octets
+HexSoFar-refuses text old octets rest new so_far more e = grind (arith, none_is_some)
 
 pub HexSoFar-end : (text old octets rest : Octets) → HexSoFar text old octets rest → rest ≡ [] → AppendsHex text true old octets
 unfolding hex_octets

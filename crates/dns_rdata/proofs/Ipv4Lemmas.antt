@@ -1,17 +1,11 @@
 -- The numbers of an address stand between its dots.
-use Rattle.dns_spec.proofs.Common.{◌≡◌, ◌↔◌, ℕ, [], ◌∷◌, ◌++◌, ◌+◌, ◌*◌, ◌/◌, ◌%◌, ◌<◌, ◌≤◌, ◌⊎◌, true, ◌==◌, length, refl, sym, ◌∙◌, ap, subst, arith, decimal, ne_eqb, eqb-false, lt-ltb, ltb-true, le-leb, leb-true, and_from, and_parts, cases_lt, is_ascii_digit, Octets, SaysIpv4}
+use Rattle.dns_spec.proofs.Common.{◌≡◌, ◌↔◌, ℕ, [], ◌∷◌, ◌++◌, ◌+◌, ◌/◌, ◌%◌, ◌<◌, ◌≤◌, ◌⊎◌, length, refl, sym, ◌∙◌, ap, subst, arith, decimal, ne_eqb, eqb-false, lt-ltb, ltb-true, leb-true, and_from, and_parts, Octets, SaysIpv4}
 use Rattle.std.proofs.lemmas.Fmt.{decimal_digit, decimal_step, decimal_injective}
 use Rattle.std.proofs.lemmas.List.{append-nil}
 use Rattle.dns_name.specs.TextForm.{digit_at}
-use Rattle.std.specs.Prelude.{Option, Some, None, if◌then◌else◌}
+use Rattle.std.specs.Prelude.{Option, Some, None}
 use Rattle.dns_spec.proofs.DataWords.OneData.{four_numbers}
-use Rattle.dns_rdata.specs.AddressForm.{OctetThen, number_at, number_on, number_end}
-
-is_digit : (d : ℕ) → d < 10 → is_ascii_digit (48 + d) ≡ true
-is_digit d small = and_from _ _ (le-leb 48 (48 + d) (omega arith)) (le-leb (48 + d) 57 (omega arith))
-
-digit_here : (d : ℕ) (rest : Octets) → d < 10 → digit_at ((48 + d) ∷ rest) ≡ Some (d, rest)
-digit_here d rest small = rw (is_digit d small) (ap (λ k. Some (k, rest)) (omega arith))
+use Rattle.dns_rdata.specs.AddressForm.{OctetThen, number_at}
 
 -- a text begins with a digit or with none
 digit_or_none : (text : Octets) → (digit_at text ≡ None) ⊎ ((d : ℕ) × (rest : Octets)
@@ -30,8 +24,7 @@ three_places n rest from upto = grind (arith, decimal_step, decimal_digit)
 number_of : (n : ℕ) (rest : Octets) → n ≤ 255 → digit_at rest ≡ None
     → number_at (decimal n ++ rest) ≡ Some (n, rest)
 unfolding number_at
-number_of n rest le none =
-    grind (arith, cases_lt, decimal_digit, digit_here, two_places, ne_eqb, three_places, lt-ltb)
+number_of n rest le none = grind (arith, decimal_digit, two_places, ne_eqb, three_places, lt-ltb)
 
 -- a number, and what stands after it
 abbrev pub read_as : ℕ → Octets → Option (ℕ × Octets)
@@ -47,22 +40,11 @@ not_none e = cc
 abbrev Begins : Octets → ℕ → Octets → Type 0
 Begins text n rest = (text ≡ decimal n ++ rest) × (n ≤ 255)
 
-two_digits : (a b n : ℕ) (after rest : Octets) → 0 < a → a < 10 → b < 10
-    → number_end (10 * a + b, after) (digit_at after) ≡ Some (n, rest)
-    → Begins ((48 + a) ∷ (48 + b) ∷ after) n rest
-two_digits a b n after rest some small low h =
-    grind (arith, digit_or_none, some_pair, two_places, ltb-true, three_places, not_none)
-
-one_digit : (a n : ℕ) (after rest : Octets) → a < 10
-    → (if a == 0 then Some (a, after) else number_on (a, after) (digit_at after)) ≡ Some (n, rest)
-    → Begins ((48 + a) ∷ after) n rest
-one_digit a n after rest small h =
-    grind (arith, decimal_digit, some_pair, digit_or_none, two_digits, eqb-false)
-
 pub number_read : (text : Octets) (n : ℕ) (rest : Octets) → number_at text ≡ Some (n, rest)
     → Begins text n rest
 unfolding number_at
-number_read text n rest h = grind (arith, digit_or_none, not_none, one_digit)
+number_read text n rest h =
+    grind (arith, digit_or_none, decimal_digit, two_places, ltb-true, three_places, eqb-false)
 
 -- the number that all of a text says
 number_alone : (text : Octets) (n : ℕ) → (text ≡ decimal n) × (n ≤ 255)

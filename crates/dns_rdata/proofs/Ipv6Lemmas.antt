@@ -88,21 +88,15 @@ group_then text after = if is_group text then option_map (λ gs. digits_value 16
 one_or_more-said : (text : Octets) → (length text ≡ 0 → ⊥) → groups_said text ≡ one_or_more text
 one_or_more-said text h = grind arith
 
-place_is : (p : ℕ → Bool) (text : Octets) (end : ℕ) → Some end ≡ position p text → (position_or_len p text ≡ end) × (end < length text)
-place_is p text end e = grind (arith, some_inner, ltb-true, none_is_some)
-
 first_group : (text : Octets) (end : ℕ) → Some end ≡ position is_colon text → one_or_more text ≡ group_then (take end text) (one_or_more (drop (end + 1) text))
-first_group text end e = grind (arith, place_is, slice_split_first)
+first_group text end e = grind (arith, some_inner, ltb-true, none_is_some, slice_split_first)
 
 one_part : (p : ℕ → Bool) (text : Octets) → length text ≤ position_or_len p text → slice_split p text ≡ text ∷ []
 one_part p [] h = refl
 one_part p (x ∷ text) h = grind (arith, (one_part p text))
 
-no_colon : (text : Octets) → None ≡ position is_colon text → slice_split is_colon text ≡ text ∷ []
-no_colon text e = grind (arith, none_is_some, one_part, ltb-false)
-
 last_group : (text : Octets) → None ≡ position is_colon text → one_or_more text ≡ group_then text (Some [])
-last_group text e = ap group_values (no_colon text e)
+last_group text e = grind (arith, none_is_some, one_part, ltb-false)
 
 -- the groups read so far, and the text after them
 pub record GroupsSoFar (text : Octets) (groups : List ℕ) (rest : Octets) : Type 0 where
@@ -165,14 +159,11 @@ pub record FilledSoFar (old groups back : List ℕ) : Type 0 where
   pub room : length groups + length back ≤ 8
 
 -- what `few_groups` keeps
-few_some : (gs o : List ℕ) → Some gs ≡ few_groups o → o ≡ gs
-few_some gs o e = grind (arith, some_inner, none_is_some)
-
 few_none : (o : List ℕ) → None ≡ few_groups o → 8 < length o
 few_none o e = grind (arith, none_is_some, leb-false)
 
 pub all_said : (gs : List ℕ) (o : Option (List ℕ)) → Some gs ≡ option_and_then few_groups o → o ≡ Some gs
-all_said gs o h = grind (arith, none_is_some, few_some)
+all_said gs o h = grind (arith, none_is_some, some_inner)
 
 abbrev octets_of : Option (List ℕ) → Option Octets
 octets_of = option_map (flat_map (bytes_high_first 2))

@@ -7,36 +7,24 @@ use Rattle.dns_spec.specs.AddressText.{groups_text, zero_runs}
 use Rattle.dns_spec.proofs.DataWords.GroupDigits.{one_digit, two_digits, three_of, four_of}
 use Rattle.dns_spec.proofs.DataWords.ZeroRuns.{is_zero, length-zero_runs, run_at}
 
--- the digits of two octets are those of each
-pub split_digits : (n : ℕ) → 256 ≤ n → n < 65536 → digits 16 false n ≡ digits 16 false (n / 256) ++ digit_char (n % 256 / 16) ∷ digit_char (n % 256 % 16) ∷ []
-split_digits n large small = grind (arith, cases_lt, three_of, one_digit, four_of, two_digits)
-
 -- one group more
 pub groups_text-push : (g x : ℕ) (gs : List ℕ) → groups_text (g ∷ gs ++ x ∷ []) ≡ groups_text (g ∷ gs) ++ 58 ∷ digits 16 false x
 groups_text-push g x [] = refl
 groups_text-push g x (h ∷ gs) = grind (arith, append_assoc, (groups_text-push h x gs))
 
--- the zero groups from a place on
+-- the groups from a place on begin with the one there
 pub one_group_at : (gs : List ℕ) (i : ℕ) → i < length gs → drop i gs ≡ get_or gs i 0 ∷ drop (i + 1) gs
 one_group_at gs i inside = grind (arith, suc-eq-add-one, drop-cons)
-
-pub record RunSoFar (gs : List ℕ) (i run : ℕ) : Type 0 where
-  pub whole : prefix_len is_zero gs ≡ run + prefix_len is_zero (drop i gs)
-  pub run_is : run ≡ i
 
 pub push_one : (old new : Octets) (r n : ℕ) → new ≡ old ++ r ∷ [] → r ≡ digit_char n → n < 16 → new ≡ old ++ digits 16 false n
 push_one old new r n e f small = e ∙ ap (λ d. old ++ d ∷ []) f ∙ ap (λ t. old ++ t) (sym (one_digit n small))
 
-pushed_two : (old mid new : Octets) (r s a b : ℕ) → mid ≡ old ++ r ∷ [] → new ≡ mid ++ s ∷ [] → r ≡ digit_char a → s ≡ digit_char b → new ≡ old ++ digit_char a ∷ digit_char b ∷ []
-pushed_two old mid new r s a b e f g h = grind (arith, append_assoc)
-
 pub push_two : (old mid new : Octets) (r s n : ℕ) → mid ≡ old ++ r ∷ [] → new ≡ mid ++ s ∷ [] → r ≡ digit_char (n / 16) → s ≡ digit_char (n % 16) → 16 ≤ n → n < 256 → new ≡ old ++ digits 16 false n
-push_two old mid new r s n e f g h large small =
-    pushed_two old mid new r s (n / 16) (n % 16) e f g h ∙ ap (λ t. old ++ t) (sym (two_digits n large small))
+push_two old mid new r s n e f g h large small = grind (arith, append_assoc, two_digits)
 
 pub push_split : (old high mid new : Octets) (r s n : ℕ) → high ≡ old ++ digits 16 false (n / 256) → mid ≡ high ++ r ∷ [] → new ≡ mid ++ s ∷ [] → r ≡ digit_char (n % 256 / 16) → s ≡ digit_char (n % 256 % 16) → (n / 256 ≡ 0 → ⊥) → n < 65536 → new ≡ old ++ digits 16 false n
 push_split old high mid new r s n d e f g h large small =
-    grind (arith, pushed_two, append_assoc, split_digits)
+    grind (arith, append_assoc, three_of, one_digit, four_of, two_digits)
 
 -- groups written so far
 pub record GroupsWritten (old : Octets) (groups others : List ℕ) (i : ℕ) (text : Octets) : Type 0 where

@@ -12,21 +12,9 @@ pub record EndsWithName (k : ℕ) (d : Octets) (sought : Option DomainName) : Ty
   pub whole : drop k d ≡ wire own
   pub found : sought ≡ Some own
 
-nothing_left : (os : Octets) (xs : List Part) → cut [] os ≡ Some xs → os ≡ []
-unfolding cut
-nothing_left os xs h = grind (arith, none-some)
-
 one_name : (d : Octets) (xs : List Part) → cut (domain ∷ []) d ≡ Some xs → EndsWithName 0 d (first_name xs)
-one_name d xs e =
-    let c = cut_into domain [] d xs e in
-    let m = name_part d c.rest c.part c.front in
-    record {
-      inside = omega arith;
-      own = m.0;
-      is_name = m.2;
-      whole = m.3 ∙ ap (λ z. wire m.0 ++ z) (nothing_left c.rest c.others c.more) ∙ append-nil (wire m.0);
-      found = ap first_name (sym c.whole) ∙ ap (λ p. first_name (p ∷ c.others)) (sym m.1);
-    }
+unfolding cut
+one_name d xs e = grind (arith, cut_into, name_part, none-some, append-nil)
 
 after_numbers : (f : Fixed) (d : Octets) (xs : List Part) → cut (fixed f ∷ domain ∷ []) d ≡ Some xs → EndsWithName (width f) d (first_name xs)
 after_numbers f d xs e =

@@ -1,5 +1,5 @@
 -- Digits read from left to right say a number, and only a number's own text says it.
-use Rattle.dns_spec.proofs.Common.{◌≡◌, ◌↔◌, ℕ, [], ◌∷◌, ◌+◌, ◌-◌, ◌*◌, ◌<◌, ◌≤◌, ◌^◌, List, length, take, get_or, inl, inr, refl, sym, ◌∙◌, ap, subst, arith, decimal, cases_lt, digit_value, IsAsciiDigit, IsNotAsciiDigit, AllDigits, digits_value, digits, Octets}
+use Rattle.dns_spec.proofs.Common.{◌≡◌, ◌↔◌, ℕ, [], ◌∷◌, ◌+◌, ◌-◌, ◌*◌, ◌<◌, ◌≤◌, ◌^◌, List, length, take, get_or, inl, inr, refl, sym, ◌∙◌, ap, subst, arith, decimal, cases_lt, IsAsciiDigit, IsNotAsciiDigit, AllDigits, digits_value, digits, Octets}
 use Rattle.std.proofs.lemmas.List.{take_all}
 use Rattle.std.specs.Prelude.{Option, Some, None, SomeIff}
 use Rattle.std.proofs.lemmas.Int.Digits.{digits_value_more, digits_more}
@@ -10,12 +10,9 @@ use Rattle.std.proofs.lemmas.Fmt.{decimal_is_IsNumeral, decimal-digits_value, fi
 pub no_digit : (ds : List ℕ) (i : ℕ) → i < length ds → IsNotAsciiDigit (get_or ds i 0) → AllDigits 10 ds → ⊥
 no_digit ds i inside out all = grind (arith, digit_at)
 
-digit_is : (c : ℕ) → IsAsciiDigit c → digit_value c ≡ c - 48
-digit_is c h = grind (arith, h.0, h.1)
-
 -- one digit more
 pub digit_more : (ds : List ℕ) (i n : ℕ) → i < length ds → IsAsciiDigit (get_or ds i 0) → n ≡ digits_value 10 (take i ds) → digits_value 10 (take (i + 1) ds) ≡ n * 10 + (get_or ds i 0 - 48)
-digit_more ds i n inside digit value = grind (arith, digits_value_more, digit_is)
+digit_more ds i n inside digit value = grind (arith, digits_value_more)
 
 -- too many of them for the bound
 pub past_bound : (ds : List ℕ) (i n bound : ℕ) → i < length ds → IsAsciiDigit (get_or ds i 0) → n ≡ digits_value 10 (take i ds) → bound ≤ n * 10 + (get_or ds i 0 - 48) → digits_value 10 ds < bound → ⊥
@@ -23,7 +20,7 @@ past_bound ds i n bound inside digit value over small =
     omega (arith, digit_more ds i n inside digit value, digits_value-take-le 10 ds (i + 1) (omega arith))
 
 pub all_more : (ds : List ℕ) (i : ℕ) → i < length ds → IsAsciiDigit (get_or ds i 0) → AllDigits 10 (take i ds) → AllDigits 10 (take (i + 1) ds)
-all_more ds i inside digit all = digits_more 10 ds i inside all (omega (arith, digit_is (get_or ds i 0) digit, digit.0, digit.1))
+all_more ds i inside digit all = grind (arith, digits_more)
 
 -- nothing is answered
 pub none_iff : {P : Type 0} (o : Option ℕ) (v : ℕ) → o ≡ None → (P → ⊥) → SomeIff o P v
@@ -83,9 +80,6 @@ SaysIff-some text most k r some value le small all some_octet zero_alone = λ n.
         sym (decimal-digits_value (numerals_by_value (AllDigits 10) tells_digits) text all some_octet zero_alone (omega (arith, value)))
         ∙ ap decimal (sym value)
 
-pub decimal-octet : (n : ℕ) → n < 256 → length (decimal n) ≤ 3
-decimal-octet n small = length-decimal-le 3 n (omega arith) (omega arith) (omega arith)
-
 -- the text of an octet has at most three digits
 pub three_digits : (digits text : Octets) (n k : ℕ) → digits ≡ text → text ≡ decimal k → k ≡ n → n < 256 → length digits ≤ 3
-three_digits digits text n k e f g small = omega (arith, ap length (e ∙ f ∙ ap decimal g), decimal-octet n small)
+three_digits digits text n k e f g small = grind (arith, length-decimal-le)

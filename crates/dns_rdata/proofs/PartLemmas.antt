@@ -26,19 +26,13 @@ pub more_are_cut : (p : Data.Piece) (ps : List Data.Piece) (os : Octets) (part :
     → is_some (cut (p ∷ ps) os) ≡ is_some (cut ps rest)
 more_are_cut p ps os part rest e = ap is_some (cut_more p ps os part rest e) ∙ is_some-option_map (λ xs. part ∷ xs) (cut ps rest)
 
-no_pieces : (os : Octets) → is_some (cut [] os) ≡ (length os == 0)
-unfolding cut
-no_pieces os = grind (arith, false_from_ne_true, eqb-true)
-
 pub no_pieces_left : (ps : List Piece) (os : Octets) → length ps ≡ 0 → is_some (cut (pieces_in ps) os) ≡ (length os == 0)
-no_pieces_left ps os e = ap (λ qs. is_some (cut (pieces_in qs) os)) (nil_from_length ps e) ∙ no_pieces os
-
-nothing_left : (os : Octets) → parts_left [] os ≡ []
 unfolding cut
-nothing_left os = grind arith
+no_pieces_left ps os e = grind (arith, nil_from_length, false_from_ne_true, eqb-true)
 
 pub no_parts_left : (ps : List Piece) (os : Octets) → length ps ≡ 0 → parts_left ps os ≡ []
-no_parts_left ps os e = ap (λ qs. parts_left qs os) (nil_from_length ps e) ∙ nothing_left os
+unfolding cut
+no_parts_left ps os e = grind (arith, nil_from_length)
 
 -- the first part, and those after it
 pub parts_left-cons : (p : Piece) (ps : List Piece) (os : Octets) (part : Data.Part) (rest : Octets) → piece_front (piece_of p) os ≡ Some (part, rest)
@@ -87,13 +81,9 @@ few_parts t ps os e = go (cut (pieces_in ps) os) refl
     go None f = omega arith
     go (Some xs) f = omega (arith, cut_length (pieces_in ps) os xs f, ap length e, few_pieces t)
 
--- a part that is lent is shown with its octets
-pub lent_octets : (x : Part) → IsLent x → with_octets (part_for x) ≡ shown_part x
-lent_octets x h = grind arith
-
 pub shown_first : (p : Piece) (ps : List Piece) (os : Octets) (x : Part) (rest : Octets) (left : List Data.Part) → piece_front (piece_of p) os ≡ Some (part_for x, rest)
     → IsLent x → AreCut (p ∷ ps) os → parts_left (p ∷ ps) os ≡ left → map with_octets left ≡ shown_part x ∷ map with_octets (parts_left ps rest)
-shown_first p ps os x rest left e lent are view = grind (arith, parts_left-cons, lent_octets)
+shown_first p ps os x rest left e lent are view = grind (arith, parts_left-cons)
 
 pub length-lower_case : (t : ℕ) (d : Octets) → valid t d ≡ true → length (lower_case t d) ≤ 65535
 length-lower_case t d ok = (cut_data t (lower_case t d) (lowered_data t d ok).0).short

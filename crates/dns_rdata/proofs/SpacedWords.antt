@@ -1,5 +1,5 @@
 -- Words with a space between, and the words of forms and of pieces.
-use Rattle.dns_spec.proofs.Common.{◌≡◌, ℕ, zero, suc, ◌+◌, ◌*◌, ◌<◌, ◌≤◌, max, Bool, true, false, List, [], ◌∷◌, ◌++◌, map, length, drop, replicate, Some, refl, sym, ap, ◌∙◌, arith, append_assoc, append-nil, drop-drop, length-replicate, and_parts, le-leb, ltb-true, false≢true, none-some, same_Some, cond_some, is_some, list_all, flat_map, join_with_byte, Octets, Piece, strings, Part, string_front, are_strings, piece_front, Word, WordForm, number_word, string_word, forms_in, word_text, word_front, form_words, string_count}
+use Rattle.dns_spec.proofs.Common.{◌≡◌, ℕ, zero, suc, ◌+◌, ◌*◌, ◌<◌, ◌≤◌, Bool, true, false, List, [], ◌∷◌, ◌++◌, map, length, drop, replicate, Some, refl, sym, ap, ◌∙◌, arith, append_assoc, append-nil, drop-drop, length-replicate, and_parts, le-leb, ltb-true, false≢true, is_some, list_all, flat_map, join_with_byte, Octets, Piece, strings, Part, string_front, are_strings, piece_front, Word, WordForm, number_word, string_word, forms_in, word_text, word_front, form_words, string_count}
 use Rattle.dns_spec.proofs.DataWords.WrittenData.{all_strings}
 use Rattle.dns_rdata.specs.WrittenForm.{spaced, form_rest, piece_forms, piece_words, piece_rest, pieces_words, has_words}
 use Rattle.dns_rdata.proofs.NameFronts.{strings_after}
@@ -17,10 +17,6 @@ spaced-after : (ws vs : List Word) → spaced space (ws ++ vs) ≡ spaced space 
 spaced-after [] vs = refl
 spaced-after (w ∷ ws) vs = grind (arith, append_assoc, (spaced-after ws vs))
 
--- where there is a word, a space stands after it
-pub spaced-append : (before : Octets) (w : Word) (ws vs : List Word) → spaced before ((w ∷ ws) ++ vs) ≡ spaced before (w ∷ ws) ++ spaced space vs
-spaced-append before w ws vs = grind (arith, spaced-after, append_assoc)
-
 -- the words of forms, one form after the other
 pub form_words-append : (fs gs : List WordForm) (d : Octets) → form_words (fs ++ gs) d ≡ form_words fs d ++ form_words gs (form_rest fs d)
 form_words-append [] gs d = refl
@@ -29,23 +25,20 @@ form_words-append (f ∷ fs) gs d = ap (λ xs. (word_front f d).0 ∷ xs) (form_
 pub spaced-forms : (before : Octets) (fs : List WordForm) (d : Octets) (vs : List Word) → 0 < length fs
     → spaced before (form_words fs d ++ vs) ≡ spaced before (form_words fs d) ++ spaced space vs
 spaced-forms before [] d vs h = absurd (omega (arith, h))
-spaced-forms before (f ∷ fs) d vs h = spaced-append before (word_front f d).0 (form_words fs (word_front f d).1) vs
+spaced-forms before (f ∷ fs) d vs h = grind (arith, spaced-after, append_assoc)
 
 -- one form more
 pub spaced-next : (before : Octets) (f : WordForm) (fs : List WordForm) (d : Octets)
     → spaced before (form_words (f ∷ fs) d) ≡ spaced before (form_words (f ∷ []) d) ++ spaced space (form_words fs (word_front f d).1)
-spaced-next before f fs d = spaced-append before (word_front f d).0 [] (form_words fs (word_front f d).1)
+spaced-next before f fs d = grind (arith, spaced-after, append_assoc)
 
 one_more : (n : ℕ) → 1 + n ≡ suc n
 one_more n = omega arith
 
-times_more : (m k : ℕ) → suc m * k ≡ k + m * k
-times_more m k = grind arith
-
 -- numbers, one after the other
 pub after_numbers : (m k : ℕ) (d : Octets) → form_rest (replicate m (number_word k)) d ≡ drop (m * k) d
 after_numbers zero k d = ap (λ n. drop n d) {x = 0} {y = 0 * k} (omega arith)
-after_numbers (suc m) k d = after_numbers m k (drop k d) ∙ drop-drop (m * k) k d ∙ ap (λ n. drop n d) (sym (times_more m k))
+after_numbers (suc m) k d = grind (arith, (after_numbers m k (drop k d)), drop-drop)
 
 -- strings, one after the other
 pub count_after : (k : ℕ) (d : Octets) → k ≤ length d → string_count k d ≡ string_count 0 (drop k d)
@@ -85,25 +78,10 @@ spaced-strings before (k ∷ d) h some =
     ∙ ap (λ n. spaced before (form_words (string_word ∷ []) (k ∷ d)) ++ spaced space (form_words (replicate n string_word) (drop k d)))
     (count_after k d (string_there k d h))
 
--- strings that are not none are as many as there are
-pub some_strings : (d : Octets) → 0 < length d → max 1 (string_count 0 d) ≡ string_count 0 d
-some_strings [] h = absurd (omega (arith, h))
-some_strings (o ∷ d) h = omega arith
-
 -- what stands after a piece is after its words
 pub after_piece : (p : Piece) (d : Octets) (part : Part) (rest : Octets) → has_words p ≡ true → piece_front p d ≡ Some (part, rest) → piece_rest p d ≡ rest
 after_piece p d part rest h h1 =
-    grind (
-      arith,
-      after_numbers,
-      cond_some,
-      none-some,
-      same_Some,
-      all_strings,
-      some_strings,
-      after_strings,
-      false≢true,
-    )
+    grind (arith, after_numbers, all_strings, after_strings, false≢true)
 
 -- a piece that has words has them in any data
 pub some_forms : (k : ℕ) (p : Piece) → has_words p ≡ true → 0 < length (forms_in k p)

@@ -1,5 +1,5 @@
 -- Reading a string from left to right finds what it spells, and nothing else.
-use Rattle.std.proofs.Common.{◌≡◌, ◌↔◌, ℕ, ◌<◌, ◌≤◌, true, false, ap₂, inl, inr, ◌==◌, ◌||◌, if◌then◌else◌, [], ◌∷◌, ◌++◌, length, refl, sym, ◌∙◌, ap, subst, arith, length-append}
+use Rattle.std.proofs.Common.{◌≡◌, ◌↔◌, ℕ, ◌<◌, ◌≤◌, true, false, inl, inr, ◌==◌, ◌||◌, if◌then◌else◌, [], ◌∷◌, ◌++◌, length, refl, sym, ◌∙◌, ap, subst, arith, length-append}
 use Rattle.std.specs.Prelude.{Some, None}
 use Rattle.std.proofs.lemmas.List.{append_assoc, append-nil}
 use Rattle.dns_spec.proofs.Common.{cases_Bool, and_parts, not-true, eqb-true, false≢true, list_any, list_all, flat_map, Octets, SpellsString, SpellsStringOctet, string_octet_text}
@@ -16,11 +16,8 @@ unfolding octet_at
 spelled_read text x others (first, e, inl spelled) = octet_at-OctetThen text x others (first, e, spelled)
 spelled_read text x others (first, e, inr (dot, is_dot)) = grind arith
 
-some_inner : {A : Type 0} (x y : A) → Some x ≡ Some y → x ≡ y
-some_inner x y e = cc
-
 some_parts : (v w : ℕ × Octets) → Some v ≡ Some w → (v.0 ≡ w.0) × (v.1 ≡ w.1)
-some_parts v w e = let pairs = some_inner v w e in (ap (λ u. u.0) pairs, ap (λ u. u.1) pairs)
+some_parts v w e = grind arith
 
 read_spelled : (text : Octets) (x : ℕ) (others : Octets) → octet_at text ≡ Some (x, others) → StringOctetThen text x others
 unfolding octet_at
@@ -130,11 +127,12 @@ pub plain_string : (text : Octets) → list_any (λ (o : ℕ). o == 92) text ≡
 plain_string text none = StringSoFar-iff text text [] (plain_read text [] text (StringSoFar-none text) none) refl
 
 -- an octet, and octets, that are written as they are
-plain_octet : (o : ℕ) → is_plain o ≡ true → string_octet_text o ≡ o ∷ []
-plain_octet o e = grind (arith, and_parts, not-true)
-
 pub plain_text : (s : Octets) → list_all is_plain s ≡ true → flat_map string_octet_text s ≡ s
 plain_text [] e = refl
 plain_text (o ∷ s) e =
-    let both = and_parts (is_plain o) (list_all is_plain s) e in
-    ap₂ (λ a b. a ++ b) (plain_octet o both.0) (plain_text s both.1)
+    grind (
+      arith,
+      and_parts,
+      not-true,
+      (plain_text s (and_parts (is_plain o) (list_all is_plain s) e).1),
+    )

@@ -1,18 +1,21 @@
 -- Digits are read after `TYPE` in any case.
-use Rattle.dns_spec.proofs.Common.{◌≡◌, ℕ, ◌<◌, ◌≤◌, [], ◌∷◌, map, drop, refl, ap, arith, lt-ltb, false≢true, decimal_is_IsNumeral, digit_from_value, to_ascii_lowercase, AllDigits, Octets, text_in_lower_case, numbered_type}
+use Rattle.dns_spec.proofs.Common.{◌≡◌, ℕ, ◌<◌, [], ◌∷◌, map, drop, refl, ap, arith, lt-ltb, false≢true, decimal_is_IsNumeral, digit_from_value, to_ascii_lowercase, AllDigits, Octets, text_in_lower_case, numbered_type}
 use Rattle.std.specs.Fmt.{decimal}
 use Rattle.dns_spec.proofs.DataWords.TypeWords.{decimal-lowered}
 
 -- only digits are digits in lower case
-digit_unlowered : (c d : ℕ) → to_ascii_lowercase c ≡ d → 48 ≤ d → d ≤ 57 → c ≡ d
-digit_unlowered c d e low high = grind (arith, false≢true, lt-ltb)
-
 digits_unlowered : (cs ds : Octets) → map to_ascii_lowercase cs ≡ ds → AllDigits 10 ds → cs ≡ ds
 digits_unlowered [] [] e h = refl
 digits_unlowered [] (d ∷ ds) e h = cc
 digits_unlowered (c ∷ cs) [] e h = cc
 digits_unlowered (c ∷ cs) (d ∷ ds) e h =
-    grind (arith, digit_from_value, digit_unlowered, (digits_unlowered cs ds (ap (drop 1) e) h.1))
+    grind (
+      arith,
+      digit_from_value,
+      false≢true,
+      lt-ltb,
+      (digits_unlowered cs ds (ap (drop 1) e) h.1),
+    )
 
 -- digits after `TYPE` are those of its number
 pub type_digits : (word digits : Octets) (t : ℕ) → drop 4 word ≡ digits → t < 65536 → text_in_lower_case word ≡ text_in_lower_case (numbered_type t) → digits ≡ decimal t

@@ -1,6 +1,6 @@
 -- What words say by the forms of a type is data of the type, where it is not too long, and what is kept of it is that data
 -- in lower case.
-use Rattle.dns_spec.proofs.Common.{◌≡◌, ◌↔◌, ℕ, zero, suc, ◌*◌, ◌≤◌, Bool, true, false, ◌&&◌, nat_le, ◌==◌, List, [], ◌∷◌, ◌++◌, map, max, length, replicate, Option, Some, refl, sym, ap, ◌∙◌, subst, arith, append-nil, append_assoc, length-append, list_all, flat_map, is_some, option_map, unwrap_or, MatchOption, MatchBool, to_ascii_lowercase, and_parts, and_from, le-leb, leb-true, ne_eqb, false≢true, take_at, drop_at, flat_map-cons, Octets, DomainName, Fixed, width, numbers, ipv4, ipv6, Piece, fixed, domain, string, strings, anything, Part, octets, name, part_octets, part_folded, joined, octets_front, strings_front, piece_front, are_strings, cut, TypeRow, type_table, other_type, row_of, pieces_of, Valid, Word, WordForm, SaysWord, ipv6_word, ipv4_word, number_word, string_word, SaysForms, SaysTyped, SaysUnknown, SaysAsSpelled, Says, forms_in}
+use Rattle.dns_spec.proofs.Common.{◌≡◌, ◌↔◌, ℕ, zero, suc, ◌*◌, ◌≤◌, Bool, true, false, ◌&&◌, nat_le, ◌==◌, List, [], ◌∷◌, ◌++◌, map, max, length, replicate, Option, Some, refl, sym, ap, ◌∙◌, subst, arith, append-nil, append_assoc, length-append, list_all, flat_map, is_some, option_map, unwrap_or, MatchOption, to_ascii_lowercase, and_parts, and_from, le-leb, leb-true, ne_eqb, false≢true, take_at, drop_at, flat_map-cons, Octets, DomainName, Fixed, width, numbers, ipv4, ipv6, Piece, fixed, domain, string, strings, anything, Part, octets, name, part_octets, part_folded, joined, octets_front, strings_front, piece_front, are_strings, cut, TypeRow, type_table, other_type, row_of, pieces_of, Valid, Word, WordForm, SaysWord, ipv6_word, ipv4_word, number_word, string_word, SaysForms, SaysTyped, SaysAsSpelled, Says, forms_in}
 use Rattle.dns_spec.proofs.DomainNames.NameLaws.{map-lowercase-wire, IsName-is_name}
 use Rattle.dns_spec.proofs.DataWords.MadeData.{cut-domain, cut-step}
 use Rattle.dns_spec.proofs.DataWords.LoweredData.{cut_whole, length-lowered, lowered_data}
@@ -55,15 +55,7 @@ many_strings zero origin [] d e h = (ap (are_strings 0) h.0, h.0 ∙ sym h.1, om
 many_strings zero origin (w ∷ ws) d e h = absurd h
 many_strings (suc m) origin [] d e h = absurd h
 many_strings (suc m) origin (w ∷ ws) d e (front, back, low, is, kept_is, word, h) =
-    let said = word.said in
-    let s = said.0 in
-    let r = many_strings m origin ws back low h in
-    let whole = is ∙ ap (λ x. x ++ back) said.3 in (
-      ap (are_strings 0) whole ∙ strings_after (length s) (s ++ back) (omega (arith, length-append s back))
-          ∙ ap (are_strings 0) (drop_at s back (length s) refl) ∙ r.0,
-      is ∙ ap (λ x. front ++ x) r.1 ∙ sym kept_is,
-      omega (arith, ap length whole, length-append s back, r.2),
-    )
+    grind (arith, (many_strings m origin ws back low h), strings_after, length-append, drop_at)
 
 all_strings_front : (d : Octets) → are_strings 0 d ≡ true → 1 ≤ length d → strings_front d ≡ Some (octets d, [])
 all_strings_front d ok some = rw (ne_eqb (length d) 0 (λ none. absurd (omega (arith, some, none))), ok) refl
@@ -180,9 +172,7 @@ TypedBy row origin ws d = MatchOption (option_map (λ (r : TypeRow). flat_map (f
 -- where the first word is not `\#`, words say what they say in the form of the type
 pub spelled_typed : (t : ℕ) (origin : DomainName) (ws : List Word) (d : Octets) → is_marked ws ≡ false → SaysAsSpelled t origin ws d ↔ SaysTyped t origin ws d
 spelled_typed t origin [] d plain = (λ h. h, λ h. h)
-spelled_typed t origin (w ∷ ws) d plain =
-    let By : Bool → Type 0 = λ b. MatchBool b (SaysUnknown ws d) (SaysTyped t origin (w ∷ ws) d) in
-    (λ h. subst By plain h, λ h. subst By (sym plain) h)
+spelled_typed t origin (w ∷ ws) d plain = grind arith
 
 -- what words say in lower case is valid too
 pub said_valid : (t : ℕ) (ws : List Word) (origin : DomainName) (d : Octets) → Says t ws origin d → Valid t d
@@ -190,16 +180,8 @@ said_valid t ws origin d said = subst (Valid t) said.lower (lowered_data t said.
 
 -- what words say by the row of the type
 module _ (t : ℕ) (row : TypeRow) (origin : DomainName) (ws : List Word) (count : ℕ) (plain : is_marked ws ≡ false) (is : Some row ≡ row_of t) (counted : count ≡ length ws) where
-  by_row : (d : Octets) → Says t ws origin d → (e : Octets) × SaysForms (flat_map (forms_in count) row.pieces) origin ws e × (length e ≤ 65535)
-  by_row d said = (
-    said.as_spelled,
-    subst (λ k. SaysForms (flat_map (forms_in k) row.pieces) origin ws said.as_spelled) (sym counted)
-        (subst (λ r. TypedBy r origin ws said.as_spelled) (sym is) ((spelled_typed t origin ws said.as_spelled plain).0 said.said)),
-    leb-true _ _ (and_parts (nat_le (length said.as_spelled) 65535) _ said.is_valid).0,
-  )
-
   pub nothing_typed : ((d : Octets) → SaysForms (flat_map (forms_in count) row.pieces) origin ws d → length d ≤ 65535 → ⊥) → (d : Octets) → Says t ws origin d → ⊥
-  nothing_typed none d said = let r = by_row d said in none r.0 r.1 r.2
+  nothing_typed none d said = grind (arith, spelled_typed, leb-true, and_parts)
 
   pub other_count : (length (flat_map (forms_in count) row.pieces) ≡ count → ⊥) → (d : Octets) → Says t ws origin d → ⊥
   other_count other = nothing_typed (λ d forms _. other (as_many_words (flat_map (forms_in count) row.pieces) origin ws d forms ∙ sym counted))

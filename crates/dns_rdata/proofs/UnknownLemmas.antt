@@ -1,6 +1,6 @@
 -- Words of hex digits read from left to right, each of whole octets.
-use Rattle.dns_spec.proofs.Common.{◌≡◌, Bool, ◌%◌, ◌<◌, ◌≤◌, ℕ, true, false, List, [], ◌∷◌, ◌++◌, length, refl, sym, ◌∙◌, ap, arith, decimal, IsTrue, length-append, list_all, flat_map, option_map, and_parts, eqb-true, eq-eqb, lt-ltb, decimal_injective, Octets}
-use Rattle.std.specs.Prelude.{Some, ◌&&◌, not}
+use Rattle.dns_spec.proofs.Common.{◌≡◌, ◌<◌, ◌≤◌, ℕ, true, false, List, [], ◌∷◌, ◌++◌, length, sym, ◌∙◌, ap, arith, decimal, IsTrue, length-append, list_all, flat_map, option_map, and_parts, eqb-true, decimal_injective, Octets}
+use Rattle.std.specs.Prelude.{Some, not}
 use Rattle.std.specs.Prelude.{Result, IfErr}
 use Rattle.std.specs.Result.{IsErrAnd}
 use Rattle.std.proofs.lemmas.List.{append_assoc, append-nil}
@@ -13,14 +13,8 @@ use Rattle.dns_rdata.proofs.HexLemmas.{joined_octets, hex_octets-append, even_di
 abbrev pub digits_in : List Word → Octets
 digits_in ws = flat_map (λ (w : Word). w.raw) ws
 
-and_both : (a b : Bool) → a ≡ true → (a && b) ≡ b
-and_both a b e = rw e refl
-
-even : (w : Word) → IsTrue (is_hex_word w) → length w.raw % 2 ≡ 0
-even w h = eqb-true _ _ (and_parts _ _ h).1
-
 joined : (ws : List Word) (w : Word) → IsTrue (is_hex_word w) → hex_octets (digits_in (w ∷ ws)) ≡ joined_octets (hex_octets w.raw) (hex_octets (digits_in ws))
-joined ws w h = hex_octets-append w.raw (digits_in ws) (even w h)
+joined ws w h = grind (arith, hex_octets-append, eqb-true, and_parts)
 
 -- the words are of whole octets where the rest are, and say the octets so far and then what the rest says
 pub record WordsSoFar (ws rest : List Word) (octets : Octets) : Type 0 where
@@ -29,7 +23,7 @@ pub record WordsSoFar (ws rest : List Word) (octets : Octets) : Type 0 where
 
 pub WordsSoFar-more : (ws rest : List Word) (w : Word) (old new : Octets) → WordsSoFar ws (w ∷ rest) old → AppendsWord w old new → WordsSoFar ws rest new
 WordsSoFar-more ws rest w old new so_far (d, said, e) =
-    grind (arith, and_both, joined, joined_octets, append_assoc)
+    grind (arith, joined, joined_octets, append_assoc)
 
 pub WordsSoFar-end : (ws : List Word) (octets : Octets) → WordsSoFar ws [] octets → SaysHex ws octets
 unfolding hex_octets
@@ -38,10 +32,6 @@ WordsSoFar-end ws octets so_far = (so_far.hex, so_far.whole ∙ ap (λ d. Some d
 -- what the rest says stands after the octets so far
 pub rest_says : (ws rest : List Word) (octets d : Octets) → WordsSoFar ws rest octets → SaysHex ws d → (e : Octets) × SaysHex rest e × (d ≡ octets ++ e)
 rest_says ws rest octets d so_far (all, says) = grind arith
-
--- the first word says octets where all of them do
-pub first_says : (w : Word) (ws : List Word) (d : Octets) → SaysHex (w ∷ ws) d → (e : Octets) × SaysHexWord w e
-first_says w ws d (all, says) = grind (arith, joined, and_parts, joined_octets)
 
 -- data as long as a first word says, of the octets of the other words
 pub says_unknown : (w : Word) (ws : List Word) (count : ℕ) (octets : Octets) → IsTrue (not w.is_quoted) → w.raw ≡ decimal count → length octets ≡ count → WordsSoFar ws [] octets → SaysUnknown (w ∷ ws) octets
@@ -65,9 +55,7 @@ past_count w ws rest count octets d so_far number over few said short =
 -- a word that does not say octets
 pub word_refused : (w : Word) (ws rest : List Word) (octets d : Octets) → WordsSoFar ws (w ∷ rest) octets → ((e : Octets) → SaysHexWord w e → ⊥) → SaysHex ws d → ⊥
 word_refused w ws rest octets d so_far none said =
-    let (e, says, split) = rest_says ws (w ∷ rest) octets d so_far said in
-    let (first, says_first) = first_says w rest e says in
-    none first says_first
+    grind (arith, rest_says, joined, and_parts, joined_octets)
 
 -- an error handed on is the same
 pub same_fault : {X E : Type 0} (r : Result X E) (Q : E → Type 0) (f : E) → IsErrAnd r (λ e. e ≡ f) → Q f → IfErr r Q
@@ -75,5 +63,4 @@ same_fault r Q f h h1 = grind arith
 
 -- an unquoted word that is not empty
 pub word_appends : (w : Word) (text old new : Octets) → w.is_quoted ≡ false → text ≡ w.raw → (length text ≡ 0 → ⊥) → AppendsHex text true old new → AppendsWord w old new
-word_appends w text old new unquoted same more (d, says, e) =
-    grind (arith, lt-ltb, even, eq-eqb, even_digits)
+word_appends w text old new unquoted same more (d, says, e) = grind (arith, even_digits)

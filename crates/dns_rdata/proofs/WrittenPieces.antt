@@ -1,35 +1,25 @@
 -- Pieces that are written one after the other, and the rows of the types that have them.
-use Rattle.std.proofs.Common.{◌≡◌, ℕ, ◌+◌, ◌<◌, Bool, true, false, ◌&&◌, ◌==◌, cond, List, [], ◌∷◌, ◌++◌, length, drop, slice_index_or, Option, Some, None, refl, sym, ap, ◌∙◌, arith, add-one}
-use Rattle.dns_spec.proofs.Common.{drop-cons, and_parts, false≢true, none-some, same_Some, is_some, option_map, list_all, find, flat_map, Octets, Piece, Part, cut, piece_front, type_table, row_of, forms_in}
+use Rattle.std.proofs.Common.{◌≡◌, ℕ, ◌+◌, ◌<◌, Bool, true, ◌&&◌, ◌==◌, List, [], ◌∷◌, ◌++◌, length, drop, slice_index_or, Option, Some, None, refl, sym, ap, ◌∙◌, arith, add-one}
+use Rattle.dns_spec.proofs.Common.{drop-cons, and_parts, false≢true, none-some, same_Some, is_some, option_map, list_all, find, flat_map, Octets, Piece, cut, piece_front, type_table, row_of, forms_in}
 use Rattle.dns_spec.specs.Data as Data
 use Rattle.dns_spec.specs.WrittenText.{words_by, unknown_words, string_count, data_text}
 use Rattle.dns_rdata.specs.declared.table.Piece as code
 use Rattle.dns_rdata.specs.TypeRows.{piece_of, pieces_in}
 use Rattle.dns_rdata.specs.Parts.{AreCut}
-use Rattle.dns_rdata.specs.WrittenForm.{spaced, piece_forms, piece_words, piece_rest, pieces_words, has_words, have_words}
+use Rattle.dns_rdata.specs.WrittenForm.{spaced, piece_words, piece_rest, pieces_words, has_words, have_words}
 use Rattle.dns_rdata.proofs.PartLemmas.{cut_none, more_are_cut}
 use Rattle.dns_rdata.proofs.SpacedWords.{space, joined_words, spaced-forms, some_forms, after_piece, is_single, words_of_pieces}
 
 module _ (p : Piece) (ps : List Piece) (d : Octets) (are_cut : is_some (cut (p ∷ ps) d) ≡ true) where
   piece_there : is_some (piece_front p d) ≡ true
-  piece_there = go (piece_front p d) refl
-    where
-      go : (y : Option (Part × Octets)) → piece_front p d ≡ y → is_some y ≡ true
-      go None e = absurd (false≢true (sym (ap is_some (cut_none p ps d e)) ∙ are_cut))
-      go (Some x) e = refl
+  piece_there = grind (arith, false≢true, cut_none)
 
   more_pieces : has_words p ≡ true → is_some (cut ps (piece_rest p d)) ≡ true
-  more_pieces words = go (piece_front p d) refl
-    where
-      go : (y : Option (Part × Octets)) → piece_front p d ≡ y → is_some (cut ps (piece_rest p d)) ≡ true
-      go None e = absurd (false≢true (sym (ap is_some (cut_none p ps d e)) ∙ are_cut))
-      go (Some (part, rest)) e =
-          ap (λ r. is_some (cut ps r)) (after_piece p d part rest words e) ∙ sym (more_are_cut p ps d part rest e) ∙ are_cut
+  more_pieces words = grind (arith, false≢true, cut_none, after_piece, more_are_cut)
 
 spaced-pieces : (before : Octets) (p : Piece) (ps : List Piece) (d : Octets) → has_words p ≡ true
     → spaced before (pieces_words (p ∷ ps) d) ≡ spaced before (piece_words p d) ++ spaced space (pieces_words ps (piece_rest p d))
-spaced-pieces before p ps d words =
-    spaced-forms before (piece_forms p d) d (pieces_words ps (piece_rest p d)) (some_forms (string_count 0 d) p words)
+spaced-pieces before p ps d words = grind (arith, spaced-forms, some_forms)
 
 -- pieces from place i on: the one there, and those after it
 module _ (pieces : List code.Piece) (i : ℕ) (d : code.Piece) (inside : i < length pieces) (octets : Octets) where
@@ -37,24 +27,19 @@ module _ (pieces : List code.Piece) (i : ℕ) (d : code.Piece) (inside : i < len
   split = ap pieces_in (drop-cons pieces i d inside ∙ ap (λ k. slice_index_or pieces i d ∷ drop k pieces) (sym (add-one i)))
 
   words_there : have_words (pieces_in (drop i pieces)) ≡ true → (has_words (piece_of (slice_index_or pieces i d)) ≡ true) × (have_words (pieces_in (drop (i + 1) pieces)) ≡ true)
-  words_there h =
-      and_parts (has_words (piece_of (slice_index_or pieces i d))) (have_words (pieces_in (drop (i + 1) pieces))) (ap have_words (sym split) ∙ h)
+  words_there h = grind (arith, and_parts, slice_index_or, split)
 
   pub there-at : AreCut (drop i pieces) octets → is_some (piece_front (piece_of (slice_index_or pieces i d)) octets) ≡ true
-  there-at h =
-      piece_there (piece_of (slice_index_or pieces i d)) (pieces_in (drop (i + 1) pieces)) octets (ap (λ ps. is_some (cut ps octets)) (sym split) ∙ h)
+  there-at h = grind (arith, piece_there, slice_index_or, split)
 
   pub more-at : have_words (pieces_in (drop i pieces)) ≡ true → AreCut (drop i pieces) octets → AreCut (drop (i + 1) pieces) (piece_rest (piece_of (slice_index_or pieces i d)) octets)
-  more-at words h =
-      more_pieces (piece_of (slice_index_or pieces i d)) (pieces_in (drop (i + 1) pieces)) octets (ap (λ ps. is_some (cut ps octets)) (sym split) ∙ h) (words_there words).0
+  more-at words h = grind (arith, more_pieces, slice_index_or, split, words_there)
 
   pub spaced-at : (before : Octets) → have_words (pieces_in (drop i pieces)) ≡ true
       → spaced before (pieces_words (pieces_in (drop i pieces)) octets)
       ≡ spaced before (piece_words (piece_of (slice_index_or pieces i d)) octets)
       ++ spaced space (pieces_words (pieces_in (drop (i + 1) pieces)) (piece_rest (piece_of (slice_index_or pieces i d)) octets))
-  spaced-at before words =
-      ap (λ ps. spaced before (pieces_words ps octets)) split
-      ∙ spaced-pieces before (piece_of (slice_index_or pieces i d)) (pieces_in (drop (i + 1) pieces)) octets (words_there words).0
+  spaced-at before words = grind (arith, split, spaced-pieces, slice_index_or, words_there)
 
 pub words-after : (pieces : List code.Piece) (i : ℕ) → i < length pieces → have_words (pieces_in (drop i pieces)) ≡ true → have_words (pieces_in (drop (i + 1) pieces)) ≡ true
 words-after [] i inside h = absurd (omega (arith, inside))
@@ -67,12 +52,12 @@ is_written row = have_words row.pieces && list_all is_single (drop 1 row.pieces)
 found_passes : {X : Type 0} (wanted passes : X → Bool) (xs : List X) (x : X) → list_all passes xs ≡ true → Some x ≡ find wanted xs → passes x ≡ true
 found_passes wanted passes [] x h e = absurd (none-some x (sym e))
 found_passes wanted passes (y ∷ ys) x h e =
-    let tests = and_parts (passes y) (list_all passes ys) h in
-    go (wanted y) tests.0 (found_passes wanted passes ys x tests.1) e
-  where
-    go : (b : Bool) → passes y ≡ true → (Some x ≡ find wanted ys → passes x ≡ true) → Some x ≡ cond b (Some y) (find wanted ys) → passes x ≡ true
-    go true here later f = ap passes (same_Some x y f) ∙ here
-    go false here later f = later f
+    grind (
+      arith,
+      and_parts,
+      (found_passes wanted passes ys x (and_parts (passes y) (list_all passes ys) h).1),
+      same_Some,
+    )
 
 rows_are_written : list_all is_written type_table ≡ true
 unfolding is_written
@@ -93,6 +78,4 @@ module _ (t : ℕ) (row : Data.TypeRow) (found : Some row ≡ row_of t) where
 -- the text of data of a type without a mnemonic
 pub other_text : (t : ℕ) (d : Octets) → None ≡ row_of t → spaced [] (unknown_words d) ≡ data_text t d
 unfolding data_text
-other_text t d none =
-    ap (λ (r : Option Data.TypeRow). spaced [] (words_by (option_map (λ (x : Data.TypeRow). flat_map (forms_in (string_count 0 d)) x.pieces) r) d)) none
-    ∙ sym (joined_words (words_by (option_map (λ (x : Data.TypeRow). flat_map (forms_in (string_count 0 d)) x.pieces) (row_of t)) d))
+other_text t d none = grind (arith, joined_words)

@@ -1,7 +1,6 @@
-use Rattle.std.proofs.Common.{◌++◌, [], rules, arith, ap, refl}
+use Rattle.std.proofs.Common.{rules, arith}
 use Rattle.dns_name.proofs.Results.{OnErr-always}
 use Rattle.dns_name.proofs.WritesLemmas.{Fills-same, held_more, held_less, held_begun}
-use Rattle.std.proofs.KnownBytes.{Appends-nil}
 use Rattle.dns_rdata.proofs.WrittenPieces.{row_text, other_text, there-at, more-at, words-after, spaced-at}
 use Rattle.dns_rdata.proofs.rdata.Rdata.put_text.Goals as goal
 
@@ -42,10 +41,4 @@ pub returns-in_default : goal.returns-in_default
 returns-in_default g c = grind (arith, Fills-same, other_text)
 
 pub pieces-init : goal.pieces-init
-pieces-init g c = record {
-  cut = search rules;
-  words = search rules;
-  short = search rules;
-  fills = record { done = []; appended = Appends-nil _; whole_is = ap (λ w. c.args.text.now ++ w) (row_text _ _ c.in-Some.ensures _) };
-  counted = refl;
-}
+pieces-init g c = search (rules, row_text)
