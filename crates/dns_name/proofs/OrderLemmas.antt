@@ -1,5 +1,5 @@
 -- The order of names, whose labels are compared from the right, goes label by label from the left.
-use Rattle.dns_spec.proofs.Common.{◌≡◌, ℕ, zero, suc, ◌+◌, ◌-◌, ◌<◌, ◌≤◌, ◌⊎◌, min, inl, inr, List, [], ◌∷◌, ◌++◌, length, take, drop, reverse, Option, None, Some, Ordering, Less, Equal, Greater, refl, sym, ◌∙◌, ap, arith, cases_order, nat_cmp_is, slice_cmp, Octets, DomainName, last_labels, label_order}
+use Rattle.dns_spec.proofs.Common.{◌≡◌, ℕ, zero, suc, ◌+◌, ◌-◌, ◌<◌, ◌≤◌, ◌⊎◌, min, inl, inr, List, [], ◌∷◌, ◌++◌, length, take, drop, reverse, Option, Ordering, Less, Equal, Greater, refl, sym, ◌∙◌, ap, arith, cases_order, nat_cmp_is, slice_cmp, Octets, DomainName, last_labels, label_order}
 use Rattle.std.proofs.lemmas.List.{reverse-append, length-reverse, length-take, length-drop, take-append-drop}
 use Rattle.std.specs.Iterator.{YieldsFirst}
 use Rattle.std.specs.Ordering.{ordering_then, nat_cmp}
@@ -11,11 +11,7 @@ drop-one (suc k) (l ∷ n) = drop-one k n
 
 -- one label more is skipped
 pub drop-next : (s t n : DomainName) (r : Option Octets) (k : ℕ) → s ≡ drop k n → YieldsFirst (λ x. x) s r t → t ≡ drop (k + 1) n
-drop-next s t n r k e h = by_result r h ∙ ap (drop 1) e ∙ drop-one k n ∙ ap (λ j. drop j n) {x = suc k} {y = k + 1} (omega arith)
-  where
-    by_result : (r : Option Octets) → YieldsFirst (λ x. x) s r t → t ≡ drop 1 s
-    by_result None h = h.1 ∙ ap (drop 1) (sym h.0)
-    by_result (Some l) h = ap (drop 1) (sym h)
+drop-next s t n r k e h = grind (arith, drop-one)
 
 then_assoc : (a b c : Ordering) → ordering_then (ordering_then a b) c ≡ ordering_then a (ordering_then b c)
 then_assoc Less b c = refl
@@ -34,8 +30,7 @@ module _ {A : Type 0} (R : A → A → Ordering) where
   slice_cmp-append [] (y ∷ ys) us vs e = absurd (omega arith)
   slice_cmp-append (x ∷ xs) [] us vs e = absurd (omega arith)
   slice_cmp-append (x ∷ xs) (y ∷ ys) us vs e =
-      ap (ordering_then (R x y)) (slice_cmp-append xs ys us vs (omega arith))
-      ∙ sym (then_assoc (R x y) (slice_cmp R xs ys) (slice_cmp R us vs))
+      grind (arith, (slice_cmp-append xs ys us vs (omega arith)), then_assoc)
 
   -- the first of both lists is compared last
   pub slice_cmp-reverse-cons : (x y : A) (xs ys : List A) (o : Ordering) → length xs ≡ length ys
@@ -83,20 +78,13 @@ order_of_last n m k p q shorter =
 -- a label more of both names: the labels so far give way to these, which stand further to the right
 pub order_next : (n n' m m' : DomainName) (l k : Octets) (order next : Ordering) → n ≡ l ∷ n' → m ≡ k ∷ m' → length n ≡ length m → next ≡ ordering_then (label_order l k) order
     → (length n' ≡ length m') × (ordering_then (slice_cmp label_order (reverse n') (reverse m')) next ≡ ordering_then (slice_cmp label_order (reverse n) (reverse m)) order)
-order_next n n' m m' l k order next e f long g =
-    let as_long : length n' ≡ length m' = omega (arith, ap length e, ap length f) in
-    (as_long, rw (g, e, f) (slice_cmp-reverse-cons label_order l k n' m' order as_long))
+order_next n n' m m' l k order next e f long g = grind (arith, slice_cmp-reverse-cons)
 
 pub order_is : (n m left right : DomainName) (k a b : ℕ) (longer result : Ordering) → a ≡ length n → b ≡ length m → k ≡ min a b
     → left ≡ last_labels k n → right ≡ last_labels k m → longer ≡ nat_cmp a b
     → result ≡ ordering_then (slice_cmp label_order (reverse left) (reverse right)) longer → result ≡ slice_cmp label_order (reverse n) (reverse m)
 order_is n m left right k a b longer result p q shared e f g h =
-    let shorter : (length n ≡ k) ⊎ (length m ≡ k) = elim (cases_order a b) [
-      | inl same ↦ inl (omega arith)
-      | inr (inl less) ↦ inl (omega arith)
-      | inr (inr more) ↦ inr (omega arith)
-    ] in
-    h ∙ rw (g, e, f, p, q) (order_of_last n m k (omega arith) (omega arith) shorter)
+    grind (arith, cases_order, order_of_last)
 
 cmp_self : {A : Type 0} (R : A → A → Ordering) → ((x : A) → R x x ≡ Equal) → (xs : List A) → slice_cmp R xs xs ≡ Equal
 cmp_self R h [] = refl
@@ -104,9 +92,7 @@ cmp_self R h (x ∷ xs) = rw (h x) (cmp_self R h xs)
 
 -- where the labels that are left are the same, those so far decide
 pub order_stays : (n m : DomainName) (order : Ordering) → n ≡ m → ordering_then (slice_cmp label_order (reverse n) (reverse m)) order ≡ order
-order_stays n m order e =
-    let same : slice_cmp label_order (reverse n) (reverse n) ≡ Equal = cmp_self label_order (cmp_self nat_cmp (λ x. sym (nat_cmp_is x x Equal refl))) (reverse n) in
-    rw (sym e, same) refl
+order_stays n m order e = grind (arith, cmp_self)
 
 -- names below one name
 pub order_of_first : (n n' m m' : DomainName) (l k : Octets) (result : Ordering) → n ≡ l ∷ n' → m ≡ k ∷ m' → n' ≡ m' → result ≡ label_order l k

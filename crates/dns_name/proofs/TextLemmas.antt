@@ -10,27 +10,17 @@ use Rattle.dns_name.specs.TextForm.{digit_at, decimal_at, escaped_at, octet_at, 
 abbrev pub OctetThen : Octets → ℕ → Octets → Type 0
 OctetThen text x others = (first : Octets) × (text ≡ first ++ others) × SpellsOctet first x
 
-is_digit : (a : ℕ) → IsAsciiDigit a → is_ascii_digit a ≡ true
-is_digit a h = and_from _ _ (le-leb _ _ h.0) (le-leb _ _ h.1)
-
 no_digit : (a : ℕ) → IsNotAsciiDigit a → is_ascii_digit a ≡ false
 no_digit a h = grind (arith, and_left, lt-leb, and_right)
-
-digit_from : (a : ℕ) → is_ascii_digit a ≡ true → IsAsciiDigit a
-digit_from a h = grind (arith, and_parts, leb-true)
 
 no_digit_from : (a : ℕ) → is_ascii_digit a ≡ false → IsNotAsciiDigit a
 no_digit_from a h = elim (and_cases (nat_le 48 a) _ h) [ inl low ↦ inl (leb-false _ _ low) | inr high ↦ inr (leb-false _ _ high) ]
 
-decimal_here : (a b c x : ℕ) (rest : Octets) → IsAsciiDigit a → IsAsciiDigit b → IsAsciiDigit c → three_digits_value a b c ≡ x → x < 256 → decimal_at (a ∷ b ∷ c ∷ rest) ≡ Some (x, rest)
-unfolding decimal_at
-decimal_here a b c x rest p q r e h = grind (arith, lt-ltb, is_digit)
-
 -- a spelling is read, whatever stands after it
 octet_at-spelled : (first : Octets) (x : ℕ) (others : Octets) → SpellsOctet first x → octet_at (first ++ others) ≡ Some (x, others)
-unfolding octet_at escaped_at
+unfolding octet_at escaped_at decimal_at
 octet_at-spelled first x others h =
-    grind (arith, ne_eqb, and_from, le-leb, eq-eqb, no_digit, is_digit, decimal_here)
+    grind (arith, ne_eqb, and_from, le-leb, eq-eqb, no_digit, lt-ltb)
 
 pub octet_at-OctetThen : (text : Octets) (x : ℕ) (others : Octets) → OctetThen text x others → octet_at text ≡ Some (x, others)
 octet_at-OctetThen text x others (first, e, h) = ap octet_at e ∙ octet_at-spelled first x others h
@@ -39,20 +29,15 @@ and_then_some : {A B : Type 0} (f : A → Option B) (o : Option A) (y : B) → o
 and_then_some f None y e = cc
 and_then_some f (Some x) y e = (x, refl, e)
 
-some_inner : {A : Type 0} (x y : A) → Some x ≡ Some y → x ≡ y
-some_inner x y e = cc
-
 some_parts : (v w : ℕ × Octets) → Some v ≡ Some w → (v.0 ≡ w.0) × (v.1 ≡ w.1)
-some_parts v w e = grind (arith, some_inner)
+some_parts v w e = grind arith
 
 if_some : {A : Type 0} (t : Bool) (x y : A) → (if t then Some x else None) ≡ Some y → (t ≡ true) × (x ≡ y)
 if_some t x y h = grind arith
 
 digit_read : (text : Octets) (v : ℕ × Octets) → digit_at text ≡ Some v → (a : ℕ) × (text ≡ a ∷ v.1) × IsAsciiDigit a × (v.0 ≡ a - 48)
 digit_read [] v e = cc
-digit_read (a ∷ rest) v e =
-    let read = if_some (is_ascii_digit a) _ _ e in
-    (a, ap (λ w. a ∷ w.1) read.1, digit_from a read.0, ap (λ w. w.0) (sym read.1))
+digit_read (a ∷ rest) v e = grind (arith, if_some, and_parts, leb-true)
 
 decimal_read : (text : Octets) (x : ℕ) (others : Octets) → decimal_at text ≡ Some (x, others) → OctetThen (92 ∷ text) x others
 unfolding decimal_at
@@ -142,8 +127,7 @@ LabelThen-at text l rest text' e h = let P : Octets → Type 0 = λ t. LabelThen
 -- where a label is read so far, each label that the text spells goes on from there
 pub LabelThen-rest : (text l rest l' rest' : Octets) → LabelThen text l rest → LabelThen text l' rest' → is_label_end rest' ≡ true → (m : Octets) × (l' ≡ l ++ m) × LabelThen rest m rest'
 LabelThen-rest text [] rest l' rest' e h end = (l', refl, LabelThen-at text l' rest' rest e h)
-LabelThen-rest text (x ∷ l) rest [] rest' (first, after, f, p, h) e end =
-    absurd (true≢false (sym end ∙ ap is_label_end (sym e) ∙ OctetThen-goes_on text x after (first, f, p)))
+LabelThen-rest text (x ∷ l) rest [] rest' (first, after, f, p, h) e end = grind (arith, true≢false)
 LabelThen-rest text (x ∷ l) rest (y ∷ l') rest' (first, after, f, p, h) (first', after', f', p', h') end =
     let one : octet_at text ≡ Some (x, after) = octet_at-OctetThen text x after (first, f, p) in
     let two : octet_at text ≡ Some (y, after') = octet_at-OctetThen text y after' (first', f', p') in
@@ -300,14 +284,7 @@ label_kept text octets end reads is_l =
 
 pub PushesLabel-label : (text octets end l : Octets) (old : DomainName) (fits : Bool) (new : DomainName) → ReadsLabel text octets end → is_label_end end ≡ true → is_label octets ≡ true → l ≡ octets → Appended old (l ∷ []) fits new → PushesLabel text old fits end new
 PushesLabel-label text octets end l old fits new reads at_end is_l e appended =
-    let P : Octets → Type 0 = λ k. Appended old (k ∷ []) fits new in
-    record {
-      label = octets;
-      spelled = label_kept text octets end reads is_l;
-      at_end = at_end;
-      is_label = is_l;
-      appended = subst P e appended;
-    }
+    grind (arith, label_kept)
 
 -- a label that is spelled is the only one that the text begins with
 pub label_alone : (text octets end : Octets) → LabelThen text octets end → is_label_end end ≡ true → (is_label octets ≡ true → ⊥) → HasNoLabel text
@@ -319,12 +296,8 @@ abbrev pub Holds : DomainName → Bool → DomainName → Type 0
 Holds read fits name = MatchBool fits ((name ≡ read) × (is_name read ≡ true)) (255 < length (wire read))
 
 pub Holds-append : (read : DomainName) (fits : Bool) (name labels : DomainName) (more : Bool) (new : DomainName) → Holds read fits name → Appended name labels more new → Holds (read ++ labels) (fits && more) new
-Holds-append read true name labels true new (e, ok) (f, ok') =
-    let whole : new ≡ read ++ labels = f ∙ ap (λ n. n ++ labels) e in
-    (whole, ap is_name (sym whole) ∙ ok')
-Holds-append read true name labels false new (e, ok) over =
-    let P : DomainName → Type 0 = λ n. 255 < length (wire (n ++ labels)) in
-    subst P e over
+Holds-append read true name labels true new (e, ok) (f, ok') = grind arith
+Holds-append read true name labels false new (e, ok) over = grind arith
 Holds-append read false name labels more new over h =
     omega (arith, length-wire-append read labels, some_octet labels)
   where
@@ -378,23 +351,13 @@ LabelThen-shorter text (x ∷ l) rest (first, after, e, p, h) =
 pub PushesLabel-shorter : (text : Octets) (old : DomainName) (fits : Bool) (end : Octets) (new : DomainName) (dot : ℕ) (others : Octets) → PushesLabel text old fits end new → end ≡ dot ∷ others → length others < length text
 PushesLabel-shorter text old fits end new dot others pushes e = grind (arith, LabelThen-shorter)
 
-only_item : (a b : ℕ) → a ∷ [] ≡ b ∷ [] → a ≡ b
-only_item a b e = cc
-
-dot_or_at : (w : Octets) → w ≡ 46 ∷ [] → w ≡ 64 ∷ [] → ⊥
-dot_or_at w h k = absurd (omega (arith, only_item 46 64 (sym h ∙ k)))
-
-empty_or_dot : (word : Octets) → word ≡ [] → word ≡ 46 ∷ [] → ⊥
-empty_or_dot word h e = cc
-
 -- only the empty label stands at a label's end
 LabelThen-at_end : (text l rest : Octets) → is_label_end text ≡ true → LabelThen text l rest → l ≡ []
 LabelThen-at_end text [] rest e h = refl
-LabelThen-at_end text (x ∷ l) rest e (first, after, f, p, h) =
-    absurd (true≢false (sym e ∙ OctetThen-goes_on text x after (first, f, p)))
+LabelThen-at_end text (x ∷ l) rest e (first, after, f, p, h) = grind (arith, true≢false)
 
 dot_spells_none : (origin : DomainName) (word : Octets) (n : DomainName) → word ≡ 46 ∷ [] → is_name n ≡ true → TextSpells origin word n → ⊥
-dot_spells_none origin word [] e ok h = absurd (empty_or_dot word h e)
+dot_spells_none origin word [] e ok h = grind arith
 dot_spells_none origin word (l ∷ n) e ok (inl (h, k)) =
     no_empty_label (ap is_label (sym (LabelThen-at_end word l [] (ap is_label_end e) h)) ∙ is_label-head l n ok)
 dot_spells_none origin word (l ∷ n) e ok (inr (others, h, k)) =
@@ -402,7 +365,7 @@ dot_spells_none origin word (l ∷ n) e ok (inr (others, h, k)) =
 
 -- a dot alone spells the root alone
 pub dot_spells_root : (origin : DomainName) (word : Octets) (n : DomainName) → word ≡ 46 ∷ [] → SpellsName origin word n → n ≡ []
-dot_spells_root origin word n f h = grind (arith, dot_or_at, dot_spells_none)
+dot_spells_root origin word n f h = grind (arith, dot_spells_none)
 
 -- what is told of a name in its place, where it fits and where it does not
 pub spelled_as-fits : {A E : Type 0} (name : DomainName) (fits : Bool) (done : A) (fault : E) (r : Result A E) → r ≡ (if fits then Ok done else Err fault) → spelled_as r name ≡ (if fits then Ok name else Err fault)

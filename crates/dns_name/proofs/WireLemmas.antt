@@ -15,20 +15,14 @@ labels_up_to-wire ((x ∷ l) ∷ n) (suc most) ok fits =
     rw (take_at (x ∷ l) (wire n) (length (x ∷ l)) refl, drop_at (x ∷ l) (wire n) (length (x ∷ l)) refl)
     (ap (λ m. (x ∷ l) ∷ m) (labels_up_to-wire n most parts.1 shorter))
 
--- a name's wire form spells its labels
-pub labels_of-wire : (n : DomainName) → is_name n ≡ true → labels_of (wire n) ≡ n
-unfolding labels_of
-labels_of-wire n ok = labels_up_to-wire n _ (IsName-is_name n ok).labels (omega arith)
-
 -- octets that are a name's wire form spell its labels
 pub labels_of_spelled : (xs : Octets) (n : DomainName) → xs ≡ wire n → is_name n ≡ true → labels_of xs ≡ n
-labels_of_spelled xs n e ok = ap labels_of e ∙ labels_of-wire n ok
+unfolding labels_of
+labels_of_spelled xs n e ok = grind (arith, labels_up_to-wire)
 
 -- and are a wire form
 pub IsWireForm-wire : (xs : Octets) (n : DomainName) → xs ≡ wire n → is_name n ≡ true → IsWireForm xs
-IsWireForm-wire xs n e ok =
-    let spelled : labels_of xs ≡ n = labels_of_spelled xs n e ok in
-    record { wire_is = ap wire spelled ∙ sym e; is_name = ap is_name spelled ∙ ok }
+IsWireForm-wire xs n e ok = grind (arith, labels_of_spelled)
 
 -- octets xs are a first label's length x and ys: its octets, and the wire form after it
 pub record BeginsWithLabel (xs : Octets) (x : ℕ) (ys : Octets) : Type 0 where

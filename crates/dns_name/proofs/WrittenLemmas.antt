@@ -16,14 +16,11 @@ pub other_text : (x : ℕ) → is_special x ≡ false → is_ascii_graphic x ≡
 unfolding octet_text
 other_text x plain other = rw (plain, other) refl
 
--- at most four octets are written for one
-pub length-octet_text : (x : ℕ) → length (octet_text x) ≤ 4
-unfolding octet_text
-length-octet_text x = grind arith
-
+-- at most four octets are written for one of a label
 pub length-label_text : (l : Octets) → length (label_text l) ≤ 4 * length l
+unfolding octet_text
 length-label_text [] = omega arith
-length-label_text (x ∷ l) = omega (arith, length-octet_text x, length-label_text l, length-append (octet_text x) (label_text l))
+length-label_text (x ∷ l) = grind (arith, (length-label_text l), length-append)
 
 -- after `before` the labels `rest` are still to come
 pub record NameSoFar (before : Octets) (n : DomainName) (text : Octets) (rest : DomainName) : Type 0 where

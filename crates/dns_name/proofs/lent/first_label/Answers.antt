@@ -1,10 +1,6 @@
-use Rattle.dns_spec.proofs.Common.{◌≡◌, ℕ, ◌∷◌, take, drop, arith, false≢true, Octets}
-use Rattle.dns_name.specs.WireForm.{labels_of, IsWireForm}
-use Rattle.dns_name.proofs.WireLemmas.{BeginsWithLabel, BeginsWithLabel-IsWireForm, labels_of-zero, IsWireForm-nil}
+use Rattle.dns_spec.proofs.Common.{arith, false≢true}
+use Rattle.dns_name.proofs.WireLemmas.{BeginsWithLabel-IsWireForm, labels_of-zero, IsWireForm-nil}
 use Rattle.dns_name.proofs.lent.first_label.Goals as goal
-
-split_there : (xs : Octets) (x : ℕ) (ys label rest : Octets) → BeginsWithLabel xs x ys → label ≡ take x ys → rest ≡ drop x ys → (labels_of xs ≡ label ∷ labels_of rest) × IsWireForm rest
-split_there xs x ys label rest first e f = (rw (e, f) first.labels, rw f first.rest)
 
 pub returns-in_err-length : goal.returns-in_err-length
 returns-in_err-length c = absurd (IsWireForm-nil _ c.requires c.in_err-length.ensures.cases)
@@ -20,4 +16,4 @@ pub returns-in_err-new : goal.returns-in_err-new
 returns-in_err-new c = grind (arith, BeginsWithLabel-IsWireForm, false≢true)
 
 pub returns : goal.returns
-returns c = grind (arith, BeginsWithLabel-IsWireForm, split_there)
+returns c = grind (arith, BeginsWithLabel-IsWireForm)

@@ -1,4 +1,4 @@
-use Rattle.std.proofs.Common.{rules, arith}
+use Rattle.std.proofs.Common.{arith}
 use Rattle.dns_spec.specs.NameText.{LabelThen}
 use Rattle.dns_name.proofs.Results.{OnErr-always}
 use Rattle.dns_name.proofs.TextLemmas.{up_to_mark, label_alone, label_read_alone, PushesLabel-label}
@@ -10,9 +10,7 @@ returns-in_err-push_octets-clause-err c =
     grind (arith, OnErr-always, label_alone, plain)
 
 pub returns-then-at_label_end-clause-ok : goal.returns-then-at_label_end-clause-ok
-returns-then-at_label_end-clause-ok c =
-    let plain : LabelThen c.args.text.now c.split_at.result.0.now c.split_at.result.1.now = grind (arith, up_to_mark) in
-    search (rules, plain)
+returns-then-at_label_end-clause-ok c = grind (arith, up_to_mark)
 
 pub returns-in_err-push_octets-2-clause-err : goal.returns-in_err-push_octets-2-clause-err
 returns-in_err-push_octets-2-clause-err c = grind (arith, OnErr-always, label_read_alone)

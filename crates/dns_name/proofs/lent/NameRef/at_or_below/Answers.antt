@@ -1,4 +1,4 @@
-use Rattle.dns_spec.proofs.Common.{◌≡◌, ◌≤◌, ◌<◌, ◌∷◌, length, ap, sym, ◌∙◌, arith, Octets, DomainName, wire, same, at_or_below}
+use Rattle.dns_spec.proofs.Common.{◌≡◌, ◌≤◌, length, ap, sym, ◌∙◌, arith, Octets, DomainName, wire, same, at_or_below}
 use Rattle.dns_spec.proofs.DomainNames.NameLaws.{at_or_below-short, at_or_below-long}
 use Rattle.dns_name.specs.WireForm.{labels_of, IsWireForm}
 use Rattle.dns_name.proofs.WireLemmas.{IsWireForm-wire, labels_of_spelled, same_from_octets}
@@ -7,12 +7,8 @@ use Rattle.dns_name.proofs.lent.NameRef.at_or_below.Goals as goal
 pub labels-init : goal.labels-init
 labels-init c = grind (arith, IsWireForm-wire, labels_of_spelled)
 
--- a suffix that is longer than the name sought goes on after its first label
-one_on : (xs ys : Octets) (l : Octets) (n a : DomainName) → IsWireForm xs → labels_of xs ≡ l ∷ n → ys ≡ wire a → length ys < length xs → at_or_below n a ≡ at_or_below (labels_of xs) a
-one_on xs ys l n a form e f longer = grind (arith, at_or_below-long)
-
 pub labels-preserved : goal.labels-preserved
-labels-preserved c = grind (arith, one_on)
+labels-preserved c = grind (arith, at_or_below-long)
 
 -- a suffix that is no longer decides
 decides : (xs ys : Octets) (a : DomainName) → IsWireForm xs → ys ≡ wire a → length xs ≤ length ys → at_or_below (labels_of xs) a ≡ same (labels_of xs) a

@@ -11,14 +11,11 @@ record Pushes (n : DomainName) (l xs ys zs : Octets) : Type 0 where
   front : ys ≡ take (length xs - 1) xs
   back : zs ≡ ((ys ++ length l ∷ []) ++ l) ++ 0 ∷ []
 
-wire_is : {n : DomainName} {xs : Octets} → IsWireForm xs → labels_of xs ≡ n → wire n ≡ xs
-wire_is form e = ap wire (sym e) ∙ form.wire_is
-
 length_more : (n : DomainName) (xs l : Octets) → IsWireForm xs → labels_of xs ≡ n → length (wire (n ++ l ∷ [])) ≡ length xs + 1 + length l
-length_more n xs l form e = omega (arith, ap length (wire_is form e), length-wire-push n l)
+length_more n xs l form e = grind (arith, length-wire-push n l)
 
 spells : (n : DomainName) (l xs ys zs : Octets) → Pushes n l xs ys zs → zs ≡ wire (n ++ l ∷ [])
-spells n l xs ys zs p = grind (arith, wire-push, wire_is)
+spells n l xs ys zs p = grind (arith, wire-push)
 
 stays_name : (n : DomainName) (l xs ys zs : Octets) → Pushes n l xs ys zs → is_label l ≡ true → length xs + 1 + length l ≤ 255 → is_name (n ++ l ∷ []) ≡ true
 stays_name n l xs ys zs p is_l fits = grind (arith, is_name-push, length_more)
