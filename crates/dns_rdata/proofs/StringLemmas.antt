@@ -130,9 +130,5 @@ plain_string text none = StringSoFar-iff text text [] (plain_read text [] text (
 pub plain_text : (s : Octets) → list_all is_plain s ≡ true → flat_map string_octet_text s ≡ s
 plain_text [] e = refl
 plain_text (o ∷ s) e =
-    grind (
-      arith,
-      and_parts,
-      not-true,
-      (plain_text s (and_parts (is_plain o) (list_all is_plain s) e).1),
-    )
+    let rest = plain_text s (and_parts (is_plain o) (list_all is_plain s) e).1 in
+    grind (arith, and_parts, not-true, rest)

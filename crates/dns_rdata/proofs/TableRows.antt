@@ -15,9 +15,5 @@ found_row v f test xs table r e same = grind (arith, find-map)
 pub found_passes : {A : Type 0} (p q : A → Bool) (xs : List A) (x : A) → list_all q xs ≡ true → find p xs ≡ Some x → q x ≡ true
 found_passes p q [] x all e = absurd (none-some x e)
 found_passes p q (y ∷ ys) x all e =
-    grind (
-      arith,
-      and_parts,
-      (found_passes p q ys x (and_parts (q y) (list_all q ys) all).1),
-      same_Some,
-    )
+    let rest = found_passes p q ys x (and_parts (q y) (list_all q ys) all).1 in
+    grind (arith, and_parts, rest, same_Some)

@@ -9,13 +9,8 @@ digits_unlowered [] [] e h = refl
 digits_unlowered [] (d ∷ ds) e h = cc
 digits_unlowered (c ∷ cs) [] e h = cc
 digits_unlowered (c ∷ cs) (d ∷ ds) e h =
-    grind (
-      arith,
-      digit_from_value,
-      false≢true,
-      lt-ltb,
-      (digits_unlowered cs ds (ap (drop 1) e) h.1),
-    )
+    let rest = digits_unlowered cs ds (ap (drop 1) e) h.1 in
+    grind (arith, digit_from_value, false≢true, lt-ltb, rest)
 
 -- digits after `TYPE` are those of its number
 pub type_digits : (word digits : Octets) (t : ℕ) → drop 4 word ≡ digits → t < 65536 → text_in_lower_case word ≡ text_in_lower_case (numbered_type t) → digits ≡ decimal t

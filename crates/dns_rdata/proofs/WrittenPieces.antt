@@ -1,12 +1,13 @@
 -- Pieces that are written one after the other, and the rows of the types that have them.
 use Rattle.std.proofs.Common.{◌≡◌, ℕ, ◌+◌, ◌<◌, Bool, true, ◌&&◌, ◌==◌, List, [], ◌∷◌, ◌++◌, length, drop, slice_index_or, Option, Some, None, refl, sym, ap, ◌∙◌, arith, add-one}
-use Rattle.dns_spec.proofs.Common.{drop-cons, and_parts, false≢true, none-some, same_Some, is_some, option_map, list_all, find, flat_map, Octets, Piece, cut, piece_front, type_table, row_of, forms_in}
+use Rattle.dns_spec.proofs.Common.{drop-cons, and_parts, false≢true, is_some, option_map, list_all, flat_map, Octets, Piece, cut, piece_front, type_table, row_of, forms_in}
 use Rattle.dns_spec.specs.Data as Data
 use Rattle.dns_spec.specs.WrittenText.{words_by, unknown_words, string_count, data_text}
 use Rattle.dns_rdata.specs.declared.table.Piece as code
 use Rattle.dns_rdata.specs.TypeRows.{piece_of, pieces_in}
 use Rattle.dns_rdata.specs.Parts.{AreCut}
 use Rattle.dns_rdata.specs.WrittenForm.{spaced, piece_words, piece_rest, pieces_words, has_words, have_words}
+use Rattle.dns_rdata.proofs.TableRows.{found_passes}
 use Rattle.dns_rdata.proofs.PartLemmas.{cut_none, more_are_cut}
 use Rattle.dns_rdata.proofs.SpacedWords.{space, joined_words, spaced-forms, some_forms, after_piece, is_single, words_of_pieces}
 
@@ -49,16 +50,6 @@ words-after (p ∷ ps) i inside h = (words_there (p ∷ ps) i p inside [] h).1
 is_written : Data.TypeRow → Bool
 is_written row = have_words row.pieces && list_all is_single (drop 1 row.pieces)
 
-found_passes : {X : Type 0} (wanted passes : X → Bool) (xs : List X) (x : X) → list_all passes xs ≡ true → Some x ≡ find wanted xs → passes x ≡ true
-found_passes wanted passes [] x h e = absurd (none-some x (sym e))
-found_passes wanted passes (y ∷ ys) x h e =
-    grind (
-      arith,
-      and_parts,
-      (found_passes wanted passes ys x (and_parts (passes y) (list_all passes ys) h).1),
-      same_Some,
-    )
-
 rows_are_written : list_all is_written type_table ≡ true
 unfolding is_written
 rows_are_written = refl
@@ -66,7 +57,10 @@ rows_are_written = refl
 module _ (t : ℕ) (row : Data.TypeRow) (found : Some row ≡ row_of t) where
   row_tests : (have_words row.pieces ≡ true) × (list_all is_single (drop 1 row.pieces) ≡ true)
   unfolding is_written
-  row_tests = and_parts (have_words row.pieces) (list_all is_single (drop 1 row.pieces)) (found_passes (λ (r : Data.TypeRow). r.number == t) is_written type_table row rows_are_written found)
+  row_tests =
+      and_parts (have_words row.pieces) (list_all is_single (drop 1 row.pieces))
+      (found_passes (λ (r : Data.TypeRow). r.number == t) is_written type_table row rows_are_written
+      (sym found))
 
   pub row_text : (d : Octets) → spaced [] (pieces_words row.pieces d) ≡ data_text t d
   unfolding data_text

@@ -7,6 +7,12 @@ use Rattle.dns_wire.specs.Labels.{LabelAt, PointerAt, NoRunAt}
 use Rattle.dns_wire.specs.Kept.{SpelledAt, HasAt, IsCommon}
 use Rattle.dns_wire.proofs.Runs.{get_more, label_there}
 
+-- so many octets in front are in common
+pub record InCommon (same : ℕ) (left right : Octets) : Type 0 where
+  pub within : same ≤ length left
+  pub most : same ≤ length right
+  pub alike : take same left ≡ take same right
+
 -- the octets of labels, without the root's
 abbrev pub label_octets : DomainName → Octets
 label_octets [] = []

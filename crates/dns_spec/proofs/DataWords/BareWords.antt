@@ -69,13 +69,8 @@ octet_unbroken x rest small after = grind (arith, special_graphic, digits_octet,
 label_unbroken : (l rest : Octets) → Small l → is_unbroken is_word_octet rest ≡ true → is_unbroken is_word_octet (label_text l ++ rest) ≡ true
 label_unbroken [] rest small after = after
 label_unbroken (x ∷ l) rest small after =
-    search (
-      rules,
-      append_assoc,
-      octet_unbroken,
-      small_head,
-      (label_unbroken l rest (small_tail x l small) after),
-    )
+    let others = label_unbroken l rest (small_tail x l small) after in
+    search (rules, append_assoc, octet_unbroken, small_head, others)
 
 pub labels_unbroken : (n : DomainName) → Each Small n → is_unbroken is_word_octet (labels_text n) ≡ true
 labels_unbroken [] small = refl

@@ -32,7 +32,8 @@ one_spelling (o ∷ x) (p ∷ y) long small small' e =
     let parts = same_from_place o (number_of x) p (number_of y) (256 ^ length x) (number_of-below x (small_tail o x small)) below f in
     ap (λ q. q ∷ x) parts.0 ∙ ap (λ z. p ∷ z) (one_spelling x y same_long (small_tail o x small) (small_tail p y small') parts.1)
 
-pub number_said : (k : ℕ) (x : Octets) → length x ≡ k → Small x → SaysNumber k (decimal (number_of x)) x
+pub number_said : (k : ℕ) (x : Octets) → length x ≡ k → Small x
+    → SaysNumber k (decimal (number_of x)) x
 number_said k x long small =
     grind (
       arith,

@@ -66,11 +66,8 @@ pieces_said c origin (p ∷ ps) d xs counted h small =
 same_forms : (c e : ℕ) (ps : List Piece) → list_all is_counted ps ≡ true → flat_map (forms_in c) ps ≡ flat_map (forms_in e) ps
 same_forms c e [] counted = refl
 same_forms c e (p ∷ ps) counted =
-    grind (
-      arith,
-      and_parts,
-      (same_forms c e ps (and_parts (is_counted p) (list_all is_counted ps) counted).1),
-    )
+    let rest = same_forms c e ps (and_parts (is_counted p) (list_all is_counted ps) counted).1 in
+    grind (arith, and_parts, rest)
 
 length-form_words : (fs : List WordForm) (d : Octets) → length (form_words fs d) ≡ length fs
 length-form_words [] d = refl

@@ -18,23 +18,16 @@ length-data_laid ms p [] = refl
 length-data_laid ms p (octets o ∷ ps) =
     grind (arith, length-append, (length-data_laid ms (p + length o) ps))
 length-data_laid ms p (name n ∷ ps) =
-    grind (
-      arith,
-      length-shared_octets,
-      length-append,
-      (length-data_laid (ms ++ (n, p) ∷ []) (p + length (shared_octets ms n)) ps),
-    )
+    let rest = length-data_laid (ms ++ (n, p) ∷ []) (p + length (shared_octets ms n)) ps in
+    grind (arith, length-shared_octets, length-append, rest)
 
 pub names-data_laid : (ms : List Placed) (p : ℕ) (ps : List Part) → (data_laid ms p ps).names ≡ data_names ms p ps
 unfolding data_laid
 names-data_laid ms p [] = refl
 names-data_laid ms p (octets o ∷ ps) = names-data_laid ms (p + length o) ps
 names-data_laid ms p (name n ∷ ps) =
-    grind (
-      arith,
-      (names-data_laid (ms ++ (n, p) ∷ []) (p + length (shared_octets ms n)) ps),
-      length-shared_octets,
-    )
+    let rest = names-data_laid (ms ++ (n, p) ∷ []) (p + length (shared_octets ms n)) ps in
+    grind (arith, rest, length-shared_octets)
 
 pub length-record_laid : (ms : List Placed) (p : ℕ) (r : ResourceRecord) → length (record_laid ms p r).written ≡ record_size ms p r
 length-record_laid ms p r =

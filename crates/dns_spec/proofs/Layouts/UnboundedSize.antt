@@ -37,13 +37,8 @@ length-unbounded_data ms p [] = refl
 length-unbounded_data ms p (octets o ∷ ps) =
     grind (arith, length-append, (length-unbounded_data ms (p + length o) ps))
 length-unbounded_data ms p (name n ∷ ps) =
-    grind (
-      arith,
-      length-append,
-      length-unbounded_octets,
-      (length-unbounded_data (ms ++ (n, p) ∷ []) (p + length (unbounded_octets ms n)) ps),
-      unplaced-push,
-    )
+    let rest = length-unbounded_data (ms ++ (n, p) ∷ []) (p + length (unbounded_octets ms n)) ps in
+    grind (arith, length-append, length-unbounded_octets, rest, unplaced-push)
 
 pub unplaced-unbounded_data : (ms : List Placed) (p : ℕ) (ps : List Part) → unplaced (unbounded_data ms p ps).names ≡ names_in ps
 unfolding unbounded_data

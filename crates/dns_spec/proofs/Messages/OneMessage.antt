@@ -20,11 +20,8 @@ module _ (b : Octets) where
       let next = ap (λ z. z + width w) p in
       g.3 ∙ ap₂ ◌++◌ (same_octets p next g.2 h.2) (same_pieces ps (i + width w) (j + width w) e f g.1 h.1 next q g.4 h.4) ∙ sym h.3
   same_pieces (domain ∷ ps) i j e f x y p q g h =
-      grind (
-        arith,
-        same_names,
-        (same_pieces ps g.1 h.1 e f g.2 h.2 (same_names p g.3 h.3).1 q g.5 h.5),
-      )
+      let rest = same_pieces ps g.1 h.1 e f g.2 h.2 (same_names p g.3 h.3).1 q g.5 h.5 in
+      grind (arith, same_names, rest)
   same_pieces (string ∷ ps) i j e f x y p q g h =
       let k = same_Some g.0 h.0 (sym g.3 ∙ ap (slice_get b) p ∙ h.3) in
       let next = ap₂ (λ z w. z + 1 + w) p k in
@@ -56,11 +53,8 @@ module _ (b : Octets) where
   same_records [] (r ∷ rs) i j e f n p g h = absurd (omega arith)
   same_records (q ∷ qs) [] i j e f n p g h = absurd (omega arith)
   same_records (q ∷ qs) (r ∷ rs) i j e f n p g h =
-      grind (
-        arith,
-        same_record,
-        (same_records qs rs (g.0 + 10 + g.1) (h.0 + 10 + h.1) e f (omega arith)),
-      )
+      let rest = same_records qs rs (g.0 + 10 + g.1) (h.0 + 10 + h.1) e f (omega arith) in
+      grind (arith, same_record, rest)
 
 pub one_message : (b : Octets) (m n : DnsMessage) → Spells b m → Spells b n → m ≡ n
 one_message b m n g h = grind (arith, one_number, same_questions, same_records)

@@ -61,11 +61,8 @@ folded_small (l ∷ n) small = (label_folded_small l small.0, folded_small n sma
 wire_small : (n : DomainName) → list_all is_label n ≡ true → SmallName n → Each Octet (wire n)
 wire_small [] ok small = let root : 0 < 256 = omega arith in (root, tt)
 wire_small (l ∷ n) ok small =
-    grind (
-      arith,
-      each_append,
-      (wire_small n (and_parts (is_label l) (list_all is_label n) ok).1 small.1),
-    )
+    let rest = wire_small n (and_parts (is_label l) (list_all is_label n) ok).1 small.1 in
+    grind (arith, each_append, rest)
 
 string_small : (text s : Octets) → SpellsString text s → Each Octet text → Each Octet s
 string_small text [] h small = tt
@@ -138,25 +135,14 @@ unknown_small ws d h h1 = grind (arith, hex_small, raws_small)
 wire_folded_small : (n : DomainName) → Each Octet (wire n) → Each Octet (wire (folded n))
 wire_folded_small [] small = small
 wire_folded_small (l ∷ n) small =
-    grind (
-      arith,
-      length-map,
-      each_append,
-      label_folded_small,
-      each_front,
-      (wire_folded_small n (each_back l (wire n) small.1)),
-    )
+    let rest = wire_folded_small n (each_back l (wire n) small.1) in
+    grind (arith, length-map, each_append, label_folded_small, each_front, rest)
 
 parts_folded_small : (xs : List Part) → Each Octet (joined xs) → Each Octet (joined (map part_folded xs))
 parts_folded_small [] small = tt
 parts_folded_small (x ∷ xs) small =
-    grind (
-      arith,
-      each_append,
-      wire_folded_small,
-      each_front,
-      (parts_folded_small xs (each_back (part_octets x) (joined xs) small)),
-    )
+    let rest = parts_folded_small xs (each_back (part_octets x) (joined xs) small) in
+    grind (arith, each_append, wire_folded_small, each_front, rest)
 
 pub data_small : (t : ℕ) (origin : DomainName) (ws : List Word) (d : Octets) → SmallName origin → Each SmallWord ws → Says t ws origin d → Each Octet d
 data_small t origin ws d from small h =

@@ -52,12 +52,8 @@ module _ (o : DomainName) (Kept : Entry → Type 0) (P : ResourceRecord → Type
   entries_meant earlier [] m keeps kept h = subst Meant (sym h) tt
   entries_meant earlier (e ∷ es) m keeps kept (faulty code, given, h) = subst Meant (sym h) tt
   entries_meant earlier (e ∷ es) m keeps kept (gives rs, given, (later, h, is)) =
-      grind (
-        arith,
-        each_joined,
-        sort_given,
-        (entries_meant (e ∷ earlier) es later (kept.0, keeps) kept.1 h),
-      )
+      let rest = entries_meant (e ∷ earlier) es later (kept.0, keeps) kept.1 h in
+      grind (arith, each_joined, sort_given, rest)
 
   records_hold : (es : List Entry) (rs : List ResourceRecord) → Each Kept es → EntriesMean o [] es (records rs) → All P rs
   records_hold es rs kept h = all_each P rs (entries_meant [] es (records rs) tt kept h)

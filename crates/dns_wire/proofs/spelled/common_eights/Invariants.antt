@@ -1,13 +1,9 @@
-use Rattle.std.proofs.Common.{◌≡◌, ◌≤◌, ◌-◌, length, take}
+use Rattle.std.proofs.Common.{◌-◌, length}
+use Rattle.dns_wire.proofs.CommonFront.{InCommon}
 use Rattle.dns_wire.proofs.spelled.common_eights.Given as goal
 
--- so many are in common
 abbrev pub invariant-eights : goal.invariant-eights
-invariant-eights l = record {
-  within : l.same ≤ length l.left;
-  most : l.same ≤ length l.right;
-  alike : take l.same l.left ≡ take l.same l.right;
-}
+invariant-eights l = InCommon l.same l.left l.right
 
 abbrev pub decreases-eights : goal.decreases-eights
 decreases-eights l = length l.right - l.same
