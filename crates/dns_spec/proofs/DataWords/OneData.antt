@@ -1,5 +1,5 @@
 -- Words say at most one piece of data of a type.
-use Rattle.dns_spec.proofs.Common.{◌≡◌, ℕ, zero, suc, ◌<◌, ◌≤◌, Bool, true, false, nat_le, List, [], ◌∷◌, ◌++◌, length, replicate, Option, Some, None, refl, sym, ◌∙◌, ap, ap₂, arith, decimal, MatchBool, list_all, flat_map, find, option_map, AllDigits, pow-le-pow_right, and_parts, and_from, leb-true, ltb-true, same_Some, decimal_is_IsNumeral, decimal_injective, digit_from_value, Octets, DomainName, wire, Piece, fixed, domain, string, strings, anything, numbers, ipv4, ipv6, TypeRow, type_table, row_of, SaysIpv4, Word, WordForm, number_word, ipv4_word, ipv6_word, name_word, string_word, SaysNumber, SaysForm, SaysForms, forms_in, SaysTyped, SaysUnknown, SaysAsSpelled, is_unknown_mark, Says}
+use Rattle.dns_spec.proofs.Common.{◌≡◌, ℕ, zero, suc, ◌<◌, ◌≤◌, Bool, true, false, nat_le, List, [], ◌∷◌, ◌++◌, length, replicate, Option, Some, None, refl, sym, ◌∙◌, ap, ap₂, arith, decimal, MatchBool, list_all, flat_map, find, option_map, AllDigits, pow-le-pow_right, and_parts, and_from, leb-true, ltb-true, same_Some, decimal_is_IsNumeral, decimal_injective, digit_from_value, Octets, DomainName, wire, Piece, fixed, numbers, TypeRow, type_table, row_of, SaysIpv4, Word, WordForm, number_word, ipv4_word, ipv6_word, name_word, string_word, SaysNumber, SaysForm, SaysForms, forms_in, SaysTyped, SaysUnknown, SaysAsSpelled, is_unknown_mark, Says}
 use Rattle.std.specs.Prelude.{⊤, MatchOption, ◌==◌}
 use Rattle.dns_spec.proofs.NameTexts.OneName.{name_once, string_once}
 
@@ -93,12 +93,7 @@ all_joined p (f ∷ fs) gs h k = let parts = and_parts (p f) _ h in and_from _ _
 
 is_narrow_piece : Piece → Bool
 is_narrow_piece (fixed (numbers m k)) = nat_le k 4
-is_narrow_piece (fixed ipv4) = true
-is_narrow_piece (fixed ipv6) = true
-is_narrow_piece domain = true
-is_narrow_piece string = true
-is_narrow_piece strings = true
-is_narrow_piece anything = true
+is_narrow_piece p = true
 
 narrow_forms : (k : ℕ) (ps : List Piece) → list_all is_narrow_piece ps ≡ true → list_all is_narrow (flat_map (forms_in k) ps) ≡ true
 unfolding is_narrow is_narrow_piece

@@ -14,12 +14,9 @@ use Rattle.dns_spec.proofs.DataWords.FormsAgain.{WordsSaid, is_unmarked, none_sa
 -- a piece whose words are as many whatever the record has, with numbers of at most 64 bits
 abbrev is_counted : Piece → Bool
 is_counted (fixed (numbers m k)) = nat_le k 8
-is_counted (fixed ipv4) = true
-is_counted (fixed ipv6) = true
-is_counted domain = true
-is_counted string = true
 is_counted strings = false
 is_counted anything = false
+is_counted p = true
 
 front_dropped : (k : ℕ) (os : Octets) (part : Part) (rest : Octets) → octets_front k os ≡ Some (part, rest) → (k ≤ length os) × (drop k os ≡ rest)
 front_dropped k os part rest h = grind (arith, cond_some, leb-true)
