@@ -22,13 +22,13 @@ pub enum NameFault {
     /// A label has no octet, as in `a..b`. The empty word is such a label.
     EmptyLabel = 1,
     /// A label has more than 63 octets (RFC 1035 2.3.4).
-    LabelTooLong = 2,
+    LabelTooLong,
     /// The name, with the origin where it is relative, has more than 255 octets on the wire (RFC
     /// 1035 2.3.4).
-    NameTooLong = 3,
+    NameTooLong,
     /// A backslash begins neither `\X`, with X printable and no digit, nor `\DDD`, three digits up
     /// to 255.
-    BadEscape = 4,
+    BadEscape,
 }
 
 impl NameFault {

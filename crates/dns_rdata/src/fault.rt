@@ -12,19 +12,19 @@ pub enum RdataFault {
     /// There are too few words, or too many.
     WordCount = 1,
     /// A word is no number of the size that stands there, or is quoted.
-    BadNumber = 2,
+    BadNumber,
     /// A word is no address, or is quoted.
-    BadAddress = 3,
+    BadAddress,
     /// A word is no name, or is quoted.
-    BadName = 4,
+    BadName,
     /// A string has more than 255 octets or a bad escape, or the data is past 65,535 octets.
-    BadString = 5,
+    BadString,
     /// In the unknown form (RFC 3597 5) the length is none, or the digits are not as many octets.
-    BadHex = 6,
+    BadHex,
     /// The octets are no data of the type, or more than 65,535 (RFC 1035 3.2.1).
-    NotOfType = 7,
+    NotOfType,
     /// No memory was found.
-    NoMemory = 8,
+    NoMemory,
 }
 
 impl RdataFault {

@@ -10,18 +10,18 @@ pub enum WireFault {
     /// The octets end where more are needed.
     Short = 1,
     /// A label begins with the bits 01 or 10, which are reserved (RFC 1035 4.1.4).
-    ReservedLabel = 2,
+    ReservedLabel,
     /// A pointer goes into the header, or not before the place where the labels at hand began (RFC
     /// 1035 4.1.4).
-    BadPointer = 3,
+    BadPointer,
     /// A name has more than 255 octets (RFC 1035 2.3.4).
-    LongName = 4,
+    LongName,
     /// Data does not fill its length, or is none of its type (RFC 1035 3.3).
-    BadData = 5,
+    BadData,
     /// Octets follow the last record.
-    Trailing = 6,
+    Trailing,
     /// No memory was found.
-    NoMemory = 7,
+    NoMemory,
 }
 
 impl WireFault {
