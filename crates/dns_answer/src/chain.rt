@@ -42,7 +42,8 @@ pub(crate) fn seek<'q, 'z: 'q, const N: usize, const SIZE: usize>(
     draft: &mut Draft<N, SIZE>,
 ) -> (Verdict, bool)
     requires { MaySeek steps.old apex.now [] first None }
-    ensures seeks { Seeks draft.old draft.new steps.old steps.new qtype [] first.entry.name result.0 }
+    ensures seeks { Seeks draft.old draft.new steps.old steps.new qtype [] first.entry.name
+        result.0 }
     ensures followed { Followed steps.old.zone qtype first.entry.name result.0 result.1 }
 {
     match seek_one(&first, None, qtype, &[], apex, steps, draft) {
@@ -139,8 +140,8 @@ fn shown_set<'z>(node: &Node<'z>, qtype: u16) -> Option<(RecordSet<'z>, bool)>
     Some((node.set(RType(qtype))?, false))
 }
 
-// The name that is sought after an alias, and where the way to it begins: its target, where more may
-// be sought and it is at or below the origin and was not sought yet.
+// The name that is sought after an alias, and where the way to it begins: its target, where more
+// may be sought and it is at or below the origin and was not sought yet.
 fn next_sought<'z>(
     alias: &RecordSet<'z>,
     lead: Option<Lead<'z>>,
@@ -163,8 +164,8 @@ fn next_sought<'z>(
     Some((next, lead))
 }
 
-// Whether a name in lower case is the last one sought, or was sought before. All names but the first
-// are targets, in lower case too, so that those are the same only where they are equal.
+// Whether a name in lower case is the last one sought, or was sought before. All names but the
+// first are targets, in lower case too, so that those are the same only where they are equal.
 fn is_among(name: &NameRef<'_>, last: &Sought<'_>, earlier: &[Sought<'_>]) -> bool
     requires name { folded name.now ≡ name.now }
     requires lower { AreTargets earlier.now last.now }

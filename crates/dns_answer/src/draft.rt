@@ -51,8 +51,8 @@ impl<const N: usize, const SIZE: usize> Draft<N, SIZE> {
         }
     }
 
-    /// Makes the draft that of a reply that has nothing yet. What was written before is written over,
-    /// and the heads of its chains.
+    /// Makes the draft that of a reply that has nothing yet. What was written before is written
+    /// over, and the heads of its chains.
     pub(crate) fn clear(&mut self)
         ensures { self.new ≡ blank SIZE }
     {

@@ -104,8 +104,8 @@ fn take_word<'a>(
     Ok(LaterWords { text, count: 0 })
 }
 
-// How reading an entry goes on after a token: not at all, since a parenthesis is misplaced, or since
-// the entry has ended; or inside parentheses or outside them.
+// How reading an entry goes on after a token: not at all, since a parenthesis is misplaced, or
+// since the entry has ended; or inside parentheses or outside them.
 #[derive(Clone, Copy)]
 enum Step {
     Misplaced,

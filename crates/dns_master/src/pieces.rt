@@ -135,7 +135,7 @@ impl Begun {
         Ok(())
     }
 
-    /// Adds the records of what is left of a text, after which it is over or goes on past its limit.
+    /// Adds the records of what is left of a text, which then is over or goes on past its limit.
     pub(crate) fn finish<G: Gathers>(self, goes_on: bool, found: &mut G) -> Result<(), ReadFault>
         requires count { length (G.gathered found.old) ≡ self.reader.count }
         requires fits { self.reader.line + length self.held.items ≤ 16777217 }
@@ -161,8 +161,8 @@ impl Begun {
     }
 }
 
-// Adds the records of the entries in front of a text that are at hand as a whole, and gives the text
-// after them. `goes_on` is whether the text goes on past its limit, where that is known.
+// Adds the records of the entries in front of a text that are at hand as a whole, and gives the
+// text after them. `goes_on` is whether the text goes on past its limit, where that is known.
 fn take_entries<'a, G: Gathers>(
     alloc: Global,
     reader: &mut Reader,

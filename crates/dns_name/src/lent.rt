@@ -254,8 +254,7 @@ fn order_of_labels(left: Labels<'_>, right: Labels<'_>, longer: Ordering) -> Ord
     order
 }
 
-// A fast path: octets that are compared are mostly in one case. It saves 130 to 350 instructions of a
-// short reply.
+// A fast path: octets are mostly in one case. It saves 130 to 350 instructions of a short reply.
 fn same_octets(left: &[u8], right: &[u8]) -> bool
     ensures { IsTrue result ↔ (map to_ascii_lowercase left.now ≡ map to_ascii_lowercase right.now) }
 {

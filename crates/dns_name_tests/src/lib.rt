@@ -1,5 +1,5 @@
-//! The tests of `dns_name`, through its public calls. In a crate of their own its proofs are made once, and its wrong
-//! bodies are tried meanwhile.
+//! The tests of `dns_name`, through its public calls. In a crate of their own its proofs are made
+//! once, and its wrong bodies are tried meanwhile.
 #![tactic(auto)]
 
 #[cfg(test)]

@@ -1,5 +1,5 @@
-/// The file of a small zone `example.`, with an address, a wildcard, an empty non-terminal, an alias
-/// and a cut with glue.
+/// The file of a small zone `example.`, with an address, a wildcard, an empty non-terminal, an
+/// alias and a cut with glue.
 pub const SMALL: &str = "$TTL 3600
 @ SOA ns hostmaster 1 7200 900 1209600 300
 @ NS ns

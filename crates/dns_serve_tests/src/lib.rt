@@ -1,5 +1,5 @@
-//! The tests of `dns_serve`, through its public calls. In a crate of their own its proofs are made once, and its wrong
-//! bodies are tried meanwhile. Its device serves the tests of `dns_tools`, too.
+//! The tests of `dns_serve`, through its public calls. In a crate of their own its proofs are made
+//! once, and its wrong bodies are tried meanwhile. Its device serves the tests of `dns_tools`, too.
 #![tactic(auto)]
 
 mod devices;

@@ -33,7 +33,8 @@ pub fn reply_is_within_its_limit()
 /// The names sought for a question are at most 17: its own, and those to which at most 16 aliases
 /// lead (a limit of this project).
 pub fn chains_have_few_names()
-    ensures { (z : ZoneContents) (q : DomainName) (t : ℕ) → length (chain z q t) ≤ 1 + most_aliases }
+    ensures { (z : ZoneContents) (q : DomainName) (t : ℕ)
+        → length (chain z q t) ≤ 1 + most_aliases }
 {}
 
 /// The sets of a reply begin with those that it may not leave out (RFC 1035 4.1.1).

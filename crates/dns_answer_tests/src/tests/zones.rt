@@ -41,8 +41,8 @@ pub(super) fn small(alloc: Global) -> Result<Zone, Fail> {
     zone(alloc, b"example", SMALL.as_bytes())
 }
 
-/// The file of the small zone, chains of aliases, and sets that end near the limit of UDP or far past
-/// it.
+/// The file of the small zone, chains of aliases, and sets that end near the limit of UDP or far
+/// past it.
 pub(super) fn large(alloc: Global) -> Result<Vec<u8>, Fail> {
     let mut text = joined(alloc, &[SMALL.as_bytes(), MORE.as_bytes()])?;
     for (owner, count) in [(b"t TXT ", 216), (b"u TXT ", 217)] {

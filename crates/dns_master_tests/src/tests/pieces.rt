@@ -74,7 +74,8 @@ fn a_fault_at_the_end_of_a_piece(rt: HostRuntime) -> Result<(), Fail> {
     Ok(())
 }
 
-// Once it was looked at, an entry of many pieces is looked at again when twice as many octets are held.
+// Once it was looked at, an entry of many pieces is looked at again when twice as many octets are
+// held.
 #[test]
 fn a_fault_of_an_entry_of_many_pieces(rt: HostRuntime) -> Result<(), Fail> {
     let mut text = repeated(rt.alloc(), b"$X (", 1)?;

@@ -15,8 +15,8 @@ use dns_rdata::RType;
 use std::alloc::{AllocError, Global};
 
 /// For each record the row of the last name on the way to its target, or 0 where that has none, is
-/// outside of the zone. The way of an alias ends before a cut. Memory is taken for 8 octets for each
-/// record.
+/// outside of the zone. The way of an alias ends before a cut. Memory is taken for 8 octets for
+/// each record.
 #[tactic(auto, using(crate::proofs::LeadRows::leads_more))]
 pub(crate) fn leads_of(alloc: Global, tree: &Tree) -> Result<Vec<usize>, AllocError>
     requires { IsZoneTree tree.now }
