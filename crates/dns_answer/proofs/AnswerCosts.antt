@@ -1,28 +1,18 @@
 -- What the header says of a whole answer, and what all of it takes.
-use Rattle.std.proofs.Common.{◌≡◌, ℕ, ◌+◌, ◌*◌, ◌≤◌, ◌&&◌, not, List, [], ◌∷◌, map, sum, length, is_some, arith}
-use Rattle.dns_spec.proofs.Common.{eqb-true, false_from_ne_true, DomainName, ZoneContents}
-use Rattle.std.specs.Prelude.{◌==◌}
-use Rattle.dns_spec.specs.Answer.{most_aliases, follows_alias, alias_set, alias_items, chain, chain_from, has_any, outcome, is_authoritative, nodes_to, most_visits, most_comparisons}
-use Rattle.dns_zone.specs.Nodes.{Walk}
-use Rattle.dns_answer.specs.Walks.{Took, labels_below}
-use Rattle.dns_answer.specs.Chain.{chain_rest}
-use Rattle.dns_answer.specs.Seeking.{leads_on}
-use Rattle.dns_spec.proofs.Replies.FewItems.{sum_cons}
+use Rattle.dns_answer.proofs.Common.{◌≡◌, ℕ, ◌+◌, ◌*◌, ◌≤◌, ◌&&◌, not, List, [], ◌∷◌, map, sum, length, is_some, arith, eqb-true, false_from_ne_true, DomainName, ZoneContents, ◌==◌, most_aliases, follows_alias, alias_set, alias_items, chain, chain_from, has_any, outcome, is_authoritative, nodes_to, most_visits, most_comparisons, Walk, Took, labels_below, chain_rest, leads_on, sum_cons}
 use Rattle.dns_answer.proofs.TargetLaws.{depths}
 use Rattle.dns_answer.proofs.AnswerItems.{nodes-are, misses-are, speaks-unless}
 use Rattle.dns_answer.proofs.ChainSteps.{last-name, none-shown}
 
-nodes-sum : (z : ZoneContents) (ns : List DomainName) → sum (map (nodes_to z) ns) ≡ length ns + depths z ns
+nodes-sum : (z : ZoneContents) (ns : List DomainName)
+    → sum (map (nodes_to z) ns) ≡ length ns + depths z ns
 nodes-sum z [] = omega arith
-nodes-sum z (n ∷ ns) =
-    let a = sum_cons (nodes_to z n) (map (nodes_to z) ns) in
-    let b = sum_cons (labels_below z n) (map (labels_below z) ns) in
-    let c = nodes-sum z ns in
-    omega (arith, a, b, c)
+nodes-sum z (n ∷ ns) = grind (arith, sum_cons, nodes_to, labels_below, (nodes-sum z ns))
 
 module _ (z : ZoneContents) (q : DomainName) (t : ℕ) where
   -- an alias is shown exactly where one is found for the name asked for
-  aliases-shown : (length (alias_items z q t) == 0) ≡ not (follows_alias t && has_any (alias_set z q))
+  aliases-shown :
+      (length (alias_items z q t) == 0) ≡ not (follows_alias t && has_any (alias_set z q))
   unfolding chain chain_from
   aliases-shown = grind (arith, false_from_ne_true, eqb-true, last-name, none-shown)
 
@@ -39,7 +29,6 @@ module _ (z : ZoneContents) (q : DomainName) (t : ℕ) where
       → Took s s' (chain_rest z t most_aliases [] q).nodes misses → s'.visits ≤ most_visits z q t
   visits-fit s s' misses first took = grind (arith, nodes-are, nodes-sum, chain-some)
 
-  pub comparisons-fit : (s s' : Walk) (nodes : ℕ) → s.comparisons ≤ 17 * s.visits
-      → Took s s' nodes (chain_rest z t most_aliases [] q).misses
-      → s'.comparisons ≤ most_comparisons z q t s'.visits
+  pub comparisons-fit : (s s' : Walk) (nodes : ℕ) → s.comparisons ≤ 17 * s.visits → Took s s' nodes
+      (chain_rest z t most_aliases [] q).misses → s'.comparisons ≤ most_comparisons z q t s'.visits
   comparisons-fit s s' nodes first took = let a = misses-are z q t in omega arith

@@ -1,25 +1,23 @@
 -- What is still to come of an answer, by what is found at a name of the chain.
-use Rattle.dns_spec.proofs.Common.{◌≡◌, ℕ, zero, suc, ◌+◌, true, false, cond, ◌&&◌, ◌⊎◌, inl, inr, List, [], ◌∷◌, ◌++◌, None, Some, refl, sym, ap, ◌∙◌, arith, add-one, append-nil, append_assoc, and-false, DomainName, type_cname, ResourceRecord, ZoneContents, of_type, cut_of, found, name_error, answer, Item}
-use Rattle.dns_spec.specs.Answer.{item, follows_alias, alias_set, next_sought, chain_from, last_of, has_any, Outcome, positive, negative, referral_to, outcome_by, outcome_at}
-use Rattle.dns_answer.specs.Walks.{labels_below}
-use Rattle.dns_answer.specs.Ending.{ending, after_sets}
-use Rattle.dns_answer.specs.Chain.{names_from, aliases_of, rest_of, chain_rest}
-use Rattle.dns_answer.specs.Seeking.{leads_on}
-use Rattle.dns_spec.proofs.Replies.FewItems.{sum_cons}
+use Rattle.dns_answer.proofs.Common.{◌≡◌, ℕ, zero, suc, ◌+◌, true, false, cond, ◌&&◌, ◌⊎◌, inl, inr, List, [], ◌∷◌, ◌++◌, None, Some, refl, sym, ap, ◌∙◌, arith, add-one, append-nil, append_assoc, and-false, DomainName, type_cname, ResourceRecord, ZoneContents, of_type, cut_of, found, name_error, answer, Item, item, follows_alias, alias_set, next_sought, chain_from, last_of, has_any, Outcome, positive, negative, referral_to, outcome_by, outcome_at, labels_below, ending, after_sets, names_from, aliases_of, rest_of, chain_rest, leads_on, sum_cons}
 
 -- the names sought where s is the last
-from-last : (z : ZoneContents) (k : ℕ) (sought : List DomainName) (s : DomainName) → next_sought z (s ∷ sought) s ≡ None → chain_from z k sought s ≡ s ∷ []
+from-last : (z : ZoneContents) (k : ℕ) (sought : List DomainName) (s : DomainName)
+    → next_sought z (s ∷ sought) s ≡ None → chain_from z k sought s ≡ s ∷ []
 unfolding chain_from
 from-last z zero sought s e = refl
-from-last z (suc k) sought s e = ap (λ o. s ∷ elim o as (λ _. List DomainName) [ None ↦ [] | Some m ↦ chain_from z k (s ∷ sought) m ]) e
+from-last z (suc k) sought s e = ap (λ o. s ∷ elim o as
+    (λ _. List DomainName) [ None ↦ [] | Some m ↦ chain_from z k (s ∷ sought) m ]) e
 
-from-more : (z : ZoneContents) (k : ℕ) (sought : List DomainName) (s m : DomainName) → next_sought z (s ∷ sought) s ≡ Some m
-    → chain_from z (suc k) sought s ≡ s ∷ chain_from z k (s ∷ sought) m
+from-more : (z : ZoneContents) (k : ℕ) (sought : List DomainName) (s m : DomainName) → next_sought z
+    (s ∷ sought) s ≡ Some m → chain_from z (suc k) sought s ≡ s ∷ chain_from z k (s ∷ sought) m
 unfolding chain_from
-from-more z k sought s m e = ap (λ o. s ∷ elim o as (λ _. List DomainName) [ None ↦ [] | Some m ↦ chain_from z k (s ∷ sought) m ]) e
+from-more z k sought s m e = ap (λ o. s ∷ elim o as
+    (λ _. List DomainName) [ None ↦ [] | Some m ↦ chain_from z k (s ∷ sought) m ]) e
 
 -- a chain begins with its first name
-last-from : (z : ZoneContents) (k : ℕ) (sought : List DomainName) (s m : DomainName) → last_of s (chain_from z k sought m) ≡ last_of m (chain_from z k sought m)
+last-from : (z : ZoneContents) (k : ℕ) (sought : List DomainName) (s m : DomainName)
+    → last_of s (chain_from z k sought m) ≡ last_of m (chain_from z k sought m)
 unfolding chain_from
 last-from z zero sought s m = refl
 last-from z (suc k) sought s m = refl
@@ -40,9 +38,8 @@ pub outcome-found : (z : ZoneContents) (t : ℕ) (s : DomainName) (rs : List Res
 unfolding outcome_at
 outcome-found z t s rs e f = rw (e, f) refl
 
-pub outcome-alias : (z : ZoneContents) (t : ℕ) (s : DomainName) (rs : List ResourceRecord)
-    → cut_of z s ≡ None → found z s ≡ Some rs → leads_on z t s ≡ true
-    → outcome_at z t s ≡ positive []
+pub outcome-alias : (z : ZoneContents) (t : ℕ) (s : DomainName) (rs : List ResourceRecord) → cut_of
+    z s ≡ None → found z s ≡ Some rs → leads_on z t s ≡ true → outcome_at z t s ≡ positive []
 outcome-alias z t s rs e f h =
     let here = ap (λ xs. follows_alias t && has_any xs) (sym (alias-found z s rs e f)) ∙ h in
     outcome-found z t s rs e f ∙ rw here refl
@@ -50,7 +47,8 @@ outcome-alias z t s rs e f h =
 module _ (z : ZoneContents) (t k : ℕ) (sought : List DomainName) (s : DomainName) where
   -- the chain ends at s: the outcome there, after its alias if it has one
   abbrev pub ChainEnds : List Item → Outcome → Type 0
-  ChainEnds aliases o = chain_rest z t k sought s ≡ after_sets aliases (labels_below z s) (ending z o)
+  ChainEnds aliases o =
+      chain_rest z t k sought s ≡ after_sets aliases (labels_below z s) (ending z o)
 
   ends : (aliases : List Item) (o : Outcome) → names_from z t k sought s ≡ s ∷ []
       → aliases_of z t (s ∷ []) ≡ aliases → outcome_at z t s ≡ o → ChainEnds aliases o
@@ -97,8 +95,8 @@ module _ (z : ZoneContents) (t k : ℕ) (sought : List DomainName) (s : DomainNa
 -- an alias is followed from s to m
 pub goes-on : (z : ZoneContents) (t k : ℕ) (sought : List DomainName) (s : DomainName) (k' : ℕ)
     (m : DomainName) (is : List Item) → follows_alias t ≡ true → item answer (alias_set z s) ≡ is
-    → next_sought z (s ∷ sought) s ≡ Some m → k ≡ k' + 1
-    → chain_rest z t k sought s ≡ after_sets is (labels_below z s) (chain_rest z t k' (s ∷ sought) m)
+    → next_sought z (s ∷ sought) s ≡ Some m → k ≡ k' + 1 → chain_rest z t k sought s
+    ≡ after_sets is (labels_below z s) (chain_rest z t k' (s ∷ sought) m)
 unfolding chain_rest
 goes-on z t k sought s k' m first follows are e count =
     grind (arith, add-one, from-more, last_of, last-from, sum_cons, rest_of, append_assoc)

@@ -1,20 +1,9 @@
 -- How the sets that end an answer are offered.
-use Rattle.dns_spec.proofs.Common.{◌≡◌, ◌⊎◌, inl, inr, ℕ, Bool, true, false, cond, not, min, List, [], ◌∷◌, ◌++◌, map, reverse, length, get_or, None, Some, refl, sym, ap, ap₂, ◌∙◌, arith, and_parts, length-map, is_some, Octets, DomainName, folded, suffixes, below, type_ns, type_soa, soa_minimum, ResourceRecord, ZoneContents, rrset, owns, RecordSet, set_of, records_at, authority, Item, item, Outcome, main_items, targets_of, negative_soa, negative, positive, referral_to, is_cut, cut_of, no_error}
-use Rattle.std.specs.List.{filter, find, list_all}
-use Rattle.dns_spec.proofs.ZoneChecks.PassedChecks.{few_soa, one_soa}
-use Rattle.dns_zone.specs.ZoneForm.{IsBuilt}
-use Rattle.dns_wire.specs.QueryForm.{code_of}
-use Rattle.dns_answer.specs.DraftForm.{State, Offers}
-use Rattle.dns_answer.specs.Targets.{side_items, side_nodes, set_targets}
-use Rattle.dns_answer.specs.Walks.{Took}
-use Rattle.dns_answer.specs.Ending.{Ends, IsPlain, TookRest, ending, all_names, inside, not_inside, ending_targets, glue_by, others_by}
+use Rattle.dns_answer.proofs.Common.{◌≡◌, ◌⊎◌, inl, inr, ℕ, Bool, true, false, cond, not, min, List, [], ◌∷◌, ◌++◌, map, reverse, length, get_or, None, Some, refl, sym, ap, ap₂, ◌∙◌, arith, and_parts, length-map, is_some, Octets, DomainName, folded, suffixes, below, type_ns, type_soa, soa_minimum, ResourceRecord, ZoneContents, rrset, owns, RecordSet, set_of, records_at, authority, Item, item, Outcome, main_items, targets_of, negative_soa, negative, positive, referral_to, is_cut, cut_of, no_error, filter, find, list_all, few_soa, one_soa, IsBuilt, code_of, State, Offers, side_items, side_nodes, set_targets, Took, Ends, IsPlain, TookRest, ending, all_names, inside, not_inside, ending_targets, glue_by, others_by, Verdict, set-owned, Walk, ZoneNode, IsSetOf}
 use Rattle.dns_answer.proofs.Taking.{Took-then, Took-within}
 use Rattle.dns_answer.proofs.AnswerItems.{denial-no_targets}
-use Rattle.dns_answer.specs.declared.ending.Verdict.{Verdict}
 use Rattle.dns_answer.proofs.Offering.{Offers-is, Offers-nothing, Offers-empty, Offers-then, Offers-full}
 use Rattle.dns_answer.proofs.TargetLaws.{side_items-none, items-untaken}
-use Rattle.dns_zone.proofs.WayLaws.{set-owned}
-use Rattle.dns_zone.specs.Nodes.{Walk, ZoneNode, IsSetOf}
 use Rattle.dns_answer.proofs.EndingSets.{is_target_type, targets_of_set, item-shown}
 
 -- the sets of an outcome are offered in their order
@@ -74,9 +63,8 @@ module _ (z : ZoneContents) where
   soa-one kept set e f = grind (arith, few_soa, one_soa, length-map)
 
   pub soa-item : IsBuilt z → (set : RecordSet) (ttl : ℕ)
-      → set_of (rrset z z.origin type_soa) ≡ Some set
-      → records_at z.origin set.ttl set ≡ rrset z z.origin type_soa
-      → ttl ≡ min set.ttl (soa_minimum (get_or set.rdata 0 []))
+      → set_of (rrset z z.origin type_soa) ≡ Some set → records_at z.origin set.ttl set
+      ≡ rrset z z.origin type_soa → ttl ≡ min set.ttl (soa_minimum (get_or set.rdata 0 []))
       → negative_soa z ≡ record { section = authority; records = records_at z.origin ttl set } ∷ []
   soa-item kept set ttl e f g =
       ap (λ rs. item authority
@@ -92,12 +80,15 @@ find_passes : {X : Type 0} (p : X → Bool) (xs : List X) (x : X) → find p xs 
 find_passes p [] x e = absurd (cc)
 find_passes p (y ∷ ys) x e = go (p y) refl e (find_passes p ys x)
   where
-    go : (b : Bool) → p y ≡ b → cond b (Some y) (find p ys) ≡ Some x → (find p ys ≡ Some x → p x ≡ true) → p x ≡ true
+    go : (b : Bool) → p y ≡ b
+        → cond b (Some y) (find p ys) ≡ Some x → (find p ys ≡ Some x → p x ≡ true) → p x ≡ true
     go true is e rest = let same_one : y ≡ x = cc in ap p (sym same_one) ∙ is
     go false is e rest = rest e
 
-pub cut-has_servers : (z : ZoneContents) (n c : DomainName) → cut_of z n ≡ Some c → is_some (set_of (rrset z c type_ns)) ≡ true
-cut-has_servers z n c e = set-owned z c type_ns ∙ (and_parts (below c z.origin) (owns z c type_ns) (find_passes (is_cut z) (reverse (suffixes (folded n))) c e)).1
+pub cut-has_servers : (z : ZoneContents) (n c : DomainName)
+    → cut_of z n ≡ Some c → is_some (set_of (rrset z c type_ns)) ≡ true
+cut-has_servers z n c e = set-owned z c type_ns ∙ (and_parts (below c z.origin)
+    (owns z c type_ns) (find_passes (is_cut z) (reverse (suffixes (folded n))) c e)).1
 
 -- where all targets are at or below the cut there are no others
 none-outside_cut : (z : ZoneContents) (c : DomainName) (before ms : List DomainName)
@@ -106,7 +97,8 @@ unfolding side_items
 none-outside_cut z c before [] all = refl
 none-outside_cut z c before (m ∷ ms) all =
     let parts = and_parts (inside c m) (list_all (inside c) ms) all in
-    ap₂ (λ x y. x ++ y) (items-untaken z (not_inside c) before m (ap not parts.0)) (none-outside_cut z c (before ++ m ∷ []) ms parts.1)
+    ap₂ (λ x y. x ++ y) (items-untaken z (not_inside c) before m (ap not parts.0))
+    (none-outside_cut z c (before ++ m ∷ []) ms parts.1)
 
 -- nothing is offered for others where all are at or below it, and to a full reply
 pub Offers-others : (z : ZoneContents) (c : DomainName) (w : State) (ms : List DomainName)
@@ -132,18 +124,16 @@ module _ (z : ZoneContents) (node : ZoneNode) (set : RecordSet) (zone : node.zon
       ∙ targets_of_set authority node.name set.ttl set true (ap is_target_type rtype)
 
   pub Ends-referred : {w w1 w2 w' : State} {v : Verdict} → Offers w w1 servers
-      → Offers w1 w2 (side_items z (inside node.name) [] (set_targets set))
-      → Offers w2 w' (side_items z (not_inside node.name) [] (set_targets set))
-      → code_of v.rcode ≡ no_error → v.is_referral ≡ true → v.is_truncated ≡ w2.full
-      → Ends w w' z (referral_to z node.name) v
+      → Offers w1 w2 (side_items z (inside node.name) [] (set_targets set)) → Offers w2 w'
+      (side_items z (not_inside node.name) [] (set_targets set)) → code_of v.rcode ≡ no_error
+      → v.is_referral ≡ true → v.is_truncated ≡ w2.full → Ends w w' z (referral_to z node.name) v
   Ends-referred {w} {w1} {w2} {w'} a g b =
       says-in_order z (referral_to z node.name) (Offers-is w w1 _ _ (sym servers_item) a)
       (Offers-is w1 w2 _ _ (ap (side_items z (inside node.name) []) (sym servers_targets)) g)
       (Offers-is w2 w' _ _ (ap (side_items z (not_inside node.name) []) (sym servers_targets)) b)
 
-  pub Took-referred : {s s1 s2 : Walk} (z2 : ZoneContents) → z2 ≡ z
-      → Took s s1 (side_nodes z (inside node.name) (set_targets set))
-      (length (filter (inside node.name) (set_targets set)))
+  pub Took-referred : {s s1 s2 : Walk} (z2 : ZoneContents) → z2 ≡ z → Took s s1 (side_nodes z
+      (inside node.name) (set_targets set)) (length (filter (inside node.name) (set_targets set)))
       → Took s1 s2 (side_nodes z2 (not_inside node.name) (set_targets set))
       (length (filter (not_inside node.name) (set_targets set)))
       → TookRest s s2 (ending z (referral_to z node.name))

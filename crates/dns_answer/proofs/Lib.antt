@@ -1,3 +1,4 @@
+pub mod Common
 pub mod Taking
 pub mod Offered
 pub mod Offering

@@ -1,33 +1,31 @@
 -- The way down to a name that has several labels below the node where it begins.
-use Rattle.dns_spec.proofs.Common.{◌≡◌, ℕ, zero, suc, Bool, true, ◌+◌, ◌-◌, ◌≤◌, ◌<◌, [], ◌∷◌, length, drop, length-drop, Option, None, Some, reverse, refl, sym, ap, ◌∙◌, subst, arith, Octets, DomainName, folded, at_or_below, suffixes, ZoneContents, find, is_some, exists, is_cut, cut_of}
-use Rattle.dns_zone.specs.Nodes.{ZoneNode}
-use Rattle.dns_zone.specs.declared.tree.sought.Sought.{Sought}
-use Rattle.dns_zone.specs.Starts.{IsBelow}
-use Rattle.dns_answer.specs.Walks.{node_of, node_or, labels_below, one_if, IsApex, IsAim, IsThere, IsMissing, IsBelowCut}
-use Rattle.dns_zone.proofs.NameOrder.{same-is, same-from}
-use Rattle.dns_zone.proofs.NameTree.{itself-under, under-trans}
-use Rattle.dns_zone.proofs.Existing.{exists-lower}
-use Rattle.dns_zone.proofs.WayLaws.{above_under, under_same, no_cut-at_origin}
+use Rattle.dns_answer.proofs.Common.{◌≡◌, ℕ, zero, suc, Bool, true, ◌+◌, ◌-◌, ◌≤◌, ◌<◌, [], ◌∷◌, length, drop, length-drop, Option, None, Some, reverse, refl, sym, ap, ◌∙◌, subst, arith, Octets, DomainName, folded, at_or_below, suffixes, ZoneContents, find, is_some, exists, is_cut, cut_of, ZoneNode, Sought, IsBelow, node_of, node_or, labels_below, one_if, IsApex, IsAim, IsThere, IsMissing, IsBelowCut, same-is, same-from, itself-under, under-trans, exists-lower, above_under, under_same, no_cut-at_origin}
 use Rattle.dns_answer.proofs.WaySteps.{cut-further, missing-further}
 
 -- what is known of a name above holds of the whole name
-pub cut-whole : (z : ZoneContents) (k : ℕ) (n : DomainName) (node : ZoneNode) → IsBelowCut z (drop k n) node → IsBelowCut z n node
+pub cut-whole : (z : ZoneContents) (k : ℕ) (n : DomainName) (node : ZoneNode)
+    → IsBelowCut z (drop k n) node → IsBelowCut z n node
 cut-whole z zero n node h = h
 cut-whole z (suc k) [] node h = h
 cut-whole z (suc k) (l ∷ n) node h = cut-further z l n node (cut-whole z k n node h)
 
-pub missing-whole : (z : ZoneContents) (start : ZoneNode) (ends : Bool) (k : ℕ) (n : DomainName) (node : Option ZoneNode) → IsMissing z start ends (drop k n) node → IsMissing z start ends n node
+pub missing-whole : (z : ZoneContents)
+    (start : ZoneNode) (ends : Bool) (k : ℕ) (n : DomainName) (node : Option ZoneNode)
+    → IsMissing z start ends (drop k n) node → IsMissing z start ends n node
 missing-whole z start ends zero n node h = h
 missing-whole z start ends (suc k) [] node h = h
-missing-whole z start ends (suc k) (l ∷ n) node h = missing-further z start ends l n node (missing-whole z start ends k n node h)
+missing-whole z start ends (suc k) (l ∷ n) node h =
+    missing-further z start ends l n node (missing-whole z start ends k n node h)
 
 -- a name without its first labels is still at or below another one, where it is as long
-pub under-drop : (k : ℕ) (n a : DomainName) → at_or_below n a ≡ true → length a + k ≤ length n → at_or_below (drop k n) a ≡ true
+pub under-drop : (k : ℕ) (n a : DomainName)
+    → at_or_below n a ≡ true → length a + k ≤ length n → at_or_below (drop k n) a ≡ true
 under-drop zero n a h len = h
 under-drop (suc k) [] a h len = absurd (omega (arith, len))
 under-drop (suc k) (l ∷ n) a h len =
     let longer : length a ≤ length n = omega (arith, len) in
-    under-drop k n a (above_under l n a (length n - length a) h (omega (arith, longer))) (omega (arith, len))
+    under-drop k n a
+    (above_under l n a (length n - length a) h (omega (arith, longer))) (omega (arith, len))
 
 -- where a way begins
 module _ (z : ZoneContents) (apex : ZoneNode) (ends : Bool) (s : Sought) (top : IsApex z apex) where
@@ -49,7 +47,8 @@ module _ (z : ZoneContents) (apex : ZoneNode) (ends : Bool) (s : Sought) (top : 
         stands = subst (λ n. exists z n ≡ true) name top.exists.stands;
         inside = subst (λ n. at_or_below n z.origin ≡ true) name
             (itself-under z.origin z.origin (same-from z.origin z.origin refl));
-        no_cut = λ e. subst (λ n. cut_of z n ≡ None) name (no_cut-at_origin z z.origin (omega arith));
+        no_cut =
+            λ e. subst (λ n. cut_of z n ≡ None) name (no_cut-at_origin z z.origin (omega arith));
         below = subst (IsBelow s) name aim.below;
         deep = omega (arith, aim.below.labels);
       }
@@ -87,6 +86,6 @@ module _ (z : ZoneContents) (apex : ZoneNode) (ends : Bool) (s : Sought) (top : 
     under-origin k few = grind (arith, start, under-trans, under-drop)
 
 -- the label before so many others
-pub label-before : (n labels : DomainName) (l : Octets) (b : ℕ) → labels ≡ n → 0 < b → drop (b - 1) labels ≡ l ∷ drop (b - 1 + 1) labels → drop (b - 1) n ≡ l ∷ drop b n
-label-before n labels l b e some h =
-    subst (λ m. drop (b - 1) m ≡ l ∷ drop (b - 1 + 1) m) e h ∙ ap (λ k. l ∷ drop k n) {x = b - 1 + 1} {y = b} (omega (arith, some))
+pub label-before : (n labels : DomainName) (l : Octets) (b : ℕ) → labels ≡ n
+    → 0 < b → drop (b - 1) labels ≡ l ∷ drop (b - 1 + 1) labels → drop (b - 1) n ≡ l ∷ drop b n
+label-before n labels l b e some h = grind arith

@@ -1,10 +1,8 @@
 -- Sets offered one after the other: what is kept of them, and when one is missing.
-use Rattle.dns_spec.proofs.Common.{◌≡◌, ℕ, ◌+◌, ◌<◌, ◌≤◌, Bool, true, false, cond, nat_le, nat_lt, List, [], ◌∷◌, ◌++◌, length, Some, refl, sym, ap, ◌∙◌, arith, length-append, ltb-true, lt-ltb, MessageQuestion, Item}
-use Rattle.dns_spec.specs.Reply.{kept, fitting}
-use Rattle.dns_spec.proofs.Layouts.GrowingSize.{size_grows, kept_is_fitting}
-use Rattle.dns_answer.specs.Draft.{Draft, empty_draft, size_with, offer, offered}
+use Rattle.dns_answer.proofs.Common.{◌≡◌, ℕ, ◌+◌, ◌<◌, ◌≤◌, Bool, true, false, cond, nat_le, nat_lt, List, [], ◌∷◌, ◌++◌, length, Some, refl, sym, ap, ◌∙◌, arith, length-append, ltb-true, lt-ltb, MessageQuestion, Item, kept, fitting, size_grows, kept_is_fitting, Draft, empty_draft, size_with, offer, offered}
 
-pub offered-append : (d : Draft) (is js : List Item) → offered d (is ++ js) ≡ offered (offered d is) js
+pub offered-append : (d : Draft) (is js : List Item)
+    → offered d (is ++ js) ≡ offered (offered d is) js
 unfolding offered
 offered-append d [] js = refl
 offered-append d (i ∷ is) js = offered-append (offer d i) is js
@@ -28,14 +26,16 @@ offered-full d (i ∷ is) e = ap (λ x. offered x is) (offer-full d i e) ∙ off
 
 -- a reply with room keeps what fits
 pub offered-kept : (q : MessageQuestion) (limit : ℕ) (front is : List Item)
-    → (offered (record { question = q; limit = limit; kept = front; full = false }) is).kept ≡ fitting (size_with q) limit front is
+    → (offered (record { question = q; limit = limit; kept = front; full = false }) is).kept
+    ≡ fitting (size_with q) limit front is
 unfolding offered
 offered-kept q limit front [] = refl
 offered-kept q limit front (i ∷ is) =
     grind (arith, offered-full, (offered-kept q limit (front ++ i ∷ []) is))
 
-pub offered-keeps : (q : MessageQuestion) (limit : ℕ) (is : List Item) → (offered (empty_draft q limit) is).kept ≡ kept (size_with q) limit is
-offered-keeps q limit is = offered-kept q limit [] is ∙ sym (kept_is_fitting (size_with q) (size_grows (Some q)) limit is)
+pub offered-keeps : (q : MessageQuestion) (limit : ℕ) (is : List Item)
+    → (offered (empty_draft q limit) is).kept ≡ kept (size_with q) limit is
+offered-keeps q limit is = grind (arith, offered-kept, kept_is_fitting, size_with, size_grows, Some)
 
 -- Sets are missing exactly where the reply is full once they are offered.
 abbrev open_draft : MessageQuestion → ℕ → List Item → Draft
@@ -48,33 +48,40 @@ record Counted (n : ℕ) (d : Draft) (is : List Item) : Type 0 where
   whole : d.full ≡ false → length d.kept ≡ n + length is
   missing : d.full ≡ true → length d.kept < n + length is
 
-counts : (q : MessageQuestion) (limit : ℕ) (front is : List Item) → Counted (length front) (offered (open_draft q limit front) is) is
+counts : (q : MessageQuestion) (limit : ℕ) (front is : List Item)
+    → Counted (length front) (offered (open_draft q limit front) is) is
 unfolding offered
 counts q limit front [] = record { whole = λ e. omega arith; missing = λ e. absurd (cc) }
 counts q limit front (i ∷ is) =
     grind (arith, length-append, offered-full, (counts q limit (front ++ i ∷ []) is))
 
 -- a reply that is offered more has no fewer sets
-longer : (q : MessageQuestion) (limit : ℕ) (front is : List Item) (b : Bool) → length front ≤ length (offered (record { question = q; limit = limit; kept = front; full = b }) is).kept
+longer : (q : MessageQuestion) (limit : ℕ) (front is : List Item) (b : Bool) → length front ≤ length
+    (offered (record { question = q; limit = limit; kept = front; full = b }) is).kept
 unfolding offered
 longer q limit front [] b = omega arith
 longer q limit front (i ∷ is) true = longer q limit front is true
-longer q limit front (i ∷ is) false = go (nat_le (size_with q (front ++ i ∷ [])) limit) (longer q limit (front ++ i ∷ []) is false) (longer q limit front is true)
+longer q limit front (i ∷ is) false = go (nat_le (size_with q (front ++ i ∷ [])) limit)
+    (longer q limit (front ++ i ∷ []) is false) (longer q limit front is true)
   where
-    go : (b : Bool) → length (front ++ i ∷ []) ≤ length (offered (open_draft q limit (front ++ i ∷ [])) is).kept
-        → length front ≤ length (offered (full_draft q limit front) is).kept
-        → length front ≤ length (offered (cond b (open_draft q limit (front ++ i ∷ [])) (full_draft q limit front)) is).kept
+    go : (b : Bool)
+        → length (front ++ i ∷ []) ≤ length (offered (open_draft q limit (front ++ i ∷ [])) is).kept
+        → length front ≤ length (offered (full_draft q limit front) is).kept → length front ≤ length
+        (offered (cond b (open_draft q limit (front ++ i ∷ [])) (full_draft q limit front)) is).kept
     go true h k = omega (arith, length-append front (i ∷ []))
     go false h k = k
 
--- What is kept of all sets lacks one of the first of them exactly where the reply is full once those are offered.
-truncated_by : (d : Draft) (rest : List Item) (n : ℕ) (first : List Item) → Counted 0 d first → (b : Bool) → d.full ≡ b
-    → nat_lt (length (offered d rest).kept) (length first) ≡ d.full
+-- What is kept of all sets lacks one of the first of them exactly where the reply is full once
+-- those are offered.
+truncated_by : (d : Draft) (rest : List Item) (n : ℕ) (first : List Item) → Counted 0 d first
+    → (b : Bool) → d.full ≡ b → nat_lt (length (offered d rest).kept) (length first) ≡ d.full
 truncated_by d rest n first h b h1 = grind (arith, offered-full, lt-ltb, longer, ltb-true)
 
 pub offered-truncated : (q : MessageQuestion) (limit : ℕ) (first rest : List Item)
-    → nat_lt (length (kept (size_with q) limit (first ++ rest))) (length first) ≡ (offered (empty_draft q limit) first).full
+    → nat_lt (length (kept (size_with q) limit (first ++ rest)))
+    (length first) ≡ (offered (empty_draft q limit) first).full
 offered-truncated q limit first rest =
     let d = offered (empty_draft q limit) first in
-    ap (λ is. nat_lt (length is) (length first)) (sym (offered-keeps q limit (first ++ rest)) ∙ ap (λ (x : Draft). x.kept) (offered-append (empty_draft q limit) first rest))
+    ap (λ is. nat_lt (length is) (length first)) (sym (offered-keeps q limit (first ++ rest))
+    ∙ ap (λ (x : Draft). x.kept) (offered-append (empty_draft q limit) first rest))
     ∙ truncated_by d rest 0 first (counts q limit [] first) d.full refl

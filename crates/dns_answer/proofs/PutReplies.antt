@@ -1,20 +1,6 @@
 -- What is put at the front of the buffer is the reply that the definitions state.
-use Rattle.std.proofs.Common.{◌≡◌, ℕ, ◌+◌, ◌≤◌, Bool, true, false, cond, not, ◌&&◌, nat_lt, nat_le, List, [], ◌∷◌, ◌++◌, length, take, Option, Some, is_some, refl, sym, ap, ◌∙◌, subst, arith, length-take}
-use Rattle.dns_spec.proofs.Common.{Octets, DomainName, is_name, ZoneContents, Header, MessageQuestion, Item, layout, size, most_aliases, outcome, items, is_authoritative, option_map}
-use Rattle.dns_spec.specs.Query.{reply_head}
-use Rattle.dns_spec.specs.Reply.{Decision, kept, truncated, answered, keep_longest, reply_of, reply_octets}
-use Rattle.dns_spec.proofs.Replies.FewItems.{few_nodes}
-use Rattle.dns_spec.proofs.Layouts.LayoutSize.{length-layout}
-use Rattle.dns_zone.specs.Nodes.{Walk}
-use Rattle.dns_wire.specs.QueryForm.{code_of}
+use Rattle.dns_answer.proofs.Common.{◌≡◌, ℕ, ◌+◌, ◌≤◌, Bool, true, false, cond, not, ◌&&◌, nat_lt, nat_le, List, [], ◌∷◌, ◌++◌, length, take, Option, Some, is_some, refl, sym, ap, ◌∙◌, subst, arith, length-take, Octets, DomainName, is_name, ZoneContents, Header, MessageQuestion, Item, layout, size, most_aliases, outcome, items, is_authoritative, option_map, reply_head, Decision, kept, truncated, answered, keep_longest, reply_of, reply_octets, few_nodes, length-layout, Walk, code_of, empty_draft, offer, offered, size_with, State, Holds, Rest, TookRest, chain_rest, Seeks, Followed, IsReply, Answers, Costs, Verdict}
 use Rattle.dns_answer.specs.Draft as spec
-use Rattle.dns_answer.specs.Draft.{empty_draft, offer, offered, size_with}
-use Rattle.dns_answer.specs.DraftForm.{State, Holds}
-use Rattle.dns_answer.specs.Ending.{Rest, TookRest}
-use Rattle.dns_answer.specs.Chain.{chain_rest}
-use Rattle.dns_answer.specs.Seeking.{Seeks, Followed}
-use Rattle.dns_answer.specs.Replies.{IsReply, Answers, Costs}
-use Rattle.dns_answer.specs.declared.ending.Verdict.{Verdict}
 use Rattle.dns_answer.proofs.Offering.{Offers-is}
 use Rattle.dns_answer.proofs.Offered.{offered-keeps, offered-truncated}
 use Rattle.dns_answer.proofs.AnswerItems.{items-are, required-are, required-first, rcode-is}
@@ -39,9 +25,11 @@ refusal-put z limit x h q len out is sized laid = grind (arith, laid_within)
 offered-question : (d : spec.Draft) (is : List Item) → (offered d is).question ≡ d.question
 unfolding offered
 offered-question d [] = refl
-offered-question d (i ∷ is) = offered-question (offer d i) is ∙ go d.full (nat_le (size_with d.question (d.kept ++ i ∷ [])) d.limit)
+offered-question d (i ∷ is) = offered-question (offer d i) is
+    ∙ go d.full (nat_le (size_with d.question (d.kept ++ i ∷ [])) d.limit)
   where
-    go : (a b : Bool) → (cond a d (cond b (record d { kept = d.kept ++ i ∷ [] }) (record d { full = true }))).question ≡ d.question
+    go : (a b : Bool) → (cond a d (cond b
+        (record d { kept = d.kept ++ i ∷ [] }) (record d { full = true }))).question ≡ d.question
     go true b = refl
     go false true = refl
     go false false = refl
@@ -67,17 +55,16 @@ module _ (z : ZoneContents) (h : Header) (q : MessageQuestion) where
   -- the zone and the question may be stated by other names
   pub answers-found : {s1 s' : Walk} {n : DomainName} {t : ℕ} {w w' : State} {v : Verdict}
       {aa : Bool} {head : Header} (led : Bool) → s1.zone ≡ z → n ≡ q.qname → t ≡ q.qtype
-      → Seeks w w' s1 s' t [] n v → Followed s1.zone t n v led
-      → aa ≡ not (v.is_referral && not led)
+      → Seeks w w' s1 s' t [] n v → Followed s1.zone t n v led → aa ≡ not (v.is_referral && not led)
       → head ≡ reply_head h aa v.is_truncated (code_of v.rcode) → Answers z h q w w' head
   answers-found {w = w} {w' = w'} {v = v} led zone name type seeks followed authority is_head =
       grind (arith, authoritative, rcode-is, Offers-is, items-are, truncates)
 
   -- Then they are laid out at the front of the buffer.
-  pub answer-put : (limit : ℕ) (w w' : State) (head : Header) (len : ℕ) (out : Octets) → Holds w (empty_draft q limit) → Answers z h q w w' head
-      → ((d : spec.Draft) → Holds w' d → len ≡ size (Some d.question) d.kept)
-      → ((d : spec.Draft) → Holds w' d → take len out ≡ layout head (Some d.question) d.kept)
-      → IsReply z limit (answered h q) len out
+  pub answer-put : (limit : ℕ) (w w' : State) (head : Header) (len : ℕ) (out : Octets)
+      → Holds w (empty_draft q limit) → Answers z h q w w' head → ((d : spec.Draft) → Holds w' d
+      → len ≡ size (Some d.question) d.kept) → ((d : spec.Draft) → Holds w' d → take len out
+      ≡ layout head (Some d.question) d.kept) → IsReply z limit (answered h q) len out
   answer-put limit w w' head len out begun stated sized laid =
       let all = items z q.qname q.qtype in
       let d = offered (empty_draft q limit) all in
@@ -85,23 +72,30 @@ module _ (z : ZoneContents) (h : Header) (q : MessageQuestion) where
       record {
         octets =
             ap (λ x. Some x)
-            (laid d held ∙ ap (λ (x : MessageQuestion). layout head (Some x) d.kept) (offered-question (empty_draft q limit) all)
-            ∙ ap (λ js. layout head (Some q) js) (offered-keeps q limit all) ∙ ap (λ x. layout x (Some q) (keep_longest z limit q)) (stated.header limit begun));
+            (laid d held ∙ ap (λ (x : MessageQuestion). layout head (Some x) d.kept)
+            (offered-question (empty_draft q limit) all)
+            ∙ ap (λ js. layout head (Some q) js) (offered-keeps q limit all)
+            ∙ ap (λ x. layout x (Some q) (keep_longest z limit q)) (stated.header limit begun));
         within = laid_within _ _ _ out len (sized d held) (laid d held);
       }
 
 -- What the search for the question's name took is no more than an answer may take.
-pub answer-costs : (h : Header) (q : MessageQuestion) (n : DomainName) (t : ℕ) (s s1 s' : Walk) → is_name q.qname ≡ true → n ≡ q.qname → t ≡ q.qtype
-    → s.visits ≡ 0 → s.comparisons ≡ 0 → s1.visits ≡ s.visits + 1 → s1.comparisons ≡ s.comparisons → s1.zone ≡ s.zone → TookRest s1 s' (chain_rest s1.zone t most_aliases [] n) → Costs (answered h q) s s'
-answer-costs h q n t s s1 s' name same_name same_type visits comparisons one_visit same_count zone took =
+pub answer-costs : (h : Header) (q : MessageQuestion) (n : DomainName) (t : ℕ) (s s1 s' : Walk)
+    → is_name q.qname ≡ true → n ≡ q.qname → t ≡ q.qtype → s.visits ≡ 0 → s.comparisons ≡ 0
+    → s1.visits ≡ s.visits + 1 → s1.comparisons ≡ s.comparisons → s1.zone ≡ s.zone
+    → TookRest s1 s' (chain_rest s1.zone t most_aliases [] n) → Costs (answered h q) s s'
+answer-costs
+    h q n t s s1 s' name same_name same_type visits comparisons one_visit same_count zone took =
     let z = s.zone in
     let there : TookRest s1 s' (chain_rest z q.qtype most_aliases [] q.qname) =
-    subst (TookRest s1 s') (λ i. chain_rest (zone i) (same_type i) most_aliases [] (same_name i)) took in
+    subst (TookRest s1 s')
+    (λ i. chain_rest (zone i) (same_type i) most_aliases [] (same_name i)) took in
     let fits = visits-fit z q.qname q.qtype s1 s' _ (omega (arith, visits, one_visit)) there in
     let few = few_nodes z q.qname q.qtype name in
     record {
       zone = there.zone ∙ zone;
       visits = fits;
       visits_a_name = omega (arith, fits, few);
-      comparisons = comparisons-fit z q.qname q.qtype s1 s' _ (omega (arith, comparisons, same_count)) there;
+      comparisons =
+          comparisons-fit z q.qname q.qtype s1 s' _ (omega (arith, comparisons, same_count)) there;
     }

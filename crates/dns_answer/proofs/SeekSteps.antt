@@ -1,19 +1,6 @@
 -- What seeking a name has offered and taken, by what is found for it.
-use Rattle.dns_spec.proofs.Common.{◌≡◌, inl, inr, ℕ, ◌+◌, ◌*◌, ◌<◌, ◌≤◌, Bool, true, false, cond, ◌&&◌, ◌||◌, List, [], ◌∷◌, ◌++◌, map, reverse, length, Option, None, Some, refl, sym, ap, ap₂, ◌∙◌, arith, subst, list_any, DomainName, folded, names_equal, same, at_or_below, type_cname, ResourceRecord, ZoneContents, at, of_type, with_owner, RecordSet, records_at, no_error, answer, Item, most_aliases, item, follows_alias, alias_set, first_target, has_any, Outcome, outcome_by, positive, negative, and_from, and_right, list_any-append}
-use Rattle.dns_zone.specs.Nodes.{Walk, ZoneNode, IsSetOf}
-use Rattle.dns_answer.specs.DraftForm.{State, Offers}
-use Rattle.dns_answer.specs.Ending.{Rest, ending, after_sets, Says, TookRest, asked_item}
-use Rattle.dns_answer.specs.Walks.{AreRecords, Took, IsApex, IsAim, labels_below}
-use Rattle.dns_answer.specs.Targets.{target_at}
-use Rattle.dns_answer.specs.Chain.{chain_rest}
-use Rattle.dns_answer.specs.Seeking.{names_of, aliases_left, leads_on, unsought, AreTargets, MaySeek, Seeks, HasNoAlias, IsShown, NextIs}
-use Rattle.dns_zone.specs.declared.tree.sought.Sought.{Sought}
-use Rattle.dns_answer.specs.declared.ending.Verdict.{Verdict}
-use Rattle.std.specs.Prelude.{All, drop}
-use Rattle.std.proofs.lemmas.List.Elements.{All-nil, All-cons, All-head, All-tail, All-append}
+use Rattle.dns_answer.proofs.Common.{◌≡◌, inl, inr, ℕ, ◌+◌, ◌*◌, ◌<◌, ◌≤◌, Bool, true, false, cond, ◌&&◌, ◌||◌, List, [], ◌∷◌, ◌++◌, map, length, Option, None, Some, refl, sym, ap, ap₂, ◌∙◌, arith, subst, list_any, DomainName, folded, names_equal, same, at_or_below, type_cname, ResourceRecord, ZoneContents, at, of_type, with_owner, RecordSet, records_at, no_error, answer, Item, most_aliases, item, follows_alias, alias_set, first_target, has_any, Outcome, outcome_by, positive, negative, and_from, and_right, list_any-append, Walk, ZoneNode, IsSetOf, State, Offers, Rest, ending, after_sets, Says, TookRest, asked_item, AreRecords, Took, IsApex, IsAim, labels_below, target_at, chain_rest, names_of, aliases_left, leads_on, unsought, AreTargets, MaySeek, Seeks, HasNoAlias, IsShown, NextIs, Sought, Verdict, All, drop, All-nil, All-cons, All-head, All-tail, All-append, or_comm, or-false, length-map, length-reverse, map-append, reverse-append}
 use Rattle.dns_answer.proofs.TargetLaws.{same-lower}
-use Rattle.std.proofs.Math.Bool.{or_comm, or-false}
-use Rattle.std.proofs.lemmas.List.{length-map, length-reverse, map-append, reverse-append}
 use Rattle.dns_answer.proofs.Taking.{Took-then, HasRoom-after}
 use Rattle.dns_answer.proofs.Offered.{offered-append}
 use Rattle.dns_answer.proofs.Offering.{Offers-then}
@@ -28,10 +15,9 @@ says-after {w} {w1} {w'} {r} is nodes a h = grind (arith, Offers-then, offered-a
 
 -- what seeking a name comes to, by what is still to come after its own sets
 pub sought-on : (a : Walk) (t : ℕ) (before : List DomainName) (s : DomainName) (is : List Item)
-    (r : Rest) {w w1 w' : State} {b c : Walk} {v : Verdict}
-    → chain_rest a.zone t (aliases_left before) before s ≡ after_sets is (labels_below a.zone s) r
-    → Took a b (labels_below a.zone s) 2 → TookRest b c r
-    → Offers w w1 is → Says w1 w' r v → Seeks w w' a c t before s v
+    (r : Rest) {w w1 w' : State} {b c : Walk} {v : Verdict} → chain_rest a.zone t (aliases_left
+    before) before s ≡ after_sets is (labels_below a.zone s) r → Took a b (labels_below a.zone s) 2
+    → TookRest b c r → Offers w w1 is → Says w1 w' r v → Seeks w w' a c t before s v
 sought-on a t before s is r {w = w} {w' = w'} {c = c} {v = v} e first rest offers says = record {
   says = subst (λ r. Says w w' r v) (sym e) (says-after is (labels_below a.zone s) offers says);
   took = subst (λ (r : Rest). TookRest a c r) (sym e)
@@ -39,7 +25,8 @@ sought-on a t before s is r {w = w} {w' = w'} {c = c} {v = v} e first rest offer
 }
 
 -- the names that were sought, the last one first
-any-names : (n : DomainName) (ss : List Sought) → list_any (λ (s : Sought). same n s.name) ss ≡ list_any (same n) (names_of ss)
+any-names : (n : DomainName) (ss : List Sought)
+    → list_any (λ (s : Sought). same n s.name) ss ≡ list_any (same n) (names_of ss)
 any-names n [] = refl
 any-names n (s ∷ ss) =
     let p = same n s.name in
@@ -55,10 +42,9 @@ pub unsought-is : (origin m : DomainName) (sought : List DomainName) (o : Option
 unsought-is origin m sought o b leads inside among = grind arith
 
 -- names in lower case are the same where they are equal
-any-lower : (n : DomainName) (ss : List Sought) → folded n ≡ n
-    → All (λ (s : Sought). folded s.name ≡ s.name) ss
-    → list_any (λ (s : Sought). names_equal n s.name) ss
-    ≡ list_any (λ (s : Sought). same n s.name) ss
+any-lower : (n : DomainName) (ss : List Sought)
+    → folded n ≡ n → All (λ (s : Sought). folded s.name ≡ s.name) ss → list_any
+    (λ (s : Sought). names_equal n s.name) ss ≡ list_any (λ (s : Sought). same n s.name) ss
 any-lower n [] low all = refl
 any-lower n (s ∷ ss) low all =
     let is_low = λ (s : Sought). folded s.name ≡ s.name in
@@ -66,13 +52,10 @@ any-lower n (s ∷ ss) low all =
     (any-lower n ss low (All-tail is_low s ss all))
 
 pub names-more : (ss : List Sought) (s : Sought) → names_of (ss ++ s ∷ []) ≡ s.name ∷ names_of ss
-names-more ss s =
-    ap reverse (map-append (λ (s : Sought). s.name) ss (s ∷ []))
-    ∙ reverse-append (map (λ (s : Sought). s.name) ss) (s.name ∷ [])
+names-more ss s = grind (arith, map-append, reverse-append)
 
 pub names-count : (ss : List Sought) → length (names_of ss) ≡ length ss
-names-count ss =
-    length-reverse (map (λ (s : Sought). s.name) ss) ∙ length-map ss (λ (s : Sought). s.name)
+names-count ss = grind (arith, length-reverse, length-map)
 
 -- a name in lower case was sought: the last one, or one before it
 pub among-is : (n : DomainName) (l f : Sought) (ts earlier : List Sought) → f ∷ ts ≡ earlier
@@ -84,9 +67,9 @@ among-is n l f ts earlier e low lower =
     let others = subst (λ es. All (λ (s : Sought). folded s.name ≡ s.name) (drop 1 es)) whole
     lower.others in
     ap₂ (λ a b. a || (b || same n f.name))
-    (same-lower n l.name low (lower.last (omega (arith, ap length whole)))) (any-lower n ts low others)
-    ∙ ap (λ b. same n l.name || b) (or_comm _ (same n f.name) ∙ any-names n (f ∷ ts)
-    ∙ ap (λ es. list_any (same n) (names_of es)) e)
+    (same-lower n l.name low (lower.last (omega (arith, ap length whole))))
+    (any-lower n ts low others) ∙ ap (λ b. same n l.name || b) (or_comm _ (same n f.name)
+    ∙ any-names n (f ∷ ts) ∙ ap (λ es. list_any (same n) (names_of es)) e)
 
 -- another name may be sought after an alias
 pub may-follow : {s s' : Walk} {top : ZoneNode} {earlier : List Sought} {n m : Sought}
@@ -177,9 +160,9 @@ module _ (z : ZoneContents) (t : ℕ) (before : List DomainName) (s : DomainName
           grind (arith, ends-alias, alias-item, outcome-alias, has-alias, alias-leads)
 
       -- it leads to another name
-      pub alias-goes_on : (m : Sought) (l : Option ZoneNode) → NextIs z set (s ∷ before) (Some (m, l))
-          → Chain (asked_item s set)
-          (chain_rest z t (aliases_left (s ∷ before)) (s ∷ before) m.name)
+      pub alias-goes_on : (m : Sought) (l : Option ZoneNode)
+          → NextIs z set (s ∷ before) (Some (m, l)) → Chain
+          (asked_item s set) (chain_rest z t (aliases_left (s ∷ before)) (s ∷ before) m.name)
       alias-goes_on m l next =
           goes-on z t (aliases_left before) before s (aliases_left (s ∷ before)) m.name
           (asked_item s set) shown.0 alias-item

@@ -1,13 +1,5 @@
 -- What is sent is the reply that the definitions state, by the query that a datagram was read as.
-use Rattle.std.proofs.Common.{◌≡◌, ◌↔◌, ℕ, ◌<◌, ◌≤◌, Bool, true, false, Option, None, Some, IsTrue, IsNone, IfSome, All, length, take, refl, sym, ap, subst, ◌∙◌, arith}
-use Rattle.dns_spec.proofs.Common.{true≢false, All-weaker, option_map, Octets, ResourceRecord, ZoneContents, IsWritable, IsReadRecord}
-use Rattle.dns_spec.specs.Reading.{Spells}
-use Rattle.dns_spec.specs.Query.{is_ignored, QueryRead, absent, refused_with, query, query_read}
-use Rattle.dns_spec.specs.Reply.{Decision, decide_query, decide, reply_of, keep_longest, reply_with, reply, reply_octets, reply_message, octets_of}
-use Rattle.dns_spec.proofs.Replies.ReplySpelled.{reply_spells}
-use Rattle.dns_zone.specs.Nodes.{Walk}
-use Rattle.dns_zone.specs.ZoneForm.{IsBuilt}
-use Rattle.dns_answer.specs.Replies.{IsReply, Costs, Responds}
+use Rattle.dns_answer.proofs.Common.{◌≡◌, ◌↔◌, ℕ, ◌<◌, ◌≤◌, Bool, true, false, Option, None, Some, IsTrue, IsNone, IfSome, All, length, take, refl, sym, ap, subst, ◌∙◌, arith, true≢false, All-weaker, option_map, Octets, ResourceRecord, ZoneContents, IsWritable, IsReadRecord, Spells, is_ignored, QueryRead, absent, refused_with, query, query_read, Decision, decide_query, decide, reply_of, keep_longest, reply_with, reply, reply_octets, reply_message, octets_of, reply_spells, Walk, IsBuilt, IsReply, Costs, Responds}
 
 -- the datagrams to which no reply is owed
 abbrev is_absent : QueryRead → Bool
@@ -24,27 +16,31 @@ module _ (d : Octets) (y : QueryRead) (read : y ≡ query_read d) where
   ignored-by = sym (absent-is d) ∙ ap is_absent (sym read)
 
   -- nothing is sent exactly where no reply is owed
-  pub silent : is_absent y ≡ true → (let none : Option ℕ = None in IsNone none) ↔ IsTrue (is_ignored d)
+  pub silent : is_absent y ≡ true
+      → (let none : Option ℕ = None in IsNone none) ↔ IsTrue (is_ignored d)
   silent e = (λ h. ignored-by ∙ e, λ h. refl)
 
   pub stated : is_absent y ≡ false → (len : ℕ) → IsNone (Some len) ↔ IsTrue (is_ignored d)
   stated e len = (λ h. absurd (true≢false h), λ h. sym h ∙ ignored-by ∙ e)
 
   -- the octets and the decision
-  pub octets-by : (z : ZoneContents) (limit : ℕ) → option_map reply_octets (reply_of (keep_longest z limit) z (decide_query z y)) ≡ octets_of z d limit
+  pub octets-by : (z : ZoneContents) (limit : ℕ) → option_map reply_octets
+      (reply_of (keep_longest z limit) z (decide_query z y)) ≡ octets_of z d limit
   unfolding octets_of reply reply_with decide
-  octets-by z limit = ap (λ x. option_map reply_octets (reply_of (keep_longest z limit) z (decide_query z x))) read
+  octets-by z limit = grind (arith, option_map, reply_octets, reply_of, keep_longest, decide_query)
 
-  pub costs-by : (z : ZoneContents) (s s' : Walk) → Costs (decide_query z y) s s' → Costs (decide z d) s s'
+  pub costs-by : (z : ZoneContents) (s s' : Walk)
+      → Costs (decide_query z y) s s' → Costs (decide z d) s s'
   unfolding decide
   costs-by z s s' costs = subst (λ x. Costs (decide_query z x) s s') read costs
 
 -- the records of a built zone fit a message
 writable : (r : ResourceRecord) → IsReadRecord r → IsWritable r
-writable r read = record { owner = read.owner; rtype = read.rtype; ttl = let t = read.ttl in omega (arith, t); rdata = read.rdata }
+writable r read = grind arith
 
 -- What is sent spells the message of the reply.
-pub spelled : (z : ZoneContents) (d sent : Octets) (limit : ℕ) → IsBuilt z → All (λ o. o < 256) d → 271 ≤ limit → limit ≤ 65535 → Some sent ≡ octets_of z d limit
+pub spelled : (z : ZoneContents) (d sent : Octets) (limit : ℕ) → IsBuilt z
+    → All (λ o. o < 256) d → 271 ≤ limit → limit ≤ 65535 → Some sent ≡ octets_of z d limit
     → IfSome (reply z d limit) (λ r. Spells sent (reply_message r))
 unfolding octets_of
 spelled z d sent limit built low from upto e = grind (arith, reply_spells, All-weaker, writable)
@@ -56,9 +52,9 @@ nothing-taken x s visits comparisons = grind arith
 module _ (d : Octets) (y : QueryRead) (read : y ≡ query_read d) (s s' : Walk) (limit : ℕ)
     (costs : Costs (decide_query s.zone y) s s') where
   -- no reply is owed
-  pub unanswered : (out : Octets) → is_absent y ≡ true
-      → option_map reply_octets (reply_of (keep_longest s.zone limit) s.zone (decide_query s.zone y))
-      ≡ None → Responds s s' d limit None out
+  pub unanswered : (out : Octets) → is_absent y ≡ true → option_map reply_octets
+      (reply_of (keep_longest s.zone limit) s.zone (decide_query s.zone y)) ≡ None
+      → Responds s s' d limit None out
   unanswered out missing none = grind (arith, silent, octets-by, costs-by)
 
   -- the octets of a reply are sent

@@ -1,14 +1,5 @@
 -- The additional sets of a reply are the addresses of the targets that did not stand before.
-use Rattle.dns_spec.proofs.Common.{arith, ◌≡◌, ℕ, Bool, true, false, cond, ◌||◌, ◌&&◌, ◌⊎◌, inl, inr, not, List, [], ◌∷◌, ◌++◌, refl, sym, ap, ap₂, ◌∙◌, Some, and-false, false≢true, false_from_ne_true, and_right, or_parts, flat_map-append, list_any-append, list_any, DomainName, folded, names_equal, same, type_a, type_aaaa, ResourceRecord, ZoneContents, at, rrset, of_type, additional, Item, records_of}
-use Rattle.std.specs.Prelude.{◌==◌}
-use Rattle.dns_spec.specs.Answer.{item, stands, has_any, address_set, address_sets, extra}
-use Rattle.dns_spec.proofs.Records.SortedOnce.{Each, each_weaker}
-use Rattle.dns_spec.proofs.Replies.ItemSets.{each_typed, each_among, filter_test}
-use Rattle.dns_spec.proofs.Replies.FewItems.{item_records}
-use Rattle.dns_zone.proofs.NameOrder.{same-is, same-from}
-use Rattle.dns_answer.specs.Targets.{addresses_of, target_items, side_items}
-use Rattle.dns_answer.specs.Ending.{all_names}
-use Rattle.dns_zone.proofs.WayLaws.{at-folded}
+use Rattle.dns_answer.proofs.Common.{arith, ◌≡◌, ℕ, Bool, true, false, cond, ◌||◌, ◌&&◌, ◌⊎◌, inl, inr, not, List, [], ◌∷◌, ◌++◌, refl, sym, ap, ap₂, ◌∙◌, Some, and-false, false≢true, false_from_ne_true, and_right, or_parts, flat_map-append, list_any-append, list_any, DomainName, folded, names_equal, same, type_a, type_aaaa, ResourceRecord, ZoneContents, at, rrset, of_type, additional, Item, records_of, ◌==◌, item, stands, has_any, address_set, address_sets, extra, Each, each_weaker, each_typed, each_among, filter_test, item_records, same-is, same-from, addresses_of, target_items, side_items, all_names, at-folded}
 
 abbrev is_at : DomainName → ℕ → ResourceRecord → Bool
 is_at n t r = same r.owner n && r.rtype == t
@@ -30,18 +21,15 @@ any-each p b (r ∷ rs) e = ap₂ (λ x y. x || y) e.0 (any-each p b rs e.1) ∙
 -- names that are the same
 any-same : (n m : DomainName) (ns : List DomainName) → same m n ≡ true
     → list_any (same n) ns ≡ list_any (same m) ns
-any-same n m ns e =
-    ap (λ f. list_any (λ (x : DomainName). names_equal f (folded x)) ns) (sym (same-is m n e))
+any-same n m ns e = grind (arith, list_any, names_equal, folded, same-is)
 
 same-turn : (n m : DomainName) (b : Bool) → same m n ≡ b → same n m ≡ b
 same-turn n m true e = same-from n m (sym (same-is m n e))
-same-turn n m false e =
-    false_from_ne_true (same n m) (λ h. false≢true (sym e ∙ same-from m n (sym (same-is n m h))))
+same-turn n m false e = grind (arith, false_from_ne_true, same, false≢true, same-from, same-is)
 
 rrset-same : (z : ZoneContents) (n m : DomainName) (t : ℕ) → same m n ≡ true
     → rrset z m t ≡ rrset z n t
-rrset-same z n m t e =
-    ap (of_type t) (sym (at-folded z m) ∙ ap (at z) (same-is m n e) ∙ at-folded z n)
+rrset-same z n m t e = grind (arith, of_type, at-folded, at, same-is)
 
 -- the records of a name and a type
 abbrev IsAt : DomainName → ℕ → ResourceRecord → Type 0
@@ -50,7 +38,8 @@ IsAt m t r = (same r.owner m ≡ true) × (r.rtype ≡ t)
 set-owners : (z : ZoneContents) (m : DomainName) (t : ℕ) → Each (IsAt m t) (rrset z m t)
 set-owners z m t =
     each_typed t (λ (r : ResourceRecord). same r.owner m ≡ true) (at z m)
-    (each_among (λ (r : ResourceRecord). same r.owner m ≡ true) (at z m) (λ r k. filter_test (λ (s : ResourceRecord). same s.owner m) r z.records k))
+    (each_among (λ (r : ResourceRecord). same r.owner m ≡ true)
+    (at z m) (λ r k. filter_test (λ (s : ResourceRecord). same s.owner m) r z.records k))
 
 abbrev IsAddress : ℕ → Type 0
 IsAddress t = (t ≡ type_a) ⊎ (t ≡ type_aaaa)
@@ -68,8 +57,7 @@ module _ (z : ZoneContents) (n m : DomainName) where
 -- a reply has the addresses of the names before, and of no others
 record Stood (z : ZoneContents) (t : ℕ) (earlier : List Item) (before : List DomainName)
     : Type 0 where
-  are : (n : DomainName)
-      → stands n t earlier ≡ (list_any (same n) before && has_any (rrset z n t))
+  are : (n : DomainName) → stands n t earlier ≡ (list_any (same n) before && has_any (rrset z n t))
 
 module _ (z : ZoneContents) where
   address-one : (t : ℕ) (earlier : List Item) (before : List DomainName) (m : DomainName)
@@ -116,9 +104,8 @@ module _ (z : ZoneContents) where
       final false h true false alike = refl
       final false h false b alike = and-false (not b)
 
-  extra-stood : (earlier : List Item) (before ms : List DomainName)
-      → Stood z type_a earlier before → Stood z type_aaaa earlier before
-      → extra z earlier ms ≡ side_items z all_names before ms
+  extra-stood : (earlier : List Item) (before ms : List DomainName) → Stood z type_a earlier before
+      → Stood z type_aaaa earlier before → extra z earlier ms ≡ side_items z all_names before ms
   unfolding extra side_items
   extra-stood earlier before [] a b = refl
   extra-stood earlier before (m ∷ ms) a b =

@@ -1,7 +1,5 @@
 -- What look-ups take one after the other, and the room that they leave.
-use Rattle.std.proofs.Common.{ℕ, ◌+◌, ◌≤◌, arith}
-use Rattle.dns_zone.specs.Nodes.{Walk}
-use Rattle.dns_answer.specs.Walks.{HasRoom, Took}
+use Rattle.dns_answer.proofs.Common.{ℕ, ◌+◌, ◌≤◌, arith, Walk, HasRoom, Took}
 
 -- a walk that goes on no further took no more than any
 pub Took-none : {s : Walk} {nodes misses : ℕ} → Took s s nodes misses
@@ -11,8 +9,7 @@ pub Took-then : {s s' s'' : Walk} {n m n' m' : ℕ} → Took s s' n m → Took s
     → Took s s'' (n + n') (m + m')
 Took-then a b = grind arith
 
-pub Took-within : {s s' : Walk} {n m n' m' : ℕ} → n ≤ n' → m ≤ m' → Took s s' n m
-    → Took s s' n' m'
+pub Took-within : {s s' : Walk} {n m n' m' : ℕ} → n ≤ n' → m ≤ m' → Took s s' n m → Took s s' n' m'
 Took-within nodes misses took = grind arith
 
 -- the room that is left

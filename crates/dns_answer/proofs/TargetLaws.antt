@@ -1,39 +1,20 @@
 -- The targets of a set, one after the other, and what was offered for those before.
-use Rattle.dns_spec.proofs.Common.{◌≡◌, ℕ, zero, suc, ◌+◌, ◌-◌, ◌<◌, ◌≤◌, Bool, true, false, cond, ◌||◌, ◌&&◌, ◌⊎◌, inl, inr, not, List, [], ◌∷◌, ◌++◌, map, sum, length, take, drop, get_or, Option, None, Some, refl, sym, ap, ap₂, ◌∙◌, arith, add-one, append_assoc, append-nil, length-append, subst, take-append-drop, list_all-append, list_any-append, option_to_list, Octets, DomainName, folded, names_equal, same, at_or_below, target, type_a, type_aaaa, ResourceRecord, ZoneContents, at, of_type, RecordSet, set_of, Section, additional, item, targets_in_zone, exists, lt-ltb, IsReadRecord}
-use Rattle.std.proofs.Math.Seq.{take-suc}
-use Rattle.std.proofs.Math.Bool.{and-true, and-false}
-use Rattle.std.proofs.lemmas.Bool.{false≢true, false_from_ne_true, or_left, or_right, cases_lt}
-use Rattle.std.proofs.lemmas.List.Elements.{filter-append, filter_map-append}
-use Rattle.std.specs.List.{list_all, list_any, filter, filter_map, cons_option}
-use Rattle.dns_zone.specs.Nodes.{Walk}
-use Rattle.dns_zone.specs.ZoneForm.{IsBuilt}
-use Rattle.std.specs.Prelude.{nat_lt}
-use Rattle.dns_spec.specs.Checks.{is_owner, outside}
-use Rattle.dns_spec.proofs.Records.SortedOnce.{Among, filter_among, each_weaker}
-use Rattle.dns_spec.proofs.ZoneChecks.PassedChecks.{checks_at}
-use Rattle.dns_spec.proofs.Records.RecordOrder.{each_all}
-use Rattle.dns_spec.proofs.Replies.FewItems.{sum_cons}
-use Rattle.dns_spec.proofs.Replies.ItemSets.{each_among}
-use Rattle.dns_zone.proofs.Pairs.{filter_none}
+use Rattle.dns_answer.proofs.Common.{◌≡◌, ℕ, zero, suc, ◌+◌, ◌-◌, ◌<◌, ◌≤◌, Bool, true, false, ◌||◌, ◌&&◌, ◌⊎◌, inl, inr, not, List, [], ◌∷◌, ◌++◌, map, sum, length, take, drop, get_or, Option, None, Some, refl, sym, ap, ap₂, ◌∙◌, arith, add-one, append_assoc, append-nil, length-append, subst, take-append-drop, list_all-append, list_any-append, option_to_list, Octets, DomainName, folded, names_equal, same, at_or_below, target, type_a, type_aaaa, ResourceRecord, ZoneContents, at, of_type, RecordSet, set_of, Section, additional, item, targets_in_zone, exists, lt-ltb, IsReadRecord, take-suc, and-true, and-false, false≢true, false_from_ne_true, or_left, or_right, cases_lt, filter-append, filter_map-append, list_all, list_any, filter, filter_map, cons_option, Walk, IsBuilt, nat_lt, is_owner, outside, Among, filter_among, each_weaker, checks_at, each_all, sum_cons, each_among, filter_none, same-from, same-under, itself-under, at-folded, Took, State, Offers, set_targets, targets_of_first, target_at, takes_target, addresses_of, depth_in, target_items, side_items, side_nodes, target_nodes, target_misses}
 use Rattle.dns_answer.proofs.Taking.{Took-then, Took-within}
-use Rattle.dns_zone.proofs.NameOrder.{same-from}
-use Rattle.dns_zone.proofs.NameTree.{same-under, itself-under}
-use Rattle.dns_zone.proofs.WayLaws.{at-folded}
-use Rattle.dns_answer.specs.Walks.{Took}
-use Rattle.dns_answer.specs.DraftForm.{State, Offers}
 use Rattle.dns_answer.proofs.Offering.{Offers-is, Offers-then, Offers-full}
-use Rattle.dns_answer.specs.Targets.{set_targets, targets_of_first, target_at, takes_target, addresses_of, depth_in, target_items, side_items, side_nodes, target_nodes, target_misses}
 
 one_more : (o : Option DomainName) → cons_option o [] ≡ option_to_list o
 one_more o = grind arith
 
 -- the targets of one record more
-pub first-more : (set : RecordSet) (i : ℕ) → i < length set.rdata → targets_of_first (i + 1) set ≡ targets_of_first i set ++ option_to_list (target_at i set)
+pub first-more : (set : RecordSet) (i : ℕ) → i < length set.rdata
+    → targets_of_first (i + 1) set ≡ targets_of_first i set ++ option_to_list (target_at i set)
 first-more set i h =
     let f = λ (d : Octets). target set.rtype d in
     let d = get_or set.rdata i [] in
-    ap (λ k. filter_map f (take k set.rdata)) (add-one i) ∙ ap (filter_map f) (take-suc set.rdata i [] h)
-    ∙ filter_map-append f (take i set.rdata) (d ∷ []) ∙ ap (λ x. targets_of_first i set ++ x) (one_more (target set.rtype d))
+    ap (λ k. filter_map f (take k set.rdata)) (add-one i)
+    ∙ ap (filter_map f) (take-suc set.rdata i [] h) ∙ filter_map-append f (take i set.rdata)
+    (d ∷ []) ∙ ap (λ x. targets_of_first i set ++ x) (one_more (target set.rtype d))
 
 -- a target more, and whether one stood before
 pub any-more : (p : DomainName → Bool) (set : RecordSet) (i : ℕ) → i < length set.rdata
@@ -59,25 +40,28 @@ stood-some p set (suc k) i m h l e f =
     by_place (inr after) rest = grind arith
 
 -- whether all pass a test, with one target more
-pub all-more : (p : DomainName → Bool) (set : RecordSet) (i : ℕ) → i < length set.rdata
-    → list_all p (targets_of_first (i + 1) set)
-    ≡ (list_all p (targets_of_first i set)
-    && takes_target p (target_at i set))
+pub all-more : (p : DomainName → Bool) (set : RecordSet) (i : ℕ)
+    → i < length set.rdata → list_all p (targets_of_first (i + 1) set)
+    ≡ (list_all p (targets_of_first i set) && takes_target p (target_at i set))
 all-more p set i h = grind (arith, first-more, list_all-append, and-true)
 
 -- what is offered for one target more
-pub side_items-append : (z : ZoneContents) (p : DomainName → Bool) (before ms ns : List DomainName) → side_items z p before (ms ++ ns) ≡ side_items z p before ms ++ side_items z p (before ++ ms) ns
+pub side_items-append : (z : ZoneContents) (p : DomainName → Bool) (before ms ns : List DomainName)
+    → side_items z p before
+    (ms ++ ns) ≡ side_items z p before ms ++ side_items z p (before ++ ms) ns
 unfolding side_items
 side_items-append z p before [] ns = ap (λ b. side_items z p b ns) (sym (append-nil before))
 side_items-append z p before (m ∷ ms) ns =
     grind (arith, append_assoc, (side_items-append z p (before ++ m ∷ []) ms ns))
 
-side_items-one : (z : ZoneContents) (p : DomainName → Bool) (before : List DomainName) (o : Option DomainName) → side_items z p before (option_to_list o) ≡ target_items z p before o
+side_items-one : (z : ZoneContents) (p : DomainName → Bool) (before : List DomainName)
+    (o : Option DomainName) → side_items z p before (option_to_list o) ≡ target_items z p before o
 unfolding side_items
 side_items-one z p before o = grind (arith, append-nil)
 
-pub side_items-more : (z : ZoneContents) (p : DomainName → Bool) (set : RecordSet) (i : ℕ) → i < length set.rdata
-    → side_items z p [] (targets_of_first i set) ++ target_items z p (targets_of_first i set) (target_at i set) ≡ side_items z p [] (targets_of_first (i + 1) set)
+pub side_items-more : (z : ZoneContents) (p : DomainName → Bool) (set : RecordSet) (i : ℕ)
+    → i < length set.rdata → side_items z p [] (targets_of_first i set) ++ target_items z p
+    (targets_of_first i set) (target_at i set) ≡ side_items z p [] (targets_of_first (i + 1) set)
 side_items-more z p set i h = grind (arith, side_items-one, side_items-append, first-more)
 
 pub side_items-none : (z : ZoneContents) (p : DomainName → Bool) → side_items z p [] [] ≡ []
@@ -113,24 +97,26 @@ module _ (z : ZoneContents) (p : DomainName → Bool) where
   misses-one : (o : Option DomainName) → length (filter p (option_to_list o)) ≡ target_misses p o
   misses-one o = grind arith
 
-  pub Took-more : (set : RecordSet) (i : ℕ) {s s' s'' : Walk} → i < length set.rdata
-      → Took s s' (side_nodes z p (targets_of_first i set))
-      (length (filter p (targets_of_first i set)))
-      → Took s' s'' (target_nodes z p (target_at i set))
-      (target_misses p (target_at i set))
+  pub Took-more : (set : RecordSet) (i : ℕ) {s s' s'' : Walk} → i < length set.rdata → Took s s'
+      (side_nodes z p (targets_of_first i set)) (length (filter p (targets_of_first i set)))
+      → Took s' s'' (target_nodes z p (target_at i set)) (target_misses p (target_at i set))
       → Took s s'' (side_nodes z p (targets_of_first (i + 1) set))
       (length (filter p (targets_of_first (i + 1) set)))
   Took-more set i {s} {s'} {s''} h a b =
-      let ms = targets_of_first i set in
-      let o = target_at i set in
-      subst (λ ns. Took s s'' (side_nodes z p ns) (length (filter p ns))) (sym (first-more set i h))
-      (Took-within (omega (arith, nodes-append ms (option_to_list o), nodes-one o))
-      (omega (arith, misses-append ms (option_to_list o), misses-one o)) (Took-then a b))
+      grind (
+        arith,
+        first-more,
+        Took-within,
+        nodes-append,
+        nodes-one,
+        misses-append,
+        misses-one,
+        Took-then,
+      )
 
 -- the first targets of a set and the others
-first-rest : (set : RecordSet) (i : ℕ)
-    → targets_of_first i set ++ filter_map (λ (d : Octets). target set.rtype d) (drop i set.rdata)
-    ≡ set_targets set
+first-rest : (set : RecordSet) (i : ℕ) → targets_of_first i set
+    ++ filter_map (λ (d : Octets). target set.rtype d) (drop i set.rdata) ≡ set_targets set
 first-rest set i =
     let of : Octets → Option DomainName = λ d. target set.rtype d in
     sym (filter_map-append of (take i set.rdata) (drop i set.rdata))
@@ -138,9 +124,8 @@ first-rest set i =
 
 -- who ends after the first targets took no more than all may take
 pub Took-rest : (z : ZoneContents) (p : DomainName → Bool) (set : RecordSet) (i : ℕ) {s s' : Walk}
-    → Took s s' (side_nodes z p (targets_of_first i set))
-    (length (filter p (targets_of_first i set)))
-    → Took s s' (side_nodes z p (set_targets set)) (length (filter p (set_targets set)))
+    → Took s s' (side_nodes z p (targets_of_first i set)) (length (filter p (targets_of_first
+    i set))) → Took s s' (side_nodes z p (set_targets set)) (length (filter p (set_targets set)))
 Took-rest z p set i {s} {s'} took =
     let ms = targets_of_first i set in
     let ns = filter_map (λ (d : Octets). target set.rtype d) (drop i set.rdata) in
@@ -164,14 +149,18 @@ pub item-none : (s : Section) (rs : List ResourceRecord) → set_of rs ≡ None 
 item-none s rs h = grind arith
 
 -- a zone has no records outside
-owner_inside : (z : ZoneContents) → IsBuilt z → (r : ResourceRecord) → Among r z.records → at_or_below r.owner z.origin ≡ true
+owner_inside : (z : ZoneContents)
+    → IsBuilt z → (r : ResourceRecord) → Among r z.records → at_or_below r.owner z.origin ≡ true
 owner_inside z kept r m =
-    let lows = each_weaker IsReadRecord (λ (s : ResourceRecord). folded s.owner ≡ s.owner) z.records (λ s h. h.lower_owner) (each_all IsReadRecord z.records kept.each) in
+    let lows = each_weaker IsReadRecord (λ (s : ResourceRecord). folded s.owner ≡ s.owner) z.records
+    (λ s h. h.lower_owner) (each_all IsReadRecord z.records kept.each) in
     let out : outside z r.owner ≡ false = (checks_at z kept.low lows kept.passes r m).1.1.1.1.0 in
-    go (at_or_below r.owner z.origin) (ap (λ b. b && not (at_or_below r.owner z.origin)) (sym (owner z r m)) ∙ out)
+    go (at_or_below r.owner z.origin)
+    (ap (λ b. b && not (at_or_below r.owner z.origin)) (sym (owner z r m)) ∙ out)
   where
     owner : (z : ZoneContents) (r : ResourceRecord) → Among r z.records → is_owner z r.owner ≡ true
-    owner z r m = some (at z r.owner) (filter_among (λ (s : ResourceRecord). same s.owner r.owner) r z.records (same-from r.owner r.owner refl) m)
+    owner z r m = some (at z r.owner) (filter_among (λ (s : ResourceRecord). same s.owner r.owner)
+        r z.records (same-from r.owner r.owner refl) m)
       where
         some : (rs : List ResourceRecord) → Among r rs → nat_lt 0 (length rs) ≡ true
         some [] m = absurd m
@@ -195,20 +184,21 @@ pub none-missing : (z : ZoneContents) (m : DomainName) → exists z m ≡ false 
 none-missing z m out =
     none-at z m (λ r a e. false≢true (sym out ∙ some z.records r a (itself-under r.owner m e)))
   where
-    some : (rs : List ResourceRecord) (r : ResourceRecord) → Among r rs
-        → at_or_below r.owner m ≡ true
-        → list_any (λ (r : ResourceRecord). at_or_below r.owner m) rs ≡ true
+    some : (rs : List ResourceRecord) (r : ResourceRecord) → Among r rs → at_or_below r.owner m
+        ≡ true → list_any (λ (r : ResourceRecord). at_or_below r.owner m) rs ≡ true
     some [] r a e = absurd a
     some (s ∷ rs) r (inl is) e = grind arith
     some (s ∷ rs) r (inr a) e = or_right (at_or_below s.owner m) _ (some rs r a e)
 
 -- the addresses of a name are those of its lower case
-pub addresses-folded : (z : ZoneContents) (m : DomainName) → addresses_of z (folded m) ≡ addresses_of z m
-addresses-folded z m = ap (λ rs. item additional (of_type type_a rs) ++ item additional (of_type type_aaaa rs)) (at-folded z m)
+pub addresses-folded : (z : ZoneContents) (m : DomainName)
+    → addresses_of z (folded m) ≡ addresses_of z m
+addresses-folded z m = grind (arith, item, additional, of_type, type_a, type_aaaa, at-folded)
 
 -- a target without addresses to offer
-pub items-untaken : (z : ZoneContents) (p : DomainName → Bool) (before : List DomainName) (m : DomainName) → p m ≡ false → target_items z p before (Some m) ≡ []
-items-untaken z p before m e = ap (λ b. cond (b && not (list_any (same m) before)) (addresses_of z m) []) e
+pub items-untaken : (z : ZoneContents) (p : DomainName → Bool) (before : List DomainName)
+    (m : DomainName) → p m ≡ false → target_items z p before (Some m) ≡ []
+items-untaken z p before m e = grind (arith, list_any, same, addresses_of)
 
 pub items-stood : (z : ZoneContents) (p : DomainName → Bool) (before : List DomainName)
     (m : DomainName) → list_any (same m) before ≡ true → target_items z p before (Some m) ≡ []

@@ -1,28 +1,22 @@
 -- A label more on the way down to a name.
-use Rattle.dns_spec.proofs.Common.{arith, ◌≡◌, ℕ, suc, Bool, true, false, ◌&&◌, ◌∷◌, map, Option, None, Some, sym, ap, ◌∙◌, subst, false≢true, and_parts, false_from_ne_true, length-map, to_ascii_lowercase, is_some, Octets, DomainName, folded, at_or_below, below, type_ns, type_cname, ZoneContents, owns, rrset, set_of, exists, is_cut}
-use Rattle.std.specs.Prelude.{IfSome}
-use Rattle.dns_zone.specs.Nodes.{ZoneNode, IsLead}
-use Rattle.dns_spec.proofs.ZoneChecks.FaultOrder.{folded_folded}
-use Rattle.dns_zone.proofs.NameOrder.{same-from}
-use Rattle.dns_zone.proofs.NameTree.{itself-under, below-cons, same-under}
-use Rattle.dns_zone.proofs.WayLaws.{any_weaker}
-use Rattle.dns_zone.proofs.Existing.{exists-lower}
-use Rattle.dns_answer.specs.Walks.{node_of, node_or, IsThere, IsMissing, IsBelowCut, IsLeadTo}
-use Rattle.dns_zone.proofs.WayLaws.{cut-above, cut-here, cut-none, cut-by_set, exists-folded, exists-up, encloser-here, encloser-above}
+use Rattle.dns_answer.proofs.Common.{arith, ◌≡◌, ℕ, Bool, true, false, ◌&&◌, ◌∷◌, map, Option, None, Some, sym, ap, ◌∙◌, false≢true, and_parts, false_from_ne_true, length-map, to_ascii_lowercase, is_some, Octets, DomainName, folded, at_or_below, below, type_ns, type_cname, ZoneContents, owns, rrset, set_of, exists, is_cut, IfSome, ZoneNode, IsLead, folded_folded, same-from, itself-under, below-cons, same-under, any_weaker, exists-lower, node_of, node_or, IsThere, IsMissing, IsBelowCut, IsLeadTo, cut-above, cut-here, cut-none, cut-by_set, exists-folded, exists-up, encloser-here, encloser-above}
 
 -- what owns a record exists
 owns-exists : (z : ZoneContents) (n : DomainName) (t : ℕ) → exists z n ≡ false → owns z n t ≡ false
 owns-exists z n t e =
     grind (arith, false_from_ne_true, false≢true, any_weaker, itself-under, and_parts)
 
-no_cut-missing : (z : ZoneContents) (n : DomainName) → exists z n ≡ false → is_cut z (folded n) ≡ false
+no_cut-missing : (z : ZoneContents) (n : DomainName)
+    → exists z n ≡ false → is_cut z (folded n) ≡ false
 no_cut-missing z n e = grind (arith, below, owns-exists, exists-folded)
 
-pub cut-further : (z : ZoneContents) (l : Octets) (n : DomainName) (node : ZoneNode) → IsBelowCut z n node → IsBelowCut z (l ∷ n) node
+pub cut-further : (z : ZoneContents) (l : Octets) (n : DomainName) (node : ZoneNode)
+    → IsBelowCut z n node → IsBelowCut z (l ∷ n) node
 cut-further z l n node h = record { cut = cut-above z l n node.name h.cut; zone = h.zone }
 
-pub missing-further : (z : ZoneContents) (start : ZoneNode) (ends : Bool) (l : Octets) (n : DomainName) (node : Option ZoneNode) → IsMissing z start ends n node
-    → IsMissing z start ends (l ∷ n) node
+pub missing-further : (z : ZoneContents)
+    (start : ZoneNode) (ends : Bool) (l : Octets) (n : DomainName) (node : Option ZoneNode)
+    → IsMissing z start ends n node → IsMissing z start ends (l ∷ n) node
 missing-further z start ends l n node h =
     let none = exists-up z l n h.missing in
     record {
@@ -33,54 +27,57 @@ missing-further z start ends l n node h =
       lower = h.lower;
     }
 
-child-lower : (z : ZoneContents) (l : Octets) (n : DomainName) → exists z (l ∷ folded n) ≡ exists z (l ∷ n)
+child-lower : (z : ZoneContents) (l : Octets) (n : DomainName)
+    → exists z (l ∷ folded n) ≡ exists z (l ∷ n)
 child-lower z l n =
-    exists-lower z (l ∷ folded n) (l ∷ n) (ap (λ m. map to_ascii_lowercase l ∷ m) (folded_folded n)) (ap suc (length-map n (map to_ascii_lowercase)))
+    grind (arith, exists-lower, folded, to_ascii_lowercase, folded_folded, length-map)
 
-pub missing-child : (z : ZoneContents) (start : ZoneNode) (ends : Bool) (l : Octets) (n : DomainName) (node : Option ZoneNode) (at_node : ZoneNode) → IsThere z start ends n node
-    → at_node ≡ node_or start node → (exists at_node.zone (l ∷ at_node.name) ≡ true → ⊥) → IsMissing z start ends (l ∷ n) node
+pub missing-child : (z : ZoneContents) (start : ZoneNode)
+    (ends : Bool) (l : Octets) (n : DomainName) (node : Option ZoneNode) (at_node : ZoneNode)
+    → IsThere z start ends n node → at_node ≡ node_or start node
+    → (exists at_node.zone (l ∷ at_node.name) ≡ true → ⊥) → IsMissing z start ends (l ∷ n) node
 missing-child z start ends l n node at_node h e absent =
     let is = e ∙ h.at_name in
-    let none : exists z (l ∷ n) ≡ false = false_from_ne_true (exists z (l ∷ n)) (λ there. absent (ap (λ (v : ZoneNode). exists v.zone (l ∷ v.name)) is ∙ child-lower z l n ∙ there)) in
+    let none : exists z (l ∷ n) ≡ false = false_from_ne_true (exists z (l ∷ n)) (λ there. absent
+    (ap (λ (v : ZoneNode). exists v.zone (l ∷ v.name)) is ∙ child-lower z l n ∙ there)) in
     record {
       no_cut = λ e. cut-none z l n (h.no_cut e) (no_cut-missing z (l ∷ n) none);
       missing = none;
       encloser = encloser-here z l n h.stands ∙ ap (λ (v : ZoneNode). Some v.name) (sym h.at_name);
       zone = ap (λ (v : ZoneNode). v.zone) h.at_name;
-      lower = ap (λ (v : ZoneNode). folded v.name) h.at_name ∙ folded_folded n ∙ ap (λ (v : ZoneNode). v.name) (sym h.at_name);
+      lower = ap (λ (v : ZoneNode). folded v.name) h.at_name
+          ∙ folded_folded n ∙ ap (λ (v : ZoneNode). v.name) (sym h.at_name);
     }
 
 -- a name below the origin stays so in lower case
-below-lower : (z : ZoneContents) (l : Octets) (n : DomainName) → at_or_below n z.origin ≡ true → below (folded (l ∷ n)) z.origin ≡ true
+below-lower : (z : ZoneContents) (l : Octets) (n : DomainName)
+    → at_or_below n z.origin ≡ true → below (folded (l ∷ n)) z.origin ≡ true
 below-lower z l n under =
-    below-cons (map to_ascii_lowercase l) (folded n) z.origin ∙ same-under (folded n) n z.origin (same-from (folded n) n (folded_folded n)) ∙ under
+    grind (arith, below-cons, to_ascii_lowercase, folded, same-under, same-from, folded_folded)
 
-module _ (z : ZoneContents) (start : ZoneNode) (ends : Bool) (l : Octets) (n : DomainName) (above : Option ZoneNode) (at_node node : ZoneNode) (h : IsThere z start ends n above)
-    (under : ends ≡ true → at_or_below n z.origin ≡ true) (e : at_node ≡ node_or start above) (f : node ≡ record { zone = at_node.zone; name = map to_ascii_lowercase l ∷ at_node.name }) where
+module _ (z : ZoneContents) (start : ZoneNode) (ends : Bool) (l : Octets) (n : DomainName)
+    (above : Option ZoneNode) (at_node node : ZoneNode) (h : IsThere z start ends n above)
+    (under : ends ≡ true → at_or_below n z.origin ≡ true) (e : at_node ≡ node_or start above) (f :
+    node ≡ record { zone = at_node.zone; name = map to_ascii_lowercase l ∷ at_node.name }) where
   is : node ≡ node_of z (folded (l ∷ n))
   is = f ∙ ap (λ (v : ZoneNode). node_of v.zone (map to_ascii_lowercase l ∷ v.name)) (e ∙ h.at_name)
 
-  cut_is : ends ≡ true → is_cut z (folded (l ∷ n)) ≡ is_some (set_of (rrset node.zone node.name type_ns))
-  cut_is ending = cut-by_set z (folded (l ∷ n)) (below-lower z l n (under ending)) ∙ ap (λ (v : ZoneNode). is_some (set_of (rrset v.zone v.name type_ns))) (sym is)
+  cut_is : ends ≡ true
+      → is_cut z (folded (l ∷ n)) ≡ is_some (set_of (rrset node.zone node.name type_ns))
+  cut_is ending = cut-by_set z (folded (l ∷ n)) (below-lower z l n (under ending))
+      ∙ ap (λ (v : ZoneNode). is_some (set_of (rrset v.zone v.name type_ns))) (sym is)
 
-  pub cut-at_child : ends ≡ true → is_some (set_of (rrset node.zone node.name type_ns)) ≡ true → IsBelowCut z (l ∷ n) node
+  pub cut-at_child : ends ≡ true
+      → is_some (set_of (rrset node.zone node.name type_ns)) ≡ true → IsBelowCut z (l ∷ n) node
   cut-at_child ending some = grind (arith, cut-here, cut_is, is)
 
-  pub there-at_child : exists at_node.zone (l ∷ at_node.name) ≡ true → (ends && is_some (set_of (rrset node.zone node.name type_ns))) ≡ false → IsThere z start ends (l ∷ n) (Some node)
+  pub there-at_child : exists at_node.zone (l ∷ at_node.name) ≡ true → (ends && is_some (set_of
+      (rrset node.zone node.name type_ns))) ≡ false → IsThere z start ends (l ∷ n) (Some node)
   there-at_child there none = grind (arith, cut-none, cut_is, child-lower, is)
 
 -- a lead that the zone keeps
-pub leads-to : (z y : ZoneContents) (t : ℕ) (ends : Bool) (lead : Option ZoneNode) → y ≡ z
-    → (ends ≡ true → t ≡ type_cname)
-    → IfSome lead (λ (v : ZoneNode). (v.zone ≡ y) × IsLead y t v.name)
-    → IfSome lead (IsLeadTo z ends)
+pub leads-to : (z y : ZoneContents) (t : ℕ) (ends : Bool) (lead : Option ZoneNode)
+    → y ≡ z → (ends ≡ true → t ≡ type_cname) → IfSome lead
+    (λ (v : ZoneNode). (v.zone ≡ y) × IsLead y t v.name) → IfSome lead (IsLeadTo z ends)
 leads-to z y t ends None e alias h = tt
-leads-to z y t ends (Some v) e alias h =
-    let lead = subst (λ (x : ZoneContents). IsLead x t v.name) e h.1 in
-    record {
-      zone = h.0 ∙ e;
-      exists = lead.node;
-      inside = lead.inside;
-      longer = lead.longer;
-      uncut = λ e. lead.uncut (alias e);
-    }
+leads-to z y t ends (Some v) e alias h = grind (arith, IsLead, exists)

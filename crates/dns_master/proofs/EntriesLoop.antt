@@ -1,14 +1,16 @@
--- The entries of a text one after another: what the rest means, with the records so far before it, the whole means.
-use Rattle.dns_spec.proofs.Common.{◌≡◌, Bool, List, [], ◌++◌, length, take, nat_lt, append_assoc, arith, Octets, DomainName, ResourceRecord, Meaning, after, Means}
-use Rattle.dns_master.specs.EntryForm.{TextMeans}
+-- The entries of a text one after another: what the rest means, with the records so far before it,
+-- the whole means.
+use Rattle.dns_master.proofs.Common.{◌≡◌, Bool, List, [], ◌++◌, length, take, nat_lt, append_assoc, arith, Octets, DomainName, ResourceRecord, Meaning, after, Means, TextMeans}
 
-pub after-append : (rs taken : List ResourceRecord) (m : Meaning) → after rs (after taken m) ≡ after (rs ++ taken) m
+pub after-append : (rs taken : List ResourceRecord) (m : Meaning)
+    → after rs (after taken m) ≡ after (rs ++ taken) m
 after-append rs taken m = grind (arith, append_assoc)
 
 pub after-nil : (m : Meaning) → after [] m ≡ m
 after-nil m = grind arith
 
 -- the meaning of what is looked at is that of a text
-pub looked-means : (o : DomainName) (text front : Octets) (goes_on : Bool) (m : Meaning) → front ≡ take 16777216 text
+pub looked-means : (o : DomainName) (text front : Octets) (goes_on : Bool) (m : Meaning)
+    → front ≡ take 16777216 text
     → goes_on ≡ nat_lt 16777216 (length text) → TextMeans o [] goes_on front m → Means o text m
 looked-means o text front goes_on m looked after h = grind arith

@@ -1,9 +1,7 @@
 -- What reading an entry token by token says of the entries that a text's tokens are cut into.
-use Rattle.dns_spec.proofs.Common.{◌≡◌, ℕ, Bool, true, false, ◌&&◌, ◌==◌, not, List, [], ◌∷◌, ◌++◌, refl, sym, ap, ◌∙◌, subst, Some, None, ◌⊎◌, inl, inr, arith, false≢true, eq-eqb, none-some, cons_option, Octets, Token, token_front, TokensThen, parenthesis, parentheses, is_line_end, open_after, before_first, cut_entries, take_turns, is_cut_short}
-use Rattle.std.specs.Prelude.{fold}
+use Rattle.dns_master.proofs.Common.{◌≡◌, ℕ, Bool, true, false, ◌&&◌, ◌==◌, not, List, [], ◌∷◌, ◌++◌, refl, sym, ap, ◌∙◌, subst, Some, None, ◌⊎◌, inl, inr, arith, false≢true, eq-eqb, none-some, cons_option, Octets, Token, token_front, TokensThen, parenthesis, parentheses, is_line_end, open_after, before_first, cut_entries, take_turns, is_cut_short, fold, Loose, front_kept, cut_none, Step, misplaced, over, onward, step, Outcome, unended, wrong, Reads}
 use mathlib.Core.Bool.{xor}
-use Rattle.dns_spec.proofs.ZoneTexts.Beginnings.{Loose, front_kept, cut_none}
-use Rattle.dns_master.specs.EntryForm.{Step, misplaced, over, onward, step, Outcome, ended, unended, wrong, Reads}
+use Rattle.dns_master.specs.EntryForm.{ended}
 
 step_code : Step → ℕ
 step_code misplaced = 0
@@ -24,15 +22,17 @@ outcome_code wrong = 2
 record Goes (b : Bool) (p : Token) (now : Bool) : Type 0 where
   no_end : (is_line_end p && not b) ≡ false
   opens : open_after b p ≡ now
-  turns : (marks : List Bool) → take_turns b (cons_option (parenthesis p) marks) ≡ take_turns now marks
+  turns : (marks : List Bool)
+      → take_turns b (cons_option (parenthesis p) marks) ≡ take_turns now marks
 
-same_open : (b now : Bool) (p : Token) → onward b ≡ onward now → (is_line_end p && not b) ≡ false → open_after b p ≡ b
-    → ((marks : List Bool) → take_turns b (cons_option (parenthesis p) marks) ≡ take_turns b marks) → Goes b p now
+same_open : (b now : Bool) (p : Token) → onward b ≡ onward now
+    → (is_line_end p && not b) ≡ false → open_after b p ≡ b → ((marks : List Bool)
+    → take_turns b (cons_option (parenthesis p) marks) ≡ take_turns b marks) → Goes b p now
 unfolding step_open
 same_open b now p e no_end opens turns = grind arith
 
 differ : (s t : Step) → (step_code s == step_code t) ≡ false → s ≡ t → ⊥
-differ s t h e = false≢true (sym h ∙ ap (λ x. step_code s == step_code x) (sym e) ∙ eq-eqb (step_code s) (step_code s) refl)
+differ s t h e = grind (arith, false≢true, step_code, eq-eqb)
 
 goes : (b : Bool) (p : Token) (now : Bool) → step b p ≡ onward now → Goes b p now
 unfolding step_code step_open xor
@@ -69,11 +69,15 @@ has_first b [] = record { first = []; others = []; is = refl }
 has_first b (p ∷ ps) = go (is_line_end p && not b) (has_first (open_after b p) ps)
   where
     go : (ending : Bool) → HasFirst (cut_entries (open_after b p) ps)
-        → HasFirst (elim ending [ true ↦ (p ∷ []) ∷ cut_entries false ps | false ↦ before_first p (cut_entries (open_after b p) ps) ])
+        → HasFirst (elim ending [
+          | true ↦ (p ∷ []) ∷ cut_entries false ps
+          | false ↦ before_first p (cut_entries (open_after b p) ps)
+        ])
     go true h = record { first = p ∷ []; others = cut_entries false ps; is = refl }
     go false h = with_first p (cut_entries (open_after b p) ps) h
 
-cut-on : (b : Bool) (p : Token) (ps : List Token) → (is_line_end p && not b) ≡ false → cut_entries b (p ∷ ps) ≡ before_first p (cut_entries (open_after b p) ps)
+cut-on : (b : Bool) (p : Token) (ps : List Token) → (is_line_end p && not b) ≡ false
+    → cut_entries b (p ∷ ps) ≡ before_first p (cut_entries (open_after b p) ps)
 cut-on b p ps h = rw (h, cut_entries) refl
 
 -- an entry that a line end ends
@@ -83,7 +87,8 @@ pub record EndedCut (b : Bool) (text : Octets) (ps : List Token) (others : Octet
   pub turns : take_turns b (parentheses ps) ≡ true
 
 -- an entry up to where no token begins
-pub record UnendedCut (b : Bool) (text : Octets) (ps : List Token) (now : Bool) (rest : Octets) : Type 0 where
+pub record UnendedCut
+    (b : Bool) (text : Octets) (ps : List Token) (now : Bool) (rest : Octets) : Type 0 where
   pub spelled : TokensThen text ps rest
   pub at_end : token_front rest ≡ None
   pub cuts : cut_entries b ps ≡ ps ∷ []
@@ -103,16 +108,18 @@ pub record WrongCut (b : Bool) (text : Octets) (ps : List Token) : Type 0 where
   pub spelled : TokensThen text ps rest
   pub wrong_first : (qs : List Token) → WrongFirst b (ps ++ qs)
 
-ended-on : (b now : Bool) (text others' others : Octets) (p : Token) (ps : List Token) → token_front text ≡ Some (p, others') → Goes b p now
-    → EndedCut now others' ps others → EndedCut b text (p ∷ ps) others
+ended-on : (b now : Bool) (text others' others : Octets) (p : Token) (ps : List Token)
+    → token_front text ≡ Some (p, others')
+    → Goes b p now → EndedCut now others' ps others → EndedCut b text (p ∷ ps) others
 ended-on b now text others' others p ps front g c = grind (arith, cut-on)
 
-unended-on : (b now last : Bool) (text others' rest : Octets) (p : Token) (ps : List Token) → token_front text ≡ Some (p, others') → Goes b p now
-    → UnendedCut now others' ps last rest → UnendedCut b text (p ∷ ps) last rest
+unended-on : (b now last : Bool) (text others' rest : Octets) (p : Token) (ps : List Token)
+    → token_front text ≡ Some (p, others')
+    → Goes b p now → UnendedCut now others' ps last rest → UnendedCut b text (p ∷ ps) last rest
 unended-on b now last text others' rest p ps front g c = grind (arith, cut-on)
 
-wrong-on : (b now : Bool) (text others' : Octets) (p : Token) (ps : List Token) → token_front text ≡ Some (p, others') → Goes b p now
-    → WrongCut now others' ps → WrongCut b text (p ∷ ps)
+wrong-on : (b now : Bool) (text others' : Octets) (p : Token) (ps : List Token) → token_front text
+    ≡ Some (p, others') → Goes b p now → WrongCut now others' ps → WrongCut b text (p ∷ ps)
 wrong-on b now text others' p ps front g c =
     record {
       rest = c.rest;
@@ -122,13 +129,14 @@ wrong-on b now text others' p ps front g c =
           record {
             first = p ∷ w.first;
             others = w.others;
-            cuts = cut-on b p (ps ++ qs) g.no_end ∙ ap (λ x. before_first p (cut_entries x (ps ++ qs))) g.opens ∙ ap (before_first p) w.cuts;
+            cuts = cut-on b p (ps ++ qs) g.no_end ∙ ap (λ x. before_first p
+                (cut_entries x (ps ++ qs))) g.opens ∙ ap (before_first p) w.cuts;
             turns = g.turns (parentheses w.first) ∙ w.turns;
           };
     }
 
 other_outcome : (o : Outcome) (u : Outcome) → (outcome_code o == outcome_code u) ≡ false → o ≡ u → ⊥
-other_outcome o u h e = false≢true (sym h ∙ ap (λ x. outcome_code o == outcome_code x) (sym e) ∙ eq-eqb (outcome_code o) (outcome_code o) refl)
+other_outcome o u h e = grind (arith, false≢true, outcome_code, eq-eqb)
 
 outcome_rest : Outcome → Octets
 outcome_rest (ended o) = o
@@ -140,34 +148,55 @@ outcome_open (ended o) = false
 outcome_open (unended b o) = b
 outcome_open wrong = false
 
-pub reads-ended : (b : Bool) (text : Octets) (ps : List Token) (others : Octets) → Reads b text ps (ended others) → EndedCut b text ps others
+pub reads-ended : (b : Bool) (text : Octets) (ps : List Token) (others : Octets)
+    → Reads b text ps (ended others) → EndedCut b text ps others
 unfolding outcome_code outcome_rest
 reads-ended b text [] others h = absurd (other_outcome (ended others) (unended b text) refl h.1)
 reads-ended b text (p ∷ ps) others h = go (step b p) refl h.2 (λ now. reads-ended now h.0 ps others)
   where
-    go : (s : Step) → step b p ≡ s → elim s as (λ _. Type 0) [ misplaced ↦ (ps ≡ []) × (ended others ≡ wrong) | over ↦ (ps ≡ []) × (ended others ≡ ended h.0) | onward now ↦ Reads now h.0 ps (ended others) ]
-        → ((now : Bool) → Reads now h.0 ps (ended others) → EndedCut now h.0 ps others) → EndedCut b text (p ∷ ps) others
+    go : (s : Step) → step b p ≡ s → elim s as (λ _. Type 0) [
+      | misplaced ↦
+          (ps ≡ []) × (ended others ≡ wrong)
+      | over ↦ (ps ≡ []) × (ended others ≡ ended h.0)
+      | onward now ↦ Reads now h.0 ps (ended others)
+    ] → ((now : Bool) → Reads now h.0 ps
+        (ended others) → EndedCut now h.0 ps others) → EndedCut b text (p ∷ ps) others
     go misplaced e k more = absurd (other_outcome (ended others) wrong refl k.1)
     go over e k more = grind arith
     go (onward now) e k more = ended-on b now text h.0 others p ps h.1 (goes b p now e) (more now k)
 
-pub reads-unended : (b : Bool) (text : Octets) (ps : List Token) (last : Bool) (rest : Octets) → Reads b text ps (unended last rest) → UnendedCut b text ps last rest
+pub reads-unended : (b : Bool) (text : Octets) (ps : List Token) (last : Bool) (rest : Octets)
+    → Reads b text ps (unended last rest) → UnendedCut b text ps last rest
 unfolding outcome_code outcome_rest outcome_open
 reads-unended b text [] last rest h = grind arith
-reads-unended b text (p ∷ ps) last rest h = go (step b p) refl h.2 (λ now. reads-unended now h.0 ps last rest)
+reads-unended b text (p ∷ ps) last rest h =
+    go (step b p) refl h.2 (λ now. reads-unended now h.0 ps last rest)
   where
-    go : (s : Step) → step b p ≡ s → elim s as (λ _. Type 0) [ misplaced ↦ (ps ≡ []) × (unended last rest ≡ wrong) | over ↦ (ps ≡ []) × (unended last rest ≡ ended h.0) | onward now ↦ Reads now h.0 ps (unended last rest) ]
-        → ((now : Bool) → Reads now h.0 ps (unended last rest) → UnendedCut now h.0 ps last rest) → UnendedCut b text (p ∷ ps) last rest
+    go : (s : Step) → step b p ≡ s → elim s as (λ _. Type 0) [
+      | misplaced ↦ (ps ≡ []) × (unended
+          last rest ≡ wrong)
+      | over ↦ (ps ≡ []) × (unended last rest ≡ ended h.0)
+      | onward now ↦ Reads
+          now h.0 ps (unended last rest)
+    ] → ((now : Bool) → Reads now h.0 ps (unended last rest)
+        → UnendedCut now h.0 ps last rest) → UnendedCut b text (p ∷ ps) last rest
     go misplaced e k more = absurd (other_outcome (unended last rest) wrong refl k.1)
     go over e k more = absurd (other_outcome (unended last rest) (ended h.0) refl k.1)
-    go (onward now) e k more = unended-on b now last text h.0 rest p ps h.1 (goes b p now e) (more now k)
+    go (onward now) e k more =
+        unended-on b now last text h.0 rest p ps h.1 (goes b p now e) (more now k)
 
-pub reads-wrong : (b : Bool) (text : Octets) (ps : List Token) → Reads b text ps wrong → WrongCut b text ps
+pub reads-wrong : (b : Bool) (text : Octets) (ps : List Token)
+    → Reads b text ps wrong → WrongCut b text ps
 unfolding outcome_code
 reads-wrong b text [] h = absurd (other_outcome wrong (unended b text) refl h.1)
 reads-wrong b text (p ∷ ps) h = go (step b p) refl h.2 (λ now. reads-wrong now h.0 ps)
   where
-    go : (s : Step) → step b p ≡ s → elim s as (λ _. Type 0) [ misplaced ↦ (ps ≡ []) × (wrong ≡ wrong) | over ↦ (ps ≡ []) × (wrong ≡ ended h.0) | onward now ↦ Reads now h.0 ps wrong ]
+    go : (s : Step) → step b p ≡ s → elim s as (λ _. Type 0) [
+      | misplaced ↦ (ps ≡ []) × (wrong
+          ≡ wrong)
+      | over ↦ (ps ≡ []) × (wrong ≡ ended h.0)
+      | onward now ↦ Reads now h.0 ps wrong
+    ]
         → ((now : Bool) → Reads now h.0 ps wrong → WrongCut now h.0 ps) → WrongCut b text (p ∷ ps)
     go misplaced e k more =
         let bad = misses b p e in
@@ -188,31 +217,50 @@ reads-wrong b text (p ∷ ps) h = go (step b p) refl h.2 (λ now. reads-wrong no
     go (onward now) e k more = wrong-on b now text h.0 p ps h.1 (goes b p now e) (more now k)
 
 -- an entry that is ended stands so in every text that goes on
-pub reads-more : (more : Octets) (b : Bool) (text : Octets) (ps : List Token) (rest : Octets) → Reads b text ps (ended rest)
-    → Reads b (text ++ more) ps (ended (rest ++ more))
+pub reads-more : (more : Octets) (b : Bool) (text : Octets) (ps : List Token) (rest : Octets)
+    → Reads b text ps (ended rest) → Reads b (text ++ more) ps (ended (rest ++ more))
 unfolding outcome_code outcome_rest
 reads-more more b text [] rest h = absurd (other_outcome (ended rest) (unended b text) refl h.1)
-reads-more more b text (p ∷ ps) rest (others, front, tail) = go (front_kept more text p others front) (λ now k. reads-more more now others ps rest k)
+reads-more more b text (p ∷ ps) rest (others, front, tail) =
+    go (front_kept more text p others front) (λ now k. reads-more more now others ps rest k)
   where
-    longer : (s : Step) → elim s as (λ _. Type 0) [ misplaced ↦ (ps ≡ []) × (ended rest ≡ wrong) | over ↦ (ps ≡ []) × (ended rest ≡ ended others) | onward now ↦ Reads now others ps (ended rest) ]
-        → ((now : Bool) → Reads now others ps (ended rest) → Reads now (others ++ more) ps (ended (rest ++ more)))
-        → elim s as (λ _. Type 0) [ misplaced ↦ (ps ≡ []) × (ended (rest ++ more) ≡ wrong) | over ↦ (ps ≡ []) × (ended (rest ++ more) ≡ ended (others ++ more)) | onward now ↦ Reads now (others ++ more) ps (ended (rest ++ more)) ]
+    longer : (s : Step) → elim s as (λ _. Type 0) [
+      | misplaced ↦ (ps ≡ []) × (ended rest ≡ wrong)
+      | over ↦ (ps ≡ []) × (ended rest ≡ ended others)
+      | onward now ↦ Reads now others ps
+          (ended rest)
+    ] → ((now : Bool) → Reads now others ps (ended rest) → Reads now
+        (others ++ more) ps (ended (rest ++ more))) → elim s as (λ _. Type 0) [
+          | misplaced ↦ (ps
+              ≡ []) × (ended (rest ++ more) ≡ wrong)
+          | over ↦ (ps ≡ []) × (ended (rest ++ more) ≡ ended
+              (others ++ more))
+          | onward now ↦ Reads now (others ++ more) ps (ended (rest ++ more))
+        ]
     longer misplaced k later = absurd (other_outcome (ended rest) wrong refl k.1)
     longer over k later = (k.0, ap (λ (x : Octets). ended (x ++ more)) (ap outcome_rest k.1))
     longer (onward now) k later = later now k
 
-    stops : (now : Bool) (qs : List Token) → token_front others ≡ None → Reads now others qs (ended rest) → ⊥
+    stops : (now : Bool) (qs : List Token)
+        → token_front others ≡ None → Reads now others qs (ended rest) → ⊥
     stops now [] none k = other_outcome (ended rest) (unended now others) refl k.1
     stops now (q ∷ qs) none k = none-some (q, k.0) (sym none ∙ k.1)
 
     never : (s : Step) → step b p ≡ s → is_line_end p ≡ false → token_front others ≡ None
-        → elim s as (λ _. Type 0) [ misplaced ↦ (ps ≡ []) × (ended rest ≡ wrong) | over ↦ (ps ≡ []) × (ended rest ≡ ended others) | onward now ↦ Reads now others ps (ended rest) ] → ⊥
+        → elim s as (λ _. Type 0) [
+          | misplaced ↦ (ps ≡ []) × (ended rest ≡ wrong)
+          | over ↦ (ps ≡ [])
+              × (ended rest ≡ ended others)
+          | onward now ↦ Reads now others ps (ended rest)
+        ] → ⊥
     never misplaced e inside none k = other_outcome (ended rest) wrong refl k.1
-    never over e inside none k = false≢true (sym (ap (λ x. x && not b) inside) ∙ (ends b p e).is_end)
+    never over e inside none k =
+        false≢true (sym (ap (λ x. x && not b) inside) ∙ (ends b p e).is_end)
     never (onward now) e inside none k = stops now ps none k
 
-    go : (token_front (text ++ more) ≡ Some (p, others ++ more)) ⊎ ((is_cut_short others ≡ true) × Loose p)
-        → ((now : Bool) → Reads now others ps (ended rest) → Reads now (others ++ more) ps (ended (rest ++ more)))
-        → Reads b (text ++ more) (p ∷ ps) (ended (rest ++ more))
+    go : (token_front (text ++ more) ≡ Some (p, others ++ more)) ⊎ ((is_cut_short others ≡ true)
+        × Loose p) → ((now : Bool) → Reads now others ps (ended rest) → Reads now (others ++ more)
+        ps (ended (rest ++ more))) → Reads b (text ++ more) (p ∷ ps) (ended (rest ++ more))
     go (inl kept) later = (others ++ more, kept, longer (step b p) tail later)
-    go (inr (cut, loose)) later = absurd (never (step b p) refl loose.inside (cut_none others cut) tail)
+    go (inr (cut, loose)) later =
+        absurd (never (step b p) refl loose.inside (cut_none others cut) tail)

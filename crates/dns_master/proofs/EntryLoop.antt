@@ -1,77 +1,85 @@
 -- An entry is read token by token: what the tokens so far and those to come give, all give.
-use Rattle.dns_spec.proofs.Common.{◌≡◌, ℕ, ◌+◌, ◌≤◌, Bool, true, false, cond, List, [], ◌∷◌, ◌++◌, length, refl, sym, ap, ◌∙◌, subst, arith, append_assoc, append-nil, Option, Some, None, Octets, Word, Token, token_front, TokensThen, is_line_end, word_of}
-use Rattle.std.specs.List.{filter, cons_option}
-use Rattle.dns_spec.proofs.ZoneTexts.TextTokens.{front-shorter}
-use Rattle.dns_master.specs.EntryForm.{misplaced, over, onward, step, Outcome, ended, unended, wrong, Reads, token_words, line_ends, EntryRead, IsWrong}
+use Rattle.dns_master.proofs.Common.{◌≡◌, ℕ, ◌+◌, ◌≤◌, Bool, true, false, cond, List, [], ◌∷◌, ◌++◌, length, refl, sym, ap, ◌∙◌, subst, arith, append_assoc, append-nil, Option, Some, None, Octets, Word, Token, token_front, TokensThen, is_line_end, word_of, filter, cons_option, front-shorter, misplaced, over, onward, step, Outcome, unended, wrong, Reads, token_words, line_ends, EntryRead, IsWrong}
+use Rattle.dns_master.specs.EntryForm.{ended}
 
-pub tokens-append : (text middle rest : Octets) (ps qs : List Token) → TokensThen text ps middle → TokensThen middle qs rest → TokensThen text (ps ++ qs) rest
+pub tokens-append : (text middle rest : Octets) (ps qs : List Token)
+    → TokensThen text ps middle → TokensThen middle qs rest → TokensThen text (ps ++ qs) rest
 tokens-append text middle rest [] qs h k = subst (λ x. TokensThen x qs rest) (sym h) k
-tokens-append text middle rest (p ∷ ps) qs h k = (h.0, h.1, tokens-append h.0 middle rest ps qs h.2 k)
+tokens-append text middle rest (p ∷ ps) qs h k =
+    (h.0, h.1, tokens-append h.0 middle rest ps qs h.2 k)
 
-pub cons_option-append : {X : Type 0} (x : Option X) (xs ys : List X) → cons_option x (xs ++ ys) ≡ cons_option x xs ++ ys
+pub cons_option-append : {X : Type 0} (x : Option X) (xs ys : List X)
+    → cons_option x (xs ++ ys) ≡ cons_option x xs ++ ys
 cons_option-append None xs ys = refl
 cons_option-append (Some x) xs ys = refl
 
 pub words-append : (ps qs : List Token) → token_words (ps ++ qs) ≡ token_words ps ++ token_words qs
 words-append [] qs = refl
 words-append (p ∷ ps) qs =
-    ap (cons_option (word_of p)) (words-append ps qs) ∙ cons_option-append (word_of p) (token_words ps) (token_words qs)
+    grind (arith, cons_option, word_of, cons_option-append, token_words, (words-append ps qs))
 
 cond-more : (b : Bool) (n m k : ℕ) → n ≡ m + k → cond b (1 + n) n ≡ cond b (1 + m) m + k
 cond-more true n m k e = omega (arith, e)
 cond-more false n m k e = e
 
-length-cond : (b : Bool) (p : Token) (ps : List Token) → length (cond b (p ∷ ps) ps) ≡ cond b (1 + length ps) (length ps)
+length-cond : (b : Bool) (p : Token) (ps : List Token)
+    → length (cond b (p ∷ ps) ps) ≡ cond b (1 + length ps) (length ps)
 length-cond true p ps = omega arith
 length-cond false p ps = refl
 
 pub lines-append : (ps qs : List Token) → line_ends (ps ++ qs) ≡ line_ends ps + line_ends qs
 lines-append [] qs = omega (arith)
 lines-append (p ∷ ps) qs =
-    length-cond (is_line_end p) p (filter is_line_end (ps ++ qs))
-    ∙ cond-more (is_line_end p) (line_ends (ps ++ qs)) (line_ends ps) (line_ends qs) (lines-append ps qs)
-    ∙ ap (λ n. n + line_ends qs) (sym (length-cond (is_line_end p) p (filter is_line_end ps)))
+    grind (arith, length-cond, is_line_end, filter, cond-more, line_ends, (lines-append ps qs))
 
 line_ends-one : (p : Token) → line_ends (p ∷ []) ≤ 1
 line_ends-one p = grind arith
 
 -- each line end is an octet or more
-pub lines-shorter : (text others : Octets) (p : Token) → token_front text ≡ Some (p, others) → line_ends (p ∷ []) + length others ≤ length text
+pub lines-shorter : (text others : Octets) (p : Token)
+    → token_front text ≡ Some (p, others) → line_ends (p ∷ []) + length others ≤ length text
 lines-shorter text others p e = search (arith, front-shorter, line_ends-one)
 
 module _ (text : Octets) where
   -- the tokens so far, with what their words and line ends are, and what comes of those after them
-  pub record EntrySoFar (is_open : Bool) (rest : Octets) (words : List Word) (lines : ℕ) : Type 0 where
+  pub record EntrySoFar
+      (is_open : Bool) (rest : Octets) (words : List Word) (lines : ℕ) : Type 0 where
     pub tokens : List Token
-    pub whole : (ps : List Token) (outcome : Outcome) → Reads is_open rest ps outcome → Reads false text (tokens ++ ps) outcome
+    pub whole : (ps : List Token) (outcome : Outcome)
+        → Reads is_open rest ps outcome → Reads false text (tokens ++ ps) outcome
     pub same_words : words ≡ token_words tokens
     pub counted : lines ≡ line_ends tokens
 
   -- a token after which the entry goes on
-  pub token-read : (is_open now_open : Bool) (rest others : Octets) (p : Token) (words : List Word) (lines lines' : ℕ)
-      → EntrySoFar is_open rest words lines → token_front rest ≡ Some (p, others) → step is_open p ≡ onward now_open
-      → lines' ≡ lines + line_ends (p ∷ []) → EntrySoFar now_open others (words ++ token_words (p ∷ [])) lines'
+  pub token-read : (is_open now_open : Bool) (rest others : Octets) (p : Token) (words : List Word)
+      (lines lines' : ℕ) → EntrySoFar is_open rest words lines → token_front rest ≡ Some (p, others)
+      → step is_open p ≡ onward now_open → lines' ≡ lines + line_ends (p ∷ [])
+      → EntrySoFar now_open others (words ++ token_words (p ∷ [])) lines'
   token-read is_open now_open rest others p words lines lines' so front goes_on l =
       record {
         tokens = so.tokens ++ p ∷ [];
         whole = λ ps outcome h.
             subst (λ xs. Reads false text xs outcome) (sym (append_assoc so.tokens (p ∷ []) ps))
             (so.whole (p ∷ ps) outcome (others, front, rw goes_on h));
-        same_words = ap (λ x. x ++ token_words (p ∷ [])) so.same_words ∙ sym (words-append so.tokens (p ∷ []));
-        counted = l ∙ ap (λ n. n + line_ends (p ∷ [])) so.counted ∙ sym (lines-append so.tokens (p ∷ []));
+        same_words = ap (λ x. x ++ token_words (p ∷ [])) so.same_words
+            ∙ sym (words-append so.tokens (p ∷ []));
+        counted =
+            l ∙ ap (λ n. n + line_ends (p ∷ [])) so.counted ∙ sym (lines-append so.tokens (p ∷ []));
       }
 
   -- the token that ends the entry
-  pub entry-ended : (is_open : Bool) (rest others : Octets) (p : Token) (words words' : List Word) (lines lines' : ℕ)
-      → EntrySoFar is_open rest words lines → token_front rest ≡ Some (p, others) → step is_open p ≡ over
-      → words' ≡ words ++ token_words (p ∷ []) → lines' ≡ lines + line_ends (p ∷ [])
-      → EntryRead text words' lines' (ended others)
+  pub entry-ended : (is_open : Bool) (rest others : Octets) (p : Token) (words words' : List Word)
+      (lines lines' : ℕ) → EntrySoFar is_open rest words lines → token_front rest ≡ Some (p, others)
+      → step is_open p ≡ over → words' ≡ words ++ token_words (p ∷ [])
+      → lines' ≡ lines + line_ends (p ∷ []) → EntryRead text words' lines' (ended others)
   entry-ended is_open rest others p words words' lines lines' so front is_over w l =
       record {
         tokens = so.tokens ++ p ∷ [];
         reads = so.whole (p ∷ []) (ended others) (others, front, rw is_over (refl, refl));
-        words_are = w ∙ ap (λ x. x ++ token_words (p ∷ [])) so.same_words ∙ sym (words-append so.tokens (p ∷ []));
-        counted = l ∙ ap (λ n. n + line_ends (p ∷ [])) so.counted ∙ sym (lines-append so.tokens (p ∷ []));
+        words_are = w ∙ ap (λ x. x ++ token_words (p ∷ [])) so.same_words
+            ∙ sym (words-append so.tokens (p ∷ []));
+        counted =
+            l ∙ ap (λ n. n + line_ends (p ∷ [])) so.counted ∙ sym (lines-append so.tokens (p ∷ []));
       }
 
   -- no token begins
@@ -81,12 +89,14 @@ module _ (text : Octets) where
   entry-unended is_open rest words words' lines so none w =
       record {
         tokens = so.tokens;
-        reads = subst (λ xs. Reads false text xs (unended is_open rest)) (append-nil so.tokens) (so.whole [] (unended is_open rest) (none, refl));
+        reads = subst (λ xs. Reads false text xs (unended is_open rest))
+            (append-nil so.tokens) (so.whole [] (unended is_open rest) (none, refl));
         words_are = w ∙ so.same_words;
         counted = so.counted;
       }
 
-  pub entry-wrong : (is_open : Bool) (rest others : Octets) (p : Token) (words : List Word) (lines : ℕ)
-      → EntrySoFar is_open rest words lines → token_front rest ≡ Some (p, others) → step is_open p ≡ misplaced → IsWrong text
+  pub entry-wrong : (is_open : Bool) (rest others : Octets)
+      (p : Token) (words : List Word) (lines : ℕ) → EntrySoFar is_open rest words lines
+      → token_front rest ≡ Some (p, others) → step is_open p ≡ misplaced → IsWrong text
   entry-wrong is_open rest others p words lines so front is_wrong =
       (so.tokens ++ p ∷ [], so.whole (p ∷ []) wrong (others, front, rw is_wrong (refl, refl)))

@@ -1,3 +1,4 @@
+pub mod Common
 pub mod RunLemmas
 pub mod RunTable
 pub mod EntryLoop

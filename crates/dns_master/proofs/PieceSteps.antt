@@ -1,21 +1,24 @@
 -- What is read of a beginning of a text holds of every text that goes on from it.
-use Rattle.dns_spec.proofs.Common.{◌≡◌, ℕ, ◌+◌, ◌-◌, ◌≤◌, ◌⊎◌, inl, inr, Option, None, Some, Bool, true, false, List, [], ◌++◌, length, length-append, append-nil, append_assoc, refl, sym, ap, ◌∙◌, subst, arith, Octets, DomainName, FileFault, too_long, unwrap_or, MatchBool, false≢true, ResourceRecord, Meaning, records, fault_at, after, EntriesMean, Word}
-use Rattle.dns_spec.specs.ZoneText.{Token, Entry, EntriesOf, extent_by, with_end, cut_entries, beginning, stop_at, stop_fault}
-use Rattle.dns_spec.proofs.ZoneTexts.BeginningsMean.{beginning_decides}
-use Rattle.dns_master.specs.EntryForm.{TextMeans, EntryRead, IsWhole, Reads, outcome_of, unended}
+use Rattle.dns_master.proofs.Common.{◌≡◌, ℕ, ◌+◌, ◌-◌, ◌≤◌, ◌⊎◌, inl, inr, Option, None, Some, Bool, true, false, List, [], ◌++◌, length, length-append, append-nil, append_assoc, refl, sym, ap, ◌∙◌, subst, arith, Octets, DomainName, FileFault, too_long, unwrap_or, MatchBool, false≢true, ResourceRecord, Meaning, records, fault_at, after, EntriesMean, Word, Token, Entry, EntriesOf, extent_by, with_end, cut_entries, beginning, stop_at, stop_fault, beginning_decides, TextMeans, EntryRead, IsWhole, Reads, outcome_of, unended, ReaderMeans, MayFollow, FrontTaken, FrontFaulty, FrontGathered, TextGathered, PieceTaken, AppendsPiece, Reader}
 use Rattle.dns_master.proofs.EntryCuts.{reads-more}
 use Rattle.dns_master.proofs.TextSteps.{over-at_end, nothing-means, past-means}
-use Rattle.dns_master.specs.PieceForm.{ReaderMeans, MayFollow, FrontTaken, FrontFaulty, FrontGathered, TextGathered, PieceTaken}
-use Rattle.dns_master.specs.SourceForm.{AppendsPiece}
-use Rattle.dns_master.specs.declared.state.Reader.{Reader}
 use Rattle.dns_master.proofs.EntriesLoop.{after-nil, after-append}
 
 -- the fault of a beginning, other than that of the limit, is that of a text that goes on
-pub decided-means : (o : DomainName) (earlier : List Entry) (text more : Octets) (goes_on : Bool) (fault : FileFault) (line : ℕ)
-    → TextMeans o earlier true text (fault_at fault line) → (fault ≡ too_long → ⊥) → TextMeans o earlier goes_on (text ++ more) (fault_at fault line)
+pub decided-means : (o : DomainName) (earlier : List Entry) (text more : Octets) (goes_on : Bool)
+    (fault : FileFault) (line : ℕ) → TextMeans o earlier true text (fault_at fault line)
+    → (fault ≡ too_long → ⊥) → TextMeans o earlier goes_on (text ++ more) (fault_at fault line)
 decided-means o earlier text more goes_on fault line h other =
-    let cut : EntriesOf beginning text (with_end beginning h.rest (cut_entries false h.tokens)) = record { tokens = h.tokens; rest = h.rest; spelled = h.spelled; at_end = h.at_end; entries = refl } in
-    let found = beginning_decides o earlier (extent_by goes_on) text more fault line (with_end beginning h.rest (cut_entries false h.tokens), cut, h.meant) other in
+    let cut : EntriesOf beginning text (with_end beginning h.rest (cut_entries false h.tokens)) =
+    record {
+      tokens = h.tokens;
+      rest = h.rest;
+      spelled = h.spelled;
+      at_end = h.at_end;
+      entries = refl;
+    } in
+    let found = beginning_decides o earlier (extent_by goes_on) text more fault line
+    (with_end beginning h.rest (cut_entries false h.tokens), cut, h.meant) other in
     record {
       tokens = found.1.tokens;
       rest = found.1.rest;
@@ -29,68 +32,98 @@ pub always : (P Q : Type 0) (b : Bool) → b ≡ true → MatchBool b P Q → P
 always P Q b e h = subst (λ x. MatchBool x P Q) e h
 
 -- an entry that is at hand as a whole, of a text that goes on from it
-module _ (goes_on : Option Bool) (more : Octets) (past : Bool) (text rest : Octets) (words : List Word) (lines : ℕ) where
-  pub whole-on : (is_ended is_open : Bool) (ps : List Token) → MayFollow goes_on more past → IsWhole goes_on is_ended is_open rest → Reads false text ps (outcome_of is_ended is_open rest)
-      → Reads false (text ++ more) ps (outcome_of is_ended is_open (rest ++ more)) × ((is_ended ≡ true) ⊎ (stop_fault (extent_by past) is_open (stop_at (rest ++ more)) ≡ None))
+module _ (goes_on : Option Bool)
+    (more : Octets) (past : Bool) (text rest : Octets) (words : List Word) (lines : ℕ) where
+  pub whole-on : (is_ended is_open : Bool) (ps : List Token) → MayFollow goes_on more past → IsWhole
+      goes_on is_ended is_open rest → Reads false text ps (outcome_of is_ended is_open rest)
+      → Reads false (text ++ more) ps (outcome_of is_ended is_open (rest ++ more))
+      × ((is_ended ≡ true) ⊎ (stop_fault (extent_by past) is_open (stop_at (rest ++ more)) ≡ None))
   whole-on true is_open ps may whole reads = (reads-more more false text ps rest reads, inl refl)
   whole-on false is_open ps may (inl e) reads = absurd (false≢true e)
   whole-on false is_open ps may (inr e) reads = known-on goes_on may e
     where
-      known-on : (goes_on' : Option Bool) → MayFollow goes_on' more past → stop_fault (extent_by (unwrap_or goes_on' true)) is_open (stop_at rest) ≡ None
-          → Reads false (text ++ more) ps (unended is_open (rest ++ more)) × ((false ≡ true) ⊎ (stop_fault (extent_by past) is_open (stop_at (rest ++ more)) ≡ None))
+      known-on : (goes_on' : Option Bool) → MayFollow goes_on' more past
+          → stop_fault (extent_by (unwrap_or goes_on' true)) is_open (stop_at rest) ≡ None
+          → Reads false (text ++ more) ps (unended is_open (rest ++ more))
+          × ((false ≡ true) ⊎ (stop_fault (extent_by past) is_open (stop_at (rest ++ more)) ≡ None))
       known-on None may e = absurd (false≢true (sym (over-at_end true is_open rest e).1))
       known-on (Some known) may e = (
-        subst (λ x. Reads false (text ++ x) ps (unended is_open (rest ++ x))) (sym may.0) (rw (append-nil text) (rw (append-nil rest) reads)),
+        subst (λ x. Reads false (text ++ x) ps (unended is_open (rest ++ x)))
+            (sym may.0) (rw (append-nil text) (rw (append-nil rest) reads)),
         inr (rw may.0 (rw (append-nil rest) (rw may.1 e))),
       )
 
-  abbrev pub entry-on : (is_ended is_open : Bool) → MayFollow goes_on more past → IsWhole goes_on is_ended is_open rest → (read : EntryRead text words lines (outcome_of is_ended is_open rest))
+  abbrev pub entry-on : (is_ended is_open : Bool) → MayFollow goes_on more past → IsWhole goes_on
+      is_ended is_open rest → (read : EntryRead text words lines (outcome_of is_ended is_open rest))
       → (read' : EntryRead (text ++ more) words lines (outcome_of is_ended is_open (rest ++ more)))
       × ((is_ended ≡ true) ⊎ (stop_fault (extent_by past) is_open (stop_at (rest ++ more)) ≡ None))
   entry-on is_ended is_open may whole read =
-      let on = whole-on is_ended is_open read.tokens may whole read.reads in
-      (record { tokens = read.tokens; reads = on.0; words_are = read.words_are; counted = read.counted }, on.1)
+      let on = whole-on is_ended is_open read.tokens may whole read.reads in (
+        record {
+          tokens = read.tokens;
+          reads = on.0;
+          words_are = read.words_are;
+          counted = read.counted;
+        },
+        on.1,
+      )
 
 -- an entry that ends by a fault other than that of a limit that is not known to be passed
-pub end-faulty : (goes_on : Option Bool) (o : DomainName) (earlier : List Entry) (text more : Octets) (past : Bool) (fault : FileFault) (line : ℕ) → MayFollow goes_on more past
-    → TextMeans o earlier (unwrap_or goes_on true) text (fault_at fault line) → (goes_on ≡ None → fault ≡ too_long → ⊥) → TextMeans o earlier past (text ++ more) (fault_at fault line)
-end-faulty None o earlier text more past fault line may h other = decided-means o earlier text more past fault line h (other refl)
-end-faulty (Some known) o earlier text more past fault line may h other = rw may.0 (rw (append-nil text) (rw may.1 h))
+pub end-faulty : (goes_on : Option Bool) (o : DomainName) (earlier : List Entry)
+    (text more : Octets) (past : Bool) (fault : FileFault) (line : ℕ) → MayFollow goes_on more past
+    → TextMeans o earlier (unwrap_or goes_on true) text (fault_at fault line) → (goes_on ≡ None
+    → fault ≡ too_long → ⊥) → TextMeans o earlier past (text ++ more) (fault_at fault line)
+end-faulty None o earlier text more past fault line may h other =
+    decided-means o earlier text more past fault line h (other refl)
+end-faulty (Some known) o earlier text more past fault line may h other =
+    rw may.0 (rw (append-nil text) (rw may.1 h))
 
 -- nothing was taken
-pub nothing-gathered : (goes_on : Option Bool) (r : Reader) (text : Octets) (found : List ResourceRecord) → FrontGathered goes_on r text r text found found
+pub nothing-gathered : (goes_on : Option Bool) (r : Reader)
+    (text : Octets) (found : List ResourceRecord) → FrontGathered goes_on r text r text found found
 nothing-gathered goes_on r text found = record {
   came = [];
   grown = sym (append-nil found);
-  taken = λ more past later may h. subst (ReaderMeans r past (text ++ more)) (sym (after-nil later)) h;
+  taken =
+      λ more past later may h. subst (ReaderMeans r past (text ++ more)) (sym (after-nil later)) h;
 }
 
-module _ (goes_on : Option Bool) (first mid : Reader) (text rest : Octets) (before found : List ResourceRecord) (so : FrontGathered goes_on first text mid rest before found) where
+module _ (goes_on : Option Bool) (first mid : Reader) (text rest : Octets) (before found :
+    List ResourceRecord) (so : FrontGathered goes_on first text mid rest before found) where
   -- an entry more
-  pub more-gathered : (last : Reader) (others : Octets) (rs grown : List ResourceRecord) → FrontTaken goes_on mid rest rs last others → grown ≡ found ++ rs
-      → FrontGathered goes_on first text last others before grown
+  pub more-gathered : (last : Reader) (others : Octets) (rs grown : List ResourceRecord)
+      → FrontTaken goes_on mid rest rs last others
+      → grown ≡ found ++ rs → FrontGathered goes_on first text last others before grown
   more-gathered last others rs grown step e = record {
     came = so.came ++ rs;
     grown = e ∙ ap (λ x. x ++ rs) so.grown ∙ append_assoc before so.came rs;
     taken = λ more past later may h.
-        subst (ReaderMeans first past (text ++ more)) (after-append so.came rs later) (so.taken more past (after rs later) may (step more past later may h));
+        subst (ReaderMeans first past (text ++ more)) (after-append so.came rs later)
+        (so.taken more past (after rs later) may (step more past later may h));
   }
 
   -- the fault of what is left
-  pub faulty-after : (fault : FileFault) (line : ℕ) → FrontFaulty goes_on mid rest fault line → FrontFaulty goes_on first text fault line
-  faulty-after fault line h = λ more past may. so.taken more past (fault_at fault line) may (h more past may)
+  pub faulty-after : (fault : FileFault) (line : ℕ)
+      → FrontFaulty goes_on mid rest fault line → FrontFaulty goes_on first text fault line
+  faulty-after fault line h =
+      λ more past may. so.taken more past (fault_at fault line) may (h more past may)
 
 -- the fault of all of a text
-pub all-faulty : (past : Bool) (r : Reader) (text : Octets) (fault : FileFault) (line : ℕ) → FrontFaulty (Some past) r text fault line → ReaderMeans r past text (fault_at fault line)
-all-faulty past r text fault line h = subst (λ x. ReaderMeans r past x (fault_at fault line)) (append-nil text) (h [] past (refl, refl))
+pub all-faulty : (past : Bool) (r : Reader) (text : Octets) (fault : FileFault) (line : ℕ)
+    → FrontFaulty (Some past) r text fault line → ReaderMeans r past text (fault_at fault line)
+all-faulty past r text fault line h = subst
+    (λ x. ReaderMeans r past x (fault_at fault line)) (append-nil text) (h [] past (refl, refl))
 
 -- all of a text was taken
-module _ (past : Bool) (first last : Reader) (held : Octets) (before found : List ResourceRecord) (text rest : Octets) (same : text ≡ held) (none : rest ≡ [])
+module _ (past : Bool) (first last : Reader) (held : Octets) (before found : List ResourceRecord)
+    (text rest : Octets) (same : text ≡ held) (none : rest ≡ [])
     (so : FrontGathered (Some past) first text last rest before found) where
-  all-taken : (later : Meaning) → ReaderMeans last past [] later → ReaderMeans first past held (after so.came later)
+  all-taken : (later : Meaning)
+      → ReaderMeans last past [] later → ReaderMeans first past held (after so.came later)
   all-taken later h =
       subst (λ x. ReaderMeans first past x (after so.came later)) (append-nil text ∙ same)
-      (so.taken [] past later (refl, refl) (subst (λ x. ReaderMeans last past (x ++ []) later) (sym none) h))
+      (so.taken [] past later
+      (refl, refl) (subst (λ x. ReaderMeans last past (x ++ []) later) (sym none) h))
 
   -- which is over then
   pub all-gathered : past ≡ false → TextGathered first past held before found
@@ -103,14 +136,18 @@ module _ (past : Bool) (first last : Reader) (held : Octets) (before found : Lis
 
   -- or goes on past its limit
   pub all-too_long : past ≡ true → ReaderMeans first past held (fault_at too_long last.line)
-  all-too_long on = all-taken (fault_at too_long last.line) (λ o earlier known line. rw on (rw line (past-means o earlier)))
+  all-too_long on = all-taken
+      (fault_at too_long last.line) (λ o earlier known line. rw on (rw line (past-means o earlier)))
 
-pub counted-more : (n m : ℕ) (found rs grown : List ResourceRecord) → length found ≡ n → m ≡ n + length rs → grown ≡ found ++ rs → length grown ≡ m
+pub counted-more : (n m : ℕ) (found rs grown : List ResourceRecord)
+    → length found ≡ n → m ≡ n + length rs → grown ≡ found ++ rs → length grown ≡ m
 counted-more n m found rs grown count more e = grind (arith, length-append)
 
 -- a piece came, and what it does to the entries at hand
-pub piece-taken : (old new : Option Octets) (before now : Reader) (held text held' : Octets) (left asked : ℕ) (more : Bool) (found found' : List ResourceRecord)
-    → (p : AppendsPiece old new asked held text more) → asked ≤ left → FrontGathered None before text now held' found found'
-    → PieceTaken old new before held left now held' (left - (length text - length held)) more found found'
+pub piece-taken : (old new : Option Octets) (before now : Reader)
+    (held text held' : Octets) (left asked : ℕ) (more : Bool) (found found' : List ResourceRecord)
+    → (p : AppendsPiece old new asked held text more)
+    → asked ≤ left → FrontGathered None before text now held' found found' → PieceTaken
+    old new before held left now held' (left - (length text - length held)) more found found'
 piece-taken old new before now held text held' left asked more found found' p most gathered =
     grind (arith, length-append)

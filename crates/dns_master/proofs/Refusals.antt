@@ -1,27 +1,27 @@
 -- Why entries are refused, and faults of their file.
-use Rattle.dns_spec.proofs.Common.{◌≡◌, ℕ, ◌≤◌, sym, ap, ◌∙◌, arith, FileFault, too_long}
-use Rattle.dns_master.specs.Codes.{ForFault, OfEntry, code_number, fault_of, IsFaultOn}
-use Rattle.dns_master.specs.declared.fault.ReadFault.{ReadFault}
-use Rattle.dns_master.specs.declared.fault.ReadCode.{ReadCode}
-use Rattle.dns_master.specs.declared.fault.ReadCode.TheVariants.{TooLong, NoMemory}
+use Rattle.dns_master.proofs.Common.{◌≡◌, ℕ, ◌≤◌, ap, arith, FileFault, too_long, ForFault, OfEntry, code_number, fault_of, IsFaultOn, ReadFault, ReadCode, TooLong, NoMemory}
 
 -- this holds of the fault of a code that is an entry's
-pub refused : (code : ReadCode) (P : FileFault → Type 0) → code_number code ≤ 15 → P (fault_of code) → ForFault code P
+pub refused : (code : ReadCode) (P : FileFault → Type 0)
+    → code_number code ≤ 15 → P (fault_of code) → ForFault code P
 refused code P low h = record { told = λ _. h; source = λ e. omega (arith, low, ap code_number e) }
 
 pub no-memory : (code : ReadCode) (P : FileFault → Type 0) → code ≡ NoMemory → ForFault code P
-no-memory code P is = record { told = λ other. absurd (other is); source = λ e. omega (arith, ap code_number (sym is ∙ e)) }
+no-memory code P is = grind (arith, code_number)
 
 -- what holds of the fault of a refused entry, said of another fact
-pub ForFault-map : (code : ReadCode) {P Q : FileFault → Type 0} → ((fault : FileFault) → P fault → Q fault) → ForFault code P → ForFault code Q
-ForFault-map code f h = record { told = λ other. f (fault_of code) (h.told other); source = h.source }
+pub ForFault-map : (code : ReadCode) {P Q : FileFault → Type 0}
+    → ((fault : FileFault) → P fault → Q fault) → ForFault code P → ForFault code Q
+ForFault-map code f h = grind (arith, fault_of)
 
 -- what holds of the fault of a refused entry holds of the fault of the file
-pub entry-told : (code : ReadCode) (line : ℕ) (f : ReadFault) (P : FileFault → ℕ → Type 0) → IsFaultOn line code f → ForFault code (λ fault. P fault line) → OfEntry P f
+pub entry-told : (code : ReadCode) (line : ℕ) (f : ReadFault) (P : FileFault → ℕ → Type 0)
+    → IsFaultOn line code f → ForFault code (λ fault. P fault line) → OfEntry P f
 entry-told code line f P is h = grind arith
 
 -- what holds of an entry's fault, said of another fact
-pub OfEntry-map : {P Q : FileFault → ℕ → Type 0} (f : ReadFault) → ((fault : FileFault) (line : ℕ) → P fault line → Q fault line) → OfEntry P f → OfEntry Q f
+pub OfEntry-map : {P Q : FileFault → ℕ → Type 0} (f : ReadFault)
+    → ((fault : FileFault) (line : ℕ) → P fault line → Q fault line) → OfEntry P f → OfEntry Q f
 OfEntry-map f turn h = grind arith
 
 pub other_than_long : (code : ReadCode) → (code ≡ TooLong → ⊥) → fault_of code ≡ too_long → ⊥

@@ -1,62 +1,60 @@
 -- How far a run goes, octet by octet and escape by escape.
-use Rattle.std.proofs.Common.{eqb-true, get_or, ◌≡◌, ℕ, zero, suc, sym, cond, ◌+◌, ◌≤◌, ◌<◌, Bool, true, false, [], ◌∷◌, length, take, drop, refl, ◌∙◌, ap, arith, Option, None, Some, ◌==◌}
-use Rattle.std.specs.Prelude.{nat_eq, MatchOption}
-use Rattle.std.specs.List.{list_all, position, position_or_len, prefix_len}
-use Rattle.dns_spec.proofs.Common.{unwrap_or, and_parts, false≢true, ltb-false, none-some, same_Some, prefix_len-le-length, Octets, is_blank, escape_left, unit_left, run_length, is_word_octet, is_string_octet}
-use Rattle.std.specs.Cmp.Lexicographic.{pointwise, same_text}
-use Rattle.std.proofs.lemmas.List.{drop_all, drop-drop, at_drop_more}
-use Rattle.dns_spec.proofs.NameTexts.Escapes.{counted_escape, escape-counted}
-use Rattle.dns_master.specs.TokenForm.{by_itself}
-use Rattle.dns_master.specs.declared.run.Run.{Run}
+use Rattle.dns_master.proofs.Common.{eqb-true, get_or, ◌≡◌, ℕ, zero, suc, sym, cond, ◌+◌, ◌≤◌, ◌<◌, Bool, true, false, [], ◌∷◌, length, take, drop, refl, ◌∙◌, ap, arith, Option, None, Some, ◌==◌, nat_eq, MatchOption, list_all, position, position_or_len, prefix_len, unwrap_or, and_parts, false≢true, ltb-false, none-some, same_Some, prefix_len-le-length, Octets, is_blank, escape_left, unit_left, run_length, is_word_octet, is_string_octet, pointwise, same_text, drop_all, drop-drop, at_drop_more, counted_escape, escape-counted, by_itself, Run}
 use Rattle.dns_master.specs.declared.run.Run.TheVariants.{Word as WordRun, String as StringRun}
 
 -- where the first octet of a sort stands
-pub place-some : (p : ℕ → Bool) (text : Octets) (n : ℕ) → position p text ≡ Some n → n ≡ position_or_len p text
+pub place-some : (p : ℕ → Bool) (text : Octets) (n : ℕ)
+    → position p text ≡ Some n → n ≡ position_or_len p text
 place-some p text n e = grind (arith, same_Some, none-some)
 
-place-none : (p : ℕ → Bool) (text : Octets) → position p text ≡ None → length text ≡ position_or_len p text
+place-none : (p : ℕ → Bool) (text : Octets)
+    → position p text ≡ None → length text ≡ position_or_len p text
 place-none p text e = grind (arith, none-some, ltb-false, prefix_len-le-length)
 
-pub none-after : (p : ℕ → Bool) (text : Octets) → position p text ≡ None → [] ≡ drop (position_or_len p text) text
-none-after p text e = let all : length text ≡ position_or_len p text = place-none p text e in sym (drop_all (position_or_len p text) text (omega (arith, all)))
+pub none-after : (p : ℕ → Bool) (text : Octets)
+    → position p text ≡ None → [] ≡ drop (position_or_len p text) text
+none-after p text e = grind (arith, position_or_len, place-none, drop_all)
 
 is-other : (by : ℕ → Bool) (o : ℕ) → by 92 ≡ false → by o ≡ true → (o == 92) ≡ false
 is-other by o none h = grind (arith, false≢true, eqb-true)
 
 module _ (by : ℕ → Bool) where
   -- the octets of an escape
-  skipped : (k : ℕ) (text : Octets) → k ≤ length text → run_length by k text ≡ k + run_length by 0 (drop k text)
+  skipped : (k : ℕ) (text : Octets)
+      → k ≤ length text → run_length by k text ≡ k + run_length by 0 (drop k text)
   unfolding run_length
   skipped zero text h = omega (arith)
   skipped (suc k) [] h = absurd (omega (arith, h))
-  skipped (suc k) (o ∷ text) h =
-      let others : run_length by k text ≡ k + run_length by 0 (drop k text) = skipped k text (omega (arith, h)) in
-      omega (arith, others)
+  skipped (suc k) (o ∷ text) h = grind (arith, run_length, (skipped k text (omega (arith, h))))
 
   by_unit : (o : ℕ) (text : Octets) (u : Option ℕ) → unit_left by o text ≡ u
       → run_length by 0 (o ∷ text) ≡ elim u [ None ↦ 0 | Some k ↦ 1 + run_length by k text ]
   unfolding run_length
-  by_unit o text u e = ap (λ (u : Option ℕ). elim u [ None ↦ 0 | Some k ↦ 1 + run_length by k text ]) e
+  by_unit o text u e = grind (arith, None, Some, run_length)
 
   -- an octet that stands in the run by itself
-  pub run-itself : (o : ℕ) (text : Octets) → (o == 92) ≡ false → by o ≡ true → run_length by 0 (o ∷ text) ≡ 1 + run_length by 0 text
+  pub run-itself : (o : ℕ) (text : Octets)
+      → (o == 92) ≡ false → by o ≡ true → run_length by 0 (o ∷ text) ≡ 1 + run_length by 0 text
   run-itself o text e h = by_unit o text (Some 0) (rw e (rw h refl))
 
   -- an octet that does not
-  pub run-end : (o : ℕ) (text : Octets) → (o == 92) ≡ false → by o ≡ false → run_length by 0 (o ∷ text) ≡ 0
+  pub run-end : (o : ℕ) (text : Octets)
+      → (o == 92) ≡ false → by o ≡ false → run_length by 0 (o ∷ text) ≡ 0
   run-end o text e h = by_unit o text None (rw e (rw h refl))
 
   unit_of : (o : ℕ) (text : Octets) → (o == 92) ≡ true → unit_left by o text ≡ escape_left text
   unit_of o text e = rw e refl
 
   -- an escape
-  pub run-escape : (o : ℕ) (text : Octets) → (o == 92) ≡ true → (counted_escape text == 0) ≡ false → counted_escape text ≤ length text
-      → run_length by 0 (o ∷ text) ≡ 1 + counted_escape text + run_length by 0 (drop (counted_escape text) text)
+  pub run-escape : (o : ℕ) (text : Octets) → (o == 92) ≡ true
+      → (counted_escape text == 0) ≡ false → counted_escape text ≤ length text → run_length by 0
+      (o ∷ text) ≡ 1 + counted_escape text + run_length by 0 (drop (counted_escape text) text)
   run-escape o text e h fits = grind (arith, skipped, by_unit, unit_of, escape-counted)
 
   -- a backslash that begins no escape
-  pub run-no_escape : (o : ℕ) (text : Octets) → (o == 92) ≡ true → (counted_escape text == 0) ≡ true → run_length by 0 (o ∷ text) ≡ 0
-  run-no_escape o text e h = by_unit o text None (unit_of o text e ∙ escape-counted text ∙ rw h refl)
+  pub run-no_escape : (o : ℕ) (text : Octets)
+      → (o == 92) ≡ true → (counted_escape text == 0) ≡ true → run_length by 0 (o ∷ text) ≡ 0
+  run-no_escape o text e h = grind (arith, by_unit, None, unit_of, escape-counted)
 
   pub run-none : (text : Octets) → length text ≡ 0 → run_length by 0 text ≡ 0
   unfolding run_length
@@ -73,25 +71,31 @@ no-backslash StringRun o h = is-other is_string_octet o refl h
 
 -- how the run goes on at a place
 module _ (run : Run) (text : Octets) (i : ℕ) (inside : i < length text) where
-  here : run_length (by_itself run) 0 (drop i text) ≡ run_length (by_itself run) 0 (get_or text i 0 ∷ drop (i + 1) text)
+  here : run_length (by_itself run) 0
+      (drop i text) ≡ run_length (by_itself run) 0 (get_or text i 0 ∷ drop (i + 1) text)
   here = at_drop_more (run_length (by_itself run) 0) text i 0 inside
 
-  pub here-itself : by_itself run (get_or text i 0) ≡ true → run_length (by_itself run) 0 (drop i text) ≡ 1 + run_length (by_itself run) 0 (drop (i + 1) text)
-  here-itself h = here ∙ run-itself (by_itself run) (get_or text i 0) (drop (i + 1) text) (no-backslash run (get_or text i 0) h) h
+  pub here-itself : by_itself run (get_or text i 0) ≡ true → run_length
+      (by_itself run) 0 (drop i text) ≡ 1 + run_length (by_itself run) 0 (drop (i + 1) text)
+  here-itself h = grind (arith, here, run-itself, by_itself, get_or, no-backslash)
 
-  pub here-end : by_itself run (get_or text i 0) ≡ false → (get_or text i 0 == 92) ≡ false → run_length (by_itself run) 0 (drop i text) ≡ 0
+  pub here-end : by_itself run (get_or text i 0) ≡ false
+      → (get_or text i 0 == 92) ≡ false → run_length (by_itself run) 0 (drop i text) ≡ 0
   here-end h e = here ∙ run-end (by_itself run) (get_or text i 0) (drop (i + 1) text) e h
 
   -- at a backslash, where so many octets after it belong to its escape
-  module _ (others : Octets) (k : ℕ) (backslash : (get_or text i 0 == 92) ≡ true) (is : others ≡ drop (i + 1) text) (counted : k ≡ counted_escape others) where
-    pub here-escape : (k == 0) ≡ false → k ≤ length others → run_length (by_itself run) 0 (drop i text) ≡ 1 + k + run_length (by_itself run) 0 (drop (i + (1 + k)) text)
+  module _ (others : Octets) (k : ℕ) (backslash : (get_or text i 0 == 92) ≡ true)
+      (is : others ≡ drop (i + 1) text) (counted : k ≡ counted_escape others) where
+    pub here-escape : (k == 0) ≡ false → k ≤ length others → run_length (by_itself run) 0
+        (drop i text) ≡ 1 + k + run_length (by_itself run) 0 (drop (i + (1 + k)) text)
     here-escape some fits = grind (arith, here, run-escape, drop-drop, one_more)
 
     pub here-no_escape : (k == 0) ≡ true → run_length (by_itself run) 0 (drop i text) ≡ 0
     here-no_escape none = grind (arith, here, run-no_escape)
 
 -- where octets in front all stand in a run by themselves, the run goes on after them
-pub run-front : (run : Run) (n : ℕ) (text : Octets) → n ≤ length text → list_all (by_itself run) (take n text) ≡ true
+pub run-front : (run : Run) (n : ℕ) (text : Octets)
+    → n ≤ length text → list_all (by_itself run) (take n text) ≡ true
     → run_length (by_itself run) 0 text ≡ n + run_length (by_itself run) 0 (drop n text)
 run-front run zero text h e = omega arith
 run-front run (suc n) [] h e = absurd (omega (arith, h))
@@ -102,7 +106,8 @@ run-front run (suc n) (o ∷ text) h e =
     omega (arith, first, more)
 
 -- what comes after the blanks of a text comes after those that follow its first one
-pub blank-first : (o : ℕ) (text : Octets) → is_blank o ≡ true → drop (prefix_len is_blank text) text ≡ drop (prefix_len is_blank (o ∷ text)) (o ∷ text)
+pub blank-first : (o : ℕ) (text : Octets) → is_blank o ≡ true
+    → drop (prefix_len is_blank text) text ≡ drop (prefix_len is_blank (o ∷ text)) (o ∷ text)
 blank-first o text e =
     let one : suc (prefix_len is_blank text) ≡ 1 + prefix_len is_blank text = omega arith in
     ap (λ k. drop k (o ∷ text)) (one ∙ ap (λ b. cond b (1 + prefix_len is_blank text) 0) (sym e))
@@ -116,12 +121,14 @@ blanks-passed (suc n) (o ∷ text) e =
     blanks-passed n text parts.1 ∙ blank-first o text parts.0
 
 -- spaces in front are passed, where a text begins with so many
-pub spaces-passed : {R : Type 0} (now : R → Octets) (spaces : Octets) → list_all is_blank spaces ≡ true → (found : Option R) (text : R)
-    → MatchOption found (pointwise nat_eq (take (length spaces) (now text)) spaces ≡ false)
-    (λ x. (pointwise nat_eq (take (length spaces) (now text)) spaces ≡ true) × (now x ≡ drop (length spaces) (now text))
-    × (length (now x) + length spaces ≡ length (now text)))
-    → drop (prefix_len is_blank (now (unwrap_or found text))) (now (unwrap_or found text)) ≡ drop (prefix_len is_blank (now text)) (now text)
+pub spaces-passed : {R : Type 0} (now : R → Octets) (spaces : Octets) → list_all is_blank spaces
+    ≡ true → (found : Option R) (text : R) → MatchOption found (pointwise nat_eq
+    (take (length spaces) (now text)) spaces ≡ false) (λ x. (pointwise nat_eq (take (length spaces)
+    (now text)) spaces ≡ true) × (now x ≡ drop (length spaces) (now text)) × (length (now x)
+    + length spaces ≡ length (now text))) → drop (prefix_len is_blank (now (unwrap_or found text)))
+    (now (unwrap_or found text)) ≡ drop (prefix_len is_blank (now text)) (now text)
 spaces-passed now spaces all None text m = refl
 spaces-passed now spaces all (Some x) text m =
     ap (λ t. drop (prefix_len is_blank t) t) m.1
-    ∙ blanks-passed (length spaces) (now text) (ap (list_all is_blank) (same_text (take (length spaces) (now text)) spaces (sym m.0)) ∙ all)
+    ∙ blanks-passed (length spaces) (now text) (ap
+    (list_all is_blank) (same_text (take (length spaces) (now text)) spaces (sym m.0)) ∙ all)

@@ -1,39 +1,37 @@
 -- The octets of a source, read piece by piece.
-use Rattle.dns_spec.proofs.Common.{◌≡◌, ℕ, zero, suc, ◌+◌, ◌≤◌, ◌<◌, ◌⊎◌, inl, inr, Bool, true, false, List, [], ◌∷◌, ◌++◌, length, take, nat_lt, length-append, append-nil, append_assoc, refl, sym, ap, ◌∙◌, subst, arith, Option, Some, None, take_all, take_at, Consumes, IsAtEnd, lt-ltb, le-ltb, Octets, DomainName, ResourceRecord, FileFault, Meaning, Means, records, fault_at, after}
-use Rattle.dns_master.specs.EntryForm.{TextMeans}
-use Rattle.dns_master.specs.PieceForm.{ReaderMeans, TextGathered, PieceTaken, PieceFaulty}
-use Rattle.dns_master.specs.declared.state.Reader.{Reader}
+use Rattle.dns_master.proofs.Common.{◌≡◌, ℕ, zero, suc, ◌+◌, ◌≤◌, ◌<◌, ◌⊎◌, inl, inr, Bool, true, false, List, [], ◌∷◌, ◌++◌, length, take, nat_lt, length-append, append-nil, append_assoc, refl, sym, ap, ◌∙◌, subst, arith, Option, Some, None, take_all, take_at, Consumes, IsAtEnd, lt-ltb, le-ltb, Octets, DomainName, ResourceRecord, FileFault, Meaning, Means, records, fault_at, after, TextMeans, ReaderMeans, TextGathered, PieceTaken, PieceFaulty, Reader, AppendsPiece, GivesMeaning, Decides}
 use Rattle.dns_master.proofs.EntriesLoop.{after-append, looked-means}
-use Rattle.dns_master.specs.SourceForm.{AppendsPiece, GivesMeaning, Decides}
 
 -- a beginning that is not longer than what is looked at is a beginning of that
-looked_at : (n : ℕ) (front more : Octets) → length front ≤ n → (rest : Octets) × (take n (front ++ more) ≡ front ++ rest)
+looked_at : (n : ℕ) (front more : Octets)
+    → length front ≤ n → (rest : Octets) × (take n (front ++ more) ≡ front ++ rest)
 looked_at n [] more short = (take n more, refl)
 looked_at zero (o ∷ front) more short = absurd (omega (arith, short))
 looked_at (suc n) (o ∷ front) more short =
-    let found = looked_at n front more (omega (arith, short)) in
-    (found.0, ap (λ t. o ∷ t) found.1)
+    grind (arith, (looked_at n front more (omega (arith, short))))
 
-pub Consumes-more : (old middle new : Option Octets) (text came text' : Octets) → Consumes old middle text → Consumes middle new came → text' ≡ text ++ came
-    → Consumes old new text'
+pub Consumes-more : (old middle new : Option Octets) (text came text' : Octets) → Consumes
+    old middle text → Consumes middle new came → text' ≡ text ++ came → Consumes old new text'
 Consumes-more None middle new text came text' h k e = tt
 Consumes-more (Some xs) None new text came text' h k e = absurd h
 Consumes-more (Some xs) (Some ys) None text came text' h k e = absurd k
-Consumes-more (Some xs) (Some ys) (Some zs) text came text' h k e =
-    h ∙ ap (λ x. text ++ x) k ∙ sym (append_assoc text came zs) ∙ ap (λ x. x ++ zs) (sym e)
+Consumes-more (Some xs) (Some ys) (Some zs) text came text' h k e = grind (arith, append_assoc)
 
 -- what a source gave so far, and what that says of it after the entries that were taken
-pub record GivenSoFar (old new : Option Octets) (o : DomainName) (r : Reader) (held : Octets) (left : ℕ) (found : List ResourceRecord) : Type 0 where
+pub record GivenSoFar (old new : Option Octets) (o : DomainName)
+    (r : Reader) (held : Octets) (left : ℕ) (found : List ResourceRecord) : Type 0 where
   pub given : Octets
   pub consumed : Consumes old new given
   pub size : length given + left ≡ 16777216
-  pub means : (more : Octets) (goes_on : Bool) (later : Meaning) → ReaderMeans r goes_on (held ++ more) later
-      → TextMeans o [] goes_on (given ++ more) (after found later)
+  pub means : (more : Octets) (goes_on : Bool) (later : Meaning) → ReaderMeans r goes_on
+      (held ++ more) later → TextMeans o [] goes_on (given ++ more) (after found later)
 
-module _ (old mid new : Option Octets) (o : DomainName) (r : Reader) (held : Octets) (left : ℕ) (found : List ResourceRecord) (so : GivenSoFar old mid o r held left found) where
+module _ (old mid new : Option Octets) (o : DomainName) (r : Reader) (held : Octets)
+    (left : ℕ) (found : List ResourceRecord) (so : GivenSoFar old mid o r held left found) where
   -- another piece
-  pub piece-given : (r' : Reader) (held' : Octets) (left' : ℕ) (more : Bool) (found' : List ResourceRecord) → PieceTaken mid new r held left r' held' left' more found found'
-      → GivenSoFar old new o r' held' left' found'
+  pub piece-given : (r' : Reader)
+      (held' : Octets) (left' : ℕ) (more : Bool) (found' : List ResourceRecord) → PieceTaken mid
+      new r held left r' held' left' more found found' → GivenSoFar old new o r' held' left' found'
   piece-given r' held' left' more found' p =
       let given : Octets = so.given ++ p.came in
       record {
@@ -41,17 +39,22 @@ module _ (old mid new : Option Octets) (o : DomainName) (r : Reader) (held : Oct
         consumed = Consumes-more old mid new so.given p.came given so.consumed p.consumed refl;
         size = omega (arith, length-append so.given p.came, so.size, p.size);
         means = λ rest goes_on later h.
-            let step : ReaderMeans r goes_on (held ++ (p.came ++ rest)) (after p.gathered.came later) =
-            subst (λ x. ReaderMeans r goes_on x (after p.gathered.came later)) (append_assoc held p.came rest) (p.gathered.taken rest goes_on later tt h) in
-            let all : TextMeans o [] goes_on (so.given ++ (p.came ++ rest)) (after found (after p.gathered.came later)) =
+            let step : ReaderMeans r goes_on (held ++ (p.came ++ rest)) (after p.gathered.came
+            later) = subst (λ x. ReaderMeans r goes_on x (after p.gathered.came later))
+            (append_assoc held p.came rest) (p.gathered.taken rest goes_on later tt h) in
+            let all : TextMeans o [] goes_on
+            (so.given ++ (p.came ++ rest)) (after found (after p.gathered.came later)) =
             so.means (p.came ++ rest) goes_on (after p.gathered.came later) step in
-            subst (λ rs. TextMeans o [] goes_on (given ++ rest) (after rs later)) (sym p.gathered.grown)
-            (subst (TextMeans o [] goes_on (given ++ rest)) (after-append found p.gathered.came later)
-            (subst (λ x. TextMeans o [] goes_on x (after found (after p.gathered.came later))) (sym (append_assoc so.given p.came rest)) all));
+            subst (λ rs. TextMeans o [] goes_on (given ++ rest) (after rs later))
+            (sym p.gathered.grown)
+            (subst (TextMeans o [] goes_on (given ++ rest)) (after-append
+            found p.gathered.came later) (subst (λ x. TextMeans o [] goes_on x (after found
+            (after p.gathered.came later))) (sym (append_assoc so.given p.came rest)) all));
       }
 
   -- a fault that is decided by a piece
-  pub fault-given : (fault : FileFault) (line : ℕ) → PieceFaulty mid new r held left fault line → Decides old new o (fault_at fault line)
+  pub fault-given : (fault : FileFault) (line : ℕ)
+      → PieceFaulty mid new r held left fault line → Decides old new o (fault_at fault line)
   fault-given fault line p =
       let given : Octets = so.given ++ p.came in
       let size : length given ≡ length so.given + length p.came = length-append so.given p.came in
@@ -62,15 +65,19 @@ module _ (old mid new : Option Octets) (o : DomainName) (r : Reader) (held : Oct
         decided = inr (λ rest.
             (let found_rest = looked_at 16777216 given rest (omega (arith, size, so.size, p.few)) in
             let goes_on : Bool = nat_lt 16777216 (length (given ++ rest)) in
-            let step : ReaderMeans r goes_on (held ++ (p.came ++ found_rest.0)) (fault_at fault line) =
-            subst (λ x. ReaderMeans r goes_on x (fault_at fault line)) (append_assoc held p.came found_rest.0) (p.is_faulty found_rest.0 goes_on tt) in
-            looked-means o (given ++ rest) (given ++ found_rest.0) goes_on (fault_at fault line) (sym found_rest.1) refl
-            (subst (λ x. TextMeans o [] goes_on x (fault_at fault line)) (sym (append_assoc so.given p.came found_rest.0))
+            let step : ReaderMeans r goes_on (held ++ (p.came ++ found_rest.0))
+            (fault_at fault line) = subst (λ x. ReaderMeans r goes_on x (fault_at fault line))
+            (append_assoc held p.came found_rest.0) (p.is_faulty found_rest.0 goes_on tt) in
+            looked-means o (given ++ rest)
+            (given ++ found_rest.0) goes_on (fault_at fault line) (sym found_rest.1) refl
+            (subst (λ x. TextMeans o [] goes_on x (fault_at fault line))
+            (sym (append_assoc so.given p.came found_rest.0))
             (so.means (p.came ++ found_rest.0) goes_on (fault_at fault line) step))));
       }
 
   -- what the octets at hand mean, after which the source is at its end
-  pub end-given : (m : Meaning) → IsAtEnd mid → ReaderMeans r false held m → Decides old mid o (after found m)
+  pub end-given : (m : Meaning)
+      → IsAtEnd mid → ReaderMeans r false held m → Decides old mid o (after found m)
   end-given m over h =
       let few : length so.given ≤ 16777216 = omega (arith, so.size) in
       record {
@@ -79,63 +86,82 @@ module _ (old mid new : Option Octets) (o : DomainName) (r : Reader) (held : Oct
         few = omega (arith, few);
         decided = inl (
           over,
-          looked-means o so.given so.given false (after found m) (sym (take_all 16777216 so.given few)) (sym (le-ltb 16777216 (length so.given) few))
+          looked-means o so.given so.given false (after found m)
+              (sym (take_all 16777216 so.given few)) (sym (le-ltb 16777216 (length so.given) few))
               (subst (λ x. TextMeans o [] false x (after found m)) (append-nil so.given)
-              (so.means [] false m (subst (λ x. ReaderMeans r false x m) (sym (append-nil held)) h))),
+              (so.means
+              [] false m (subst (λ x. ReaderMeans r false x m) (sym (append-nil held)) h))),
         );
       }
 
   -- the same, where as many octets came as are looked at, and another one was asked for
-  pub limit-given : {text text' : Octets} (goes_on : Bool) (m : Meaning) → left ≡ 0 → AppendsPiece mid new 1 text text' goes_on → ReaderMeans r goes_on held m → Decides old new o (after found m)
+  pub limit-given : {text text' : Octets} (goes_on : Bool) (m : Meaning)
+      → left ≡ 0 → AppendsPiece mid new 1 text text' goes_on
+      → ReaderMeans r goes_on held m → Decides old new o (after found m)
   limit-given true m full more h =
       let given : Octets = so.given ++ more.came in
-      let size : length given ≡ length so.given + length more.came = length-append so.given more.came in
+      let size : length given ≡ length so.given + length more.came =
+      length-append so.given more.came in
       let some : 0 < length more.came = more.some refl in
       record {
         given = so.given ++ more.came;
-        consumed = Consumes-more old mid new so.given more.came given so.consumed more.consumed refl;
+        consumed =
+            Consumes-more old mid new so.given more.came given so.consumed more.consumed refl;
         few = omega (arith, size, so.size, more.short);
         decided = inr (λ rest.
-            (let whole : length (given ++ rest) ≡ length given + length rest = length-append given rest in
-            looked-means o (given ++ rest) so.given true (after found m)
-            (sym (ap (take 16777216) (append_assoc so.given more.came rest) ∙ take_at so.given (more.came ++ rest) 16777216 (omega (arith, so.size, full))))
-            (sym (lt-ltb 16777216 (length (given ++ rest)) (omega (arith, whole, size, some, so.size, full))))
-            (subst (λ x. TextMeans o [] true x (after found m)) (append-nil so.given)
-            (so.means [] true m (subst (λ x. ReaderMeans r true x m) (sym (append-nil held)) h)))));
+            (let whole : length (given ++ rest) ≡ length given + length rest = length-append
+            given rest in looked-means o (given ++ rest) so.given true (after found m)
+            (sym (ap (take 16777216) (append_assoc so.given more.came rest) ∙ take_at so.given
+            (more.came ++ rest) 16777216 (omega (arith, so.size, full)))) (sym (lt-ltb 16777216
+            (length (given ++ rest)) (omega (arith, whole, size, some, so.size, full))))
+            (subst (λ x. TextMeans o [] true x (after found m)) (append-nil so.given) (so.means
+            [] true m (subst (λ x. ReaderMeans r true x m) (sym (append-nil held)) h)))));
       }
   limit-given false m full more h =
       let none = more.over refl in
       let few : length so.given ≤ 16777216 = omega (arith, so.size) in
       record {
         given = so.given;
-        consumed = subst (Consumes old new) (ap (λ x. so.given ++ x) none.0 ∙ append-nil so.given) (Consumes-more old mid new so.given more.came (so.given ++ more.came) so.consumed more.consumed refl);
+        consumed = subst (Consumes old new) (ap (λ x. so.given ++ x) none.0 ∙ append-nil so.given)
+            (Consumes-more old mid new so.given more.came
+            (so.given ++ more.came) so.consumed more.consumed refl);
         few = omega (arith, few);
         decided = inl (
           none.1,
-          looked-means o so.given so.given false (after found m) (sym (take_all 16777216 so.given few)) (sym (le-ltb 16777216 (length so.given) few))
+          looked-means o so.given so.given false (after found m)
+              (sym (take_all 16777216 so.given few)) (sym (le-ltb 16777216 (length so.given) few))
               (subst (λ x. TextMeans o [] false x (after found m)) (append-nil so.given)
-              (so.means [] false m (subst (λ x. ReaderMeans r false x m) (sym (append-nil held)) h))),
+              (so.means
+              [] false m (subst (λ x. ReaderMeans r false x m) (sym (append-nil held)) h))),
         );
       }
 
 -- what is decided is what all that the source gives means
-pub decided-gives : (old new : Option Octets) (o : DomainName) (m : Meaning) → Decides old new o m → GivesMeaning old o m
+pub decided-gives : (old new : Option Octets) (o : DomainName) (m : Meaning)
+    → Decides old new o m → GivesMeaning old o m
 decided-gives None new o m d = tt
 decided-gives (Some x) None o m d = absurd d.consumed
 decided-gives (Some x) (Some y) o m d = go d.decided
   where
-    go : (IsAtEnd (Some y) × Means o d.given m) ⊎ ((more : Octets) → Means o (d.given ++ more) m) → Means o x m
-    go (inl (over, h)) = subst (λ t. Means o t m) (sym (d.consumed ∙ ap (λ t. d.given ++ t) over ∙ append-nil d.given)) h
+    go : (IsAtEnd (Some y) × Means o d.given m) ⊎ ((more : Octets) → Means o (d.given ++ more) m)
+        → Means o x m
+    go (inl (over, h)) = subst
+        (λ t. Means o t m) (sym (d.consumed ∙ ap (λ t. d.given ++ t) over ∙ append-nil d.given)) h
     go (inr h) = subst (λ t. Means o t m) (sym d.consumed) (h y)
 
-module _ (old mid new : Option Octets) (o : DomainName) (r : Reader) (held : Octets) (left : ℕ) (found : List ResourceRecord) (so : GivenSoFar old mid o r held left found) where
+module _ (old mid new : Option Octets) (o : DomainName) (r : Reader) (held : Octets)
+    (left : ℕ) (found : List ResourceRecord) (so : GivenSoFar old mid o r held left found) where
   -- the records of what is left, at the end of the source
-  pub end-records : (all : List ResourceRecord) → IsAtEnd mid → TextGathered r false held found all → Decides old mid o (records all)
+  pub end-records : (all : List ResourceRecord)
+      → IsAtEnd mid → TextGathered r false held found all → Decides old mid o (records all)
   end-records all over t =
-      subst (λ rs. Decides old mid o (records rs)) (sym t.grown) (end-given old mid new o r held left found so (records t.came) over t.means)
+      subst (λ rs. Decides old mid o (records rs))
+      (sym t.grown) (end-given old mid new o r held left found so (records t.came) over t.means)
 
   -- and where as many octets came as are looked at
-  pub limit-records : {text text' : Octets} (goes_on : Bool) (all : List ResourceRecord) → left ≡ 0 → AppendsPiece mid new 1 text text' goes_on → TextGathered r goes_on held found all
-      → Decides old new o (records all)
+  pub limit-records : {text text' : Octets} (goes_on : Bool) (all : List ResourceRecord)
+      → left ≡ 0 → AppendsPiece mid new 1 text text' goes_on
+      → TextGathered r goes_on held found all → Decides old new o (records all)
   limit-records goes_on all full more t =
-      subst (λ rs. Decides old new o (records rs)) (sym t.grown) (limit-given old mid new o r held left found so goes_on (records t.came) full more t.means)
+      subst (λ rs. Decides old new o (records rs)) (sym t.grown) (limit-given
+      old mid new o r held left found so goes_on (records t.came) full more t.means)

@@ -1,3 +1,4 @@
+pub mod Common
 pub mod OctetRuns
 pub mod OrderLemmas
 pub mod Results

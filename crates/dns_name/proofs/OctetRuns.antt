@@ -1,10 +1,5 @@
 -- Runs of octets are told by their first and their last octets, and these by numbers.
-use Rattle.std.proofs.Common.{◌≡◌, ◌==◌, ◌↔◌, IsTrue, ℕ, zero, suc, ◌+◌, ◌-◌, ◌<◌, ◌≤◌, List, [], ◌∷◌, length, take, drop, get_or, refl, sym, ap, ap₂, ◌∙◌, subst, arith}
-use Rattle.dns_spec.proofs.Common.{eqb-true, eq-eqb}
-use Rattle.std.proofs.lemmas.Nat.{le_bytes_2, le_bytes_4, le_bytes_8}
-use Rattle.std.proofs.lemmas.List.{length-take-le, length-drop}
-use Rattle.std.proofs.Math.Seq.{take-length}
-use Rattle.std.specs.Int.{from_le_bytes, w16, w32, w64}
+use Rattle.dns_name.proofs.Common.{◌≡◌, ◌==◌, ◌↔◌, IsTrue, ℕ, zero, suc, ◌+◌, ◌-◌, ◌<◌, ◌≤◌, List, [], ◌∷◌, length, take, drop, get_or, refl, sym, ap, ap₂, ◌∙◌, subst, arith, eqb-true, eq-eqb, le_bytes_2, le_bytes_4, le_bytes_8, length-take-le, length-drop, take-length, from_le_bytes, w16, w32, w64}
 
 abbrev pub AreLow : List ℕ → Type 0
 AreLow xs = (i : ℕ) → get_or xs i 0 < 256
@@ -22,22 +17,26 @@ low_end (suc k) (x ∷ xs) low i = low_end k xs (λ j. low (suc j)) i
 
 -- the number of the first k octets tells them
 abbrev pub Tells : ℕ → (List ℕ → ℕ) → Type 0
-Tells k f = (a b : List ℕ) → k ≤ length a → k ≤ length b → AreLow a → AreLow b → f (take k a) ≡ f (take k b) → take k a ≡ take k b
+Tells k f = (a b : List ℕ) → k ≤ length a
+    → k ≤ length b → AreLow a → AreLow b → f (take k a) ≡ f (take k b) → take k a ≡ take k b
 
 pub eight_tell : Tells 8 (from_le_bytes w64)
 eight_tell a b long-a long-b low-a low-b e =
-    sym (le_bytes_8 (take 8 a) (from_le_bytes w64 (take 8 a)) (length-take-le 8 a long-a) (low_front 8 a low-a) refl)
-    ∙ le_bytes_8 (take 8 b) (from_le_bytes w64 (take 8 a)) (length-take-le 8 b long-b) (low_front 8 b low-b) e
+    sym (le_bytes_8 (take 8 a) (from_le_bytes w64 (take 8 a))
+    (length-take-le 8 a long-a) (low_front 8 a low-a) refl) ∙ le_bytes_8 (take 8 b)
+    (from_le_bytes w64 (take 8 a)) (length-take-le 8 b long-b) (low_front 8 b low-b) e
 
 pub four_tell : Tells 4 (from_le_bytes w32)
 four_tell a b long-a long-b low-a low-b e =
-    sym (le_bytes_4 (take 4 a) (from_le_bytes w32 (take 4 a)) (length-take-le 4 a long-a) (low_front 4 a low-a) refl)
-    ∙ le_bytes_4 (take 4 b) (from_le_bytes w32 (take 4 a)) (length-take-le 4 b long-b) (low_front 4 b low-b) e
+    sym (le_bytes_4 (take 4 a) (from_le_bytes w32 (take 4 a))
+    (length-take-le 4 a long-a) (low_front 4 a low-a) refl) ∙ le_bytes_4 (take 4 b)
+    (from_le_bytes w32 (take 4 a)) (length-take-le 4 b long-b) (low_front 4 b low-b) e
 
 pub two_tell : Tells 2 (from_le_bytes w16)
 two_tell a b long-a long-b low-a low-b e =
-    sym (le_bytes_2 (take 2 a) (from_le_bytes w16 (take 2 a)) (length-take-le 2 a long-a) (low_front 2 a low-a) refl)
-    ∙ le_bytes_2 (take 2 b) (from_le_bytes w16 (take 2 a)) (length-take-le 2 b long-b) (low_front 2 b low-b) e
+    sym (le_bytes_2 (take 2 a) (from_le_bytes w16 (take 2 a))
+    (length-take-le 2 a long-a) (low_front 2 a low-a) refl) ∙ le_bytes_2 (take 2 b)
+    (from_le_bytes w16 (take 2 a)) (length-take-le 2 b long-b) (low_front 2 b low-b) e
 
 pub joined : (k j : ℕ) (a b : List ℕ) → k ≤ j → take j a ≡ take j b → drop k a ≡ drop k b → a ≡ b
 joined zero j a b h e d = d
@@ -45,17 +44,21 @@ joined (suc k) zero a b h e d = absurd (omega arith)
 joined (suc k) (suc j) [] [] h e d = refl
 joined (suc k) (suc j) [] (y ∷ b) h e d = absurd (omega (arith, ap length e))
 joined (suc k) (suc j) (x ∷ a) [] h e d = absurd (omega (arith, ap length e))
-joined (suc k) (suc j) (x ∷ a) (y ∷ b) h e d = ap₂ (λ z zs. z ∷ zs) (ap (λ l. get_or l 0 0) e) (joined k j a b (omega (arith, h)) (ap (drop 1) e) d)
+joined (suc k) (suc j) (x ∷ a) (y ∷ b) h e d = ap₂ (λ z zs. z ∷ zs)
+    (ap (λ l. get_or l 0 0) e) (joined k j a b (omega (arith, h)) (ap (drop 1) e) d)
 
-last_of : (k : ℕ) (xs : List ℕ) → k ≤ length xs → take k (drop (length xs - k) xs) ≡ drop (length xs - k) xs
+last_of : (k : ℕ) (xs : List ℕ)
+    → k ≤ length xs → take k (drop (length xs - k) xs) ≡ drop (length xs - k) xs
 last_of k xs long =
-    let all : length (drop (length xs - k) xs) ≡ k = omega (arith, length-drop (length xs - k) xs, long) in
-    subst (λ j. take j (drop (length xs - k) xs) ≡ drop (length xs - k) xs) all (take-length (drop (length xs - k) xs))
+    let all : length (drop (length xs - k) xs) ≡ k =
+    omega (arith, length-drop (length xs - k) xs, long) in
+    subst (λ j. take j (drop (length xs - k) xs) ≡ drop (length xs - k) xs) all
+    (take-length (drop (length xs - k) xs))
 
 -- the first k and the last k octets of k to 2k are all of them, and so are their numbers
 pub ends_tell : (k : ℕ) (f : List ℕ → ℕ) → Tells k f → (a b a' b' : List ℕ) {m n m' n' : ℕ}
     → length b ≡ length a → k ≤ length a → length a ≤ k + k → AreLow a → AreLow b
     → a' ≡ drop (length a - k) a → b' ≡ drop (length b - k) b → m ≡ f (take k a) → n ≡ f (take k b)
     → m ≡ n → m' ≡ f (take k a') → n' ≡ f (take k b') → IsTrue (m' == n') ↔ (a ≡ b)
-ends_tell k f tell a b a' b' same least most low-a low-b own-a own-b first second front third fourth =
-    grind (arith, length-drop, low_end, last_of, joined, eqb-true, eq-eqb)
+ends_tell k f tell a b a' b' same least most low-a low-b own-a own-b first second
+    front third fourth = grind (arith, length-drop, low_end, last_of, joined, eqb-true, eq-eqb)

@@ -1,8 +1,5 @@
 -- The order of names, whose labels are compared from the right, goes label by label from the left.
-use Rattle.dns_spec.proofs.Common.{◌≡◌, ℕ, zero, suc, ◌+◌, ◌-◌, ◌<◌, ◌≤◌, ◌⊎◌, min, inl, inr, List, [], ◌∷◌, ◌++◌, length, take, drop, reverse, Option, Ordering, Less, Equal, Greater, refl, sym, ◌∙◌, ap, arith, cases_order, nat_cmp_is, slice_cmp, Octets, DomainName, last_labels, label_order}
-use Rattle.std.proofs.lemmas.List.{reverse-append, length-reverse, length-take, length-drop, take-append-drop}
-use Rattle.std.specs.Iterator.{YieldsFirst}
-use Rattle.std.specs.Ordering.{ordering_then, nat_cmp}
+use Rattle.dns_name.proofs.Common.{◌≡◌, ℕ, zero, suc, ◌+◌, ◌-◌, ◌<◌, ◌≤◌, ◌⊎◌, min, inl, inr, List, [], ◌∷◌, ◌++◌, length, take, drop, reverse, Option, Ordering, Less, Equal, Greater, refl, sym, ◌∙◌, ap, arith, cases_order, nat_cmp_is, slice_cmp, Octets, DomainName, last_labels, label_order, reverse-append, length-reverse, length-take, length-drop, take-append-drop, YieldsFirst, ordering_then, nat_cmp}
 
 drop-one : (k : ℕ) (n : DomainName) → drop 1 (drop k n) ≡ drop (suc k) n
 drop-one zero n = refl
@@ -10,10 +7,12 @@ drop-one (suc k) [] = refl
 drop-one (suc k) (l ∷ n) = drop-one k n
 
 -- one label more is skipped
-pub drop-next : (s t n : DomainName) (r : Option Octets) (k : ℕ) → s ≡ drop k n → YieldsFirst (λ x. x) s r t → t ≡ drop (k + 1) n
+pub drop-next : (s t n : DomainName) (r : Option Octets) (k : ℕ)
+    → s ≡ drop k n → YieldsFirst (λ x. x) s r t → t ≡ drop (k + 1) n
 drop-next s t n r k e h = grind (arith, drop-one)
 
-then_assoc : (a b c : Ordering) → ordering_then (ordering_then a b) c ≡ ordering_then a (ordering_then b c)
+then_assoc : (a b c : Ordering)
+    → ordering_then (ordering_then a b) c ≡ ordering_then a (ordering_then b c)
 then_assoc Less b c = refl
 then_assoc Equal b c = refl
 then_assoc Greater b c = refl
@@ -25,7 +24,8 @@ then_equal Greater = refl
 
 module _ {A : Type 0} (R : A → A → Ordering) where
   -- as long lists go before what stands after them
-  slice_cmp-append : (xs ys us vs : List A) → length xs ≡ length ys → slice_cmp R (xs ++ us) (ys ++ vs) ≡ ordering_then (slice_cmp R xs ys) (slice_cmp R us vs)
+  slice_cmp-append : (xs ys us vs : List A) → length xs ≡ length ys
+      → slice_cmp R (xs ++ us) (ys ++ vs) ≡ ordering_then (slice_cmp R xs ys) (slice_cmp R us vs)
   slice_cmp-append [] [] us vs e = refl
   slice_cmp-append [] (y ∷ ys) us vs e = absurd (omega arith)
   slice_cmp-append (x ∷ xs) [] us vs e = absurd (omega arith)
@@ -34,72 +34,103 @@ module _ {A : Type 0} (R : A → A → Ordering) where
 
   -- the first of both lists is compared last
   pub slice_cmp-reverse-cons : (x y : A) (xs ys : List A) (o : Ordering) → length xs ≡ length ys
-      → ordering_then (slice_cmp R (reverse xs) (reverse ys)) (ordering_then (R x y) o) ≡ ordering_then (slice_cmp R (reverse (x ∷ xs)) (reverse (y ∷ ys))) o
+      → ordering_then (slice_cmp R (reverse xs) (reverse ys)) (ordering_then (R x y) o)
+      ≡ ordering_then (slice_cmp R (reverse (x ∷ xs)) (reverse (y ∷ ys))) o
   slice_cmp-reverse-cons x y xs ys o e =
-      let long : length (reverse xs) ≡ length (reverse ys) = length-reverse xs ∙ e ∙ sym (length-reverse ys) in
+      let long : length (reverse xs) ≡ length (reverse ys) =
+      length-reverse xs ∙ e ∙ sym (length-reverse ys) in
       let S = slice_cmp R (reverse xs) (reverse ys) in
-      let last : slice_cmp R (reverse xs ++ x ∷ []) (reverse ys ++ y ∷ []) ≡ ordering_then S (R x y) =
-      slice_cmp-append (reverse xs) (reverse ys) (x ∷ []) (y ∷ []) long ∙ ap (ordering_then S) (then_equal (R x y))
+      let last : slice_cmp R (reverse xs ++ x ∷ []) (reverse ys ++ y ∷ []) ≡ ordering_then S
+      (R x y) = slice_cmp-append (reverse xs) (reverse ys) (x ∷ []) (y ∷ []) long
+      ∙ ap (ordering_then S) (then_equal (R x y))
       in
-      sym (rw (reverse-append (x ∷ []) xs, reverse-append (y ∷ []) ys) (ap (λ p. ordering_then p o) last ∙ then_assoc S (R x y) o))
+      sym (rw (reverse-append (x ∷ []) xs, reverse-append (y ∷ []) ys)
+      (ap (λ p. ordering_then p o) last ∙ then_assoc S (R x y) o))
 
   -- where a list is empty, the lengths decide
-  by_length : (xs ys : List A) → (length xs ≡ 0) ⊎ (length ys ≡ 0) → slice_cmp R xs ys ≡ nat_cmp (length xs) (length ys)
+  by_length : (xs ys : List A)
+      → (length xs ≡ 0) ⊎ (length ys ≡ 0) → slice_cmp R xs ys ≡ nat_cmp (length xs) (length ys)
   by_length [] [] e = refl
   by_length [] (y ∷ ys) e = nat_cmp_is 0 (length (y ∷ ys)) Less (omega arith)
   by_length (x ∷ xs) [] e = nat_cmp_is (length (x ∷ xs)) 0 Greater (omega arith)
   by_length (x ∷ xs) (y ∷ ys) (inl e) = absurd (omega arith)
   by_length (x ∷ xs) (y ∷ ys) (inr e) = absurd (omega arith)
 
-less_by : (a b k : ℕ) → k ≤ a → k ≤ b → (a ≡ b) ⊎ ((a < b) ⊎ (b < a)) → nat_cmp (a - k) (b - k) ≡ nat_cmp a b
-less_by a b k p q (inl e) = sym (nat_cmp_is (a - k) (b - k) Equal (omega arith)) ∙ nat_cmp_is a b Equal e
-less_by a b k p q (inr (inl h)) = sym (nat_cmp_is (a - k) (b - k) Less (omega arith)) ∙ nat_cmp_is a b Less h
-less_by a b k p q (inr (inr h)) = sym (nat_cmp_is (a - k) (b - k) Greater (omega arith)) ∙ nat_cmp_is a b Greater h
+less_by : (a b k : ℕ)
+    → k ≤ a → k ≤ b → (a ≡ b) ⊎ ((a < b) ⊎ (b < a)) → nat_cmp (a - k) (b - k) ≡ nat_cmp a b
+less_by a b k p q (inl e) =
+    sym (nat_cmp_is (a - k) (b - k) Equal (omega arith)) ∙ nat_cmp_is a b Equal e
+less_by a b k p q (inr (inl h)) =
+    sym (nat_cmp_is (a - k) (b - k) Less (omega arith)) ∙ nat_cmp_is a b Less h
+less_by a b k p q (inr (inr h)) =
+    sym (nat_cmp_is (a - k) (b - k) Greater (omega arith)) ∙ nat_cmp_is a b Greater h
 
 -- the last k labels of both go before how many labels there are, where one name has no more
-pub order_of_last : (n m : DomainName) (k : ℕ) → k ≤ length n → k ≤ length m → (length n ≡ k) ⊎ (length m ≡ k)
-    → ordering_then (slice_cmp label_order (reverse (last_labels k n)) (reverse (last_labels k m))) (nat_cmp (length n) (length m)) ≡ slice_cmp label_order (reverse n) (reverse m)
+pub order_of_last : (n m : DomainName) (k : ℕ)
+    → k ≤ length n → k ≤ length m → (length n ≡ k) ⊎ (length m ≡ k)
+    → ordering_then (slice_cmp label_order (reverse (last_labels k n)) (reverse (last_labels k m)))
+    (nat_cmp (length n) (length m)) ≡ slice_cmp label_order (reverse n) (reverse m)
 order_of_last n m k p q shorter =
     let i : ℕ = length n - k in
     let j : ℕ = length m - k in
-    let left : reverse n ≡ reverse (drop i n) ++ reverse (take i n) = ap reverse (sym (take-append-drop i n)) ∙ reverse-append (take i n) (drop i n) in
-    let right : reverse m ≡ reverse (drop j m) ++ reverse (take j m) = ap reverse (sym (take-append-drop j m)) ∙ reverse-append (take j m) (drop j m) in
-    let as_long : length (reverse (drop i n)) ≡ length (reverse (drop j m)) = omega (arith, length-reverse (drop i n), length-reverse (drop j m), length-drop i n, length-drop j m) in
-    let first : length (reverse (take i n)) ≡ i = omega (arith, length-reverse (take i n), length-take i n) in
-    let second : length (reverse (take j m)) ≡ j = omega (arith, length-reverse (take j m), length-take j m) in
-    let empty : (length (reverse (take i n)) ≡ 0) ⊎ (length (reverse (take j m)) ≡ 0) = elim shorter [ inl e ↦ inl (omega (arith, first)) | inr e ↦ inr (omega (arith, second)) ] in
-    let front : slice_cmp label_order (reverse (take i n)) (reverse (take j m)) ≡ nat_cmp (length n) (length m) =
-    by_length label_order (reverse (take i n)) (reverse (take j m)) empty
+    let left : reverse n ≡ reverse (drop i n) ++ reverse (take i n) =
+    ap reverse (sym (take-append-drop i n)) ∙ reverse-append (take i n) (drop i n) in
+    let right : reverse m ≡ reverse (drop j m) ++ reverse (take j m) =
+    ap reverse (sym (take-append-drop j m)) ∙ reverse-append (take j m) (drop j m) in
+    let as_long : length (reverse (drop i n)) ≡ length (reverse (drop j m)) = omega (
+      arith,
+      length-reverse (drop i n),
+      length-reverse (drop j m),
+      length-drop i n,
+      length-drop j m,
+    ) in
+    let first : length (reverse (take i n)) ≡ i =
+    omega (arith, length-reverse (take i n), length-take i n) in
+    let second : length (reverse (take j m)) ≡ j =
+    omega (arith, length-reverse (take j m), length-take j m) in
+    let empty : (length (reverse (take i n)) ≡ 0) ⊎ (length (reverse (take j m)) ≡ 0) =
+    elim shorter [ inl e ↦ inl (omega (arith, first)) | inr e ↦ inr (omega (arith, second)) ] in
+    let front : slice_cmp label_order (reverse (take i n)) (reverse (take j m)) ≡ nat_cmp (length n)
+    (length m) = by_length label_order (reverse (take i n)) (reverse (take j m)) empty
     ∙ ap (λ x. nat_cmp x (length (reverse (take j m)))) first ∙ ap (nat_cmp i) second
     ∙ less_by (length n) (length m) k p q (cases_order (length n) (length m))
     in
-    sym (rw (left, right) (slice_cmp-append label_order _ _ _ _ as_long ∙ ap (ordering_then (slice_cmp label_order (reverse (drop i n)) (reverse (drop j m)))) front))
+    sym (rw (left, right) (slice_cmp-append label_order _ _ _ _ as_long ∙ ap
+    (ordering_then (slice_cmp label_order (reverse (drop i n)) (reverse (drop j m)))) front))
 
 -- a label more of both names: the labels so far give way to these, which stand further to the right
-pub order_next : (n n' m m' : DomainName) (l k : Octets) (order next : Ordering) → n ≡ l ∷ n' → m ≡ k ∷ m' → length n ≡ length m → next ≡ ordering_then (label_order l k) order
-    → (length n' ≡ length m') × (ordering_then (slice_cmp label_order (reverse n') (reverse m')) next ≡ ordering_then (slice_cmp label_order (reverse n) (reverse m)) order)
+pub order_next : (n n' m m' : DomainName) (l k : Octets) (order next : Ordering)
+    → n ≡ l ∷ n' → m ≡ k ∷ m' → length n ≡ length m → next ≡ ordering_then (label_order l k) order
+    → (length n' ≡ length m') × (ordering_then (slice_cmp label_order (reverse n') (reverse m'))
+    next ≡ ordering_then (slice_cmp label_order (reverse n) (reverse m)) order)
 order_next n n' m m' l k order next e f long g = grind (arith, slice_cmp-reverse-cons)
 
-pub order_is : (n m left right : DomainName) (k a b : ℕ) (longer result : Ordering) → a ≡ length n → b ≡ length m → k ≡ min a b
-    → left ≡ last_labels k n → right ≡ last_labels k m → longer ≡ nat_cmp a b
-    → result ≡ ordering_then (slice_cmp label_order (reverse left) (reverse right)) longer → result ≡ slice_cmp label_order (reverse n) (reverse m)
+pub order_is : (n m left right : DomainName) (k a b : ℕ) (longer result : Ordering) → a ≡ length n
+    → b ≡ length m → k ≡ min a b → left ≡ last_labels k n → right ≡ last_labels k m → longer
+    ≡ nat_cmp a b → result ≡ ordering_then (slice_cmp label_order (reverse left) (reverse right))
+    longer → result ≡ slice_cmp label_order (reverse n) (reverse m)
 order_is n m left right k a b longer result p q shared e f g h =
     grind (arith, cases_order, order_of_last)
 
-cmp_self : {A : Type 0} (R : A → A → Ordering) → ((x : A) → R x x ≡ Equal) → (xs : List A) → slice_cmp R xs xs ≡ Equal
+cmp_self : {A : Type 0} (R : A → A → Ordering)
+    → ((x : A) → R x x ≡ Equal) → (xs : List A) → slice_cmp R xs xs ≡ Equal
 cmp_self R h [] = refl
 cmp_self R h (x ∷ xs) = rw (h x) (cmp_self R h xs)
 
 -- where the labels that are left are the same, those so far decide
-pub order_stays : (n m : DomainName) (order : Ordering) → n ≡ m → ordering_then (slice_cmp label_order (reverse n) (reverse m)) order ≡ order
+pub order_stays : (n m : DomainName) (order : Ordering)
+    → n ≡ m → ordering_then (slice_cmp label_order (reverse n) (reverse m)) order ≡ order
 order_stays n m order e = grind (arith, cmp_self)
 
 -- names below one name
-pub order_of_first : (n n' m m' : DomainName) (l k : Octets) (result : Ordering) → n ≡ l ∷ n' → m ≡ k ∷ m' → n' ≡ m' → result ≡ label_order l k
-    → result ≡ slice_cmp label_order (reverse n) (reverse m)
+pub order_of_first : (n n' m m' : DomainName) (l k : Octets) (result : Ordering)
+    → n ≡ l ∷ n' → m ≡ k ∷ m'
+    → n' ≡ m' → result ≡ label_order l k → result ≡ slice_cmp label_order (reverse n) (reverse m)
 order_of_first n n' m m' l k result e f same g =
-    let after : ordering_then (slice_cmp label_order (reverse n') (reverse m')) (ordering_then (label_order l k) Equal) ≡ ordering_then (label_order l k) Equal =
+    let after : ordering_then (slice_cmp label_order (reverse n') (reverse m'))
+    (ordering_then (label_order l k) Equal) ≡ ordering_then (label_order l k) Equal =
     order_stays n' m' (ordering_then (label_order l k) Equal) same
     in
     let all = slice_cmp-reverse-cons label_order l k n' m' Equal (ap length same) in
-    g ∙ sym (then_equal (label_order l k)) ∙ sym after ∙ all ∙ then_equal (slice_cmp label_order (reverse (l ∷ n')) (reverse (k ∷ m'))) ∙ rw (e, f) refl
+    g ∙ sym (then_equal (label_order l k)) ∙ sym after ∙ all
+    ∙ then_equal (slice_cmp label_order (reverse (l ∷ n')) (reverse (k ∷ m'))) ∙ rw (e, f) refl

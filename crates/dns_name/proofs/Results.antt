@@ -1,5 +1,5 @@
 -- What is known of a result, said of another fact: where a call succeeds, and where it fails.
-use Rattle.std.proofs.Common.{◌≡◌, Result, IfErr, OnOk, OnErr, IsErrAnd, arith}
+use Rattle.dns_name.proofs.Common.{◌≡◌, Result, IfErr, OnOk, OnErr, IsErrAnd, arith}
 
 -- what holds anyway, holds where a call fails
 pub OnErr-always : {A E P : Type 0} (result : Result A E) → P → OnErr result P
@@ -11,13 +11,16 @@ OnOk-map result h h1 = grind arith
 pub OnErr-map : {A E P Q : Type 0} (result : Result A E) → (P → Q) → OnErr result P → OnErr result Q
 OnErr-map result h h1 = grind arith
 
-pub IfErr-map : {A E : Type 0} {P Q : E → Type 0} (result : Result A E) → ((e : E) → P e → Q e) → IfErr result P → IfErr result Q
+pub IfErr-map : {A E : Type 0} {P Q : E → Type 0} (result : Result A E)
+    → ((e : E) → P e → Q e) → IfErr result P → IfErr result Q
 IfErr-map result h h1 = grind arith
 
 -- a fault that is handed on, and what holds of it
-pub fault_handed_on : {A F : Type 0} (result : Result A F) (fault : F) (P : F → Type 0) → IsErrAnd result (λ e. e ≡ fault) → P fault → IfErr result P
+pub fault_handed_on : {A F : Type 0} (result : Result A F) (fault : F) (P : F → Type 0)
+    → IsErrAnd result (λ e. e ≡ fault) → P fault → IfErr result P
 fault_handed_on result fault P h h1 = grind arith
 
 -- a fault that is turned into another, and what holds of that
-pub fault_turned : {A F : Type 0} (result : Result A F) (R P : F → Type 0) → IsErrAnd result R → ((f : F) → R f → P f) → IfErr result P
+pub fault_turned : {A F : Type 0} (result : Result A F) (R P : F → Type 0)
+    → IsErrAnd result R → ((f : F) → R f → P f) → IfErr result P
 fault_turned result R P h h1 = grind arith

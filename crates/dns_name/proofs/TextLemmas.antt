@@ -1,10 +1,5 @@
 -- Reading a text from left to right finds what it spells, and nothing else.
-use Rattle.dns_spec.proofs.Common.{Result, Ok, Err, ◌≡◌, ℕ, suc, ◌+◌, ◌-◌, ◌*◌, ◌<◌, ◌≤◌, inl, inr, Bool, true, false, ◌&&◌, ◌==◌, nat_le, [], ◌∷◌, ◌++◌, length, take, drop, Option, Some, None, refl, sym, ◌∙◌, ap, subst, arith, length-append, option_and_then, MatchBool, if◌then◌else◌, is_ascii_digit, IsAsciiDigit, IsNotAsciiDigit, list_all, position_or_len, Octets, DomainName, wire, is_label, is_name, three_digits_value, SpellsOctet, LabelThen, TextSpells, SpellsName}
-use Rattle.std.proofs.lemmas.List.{append_assoc, append-nil, length-take, take_all, take-append-le}
-use Rattle.std.proofs.lemmas.Bool.{true≢false, false≢true, and_parts, and_from, and_left, and_right, and_cases, lt-leb, leb-false, eqb-true, eqb-false, or_parts, eq-eqb, ne_eqb, lt-ltb, ltb-true, le-leb, leb-true, cases_Bool}
-use Rattle.std.specs.Result.{IsErr}
-use Rattle.dns_spec.proofs.DomainNames.NameLaws.{is_label-head, length-wire-append, IsName-is_name, IsLabel-is_label}
-use Rattle.dns_name.specs.TextForm.{digit_at, decimal_at, escaped_at, octet_at, is_mark, is_label_end, ReadsLabel, PushesLabel, HasNoLabel, Appended, SpellsIff, spelled_as}
+use Rattle.dns_name.proofs.Common.{Result, Ok, Err, ◌≡◌, ℕ, suc, ◌+◌, ◌-◌, ◌*◌, ◌<◌, ◌≤◌, inl, inr, Bool, true, false, ◌&&◌, ◌==◌, nat_le, [], ◌∷◌, ◌++◌, length, take, drop, Option, Some, None, refl, sym, ◌∙◌, ap, subst, arith, length-append, option_and_then, MatchBool, if◌then◌else◌, is_ascii_digit, IsAsciiDigit, IsNotAsciiDigit, list_all, position_or_len, Octets, DomainName, wire, is_label, is_name, three_digits_value, SpellsOctet, LabelThen, TextSpells, SpellsName, append_assoc, append-nil, length-take, take_all, take-append-le, true≢false, false≢true, and_parts, and_from, and_left, and_right, and_cases, lt-leb, leb-false, eqb-true, eqb-false, or_parts, eq-eqb, ne_eqb, lt-ltb, ltb-true, le-leb, leb-true, cases_Bool, IsErr, is_label-head, length-wire-append, IsName-is_name, IsLabel-is_label, digit_at, decimal_at, escaped_at, octet_at, is_mark, is_label_end, ReadsLabel, PushesLabel, HasNoLabel, Appended, SpellsIff, spelled_as}
 
 -- a text is the spelling of an octet and others
 abbrev pub OctetThen : Octets → ℕ → Octets → Type 0
@@ -14,32 +9,39 @@ no_digit : (a : ℕ) → IsNotAsciiDigit a → is_ascii_digit a ≡ false
 no_digit a h = grind (arith, and_left, lt-leb, and_right)
 
 no_digit_from : (a : ℕ) → is_ascii_digit a ≡ false → IsNotAsciiDigit a
-no_digit_from a h = elim (and_cases (nat_le 48 a) _ h) [ inl low ↦ inl (leb-false _ _ low) | inr high ↦ inr (leb-false _ _ high) ]
+no_digit_from a h = elim (and_cases (nat_le 48 a) _ h)
+    [ inl low ↦ inl (leb-false _ _ low) | inr high ↦ inr (leb-false _ _ high) ]
 
 -- a spelling is read, whatever stands after it
-octet_at-spelled : (first : Octets) (x : ℕ) (others : Octets) → SpellsOctet first x → octet_at (first ++ others) ≡ Some (x, others)
+octet_at-spelled : (first : Octets) (x : ℕ) (others : Octets)
+    → SpellsOctet first x → octet_at (first ++ others) ≡ Some (x, others)
 unfolding octet_at escaped_at decimal_at
 octet_at-spelled first x others h =
     grind (arith, ne_eqb, and_from, le-leb, eq-eqb, no_digit, lt-ltb)
 
-pub octet_at-OctetThen : (text : Octets) (x : ℕ) (others : Octets) → OctetThen text x others → octet_at text ≡ Some (x, others)
+pub octet_at-OctetThen : (text : Octets) (x : ℕ) (others : Octets)
+    → OctetThen text x others → octet_at text ≡ Some (x, others)
 octet_at-OctetThen text x others (first, e, h) = ap octet_at e ∙ octet_at-spelled first x others h
 
-and_then_some : {A B : Type 0} (f : A → Option B) (o : Option A) (y : B) → option_and_then f o ≡ Some y → (x : A) × (o ≡ Some x) × (f x ≡ Some y)
+and_then_some : {A B : Type 0} (f : A → Option B) (o : Option A) (y : B)
+    → option_and_then f o ≡ Some y → (x : A) × (o ≡ Some x) × (f x ≡ Some y)
 and_then_some f None y e = cc
 and_then_some f (Some x) y e = (x, refl, e)
 
 some_parts : (v w : ℕ × Octets) → Some v ≡ Some w → (v.0 ≡ w.0) × (v.1 ≡ w.1)
 some_parts v w e = grind arith
 
-if_some : {A : Type 0} (t : Bool) (x y : A) → (if t then Some x else None) ≡ Some y → (t ≡ true) × (x ≡ y)
+if_some : {A : Type 0} (t : Bool) (x y : A)
+    → (if t then Some x else None) ≡ Some y → (t ≡ true) × (x ≡ y)
 if_some t x y h = grind arith
 
-digit_read : (text : Octets) (v : ℕ × Octets) → digit_at text ≡ Some v → (a : ℕ) × (text ≡ a ∷ v.1) × IsAsciiDigit a × (v.0 ≡ a - 48)
+digit_read : (text : Octets) (v : ℕ × Octets)
+    → digit_at text ≡ Some v → (a : ℕ) × (text ≡ a ∷ v.1) × IsAsciiDigit a × (v.0 ≡ a - 48)
 digit_read [] v e = cc
 digit_read (a ∷ rest) v e = grind (arith, if_some, and_parts, leb-true)
 
-decimal_read : (text : Octets) (x : ℕ) (others : Octets) → decimal_at text ≡ Some (x, others) → OctetThen (92 ∷ text) x others
+decimal_read : (text : Octets) (x : ℕ) (others : Octets)
+    → decimal_at text ≡ Some (x, others) → OctetThen (92 ∷ text) x others
 unfolding decimal_at
 decimal_read text x others e =
     let one = and_then_some _ (digit_at text) (x, others) e in
@@ -61,14 +63,16 @@ decimal_read text x others e =
     let below : x < 256 = omega (arith, ap (λ w. w.0) fits.1) in
     (92 ∷ a.0 ∷ b.0 ∷ c.0 ∷ [], whole, (refl, a.2, b.2, c.2, value, below))
 
-escaped_read : (text : Octets) (x : ℕ) (others : Octets) → escaped_at text ≡ Some (x, others) → OctetThen (92 ∷ text) x others
+escaped_read : (text : Octets) (x : ℕ) (others : Octets)
+    → escaped_at text ≡ Some (x, others) → OctetThen (92 ∷ text) x others
 unfolding escaped_at
 escaped_read [] x others e = cc
 escaped_read (a ∷ rest) x others e =
     elim (cases_Bool (is_ascii_digit a)) [
       | inl digit ↦ decimal_read (a ∷ rest) x others (rw digit at e)
       | inr none ↦
-          let f : (if nat_le 32 a && nat_le a 126 then Some (a, rest) else None) ≡ Some (x, others) = rw none at e in
+          let f : (if nat_le 32 a && nat_le a 126 then Some (a, rest) else None)
+          ≡ Some (x, others) = rw none at e in
           let printable = if_some (nat_le 32 a && nat_le a 126) (a, rest) (x, others) f in
           let parts = and_parts (nat_le 32 a) _ printable.0 in
           let same_octet : a ≡ x = ap (λ w. w.0) printable.1 in
@@ -80,7 +84,8 @@ escaped_read (a ∷ rest) x others e =
     ]
 
 -- what is read is spelled so, unless the text stands at a label's end
-pub OctetThen-octet_at : (text : Octets) (x : ℕ) (others : Octets) → is_label_end text ≡ false → octet_at text ≡ Some (x, others) → OctetThen text x others
+pub OctetThen-octet_at : (text : Octets) (x : ℕ) (others : Octets)
+    → is_label_end text ≡ false → octet_at text ≡ Some (x, others) → OctetThen text x others
 unfolding octet_at
 OctetThen-octet_at [] x others h e = cc
 OctetThen-octet_at (a ∷ rest) x others h e =
@@ -96,50 +101,68 @@ OctetThen-octet_at (a ∷ rest) x others h e =
     ]
 
 -- no spelling of an octet begins at a label's end
-pub OctetThen-goes_on : (text : Octets) (x : ℕ) (others : Octets) → OctetThen text x others → is_label_end text ≡ false
+pub OctetThen-goes_on : (text : Octets) (x : ℕ) (others : Octets)
+    → OctetThen text x others → is_label_end text ≡ false
 OctetThen-goes_on text x others (first, e, h) = grind (arith, ne_eqb)
 
 -- a spelling has an octet or more
-pub OctetThen-shorter : (text : Octets) (x : ℕ) (others : Octets) → OctetThen text x others → length others < length text
+pub OctetThen-shorter : (text : Octets) (x : ℕ) (others : Octets)
+    → OctetThen text x others → length others < length text
 OctetThen-shorter text x others (first, e, h) = grind (arith, length-append)
 
 -- one octet more of a label
-pub LabelThen-push : (text l : Octets) (rest : Octets) (x : ℕ) (others : Octets) → LabelThen text l rest → OctetThen rest x others → LabelThen text (l ++ x ∷ []) others
+pub LabelThen-push : (text l : Octets) (rest : Octets) (x : ℕ) (others : Octets)
+    → LabelThen text l rest → OctetThen rest x others → LabelThen text (l ++ x ∷ []) others
 LabelThen-push text [] rest x others e (first, f, h) = (first, others, e ∙ f, h, refl)
 LabelThen-push text (y ∷ l) rest x others (first, after, f, h, g) next =
     (first, after, f, h, LabelThen-push after l rest x others g next)
 
 -- octets up to the first dot or backslash spell themselves
-pub up_to_mark : (text : Octets) → LabelThen text (take (position_or_len is_mark text) text) (drop (position_or_len is_mark text) text)
+pub up_to_mark : (text : Octets) → LabelThen text
+    (take (position_or_len is_mark text) text) (drop (position_or_len is_mark text) text)
 up_to_mark [] = refl
 up_to_mark (a ∷ text) = elim (cases_Bool (is_mark a)) [
   | inl mark ↦ rw mark refl
   | inr plain ↦
       let parts = or_parts (a == 46) (a == 92) plain in
-      let after : suc (position_or_len is_mark text) ≡ position_or_len is_mark (a ∷ text) = rw plain (omega arith) in
+      let after : suc (position_or_len is_mark text) ≡ position_or_len is_mark (a ∷ text) =
+      rw plain (omega arith) in
       let P : ℕ → Type 0 = λ n. LabelThen (a ∷ text) (take n (a ∷ text)) (drop n (a ∷ text)) in
-      subst P after (a ∷ [], text, refl, (refl, eqb-false a 46 parts.0, eqb-false a 92 parts.1), up_to_mark text)
+      subst P after (
+        a ∷ [],
+        text,
+        refl,
+        (refl, eqb-false a 46 parts.0, eqb-false a 92 parts.1),
+        up_to_mark text,
+      )
 ]
 
-LabelThen-at : (text l rest text' : Octets) → text ≡ text' → LabelThen text l rest → LabelThen text' l rest
-LabelThen-at text l rest text' e h = let P : Octets → Type 0 = λ t. LabelThen t l rest in subst P e h
+LabelThen-at : (text l rest text' : Octets)
+    → text ≡ text' → LabelThen text l rest → LabelThen text' l rest
+LabelThen-at text l rest text' e h =
+    let P : Octets → Type 0 = λ t. LabelThen t l rest in subst P e h
 
 -- where a label is read so far, each label that the text spells goes on from there
-pub LabelThen-rest : (text l rest l' rest' : Octets) → LabelThen text l rest → LabelThen text l' rest' → is_label_end rest' ≡ true → (m : Octets) × (l' ≡ l ++ m) × LabelThen rest m rest'
+pub LabelThen-rest : (text l rest l' rest' : Octets) → LabelThen text l rest → LabelThen text
+    l' rest' → is_label_end rest' ≡ true → (m : Octets) × (l' ≡ l ++ m) × LabelThen rest m rest'
 LabelThen-rest text [] rest l' rest' e h end = (l', refl, LabelThen-at text l' rest' rest e h)
 LabelThen-rest text (x ∷ l) rest [] rest' (first, after, f, p, h) e end = grind (arith, true≢false)
-LabelThen-rest text (x ∷ l) rest (y ∷ l') rest' (first, after, f, p, h) (first', after', f', p', h') end =
+LabelThen-rest text
+    (x ∷ l) rest (y ∷ l') rest' (first, after, f, p, h) (first', after', f', p', h') end =
     let one : octet_at text ≡ Some (x, after) = octet_at-OctetThen text x after (first, f, p) in
-    let two : octet_at text ≡ Some (y, after') = octet_at-OctetThen text y after' (first', f', p') in
+    let two : octet_at text ≡ Some (y, after') =
+    octet_at-OctetThen text y after' (first', f', p') in
     let parts = some_parts (x, after) (y, after') (sym one ∙ two) in
     let octets : x ≡ y = parts.0 in
     let texts : after' ≡ after = sym parts.1 in
-    let others = LabelThen-rest after l rest l' rest' h (LabelThen-at after' l' rest' after texts h') end in
+    let others =
+    LabelThen-rest after l rest l' rest' h (LabelThen-at after' l' rest' after texts h') end in
     let m = others.0 in
     (m, ap (λ w. w ∷ l') (sym octets) ∙ ap (λ w. x ∷ w) others.1, others.2)
 
 -- a text begins with one label alone
-pub LabelThen-unique : (text l rest l' rest' : Octets) → LabelThen text l rest → LabelThen text l' rest' → is_label_end rest ≡ true → is_label_end rest' ≡ true → (l' ≡ l) × (rest ≡ rest')
+pub LabelThen-unique : (text l rest l' rest' : Octets) → LabelThen text l rest → LabelThen
+    text l' rest' → is_label_end rest ≡ true → is_label_end rest' ≡ true → (l' ≡ l) × (rest ≡ rest')
 LabelThen-unique text l rest l' rest' h h' end end' =
     by_cases (LabelThen-rest text l rest l' rest' h h' end')
   where
@@ -155,15 +178,21 @@ LabelThen-nil (x ∷ l) rest (first, after, e, p, h) = grind (arith, true≢fals
 no_empty_label : is_label [] ≡ true → ⊥
 no_empty_label h = false≢true h
 
--- where the labels `read` are read and `rest` is left: what the text spells is `read` and what `rest` spells
-pub record ReadSoFar (origin : DomainName) (word : Octets) (read : DomainName) (rest : Octets) : Type 0 where
+-- where the labels `read` are read and `rest` is left: what the text spells is `read` and what
+-- `rest` spells
+pub record ReadSoFar
+    (origin : DomainName) (word : Octets) (read : DomainName) (rest : Octets) : Type 0 where
   pub all : (n : DomainName) → TextSpells origin rest n → TextSpells origin word (read ++ n)
-  pub only : (n : DomainName) → TextSpells origin word n → (m : DomainName) × (n ≡ read ++ m) × TextSpells origin rest m
+  pub only : (n : DomainName)
+      → TextSpells origin word n → (m : DomainName) × (n ≡ read ++ m) × TextSpells origin rest m
 
 -- what a text that begins with a label and a dot spells
-spells_after_dot : (origin : DomainName) (rest l others : Octets) (m : DomainName) → LabelThen rest l (46 ∷ others) → TextSpells origin rest m → (k : DomainName) × (m ≡ l ∷ k) × TextSpells origin others k
+spells_after_dot : (origin : DomainName) (rest l others : Octets) (m : DomainName)
+    → LabelThen rest l (46 ∷ others)
+    → TextSpells origin rest m → (k : DomainName) × (m ≡ l ∷ k) × TextSpells origin others k
 spells_after_dot origin rest l others [] h e =
-    let ended : 46 ∷ others ≡ [] = (LabelThen-nil l (46 ∷ others) (LabelThen-at rest l (46 ∷ others) [] e h)).1 in
+    let ended : 46 ∷ others ≡ [] =
+    (LabelThen-nil l (46 ∷ others) (LabelThen-at rest l (46 ∷ others) [] e h)).1 in
     cc
 spells_after_dot origin rest l others (k ∷ m) h (inl (g, e)) =
     let ended : [] ≡ 46 ∷ others = (LabelThen-unique rest k [] l (46 ∷ others) g h refl refl).1 in
@@ -174,7 +203,9 @@ spells_after_dot origin rest l others (k ∷ m) h (inr (others', g, e)) =
     let P : Octets → Type 0 = λ t. TextSpells origin t m in
     (m, ap (λ j. j ∷ m) (sym one.0), subst P same_text e)
 
-pub ReadSoFar-push : (origin : DomainName) (word : Octets) (read : DomainName) (rest l others : Octets) → ReadSoFar origin word read rest → LabelThen rest l (46 ∷ others) → ReadSoFar origin word (read ++ l ∷ []) others
+pub ReadSoFar-push : (origin : DomainName)
+    (word : Octets) (read : DomainName) (rest l others : Octets) → ReadSoFar origin word read rest
+    → LabelThen rest l (46 ∷ others) → ReadSoFar origin word (read ++ l ∷ []) others
 ReadSoFar-push origin word read rest l others so_far h =
     grind (arith, append_assoc, spells_after_dot)
 
@@ -184,31 +215,39 @@ pub record SpellsOnly (origin : DomainName) (word : Octets) (n : DomainName) : T
   pub only : (m : DomainName) → is_name m ≡ true → TextSpells origin word m → m ≡ n
 
 -- what a text that is one label without a dot spells
-spells_last : (origin : DomainName) (rest l : Octets) (m : DomainName) → LabelThen rest l [] → is_label l ≡ true → TextSpells origin rest m → m ≡ l ∷ origin
+spells_last : (origin : DomainName) (rest l : Octets) (m : DomainName)
+    → LabelThen rest l [] → is_label l ≡ true → TextSpells origin rest m → m ≡ l ∷ origin
 spells_last origin rest l [] h is_l e = grind (arith, LabelThen-nil, LabelThen-at, no_empty_label)
 spells_last origin rest l (k ∷ m) h is_l (inl (g, e)) = grind (arith, LabelThen-unique)
 spells_last origin rest l (k ∷ m) h is_l (inr (others, g, e)) = grind (arith, LabelThen-unique)
 
 -- a label among those of a name
-is_label-inside : (read : DomainName) (l : Octets) (n m : DomainName) → m ≡ read ++ l ∷ n → is_name m ≡ true → is_label l ≡ true
-is_label-inside read l n m e ok = inside read (IsName-is_name (read ++ l ∷ n) (ap is_name (sym e) ∙ ok)).labels
+is_label-inside : (read : DomainName) (l : Octets) (n m : DomainName)
+    → m ≡ read ++ l ∷ n → is_name m ≡ true → is_label l ≡ true
+is_label-inside read l n m e ok =
+    inside read (IsName-is_name (read ++ l ∷ n) (ap is_name (sym e) ∙ ok)).labels
   where
     inside : (read : DomainName) → list_all is_label (read ++ l ∷ n) ≡ true → is_label l ≡ true
     inside [] h = (and_parts (is_label l) _ h).0
     inside (k ∷ read) h = inside read (and_parts (is_label k) _ h).1
 
 -- a last label without a dot
-pub SpellsOnly-relative : (origin : DomainName) (word : Octets) (read : DomainName) (rest l : Octets) → ReadSoFar origin word read rest → LabelThen rest l [] → is_label l ≡ true → SpellsOnly origin word ((read ++ l ∷ []) ++ origin)
+pub SpellsOnly-relative : (origin : DomainName)
+    (word : Octets) (read : DomainName) (rest l : Octets) → ReadSoFar origin word read rest
+    → LabelThen rest l [] → is_label l ≡ true → SpellsOnly origin word ((read ++ l ∷ []) ++ origin)
 SpellsOnly-relative origin word read rest l so_far h is_l = grind (arith, append_assoc, spells_last)
 
 -- a final dot
-pub SpellsOnly-absolute : (origin : DomainName) (word : Octets) (read : DomainName) (rest : Octets) → ReadSoFar origin word read rest → rest ≡ [] → SpellsOnly origin word read
+pub SpellsOnly-absolute : (origin : DomainName) (word : Octets) (read : DomainName) (rest : Octets)
+    → ReadSoFar origin word read rest → rest ≡ [] → SpellsOnly origin word read
 SpellsOnly-absolute origin word read rest so_far e = record { spelled = spelled; only = only }
   where
     spelled : TextSpells origin word read
-    spelled = let P : DomainName → Type 0 = TextSpells origin word in subst P (append-nil read) (so_far.all [] e)
+    spelled = let P : DomainName → Type 0 =
+        TextSpells origin word in subst P (append-nil read) (so_far.all [] e)
 
-    no_more : (m k : DomainName) → m ≡ read ++ k → is_name m ≡ true → TextSpells origin rest k → m ≡ read
+    no_more : (m k : DomainName)
+        → m ≡ read ++ k → is_name m ≡ true → TextSpells origin rest k → m ≡ read
     no_more m [] f ok h = f ∙ append-nil read
     no_more m (l ∷ k) f ok (inl (g, h)) =
         let empty = LabelThen-nil l [] (LabelThen-at rest l [] [] e g) in
@@ -220,7 +259,10 @@ SpellsOnly-absolute origin word read rest so_far e = record { spelled = spelled;
     only m ok g = let after = so_far.only m g in no_more m after.0 after.1 ok after.2
 
 -- no name is spelled where no label stands next
-pub nothing_spelled : (origin : DomainName) (word : Octets) (read : DomainName) (rest : Octets) → ReadSoFar origin word read rest → (rest ≡ [] → ⊥) → ((l after : Octets) → LabelThen rest l after → is_label_end after ≡ true → is_label l ≡ true → ⊥) → (n : DomainName) → is_name n ≡ true → TextSpells origin word n → ⊥
+pub nothing_spelled : (origin : DomainName) (word : Octets) (read : DomainName) (rest : Octets)
+    → ReadSoFar origin word read rest
+    → (rest ≡ [] → ⊥) → ((l after : Octets) → LabelThen rest l after → is_label_end after ≡ true
+    → is_label l ≡ true → ⊥) → (n : DomainName) → is_name n ≡ true → TextSpells origin word n → ⊥
 nothing_spelled origin word read rest so_far more none n ok h =
     let after = so_far.only n h in
     by_cases after.0 after.1 after.2
@@ -228,10 +270,12 @@ nothing_spelled origin word read rest so_far more none n ok h =
     by_cases : (m : DomainName) → n ≡ read ++ m → TextSpells origin rest m → ⊥
     by_cases [] e g = more g
     by_cases (l ∷ m) e (inl (g, f)) = none l [] g refl (is_label-inside read l m n e ok)
-    by_cases (l ∷ m) e (inr (others, g, f)) = none l (46 ∷ others) g refl (is_label-inside read l m n e ok)
+    by_cases (l ∷ m) e (inr (others, g, f)) =
+        none l (46 ∷ others) g refl (is_label-inside read l m n e ok)
 
 -- an octet more of a label, of which no more than 64 are kept
-pub ReadsLabel-push : (text octets rest : Octets) (x : ℕ) (others : Octets) → ReadsLabel text octets rest → OctetThen rest x others → length octets < 64 → ReadsLabel text (octets ++ x ∷ []) others
+pub ReadsLabel-push : (text octets rest : Octets) (x : ℕ) (others : Octets) → ReadsLabel text octets
+    rest → OctetThen rest x others → length octets < 64 → ReadsLabel text (octets ++ x ∷ []) others
 ReadsLabel-push text octets rest x others reads next room =
     let l = reads.label in
     let short : length l < 64 = omega (arith, ap length reads.kept, length-take 64 l) in
@@ -243,7 +287,8 @@ ReadsLabel-push text octets rest x others reads next room =
       kept = ap (λ w. w ++ x ∷ []) whole ∙ sym (take_all 64 (l ++ x ∷ []) (omega arith));
     }
 
-pub ReadsLabel-full : (text octets rest : Octets) (x : ℕ) (others : Octets) → ReadsLabel text octets rest → OctetThen rest x others → 64 ≤ length octets → ReadsLabel text octets others
+pub ReadsLabel-full : (text octets rest : Octets) (x : ℕ) (others : Octets) → ReadsLabel
+    text octets rest → OctetThen rest x others → 64 ≤ length octets → ReadsLabel text octets others
 ReadsLabel-full text octets rest x others reads next full =
     let l = reads.label in
     let long : 64 ≤ length l = omega (arith, ap length reads.kept, length-take 64 l) in
@@ -254,7 +299,9 @@ ReadsLabel-full text octets rest x others reads next full =
     }
 
 -- where no octet is spelled and the label hasn't ended, the text begins with no label
-pub no_label_read : (text octets rest : Octets) → ReadsLabel text octets rest → is_label_end rest ≡ false → octet_at rest ≡ None → (l end : Octets) → LabelThen text l end → is_label_end end ≡ true → ⊥
+pub no_label_read : (text octets rest : Octets)
+    → ReadsLabel text octets rest → is_label_end rest ≡ false
+    → octet_at rest ≡ None → (l end : Octets) → LabelThen text l end → is_label_end end ≡ true → ⊥
 no_label_read text octets rest reads goes_on none l end h at_end =
     by_cases (LabelThen-rest text reads.label rest l end reads.spelled h at_end)
   where
@@ -265,15 +312,18 @@ no_label_read text octets rest reads goes_on none l end h at_end =
         cc
 
 -- a label that was read is the only one that the text begins with
-pub label_read_alone : (text octets end : Octets) → ReadsLabel text octets end → is_label_end end ≡ true → (is_label octets ≡ true → ⊥) → HasNoLabel text
+pub label_read_alone : (text octets end : Octets) → ReadsLabel text octets end
+    → is_label_end end ≡ true → (is_label octets ≡ true → ⊥) → HasNoLabel text
 label_read_alone text octets end reads at_end no_label l end' h at_end' is_l =
-    let one : l ≡ reads.label = (LabelThen-unique text reads.label end l end' reads.spelled h at_end at_end').0 in
+    let one : l ≡ reads.label =
+    (LabelThen-unique text reads.label end l end' reads.spelled h at_end at_end').0 in
     let fits = (IsLabel-is_label l is_l).fits in
     let whole : octets ≡ l = reads.kept ∙ ap (take 64) (sym one) ∙ take_all 64 l (omega arith) in
     no_label (ap is_label whole ∙ is_l)
 
 -- a label of which all octets were kept
-pub label_kept : (text octets end : Octets) → ReadsLabel text octets end → is_label octets ≡ true → LabelThen text octets end
+pub label_kept : (text octets end : Octets)
+    → ReadsLabel text octets end → is_label octets ≡ true → LabelThen text octets end
 label_kept text octets end reads is_l =
     let l = reads.label in
     let fits = (IsLabel-is_label octets is_l).fits in
@@ -282,20 +332,26 @@ label_kept text octets end reads is_l =
     let P : Octets → Type 0 = λ k. LabelThen text k end in
     subst P (sym whole) reads.spelled
 
-pub PushesLabel-label : (text octets end l : Octets) (old : DomainName) (fits : Bool) (new : DomainName) → ReadsLabel text octets end → is_label_end end ≡ true → is_label octets ≡ true → l ≡ octets → Appended old (l ∷ []) fits new → PushesLabel text old fits end new
+pub PushesLabel-label : (text octets end l : Octets) (old : DomainName) (fits : Bool)
+    (new : DomainName) → ReadsLabel text octets end → is_label_end end ≡ true → is_label octets
+    ≡ true → l ≡ octets → Appended old (l ∷ []) fits new → PushesLabel text old fits end new
 PushesLabel-label text octets end l old fits new reads at_end is_l e appended =
     grind (arith, label_kept)
 
 -- a label that is spelled is the only one that the text begins with
-pub label_alone : (text octets end : Octets) → LabelThen text octets end → is_label_end end ≡ true → (is_label octets ≡ true → ⊥) → HasNoLabel text
+pub label_alone : (text octets end : Octets) → LabelThen text octets end
+    → is_label_end end ≡ true → (is_label octets ≡ true → ⊥) → HasNoLabel text
 label_alone text octets end spelled at_end no_label l end' h at_end' is_l =
     grind (arith, LabelThen-unique)
 
 -- while the labels that are read fit, the name holds them
 abbrev pub Holds : DomainName → Bool → DomainName → Type 0
-Holds read fits name = MatchBool fits ((name ≡ read) × (is_name read ≡ true)) (255 < length (wire read))
+Holds read fits name =
+    MatchBool fits ((name ≡ read) × (is_name read ≡ true)) (255 < length (wire read))
 
-pub Holds-append : (read : DomainName) (fits : Bool) (name labels : DomainName) (more : Bool) (new : DomainName) → Holds read fits name → Appended name labels more new → Holds (read ++ labels) (fits && more) new
+pub Holds-append : (read : DomainName)
+    (fits : Bool) (name labels : DomainName) (more : Bool) (new : DomainName) → Holds read fits name
+    → Appended name labels more new → Holds (read ++ labels) (fits && more) new
 Holds-append read true name labels true new (e, ok) (f, ok') = grind arith
 Holds-append read true name labels false new (e, ok) over = grind arith
 Holds-append read false name labels more new over h =
@@ -306,41 +362,60 @@ Holds-append read false name labels more new over h =
     some_octet (l ∷ n) = omega arith
 
 -- how far a word is read
-pub record Reads (origin : DomainName) (word : Octets) (name : DomainName) (fits : Bool) (rest : Octets) : Type 0 where
+pub record Reads (origin : DomainName)
+    (word : Octets) (name : DomainName) (fits : Bool) (rest : Octets) : Type 0 where
   pub read : DomainName
   pub so_far : ReadSoFar origin word read rest
   pub holds : Holds read fits name
 
-pub Reads-push : (origin : DomainName) (word : Octets) (name : DomainName) (fits : Bool) (rest : Octets) (more : Bool) (end : Octets) (new : DomainName) (dot : ℕ) (others : Octets) → Reads origin word name fits rest → PushesLabel rest name more end new → end ≡ dot ∷ others → Reads origin word new (fits && more) others
+pub Reads-push : (origin : DomainName) (word : Octets) (name : DomainName) (fits : Bool)
+    (rest : Octets) (more : Bool) (end : Octets) (new : DomainName) (dot : ℕ) (others : Octets)
+    → Reads origin word name fits rest → PushesLabel rest name more end new
+    → end ≡ dot ∷ others → Reads origin word new (fits && more) others
 Reads-push origin word name fits rest more end new dot others reads pushes e =
     let is_dot : dot ≡ 46 = eqb-true dot 46 (ap is_label_end (sym e) ∙ pushes.at_end) in
     let P : Octets → Type 0 = LabelThen rest pushes.label in
-    let spelled : LabelThen rest pushes.label (46 ∷ others) = subst P (e ∙ ap (λ d. d ∷ others) is_dot) pushes.spelled in
+    let spelled : LabelThen rest pushes.label (46 ∷ others) =
+    subst P (e ∙ ap (λ d. d ∷ others) is_dot) pushes.spelled in
     record {
       read = reads.read ++ pushes.label ∷ [];
       so_far = ReadSoFar-push origin word reads.read rest pushes.label others reads.so_far spelled;
-      holds = Holds-append reads.read fits name (pushes.label ∷ []) more new reads.holds pushes.appended;
+      holds = Holds-append reads.read fits name
+          (pushes.label ∷ []) more new reads.holds pushes.appended;
     }
 
 -- the result that is reported at the end
-pub SpellsIff-only : {E : Type 0} (origin : DomainName) (word : Octets) (n name : DomainName) (fits : Bool) (e : E) (r : Result DomainName E) → SpellsOnly origin word n → Holds n fits name → r ≡ (if fits then Ok name else Err e) → SpellsIff origin word r
+pub SpellsIff-only : {E : Type 0} (origin : DomainName) (word : Octets)
+    (n name : DomainName) (fits : Bool) (e : E) (r : Result DomainName E) → SpellsOnly origin word n
+    → Holds n fits name → r ≡ (if fits then Ok name else Err e) → SpellsIff origin word r
 SpellsIff-only origin word n name fits e r h h1 h2 = grind (arith, IsName-is_name)
 
-pub SpellsIff-absolute : {E : Type 0} (origin : DomainName) (word : Octets) (name : DomainName) (fits : Bool) (rest : Octets) (e : E) (r : Result DomainName E) → Reads origin word name fits rest → rest ≡ [] → r ≡ (if fits then Ok name else Err e) → SpellsIff origin word r
+pub SpellsIff-absolute : {E : Type 0} (origin : DomainName) (word : Octets) (name : DomainName)
+    (fits : Bool) (rest : Octets) (e : E) (r : Result DomainName E) → Reads origin word
+    name fits rest → rest ≡ [] → r ≡ (if fits then Ok name else Err e) → SpellsIff origin word r
 SpellsIff-absolute origin word name fits rest e r reads empty g =
     SpellsIff-only origin word reads.read name fits e r
     (SpellsOnly-absolute origin word reads.read rest reads.so_far empty) reads.holds g
 
-pub SpellsIff-relative : {E : Type 0} (origin : DomainName) (word : Octets) (name : DomainName) (fits : Bool) (rest : Octets) (more : Bool) (end : Octets) (new : DomainName) (more' : Bool) (whole : DomainName) (e : E) (r : Result DomainName E) → Reads origin word name fits rest → PushesLabel rest name more end new → end ≡ [] → Appended new origin more' whole → r ≡ (if (fits && more) && more' then Ok whole else Err e) → SpellsIff origin word r
-SpellsIff-relative origin word name fits rest more end new more' whole e r reads pushes f appended g =
+pub SpellsIff-relative : {E : Type 0} (origin : DomainName) (word : Octets) (name : DomainName)
+    (fits : Bool) (rest : Octets) (more : Bool) (end : Octets) (new : DomainName) (more' : Bool)
+    (whole : DomainName) (e : E) (r : Result DomainName E) → Reads origin word name fits rest
+    → PushesLabel rest name more end new → end ≡ [] → Appended new origin more' whole
+    → r ≡ (if (fits && more) && more' then Ok whole else Err e) → SpellsIff origin word r
+SpellsIff-relative
+    origin word name fits rest more end new more' whole e r reads pushes f appended g =
     let P : Octets → Type 0 = LabelThen rest pushes.label in
     let l = pushes.label in
     let one = Holds-append reads.read fits name (l ∷ []) more new reads.holds pushes.appended in
-    SpellsIff-only origin word ((reads.read ++ l ∷ []) ++ origin) whole ((fits && more) && more') e r
-    (SpellsOnly-relative origin word reads.read rest l reads.so_far (subst P f pushes.spelled) pushes.is_label)
+    SpellsIff-only origin word
+    ((reads.read ++ l ∷ []) ++ origin) whole ((fits && more) && more') e r
+    (SpellsOnly-relative origin word reads.read rest l reads.so_far
+    (subst P f pushes.spelled) pushes.is_label)
     (Holds-append (reads.read ++ l ∷ []) (fits && more) new origin more' whole one appended) g
 
-pub SpellsIff-none : {E : Type 0} (origin : DomainName) (word : Octets) (name : DomainName) (fits : Bool) (rest : Octets) (r : Result DomainName E) → Reads origin word name fits rest → (rest ≡ [] → ⊥) → HasNoLabel rest → IsErr r → SpellsIff origin word r
+pub SpellsIff-none : {E : Type 0} (origin : DomainName) (word : Octets) (name : DomainName)
+    (fits : Bool) (rest : Octets) (r : Result DomainName E) → Reads origin word name fits rest
+    → (rest ≡ [] → ⊥) → HasNoLabel rest → IsErr r → SpellsIff origin word r
 SpellsIff-none origin word name fits rest r h h1 h2 h3 = grind (arith, false≢true, nothing_spelled)
 
 LabelThen-shorter : (text l rest : Octets) → LabelThen text l rest → length rest ≤ length text
@@ -348,28 +423,38 @@ LabelThen-shorter text [] rest h = omega (arith, ap length h)
 LabelThen-shorter text (x ∷ l) rest (first, after, e, p, h) =
     omega (arith, LabelThen-shorter after l rest h, OctetThen-shorter text x after (first, e, p))
 
-pub PushesLabel-shorter : (text : Octets) (old : DomainName) (fits : Bool) (end : Octets) (new : DomainName) (dot : ℕ) (others : Octets) → PushesLabel text old fits end new → end ≡ dot ∷ others → length others < length text
+pub PushesLabel-shorter : (text : Octets)
+    (old : DomainName) (fits : Bool) (end : Octets) (new : DomainName) (dot : ℕ) (others : Octets)
+    → PushesLabel text old fits end new → end ≡ dot ∷ others → length others < length text
 PushesLabel-shorter text old fits end new dot others pushes e = grind (arith, LabelThen-shorter)
 
 -- only the empty label stands at a label's end
-LabelThen-at_end : (text l rest : Octets) → is_label_end text ≡ true → LabelThen text l rest → l ≡ []
+LabelThen-at_end : (text l rest : Octets)
+    → is_label_end text ≡ true → LabelThen text l rest → l ≡ []
 LabelThen-at_end text [] rest e h = refl
 LabelThen-at_end text (x ∷ l) rest e (first, after, f, p, h) = grind (arith, true≢false)
 
-dot_spells_none : (origin : DomainName) (word : Octets) (n : DomainName) → word ≡ 46 ∷ [] → is_name n ≡ true → TextSpells origin word n → ⊥
+dot_spells_none : (origin : DomainName) (word : Octets) (n : DomainName)
+    → word ≡ 46 ∷ [] → is_name n ≡ true → TextSpells origin word n → ⊥
 dot_spells_none origin word [] e ok h = grind arith
 dot_spells_none origin word (l ∷ n) e ok (inl (h, k)) =
-    no_empty_label (ap is_label (sym (LabelThen-at_end word l [] (ap is_label_end e) h)) ∙ is_label-head l n ok)
+    no_empty_label (ap is_label (sym (LabelThen-at_end word l [] (ap is_label_end e) h))
+    ∙ is_label-head l n ok)
 dot_spells_none origin word (l ∷ n) e ok (inr (others, h, k)) =
-    no_empty_label (ap is_label (sym (LabelThen-at_end word l (46 ∷ others) (ap is_label_end e) h)) ∙ is_label-head l n ok)
+    no_empty_label (ap is_label (sym (LabelThen-at_end word l (46 ∷ others) (ap is_label_end e) h))
+    ∙ is_label-head l n ok)
 
 -- a dot alone spells the root alone
-pub dot_spells_root : (origin : DomainName) (word : Octets) (n : DomainName) → word ≡ 46 ∷ [] → SpellsName origin word n → n ≡ []
+pub dot_spells_root : (origin : DomainName) (word : Octets) (n : DomainName)
+    → word ≡ 46 ∷ [] → SpellsName origin word n → n ≡ []
 dot_spells_root origin word n f h = grind (arith, dot_spells_none)
 
 -- what is told of a name in its place, where it fits and where it does not
-pub spelled_as-fits : {A E : Type 0} (name : DomainName) (fits : Bool) (done : A) (fault : E) (r : Result A E) → r ≡ (if fits then Ok done else Err fault) → spelled_as r name ≡ (if fits then Ok name else Err fault)
+pub spelled_as-fits : {A E : Type 0} (name : DomainName) (fits : Bool)
+    (done : A) (fault : E) (r : Result A E) → r ≡ (if fits then Ok done else Err fault)
+    → spelled_as r name ≡ (if fits then Ok name else Err fault)
 spelled_as-fits name fits done fault r h = grind arith
 
-pub spelled_as-fault : {A E : Type 0} (name : DomainName) (r : Result A E) → IsErr r → IsErr (spelled_as r name)
+pub spelled_as-fault : {A E : Type 0} (name : DomainName) (r : Result A E)
+    → IsErr r → IsErr (spelled_as r name)
 spelled_as-fault name r h = grind (arith, false≢true)

@@ -1,18 +1,17 @@
 -- What is written for an octet, a label and a name, as it is put together, and how long it can get.
-use Rattle.dns_spec.proofs.Common.{◌≡◌, ℕ, ◌+◌, ◌-◌, ◌*◌, ◌<◌, ◌≤◌, true, false, [], ◌∷◌, ◌++◌, length, map, take, refl, ap₂, arith, length-append, join_with_byte, Octets, DomainName, wire, is_special, three_digits, octet_text, label_text, labels_text, name_text}
-use Rattle.std.proofs.lemmas.List.{append_assoc, append-nil, take_at}
-use Rattle.std.specs.Char.{is_ascii_graphic}
-use Rattle.dns_spec.specs.Report.{bare_name_text}
+use Rattle.dns_name.proofs.Common.{◌≡◌, ℕ, ◌+◌, ◌-◌, ◌*◌, ◌<◌, ◌≤◌, true, false, [], ◌∷◌, ◌++◌, length, map, take, refl, ap₂, arith, length-append, join_with_byte, Octets, DomainName, wire, is_special, three_digits, octet_text, label_text, labels_text, name_text, append_assoc, append-nil, take_at, is_ascii_graphic, bare_name_text}
 
 pub special_text : (x : ℕ) → is_special x ≡ true → octet_text x ≡ 92 ∷ x ∷ []
 unfolding octet_text
 special_text x special = rw special refl
 
-pub graphic_text : (x : ℕ) → is_special x ≡ false → is_ascii_graphic x ≡ true → octet_text x ≡ x ∷ []
+pub graphic_text : (x : ℕ)
+    → is_special x ≡ false → is_ascii_graphic x ≡ true → octet_text x ≡ x ∷ []
 unfolding octet_text
 graphic_text x plain graphic = rw (plain, graphic) refl
 
-pub other_text : (x : ℕ) → is_special x ≡ false → is_ascii_graphic x ≡ false → octet_text x ≡ 92 ∷ three_digits x
+pub other_text : (x : ℕ)
+    → is_special x ≡ false → is_ascii_graphic x ≡ false → octet_text x ≡ 92 ∷ three_digits x
 unfolding octet_text
 other_text x plain other = rw (plain, other) refl
 
@@ -23,25 +22,30 @@ length-label_text [] = omega arith
 length-label_text (x ∷ l) = grind (arith, (length-label_text l), length-append)
 
 -- after `before` the labels `rest` are still to come
-pub record NameSoFar (before : Octets) (n : DomainName) (text : Octets) (rest : DomainName) : Type 0 where
+pub record NameSoFar
+    (before : Octets) (n : DomainName) (text : Octets) (rest : DomainName) : Type 0 where
   pub whole : text ++ labels_text rest ≡ before ++ labels_text n
   pub room : length text + 4 * length (wire rest) ≤ length before + 1020
 
 -- a label more, with its dot
-pub NameSoFar-next : (before : Octets) (n : DomainName) (text new : Octets) (labels rest : DomainName) (l : Octets) → NameSoFar before n text labels → labels ≡ l ∷ rest
-    → new ≡ (text ++ label_text l) ++ 46 ∷ [] → NameSoFar before n new rest
+pub NameSoFar-next : (before : Octets) (n : DomainName)
+    (text new : Octets) (labels rest : DomainName) (l : Octets) → NameSoFar before n text labels
+    → labels ≡ l ∷ rest → new ≡ (text ++ label_text l) ++ 46 ∷ [] → NameSoFar before n new rest
 NameSoFar-next before n text new labels rest l so_far e f =
     grind (arith, append_assoc, length-append, length-label_text)
 
 -- it leaves room for the label and the dot
-pub NameSoFar-room : (before : Octets) (n : DomainName) (text : Octets) (labels rest : DomainName) (l : Octets) → NameSoFar before n text labels → labels ≡ l ∷ rest
-    → length text + 4 * length l + 4 ≤ length before + 1020
+pub NameSoFar-room : (before : Octets) (n : DomainName)
+    (text : Octets) (labels rest : DomainName) (l : Octets) → NameSoFar before n text labels
+    → labels ≡ l ∷ rest → length text + 4 * length l + 4 ≤ length before + 1020
 NameSoFar-room before n text labels rest l so_far e = grind (arith, length-append)
 
 -- the dot after the last label, left off
-last_dot : (l : Octets) (n : DomainName) → labels_text (l ∷ n) ≡ join_with_byte 46 (map label_text (l ∷ n)) ++ 46 ∷ []
+last_dot : (l : Octets) (n : DomainName)
+    → labels_text (l ∷ n) ≡ join_with_byte 46 (map label_text (l ∷ n)) ++ 46 ∷ []
 last_dot l [] = append-nil (label_text l ++ 46 ∷ [])
 last_dot l (k ∷ n) = grind (arith, append_assoc, (last_dot k n))
 
-pub bare_name : (n : DomainName) (text new : Octets) → 0 < length n → text ≡ name_text n → new ≡ take (length text - 1) text → new ≡ bare_name_text n
+pub bare_name : (n : DomainName) (text new : Octets)
+    → 0 < length n → text ≡ name_text n → new ≡ take (length text - 1) text → new ≡ bare_name_text n
 bare_name n text new h h1 h2 = grind (arith, last_dot, length-append, ap₂, take_at)

@@ -1,14 +1,14 @@
 -- The number that octets spell, as `byteorder` reads it.
-use Rattle.dns_spec.proofs.Common.{◌≡◌, ℕ, ◌-◌, ◌≤◌, length, take, drop, arith, length-drop, take_all, Octets, number_of}
-use Rattle.byteorder.specs.Endian.{big_number}
+use Rattle.dns_rdata.proofs.Common.{◌≡◌, ℕ, ◌-◌, ◌≤◌, length, take, drop, arith, length-drop, take_all, Octets, number_of, big_number}
 
 pub big_number-four : (xs : Octets) → 4 ≤ length xs → big_number 4 xs ≡ number_of (take 4 xs)
 big_number-four xs h = grind arith
 
 -- the last k octets, of which the first four are a number
-pub four_long : (xs : Octets) (k : ℕ) → 4 ≤ k → k ≤ length xs → 4 ≤ length (take (length xs - (length xs - k)) (drop (length xs - k) xs))
+pub four_long : (xs : Octets) (k : ℕ) → 4 ≤ k
+    → k ≤ length xs → 4 ≤ length (take (length xs - (length xs - k)) (drop (length xs - k) xs))
 four_long xs k some long = grind (arith, take_all, length-drop)
 
-pub number_in_last : (xs : Octets) (k : ℕ) → 4 ≤ k → k ≤ length xs
-    → big_number 4 (take (length xs - (length xs - k)) (drop (length xs - k) xs)) ≡ number_of (take 4 (drop (length xs - k) xs))
+pub number_in_last : (xs : Octets) (k : ℕ) → 4 ≤ k → k ≤ length xs → big_number 4 (take (length
+    xs - (length xs - k)) (drop (length xs - k) xs)) ≡ number_of (take 4 (drop (length xs - k) xs))
 number_in_last xs k some long = grind (arith, take_all, big_number-four, length-drop)

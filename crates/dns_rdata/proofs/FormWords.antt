@@ -1,35 +1,37 @@
 -- What is appended for a word by its form.
-use Rattle.dns_spec.proofs.Common.{◌≡◌, ℕ, ◌<◌, ◌≤◌, ◌^◌, ◌++◌, Option, Some, Ok, decimal, refl, sym, ap, ◌∙◌, arith, bytes_high_first, Octets, DomainName, wire, folded, SpellsName}
-use Rattle.std.specs.Option.{ok_or}
-use Rattle.std.specs.Prelude.{Result, IsTrue, ◌||◌, not}
-use Rattle.dns_spec.specs.DataText.{Word, WordForm, SaysNumber, SaysName, SaysForm, SaysWord, may_be_quoted, name_word}
-use Rattle.dns_rdata.specs.declared.fault.RdataFault.{RdataFault}
-use Rattle.dns_spec.proofs.DataWords.OneData.{number_once}
-use Rattle.dns_spec.proofs.NameTexts.OneName.{name_once}
-use Rattle.dns_spec.proofs.DomainNames.NameLaws.{map-lowercase-wire, IsName-is_name}
-use Rattle.dns_rdata.specs.WordForms.{as_it_is, kept, Appends, AppendsSaid}
+use Rattle.dns_rdata.proofs.Common.{◌≡◌, ℕ, ◌<◌, ◌≤◌, ◌^◌, ◌++◌, Option, Some, Ok, decimal, refl, sym, ap, ◌∙◌, arith, bytes_high_first, Octets, DomainName, wire, folded, SpellsName, ok_or, Result, IsTrue, ◌||◌, not, Word, WordForm, SaysNumber, SaysName, SaysForm, SaysWord, may_be_quoted, name_word, RdataFault, number_once, name_once, map-lowercase-wire, IsName-is_name, as_it_is, kept, Appends, AppendsSaid}
 
 pub ok_or-some : {A E : Type 0} (x : Option A) (e : E) (a : A) → ok_or x e ≡ Ok a → x ≡ Some a
 ok_or-some x e a h = grind arith
 
-pub number_appended : (k : ℕ) → k ≤ 4 → (n : ℕ) (text before after piece : Octets) → text ≡ decimal n → n < 256 ^ k → piece ≡ bytes_high_first k n → after ≡ before ++ piece
-    → Appends as_it_is (SaysNumber k text) before after
+pub number_appended : (k : ℕ) → k ≤ 4 → (n : ℕ) (text before after piece : Octets)
+    → text ≡ decimal n → n < 256 ^ k → piece ≡ bytes_high_first k n
+    → after ≡ before ++ piece → Appends as_it_is (SaysNumber k text) before after
 number_appended k few n text before after piece said small is grown =
     let here : SaysNumber k text piece = (n, small, said, is) in
-    record { spelled = piece; said = here; only = λ d h. number_once k text d piece few h here; grown = grown }
+    record {
+      spelled = piece;
+      said = here;
+      only = λ d h. number_once k text d piece few h here;
+      grown = grown;
+    }
 
 -- a name is appended in lower case
-pub name_appended : (origin : DomainName) (text before after : Octets) (n : DomainName) → SpellsName origin text n → after ≡ before ++ wire (folded n)
+pub name_appended : (origin : DomainName) (text before after : Octets) (n : DomainName)
+    → SpellsName origin text n → after ≡ before ++ wire (folded n)
     → Appends (kept name_word) (SaysName origin text) before after
 name_appended origin text before after n spelled grown =
     record {
       spelled = wire n;
       said = (n, spelled, refl);
       only = λ d h. h.2 ∙ ap wire (name_once origin text h.0 n h.1 spelled);
-      grown = grown ∙ ap (λ x. before ++ x) (sym (map-lowercase-wire n (IsName-is_name n spelled.is_name).labels));
+      grown = grown ∙ ap
+          (λ x. before ++ x) (sym (map-lowercase-wire n (IsName-is_name n spelled.is_name).labels));
     }
 
 -- what the text of a word says by a form, the word says, where it may stand as it does
-pub word_said : {A : Type 0} (f : WordForm) (origin : DomainName) (w : Word) (text x y : Octets) (r : Result A RdataFault) → w.raw ≡ text → IsTrue (may_be_quoted f || not w.is_quoted)
-    → AppendsSaid (kept f) (SaysForm f origin text) x y r → AppendsSaid (kept f) (SaysWord f origin w) x y r
+pub word_said : {A : Type 0} (f : WordForm) (origin : DomainName) (w : Word) (text x y : Octets)
+    (r : Result A RdataFault) → w.raw ≡ text → IsTrue (may_be_quoted f || not w.is_quoted)
+    → AppendsSaid (kept f) (SaysForm f origin text) x y r
+    → AppendsSaid (kept f) (SaysWord f origin w) x y r
 word_said f origin w text x y r same quotes said = grind arith

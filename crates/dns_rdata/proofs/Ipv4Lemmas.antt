@@ -1,11 +1,6 @@
 -- The numbers of an address stand between its dots.
-use Rattle.dns_spec.proofs.Common.{◌≡◌, ◌↔◌, ℕ, [], ◌∷◌, ◌++◌, ◌+◌, ◌/◌, ◌%◌, ◌<◌, ◌≤◌, ◌⊎◌, length, refl, sym, ◌∙◌, ap, subst, arith, decimal, ne_eqb, eqb-false, lt-ltb, ltb-true, leb-true, and_from, and_parts, Octets, SaysIpv4}
-use Rattle.std.proofs.lemmas.Fmt.{decimal_digit, decimal_step, decimal_injective}
-use Rattle.std.proofs.lemmas.List.{append-nil}
+use Rattle.dns_rdata.proofs.Common.{◌≡◌, ◌↔◌, ℕ, [], ◌∷◌, ◌++◌, ◌+◌, ◌/◌, ◌%◌, ◌<◌, ◌≤◌, ◌⊎◌, length, refl, sym, ◌∙◌, ap, subst, arith, decimal, ne_eqb, eqb-false, lt-ltb, ltb-true, leb-true, and_from, and_parts, Octets, SaysIpv4, decimal_digit, decimal_step, decimal_injective, append-nil, Option, Some, None, four_numbers, OctetThen, number_at}
 use Rattle.dns_name.specs.TextForm.{digit_at}
-use Rattle.std.specs.Prelude.{Option, Some, None}
-use Rattle.dns_spec.proofs.DataWords.OneData.{four_numbers}
-use Rattle.dns_rdata.specs.AddressForm.{OctetThen, number_at}
 
 -- a text begins with a digit or with none
 digit_or_none : (text : Octets) → (digit_at text ≡ None) ⊎ ((d : ℕ) × (rest : Octets)
@@ -73,7 +68,8 @@ one_alone text m [] read none n = (
 one_alone text m (a ∷ end) read none n = absurd (omega (arith, none))
 
 -- that which a dot ends
-pub number_then : (text rest : Octets) (n : ℕ) → OctetThen text n rest → number_at text ≡ Some (n, 46 ∷ rest)
+pub number_then : (text rest : Octets) (n : ℕ)
+    → OctetThen text n rest → number_at text ≡ Some (n, 46 ∷ rest)
 number_then text rest n said = ap number_at said.0 ∙ number_of n (46 ∷ rest) said.1 refl
 
 -- no number is read, or none that a dot ends
@@ -139,15 +135,19 @@ says_ipv4 text d p = grind (arith, and_from, lt-ltb)
 abbrev pub Ipv4Iff : Octets → Option Octets → Type 0
 Ipv4Iff text r = (d : Octets) → (r ≡ Some d) ↔ SaysIpv4 text d
 
-pub Ipv4Iff-none : (text : Octets) (r : Option Octets) → r ≡ None → ((d : Octets) → Ipv4Parts text d → ⊥) → Ipv4Iff text r
-Ipv4Iff-none text r none refuted = λ d. (λ h. absurd (none_is_some d (sym none ∙ h)), λ h. absurd (refuted d (ipv4_parts text d h)))
+pub Ipv4Iff-none : (text : Octets) (r : Option Octets)
+    → r ≡ None → ((d : Octets) → Ipv4Parts text d → ⊥) → Ipv4Iff text r
+Ipv4Iff-none text r none refuted = λ d.
+    (λ h. absurd (none_is_some d (sym none ∙ h)), λ h. absurd (refuted d (ipv4_parts text d h)))
   where
     none_is_some : (d : Octets) → None ≡ Some d → ⊥
     none_is_some d e = cc
 
-pub Ipv4Iff-some : (text d : Octets) (r : Option Octets) → r ≡ Some d → Ipv4Parts text d → ((e : Octets) → Ipv4Parts text e → d ≡ e) → Ipv4Iff text r
+pub Ipv4Iff-some : (text d : Octets) (r : Option Octets)
+    → r ≡ Some d → Ipv4Parts text d → ((e : Octets) → Ipv4Parts text e → d ≡ e) → Ipv4Iff text r
 Ipv4Iff-some text d r some parts alone = λ e. (
-  λ h. (let P : Octets → Type 0 = SaysIpv4 text in subst P (only (sym some ∙ h)) (says_ipv4 text d parts)),
+  λ h. (let P : Octets → Type 0 =
+      SaysIpv4 text in subst P (only (sym some ∙ h)) (says_ipv4 text d parts)),
   λ h. some ∙ ap (λ k. Some k) (alone e (ipv4_parts text e h)),
 )
   where
@@ -155,38 +155,49 @@ Ipv4Iff-some text d r some parts alone = λ e. (
     only g = cc
 
 -- what is read agrees with what the text says, number by number
-second_of : (text d : Octets) (a : ℕ) (r : Octets) → OctetThen text a r → (p : Ipv4Parts text d) → (a ≡ p.first) × OctetThen r p.second p.after_second
+second_of : (text d : Octets) (a : ℕ) (r : Octets) → OctetThen text a r
+    → (p : Ipv4Parts text d) → (a ≡ p.first) × OctetThen r p.second p.after_second
 second_of text d a r h p =
     let one = one_octet text a p.first r p.after_first h p.reads_first in
     let P : Octets → Type 0 = λ t. OctetThen t p.second p.after_second in
     (one.0, subst P (sym one.1) p.reads_second)
 
-third_of : (text d : Octets) (a b : ℕ) (r s : Octets) → OctetThen text a r → OctetThen r b s → (p : Ipv4Parts text d) → (a ≡ p.first) × (b ≡ p.second) × OctetThen s p.third p.after_third
+third_of : (text d : Octets) (a b : ℕ) (r s : Octets) → OctetThen text a r → OctetThen r b s
+    → (p : Ipv4Parts text d) → (a ≡ p.first) × (b ≡ p.second) × OctetThen s p.third p.after_third
 third_of text d a b r s h k p =
     let second = second_of text d a r h p in
     let one = one_octet r b p.second s p.after_second k second.1 in
     let P : Octets → Type 0 = λ t. OctetThen t p.third p.after_third in
     (second.0, one.0, subst P (sym one.1) p.reads_third)
 
-fourth_of : (text d : Octets) (a b c : ℕ) (r s t : Octets) → OctetThen text a r → OctetThen r b s → OctetThen s c t → (p : Ipv4Parts text d) → (a ≡ p.first) × (b ≡ p.second) × (c ≡ p.third) × (t ≡ decimal p.fourth)
+fourth_of : (text d : Octets) (a b c : ℕ) (r s t : Octets)
+    → OctetThen text a r → OctetThen r b s → OctetThen s c t → (p : Ipv4Parts text d)
+    → (a ≡ p.first) × (b ≡ p.second) × (c ≡ p.third) × (t ≡ decimal p.fourth)
 fourth_of text d a b c r s t h k l p =
     let third = third_of text d a b r s h k p in
     let one = one_octet s c p.third t p.after_third l third.2 in
     (third.0, third.1, one.0, one.1 ∙ p.reads_fourth.0)
 
-pub no_first : (text : Octets) → ((n : ℕ) (rest : Octets) → OctetThen text n rest → ⊥) → (d : Octets) → Ipv4Parts text d → ⊥
+pub no_first : (text : Octets)
+    → ((n : ℕ) (rest : Octets) → OctetThen text n rest → ⊥) → (d : Octets) → Ipv4Parts text d → ⊥
 no_first text none d p = none p.first p.after_first p.reads_first
 
-pub no_second : (text : Octets) (a : ℕ) (r : Octets) → OctetThen text a r → ((n : ℕ) (rest : Octets) → OctetThen r n rest → ⊥) → (d : Octets) → Ipv4Parts text d → ⊥
+pub no_second : (text : Octets) (a : ℕ) (r : Octets) → OctetThen text a r
+    → ((n : ℕ) (rest : Octets) → OctetThen r n rest → ⊥) → (d : Octets) → Ipv4Parts text d → ⊥
 no_second text a r h none d p = none p.second p.after_second (second_of text d a r h p).1
 
-pub no_third : (text : Octets) (a b : ℕ) (r s : Octets) → OctetThen text a r → OctetThen r b s → ((n : ℕ) (rest : Octets) → OctetThen s n rest → ⊥) → (d : Octets) → Ipv4Parts text d → ⊥
+pub no_third : (text : Octets) (a b : ℕ) (r s : Octets) → OctetThen text a r → OctetThen r b s
+    → ((n : ℕ) (rest : Octets) → OctetThen s n rest → ⊥) → (d : Octets) → Ipv4Parts text d → ⊥
 no_third text a b r s h k none d p = none p.third p.after_third (third_of text d a b r s h k p).2
 
-pub no_fourth : (text : Octets) (a b c : ℕ) (r s t : Octets) → OctetThen text a r → OctetThen r b s → OctetThen s c t → ((n : ℕ) → (t ≡ decimal n) × (n ≤ 255) → ⊥) → (d : Octets) → Ipv4Parts text d → ⊥
-no_fourth text a b c r s t h k l none d p = none p.fourth ((fourth_of text d a b c r s t h k l p).3, p.reads_fourth.1)
+pub no_fourth : (text : Octets) (a b c : ℕ) (r s t : Octets)
+    → OctetThen text a r → OctetThen r b s → OctetThen s c t
+    → ((n : ℕ) → (t ≡ decimal n) × (n ≤ 255) → ⊥) → (d : Octets) → Ipv4Parts text d → ⊥
+no_fourth text a b c r s t h k l none d p =
+    none p.fourth ((fourth_of text d a b c r s t h k l p).3, p.reads_fourth.1)
 
-pub all_four : (text : Octets) (a b c e : ℕ) (r s t : Octets) → OctetThen text a r → OctetThen r b s → OctetThen s c t → (t ≡ decimal e) × (e ≤ 255) → Ipv4Iff text (Some (a ∷ b ∷ c ∷ e ∷ []))
+pub all_four : (text : Octets) (a b c e : ℕ) (r s t : Octets) → OctetThen text a r → OctetThen r b s
+    → OctetThen s c t → (t ≡ decimal e) × (e ≤ 255) → Ipv4Iff text (Some (a ∷ b ∷ c ∷ e ∷ []))
 all_four text a b c e r s t h k l m =
     Ipv4Iff-some text (a ∷ b ∷ c ∷ e ∷ []) _ refl
     (record {
@@ -207,6 +218,7 @@ all_four text a b c e r s t h k l m =
     alone : (d : Octets) → Ipv4Parts text d → a ∷ b ∷ c ∷ e ∷ [] ≡ d
     alone d p =
         let same = fourth_of text d a b c r s t h k l p in
-        let last = decimal_injective e p.fourth (omega (arith, m.1)) (omega (arith, p.reads_fourth.1)) (sym m.0 ∙ same.3) in
+        let last = decimal_injective e p.fourth
+        (omega (arith, m.1)) (omega (arith, p.reads_fourth.1)) (sym m.0 ∙ same.3) in
         let parts = p.is in
         cc

@@ -1,11 +1,5 @@
 -- Octets that begin with labels: what is after a label decides of them.
-use Rattle.std.proofs.Common.{◌≡◌, ℕ, zero, suc, ◌-◌, ◌<◌, ◌≤◌, true, false, Option, None, Some, [], ◌∷◌, ◌++◌, length, take, drop, get_or, refl, sym, ap, ◌∙◌, arith, append_assoc, length-append, take-append-drop}
-use Rattle.dns_spec.proofs.Common.{and_parts, and_from, take_at, drop_at, length-take-le, list_all, Octets, DomainName, wire, is_label, name_of, name, domain, piece_front, are_strings}
-use Rattle.dns_spec.proofs.DomainNames.NameLaws.{IsName-is_name, IsLabel-is_label, is_label-IsLabel, is_name-IsName}
-use Rattle.dns_spec.proofs.DomainNames.WireNames.{name_read, name_of-wire, wire_fronts_agree}
-use Rattle.dns_name.specs.WireForm.{labels_of, IsWireForm}
-use Rattle.dns_name.proofs.WireLemmas.{labels_of_spelled, IsWireForm-wire}
-use Rattle.dns_rdata.specs.NameFront.{StandsAfterLabels, HasNoLabels}
+use Rattle.dns_rdata.proofs.Common.{◌≡◌, ℕ, zero, suc, ◌-◌, ◌<◌, ◌≤◌, true, false, Option, None, Some, [], ◌∷◌, ◌++◌, length, take, drop, get_or, refl, sym, ap, ◌∙◌, arith, append_assoc, length-append, take-append-drop, and_parts, and_from, take_at, drop_at, length-take-le, list_all, Octets, DomainName, wire, is_label, name_of, name, domain, piece_front, are_strings, IsName-is_name, IsLabel-is_label, is_label-IsLabel, is_name-IsName, name_read, name_of-wire, wire_fronts_agree, labels_of, IsWireForm, labels_of_spelled, IsWireForm-wire, StandsAfterLabels, HasNoLabels}
 
 positive : (n : ℕ) → (n ≡ 0 → ⊥) → 0 < n
 positive n h = grind arith
@@ -24,7 +18,8 @@ nothing_begins rest none after h = by_cases h.labels (ap length (sym h.whole) �
     by_cases (l ∷ n) e = absurd (omega arith)
 
 -- a label's length that is too long, or past the end
-pub no_label_there : (rest others : Octets) (k : ℕ) → rest ≡ k ∷ others → (k ≡ 0 → ⊥) → (k ≤ 63 → k ≤ length others → ⊥) → HasNoLabels rest
+pub no_label_there : (rest others : Octets) (k : ℕ)
+    → rest ≡ k ∷ others → (k ≡ 0 → ⊥) → (k ≤ 63 → k ≤ length others → ⊥) → HasNoLabels rest
 no_label_there rest others k e some bad after h = by_cases h.labels h.are_labels (sym h.whole ∙ e)
   where
     by_cases : (n : DomainName) → list_all is_label n ≡ true → wire n ++ after ≡ k ∷ others → ⊥
@@ -32,28 +27,33 @@ no_label_there rest others k e some bad after h = by_cases h.labels h.are_labels
     by_cases (l ∷ n) ok f = grind (arith, IsLabel-is_label, and_parts, length-append)
 
 -- a label: after it stands the rest
-pub label_passed : (octets rest others : Octets) (k : ℕ) → Alike octets rest → rest ≡ k ∷ others → (k ≡ 0 → ⊥) → k ≤ 63 → k ≤ length others → Alike octets (drop k others)
+pub label_passed : (octets rest others : Octets) (k : ℕ) → Alike octets rest
+    → rest ≡ k ∷ others → (k ≡ 0 → ⊥) → k ≤ 63 → k ≤ length others → Alike octets (drop k others)
 label_passed octets rest others k alike e some fits there = record {
   found = λ after h. alike.found after (longer after h);
   none = λ h. alike.none (λ after b. shorter after h b.labels b.are_labels (sym b.whole ∙ e));
 }
   where
-    longer : (after : Octets) → StandsAfterLabels (drop k others) after → StandsAfterLabels rest after
+    longer : (after : Octets)
+        → StandsAfterLabels (drop k others) after → StandsAfterLabels rest after
     longer after h =
         let l = take k others in
         let long : length l ≡ k = length-take-le k others there in
-        let label : is_label l ≡ true = is_label-IsLabel l (positive (length l) (λ z. some (sym long ∙ z))) (omega arith) in
+        let label : is_label l ≡ true =
+        is_label-IsLabel l (positive (length l) (λ z. some (sym long ∙ z))) (omega arith) in
         record {
           labels = l ∷ h.labels;
           are_labels = and_from (is_label l) (list_all is_label h.labels) label h.are_labels;
           whole = grind (arith, take-append-drop, append_assoc);
         }
 
-    shorter : (after : Octets) → HasNoLabels (drop k others) → (n : DomainName) → list_all is_label n ≡ true → wire n ++ after ≡ k ∷ others → ⊥
+    shorter : (after : Octets) → HasNoLabels (drop k others)
+        → (n : DomainName) → list_all is_label n ≡ true → wire n ++ after ≡ k ∷ others → ⊥
     shorter after none [] ok f = some (sym (ap (λ (xs : Octets). get_or xs 0 0) f))
     shorter after none (l ∷ n) ok f =
         let first : length l ≡ k = ap (λ (xs : Octets). get_or xs 0 0) f in
-        let others_are : l ++ (wire n ++ after) ≡ others = sym (append_assoc l (wire n) after) ∙ ap (drop 1) f in
+        let others_are : l ++ (wire n ++ after) ≡ others =
+        sym (append_assoc l (wire n) after) ∙ ap (drop 1) f in
         none after (record {
           labels = n;
           are_labels = (and_parts (is_label l) (list_all is_label n) ok).1;
@@ -67,16 +67,17 @@ no_front_name octets none = go (name_of octets) refl
     go None e = refl
     go (Some (n, rest)) e =
         let r = name_read octets n rest e in
-        absurd (none rest (record { labels = n; are_labels = (IsName-is_name n r.0).labels; whole = r.1 }))
+        absurd (none rest
+        (record { labels = n; are_labels = (IsName-is_name n r.0).labels; whole = r.1 }))
 
 -- the octets before those after labels
-wire_taken : (octets after : Octets) (n : DomainName) (k : ℕ) → octets ≡ wire n ++ after → k ≡ length octets - length after
-    → (take k octets ≡ wire n) × (drop k octets ≡ after)
+wire_taken : (octets after : Octets) (n : DomainName) (k : ℕ) → octets ≡ wire n ++ after
+    → k ≡ length octets - length after → (take k octets ≡ wire n) × (drop k octets ≡ after)
 wire_taken octets after n k e f = grind (arith, length-append, take_at, drop_at)
 
 -- labels that are too long for a name
-pub long_name : (octets after front : Octets) (k : ℕ) → StandsAfterLabels octets after → front ≡ take k octets → k ≡ length octets - length after
-    → 255 < length front → name_of octets ≡ None
+pub long_name : (octets after front : Octets) (k : ℕ) → StandsAfterLabels octets after → front
+    ≡ take k octets → k ≡ length octets - length after → 255 < length front → name_of octets ≡ None
 long_name octets after front k h e f long = go (name_of octets) refl
   where
     go : (y : Option (DomainName × Octets)) → name_of octets ≡ y → y ≡ None
@@ -84,19 +85,22 @@ long_name octets after front k h e f long = go (name_of octets) refl
     go (Some (n, rest)) g =
         let r = name_read octets n rest g in
         let name = IsName-is_name n r.0 in
-        let same : n ≡ h.labels = (wire_fronts_agree n h.labels rest after name.labels h.are_labels (sym r.1 ∙ h.whole)).0 in
-        let long_wire : front ≡ wire h.labels = e ∙ (wire_taken octets after h.labels k h.whole f).0 in
+        let same : n ≡ h.labels = (wire_fronts_agree n h.labels rest after name.labels h.are_labels
+        (sym r.1 ∙ h.whole)).0 in
+        let long_wire : front ≡ wire h.labels =
+        e ∙ (wire_taken octets after h.labels k h.whole f).0 in
         absurd (omega (arith, name.fits, ap length long_wire, ap (λ m. length (wire m)) same))
 
 -- labels that are a name
-pub short_name : (octets after front rest : Octets) (k : ℕ) → StandsAfterLabels octets after → front ≡ take k octets → rest ≡ drop k octets
-    → k ≡ length octets - length after → length front ≤ 255
+pub short_name : (octets after front rest : Octets) (k : ℕ) → StandsAfterLabels octets after → front
+    ≡ take k octets → rest ≡ drop k octets → k ≡ length octets - length after → length front ≤ 255
     → (piece_front domain octets ≡ Some (name (labels_of front), rest)) × IsWireForm front
 short_name octets after front rest k h e g f short =
     grind (arith, wire_taken, is_name-IsName, name_of-wire, labels_of_spelled, IsWireForm-wire)
 
 -- k octets of a string are passed over
-pub strings_after : (k : ℕ) (os : Octets) → k ≤ length os → are_strings k os ≡ are_strings 0 (drop k os)
+pub strings_after : (k : ℕ) (os : Octets)
+    → k ≤ length os → are_strings k os ≡ are_strings 0 (drop k os)
 strings_after zero os h = refl
 strings_after (suc k) [] h = absurd (omega arith)
 strings_after (suc k) (o ∷ os) h = strings_after k os (omega arith)

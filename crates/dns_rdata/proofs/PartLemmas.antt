@@ -1,32 +1,34 @@
 -- Parts of data, one after another.
-use Rattle.dns_spec.proofs.Common.{◌==◌, ◌≡◌, ℕ, suc, ◌≤◌, true, Option, None, Some, All, List, [], ◌∷◌, map, length, refl, sym, ap, ◌∙◌, subst, arith, leb-true, false≢true, false_from_ne_true, eqb-true, nil_from_length, All-nil, All-cons, none-some, same_Some, is_some, unwrap_or, option_map, Octets, cut, piece_front, valid, lower_case, pieces_of}
+use Rattle.dns_rdata.proofs.Common.{◌==◌, ◌≡◌, ℕ, suc, ◌≤◌, true, Option, None, Some, All, List, [], ◌∷◌, map, length, refl, sym, ap, ◌∙◌, subst, arith, leb-true, false≢true, false_from_ne_true, eqb-true, nil_from_length, All-nil, All-cons, none-some, same_Some, is_some, unwrap_or, option_map, Octets, cut, piece_front, valid, lower_case, pieces_of, cut_into, name_part, octets_part, all_strings, cut_data, lowered_data, piece_of, pieces_in, part_for, shown_part, with_octets, parts_left, AreCut, IsLent, HasName}
 use Rattle.dns_spec.specs.Data as Data
-use Rattle.dns_spec.proofs.DataWords.WrittenData.{cut_into, name_part, octets_part, all_strings}
-use Rattle.dns_spec.proofs.DataWords.LoweredData.{cut_data, lowered_data}
 use Rattle.dns_rdata.specs.declared.table.Piece.{Piece}
 use Rattle.dns_rdata.specs.declared.parts.Part.{Part}
-use Rattle.dns_rdata.specs.TypeRows.{piece_of, pieces_in}
 use Rattle.dns_rdata.proofs.TableRows.{found_passes}
-use Rattle.dns_rdata.specs.Parts.{part_for, shown_part, with_octets, parts_left, AreCut, IsLent, HasName}
 
 -- what is cut after the first part
-pub cut_more : (p : Data.Piece) (ps : List Data.Piece) (os : Octets) (part : Data.Part) (rest : Octets) → piece_front p os ≡ Some (part, rest)
+pub cut_more : (p : Data.Piece) (ps : List Data.Piece)
+    (os : Octets) (part : Data.Part) (rest : Octets) → piece_front p os ≡ Some (part, rest)
     → cut (p ∷ ps) os ≡ option_map (λ xs. part ∷ xs) (cut ps rest)
 unfolding cut
 cut_more p ps os part rest e = grind arith
 
-pub cut_none : (p : Data.Piece) (ps : List Data.Piece) (os : Octets) → piece_front p os ≡ None → cut (p ∷ ps) os ≡ None
+pub cut_none : (p : Data.Piece) (ps : List Data.Piece) (os : Octets)
+    → piece_front p os ≡ None → cut (p ∷ ps) os ≡ None
 unfolding cut
 cut_none p ps os e = grind arith
 
-is_some-option_map : {A B : Type 0} (f : A → B) (x : Option A) → is_some (option_map f x) ≡ is_some x
+is_some-option_map : {A B : Type 0} (f : A → B) (x : Option A)
+    → is_some (option_map f x) ≡ is_some x
 is_some-option_map f x = grind arith
 
-pub more_are_cut : (p : Data.Piece) (ps : List Data.Piece) (os : Octets) (part : Data.Part) (rest : Octets) → piece_front p os ≡ Some (part, rest)
-    → is_some (cut (p ∷ ps) os) ≡ is_some (cut ps rest)
-more_are_cut p ps os part rest e = ap is_some (cut_more p ps os part rest e) ∙ is_some-option_map (λ xs. part ∷ xs) (cut ps rest)
+pub more_are_cut :
+    (p : Data.Piece) (ps : List Data.Piece) (os : Octets) (part : Data.Part) (rest : Octets)
+    → piece_front p os ≡ Some (part, rest) → is_some (cut (p ∷ ps) os) ≡ is_some (cut ps rest)
+more_are_cut p ps os part rest e =
+    ap is_some (cut_more p ps os part rest e) ∙ is_some-option_map (λ xs. part ∷ xs) (cut ps rest)
 
-pub no_pieces_left : (ps : List Piece) (os : Octets) → length ps ≡ 0 → is_some (cut (pieces_in ps) os) ≡ (length os == 0)
+pub no_pieces_left : (ps : List Piece) (os : Octets)
+    → length ps ≡ 0 → is_some (cut (pieces_in ps) os) ≡ (length os == 0)
 unfolding cut
 no_pieces_left ps os e = grind (arith, nil_from_length, false_from_ne_true, eqb-true)
 
@@ -35,29 +37,35 @@ unfolding cut
 no_parts_left ps os e = grind (arith, nil_from_length)
 
 -- the first part, and those after it
-pub parts_left-cons : (p : Piece) (ps : List Piece) (os : Octets) (part : Data.Part) (rest : Octets) → piece_front (piece_of p) os ≡ Some (part, rest)
+pub parts_left-cons : (p : Piece) (ps : List Piece) (os : Octets) (part : Data.Part) (rest : Octets)
+    → piece_front (piece_of p) os ≡ Some (part, rest)
     → AreCut (p ∷ ps) os → parts_left (p ∷ ps) os ≡ part ∷ parts_left ps rest
 parts_left-cons p ps os part rest e are =
     ap (λ y. unwrap_or y []) (cut_more (piece_of p) (pieces_in ps) os part rest e)
-    ∙ go (cut (pieces_in ps) rest) (sym (more_are_cut (piece_of p) (pieces_in ps) os part rest e) ∙ are)
+    ∙ go (cut (pieces_in ps) rest)
+    (sym (more_are_cut (piece_of p) (pieces_in ps) os part rest e) ∙ are)
   where
-    go : (y : Option (List Data.Part)) → is_some y ≡ true → unwrap_or (option_map (λ xs. part ∷ xs) y) [] ≡ part ∷ unwrap_or y []
+    go : (y : Option (List Data.Part))
+        → is_some y ≡ true → unwrap_or (option_map (λ xs. part ∷ xs) y) [] ≡ part ∷ unwrap_or y []
     go None f = absurd (false≢true f)
     go (Some xs) f = refl
 
 -- names that are cut are names
-front_name : (p : Data.Piece) (os : Octets) (part : Data.Part) (rest : Octets) → piece_front p os ≡ Some (part, rest) → HasName part
+front_name : (p : Data.Piece) (os : Octets) (part : Data.Part) (rest : Octets)
+    → piece_front p os ≡ Some (part, rest) → HasName part
 front_name p os part rest h =
     grind (arith, octets_part, name_part, none-some, all_strings, same_Some)
 
-cut_names : (ps : List Data.Piece) (os : Octets) (xs : List Data.Part) → cut ps os ≡ Some xs → All HasName xs
+cut_names : (ps : List Data.Piece) (os : Octets) (xs : List Data.Part)
+    → cut ps os ≡ Some xs → All HasName xs
 unfolding cut
 cut_names [] [] xs h = subst (All HasName) (same_Some [] xs h) (All-nil HasName)
 cut_names [] (o ∷ os) xs h = absurd (none-some xs h)
 cut_names (p ∷ ps) os xs h =
     let c = cut_into p ps os xs h in
     subst (All HasName) c.whole
-    (All-cons HasName c.part c.others (front_name p os c.part c.rest c.front) (cut_names ps c.rest c.others c.more))
+    (All-cons HasName c.part c.others
+    (front_name p os c.part c.rest c.front) (cut_names ps c.rest c.others c.more))
 
 pub names_left : (ps : List Piece) (os : Octets) → All HasName (parts_left ps os)
 names_left ps os = grind (arith, All-nil, cut_names)
@@ -66,7 +74,8 @@ names_left ps os = grind (arith, All-nil, cut_names)
 few_pieces : (t : ℕ) → length (pieces_of t) ≤ 3
 few_pieces t = grind (arith, leb-true, found_passes)
 
-cut_length : (ps : List Data.Piece) (os : Octets) (xs : List Data.Part) → cut ps os ≡ Some xs → length xs ≡ length ps
+cut_length : (ps : List Data.Piece) (os : Octets) (xs : List Data.Part)
+    → cut ps os ≡ Some xs → length xs ≡ length ps
 unfolding cut
 cut_length [] [] xs h = ap length (sym (same_Some [] xs h))
 cut_length [] (o ∷ os) xs h = absurd (none-some xs h)
@@ -74,15 +83,18 @@ cut_length (p ∷ ps) os xs h =
     let c = cut_into p ps os xs h in
     ap length (sym c.whole) ∙ ap suc (cut_length ps c.rest c.others c.more)
 
-pub few_parts : (t : ℕ) (ps : List Piece) (os : Octets) → pieces_in ps ≡ pieces_of t → length (parts_left ps os) ≤ 3
+pub few_parts : (t : ℕ) (ps : List Piece) (os : Octets)
+    → pieces_in ps ≡ pieces_of t → length (parts_left ps os) ≤ 3
 few_parts t ps os e = go (cut (pieces_in ps) os) refl
   where
     go : (y : Option (List Data.Part)) → cut (pieces_in ps) os ≡ y → length (unwrap_or y []) ≤ 3
     go None f = omega arith
     go (Some xs) f = omega (arith, cut_length (pieces_in ps) os xs f, ap length e, few_pieces t)
 
-pub shown_first : (p : Piece) (ps : List Piece) (os : Octets) (x : Part) (rest : Octets) (left : List Data.Part) → piece_front (piece_of p) os ≡ Some (part_for x, rest)
-    → IsLent x → AreCut (p ∷ ps) os → parts_left (p ∷ ps) os ≡ left → map with_octets left ≡ shown_part x ∷ map with_octets (parts_left ps rest)
+pub shown_first : (p : Piece) (ps : List Piece) (os : Octets) (x : Part)
+    (rest : Octets) (left : List Data.Part) → piece_front (piece_of p) os ≡ Some (part_for x, rest)
+    → IsLent x → AreCut (p ∷ ps) os → parts_left (p ∷ ps) os ≡ left
+    → map with_octets left ≡ shown_part x ∷ map with_octets (parts_left ps rest)
 shown_first p ps os x rest left e lent are view = grind (arith, parts_left-cons)
 
 pub length-lower_case : (t : ℕ) (d : Octets) → valid t d ≡ true → length (lower_case t d) ≤ 65535

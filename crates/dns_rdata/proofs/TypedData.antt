@@ -1,19 +1,21 @@
--- What words say by the forms of a type is data of the type, where it is not too long, and what is kept of it is that data
+-- What words say by the forms of a type is data of the type, where it is not too long, and what is
+-- kept of it is that data
 -- in lower case.
-use Rattle.dns_spec.proofs.Common.{◌≡◌, ◌↔◌, ℕ, zero, suc, ◌*◌, ◌≤◌, Bool, true, false, ◌&&◌, nat_le, ◌==◌, List, [], ◌∷◌, ◌++◌, map, max, length, replicate, Option, Some, refl, sym, ap, ◌∙◌, subst, arith, append-nil, append_assoc, length-append, list_all, flat_map, is_some, option_map, unwrap_or, MatchOption, to_ascii_lowercase, and_parts, and_from, le-leb, leb-true, ne_eqb, false≢true, take_at, drop_at, flat_map-cons, Octets, DomainName, Fixed, width, numbers, ipv4, ipv6, Piece, fixed, domain, string, strings, anything, Part, octets, name, part_octets, part_folded, joined, octets_front, strings_front, piece_front, are_strings, cut, TypeRow, type_table, other_type, row_of, pieces_of, Valid, Word, WordForm, SaysWord, ipv6_word, ipv4_word, number_word, string_word, SaysForms, SaysTyped, SaysAsSpelled, Says, forms_in}
-use Rattle.dns_spec.proofs.DomainNames.NameLaws.{map-lowercase-wire, IsName-is_name}
-use Rattle.dns_spec.proofs.DataWords.MadeData.{cut-domain, cut-step}
-use Rattle.dns_spec.proofs.DataWords.LoweredData.{cut_whole, length-lowered, lowered_data}
-use Rattle.dns_spec.proofs.Messages.Places.{length-bytes_high_first}
-use Rattle.dns_rdata.specs.WordForms.{kept, SaysKept, AppendsFront, is_marked}
+use Rattle.dns_rdata.proofs.Common.{◌≡◌, ◌↔◌, ℕ, zero, suc, ◌*◌, ◌≤◌, Bool, true, false, ◌&&◌, nat_le, ◌==◌, List, [], ◌∷◌, ◌++◌, map, max, length, replicate, Option, Some, refl, sym, ap, ◌∙◌, subst, arith, append-nil, append_assoc, length-append, list_all, flat_map, is_some, option_map, unwrap_or, MatchOption, to_ascii_lowercase, and_parts, and_from, le-leb, leb-true, ne_eqb, false≢true, take_at, drop_at, flat_map-cons, Octets, DomainName, Fixed, width, numbers, ipv4, ipv6, Piece, fixed, domain, string, strings, anything, Part, octets, name, part_octets, part_folded, joined, octets_front, strings_front, piece_front, are_strings, cut, type_table, other_type, row_of, pieces_of, Valid, Word, WordForm, SaysWord, ipv6_word, ipv4_word, number_word, string_word, SaysForms, SaysTyped, SaysAsSpelled, Says, forms_in, map-lowercase-wire, IsName-is_name, cut-domain, cut-step, cut_whole, length-lowered, lowered_data, length-bytes_high_first, kept, SaysKept, AppendsFront, is_marked}
+use Rattle.dns_spec.proofs.Common.{TypeRow}
 use Rattle.dns_rdata.proofs.NameFronts.{strings_after}
 use Rattle.dns_rdata.proofs.TableRows.{found_passes}
 use Rattle.dns_rdata.proofs.Ipv6Lemmas.{length-ipv6}
 use Rattle.dns_rdata.proofs.FormFronts.{as_many_words, kept_said}
 
 -- octets of so many begin with so many
-front_of : (k : ℕ) (x rest : Octets) → length x ≡ k → octets_front k (x ++ rest) ≡ Some (octets x, rest)
-front_of k x rest e = rw (le-leb k (length (x ++ rest)) (omega (arith, length-append x rest)), take_at x rest k e, drop_at x rest k e) refl
+front_of : (k : ℕ) (x rest : Octets)
+    → length x ≡ k → octets_front k (x ++ rest) ≡ Some (octets x, rest)
+front_of k x rest e = rw (
+  le-leb k (length (x ++ rest)) (omega (arith, length-append x rest)),
+  take_at x rest k e,
+  drop_at x rest k e,
+) refl
 
 -- of words that say a piece and then more: the part that it is, and what says the rest
 record Front (p : Piece) (gs : List WordForm) (origin : DomainName) (d e : Octets) : Type 0 where
@@ -36,7 +38,8 @@ record Run (n : ℕ) (gs : List WordForm) (origin : DomainName) (d e : Octets) :
   pub kept_whole : e ≡ run ++ low
   pub more : SaysKept gs origin others rest low
 
--- the pieces of types with a mnemonic: strings take all words that are left, so no piece stands after them
+-- the pieces of types with a mnemonic: strings take all words that are left, so no piece stands
+-- after them
 stands_before : Piece → List Piece → Bool
 stands_before (fixed f) ps = true
 stands_before domain ps = true
@@ -50,20 +53,33 @@ are_in_order [] = true
 are_in_order (p ∷ ps) = stands_before p ps && are_in_order ps
 
 -- strings one after another
-many_strings : (m : ℕ) (origin : DomainName) (ws : List Word) (d e : Octets) → SaysKept (replicate m string_word) origin ws d e → (are_strings 0 d ≡ true) × (d ≡ e) × (m ≤ length d)
+many_strings : (m : ℕ) (origin : DomainName) (ws : List Word) (d e : Octets) → SaysKept
+    (replicate m string_word) origin ws d e → (are_strings 0 d ≡ true) × (d ≡ e) × (m ≤ length d)
 many_strings zero origin [] d e h = (ap (are_strings 0) h.0, h.0 ∙ sym h.1, omega arith)
 many_strings zero origin (w ∷ ws) d e h = absurd h
 many_strings (suc m) origin [] d e h = absurd h
 many_strings (suc m) origin (w ∷ ws) d e (front, back, low, is, kept_is, word, h) =
     grind (arith, (many_strings m origin ws back low h), strings_after, length-append, drop_at)
 
-all_strings_front : (d : Octets) → are_strings 0 d ≡ true → 1 ≤ length d → strings_front d ≡ Some (octets d, [])
-all_strings_front d ok some = rw (ne_eqb (length d) 0 (λ none. absurd (omega (arith, some, none))), ok) refl
+all_strings_front : (d : Octets)
+    → are_strings 0 d ≡ true → 1 ≤ length d → strings_front d ≡ Some (octets d, [])
+all_strings_front d ok some =
+    rw (ne_eqb (length d) 0 (λ none. absurd (omega (arith, some, none))), ok) refl
 
 module _ (gs : List WordForm) (origin : DomainName) where
-  words_run : (m k : ℕ) (f : WordForm) → ((x : Octets) → kept f x ≡ x) → ((w : Word) (x : Octets) → SaysWord f origin w x → length x ≡ k)
-      → (ws : List Word) (d e : Octets) → SaysKept (replicate m f ++ gs) origin ws d e → Run (m * k) gs origin d e
-  words_run zero k f same sized ws d e h = record { run = []; rest = d; low = e; others = ws; long = omega arith; whole = refl; kept_whole = refl; more = h }
+  words_run : (m k : ℕ) (f : WordForm) → ((x : Octets) → kept f x ≡ x)
+      → ((w : Word) (x : Octets) → SaysWord f origin w x → length x ≡ k) → (ws : List Word)
+      (d e : Octets) → SaysKept (replicate m f ++ gs) origin ws d e → Run (m * k) gs origin d e
+  words_run zero k f same sized ws d e h = record {
+    run = [];
+    rest = d;
+    low = e;
+    others = ws;
+    long = omega arith;
+    whole = refl;
+    kept_whole = refl;
+    more = h;
+  }
   words_run (suc m) k f same sized [] d e h = absurd h
   words_run (suc m) k f same sized (w ∷ ws) d e (front, back, low, is, kept_is, word, h) =
       let r = words_run m k f same sized ws back low h in
@@ -74,11 +90,13 @@ module _ (gs : List WordForm) (origin : DomainName) where
         others = r.others;
         long = omega (arith, length-append front r.run, r.long, sized w front word);
         whole = is ∙ ap (λ x. front ++ x) r.whole ∙ sym (append_assoc front r.run r.rest);
-        kept_whole = kept_is ∙ ap (λ x. x ++ low) (same front) ∙ ap (λ x. front ++ x) r.kept_whole ∙ sym (append_assoc front r.run r.low);
+        kept_whole = kept_is ∙ ap (λ x. x ++ low) (same front)
+            ∙ ap (λ x. front ++ x) r.kept_whole ∙ sym (append_assoc front r.run r.low);
         more = r.more;
       }
 
-  run_front : (f : Fixed) (d e : Octets) → Run (width f) gs origin d e → Front (fixed f) gs origin d e
+  run_front : (f : Fixed) (d e : Octets)
+      → Run (width f) gs origin d e → Front (fixed f) gs origin d e
   run_front f d e r = record {
     part = octets r.run;
     rest = r.rest;
@@ -89,26 +107,32 @@ module _ (gs : List WordForm) (origin : DomainName) where
     more = r.more;
   }
 
-piece_said : (k : ℕ) (origin : DomainName) (p : Piece) (ps : List Piece) → stands_before p ps ≡ true → (ws : List Word) (d e : Octets)
-    → SaysKept (forms_in k p ++ flat_map (forms_in k) ps) origin ws d e → Front p (flat_map (forms_in k) ps) origin d e
+piece_said : (k : ℕ) (origin : DomainName) (p : Piece) (ps : List Piece) → stands_before p ps ≡ true
+    → (ws : List Word) (d e : Octets) → SaysKept (forms_in k p ++ flat_map (forms_in k) ps)
+    origin ws d e → Front p (flat_map (forms_in k) ps) origin d e
 unfolding stands_before
 piece_said k origin (fixed (numbers m o)) ps ok ws d e h =
     run_front _ origin (numbers m o) d e
-    (words_run _ origin m o (number_word o) (λ x. refl) (λ w x word. ap length word.said.3 ∙ length-bytes_high_first o word.said.0) ws d e h)
+    (words_run _ origin m o (number_word o) (λ x. refl)
+    (λ w x word. ap length word.said.3 ∙ length-bytes_high_first o word.said.0) ws d e h)
 piece_said k origin (fixed ipv4) ps ok ws d e h =
-    run_front _ origin ipv4 d e (words_run _ origin 1 4 ipv4_word (λ x. refl) (λ w x word. word.said.four) ws d e h)
+    run_front _ origin ipv4 d e
+    (words_run _ origin 1 4 ipv4_word (λ x. refl) (λ w x word. word.said.four) ws d e h)
 piece_said k origin (fixed ipv6) ps ok ws d e h =
-    run_front _ origin ipv6 d e (words_run _ origin 1 16 ipv6_word (λ x. refl) (λ w x word. length-ipv6 w.raw x word.said) ws d e h)
+    run_front _ origin ipv6 d e (words_run _ origin 1 16 ipv6_word
+    (λ x. refl) (λ w x word. length-ipv6 w.raw x word.said) ws d e h)
 piece_said k origin domain ps ok [] d e h = absurd h
 piece_said k origin domain ps ok (w ∷ ws) d e (front, back, low, is, kept_is, word, h) =
     let (n, spelled, octets_are) = word.said in
-    let lower = ap (map to_ascii_lowercase) octets_are ∙ map-lowercase-wire n (IsName-is_name n spelled.is_name).labels in
+    let lower = ap (map to_ascii_lowercase) octets_are
+    ∙ map-lowercase-wire n (IsName-is_name n spelled.is_name).labels in
     record {
       part = name n;
       rest = back;
       low = low;
       others = ws;
-      front = ap (piece_front domain) (is ∙ ap (λ x. x ++ back) octets_are) ∙ cut-domain n back spelled.is_name;
+      front = ap (piece_front domain) (is ∙ ap (λ x. x ++ back) octets_are)
+          ∙ cut-domain n back spelled.is_name;
       lowered = kept_is ∙ ap (λ x. x ++ low) lower;
       more = h;
     }
@@ -121,12 +145,14 @@ piece_said k origin string ps ok (w ∷ ws) d e (front, back, low, is, kept_is, 
       rest = back;
       low = low;
       others = ws;
-      front = ap (piece_front string) (is ∙ ap (λ x. x ++ back) octets_are) ∙ front_of (suc (length s)) (length s ∷ s) back refl;
+      front = ap (piece_front string) (is ∙ ap (λ x. x ++ back) octets_are)
+          ∙ front_of (suc (length s)) (length s ∷ s) back refl;
       lowered = kept_is ∙ ap (λ x. x ++ low) octets_are;
       more = h;
     }
 piece_said k origin strings [] ok ws d e h =
-    let r = many_strings (max 1 k) origin ws d e (subst (λ fs. SaysKept fs origin ws d e) (append-nil (replicate (max 1 k) string_word)) h) in
+    let r = many_strings (max 1 k) origin ws d e (subst
+    (λ fs. SaysKept fs origin ws d e) (append-nil (replicate (max 1 k) string_word)) h) in
     record {
       part = octets d;
       rest = [];
@@ -145,13 +171,16 @@ record CutInto (ps : List Piece) (d e : Octets) : Type 0 where
   pub is_cut : cut ps d ≡ Some cut_parts
   pub lowered : joined (map part_folded cut_parts) ≡ e
 
-pieces_said : (k : ℕ) (origin : DomainName) (ps : List Piece) → are_in_order ps ≡ true → (ws : List Word) (d e : Octets) → SaysKept (flat_map (forms_in k) ps) origin ws d e → CutInto ps d e
+pieces_said : (k : ℕ) (origin : DomainName) (ps : List Piece) → are_in_order ps ≡ true → (ws :
+    List Word) (d e : Octets) → SaysKept (flat_map (forms_in k) ps) origin ws d e → CutInto ps d e
 unfolding are_in_order cut
-pieces_said k origin [] ok [] d e h = record { cut_parts = []; is_cut = ap (cut []) h.0; lowered = sym h.1 }
+pieces_said k origin [] ok [] d e h =
+    record { cut_parts = []; is_cut = ap (cut []) h.0; lowered = sym h.1 }
 pieces_said k origin [] ok (w ∷ ws) d e h = absurd h
 pieces_said k origin (p ∷ ps) ok ws d e h =
     let tests = and_parts (stands_before p ps) (are_in_order ps) ok in
-    let f = piece_said k origin p ps tests.0 ws d e (subst (λ fs. SaysKept fs origin ws d e) (flat_map-cons (forms_in k) p ps) h) in
+    let f = piece_said k origin p ps tests.0 ws d e
+    (subst (λ fs. SaysKept fs origin ws d e) (flat_map-cons (forms_in k) p ps) h) in
     let c = pieces_said k origin ps tests.1 f.others f.rest f.low f.more in
     record {
       cut_parts = f.part ∷ c.cut_parts;
@@ -167,44 +196,61 @@ rows_in_order = refl
 
 -- what words say by a row of the table
 abbrev TypedBy : Option TypeRow → DomainName → List Word → Octets → Type 0
-TypedBy row origin ws d = MatchOption (option_map (λ (r : TypeRow). flat_map (forms_in (length ws)) r.pieces) row) ⊥ (λ fs. SaysForms fs origin ws d)
+TypedBy row origin ws d = MatchOption (option_map (λ
+    (r : TypeRow). flat_map (forms_in (length ws)) r.pieces) row) ⊥ (λ fs. SaysForms fs origin ws d)
 
 -- where the first word is not `\#`, words say what they say in the form of the type
-pub spelled_typed : (t : ℕ) (origin : DomainName) (ws : List Word) (d : Octets) → is_marked ws ≡ false → SaysAsSpelled t origin ws d ↔ SaysTyped t origin ws d
+pub spelled_typed : (t : ℕ) (origin : DomainName) (ws : List Word) (d : Octets)
+    → is_marked ws ≡ false → SaysAsSpelled t origin ws d ↔ SaysTyped t origin ws d
 spelled_typed t origin [] d plain = (λ h. h, λ h. h)
 spelled_typed t origin (w ∷ ws) d plain = grind arith
 
 -- what words say in lower case is valid too
-pub said_valid : (t : ℕ) (ws : List Word) (origin : DomainName) (d : Octets) → Says t ws origin d → Valid t d
-said_valid t ws origin d said = subst (Valid t) said.lower (lowered_data t said.as_spelled said.is_valid).0
+pub said_valid : (t : ℕ) (ws : List Word) (origin : DomainName) (d : Octets)
+    → Says t ws origin d → Valid t d
+said_valid t ws origin d said =
+    subst (Valid t) said.lower (lowered_data t said.as_spelled said.is_valid).0
 
 -- what words say by the row of the type
-module _ (t : ℕ) (row : TypeRow) (origin : DomainName) (ws : List Word) (count : ℕ) (plain : is_marked ws ≡ false) (is : Some row ≡ row_of t) (counted : count ≡ length ws) where
-  pub nothing_typed : ((d : Octets) → SaysForms (flat_map (forms_in count) row.pieces) origin ws d → length d ≤ 65535 → ⊥) → (d : Octets) → Says t ws origin d → ⊥
+module _ (t : ℕ) (row : TypeRow) (origin : DomainName) (ws : List Word) (count : ℕ)
+    (plain : is_marked ws ≡ false) (is : Some row ≡ row_of t) (counted : count ≡ length ws) where
+  pub nothing_typed : ((d : Octets) → SaysForms (flat_map (forms_in count) row.pieces) origin ws d
+      → length d ≤ 65535 → ⊥) → (d : Octets) → Says t ws origin d → ⊥
   nothing_typed none d said = grind (arith, spelled_typed, leb-true, and_parts)
 
-  pub other_count : (length (flat_map (forms_in count) row.pieces) ≡ count → ⊥) → (d : Octets) → Says t ws origin d → ⊥
-  other_count other = nothing_typed (λ d forms _. other (as_many_words (flat_map (forms_in count) row.pieces) origin ws d forms ∙ sym counted))
+  pub other_count : (length (flat_map (forms_in count) row.pieces) ≡ count → ⊥)
+      → (d : Octets) → Says t ws origin d → ⊥
+  other_count other = nothing_typed (λ d forms _. other
+      (as_many_words (flat_map (forms_in count) row.pieces) origin ws d forms ∙ sym counted))
 
   -- all words were taken
-  module _ (e : Octets) (a : AppendsFront (flat_map (forms_in count) row.pieces) origin ws [] [] e) where
+  module _
+      (e : Octets) (a : AppendsFront (flat_map (forms_in count) row.pieces) origin ws [] [] e) where
     cut_of : CutInto row.pieces a.spelled e
     cut_of =
         let whole = simp append-nil at (a.on [] [] [] (refl, refl)) in
-        pieces_said count origin row.pieces (found_passes (λ (r : TypeRow). r.number == t) (λ (r : TypeRow). are_in_order r.pieces) type_table row rows_in_order (sym is))
-        ws a.spelled e (subst (λ v. SaysKept (flat_map (forms_in count) row.pieces) origin ws a.spelled v) (sym a.grown) whole)
+        pieces_said count origin row.pieces (found_passes (λ (r : TypeRow). r.number == t)
+        (λ (r : TypeRow). are_in_order r.pieces) type_table row rows_in_order (sym is))
+        ws a.spelled e (subst (λ v. SaysKept
+        (flat_map (forms_in count) row.pieces) origin ws a.spelled v) (sym a.grown) whole)
 
     as_long : length e ≡ length a.spelled
-    as_long = ap length (sym cut_of.lowered) ∙ length-lowered cut_of.cut_parts ∙ ap length (cut_whole row.pieces a.spelled cut_of.cut_parts cut_of.is_cut)
+    as_long = ap length (sym cut_of.lowered) ∙ length-lowered cut_of.cut_parts
+        ∙ ap length (cut_whole row.pieces a.spelled cut_of.cut_parts cut_of.is_cut)
 
     pub typed_said : length e ≤ 65535 → Says t ws origin e
     typed_said short =
         let whole = simp append-nil at (a.on [] [] [] (refl, refl)) in
-        let forms = subst (λ k. SaysForms (flat_map (forms_in k) row.pieces) origin ws a.spelled) counted (kept_said _ origin ws a.spelled a.low whole) in
-        let cut_is : cut (pieces_of t) a.spelled ≡ Some cut_of.cut_parts = ap (λ r. cut (unwrap_or r other_type).pieces a.spelled) (sym is) ∙ cut_of.is_cut in
+        let forms = subst (λ k. SaysForms (flat_map (forms_in k) row.pieces) origin ws a.spelled)
+        counted (kept_said _ origin ws a.spelled a.low whole) in
+        let cut_is : cut (pieces_of t) a.spelled ≡ Some cut_of.cut_parts =
+        ap (λ r. cut (unwrap_or r other_type).pieces a.spelled) (sym is) ∙ cut_of.is_cut in
         record {
           as_spelled = a.spelled;
-          said = (spelled_typed t origin ws a.spelled plain).1 (subst (λ r. TypedBy r origin ws a.spelled) is forms);
-          is_valid = and_from (nat_le (length a.spelled) 65535) _ (le-leb (length a.spelled) 65535 (omega (arith, short, as_long))) (ap is_some cut_is);
-          lower = ap (λ y. joined (map part_folded (unwrap_or y (octets a.spelled ∷ [])))) cut_is ∙ cut_of.lowered;
+          said = (spelled_typed t origin ws a.spelled plain).1
+              (subst (λ r. TypedBy r origin ws a.spelled) is forms);
+          is_valid = and_from (nat_le (length a.spelled) 65535) _
+              (le-leb (length a.spelled) 65535 (omega (arith, short, as_long))) (ap is_some cut_is);
+          lower = ap (λ y. joined (map part_folded (unwrap_or y (octets a.spelled ∷ [])))) cut_is
+              ∙ cut_of.lowered;
         }

@@ -1,8 +1,7 @@
--- Octets that are not a whole frame, and a message in its frame, by the parts in which they are read.
-use Rattle.dns_spec.proofs.Common.{◌≡◌, ℕ, ◌+◌, ◌-◌, ◌^◌, ◌<◌, ◌≤◌, min, ◌⊎◌, inl, inr, [], ◌∷◌, ◌++◌, length, take, replicate, None, refl, sym, ap, ◌∙◌, arith, append_assoc, append-nil, length-append, cases_lt, leb-true, take_all, take-append-le, Octets, most_over_udp, field16, octets16}
-use Rattle.dns_spec.specs.Stream.{first_frame, IsCutFrame}
+-- Octets that are not a whole frame, and a message in its frame, by the parts in which they are
+-- read.
+use Rattle.dns_spec.proofs.Common.{◌≡◌, ℕ, ◌+◌, ◌-◌, ◌^◌, ◌<◌, ◌≤◌, min, ◌⊎◌, inl, inr, [], ◌∷◌, ◌++◌, length, take, replicate, None, refl, sym, ap, ◌∙◌, arith, append_assoc, append-nil, length-append, cases_lt, leb-true, take_all, take-append-le, Octets, most_over_udp, field16, octets16, first_frame, IsCutFrame, All-cons, All-nil}
 use Rattle.dns_spec.proofs.Streams.StreamFrames.{two_again, length_zeros, cut_frame}
-use Rattle.std.proofs.lemmas.List.Elements.{All-cons, All-nil}
 
 -- the octets begin with no whole frame, since its length says more
 no_frame : (x : Octets) → length x < 2 + field16 x 0 → first_frame x ≡ None
@@ -12,18 +11,22 @@ no_frame x h = grind (arith, leb-true)
 pub no_frame_short : (x : Octets) → length x < 2 → first_frame x ≡ None
 no_frame_short x h = no_frame x (omega arith)
 
-pub no_frame_inside : (n : ℕ) (part : Octets) → n < 2 ^ 16 → length part < n → first_frame (octets16 n ++ part) ≡ None
+pub no_frame_inside : (n : ℕ) (part : Octets)
+    → n < 2 ^ 16 → length part < n → first_frame (octets16 n ++ part) ≡ None
 no_frame_inside n part h short = grind (arith, two_again, no_frame, length-append)
 
-pub cut_inside : (n : ℕ) (part : Octets) → n < 2 ^ 16 → length part < n → IsCutFrame (octets16 n ++ part)
+pub cut_inside : (n : ℕ) (part : Octets)
+    → n < 2 ^ 16 → length part < n → IsCutFrame (octets16 n ++ part)
 cut_inside n part h short =
     let zeros : Octets = replicate (n - length part) 0 in
-    let len : length (part ++ zeros) ≡ n = length-append part zeros ∙ omega (arith, length_zeros (n - length part), short) in
+    let len : length (part ++ zeros) ≡ n =
+    length-append part zeros ∙ omega (arith, length_zeros (n - length part), short) in
     record {
       message = part ++ zeros;
       short = omega (arith, len, h);
       missing = zeros;
-      whole = ap (λ k. octets16 k ++ (part ++ zeros)) len ∙ sym (append_assoc (octets16 n) part zeros);
+      whole =
+          ap (λ k. octets16 k ++ (part ++ zeros)) len ∙ sym (append_assoc (octets16 n) part zeros);
       some = omega (arith, length-append (octets16 n) part);
       cut = omega (arith, length_zeros (n - length part), short);
     }
@@ -34,18 +37,22 @@ cut_first a ha =
     (no_frame_short (a ∷ []) (omega arith))) [ inl e ↦ absurd (cc) | inr cut ↦ cut ]
 
 -- of a message that is read in two parts the first 512 octets are kept
-pub kept_front : (n : ℕ) (front rest : Octets) → length front ≡ min n most_over_udp → length rest ≡ n - min n most_over_udp → front ≡ take most_over_udp (front ++ rest)
+pub kept_front : (n : ℕ) (front rest : Octets) → length front ≡ min n most_over_udp
+    → length rest ≡ n - min n most_over_udp → front ≡ take most_over_udp (front ++ rest)
 kept_front n front rest hf hr = go (cases_lt n most_over_udp)
   where
     go : (n < most_over_udp) ⊎ (most_over_udp ≤ n) → front ≡ take most_over_udp (front ++ rest)
     go (inl less) =
-        let short : length (front ++ rest) ≤ most_over_udp = omega (arith, length-append front rest, hf, hr, less) in
+        let short : length (front ++ rest) ≤ most_over_udp =
+        omega (arith, length-append front rest, hf, hr, less) in
         let none : rest ≡ [] = empty rest (omega (arith, hr, less)) in
-        sym (take_all most_over_udp (front ++ rest) short ∙ ap (λ r. front ++ r) none ∙ append-nil front)
+        sym (take_all most_over_udp (front ++ rest) short
+        ∙ ap (λ r. front ++ r) none ∙ append-nil front)
       where
         empty : (r : Octets) → length r ≡ 0 → r ≡ []
         empty [] e = refl
         empty (x ∷ r) e = absurd (omega arith)
     go (inr more) =
         let len : length front ≡ most_over_udp = omega (arith, hf, more) in
-        sym (take-append-le most_over_udp front rest (omega (arith, len)) ∙ take_all most_over_udp front (omega (arith, len)))
+        sym (take-append-le most_over_udp front rest (omega (arith, len))
+        ∙ take_all most_over_udp front (omega (arith, len)))

@@ -4,22 +4,25 @@ use Rattle.dns_serve.specs.Reads.{Gives, GivesFewer, GivesBeginning, GivesPart, 
 use Rattle.dns_serve.proofs.Frames.{no_frame_short, cut_first, no_frame_inside, cut_inside, kept_front}
 
 -- what came before stands at the front of a buffer, and what comes now after it
-pub came_after : (a b c : Option Octets) (front rest : Octets) (n k : ℕ) → length front ≡ n → Consumes a b front → Consumes b c (take k rest)
-    → Consumes a c (take (n + k) (front ++ rest))
+pub came_after : (a b c : Option Octets) (front rest : Octets) (n k : ℕ) → length front ≡ n
+    → Consumes a b front → Consumes b c (take k rest) → Consumes a c (take (n + k) (front ++ rest))
 came_after a b c front rest n k len first second = grind (arith, take-append-add, Consumes-trans)
 
 -- octets came, and then fewer than were asked for
-pub fewer_after : (a b c : Option Octets) (n m : ℕ) (front : Octets) → Consumes a b front → length front + m ≤ n → GivesFewer b c m → GivesFewer a c n
+pub fewer_after : (a b c : Option Octets) (n m : ℕ) (front : Octets)
+    → Consumes a b front → length front + m ≤ n → GivesFewer b c m → GivesFewer a c n
 fewer_after a b c n m front consumed le f = grind (arith, Consumes-trans, length-append)
 
 pub fewer_still : (a b : Option Octets) (n m : ℕ) → m ≤ n → GivesFewer a b m → GivesFewer a b n
 fewer_still a b n m le f = grind arith
 
 -- octets of a length came, and then too few
-pub beginning_after : (a b c : Option Octets) (n : ℕ) → n < 2 ^ 16 → Consumes a b (octets16 n) → GivesFewer b c n → GivesBeginning a c
+pub beginning_after : (a b c : Option Octets) (n : ℕ)
+    → n < 2 ^ 16 → Consumes a b (octets16 n) → GivesFewer b c n → GivesBeginning a c
 beginning_after a b c n h consumed f = grind (arith, Consumes-trans, no_frame_inside)
 
-pub part_after : (a b c : Option Octets) (n : ℕ) → n < 2 ^ 16 → Consumes a b (octets16 n) → GivesPartOfBody b c n → GivesPart a c
+pub part_after : (a b c : Option Octets) (n : ℕ)
+    → n < 2 ^ 16 → Consumes a b (octets16 n) → GivesPartOfBody b c n → GivesPart a c
 part_after a b c n h consumed p = record {
   part = octets16 n ++ p.fewer.octets;
   consumed = Consumes-trans a b c (octets16 n) p.fewer.octets consumed p.fewer.consumed;
@@ -28,12 +31,14 @@ part_after a b c n h consumed p = record {
   over = p.over;
 }
 
-pub message_after : (a b c : Option Octets) (n : ℕ) (kept : Octets) → n < 2 ^ 16 → Consumes a b (octets16 n) → GivesBody b c n kept → GivesMessage a c kept
+pub message_after : (a b c : Option Octets) (n : ℕ) (kept : Octets)
+    → n < 2 ^ 16 → Consumes a b (octets16 n) → GivesBody b c n kept → GivesMessage a c kept
 message_after a b c n kept h consumed m = grind (arith, Consumes-trans)
 
 -- a message came in two parts
-pub body_in_two : (a b c : Option Octets) (n : ℕ) (front rest : Octets) → Consumes a b front → Consumes b c rest → length front ≡ min n most_over_udp → length rest ≡ n - min n most_over_udp
-    → GivesBody a c n front
+pub body_in_two : (a b c : Option Octets) (n : ℕ) (front rest : Octets)
+    → Consumes a b front → Consumes b c rest → length front ≡ min n most_over_udp
+    → length rest ≡ n - min n most_over_udp → GivesBody a c n front
 body_in_two a b c n front rest first second hf hr = record {
   message = front ++ rest;
   consumed = Consumes-trans a b c front rest first second;
@@ -43,17 +48,21 @@ body_in_two a b c n front rest first second hf hr = record {
 
 -- less than a length came
 pub short_beginning : (a b : Option Octets) (n : ℕ) → n ≡ 2 → GivesFewer a b n → GivesBeginning a b
-short_beginning a b n e f = record { given = f.octets; consumed = f.consumed; no_frame = no_frame_short f.octets (omega (arith, f.fewer, e)) }
+short_beginning a b n e f = record {
+  given = f.octets;
+  consumed = f.consumed;
+  no_frame = no_frame_short f.octets (omega (arith, f.fewer, e));
+}
 
 -- the first octet of a length came, and no second
-pub first_alone : (a b : Option Octets) (buf : Octets) (count : ℕ) → All (λ o. o < 256) buf → length buf ≡ 2 → count ≡ 1
-    → Gives a b (length buf) count (take count buf) → GivesPart a b
+pub first_alone : (a b : Option Octets) (buf : Octets) (count : ℕ) → All (λ o. o < 256) buf
+    → length buf ≡ 2 → count ≡ 1 → Gives a b (length buf) count (take count buf) → GivesPart a b
 first_alone a b [] count low two one g = absurd (omega (arith, two))
 first_alone a b (o ∷ buf) count low two one g = grind (arith, cut_first, All-head, no_frame_short)
 
 -- both octets of a length came
-pub length_came : (a b : Option Octets) (buf : Octets) (count n : ℕ) → length buf ≡ 2 → 2 ≤ count → octets16 n ≡ buf
-    → Gives a b (length buf) count (take count buf) → Consumes a b (octets16 n)
+pub length_came : (a b : Option Octets) (buf : Octets) (count n : ℕ) → length buf ≡ 2 → 2 ≤ count
+    → octets16 n ≡ buf → Gives a b (length buf) count (take count buf) → Consumes a b (octets16 n)
 length_came a b buf count n two more is g = grind (arith, take_all)
 
 -- what is kept of a message came whole, and then all of the others, or too little

@@ -1,8 +1,7 @@
 -- What a session has done, message by message.
-use Rattle.dns_spec.proofs.Common.{◌≡◌, ℕ, zero, suc, ◌+◌, ◌-◌, ◌^◌, ◌<◌, ◌≤◌, ◌⊎◌, inl, inr, All, List, [], ◌∷◌, ◌++◌, length, take, Option, Some, None, Ok, Err, refl, sym, ap, ◌∙◌, subst, arith, append_assoc, append-nil, length-append, flat_map, flat_map-append, Appends, Consumes, IsAtEnd, Appends-trans, Consumes-trans, Octets, ZoneContents}
-use Rattle.std.proofs.lemmas.List.Elements.{All-append}
+use Rattle.dns_spec.proofs.Common.{◌≡◌, ℕ, zero, suc, ◌+◌, ◌-◌, ◌^◌, ◌<◌, ◌≤◌, ◌⊎◌, inl, inr, All, List, [], ◌∷◌, ◌++◌, length, take, Option, Some, None, Ok, Err, refl, sym, ap, ◌∙◌, subst, arith, append_assoc, append-nil, length-append, flat_map, flat_map-append, Appends, Consumes, IsAtEnd, Appends-trans, Consumes-trans, Octets, ZoneContents, All-append, frame, frames, first_frame, replies}
 use Rattle.dns_spec.specs.Query.{most_over_tcp}
-use Rattle.dns_spec.specs.Stream.{frame, frames, first_frame, reply_frame, replies}
+use Rattle.dns_spec.specs.Stream.{reply_frame}
 use Rattle.dns_spec.proofs.Streams.StreamFrames.{frames_again}
 use Rattle.dns_spec.proofs.Replies.FirstOctets.{first_octets_answer}
 use Rattle.dns_name.specs.Counted.{AppendsBeginning}
@@ -14,28 +13,36 @@ abbrev session : Option Octets → Option Octets → Option Octets → Option Oc
 session a b c d = record { unread = a; left = b; held = c; holds = d }
 
 -- the octets that are kept of a message have its reply
-reply_of_kept : (z : ZoneContents) (kept m : Octets) → kept ≡ take 512 m → reply_over_tcp z kept ≡ reply_over_tcp z m
+reply_of_kept : (z : ZoneContents) (kept m : Octets)
+    → kept ≡ take 512 m → reply_over_tcp z kept ≡ reply_over_tcp z m
 reply_of_kept z kept m e = ap (reply_over_tcp z) e ∙ sym (first_octets_answer z m most_over_tcp)
 
-message_of_read : (a b : Option Octets) (buf : Octets) (read : Option ℕ) (kept : ℕ) → read ≡ Some kept → MessageRead a b buf (Ok read) → GivesMessage a b (take kept buf)
+message_of_read : (a b : Option Octets) (buf : Octets) (read : Option ℕ) (kept : ℕ)
+    → read ≡ Some kept → MessageRead a b buf (Ok read) → GivesMessage a b (take kept buf)
 message_of_read a b buf read kept e m = subst (λ o. MessageRead a b buf (Ok o)) e m
 
-pub answered : (z : ZoneContents) (a b c d : Option Octets) (buf : Octets) (read : Option ℕ) (kept : ℕ) (piece : Octets) → read ≡ Some kept → MessageRead a b buf (Ok read)
-    → piece ≡ take kept buf → Appends c d (reply_frame (reply_over_tcp z piece)) → HasAnswered (reply_over_tcp z) (session a b c d)
+pub answered : (z : ZoneContents) (a b c d : Option Octets) (buf : Octets)
+    (read : Option ℕ) (kept : ℕ) (piece : Octets) → read ≡ Some kept → MessageRead a b buf (Ok read)
+    → piece ≡ take kept buf → Appends c d (reply_frame (reply_over_tcp z piece))
+    → HasAnswered (reply_over_tcp z) (session a b c d)
 answered z a b c d buf read kept piece e m is w = grind (arith, message_of_read, reply_of_kept)
 
-pub begun : (z : ZoneContents) (a b c d : Option Octets) (buf : Octets) (read : Option ℕ) (kept : ℕ) (piece : Octets) → read ≡ Some kept → MessageRead a b buf (Ok read)
-    → piece ≡ take kept buf → AppendsBeginning c d (reply_frame (reply_over_tcp z piece)) → HasBegun (reply_over_tcp z) (session a b c d)
+pub begun : (z : ZoneContents) (a b c d : Option Octets) (buf : Octets)
+    (read : Option ℕ) (kept : ℕ) (piece : Octets) → read ≡ Some kept → MessageRead a b buf (Ok read)
+    → piece ≡ take kept buf → AppendsBeginning c d (reply_frame (reply_over_tcp z piece))
+    → HasBegun (reply_over_tcp z) (session a b c d)
 begun z a b c d buf read kept piece e m is (n, h, w) =
     let g = message_of_read a b buf read kept e m in record {
       message = g.message;
       short = g.short;
       read = g.consumed;
       taken = n;
-      written = subst (λ r. Appends c d (take n (reply_frame r))) (reply_of_kept z piece g.message (is ∙ g.kept_is)) w;
+      written = subst (λ r. Appends c d (take n (reply_frame r)))
+          (reply_of_kept z piece g.message (is ∙ g.kept_is)) w;
     }
 
-pub nothing_read : (a b : Option Octets) (buf : Octets) (read : Option ℕ) → read ≡ None → MessageRead a b buf (Ok read) → GivesNothing a b
+pub nothing_read : (a b : Option Octets) (buf : Octets) (read : Option ℕ)
+    → read ≡ None → MessageRead a b buf (Ok read) → GivesNothing a b
 nothing_read a b buf read e m = subst (λ o. MessageRead a b buf (Ok o)) e m
 
 -- So many messages were read, and their replies written.
@@ -46,49 +53,62 @@ pub record Done (reply : Octets → Option Octets) (s : Session) (n : ℕ) : Typ
   pub read : Consumes s.unread s.left (flat_map frame messages)
   pub written : Appends s.held s.holds (replies reply messages)
 
-frames_of : (ms : List Octets) (m : Octets) → flat_map frame (ms ++ m ∷ []) ≡ flat_map frame ms ++ frame m
-frames_of ms m = flat_map-append frame ms (m ∷ []) ∙ ap (λ x. flat_map frame ms ++ x) (append-nil (frame m))
+frames_of : (ms : List Octets) (m : Octets)
+    → flat_map frame (ms ++ m ∷ []) ≡ flat_map frame ms ++ frame m
+frames_of ms m =
+    flat_map-append frame ms (m ∷ []) ∙ ap (λ x. flat_map frame ms ++ x) (append-nil (frame m))
 
-replies_of : (reply : Octets → Option Octets) (ms : List Octets) (m : Octets) → replies reply (ms ++ m ∷ []) ≡ replies reply ms ++ reply_frame (reply m)
-replies_of reply ms m = flat_map-append (λ m. reply_frame (reply m)) ms (m ∷ []) ∙ ap (λ x. replies reply ms ++ x) (append-nil (reply_frame (reply m)))
+replies_of : (reply : Octets → Option Octets) (ms : List Octets) (m : Octets)
+    → replies reply (ms ++ m ∷ []) ≡ replies reply ms ++ reply_frame (reply m)
+replies_of reply ms m = flat_map-append (λ m. reply_frame (reply m)) ms (m ∷ [])
+    ∙ ap (λ x. replies reply ms ++ x) (append-nil (reply_frame (reply m)))
 
 one_short : (m : Octets) → length m < 2 ^ 16 → All (λ m. length m < 2 ^ 16) (m ∷ [])
 one_short m h = grind arith
 
-all_short : (ms : List Octets) (m : Octets) → All (λ m. length m < 2 ^ 16) ms → length m < 2 ^ 16 → All (λ m. length m < 2 ^ 16) (ms ++ m ∷ [])
+all_short : (ms : List Octets) (m : Octets) → All (λ m. length m < 2 ^ 16) ms
+    → length m < 2 ^ 16 → All (λ m. length m < 2 ^ 16) (ms ++ m ∷ [])
 all_short ms m p h = All-append (λ m. length m < 2 ^ 16) ms (m ∷ []) p (one_short m h)
 
-pub done_more : (reply : Octets → Option Octets) (a b c x y z : Option Octets) (n : ℕ) → Done reply (session a b x y) n → HasAnswered reply (session b c y z)
-    → Done reply (session a c x z) (n + 1)
+pub done_more : (reply : Octets → Option Octets) (a b c x y z : Option Octets) (n : ℕ) → Done reply
+    (session a b x y) n → HasAnswered reply (session b c y z) → Done reply (session a c x z) (n + 1)
 done_more reply a b c x y z n d h = record {
   messages = d.messages ++ h.message ∷ [];
   short = all_short d.messages h.message d.short h.short;
   count = length-append d.messages (h.message ∷ []) ∙ ap (λ k. k + 1) d.count;
-  read = subst (Consumes a c) (sym (frames_of d.messages h.message)) (Consumes-trans a b c _ _ d.read h.read);
-  written = subst (Appends x z) (sym (replies_of reply d.messages h.message)) (Appends-trans x y z _ _ d.written h.written);
+  read = subst (Consumes a c)
+      (sym (frames_of d.messages h.message)) (Consumes-trans a b c _ _ d.read h.read);
+  written = subst (Appends x z)
+      (sym (replies_of reply d.messages h.message)) (Appends-trans x y z _ _ d.written h.written);
 }
 
 -- frames in front of octets that begin with no frame, or after as many messages as are asked for
-frames_then : (k : ℕ) (ms : List Octets) (rest : Octets) → All (λ m. length m < 2 ^ 16) ms → first_frame rest ≡ None
-    → frames (length ms + k) (flat_map frame ms ++ rest) ≡ ms
+frames_then : (k : ℕ) (ms : List Octets) (rest : Octets) → All (λ m. length m < 2 ^ 16) ms
+    → first_frame rest ≡ None → frames (length ms + k) (flat_map frame ms ++ rest) ≡ ms
 unfolding frames
-frames_then k ms rest short none = frames_again k ms rest short ∙ ap (λ x. ms ++ x) (no_frames k) ∙ append-nil ms
+frames_then k ms rest short none =
+    frames_again k ms rest short ∙ ap (λ x. ms ++ x) (no_frames k) ∙ append-nil ms
   where
     no_frames : (k : ℕ) → frames k rest ≡ []
     no_frames zero = refl
-    no_frames (suc k) = ap (λ f. elim f as (λ _. List Octets) [ None ↦ [] | Some r ↦ r.0 ∷ frames k r.1 ]) none
+    no_frames (suc k) =
+        ap (λ f. elim f as (λ _. List Octets) [ None ↦ [] | Some r ↦ r.0 ∷ frames k r.1 ]) none
 
-frames_by : (most : ℕ) (ms : List Octets) (rest : Octets) → All (λ m. length m < 2 ^ 16) ms → (length ms ≡ most) ⊎ (length ms ≤ most × (first_frame rest ≡ None))
+frames_by : (most : ℕ) (ms : List Octets) (rest : Octets) → All (λ m. length m < 2 ^ 16) ms
+    → (length ms ≡ most) ⊎ (length ms ≤ most × (first_frame rest ≡ None))
     → ms ≡ frames most (flat_map frame ms ++ rest)
 unfolding frames
 frames_by most ms rest short (inl e) =
-    sym (ap (λ k. frames k (flat_map frame ms ++ rest)) (sym e ∙ omega arith) ∙ frames_again 0 ms rest short ∙ append-nil ms)
+    sym (ap (λ k. frames k (flat_map frame ms ++ rest)) (sym e ∙ omega arith)
+    ∙ frames_again 0 ms rest short ∙ append-nil ms)
 frames_by most ms rest short (inr (le, none)) =
-    sym (ap (λ k. frames k (flat_map frame ms ++ rest)) (omega (arith, le)) ∙ frames_then (most - length ms) ms rest short none)
+    sym (ap (λ k. frames k (flat_map frame ms ++ rest)) (omega (arith, le))
+    ∙ frames_then (most - length ms) ms rest short none)
 
 -- the frames of what a source had, by what it has lost and what is left
-frames_of_known : (a b : Option Octets) (most : ℕ) (ms : List Octets) (part : Octets) → All (λ m. length m < 2 ^ 16) ms
-    → Consumes a b (flat_map frame ms ++ part) → (length ms ≡ most) ⊎ (length ms ≤ most × (first_frame part ≡ None) × IsAtEnd b) → AreFrames a most ms
+frames_of_known : (a b : Option Octets) (most : ℕ) (ms : List Octets) (part : Octets) → All
+    (λ m. length m < 2 ^ 16) ms → Consumes a b (flat_map frame ms ++ part) → (length ms ≡ most)
+    ⊎ (length ms ≤ most × (first_frame part ≡ None) × IsAtEnd b) → AreFrames a most ms
 frames_of_known a b most ms part h h1 h2 = grind (arith, append_assoc, frames_by, append-nil)
 
 nil_has_none : first_frame [] ≡ None
@@ -99,32 +119,38 @@ with_nothing : (a b : Option Octets) (o : Octets) → Consumes a b o → Consume
 with_nothing a b o c = subst (Consumes a b) (sym (append-nil o)) c
 
 -- all were read, as many as were asked for, or up to the end
-pub served_most : (reply : Octets → Option Octets) (most n : ℕ) (a b x y : Option Octets) → Done reply (session a b x y) n → n ≡ most
-    → HasServed reply most (session a b x y) n
+pub served_most : (reply : Octets → Option Octets) (most n : ℕ) (a b x y : Option Octets)
+    → Done reply (session a b x y) n → n ≡ most → HasServed reply most (session a b x y) n
 served_most reply most n a b x y d e = grind (arith, frames_of_known, with_nothing)
 
-pub served_all : (reply : Octets → Option Octets) (most n : ℕ) (a b c x y : Option Octets) → Done reply (session a b x y) n → n < most
-    → GivesNothing b c → HasServed reply most (session a c x y) n
+pub served_all : (reply : Octets → Option Octets) (most n : ℕ) (a b c x y : Option Octets)
+    → Done reply (session a b x y) n
+    → n < most → GivesNothing b c → HasServed reply most (session a c x y) n
 served_all reply most n a b c x y d h g =
     grind (arith, Consumes-trans, frames_of_known, nil_has_none, append-nil)
 
 -- the next message could not be read
-pub unread : (reply : Octets → Option Octets) (most n : ℕ) (a b c x y : Option Octets) (buf : Octets) (fault : StreamFault) → Done reply (session a b x y) n → n < most
+pub unread : (reply : Octets → Option Octets) (most n : ℕ) (a b c x y : Option Octets)
+    (buf : Octets) (fault : StreamFault) → Done reply (session a b x y) n → n < most
     → MessageRead b c buf (Err fault) → SessionOf reply most (session a c x y) (Err fault)
 unread reply most n a b c x y buf fault h h1 h2 =
     grind (arith, frames_by, Consumes-trans, frames_of_known)
 
 -- its reply could not be written
-pub unwritten : (reply : Octets → Option Octets) (most n : ℕ) (a b c x y z : Option Octets) → Done reply (session a b x y) n → n < most
-    → HasBegun reply (session b c y z) → WasRefused reply most (session a c x z)
+pub unwritten : (reply : Octets → Option Octets) (most n : ℕ) (a b c x y z : Option Octets)
+    → Done reply (session a b x y) n
+    → n < most → HasBegun reply (session b c y z) → WasRefused reply most (session a c x z)
 unwritten reply most n a b c x y z d h b' = record {
   earlier = d.messages;
   message = b'.message;
   taken = b'.taken;
-  are_frames = frames_of_known a c (length d.messages + 1) (d.messages ++ b'.message ∷ []) [] (all_short d.messages b'.message d.short b'.short)
-      (with_nothing a c _ (subst (Consumes a c) (sym (frames_of d.messages b'.message)) (Consumes-trans a b c _ _ d.read b'.read)))
+  are_frames = frames_of_known a c (length d.messages + 1)
+      (d.messages ++ b'.message ∷ []) [] (all_short d.messages b'.message d.short b'.short)
+      (with_nothing a c _ (subst (Consumes a c)
+      (sym (frames_of d.messages b'.message)) (Consumes-trans a b c _ _ d.read b'.read)))
       (inl (length-append d.messages (b'.message ∷ [])));
   within = omega (arith, d.count, h);
-  read = subst (Consumes a c) (sym (frames_of d.messages b'.message)) (Consumes-trans a b c _ _ d.read b'.read);
+  read = subst (Consumes a c)
+      (sym (frames_of d.messages b'.message)) (Consumes-trans a b c _ _ d.read b'.read);
   written = Appends-trans x y z _ _ d.written b'.written;
 }

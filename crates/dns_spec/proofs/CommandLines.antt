@@ -1,15 +1,18 @@
--- The words of a command line say what they ask for: ORIGIN and FILE are the last two, and those before them say the rest.
-use Rattle.dns_spec.proofs.Common.{◌≡◌, ℕ, Bool, List, [], ◌∷◌, ◌++◌, length, get_or, codes, refl, ap, ap₂, arith, length-append, list_any, decimal_injective, Octets, octets_equal, Options}
-use Rattle.dns_spec.specs.CommandWords.{ZoneWords, AskToCheck, ServiceAsked, AskToServe}
+-- The words of a command line say what they ask for: ORIGIN and FILE are the last two, and those
+-- before them say the rest.
+use Rattle.dns_spec.proofs.Common.{◌≡◌, ℕ, Bool, List, [], ◌∷◌, ◌++◌, length, get_or, codes, refl, ap, ap₂, arith, length-append, list_any, decimal_injective, Octets, octets_equal, Options, ZoneWords, AskToCheck, ServiceAsked, AskToServe}
 
 word : ℕ → List Octets → Octets
 word k ws = get_or ws k []
 
-last_two : (f g : List Octets) (y z : ZoneWords) → f ++ y.origin ∷ y.file ∷ [] ≡ g ++ z.origin ∷ z.file ∷ [] → (f ≡ g) × (y ≡ z)
+last_two : (f g : List Octets) (y z : ZoneWords)
+    → f ++ y.origin ∷ y.file ∷ [] ≡ g ++ z.origin ∷ z.file ∷ [] → (f ≡ g) × (y ≡ z)
 unfolding word
 last_two [] [] y z e = (refl, ap (λ ws. record { origin = word 0 ws; file = word 1 ws }) e)
-last_two [] (w ∷ g) y z e = absurd (omega (arith, ap length e, length-append g (z.origin ∷ z.file ∷ [])))
-last_two (v ∷ f) [] y z e = absurd (omega (arith, ap length e, length-append f (y.origin ∷ y.file ∷ [])))
+last_two [] (w ∷ g) y z e =
+    absurd (omega (arith, ap length e, length-append g (z.origin ∷ z.file ∷ [])))
+last_two (v ∷ f) [] y z e =
+    absurd (omega (arith, ap length e, length-append f (y.origin ∷ y.file ∷ [])))
 last_two (v ∷ f) (w ∷ g) y z e = grind (arith, ap₂, word, (last_two f g y z))
 
 has : Octets → List Octets → Bool
@@ -19,10 +22,12 @@ has w = list_any (octets_equal w)
 said : List Octets → Options
 said f = record { is_quiet = has (codes "--quiet") f; is_printing = has (codes "--print") f }
 
-pub one_check : (words : List Octets) (a b : Options) (y z : ZoneWords) → AskToCheck words a y → AskToCheck words b z → (a ≡ b) × (y ≡ z)
+pub one_check : (words : List Octets) (a b : Options) (y z : ZoneWords)
+    → AskToCheck words a y → AskToCheck words b z → (a ≡ b) × (y ≡ z)
 unfolding said has
 one_check words a b y z one other = grind (arith, last_two, said)
 
-pub one_service : (words : List Octets) (s t : ServiceAsked) (y z : ZoneWords) → AskToServe words s y → AskToServe words t z → (s ≡ t) × (y ≡ z)
+pub one_service : (words : List Octets) (s t : ServiceAsked) (y z : ZoneWords)
+    → AskToServe words s y → AskToServe words t z → (s ≡ t) × (y ≡ z)
 unfolding word
 one_service words s t y z one other = grind (arith, decimal_injective)

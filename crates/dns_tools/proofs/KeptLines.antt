@@ -1,18 +1,9 @@
 -- What is kept of a line, octet by octet, and which message it says the line is.
-use Rattle.std.proofs.Common.{◌≡◌, ◌≢◌, ℕ, ◌+◌, ◌<◌, ◌≤◌, ◌==◌, if◌then◌else◌, nat_lt, Bool, true, false, inl, inr, List, [], ◌∷◌, ◌++◌, length, take, drop, get_or, suc, Option, Some, None, refl, sym, ap, ◌∙◌, subst, arith, append_assoc, append-nil, length-append, filter}
-use Rattle.dns_spec.proofs.Common.{cases_lt, le-leb, lt-leb, lt-ltb, le-ltb, ltb-true, ltb-false, ne_eqb, take_all, take-append-le, take-append-drop, length-take-le, drop-cons, filter-append, Consumes, IsAtEnd, Octets, hex_octets}
-use Rattle.std.specs.Prelude.{⊤, ◌-◌, MatchOption, Ok, IfSome, IfNone, IsErr}
-use Rattle.std.specs.Bool.{OnTrue, OnFalse}
-use Rattle.hex.specs.Hex.{decode_of}
+use Rattle.dns_tools.proofs.Common.{◌≡◌, ◌≢◌, ℕ, ◌+◌, ◌<◌, ◌≤◌, ◌==◌, if◌then◌else◌, nat_lt, Bool, true, false, inl, inr, List, [], ◌∷◌, ◌++◌, length, take, drop, get_or, suc, Option, Some, None, refl, sym, ap, ◌∙◌, subst, arith, append_assoc, append-nil, length-append, filter, cases_lt, le-leb, lt-leb, lt-ltb, le-ltb, ltb-true, ltb-false, ne_eqb, take_all, take-append-le, take-append-drop, length-take-le, drop-cons, filter-append, Consumes, IsAtEnd, Octets, hex_octets, ⊤, ◌-◌, MatchOption, Ok, IfSome, IfNone, IsErr, OnTrue, OnFalse, decode_of, Consumes-trans, begin_line, lines, line_ends, line_message, first_of, KeptLine, kept_line, kept_message, KeepsOctet, IsFront, KeepsFirst, ReadsFirst}
 use Rattle.dns_tools.proofs.LineDigits.{line_read, line_refused}
-use Rattle.std.proofs.KnownBytes.{Consumes-trans}
-use Rattle.dns_spec.specs.Lines.{begin_line, lines, line_ends, line_message}
-use Rattle.dns_spec.specs.MessageLines.{first_of}
-use Rattle.dns_tools.specs.KeptLine.{KeptLine, kept_line, kept_message, KeepsOctet}
-use Rattle.dns_tools.specs.FirstLine.{IsFront, KeepsFirst, ReadsFirst}
 
 pub ends_append : (x y : Octets) → line_ends (x ++ y) ≡ line_ends x + line_ends y
-ends_append x y = ap length (filter-append (λ o. o == 10) x y) ∙ length-append (filter (λ o. o == 10) x) (filter (λ o. o == 10) y)
+ends_append x y = grind (arith, filter-append, length-append, filter)
 
 -- an octet that ends no line
 pub ends_one : (o : ℕ) → o ≢ 10 → line_ends (o ∷ []) ≡ 0
@@ -31,10 +22,12 @@ line_then [] y e = refl
 line_then (o ∷ front) y e = rw (ends_head o front e, line_then front y (ends_tail o front e)) refl
 
 -- a line that nothing ends
-pub line_alone : (o : ℕ) (front : Octets) → line_ends (o ∷ front) ≡ 0 → lines (o ∷ front) ≡ (o ∷ front) ∷ []
+pub line_alone : (o : ℕ) (front : Octets)
+    → line_ends (o ∷ front) ≡ 0 → lines (o ∷ front) ≡ (o ∷ front) ∷ []
 unfolding lines
 line_alone o [] e = rw (ends_head o [] e) refl
-line_alone o (p ∷ front) e = rw (ends_head o (p ∷ front) e, line_alone p front (ends_tail o (p ∷ front) e)) refl
+line_alone o (p ∷ front) e =
+    rw (ends_head o (p ∷ front) e, line_alone p front (ends_tail o (p ∷ front) e)) refl
 
 pub lines_nil : lines [] ≡ []
 unfolding lines
@@ -46,26 +39,32 @@ kept_front front h = elim (cases_lt (length front) 131070) [
   | inr large ↦ absurd (omega (arith, h, length-take-le 131070 front large))
 ]
 
-keeps_line : (front line : Octets) (o : ℕ) → line ≡ take 131070 front → length line < 131070 → line ++ o ∷ [] ≡ take 131070 (front ++ o ∷ [])
+keeps_line : (front line : Octets) (o : ℕ) → line ≡ take 131070 front
+    → length line < 131070 → line ++ o ∷ [] ≡ take 131070 (front ++ o ∷ [])
 keeps_line front line o e h =
     let small = kept_front front (subst (λ l. length l < 131070) e h) in
     ap (λ l. l ++ o ∷ []) (e ∙ take_all 131070 front (omega (arith, small)))
     ∙ sym (take_all 131070 (front ++ o ∷ []) (omega (arith, small, length-append front (o ∷ []))))
 
-keeps_flag : (front line : Octets) (o : ℕ) → line ≡ take 131070 front → length line < 131070 → nat_lt 131070 (length front) ≡ nat_lt 131070 (length (front ++ o ∷ []))
+keeps_flag : (front line : Octets) (o : ℕ) → line ≡ take 131070 front
+    → length line < 131070 → nat_lt 131070 (length front) ≡ nat_lt 131070 (length (front ++ o ∷ []))
 keeps_flag front line o e h =
     let small = kept_front front (subst (λ l. length l < 131070) e h) in
     le-ltb 131070 (length front) (omega (arith, small))
-    ∙ sym (le-ltb 131070 (length (front ++ o ∷ [])) (omega (arith, small, length-append front (o ∷ []))))
+    ∙ sym (le-ltb 131070
+    (length (front ++ o ∷ [])) (omega (arith, small, length-append front (o ∷ []))))
 
-full_front : (front line : Octets) → line ≡ take 131070 front → 131070 ≤ length line → 131070 ≤ length front
+full_front : (front line : Octets)
+    → line ≡ take 131070 front → 131070 ≤ length line → 131070 ≤ length front
 full_front front line e h = elim (cases_lt (length front) 131070) [
-  | inl small ↦ absurd (omega (arith, small, h, ap length (e ∙ take_all 131070 front (omega (arith, small)))))
+  | inl small ↦
+      absurd (omega (arith, small, h, ap length (e ∙ take_all 131070 front (omega (arith, small)))))
   | inr large ↦ large
 ]
 
 -- the next octet of a line
-pub keeps_kept : (front : Octets) (k n : KeptLine) (o : ℕ) → k ≡ kept_line front → KeepsOctet k n o → n ≡ kept_line (front ++ o ∷ [])
+pub keeps_kept : (front : Octets) (k n : KeptLine) (o : ℕ)
+    → k ≡ kept_line front → KeepsOctet k n o → n ≡ kept_line (front ++ o ∷ [])
 keeps_kept front k n o e keeps = λ i. record { front = front_is i; is_overlong = flag_is i }
   where
     kept : k.front ≡ take 131070 front
@@ -74,24 +73,29 @@ keeps_kept front k n o e keeps = λ i. record { front = front_is i; is_overlong 
     front_is : n.front ≡ take 131070 (front ++ o ∷ [])
     front_is = elim (cases_lt (length k.front) 131070) [
       | inl room ↦ (keeps.room room).0 ∙ keeps_line front k.front o kept room
-      | inr full ↦ (keeps.full full).0 ∙ kept ∙ sym (take-append-le 131070 front (o ∷ []) (full_front front k.front kept full))
+      | inr full ↦ (keeps.full full).0
+          ∙ kept ∙ sym (take-append-le 131070 front (o ∷ []) (full_front front k.front kept full))
     ]
 
     flag_is : n.is_overlong ≡ nat_lt 131070 (length (front ++ o ∷ []))
     flag_is = elim (cases_lt (length k.front) 131070) [
-      | inl room ↦ (keeps.room room).1 ∙ ap (λ l. l.is_overlong) e ∙ keeps_flag front k.front o kept room
+      | inl room ↦
+          (keeps.room room).1 ∙ ap (λ l. l.is_overlong) e ∙ keeps_flag front k.front o kept room
       | inr full ↦ (keeps.full full).1
-          ∙ sym (lt-ltb 131070 (length (front ++ o ∷ [])) (omega (arith, full_front front k.front kept full, length-append front (o ∷ []))))
+          ∙ sym (lt-ltb 131070 (length (front ++ o ∷ []))
+          (omega (arith, full_front front k.front kept full, length-append front (o ∷ []))))
     ]
 
 -- what is kept of a line says which message it is
 message_says : (front : Octets) → kept_message (kept_line front) ≡ line_message front
 message_says front = elim (cases_lt 131070 (length front)) [
   | inl long ↦ rw (lt-ltb 131070 (length front) long, lt-leb (length front) 131070 long) refl
-  | inr short ↦ rw (le-ltb 131070 (length front) short, le-leb (length front) 131070 short) (ap hex_octets (take_all 131070 front short))
+  | inr short ↦ rw (le-ltb 131070 (length front) short, le-leb (length front) 131070 short)
+      (ap hex_octets (take_all 131070 front short))
 ]
 
-pub kept_says : (front : Octets) (k : KeptLine) → k ≡ kept_line front → kept_message k ≡ line_message front
+pub kept_says : (front : Octets) (k : KeptLine)
+    → k ≡ kept_line front → kept_message k ≡ line_message front
 kept_says front k e = ap kept_message e ∙ message_says front
 
 -- ---- the first line of an input
@@ -101,42 +105,49 @@ first_after o [] = refl
 first_after o (l ∷ ls) = refl
 
 -- where nothing ends it so far, it goes on
-first_line : (front y : Octets) → line_ends front ≡ 0 → first_of (lines (front ++ y)) ≡ front ++ first_of (lines y)
+first_line : (front y : Octets)
+    → line_ends front ≡ 0 → first_of (lines (front ++ y)) ≡ front ++ first_of (lines y)
 unfolding lines
 first_line [] y e = refl
 first_line (o ∷ front) y e =
-    rw (ends_head o front e) (first_after o (lines (front ++ y)) ∙ ap (λ l. o ∷ l) (first_line front y (ends_tail o front e)))
+    rw (ends_head o front e) (first_after o (lines (front ++ y))
+    ∙ ap (λ l. o ∷ l) (first_line front y (ends_tail o front e)))
 
 first_ended : (y : Octets) → first_of (lines (10 ∷ y)) ≡ []
 unfolding lines
 first_ended y = refl
 
 -- where it goes on, it begins so
-first_goes_on : (front y : Octets) (l : KeptLine) → line_ends front ≡ 0 → l ≡ kept_line front → first_of (lines y) ≡ []
-    → kept_message l ≡ line_message (first_of (lines (front ++ y)))
+first_goes_on : (front y : Octets) (l : KeptLine) → line_ends front ≡ 0 → l ≡ kept_line front
+    → first_of (lines y) ≡ [] → kept_message l ≡ line_message (first_of (lines (front ++ y)))
 first_goes_on front y l unended kept over =
-    kept_says front l kept ∙ ap line_message (sym (first_line front y unended ∙ ap (λ z. front ++ z) over ∙ append-nil front))
+    grind (arith, kept_says, line_message, first_line, append-nil)
 
 -- an octet ends it
-pub ended_first : (x octets : Octets) (i : ℕ) (l : KeptLine) → i < length octets → get_or octets i 0 ≡ 10 → line_ends (x ++ take i octets) ≡ 0
+pub ended_first : (x octets : Octets) (i : ℕ) (l : KeptLine)
+    → i < length octets → get_or octets i 0 ≡ 10 → line_ends (x ++ take i octets) ≡ 0
     → l ≡ kept_line (x ++ take i octets) → KeepsFirst (x ++ octets) l
 ended_first x octets i l here is unended kept = λ y.
     let front = x ++ take i octets in
-    let rest : drop i octets ≡ 10 ∷ drop (suc i) octets = drop-cons octets i 0 here ∙ ap (λ o. o ∷ drop (suc i) octets) is in
+    let rest : drop i octets ≡ 10 ∷ drop (suc i) octets =
+    drop-cons octets i 0 here ∙ ap (λ o. o ∷ drop (suc i) octets) is in
     let whole : (x ++ octets) ++ y ≡ front ++ 10 ∷ (drop (suc i) octets ++ y) =
     ap (λ o. (x ++ o) ++ y) (sym (take-append-drop i octets) ∙ ap (λ d. take i octets ++ d) rest)
-    ∙ ap (λ z. z ++ y) (sym (append_assoc x (take i octets) (10 ∷ drop (suc i) octets))) ∙ append_assoc front (10 ∷ drop (suc i) octets) y
+    ∙ ap (λ z. z ++ y) (sym (append_assoc x (take i octets) (10 ∷ drop (suc i) octets)))
+    ∙ append_assoc front (10 ∷ drop (suc i) octets) y
     in
-    first_goes_on front (10 ∷ (drop (suc i) octets ++ y)) l unended kept (first_ended (drop (suc i) octets ++ y))
-    ∙ ap (λ z. line_message (first_of (lines z))) (sym whole)
+    first_goes_on front (10 ∷ (drop (suc i) octets ++ y)) l unended kept (first_ended
+    (drop (suc i) octets ++ y)) ∙ ap (λ z. line_message (first_of (lines z))) (sym whole)
 
 -- it is too long
-pub overlong_first : (x : Octets) (l : KeptLine) → line_ends x ≡ 0 → l ≡ kept_line x → l.is_overlong ≡ true → KeepsFirst x l
+pub overlong_first : (x : Octets) (l : KeptLine)
+    → line_ends x ≡ 0 → l ≡ kept_line x → l.is_overlong ≡ true → KeepsFirst x l
 overlong_first x l unended kept over =
     grind (arith, ltb-true, kept, first_line, first_of, lines, length-append, lt-leb)
 
 -- it is not, so far
-pub not_overlong : (x : Octets) (l : KeptLine) → line_ends x ≡ 0 → l ≡ kept_line x → l.is_overlong ≡ false → IsFront x l
+pub not_overlong : (x : Octets) (l : KeptLine)
+    → line_ends x ≡ 0 → l ≡ kept_line x → l.is_overlong ≡ false → IsFront x l
 not_overlong x l unended kept short = grind (arith, ltb-false, kept)
 
 -- ---- a source
@@ -147,7 +158,8 @@ pub record Going (a b : Option Octets) (l : KeptLine) : Type 0 where
   pub read : Consumes a b given
   pub front : IsFront given l
 
-pub going_more : (a b c : Option Octets) (front octets : Octets) (l n : KeptLine) → front ≡ octets → Consumes b c octets
+pub going_more : (a b c : Option Octets) (front octets : Octets) (l n : KeptLine)
+    → front ≡ octets → Consumes b c octets
     → ((x : Octets) → IsFront x l → IsFront (x ++ front) n) → Going a b l → Going a c n
 going_more a b c front octets l n same more step g = record {
   given = g.given ++ octets;
@@ -156,12 +168,14 @@ going_more a b c front octets l n same more step g = record {
 }
 
 -- what comes after octets that were read
-what_comes : (a c : Option Octets) (given : Octets) → Consumes a c given → (rest : Octets) × MatchOption a ⊤ (λ all. all ≡ given ++ rest)
+what_comes : (a c : Option Octets) (given : Octets)
+    → Consumes a c given → (rest : Octets) × MatchOption a ⊤ (λ all. all ≡ given ++ rest)
 what_comes None c given read = ([], tt)
 what_comes (Some x) None given read = absurd read
 what_comes (Some x) (Some y) given read = (y, read)
 
-pub going_over : (a b c : Option Octets) (front octets : Octets) (l n : KeptLine) → front ≡ octets → Consumes b c octets → length octets ≤ 65536
+pub going_over : (a b c : Option Octets) (front octets : Octets) (l n : KeptLine)
+    → front ≡ octets → Consumes b c octets → length octets ≤ 65536
     → ((x : Octets) → IsFront x l → KeepsFirst (x ++ front) n) → Going a b l → ReadsFirst a c n
 going_over a b c front octets l n same more few step g =
     let read = Consumes-trans a b c g.given octets g.read more in
@@ -181,12 +195,14 @@ going_over a b c front octets l n same more few step g =
       message_is = subst (λ o. KeepsFirst (g.given ++ o) n) same (step g.given g.front) comes.0;
     }
 
-at_end : (a c : Option Octets) (given : Octets) → Consumes a c given → IsAtEnd c → MatchOption a ⊤ (λ all. all ≡ given)
+at_end : (a c : Option Octets) (given : Octets)
+    → Consumes a c given → IsAtEnd c → MatchOption a ⊤ (λ all. all ≡ given)
 at_end None c given read end = tt
 at_end (Some x) None given read end = absurd read
 at_end (Some x) (Some y) given read end = read ∙ ap (λ z. given ++ z) end ∙ append-nil given
 
-pub going_ended : (a b c : Option Octets) (l : KeptLine) → Consumes b c [] → IsAtEnd c → Going a b l → ReadsFirst a c l
+pub going_ended : (a b c : Option Octets) (l : KeptLine)
+    → Consumes b c [] → IsAtEnd c → Going a b l → ReadsFirst a c l
 going_ended a b c l none end g =
     let read = Consumes-trans a b c g.given [] g.read none in
     let all : (g.given ++ []) ++ [] ≡ g.given = append-nil (g.given ++ []) ∙ append-nil g.given in
@@ -202,58 +218,67 @@ going_ended a b c l none end g =
         goes_on = g.front.goes_on;
         at_once = omega arith;
       };
-      message_is = first_goes_on g.given [] l g.front.goes_on.unended g.front.kept (ap first_of lines_nil) ∙ ap (λ z. line_message (first_of (lines z))) (append-nil g.given);
+      message_is = first_goes_on g.given [] l g.front.goes_on.unended g.front.kept (ap
+          first_of lines_nil) ∙ ap (λ z. line_message (first_of (lines z))) (append-nil g.given);
     }
 
 -- ---- the code's own words
 
 -- the kept front is all of the line
 front_length : (x : Octets) (l : KeptLine) → IsFront x l → length l.front ≡ length x
-front_length x l is = ap (λ l. length l.front) is.kept ∙ ap length (take_all 131070 x (omega (arith, is.goes_on.short)))
+front_length x l is = ap (λ l. length l.front) is.kept
+    ∙ ap length (take_all 131070 x (omega (arith, is.goes_on.short)))
 
 -- each piece makes the line longer, as long as it goes on
-pub longer : (a b : Option Octets) (octets : Octets) (is_over : Bool) (l n : KeptLine) → 0 < length octets → Going a b l
-    → ((x : Octets) → IsFront x l → OnFalse is_over (IsFront (x ++ octets) n))
+pub longer : (a b : Option Octets) (octets : Octets) (is_over : Bool) (l n : KeptLine) → 0 < length
+    octets → Going a b l → ((x : Octets) → IsFront x l → OnFalse is_over (IsFront (x ++ octets) n))
     → suc (if is_over then 0 else 131071 - length n.front) ≤ 131071 - length l.front
-longer a b octets true l n some g more = omega (arith, front_length g.given l g.front, g.front.goes_on.short)
-longer a b octets false l n some g more =
-    let new = more g.given g.front in
-    omega (arith, some, front_length g.given l g.front, front_length (g.given ++ octets) n new, new.goes_on.short, length-append g.given octets)
+longer a b octets true l n some g more =
+    omega (arith, front_length g.given l g.front, g.front.goes_on.short)
+longer a b octets false l n some g more = grind (arith, front_length, length-append)
 
-pub first_longer : (a b : Option Octets) (l : KeptLine) → Going a b l → suc 0 ≤ 131071 - length l.front
+pub first_longer : (a b : Option Octets) (l : KeptLine)
+    → Going a b l → suc 0 ≤ 131071 - length l.front
 first_longer a b l g = omega (arith, front_length g.given l g.front, g.front.goes_on.short)
 
 -- the octets that are spelled are those of the message
-pub message_spelled : (result : Option ℕ) (digits octets : Octets) (l : KeptLine) → record { front = digits; is_overlong = false } ≡ l
-    → IfSome result (λ len. decode_of digits ≡ Ok (take len octets)) → IfSome result (λ len. kept_message l ≡ Some (take len octets))
+pub message_spelled : (result : Option ℕ) (digits octets : Octets) (l : KeptLine)
+    → record { front = digits; is_overlong = false } ≡ l → IfSome result (λ len. decode_of digits
+    ≡ Ok (take len octets)) → IfSome result (λ len. kept_message l ≡ Some (take len octets))
 message_spelled None digits octets l is h = tt
-message_spelled (Some len) digits octets l is h = ap kept_message (sym is) ∙ line_read digits (take len octets) h
+message_spelled (Some len) digits octets l is h =
+    ap kept_message (sym is) ∙ line_read digits (take len octets) h
 
-pub no_message_spelled : (result : Option ℕ) (digits : Octets) (l : KeptLine) → record { front = digits; is_overlong = false } ≡ l
+pub no_message_spelled : (result : Option ℕ) (digits : Octets) (l : KeptLine)
+    → record { front = digits; is_overlong = false } ≡ l
     → IfNone result (IsErr (decode_of digits)) → IfNone result (kept_message l ≡ None)
 no_message_spelled None digits l is h = ap kept_message (sym is) ∙ line_refused digits h
 no_message_spelled (Some len) digits l is h = tt
 
-pub read_ended : (a b c : Option Octets) (count : ℕ) (buf : Octets) (l : KeptLine) → Consumes b c (take count buf) → count ≡ 0 → IsAtEnd c → Going a b l
-    → ReadsFirst a c l
-read_ended a b c count buf l more none end g = going_ended a b c l (subst (λ n. Consumes b c (take n buf)) none more) end g
+pub read_ended : (a b c : Option Octets) (count : ℕ) (buf : Octets) (l : KeptLine)
+    → Consumes b c (take count buf) → count ≡ 0 → IsAtEnd c → Going a b l → ReadsFirst a c l
+read_ended a b c count buf l more none end g =
+    going_ended a b c l (subst (λ n. Consumes b c (take n buf)) none more) end g
 
-pub more_unended : (x front t : Octets) (o : ℕ) → t ≡ front ++ o ∷ [] → o ≢ 10 → line_ends (x ++ front) ≡ 0 → line_ends (x ++ t) ≡ 0
+pub more_unended : (x front t : Octets) (o : ℕ)
+    → t ≡ front ++ o ∷ [] → o ≢ 10 → line_ends (x ++ front) ≡ 0 → line_ends (x ++ t) ≡ 0
 more_unended x front t o grown other e =
     grind (arith, line_ends, append_assoc, ends_append, ends_one)
 
-pub more_kept : (x front t : Octets) (o : ℕ) (k n : KeptLine) → t ≡ front ++ o ∷ [] → KeepsOctet k n o → k ≡ kept_line (x ++ front) → n ≡ kept_line (x ++ t)
+pub more_kept : (x front t : Octets) (o : ℕ) (k n : KeptLine)
+    → t ≡ front ++ o ∷ [] → KeepsOctet k n o → k ≡ kept_line (x ++ front) → n ≡ kept_line (x ++ t)
 more_kept x front t o k n grown keeps e =
-    keeps_kept (x ++ front) k n o e keeps ∙ ap kept_line (append_assoc x front (o ∷ [])) ∙ ap (λ z. kept_line (x ++ z)) (sym grown)
+    keeps_kept (x ++ front) k n o e keeps
+    ∙ ap kept_line (append_assoc x front (o ∷ [])) ∙ ap (λ z. kept_line (x ++ z)) (sym grown)
 
-pub taken_front : (is_over : Bool) (x front octets : Octets) (l : KeptLine) → front ≡ octets → is_over ≡ l.is_overlong → line_ends (x ++ front) ≡ 0
+pub taken_front : (is_over : Bool) (x front octets : Octets) (l : KeptLine)
+    → front ≡ octets → is_over ≡ l.is_overlong → line_ends (x ++ front) ≡ 0
     → l ≡ kept_line (x ++ front) → OnFalse is_over (IsFront (x ++ octets) l)
 taken_front true x front octets l all is unended kept = tt
-taken_front false x front octets l all is unended kept =
-    subst (λ o. IsFront (x ++ o) l) all (not_overlong (x ++ front) l unended kept (sym is))
+taken_front false x front octets l all is unended kept = grind (arith, IsFront, not_overlong)
 
-pub taken_first : (is_over : Bool) (x front octets : Octets) (l : KeptLine) → front ≡ octets → is_over ≡ l.is_overlong → line_ends (x ++ front) ≡ 0
+pub taken_first : (is_over : Bool) (x front octets : Octets) (l : KeptLine)
+    → front ≡ octets → is_over ≡ l.is_overlong → line_ends (x ++ front) ≡ 0
     → l ≡ kept_line (x ++ front) → OnTrue is_over (KeepsFirst (x ++ octets) l)
-taken_first true x front octets l all is unended kept =
-    subst (λ o. KeepsFirst (x ++ o) l) all (overlong_first (x ++ front) l unended kept (sym is))
+taken_first true x front octets l all is unended kept = grind (arith, KeepsFirst, overlong_first)
 taken_first false x front octets l all is unended kept = tt

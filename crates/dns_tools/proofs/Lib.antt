@@ -1,3 +1,4 @@
+pub mod Common
 mod LineParts
 mod CheckedZone
 mod PrintedLines

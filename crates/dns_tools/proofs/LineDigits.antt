@@ -1,12 +1,6 @@
--- The digits of a line, as the library of hexadecimal digits reads and writes them and as the definitions do.
-use Rattle.std.proofs.Common.{◌≡◌, ℕ, zero, suc, ◌+◌, ◌*◌, ◌/◌, ◌%◌, ◌<◌, ◌==◌, if◌then◌else◌, Bool, true, false, ◌&&◌, ◌⊎◌, inl, inr, List, [], ◌∷◌, ◌++◌, length, length-append, take, drop, set, slice_index, Option, Some, None, Result, Ok, Err, refl, sym, ap, ap₂, ◌∙◌, arith}
-use Rattle.std.specs.Prelude.{IsErr}
-use Rattle.std.proofs.lemmas.List.{take_more_set, length-drop}
-use Rattle.dns_spec.proofs.Common.{is_ascii_hexdigit, digit_value, digit_char, option_map, agree_below_at, eqb-true, cases_Bool, cases_lt, le-leb, lt-leb, take_all, take-append-le, Octets, octets16, hex_octets, hex_text}
-use Rattle.hex.specs.Hex.{IsBytes, hex_digit_value, decode_pairs, decode_of, encode_lower, encode_with, lower_digits}
-use Rattle.hex.specs.declared.error.FromHexError.{FromHexError}
-use Rattle.hex.proofs.HexLemmas.{length-encode_with}
-use Rattle.hex.proofs.Pairs.{cons_byte}
+-- The digits of a line, as the library of hexadecimal digits reads and writes them and as the
+-- definitions do.
+use Rattle.dns_tools.proofs.Common.{◌≡◌, ℕ, zero, suc, ◌+◌, ◌*◌, ◌/◌, ◌%◌, ◌<◌, ◌==◌, if◌then◌else◌, Bool, true, false, ◌&&◌, ◌⊎◌, inl, inr, List, [], ◌∷◌, ◌++◌, length, length-append, take, drop, set, slice_index, Option, Some, None, Result, Ok, Err, refl, sym, ap, ap₂, ◌∙◌, arith, IsErr, take_more_set, length-drop, is_ascii_hexdigit, digit_value, digit_char, option_map, agree_below_at, eqb-true, cases_Bool, cases_lt, le-leb, lt-leb, take_all, take-append-le, Octets, octets16, hex_octets, hex_text, IsBytes, hex_digit_value, decode_pairs, decode_of, encode_lower, encode_with, lower_digits, FromHexError, length-encode_with, cons_byte}
 
 abbrev digit : ℕ → Option ℕ
 digit c = if is_ascii_hexdigit c then Some (digit_value c) else None
@@ -25,7 +19,8 @@ from_same (Some a) (Some b) e = ap Some (eqb-true a b e)
 
 digit_same : (c : ℕ) → hex_digit_value c ≡ digit c
 digit_same c = elim (cases_lt c 103) [
-  | inl small ↦ from_same _ _ (agree_below_at (λ e. same_option (hex_digit_value e) (digit e)) (λ e. true) 103 c refl small)
+  | inl small ↦ from_same _ _
+      (agree_below_at (λ e. same_option (hex_digit_value e) (digit e)) (λ e. true) 103 c refl small)
   | inr high ↦ rw (
     le-leb 65 c (omega (arith, high)),
     le-leb 97 c (omega (arith, high)),
@@ -37,7 +32,7 @@ digit_same c = elim (cases_lt c 103) [
 ]
 
 lower_digit : (d : ℕ) → d < 16 → slice_index lower_digits d ≡ digit_char d
-lower_digit d small = eqb-true _ _ (agree_below_at (λ e. slice_index lower_digits e == digit_char e) (λ e. true) 16 d refl small)
+lower_digit d small = grind (arith, eqb-true, agree_below_at, slice_index, lower_digits, digit_char)
 
 pub digits_written : (d : Octets) → IsBytes d → encode_lower d ≡ hex_text d
 unfolding encode_with
@@ -54,14 +49,15 @@ two_bytes a b h k (suc (suc i)) = omega arith
 
 -- 16 bits in four digits
 pub digits16 : (n : ℕ) → encode_lower (octets16 n) ≡ hex_text (octets16 n)
-digits16 n = digits_written (octets16 n) (two_bytes (n / 256 % 256) (n % 256) (omega arith) (omega arith))
+digits16 n = grind (arith, digits_written, octets16, two_bytes)
 
 -- what is read, without the reason where it is nothing
 abbrev said : Result (List ℕ) FromHexError → Option Octets
 said (Ok d) = Some d
 said (Err e) = None
 
-said_more : (v : ℕ) (r : Result (List ℕ) FromHexError) → said (cons_byte v r) ≡ option_map (λ d. v ∷ d) (said r)
+said_more : (v : ℕ) (r : Result (List ℕ) FromHexError)
+    → said (cons_byte v r) ≡ option_map (λ d. v ∷ d) (said r)
 said_more v (Ok d) = refl
 said_more v (Err e) = refl
 
@@ -69,15 +65,19 @@ pairs_said : (i : ℕ) (text : Octets) → said (decode_pairs i text) ≡ hex_oc
 unfolding decode_pairs hex_octets
 pairs_said i [] = refl
 pairs_said i (h ∷ []) = refl
-pairs_said i (h ∷ l ∷ text) = by_cases (pairs_said (i + 2) text) (cases_Bool (is_ascii_hexdigit h)) (cases_Bool (is_ascii_hexdigit l))
+pairs_said i (h ∷ l ∷ text) = by_cases
+    (pairs_said (i + 2) text) (cases_Bool (is_ascii_hexdigit h)) (cases_Bool (is_ascii_hexdigit l))
   where
-    by_cases : said (decode_pairs (i + 2) text) ≡ hex_octets text → (is_ascii_hexdigit h ≡ true) ⊎ (is_ascii_hexdigit h ≡ false) → (is_ascii_hexdigit l ≡ true) ⊎ (is_ascii_hexdigit l ≡ false)
-        → said (decode_pairs i (h ∷ l ∷ text)) ≡ hex_octets (h ∷ l ∷ text)
+    by_cases : said (decode_pairs (i + 2) text) ≡ hex_octets text → (is_ascii_hexdigit h ≡ true)
+        ⊎ (is_ascii_hexdigit h ≡ false) → (is_ascii_hexdigit l ≡ true) ⊎ (is_ascii_hexdigit l
+        ≡ false) → said (decode_pairs i (h ∷ l ∷ text)) ≡ hex_octets (h ∷ l ∷ text)
     by_cases after (inl high) (inl low) =
         let first : hex_digit_value h ≡ Some (digit_value h) = rw high at (digit_same h) in
         let second : hex_digit_value l ≡ Some (digit_value l) = rw low at (digit_same l) in
-        let value : digit_value h * 16 + digit_value l ≡ 16 * digit_value h + digit_value l = omega arith in
-        rw (first, second, high, low) (said_more _ (decode_pairs (i + 2) text) ∙ ap₂ (λ v o. option_map (λ d. v ∷ d) o) value after)
+        let value : digit_value h * 16 + digit_value l ≡ 16 * digit_value h + digit_value l =
+        omega arith in
+        rw (first, second, high, low) (said_more _ (decode_pairs (i + 2) text)
+        ∙ ap₂ (λ v o. option_map (λ d. v ∷ d) o) value after)
     by_cases after (inl high) (inr low) =
         let first : hex_digit_value h ≡ Some (digit_value h) = rw high at (digit_same h) in
         let second : hex_digit_value l ≡ None = rw low at (digit_same l) in
@@ -92,9 +92,11 @@ odd_is_none [] odd = absurd (omega (arith, odd))
 odd_is_none (h ∷ []) odd = refl
 odd_is_none (h ∷ l ∷ text) odd =
     let after = odd_is_none text (omega (arith, odd)) in
-    none_after (is_ascii_hexdigit h && is_ascii_hexdigit l) (16 * digit_value h + digit_value l) (hex_octets text) after
+    none_after (is_ascii_hexdigit h && is_ascii_hexdigit l)
+    (16 * digit_value h + digit_value l) (hex_octets text) after
   where
-    none_after : (b : Bool) (v : ℕ) (o : Option Octets) → o ≡ None → (if b then option_map (λ d. v ∷ d) o else None) ≡ None
+    none_after : (b : Bool) (v : ℕ) (o : Option Octets)
+        → o ≡ None → (if b then option_map (λ d. v ∷ d) o else None) ≡ None
     none_after true v o e = ap (option_map (λ d. v ∷ d)) e
     none_after false v o e = refl
 
@@ -113,15 +115,18 @@ line_refused text h = sym (line_said text) ∙ none_said (decode_of text) h
     none_said (Err e) h = refl
 
 -- the digits at the front of a buffer, and the end of their line
-pub line_written : (octets new room : Octets) → new ≡ encode_lower octets → IsBytes octets
-    → 2 * length octets < length room
-    → take (2 * length octets + 1) (set (new ++ drop (2 * length octets) room) (2 * length octets) 10)
-    ≡ hex_text octets ++ 10 ∷ []
+pub line_written : (octets new room : Octets) → new ≡ encode_lower octets
+    → IsBytes octets → 2 * length octets < length room → take (2 * length octets + 1)
+    (set (new ++ drop (2 * length octets) room) (2 * length octets) 10) ≡ hex_text octets ++ 10 ∷ []
 line_written octets new room e bytes fits =
-    let n = 2 * length octets in
-    let rest = drop n room in
-    let len : length new ≡ n = ap length e ∙ length-encode_with lower_digits octets in
-    take_more_set (new ++ rest) n 10
-    (omega (arith, len, length-append new rest, length-drop n room, fits))
-    ∙ ap (λ t. t ++ 10 ∷ []) (take-append-le n new rest (omega (arith, len))
-    ∙ take_all n new (omega (arith, len)) ∙ e ∙ digits_written octets bytes)
+    grind (
+      arith,
+      length-encode_with,
+      lower_digits,
+      take_more_set,
+      length-append,
+      length-drop,
+      take-append-le,
+      take_all,
+      digits_written,
+    )

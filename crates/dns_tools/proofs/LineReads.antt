@@ -1,15 +1,6 @@
 -- What a run over lines has done once its input is read, or once a device has failed.
-use Rattle.dns_spec.proofs.Common.{◌≡◌, ◌≢◌, ℕ, ◌+◌, ◌-◌, ◌^◌, ◌<◌, ◌≤◌, Bool, ◌&&◌, ◌⊎◌, inl, inr, [], ◌∷◌, ◌++◌, length, take, Option, Some, None, Result, Ok, Err, IsErrAnd, refl, sym, ap, ◌∙◌, subst, arith, append_assoc, append-nil, length-append, is_some, take_all, take-append-le, length-take-le, cases_lt, take-append-add, Appends, Consumes, IsAtEnd, Keeps, Octets}
-use Rattle.std.proofs.KnownBytes.{Appends-nil, Appends-trans, Consumes-trans, Consumes-kept}
-use Rattle.dns_spec.specs.Lines.{lines, line_ends, ended_lines, line_message, message_answer, line_answers, are_messages}
-use Rattle.dns_name.specs.Counted.{AppendsBeginning}
-use Rattle.dns_name.proofs.WritesLemmas.{beginning_of_second}
-use Rattle.dns_serve.specs.Streams.{Session}
-use Rattle.dns_tools.specs.Exchanges.{Kept, IsFresh, Progress, Begun, Answered, IsInput, LinesAnswered, HasAnsweredLines, HasAnsweredEnded, HasBegunAnswers, Grows, KeepsUp}
-use Rattle.dns_tools.specs.KeptLine.{kept_message}
+use Rattle.dns_tools.proofs.Common.{◌≡◌, ◌≢◌, ℕ, ◌+◌, ◌-◌, ◌^◌, ◌<◌, ◌≤◌, Bool, ◌&&◌, ◌⊎◌, inl, inr, [], ◌∷◌, ◌++◌, length, take, Option, Some, None, Result, Ok, Err, IsErrAnd, refl, sym, ap, ◌∙◌, subst, arith, append_assoc, append-nil, length-append, is_some, take_all, take-append-le, length-take-le, cases_lt, take-append-add, Appends, Consumes, IsAtEnd, Keeps, Octets, Appends-nil, Appends-trans, Consumes-trans, Consumes-kept, lines, line_ends, ended_lines, line_message, message_answer, line_answers, are_messages, AppendsBeginning, beginning_of_second, Session, Kept, IsFresh, Progress, Begun, Answered, IsInput, LinesAnswered, HasAnsweredLines, HasAnsweredEnded, HasBegunAnswers, Grows, KeepsUp, kept_message, Stop, Source, Sink}
 use Rattle.dns_tools.proofs.KeptLines.{line_alone, lines_nil, kept_says}
-use Rattle.dns_tools.specs.declared.fault.Stop.{Stop}
-use Rattle.dns_tools.specs.declared.fault.Stop.TheVariants.{Source, Sink}
 use Rattle.dns_tools.proofs.LineRuns.{one_answer, one_flag, progress_none}
 
 -- so much was read, and so many octets more may be
@@ -31,7 +22,8 @@ nil_of (o ∷ x) e = absurd (omega (arith, e))
 
 empty_front : (front line : Octets) → line ≡ take 131070 front → length line ≡ 0 → front ≡ []
 empty_front front line e none = elim (cases_lt (length front) 131070) [
-  | inl small ↦ nil_of front (sym (ap length (e ∙ take_all 131070 front (omega (arith, small)))) ∙ none)
+  | inl small ↦
+      nil_of front (sym (ap length (e ∙ take_all 131070 front (omega (arith, small)))) ∙ none)
   | inr large ↦ absurd (omega (arith, none, ap length e, length-take-le 131070 front large))
 ]
 
@@ -53,8 +45,8 @@ module _ (reply : Octets → Option Octets) (x y : Option Octets) (input : Octet
   pub finished_empty : length k.line.front ≡ 0 → Answered reply x y input k.passes
   finished_empty none =
       let all : p.ended ≡ lines input =
-      sym (whole_lines ∙ ap (λ z. p.ended ++ lines z) (empty_front p.front k.line.front line_is none)
-      ∙ ap (λ z. p.ended ++ z) lines_nil ∙ append-nil p.ended) in
+      sym (whole_lines ∙ ap (λ z. p.ended ++ lines z) (empty_front p.front
+      k.line.front line_is none) ∙ ap (λ z. p.ended ++ z) lines_nil ∙ append-nil p.ended) in
       record {
         written = subst (Appends x y) (ap (line_answers reply) all) p.written;
         passes_is = p.passes_is ∙ ap are_messages all;
@@ -78,12 +70,12 @@ module _ (reply : Octets → Option Octets) (x y : Option Octets) (input : Octet
         → passes ≡ (k.passes && is_some (kept_message k.line)) → Answered reply x z input passes
     finished_line z passes written now = record {
       written = subst (Appends x z) all_answers (Appends-trans x y z _ _ p.written written);
-      passes_is = one_flag reply p.ended p.front k says passes now p.passes_is ∙ ap are_messages all_lines;
+      passes_is =
+          one_flag reply p.ended p.front k says passes now p.passes_is ∙ ap are_messages all_lines;
     }
 
-    pub finished_begun : (z : Option Octets)
-        → AppendsBeginning y z (message_answer reply (kept_message k.line))
-        → AppendsBeginning x z (line_answers reply (lines input))
+    pub finished_begun : (z : Option Octets) → AppendsBeginning y z (message_answer reply
+        (kept_message k.line)) → AppendsBeginning x z (line_answers reply (lines input))
     finished_begun z begun =
         subst (AppendsBeginning x z) all_answers (beginning_of_second x y z _ _ p.written begun)
 
@@ -92,34 +84,57 @@ module _ (reply : Octets → Option Octets) (x y : Option Octets) (input : Octet
   all_sent = grind (arith, whole_lines, take-append-le, lines, take_all)
 
 -- the input is all that the source gave, or the greatest count of octets
-pub input_of : (a b : Option Octets) (input : Octets) (left : ℕ) → length input + left ≡ 2 ^ 64 - 1 → Consumes a b input → (left ≡ 0) ⊎ IsAtEnd b → IsInput a input
+pub input_of : (a b : Option Octets) (input : Octets) (left : ℕ) → length input + left ≡ 2 ^ 64 - 1
+    → Consumes a b input → (left ≡ 0) ⊎ IsAtEnd b → IsInput a input
 input_of None b input left count read over = tt
 input_of (Some x) None input left count read over = absurd read
 input_of (Some x) (Some y) input left count read (inl none) =
-    sym (ap (take (2 ^ 64 - 1)) read ∙ take-append-le (2 ^ 64 - 1) input y (omega (arith, count, none)) ∙ take_all (2 ^ 64 - 1) input (omega (arith, count)))
+    sym (ap (take (2 ^ 64 - 1)) read ∙ take-append-le (2 ^ 64 - 1) input y
+    (omega (arith, count, none)) ∙ take_all (2 ^ 64 - 1) input (omega (arith, count)))
 input_of (Some x) (Some y) input left count read (inr end) =
-    sym (ap (take (2 ^ 64 - 1)) (read ∙ ap (λ z. input ++ z) end ∙ append-nil input) ∙ take_all (2 ^ 64 - 1) input (omega (arith, count)))
+    sym (ap (take (2 ^ 64 - 1)) (read ∙ ap (λ z. input ++ z) end ∙ append-nil input)
+    ∙ take_all (2 ^ 64 - 1) input (omega (arith, count)))
 
 -- what comes after so much of an input
-rest_of : (a b : Option Octets) (given : Octets) → Consumes a b given → length given ≤ 2 ^ 64 - 1 → (rest : Octets) × IsInput a (given ++ rest)
+rest_of : (a b : Option Octets) (given : Octets)
+    → Consumes a b given → length given ≤ 2 ^ 64 - 1 → (rest : Octets) × IsInput a (given ++ rest)
 rest_of None b given read within = ([], tt)
 rest_of (Some x) None given read within = absurd read
 rest_of (Some x) (Some y) given read within =
-    let n : 2 ^ 64 - 1 ≡ length given + (2 ^ 64 - 1 - length given) = omega (arith, within) in
-    (take (2 ^ 64 - 1 - length given) y, sym (ap (take (2 ^ 64 - 1)) read ∙ ap (λ n. take n (given ++ y)) n ∙ take-append-add given y (2 ^ 64 - 1 - length given)))
+    let n : 2 ^ 64 - 1 ≡ length given + (2 ^ 64 - 1 - length given) = omega (arith, within) in (
+      take (2 ^ 64 - 1 - length given) y,
+      sym (ap (take (2 ^ 64 - 1)) read
+          ∙ ap (λ n. take n (given ++ y)) n ∙ take-append-add given y (2 ^ 64 - 1 - length given)),
+    )
 
-pub begun_answers : (reply : Octets → Option Octets) (a b x y : Option Octets) (given : Octets) → Consumes a b given → length given ≤ 2 ^ 64 - 1 → Begun reply x y given
-    → KeepsUp reply x y given → HasBegunAnswers reply (record { unread = a; left = b; held = x; holds = y })
+pub begun_answers : (reply : Octets → Option Octets) (a b x y : Option Octets) (given : Octets)
+    → Consumes a b given → length given ≤ 2 ^ 64 - 1 → Begun reply x y given → KeepsUp
+    reply x y given → HasBegunAnswers reply (record { unread = a; left = b; held = x; holds = y })
 begun_answers reply a b x y given read within begun keeps_up =
     let rest = rest_of a b given read within in
-    record { input = given ++ rest.0; is_input = rest.1; written = begun rest.0; given = given; read = read; keeps_up = keeps_up }
+    record {
+      input = given ++ rest.0;
+      is_input = rest.1;
+      written = begun rest.0;
+      given = given;
+      read = read;
+      keeps_up = keeps_up;
+    }
 
 -- answers keep up with pieces that are read
 keeps_up_none : (reply : Octets → Option Octets) (x : Option Octets) → KeepsUp reply x x []
 unfolding lines
-keeps_up_none reply x = record { before = []; last = []; parts = refl; piece = omega arith; more = []; written = Appends-nil x }
+keeps_up_none reply x = record {
+  before = [];
+  last = [];
+  parts = refl;
+  piece = omega arith;
+  more = [];
+  written = Appends-nil x;
+}
 
-keeps_up_grown : (reply : Octets → Option Octets) (x y z : Option Octets) (given : Octets) → Grows y z → KeepsUp reply x y given → KeepsUp reply x z given
+keeps_up_grown : (reply : Octets → Option Octets) (x y z : Option Octets) (given : Octets)
+    → Grows y z → KeepsUp reply x y given → KeepsUp reply x z given
 keeps_up_grown reply x y z given (bs, grown) k =
     let due = line_answers reply (ended_lines k.before) in
     record {
@@ -128,7 +143,8 @@ keeps_up_grown reply x y z given (bs, grown) k =
       parts = k.parts;
       piece = k.piece;
       more = k.more ++ bs;
-      written = subst (Appends x z) (append_assoc due k.more bs) (Appends-trans x y z (due ++ k.more) bs k.written grown);
+      written = subst (Appends x z)
+          (append_assoc due k.more bs) (Appends-trans x y z (due ++ k.more) bs k.written grown);
     }
 
 keeps_up_next : (reply : Octets → Option Octets) (x y z : Option Octets) (given front : Octets)
@@ -156,14 +172,14 @@ module _ (r s : Octets → Option Octets) (a b c x y z : Option Octets) (left co
     (len : length front ≡ count) (within : count ≤ left) (few : count ≤ 65536)
     (more : Consumes b c front) (grows : Grows y z) (reading : Reading r a b x y left k) where
   keeps : KeepsUp r x z (reading.given ++ front)
-  keeps = keeps_up_next r x y z reading.given front k grows (omega (arith, len, few)) reading.progress
+  keeps =
+      keeps_up_next r x y z reading.given front k grows (omega (arith, len, few)) reading.progress
 
   read : Consumes a c (reading.given ++ front)
   read = Consumes-trans a b c reading.given front reading.read more
 
-  pub reading_take : (n : Kept)
-      → ((h : Option Octets) (i : Octets) → Progress s h y i k → Progress s h z (i ++ octets) n)
-      → Reading r a c x z (left - count) n
+  pub reading_take : (n : Kept) → ((h : Option Octets) (i : Octets)
+      → Progress s h y i k → Progress s h z (i ++ octets) n) → Reading r a c x z (left - count) n
   reading_take n step = grind (arith, length-append, read, keeps)
 
   pub taking_begun :
@@ -190,7 +206,8 @@ reading_failed reply a b c x y left k some keeps r = record {
 }
 
 -- the input was read, and is still to be answered as far as it is kept
-pub record AllRead (r s : Octets → Option Octets) (a b x y : Option Octets) (k : Kept) : Type 0 where
+pub record AllRead
+    (r s : Octets → Option Octets) (a b x y : Option Octets) (k : Kept) : Type 0 where
   pub task : s ≡ r
   pub input : Octets
   pub is_input : IsInput a input
@@ -199,7 +216,8 @@ pub record AllRead (r s : Octets → Option Octets) (a b x y : Option Octets) (k
   pub keeps_up : KeepsUp r x y input
 
 -- so many octets were read that no more may be
-pub all_read : (r s : Octets → Option Octets) (a b x y : Option Octets) (left : ℕ) (k : Kept) → s ≡ r → left ≡ 0 → Reading r a b x y left k → AllRead r s a b x y k
+pub all_read : (r s : Octets → Option Octets) (a b x y : Option Octets) (left : ℕ) (k : Kept)
+    → s ≡ r → left ≡ 0 → Reading r a b x y left k → AllRead r s a b x y k
 all_read r s a b x y left k task none reading = record {
   task = task;
   input = reading.given;
@@ -257,12 +275,13 @@ module _ (r s : Octets → Option Octets) (a b x y z : Option Octets) (k : Kept)
   }
 
 -- a device failed, and the run said so
-pub sink_stopped : (reply : Octets → Option Octets) (s : Session) (result : Result Bool Stop) → IsErrAnd result (λ stop. stop ≡ Sink) → HasBegunAnswers reply s
-    → LinesAnswered reply s result
+pub sink_stopped : (reply : Octets → Option Octets) (s : Session) (result : Result Bool Stop)
+    → IsErrAnd result (λ stop. stop ≡ Sink) → HasBegunAnswers reply s → LinesAnswered reply s result
 sink_stopped reply s (Ok passes) h b = absurd h
 sink_stopped reply s (Err stop) h b = subst (λ e. LinesAnswered reply s (Err e)) (sym h) b
 
-pub source_stopped : (reply : Octets → Option Octets) (s : Session) (result : Result Bool Stop) → IsErrAnd result (λ stop. stop ≡ Source) → HasAnsweredEnded reply s
-    → LinesAnswered reply s result
+pub source_stopped : (reply : Octets → Option Octets) (s : Session) (result : Result Bool Stop)
+    → IsErrAnd result (λ stop. stop ≡ Source)
+    → HasAnsweredEnded reply s → LinesAnswered reply s result
 source_stopped reply s (Ok passes) h b = absurd h
 source_stopped reply s (Err stop) h b = subst (λ e. LinesAnswered reply s (Err e)) (sym h) b

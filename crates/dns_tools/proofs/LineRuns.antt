@@ -1,12 +1,5 @@
 -- How a run over lines goes on, octet by octet.
-use Rattle.std.proofs.Common.{◌≡◌, ◌≢◌, ℕ, ◌+◌, Bool, true, false, ◌&&◌, List, [], ◌∷◌, ◌++◌, take, drop, Option, refl, sym, ap, ◌∙◌, subst, arith, append_assoc, append-nil, length-append}
-use Rattle.dns_spec.proofs.Common.{is_some, take-append-drop, list_all-append, flat_map-append, Appends, Octets}
-use Rattle.std.proofs.KnownBytes.{Appends-trans, Appends-nil}
-use Rattle.dns_spec.specs.Lines.{lines, line_message, message_answer, line_answers, are_messages}
-use Rattle.dns_name.specs.Counted.{AppendsBeginning}
-use Rattle.dns_name.proofs.WritesLemmas.{beginning_of_first, beginning_of_second}
-use Rattle.dns_tools.specs.KeptLine.{no_line, kept_message, KeepsOctet}
-use Rattle.dns_tools.specs.Exchanges.{Kept, IsFresh, Progress, Begun, Grows}
+use Rattle.dns_tools.proofs.Common.{◌≡◌, ◌≢◌, ℕ, ◌+◌, Bool, true, false, ◌&&◌, List, [], ◌∷◌, ◌++◌, take, drop, Option, refl, sym, ap, ◌∙◌, subst, arith, append_assoc, append-nil, length-append, is_some, take-append-drop, list_all-append, flat_map-append, Appends, Octets, Appends-trans, Appends-nil, lines, line_message, message_answer, line_answers, are_messages, AppendsBeginning, beginning_of_first, beginning_of_second, no_line, kept_message, KeepsOctet, Kept, IsFresh, Progress, Begun, Grows}
 use Rattle.dns_tools.proofs.KeptLines.{ends_append, ends_one, line_then, keeps_kept, kept_says}
 
 -- nothing was read yet
@@ -58,9 +51,8 @@ module _ (reply : Octets → Option Octets) (held old new : Option Octets) (x : 
   ended : (y : Octets) → lines ((x ++ 10 ∷ []) ++ y) ≡ (p.ended ++ p.front ∷ []) ++ lines y
   ended y = grind (arith, lines, append_assoc, line_then)
 
-  pub progress_end : (n : Kept) → Appends old new answer → n.line ≡ no_line
-      → n.passes ≡ (k.passes && is_some (kept_message k.line))
-      → Progress reply held new (x ++ 10 ∷ []) n
+  pub progress_end : (n : Kept) → Appends old new answer → n.line ≡ no_line → n.passes
+      ≡ (k.passes && is_some (kept_message k.line)) → Progress reply held new (x ++ 10 ∷ []) n
   progress_end n written line passes = record {
     ended = p.ended ++ p.front ∷ [];
     front = [];
@@ -82,7 +74,8 @@ module _ (reply : Octets → Option Octets) (held old new : Option Octets) (x : 
       ≡ line_answers reply (lines ((x ++ 10 ∷ []) ++ y)) =
       ap (λ a. a ++ line_answers reply (lines y)) (one_answer reply p.ended p.front k says)
       ∙ sym (ap (line_answers reply) (ended y)
-      ∙ flat_map-append (λ l. message_answer reply (line_message l)) (p.ended ++ p.front ∷ []) (lines y)) in
+      ∙ flat_map-append
+      (λ l. message_answer reply (line_message l)) (p.ended ++ p.front ∷ []) (lines y)) in
       subst (AppendsBeginning held new) whole
       (beginning_of_first held new (first ++ answer) _
       (beginning_of_second held old new first answer p.written begun))
@@ -98,17 +91,16 @@ module _ (r : Octets → Option Octets) (held a : Option Octets) (x octets : Oct
       → Progress r held a (x ++ take (i + 1) octets) n
   kept_more n other keeps passes = grind (arith, grown, progress_keep)
 
-  pub ended_more : (s : Octets → Option Octets) (b : Option Octets) (n : Kept) → s ≡ r → o ≡ 10
-      → Appends a b (message_answer s (kept_message k.line)) → n.line ≡ no_line
-      → n.passes ≡ (k.passes && is_some (kept_message k.line))
-      → Progress r held b (x ++ take (i + 1) octets) n
+  pub ended_more : (s : Octets → Option Octets) (b : Option Octets) (n : Kept) → s ≡ r
+      → o ≡ 10 → Appends a b (message_answer s (kept_message k.line)) → n.line ≡ no_line → n.passes
+      ≡ (k.passes && is_some (kept_message k.line)) → Progress r held b (x ++ take (i + 1) octets) n
   ended_more s b n same is written line passes = grind (arith, grown, progress_end)
 
   pub begun_within : (s : Octets → Option Octets) (b : Option Octets) → s ≡ r → o ≡ 10
-      → AppendsBeginning a b (message_answer s (kept_message k.line))
-      → Begun r held b (x ++ octets)
+      → AppendsBeginning a b (message_answer s (kept_message k.line)) → Begun r held b (x ++ octets)
   begun_within s b same is begun = λ y.
-      let here = subst (λ q. AppendsBeginning a b (message_answer q (kept_message k.line))) same begun in
+      let here =
+      subst (λ q. AppendsBeginning a b (message_answer q (kept_message k.line))) same begun in
       let rest = drop (i + 1) octets in
       let all : ((x ++ take i octets) ++ 10 ∷ []) ++ (rest ++ y) ≡ (x ++ octets) ++ y =
       ap (λ z. z ++ (rest ++ y)) (ap (λ c. (x ++ take i octets) ++ c ∷ []) (sym is) ∙ grown)

@@ -1,19 +1,9 @@
 -- What was printed of a message, a fault or a line is what a run has to print.
-use Rattle.dns_spec.proofs.Common.{◌≡◌, ◌≢◌, ℕ, ◌≤◌, Bool, false, Option, Some, None, Result, Ok, Err, codes, refl, sym, subst, arith, inr, Octets, Report}
-use Rattle.std.specs.Prelude.{IfErr}
-use Rattle.dns_spec.specs.MessageLines.{SpellsNone, PrintsOctets, PrintsMessage}
-use Rattle.dns_wire.specs.WireFault.{fault_code, UnlessNoMemory}
-use Rattle.dns_wire.specs.declared.fault.WireFault.{WireFault}
-use Rattle.dns_wire.specs.declared.fault.WireFault.TheVariants.{Short, ReservedLabel, BadPointer, LongName, BadData, Trailing, NoMemory}
-use Rattle.dns_tools.specs.declared.fault.Stop.{Stop}
-use Rattle.dns_tools.specs.declared.fault.Stop.TheVariants.{Memory, Source, Sink}
-use Rattle.dns_tools.specs.Stops.{source_failures_after, sink_failures_after}
-use Rattle.dns_tools.specs.Checked.{ReportedAs}
-use Rattle.dns_tools.specs.KeptLine.{KeptLine, kept_message}
-use Rattle.dns_tools.specs.FirstLine.{HasReadFront, ReadsFirst}
-use Rattle.dns_tools.specs.Printed.{IsFaultReport, PrintedAs}
+use Rattle.dns_tools.proofs.Common.{◌≡◌, ◌≢◌, ℕ, ◌≤◌, Bool, false, Option, Some, None, Result, Ok, Err, codes, refl, sym, subst, arith, inr, Octets, Report, IfErr, SpellsNone, PrintsOctets, PrintsMessage, UnlessNoMemory, WireFault, Short, ReservedLabel, BadPointer, LongName, BadData, Trailing, NoMemory, Stop, Memory, Source, Sink, source_failures_after, sink_failures_after, ReportedAs, KeptLine, kept_message, HasReadFront, ReadsFirst, IsFaultReport, PrintedAs}
+use Rattle.dns_wire.specs.WireFault.{fault_code}
 
-code_within : (fault : WireFault) → fault ≢ NoMemory → (1 ≤ fault_code fault) × (fault_code fault ≤ 6)
+code_within : (fault : WireFault)
+    → fault ≢ NoMemory → (1 ≤ fault_code fault) × (fault_code fault ≤ 6)
 code_within Short h = (omega arith, omega arith)
 code_within ReservedLabel h = (omega arith, omega arith)
 code_within BadPointer h = (omega arith, omega arith)
@@ -22,58 +12,63 @@ code_within BadData h = (omega arith, omega arith)
 code_within Trailing h = (omega arith, omega arith)
 code_within NoMemory h = absurd (h refl)
 
-fault_prints : (b : Octets) (fault : WireFault) → UnlessNoMemory fault (SpellsNone b) → (report : Report) → IsFaultReport fault report → PrintsOctets b report
-fault_prints b fault none report (other, is) = inr (none other, (fault_code fault, (code_within fault other).0, (code_within fault other).1, is))
+fault_prints : (b : Octets) (fault : WireFault) → UnlessNoMemory fault (SpellsNone b)
+    → (report : Report) → IsFaultReport fault report → PrintsOctets b report
+fault_prints b fault none report (other, is) = inr
+    (none other, (fault_code fault, (code_within fault other).0, (code_within fault other).1, is))
 
-pub fault_reported : (b : Octets) (fault : WireFault) (result : Result Bool Stop) (old new : Option Octets) → UnlessNoMemory fault (SpellsNone b)
+pub fault_reported : (b : Octets) (fault : WireFault)
+    (result : Result Bool Stop) (old new : Option Octets) → UnlessNoMemory fault (SpellsNone b)
     → ReportedAs (IsFaultReport fault) result old new → ReportedAs (PrintsOctets b) result old new
-fault_reported b fault (Ok passes) old new none (report, is, written) = (report, fault_prints b fault none report is, written)
-fault_reported b fault (Err Sink) old new none (report, is, written) = (report, fault_prints b fault none report is, written)
+fault_reported b fault (Ok passes) old new none (report, is, written) =
+    (report, fault_prints b fault none report is, written)
+fault_reported b fault (Err Sink) old new none (report, is, written) =
+    (report, fault_prints b fault none report is, written)
 fault_reported b fault (Err Memory) old new none same = same
 fault_reported b fault (Err Source) old new none same = same
 
 -- a line that is a message
-pub line_reported : (m : Option Octets) (b : Octets) (result : Result Bool Stop) (old new : Option Octets) → m ≡ Some b
+pub line_reported : (m : Option Octets)
+    (b : Octets) (result : Result Bool Stop) (old new : Option Octets) → m ≡ Some b
     → ReportedAs (PrintsOctets b) result old new → ReportedAs (PrintsMessage m) result old new
-line_reported m b (Ok passes) old new e (report, is, written) = (report, subst (λ m. PrintsMessage m report) (sym e) is, written)
-line_reported m b (Err Sink) old new e (report, is, written) = (report, subst (λ m. PrintsMessage m report) (sym e) is, written)
+line_reported m b (Ok passes) old new e (report, is, written) =
+    (report, subst (λ m. PrintsMessage m report) (sym e) is, written)
+line_reported m b (Err Sink) old new e (report, is, written) =
+    (report, subst (λ m. PrintsMessage m report) (sym e) is, written)
 line_reported m b (Err Memory) old new e same = same
 line_reported m b (Err Source) old new e same = same
 
 -- a line that is no message
-pub bad_hex : (m : Option Octets) → m ≡ None → PrintsMessage m (record { output = codes "bad hex\n"; passes = false })
-bad_hex m e = subst (λ m. PrintsMessage m (record { output = codes "bad hex\n"; passes = false })) (sym e) refl
+pub bad_hex : (m : Option Octets)
+    → m ≡ None → PrintsMessage m (record { output = codes "bad hex\n"; passes = false })
+bad_hex m e = grind (arith, PrintsMessage, codes)
 
 -- ---- a run
 
-pub kept_source : (n m : ℕ) (result : Result Bool Stop) → m ≡ n → IfErr result (λ stop. stop ≢ Source) → m ≡ source_failures_after n result
+pub kept_source : (n m : ℕ) (result : Result Bool Stop)
+    → m ≡ n → IfErr result (λ stop. stop ≢ Source) → m ≡ source_failures_after n result
 kept_source n m (Ok passes) e h = e
 kept_source n m (Err Memory) e h = e
 kept_source n m (Err Source) e h = absurd (h refl)
 kept_source n m (Err Sink) e h = e
 
-pub handed_sink : (n : ℕ) (stop : Stop) → stop ≢ Sink → n ≡ sink_failures_after {A = Bool} n (Err stop)
+pub handed_sink : (n : ℕ) (stop : Stop)
+    → stop ≢ Sink → n ≡ sink_failures_after {A = Bool} n (Err stop)
 handed_sink n Memory h = refl
 handed_sink n Source h = refl
 handed_sink n Sink h = absurd (h refl)
 
-pub handed_printed : (a b x : Option Octets) (stop : Stop) → stop ≢ Sink → (stop ≡ Source → HasReadFront a b)
+pub handed_printed : (a b x : Option Octets) (stop : Stop)
+    → stop ≢ Sink → (stop ≡ Source → HasReadFront a b)
     → PrintedAs (record { unread = a; left = b; held = x; holds = x }) (Err stop)
 handed_printed a b x Memory h front = refl
 handed_printed a b x Source h front = (front refl, refl)
 handed_printed a b x Sink h front = absurd (h refl)
 
-pub line_printed : (a b x y : Option Octets) (l : KeptLine) (result : Result Bool Stop) → ReadsFirst a b l → IfErr result (λ stop. stop ≢ Source)
-    → ReportedAs (PrintsMessage (kept_message l)) result x y → PrintedAs (record { unread = a; left = b; held = x; holds = y }) result
-line_printed a b x y l (Ok passes) r h w = record {
-  input = r.input;
-  read = r.read;
-  written = subst (λ m. ReportedAs (PrintsMessage m) (Ok passes) x y) r.message_is w;
-}
-line_printed a b x y l (Err Sink) r h w = record {
-  input = r.input;
-  read = r.read;
-  written = subst (λ m. ReportedAs (PrintsMessage m) (Err Sink) x y) r.message_is w;
-}
+pub line_printed : (a b x y : Option Octets) (l : KeptLine) (result : Result Bool Stop) → ReadsFirst
+    a b l → IfErr result (λ stop. stop ≢ Source) → ReportedAs (PrintsMessage (kept_message l))
+    result x y → PrintedAs (record { unread = a; left = b; held = x; holds = y }) result
+line_printed a b x y l (Ok passes) r h w = grind (arith, ReportedAs, PrintsMessage)
+line_printed a b x y l (Err Sink) r h w = grind (arith, ReportedAs, PrintsMessage)
 line_printed a b x y l (Err Memory) r h w = w
 line_printed a b x y l (Err Source) r h w = absurd (h refl)

@@ -1,11 +1,5 @@
 -- The chains stay whole where an entry comes at the end, or the last one goes.
-use Rattle.std.proofs.Common.{◌≡◌, ap₂, ◌-◌, ℕ, zero, suc, ◌<◌, ◌≤◌, ◌==◌, Bool, true, false, cond, List, [], ◌∷◌, ◌++◌, map, length, replicate, get_or, slice_get, slice_set, option_map, Some, refl, sym, ap, ◌∙◌, subst, arith, length-append}
-use Rattle.std.proofs.lemmas.Bool.{false≢true, eqb-true, eq-eqb, leb-false}
-use Rattle.std.proofs.lemmas.Option.{slice_get_within, slice_get-map, slice_get-get_or}
-use Rattle.std.proofs.lemmas.List.{get_or-set_same, get_or-set_other, get_or-replicate, get_or_append_left, get_or_push, length-map, length-set, length-replicate}
-use Rattle.std.proofs.lemmas.Nat.{mod_below}
-use Rattle.dns_wire.specs.declared.places.Entry.{Entry}
-use Rattle.dns_wire.specs.Chains.{kept_in, chain_of, entry_at, last_with, AreChains}
+use Rattle.dns_wire.proofs.Common.{◌≡◌, ap₂, ◌-◌, ℕ, zero, suc, ◌<◌, ◌≤◌, ◌==◌, Bool, true, false, cond, List, [], ◌∷◌, ◌++◌, map, length, replicate, get_or, slice_get, slice_set, option_map, Some, refl, sym, ap, ◌∙◌, subst, arith, length-append, false≢true, eqb-true, eq-eqb, leb-false, slice_get_within, slice_get-map, slice_get-get_or, get_or-set_same, get_or-set_other, get_or-replicate, get_or_append_left, get_or_push, length-map, length-set, length-replicate, mod_below, Entry, kept_in, chain_of, entry_at, last_with, AreChains}
 
 last_bound : (h : ℕ) (es : List Entry) (k : ℕ) → last_with h es k ≤ k
 last_bound h es zero = omega arith
@@ -21,17 +15,21 @@ module _ (es : List Entry) (e : Entry) where
 
   last_before : (h k : ℕ) → k ≤ length es → last_with h (es ++ e ∷ []) k ≡ last_with h es k
   last_before h zero low = refl
-  last_before h (suc k) low = ap₂ (λ (x : Entry) m. cond (chain_of x.number == h) (suc k) m) (same_before k (omega (arith, low))) (last_before h k (omega (arith, low)))
+  last_before h (suc k) low = ap₂ (λ (x : Entry) m. cond (chain_of x.number == h) (suc k) m)
+      (same_before k (omega (arith, low))) (last_before h k (omega (arith, low)))
 
-  last_now : (h : ℕ) → last_with h (es ++ e ∷ []) (length (es ++ e ∷ [])) ≡ cond (chain_of e.number == h) (suc (length es)) (last_with h es (length es))
+  last_now : (h : ℕ) → last_with h (es ++ e ∷ []) (length (es ++ e ∷ []))
+      ≡ cond (chain_of e.number == h) (suc (length es)) (last_with h es (length es))
   last_now h = grind (arith, length-append, at_end, last_before)
 
   -- the head of its chain is set, and the others stay
-  set_head : (heads : List ℕ) (to k h : ℕ) → length heads ≡ 128 → (k ≡ cond (chain_of e.number == h) to (get_or heads h 0)) → get_or (slice_set heads (chain_of e.number) to) h 0 ≡ k
+  set_head : (heads : List ℕ) (to k h : ℕ) → length heads ≡ 128 → (k ≡ cond (chain_of e.number == h)
+      to (get_or heads h 0)) → get_or (slice_set heads (chain_of e.number) to) h 0 ≡ k
   set_head heads to k h all is =
       grind (arith, get_or-set_same, get_or-set_other, false≢true, eq-eqb)
 
-  pub chains_grow : (heads : List ℕ) → AreChains heads es → e.place < 16384 → e.next ≡ get_or heads (chain_of e.number) 0
+  pub chains_grow : (heads : List ℕ)
+      → AreChains heads es → e.place < 16384 → e.next ≡ get_or heads (chain_of e.number) 0
       → AreChains (slice_set heads (chain_of e.number) (suc (length es))) (es ++ e ∷ [])
   chains_grow heads c reach next =
       grind (
@@ -46,25 +44,30 @@ module _ (es : List Entry) (e : Entry) where
         same_before,
       )
 
-  pub chains_shrink : (heads : List ℕ) → AreChains heads (es ++ e ∷ []) → AreChains (slice_set heads (chain_of e.number) e.next) es
+  pub chains_shrink : (heads : List ℕ)
+      → AreChains heads (es ++ e ∷ []) → AreChains (slice_set heads (chain_of e.number) e.next) es
   chains_shrink heads c = record {
     all = length-set heads (chain_of e.number) e.next ∙ c.all;
     newest = λ h low. set_head heads e.next _ h c.all (newest h low);
     linked = λ k low.
-        let l = subst (λ (x : Entry). (x.place < 16384) × (x.next ≡ last_with (chain_of x.number) (es ++ e ∷ []) k)) (same_before k low) (c.linked k (omega (arith, low, length-append es (e ∷ [])))) in
+        let l = subst (λ (x : Entry). (x.place < 16384)
+        × (x.next ≡ last_with (chain_of x.number) (es ++ e ∷ []) k))
+        (same_before k low) (c.linked k (omega (arith, low, length-append es (e ∷ [])))) in
         (l.0, l.1 ∙ last_before (chain_of (entry_at es k).number) k (omega (arith, low)));
   }
     where
       link : e.next ≡ last_with (chain_of e.number) es (length es)
-      link =
-          (subst (λ (x : Entry). (x.place < 16384) × (x.next ≡ last_with (chain_of x.number) (es ++ e ∷ []) (length es))) at_end (c.linked (length es) (omega (arith, length-append es (e ∷ []))))).1
-          ∙ last_before (chain_of e.number) (length es) (omega arith)
+      link = grind (arith, last_with, chain_of, at_end, length-append, last_before)
 
-      newest : (h : ℕ) → h < 128 → last_with h es (length es) ≡ cond (chain_of e.number == h) e.next (get_or heads h 0)
+      newest : (h : ℕ) → h < 128
+          → last_with h es (length es) ≡ cond (chain_of e.number == h) e.next (get_or heads h 0)
       newest h low = go (chain_of e.number == h) refl (c.newest h low ∙ last_now h)
         where
-          go : (t : Bool) → (chain_of e.number == h) ≡ t → get_or heads h 0 ≡ cond t (suc (length es)) (last_with h es (length es)) → last_with h es (length es) ≡ cond t e.next (get_or heads h 0)
-          go true q is = ap (λ j. last_with j es (length es)) (sym (eqb-true (chain_of e.number) h q)) ∙ sym link
+          go : (t : Bool) → (chain_of e.number == h) ≡ t
+              → get_or heads h 0 ≡ cond t (suc (length es)) (last_with h es (length es))
+              → last_with h es (length es) ≡ cond t e.next (get_or heads h 0)
+          go true q is = ap
+              (λ j. last_with j es (length es)) (sym (eqb-true (chain_of e.number) h q)) ∙ sym link
           go false q is = sym is
 
 -- no entry at all
@@ -75,32 +78,46 @@ chains_begin = record {
   linked = λ k low. absurd (omega arith);
 }
 
--- A chain goes on at an entry of its own, counted from 1, and P holds of no entry of the chain from there on.
+-- A chain goes on at an entry of its own, counted from 1, and P holds of no entry of the chain from
+-- there on.
 pub record Chain (P : Entry → Type 0) (h : ℕ) (es : List Entry) (number : ℕ) : Type 0 where
   pub inside : number ≤ length es
   pub here : (k : ℕ) → number ≡ suc k → chain_of (entry_at es k).number ≡ h
-  pub after : (k : ℕ) → k < length es → number ≤ k → chain_of (entry_at es k).number ≡ h → P (entry_at es k) → ⊥
+  pub after : (k : ℕ)
+      → k < length es → number ≤ k → chain_of (entry_at es k).number ≡ h → P (entry_at es k) → ⊥
 
 -- the entry that is read at a number counted from 1
-pub read_entry : {es xs : List Entry} {number i : ℕ} → 0 < number → xs ≡ es → i ≡ number → (k : ℕ) × (number ≡ suc k) × (get_or xs (i - 1) (record { place = 0; number = 0; next = 0 }) ≡ entry_at es k)
-read_entry {number = number} positive same at =
-    (number - 1, omega (arith, positive), ap₂ (λ ys n. get_or ys (n - 1) (record { place = 0; number = 0; next = 0 })) same at)
+pub read_entry : {es xs : List Entry} {number i : ℕ}
+    → 0 < number → xs ≡ es → i ≡ number → (k : ℕ) × (number ≡ suc k)
+    × (get_or xs (i - 1) (record { place = 0; number = 0; next = 0 }) ≡ entry_at es k)
+read_entry {number = number} positive same at = (
+  number - 1,
+  omega (arith, positive),
+  ap₂ (λ ys n. get_or ys (n - 1) (record { place = 0; number = 0; next = 0 })) same at,
+)
 
 module _ (P : Entry → Type 0) (h : ℕ) (es : List Entry) where
-  chain_at : (m : ℕ) → m ≤ length es → ((k : ℕ) → k < length es → m ≤ k → chain_of (entry_at es k).number ≡ h → P (entry_at es k) → ⊥) → Chain P h es (last_with h es m)
-  chain_at zero inside none = record { inside = omega arith; here = λ k e. absurd (omega (arith, e)); after = none }
+  chain_at : (m : ℕ) → m ≤ length es → ((k : ℕ) → k < length es → m ≤ k → chain_of
+      (entry_at es k).number ≡ h → P (entry_at es k) → ⊥) → Chain P h es (last_with h es m)
+  chain_at zero inside none =
+      record { inside = omega arith; here = λ k e. absurd (omega (arith, e)); after = none }
   chain_at (suc m) inside none = grind (arith, (chain_at m), eq-eqb)
 
-  pub chain_begins : (heads : List ℕ) → AreChains heads es → h < 128 → Chain P h es (get_or heads h 0)
-  chain_begins heads c low = subst (Chain P h es) (sym (c.newest h low)) (chain_at (length es) (omega arith) (λ k inside past is p. absurd (omega (arith, inside, past))))
+  pub chain_begins : (heads : List ℕ)
+      → AreChains heads es → h < 128 → Chain P h es (get_or heads h 0)
+  chain_begins heads c low = subst (Chain P h es) (sym (c.newest h low)) (chain_at
+      (length es) (omega arith) (λ k inside past is p. absurd (omega (arith, inside, past))))
 
-  pub chain_next : (heads : List ℕ) (k : ℕ) → AreChains heads es → Chain P h es (suc k) → (P (entry_at es k) → ⊥) → Chain P h es (entry_at es k).next × ((entry_at es k).next ≤ k)
+  pub chain_next : (heads : List ℕ) (k : ℕ) → AreChains heads es → Chain P h es (suc k)
+      → (P (entry_at es k) → ⊥) → Chain P h es (entry_at es k).next × ((entry_at es k).next ≤ k)
   chain_next heads k c chain other = grind (arith, last_bound, chain_at)
 
 -- the pair that an entry stands for
-pub entry_kept : (es : List Entry) (k : ℕ) → k < length es → slice_get (map kept_in es) k ≡ Some (kept_in (entry_at es k))
-entry_kept es k low = slice_get-map kept_in es k ∙ ap (option_map kept_in) (slice_get-get_or es k _ low)
+pub entry_kept : (es : List Entry) (k : ℕ)
+    → k < length es → slice_get (map kept_in es) k ≡ Some (kept_in (entry_at es k))
+entry_kept es k low = grind (arith, slice_get-map, kept_in, option_map, slice_get-get_or)
 
-pub kept_entry : (es : List Entry) (k p h : ℕ) → slice_get (map kept_in es) k ≡ Some (record { place = p; number = h })
+pub kept_entry : (es : List Entry) (k p h : ℕ)
+    → slice_get (map kept_in es) k ≡ Some (record { place = p; number = h })
     → (k < length es) × ((entry_at es k).number ≡ h) × ((entry_at es k).place ≡ p)
 kept_entry es k p h at = grind (arith, slice_get_within, length-map, entry_kept)

@@ -1,11 +1,6 @@
 -- Octets that a message spells at a place stand there, but for a pointer where the two differ.
-use Rattle.std.proofs.Common.{◌≡◌, ℕ, zero, suc, ◌+◌, ◌<◌, ◌≤◌, [], ◌∷◌, ◌++◌, length, take, drop, slice_get, Some, refl, sym, ap, ap₂, ◌∙◌, subst, arith, append_assoc, length-append, drop_at, get_or}
-use Rattle.dns_spec.proofs.Common.{ltb-true, ltb-false, take-add, Octets, DomainName, wire, RunAt, ends, goes_on, jumps}
-use Rattle.std.proofs.lemmas.List.{length-take-le, length-drop, drop-drop}
-use Rattle.std.proofs.lemmas.Option.{none-some, same_Some, slice_get_within, get_or_from_slice_get, slice_get-get_or}
-use Rattle.dns_wire.specs.Labels.{LabelAt, PointerAt, NoRunAt}
-use Rattle.dns_wire.specs.Kept.{SpelledAt, HasAt, IsCommon}
-use Rattle.dns_wire.proofs.Runs.{get_more, label_there}
+use Rattle.dns_wire.proofs.Common.{◌≡◌, ℕ, zero, suc, ◌+◌, ◌<◌, ◌≤◌, [], ◌∷◌, ◌++◌, length, take, drop, slice_get, Some, refl, sym, ap, ap₂, ◌∙◌, subst, arith, append_assoc, length-append, drop_at, get_or, ltb-true, ltb-false, take-add, Octets, DomainName, wire, RunAt, ends, goes_on, jumps, length-take-le, length-drop, drop-drop, none-some, same_Some, slice_get_within, get_or_from_slice_get, slice_get-get_or, LabelAt, PointerAt, NoRunAt, SpelledAt, HasAt, IsCommon}
+use Rattle.dns_wire.proofs.Runs.{get_more, label_there, pointer_there}
 
 -- so many octets in front are in common
 pub record InCommon (same : ℕ) (left right : Octets) : Type 0 where
@@ -55,7 +50,8 @@ has_label {b} {y} {i} l there has = (
       ∙ ap (λ z. length l ∷ z)
       (ap (λ k. take k (drop (i + 1) b)) (length-append l y)
       ∙ take-add (length l) (length y) (drop (i + 1) b)
-      ∙ ap₂ (λ u v. u ++ v) (sym there.label) (ap (take (length y)) (drop-drop (length l) (i + 1) b) ∙ has.1)),
+      ∙ ap₂ (λ u v. u ++ v)
+      (sym there.label) (ap (take (length y)) (drop-drop (length l) (i + 1) b) ∙ has.1)),
 )
 
 -- What is spelled from a place on stands there to its end, or to a pointer.
@@ -72,13 +68,17 @@ run_ends {b} {s} (goes_on i k l n e at some short within is rest) = go (run_ends
     there = label_there at some short within is
 
     go : RunEnds b s (i + 1 + k) n → RunEnds b s i (l ∷ n)
-    go (whole has) = whole (has_label l there.1 (subst (λ j. HasAt b (i + 1 + j) (wire n)) (sym there.0) has))
+    go (whole has) =
+        whole (has_label l there.1 (subst (λ j. HasAt b (i + 1 + j) (wire n)) (sym there.0) has))
     go (pointed f t p d shape has pointer run) =
-        let next : i + 1 + k + length (label_octets f) ≡ i + length (label_octets (l ∷ f)) = omega (arith, there.0, length-append l (label_octets f)) in
-        pointed (l ∷ f) t p d (ap (λ x. l ∷ x) shape) (has_label l there.1 (subst (λ j. HasAt b (i + 1 + j) (label_octets f)) (sym there.0) has)) (subst (λ j. PointerAt b s j p) next pointer) run
+        let next : i + 1 + k + length (label_octets f) ≡ i + length (label_octets (l ∷ f)) =
+        omega (arith, there.0, length-append l (label_octets f)) in
+        pointed (l ∷ f) t p d (ap (λ x. l ∷ x) shape) (has_label l there.1
+        (subst (λ j. HasAt b (i + 1 + j) (label_octets f)) (sym there.0) has))
+        (subst (λ j. PointerAt b s j p) next pointer) run
 run_ends {b} {s} (jumps i o o' p n e at high at' is from before rest) =
     let here : i ≡ i + length (label_octets []) = omega arith in
-    let pointer : PointerAt b s i p = record { first = o; second = o'; first_there = at; high = high; second_there = at'; place = is; after_header = from; before_run = before } in
+    let pointer : PointerAt b s i p = pointer_there at high at' is from before in
     pointed [] n p e refl (
       let inside = slice_get_within b i o at in
           omega (arith, inside),
@@ -88,7 +88,8 @@ run_ends {b} {s} (jumps i o o' p n e at high at' is from before rest) =
 -- a label that is spelled is short
 label_short : {b : Octets} {s i e : ℕ} {l : Octets} {t : DomainName} → RunAt b s i (l ∷ t) e
     → length l < 64
-label_short {b} (goes_on i k l n e at some short within is rest) = omega (arith, short, ap length is, length-take-le k (drop (i + 1) b) (omega (arith, within, length-drop (i + 1) b)))
+label_short {b} (goes_on i k l n e at some short within is rest) =
+    grind (arith, length-take-le, length-drop)
 label_short (jumps i o o' p n e at high at' is from before rest) = label_short rest
 
 first_low : {b : Octets} {s i e : ℕ} {t : DomainName} (o : ℕ) → RunAt b s i t e
@@ -96,7 +97,8 @@ first_low : {b : Octets} {s i e : ℕ} {t : DomainName} (o : ℕ) → RunAt b s 
 first_low {t = []} o run at = omega (arith, same_Some 0 o at)
 first_low {t = l ∷ t} o run at = omega (arith, same_Some (length l) o at, label_short run)
 
--- Octets that a message spells at a place, and has there up to one that differs, go on at a pointer.
+-- Octets that a message spells at a place, and has there up to one that differs, go on at a
+-- pointer.
 pub record PointedOn (b : Octets) (s k : ℕ) (o : Octets) : Type 0 where
   pub place : ℕ
   pub pointer : PointerAt b s (s + k) place
@@ -136,4 +138,6 @@ not_pointed {b} {o} {s} {k} on none =
     let p = on.pointer in
     let first = get_or_from_slice_get b (s + k) p.first 0 p.first_there in
     let high = p.high in
-    none (omega (arith, first, high)) on.spelled.0 (s + k + 2) (jumps (s + k) p.first p.second on.place on.spelled.0 on.spelled.1 p.first_there high p.second_there p.place p.after_header p.before_run on.spelled.2)
+    none (omega (arith, first, high)) on.spelled.0
+    (s + k + 2) (jumps (s + k) p.first p.second on.place on.spelled.0 on.spelled.1
+    p.first_there high p.second_there p.place p.after_header p.before_run on.spelled.2)

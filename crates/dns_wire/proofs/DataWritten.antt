@@ -1,9 +1,5 @@
 -- Data and records are written part by part.
-use Rattle.dns_spec.proofs.Common.{◌≡◌, ◌+◌, ◌-◌, ◌≤◌, ◌∙◌, ℕ, Bool, true, false, List, [], ◌∷◌, ◌++◌, length, take, drop, refl, sym, ap, ap₂, subst, subst₂, arith, append_assoc, append-nil, length-append, take_at, drop_at, take-append-add, Octets, class_in, Part, octets, name, laid_parts, Placed, Laid, octets16, octets32, data_laid}
-use Rattle.dns_wire.specs.Kept.{Kept}
-use Rattle.dns_wire.specs.SuffixNumbers.{suffix_number}
-use Rattle.dns_wire.specs.Writing.{Follows, Holds, Layout, octets_laid, name_laid, both_laid, parts_laid, tail_laid}
-use Rattle.dns_wire.specs.Draft.{Draft, known_places, Writes}
+use Rattle.dns_wire.proofs.Common.{◌≡◌, ◌+◌, ◌-◌, ◌≤◌, ◌∙◌, ℕ, Bool, true, false, List, [], ◌∷◌, ◌++◌, length, take, drop, refl, sym, ap, ap₂, subst, subst₂, arith, append_assoc, append-nil, length-append, take_at, drop_at, take-append-add, Octets, class_in, Part, octets, name, laid_parts, Placed, Laid, octets16, octets32, data_laid, Kept, suffix_number, Follows, Holds, Layout, octets_laid, name_laid, both_laid, parts_laid, tail_laid, Draft, known_places, Writes}
 use Rattle.dns_wire.proofs.AskedLemmas.{kept_same, take_patched}
 use Rattle.dns_wire.proofs.NameWritten.{holds_octets}
 use Rattle.dns_wire.proofs.Steps.{grows_again, writes_as, writes_both, writes_past}
@@ -16,7 +12,8 @@ part_laid (name n) = name_laid n
 abbrev pub all_laid : List Part → Layout
 all_laid ps ms p = data_laid ms p ps
 
-data_more : (x : Part) (ps : List Part) (ms : List Placed) (p : ℕ) → both_laid (part_laid x) (all_laid ps) ms p ≡ data_laid ms p (x ∷ ps)
+data_more : (x : Part) (ps : List Part) (ms : List Placed) (p : ℕ)
+    → both_laid (part_laid x) (all_laid ps) ms p ≡ data_laid ms p (x ∷ ps)
 unfolding data_laid
 data_more x ps ms p = grind (arith, append-nil)
 
@@ -29,60 +26,83 @@ abbrev pub numbers_of : ℕ → ℕ → ℕ → Octets
 numbers_of t ttl k = octets16 t ++ octets16 class_in ++ octets32 ttl ++ octets16 k
 
 -- where nothing is shared the numbers and the data come at once
-pub plain_laid : (t ttl : ℕ) (o x : Octets) → x ≡ numbers_of t ttl (length o) → laid_parts t o ≡ octets o ∷ [] → (ms : List Placed) (p : ℕ) → octets_laid (x ++ o) ms p ≡ tail_laid t ttl o ms p
+pub plain_laid : (t ttl : ℕ) (o x : Octets)
+    → x ≡ numbers_of t ttl (length o) → laid_parts t o ≡ octets o ∷ []
+    → (ms : List Placed) (p : ℕ) → octets_laid (x ++ o) ms p ≡ tail_laid t ttl o ms p
 plain_laid t ttl o x own whole ms p =
     ap (λ z. octets_laid (z ++ o) ms p) own
-    ∙ ap (λ (l : Laid). record { written = numbers_of t ttl (length l.written) ++ l.written; names = l.names }) (data_last (octets o) ms (p + 10) ∙ ap (data_laid ms (p + 10)) (sym whole))
+    ∙ ap (λ (l : Laid).
+    record { written = numbers_of t ttl (length l.written) ++ l.written; names = l.names })
+    (data_last (octets o) ms (p + 10) ∙ ap (data_laid ms (p + 10)) (sym whole))
 
 -- the eighth and ninth of ten octets are written over, and those after them stay
 patched : (b y z w after now : Octets) → length y ≡ 8 → length z ≡ 2 → after ≡ (b ++ (y ++ z)) ++ w
-    → now ≡ take (length b + 8) after ++ (octets16 (length after - length b - 10) ++ drop (length b + 10) after)
-    → now ≡ b ++ ((y ++ octets16 (length w)) ++ w)
+    → now ≡ take (length b + 8) after ++ (octets16 (length after - length b - 10)
+    ++ drop (length b + 10) after) → now ≡ b ++ ((y ++ octets16 (length w)) ++ w)
 patched b y z w after now eight two is set =
     let split : after ≡ ((b ++ y) ++ z) ++ w = is ∙ ap (λ x. x ++ w) (sym (append_assoc b y z)) in
     let whole : after ≡ (b ++ y) ++ (z ++ w) = split ∙ append_assoc (b ++ y) z w in
     let first : length (b ++ y) ≡ length b + 8 = length-append b y ∙ ap (λ k. length b + k) eight in
-    let both : length ((b ++ y) ++ z) ≡ length b + 10 = omega (arith, length-append (b ++ y) z, first, two) in
-    let front : take (length b + 8) after ≡ b ++ y = ap (take (length b + 8)) whole ∙ take_at (b ++ y) (z ++ w) (length b + 8) first in
-    let back : drop (length b + 10) after ≡ w = ap (drop (length b + 10)) split ∙ drop_at ((b ++ y) ++ z) w (length b + 10) both in
-    let long : length after - length b - 10 ≡ length w = omega (arith, ap length split, length-append ((b ++ y) ++ z) w, both) in
+    let both : length ((b ++ y) ++ z) ≡ length b + 10 =
+    omega (arith, length-append (b ++ y) z, first, two) in
+    let front : take (length b + 8) after ≡ b ++ y =
+    ap (take (length b + 8)) whole ∙ take_at (b ++ y) (z ++ w) (length b + 8) first in
+    let back : drop (length b + 10) after ≡ w =
+    ap (drop (length b + 10)) split ∙ drop_at ((b ++ y) ++ z) w (length b + 10) both in
+    let long : length after - length b - 10 ≡ length w =
+    omega (arith, ap length split, length-append ((b ++ y) ++ z) w, both) in
     let n = octets16 (length w) in
-    set ∙ ap₂ (λ x k. x ++ (octets16 k ++ drop (length b + 10) after)) front long ∙ ap (λ x. (b ++ y) ++ (n ++ x)) back
+    set ∙ ap₂ (λ x k. x ++ (octets16 k ++ drop (length b + 10) after)) front long
+    ∙ ap (λ x. (b ++ y) ++ (n ++ x)) back
     ∙ append_assoc b y (n ++ w) ∙ ap (λ x. b ++ x) (sym (append_assoc y n w))
 
 -- what stands before those ten octets stays as well
-patched_follows : {b after now : Octets} (x : Octets) → Follows b after → now ≡ take (length b + 8) after ++ x → Follows b now
+patched_follows : {b after now : Octets} (x : Octets)
+    → Follows b after → now ≡ take (length b + 8) after ++ x → Follows b now
 patched_follows {b} {after} x f set = grind (arith, take-append-add, append_assoc)
 
 -- the places of names are those of any octets that spell the names there
-holds_again : {head : Octets → ℕ} {ms : List Placed} {b b' : Octets} {ks ks' : List Kept} → Holds head ms b ks → Holds head ms b' ks' → Holds head ms b' ks
-holds_again here there = record { spelled = there.spelled; before = there.before; after_header = there.after_header; answers = here.answers }
+holds_again : {head : Octets → ℕ} {ms : List Placed} {b b' : Octets} {ks ks' : List Kept}
+    → Holds head ms b ks → Holds head ms b' ks' → Holds head ms b' ks
+holds_again here there = grind arith
 
 -- parts after one that was written, and the last part
-pub writes_more : {head head' head'' : Octets → ℕ} {d d' d'' : Draft} {t fits : Bool} (x : Part) (ps : List Part) → t ≡ true → Writes head head' d d' (part_laid x) t
-    → Writes head' head'' d' d'' (all_laid ps) fits → Writes head head'' d d'' (all_laid (x ∷ ps)) fits
+pub writes_more : {head head' head'' : Octets → ℕ} {d d' d'' : Draft} {t fits : Bool}
+    (x : Part) (ps : List Part) → t ≡ true → Writes head head' d d' (part_laid x) t → Writes
+    head' head'' d' d'' (all_laid ps) fits → Writes head head'' d d'' (all_laid (x ∷ ps)) fits
 writes_more x ps is first next =
-    writes_as (both_laid (part_laid x) (all_laid ps)) (all_laid (x ∷ ps)) (data_more x ps) (writes_both (part_laid x) (all_laid ps) is first next)
+    writes_as (both_laid (part_laid x) (all_laid ps))
+    (all_laid (x ∷ ps)) (data_more x ps) (writes_both (part_laid x) (all_laid ps) is first next)
 
-pub writes_last : {head head' : Octets → ℕ} {d d' : Draft} {fits : Bool} (x : Part) → Writes head head' d d' (part_laid x) fits → Writes head head' d d' (all_laid (x ∷ [])) fits
+pub writes_last : {head head' : Octets → ℕ} {d d' : Draft} {fits : Bool} (x : Part)
+    → Writes head head' d d' (part_laid x) fits → Writes head head' d d' (all_laid (x ∷ [])) fits
 writes_last x w = writes_as (part_laid x) (all_laid (x ∷ [])) (data_last x) w
 
 -- where a part does not fit
-pub writes_short : {head head' : Octets → ℕ} {d d' : Draft} {t fits : Bool} (x : Part) (ps : List Part) → t ≡ false → fits ≡ false → Writes head head' d d' (part_laid x) t
-    → Writes head head' d d' (all_laid (x ∷ ps)) fits
+pub writes_short : {head head' : Octets → ℕ}
+    {d d' : Draft} {t fits : Bool} (x : Part) (ps : List Part) → t ≡ false → fits ≡ false
+    → Writes head head' d d' (part_laid x) t → Writes head head' d d' (all_laid (x ∷ ps)) fits
 writes_short x ps is is_too w = writes_past (part_laid x) (all_laid (x ∷ ps)) is is_too
-    (λ ms p. let l = part_laid x ms p in omega (arith, ap (λ (z : Laid). length z.written) (data_more x ps ms p), length-append l.written (data_laid (ms ++ l.names) (p + length l.written) ps).written)) w
+    (λ ms p. let l =
+    part_laid x ms p in omega (
+      arith,
+      ap (λ (z : Laid). length z.written) (data_more x ps ms p),
+      length-append l.written (data_laid (ms ++ l.names) (p + length l.written) ps).written,
+    )) w
 
 -- the parts of data
-pub writes_parts : {head head' : Octets → ℕ} {d d' : Draft} {fits : Bool} {ps : List Part} (t : ℕ) (o : Octets) → laid_parts t o ≡ ps
+pub writes_parts : {head head' : Octets → ℕ}
+    {d d' : Draft} {fits : Bool} {ps : List Part} (t : ℕ) (o : Octets) → laid_parts t o ≡ ps
     → Writes head head' d d' (all_laid ps) fits → Writes head head' d d' (parts_laid t o) fits
-writes_parts {head} {head'} {d} {d'} {fits} t o is w = subst (λ ps. Writes head head' d d' (all_laid ps) fits) (sym is) w
+writes_parts {head} {head'} {d} {d'} {fits} t o is w =
+    subst (λ ps. Writes head head' d d' (all_laid ps) fits) (sym is) w
 
 -- The length of data is written after the data, into octets that no name passes over.
-pub tail_written : {head head' : Octets → ℕ} {d d' d'' : Draft} (t ttl : ℕ) (o b : Octets) → d.asked_end ≤ length d.octets → Writes head head d d' (octets_laid (numbers_of t ttl 0)) true
-    → Writes head head' d' d'' (parts_laid t o) true
-    → b ≡ take (length d.octets + 8) d''.octets ++ (octets16 (length d''.octets - length d.octets - 10) ++ drop (length d.octets + 10) d''.octets)
-    → Writes head head' d (record d'' { octets = b }) (tail_laid t ttl o) true
+pub tail_written : {head head' : Octets → ℕ} {d d' d'' : Draft} (t ttl : ℕ) (o b : Octets)
+    → d.asked_end ≤ length d.octets → Writes head head d d' (octets_laid (numbers_of t ttl 0)) true
+    → Writes head head' d' d'' (parts_laid t o) true → b ≡ take (length d.octets + 8) d''.octets
+    ++ (octets16 (length d''.octets - length d.octets - 10) ++ drop (length d.octets + 10)
+    d''.octets) → Writes head head' d (record d'' { octets = b }) (tail_laid t ttl o) true
 tail_written {head} {head'} {d} {d'} {d''} t ttl o now inside first next set =
     let number = suffix_number head in
     let b = d.octets in
@@ -90,35 +110,50 @@ tail_written {head} {head'} {d} {d'} {d''} t ttl o now inside first next set =
     let rest = octets16 (length b'' - length b - 10) ++ drop (length b + 10) b'' in
     let grown = grows_again first.grows next.grows in
     record {
-      grows = record { octets = patched_follows rest grown.octets set; kept = grown.kept; asked = grown.asked; limit = grown.limit; counts = grown.counts };
+      grows = record {
+        octets = patched_follows rest grown.octets set;
+        kept = grown.kept;
+        asked = grown.asked;
+        limit = grown.limit;
+        counts = grown.counts;
+      };
       same = next.same;
       written = λ ms holds.
           let one = first.written ms holds in
           let b' = d'.octets in
           let ks' = known_places number d' in
-          let there : Holds number ms b' ks' = subst₂ (λ m x. Holds number m x ks') (append-nil ms) (sym one.written) (one.stands b refl holds) in
+          let there : Holds number ms b' ks' = subst₂ (λ m x. Holds number m x ks')
+          (append-nil ms) (sym one.written) (one.stands b refl holds) in
           let two = next.written ms there in
-          let place : length b' ≡ length b + 10 = ap length one.written ∙ length-append b (numbers_of t ttl 0) in
+          let place : length b' ≡ length b + 10 =
+          ap length one.written ∙ length-append b (numbers_of t ttl 0) in
           let l = parts_laid t o ms (length b + 10) in
           let same : parts_laid t o ms (length b') ≡ l = ap (parts_laid t o ms) place in
           let w = l.written in
           let numbers = numbers_of t ttl (length w) in
           let after : b'' ≡ b' ++ w = two.written ∙ ap (λ (l : Laid). b' ++ l.written) same in
           let laid : now ≡ b ++ (numbers ++ w) =
-          patched b (octets16 t ++ octets16 class_in ++ octets32 ttl) (octets16 0) w b'' now refl refl (after ∙ ap (λ x. x ++ w) one.written) set in
+          patched b (octets16 t ++ octets16 class_in ++ octets32 ttl)
+          (octets16 0) w b'' now refl refl (after ∙ ap (λ x. x ++ w) one.written) set in
           let fits = two.exactly.0 refl in
           let long = ap length after ∙ length-append b' w in
           let same_limit = first.grows.limit in
           let front : take d''.asked_end now ≡ take d''.asked_end b'' =
-          take_patched d''.asked_end (length b + 8) b'' rest _ set (omega (arith, inside, grown.asked)) (omega (arith, long, place)) in
-          let kept : known_places number (record d'' { octets = now }) ≡ known_places number d'' = kept_same number _ _ _ _ _ _ front refl refl in
+          take_patched d''.asked_end (length b + 8) b'' rest _ set
+          (omega (arith, inside, grown.asked)) (omega (arith, long, place)) in
+          let kept : known_places number (record d'' { octets = now }) ≡ known_places number d'' =
+          kept_same number _ _ _ _ _ _ front refl refl in
           record {
             exactly = grind (arith, length-append);
             written = laid;
             stands = λ x long_x known.
-                let here : Holds number ms (x ++ numbers) ks' = holds_again there (holds_octets numbers known) in
-                let all = two.stands (x ++ numbers) (omega (arith, long_x, place, length-append x numbers)) here in
-                subst₂ (λ z k. Holds number (ms ++ l.names) z k) (append_assoc x numbers w) (sym kept)
-                (subst (λ (l : Laid). Holds number (ms ++ l.names) ((x ++ numbers) ++ l.written) (known_places number d'')) same all);
+                let here : Holds number ms (x ++ numbers) ks' =
+                holds_again there (holds_octets numbers known) in
+                let all = two.stands
+                (x ++ numbers) (omega (arith, long_x, place, length-append x numbers)) here in
+                subst₂
+                (λ z k. Holds number (ms ++ l.names) z k) (append_assoc x numbers w) (sym kept)
+                (subst (λ (l : Laid). Holds number (ms ++ l.names)
+                ((x ++ numbers) ++ l.written) (known_places number d'')) same all);
           };
     }

@@ -1,39 +1,33 @@
 -- A set more in a draft: its size is that of the layout, and it has one set more.
-use Rattle.std.proofs.Common.{◌≡◌, ◌↔◌, ℕ, ◌+◌, ◌≤◌, ◌^◌, Bool, true, false, cond, List, [], ◌∷◌, ◌++◌, length, take, drop, replicate, Option, refl, sym, ap, ◌∙◌, subst, subst₂, arith, All, IfSome, Some, append_assoc, append-nil, length-append, ◌<◌, lt_of_not-le}
-use Rattle.dns_spec.proofs.Common.{false≢true, take-append-add, Octets, DomainName, wire, RecordSet, records_at, Header, MessageQuestion, Spells, size, Sharing, IsWritable, IsAskable, sections_in_order}
-use Rattle.std.proofs.lemmas.List.{length-map, length-drop}
-use Rattle.std.proofs.lemmas.List.Concat.{flat_map-append}
+use Rattle.dns_wire.proofs.Common.{◌≡◌, ◌↔◌, ℕ, ◌+◌, ◌≤◌, ◌^◌, Bool, true, false, cond, List, [], ◌∷◌, ◌++◌, length, take, drop, replicate, Option, refl, sym, ap, ◌∙◌, subst, subst₂, arith, All, IfSome, Some, append_assoc, append-nil, length-append, ◌<◌, lt_of_not-le, false≢true, take-append-add, Octets, DomainName, wire, RecordSet, records_at, Header, MessageQuestion, Spells, size, Sharing, IsWritable, IsAskable, sections_in_order, length-map, length-drop, flat_map-append, Item, Laid, laid_front, records_of, in_section, is_section, asked_octets, asked_placed, octets16, question_octets, layout, header_octets, message_of, shared_alone, layout_spells, past_limit, length-records_octets, length-layout, Section, asked_places, new_places, Holds, records_laid, suffix_number, Draft, draft_of, known_places, HasNames, IsDraft, Writes, with_counted, counts_of, item_of, names_so_far, Counts}
 use Rattle.dns_spec.specs.Layout as Layout
-use Rattle.dns_spec.specs.Layout.{Item, Placed, Laid, laid_front, record_laid, records_octets, records_of, in_section, is_section, asked_octets, asked_placed, octets16, question_octets, answer, authority, additional, layout, header_octets, reply_header, message_of}
-use Rattle.dns_spec.proofs.Layouts.SharedNames.{shared_alone}
-use Rattle.dns_spec.proofs.Layouts.SharedLayout.{layout_spells}
-use Rattle.dns_spec.proofs.Layouts.LeastSize.{past_limit}
-use Rattle.dns_spec.proofs.Layouts.LayoutSize.{length-records_octets, length-layout}
-use Rattle.dns_wire.specs.declared.page.Section.{Section}
-use Rattle.dns_wire.specs.Writing.{asked_places, new_places, Holds, records_laid}
-use Rattle.dns_wire.specs.SuffixNumbers.{suffix_number}
-use Rattle.dns_wire.specs.Draft.{Draft, draft_of, known_places, HasNames, IsDraft, Writes, with_counted, counts_of, item_of, names_so_far}
-use Rattle.dns_wire.specs.declared.message.Counts.{Counts}
 use Rattle.dns_wire.proofs.AskedLemmas.{asked_whole}
 use Rattle.dns_wire.proofs.NameWritten.{holds_nothing, holds_octets, holds_name}
 use Rattle.dns_wire.proofs.RecordsWritten.{octets_of_records, records_none, records_split}
 
-records_pushed : (items : List Item) (i : Item) → records_of (items ++ i ∷ []) ≡ records_of items ++ i.records
-records_pushed items i = flat_map-append (λ (x : Item). x.records) items (i ∷ []) ∙ ap (λ z. records_of items ++ z) (append-nil i.records)
+records_pushed : (items : List Item) (i : Item)
+    → records_of (items ++ i ∷ []) ≡ records_of items ++ i.records
+records_pushed items i = grind (arith, flat_map-append, records_of, append-nil)
 
-section_pushed : (s : Layout.Section) (items : List Item) (i : Item) → length (in_section s (items ++ i ∷ [])) ≡ length (in_section s items) + cond (is_section s i.section) (length i.records) 0
+section_pushed : (s : Layout.Section) (items : List Item) (i : Item) → length (in_section s (items
+    ++ i ∷ [])) ≡ length (in_section s items) + cond (is_section s i.section) (length i.records) 0
 section_pushed s [] i = grind (arith, length-append)
 section_pushed s (x ∷ items) i = grind (arith, (section_pushed s items i), length-append)
 
-module _ (head : Octets → ℕ) (q : Option MessageQuestion) (items : List Item) (d : Draft) (draft : IsDraft head q items d) where
-  next_place : length d.octets ≡ 12 + length (asked_octets q) + length (records_laid (records_of items) (asked_placed q) (12 + length (asked_octets q))).written
+module _ (head : Octets → ℕ) (q : Option MessageQuestion)
+    (items : List Item) (d : Draft) (draft : IsDraft head q items d) where
+  next_place : length d.octets ≡ 12 + length (asked_octets q) + length
+      (records_laid (records_of items) (asked_placed q) (12 + length (asked_octets q))).written
   next_place = grind (arith, length-append)
 
-  whole : (i : Item) → records_laid (records_of (items ++ i ∷ [])) (asked_placed q) (12 + length (asked_octets q))
-      ≡ laid_front (records_laid (records_of items) (asked_placed q) (12 + length (asked_octets q))).written (records_laid (records_of items) (asked_placed q) (12 + length (asked_octets q))).names (records_laid i.records (names_so_far q items) (length d.octets))
+  whole : (i : Item) → records_laid (records_of (items ++ i ∷ [])) (asked_placed q) (12 + length
+      (asked_octets q)) ≡ laid_front (records_laid (records_of items) (asked_placed q) (12 + length
+      (asked_octets q))).written (records_laid (records_of items) (asked_placed q) (12 + length
+      (asked_octets q))).names (records_laid i.records (names_so_far q items) (length d.octets))
   whole i = grind (arith, records_pushed, records_split, next_place)
 
-  pub draft_size : (i : Item) → size q (items ++ i ∷ []) ≡ length (d.octets ++ (records_laid i.records (names_so_far q items) (length d.octets)).written)
+  pub draft_size : (i : Item) → size q (items ++ i ∷ []) ≡ length
+      (d.octets ++ (records_laid i.records (names_so_far q items) (length d.octets)).written)
   unfolding size
   draft_size i =
       let ms = asked_placed q in
@@ -41,24 +35,32 @@ module _ (head : Octets → ℕ) (q : Option MessageQuestion) (items : List Item
       let l = (records_laid (records_of items) ms p).written in
       let more = (records_laid i.records (names_so_far q items) (length d.octets)).written in
       let rs = records_of (items ++ i ∷ []) in
-      let written = sym (length-records_octets ms p rs) ∙ ap length (sym (octets_of_records ms p rs)) ∙ ap (λ (x : Laid). length x.written) (whole i) in
+      let written = sym (length-records_octets ms p rs) ∙ ap length
+      (sym (octets_of_records ms p rs)) ∙ ap (λ (x : Laid). length x.written) (whole i) in
       omega (arith, written, next_place, length-append l more, length-append d.octets more)
 
 -- A set was put exactly where the layout with it is within the limit.
-pub put_fits : {head head' : Octets → ℕ} {t : Bool} {d d' : Draft} (q : Option MessageQuestion) (items : List Item) (section : Section) (owner : DomainName) (ttl : ℕ) (set : RecordSet)
-    → Writes head head' d d' (records_laid (records_at owner ttl set)) t → IsDraft head q items d → (t ≡ true) ↔ (size q (items ++ item_of section owner ttl set ∷ []) ≤ d.limit)
+pub put_fits : {head head' : Octets → ℕ} {t : Bool} {d d' : Draft} (q : Option MessageQuestion)
+    (items : List Item) (section : Section) (owner : DomainName) (ttl : ℕ) (set : RecordSet)
+    → Writes head head' d d' (records_laid (records_at owner ttl set)) t → IsDraft head q items d
+    → (t ≡ true) ↔ (size q (items ++ item_of section owner ttl set ∷ []) ≤ d.limit)
 put_fits {head} {d = d} q items section owner ttl set w draft =
     let exactly = (w.written (names_so_far q items) draft.holds).exactly in
-    let size_is = draft_size head q items d draft (item_of section owner ttl set) in
-    (λ so. let room = exactly.0 so in omega (arith, room, size_is), λ fits. exactly.1 (omega (arith, fits, size_is)))
+    let size_is = draft_size head q items d draft (item_of section owner ttl set) in (
+      λ so. let room = exactly.0 so in omega (arith, room, size_is),
+      λ fits. exactly.1 (omega (arith, fits, size_is)),
+    )
 
-counts_pushed : (q : Option MessageQuestion) (items : List Item) (section : Section) (owner : DomainName) (ttl : ℕ) (set : RecordSet)
-    → with_counted (counts_of q items) section (length set.rdata) ≡ counts_of q (items ++ item_of section owner ttl set ∷ [])
+counts_pushed : (q : Option MessageQuestion) (items : List Item) (section : Section)
+    (owner : DomainName) (ttl : ℕ) (set : RecordSet) → with_counted (counts_of q items) section
+    (length set.rdata) ≡ counts_of q (items ++ item_of section owner ttl set ∷ [])
 counts_pushed q items section owner ttl set = grind (arith, section_pushed, length-map)
 
 -- a set that was put
-pub put_in : {head head' : Octets → ℕ} {d d' : Draft} {n : Counts} (q : Option MessageQuestion) (items : List Item) (section : Section) (owner : DomainName) (ttl : ℕ) (set : RecordSet)
-    → Writes head head' d d' (records_laid (records_at owner ttl set)) true → n ≡ with_counted d'.counts section (length set.rdata) → IsDraft head q items d
+pub put_in : {head head' : Octets → ℕ} {d d' : Draft} {n : Counts} (q : Option MessageQuestion)
+    (items : List Item) (section : Section) (owner : DomainName) (ttl : ℕ) (set : RecordSet)
+    → Writes head head' d d' (records_laid (records_at owner ttl set)) true
+    → n ≡ with_counted d'.counts section (length set.rdata) → IsDraft head q items d
     → IsDraft head q (items ++ item_of section owner ttl set ∷ []) (record d' { counts = n })
 put_in {head} {d = d} {d'} q items section owner ttl set w counts draft =
     let before = names_so_far q items in
@@ -68,46 +70,60 @@ put_in {head} {d = d} {d'} q items section owner ttl set w counts draft =
     let all = whole head q items d draft (item_of section owner ttl set) in
     let front = replicate 12 0 ++ asked_octets q in
     record {
-      written = done.written ∙ ap (λ z. z ++ more.written) draft.written ∙ append_assoc front l.written more.written ∙ ap (λ (x : Laid). front ++ x.written) (sym all);
+      written = done.written ∙ ap (λ z. z ++ more.written) draft.written ∙ append_assoc
+          front l.written more.written ∙ ap (λ (x : Laid). front ++ x.written) (sym all);
       holds =
-          subst₂ (λ x b. Holds (suffix_number head) x b (known_places (suffix_number head) d')) (append_assoc (asked_placed q) l.names more.names ∙ ap (λ (x : Laid). asked_placed q ++ x.names) (sym all)) (sym done.written)
+          subst₂ (λ x b. Holds (suffix_number head) x b (known_places (suffix_number head) d'))
+          (append_assoc (asked_placed q) l.names more.names
+          ∙ ap (λ (x : Laid). asked_placed q ++ x.names) (sym all)) (sym done.written)
           (done.stands d.octets refl draft.holds);
-      counts = counts ∙ ap (λ n. with_counted n section (length set.rdata)) (w.grows.counts ∙ draft.counts) ∙ counts_pushed q items section owner ttl set;
+      counts = counts ∙ ap (λ n. with_counted n section (length set.rdata))
+          (w.grows.counts ∙ draft.counts) ∙ counts_pushed q items section owner ttl set;
       askable = draft.askable;
     }
 
 -- a draft without sets
-pub draft_begins : (head : Octets → ℕ) (q : Option MessageQuestion) (d : Draft) → d.octets ≡ replicate 12 0 ++ asked_octets q → HasNames d head (asked_placed q)
+pub draft_begins : (head : Octets → ℕ) (q : Option MessageQuestion) (d : Draft)
+    → d.octets ≡ replicate 12 0 ++ asked_octets q → HasNames d head (asked_placed q)
     → d.counts ≡ counts_of q [] → IfSome q IsAskable → IsDraft head q [] d
 draft_begins head q d octets holds counts askable = grind (arith, records_none, append-nil)
 
 -- a draft of a question alone
 abbrev pub asked_draft : ℕ → MessageQuestion → Draft
-asked_draft limit q = draft_of limit (replicate 12 0 ++ question_octets q) (12 + length (wire q.qname)) [] (record { questions = 1; answers = 0; authorities = 0; additionals = 0 })
+asked_draft limit q = draft_of limit (replicate 12 0 ++ question_octets q) (12 + length
+    (wire q.qname)) [] (record { questions = 1; answers = 0; authorities = 0; additionals = 0 })
 
-pub question_whole : (q : MessageQuestion) → replicate 12 0 ++ question_octets q ≡ (replicate 12 0 ++ wire q.qname) ++ (octets16 q.qtype ++ octets16 q.qclass)
+pub question_whole : (q : MessageQuestion) → replicate 12 0 ++ question_octets q
+    ≡ (replicate 12 0 ++ wire q.qname) ++ (octets16 q.qtype ++ octets16 q.qclass)
 question_whole q = grind (arith, append_assoc)
 
-pub asked_begins : (head : Octets → ℕ) (limit : ℕ) (q : MessageQuestion) → IsAskable q → IsDraft head (Some q) [] (asked_draft limit q)
+pub asked_begins : (head : Octets → ℕ) (limit : ℕ) (q : MessageQuestion)
+    → IsAskable q → IsDraft head (Some q) [] (asked_draft limit q)
 asked_begins head limit q askable =
     let number = suffix_number head in
     let n = q.qname in
     let o = octets16 q.qtype ++ octets16 q.qclass in
     let new = new_places number [] n 12 in
-    let places : known_places number (asked_draft limit q) ≡ new = append-nil (asked_places number (replicate 12 0 ++ question_octets q) (12 + length (wire n))) ∙ asked_whole number n o (question_whole q) askable.qname refl in
-    let alone = subst (λ x. Holds number ((n, 12) ∷ []) (replicate 12 0 ++ x) new) (shared_alone n) (holds_name number [] (replicate 12 0) [] (holds_nothing number) n askable.qname) in
-    draft_begins head (Some q) (asked_draft limit q) refl (subst₂ (Holds number ((n, 12) ∷ [])) (sym (question_whole q)) (sym places) (holds_octets o alone)) refl askable
+    let places : known_places number (asked_draft limit q) ≡ new = append-nil
+    (asked_places number (replicate 12 0 ++ question_octets q) (12 + length (wire n)))
+    ∙ asked_whole number n o (question_whole q) askable.qname refl in
+    let alone = subst (λ x. Holds number ((n, 12) ∷ []) (replicate 12 0 ++ x) new) (shared_alone n)
+    (holds_name number [] (replicate 12 0) [] (holds_nothing number) n askable.qname) in
+    draft_begins head (Some q) (asked_draft limit q) refl (subst₂ (Holds number ((n, 12) ∷ []))
+    (sym (question_whole q)) (sym places) (holds_octets o alone)) refl askable
 
 abbrev pub header_of : Header → Counts → Octets
 header_of h n = header_octets h n.questions n.answers n.authorities n.additionals
 
 -- the layout is its header, and what is in the draft after room for one
-pub draft_laid : {head : Octets → ℕ} (h : Header) (q : Option MessageQuestion) (items : List Item) (d : Draft) → IsDraft head q items d
-    → header_of h d.counts ++ drop 12 d.octets ≡ layout h q items
+pub draft_laid :
+    {head : Octets → ℕ} (h : Header) (q : Option MessageQuestion) (items : List Item) (d : Draft)
+    → IsDraft head q items d → header_of h d.counts ++ drop 12 d.octets ≡ layout h q items
 unfolding layout
 draft_laid h q items d draft = grind (arith, append_assoc, octets_of_records)
 
-pub draft_length : {head : Octets → ℕ} (q : Option MessageQuestion) (items : List Item) (d : Draft) → IsDraft head q items d → length d.octets ≡ size q items
+pub draft_length : {head : Octets → ℕ} (q : Option MessageQuestion) (items : List Item) (d : Draft)
+    → IsDraft head q items d → length d.octets ≡ size q items
 draft_length q items d draft =
     let h : Header = record { id = 0; flags = 0 } in
     let w = drop 12 d.octets in
@@ -116,20 +132,31 @@ draft_length q items d draft =
     omega (arith, long, length-append (header_of h d.counts) w, length-drop 12 d.octets, some)
 
 -- the header and what follows it, taken from the front of what was lent
-pub finished : (front w out body : Octets) (n : ℕ) → out ≡ front ++ w → length front ≡ 12 → n ≡ 12 + length body → take (length body) w ≡ body → take n out ≡ front ++ body
+pub finished : (front w out body : Octets) (n : ℕ) → out ≡ front ++ w → length front ≡ 12
+    → n ≡ 12 + length body → take (length body) w ≡ body → take n out ≡ front ++ body
 finished front w out body n e twelve long is = grind (arith, take-append-add)
 
 -- where the layout is refused, each size that sharing allows is past the limit
-pub least_of : (q : Option MessageQuestion) (items : List Item) (limit : ℕ) (t : Bool) → ((t ≡ true) ↔ (size q items ≤ limit)) → limit ≤ 16384
-    → (t ≡ false) ↔ ((z : ℕ) → Sharing q items z → limit < z)
-least_of q items limit true exactly low =
-    (λ no. absurd (false≢true (sym no)), λ all. let fits = exactly.0 refl in let past = (past_limit q items limit low).1 all in absurd (omega (arith, fits, past)))
-least_of q items limit false exactly low =
-    (λ no z s. (past_limit q items limit low).0 (lt_of_not-le (λ fits. false≢true (exactly.1 fits))) z s, λ all. refl)
+pub least_of : (q : Option MessageQuestion) (items : List Item) (limit : ℕ) (t : Bool)
+    → ((t ≡ true) ↔ (size q items ≤ limit))
+    → limit ≤ 16384 → (t ≡ false) ↔ ((z : ℕ) → Sharing q items z → limit < z)
+least_of q items limit true exactly low = (
+  λ no. absurd (false≢true (sym no)),
+  λ all. let fits = exactly.0 refl in
+      let past = (past_limit q items limit low).1 all in absurd (omega (arith, fits, past)),
+)
+least_of q items limit false exactly low = (
+  λ no z s. (past_limit q items limit low).0
+      (lt_of_not-le (λ fits. false≢true (exactly.1 fits))) z s,
+  λ all. refl,
+)
 
 -- the layout of a draft spells its message
-pub draft_spelled : {head : Octets → ℕ} (h : Header) (q : Option MessageQuestion) (items : List Item) (d : Draft) → IsDraft head q items d
-    → h.id < 2 ^ 16 → h.flags < 2 ^ 16 → sections_in_order items ≡ true → All IsWritable (records_of items) → length d.octets ≤ 65535
-    → Spells (layout h q items) (message_of h q items)
+pub draft_spelled : {head : Octets → ℕ} (h : Header) (q : Option MessageQuestion)
+    (items : List Item) (d : Draft) → IsDraft head q items d → h.id < 2 ^ 16
+    → h.flags < 2 ^ 16 → sections_in_order items ≡ true → All IsWritable (records_of items)
+    → length d.octets ≤ 65535 → Spells (layout h q items) (message_of h q items)
 draft_spelled h q items d draft id flags order writable short =
-    layout_spells h q items (record { id = id; flags = flags; question = draft.askable; in_order = order }) writable (omega (arith, short, draft_length q items d draft))
+    layout_spells h q items
+    (record { id = id; flags = flags; question = draft.askable; in_order = order }) writable
+    (omega (arith, short, draft_length q items d draft))

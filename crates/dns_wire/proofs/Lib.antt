@@ -1,3 +1,4 @@
+pub mod Common
 mod Runs
 mod PieceLemmas
 mod ReadLemmas

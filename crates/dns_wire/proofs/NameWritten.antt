@@ -1,45 +1,47 @@
--- A name laid out is one more earlier name: the message spells its suffixes, and the places kept answer for them.
-use Rattle.dns_spec.proofs.Common.{◌≡◌, ℕ, zero, suc, ◌+◌, ◌-◌, ◌<◌, ◌≤◌, Bool, true, false, cond, nat_le, ◌⊎◌, inl, inr, List, [], ◌∷◌, ◌++◌, length, take, drop, replicate, slice_get, Option, None, Some, refl, sym, ap, ap₂, ◌∙◌, subst, arith, append_assoc, append-nil, length-append, and_parts, leb-true, none-some, same_Some, take-append-le, take-append-add, list_all, Octets, DomainName, wire, is_name, is_label, RunAt, ends, goes_on, jumps, Placed, has_suffix, suffix_place, place_of, last_place, shared_place, shared_octets}
-use Rattle.dns_spec.proofs.DomainNames.NameLaws.{is_name-tail}
-use Rattle.dns_spec.proofs.Messages.Places.{Stands}
-use Rattle.dns_spec.proofs.Layouts.SameLayout.{begins_inside}
-use Rattle.dns_spec.proofs.Layouts.SharedNames.{suffix_from, suffix_to, place_again, place_pushed, shared_is, shared_to, shared_none, shared_whole, shared_pointed, shared_root, Known, known_more}
-use Rattle.dns_wire.specs.Kept.{Kept, IsKept}
-use Rattle.dns_wire.specs.Writing.{front_size, pointed_place, end_octets, new_places, Answers, Holds}
+-- A name laid out is one more earlier name: the message spells its suffixes, and the places kept
+-- answer for them.
+use Rattle.dns_wire.proofs.Common.{◌≡◌, ℕ, zero, suc, ◌+◌, ◌-◌, ◌<◌, ◌≤◌, Bool, true, false, cond, nat_le, ◌⊎◌, inl, inr, List, [], ◌∷◌, ◌++◌, length, take, drop, replicate, slice_get, Option, None, Some, refl, sym, ap, ap₂, ◌∙◌, subst, arith, append_assoc, append-nil, length-append, and_parts, leb-true, none-some, same_Some, take-append-le, take-append-add, list_all, Octets, DomainName, wire, is_name, is_label, RunAt, ends, goes_on, jumps, Placed, has_suffix, suffix_place, place_of, last_place, shared_place, shared_octets, is_name-tail, Stands, begins_inside, suffix_from, suffix_to, place_again, place_pushed, shared_is, shared_to, shared_none, shared_whole, shared_pointed, shared_root, Known, known_more, Kept, IsKept, front_size, pointed_place, end_octets, new_places, Answers, Holds}
 use Rattle.dns_wire.proofs.Runs.{get_more}
 use Rattle.dns_wire.proofs.SuffixLemmas.{front-as, front-root, pointed-as, pointed-root, kept-as, kept-more, kept-root}
 
 -- a name is laid out as its front and its end
-pub shared_cut : (ms : List Placed) (n : DomainName) → shared_octets ms n ≡ take (front_size ms n) (wire n) ++ end_octets (pointed_place ms n)
-shared_cut ms [] = shared_root ms ∙ ap₂ (λ k o. take k (wire []) ++ end_octets o) (sym (front-root ms)) (sym (pointed-root ms))
+pub shared_cut : (ms : List Placed) (n : DomainName)
+    → shared_octets ms n ≡ take (front_size ms n) (wire n) ++ end_octets (pointed_place ms n)
+shared_cut ms [] = grind (arith, shared_root, wire, end_octets, front-root, pointed-root)
 shared_cut ms (l ∷ n) = go (shared_place ms (l ∷ n)) refl (shared_cut ms n)
   where
-    go : (x : Option ℕ) → shared_place ms (l ∷ n) ≡ x → shared_octets ms n ≡ take (front_size ms n) (wire n) ++ end_octets (pointed_place ms n)
-        → shared_octets ms (l ∷ n) ≡ take (front_size ms (l ∷ n)) (wire (l ∷ n)) ++ end_octets (pointed_place ms (l ∷ n))
+    go : (x : Option ℕ) → shared_place ms (l ∷ n) ≡ x → shared_octets ms n ≡ take
+        (front_size ms n) (wire n) ++ end_octets (pointed_place ms n) → shared_octets ms (l ∷ n)
+        ≡ take (front_size ms (l ∷ n)) (wire (l ∷ n)) ++ end_octets (pointed_place ms (l ∷ n))
     go None e h =
         let f = front_size ms n in
         let o = end_octets (pointed_place ms n) in
         let more : take (1 + length l + f) (wire (l ∷ n)) ≡ length l ∷ (l ++ take f (wire n)) =
-        ap (λ k. take k (wire (l ∷ n))) (let z : 1 + length l + f ≡ suc (length l + f) = omega arith in z)
-        ∙ ap (λ z. length l ∷ z) (take-append-add l (wire n) f) in
-        shared_whole ms l n e ∙ ap (λ z. length l ∷ (l ++ z)) h ∙ ap (λ z. length l ∷ z) (sym (append_assoc l (take f (wire n)) o))
-        ∙ ap (λ z. z ++ o) (sym more)
-        ∙ ap₂ (λ k x. take k (wire (l ∷ n)) ++ end_octets x) (sym (front-as ms l n e)) (sym (pointed-as ms l n e))
+        ap (λ k. take k (wire (l ∷ n))) (let z : 1 + length l + f ≡ suc (length l + f) =
+        omega arith in z) ∙ ap (λ z. length l ∷ z) (take-append-add l (wire n) f) in
+        shared_whole ms l n e ∙ ap (λ z. length l ∷ (l ++ z)) h ∙ ap (λ z. length l ∷ z) (sym
+        (append_assoc l (take f (wire n)) o)) ∙ ap (λ z. z ++ o) (sym more) ∙ ap₂ (λ k x. take k
+        (wire (l ∷ n)) ++ end_octets x) (sym (front-as ms l n e)) (sym (pointed-as ms l n e))
     go (Some p) e h =
-        shared_pointed ms l n p e ∙ ap₂ (λ k x. take k (wire (l ∷ n)) ++ end_octets x) (sym (front-as ms l n e)) (sym (pointed-as ms l n e))
+        shared_pointed ms l n p e ∙ ap₂ (λ k x. take k (wire (l ∷ n)) ++ end_octets x)
+        (sym (front-as ms l n e)) (sym (pointed-as ms l n e))
 
 -- what is read stays, whatever comes after
-take_more : (b x : Octets) (i k : ℕ) → i + k ≤ length b → take k (drop i (b ++ x)) ≡ take k (drop i b)
+take_more : (b x : Octets) (i k : ℕ)
+    → i + k ≤ length b → take k (drop i (b ++ x)) ≡ take k (drop i b)
 take_more b x zero k h = take-append-le k b x (omega (arith, h))
 take_more [] x (suc i) k h = absurd (omega arith)
 take_more (y ∷ b) x (suc i) k h = take_more b x i k (omega arith)
 
-run_more : {b : Octets} {s i e : ℕ} {n : DomainName} (x : Octets) → RunAt b s i n e → RunAt (b ++ x) s i n e
+run_more : {b : Octets} {s i e : ℕ} {n : DomainName} (x : Octets)
+    → RunAt b s i n e → RunAt (b ++ x) s i n e
 run_more {b} x (ends i at) = ends i (get_more b x i 0 at)
 run_more {b} x (goes_on i k l n e at some short within is rest) =
-    goes_on i k l n e (get_more b x i k at) some short (omega (arith, within, length-append b x)) (is ∙ sym (take_more b x (i + 1) k within)) (run_more x rest)
+    goes_on i k l n e (get_more b x i k at) some short (omega (arith, within, length-append b x))
+    (is ∙ sym (take_more b x (i + 1) k within)) (run_more x rest)
 run_more {b} x (jumps i o o' p n e at high at' is from before rest) =
-    jumps i o o' p n e (get_more b x i o at) high (get_more b x (i + 1) o' at') is from before (run_more x rest)
+    jumps i o o' p n e
+    (get_more b x i o at) high (get_more b x (i + 1) o' at') is from before (run_more x rest)
 
 -- places kept among more
 pub kept_left : (ks more : List Kept) (p h : ℕ) → IsKept ks p h → IsKept (ks ++ more) p h
@@ -49,7 +51,8 @@ pub kept_right : (ks more : List Kept) (p h : ℕ) → IsKept more p h → IsKep
 kept_right [] more p h kept = kept
 kept_right (y ∷ ks) more p h kept = let r = kept_right ks more p h kept in (suc r.0, r.1)
 
-pub kept_split : (ks more : List Kept) (p h : ℕ) → IsKept (ks ++ more) p h → IsKept ks p h ⊎ IsKept more p h
+pub kept_split : (ks more : List Kept) (p h : ℕ)
+    → IsKept (ks ++ more) p h → IsKept ks p h ⊎ IsKept more p h
 kept_split [] more p h kept = inr kept
 kept_split (y ∷ ks) more p h (zero, at) = inl (zero, at)
 kept_split (y ∷ ks) more p h (suc k, at) = go (kept_split ks more p h (k, at))
@@ -59,16 +62,22 @@ kept_split (y ∷ ks) more p h (suc k, at) = go (kept_split ks more p h (k, at))
     go (inr b) = inr b
 
 -- each suffix that no earlier name has is kept, where a pointer reaches it
-pub kept_complete : (head : Octets → ℕ) (ms : List Placed) (n front : DomainName) (l : Octets) (t : DomainName) (i p : ℕ) → n ≡ front ++ l ∷ t → place_of ms (l ∷ t) ≡ None
-    → length (wire (l ∷ t)) ≤ length (wire n) → i + (length (wire n) - length (wire (l ∷ t))) ≡ p → p < 16384 → IsKept (new_places head ms n i) p (head (wire (l ∷ t)))
+pub kept_complete : (head : Octets → ℕ) (ms : List Placed) (n front : DomainName)
+    (l : Octets) (t : DomainName) (i p : ℕ) → n ≡ front ++ l ∷ t → place_of ms (l ∷ t) ≡ None
+    → length (wire (l ∷ t)) ≤ length (wire n) → i + (length (wire n) - length (wire (l ∷ t))) ≡ p
+    → p < 16384 → IsKept (new_places head ms n i) p (head (wire (l ∷ t)))
 kept_complete head ms n [] l t i p e none short at low =
     grind (arith, kept-more, shared_none, slice_get)
-kept_complete head ms [] (x ∷ front) l t i p e none short at low = absurd (let z = ap length e in omega (arith, z))
+kept_complete head ms [] (x ∷ front) l t i p e none short at low =
+    absurd (let z = ap length e in omega (arith, z))
 kept_complete head ms (k ∷ n) (x ∷ front) l t i p e none short at low =
     let tail : n ≡ front ++ l ∷ t = ap (λ (y : DomainName). drop 1 y) e in
-    let out = shared_none ms (k ∷ n) (place_again ms (k ∷ n) (l ∷ t) (record { front = x ∷ front; whole = e }) none) in
-    let inside : length (wire (l ∷ t)) ≤ length (wire n) = (begins_inside ms n front l t tail none).0 in
-    let next : i + 1 + length k + (length (wire n) - length (wire (l ∷ t))) ≡ p = omega (arith, at, inside, length-append k (wire n)) in
+    let out = shared_none ms
+    (k ∷ n) (place_again ms (k ∷ n) (l ∷ t) (record { front = x ∷ front; whole = e }) none) in
+    let inside : length (wire (l ∷ t)) ≤ length (wire n) =
+    (begins_inside ms n front l t tail none).0 in
+    let next : i + 1 + length k + (length (wire n) - length (wire (l ∷ t))) ≡ p =
+    omega (arith, at, inside, length-append k (wire n)) in
     let r = kept_complete head ms n front l t (i + 1 + length k) p tail none inside next low in
     let more = kept-more head ms k n i out (omega (arith, at, low)) in
     (suc r.0, ap (λ x. slice_get x (suc r.0)) more ∙ r.1)
@@ -85,24 +94,43 @@ pub record NewSuffix (ms : List Placed) (n : DomainName) (i p : ℕ) : Type 0 wh
   pub wire_length : length (wire n) ≡ offset + length (wire (label ∷ labels))
   pub low : p < 16384
 
-pub kept_sound : (head : Octets → ℕ) (ms : List Placed) (n : DomainName) (i p h : ℕ) → IsKept (new_places head ms n i) p h → NewSuffix ms n i p
-kept_sound head ms [] i p h (k, at) = absurd (none-some _ (ap (λ x. slice_get x k) (sym (kept-root head ms i)) ∙ at))
-kept_sound head ms (l ∷ n) i p h (k, at) = go (shared_place ms (l ∷ n)) refl (nat_le i last_place) refl k at (λ j kept. kept_sound head ms n j p h kept)
+pub kept_sound : (head : Octets → ℕ) (ms : List Placed) (n : DomainName) (i p h : ℕ)
+    → IsKept (new_places head ms n i) p h → NewSuffix ms n i p
+kept_sound head ms [] i p h (k, at) =
+    absurd (none-some _ (ap (λ x. slice_get x k) (sym (kept-root head ms i)) ∙ at))
+kept_sound head ms (l ∷ n) i p h (k, at) = go (shared_place ms (l ∷ n)) refl
+    (nat_le i last_place) refl k at (λ j kept. kept_sound head ms n j p h kept)
   where
-    go : (x : Option ℕ) → shared_place ms (l ∷ n) ≡ x → (t : Bool) → nat_le i last_place ≡ t → (k : ℕ) → slice_get (new_places head ms (l ∷ n) i) k ≡ Some (record { place = p; number = h })
-        → ((j : ℕ) → IsKept (new_places head ms n j) p h → NewSuffix ms n j p) → NewSuffix ms (l ∷ n) i p
-    go (Some q) e t r k at again = absurd (none-some _ (ap (λ x. slice_get x k) (sym (kept-as head ms l n i e)) ∙ at))
+    go : (x : Option ℕ)
+        → shared_place ms (l ∷ n) ≡ x → (t : Bool) → nat_le i last_place ≡ t → (k : ℕ) → slice_get
+        (new_places head ms (l ∷ n) i) k ≡ Some (record { place = p; number = h }) → ((j : ℕ)
+        → IsKept (new_places head ms n j) p h → NewSuffix ms n j p) → NewSuffix ms (l ∷ n) i p
+    go (Some q) e t r k at again =
+        absurd (none-some _ (ap (λ x. slice_get x k) (sym (kept-as head ms l n i e)) ∙ at))
     go None e false r k at again =
         absurd (none-some _ (ap (λ x. slice_get x k) (sym (kept-as head ms l n i e
-        ∙ ap (λ t. cond t (record { place = i; number = head (wire (l ∷ n)) } ∷ new_places head ms n (i + 1 + length l)) []) r)) ∙ at))
+        ∙ ap (λ t. cond t (record { place = i; number = head (wire (l ∷ n)) } ∷ new_places head ms n
+        (i + 1 + length l)) []) r)) ∙ at))
     go None e true r zero at again =
         let low = leb-true i last_place r in
         let first = ap (λ x. slice_get x 0) (sym (kept-more head ms l n i e low)) ∙ at in
         let place : i ≡ p = ap (λ (x : Kept). x.place) (same_Some _ _ first) in
-        record { label = l; labels = n; front = []; whole = refl; unshared = e; offset = 0; place = omega (arith, place); wire_length = omega arith; low = omega (arith, place, low) }
+        record {
+          label = l;
+          labels = n;
+          front = [];
+          whole = refl;
+          unshared = e;
+          offset = 0;
+          place =
+              omega (arith, place);
+          wire_length = omega arith;
+          low = omega (arith, place, low);
+        }
     go None e true r (suc k) at again =
         let low = leb-true i last_place r in
-        let s = again (i + 1 + length l) (k, ap (λ x. slice_get x (suc k)) (sym (kept-more head ms l n i e low)) ∙ at) in
+        let s = again (i + 1 + length l)
+        (k, ap (λ x. slice_get x (suc k)) (sym (kept-more head ms l n i e low)) ∙ at) in
         let place = s.place in
         let long = s.wire_length in
         record {
@@ -118,15 +146,18 @@ kept_sound head ms (l ∷ n) i p h (k, at) = go (shared_place ms (l ∷ n)) refl
         }
 
 -- the place of a suffix among more names
-place_left : (ms : List Placed) (m : Placed) (s : DomainName) (p : ℕ) → place_of ms s ≡ Some p → place_of (ms ++ m ∷ []) s ≡ Some p
+place_left : (ms : List Placed) (m : Placed) (s : DomainName) (p : ℕ)
+    → place_of ms s ≡ Some p → place_of (ms ++ m ∷ []) s ≡ Some p
 place_left [] m s p e = absurd (none-some p e)
 place_left (k ∷ ms) m s p e = grind (arith, (place_left ms m s p))
 
-place_new : (ms : List Placed) (m : Placed) (s : DomainName) → place_of ms s ≡ None → has_suffix m.0 s ≡ true → place_of (ms ++ m ∷ []) s ≡ Some (suffix_place m s)
+place_new : (ms : List Placed) (m : Placed) (s : DomainName) → place_of ms s ≡ None
+    → has_suffix m.0 s ≡ true → place_of (ms ++ m ∷ []) s ≡ Some (suffix_place m s)
 place_new [] m s e is = ap (λ t. cond t (Some (suffix_place m s)) None) is
 place_new (k ∷ ms) m s e is = go (has_suffix k.0 s) e (λ f. place_new ms m s f is)
   where
-    go : (t : Bool) → cond t (Some (suffix_place k s)) (place_of ms s) ≡ None → (place_of ms s ≡ None → place_of (ms ++ m ∷ []) s ≡ Some (suffix_place m s))
+    go : (t : Bool) → cond t (Some (suffix_place k s)) (place_of ms s) ≡ None
+        → (place_of ms s ≡ None → place_of (ms ++ m ∷ []) s ≡ Some (suffix_place m s))
         → cond t (Some (suffix_place k s)) (place_of (ms ++ m ∷ []) s) ≡ Some (suffix_place m s)
     go true f again = absurd (none-some (suffix_place k s) (sym f))
     go false f again = again f
@@ -135,29 +166,44 @@ pub is_name-suffix : (front s : DomainName) → is_name (front ++ s) ≡ true �
 is_name-suffix [] s h = h
 is_name-suffix (k ∷ front) s h = is_name-suffix front s (is_name-tail k (front ++ s) h)
 
-module _ (head : Octets → ℕ) (ms : List Placed) (b : Octets) (ks : List Kept) (holds : Holds head ms b ks) (n : DomainName) (ok : is_name n ≡ true) where
+module _ (head : Octets → ℕ) (ms : List Placed) (b : Octets)
+    (ks : List Kept) (holds : Holds head ms b ks) (n : DomainName) (ok : is_name n ≡ true) where
   answers_more : Answers head (ms ++ (n, length b) ∷ []) (ks ++ new_places head ms n (length b))
   answers_more = record { complete = complete; sound = sound }
     where
-      complete : (l : Octets) (t : DomainName) (p : ℕ) → shared_place (ms ++ (n, length b) ∷ []) (l ∷ t) ≡ Some p → IsKept (ks ++ new_places head ms n (length b)) p (head (wire (l ∷ t)))
-      complete l t p e = let here = shared_is (ms ++ (n, length b) ∷ []) (l ∷ t) p e in go (place_pushed ms (n, length b) (l ∷ t) p here.0) here.1
+      complete : (l : Octets) (t : DomainName) (p : ℕ) → shared_place (ms ++ (n, length b) ∷ [])
+          (l ∷ t) ≡ Some p → IsKept (ks ++ new_places head ms n (length b)) p (head (wire (l ∷ t)))
+      complete l t p e = let here = shared_is (ms ++ (n, length b) ∷ []) (l ∷ t) p e in
+          go (place_pushed ms (n, length b) (l ∷ t) p here.0) here.1
         where
-          go : (place_of ms (l ∷ t) ≡ Some p) ⊎ ((place_of ms (l ∷ t) ≡ None) × (has_suffix n (l ∷ t) ≡ true) × (suffix_place (n, length b) (l ∷ t) ≡ p)) → p < 16384
-              → IsKept (ks ++ new_places head ms n (length b)) p (head (wire (l ∷ t)))
-          go (inl f) low = kept_left ks (new_places head ms n (length b)) p (head (wire (l ∷ t))) (holds.answers.complete l t p (shared_to ms (l ∷ t) p f low))
+          go : (place_of ms (l ∷ t) ≡ Some p) ⊎ ((place_of ms (l ∷ t) ≡ None)
+              × (has_suffix n (l ∷ t) ≡ true) × (suffix_place (n, length b) (l ∷ t) ≡ p))
+              → p < 16384 → IsKept (ks ++ new_places head ms n (length b)) p (head (wire (l ∷ t)))
+          go (inl f) low = kept_left ks (new_places head ms n (length b)) p
+              (head (wire (l ∷ t))) (holds.answers.complete l t p (shared_to ms (l ∷ t) p f low))
           go (inr f) low =
               let s = suffix_from n (l ∷ t) f.1 in
               let short = (begins_inside ms n s.front l t s.whole f.0).0 in
-              kept_right ks (new_places head ms n (length b)) p (head (wire (l ∷ t))) (kept_complete head ms n s.front l t (length b) p s.whole f.0 short f.2 low)
+              kept_right ks (new_places head ms n (length b)) p (head (wire (l ∷ t)))
+              (kept_complete head ms n s.front l t (length b) p s.whole f.0 short f.2 low)
 
-      sound : (p h : ℕ) → IsKept (ks ++ new_places head ms n (length b)) p h → (l : Octets) × (t : DomainName) × (shared_place (ms ++ (n, length b) ∷ []) (l ∷ t) ≡ Some p) × (is_name (l ∷ t) ≡ true)
+      sound : (p h : ℕ)
+          → IsKept (ks ++ new_places head ms n (length b)) p h → (l : Octets) × (t : DomainName)
+          × (shared_place (ms ++ (n, length b) ∷ []) (l ∷ t) ≡ Some p) × (is_name (l ∷ t) ≡ true)
       sound p h kept = go (kept_split ks (new_places head ms n (length b)) p h kept)
         where
-          go : IsKept ks p h ⊎ IsKept (new_places head ms n (length b)) p h → (l : Octets) × (t : DomainName) × (shared_place (ms ++ (n, length b) ∷ []) (l ∷ t) ≡ Some p) × (is_name (l ∷ t) ≡ true)
+          go : IsKept ks p h ⊎ IsKept (new_places head ms n (length b)) p h → (l : Octets)
+              × (t : DomainName) × (shared_place (ms ++ (n, length b) ∷ []) (l ∷ t) ≡ Some p)
+              × (is_name (l ∷ t) ≡ true)
           go (inl old) =
               let s = holds.answers.sound p h old in
-              let is = shared_is ms (s.0 ∷ s.1) p s.2 in
-              (s.0, s.1, shared_to (ms ++ (n, length b) ∷ []) (s.0 ∷ s.1) p (place_left ms (n, length b) (s.0 ∷ s.1) p is.0) is.1, s.3)
+              let is = shared_is ms (s.0 ∷ s.1) p s.2 in (
+                s.0,
+                s.1,
+                shared_to (ms ++ (n, length b) ∷ [])
+                    (s.0 ∷ s.1) p (place_left ms (n, length b) (s.0 ∷ s.1) p is.0) is.1,
+                s.3,
+              )
           go (inr new) =
               let s = kept_sound head ms n (length b) p h new in
               let suffix : DomainName = s.label ∷ s.labels in
@@ -166,18 +212,33 @@ module _ (head : Octets → ℕ) (ms : List Placed) (b : Octets) (ks : List Kept
               let long = s.wire_length in
               let low = s.low in
               let at : suffix_place (n, length b) suffix ≡ p = omega (arith, place, long) in
-              let none = unplaced suffix s.label s.labels refl (place_of ms suffix) refl s.unshared low (let z : length b ≤ p = omega (arith, place) in z) in
-              let pushed = place_new ms (n, length b) suffix none has ∙ ap Some at in
-              (s.label, s.labels, shared_to (ms ++ (n, length b) ∷ []) suffix p pushed low, is_name-suffix s.front suffix (subst (λ x. is_name x ≡ true) s.whole ok))
+              let none = unplaced suffix s.label s.labels refl (place_of ms suffix)
+              refl s.unshared low (let z : length b ≤ p = omega (arith, place) in z) in
+              let pushed = place_new ms (n, length b) suffix none has ∙ ap Some at in (
+                s.label,
+                s.labels,
+                shared_to (ms ++ (n, length b) ∷ []) suffix p pushed low,
+                is_name-suffix s.front suffix (subst (λ x. is_name x ≡ true) s.whole ok),
+              )
             where
-              unplaced : (suffix : DomainName) (l : Octets) (t : DomainName) → suffix ≡ l ∷ t → (x : Option ℕ) → place_of ms suffix ≡ x → shared_place ms suffix ≡ None → p < 16384 → length b ≤ p → place_of ms suffix ≡ None
+              unplaced : (suffix : DomainName) (l : Octets) (t : DomainName) → suffix ≡ l ∷ t
+                  → (x : Option ℕ) → place_of ms suffix ≡ x → shared_place ms suffix ≡ None
+                  → p < 16384 → length b ≤ p → place_of ms suffix ≡ None
               unplaced suffix l t is None e out low above = e
               unplaced suffix l t is (Some q) e out low above =
                   let before = holds.before l t q (ap (place_of ms) (sym is) ∙ e) in
-                  absurd (none-some q (sym out ∙ shared_to ms suffix q e (omega (arith, before, above, low))))
+                  absurd (none-some q
+                  (sym out ∙ shared_to ms suffix q e (omega (arith, before, above, low))))
 
-  pub holds_name : Holds head (ms ++ (n, length b) ∷ []) (b ++ shared_octets ms n) (ks ++ new_places head ms n (length b))
-  holds_name = record { spelled = spelled; before = before; after_header = let h = holds.after_header in omega (arith, h, length-append b w); answers = answers_more }
+  pub holds_name : Holds head
+      (ms ++ (n, length b) ∷ []) (b ++ shared_octets ms n) (ks ++ new_places head ms n (length b))
+  holds_name = record {
+    spelled = spelled;
+    before = before;
+    after_header =
+        let h = holds.after_header in omega (arith, h, length-append b w);
+    answers = answers_more;
+  }
     where
       w : Octets
       w = shared_octets ms n
@@ -185,24 +246,40 @@ module _ (head : Octets → ℕ) (ms : List Placed) (b : Octets) (ks : List Kept
       known : Known (b ++ shared_octets ms n) (length b) ms
       known l t p e =
           let s = holds.spelled l t p e in
-          record { header = s.0; earlier = s.1; end = s.2; spelled = run_more (shared_octets ms n) s.3 }
+          record {
+            header = s.0;
+            earlier = s.1;
+            end = s.2;
+            spelled = run_more (shared_octets ms n) s.3;
+          }
 
       stands : Stands (b ++ shared_octets ms n) (length b) (shared_octets ms n)
-      stands = record { before = b; after = []; whole = ap (λ z. b ++ z) (sym (append-nil (shared_octets ms n))); place = refl }
+      stands = record {
+        before = b;
+        after = [];
+        whole = ap (λ z. b ++ z) (sym (append-nil (shared_octets ms n)));
+        place = refl;
+      }
 
-      spelled : (l : Octets) (t : DomainName) (p : ℕ) → shared_place (ms ++ (n, length b) ∷ []) (l ∷ t) ≡ Some p
-          → (12 ≤ p) × (p < length (b ++ shared_octets ms n)) × (e : ℕ) × RunAt (b ++ shared_octets ms n) p p (l ∷ t) e
+      spelled : (l : Octets) (t : DomainName) (p : ℕ) → shared_place (ms ++ (n, length b) ∷ [])
+          (l ∷ t) ≡ Some p → (12 ≤ p) × (p < length (b ++ shared_octets ms n))
+          × (e : ℕ) × RunAt (b ++ shared_octets ms n) p p (l ∷ t) e
       spelled l t p e =
           let labels = (and_parts (list_all is_label n) (nat_le (length (wire n)) 255) ok).0 in
-          let f = known_more (b ++ shared_octets ms n) (length b) ms known n (length b) (omega arith) holds.after_header labels stands l t p e in
+          let f = known_more (b ++ shared_octets ms n) (length b) ms known n
+          (length b) (omega arith) holds.after_header labels stands l t p e in
           let earlier = f.earlier in
           (f.header, omega (arith, earlier, length-append b (shared_octets ms n)), f.end, f.spelled)
 
-      before : (l : Octets) (t : DomainName) (p : ℕ) → place_of (ms ++ (n, length b) ∷ []) (l ∷ t) ≡ Some p → p < length (b ++ shared_octets ms n)
+      before : (l : Octets) (t : DomainName) (p : ℕ) → place_of
+          (ms ++ (n, length b) ∷ []) (l ∷ t) ≡ Some p → p < length (b ++ shared_octets ms n)
       before l t p e = go (place_pushed ms (n, length b) (l ∷ t) p e)
         where
-          go : (place_of ms (l ∷ t) ≡ Some p) ⊎ ((place_of ms (l ∷ t) ≡ None) × (has_suffix n (l ∷ t) ≡ true) × (suffix_place (n, length b) (l ∷ t) ≡ p)) → p < length (b ++ shared_octets ms n)
-          go (inl f) = let old = holds.before l t p f in omega (arith, old, length-append b (shared_octets ms n))
+          go : (place_of ms (l ∷ t) ≡ Some p) ⊎ ((place_of ms (l ∷ t) ≡ None)
+              × (has_suffix n (l ∷ t) ≡ true) × (suffix_place (n, length b) (l ∷ t) ≡ p))
+              → p < length (b ++ shared_octets ms n)
+          go (inl f) = let old =
+              holds.before l t p f in omega (arith, old, length-append b (shared_octets ms n))
           go (inr f) =
               let s = suffix_from n (l ∷ t) f.1 in
               let inside = (begins_inside ms n s.front l t s.whole f.0).1 in
@@ -210,7 +287,8 @@ module _ (head : Octets → ℕ) (ms : List Placed) (b : Octets) (ks : List Kept
               omega (arith, inside, at, length-append b (shared_octets ms n))
 
 -- octets that are no name leave all as it is
-pub holds_octets : {head : Octets → ℕ} {ms : List Placed} {b : Octets} {ks : List Kept} (x : Octets) → Holds head ms b ks → Holds head ms (b ++ x) ks
+pub holds_octets : {head : Octets → ℕ} {ms : List Placed} {b : Octets} {ks : List Kept} (x : Octets)
+    → Holds head ms b ks → Holds head ms (b ++ x) ks
 holds_octets {b = b} x holds = grind (arith, length-append, run_more)
 
 -- before the first name nothing is shared

@@ -1,11 +1,9 @@
 -- A piece of data stands at a place, at most one, and what it is decides of the data.
-use Rattle.dns_spec.proofs.Common.{◌≡◌, ◌≢◌, ℕ, zero, suc, ◌+◌, ◌-◌, ◌<◌, ◌≤◌, true, ◌&&◌, not, ◌==◌, List, [], ◌∷◌, ◌++◌, length, take, drop, get_or, slice_get, Some, refl, sym, ap, ◌∙◌, subst, arith, append_assoc, append-nil, add-zero, and_parts, false≢true, none-some, same_Some, cond_some, slice_get-get_or, Octets, DomainName, wire, width, Piece, fixed, domain, string, strings, anything, Part, octets, part_octets, are_strings, octets_front, string_front, piece_front, RunAt, NameAt, OctetsAt, PiecesAt, ends, goes_on, jumps}
-use Rattle.std.proofs.lemmas.List.{length-take-le, length-drop, take-take, get_or-take, get_or-drop}
-use Rattle.dns_spec.proofs.Messages.OneMessage.{same_names}
-use Rattle.dns_wire.specs.Pieces.{PieceAt, IsPieceRead, NoPieceAt, NoPiecesAt, ArePiecesRead}
+use Rattle.dns_wire.proofs.Common.{◌≡◌, ◌≢◌, ℕ, zero, suc, ◌+◌, ◌-◌, ◌<◌, ◌≤◌, true, ◌&&◌, not, ◌==◌, List, [], ◌∷◌, ◌++◌, length, take, drop, get_or, slice_get, Some, refl, sym, ap, ◌∙◌, subst, arith, append_assoc, append-nil, add-zero, and_parts, false≢true, none-some, same_Some, cond_some, slice_get-get_or, Octets, DomainName, wire, width, Piece, fixed, domain, string, strings, anything, Part, octets, part_octets, are_strings, octets_front, string_front, piece_front, RunAt, NameAt, OctetsAt, PiecesAt, ends, goes_on, jumps, length-take-le, length-drop, take-take, get_or-take, get_or-drop, same_names, PieceAt, IsPieceRead, NoPieceAt, NoPiecesAt, ArePiecesRead}
 
 -- the first of some pieces, and the others
-pub record FirstAndOthers (b : Octets) (p : Piece) (ps : List Piece) (i e : ℕ) (d : Octets) : Type 0 where
+pub record FirstAndOthers
+    (b : Octets) (p : Piece) (ps : List Piece) (i e : ℕ) (d : Octets) : Type 0 where
   pub place : ℕ
   pub front : Octets
   pub rest : Octets
@@ -13,25 +11,56 @@ pub record FirstAndOthers (b : Octets) (p : Piece) (ps : List Piece) (i e : ℕ)
   pub whole : d ≡ front ++ rest
   pub others : PiecesAt b ps place e rest
 
-pub first_of : (b : Octets) (p : Piece) (ps : List Piece) (i e : ℕ) (d : Octets) → PiecesAt b (p ∷ ps) i e d → FirstAndOthers b p ps i e d
-first_of b (fixed f) ps i e d h = record { place = i + width f; front = h.0; rest = h.1; first = (h.2, refl); whole = h.3; others = h.4 }
-first_of b domain ps i e d h = record { place = h.1; front = wire h.0; rest = h.2; first = (h.0, h.3, refl); whole = h.4; others = h.5 }
-first_of b string ps i e d h = record { place = i + 1 + h.0; front = h.1; rest = h.2; first = (h.0, h.3, h.4, refl); whole = h.5; others = h.6 }
-first_of b strings ps i e d h = record { place = h.2; front = h.0; rest = h.1; first = (h.3, h.4, h.5, h.7); whole = h.6; others = h.8 }
-first_of b anything ps i e d h = record { place = h.2; front = h.0; rest = h.1; first = (h.3, h.5); whole = h.4; others = h.6 }
+pub first_of : (b : Octets) (p : Piece) (ps : List Piece) (i e : ℕ) (d : Octets)
+    → PiecesAt b (p ∷ ps) i e d → FirstAndOthers b p ps i e d
+first_of b (fixed f) ps i e d h = record {
+  place = i + width f;
+  front = h.0;
+  rest = h.1;
+  first = (h.2, refl);
+  whole = h.3;
+  others = h.4;
+}
+first_of b domain ps i e d h = record {
+  place = h.1;
+  front = wire h.0;
+  rest = h.2;
+  first = (h.0, h.3, refl);
+  whole = h.4;
+  others = h.5;
+}
+first_of b string ps i e d h = record {
+  place = i + 1 + h.0;
+  front = h.1;
+  rest = h.2;
+  first = (h.0, h.3, h.4, refl);
+  whole = h.5;
+  others = h.6;
+}
+first_of b strings ps i e d h = record {
+  place = h.2;
+  front = h.0;
+  rest = h.1;
+  first = (h.3, h.4, h.5, h.7);
+  whole = h.6;
+  others = h.8;
+}
+first_of b anything ps i e d h =
+    record { place = h.2; front = h.0; rest = h.1; first = (h.3, h.5); whole = h.4; others = h.6 }
 
-pub from_first : (b : Octets) (p : Piece) (ps : List Piece) (i e j : ℕ) (front rest : Octets) → PieceAt b p i e j front → PiecesAt b ps j e rest
-    → PiecesAt b (p ∷ ps) i e (front ++ rest)
-from_first b (fixed f) ps i e j front rest h more = (front, rest, h.0, refl, subst (λ k. PiecesAt b ps k e rest) h.1 more)
+pub from_first : (b : Octets) (p : Piece) (ps : List Piece) (i e j : ℕ) (front rest : Octets)
+    → PieceAt b p i e j front → PiecesAt b ps j e rest → PiecesAt b (p ∷ ps) i e (front ++ rest)
+from_first b (fixed f) ps i e j front rest h more = grind (arith, PiecesAt)
 from_first b domain ps i e j front rest h more = (h.0, j, rest, h.1, ap (λ o. o ++ rest) h.2, more)
-from_first b string ps i e j front rest h more = (h.0, front, rest, h.1, h.2, refl, subst (λ k. PiecesAt b ps k e rest) h.3 more)
+from_first b string ps i e j front rest h more = grind (arith, PiecesAt)
 from_first b strings ps i e j front rest h more = (front, rest, j, h.0, h.1, h.2, refl, h.3, more)
 from_first b anything ps i e j front rest h more = (front, rest, j, h.0, refl, h.1, more)
 
 -- pieces end no earlier than they begin
 pub run_forward : {b : Octets} {s i e : ℕ} {n : DomainName} → RunAt b s i n e → i ≤ e
 run_forward (ends i at) = omega arith
-run_forward (goes_on i k l n e at some short within is rest) = let later = run_forward rest in omega arith
+run_forward (goes_on i k l n e at some short within is rest) =
+    let later = run_forward rest in omega arith
 run_forward (jumps i o o' p n e at high at' is from before rest) = omega arith
 
 -- a name has an octet
@@ -47,7 +76,8 @@ forward b string i e j o h = omega (arith, h.3)
 forward b strings i e j o h = h.0.ordered
 forward b anything i e j o h = h.0.ordered
 
-pub all_forward : (b : Octets) (ps : List Piece) (i e : ℕ) (d : Octets) → PiecesAt b ps i e d → i ≤ e
+pub all_forward : (b : Octets) (ps : List Piece) (i e : ℕ) (d : Octets)
+    → PiecesAt b ps i e d → i ≤ e
 all_forward b [] i e d h = omega (arith, h.0)
 all_forward b (p ∷ ps) i e d h =
     let c = first_of b p ps i e d h in
@@ -55,20 +85,25 @@ all_forward b (p ∷ ps) i e d h =
     let later = all_forward b ps c.place e c.rest c.others in
     omega arith
 
-pub piece_more : {b : Octets} {ps : List Piece} {i e j k : ℕ} {p : Piece} {left : List Piece} {so_far now : Octets}
-    → ArePiecesRead b ps i e (p ∷ left) j so_far → IsPieceRead b p j e so_far now k → ArePiecesRead b ps i e left k now
+pub piece_more : {b : Octets} {ps : List Piece} {i e j k : ℕ} {p : Piece}
+    {left : List Piece} {so_far now : Octets} → ArePiecesRead b ps i e (p ∷ left) j so_far
+    → IsPieceRead b p j e so_far now k → ArePiecesRead b ps i e left k now
 piece_more {b} {ps} {i} {e} {j} {k} {p} {left} {so_far} {now} reading read =
     grind (arith, append_assoc, from_first, same_names, same_Some)
 
 -- no such piece, and so no such pieces
-pub pieces_none : {b : Octets} {ps : List Piece} {i e j : ℕ} {p : Piece} {left : List Piece} {so_far : Octets}
+pub pieces_none :
+    {b : Octets} {ps : List Piece} {i e j : ℕ} {p : Piece} {left : List Piece} {so_far : Octets}
     → ArePiecesRead b ps i e (p ∷ left) j so_far → NoPieceAt b p j e → NoPiecesAt b ps i e
 pieces_none {b} {ps} {i} {e} {j} {p} {left} reading none d h = grind (arith, first_of, all_forward)
 
-pub pieces_end : {b : Octets} {ps : List Piece} {i e j : ℕ} {so_far : Octets} → ArePiecesRead b ps i e [] j so_far → j ≡ e → PiecesAt b ps i e so_far
-pieces_end {b} {ps} {i} {e} {j} {so_far} reading end = subst (PiecesAt b ps i e) (append-nil so_far) (reading.forth [] (end, refl))
+pub pieces_end : {b : Octets} {ps : List Piece} {i e j : ℕ} {so_far : Octets}
+    → ArePiecesRead b ps i e [] j so_far → j ≡ e → PiecesAt b ps i e so_far
+pieces_end {b} {ps} {i} {e} {j} {so_far} reading end =
+    subst (PiecesAt b ps i e) (append-nil so_far) (reading.forth [] (end, refl))
 
--- The octets of the data, from place i to place e, begin with a piece that is no name exactly where it stands there.
+-- The octets of the data, from place i to place e, begin with a piece that is no name exactly where
+-- it stands there.
 abbrev pub own_of : Octets → ℕ → ℕ → Octets
 own_of b i e = take (e - i) (drop i b)
 
@@ -84,38 +119,53 @@ module _ (b : Octets) (i e : ℕ) (ordered : i ≤ e) (within : e ≤ length b) 
   all_there = record { ordered = ordered; within = within; are = refl }
 
   abbrev pub RunStands : Piece → Part → Octets → Type 0
-  RunStands p part rest = (o : Octets) × (part ≡ octets o) × PieceAt b p i e (e - length rest) o × (length rest ≤ e - i)
+  RunStands p part rest =
+      (o : Octets) × (part ≡ octets o) × PieceAt b p i e (e - length rest) o × (length rest ≤ e - i)
 
   -- k octets in front, and the place after them
-  front_stands : (k : ℕ) (part : Part) (rest : Octets) → octets_front k own ≡ Some (part, rest)
-      → (o : Octets) × (part ≡ octets o) × OctetsAt b i (i + k) o × (e - length rest ≡ i + k) × (length rest ≤ e - i)
+  front_stands : (k : ℕ) (part : Part) (rest : Octets)
+      → octets_front k own ≡ Some (part, rest) → (o : Octets) × (part ≡ octets o)
+      × OctetsAt b i (i + k) o × (e - length rest ≡ i + k) × (length rest ≤ e - i)
   front_stands k part rest h = grind (arith, length-own, length-drop, take-take)
 
   first_octet : (k : ℕ) (os : Octets) → own ≡ k ∷ os → slice_get b i ≡ Some k
   first_octet k os h =
       let some : 0 < e - i = omega (arith, length-own, ap length h) in
       slice_get-get_or b i 0 (omega arith)
-      ∙ ap Some (ap (λ j. get_or b j 0) (sym (add-zero i)) ∙ sym (get_or-drop i b 0 0) ∙ sym (get_or-take (e - i) (drop i b) 0 0 some) ∙ ap (λ xs. get_or xs 0 0) h)
+      ∙ ap Some (ap (λ j. get_or b j 0) (sym (add-zero i)) ∙ sym (get_or-drop i b 0 0)
+      ∙ sym (get_or-take (e - i) (drop i b) 0 0 some) ∙ ap (λ xs. get_or xs 0 0) h)
 
-  pub run_stands : (p : Piece) (part : Part) (rest : Octets) → p ≢ domain → piece_front p (own_of b i e) ≡ Some (part, rest) → RunStands p part rest
+  pub run_stands : (p : Piece) (part : Part) (rest : Octets)
+      → p ≢ domain → piece_front p (own_of b i e) ≡ Some (part, rest) → RunStands p part rest
   run_stands (fixed f) part rest other h = grind (arith, front_stands)
   run_stands domain part rest other h = absurd (other refl)
   run_stands string part rest other h = go own refl h
     where
-      go : (xs : Octets) → own ≡ xs → string_front xs ≡ Some (part, rest) → RunStands string part rest
+      go : (xs : Octets)
+          → own ≡ xs → string_front xs ≡ Some (part, rest) → RunStands string part rest
       go [] e g = absurd (none-some (part, rest) g)
       go (k ∷ os) is g =
           let r = front_stands (suc k) part rest (ap (octets_front (suc k)) is ∙ g) in
-          let next : i + suc k ≡ i + 1 + k = omega arith in
-          (r.0, r.1, (k, first_octet k os is, subst (λ j. OctetsAt b i j r.0) next r.2, r.3 ∙ next), r.4)
+          let next : i + suc k ≡ i + 1 + k = omega arith in (
+            r.0,
+            r.1,
+            (k, first_octet k os is, subst (λ j. OctetsAt b i j r.0) next r.2, r.3 ∙ next),
+            r.4,
+          )
   run_stands strings part rest other h =
-      let c = cond_some (not (length own == 0) && are_strings 0 own) (octets own, []) (part, rest) h in
+      let c =
+      cond_some (not (length own == 0) && are_strings 0 own) (octets own, []) (part, rest) h in
       let both = and_parts (not (length own == 0)) (are_strings 0 own) c.0 in
       let none : length rest ≡ 0 = ap (λ x. length x.1) (sym c.1) in
       let end : e - length rest ≡ e = omega arith in (
         own,
         ap (λ x. x.0) (sym c.1),
-        (subst (λ j. OctetsAt b i j own) (sym end) all_there, positive (length own) both.0, both.1, end),
+        (
+          subst (λ j. OctetsAt b i j own) (sym end) all_there,
+          positive (length own) both.0,
+          both.1,
+          end,
+        ),
         omega arith,
       )
     where
@@ -125,11 +175,14 @@ module _ (b : Octets) (i e : ℕ) (ordered : i ≤ e) (within : e ≤ length b) 
   run_stands anything part rest other h = grind (arith, same_Some, all_there)
 
 -- a name that ends past the data
-pub long_name_none : (b : Octets) (i e j : ℕ) (n : DomainName) → NameAt b i n j → e < j → NoPieceAt b domain i e
-long_name_none b i e j n there past k o h inside = let s = same_names refl there h.1 in omega (arith, s.1)
+pub long_name_none : (b : Octets) (i e j : ℕ) (n : DomainName)
+    → NameAt b i n j → e < j → NoPieceAt b domain i e
+long_name_none b i e j n there past k o h inside =
+    let s = same_names refl there h.1 in omega (arith, s.1)
 
 -- the piece that octets begin with, appended
-pub piece_read : (b : Octets) (p : Piece) (i e : ℕ) (part : Part) (rest lent old now : Octets) → i ≤ e → e ≤ length b → p ≢ domain
-    → piece_front p (own_of b i e) ≡ Some (part, rest) → part_octets part ≡ lent → now ≡ old ++ lent → IsPieceRead b p i e old now (e - length rest)
+pub piece_read : (b : Octets) (p : Piece) (i e : ℕ) (part : Part) (rest lent old now : Octets)
+    → i ≤ e → e ≤ length b → p ≢ domain → piece_front p (own_of b i e) ≡ Some (part, rest)
+    → part_octets part ≡ lent → now ≡ old ++ lent → IsPieceRead b p i e old now (e - length rest)
 piece_read b p i e part rest lent old now ordered within other front lends appended =
     grind (arith, run_stands)

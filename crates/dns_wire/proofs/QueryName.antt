@@ -1,8 +1,6 @@
--- Where the name of a question ends: the labels before a place, as they stand in the datagram, are the beginning of it.
-use Rattle.dns_spec.proofs.Common.{true, ◌≡◌, ℕ, suc, ◌+◌, ◌-◌, ◌<◌, ◌≤◌, [], ◌∷◌, ◌++◌, length, take, drop, get_or, refl, sym, ◌∙◌, ap, arith, None, Some, length-append, length-take, length-drop, take-add, drop-cons, eq-eqb, Octets, DomainName, wire, is_name, MessageQuestion, name_at, field16, question_at}
-use Rattle.std.proofs.lemmas.List.{append_assoc, append-nil, drop-drop}
-use Rattle.dns_spec.proofs.DomainNames.NameLaws.{is_name-push}
-use Rattle.dns_wire.specs.QueryForm.{NameEnds}
+-- Where the name of a question ends: the labels before a place, as they stand in the datagram, are
+-- the beginning of it.
+use Rattle.dns_wire.proofs.Common.{true, ◌≡◌, ℕ, suc, ◌+◌, ◌-◌, ◌<◌, ◌≤◌, [], ◌∷◌, ◌++◌, length, take, drop, get_or, refl, sym, ◌∙◌, ap, arith, None, Some, length-append, length-take, length-drop, take-add, drop-cons, eq-eqb, Octets, DomainName, wire, is_name, MessageQuestion, name_at, field16, question_at, append_assoc, append-nil, drop-drop, is_name-push, NameEnds}
 use Rattle.dns_wire.proofs.NameLoop.{read_on, read_on-start, read_on-root, read_on-label, read_on-past, read_on-high, read_on-long, read_on-missing}
 
 -- the labels before a place, and what is read from there on, are the name
@@ -14,10 +12,17 @@ pub record ReadTo (d : Octets) (at : ℕ) : Type 0 where
   pub from : 12 ≤ at
 
 pub read_nothing : (d : Octets) → ReadTo d 12
-read_nothing d = record { labels = []; name_is = read_on-start d; is_name = refl; octets = λ m. refl; from = omega arith }
+read_nothing d = record {
+  labels = [];
+  name_is = read_on-start d;
+  is_name = refl;
+  octets = λ m. refl;
+  from = omega arith;
+}
 
 -- what stands at a place after the header
-octets_at : (d : Octets) (at : ℕ) → 12 ≤ at → at < length d → drop (at - 12) (drop 12 d) ≡ get_or d at 0 ∷ drop (suc at) d
+octets_at : (d : Octets) (at : ℕ)
+    → 12 ≤ at → at < length d → drop (at - 12) (drop 12 d) ≡ get_or d at 0 ∷ drop (suc at) d
 octets_at d at from inside = grind (arith, drop-drop, drop-cons)
 
 module _ (d : Octets) (at : ℕ) (r : ReadTo d at) where
@@ -28,13 +33,15 @@ module _ (d : Octets) (at : ℕ) (r : ReadTo d at) where
     pub ends_here : get_or d at 0 ≡ 0 → NameEnds d (at + 1)
     ends_here zero =
         let size : at + 1 - 12 ≡ at - 12 + 1 = omega (arith, r.from) in
-        let first : take 1 (drop (at - 12) (drop 12 d)) ≡ 0 ∷ [] = ap (take 1) (octets_at d at r.from inside) ∙ ap (λ o. o ∷ []) zero in
+        let first : take 1 (drop (at - 12) (drop 12 d)) ≡ 0 ∷ [] =
+        ap (take 1) (octets_at d at r.from inside) ∙ ap (λ o. o ∷ []) zero in
         record {
           name = r.labels;
           read = sym r.name_is ∙ read_on-root d r.labels at inside zero r.is_name;
           octets =
               ap (λ n. take n (drop 12 d)) size ∙ take-add (at - 12) 1 (drop 12 d)
-              ∙ ap (λ os. take (at - 12) (drop 12 d) ++ os) first ∙ sym (r.octets []) ∙ ap wire (append-nil r.labels);
+              ∙ ap (λ os. take (at - 12) (drop 12 d) ++ os) first
+              ∙ sym (r.octets []) ∙ ap wire (append-nil r.labels);
           is_name = r.is_name;
           some = omega (arith, r.from);
           inside = omega (arith, inside);
@@ -45,7 +52,7 @@ module _ (d : Octets) (at : ℕ) (r : ReadTo d at) where
       ends_high high = sym r.name_is ∙ read_on-high d r.labels at k inside here high
 
       pub ends_past : length d < at + 1 + k → name_at d 12 ≡ None
-      ends_past past = sym r.name_is ∙ read_on-past d r.labels at k inside here (omega (arith, some)) past
+      ends_past past = grind (arith, read_on-past)
 
       -- a whole label stands here
       module _ (low : k < 64) (whole : at + 1 + k ≤ length d) where
@@ -56,16 +63,16 @@ module _ (d : Octets) (at : ℕ) (r : ReadTo d at) where
         label_length = simp (length-take, length-drop) (omega (arith, whole))
 
         label_read : read_on d (r.labels ++ label ∷ []) (at + 1 + k) ≡ name_at d 12
-        label_read = sym (read_on-label d r.labels at k inside here (omega (arith, some)) low whole) ∙ r.name_is
+        label_read = grind (arith, read_on-label)
 
         next_octets : take (at + 1 + k - 12) (drop 12 d) ≡ take (at - 12) (drop 12 d) ++ (k ∷ label)
         next_octets =
             let size : at + 1 + k - 12 ≡ at - 12 + suc k = omega (arith, r.from) in
             let next : suc at ≡ at + 1 = omega arith in
             ap (λ n. take n (drop 12 d)) size ∙ take-add (at - 12) (suc k) (drop 12 d)
-            ∙ ap (λ os. take (at - 12) (drop 12 d) ++ take (suc k) os) (octets_at d at r.from inside)
-            ∙ ap (λ o. take (at - 12) (drop 12 d) ++ (o ∷ take k (drop (suc at) d))) here
-            ∙ ap (λ n. take (at - 12) (drop 12 d) ++ (k ∷ take k (drop n d))) next
+            ∙ ap (λ os. take (at - 12) (drop 12 d) ++ take (suc k) os) (octets_at d at r.from
+            inside) ∙ ap (λ o. take (at - 12) (drop 12 d) ++ (o ∷ take k (drop (suc at) d)))
+            here ∙ ap (λ n. take (at - 12) (drop 12 d) ++ (k ∷ take k (drop n d))) next
 
         labels_length : length (wire (r.labels ++ label ∷ [])) ≡ at + 1 + k - 12 + 1
         labels_length = grind (arith, length-append, length-take, length-drop)
@@ -89,6 +96,7 @@ module _ (d : Octets) (at : ℕ) (r : ReadTo d at) where
 abbrev pub question_then : Octets → DomainName → ℕ → MessageQuestion
 question_then d n e = record { qname = n; qtype = field16 d e; qclass = field16 d (e + 2) }
 
-pub question_here : (d : Octets) (n : DomainName) (e : ℕ) → name_at d 12 ≡ Some (n, e) → length d ≡ e + 4 → question_at d ≡ Some (question_then d n e)
+pub question_here : (d : Octets) (n : DomainName) (e : ℕ)
+    → name_at d 12 ≡ Some (n, e) → length d ≡ e + 4 → question_at d ≡ Some (question_then d n e)
 unfolding question_at
 question_here d n e read whole = grind (arith, eq-eqb)

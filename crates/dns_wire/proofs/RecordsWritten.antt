@@ -1,21 +1,21 @@
 -- Records are written one after the other.
-use Rattle.std.proofs.Common.{◌≡◌, ℕ, ◌+◌, ◌*◌, ◌<◌, ◌≤◌, Bool, true, false, List, [], ◌∷◌, ◌++◌, length, take, drop, get_or, refl, sym, ap, ap₂, ◌∙◌, subst, arith, add-zero, append_assoc, append-nil, length-append, take-append-drop}
-use Rattle.dns_spec.proofs.Common.{length-map, get_or-map, take_more, take_all, Octets, DomainName, ResourceRecord, RecordSet, records_at, laid_parts, Placed, Laid, laid_front, shared_octets, data_laid, record_laid, record_tail, records_octets}
-use Rattle.dns_spec.proofs.Layouts.LayoutSize.{length-record_tail}
-use Rattle.dns_wire.specs.Writing.{both_laid, shown, records_laid}
-use Rattle.dns_wire.specs.Draft.{Draft, Writes}
+use Rattle.dns_wire.proofs.Common.{◌≡◌, ℕ, ◌+◌, ◌*◌, ◌<◌, ◌≤◌, Bool, true, false, List, [], ◌∷◌, ◌++◌, length, take, drop, get_or, refl, sym, ap, ap₂, ◌∙◌, subst, arith, add-zero, append_assoc, append-nil, length-append, take-append-drop, length-map, get_or-map, take_more, take_all, Octets, DomainName, ResourceRecord, RecordSet, records_at, laid_parts, Placed, Laid, laid_front, shared_octets, data_laid, record_laid, record_tail, records_octets, length-record_tail, both_laid, shown, records_laid, Draft, Writes}
 use Rattle.dns_wire.proofs.Steps.{writes_as, writes_both, writes_past}
 
 pub records_more : (ms : List Placed) (p : ℕ) (r : ResourceRecord) (rs : List ResourceRecord)
-    → records_laid (r ∷ rs) ms p ≡ laid_front (record_laid ms p r).written (record_laid ms p r).names (records_laid rs (ms ++ (record_laid ms p r).names) (p + length (record_laid ms p r).written))
+    → records_laid
+    (r ∷ rs) ms p ≡ laid_front (record_laid ms p r).written (record_laid ms p r).names
+    (records_laid rs (ms ++ (record_laid ms p r).names) (p + length (record_laid ms p r).written))
 unfolding records_laid
 records_more ms p r rs = refl
 
-pub records_none : (ms : List Placed) (p : ℕ) → records_laid [] ms p ≡ record { written = []; names = [] }
+pub records_none : (ms : List Placed) (p : ℕ)
+    → records_laid [] ms p ≡ record { written = []; names = [] }
 unfolding records_laid
 records_none ms p = refl
 
-pub octets_of_records : (ms : List Placed) (p : ℕ) (rs : List ResourceRecord) → (records_laid rs ms p).written ≡ records_octets ms p rs
+pub octets_of_records : (ms : List Placed) (p : ℕ) (rs : List ResourceRecord)
+    → (records_laid rs ms p).written ≡ records_octets ms p rs
 unfolding records_laid records_octets
 octets_of_records ms p [] = refl
 octets_of_records ms p (r ∷ rs) =
@@ -23,7 +23,8 @@ octets_of_records ms p (r ∷ rs) =
     ap (λ z. l.written ++ z) (octets_of_records (ms ++ l.names) (p + length l.written) rs)
 
 -- records after others
-pub records_split : (rs ss : List ResourceRecord) (ms : List Placed) (p : ℕ) → both_laid (records_laid rs) (records_laid ss) ms p ≡ records_laid (rs ++ ss) ms p
+pub records_split : (rs ss : List ResourceRecord) (ms : List Placed) (p : ℕ)
+    → both_laid (records_laid rs) (records_laid ss) ms p ≡ records_laid (rs ++ ss) ms p
 records_split [] ss ms p = grind (arith, records_none, ap₂, append-nil, add-zero)
 records_split (r ∷ rs) ss ms p =
     let l = record_laid ms p r in
@@ -31,64 +32,86 @@ records_split (r ∷ rs) ss ms p =
     let place = p + length l.written in
     let rest = records_laid rs later place in
     let more = records_laid ss (later ++ rest.names) (place + length rest.written) in
-    let at : p + length (l.written ++ rest.written) ≡ place + length rest.written = omega (arith, length-append l.written rest.written) in
-    ap (λ (x : Laid). laid_front x.written x.names (records_laid ss (ms ++ x.names) (p + length x.written))) (records_more ms p r rs)
-    ∙ ap (λ (x : Laid). laid_front (l.written ++ rest.written) (l.names ++ rest.names) x) (ap₂ (λ m k. records_laid ss m k) (sym (append_assoc ms l.names rest.names)) at)
-    ∙ ap₂ (λ w n. record { written = w; names = n }) (append_assoc l.written rest.written more.written) (append_assoc l.names rest.names more.names)
-    ∙ ap (λ (x : Laid). laid_front l.written l.names x) (records_split rs ss later place)
-    ∙ sym (records_more ms p r (rs ++ ss))
+    let at : p + length (l.written ++ rest.written) ≡ place + length rest.written =
+    omega (arith, length-append l.written rest.written) in
+    ap (λ (x : Laid). laid_front x.written x.names
+    (records_laid ss (ms ++ x.names) (p + length x.written))) (records_more ms p r rs)
+    ∙ ap (λ (x : Laid). laid_front (l.written ++ rest.written) (l.names ++ rest.names) x)
+    (ap₂ (λ m k. records_laid ss m k) (sym (append_assoc ms l.names rest.names)) at) ∙ ap₂ (λ
+    w n. record { written = w; names = n }) (append_assoc l.written rest.written more.written)
+    (append_assoc l.names rest.names more.names) ∙ ap (λ (x : Laid). laid_front l.written
+    l.names x) (records_split rs ss later place) ∙ sym (records_more ms p r (rs ++ ss))
 
-record_alone : (r : ResourceRecord) (ms : List Placed) (p : ℕ) → record_laid ms p r ≡ records_laid (r ∷ []) ms p
+record_alone : (r : ResourceRecord) (ms : List Placed) (p : ℕ)
+    → record_laid ms p r ≡ records_laid (r ∷ []) ms p
 record_alone r ms p = grind (arith, ap₂, append-nil, records_none, records_more)
 
 -- a record has ten octets after its owner
-records_long : (ms : List Placed) (p : ℕ) (rs : List ResourceRecord) → 10 * length rs ≤ length (records_laid rs ms p).written
+records_long : (ms : List Placed) (p : ℕ) (rs : List ResourceRecord)
+    → 10 * length rs ≤ length (records_laid rs ms p).written
 records_long ms p [] = omega arith
 records_long ms p (r ∷ rs) =
     let l = record_laid ms p r in
     let more = ms ++ l.names in
     let place = p + length l.written in
     let owner = shared_octets ms r.owner in
-    let d = (data_laid (ms ++ (r.owner, p) ∷ []) (p + length owner + 10) (laid_parts r.rtype r.rdata)).written in
+    let d = (data_laid
+    (ms ++ (r.owner, p) ∷ []) (p + length owner + 10) (laid_parts r.rtype r.rdata)).written in
     let rest = (records_laid rs more place).written in
-    let whole : length (records_laid (r ∷ rs) ms p).written ≡ length l.written + length rest = ap (λ (x : Laid). length x.written) (records_more ms p r rs) ∙ length-append l.written rest in
-    let own : length l.written ≡ length owner + (10 + length d) = length-append owner (record_tail r d) ∙ ap (λ k. length owner + k) (length-record_tail r d) in
+    let whole : length (records_laid (r ∷ rs) ms p).written ≡ length l.written + length rest = ap
+    (λ (x : Laid). length x.written) (records_more ms p r rs) ∙ length-append l.written rest in
+    let own : length l.written ≡ length owner + (10 + length d) = length-append owner
+    (record_tail r d) ∙ ap (λ k. length owner + k) (length-record_tail r d) in
     let others = records_long more place rs in
     omega (arith, whole, own, others)
 
-pub set_long : (owner : DomainName) (ttl : ℕ) (set : RecordSet) (ms : List Placed) (p : ℕ) → 10 * length set.rdata ≤ length (records_laid (records_at owner ttl set) ms p).written
+pub set_long : (owner : DomainName) (ttl : ℕ) (set : RecordSet) (ms : List Placed) (p : ℕ)
+    → 10 * length set.rdata ≤ length (records_laid (records_at owner ttl set) ms p).written
 set_long owner ttl set ms p = grind (arith, records_long, length-map)
 
 -- the records of a set up to one
-record_taken : (owner : DomainName) (ttl : ℕ) (set : RecordSet) (i : ℕ) → i < length set.rdata
-    → take i (records_at owner ttl set) ++ shown owner set.rtype ttl (get_or set.rdata i []) ∷ [] ≡ take (i + 1) (records_at owner ttl set)
+record_taken : (owner : DomainName) (ttl : ℕ) (set : RecordSet) (i : ℕ)
+    → i < length set.rdata → take i (records_at owner ttl set) ++ shown owner set.rtype ttl
+    (get_or set.rdata i []) ∷ [] ≡ take (i + 1) (records_at owner ttl set)
 record_taken owner ttl set i inside =
     let show = λ (d : Octets). shown owner set.rtype ttl d in
     let rs = records_at owner ttl set in
     let count : length rs ≡ length set.rdata = length-map set.rdata show in
-    let at : get_or rs i (show []) ≡ show (get_or set.rdata i []) = get_or-map show set.rdata i [] (show []) inside in
-    ap (λ x. take i rs ++ x ∷ []) (sym at) ∙ sym (take_more rs i (show []) (omega (arith, inside, count)))
+    let at : get_or rs i (show []) ≡ show (get_or set.rdata i []) =
+    get_or-map show set.rdata i [] (show []) inside in
+    ap (λ x. take i rs ++ x ∷ []) (sym at)
+    ∙ sym (take_more rs i (show []) (omega (arith, inside, count)))
 
-pub all_taken : (owner : DomainName) (ttl : ℕ) (set : RecordSet) (i : ℕ) → length set.rdata ≤ i → take i (records_at owner ttl set) ≡ records_at owner ttl set
+pub all_taken : (owner : DomainName) (ttl : ℕ) (set : RecordSet) (i : ℕ)
+    → length set.rdata ≤ i → take i (records_at owner ttl set) ≡ records_at owner ttl set
 all_taken owner ttl set i over = grind (arith, length-map, take_all)
 
 -- a record more of a set
-pub record_more : {head head' head'' : Octets → ℕ} {d d' d'' : Draft} {fits : Bool} (owner : DomainName) (ttl : ℕ) (set : RecordSet) (i : ℕ) (given : ResourceRecord) → i < length set.rdata
-    → given ≡ shown owner set.rtype ttl (get_or set.rdata i []) → Writes head head' d d' (records_laid (take i (records_at owner ttl set))) true
-    → Writes head' head'' d' d'' (λ ms p. record_laid ms p given) fits → Writes head head'' d d'' (records_laid (take (i + 1) (records_at owner ttl set))) fits
-record_more {head} {head'} {head''} {d} {d'} {d''} {fits} owner ttl set i given inside is so_far next =
+pub record_more : {head head' head'' : Octets → ℕ} {d d' d'' : Draft}
+    {fits : Bool} (owner : DomainName) (ttl : ℕ) (set : RecordSet) (i : ℕ) (given : ResourceRecord)
+    → i < length set.rdata → given ≡ shown owner set.rtype ttl (get_or set.rdata i [])
+    → Writes head head' d d' (records_laid (take i (records_at owner ttl set))) true
+    → Writes head' head'' d' d'' (λ ms p. record_laid ms p given) fits
+    → Writes head head'' d d'' (records_laid (take (i + 1) (records_at owner ttl set))) fits
+record_more
+    {head} {head'} {head''} {d} {d'} {d''} {fits} owner ttl set i given inside is so_far next =
     let front = take i (records_at owner ttl set) in
-    subst (λ rs. Writes head head'' d d'' (records_laid rs) fits) (ap (λ x. front ++ x ∷ []) is ∙ record_taken owner ttl set i inside)
-    (writes_as (both_laid (records_laid front) (records_laid (given ∷ []))) (records_laid (front ++ given ∷ [])) (records_split front (given ∷ []))
-    (writes_both (records_laid front) (records_laid (given ∷ [])) refl so_far (writes_as (λ ms p. record_laid ms p given) (records_laid (given ∷ [])) (record_alone given) next)))
+    subst (λ rs. Writes head head'' d d'' (records_laid rs) fits)
+    (ap (λ x. front ++ x ∷ []) is ∙ record_taken owner ttl set i inside)
+    (writes_as (both_laid (records_laid front) (records_laid (given ∷ [])))
+    (records_laid (front ++ given ∷ [])) (records_split front (given ∷ []))
+    (writes_both (records_laid front) (records_laid (given ∷ [])) refl so_far (writes_as
+    (λ ms p. record_laid ms p given) (records_laid (given ∷ [])) (record_alone given) next)))
 
 -- where some of the records do not fit
-pub records_past : {head head' : Octets → ℕ} {d d' : Draft} {t : Bool} (rs : List ResourceRecord) (i : ℕ) → t ≡ false → Writes head head' d d' (records_laid (take i rs)) t
+pub records_past : {head head' : Octets → ℕ} {d d' : Draft} {t : Bool} (rs : List ResourceRecord)
+    (i : ℕ) → t ≡ false → Writes head head' d d' (records_laid (take i rs)) t
     → Writes head head' d d' (records_laid rs) false
 records_past rs i is w = writes_past (records_laid (take i rs)) (records_laid rs) is refl
     (λ ms p.
     let l = records_laid (take i rs) ms p in
     let rest = records_laid (drop i rs) (ms ++ l.names) (p + length l.written) in
     let whole : length (l.written ++ rest.written) ≡ length (records_laid rs ms p).written =
-    ap (λ (z : Laid). length z.written) (records_split (take i rs) (drop i rs) ms p ∙ ap (λ xs. records_laid xs ms p) (take-append-drop i rs)) in
+    ap (λ (z : Laid). length z.written) (records_split (take i rs) (drop i rs) ms p
+    ∙ ap (λ xs. records_laid xs ms p) (take-append-drop i rs)) in
     omega (arith, whole, length-append l.written rest.written)) w

@@ -1,11 +1,9 @@
 -- What a run of labels has at a place decides how it goes on.
-use Rattle.dns_spec.proofs.Common.{◌≡◌, ℕ, zero, suc, List, ◌+◌, ◌<◌, ◌≤◌, true, IfSome, [], ◌∷◌, ◌++◌, length, take, drop, get_or, slice_get, Option, Some, refl, sym, ap, ◌∙◌, subst, arith, append_assoc, append-nil, length-append, none-some, same_Some, slice_get_within, slice_get-get_or, Octets, DomainName, wire, is_name, RunAt, NameAt, ends, goes_on, jumps}
-use Rattle.std.proofs.lemmas.List.{length-take-le, length-drop}
-use Rattle.dns_spec.proofs.DomainNames.NameLaws.{IsName-is_name}
-use Rattle.dns_wire.specs.Labels.{LabelAt, PointerAt, NoRunAt, NoNameAt, IsReading, end_or}
+use Rattle.dns_wire.proofs.Common.{pointer_place, ◌≡◌, ℕ, zero, suc, List, ◌+◌, ◌<◌, ◌≤◌, true, IfSome, [], ◌∷◌, ◌++◌, length, take, drop, get_or, slice_get, Option, Some, refl, sym, ap, ◌∙◌, subst, arith, append_assoc, append-nil, length-append, none-some, same_Some, slice_get_within, slice_get-get_or, Octets, DomainName, wire, is_name, RunAt, NameAt, ends, goes_on, jumps, length-take-le, length-drop, LabelAt, PointerAt, NoRunAt, NoNameAt, IsReading, end_or}
 
 -- what is read stays, whatever comes after
-pub get_more : {A : Type 0} (xs ys : List A) (i : ℕ) (x : A) → slice_get xs i ≡ Some x → slice_get (xs ++ ys) i ≡ Some x
+pub get_more : {A : Type 0} (xs ys : List A) (i : ℕ) (x : A)
+    → slice_get xs i ≡ Some x → slice_get (xs ++ ys) i ≡ Some x
 get_more [] ys i x at = absurd (none-some x at)
 get_more (y ∷ xs) ys zero x at = at
 get_more (y ∷ xs) ys (suc i) x at = get_more xs ys i x at
@@ -13,11 +11,27 @@ get_more (y ∷ xs) ys (suc i) x at = get_more xs ys i x at
 -- how a run goes on from place i: it ends, has a label, or a pointer
 pub data GoesOn (b : Octets) (s i : ℕ) (n : DomainName) (e : ℕ) : Type 0 where
   at_end : slice_get b i ≡ Some 0 → n ≡ [] → e ≡ i + 1 → GoesOn b s i n e
-  at_label : (l : Octets) (m : DomainName) → LabelAt b i l → n ≡ l ∷ m → RunAt b s (i + 1 + length l) m e → GoesOn b s i n e
+  at_label : (l : Octets) (m : DomainName)
+      → LabelAt b i l → n ≡ l ∷ m → RunAt b s (i + 1 + length l) m e → GoesOn b s i n e
   at_pointer : (p d : ℕ) → PointerAt b s i p → e ≡ i + 2 → RunAt b p p n d → GoesOn b s i n e
 
-pub label_there : {b l : Octets} {i k : ℕ} → slice_get b i ≡ Some k → 0 < k → k < 64 → i + 1 + k ≤ length b → l ≡ take k (drop (i + 1) b) → (length l ≡ k) × LabelAt b i l
+pub label_there : {b l : Octets} {i k : ℕ} → slice_get b i ≡ Some k → 0 < k
+    → k < 64 → i + 1 + k ≤ length b → l ≡ take k (drop (i + 1) b) → (length l ≡ k) × LabelAt b i l
 label_there {b} {l} {i} {k} at some short within is = grind (arith, length-take-le, length-drop)
+
+pub pointer_there : {b : Octets} {s i o o' p : ℕ} → slice_get b i ≡ Some o → 192 ≤ o
+    → slice_get b (i + 1) ≡ Some o' → p ≡ pointer_place o o' → 12 ≤ p → p < s
+    → PointerAt b s i p
+pointer_there {o = o} {o' = o'} at high at' is from before = record {
+  first = o;
+  second = o';
+  first_there = at;
+  high = high;
+  second_there = at';
+  place = is;
+  after_header = from;
+  before_run = before;
+}
 
 pub goes_on_at : {b : Octets} {s i e : ℕ} {n : DomainName} → RunAt b s i n e → GoesOn b s i n e
 goes_on_at (ends i at) = at_end at refl refl
@@ -25,15 +39,16 @@ goes_on_at {b} {s} (goes_on i k l n e at some short within is rest) =
     let there = label_there at some short within is in
     at_label l n there.1 refl (subst (λ j. RunAt b s (i + 1 + j) n e) (sym there.0) rest)
 goes_on_at (jumps i o o' p n e at high at' is from before rest) =
-    at_pointer p e (record { first = o; second = o'; first_there = at; high = high; second_there = at'; place = is; after_header = from; before_run = before }) refl rest
+    at_pointer p e (pointer_there at high at' is from before) refl rest
 
 there_is : (b : Octets) (i k : ℕ) → i < length b → get_or b i 0 ≡ k → slice_get b i ≡ Some k
 there_is b i k inside e = slice_get-get_or b i 0 inside ∙ ap Some e
 
 -- a label stands after its length
-pub label_stands : (b l : Octets) (i k : ℕ) → i < length b → get_or b i 0 ≡ k → 0 < k → k < 64 → k ≤ length (drop (i + 1) b)
-    → l ≡ take k (drop (i + 1) b) → LabelAt b i l
-label_stands b l i k inside e some short within is = (label_there (there_is b i k inside e) some short (omega (arith, inside, within, length-drop (i + 1) b)) is).1
+pub label_stands : (b l : Octets) (i k : ℕ) → i < length b → get_or b i 0 ≡ k
+    → 0 < k → k < 64 → k ≤ length (drop (i + 1) b) → l ≡ take k (drop (i + 1) b) → LabelAt b i l
+label_stands b l i k inside e some short within is = (label_there (there_is b i k inside e)
+    some short (omega (arith, inside, within, length-drop (i + 1) b)) is).1
 
 -- what the octet at a place says of how a run goes on
 module _ (b : Octets) (s i k : ℕ) (inside : i < length b) (is : get_or b i 0 ≡ k) where
@@ -47,64 +62,80 @@ length-wire-front [] (l ∷ m) = omega arith
 length-wire-front (l ∷ n) m = grind (arith, length-append, (length-wire-front n m))
 
 -- the end
-pub reading_ends : {b : Octets} {at s i : ℕ} {n : DomainName} {end : Option ℕ} → IsReading b at n s i end → slice_get b i ≡ Some 0
-    → NameAt b at n (end_or end (i + 1))
-reading_ends {b} {at} {s} {i} {n} {end} reading root =
-    (subst (λ m. RunAt b at at m (end_or end (i + 1))) (append-nil n) (reading.forth [] (i + 1) (ends i root)), reading.is_name)
+pub reading_ends : {b : Octets} {at s i : ℕ} {n : DomainName} {end : Option ℕ}
+    → IsReading b at n s i end → slice_get b i ≡ Some 0 → NameAt b at n (end_or end (i + 1))
+reading_ends {b} {at} {s} {i} {n} {end} reading root = (
+  subst (λ m. RunAt b at at m (end_or end (i + 1)))
+      (append-nil n) (reading.forth [] (i + 1) (ends i root)),
+  reading.is_name,
+)
 
 -- a label more
-pub reading_label : {b : Octets} {at s i : ℕ} {n : DomainName} {end : Option ℕ} (l : Octets) → IsReading b at n s i end → LabelAt b i l
+pub reading_label : {b : Octets} {at s i : ℕ} {n : DomainName} {end : Option ℕ} (l : Octets)
+    → IsReading b at n s i end → LabelAt b i l
     → is_name (n ++ l ∷ []) ≡ true → IsReading b at (n ++ l ∷ []) s (i + (1 + length l)) end
 reading_label {b} {at} {s} {i} {n} {end} l reading there ok = record {
   is_name = ok;
   within = omega (arith, there.within);
   end_within = reading.end_within;
   forth = λ m e run. subst (λ w. RunAt b at at w (end_or end e)) (sym (append_assoc n (l ∷ []) m))
-      (reading.forth (l ∷ m) e (goes_on i (length l) l m e there.length_there there.some there.short there.within there.label
-      (subst (λ j. RunAt b s j m e) next run)));
+      (reading.forth (l ∷ m) e (goes_on i (length l) l m e there.length_there
+      there.some there.short there.within there.label (subst (λ j. RunAt b s j m e) next run)));
   back = λ w f run. let r = reading.back w f run in go w f r.0 r.1 r.3 r.4 (goes_on_at r.2);
 }
   where
     next : i + (1 + length l) ≡ i + 1 + length l
     next = omega arith
 
-    go : (w : DomainName) (f : ℕ) (m : DomainName) (e : ℕ) → w ≡ n ++ m → f ≡ end_or end e → GoesOn b s i m e
-        → (m : DomainName) × (e : ℕ) × RunAt b s (i + (1 + length l)) m e × (w ≡ (n ++ l ∷ []) ++ m) × (f ≡ end_or end e)
-    go w f m e p q (at_end root none end) = absurd (omega (arith, same_Some (length l) 0 (sym there.length_there ∙ root), there.some))
+    go : (w : DomainName) (f : ℕ) (m : DomainName) (e : ℕ)
+        → w ≡ n ++ m → f ≡ end_or end e → GoesOn b s i m e → (m : DomainName) × (e : ℕ)
+        × RunAt b s (i + (1 + length l)) m e × (w ≡ (n ++ l ∷ []) ++ m) × (f ≡ end_or end e)
+    go w f m e p q (at_end root none end) =
+        absurd (omega (arith, same_Some (length l) 0 (sym there.length_there ∙ root), there.some))
     go w f m e p q (at_label k rest label shape run) = grind (arith, same_Some, append_assoc, next)
     go w f m e p q (at_pointer place d pointer end run) = grind arith
 
 -- the name with the label is too long
-pub label_too_long : {b : Octets} {at s i : ℕ} {n : DomainName} {end : Option ℕ} (l : Octets) → IsReading b at n s i end → LabelAt b i l
-    → 255 < length (wire (n ++ l ∷ [])) → NoNameAt b at
+pub label_too_long : {b : Octets} {at s i : ℕ} {n : DomainName} {end : Option ℕ} (l : Octets)
+    → IsReading b at n s i end → LabelAt b i l → 255 < length (wire (n ++ l ∷ [])) → NoNameAt b at
 label_too_long {b} {at} {s} {i} {n} {end} l reading there long w f name =
     let r = reading.back w f name.0 in go r.0 r.1 r.3 (goes_on_at r.2)
   where
     go : (m : DomainName) (e : ℕ) → w ≡ n ++ m → GoesOn b s i m e → ⊥
-    go m e p (at_end root none end) = omega (arith, same_Some (length l) 0 (sym there.length_there ∙ root), there.some)
+    go m e p (at_end root none end) =
+        omega (arith, same_Some (length l) 0 (sym there.length_there ∙ root), there.some)
     go m e p (at_label k rest label shape run) =
-        let as_long : length l ≡ length k = same_Some (length l) (length k) (sym there.length_there ∙ label.length_there) in
-        let same : k ≡ l = label.label ∙ ap (λ j. take j (drop (i + 1) b)) (sym as_long) ∙ sym there.label in
-        let whole : w ≡ (n ++ l ∷ []) ++ rest = p ∙ ap (λ x. n ++ x) (shape ∙ ap (λ x. x ∷ rest) same) ∙ sym (append_assoc n (l ∷ []) rest) in
-        omega (arith, (IsName-is_name w name.1).fits, ap (λ x. length (wire x)) whole, length-wire-front (n ++ l ∷ []) rest)
+        let as_long : length l ≡ length k =
+        same_Some (length l) (length k) (sym there.length_there ∙ label.length_there) in
+        let same : k ≡ l =
+        label.label ∙ ap (λ j. take j (drop (i + 1) b)) (sym as_long) ∙ sym there.label in
+        let whole : w ≡ (n ++ l ∷ []) ++ rest = p ∙ ap
+        (λ x. n ++ x) (shape ∙ ap (λ x. x ∷ rest) same) ∙ sym (append_assoc n (l ∷ []) rest) in
+        grind (arith, wire, length-wire-front)
     go m e p (at_pointer place d pointer end run) = grind arith
 
-pub end_fits : (b : Octets) (x : Option ℕ) (e : ℕ) → IfSome x (λ y. y ≤ length b) → e ≤ length b → end_or x e ≤ length b
+pub end_fits : (b : Octets) (x : Option ℕ) (e : ℕ)
+    → IfSome x (λ y. y ≤ length b) → e ≤ length b → end_or x e ≤ length b
 end_fits b x e h h1 = grind arith
 
 -- a pointer is followed
-pub reading_jumps : {b : Octets} {at s i p : ℕ} {n : DomainName} {end : Option ℕ} → IsReading b at n s i end → PointerAt b s i p → s ≤ length b
-    → IsReading b at n p p (Some (end_or end (i + 2)))
+pub reading_jumps : {b : Octets} {at s i p : ℕ} {n : DomainName} {end : Option ℕ} → IsReading b at
+    n s i end → PointerAt b s i p → s ≤ length b → IsReading b at n p p (Some (end_or end (i + 2)))
 reading_jumps {b} {at} {s} {i} {p} {n} {end} reading there inside = record {
   is_name = reading.is_name;
   within = omega (arith, there.before_run);
-  end_within = end_fits b end (i + 2) reading.end_within (omega (arith, slice_get_within b (i + 1) there.second there.second_there));
-  forth = λ m e run. reading.forth m (i + 2) (jumps i there.first there.second p m e there.first_there there.high there.second_there there.place there.after_header there.before_run run);
+  end_within = end_fits b end (i + 2) reading.end_within
+      (omega (arith, slice_get_within b (i + 1) there.second there.second_there));
+  forth =
+      λ m e run. reading.forth m (i + 2) (jumps i there.first there.second p m e there.first_there
+      there.high there.second_there there.place there.after_header there.before_run run);
   back = λ w f run. let r = reading.back w f run in go w f r.0 r.1 r.3 r.4 (goes_on_at r.2);
 }
   where
-    go : (w : DomainName) (f : ℕ) (m : DomainName) (e : ℕ) → w ≡ n ++ m → f ≡ end_or end e → GoesOn b s i m e
+    go : (w : DomainName) (f : ℕ) (m : DomainName) (e : ℕ)
+        → w ≡ n ++ m → f ≡ end_or end e → GoesOn b s i m e
         → (m : DomainName) × (e : ℕ) × RunAt b p p m e × (w ≡ n ++ m) × (f ≡ end_or end (i + 2))
-    go w f m e q r (at_end root none is) = absurd (omega (arith, same_Some there.first 0 (sym there.first_there ∙ root), there.high))
+    go w f m e q r (at_end root none is) =
+        absurd (omega (arith, same_Some there.first 0 (sym there.first_there ∙ root), there.high))
     go w f m e q r (at_label k rest label shape run) = grind arith
     go w f m e q r (at_pointer place d pointer is run) = grind arith

@@ -1,72 +1,85 @@
 -- Steps of writing: one after the other they write what is laid out one after the other.
-use Rattle.dns_spec.proofs.Common.{◌≡◌, ℕ, ◌+◌, ◌*◌, ◌<◌, ◌≤◌, Bool, true, false, List, [], ◌++◌, length, take, refl, sym, ap, ap₂, subst, subst₂, arith, append_assoc, append-nil, length-append, false≢true, take-append_seam, Octets, Placed}
-use Rattle.dns_wire.specs.Kept.{Kept}
-use Rattle.dns_wire.specs.SuffixNumbers.{suffix_number}
-use Rattle.dns_wire.specs.Writing.{Holds, IsAsked, Layout, octets_laid, both_laid}
-use Rattle.dns_wire.specs.Draft.{Draft, draft_of, with_octets, Grows, Writes, IsWellKept}
-use Rattle.dns_wire.specs.declared.message.Counts.{Counts}
+use Rattle.dns_wire.proofs.Common.{◌≡◌, ℕ, ◌+◌, ◌*◌, ◌<◌, ◌≤◌, Bool, true, false, List, [], ◌++◌, length, take, refl, sym, ap, ap₂, subst, subst₂, arith, append_assoc, append-nil, length-append, false≢true, take-append_seam, Octets, Placed, Kept, suffix_number, Holds, IsAsked, Layout, octets_laid, both_laid, Draft, draft_of, with_octets, Grows, Writes, IsWellKept, Counts}
 use Rattle.dns_wire.proofs.AskedLemmas.{is_asked_more, kept_more}
 use Rattle.dns_wire.proofs.NameWritten.{holds_octets}
 use Rattle.dns_wire.proofs.SuffixLemmas.{follows_none, follows_again}
 
 -- a page stays well kept with other octets, places and counts
-pub kept_with : {N size a : ℕ} {b : Octets} {ks : List Kept} {n : Counts} {d : Draft} → IsWellKept N size d → length b ≤ d.limit → 2 * length ks ≤ length b → IsAsked b a → 12 ≤ length b
-    → n.answers + n.authorities + n.additionals ≤ length b → IsWellKept N size (draft_of d.limit b a ks n)
-kept_with s within few asked header listed = record { within = within; fits = s.fits; short = s.short; few = few; enough = s.enough; most = s.most; asked = asked; header = header; listed = listed }
+pub kept_with : {N size a : ℕ} {b : Octets} {ks : List Kept} {n : Counts} {d : Draft} → IsWellKept N
+    size d → length b ≤ d.limit → 2 * length ks ≤ length b → IsAsked b a → 12 ≤ length b → n.answers
+    + n.authorities + n.additionals ≤ length b → IsWellKept N size (draft_of d.limit b a ks n)
+kept_with s within few asked header listed = grind arith
 
 -- with octets after the others
-pub kept_longer : {N size : ℕ} {d : Draft} (o : Octets) → IsWellKept N size d → length d.octets + length o ≤ d.limit → IsWellKept N size (with_octets d o)
+pub kept_longer : {N size : ℕ} {d : Draft} (o : Octets) → IsWellKept N size d
+    → length d.octets + length o ≤ d.limit → IsWellKept N size (with_octets d o)
 kept_longer {d = d} o s fits =
     let few = s.few in
     let header = s.header in
     let listed = s.listed in
     let long = length-append d.octets o in
-    kept_with s (omega (arith, fits, long)) (omega (arith, few, long)) (is_asked_more o s.asked refl refl) (omega (arith, header, long)) (omega (arith, listed, long))
+    kept_with s (omega (arith, fits, long)) (omega (arith, few, long)) (is_asked_more
+    o s.asked refl refl) (omega (arith, header, long)) (omega (arith, listed, long))
 
 pub grows_not : (d : Draft) → Grows d d
-grows_not d = record { octets = follows_none d.octets; kept = follows_none d.kept; asked = refl; limit = refl; counts = refl }
+grows_not d = grind (arith, follows_none)
 
 pub grows_again : {d d' d'' : Draft} → Grows d d' → Grows d' d'' → Grows d d''
 grows_again g h = grind (arith, follows_again)
 
 -- what was taken back is as it was
-pub taken_back : {d d' : Draft} {k j : ℕ} → Grows d d' → k ≡ length d.octets → j ≡ length d.kept → record d' { octets = take k d'.octets; kept = take j d'.kept } ≡ d
+pub taken_back : {d d' : Draft} {k j : ℕ} → Grows d d' → k ≡ length d.octets
+    → j ≡ length d.kept → record d' { octets = take k d'.octets; kept = take j d'.kept } ≡ d
 taken_back {d} {d'} {k} {j} g octets kept = grind (arith, ap₂, take-append_seam)
 
 -- octets that are no name to a writer
-pub octets_written : {d d' : Draft} (head : Octets → ℕ) (o : Octets) → IsAsked d.octets d.asked_end → length d.octets + length o ≤ d.limit → d' ≡ with_octets d o → Writes head head d d' (octets_laid o) true
-octets_written {d} head o asked fits is = subst (λ d'. Writes head head d d' (octets_laid o) true) (sym is) (record {
-  grows = record { octets = record { more = o; whole = refl }; kept = follows_none d.kept; asked = refl; limit = refl; counts = refl };
-  same = refl;
-  written = λ ms holds.
-      let kept = kept_more (suffix_number head) _ _ _ _ _ _ o asked refl refl refl in
-      record {
-        exactly = (λ yes. omega (arith, fits, length-append d.octets o), λ h. refl);
-        written = refl;
-        stands = λ x same there. subst₂ (λ m k. Holds (suffix_number head) m (x ++ o) k) (sym (append-nil ms)) (sym kept) (holds_octets o there);
+pub octets_written : {d d' : Draft} (head : Octets → ℕ) (o : Octets)
+    → IsAsked d.octets d.asked_end → length d.octets + length o ≤ d.limit
+    → d' ≡ with_octets d o → Writes head head d d' (octets_laid o) true
+octets_written {d} head o asked fits is =
+    subst (λ d'. Writes head head d d' (octets_laid o) true) (sym is) (record {
+      grows = record {
+        octets = record { more = o; whole = refl };
+        kept = follows_none d.kept;
+        asked = refl;
+        limit = refl;
+        counts = refl;
       };
-})
+      same = refl;
+      written = λ ms holds.
+          let kept = kept_more (suffix_number head) _ _ _ _ _ _ o asked refl refl refl in
+          record {
+            exactly = (λ yes. omega (arith, fits, length-append d.octets o), λ h. refl);
+            written = refl;
+            stands = λ x same there. subst₂ (λ m k. Holds (suffix_number head) m (x ++ o) k)
+                (sym (append-nil ms)) (sym kept) (holds_octets o there);
+          };
+    })
 
-pub none_written : (head : Octets → ℕ) (d : Draft) → IsAsked d.octets d.asked_end → length d.octets ≤ d.limit → Writes head head d d (octets_laid []) true
-none_written head d asked within = octets_written head [] asked (omega (arith, within)) (ap (λ o. record d { octets = o }) (sym (append-nil d.octets)))
+pub none_written : (head : Octets → ℕ) (d : Draft) → IsAsked d.octets d.asked_end
+    → length d.octets ≤ d.limit → Writes head head d d (octets_laid []) true
+none_written head d asked within = grind (arith, octets_written, append-nil)
 
-pub writes_as : {head head' : Octets → ℕ} {d d' : Draft} {fits : Bool} (f g : Layout) → ((ms : List Placed) (p : ℕ) → f ms p ≡ g ms p) → Writes head head' d d' f fits
-    → Writes head head' d d' g fits
+pub writes_as : {head head' : Octets → ℕ} {d d' : Draft} {fits : Bool} (f g : Layout)
+    → ((ms : List Placed) (p : ℕ) → f ms p ≡ g ms p)
+    → Writes head head' d d' f fits → Writes head head' d d' g fits
 writes_as {head} {d = d} {d'} {fits} f g same w = grind arith
 
 -- what follows something that was written
-pub writes_both : {head head' head'' : Octets → ℕ} {d d' d'' : Draft} {t fits : Bool} (f g : Layout) → t ≡ true → Writes head head' d d' f t → Writes head' head'' d' d'' g fits
-    → Writes head head'' d d'' (both_laid f g) fits
+pub writes_both : {head head' head'' : Octets → ℕ} {d d' d'' : Draft} {t fits : Bool} (f g : Layout)
+    → t ≡ true → Writes head head' d d' f t
+    → Writes head' head'' d' d'' g fits → Writes head head'' d d'' (both_laid f g) fits
 writes_both {head} {head'} {head''} {d} {d'} {d''} {t} {fits} f g is first next =
     grind (arith, length-append, append_assoc)
 
 -- where a part does not fit, the whole does not
-pub writes_past : {head head' : Octets → ℕ} {d d' : Draft} {t fits : Bool} (f g : Layout) → t ≡ false → fits ≡ false
-    → ((ms : List Placed) (p : ℕ) → length (f ms p).written ≤ length (g ms p).written) → Writes head head' d d' f t → Writes head head' d d' g fits
+pub writes_past : {head head' : Octets → ℕ} {d d' : Draft} {t fits : Bool} (f g : Layout)
+    → t ≡ false → fits ≡ false → ((ms : List Placed) (p : ℕ) → length (f ms p).written ≤ length
+    (g ms p).written) → Writes head head' d d' f t → Writes head head' d d' g fits
 writes_past {d = d} {fits = fits} f g is is_too longer w = grind (arith, false≢true, length-append)
 
-pub never_written : (head : Octets → ℕ) (d : Draft) (f : Layout) (k : ℕ) → d.limit < length d.octets + k → ((ms : List Placed) (p : ℕ) → k ≤ length (f ms p).written)
-    → Writes head head d d f false
+pub never_written : (head : Octets → ℕ) (d : Draft) (f : Layout) (k : ℕ) → d.limit < length d.octets
+    + k → ((ms : List Placed) (p : ℕ) → k ≤ length (f ms p).written) → Writes head head d d f false
 never_written head d f k over long = record {
   grows = grows_not d;
   same = refl;

@@ -1,23 +1,20 @@
--- What is found for a suffix is where it is shared, and what is kept of a name is just what later names may share of it.
-use Rattle.std.proofs.Common.{◌≡◌, ℕ, zero, suc, ◌+◌, ◌-◌, ◌*◌, ◌<◌, ◌≤◌, Bool, true, false, cond, nat_le, List, [], ◌∷◌, ◌++◌, length, take, drop, get_or, Option, None, Some, refl, sym, ap, ap₂, ◌∙◌, subst, arith, append_assoc, append-nil, length-append, drop_at, le-leb}
-use Rattle.dns_spec.proofs.Common.{leb-true, same_Some, Octets, DomainName, wire, is_name, RunAt, Placed, last_place, shared_place, ends, goes_on, jumps}
-use Rattle.std.proofs.lemmas.List.{length-drop}
-use Rattle.dns_spec.proofs.Messages.Places.{label_parts}
-use Rattle.dns_spec.proofs.DomainNames.NameLaws.{is_name-tail, is_label-head, wire-injective}
-use Rattle.dns_spec.specs.Reading.{pointer_place}
+-- What is found for a suffix is where it is shared, and what is kept of a name is just what later
+-- names may share of it.
+use Rattle.dns_wire.proofs.Common.{◌≡◌, ℕ, zero, suc, ◌+◌, ◌-◌, ◌*◌, ◌<◌, ◌≤◌, Bool, true, false, cond, nat_le, List, [], ◌∷◌, ◌++◌, length, take, drop, get_or, Option, None, Some, refl, sym, ap, ap₂, ◌∙◌, subst, arith, append_assoc, append-nil, length-append, drop_at, le-leb, leb-true, same_Some, Octets, DomainName, wire, is_name, RunAt, Placed, last_place, shared_place, ends, goes_on, jumps, length-drop, label_parts, is_name-tail, is_label-head, wire-injective, pointer_place, Kept, HasPlace, SpelledAt, SpellsName, NoneSpelled, AfterLabel, front_size, pointed_place, new_places, Holds, Follows}
 use Rattle.dns_wire.proofs.Runs.{GoesOn, at_end, at_label, at_pointer, goes_on_at}
-use Rattle.dns_wire.specs.Kept.{Kept, HasPlace, SpelledAt, SpellsName, NoneSpelled}
-use Rattle.dns_wire.specs.Writing.{AfterLabel, front_size, pointed_place, new_places, Holds, Follows}
 
 -- how a name is laid out, by the place at which its first suffix is shared, if any
-module _ (ms : List Placed) (l : Octets) (n : DomainName) {x : Option ℕ} (is : shared_place ms (l ∷ n) ≡ x) where
-  pub front-as : front_size ms (l ∷ n) ≡ elim x as (λ _. ℕ) [ None ↦ 1 + length l + front_size ms n | Some p ↦ 0 ]
+module _ (ms : List Placed)
+    (l : Octets) (n : DomainName) {x : Option ℕ} (is : shared_place ms (l ∷ n) ≡ x) where
+  pub front-as : front_size ms
+      (l ∷ n) ≡ elim x as (λ _. ℕ) [ None ↦ 1 + length l + front_size ms n | Some p ↦ 0 ]
   unfolding front_size
-  front-as = ap (λ (y : Option ℕ). elim y as (λ _. ℕ) [ None ↦ 1 + length l + front_size ms n | Some p ↦ 0 ]) is
+  front-as = grind (arith, ℕ, None, front_size, Some)
 
-  pub pointed-as : pointed_place ms (l ∷ n) ≡ elim x as (λ _. Option ℕ) [ None ↦ pointed_place ms n | Some p ↦ Some p ]
+  pub pointed-as : pointed_place ms
+      (l ∷ n) ≡ elim x as (λ _. Option ℕ) [ None ↦ pointed_place ms n | Some p ↦ Some p ]
   unfolding pointed_place
-  pointed-as = ap (λ (y : Option ℕ). elim y as (λ _. Option ℕ) [ None ↦ pointed_place ms n | Some p ↦ Some p ]) is
+  pointed-as = grind (arith, Option, ℕ, None, pointed_place, Some)
 
 pub front-root : (ms : List Placed) → front_size ms [] ≡ 0
 unfolding front_size
@@ -28,25 +25,36 @@ unfolding pointed_place
 pointed-root ms = refl
 
 -- a place of a message spells at most one name
-one_from : {b : Octets} {s i e f : ℕ} {n m : DomainName} → RunAt b s i n e → GoesOn b s i m f → n ≡ m
+one_from : {b : Octets} {s i e f : ℕ} {n m : DomainName}
+    → RunAt b s i n e → GoesOn b s i m f → n ≡ m
 one_from (ends i at) (at_end root none end) = sym none
-one_from (ends i at) (at_label l m there shape run) = absurd (omega (arith, same_Some (length l) 0 (sym there.length_there ∙ at), there.some))
-one_from (ends i at) (at_pointer q d there end run) = absurd (omega (arith, same_Some there.first 0 (sym there.first_there ∙ at), there.high))
-one_from (goes_on i k l n e at some short within is rest) (at_end root none end) = absurd (omega (arith, same_Some k 0 (sym at ∙ root), some))
-one_from {b} {s} {f = f} (goes_on i k l n e at some short within is rest) (at_label l' m there shape run) =
+one_from (ends i at) (at_label l m there shape run) =
+    absurd (omega (arith, same_Some (length l) 0 (sym there.length_there ∙ at), there.some))
+one_from (ends i at) (at_pointer q d there end run) =
+    absurd (omega (arith, same_Some there.first 0 (sym there.first_there ∙ at), there.high))
+one_from (goes_on i k l n e at some short within is rest) (at_end root none end) =
+    absurd (omega (arith, same_Some k 0 (sym at ∙ root), some))
+one_from {b}
+    {s} {f = f} (goes_on i k l n e at some short within is rest) (at_label l' m there shape run) =
     let long : length l' ≡ k = same_Some (length l') k (sym there.length_there ∙ at) in
     let same : l ≡ l' = is ∙ ap (λ j. take j (drop (i + 1) b)) (sym long) ∙ sym there.label in
-    ap₂ (λ x y. x ∷ y) same (one_from rest (goes_on_at (subst (λ j. RunAt b s (i + 1 + j) m f) long run))) ∙ sym shape
-one_from (goes_on i k l n e at some short within is rest) (at_pointer q d there end run) = absurd (omega (arith, same_Some k there.first (sym at ∙ there.first_there), short, there.high))
-one_from (jumps i o o' p n e at high at' is from before rest) (at_end root none end) = absurd (omega (arith, same_Some o 0 (sym at ∙ root), high))
-one_from (jumps i o o' p n e at high at' is from before rest) (at_label l m there shape run) = absurd (omega (arith, same_Some (length l) o (sym there.length_there ∙ at), there.short, high))
-one_from {b} {m = m} (jumps i o o' p n e at high at' is from before rest) (at_pointer q d there end run) =
+    ap₂ (λ x y. x ∷ y) same
+    (one_from rest (goes_on_at (subst (λ j. RunAt b s (i + 1 + j) m f) long run))) ∙ sym shape
+one_from (goes_on i k l n e at some short within is rest) (at_pointer q d there end run) =
+    absurd (omega (arith, same_Some k there.first (sym at ∙ there.first_there), short, there.high))
+one_from (jumps i o o' p n e at high at' is from before rest) (at_end root none end) =
+    absurd (omega (arith, same_Some o 0 (sym at ∙ root), high))
+one_from (jumps i o o' p n e at high at' is from before rest) (at_label l m there shape run) =
+    absurd (omega (arith, same_Some (length l) o (sym there.length_there ∙ at), there.short, high))
+one_from {b}
+    {m = m} (jumps i o o' p n e at high at' is from before rest) (at_pointer q d there end run) =
     let one = same_Some there.first o (sym there.first_there ∙ at) in
     let two = same_Some there.second o' (sym there.second_there ∙ at') in
     let same : q ≡ p = there.place ∙ ap₂ pointer_place one two ∙ sym is in
     one_from rest (goes_on_at (subst (λ j. RunAt b j j m d) same run))
 
-pub one_run : {b : Octets} {s i e f : ℕ} {n m : DomainName} → RunAt b s i n e → RunAt b s i m f → n ≡ m
+pub one_run : {b : Octets} {s i e f : ℕ} {n m : DomainName}
+    → RunAt b s i n e → RunAt b s i m f → n ≡ m
 one_run h g = one_from h (goes_on_at g)
 
 -- a name that is spelled at a place that is kept is not the root, and shared there
@@ -56,8 +64,9 @@ pub record FoundAt (ms : List Placed) (n : DomainName) (p : ℕ) : Type 0 where
   pub whole : n ≡ label ∷ labels
   pub shared : shared_place ms (label ∷ labels) ≡ Some p
 
-pub found : {head : Octets → ℕ} {ms : List Placed} {b : Octets} {ks : List Kept} {p : ℕ} (n : DomainName) → Holds head ms b ks → is_name n ≡ true
-    → HasPlace ks p → SpelledAt b p (wire n) → FoundAt ms n p
+pub found : {head : Octets → ℕ}
+    {ms : List Placed} {b : Octets} {ks : List Kept} {p : ℕ} (n : DomainName) → Holds head ms b ks
+    → is_name n ≡ true → HasPlace ks p → SpelledAt b p (wire n) → FoundAt ms n p
 found {head} {ms} {b} {ks} {p} n holds ok kept there =
     let s = holds.answers.sound p kept.0 kept.1 in
     let run = (holds.spelled s.0 s.1 p s.2).3 in
@@ -70,7 +79,8 @@ found {head} {ms} {b} {ks} {p} n holds ok kept there =
     }
 
 -- where nothing is found there is none
-pub not_found : {head : Octets → ℕ} {ms : List Placed} {b : Octets} {ks : List Kept} (l : Octets) (n : DomainName) → Holds head ms b ks
+pub not_found : {head : Octets → ℕ} {ms : List Placed}
+    {b : Octets} {ks : List Kept} (l : Octets) (n : DomainName) → Holds head ms b ks
     → NoneSpelled ks (head (wire (l ∷ n))) b (wire (l ∷ n)) → shared_place ms (l ∷ n) ≡ None
 not_found {head} {ms} {b} {ks} l n holds none = go (shared_place ms (l ∷ n)) refl
   where
@@ -88,9 +98,11 @@ pub record LeftOf (ms : List Placed) (name rest : Octets) (n : DomainName) : Typ
   pub front : front_size ms n + length rest ≡ length name + front_size ms left
   pub place : pointed_place ms n ≡ pointed_place ms left
 
-pub record Left (head : Octets → ℕ) (b : Octets) (ks : List Kept) (name rest : Octets) : Type 0 where
+pub record Left
+    (head : Octets → ℕ) (b : Octets) (ks : List Kept) (name rest : Octets) : Type 0 where
   pub shorter : length rest ≤ length name
-  pub all : (ms : List Placed) (n : DomainName) → Holds head ms b ks → name ≡ wire n → is_name n ≡ true → LeftOf ms name rest n
+  pub all : (ms : List Placed) (n : DomainName)
+      → Holds head ms b ks → name ≡ wire n → is_name n ≡ true → LeftOf ms name rest n
 
 -- the first label of what is left of a name, and what follows it
 pub record NextLabel (left : DomainName) (rest after : Octets) (k : ℕ) : Type 0 where
@@ -102,67 +114,94 @@ pub record NextLabel (left : DomainName) (rest after : Octets) (k : ℕ) : Type 
   pub spelled : after ≡ wire labels
   pub is_name : is_name labels ≡ true
 
-pub next_label : {rest after : Octets} {k : ℕ} (left : DomainName) → rest ≡ wire left → is_name left ≡ true → AfterLabel rest k after → NextLabel left rest after k
+pub next_label : {rest after : Octets} {k : ℕ} (left : DomainName)
+    → rest ≡ wire left → is_name left ≡ true → AfterLabel rest k after → NextLabel left rest after k
 next_label [] e ok a = absurd (a.some (ap (λ x. get_or x 0 0) (sym a.first ∙ e)))
 next_label {k = k} (l ∷ n) e ok a = grind (arith, drop_at, is_name-tail)
 
-pub left_label : {head : Octets → ℕ} {b : Octets} {ks : List Kept} {name rest after : Octets} (k : ℕ) → Left head b ks name rest → AfterLabel rest k after → NoneSpelled ks (head rest) b rest
-    → Left head b ks name after
+pub left_label : {head : Octets → ℕ}
+    {b : Octets} {ks : List Kept} {name rest after : Octets} (k : ℕ) → Left head b ks name rest
+    → AfterLabel rest k after → NoneSpelled ks (head rest) b rest → Left head b ks name after
 left_label {head} {b} {ks} {name} {rest} {after} k left a none = record {
-  shorter = let s = left.shorter in omega (arith, s, ap length a.first, ap length a.cut, length-drop k a.others);
+  shorter = let s =
+      left.shorter in omega (arith, s, ap length a.first, ap length a.cut, length-drop k a.others);
   all = λ ms n holds e ok.
       let x = left.all ms n holds e ok in
       let f = next_label x.left x.spelled x.is_name a in
-      let out = not_found f.label f.labels holds (subst (λ o. NoneSpelled ks (head o) b o) f.before none) in
+      let out = not_found f.label f.labels holds
+      (subst (λ o. NoneSpelled ks (head o) b o) f.before none) in
       let front = x.front in
       record {
         left = f.labels;
         spelled = f.spelled;
         is_name = f.is_name;
-        front = omega (arith, front, ap (front_size ms) f.whole, front-as ms f.label f.labels out, ap length f.before, ap length f.spelled, length-append f.label (wire f.labels));
+        front = omega (
+          arith,
+          front,
+          ap (front_size ms) f.whole,
+          front-as ms f.label f.labels out,
+          ap length f.before,
+          ap length f.spelled,
+          length-append f.label (wire f.labels),
+        );
         place = x.place ∙ ap (pointed_place ms) f.whole ∙ pointed-as ms f.label f.labels out;
       };
 }
 
--- where nothing is left to look at, the name is written whole; where a suffix is found, its front is
-pub left_root : {head : Octets → ℕ} {b : Octets} {ks : List Kept} {name rest : Octets} (ms : List Placed) (n : DomainName) → Left head b ks name rest
-    → ((m : DomainName) → rest ≡ wire m → is_name m ≡ true → m ≡ []) → Holds head ms b ks → name ≡ wire n → is_name n ≡ true
-    → (front_size ms n ≡ length name - length rest) × (pointed_place ms n ≡ None)
+-- where nothing is left to look at, the name is written whole; where a suffix is found, its front
+-- is
+pub left_root : {head : Octets → ℕ} {b : Octets} {ks : List Kept} {name rest : Octets}
+    (ms : List Placed) (n : DomainName) → Left head b ks name rest → ((m : DomainName)
+    → rest ≡ wire m → is_name m ≡ true → m ≡ []) → Holds head ms b ks → name ≡ wire n
+    → is_name n ≡ true → (front_size ms n ≡ length name - length rest) × (pointed_place ms n ≡ None)
 left_root {name = name} {rest} ms n left root holds e ok =
     let a = left.all ms n holds e ok in
     let none = root a.left a.spelled a.is_name in
-    let front = a.front in
-    (omega (arith, front, ap (front_size ms) none, front-root ms), a.place ∙ ap (pointed_place ms) none ∙ pointed-root ms)
+    let front = a.front in (
+      omega (arith, front, ap (front_size ms) none, front-root ms),
+      a.place ∙ ap (pointed_place ms) none ∙ pointed-root ms,
+    )
 
-pub left_found : {head : Octets → ℕ} {b : Octets} {ks : List Kept} {name rest : Octets} (p : ℕ) (ms : List Placed) (n : DomainName) → Left head b ks name rest
+pub left_found : {head : Octets → ℕ} {b : Octets} {ks : List Kept}
+    {name rest : Octets} (p : ℕ) (ms : List Placed) (n : DomainName) → Left head b ks name rest
     → HasPlace ks p → SpellsName b p rest → Holds head ms b ks → name ≡ wire n → is_name n ≡ true
     → (front_size ms n ≡ length name - length rest) × (pointed_place ms n ≡ Some p)
 left_found {b = b} {name = name} {rest} p ms n left kept there holds e ok =
     let a = left.all ms n holds e ok in
-    let f = found a.left holds a.is_name kept (subst (SpelledAt b p) a.spelled (there a.left a.spelled a.is_name)) in
-    let front = a.front in
-    (omega (arith, front, ap (front_size ms) f.whole, front-as ms f.label f.labels f.shared), a.place ∙ ap (pointed_place ms) f.whole ∙ pointed-as ms f.label f.labels f.shared)
+    let f = found a.left holds a.is_name kept
+    (subst (SpelledAt b p) a.spelled (there a.left a.spelled a.is_name)) in
+    let front = a.front in (
+      omega (arith, front, ap (front_size ms) f.whole, front-as ms f.label f.labels f.shared),
+      a.place ∙ ap (pointed_place ms) f.whole ∙ pointed-as ms f.label f.labels f.shared,
+    )
 
 -- which places are kept of a name, by that place
 module _ (head : Octets → ℕ) (ms : List Placed) (l : Octets) (n : DomainName) (p : ℕ) where
   abbrev kept_by : Option ℕ → List Kept
-  kept_by None = cond (nat_le p last_place) (record { place = p; number = head (wire (l ∷ n)) } ∷ new_places head ms n (p + 1 + length l)) []
+  kept_by None = cond (nat_le p last_place) (record
+      { place = p; number = head (wire (l ∷ n)) } ∷ new_places head ms n (p + 1 + length l)) []
   kept_by (Some q) = []
 
-  pub kept-as : {x : Option ℕ} → shared_place ms (l ∷ n) ≡ x → new_places head ms (l ∷ n) p ≡ kept_by x
+  pub kept-as : {x : Option ℕ}
+      → shared_place ms (l ∷ n) ≡ x → new_places head ms (l ∷ n) p ≡ kept_by x
   unfolding new_places
   kept-as e = ap kept_by e
 
-  pub kept-more : shared_place ms (l ∷ n) ≡ None → p ≤ last_place → new_places head ms (l ∷ n) p ≡ record { place = p; number = head (wire (l ∷ n)) } ∷ new_places head ms n (p + 1 + length l)
-  kept-more e low = kept-as e ∙ ap (λ t. cond t (record { place = p; number = head (wire (l ∷ n)) } ∷ new_places head ms n (p + 1 + length l)) []) (le-leb p last_place low)
+  pub kept-more : shared_place ms (l ∷ n) ≡ None → p ≤ last_place → new_places head ms (l ∷ n) p
+      ≡ record { place = p; number = head (wire (l ∷ n)) } ∷ new_places head ms n (p + 1 + length l)
+  kept-more e low = kept-as e ∙ ap (λ t. cond t (record { place = p; number = head (wire (l ∷ n)) }
+      ∷ new_places head ms n (p + 1 + length l)) []) (le-leb p last_place low)
 
   -- nothing is kept past the reach of a pointer, or of a shared suffix
   kept-high : last_place < p → new_places head ms (l ∷ n) p ≡ []
   kept-high high = go (shared_place ms (l ∷ n)) refl (nat_le p last_place) refl
     where
-      go : (x : Option ℕ) → shared_place ms (l ∷ n) ≡ x → (t : Bool) → nat_le p last_place ≡ t → new_places head ms (l ∷ n) p ≡ []
+      go : (x : Option ℕ) → shared_place ms (l ∷ n) ≡ x
+          → (t : Bool) → nat_le p last_place ≡ t → new_places head ms (l ∷ n) p ≡ []
       go None e true q = absurd (let low = leb-true p last_place q in omega (arith, low, high))
-      go None e false q = kept-as e ∙ ap (λ t. cond t (record { place = p; number = head (wire (l ∷ n)) } ∷ new_places head ms n (p + 1 + length l)) []) q
+      go None e false q = kept-as e
+          ∙ ap (λ t. cond t (record { place = p; number = head (wire (l ∷ n)) } ∷ new_places
+          head ms n (p + 1 + length l)) []) q
       go (Some r) e t q = kept-as e
 
   kept-shared : front_size ms (l ∷ n) < 1 + length l → new_places head ms (l ∷ n) p ≡ []
@@ -177,28 +216,37 @@ unfolding new_places
 kept-root head ms p = refl
 
 -- What is left to keep of a name.
-pub record KeepOf (head : Octets → ℕ) (ms : List Placed) (old ks : List Kept) (rest : Octets) (front at place : ℕ) (n : DomainName) : Type 0 where
+pub record KeepOf (head : Octets → ℕ) (ms : List Placed)
+    (old ks : List Kept) (rest : Octets) (front at place : ℕ) (n : DomainName) : Type 0 where
   pub left : DomainName
   pub spelled : rest ≡ wire left
   pub is_name : is_name left ≡ true
   pub kept : old ++ new_places head ms n at ≡ ks ++ new_places head ms left place
   pub fits : place + front_size ms left ≡ at + front
 
-pub record Keep (head : Octets → ℕ) (old ks : List Kept) (name rest : Octets) (front at place : ℕ) : Type 0 where
+pub record Keep (head : Octets → ℕ)
+    (old ks : List Kept) (name rest : Octets) (front at place : ℕ) : Type 0 where
   pub few : 2 * length ks ≤ place
   pub within : place ≤ at + front
-  pub all : (ms : List Placed) (n : DomainName) → name ≡ wire n → is_name n ≡ true → front ≡ front_size ms n → KeepOf head ms old ks rest front at place n
+  pub all : (ms : List Placed) (n : DomainName) → name ≡ wire n
+      → is_name n ≡ true → front ≡ front_size ms n → KeepOf head ms old ks rest front at place n
 
-pub keep_begins : (head : Octets → ℕ) (old : List Kept) (name : Octets) (front at : ℕ) → 2 * length old ≤ at → Keep head old old name name front at at
+pub keep_begins : (head : Octets → ℕ) (old : List Kept) (name : Octets) (front at : ℕ)
+    → 2 * length old ≤ at → Keep head old old name name front at at
 keep_begins head old name front at few = grind arith
 
-pub keep_label : {head : Octets → ℕ} {old ks : List Kept} {name rest after : Octets} {front at place : ℕ} (k h : ℕ) → Keep head old ks name rest front at place → AfterLabel rest k after
-    → place + 1 + k ≤ at + front → place ≤ last_place → h ≡ head rest → Keep head old (ks ++ record { place = place; number = h } ∷ []) name after front at (place + 1 + k)
-keep_label {head} {old} {ks} {name} {rest} {after} {front} {at} {place} k h keep a room low number = record {
-  few = let f = keep.few in let positive = pos k a.some in omega (arith, f, positive, length-append ks (one ∷ []));
-  within = room;
-  all = λ ms n e ok f. let x = keep.all ms n e ok f in let g = next_label x.left x.spelled x.is_name a in go ms n x g (shared_place ms (g.label ∷ g.labels)) refl;
-}
+pub keep_label : {head : Octets → ℕ} {old ks : List Kept} {name rest after : Octets}
+    {front at place : ℕ} (k h : ℕ) → Keep head old ks name rest front at place → AfterLabel
+    rest k after → place + 1 + k ≤ at + front → place ≤ last_place → h ≡ head rest → Keep head old
+    (ks ++ record { place = place; number = h } ∷ []) name after front at (place + 1 + k)
+keep_label {head} {old} {ks} {name} {rest} {after} {front} {at} {place} k h keep a room low number =
+    record {
+      few = let f = keep.few in
+          let positive = pos k a.some in omega (arith, f, positive, length-append ks (one ∷ []));
+      within = room;
+      all = λ ms n e ok f. let x = keep.all ms n e ok f in let g = next_label
+          x.left x.spelled x.is_name a in go ms n x g (shared_place ms (g.label ∷ g.labels)) refl;
+    }
   where
     one : Kept
     one = record { place = place; number = h }
@@ -207,31 +255,41 @@ keep_label {head} {old} {ks} {name} {rest} {after} {front} {at} {place} k h keep
     pos zero not_zero = absurd (not_zero refl)
     pos (suc j) not_zero = omega arith
 
-    go : (ms : List Placed) (n : DomainName) (x : KeepOf head ms old ks rest front at place n) (g : NextLabel x.left rest after k) → (s : Option ℕ) → shared_place ms (g.label ∷ g.labels) ≡ s
-        → KeepOf head ms old (ks ++ one ∷ []) after front at (place + 1 + k) n
-    go ms n x g (Some r) q = absurd (let fit = x.fits in omega (arith, fit, room, ap (front_size ms) g.whole, front-as ms g.label g.labels q))
+    go : (ms : List Placed) (n : DomainName) (x : KeepOf head ms old ks rest front at place n)
+        (g : NextLabel x.left rest after k) → (s : Option ℕ) → shared_place ms (g.label ∷ g.labels)
+        ≡ s → KeepOf head ms old (ks ++ one ∷ []) after front at (place + 1 + k) n
+    go ms n x g (Some r) q = absurd (let fit = x.fits in
+        omega (arith, fit, room, ap (front_size ms) g.whole, front-as ms g.label g.labels q))
     go ms n x g None q =
-        let named : record { place = place; number = head (wire (g.label ∷ g.labels)) } ≡ one = ap (λ j. record { place = place; number = j }) (ap head (sym g.before) ∙ sym number) in
-        let next : place + 1 + length g.label ≡ place + 1 + k = ap (λ j. place + 1 + j) (sym g.long) in
-        let more = kept-more head ms g.label g.labels place q low ∙ ap₂ (λ (y : Kept) j. y ∷ new_places head ms g.labels j) named next in
+        let named : record { place = place; number = head (wire (g.label ∷ g.labels)) } ≡ one =
+        ap (λ j. record { place = place; number = j }) (ap head (sym g.before) ∙ sym number) in
+        let next : place + 1 + length g.label ≡ place + 1 + k =
+        ap (λ j. place + 1 + j) (sym g.long) in
+        let more = kept-more head ms g.label g.labels place q low
+        ∙ ap₂ (λ (y : Kept) j. y ∷ new_places head ms g.labels j) named next in
         let fit = x.fits in
         record {
           left = g.labels;
           spelled = g.spelled;
           is_name = g.is_name;
-          kept = x.kept ∙ ap (λ y. ks ++ new_places head ms y place) g.whole ∙ ap (λ y. ks ++ y) more ∙ sym (append_assoc ks (one ∷ []) (new_places head ms g.labels (place + 1 + k)));
-          fits = omega (arith, fit, ap (front_size ms) g.whole, front-as ms g.label g.labels q, g.long);
+          kept = x.kept ∙ ap (λ y. ks ++ new_places head ms y place) g.whole ∙ ap (λ y. ks ++ y)
+              more ∙ sym (append_assoc ks (one ∷ []) (new_places head ms g.labels (place + 1 + k)));
+          fits = omega
+              (arith, fit, ap (front_size ms) g.whole, front-as ms g.label g.labels q, g.long);
         }
 
 -- where the loop ends nothing is left to keep
-pub keep_root : {head : Octets → ℕ} {old ks : List Kept} {name rest : Octets} {front at place : ℕ} → Keep head old ks name rest front at place
-    → ((m : DomainName) → rest ≡ wire m → is_name m ≡ true → m ≡ [])
-    → (ms : List Placed) (n : DomainName) → name ≡ wire n → is_name n ≡ true → front ≡ front_size ms n → ks ≡ old ++ new_places head ms n at
+pub keep_root : {head : Octets → ℕ} {old ks : List Kept} {name rest : Octets} {front at place : ℕ}
+    → Keep head old ks name rest front at place → ((m : DomainName) → rest ≡ wire m
+    → is_name m ≡ true → m ≡ []) → (ms : List Placed) (n : DomainName) → name ≡ wire n
+    → is_name n ≡ true → front ≡ front_size ms n → ks ≡ old ++ new_places head ms n at
 keep_root {head} {old} {ks} {place = place} keep root ms n e ok f =
     grind (arith, kept-root, append-nil)
 
-pub keep_high : {head : Octets → ℕ} {old ks : List Kept} {name rest : Octets} {front at place : ℕ} → Keep head old ks name rest front at place → last_place < place
-    → (ms : List Placed) (n : DomainName) → name ≡ wire n → is_name n ≡ true → front ≡ front_size ms n → ks ≡ old ++ new_places head ms n at
+pub keep_high : {head : Octets → ℕ} {old ks : List Kept} {name rest : Octets} {front at place : ℕ}
+    → Keep head old ks name rest front at place
+    → last_place < place → (ms : List Placed) (n : DomainName) → name ≡ wire n
+    → is_name n ≡ true → front ≡ front_size ms n → ks ≡ old ++ new_places head ms n at
 keep_high {head} {old} {ks} {place = place} keep high ms n e ok f =
     let a = keep.all ms n e ok f in
     sym (a.kept ∙ ap (λ x. ks ++ x) (none a.left) ∙ append-nil ks)
@@ -240,22 +298,30 @@ keep_high {head} {old} {ks} {place = place} keep high ms n e ok f =
     none [] = kept-root head ms place
     none (l ∷ m) = kept-high head ms l m place high
 
-pub keep_past : {head : Octets → ℕ} {old ks : List Kept} {name rest after : Octets} {front at place : ℕ} (k : ℕ) → Keep head old ks name rest front at place → AfterLabel rest k after
-    → at + front < place + 1 + k → (ms : List Placed) (n : DomainName) → name ≡ wire n → is_name n ≡ true → front ≡ front_size ms n → ks ≡ old ++ new_places head ms n at
+pub keep_past : {head : Octets → ℕ} {old ks : List Kept} {name rest after : Octets}
+    {front at place : ℕ} (k : ℕ) → Keep head old ks name rest front at place → AfterLabel
+    rest k after → at + front < place + 1 + k → (ms : List Placed) (n : DomainName) → name ≡ wire n
+    → is_name n ≡ true → front ≡ front_size ms n → ks ≡ old ++ new_places head ms n at
 keep_past {head} {old} {ks} {place = place} k keep a past ms n e ok f =
     let x = keep.all ms n e ok f in
     let g = next_label x.left x.spelled x.is_name a in
     let fit = x.fits in
-    let none = kept-shared head ms g.label g.labels place (omega (arith, fit, past, g.long, ap (front_size ms) g.whole)) in
-    sym (x.kept ∙ ap (λ x. ks ++ new_places head ms x place) g.whole ∙ ap (λ x. ks ++ x) none ∙ append-nil ks)
+    let none = kept-shared head ms g.label g.labels place
+    (omega (arith, fit, past, g.long, ap (front_size ms) g.whole)) in
+    sym (x.kept ∙ ap (λ x. ks ++ new_places head ms x place) g.whole
+    ∙ ap (λ x. ks ++ x) none ∙ append-nil ks)
 
 -- nothing is kept of a name that is a pointer alone
-keep_none : (head : Octets → ℕ) (ms : List Placed) (n : DomainName) (at : ℕ) (ks : List Kept) → front_size ms n ≡ 0 → ks ≡ ks ++ new_places head ms n at
-keep_none head ms [] at ks none = sym (append-nil ks) ∙ ap (λ x. ks ++ x) (sym (kept-root head ms at))
-keep_none head ms (l ∷ n) at ks none = sym (append-nil ks) ∙ ap (λ x. ks ++ x) (sym (kept-shared head ms l n at (omega (arith, none))))
+keep_none : (head : Octets → ℕ) (ms : List Placed) (n : DomainName) (at : ℕ) (ks : List Kept)
+    → front_size ms n ≡ 0 → ks ≡ ks ++ new_places head ms n at
+keep_none head ms [] at ks none =
+    sym (append-nil ks) ∙ ap (λ x. ks ++ x) (sym (kept-root head ms at))
+keep_none head ms (l ∷ n) at ks none = grind (arith, append-nil, kept-shared)
 
-pub keep_end : {head : Octets → ℕ} {old ks : List Kept} {name rest : Octets} {front at place : ℕ} → Keep head old ks name rest front at place → at + front ≤ place
-    → (ms : List Placed) (n : DomainName) → name ≡ wire n → is_name n ≡ true → front ≡ front_size ms n → ks ≡ old ++ new_places head ms n at
+pub keep_end : {head : Octets → ℕ} {old ks : List Kept} {name rest : Octets} {front at place : ℕ}
+    → Keep head old ks name rest front at place
+    → at + front ≤ place → (ms : List Placed) (n : DomainName) → name ≡ wire n
+    → is_name n ≡ true → front ≡ front_size ms n → ks ≡ old ++ new_places head ms n at
 keep_end {head} {old} {ks} {place = place} keep end ms n e ok f = grind (arith, keep_none)
 
 -- octets that have no first label are the wire form of no other name than the root
@@ -263,11 +329,13 @@ pub root_empty : (o : Octets) (n : DomainName) → o ≡ wire n → length o ≡
 root_empty o [] e none = refl
 root_empty o (l ∷ n) e none = absurd (omega (arith, ap length e, none))
 
-pub root_zero : (o others : Octets) (n : DomainName) → o ≡ wire n → is_name n ≡ true → o ≡ 0 ∷ others → n ≡ []
+pub root_zero : (o others : Octets) (n : DomainName)
+    → o ≡ wire n → is_name n ≡ true → o ≡ 0 ∷ others → n ≡ []
 root_zero o others [] e ok first = refl
 root_zero o others (l ∷ n) e ok first = grind (arith, label_parts, is_label-head)
 
-pub root_cut : (o others : Octets) (k : ℕ) (n : DomainName) → o ≡ wire n → o ≡ k ∷ others → length others < k → n ≡ []
+pub root_cut : (o others : Octets) (k : ℕ) (n : DomainName)
+    → o ≡ wire n → o ≡ k ∷ others → length others < k → n ≡ []
 root_cut o others k [] e first short = refl
 root_cut o others k (l ∷ n) e first short = grind (arith, length-append)
 
@@ -275,4 +343,7 @@ pub follows_none : {A : Type 0} (xs : List A) → Follows xs xs
 follows_none xs = record { more = []; whole = sym (append-nil xs) }
 
 pub follows_again : {A : Type 0} {xs ys zs : List A} → Follows xs ys → Follows ys zs → Follows xs zs
-follows_again {xs = xs} f g = record { more = f.more ++ g.more; whole = g.whole ∙ ap (λ z. z ++ g.more) f.whole ∙ append_assoc xs f.more g.more }
+follows_again {xs = xs} f g = record {
+  more = f.more ++ g.more;
+  whole = g.whole ∙ ap (λ z. z ++ g.more) f.whole ∙ append_assoc xs f.more g.more;
+}

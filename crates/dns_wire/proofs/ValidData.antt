@@ -1,17 +1,13 @@
 -- Data that is read is data of its type, of at most 65,535 octets.
-use Rattle.std.proofs.Common.{◌≡◌, ℕ, suc, ◌+◌, ◌-◌, ◌≤◌, Bool, true, ◌||◌, nat_le, ◌==◌, List, [], ◌∷◌, ◌++◌, length, drop, slice_get, get_or, Some, is_some, unwrap_or, refl, sym, ap, ◌∙◌, subst, arith, append-nil, add-zero, length-append, if◌then◌else◌}
-use Rattle.dns_spec.proofs.Common.{le-leb, ne_eqb, eqb-true, same_Some, slice_get_within, slice_get-get_or, find, Octets, wire, class_in, width, Piece, fixed, domain, string, strings, anything, TypeRow, other_type, Part, octets, octets_front, string_front, piece_front, cut, valid, OctetsAt, PiecesAt, DataAt}
-use Rattle.std.proofs.lemmas.List.{length-take-le, length-drop, take_at, drop_at, nil_from_length, get_or-take, get_or-drop}
-use Rattle.dns_spec.proofs.DomainNames.NameLaws.{IsName-is_name}
-use Rattle.dns_spec.proofs.DomainNames.WireNames.{name_of-wire}
-use Rattle.dns_rdata.proofs.PartLemmas.{more_are_cut}
+use Rattle.dns_wire.proofs.Common.{◌≡◌, ℕ, suc, ◌+◌, ◌-◌, ◌≤◌, Bool, true, ◌||◌, nat_le, ◌==◌, List, [], ◌∷◌, ◌++◌, length, slice_get, get_or, Some, is_some, unwrap_or, refl, sym, ap, ◌∙◌, subst, arith, append-nil, add-zero, length-append, if◌then◌else◌, le-leb, ne_eqb, eqb-true, same_Some, slice_get_within, slice_get-get_or, find, Octets, class_in, width, Piece, fixed, domain, string, strings, anything, TypeRow, other_type, Part, octets, octets_front, string_front, piece_front, cut, valid, OctetsAt, PiecesAt, DataAt, length-take-le, length-drop, take_at, drop_at, nil_from_length, get_or-take, get_or-drop, IsName-is_name, name_of-wire, more_are_cut}
 use Rattle.dns_wire.proofs.PieceLemmas.{all_forward, run_past}
 
 -- the octets between two places are as many as there are places
 octets_length : {b : Octets} {i e : ℕ} {o : Octets} → OctetsAt b i e o → length o ≡ e - i
-octets_length {b} {i} {e} at = ap length (sym at.are) ∙ length-take-le (e - i) (drop i b) (omega (arith, length-drop i b, at.ordered, at.within))
+octets_length {b} {i} {e} at = grind (arith, length-take-le, length-drop)
 
--- how many domain names are among pieces, and how many octets the other pieces have at most, where they are numbers
+-- how many domain names are among pieces, and how many octets the other pieces have at most, where
+-- they are numbers
 names_among : List Piece → ℕ
 names_among [] = 0
 names_among (domain ∷ ps) = 1 + names_among ps
@@ -21,22 +17,23 @@ names_among (strings ∷ ps) = names_among ps
 names_among (anything ∷ ps) = names_among ps
 
 -- Data without names is as long as it is in the message.
-unnamed_length : (b : Octets) (ps : List Piece) (i e : ℕ) (d : Octets) → names_among ps ≡ 0 → PiecesAt b ps i e d → length d ≡ e - i
+unnamed_length : (b : Octets) (ps : List Piece) (i e : ℕ) (d : Octets)
+    → names_among ps ≡ 0 → PiecesAt b ps i e d → length d ≡ e - i
 unfolding names_among
 unnamed_length b [] i e d none h = omega (arith, h.0, ap length h.1)
 unnamed_length b (fixed f ∷ ps) i e d none h =
-    let later = all_forward b ps (i + width f) e h.1 h.4 in
-    omega (arith, ap length h.3, length-append h.0 h.1, octets_length h.2, unnamed_length b ps (i + width f) e h.1 none h.4)
+    let again = unnamed_length b ps (i + width f) e h.1 none h.4 in
+    grind (arith, all_forward, width, length-append, octets_length, again)
 unnamed_length b (domain ∷ ps) i e d none h = absurd (omega arith)
 unnamed_length b (string ∷ ps) i e d none h =
-    let later = all_forward b ps (i + 1 + h.0) e h.2 h.6 in
-    omega (arith, ap length h.5, length-append h.1 h.2, octets_length h.4, unnamed_length b ps (i + 1 + h.0) e h.2 none h.6)
+    let again = unnamed_length b ps (i + 1 + h.0) e h.2 none h.6 in
+    grind (arith, all_forward, length-append, octets_length, again)
 unnamed_length b (strings ∷ ps) i e d none h =
-    let later = all_forward b ps h.2 e h.1 h.8 in
-    omega (arith, ap length h.6, length-append h.0 h.1, octets_length h.3, h.3.ordered, unnamed_length b ps h.2 e h.1 none h.8)
+    grind
+    (arith, all_forward, length-append, octets_length, (unnamed_length b ps h.2 e h.1 none h.8))
 unnamed_length b (anything ∷ ps) i e d none h =
-    let later = all_forward b ps h.2 e h.1 h.6 in
-    omega (arith, ap length h.4, length-append h.0 h.1, octets_length h.3, h.3.ordered, unnamed_length b ps h.2 e h.1 none h.6)
+    grind
+    (arith, all_forward, length-append, octets_length, (unnamed_length b ps h.2 e h.1 none h.6))
 
 -- the octets of names and numbers, at most; of other pieces nothing is said
 most : List Piece → ℕ
@@ -47,13 +44,21 @@ most (string ∷ ps) = 65536
 most (strings ∷ ps) = 65536
 most (anything ∷ ps) = 65536
 
-named_length : (b : Octets) (ps : List Piece) (i e : ℕ) (d : Octets) → most ps ≤ 65535 → PiecesAt b ps i e d → length d ≤ most ps
+named_length : (b : Octets) (ps : List Piece) (i e : ℕ) (d : Octets)
+    → most ps ≤ 65535 → PiecesAt b ps i e d → length d ≤ most ps
 unfolding most
 named_length b [] i e d fits h = omega (arith, ap length h.1)
 named_length b (fixed f ∷ ps) i e d fits h =
-    omega (arith, ap length h.3, length-append h.0 h.1, octets_length h.2, named_length b ps (i + width f) e h.1 (omega arith) h.4)
+    omega (
+      arith,
+      ap length h.3,
+      length-append h.0 h.1,
+      octets_length h.2,
+      named_length b ps (i + width f) e h.1 (omega arith) h.4,
+    )
 named_length b (domain ∷ ps) i e d fits h =
-    omega (arith, ap length h.4, length-append (wire h.0) h.2, (IsName-is_name h.0 h.3.1).fits, named_length b ps h.1 e h.2 (omega arith) h.5)
+    let again = named_length b ps h.1 e h.2 (omega arith) h.5 in
+    grind (arith, length-append, IsName-is_name, again)
 named_length b (string ∷ ps) i e d fits h = absurd (omega arith)
 named_length b (strings ∷ ps) i e d fits h = absurd (omega arith)
 named_length b (anything ∷ ps) i e d fits h = absurd (omega arith)
@@ -67,7 +72,8 @@ abbrev Each : ℕ → (TypeRow → Type 0) → List TypeRow → Type 0
 Each t P [] = Unit {0}
 Each t P (row ∷ rows) = (row.number ≡ t → P row) × Each t P rows
 
-pub by_row : (t : ℕ) (P : TypeRow → Type 0) (rows : List TypeRow) → P other_type → Each t P rows → P (unwrap_or (find (λ (row : TypeRow). row.number == t) rows) other_type)
+pub by_row : (t : ℕ) (P : TypeRow → Type 0) (rows : List TypeRow) → P other_type
+    → Each t P rows → P (unwrap_or (find (λ (row : TypeRow). row.number == t) rows) other_type)
 by_row t P [] other each = other
 by_row t P (row ∷ others) other each = grind (arith, eqb-true, (by_row t P others other each.1))
 
@@ -78,16 +84,18 @@ nothing_between b (fixed f ∷ ps) i d h =
     let later = all_forward b ps (i + width f) i h.1 h.4 in
     let none : i + width f ≡ i = omega arith in
     let front : h.0 ≡ [] = nil_from_length h.0 (omega (arith, octets_length h.2)) in
-    h.3 ∙ ap (λ o. o ++ h.1) front ∙ nothing_between b ps i h.1 (subst (λ j. PiecesAt b ps j i h.1) none h.4)
+    h.3 ∙ ap (λ o. o ++ h.1) front
+    ∙ nothing_between b ps i h.1 (subst (λ j. PiecesAt b ps j i h.1) none h.4)
 nothing_between b (domain ∷ ps) i d h = grind (arith, all_forward, run_past)
 nothing_between b (string ∷ ps) i d h = grind (arith, all_forward)
 nothing_between b (strings ∷ ps) i d h = absurd (omega (arith, octets_length h.3, h.4, h.7))
 nothing_between b (anything ∷ ps) i d h =
-    let front : h.0 ≡ [] = nil_from_length h.0 (omega (arith, octets_length h.3, h.5)) in
-    h.4 ∙ ap (λ o. o ++ h.1) front ∙ nothing_between b ps i h.1 (subst (λ j. PiecesAt b ps j i h.1) h.5 h.6)
+    let again = nothing_between b ps i h.1 (subst (λ j. PiecesAt b ps j i h.1) h.5 h.6) in
+    grind (arith, nil_from_length, octets_length, again)
 
 -- the first of some octets stands where they begin
-first_octet : (b : Octets) (i k : ℕ) (o : Octets) → slice_get b i ≡ Some k → OctetsAt b i (i + 1 + k) o → get_or o 0 0 ≡ k
+first_octet : (b : Octets) (i k : ℕ) (o : Octets)
+    → slice_get b i ≡ Some k → OctetsAt b i (i + 1 + k) o → get_or o 0 0 ≡ k
 first_octet b i k o there at =
     grind (arith, slice_get_within, get_or-take, get_or-drop, add-zero, same_Some, slice_get-get_or)
 
@@ -95,26 +103,32 @@ first_octet b i k o there at =
 abbrev IsCut : List Piece → Octets → Type 0
 IsCut ps d = is_some (cut ps d) ≡ true
 
-cut_more : (p : Piece) (ps : List Piece) (d rest : Octets) (part : Part) → piece_front p d ≡ Some (part, rest) → IsCut ps rest → IsCut (p ∷ ps) d
+cut_more : (p : Piece) (ps : List Piece) (d rest : Octets) (part : Part)
+    → piece_front p d ≡ Some (part, rest) → IsCut ps rest → IsCut (p ∷ ps) d
 cut_more p ps d rest part front more = more_are_cut p ps d part rest front ∙ more
 
-front_cut : (k : ℕ) (o rest : Octets) → length o ≡ k → octets_front k (o ++ rest) ≡ Some (octets o, rest)
+front_cut : (k : ℕ) (o rest : Octets)
+    → length o ≡ k → octets_front k (o ++ rest) ≡ Some (octets o, rest)
 front_cut k o rest long = grind (arith, le-leb, length-append, take_at, drop_at)
 
-pieces_cut : (b : Octets) (ps : List Piece) (i e : ℕ) (d : Octets) → PiecesAt b ps i e d → IsCut ps d
+pieces_cut : (b : Octets) (ps : List Piece) (i e : ℕ) (d : Octets)
+    → PiecesAt b ps i e d → IsCut ps d
 unfolding cut
 pieces_cut b [] i e d h = grind arith
 pieces_cut b (fixed f ∷ ps) i e d h =
     grind (arith, octets_length, cut_more, front_cut, (pieces_cut b ps (i + width f) e h.1 h.4))
 pieces_cut b (domain ∷ ps) i e d h =
     grind (arith, cut_more, name_of-wire, (pieces_cut b ps h.1 e h.2 h.5))
-pieces_cut b (string ∷ ps) i e d h = cut_more string ps d h.2 (octets h.1) (ap string_front h.5 ∙ by_first h.1 refl) (pieces_cut b ps (i + 1 + h.0) e h.2 h.6)
+pieces_cut b (string ∷ ps) i e d h = cut_more string ps d h.2
+    (octets h.1) (ap string_front h.5 ∙ by_first h.1 refl) (pieces_cut b ps (i + 1 + h.0) e h.2 h.6)
   where
     by_first : (o : Octets) → h.1 ≡ o → string_front (h.1 ++ h.2) ≡ Some (octets h.1, h.2)
     by_first [] p = absurd (omega (arith, octets_length h.4, ap length p))
     by_first (k ∷ os) p =
-        let long : length (k ∷ os) ≡ suc h.0 = ap length (sym p) ∙ octets_length h.4 ∙ (omega arith) in
-        let first : k ≡ h.0 = ap (λ (xs : Octets). get_or xs 0 0) (sym p) ∙ first_octet b i h.0 h.1 h.3 h.4 in
+        let long : length (k ∷ os) ≡ suc h.0 =
+        ap length (sym p) ∙ octets_length h.4 ∙ (omega arith) in
+        let first : k ≡ h.0 =
+        ap (λ (xs : Octets). get_or xs 0 0) (sym p) ∙ first_octet b i h.0 h.1 h.3 h.4 in
         ap (λ o. string_front (o ++ h.2)) p
         ∙ front_cut (suc k) (k ∷ os) h.2 (long ∙ ap suc (sym first))
         ∙ ap (λ o. Some (octets o, h.2)) (sym p)
@@ -123,7 +137,9 @@ pieces_cut b (strings ∷ ps) i e d h =
 pieces_cut b (anything ∷ ps) i e d h =
     grind (arith, nothing_between, cut_more, (pieces_cut b ps h.2 e h.1 h.6))
 
--- The data of a record is valid for its type, or, in another class than IN, for a type of which the data is octets.
-pub data_valid : (b : Octets) (t c i e : ℕ) (d : Octets) → DataAt b t c i e d → e - i ≤ 65535 → valid (if c == class_in then t else 0) d ≡ true
+-- The data of a record is valid for its type, or, in another class than IN, for a type of which the
+-- data is octets.
+pub data_valid : (b : Octets) (t c i e : ℕ) (d : Octets)
+    → DataAt b t c i e d → e - i ≤ 65535 → valid (if c == class_in then t else 0) d ≡ true
 unfolding bounded names_among most
 data_valid b t c i e d h fits = grind (arith, named_length, by_row, pieces_cut, unnamed_length)

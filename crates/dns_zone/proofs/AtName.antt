@@ -1,9 +1,5 @@
 -- The records of a name among records in canonical order.
-use Rattle.dns_spec.proofs.Common.{◌≡◌, Bool, true, false, not, cond, List, [], ◌∷◌, refl, ap, ◌∙◌, subst, filter, is_gt, is_lt, Ordering, arith, false≢true, not-true, nat_list_cmp_total, on_total, upto, IsTotalOrder, ordering_then, IsPartitionedBy, DomainName, same, name_order, ResourceRecord, insert_by, sort_by, data_order, record_order}
-use Rattle.dns_spec.proofs.Records.RecordOrder.{record_order_total}
-use Rattle.dns_spec.proofs.ZoneChecks.FaultOrder.{name_tie, name_order_total}
-use Rattle.dns_spec.proofs.Records.SortedOnce.{Each, each_weaker, filter_each}
-use Rattle.dns_zone.specs.ZoneForm.{AreOrdered}
+use Rattle.dns_zone.proofs.Common.{◌≡◌, Bool, true, false, not, cond, List, [], ◌∷◌, refl, ap, ◌∙◌, subst, filter, is_gt, is_lt, Ordering, arith, false≢true, not-true, nat_list_cmp_total, on_total, upto, IsTotalOrder, ordering_then, IsPartitionedBy, DomainName, same, name_order, ResourceRecord, insert_by, sort_by, data_order, record_order, record_order_total, name_tie, name_order_total, Each, each_weaker, filter_each, AreOrdered}
 use Rattle.dns_zone.proofs.Pairs.{Pairs, pairs_weaker, pairs_of, pairs_filter, parted}
 use Rattle.dns_zone.proofs.NameOrder.{same-tied, not_greater}
 
@@ -15,7 +11,8 @@ module _ {X : Type 0} (cmp : X → X → Ordering) (total : IsTotalOrder cmp) wh
   not_before : (x y : X) → is_gt (cmp x y) ≡ true → NotAfter y x
   not_before x y h = grind (arith, false≢true)
 
-  each_insert : (P : X → Type 0) (x : X) (ys : List X) → P x → Each P ys → Each P (insert_by cmp x ys)
+  each_insert : (P : X → Type 0) (x : X) (ys : List X)
+      → P x → Each P ys → Each P (insert_by cmp x ys)
   each_insert P x [] p e = (p, tt)
   each_insert P x (y ∷ ys) p e = grind (arith, (each_insert P x ys p e.1))
 
@@ -50,7 +47,8 @@ OwnerNotAfter r s = is_gt (name_order r.owner s.owner) ≡ false
 pub first_part : (c d : Ordering) → is_gt (ordering_then c d) ≡ false → is_gt c ≡ false
 first_part c d h = grind arith
 
-pub ordered_records : (rs : List ResourceRecord) → AreOrdered rs → Pairs (λ r s. is_gt (record_order r s) ≡ false) rs
+pub ordered_records : (rs : List ResourceRecord)
+    → AreOrdered rs → Pairs (λ r s. is_gt (record_order r s) ≡ false) rs
 ordered_records rs h = sorted_pairs record_order record_order_total rs h
 
 pub owners_in_order : (rs : List ResourceRecord) → AreOrdered rs → Pairs OwnerNotAfter rs
@@ -63,15 +61,17 @@ module _ (n : DomainName) where
   abbrev pub is_at : ResourceRecord → Bool
   is_at r = same r.owner n
 
-  at_more : (r s : ResourceRecord) → not (is_before r) ≡ true → not (is_before s) ≡ true → OwnerNotAfter r s → is_at s ≡ true → is_at r ≡ true
+  at_more : (r s : ResourceRecord) → not (is_before r) ≡ true
+      → not (is_before s) ≡ true → OwnerNotAfter r s → is_at s ≡ true → is_at r ≡ true
   at_more r s p q e f =
       grind (arith, same-tied, upto, name_order_total, name_tie, not_greater, not-true)
 
   -- what stands at the name or after it
-  pub at_parted : (rs : List ResourceRecord) → AreOrdered rs → IsPartitionedBy is_at (filter (λ r. not (is_before r)) rs)
+  pub at_parted : (rs : List ResourceRecord)
+      → AreOrdered rs → IsPartitionedBy is_at (filter (λ r. not (is_before r)) rs)
   at_parted rs h =
       let others = filter (λ r. not (is_before r)) rs in
       parted is_at others
-      (pairs_of (λ r. not (is_before r) ≡ true) OwnerNotAfter (λ r s. is_at s ≡ true → is_at r ≡ true) others at_more
-      (filter_each (λ r. not (is_before r)) rs)
+      (pairs_of (λ r. not (is_before r) ≡ true) OwnerNotAfter (λ r s. is_at s ≡ true
+      → is_at r ≡ true) others at_more (filter_each (λ r. not (is_before r)) rs)
       (pairs_filter OwnerNotAfter (λ r. not (is_before r)) rs (owners_in_order rs h)))

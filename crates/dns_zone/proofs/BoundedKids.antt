@@ -1,7 +1,5 @@
 -- What passes in a part of a list, where nothing passes past the part.
-use Rattle.dns_spec.proofs.Common.{◌≡◌, ℕ, ◌≤◌, Bool, true, List, [], ◌++◌, length, take, drop, sym, ap, ◌∙◌, filter, arith, filter-append, DomainName, at_or_below, ResourceRecord}
-use Rattle.std.proofs.lemmas.List.{append-nil, take-append-le}
-use Rattle.dns_zone.specs.TreeForm.{span, under}
+use Rattle.dns_zone.proofs.Common.{◌≡◌, ℕ, ◌≤◌, Bool, true, List, [], ◌++◌, length, take, drop, sym, ap, ◌∙◌, filter, arith, filter-append, DomainName, at_or_below, ResourceRecord, append-nil, take-append-le, span, under}
 use Rattle.dns_zone.proofs.AtName.{is_at}
 use Rattle.dns_zone.proofs.KidRows.{is_under}
 use Rattle.dns_zone.proofs.NameTree.{itself-under, under-trans}

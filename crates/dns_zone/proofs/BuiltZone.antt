@@ -1,25 +1,22 @@
 -- What a zone that is built keeps, and the serial number of its SOA.
-use Rattle.dns_spec.proofs.Common.{◌≡◌, ℕ, ◌≤◌, List, length, sym, ap, ap₂, ◌∙◌, All, filter, arith, nil_from_length, DomainName, folded, same, ResourceRecord, ZoneContents, zone_of, records_equal, distinct, sort_by, record_order, first_serial, zone_serial, Fault, faults, most_records}
-use Rattle.dns_spec.specs.ZonePrinted.{IsReadRecord, is_soa}
-use Rattle.dns_spec.proofs.ZoneChecks.FaultOrder.{folded_folded}
-use Rattle.dns_spec.proofs.ZoneChecks.PassedChecks.{one_soa}
-use Rattle.dns_spec.proofs.Records.RecordOrder.{ordered_faults}
-use Rattle.dns_zone.specs.ZoneForm.{AreOrdered, IsBuilt}
+use Rattle.dns_zone.proofs.Common.{◌≡◌, ℕ, ◌≤◌, List, length, sym, ap, ◌∙◌, All, filter, arith, nil_from_length, DomainName, folded, same, ResourceRecord, ZoneContents, zone_of, records_equal, distinct, sort_by, record_order, first_serial, zone_serial, Fault, faults, most_records, IsReadRecord, is_soa, folded_folded, one_soa, ordered_faults, AreOrdered, IsBuilt}
 
 below : (a b c : ℕ) → a ≤ b → b ≤ c → a ≤ c
 below a b c h k = omega arith
 
 -- the folded origin and the canonical records of those that were read, and the faults found in them
-module _ (o n : DomainName) (rs xs ys : List ResourceRecord) (fs : List Fault) (low : n ≡ folded o) (canonical : xs ≡ sort_by record_order (distinct records_equal rs))
+module _ (o n : DomainName) (rs xs ys : List ResourceRecord) (fs : List Fault)
+    (low : n ≡ folded o) (canonical : xs ≡ sort_by record_order (distinct records_equal rs))
     (lent : ys ≡ xs)
     (faults_are : fs ≡ faults (record { origin = n; records = ys })) where
   found : fs ≡ faults (record { origin = n; records = xs })
-  found = faults_are ∙ ap (λ (zs : List ResourceRecord). faults (record { origin = n; records = zs })) lent
+  found = grind (arith, faults)
 
   pub found_of_read : fs ≡ faults (zone_of o rs)
-  found_of_read = found ∙ ap₂ (λ (m : DomainName) ys. faults (record { origin = m; records = ys })) low canonical ∙ ordered_faults o rs
+  found_of_read = grind (arith, found, faults, ordered_faults)
 
-  pub built : length fs ≡ 0 → length rs ≤ most_records → length xs ≤ length rs → AreOrdered xs → All IsReadRecord xs → IsBuilt (record { origin = n; records = xs })
+  pub built : length fs ≡ 0 → length rs ≤ most_records → length xs ≤ length rs
+      → AreOrdered xs → All IsReadRecord xs → IsBuilt (record { origin = n; records = xs })
   built none few fewer ordered each = grind (arith, folded_folded, below, found, nil_from_length)
 
 -- the SOAs at a name
@@ -27,5 +24,6 @@ abbrev pub soas_at : DomainName → List ResourceRecord → List ResourceRecord
 soas_at o rs = filter is_soa (filter (λ (r : ResourceRecord). same r.owner o) rs)
 
 -- a built zone has one SOA at its origin
-pub serial_is : (z : ZoneContents) (n : ℕ) → IsBuilt z → n ≡ first_serial (soas_at z.origin z.records) → n ≡ zone_serial z
+pub serial_is : (z : ZoneContents) (n : ℕ)
+    → IsBuilt z → n ≡ first_serial (soas_at z.origin z.records) → n ≡ zone_serial z
 serial_is z n kept e = e ∙ ap first_serial (sym (one_soa z kept.low kept.passes))

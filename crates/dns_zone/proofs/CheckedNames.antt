@@ -1,20 +1,11 @@
 -- The names that are checked, as a list: what a search among them by keys finds.
-use Rattle.dns_spec.proofs.Common.{◌≡◌, ℕ, ◌+◌, suc, ◌<◌, ◌≤◌, Bool, true, false, ◌&&◌, not, cond, ◌==◌, nat_lt, ◌⊎◌, inl, inr, List, get_or, zero, drop, length-take, [], ◌∷◌, map, length, take, refl, sym, ap, ap₂, ◌∙◌, subst, arith, filter, is_gt, nat_cmp, Ordering, Less, Equal, Greater, false≢true, true≢false, not-true, and_parts, false_from_ne_true, cases_lt, nat_list_cmp_total, tied_itself, upto, get_or-take, get_or_default, min-eq_left, slice_cmp, starts_with, IsPartitionedBy, ordering_reverse, Octets, DomainName, folded, same, at_or_below, name_order, ResourceRecord, ZoneContents, at, is_cut, at_or_below_cut, checked_names}
-use Rattle.dns_spec.proofs.DomainNames.NameLaws.{octets_equal-decides}
-use Rattle.dns_spec.proofs.ZoneChecks.FaultOrder.{name_tie, name_order_total, one_lower, Lower}
-use Rattle.dns_spec.proofs.Records.SortedOnce.{Each, Among, Rises, each_at, each_filter, filter_each, filter_among}
-use Rattle.dns_zone.specs.KeyForm.{name_key}
-use Rattle.dns_zone.specs.NamesForm.{own_in, name_of, IsTopmost, is_covered, is_upto, IsLastAt, IsChecked, IsLastUpto}
-use Rattle.dns_zone.specs.ReportedForm.{owners_once}
-use Rattle.dns_zone.specs.ZoneForm.{IsFront}
-use Rattle.dns_zone.specs.declared.checks.names.CheckedName.{CheckedName}
+use Rattle.dns_zone.proofs.Common.{◌≡◌, ℕ, ◌+◌, suc, ◌<◌, ◌≤◌, Bool, true, false, ◌&&◌, not, cond, ◌==◌, nat_lt, ◌⊎◌, inl, inr, List, get_or, zero, drop, length-take, [], ◌∷◌, map, length, take, refl, sym, ap, ap₂, ◌∙◌, subst, arith, filter, is_gt, nat_cmp, Ordering, Less, Equal, Greater, false≢true, true≢false, not-true, and_parts, false_from_ne_true, cases_lt, nat_list_cmp_total, tied_itself, upto, get_or-take, get_or_default, min-eq_left, slice_cmp, starts_with, IsPartitionedBy, ordering_reverse, Octets, DomainName, folded, same, at_or_below, name_order, ResourceRecord, ZoneContents, at, is_cut, at_or_below_cut, checked_names, octets_equal-decides, name_tie, name_order_total, one_lower, Lower, Each, Among, Rises, each_at, each_filter, filter_each, filter_among, name_key, own_in, name_of, IsTopmost, is_covered, is_upto, IsLastAt, IsChecked, IsLastUpto, owners_once, IsFront, CheckedName, each_among}
 use Rattle.dns_zone.proofs.KeyOrder.{key_order}
 use Rattle.dns_zone.proofs.NameOrder.{same-is}
 use Rattle.dns_zone.proofs.NameTree.{under-order}
 use Rattle.dns_zone.proofs.Pairs.{Pairs, halves, pairs_of, each_both, each_get, parted, filter_none}
 use Rattle.dns_zone.proofs.ReportedNames.{owners, among_once, among_checked}
 use Rattle.dns_zone.proofs.Spans.{map_each, some_passes}
-use Rattle.dns_spec.proofs.Replies.ItemSets.{each_among}
 use Rattle.dns_zone.proofs.TopmostCut.{at_cut, covers, covered, uncovered, topmost_fits}
 
 pub among_map : {X Y : Type 0} (f : X → Y) (y : Y) (xs : List X) → Among y (map f xs)
@@ -42,8 +33,7 @@ pub last_at : {X : Type 0} (R : X → X → Type 0) (xs : List X) (i : ℕ) (d :
     → i < length xs → Each (λ x. (x ≡ get_or xs i d) ⊎ R x (get_or xs i d)) (take (suc i) xs)
 last_at R [] i d h l = tt
 last_at R (x ∷ xs) zero d h l = (inl refl, tt)
-last_at R (x ∷ xs) (suc i) d h l =
-    (inr (each_get (R x) xs i d h.0 (omega arith)), last_at R xs i d h.1 (omega arith))
+last_at R (x ∷ xs) (suc i) d h l = grind (arith, each_get, (last_at R xs i d h.1 (omega arith)))
 
 pub last_front : {X : Type 0} (p : X → Bool) (xs : List X) (i : ℕ) → IsPartitionedBy p xs
     → IsLastAt p xs i → IsFront p xs (i + 1)
@@ -201,7 +191,8 @@ module _ (z : ZoneContents) where
               ∙ upto_last i next c is d b (ap (λ j. is_gt (name_order j m)) (sym f) ∙ e);
         }
 
-        pub found_there : (i : ℕ) → k ≡ suc i → (d : CheckedName) → IsLastUpto z m (get_or names i d)
+        pub found_there : (i : ℕ)
+            → k ≡ suc i → (d : CheckedName) → IsLastUpto z m (get_or names i d)
         found_there i next d =
             let bound = front.bound in
             found_last i next (get_or names i d)
@@ -217,7 +208,7 @@ module _ (z : ZoneContents) where
 
     none_cut : (b : Bool) → b ≡ false → IsTopmost z m (cond b (length (name_key m)) 0)
         → at_or_below_cut z m ≡ false
-    none_cut b e t = at_cut z m low 0 (subst (λ c. IsTopmost z m (cond c (length (name_key m)) 0)) e t)
+    none_cut b e t = grind (arith, at_cut, IsTopmost, name_key)
 
     -- the name itself is the last of those
     pub found_itself : (c : CheckedName) → IsChecked z (name c) c → c.key.now ≡ name_key m
@@ -251,16 +242,17 @@ module _ (z : ZoneContents) where
       pub covered_cut : (key : Octets) → key ≡ name_key m → (c.key.now ≡ name_key m → ⊥)
           → is_covered c.cut c.key.now key ≡ at_or_below_cut z m
       covered_cut key e f =
-          ap₂ (λ (x y : Octets). nat_lt 0 c.cut && starts_with ◌==◌ x (take c.cut y)) e h.checked.key
-          ∙ go (covers z last m h.checked.owner.lower low c.cut h.checked.topmost h.upto cuts_upto)
+          ap₂ (λ (x y : Octets). nat_lt 0 c.cut && starts_with ◌==◌ x (take c.cut y))
+          e h.checked.key ∙ go
+          (covers z last m h.checked.owner.lower low c.cut h.checked.topmost h.upto cuts_upto)
           refl
         where
-          go : (b : Bool) → (nat_lt 0 c.cut && starts_with ◌==◌ (name_key m) (take c.cut (name_key last))) ≡ b
-              → b ≡ at_or_below_cut z m
+          go : (b : Bool) → (nat_lt 0 c.cut && starts_with ◌==◌
+              (name_key m) (take c.cut (name_key last))) ≡ b → b ≡ at_or_below_cut z m
           go true g =
               sym (at_cut z m low c.cut
-              (covered z last m h.checked.owner.lower low c.cut h.checked.topmost h.upto cuts_upto g)
-              ∙ (and_parts (nat_lt 0 c.cut) _ g).0)
+              (covered z last m h.checked.owner.lower low
+              c.cut h.checked.topmost h.upto cuts_upto g) ∙ (and_parts (nat_lt 0 c.cut) _ g).0)
           go false g =
               sym (none_cut (is_cut z m) (no_cut (no_owner f))
               (uncovered z last m h.checked.owner.lower low c.cut h.checked.topmost h.upto cuts_upto

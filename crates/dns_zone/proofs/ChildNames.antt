@@ -1,10 +1,6 @@
 -- Names one label below a name.
-use Rattle.std.proofs.Common.{◌≡◌, ◌+◌, ◌<◌, ◌≤◌, Bool, true, false, nat_lt, if◌then◌else◌, List, [], ◌∷◌, ◌++◌, map, reverse, length, drop, refl, sym, ap, ap₂, ◌∙◌, arith, is_gt}
+use Rattle.dns_zone.proofs.Common.{◌≡◌, ◌+◌, ◌<◌, ◌≤◌, Bool, true, false, nat_lt, if◌then◌else◌, List, [], ◌∷◌, ◌++◌, map, reverse, length, drop, refl, sym, ap, ap₂, ◌∙◌, arith, is_gt, false≢true, and_parts, and_from, leb-true, lt-ltb, ltb-true, ltb-false, cases_lt, nat_list_cmp_total, tied_itself, slice_cmp, to_ascii_lowercase, Octets, DomainName, wire, folded, same, at_or_below, below, label_order, name_order, reverse-append, append_assoc, at_or_below-short, same-length-wire, ending}
 use Rattle.dns_zone.proofs.AtName.{first_part}
-use Rattle.dns_spec.proofs.Common.{false≢true, and_parts, and_from, leb-true, lt-ltb, ltb-true, ltb-false, cases_lt, nat_list_cmp_total, tied_itself, slice_cmp, to_ascii_lowercase, Octets, DomainName, wire, folded, same, at_or_below, below, label_order, name_order}
-use Rattle.std.proofs.lemmas.List.{reverse-append, append_assoc}
-use Rattle.dns_spec.proofs.DomainNames.NameLaws.{at_or_below-short, same-length-wire}
-use Rattle.dns_zone.specs.NameEnd.{ending}
 use Rattle.dns_zone.proofs.NameOrder.{same-is}
 use Rattle.dns_zone.proofs.NameTree.{Under, under-is, under-from, under-trans, below-cons}
 
@@ -32,9 +28,7 @@ longer_below m n h l = grind (arith, below_unless_same, same-length-wire)
 -- the shortest end of an owner that has more octets than a name which the owner is below
 pub child_end : (n owner : DomainName) → below owner n ≡ true → folded owner ≡ owner
     → folded n ≡ n → IsChildOf n owner (ending (length (wire n) + 1) owner)
-child_end n [] b low lower =
-    let less : length n < 0 = grind arith in
-    absurd (omega arith)
+child_end n [] b low lower = grind arith
 child_end n (l ∷ o) b low lower =
     go (nat_lt (length (wire o)) (length (wire n) + 1)) refl
     (λ b. child_end n o b (ap (drop 1) low) lower)
@@ -80,9 +74,8 @@ common_front [] xs ys = refl
 common_front (z ∷ zs) xs ys =
     grind (arith, tied_itself, nat_list_cmp_total, (common_front zs xs ys))
 
-turned : (r n : DomainName) (k : Octets) → folded n ≡ n → map to_ascii_lowercase k ≡ k
-    → at_or_below r (k ∷ n) ≡ true
-    → (xs : List Octets) × (reverse (folded r) ≡ reverse n ++ (k ∷ xs))
+turned : (r n : DomainName) (k : Octets) → folded n ≡ n → map to_ascii_lowercase k ≡ k → at_or_below
+    r (k ∷ n) ≡ true → (xs : List Octets) × (reverse (folded r) ≡ reverse n ++ (k ∷ xs))
 turned r n k low lowk h = go (under-is r (k ∷ n) h)
   where
     go : Under r (k ∷ n) → (xs : List Octets) × (reverse (folded r) ≡ reverse n ++ (k ∷ xs))
@@ -96,10 +89,9 @@ turned r n k low lowk h = go (under-is r (k ∷ n) h)
               ∙ append_assoc (reverse n) (k ∷ []) (reverse p),
         )
 
-pub labels_in_order : (r s n : DomainName) (k l : Octets) → folded n ≡ n
-    → map to_ascii_lowercase k ≡ k → map to_ascii_lowercase l ≡ l
-    → at_or_below r (k ∷ n) ≡ true → at_or_below s (l ∷ n) ≡ true → is_gt (name_order r s) ≡ false
-    → is_gt (label_order k l) ≡ false
+pub labels_in_order : (r s n : DomainName) (k l : Octets) → folded n ≡ n → map to_ascii_lowercase k
+    ≡ k → map to_ascii_lowercase l ≡ l → at_or_below r (k ∷ n) ≡ true → at_or_below s (l ∷ n) ≡ true
+    → is_gt (name_order r s) ≡ false → is_gt (label_order k l) ≡ false
 labels_in_order r s n k l low lowk lowl p q h = grind (arith, turned, first_part, ap₂, common_front)
 
 -- what is at or below a name and not that name is below it

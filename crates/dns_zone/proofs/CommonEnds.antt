@@ -1,8 +1,5 @@
 -- Names that end with the same labels, and the keys that begin alike then.
-use Rattle.dns_spec.proofs.Common.{◌≡◌, ℕ, ◌-◌, ◌<◌, ◌≤◌, true, [], ◌∷◌, ◌++◌, length, take, drop, sym, ap, ◌∙◌, arith, append_assoc, length-append, cases_order, take-append_seam, Octets, DomainName, wire, is_name}
-use Rattle.dns_name.proofs.WireLemmas.{labels_of_spelled}
-use Rattle.dns_name.specs.WireForm.{labels_of, IsWireForm}
-use Rattle.dns_zone.specs.KeyForm.{name_key, EndsWith}
+use Rattle.dns_zone.proofs.Common.{◌≡◌, ℕ, ◌-◌, ◌<◌, ◌≤◌, true, [], ◌∷◌, ◌++◌, length, take, drop, sym, ap, ◌∙◌, arith, append_assoc, length-append, cases_order, take-append_seam, Octets, DomainName, wire, is_name, labels_of_spelled, labels_of, IsWireForm, name_key, EndsWith}
 use Rattle.dns_zone.proofs.KeyOrder.{some_octets, key_length}
 use Rattle.dns_zone.proofs.KeyPrefix.{key_append}
 
@@ -48,7 +45,8 @@ ends_after n m e l f first h = go f.front f.whole
     go (k ∷ ks) w = record { front = ks; whole = ap (drop 1) (sym first ∙ w) }
 
 -- only the root has one octet
-pub both_roots : (xs ys : Octets) → IsWireForm xs → IsWireForm ys → length xs ≤ 1 → length ys ≤ 1 → xs ≡ ys
+pub both_roots : (xs ys : Octets)
+    → IsWireForm xs → IsWireForm ys → length xs ≤ 1 → length ys ≤ 1 → xs ≡ ys
 both_roots xs ys w v f g = sym (root xs w f) ∙ root ys v g
   where
     root : (zs : Octets) → IsWireForm zs → length zs ≤ 1 → wire [] ≡ zs
@@ -56,26 +54,27 @@ both_roots xs ys w v f g = sym (root xs w f) ∙ root ys v g
       where
         go : (n : DomainName) → wire n ≡ zs → wire [] ≡ zs
         go [] e = e
-        go (l ∷ n) e = absurd (omega (arith, h, ap length e, some_octets n, length-append l (wire n)))
+        go (l ∷ n) e =
+            absurd (omega (arith, h, ap length e, some_octets n, length-append l (wire n)))
 
 -- the key of a name begins with that of its end
-pub key_begins : (n e : DomainName) (key : Octets) (k : ℕ) → key ≡ name_key n → EndsWith n e → k ≡ length (name_key e)
-    → take k key ≡ name_key e
+pub key_begins : (n e : DomainName) (key : Octets) (k : ℕ)
+    → key ≡ name_key n → EndsWith n e → k ≡ length (name_key e) → take k key ≡ name_key e
 key_begins n e key k is f count = grind (arith, key_append, take-append_seam)
 
-pub begun : (ys end key : Octets) (m : DomainName) → ys ≡ wire m → is_name m ≡ true → key ≡ name_key m
-    → IsWireForm end → EndsWith (labels_of ys) (labels_of end)
-    → (take (length end - 1) key ≡ name_key (labels_of end)) × (length (name_key (labels_of end)) ≡ length end - 1)
+pub begun : (ys end key : Octets) (m : DomainName) → ys ≡ wire m → is_name m ≡ true → key
+    ≡ name_key m → IsWireForm end → EndsWith (labels_of ys) (labels_of end) → (take (length end - 1)
+    key ≡ name_key (labels_of end)) × (length (name_key (labels_of end)) ≡ length end - 1)
 begun ys end key m e ok is w f = grind (arith, key_begins, labels_of_spelled, size, key_length)
 
 -- two names of one length that differ have labels
-pub have_labels : (xs ys : Octets) → IsWireForm xs → IsWireForm ys → length xs ≡ length ys → (xs ≡ ys → ⊥)
-    → 1 < length xs
+pub have_labels : (xs ys : Octets)
+    → IsWireForm xs → IsWireForm ys → length xs ≡ length ys → (xs ≡ ys → ⊥) → 1 < length xs
 have_labels xs ys w v e differ = grind (arith, cases_order, both_roots, some)
 
-pub after_ends : (xs ys end l : Octets) → IsWireForm xs → IsWireForm ys → IsWireForm end
-    → labels_of xs ≡ l ∷ labels_of ys → EndsWith (labels_of xs) (labels_of end) → length end < length xs
-    → EndsWith (labels_of ys) (labels_of end) × (length end ≤ length ys)
+pub after_ends : (xs ys end l : Octets) → IsWireForm xs → IsWireForm ys
+    → IsWireForm end → labels_of xs ≡ l ∷ labels_of ys → EndsWith (labels_of xs) (labels_of end)
+    → length end < length xs → EndsWith (labels_of ys) (labels_of end) × (length end ≤ length ys)
 after_ends xs ys end l w v u first f h =
     let on = ends_after (labels_of xs) (labels_of ys) (labels_of end) l f first
     (omega (arith, size xs w, size end u, h)) in

@@ -1,6 +1,5 @@
 -- Names whose wire forms end otherwise are not below one another.
-use Rattle.dns_spec.proofs.Common.{◌≡◌, ◌-◌, ◌≤◌, true, [], ◌∷◌, ◌++◌, length, drop, refl, sym, ap, ◌∙◌, arith, length-append, end_rest, Octets, DomainName, wire, folded, at_or_below}
-use Rattle.std.proofs.lemmas.List.{append_assoc}
+use Rattle.dns_zone.proofs.Common.{◌≡◌, ◌-◌, ◌≤◌, true, [], ◌∷◌, ◌++◌, length, drop, refl, sym, ap, ◌∙◌, arith, length-append, end_rest, Octets, DomainName, wire, folded, at_or_below, append_assoc}
 use Rattle.dns_zone.proofs.NameTree.{under-is}
 
 wire_end : (p a : DomainName) → (front : Octets) × (wire (p ++ a) ≡ front ++ wire a)
@@ -12,9 +11,8 @@ wire_end (l ∷ p) a =
     )
 
 -- a name in lower case that is at or below another one ends in its octets
-pub ends_in : (n a : DomainName) → folded n ≡ n → folded a ≡ a → at_or_below n a ≡ true
-    → (length (wire a) ≤ length (wire n))
-    × (drop (length (wire n) - length (wire a)) (wire n) ≡ wire a)
+pub ends_in : (n a : DomainName) → folded n ≡ n → folded a ≡ a → at_or_below n a ≡ true → (length
+    (wire a) ≤ length (wire n)) × (drop (length (wire n) - length (wire a)) (wire n) ≡ wire a)
 ends_in n a low_n low_a h =
     let (p, e) = under-is n a h in
     let (front, w) = wire_end p a in

@@ -1,9 +1,5 @@
 -- The owner and the data of a record stand in its octets, one after the other.
-use Rattle.dns_spec.proofs.Common.{◌≡◌, ℕ, true, All, [], ◌++◌, length, take, drop, refl, ap, ◌∙◌, arith, length-append, take-append_seam, drop-append_seam, Octets, DomainName, wire, is_name, ResourceRecord}
-use Rattle.dns_spec.proofs.DomainNames.SmallOctets.{Small}
-use Rattle.dns_name.proofs.WireLemmas.{labels_of_spelled, IsWireForm-wire}
-use Rattle.dns_master.specs.RecordForm.{IsKept}
-use Rattle.dns_zone.specs.EntryForm.{owner_in, data_in, IsEntry}
+use Rattle.dns_zone.proofs.Common.{◌≡◌, ℕ, true, All, [], ◌++◌, length, take, drop, refl, ap, ◌∙◌, arith, length-append, take-append_seam, drop-append_seam, Octets, DomainName, wire, is_name, ResourceRecord, Small, labels_of_spelled, IsWireForm-wire, IsKept, owner_in, data_in, IsEntry}
 
 -- octets zs of a record of owner n and data d, whose wire form is own
 pub record IsLaid (n : DomainName) (d own zs : Octets) : Type 0 where
@@ -11,8 +7,8 @@ pub record IsLaid (n : DomainName) (d own zs : Octets) : Type 0 where
   pub spelled : own ≡ wire n
   pub is_name : is_name n ≡ true
 
-pub laid_in_turn : (n : DomainName) (d own others xs ys zs : Octets) → xs ≡ [] → ys ≡ xs ++ own → zs ≡ ys ++ others → own ≡ wire n → others ≡ d
-    → is_name n ≡ true → IsLaid n d own zs
+pub laid_in_turn : (n : DomainName) (d own others xs ys zs : Octets) → xs ≡ [] → ys ≡ xs ++ own
+    → zs ≡ ys ++ others → own ≡ wire n → others ≡ d → is_name n ≡ true → IsLaid n d own zs
 laid_in_turn n d own others xs ys zs e f g h k ok = grind arith
 
 module _ (n : DomainName) (d own zs : Octets) (laid : IsLaid n d own zs) where
@@ -30,6 +26,7 @@ module _ (n : DomainName) (d own zs : Octets) (laid : IsLaid n d own zs) where
   entry_kept ttl t kept small small_data =
       grind (arith, length-append, IsWireForm-wire, owner_octets, is_name, owner_is, data_is)
 
-  pub entry_is : (ttl t : ℕ) → ◌≡◌ {A = ResourceRecord} (record { owner = owner_in (length own) zs; ttl = ttl; rtype = t; rdata = data_in (length own) zs })
+  pub entry_is : (ttl t : ℕ) → ◌≡◌ {A = ResourceRecord} (record
+      { owner = owner_in (length own) zs; ttl = ttl; rtype = t; rdata = data_in (length own) zs })
       (record { owner = n; ttl = ttl; rtype = t; rdata = d })
   entry_is ttl t = rw (owner_is, data_is) refl

@@ -1,12 +1,5 @@
 -- Which names exist in a built zone.
-use Rattle.dns_spec.proofs.Common.{◌≡◌, ◌<◌, Bool, true, false, ◌&&◌, not, ◌==◌, List, [], ◌∷◌, map, length, refl, sym, ap, ap₂, ◌∙◌, arith, and_parts, false≢true, or_right, lt-ltb, length-map, to_ascii_lowercase, list_any, Octets, DomainName, folded, same, at_or_below, type_soa, ResourceRecord, ZoneContents, at, owns, is_owner, exists, IsReadRecord}
-use Rattle.dns_spec.proofs.ZoneChecks.FaultOrder.{folded_folded}
-use Rattle.dns_spec.proofs.Records.SortedOnce.{Each, Among, each_weaker, filter_among}
-use Rattle.dns_spec.proofs.Records.RecordOrder.{each_all}
-use Rattle.dns_spec.proofs.ZoneChecks.PassedChecks.{checks_of_origin, checks_at}
-use Rattle.dns_spec.proofs.Replies.ItemSets.{each_among}
-use Rattle.dns_zone.specs.Nodes.{IsNode}
-use Rattle.dns_zone.specs.ZoneForm.{IsBuilt}
+use Rattle.dns_zone.proofs.Common.{◌≡◌, ◌<◌, Bool, true, false, ◌&&◌, not, ◌==◌, List, [], ◌∷◌, map, length, refl, sym, ap, ap₂, ◌∙◌, arith, and_parts, false≢true, or_right, lt-ltb, length-map, to_ascii_lowercase, list_any, Octets, DomainName, folded, same, at_or_below, type_soa, ResourceRecord, ZoneContents, at, owns, is_owner, exists, IsReadRecord, folded_folded, Each, Among, each_weaker, filter_among, each_all, checks_of_origin, checks_at, each_among, IsNode, IsBuilt}
 use Rattle.dns_zone.proofs.NameOrder.{same-from}
 use Rattle.dns_zone.proofs.NameTree.{itself-under}
 

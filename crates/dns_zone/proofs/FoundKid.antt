@@ -1,9 +1,5 @@
 -- A label among those of children, which rise.
-use Rattle.dns_spec.proofs.Common.{◌≡◌, ℕ, zero, suc, ◌+◌, ◌-◌, ◌/◌, ◌<◌, ◌≤◌, ◌⊎◌, inl, inr, List, [], ◌∷◌, map, length, get_or, sym, ◌∙◌, add-one, arith, subst, Less, Equal, Greater, cases_lt, false≢true, nat_list_cmp_total, tied_itself, get_or-map, length-map, get_or_default, Octets, label_order, ResourceRecord}
-use Rattle.dns_spec.proofs.Records.SortedOnce.{Among, Rises}
-use Rattle.dns_spec.proofs.Records.RecordOrder.{among_contains}
-use Rattle.dns_zone.specs.TreeForm.{row_label, row_at, room_after}
-use Rattle.dns_zone.specs.declared.tree.row.Row.{Row}
+use Rattle.dns_zone.proofs.Common.{◌≡◌, ℕ, zero, suc, ◌+◌, ◌-◌, ◌/◌, ◌<◌, ◌≤◌, ◌⊎◌, inl, inr, List, [], ◌∷◌, map, length, get_or, sym, ◌∙◌, add-one, arith, subst, Less, Equal, Greater, cases_lt, false≢true, nat_list_cmp_total, tied_itself, get_or-map, length-map, get_or_default, Octets, label_order, ResourceRecord, Among, Rises, among_contains, row_label, row_at, room_after, Row}
 use Rattle.dns_zone.proofs.Pairs.{each_get}
 
 rises_at : (ls : List Octets) (i j : ℕ) → Rises label_order ls → i < j → j < length ls

@@ -1,16 +1,5 @@
 -- The rows of a name's children, added one by one.
-use Rattle.dns_spec.proofs.Common.{◌≡◌, ℕ, suc, ◌+◌, ◌-◌, ◌<◌, ◌≤◌, Bool, true, false, ◌⊎◌, inl, inr, List, [], ◌∷◌, ◌++◌, map, length, take, drop, get_or, refl, sym, ap, ap₂, ◌∙◌, arith, subst, filter, is_gt, Ordering, Less, Equal, Greater, length-append, list_any-append, false≢true, true≢false, false_from_ne_true, or_cases, or_right, filter-append, list_any, to_ascii_lowercase, Octets, DomainName, folded, same, names_equal, at_or_below, label_order, ResourceRecord}
-use Rattle.dns_spec.proofs.ZoneChecks.FaultOrder.{folded_folded}
-use Rattle.std.proofs.Math.Seq.{drop-drop}
-use Rattle.std.proofs.lemmas.List.{take-append-drop, get_or-map, drop_more, append-nil, append_assoc, take_at, drop_at, map-append}
-use Rattle.dns_spec.proofs.DomainNames.NameLaws.{names_equal-decides, same-length}
-use Rattle.dns_spec.proofs.Records.SortedOnce.{Each, Among, Rises, each_at, each_weaker, filter_each}
-use Rattle.dns_spec.proofs.Replies.ItemSets.{filter_test}
-use Rattle.dns_name.proofs.WireLemmas.{labels_of_spelled}
-use Rattle.dns_zone.specs.ZoneForm.{IsCanonical}
-use Rattle.dns_zone.specs.TreeForm.{span, owners, under, first_of, row_octets, row_name, row_label, IsRow, IsKid}
-use Rattle.dns_zone.specs.TreeSteps.{IsBetween, IsNext, IsKidAt, AddsKids}
-use Rattle.dns_zone.specs.declared.tree.row.Row.{Row}
+use Rattle.dns_zone.proofs.Common.{◌≡◌, ℕ, suc, ◌+◌, ◌-◌, ◌<◌, ◌≤◌, Bool, true, false, ◌⊎◌, inl, inr, List, [], ◌∷◌, ◌++◌, map, length, take, drop, get_or, refl, sym, ap, ap₂, ◌∙◌, arith, subst, filter, is_gt, Ordering, Less, Equal, Greater, length-append, list_any-append, false≢true, true≢false, false_from_ne_true, or_cases, or_right, filter-append, list_any, to_ascii_lowercase, Octets, DomainName, folded, same, names_equal, at_or_below, label_order, ResourceRecord, folded_folded, drop-drop, take-append-drop, get_or-map, drop_more, append-nil, append_assoc, take_at, drop_at, map-append, names_equal-decides, same-length, Each, Among, Rises, each_at, each_weaker, filter_each, filter_test, labels_of_spelled, IsCanonical, span, owners, under, first_of, row_octets, row_name, row_label, IsRow, IsKid, IsBetween, IsNext, IsKidAt, AddsKids, Row}
 use Rattle.dns_zone.proofs.Pairs.{Pairs, filter_none}
 use Rattle.dns_zone.proofs.NameTree.{label-tie}
 use Rattle.dns_zone.proofs.AtName.{OwnerNotAfter, owners_in_order, is_at}
@@ -264,9 +253,8 @@ module _ (rs : List ResourceRecord) (canonical : IsCanonical rs) (n : DomainName
             (one_above r.owner m' m v u len low is_kid.lower))))
             (filter_each (is_under m) rs))
 
-        side : (names_equal m' m ≡ false)
-            → (under m' (take k rs) ≡ []) ⊎ (under m' (drop k rs) ≡ [])
-            → (under m' (take kid.end rs) ≡ []) ⊎ (under m' (drop kid.end rs) ≡ [])
+        side : (names_equal m' m ≡ false) → (under m' (take k rs) ≡ []) ⊎ (under m' (drop k rs)
+            ≡ []) → (under m' (take kid.end rs) ≡ []) ⊎ (under m' (drop kid.end rs) ≡ [])
         side q (inl e) = grind (arith, take_now, filter-append, is_under, ap₂, other)
         side q (inr e) = inr (nothing_further (is_under m') rs k kid.end order e)
 
@@ -322,9 +310,8 @@ module _ (rs : List ResourceRecord) (canonical : IsCanonical rs) (n : DomainName
           (sym (list_any-append (is_under (l ∷ n)) (take k rs) (drop k rs))
           ∙ ap (list_any (is_under (l ∷ n))) (take-append-drop k rs) ∙ e))
         where
-          go : (list_any (is_under (l ∷ n)) (take k rs) ≡ true)
-              ⊎ (list_any (is_under (l ∷ n)) (drop k rs) ≡ true)
-              → list_any (is_under (l ∷ n)) (take k rs) ≡ true
+          go : (list_any (is_under (l ∷ n)) (take k rs) ≡ true) ⊎ (list_any (is_under (l ∷ n))
+              (drop k rs) ≡ true) → list_any (is_under (l ∷ n)) (take k rs) ≡ true
           go (inl f) = f
           go (inr f) =
               absurd (false≢true (sym (any_nothing (is_under (l ∷ n)) (drop k rs) (none l)) ∙ f))

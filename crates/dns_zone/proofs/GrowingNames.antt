@@ -1,16 +1,7 @@
 -- The owners of a zone, as they are added to the names that are checked, and the origin.
-use Rattle.dns_spec.proofs.Common.{append-nil, ◌≡◌, ℕ, zero, suc, true, false, ◌⊎◌, inl, inr, List, [], ◌∷◌, ◌++◌, map, take, drop, refl, sym, ap, ◌∙◌, subst, arith, get_or, is_gt, is_lt, Ordering, Less, Equal, Greater, true≢false, tied_itself, Bor, IsPartitionedBy, ordering_reverse, Octets, DomainName, folded, at_or_below, name_order, ResourceRecord, ZoneContents}
+use Rattle.dns_zone.proofs.Common.{append-nil, ◌≡◌, ℕ, zero, suc, true, false, ◌⊎◌, inl, inr, List, [], ◌∷◌, ◌++◌, map, take, drop, refl, sym, ap, ◌∙◌, subst, arith, get_or, is_gt, Ordering, Less, Equal, Greater, true≢false, tied_itself, Bor, IsPartitionedBy, ordering_reverse, Octets, DomainName, folded, at_or_below, name_order, ResourceRecord, ZoneContents, name_tie, name_order_total, one_lower, append_assoc, map_push, Each, Among, Rises, each_at, each_weaker, name_key, name_of, is_upto, IsTopmost, IsChecked, AreChecked, AreOwners, ComesNext, IsOwner, owners_once, AreOrdered, IsFront, CheckedName}
 use Rattle.dns_zone.proofs.SetTests.{each_map}
 use Rattle.dns_zone.proofs.Spans.{each_push, among_append, among_get, map_each}
-use Rattle.dns_spec.proofs.ZoneChecks.FaultOrder.{name_tie, name_order_total, one_lower}
-use Rattle.std.proofs.lemmas.List.{append_assoc, map_push}
-use Rattle.dns_spec.proofs.Records.SortedOnce.{Each, Among, Rises, each_at, each_weaker}
-use Rattle.dns_zone.specs.KeyForm.{name_key}
-use Rattle.dns_zone.specs.NamesForm.{name_of, is_upto, IsTopmost, IsChecked, AreChecked, AreOwners, ComesNext}
-use Rattle.dns_zone.specs.OwnerForm.{IsOwner}
-use Rattle.dns_zone.specs.ReportedForm.{owners_once}
-use Rattle.dns_zone.specs.ZoneForm.{AreOrdered, IsFront}
-use Rattle.dns_zone.specs.declared.checks.names.CheckedName.{CheckedName}
 use Rattle.dns_zone.proofs.AtName.{owners_in_order}
 use Rattle.dns_zone.proofs.CheckedNames.{among_map, map_among, itself_upto, equal_upto, one_key, cut_among, none_at, upto_parted, upto_among, after_each, in_order, last_checked, last_upto}
 use Rattle.dns_zone.proofs.NameTree.{under-from, under-order}
@@ -51,8 +42,7 @@ root_first z ns = record {
   where
     all : (ms : List DomainName) → Each (λ m. is_gt (name_order [] m) ≡ false) ms
     all [] = tt
-    all (m ∷ ms) =
-        (under-order m [] (under-from m [] (folded m, sym (append-nil (folded m)))), all ms)
+    all (m ∷ ms) = grind (arith, under-order, under-from, folded, append-nil, (all ms))
 
 -- one owner more
 module _ (z : ZoneContents) (ordered : AreOrdered z.records) (ns ms : List DomainName)
@@ -61,9 +51,8 @@ module _ (z : ZoneContents) (ordered : AreOrdered z.records) (ns ms : List Domai
   around = grind (arith, rises_around, once_rise, owners_in_order)
 
   pub comes_next : (last key origin : Octets) (cut : ℕ) (own : List ResourceRecord)
-      → (h : LastName z ns (n ∷ ms) last cut) → origin ≡ name_key z.origin
-      → folded z.origin ≡ z.origin → key ≡ name_key n → IsOwner z n own
-      → ComesNext z h.name n cut origin last key own
+      → (h : LastName z ns (n ∷ ms) last cut) → origin ≡ name_key z.origin → folded z.origin
+      ≡ z.origin → key ≡ name_key n → IsOwner z n own → ComesNext z h.name n cut origin last key own
   comes_next last key origin cut own h e f g i = record {
     origin_key = e;
     origin_lower = f;
@@ -78,8 +67,7 @@ module _ (z : ZoneContents) (ordered : AreOrdered z.records) (ns ms : List Domai
   }
     where
       go : (c : DomainName) → at_or_below n c ≡ true
-          → Among c ns ⊎ ((c ≡ n) ⊎ Among c ms)
-          → (c ≡ n) ⊎ (is_gt (name_order c h.name) ≡ false)
+          → Among c ns ⊎ ((c ≡ n) ⊎ Among c ms) → (c ≡ n) ⊎ (is_gt (name_order c h.name) ≡ false)
       go c u (inl m) = inr (each_at (λ m. is_gt (name_order m h.name) ≡ false) c ns h.upto m)
       go c u (inr (inl q)) = inl q
       go c u (inr (inr m)) =
@@ -135,10 +123,9 @@ module _ {X Y : Type 0} (f : X → Y) where
   among_insert a (y ∷ ys) (suc i) x (inr (inl e)) = inl e
   among_insert a (y ∷ ys) (suc i) x (inr (inr m)) = inr (among_insert a ys i x (inr m))
 
-insert_rises : {X : Type 0} (f : X → DomainName) (xs : List X) (i : ℕ) (x : X)
-    → Rises name_order (map f xs) → Each (λ y. name_order (f y) (f x) ≡ Less) (take i xs)
-    → Each (λ y. name_order (f x) (f y) ≡ Less) (drop i xs)
-    → Rises name_order (map f (take i xs ++ x ∷ drop i xs))
+insert_rises : {X : Type 0} (f : X → DomainName) (xs : List X) (i : ℕ) (x : X) → Rises name_order
+    (map f xs) → Each (λ y. name_order (f y) (f x) ≡ Less) (take i xs) → Each (λ y. name_order
+    (f x) (f y) ≡ Less) (drop i xs) → Rises name_order (map f (take i xs ++ x ∷ drop i xs))
 insert_rises f xs zero x h e g = (each_map (λ n. name_order (f x) n ≡ Less) f xs g, h)
 insert_rises f [] (suc i) x h e g = (tt, tt)
 insert_rises f (y ∷ ys) (suc i) x h e g = (
@@ -190,12 +177,19 @@ module _ (z : ZoneContents) (low : folded z.origin ≡ z.origin) (ordered : AreO
     module _ (before : Each (λ c. name_order (name_of z c) o ≡ Less) (take k names)) where
       none : Among o (owners_once z.records) → ⊥
       none m =
-          let (c, b, e) = among_map (name_of z) o names (subst (Among o) (sym are.all) m) in
-          let there = upto_among z names are.each rise o low key key_is k front c b
-          (equal_upto (name_of z c) o (sym e)) in
-          true≢false (sym (ap is_lt (each_at (λ d. name_order (name_of z d) o ≡ Less) c
-          (take k names) before there))
-          ∙ ap (λ n. is_lt (name_order n o)) (sym e) ∙ ap is_lt (tied_itself name_order_total o))
+          grind (
+            arith,
+            among_map,
+            upto_among,
+            rise,
+            key_is,
+            equal_upto,
+            true≢false,
+            each_at,
+            name_order,
+            tied_itself,
+            name_order_total,
+          )
 
       pub origin_added : (b : Bor Octets) → b.now ≡ key
           → AreChecked z (take k names ++ origin_name b ∷ drop k names)
@@ -220,9 +214,8 @@ module _ (z : ZoneContents) (low : folded z.origin ≡ z.origin) (ordered : AreO
           back a (inr m) = inr (subst (Among a) (sym are.all) m)
 
     -- all before it, where the last of them is another
-    pub others_before : (i : ℕ) → k ≡ suc i → (c : CheckedName)
-        → c ≡ get_or names i c → (c.key.now ≡ key → ⊥)
-        → Each (λ d. name_order (name_of z d) o ≡ Less) (take k names)
+    pub others_before : (i : ℕ) → k ≡ suc i → (c : CheckedName) → c ≡ get_or names i c
+        → (c.key.now ≡ key → ⊥) → Each (λ d. name_order (name_of z d) o ≡ Less) (take k names)
     others_before i next c is f =
         each_weaker (λ d. (d ≡ c) ⊎ (name_order (name_of z d) (name_of z c) ≡ Less))
         (λ d. name_order (name_of z d) o ≡ Less) (take k names) go

@@ -1,8 +1,5 @@
 -- The rows of a zone, added level by level.
-use Rattle.dns_spec.proofs.Common.{◌≡◌, ℕ, ◌+◌, ◌-◌, ◌<◌, ◌≤◌, ◌⊎◌, inl, inr, List, [], ◌∷◌, ◌++◌, length, drop, get_or, sym, ap, ◌∙◌, arith, subst, length-append, length-drop, cases_lt, take-append-drop, get_or-take, get_or-drop, get_or_append_left, get_or_push, take_all, DomainName, ResourceRecord}
-use Rattle.dns_zone.specs.TreeForm.{no_row, row_name, row_at, kids_at, IsRow, IsKid, AreKids, IsTree}
-use Rattle.dns_zone.specs.TreeSteps.{AddsKids}
-use Rattle.dns_zone.specs.declared.tree.row.Row.{Row}
+use Rattle.dns_zone.proofs.Common.{◌≡◌, ℕ, ◌+◌, ◌-◌, ◌<◌, ◌≤◌, ◌⊎◌, inl, inr, List, [], ◌∷◌, ◌++◌, length, drop, get_or, sym, ap, ◌∙◌, arith, subst, length-append, length-drop, cases_lt, take-append-drop, get_or-take, get_or-drop, get_or_append_left, get_or_push, take_all, DomainName, ResourceRecord, no_row, row_name, row_at, kids_at, IsRow, IsKid, AreKids, IsTree, AddsKids, Row}
 use Rattle.dns_zone.proofs.Pairs.{each_get}
 use Rattle.dns_zone.proofs.Spans.{span_front}
 use Rattle.dns_zone.proofs.GrowingKids.{row_is}
@@ -64,7 +61,8 @@ module _ (o : DomainName) (rs : List ResourceRecord) (rows : List Row) (bounds :
             let kid =
             each_get (IsKid rs n) (drop (length rows) rows') (k - length rows) no_row a.kids.each
             fits in
-            let there : get_or (drop (length rows) rows') (k - length rows) no_row ≡ row_at rows' k =
+            let there : get_or
+            (drop (length rows) rows') (k - length rows) no_row ≡ row_at rows' k =
             get_or-drop (length rows) rows' (k - length rows) no_row ∙ ap (row_at rows') at in
             subst (λ (r : Row). IsRow rs r (row_name rs r)) there
             (own_name rs _ (kid.label ∷ n) kid.is_row)

@@ -1,8 +1,5 @@
 -- The keys of names in lower case stand in the order of the names.
-use Rattle.dns_spec.proofs.Common.{◌≡◌, ℕ, ◌+◌, ◌<◌, ◌≤◌, ◌⊎◌, inl, inr, List, [], ◌∷◌, ◌++◌, length, drop, get_or, map, reverse, refl, sym, ap, ap₂, ◌∙◌, Ordering, Less, Equal, Greater, nat_cmp, arith, cases_order, cases_lt, lt-ltb, le-ltb, flat_map-cons, to_ascii_lowercase, nat_cmp_is, slice_cmp, flat_map, ordering_then, Octets, DomainName, folded, label_order, name_order, wire}
-use Rattle.std.proofs.lemmas.List.{reverse-append, map_push, length-map, length-append, flat_map_more}
-use Rattle.std.proofs.lemmas.Str.Ascii.{lowercase_is}
-use Rattle.dns_zone.specs.KeyForm.{raised, ended, name_key}
+use Rattle.dns_zone.proofs.Common.{◌≡◌, ℕ, ◌+◌, ◌<◌, ◌≤◌, ◌⊎◌, inl, inr, List, [], ◌∷◌, ◌++◌, length, drop, get_or, map, reverse, refl, sym, ap, ap₂, ◌∙◌, Ordering, Less, Equal, Greater, nat_cmp, arith, cases_order, cases_lt, lt-ltb, le-ltb, flat_map-cons, to_ascii_lowercase, nat_cmp_is, slice_cmp, flat_map, ordering_then, Octets, DomainName, folded, label_order, name_order, wire, reverse-append, map_push, length-map, length-append, flat_map_more, lowercase_is, raised, ended, name_key}
 
 -- the root's length ends a name
 pub some_octets : (n : DomainName) → 0 < length (wire n)
@@ -34,22 +31,37 @@ raised_order x y p q = go (cases_order x y)
   where
     go : (x ≡ y) ⊎ ((x < y) ⊎ (y < x)) → nat_cmp (raised x) (raised y) ≡ nat_cmp x y
     go (inl e) = sym (nat_cmp_is (raised x) (raised y) Equal (ap raised e)) ∙ nat_cmp_is x y Equal e
-    go (inr (inl l)) = sym (nat_cmp_is (raised x) (raised y) Less (raised_less x y p q l)) ∙ nat_cmp_is x y Less l
-    go (inr (inr l)) = sym (nat_cmp_is (raised x) (raised y) Greater (raised_less y x q p l)) ∙ nat_cmp_is x y Greater l
+    go (inr (inl l)) =
+        sym (nat_cmp_is (raised x) (raised y) Less (raised_less x y p q l)) ∙ nat_cmp_is x y Less l
+    go (inr (inr l)) = sym (nat_cmp_is (raised x) (raised y) Greater (raised_less y x q p l))
+        ∙ nat_cmp_is x y Greater l
 
-then_of_then : (a b c : Ordering) → ordering_then a (ordering_then b c) ≡ ordering_then (ordering_then a b) c
+then_of_then : (a b c : Ordering)
+    → ordering_then a (ordering_then b c) ≡ ordering_then (ordering_then a b) c
 then_of_then a b c = grind arith
 
 -- ended labels are compared as the labels, and what stands after them after that
-ended_order : (xs ys us vs : Octets) → map to_ascii_lowercase xs ≡ xs → map to_ascii_lowercase ys ≡ ys
-    → slice_cmp nat_cmp (ended xs ++ us) (ended ys ++ vs) ≡ ordering_then (label_order xs ys) (slice_cmp nat_cmp us vs)
+ended_order : (xs ys us vs : Octets)
+    → map to_ascii_lowercase xs ≡ xs → map to_ascii_lowercase ys ≡ ys → slice_cmp nat_cmp
+    (ended xs ++ us) (ended ys ++ vs) ≡ ordering_then (label_order xs ys) (slice_cmp nat_cmp us vs)
 ended_order [] [] us vs p q = refl
-ended_order [] (y ∷ ys) us vs p q = ap (λ o. ordering_then o (slice_cmp nat_cmp us (ended ys ++ vs))) (sym (nat_cmp_is 0 (raised y) Less (raised_some y)))
-ended_order (x ∷ xs) [] us vs p q = ap (λ o. ordering_then o (slice_cmp nat_cmp (ended xs ++ us) vs)) (sym (nat_cmp_is (raised x) 0 Greater (raised_some x)))
+ended_order [] (y ∷ ys) us vs p q = ap (λ o. ordering_then o
+    (slice_cmp nat_cmp us (ended ys ++ vs))) (sym (nat_cmp_is 0 (raised y) Less (raised_some y)))
+ended_order (x ∷ xs) [] us vs p q = ap (λ o. ordering_then o
+    (slice_cmp nat_cmp (ended xs ++ us) vs)) (sym (nat_cmp_is (raised x) 0 Greater (raised_some x)))
 ended_order (x ∷ xs) (y ∷ ys) us vs p q =
-    ap₂ ordering_then (raised_order x y (low_octet x (ap (λ l. get_or l 0 0) p)) (low_octet y (ap (λ l. get_or l 0 0) q)))
-    (ended_order xs ys us vs (ap (drop 1) p) (ap (drop 1) q))
-    ∙ then_of_then (nat_cmp x y) (label_order xs ys) (slice_cmp nat_cmp us vs)
+    grind (
+      arith,
+      ordering_then,
+      raised_order,
+      low_octet,
+      get_or,
+      then_of_then,
+      nat_cmp,
+      label_order,
+      slice_cmp,
+      (ended_order xs ys us vs (ap (drop 1) p) (ap (drop 1) q)),
+    )
 
 ended_first : (l us : Octets) → slice_cmp nat_cmp [] (ended l ++ us) ≡ Less
 ended_first [] us = refl
@@ -59,27 +71,42 @@ ended_last : (l us : Octets) → slice_cmp nat_cmp (ended l ++ us) [] ≡ Greate
 ended_last [] us = refl
 ended_last (o ∷ l) us = refl
 
-ended_names : (n m : DomainName) → folded n ≡ n → folded m ≡ m → slice_cmp nat_cmp (flat_map ended n) (flat_map ended m) ≡ slice_cmp label_order n m
+ended_names : (n m : DomainName) → folded n ≡ n → folded m ≡ m
+    → slice_cmp nat_cmp (flat_map ended n) (flat_map ended m) ≡ slice_cmp label_order n m
 ended_names [] [] p q = refl
-ended_names [] (k ∷ m) p q = ap (slice_cmp nat_cmp []) (flat_map-cons ended k m) ∙ ended_first k (flat_map ended m)
-ended_names (l ∷ n) [] p q = ap (λ xs. slice_cmp nat_cmp xs []) (flat_map-cons ended l n) ∙ ended_last l (flat_map ended n)
+ended_names [] (k ∷ m) p q =
+    ap (slice_cmp nat_cmp []) (flat_map-cons ended k m) ∙ ended_first k (flat_map ended m)
+ended_names (l ∷ n) [] p q =
+    ap (λ xs. slice_cmp nat_cmp xs []) (flat_map-cons ended l n) ∙ ended_last l (flat_map ended n)
 ended_names (l ∷ n) (k ∷ m) p q =
-    ap₂ (slice_cmp nat_cmp) (flat_map-cons ended l n) (flat_map-cons ended k m)
-    ∙ ended_order l k (flat_map ended n) (flat_map ended m) (ap (λ ls. get_or ls 0 []) p) (ap (λ ls. get_or ls 0 []) q)
-    ∙ ap (ordering_then (label_order l k)) (ended_names n m (ap (drop 1) p) (ap (drop 1) q))
+    grind (
+      arith,
+      slice_cmp,
+      nat_cmp,
+      flat_map-cons,
+      ended,
+      ended_order,
+      flat_map,
+      get_or,
+      ordering_then,
+      label_order,
+      (ended_names n m (ap (drop 1) p) (ap (drop 1) q)),
+    )
 
 pub key_flat : (n : DomainName) → name_key n ≡ flat_map ended (reverse n)
 key_flat [] = refl
 key_flat (l ∷ n) =
-    ap (λ xs. xs ++ ended l) (key_flat n) ∙ flat_map_more ended [] (reverse n) l ∙ ap (flat_map ended) (sym (reverse-append (l ∷ []) n))
+    ap (λ xs. xs ++ ended l) (key_flat n) ∙ flat_map_more ended [] (reverse n) l
+    ∙ ap (flat_map ended) (sym (reverse-append (l ∷ []) n))
 
 pub map_reverse : {X Y : Type 0} (f : X → Y) (xs : List X) → map f (reverse xs) ≡ reverse (map f xs)
 map_reverse f [] = refl
 map_reverse f (x ∷ xs) =
-    ap (map f) (reverse-append (x ∷ []) xs) ∙ map_push f (reverse xs) x ∙ ap (λ ys. ys ++ f x ∷ []) (map_reverse f xs)
-    ∙ sym (reverse-append (f x ∷ []) (map f xs))
+    ap (map f) (reverse-append (x ∷ []) xs) ∙ map_push f (reverse xs) x
+    ∙ ap (λ ys. ys ++ f x ∷ []) (map_reverse f xs) ∙ sym (reverse-append (f x ∷ []) (map f xs))
 
-pub key_order : (n m : DomainName) → folded n ≡ n → folded m ≡ m → slice_cmp nat_cmp (name_key n) (name_key m) ≡ name_order n m
+pub key_order : (n m : DomainName)
+    → folded n ≡ n → folded m ≡ m → slice_cmp nat_cmp (name_key n) (name_key m) ≡ name_order n m
 key_order n m p q = grind (arith, map_reverse, ap₂, key_flat, ended_names)
 
 -- a key is an octet shorter than the wire form

@@ -1,8 +1,5 @@
 -- The key of a name begins with that of another just where the name is at or below it.
-use Rattle.dns_spec.proofs.Common.{◌≡◌, ℕ, ◌<◌, ◌≤◌, ◌==◌, Bool, true, [], ◌∷◌, ◌++◌, length, take, drop, get_or, map, reverse, refl, sym, ap, ap₂, ◌∙◌, arith, length-append, append-nil, nat_lt, cases_order, lt-ltb, ltb-true, le-ltb, and_from, and_parts, and_right, flat_map-cons, take-append_seam, to_ascii_lowercase, flat_map, starts_with, Octets, DomainName, folded, at_or_below, below}
-use Rattle.std.proofs.lemmas.List.{reverse-append, reverse-reverse, append_assoc, take-append-drop}
-use Rattle.dns_spec.proofs.DomainNames.NameLaws.{octets_equal-decides, same_tests}
-use Rattle.dns_zone.specs.KeyForm.{raised, ended, name_key}
+use Rattle.dns_zone.proofs.Common.{◌≡◌, ℕ, ◌<◌, ◌≤◌, ◌==◌, Bool, true, [], ◌∷◌, ◌++◌, length, take, drop, get_or, map, reverse, refl, sym, ap, ap₂, ◌∙◌, arith, length-append, append-nil, nat_lt, cases_order, lt-ltb, ltb-true, le-ltb, and_from, and_parts, and_right, flat_map-cons, take-append_seam, to_ascii_lowercase, flat_map, starts_with, Octets, DomainName, folded, at_or_below, below, reverse-append, reverse-reverse, append_assoc, take-append-drop, octets_equal-decides, same_tests, raised, ended, name_key}
 use Rattle.dns_zone.proofs.KeyOrder.{IsLow, low_octet, raised_some, raised_less, key_flat, map_reverse}
 use Rattle.dns_zone.proofs.NameTree.{Under, under-is, under-from}
 
@@ -17,20 +14,11 @@ raised_one x y p q e = grind (arith, cases_order, raised_less)
 ended_first : (xs ys us vs : Octets) → map to_ascii_lowercase xs ≡ xs
     → map to_ascii_lowercase ys ≡ ys → ended xs ++ us ≡ ended ys ++ vs → (xs ≡ ys) × (us ≡ vs)
 ended_first [] [] us vs p q e = (refl, ap (drop 1) e)
-ended_first [] (y ∷ ys) us vs p q e =
-    let first : 0 ≡ raised y = ap (λ l. get_or l 0 0) e in
-    let some = raised_some y in
-    absurd (omega (arith, first, some))
-ended_first (x ∷ xs) [] us vs p q e =
-    let first : raised x ≡ 0 = ap (λ l. get_or l 0 0) e in
-    let some = raised_some x in
-    absurd (omega (arith, first, some))
+ended_first [] (y ∷ ys) us vs p q e = grind (arith, raised, get_or, raised_some)
+ended_first (x ∷ xs) [] us vs p q e = grind (arith, raised, get_or, raised_some)
 ended_first (x ∷ xs) (y ∷ ys) us vs p q e =
-    let first : raised x ≡ raised y = ap (λ l. get_or l 0 0) e in
-    let low_x = low_octet x (ap (λ l. get_or l 0 0) p) in
-    let low_y = low_octet y (ap (λ l. get_or l 0 0) q) in
-    let rest = ended_first xs ys us vs (ap (drop 1) p) (ap (drop 1) q) (ap (drop 1) e) in
-    (ap₂ ◌∷◌ (raised_one x y low_x low_y first) rest.0, rest.1)
+    let again = ended_first xs ys us vs (ap (drop 1) p) (ap (drop 1) q) (ap (drop 1) e) in
+    grind (arith, raised, get_or, low_octet, raised_one, again)
 
 -- labels from the right
 begins : (n m : DomainName) (us : Octets) → folded n ≡ n → folded m ≡ m

@@ -1,10 +1,5 @@
 -- The keys of owners, in octets that all share.
-use Rattle.dns_spec.proofs.Common.{◌≡◌, ℕ, ◌+◌, sym, ◌∙◌, get_or-drop, ◌-◌, ◌<◌, ◌≤◌, List, [], ◌∷◌, ◌++◌, length, take, drop, get_or, ap, arith, length-take, length-drop, subst, cases_lt, cases_order, Octets, DomainName, wire, ResourceRecord}
-use Rattle.std.proofs.lemmas.List.{take-append-le, drop-append-le}
-use Rattle.std.proofs.Math.Seq.{drop-append_seam, take-length}
-use Rattle.std.specs.List.{SwappedAt}
-use Rattle.dns_zone.specs.KeyForm.{name_key}
-use Rattle.dns_zone.specs.KeyedForm.{key_in, AreKeyed}
+use Rattle.dns_zone.proofs.Common.{◌≡◌, ℕ, ◌+◌, sym, ◌∙◌, get_or-drop, ◌-◌, ◌<◌, ◌≤◌, List, [], ◌∷◌, ◌++◌, length, take, drop, get_or, ap, arith, length-take, length-drop, subst, cases_lt, cases_order, Octets, DomainName, wire, ResourceRecord, take-append-le, drop-append-le, drop-append_seam, take-length, SwappedAt, name_key, key_in, AreKeyed}
 use Rattle.dns_zone.proofs.KeyOrder.{key_length}
 
 -- the key of a name stays where octets are added

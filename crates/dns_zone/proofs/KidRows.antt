@@ -1,13 +1,5 @@
 -- The row of a child, among records in canonical order.
-use Rattle.dns_spec.proofs.Common.{◌≡◌, ℕ, zero, suc, ◌+◌, ◌-◌, ◌<◌, ◌≤◌, Bool, true, false, not, List, [], ◌∷◌, ◌++◌, length, take, drop, get_or, map, refl, sym, ap, ap₂, ◌∙◌, arith, subst, filter, is_gt, length-drop, false≢true, true≢false, upto, length-take-le, take-append-drop, get_or-map, get_or-drop, drop_more, end_rest, take-add, filter-append, to_ascii_lowercase, IsPartitionedBy, Octets, DomainName, wire, is_name, folded, at_or_below, below, name_order, ResourceRecord, record_order, IsReadRecord}
-use Rattle.dns_spec.proofs.Records.RecordOrder.{record_order_total}
-use Rattle.dns_spec.proofs.ZoneChecks.FaultOrder.{name_order_total}
-use Rattle.dns_spec.proofs.Records.SortedOnce.{Each, each_weaker}
-use Rattle.dns_zone.specs.LabelKey.{IsKey}
-use Rattle.dns_zone.specs.NameEnd.{ending}
-use Rattle.dns_zone.specs.ZoneForm.{AreOrdered, IsCanonical}
-use Rattle.dns_zone.specs.TreeForm.{owners, under, row_octets, first_of}
-use Rattle.dns_zone.specs.TreeSteps.{IsNext, IsKidAt}
+use Rattle.dns_zone.proofs.Common.{◌≡◌, ℕ, zero, suc, ◌+◌, ◌-◌, ◌<◌, ◌≤◌, Bool, true, false, not, List, [], ◌∷◌, ◌++◌, length, take, drop, get_or, map, refl, sym, ap, ap₂, ◌∙◌, arith, subst, filter, is_gt, length-drop, false≢true, true≢false, upto, length-take-le, take-append-drop, get_or-map, get_or-drop, drop_more, end_rest, take-add, filter-append, to_ascii_lowercase, IsPartitionedBy, Octets, DomainName, wire, is_name, folded, at_or_below, below, name_order, ResourceRecord, record_order, IsReadRecord, record_order_total, name_order_total, Each, each_weaker, IsKey, ending, AreOrdered, IsCanonical, owners, under, row_octets, first_of, IsNext, IsKidAt}
 use Rattle.dns_zone.proofs.Pairs.{Pairs, pairs_of, parted, filter_all, filter_within}
 use Rattle.dns_zone.proofs.NameTree.{itself-under, under-order, between}
 use Rattle.dns_zone.proofs.ChildNames.{IsChildOf, cons_under, child_end}
@@ -50,9 +42,8 @@ pub parted_drop : {X : Type 0} (p : X → Bool) (xs : List X) (k : ℕ) → IsPa
 parted_drop p xs k h i j d a b e = grind (arith, length-drop, get_or-drop)
 
 -- records that pass, and then those of the others that do
-pub both_fronts : {X : Type 0} (p : X → Bool) (xs : List X) (a b : ℕ)
-    → Each (λ x. p x ≡ true) (take a xs) → take b (drop a xs) ≡ filter p (drop a xs)
-    → take (a + b) xs ≡ filter p xs
+pub both_fronts : {X : Type 0} (p : X → Bool) (xs : List X) (a b : ℕ) → Each (λ x. p x ≡ true)
+    (take a xs) → take b (drop a xs) ≡ filter p (drop a xs) → take (a + b) xs ≡ filter p xs
 both_fronts p xs a b e u =
     take-add a b xs ∙ ap₂ ◌++◌ (sym (filter_all p (take a xs) e)) u
     ∙ sym (ap (filter p) (sym (take-append-drop a xs)) ∙ filter-append p (take a xs) (drop a xs))

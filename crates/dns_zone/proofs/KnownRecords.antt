@@ -1,6 +1,5 @@
 -- The octets of a name are small where those of its wire form are.
-use Rattle.dns_spec.proofs.Common.{ℕ, ◌<◌, All, [], ◌∷◌, ◌++◌, length, get_or, get_or_default_zero, sym, subst, All-nil, All-cons, Octets, DomainName, wire}
-use Rattle.dns_spec.proofs.DomainNames.SmallOctets.{Small, small_tail, small_front, small_back}
+use Rattle.dns_zone.proofs.Common.{ℕ, ◌<◌, All, [], ◌∷◌, ◌++◌, length, get_or, get_or_default_zero, sym, subst, All-nil, All-cons, Octets, DomainName, wire, Small, small_tail, small_front, small_back}
 
 pub small_labels : (n : DomainName) → Small (wire n) → All Small n
 small_labels [] h = All-nil Small

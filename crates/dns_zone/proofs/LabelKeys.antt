@@ -1,11 +1,6 @@
 -- The order of labels is that of their keys, where these differ; where they are the same it is that
 -- of what follows the keys, or of the labels' lengths.
-use Rattle.std.proofs.Common.{◌≡◌, ℕ, zero, suc, ◌+◌, ◌*◌, ◌^◌, ◌<◌, ◌≤◌, ◌⊎◌, inl, inr, [], ◌∷◌, ◌-◌, ◌/◌, add-one, drop-cons, map, length, drop, get_or, refl, sym, ap, ◌∙◌, arith, Less, Greater, nat_cmp}
-use Rattle.std.proofs.Math.Nat.{mul-le-mul_right, one-le-pow}
-use Rattle.dns_spec.proofs.Common.{cases_lt, cases_order, nat_list_cmp_total, to_ascii_lowercase, nat_cmp_is, Octets, DomainName, folded, label_order}
-use Rattle.std.proofs.lemmas.Str.Ascii.{lowercase_is}
-use Rattle.dns_zone.specs.LabelKey.{IsKey, key_of}
-use Rattle.dns_zone.specs.TreeForm.{first_of}
+use Rattle.dns_zone.proofs.Common.{◌≡◌, ℕ, zero, suc, ◌+◌, ◌*◌, ◌^◌, ◌<◌, ◌≤◌, ◌⊎◌, inl, inr, [], ◌∷◌, ◌-◌, ◌/◌, add-one, drop-cons, map, length, drop, get_or, refl, sym, ap, ◌∙◌, arith, Less, Greater, nat_cmp, mul-le-mul_right, one-le-pow, cases_lt, cases_order, nat_list_cmp_total, to_ascii_lowercase, nat_cmp_is, Octets, DomainName, folded, label_order, lowercase_is, IsKey, key_of, first_of}
 
 abbrev Low : Octets → Type 0
 Low a = (i : ℕ) → get_or a i 0 < 256
@@ -43,8 +38,7 @@ same_parts p x y k l s t h = go (cases_order x y)
         let more : suc y * p ≤ x * p = mul-le-mul_right p (omega arith) in absurd (omega arith)
 
 -- labels that begin alike
-same_head : (x y : ℕ) (a b : Octets) → x ≡ y
-    → label_order (x ∷ a) (y ∷ b) ≡ label_order a b
+same_head : (x y : ℕ) (a b : Octets) → x ≡ y → label_order (x ∷ a) (y ∷ b) ≡ label_order a b
 same_head x y a b e = grind arith
 
 lesser : (n : ℕ) (a b : Octets) → Low a → Low b → key_of n a < key_of n b → label_order a b ≡ Less
@@ -58,8 +52,7 @@ lesser (suc n) (x ∷ a) (y ∷ b) v w h =
     (lesser n a b (rest_low x a v) (rest_low y b w))
   where
     go : (x < y) ⊎ ((x ≡ y) × (key_of n a < key_of n b))
-        → (key_of n a < key_of n b → label_order a b ≡ Less)
-        → label_order (x ∷ a) (y ∷ b) ≡ Less
+        → (key_of n a < key_of n b → label_order a b ≡ Less) → label_order (x ∷ a) (y ∷ b) ≡ Less
     go (inl l) rest = grind arith
     go (inr (e, l)) rest = same_head x y a b e ∙ rest l
 
@@ -117,8 +110,7 @@ pub key_order : {j k : ℕ} {a b : Octets} → IsKey j a → IsKey k b → (j �
 key_order {j} {k} {a} {b} p q n = grind (arith, cases_order, lesser_key, nat_list_cmp_total)
 
 -- the first label of a name in lower case is in lower case
-pub first_lower : (n : DomainName) → folded n ≡ n
-    → map to_ascii_lowercase (first_of n) ≡ first_of n
+pub first_lower : (n : DomainName) → folded n ≡ n → map to_ascii_lowercase (first_of n) ≡ first_of n
 first_lower n h = grind arith
 
 lower_low : (x : ℕ) → x < 256 → to_ascii_lowercase x < 256
@@ -156,8 +148,7 @@ module _ (l : Octets) (i key worth : ℕ) (inside : i < length l) (few : i < 8)
   unfolding key_of
   step = grind (arith, places, drop-cons, add-one)
 
-  grown : key_of 8 l
-      ≡ (key + get_or l i 0 * worth) + key_of (8 - (i + 1)) (drop (i + 1) l)
+  grown : key_of 8 l ≡ (key + get_or l i 0 * worth) + key_of (8 - (i + 1)) (drop (i + 1) l)
   grown = omega (arith, part.value, step, ap (λ k. get_or l i 0 * k) worth_is)
 
   pub key_fits : Low l → key + get_or l i 0 * worth < 2 ^ 64

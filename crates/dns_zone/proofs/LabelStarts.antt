@@ -1,12 +1,6 @@
 -- Where the labels of a name begin, one label after the other.
-use Rattle.dns_spec.proofs.Common.{◌≡◌, ◌⊎◌, ℕ, ◌+◌, ◌<◌, List, ◌∷◌, refl, sym, ap, ◌∙◌, Octets, DomainName}
+use Rattle.dns_zone.proofs.Common.{◌≡◌, ◌⊎◌, ℕ, ◌+◌, ◌<◌, List, ◌∷◌, refl, sym, ap, ◌∙◌, Octets, DomainName, length, drop, length-drop, get_or, set, subst, arith, drop_more, drop-drop, get_or-set_same, get_or-set_other, IsName-is_name, labels_of, IsWireForm, BeginsWithLabel-IsWireForm, labels_of-zero, BeginsAt, AreStarts}
 use Rattle.dns_zone.proofs.CommonEnds.{some as some-octet}
-use Rattle.std.proofs.Common.{length, drop, length-drop, get_or, set, subst, arith}
-use Rattle.std.proofs.lemmas.List.{drop_more, drop-drop, get_or-set_same, get_or-set_other}
-use Rattle.dns_spec.proofs.DomainNames.NameLaws.{IsName-is_name}
-use Rattle.dns_name.specs.WireForm.{labels_of, IsWireForm}
-use Rattle.dns_name.proofs.WireLemmas.{BeginsWithLabel-IsWireForm, labels_of-zero}
-use Rattle.dns_zone.specs.Starts.{BeginsAt, AreStarts}
 
 -- a wire form has its length octet
 -- the first label begins at once

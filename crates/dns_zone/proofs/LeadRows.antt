@@ -1,9 +1,5 @@
 -- The rows on the way from the origin to a target.
-use Rattle.dns_spec.proofs.Common.{◌≡◌, ◌⊎◌, inl, inr, ℕ, ◌<◌, ◌≤◌, true, false, List, [], ◌∷◌, ◌++◌, map, length, length-append, get_or, None, refl, ap, arith, to_ascii_lowercase, is_some, cases_lt, get_or-map, get_or_append_left, get_or_push, Octets, DomainName, folded, at_or_below, below, type_ns, type_cname, ResourceRecord, ZoneContents, rrset, set_of, cut_of}
-use Rattle.dns_zone.specs.NodeForm.{IsNodeAt, IsZoneTree, IsLeadRow, IsLeadAt, AreLeads}
-use Rattle.dns_zone.specs.TreeForm.{row_name, row_at}
-use Rattle.dns_zone.specs.declared.tree.row.Row.{Row}
-use Rattle.dns_zone.specs.declared.tree.Tree.{Tree}
+use Rattle.dns_zone.proofs.Common.{◌≡◌, ◌⊎◌, inl, inr, ℕ, ◌<◌, ◌≤◌, true, false, List, [], ◌∷◌, ◌++◌, map, length, length-append, get_or, None, refl, ap, arith, to_ascii_lowercase, is_some, cases_lt, get_or-map, get_or_append_left, get_or_push, Octets, DomainName, folded, at_or_below, below, type_ns, type_cname, ResourceRecord, ZoneContents, rrset, set_of, cut_of, IsNodeAt, IsZoneTree, IsLeadRow, IsLeadAt, AreLeads, row_name, row_at, Row, Tree}
 use Rattle.dns_zone.proofs.NameTree.{itself-under, below-cons}
 use Rattle.dns_zone.proofs.NameOrder.{same-from}
 use Rattle.dns_zone.proofs.NodeRows.{node_is, is_row}
@@ -25,7 +21,8 @@ pub record IsOnWay (t : Tree) (rtype k : ℕ) : Type 0 where
 pub begins : (t : Tree) (rtype : ℕ) → IsZoneTree t → IsOnWay t rtype 0
 begins t rtype kept =
     let z = t.zone in
-    let named : name_at t 0 ≡ t.zone.origin = row_is t.zone.records (row_at t.rows 0) t.zone.origin kept.tree.origin in
+    let named : name_at t 0 ≡ t.zone.origin =
+    row_is t.zone.records (row_at t.rows 0) t.zone.origin kept.tree.origin in
     let size = ap length named in
     record {
       at = record { kept = kept; row = kept.tree.some };
@@ -36,11 +33,9 @@ begins t rtype kept =
     }
 
 -- a child that is no cut, where the way ends at cuts
-pub goes_on : (t : Tree) (rtype k j : ℕ) (l : Octets) → IsOnWay t rtype k → IsNodeAt t j
-    → name_at t j ≡ map to_ascii_lowercase l ∷ name_at t k
-    → (rtype ≡ type_cname
-    → is_some (set_of (rrset t.zone (name_at t j) type_ns)) ≡ false)
-    → IsOnWay t rtype j
+pub goes_on : (t : Tree) (rtype k j : ℕ) (l : Octets) → IsOnWay t rtype k
+    → IsNodeAt t j → name_at t j ≡ map to_ascii_lowercase l ∷ name_at t k → (rtype ≡ type_cname
+    → is_some (set_of (rrset t.zone (name_at t j) type_ns)) ≡ false) → IsOnWay t rtype j
 goes_on t rtype k j l way at named servers =
     let z = t.zone in
     let n = name_at t k in
@@ -67,9 +62,8 @@ leads_more z rows leads j k r are count inside is lead =
     grind (arith, cases_lt, get_or-map, get_or_append_left, length-append, get_or_push)
 
 -- a lead that is kept for a record
-pub kept-lead : (t : Tree) (rs : List ResourceRecord) (leads : List ℕ) (place rtype : ℕ)
-    (r : ResourceRecord) → IsZoneTree t → rs ≡ t.zone.records → leads ≡ t.leads → place < length rs
-    → place < length leads → r ≡ get_or rs place r → r.rtype ≡ rtype
-    → (get_or leads place 0 ≡ 0 → ⊥)
-    → IsLeadRow t.zone t.rows rtype (get_or leads place 0)
+pub kept-lead : (t : Tree) (rs : List ResourceRecord) (leads : List ℕ)
+    (place rtype : ℕ) (r : ResourceRecord) → IsZoneTree t → rs ≡ t.zone.records → leads ≡ t.leads
+    → place < length rs → place < length leads → r ≡ get_or rs place r → r.rtype ≡ rtype
+    → (get_or leads place 0 ≡ 0 → ⊥) → IsLeadRow t.zone t.rows rtype (get_or leads place 0)
 kept-lead t rs leads place rtype r kept e f inside known is typed some = grind (arith, get_or-map)

@@ -1,3 +1,4 @@
+pub mod Common
 pub mod EndingNames
 pub mod Entries
 pub mod KeyedNames

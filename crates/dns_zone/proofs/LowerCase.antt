@@ -1,6 +1,5 @@
 -- A table of 256 octets is held against a definition at each of them, by computing.
-use Rattle.std.proofs.Common.{◌≡◌, ℕ, zero, suc, ◌<◌, Bool, true, ◌&&◌, ◌⊎◌, inl, inr, List, get_or, nat_eq, arith, sym, ap, ◌∙◌}
-use Rattle.std.proofs.lemmas.Bool.{cases_eq, and_parts, eqb-true}
+use Rattle.dns_zone.proofs.Common.{◌≡◌, ℕ, zero, suc, ◌<◌, Bool, true, ◌&&◌, ◌⊎◌, inl, inr, List, get_or, nat_eq, arith, sym, ap, ◌∙◌, cases_eq, and_parts, eqb-true}
 
 -- both are the same below n
 unfoldable pub agree_below : (ℕ → ℕ) → (ℕ → ℕ) → ℕ → Bool

@@ -1,9 +1,6 @@
 -- The shortest end of a name that has so many octets or more.
-use Rattle.std.proofs.Common.{◌≡◌, ℕ, suc, ◌+◌, ◌-◌, ◌<◌, ◌≤◌, Bool, true, false, nat_lt, ◌||◌, if◌then◌else◌, [], ◌∷◌, length, drop, get_or, refl, sym, ap, ap₂, ◌∙◌, arith, length-append, length-drop}
+use Rattle.dns_zone.proofs.Common.{◌≡◌, ℕ, suc, ◌+◌, ◌-◌, ◌<◌, ◌≤◌, Bool, true, false, nat_lt, ◌||◌, if◌then◌else◌, [], ◌∷◌, length, drop, get_or, refl, sym, ap, ap₂, ◌∙◌, arith, length-append, length-drop, false_from_ne_true, ltb-true, ltb-false, lt-ltb, or-false, drop_at, drop-drop, get_or-drop, Octets, DomainName, wire, is_name, folded, same, at_or_below, names_equal, at_or_below-cons, at_or_below-short, at_or_below-long, at_or_below-length-wire, is_name-tail, ending}
 use Rattle.dns_zone.proofs.KeyOrder.{some_octets}
-use Rattle.dns_spec.proofs.Common.{false_from_ne_true, ltb-true, ltb-false, lt-ltb, or-false, drop_at, drop-drop, get_or-drop, Octets, DomainName, wire, is_name, folded, same, at_or_below, names_equal}
-use Rattle.dns_spec.proofs.DomainNames.NameLaws.{at_or_below-cons, at_or_below-short, at_or_below-long, at_or_below-length-wire, is_name-tail}
-use Rattle.dns_zone.specs.NameEnd.{ending}
 
 -- what holds while the labels of a name n are passed: its octets xs go on at place k with an end of
 -- it, whose shortest end is that of n

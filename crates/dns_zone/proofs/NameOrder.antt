@@ -1,7 +1,5 @@
 -- The canonical order of names.
-use Rattle.dns_spec.proofs.Common.{◌≡◌, true, false, is_gt, is_lt, Ordering, Equal, arith, false≢true, tied_itself, DomainName, folded, same, name_order}
-use Rattle.dns_spec.proofs.ZoneChecks.FaultOrder.{name_order_total}
-use Rattle.dns_spec.proofs.DomainNames.NameLaws.{names_equal-decides}
+use Rattle.dns_zone.proofs.Common.{◌≡◌, true, false, is_gt, is_lt, Ordering, Equal, arith, false≢true, tied_itself, DomainName, folded, same, name_order, name_order_total, names_equal-decides}
 
 pub same-is : (n m : DomainName) → same n m ≡ true → folded n ≡ folded m
 same-is n m h = (names_equal-decides (folded n) (folded m)).0 h

@@ -1,9 +1,6 @@
 -- Names at or below a name stand side by side in canonical order, directly after it.
-use Rattle.dns_spec.proofs.Common.{◌≡◌, suc, ◌+◌, ◌-◌, ◌<◌, ◌≤◌, Bool, true, false, nat_lt, nat_le, ◌⊎◌, inl, inr, List, [], ◌∷◌, ◌++◌, map, reverse, length, take, drop, refl, sym, ap, ap₂, ◌∙◌, arith, length-append, is_eq, is_gt, nat_cmp, Ordering, Less, Equal, Greater, false≢true, true≢false, and_parts, and_from, or_cases, or_right, le-leb, leb-true, lt-ltb, false_from_ne_true, ltb-true, end_rest, nat_list_cmp_total, tied_itself, slice_cmp, lists_ties, ordering_then, ordering_reverse, to_ascii_lowercase, Octets, DomainName, folded, same, last_labels, at_or_below, below, label_order, name_order}
-use Rattle.std.proofs.lemmas.List.{reverse-reverse, reverse-append, take-append-drop, drop-map, length-map, append_assoc}
-use Rattle.dns_spec.proofs.DomainNames.NameLaws.{octets_equal-decides, same_tests, same-length, at_or_below-cons}
+use Rattle.dns_zone.proofs.Common.{◌≡◌, suc, ◌+◌, ◌-◌, ◌<◌, ◌≤◌, Bool, true, false, nat_lt, nat_le, ◌⊎◌, inl, inr, List, [], ◌∷◌, ◌++◌, map, reverse, length, take, drop, refl, sym, ap, ap₂, ◌∙◌, arith, length-append, is_eq, is_gt, nat_cmp, Ordering, Less, Equal, Greater, false≢true, true≢false, and_parts, and_from, or_cases, or_right, le-leb, leb-true, lt-ltb, false_from_ne_true, ltb-true, end_rest, nat_list_cmp_total, tied_itself, slice_cmp, lists_ties, ordering_then, ordering_reverse, to_ascii_lowercase, Octets, DomainName, folded, same, last_labels, at_or_below, below, label_order, name_order, reverse-reverse, reverse-append, take-append-drop, drop-map, length-map, append_assoc, octets_equal-decides, same_tests, same-length, at_or_below-cons, nat_ties}
 use Rattle.dns_zone.proofs.NameOrder.{same-is, same-from}
-use Rattle.dns_spec.proofs.ZoneChecks.FaultOrder.{nat_ties}
 
 -- the labels of n end in those of a
 abbrev pub Under : DomainName → DomainName → Type 0
@@ -84,12 +81,10 @@ list_between (x ∷ xs) [] zs p q = absurd (true≢false p)
 list_between (x ∷ xs) (y ∷ ys) zs p q = go (label_order x y) refl p q (list_between xs ys zs)
   where
     go : (c : Ordering) → label_order x y ≡ c
-        → is_gt (ordering_then c (slice_cmp label_order xs ys)) ≡ false
-        → is_gt (ordering_then (label_order y x) (slice_cmp label_order ys (xs ++ zs))) ≡ false
-        → (is_gt (slice_cmp label_order xs ys) ≡ false
-        → is_gt (slice_cmp label_order ys (xs ++ zs)) ≡ false
-        → (ws : List Octets) × (ys ≡ xs ++ ws))
-        → (ws : List Octets) × (y ∷ ys ≡ x ∷ (xs ++ ws))
+        → is_gt (ordering_then c (slice_cmp label_order xs ys)) ≡ false → is_gt
+        (ordering_then (label_order y x) (slice_cmp label_order ys (xs ++ zs))) ≡ false → (is_gt
+        (slice_cmp label_order xs ys) ≡ false → is_gt (slice_cmp label_order ys (xs ++ zs)) ≡ false
+        → (ws : List Octets) × (ys ≡ xs ++ ws)) → (ws : List Octets) × (y ∷ ys ≡ x ∷ (xs ++ ws))
     go Less e a b f =
         let back : label_order y x ≡ Greater =
         nat_list_cmp_total.antisymm y x ∙ ap ordering_reverse e in

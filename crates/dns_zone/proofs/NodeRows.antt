@@ -1,12 +1,5 @@
 -- The nodes of a zone by their rows.
-use Rattle.dns_spec.proofs.Common.{◌≡◌, ℕ, ◌+◌, ◌-◌, ◌<◌, ◌≤◌, true, List, [], ◌∷◌, length, drop, get_or, sym, ap, ◌∙◌, arith, subst, length-take, get_or-take, get_or-drop, get_or_default, list_any, Octets, DomainName, at_or_below, ResourceRecord, exists}
-use Rattle.dns_spec.proofs.Records.SortedOnce.{Each, each_weaker}
-use Rattle.dns_spec.proofs.Records.RecordOrder.{contains_among}
-use Rattle.dns_zone.specs.Nodes.{IsNode}
-use Rattle.dns_zone.specs.NodeForm.{IsNodeAt}
-use Rattle.dns_zone.specs.TreeForm.{first_of, row_name, row_label, row_at, kids_at, IsRow, IsKid, AreKids}
-use Rattle.dns_zone.specs.declared.tree.row.Row.{Row}
-use Rattle.dns_zone.specs.declared.tree.Tree.{Tree}
+use Rattle.dns_zone.proofs.Common.{◌≡◌, ℕ, ◌+◌, ◌-◌, ◌<◌, ◌≤◌, true, List, [], ◌∷◌, length, drop, get_or, sym, ap, ◌∙◌, arith, subst, length-take, get_or-take, get_or-drop, get_or_default, list_any, Octets, DomainName, at_or_below, ResourceRecord, exists, Each, each_weaker, contains_among, IsNode, IsNodeAt, first_of, row_name, row_label, row_at, kids_at, IsRow, IsKid, AreKids, Row, Tree}
 use Rattle.dns_zone.proofs.Pairs.{each_get}
 use Rattle.dns_zone.proofs.Spans.{in_span, any_there}
 use Rattle.dns_zone.proofs.KidRows.{is_under}
@@ -77,8 +70,7 @@ module _ (t : Tree) (k : ℕ) (at : IsNodeAt t k) where
     the_kid : IsKid rs name (row_at kids i)
     the_kid = each_get (IsKid rs name) kids i _ are_kids.each fits
 
-    pub kid_name : row_name rs (row_at t.rows (start + i))
-        ≡ row_label rs (row_at kids i) ∷ name
+    pub kid_name : row_name rs (row_at t.rows (start + i)) ≡ row_label rs (row_at kids i) ∷ name
     kid_name =
         let whole = row_is rs (row_at kids i) (the_kid.label ∷ name) the_kid.is_row in
         ap (row_name rs) row_of_kid ∙ whole ∙ ap (λ (n : DomainName). first_of n ∷ name) (sym whole)

@@ -1,12 +1,5 @@
 -- The sets of a name of a built zone.
-use Rattle.dns_spec.proofs.Common.{◌≡◌, ℕ, ◌≤◌, true, false, not, ◌==◌, List, [], ◌∷◌, map, length, Option, None, Some, IfSome, refl, sym, ap, ◌∙◌, subst, filter, is_gt, nat_cmp, arith, eqb-true, eq-eqb, cases_lt, lt-ltb, le-ltb, nat_cmp_total, tied_itself, length-map, none-some, same_Some, IsNonDecreasingBy, DomainName, folded, same, Valid, ResourceRecord, ZoneContents, distinct, sort_by, data_order, record_order, at, rrset, RecordSet, records_at, set_of, rising_types, of_lowest_type, of_first_type, IsReadRecord}
-use Rattle.dns_spec.proofs.Records.SortedOnce.{Each, each_filter, each_distinct, each_sort, each_weaker, filter_each, length-sort_by}
-use Rattle.dns_spec.proofs.Records.RecordOrder.{each_all, all_each}
-use Rattle.dns_spec.proofs.Replies.FewItems.{count_few}
-use Rattle.dns_spec.proofs.Replies.ItemSets.{IsOf, as_set, first_ttl, own_records, each_typed}
-use Rattle.dns_zone.specs.Nodes.{IsSetOf}
-use Rattle.dns_zone.specs.SetForm.{data_of, lent, IsLent, AreOfType}
-use Rattle.dns_zone.specs.ZoneForm.{IsBuilt}
+use Rattle.dns_zone.proofs.Common.{◌≡◌, ℕ, ◌≤◌, true, false, not, ◌==◌, List, [], ◌∷◌, map, length, Option, None, Some, IfSome, refl, sym, ap, ◌∙◌, subst, filter, is_gt, nat_cmp, arith, eqb-true, eq-eqb, cases_lt, lt-ltb, le-ltb, nat_cmp_total, tied_itself, length-map, none-some, same_Some, IsNonDecreasingBy, DomainName, folded, same, Valid, ResourceRecord, ZoneContents, distinct, sort_by, data_order, record_order, at, rrset, RecordSet, records_at, set_of, rising_types, of_lowest_type, of_first_type, IsReadRecord, Each, each_filter, each_distinct, each_sort, each_weaker, filter_each, length-sort_by, each_all, all_each, count_few, IsOf, as_set, first_ttl, own_records, each_typed, IsSetOf, data_of, lent, AreOfType, IsBuilt}
 use Rattle.dns_zone.proofs.Pairs.{pairs_of, pairs_filter, pairs_rising, each_both}
 use Rattle.dns_zone.proofs.NameOrder.{same-is, same-from, same-tied}
 use Rattle.dns_zone.proofs.AtName.{data_order_total, ordered_records, unmoved, first_in, first_part}
@@ -33,12 +26,9 @@ of_one_type t rs h = grind (arith, all_each, datas, each_weaker)
 not_above : (t u : ℕ) → t ≤ u → is_gt (nat_cmp t u) ≡ false
 not_above t u h = grind (arith, cases_lt, lt-ltb, le-ltb, eq-eqb)
 
-lowest_first : (r : ResourceRecord) (rs : List ResourceRecord)
-    → IsNonDecreasingBy (λ (q : ResourceRecord). q.rtype) (r ∷ rs)
-    → rising_types (r ∷ rs)
-    ≡ r.rtype ∷ sort_by nat_cmp
-    (filter (λ u. not (r.rtype == u))
-    (distinct ◌==◌ (map (λ (q : ResourceRecord). q.rtype) rs)))
+lowest_first : (r : ResourceRecord) (rs : List ResourceRecord) → IsNonDecreasingBy
+    (λ (q : ResourceRecord). q.rtype) (r ∷ rs) → rising_types (r ∷ rs) ≡ r.rtype ∷ sort_by nat_cmp
+    (filter (λ u. not (r.rtype == u)) (distinct ◌==◌ (map (λ (q : ResourceRecord). q.rtype) rs)))
 lowest_first r rs h =
     let others =
     filter (λ u. not (r.rtype == u)) (distinct ◌==◌ (map (λ (q : ResourceRecord). q.rtype) rs))
@@ -91,7 +81,7 @@ module _ (z : ZoneContents) (kept : IsBuilt z) (n : DomainName) where
 
     -- RFC 2181 5.2, and the limit of a set
     few : length (rrset z n t) ≤ 64
-    few = let bound = count_few z kept.low lows kept.passes n t in omega (arith, length-sort_by data_order typed, bound)
+    few = grind (arith, count_few, lows, length-sort_by, data_order, typed)
 
     pub set_kept : folded n ≡ n → (s : RecordSet) → set_of (rrset z n t) ≡ Some s
         → (s.rtype ≡ t) × IsSetOf (record { zone = z; name = n }) s
@@ -109,21 +99,8 @@ module _ (z : ZoneContents) (kept : IsBuilt z) (n : DomainName) where
             → (s.rtype ≡ t) × IsSetOf (record { zone = z; name = n }) s
         go [] p e = absurd (none-some s e)
         go (r ∷ rs) p e =
-            let own = subst (Each (IsOf (folded n) k t)) p (own_records z kept.low lows kept.passes n t) in
-            let read = subst (Each (λ (q : ResourceRecord). IsReadRecord q × (q.rtype ≡ t))) p read_set in
-            let bound = few in
-            let lent_is : IsLent r.rtype (r ∷ rs) = subst AreOfType p are_of_type in
-            let set : RecordSet = lent r.rtype r.ttl (r ∷ rs) in
-            subst (λ (y : RecordSet). (y.rtype ≡ t) × IsSetOf (record { zone = z; name = n }) y)
-            (same_Some set s e) (
-              own.0.rtype,
-              record {
-                records = shown r rs p own;
-                few = grind (arith, few, length-map);
-                ttl = read.0.0.ttl;
-                valid = lent_is.valid;
-              },
-            )
+            grind
+            (arith, own_records, lows, read_set, few, are_of_type, same_Some, shown, length-map)
 
     pub sets_kept : folded n ≡ n → (o : Option RecordSet) → o ≡ set_of (rrset z n t)
         → IfSome o (λ s. s.rtype ≡ t) × IfSome o (IsSetOf (record { zone = z; name = n }))

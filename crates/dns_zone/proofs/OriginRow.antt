@@ -1,10 +1,5 @@
 -- The row of the origin of a built zone.
-use Rattle.dns_spec.proofs.Common.{◌≡◌, ℕ, ◌-◌, ◌<◌, ◌≤◌, true, ◌&&◌, ◌==◌, List, [], ◌∷◌, length, take, get_or, map, refl, sym, ap, ◌∙◌, arith, subst, filter, and_parts, get_or-map, take_all, get_or_default, to_ascii_lowercase, IsPartitionedBy, DomainName, wire, is_name, same, at_or_below, type_soa, ResourceRecord}
-use Rattle.dns_spec.proofs.Records.SortedOnce.{Each, Among}
-use Rattle.dns_spec.proofs.Records.RecordOrder.{among_contains}
-use Rattle.dns_zone.specs.LabelKey.{IsKey}
-use Rattle.dns_zone.specs.ZoneForm.{AreOrdered, IsBuilt}
-use Rattle.dns_zone.specs.TreeForm.{owners, row_octets, first_of, IsRow}
+use Rattle.dns_zone.proofs.Common.{◌≡◌, ℕ, ◌-◌, ◌<◌, ◌≤◌, true, ◌&&◌, ◌==◌, List, [], ◌∷◌, length, take, get_or, map, refl, sym, ap, ◌∙◌, arith, subst, filter, and_parts, get_or-map, take_all, get_or_default, to_ascii_lowercase, IsPartitionedBy, DomainName, wire, is_name, same, at_or_below, type_soa, ResourceRecord, Each, Among, among_contains, IsKey, AreOrdered, IsBuilt, owners, row_octets, first_of, IsRow}
 use Rattle.dns_zone.proofs.Pairs.{filter_all}
 use Rattle.dns_zone.proofs.NameOrder.{same-is}
 use Rattle.dns_zone.proofs.AtName.{is_at, owners_in_order}
@@ -57,7 +52,8 @@ module _ (o : DomainName) (rs : List ResourceRecord)
       (kept.each 0 d some).owner
 
   pub origin_is_row : (own : ℕ) → own ≤ length rs → take own rs ≡ filter (is_at o) rs
-      → (count key : ℕ) → count ≡ length (first_of o) → IsKey key (map to_ascii_lowercase (first_of o))
+      → (count key : ℕ)
+      → count ≡ length (first_of o) → IsKey key (map to_ascii_lowercase (first_of o))
       → IsRow rs (record {
         first = 0;
         own_end = own;

@@ -1,12 +1,5 @@
 -- A walk over records of a zone in canonical order, owner by owner.
-use Rattle.dns_spec.proofs.Common.{◌≡◌, ℕ, ◌+◌, Bool, true, false, not, cond, List, [], ◌∷◌, ◌++◌, ◌<◌, length, take, drop, refl, sym, ap, ap₂, ◌∙◌, arith, subst, filter, is_gt, Less, false≢true, false_from_ne_true, length-filter_both, All-head, prefix_len, IsPartitionedBy, DomainName, folded, same, names_equal, name_order, ResourceRecord, ZoneContents, at, record_order}
-use Rattle.std.proofs.lemmas.List.Sums.{prefix_len_passes, prefix_len_stops, prefix_len-le-length}
-use Rattle.dns_spec.proofs.Records.RecordOrder.{each_all, all_each, record_order_total}
-use Rattle.dns_spec.proofs.Records.SortedOnce.{Each, each_filter, filter_each, each_weaker}
-use Rattle.dns_zone.specs.ZoneForm.{AreOrdered}
-use Rattle.dns_zone.specs.OwnerForm.{IsOwner}
-use Rattle.dns_zone.specs.NamesForm.{first_owner}
-use Rattle.dns_zone.specs.ReportedForm.{HasOwners, begins_with_owner, owners_once}
+use Rattle.dns_zone.proofs.Common.{◌≡◌, ℕ, ◌+◌, Bool, true, false, not, cond, List, [], ◌∷◌, ◌++◌, ◌<◌, length, take, drop, refl, sym, ap, ap₂, ◌∙◌, arith, subst, filter, is_gt, Less, false≢true, false_from_ne_true, length-filter_both, All-head, prefix_len, IsPartitionedBy, DomainName, folded, same, names_equal, name_order, ResourceRecord, ZoneContents, at, record_order, prefix_len_passes, prefix_len_stops, prefix_len-le-length, each_all, all_each, record_order_total, Each, each_filter, filter_each, each_weaker, AreOrdered, IsOwner, first_owner, HasOwners, begins_with_owner, owners_once}
 use Rattle.dns_zone.proofs.Pairs.{Pairs, pairs_filter, each_both, filter_all, filter_within, halves}
 use Rattle.dns_zone.proofs.NameOrder.{same-is, same-from, same-tied}
 use Rattle.dns_zone.proofs.AtName.{unmoved, is_at, OwnerNotAfter, ordered_records, owners_in_order}
@@ -16,11 +9,13 @@ use Rattle.dns_zone.proofs.OwnRecords.{own_types}
 use Rattle.dns_zone.proofs.ReportedNames.{greater_after}
 
 -- what passes a test, counted from the front, is all that passes it where this comes first
-pub front : {X : Type 0} (p : X → Bool) (xs : List X) → IsPartitionedBy p xs → (take (prefix_len p xs) xs ≡ filter p xs) × (drop (prefix_len p xs) xs ≡ filter (λ x. not (p x)) xs)
+pub front : {X : Type 0} (p : X → Bool) (xs : List X) → IsPartitionedBy p xs → (take
+    (prefix_len p xs) xs ≡ filter p xs) × (drop (prefix_len p xs) xs ≡ filter (λ x. not (p x)) xs)
 front p xs h =
     halves p xs (prefix_len p xs) (prefix_len-le-length p xs) (
       λ k d a m. prefix_len_passes p xs k d m,
-      λ k d a m. false_from_ne_true _ (λ t. false≢true (sym (prefix_len_stops p xs d (omega arith)) ∙ h (prefix_len p xs) k d a m t)),
+      λ k d a m. false_from_ne_true _ (λ t. false≢true
+          (sym (prefix_len_stops p xs d (omega arith)) ∙ h (prefix_len p xs) k d a m t)),
     )
 
 -- of records of a name the first one need not be looked at
@@ -29,10 +24,13 @@ pub one_more : (n : DomainName) (r : ResourceRecord) (rs : List ResourceRecord) 
 one_more n r rs k e f = grind (arith, is_at, same-from)
 
 -- a part of ordered records is ordered
-ordered_filter : (p : ResourceRecord → Bool) (rs : List ResourceRecord) → AreOrdered rs → AreOrdered (filter p rs)
-ordered_filter p rs h = unmoved record_order record_order_total (filter p rs) (pairs_filter (λ r s. is_gt (record_order r s) ≡ false) p rs (ordered_records rs h))
+ordered_filter : (p : ResourceRecord → Bool) (rs : List ResourceRecord)
+    → AreOrdered rs → AreOrdered (filter p rs)
+ordered_filter p rs h = unmoved record_order record_order_total (filter p rs)
+    (pairs_filter (λ r s. is_gt (record_order r s) ≡ false) p rs (ordered_records rs h))
 
-each_always : (P : ResourceRecord → Type 0) (rs : List ResourceRecord) → ((r : ResourceRecord) → P r) → Each P rs
+each_always : (P : ResourceRecord → Type 0) (rs : List ResourceRecord)
+    → ((r : ResourceRecord) → P r) → Each P rs
 each_always P [] f = tt
 each_always P (r ∷ rs) f = (f r, each_always P rs f)
 
@@ -41,10 +39,11 @@ module _ (z : ZoneContents) where
   IsAll rs r = filter (is_at r.owner) rs ≡ at z r.owner
 
   pub all_owners : AreOrdered z.records → HasOwners z z.records
-  all_owners h = record { ordered = h; all = all_each (IsAll z.records) z.records (each_always (IsAll z.records) z.records (λ r. refl)) }
+  all_owners h = grind (arith, all_each, IsAll, each_always)
 
   -- a test of owners keeps all records of an owner or none
-  pub kept_owners : (p : ResourceRecord → Bool) (rs : List ResourceRecord) → ((s r : ResourceRecord) → same s.owner r.owner ≡ true → p r ≡ true → p s ≡ true)
+  pub kept_owners : (p : ResourceRecord → Bool) (rs : List ResourceRecord)
+      → ((s r : ResourceRecord) → same s.owner r.owner ≡ true → p r ≡ true → p s ≡ true)
       → HasOwners z rs → HasOwners z (filter p rs)
   kept_owners p rs f h = record {
     ordered = ordered_filter p rs h.ordered;
@@ -54,15 +53,19 @@ module _ (z : ZoneContents) where
         (filter_each p rs) (each_filter (IsAll rs) p rs (each_all (IsAll rs) rs h.all)));
   }
 
-  at_one : (o : DomainName) (s r : ResourceRecord) → same s.owner r.owner ≡ true → is_at o s ≡ is_at o r
+  at_one : (o : DomainName) (s r : ResourceRecord)
+      → same s.owner r.owner ≡ true → is_at o s ≡ is_at o r
   at_one o s r g = ap (λ (k : DomainName). names_equal k (folded o)) (same-is s.owner r.owner g)
 
-  pub others_owners : (n : DomainName) (rs : List ResourceRecord) → HasOwners z rs → HasOwners z (filter (λ r. not (is_at n r)) rs)
-  others_owners n rs = kept_owners (λ r. not (is_at n r)) rs (λ s r g t. ap not (at_one n s r g) ∙ t)
+  pub others_owners : (n : DomainName) (rs : List ResourceRecord)
+      → HasOwners z rs → HasOwners z (filter (λ r. not (is_at n r)) rs)
+  others_owners n rs =
+      kept_owners (λ r. not (is_at n r)) rs (λ s r g t. ap not (at_one n s r g) ∙ t)
 
   -- the owner of the first record
   module _ (r : ResourceRecord) (rs : List ResourceRecord) (h : HasOwners z (r ∷ rs)) where
-    pub first_is_owner : folded r.owner ≡ r.owner → IsOwner z r.owner (filter (is_at r.owner) (r ∷ rs))
+    pub first_is_owner : folded r.owner ≡ r.owner
+        → IsOwner z r.owner (filter (is_at r.owner) (r ∷ rs))
     first_is_owner low = record {
       lower = low;
       own_is = All-head (IsAll (r ∷ rs)) r rs h.all;
@@ -76,32 +79,41 @@ module _ (z : ZoneContents) where
     first_parted = search (arith, at_in_front, owners_in_order, itself-under, itself)
 
 -- the owners are that of the first record, and those of the records at other names
-without_first : (p : ResourceRecord → Bool) (r : ResourceRecord) (rs : List ResourceRecord) → p r ≡ true → filter (λ s. not (p s)) (r ∷ rs) ≡ filter (λ s. not (p s)) rs
-without_first p r rs e = ap (λ t. cond (not t) (r ∷ filter (λ s. not (p s)) rs) (filter (λ s. not (p s)) rs)) e
+without_first : (p : ResourceRecord → Bool) (r : ResourceRecord) (rs : List ResourceRecord)
+    → p r ≡ true → filter (λ s. not (p s)) (r ∷ rs) ≡ filter (λ s. not (p s)) rs
+without_first p r rs e = grind (arith, filter)
 
-pub once_others : (r : ResourceRecord) (rs : List ResourceRecord) → Pairs OwnerNotAfter (r ∷ rs)
-    → owners_once (r ∷ rs) ≡ folded r.owner ∷ owners_once (filter (λ s. not (is_at r.owner s)) (r ∷ rs))
-once_others r [] h = ap (λ ss. folded r.owner ∷ owners_once ss) (sym (without_first (is_at r.owner) r [] (same-from r.owner r.owner refl)))
+pub once_others : (r : ResourceRecord) (rs : List ResourceRecord)
+    → Pairs OwnerNotAfter (r ∷ rs) → owners_once
+    (r ∷ rs) ≡ folded r.owner ∷ owners_once (filter (λ s. not (is_at r.owner s)) (r ∷ rs))
+once_others r [] h = grind (arith, folded, owners_once, without_first, is_at, same-from)
 once_others r (q ∷ rs) h = go (begins_with_owner r.owner (q ∷ rs)) refl (once_others q rs h.1)
   where
-    rest : filter (λ s. not (is_at r.owner s)) (r ∷ q ∷ rs) ≡ filter (λ s. not (is_at r.owner s)) (q ∷ rs)
+    rest : filter
+        (λ s. not (is_at r.owner s)) (r ∷ q ∷ rs) ≡ filter (λ s. not (is_at r.owner s)) (q ∷ rs)
     rest = without_first (is_at r.owner) r (q ∷ rs) (same-from r.owner r.owner refl)
 
-    go : (b : Bool) → same q.owner r.owner ≡ b → owners_once (q ∷ rs) ≡ folded q.owner ∷ owners_once (filter (λ s. not (is_at q.owner s)) (q ∷ rs))
-        → (cond b [] (folded r.owner ∷ [])) ++ owners_once (q ∷ rs) ≡ folded r.owner ∷ owners_once (filter (λ s. not (is_at r.owner s)) (r ∷ q ∷ rs))
+    go : (b : Bool) → same q.owner r.owner ≡ b → owners_once
+        (q ∷ rs) ≡ folded q.owner ∷ owners_once (filter (λ s. not (is_at q.owner s)) (q ∷ rs))
+        → (cond b [] (folded r.owner ∷ [])) ++ owners_once
+        (q ∷ rs) ≡ folded r.owner ∷ owners_once (filter (λ s. not (is_at r.owner s)) (r ∷ q ∷ rs))
     go true e f =
-        f ∙ ap (λ (k : DomainName). k ∷ owners_once (filter (λ (s : ResourceRecord). not (names_equal (folded s.owner) k)) (q ∷ rs))) (same-is q.owner r.owner e)
-        ∙ ap (λ ss. folded r.owner ∷ owners_once ss) (sym rest)
+        f ∙ ap (λ (k : DomainName). k ∷ owners_once
+        (filter (λ (s : ResourceRecord). not (names_equal (folded s.owner) k)) (q ∷ rs)))
+        (same-is q.owner r.owner e) ∙ ap (λ ss. folded r.owner ∷ owners_once ss) (sym rest)
     go false e f =
         ap (λ ss. folded r.owner ∷ owners_once ss)
         (sym (rest ∙ filter_all (λ s. not (is_at r.owner s)) (q ∷ rs)
-        (each_weaker (λ s. name_order (folded r.owner) (folded s.owner) ≡ Less) (λ s. not (is_at r.owner s) ≡ true) (q ∷ rs) other (greater_after r (q ∷ rs) h e))))
+        (each_weaker (λ s. name_order (folded r.owner) (folded s.owner) ≡ Less)
+        (λ s. not (is_at r.owner s) ≡ true) (q ∷ rs) other (greater_after r (q ∷ rs) h e))))
       where
-        other : (s : ResourceRecord) → name_order (folded r.owner) (folded s.owner) ≡ Less → not (is_at r.owner s) ≡ true
+        other : (s : ResourceRecord)
+            → name_order (folded r.owner) (folded s.owner) ≡ Less → not (is_at r.owner s) ≡ true
         other s l = grind (arith, false_from_ne_true, false≢true, same-tied, same-from, same-is)
 
 -- one owner is reported, and the walk goes on after it
-pub record Step (z : ZoneContents) (n : DomainName) (rs own others : List ResourceRecord) : Type 0 where
+pub record Step
+    (z : ZoneContents) (n : DomainName) (rs own others : List ResourceRecord) : Type 0 where
   pub is_owner : IsOwner z n own
   pub has_owners : HasOwners z others
   pub names : owners_once rs ≡ n ∷ owners_once others
@@ -114,25 +126,32 @@ pub record IsTaken (n : DomainName) (k : ℕ) (rs own others : List ResourceReco
   pub own_is : own ≡ take k rs
   pub others_are : others ≡ drop k rs
 
-step_first : (z : ZoneContents) (r : ResourceRecord) (rs own others : List ResourceRecord) (k : ℕ) → folded r.owner ≡ r.owner
-    → HasOwners z (r ∷ rs) → IsTaken r.owner k (r ∷ rs) own others → Step z r.owner (r ∷ rs) own others
+step_first : (z : ZoneContents) (r : ResourceRecord) (rs own others : List ResourceRecord) (k : ℕ)
+    → folded r.owner ≡ r.owner → HasOwners z (r ∷ rs)
+    → IsTaken r.owner k (r ∷ rs) own others → Step z r.owner (r ∷ rs) own others
 step_first z r rs own others k low h t =
     let parts = front (is_at r.owner) (r ∷ rs) (first_parted z r rs h) in
-    let own_is : own ≡ filter (is_at r.owner) (r ∷ rs) = t.own_is ∙ ap (λ i. take i (r ∷ rs)) t.count ∙ parts.0 in
-    let others_are : others ≡ filter (λ s. not (is_at r.owner s)) (r ∷ rs) = t.others_are ∙ ap (λ i. drop i (r ∷ rs)) t.count ∙ parts.1 in
-    let after : others ≡ filter (λ s. not (is_at r.owner s)) rs = others_are ∙ without_first (is_at r.owner) r rs (same-from r.owner r.owner refl) in
+    let own_is : own ≡ filter (is_at r.owner) (r ∷ rs) =
+    t.own_is ∙ ap (λ i. take i (r ∷ rs)) t.count ∙ parts.0 in
+    let others_are : others ≡ filter (λ s. not (is_at r.owner s)) (r ∷ rs) =
+    t.others_are ∙ ap (λ i. drop i (r ∷ rs)) t.count ∙ parts.1 in
+    let after : others ≡ filter (λ s. not (is_at r.owner s)) rs =
+    others_are ∙ without_first (is_at r.owner) r rs (same-from r.owner r.owner refl) in
     let count : length others ≡ length (filter (λ s. not (is_at r.owner s)) rs) = ap length after in
     let both = length-filter_both (is_at r.owner) (λ s. not (is_at r.owner s)) (λ s. refl) rs in
     record {
       is_owner = subst (IsOwner z r.owner) (sym own_is) (first_is_owner z r rs h low);
       has_owners = subst (HasOwners z) (sym others_are) (others_owners z r.owner (r ∷ rs) h);
-      names = once_others r rs (owners_in_order (r ∷ rs) h.ordered) ∙ ap₂ (λ (n : DomainName) ss. n ∷ owners_once ss) low (sym others_are);
+      names = once_others r rs (owners_in_order (r ∷ rs) h.ordered)
+          ∙ ap₂ (λ (n : DomainName) ss. n ∷ owners_once ss) low (sym others_are);
       fewer = omega arith;
       first = grind arith;
     }
 
-pub step : (z : ZoneContents) (n : DomainName) (r : ResourceRecord) (rs ss own others : List ResourceRecord) (k : ℕ) → n ≡ r.owner → folded n ≡ n
+pub step : (z : ZoneContents) (n : DomainName) (r : ResourceRecord)
+    (rs ss own others : List ResourceRecord) (k : ℕ) → n ≡ r.owner → folded n ≡ n
     → ss ≡ r ∷ rs → HasOwners z ss → IsTaken n k ss own others → Step z n ss own others
 step z n r rs ss own others k f low e =
     subst (λ ts. HasOwners z ts → IsTaken n k ts own others → Step z n ts own others) (sym e)
-    (subst (λ m. folded m ≡ m → HasOwners z (r ∷ rs) → IsTaken m k (r ∷ rs) own others → Step z m (r ∷ rs) own others) (sym f) (step_first z r rs own others k) low)
+    (subst (λ m. folded m ≡ m → HasOwners z (r ∷ rs) → IsTaken m k (r ∷ rs) own others
+    → Step z m (r ∷ rs) own others) (sym f) (step_first z r rs own others k) low)

@@ -1,9 +1,5 @@
 -- The names that faults are reported of: the origin, and each owner once.
-use Rattle.dns_spec.proofs.Common.{◌≡◌, ℕ, suc, Bool, true, false, cond, ◌⊎◌, inl, inr, List, [], ◌∷◌, ◌++◌, map, refl, sym, ap₂, ◌==◌, ◌&&◌, filter, is_gt, Less, arith, false≢true, true≢false, and_parts, eqb-true, if◌then◌else◌, DomainName, folded, same, name_order, ResourceRecord, ZoneContents, distinct, Check, checks, checked_names}
-use Rattle.dns_spec.proofs.ZoneChecks.FaultOrder.{folded_folded, name_tie, name_order_total, one_lower, Lower}
-use Rattle.std.proofs.lemmas.Cmp.{tied_back, alike_right}
-use Rattle.dns_spec.proofs.Records.SortedOnce.{Each, Among, Rises, each_weaker, sort_rises, apart_distinct, distinct_among, sort_among, among_sort, among_distinct, same_risen}
-use Rattle.dns_zone.specs.ReportedForm.{failed_from, begins_with_owner, owners_once, reported_at}
+use Rattle.dns_zone.proofs.Common.{◌≡◌, ℕ, suc, Bool, true, false, cond, ◌⊎◌, inl, inr, List, [], ◌∷◌, ◌++◌, map, refl, sym, ap₂, ◌==◌, ◌&&◌, filter, is_gt, Less, arith, false≢true, true≢false, and_parts, eqb-true, if◌then◌else◌, DomainName, folded, same, name_order, ResourceRecord, ZoneContents, distinct, Check, checks, checked_names, folded_folded, name_tie, name_order_total, one_lower, Lower, tied_back, alike_right, Each, Among, Rises, each_weaker, sort_rises, apart_distinct, distinct_among, sort_among, among_sort, among_distinct, same_risen, failed_from, begins_with_owner, owners_once, reported_at}
 use Rattle.dns_zone.proofs.Pairs.{Pairs}
 use Rattle.dns_zone.proofs.NameOrder.{same-is, same-from, same-tied}
 use Rattle.dns_zone.proofs.AtName.{OwnerNotAfter}
@@ -13,65 +9,83 @@ abbrev rise_by_one : ℕ → List (ℕ × Check) → Bool
 rise_by_one k [] = true
 rise_by_one k (c ∷ cs) = c.0 == k && rise_by_one (suc k) cs
 
-failed_in_order : (z : ZoneContents) (n : DomainName) (k : ℕ) (cs : List (ℕ × Check)) → rise_by_one k cs ≡ true
-    → failed_from n k (map (λ (c : ℕ × Check). c.1 z n) cs) ≡ map (λ (c : ℕ × Check). record { owner = n; code = c.0 }) (filter (λ (c : ℕ × Check). c.1 z n) cs)
+failed_in_order : (z : ZoneContents) (n : DomainName) (k : ℕ) (cs : List (ℕ × Check))
+    → rise_by_one k cs ≡ true → failed_from n k (map (λ (c : ℕ × Check). c.1 z n) cs) ≡ map
+    (λ (c : ℕ × Check). record { owner = n; code = c.0 }) (filter (λ (c : ℕ × Check). c.1 z n) cs)
 failed_in_order z n k [] h = refl
 failed_in_order z n k (c ∷ cs) h =
     let both = and_parts (c.0 == k) (rise_by_one (suc k) cs) h in
     go (eqb-true c.0 k both.0) (c.1 z n) (failed_in_order z n (suc k) cs both.1)
   where
-    go : c.0 ≡ k → (b : Bool) → failed_from n (suc k) (map (λ (d : ℕ × Check). d.1 z n) cs) ≡ map (λ (d : ℕ × Check). record { owner = n; code = d.0 }) (filter (λ (d : ℕ × Check). d.1 z n) cs)
-        → (if b then record { owner = n; code = k } ∷ [] else []) ++ failed_from n (suc k) (map (λ (d : ℕ × Check). d.1 z n) cs)
-        ≡ map (λ (d : ℕ × Check). record { owner = n; code = d.0 }) (cond b (c ∷ filter (λ (d : ℕ × Check). d.1 z n) cs) (filter (λ (d : ℕ × Check). d.1 z n) cs))
+    go : c.0 ≡ k → (b : Bool) → failed_from n (suc k) (map (λ (d : ℕ × Check). d.1 z n) cs) ≡ map (λ
+        (d : ℕ × Check). record { owner = n; code = d.0 }) (filter (λ (d : ℕ × Check). d.1 z n) cs)
+        → (if b then record { owner = n; code = k } ∷ [] else [])
+        ++ failed_from n (suc k) (map (λ (d : ℕ × Check). d.1 z n) cs)
+        ≡ map (λ (d : ℕ × Check). record { owner = n; code = d.0 }) (cond b
+        (c ∷ filter (λ (d : ℕ × Check). d.1 z n) cs) (filter (λ (d : ℕ × Check). d.1 z n) cs))
     go f true e = ap₂ (λ (i : ℕ) fs. record { owner = n; code = i } ∷ fs) (sym f) e
     go f false e = e
 
-pub failed_reported : (z : ZoneContents) (n : DomainName) → failed_from n 1 (map (λ (c : ℕ × Check). c.1 z n) checks) ≡ reported_at z n
+pub failed_reported : (z : ZoneContents) (n : DomainName)
+    → failed_from n 1 (map (λ (c : ℕ × Check). c.1 z n) checks) ≡ reported_at z n
 unfolding reported_at
 failed_reported z n = failed_in_order z n 1 checks refl
 
-each_once : (P : DomainName → Type 0) (rs : List ResourceRecord) → Each (λ r. P (folded r.owner)) rs → Each P (owners_once rs)
+each_once : (P : DomainName → Type 0) (rs : List ResourceRecord)
+    → Each (λ r. P (folded r.owner)) rs → Each P (owners_once rs)
 each_once P [] e = tt
 each_once P (r ∷ rs) e = grind (arith, (each_once P rs e.1))
 
 lower_order : (n m : DomainName) → name_order (folded n) (folded m) ≡ name_order n m
 lower_order n m = grind (arith, same-tied, same-from, folded_folded, alike_right, name_order_total)
 
-less_then : (n m k : DomainName) → name_order n m ≡ Less → is_gt (name_order m k) ≡ false → name_order n k ≡ Less
+less_then : (n m k : DomainName)
+    → name_order n m ≡ Less → is_gt (name_order m k) ≡ false → name_order n k ≡ Less
 less_then n m k e h = grind (arith, alike_right, name_order_total, true≢false)
 
-less_other : (n m : DomainName) → is_gt (name_order n m) ≡ false → same m n ≡ false → name_order n m ≡ Less
+less_other : (n m : DomainName)
+    → is_gt (name_order n m) ≡ false → same m n ≡ false → name_order n m ≡ Less
 less_other n m h s = grind (arith, false≢true, name_tie, tied_back, name_order_total, true≢false)
 
 -- after an owner that is not that of the next record, all owners are greater
-pub greater_after : (r : ResourceRecord) (rs : List ResourceRecord) → Pairs OwnerNotAfter (r ∷ rs) → begins_with_owner r.owner rs ≡ false → Each (λ s. name_order (folded r.owner) (folded s.owner) ≡ Less) rs
+pub greater_after : (r : ResourceRecord) (rs : List ResourceRecord)
+    → Pairs OwnerNotAfter (r ∷ rs) → begins_with_owner r.owner rs ≡ false
+    → Each (λ s. name_order (folded r.owner) (folded s.owner) ≡ Less) rs
 greater_after r [] h e = tt
 greater_after r (q ∷ rs) h e = grind (arith, less_other, lower_order, each_weaker, less_then)
 
-pub once_rise : (rs : List ResourceRecord) → Pairs OwnerNotAfter rs → Rises name_order (owners_once rs)
+pub once_rise : (rs : List ResourceRecord)
+    → Pairs OwnerNotAfter rs → Rises name_order (owners_once rs)
 once_rise [] h = tt
 once_rise (r ∷ rs) h = go (begins_with_owner r.owner rs) refl (once_rise rs h.1)
   where
-    go : (b : Bool) → begins_with_owner r.owner rs ≡ b → Rises name_order (owners_once rs) → Rises name_order ((if b then [] else folded r.owner ∷ []) ++ owners_once rs)
+    go : (b : Bool) → begins_with_owner r.owner rs ≡ b → Rises name_order (owners_once rs)
+        → Rises name_order ((if b then [] else folded r.owner ∷ []) ++ owners_once rs)
     go true e f = f
-    go false e f = (each_once (λ n. name_order (folded r.owner) n ≡ Less) rs (greater_after r rs h e), f)
+    go false e f =
+        (each_once (λ n. name_order (folded r.owner) n ≡ Less) rs (greater_after r rs h e), f)
 
 -- which names there are
 abbrev pub owners : List ResourceRecord → List DomainName
 owners rs = map (λ (r : ResourceRecord). folded r.owner) rs
 
-once_among : (a : DomainName) (rs : List ResourceRecord) → Among a (owners_once rs) → Among a (owners rs)
+once_among : (a : DomainName) (rs : List ResourceRecord)
+    → Among a (owners_once rs) → Among a (owners rs)
 once_among a [] m = m
 once_among a (r ∷ rs) m = grind (arith, (once_among a rs))
 
-next_among : (a : DomainName) (r : ResourceRecord) (rs : List ResourceRecord) → begins_with_owner r.owner rs ≡ true → a ≡ folded r.owner → Among a (owners rs)
+next_among : (a : DomainName) (r : ResourceRecord) (rs : List ResourceRecord)
+    → begins_with_owner r.owner rs ≡ true → a ≡ folded r.owner → Among a (owners rs)
 next_among a r rs h h1 = grind (arith, false≢true, same-is)
 
-pub among_once : (a : DomainName) (rs : List ResourceRecord) → Among a (owners rs) → Among a (owners_once rs)
+pub among_once : (a : DomainName) (rs : List ResourceRecord)
+    → Among a (owners rs) → Among a (owners_once rs)
 among_once a [] m = m
 among_once a (r ∷ rs) m = go (begins_with_owner r.owner rs) refl m (among_once a rs)
   where
-    go : (b : Bool) → begins_with_owner r.owner rs ≡ b → (a ≡ folded r.owner) ⊎ Among a (owners rs) → (Among a (owners rs) → Among a (owners_once rs)) → Among a ((if b then [] else folded r.owner ∷ []) ++ owners_once rs)
+    go : (b : Bool) → begins_with_owner r.owner rs ≡ b → (a ≡ folded r.owner) ⊎ Among a (owners rs)
+        → (Among a (owners rs) → Among a (owners_once rs))
+        → Among a ((if b then [] else folded r.owner ∷ []) ++ owners_once rs)
     go true h (inl e) f = f (next_among a r rs h e)
     go true h (inr k) f = f k
     go false h (inl e) f = inl e
@@ -116,9 +130,8 @@ module _ (z : ZoneContents) where
       go (inr k) = inr (once_among a z.records k)
 
   -- names that rise, and are the origin and all owners, are those
-  pub names_checked : (ns : List DomainName) → Rises name_order ns
-      → ((a : DomainName) → Among a ns → IsName a) → ((a : DomainName) → IsName a → Among a ns)
-      → ns ≡ checked_names z
+  pub names_checked : (ns : List DomainName) → Rises name_order ns → ((a : DomainName)
+      → Among a ns → IsName a) → ((a : DomainName) → IsName a → Among a ns) → ns ≡ checked_names z
   names_checked ns rise f g =
       same_risen name_order name_order_total same name_tie Lower one_lower ns (checked_names z)
       rise checked_rise (λ a m. among_checked a (f a m)) (λ a m. g a (checked_among a m))

@@ -1,10 +1,5 @@
 -- Records moved to the front, each of which comes before the next.
-use Rattle.std.proofs.Common.{◌≡◌, ℕ, zero, suc, ◌+◌, ◌<◌, ◌≤◌, ◌⊎◌, inl, inr, List, [], ◌∷◌, length, take, get_or, sym, ap, ap₂, ◌∙◌, arith, All, IsPermutation, is_eq, Less, Equal, Greater, true, ◌-◌, subst}
-use Rattle.dns_spec.proofs.Common.{drop, length-take, get_or-take, take-append-drop, get_or_default, cases_lt, true≢false, IsPermutation-sym, ResourceRecord, records_equal, distinct, sort_by, record_order}
-use Rattle.std.specs.List.{SwappedAt}
-use Rattle.std.specs.List.Sorted.{IsSorted}
-use Rattle.dns_spec.proofs.Records.RecordOrder.{LowerOwner, record_order_total, record_ties, one_record, rises_canonical, each_all, among_permutation, among_contains}
-use Rattle.dns_spec.proofs.Records.SortedOnce.{Among, Rises, each_weaker, among_sort, sort_among, among_distinct, distinct_among, same_risen}
+use Rattle.dns_zone.proofs.Common.{◌≡◌, ℕ, zero, suc, ◌+◌, ◌<◌, ◌≤◌, ◌⊎◌, inl, inr, List, [], ◌∷◌, length, take, get_or, sym, ap, ap₂, ◌∙◌, arith, All, IsPermutation, is_eq, Less, Equal, Greater, true, ◌-◌, subst, drop, length-take, get_or-take, take-append-drop, get_or_default, cases_lt, true≢false, IsPermutation-sym, ResourceRecord, records_equal, distinct, sort_by, record_order, SwappedAt, IsSorted, LowerOwner, record_order_total, record_ties, one_record, rises_canonical, each_all, among_permutation, among_contains, Among, Rises, each_weaker, among_sort, sort_among, among_distinct, distinct_among, same_risen}
 use Rattle.dns_zone.proofs.Spans.{among_left, among_get}
 
 -- Of the records rs those before place `at` are among the first of xs, up to place `last`, each of
@@ -49,7 +44,8 @@ module _ (rs xs : List ResourceRecord) (last at : ℕ) (h : IsOnce rs xs last at
             last,
             omega arith,
             sym (h.rest i d m) ∙ ap (λ x. get_or xs x d) same
-                ∙ get_or_default xs at d s l ∙ sym f ∙ sym g ∙ e ∙ get_or_default xs last r d inside,
+                ∙ get_or_default xs at d s l
+                ∙ sym f ∙ sym g ∙ e ∙ get_or_default xs last r d inside,
           )
 
   -- it comes after them, and is moved to their end
@@ -96,9 +92,8 @@ module _ (rs xs : List ResourceRecord) (last at : ℕ) (h : IsOnce rs xs last at
   once_sorted r s e f greater l sorted =
       search (arith, true≢false, get_or_default, record_order_total)
 
-rises_front : (xs : List ResourceRecord) (k : ℕ)
-    → ((i : ℕ) (d : ResourceRecord) → i < k
-    → record_order (get_or xs i d) (get_or xs (suc i) d) ≡ Less)
+rises_front : (xs : List ResourceRecord) (k : ℕ) → ((i : ℕ) (d : ResourceRecord)
+    → i < k → record_order (get_or xs i d) (get_or xs (suc i) d) ≡ Less)
     → Rises record_order (take (suc k) xs)
 rises_front [] k h = tt
 rises_front (x ∷ xs) zero h = (tt, tt)
@@ -118,7 +113,8 @@ among_front : (a : ResourceRecord) (xs : List ResourceRecord) (i k : ℕ) → i 
     → Among (get_or xs i a) (take (suc k) xs)
 among_front a xs i k l m = grind (arith, length-take, get_or-take, among_get)
 
-front_among : (a : ResourceRecord) (xs : List ResourceRecord) (k : ℕ) → Among a (take k xs) → Among a xs
+front_among : (a : ResourceRecord) (xs : List ResourceRecord) (k : ℕ)
+    → Among a (take k xs) → Among a xs
 front_among a xs k m =
     subst (Among a) (take-append-drop k xs) (among_left a (take k xs) (drop k xs) m)
 
@@ -140,7 +136,8 @@ once_canonical all rs xs last at low given moved h l =
     (among_permutation a rs all (IsPermutation-sym all rs given)
     (among_permutation a xs rs (IsPermutation-sym rs xs moved) (front_among a xs (suc last) m)))))
     (λ a m. there a (among_permutation a all rs given
-    (distinct_among records_equal a all (sort_among record_order a (distinct records_equal all) m))))
+    (distinct_among records_equal a all
+    (sort_among record_order a (distinct records_equal all) m))))
   where
     there : (a : ResourceRecord) → Among a rs → Among a (take (suc last) xs)
     there a m =

@@ -1,20 +1,19 @@
 -- What the neighbours among records that stand by their types tell of the RRsets of an owner.
-use Rattle.dns_spec.proofs.Common.{◌≡◌, ℕ, zero, suc, ◌+◌, ◌<◌, ◌≤◌, Bool, true, false, ◌&&◌, ◌||◌, not, cond, nat_lt, eqb, ◌==◌, List, [], ◌∷◌, map, length, drop, refl, sym, ap, ap₂, ◌∙◌, arith, filter, add-one, drop-drop, drop_all, ltb-false, eqb-true, ne_eqb, eqb-false, eq-eqb, cases_lt, lt-ltb, le-ltb, or_right, or_parts, list_any, ResourceRecord, distinct}
+use Rattle.dns_zone.proofs.Common.{◌≡◌, ℕ, zero, suc, ◌+◌, ◌<◌, ◌≤◌, Bool, true, false, ◌&&◌, ◌||◌, not, cond, nat_lt, eqb, ◌==◌, List, [], ◌∷◌, map, length, drop, refl, sym, ap, ap₂, ◌∙◌, arith, filter, add-one, drop-drop, drop_all, ltb-false, eqb-true, ne_eqb, eqb-false, eq-eqb, cases_lt, lt-ltb, le-ltb, or_right, or_parts, list_any, ResourceRecord, distinct, zip, begins_with_type, sets_ended, Each, each_weaker, each_distinct}
 use Rattle.dns_zone.proofs.Spans.{filter_again}
-use Rattle.std.specs.List.{zip}
-use Rattle.dns_zone.specs.SetWalks.{begins_with_type, sets_ended}
-use Rattle.dns_spec.proofs.Records.SortedOnce.{Each, each_weaker, each_distinct}
 use Rattle.dns_zone.proofs.Pairs.{Pairs, filter_all}
 
 abbrev TypeUpTo : ResourceRecord → ResourceRecord → Type 0
 TypeUpTo r s = r.rtype ≤ s.rtype
 
 -- tests of one list that agree, and of two in turn
-any_alike : {X : Type 0} (p q : X → Bool) (xs : List X) → ((x : X) → p x ≡ q x) → list_any p xs ≡ list_any q xs
+any_alike : {X : Type 0} (p q : X → Bool) (xs : List X)
+    → ((x : X) → p x ≡ q x) → list_any p xs ≡ list_any q xs
 any_alike p q [] f = refl
 any_alike p q (x ∷ xs) f = ap₂ ◌||◌ (f x) (any_alike p q xs f)
 
-any_either : {X : Type 0} (p q : X → Bool) (xs : List X) → list_any (λ x. p x || q x) xs ≡ (list_any p xs || list_any q xs)
+any_either : {X : Type 0} (p q : X → Bool) (xs : List X)
+    → list_any (λ x. p x || q x) xs ≡ (list_any p xs || list_any q xs)
 any_either p q [] = refl
 any_either p q (x ∷ xs) = grind (arith, (any_either p q xs))
 
@@ -40,7 +39,8 @@ neighbours_differ [] = false
 neighbours_differ (r ∷ rs) = next_differs r rs || neighbours_differ rs
 
 -- where neighbours do not differ, none does
-none_differs : (r s : ResourceRecord) (rs : List ResourceRecord) → TypeUpTo r s → Pairs TypeUpTo (s ∷ rs) → neighbours_differ (s ∷ rs) ≡ false → differ r s ≡ false → list_any (differ r) rs ≡ false
+none_differs : (r s : ResourceRecord) (rs : List ResourceRecord) → TypeUpTo r s → Pairs TypeUpTo (s
+    ∷ rs) → neighbours_differ (s ∷ rs) ≡ false → differ r s ≡ false → list_any (differ r) rs ≡ false
 none_differs r s [] l h n d = refl
 none_differs r s (q ∷ rs) l h n d =
     let parts = or_parts (differ s q) (neighbours_differ (q ∷ rs)) n in
@@ -48,29 +48,34 @@ none_differs r s (q ∷ rs) l h n d =
     let here : differ r q ≡ false = grind arith in
     ap₂ ◌||◌ here (none_differs r q rs (omega arith) h.1 parts.1 here)
 
-first_differs : (r : ResourceRecord) (rs : List ResourceRecord) → Pairs TypeUpTo (r ∷ rs) → neighbours_differ rs ≡ false → list_any (differ r) rs ≡ next_differs r rs
+first_differs : (r : ResourceRecord) (rs : List ResourceRecord) → Pairs TypeUpTo (r ∷ rs)
+    → neighbours_differ rs ≡ false → list_any (differ r) rs ≡ next_differs r rs
 first_differs r rs h h1 = grind (arith, none_differs)
 
-ttls-walk : (rs : List ResourceRecord) → Pairs TypeUpTo rs → list_any (λ r. list_any (differ r) rs) rs ≡ neighbours_differ rs
+ttls-walk : (rs : List ResourceRecord)
+    → Pairs TypeUpTo rs → list_any (λ r. list_any (differ r) rs) rs ≡ neighbours_differ rs
 ttls-walk [] h = refl
 ttls-walk (r ∷ rs) h =
     ap₂ ◌||◌ (ap (λ b. b || list_any (differ r) rs) (differ_itself r))
-    (any_either (λ s. differ s r) (λ s. list_any (differ s) rs) rs ∙ ap₂ ◌||◌ (any_alike (λ s. differ s r) (differ r) rs (λ s. differ_turned s r)) (ttls-walk rs h.1))
+    (any_either (λ s. differ s r) (λ s. list_any (differ s) rs) rs ∙ ap₂ ◌||◌
+    (any_alike (λ s. differ s r) (differ r) rs (λ s. differ_turned s r)) (ttls-walk rs h.1))
     ∙ go (list_any (differ r) rs) (neighbours_differ rs) refl refl
   where
-    go : (a b : Bool) → list_any (differ r) rs ≡ a → neighbours_differ rs ≡ b → (a || (a || b)) ≡ (next_differs r rs || b)
+    go : (a b : Bool) → list_any (differ r) rs ≡ a
+        → neighbours_differ rs ≡ b → (a || (a || b)) ≡ (next_differs r rs || b)
     go true true e f = sym (or_right (next_differs r rs) true refl)
     go false true e f = sym (or_right (next_differs r rs) true refl)
     go true false e f = sym (ap (λ b. b || false) (sym (first_differs r rs h f) ∙ e))
     go false false e f = sym (ap (λ b. b || false) (sym (first_differs r rs h f) ∙ e))
 
-in_pairs : (rs : List ResourceRecord) → list_any (λ p. differ p.0 p.1) (zip rs (drop 1 rs)) ≡ neighbours_differ rs
+in_pairs : (rs : List ResourceRecord)
+    → list_any (λ p. differ p.0 p.1) (zip rs (drop 1 rs)) ≡ neighbours_differ rs
 in_pairs [] = refl
 in_pairs (r ∷ []) = refl
 in_pairs (r ∷ s ∷ rs) = ap (λ b. differ r s || b) (in_pairs (s ∷ rs))
 
-pub ttls-in_pairs : (rs : List ResourceRecord) → Pairs TypeUpTo rs
-    → list_any (λ p. differ p.0 p.1) (zip rs (drop 1 rs)) ≡ list_any (λ r. list_any (differ r) rs) rs
+pub ttls-in_pairs : (rs : List ResourceRecord) → Pairs TypeUpTo rs → list_any
+    (λ p. differ p.0 p.1) (zip rs (drop 1 rs)) ≡ list_any (λ r. list_any (differ r) rs) rs
 ttls-in_pairs rs h = in_pairs rs ∙ sym (ttls-walk rs h)
 
 -- sizes
@@ -88,11 +93,13 @@ is_large k rs r = nat_lt (suc k) (length (of_number r.rtype rs))
 lt_suc : (a b : ℕ) → nat_lt (suc a) (suc b) ≡ nat_lt a b
 lt_suc a b = grind (arith, cases_lt, lt-ltb, le-ltb)
 
-no_more : (t : ℕ) (rs : List ResourceRecord) → Each (λ (s : ResourceRecord). t < s.rtype) rs → of_number t rs ≡ []
+no_more : (t : ℕ) (rs : List ResourceRecord)
+    → Each (λ (s : ResourceRecord). t < s.rtype) rs → of_number t rs ≡ []
 no_more t [] e = refl
 no_more t (s ∷ rs) e = grind (arith, ne_eqb, (no_more t rs e.1))
 
-none_after : (t k : ℕ) (rs : List ResourceRecord) → Each (λ (s : ResourceRecord). t < s.rtype) rs → begins_with_type t (drop k rs) ≡ false
+none_after : (t k : ℕ) (rs : List ResourceRecord)
+    → Each (λ (s : ResourceRecord). t < s.rtype) rs → begins_with_type t (drop k rs) ≡ false
 none_after t zero [] e = refl
 none_after t zero (s ∷ rs) e = let first = e.0 in ne_eqb s.rtype t (λ h. absurd (omega arith))
 none_after t (suc k) [] e = refl
@@ -101,25 +108,30 @@ none_after t (suc k) (s ∷ rs) e = none_after t k rs e.1
 other_than : (a b : ℕ) → a ≤ b → (b ≡ a → ⊥) → a < b
 other_than a b l n = grind (arith, cases_lt)
 
-above_all : (t : ℕ) (s : ResourceRecord) (rs : List ResourceRecord) → t < s.rtype → Each (TypeUpTo s) rs → Each (λ (q : ResourceRecord). t < q.rtype) rs
-above_all t s rs l e = each_weaker (TypeUpTo s) (λ (q : ResourceRecord). t < q.rtype) rs (λ q h. omega arith) e
+above_all : (t : ℕ) (s : ResourceRecord) (rs : List ResourceRecord)
+    → t < s.rtype → Each (TypeUpTo s) rs → Each (λ (q : ResourceRecord). t < q.rtype) rs
+above_all t s rs l e = grind (arith, each_weaker, TypeUpTo)
 
 -- more than k of them are of the least type exactly where the one k after the first is
-run_after : (t k : ℕ) (rs : List ResourceRecord) → Each (λ (s : ResourceRecord). t ≤ s.rtype) rs → Pairs TypeUpTo rs
-    → nat_lt k (length (of_number t rs)) ≡ begins_with_type t (drop k rs)
+run_after : (t k : ℕ) (rs : List ResourceRecord) → Each (λ (s : ResourceRecord). t ≤ s.rtype) rs
+    → Pairs TypeUpTo rs → nat_lt k (length (of_number t rs)) ≡ begins_with_type t (drop k rs)
 run_after t zero [] e h = refl
 run_after t (suc k) [] e h = le-ltb (suc k) 0 (omega arith)
 run_after t zero (s ∷ rs) e h = grind (arith, lt-ltb, other_than, eqb-false, no_more, above_all)
 run_after t (suc k) (s ∷ rs) e h = go (eqb s.rtype t) refl (run_after t k rs e.1 h.1)
   where
-    go : (b : Bool) → eqb s.rtype t ≡ b → nat_lt k (length (of_number t rs)) ≡ begins_with_type t (drop k rs) → nat_lt (suc k) (length (cond b (s ∷ of_number t rs) (of_number t rs))) ≡ begins_with_type t (drop k rs)
+    go : (b : Bool) → eqb s.rtype t ≡ b
+        → nat_lt k (length (of_number t rs)) ≡ begins_with_type t (drop k rs) → nat_lt (suc k)
+        (length (cond b (s ∷ of_number t rs) (of_number t rs))) ≡ begins_with_type t (drop k rs)
     go true f rest = lt_suc k (length (of_number t rs)) ∙ rest
     go false f rest = grind (arith, other_than, eqb-false, above_all, no_more, le-ltb, none_after)
 
-first_run : (k : ℕ) (r : ResourceRecord) (rs : List ResourceRecord) → Pairs TypeUpTo (r ∷ rs) → is_large k (r ∷ rs) r ≡ begins_with_type r.rtype (drop k rs)
+first_run : (k : ℕ) (r : ResourceRecord) (rs : List ResourceRecord)
+    → Pairs TypeUpTo (r ∷ rs) → is_large k (r ∷ rs) r ≡ begins_with_type r.rtype (drop k rs)
 first_run k r rs h = grind (arith, eq-eqb, lt_suc, run_after)
 
-large-walk : (k : ℕ) (rs : List ResourceRecord) → Pairs TypeUpTo rs → list_any (is_large k rs) rs ≡ repeats_after k rs
+large-walk : (k : ℕ) (rs : List ResourceRecord)
+    → Pairs TypeUpTo rs → list_any (is_large k rs) rs ≡ repeats_after k rs
 large-walk k [] h = refl
 large-walk k (r ∷ rs) h =
     grind (arith, eqb-true, ltb-false, le-ltb, first_run, any_alike, (large-walk k rs h.1))
@@ -134,7 +146,8 @@ no_pairs (r ∷ rs) = refl
 in_runs : (k : ℕ) (rs : List ResourceRecord)
     → list_any same_type (zip rs (drop (suc k) rs)) ≡ repeats_after k rs
 in_runs k [] = refl
-in_runs k (r ∷ rs) = go (drop k rs) (ap (λ n. drop n rs) (sym (add-one k)) ∙ sym (drop-drop 1 k rs)) (in_runs k rs)
+in_runs k (r ∷ rs) =
+    go (drop k rs) (ap (λ n. drop n rs) (sym (add-one k)) ∙ sym (drop-drop 1 k rs)) (in_runs k rs)
   where
     go : (qs : List ResourceRecord) → drop (suc k) rs ≡ drop 1 qs
         → list_any same_type (zip rs (drop (suc k) rs)) ≡ repeats_after k rs
@@ -153,7 +166,8 @@ pub large-in_runs : (k : ℕ) (rs : List ResourceRecord) → Pairs TypeUpTo rs
 large-in_runs k rs h = in_runs k rs ∙ sym (large-walk k rs h)
 
 -- how many types
-pub each_map : {X Y : Type 0} (P : Y → Type 0) (f : X → Y) (xs : List X) → Each (λ x. P (f x)) xs → Each P (map f xs)
+pub each_map : {X Y : Type 0} (P : Y → Type 0) (f : X → Y) (xs : List X)
+    → Each (λ x. P (f x)) xs → Each P (map f xs)
 each_map P f [] e = tt
 each_map P f (x ∷ xs) e = (e.0, each_map P f xs e.1)
 
@@ -166,28 +180,36 @@ types-walk (r ∷ []) h = refl
 types-walk (r ∷ s ∷ rs) h = go (eqb s.rtype r.rtype) refl (types-walk (s ∷ rs) h.1)
   where
     go : (b : Bool) → eqb s.rtype r.rtype ≡ b → number_types (s ∷ rs) ≡ sets_ended (s ∷ rs)
-        → suc (length (filter (λ t. not (eqb r.rtype t)) (distinct ◌==◌ (map (λ (r : ResourceRecord). r.rtype) (s ∷ rs))))) ≡ cond b 0 1 + sets_ended (s ∷ rs)
+        → suc (length (filter (λ t. not (eqb r.rtype t)) (distinct ◌==◌
+        (map (λ (r : ResourceRecord). r.rtype) (s ∷ rs))))) ≡ cond b 0 1 + sets_ended (s ∷ rs)
     go true e n =
         let one = eqb-true s.rtype r.rtype e in
         let itself : eqb r.rtype s.rtype ≡ true = eq-eqb _ _ (sym one) in
-        let zs = filter (λ t. not (eqb s.rtype t)) (distinct ◌==◌ (map (λ (q : ResourceRecord). q.rtype) rs)) in
+        let zs = filter
+        (λ t. not (eqb s.rtype t)) (distinct ◌==◌ (map (λ (q : ResourceRecord). q.rtype) rs)) in
         let dropped : length (filter (λ t. not (eqb r.rtype t)) (s.rtype ∷ zs)) ≡ length zs =
-        ap (λ b. length (cond (not b) (s.rtype ∷ filter (λ t. not (eqb r.rtype t)) zs) (filter (λ t. not (eqb r.rtype t)) zs))) itself
-        ∙ ap (λ (k : ℕ). length (filter (λ t. not (eqb k t)) zs)) (sym one)
-        ∙ ap length (filter_again (λ t. not (eqb s.rtype t)) (distinct ◌==◌ (map (λ (q : ResourceRecord). q.rtype) rs)))
+        ap (λ b. length (cond (not b) (s.rtype ∷ filter (λ t. not (eqb r.rtype t)) zs)
+        (filter (λ t. not (eqb r.rtype t)) zs))) itself ∙ ap
+        (λ (k : ℕ). length (filter (λ t. not (eqb k t)) zs)) (sym one) ∙ ap length (filter_again
+        (λ t. not (eqb s.rtype t)) (distinct ◌==◌ (map (λ (q : ResourceRecord). q.rtype) rs)))
         in
         omega arith
     go false e n =
         let next = h.0.0 in
-        let above : r.rtype < s.rtype = other_than r.rtype s.rtype next (eqb-false s.rtype r.rtype e) in
+        let above : r.rtype < s.rtype =
+        other_than r.rtype s.rtype next (eqb-false s.rtype r.rtype e) in
         let others : Each (λ t. r.rtype < t) (map (λ (q : ResourceRecord). q.rtype) (s ∷ rs)) =
-        each_map (λ t. r.rtype < t) (λ (q : ResourceRecord). q.rtype) (s ∷ rs) (above, above_all r.rtype s rs above h.1.0)
+        each_map (λ t. r.rtype < t)
+        (λ (q : ResourceRecord). q.rtype) (s ∷ rs) (above, above_all r.rtype s rs above h.1.0)
         in
-        let kept : filter (λ t. not (eqb r.rtype t)) (distinct ◌==◌ (map (λ (q : ResourceRecord). q.rtype) (s ∷ rs))) ≡ distinct ◌==◌ (map (λ (q : ResourceRecord). q.rtype) (s ∷ rs)) =
-        filter_all (λ t. not (eqb r.rtype t)) (distinct ◌==◌ (map (λ (q : ResourceRecord). q.rtype) (s ∷ rs)))
-        (each_weaker (λ t. r.rtype < t) (λ t. not (eqb r.rtype t) ≡ true) (distinct ◌==◌ (map (λ (q : ResourceRecord). q.rtype) (s ∷ rs)))
-        (λ t l. ap not (ne_eqb r.rtype t (λ k. absurd (omega arith))))
-        (each_distinct (λ t. r.rtype < t) ◌==◌ (map (λ (q : ResourceRecord). q.rtype) (s ∷ rs)) others))
+        let kept : filter (λ t. not (eqb r.rtype t))
+        (distinct ◌==◌ (map (λ (q : ResourceRecord). q.rtype) (s ∷ rs))) ≡ distinct ◌==◌
+        (map (λ (q : ResourceRecord). q.rtype) (s ∷ rs)) = filter_all (λ t. not (eqb r.rtype t))
+        (distinct ◌==◌ (map (λ (q : ResourceRecord). q.rtype) (s ∷ rs)))
+        (each_weaker (λ t. r.rtype < t) (λ t. not (eqb r.rtype t) ≡ true)
+        (distinct ◌==◌ (map (λ (q : ResourceRecord). q.rtype) (s ∷ rs)))
+        (λ t l. ap not (ne_eqb r.rtype t (λ k. absurd (omega arith)))) (each_distinct
+        (λ t. r.rtype < t) ◌==◌ (map (λ (q : ResourceRecord). q.rtype) (s ∷ rs)) others))
         in
         omega (arith, ap length kept)
 

@@ -1,9 +1,5 @@
 -- Parts of a list from one place up to another, and the elements that pass a test.
-use Rattle.dns_spec.proofs.Common.{◌≡◌, ℕ, zero, suc, ◌+◌, ◌-◌, ◌<◌, ◌≤◌, Bool, true, false, ◌||◌, not, ◌⊎◌, inl, inr, List, [], ◌∷◌, ◌++◌, map, length, take, drop, get_or, get_or_default, refl, sym, ap, ◌∙◌, arith, subst, filter, length-append, length-take, length-drop, false≢true, or_right, take-append-drop, take-append-le, get_or-take, get_or-drop, nil_from_length, filter-append, length-filter_both, list_any}
-use Rattle.std.proofs.Math.Seq.{drop-drop, take-add}
-use Rattle.dns_spec.proofs.Records.SortedOnce.{Each, Among, filter_each}
-use Rattle.dns_spec.proofs.Records.RecordOrder.{contains_among}
-use Rattle.dns_zone.specs.TreeForm.{span}
+use Rattle.dns_zone.proofs.Common.{◌≡◌, ℕ, zero, suc, ◌+◌, ◌-◌, ◌<◌, ◌≤◌, Bool, true, false, ◌||◌, not, ◌⊎◌, inl, inr, List, [], ◌∷◌, ◌++◌, map, length, take, drop, get_or, get_or_default, refl, sym, ap, ◌∙◌, arith, subst, filter, length-append, length-take, length-drop, false≢true, or_right, take-append-drop, take-append-le, get_or-take, get_or-drop, nil_from_length, filter-append, length-filter_both, list_any, drop-drop, take-add, Each, Among, filter_each, contains_among, span}
 use Rattle.dns_zone.proofs.Pairs.{each_get, filter_all, none_pass}
 
 pub drop_span : {X : Type 0} (a b : ℕ) (xs : List X) → a ≤ b → drop a xs ≡ span xs a b ++ drop b xs
@@ -76,9 +72,8 @@ pub some_passes : {X : Type 0} (p : X → Bool) (xs : List X) → list_any p xs 
 some_passes {X = X} p [] e = absurd (false≢true e)
 some_passes {X = X} p (x ∷ xs) e = go (p x) refl e (some_passes p xs)
   where
-    go : (t : Bool) → p x ≡ t → (t || list_any p xs) ≡ true
-        → (list_any p xs ≡ true → (y : X) × (Among y xs) × (p y ≡ true))
-        → (y : X) × (Among y (x ∷ xs)) × (p y ≡ true)
+    go : (t : Bool) → p x ≡ t → (t || list_any p xs) ≡ true → (list_any p xs ≡ true
+        → (y : X) × (Among y xs) × (p y ≡ true)) → (y : X) × (Among y (x ∷ xs)) × (p y ≡ true)
     go true q f r = (x, inl refl, q)
     go false q f r = let s = r f in (s.0, inr s.1, s.2)
 
@@ -109,7 +104,8 @@ pub among_right : {X : Type 0} (x : X) (xs ys : List X) → Among x ys → Among
 among_right x [] ys m = m
 among_right x (z ∷ xs) ys m = inr (among_right x xs ys m)
 
-pub among_get : {X : Type 0} (xs : List X) (i : ℕ) (d : X) → i < length xs → Among (get_or xs i d) xs
+pub among_get : {X : Type 0} (xs : List X) (i : ℕ) (d : X)
+    → i < length xs → Among (get_or xs i d) xs
 among_get xs i d l = contains_among _ xs (i, l, get_or_default xs i _ d l)
 
 pub map_each : {X Y : Type 0} (f : X → Y) (P : Y → Type 0) (xs : List X) → Each P (map f xs)
@@ -151,7 +147,4 @@ pub span_front : {X : Type 0} (xs ys : List X) (a b : ℕ) → b ≤ length xs
 span_front xs ys zero b h = take-append-le (b - 0) xs ys (omega arith)
 span_front [] ys (suc a) b h = grind arith
 span_front (x ∷ xs) ys (suc a) zero h = grind arith
-span_front (x ∷ xs) ys (suc a) (suc b) h =
-    let e : suc b - suc a ≡ b - a = omega arith in
-    ap (λ k. take k (drop a (xs ++ ys))) e ∙ span_front xs ys a b (omega arith)
-    ∙ ap (λ k. take k (drop a xs)) (sym e)
+span_front (x ∷ xs) ys (suc a) (suc b) h = grind (arith, (span_front xs ys a b (omega arith)))

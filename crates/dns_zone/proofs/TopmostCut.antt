@@ -1,10 +1,5 @@
 -- The topmost cut that a name is at or below, by the octets of keys.
-use Rattle.dns_spec.proofs.Common.{◌≡◌, ℕ, ◌+◌, ◌<◌, ◌≤◌, Bool, true, false, ◌&&◌, cond, ◌==◌, nat_lt, ◌⊎◌, inl, inr, [], ◌∷◌, length, take, drop, map, refl, sym, ap, ◌∙◌, subst, arith, is_gt, length-append, length-take, take-append-le, min-eq_left, take-append_seam, starts_with, DomainName, folded, same, at_or_below, below, name_order, type_ns, ZoneContents, owns, is_cut}
-use Rattle.std.proofs.lemmas.Bool.{false≢true, and_parts, and_from, and_right, or_cases, or_left, or_right, cases_lt, lt-ltb, le-ltb, ltb-true, leb-true}
-use Rattle.dns_spec.specs.Checks.{at_or_below_cut, below_cut}
-use Rattle.dns_spec.proofs.DomainNames.NameLaws.{octets_equal-decides, same_tests, at_or_below-cons}
-use Rattle.dns_zone.specs.KeyForm.{raised, ended, name_key}
-use Rattle.dns_zone.specs.NamesForm.{IsCutAbove, IsTopmost}
+use Rattle.dns_zone.proofs.Common.{◌≡◌, ℕ, ◌+◌, ◌<◌, ◌≤◌, Bool, true, false, ◌&&◌, cond, ◌==◌, nat_lt, ◌⊎◌, inl, inr, [], ◌∷◌, length, take, drop, map, refl, sym, ap, ◌∙◌, subst, arith, is_gt, length-append, length-take, take-append-le, min-eq_left, take-append_seam, starts_with, DomainName, folded, same, at_or_below, below, name_order, type_ns, ZoneContents, owns, is_cut, false≢true, and_parts, and_from, and_right, or_cases, or_left, or_right, cases_lt, lt-ltb, le-ltb, ltb-true, leb-true, at_or_below_cut, below_cut, octets_equal-decides, same_tests, at_or_below-cons, raised, ended, name_key, IsCutAbove, IsTopmost}
 use Rattle.dns_zone.proofs.KeyPrefix.{under_begins, starts_under, some}
 use Rattle.dns_zone.proofs.NameOrder.{same-is, same-from}
 use Rattle.dns_zone.proofs.NameTree.{under-is, itself-under, between}
@@ -50,8 +45,7 @@ module _ (z : ZoneContents) where
       (above_cut n c (ap (drop 1) low) d is)
     where
       go : (same (l ∷ n) c ≡ true) ⊎ (at_or_below n c ≡ true)
-          → (at_or_below n c ≡ true → at_or_below_cut z n ≡ true)
-          → at_or_below_cut z (l ∷ n) ≡ true
+          → (at_or_below n c ≡ true → at_or_below_cut z n ≡ true) → at_or_below_cut z (l ∷ n) ≡ true
       go (inl e) f =
           or_left (is_cut z (l ∷ n)) (at_or_below_cut z n)
           (ap (is_cut z) (one_name (l ∷ n) c low d e) ∙ is)
@@ -95,9 +89,8 @@ module _ (z : ZoneContents) where
           (or_cases (same (l ∷ n) cut.cut) (at_or_below n cut.cut)
           (sym (at_or_below-cons l n cut.cut) ∙ cut.above))
         where
-          go : (cut : IsCutAbove z (l ∷ n) k) → k < length (name_key (l ∷ n))
-              → (same (l ∷ n) cut.cut ≡ true) ⊎ (at_or_below n cut.cut ≡ true)
-              → at_or_below_cut z n ≡ true
+          go : (cut : IsCutAbove z (l ∷ n) k) → k < length (name_key (l ∷ n)) → (same
+              (l ∷ n) cut.cut ≡ true) ⊎ (at_or_below n cut.cut ≡ true) → at_or_below_cut z n ≡ true
           go cut s (inl e) =
               let size : length (name_key (l ∷ n)) ≡ length (name_key cut.cut) =
               ap (λ m. length (name_key m)) (one_name (l ∷ n) cut.cut low cut.lower e) in
@@ -110,9 +103,8 @@ module _ (z : ZoneContents) where
   topmost_none n short = grind (arith, some, and_parts, ltb-true, leb-true)
 
   -- a name whose one cut is itself
-  pub alone : (n : DomainName) → folded n ≡ n
-      → ((c : DomainName) → folded c ≡ c → is_cut z c ≡ true → at_or_below n c ≡ true → c ≡ n)
-      → IsTopmost z n (cond (is_cut z n) (length (name_key n)) 0)
+  pub alone : (n : DomainName) → folded n ≡ n → ((c : DomainName) → folded c ≡ c → is_cut z c ≡ true
+      → at_or_below n c ≡ true → c ≡ n) → IsTopmost z n (cond (is_cut z n) (length (name_key n)) 0)
   alone n low only = go (is_cut z n) refl
     where
       go : (b : Bool) → is_cut z n ≡ b → IsTopmost z n (cond b (length (name_key n)) 0)
@@ -170,16 +162,14 @@ module _ (z : ZoneContents) where
           least = λ c d is u. go some fits c d is u (cuts c d is u);
         }
       where
-        go : 0 < k → k ≤ length (name_key n) → (c : DomainName) → folded c ≡ c
-            → is_cut z c ≡ true → at_or_below n c ≡ true
-            → (c ≡ n) ⊎ (is_gt (name_order c o) ≡ false)
-            → (0 < k) × (k ≤ length (name_key c))
+        go : 0 < k → k ≤ length (name_key n)
+            → (c : DomainName) → folded c ≡ c → is_cut z c ≡ true → at_or_below n c ≡ true
+            → (c ≡ n) ⊎ (is_gt (name_order c o) ≡ false) → (0 < k) × (k ≤ length (name_key c))
         go s f c d is u (inl e) = (s, subst (λ m. k ≤ length (name_key m)) (sym e) f)
         go s f c d is u (inr p) = t.least c d is (between c o n p upto u)
 
     -- where there is none, it is the name itself
-    pub uncovered : covers ≡ false
-        → IsTopmost z n (cond (is_cut z n) (length (name_key n)) 0)
+    pub uncovered : covers ≡ false → IsTopmost z n (cond (is_cut z n) (length (name_key n)) 0)
     uncovered h = alone n low_n (λ c d is u. go c d is u (cuts c d is u))
       where
         go : (c : DomainName) → folded c ≡ c → is_cut z c ≡ true → at_or_below n c ≡ true

@@ -1,15 +1,13 @@
 -- Octets that are written in hex digits are read as those octets again.
-use Rattle.dns_spec.proofs.Common.{◌≡◌, ℕ, ◌+◌, ◌*◌, ◌/◌, ◌%◌, ◌<◌, true, [], ◌∷◌, length, refl, ◌∙◌, ap, arith, append-nil, agree_below_at, and_from, eq-eqb, lt-ltb, is_ascii_hexdigit, digit_char, digit_value, Octets, plain, hex_text, hex_words}
-use Rattle.std.proofs.lemmas.Str.{digit_value-digit_char}
-use Rattle.std.specs.Prelude.{Some, decimal}
-use Rattle.dns_spec.specs.DataText.{hex_octets, is_hex_word, SaysHex, SaysUnknown}
+use Rattle.dns_spec.proofs.Common.{◌≡◌, ℕ, ◌+◌, ◌*◌, ◌/◌, ◌%◌, ◌<◌, true, [], ◌∷◌, length, refl, ◌∙◌, ap, arith, append-nil, agree_below_at, and_from, eq-eqb, lt-ltb, is_ascii_hexdigit, digit_char, digit_value, Octets, plain, hex_text, hex_words, digit_value-digit_char, Some, decimal, hex_octets, is_hex_word, SaysHex, SaysUnknown}
 use Rattle.dns_spec.proofs.DomainNames.SmallOctets.{Small, small_head, small_tail}
 
 pub hex_digit : (d : ℕ) → d < 16 → is_ascii_hexdigit (digit_char d) ≡ true
 hex_digit d small = grind (arith, agree_below_at)
 
 -- the two digits of an octet
-digits_say : (o : ℕ) → o < 256 → 16 * digit_value (digit_char (o / 16)) + digit_value (digit_char (o % 16)) ≡ o
+digits_say : (o : ℕ)
+    → o < 256 → 16 * digit_value (digit_char (o / 16)) + digit_value (digit_char (o % 16)) ≡ o
 digits_say o small = grind (arith, digit_value-digit_char)
 
 pub hex_again : (d : Octets) → Small d → hex_octets (hex_text d) ≡ Some d
@@ -18,7 +16,8 @@ hex_again [] small = refl
 hex_again (o ∷ d) small =
     let here : o < 256 = small_head o d small in
     let after = hex_again d (small_tail o d small) in
-    rw (hex_digit (o / 16) (omega arith), hex_digit (o % 16) (omega arith), after) (ap (λ x. Some (x ∷ d)) (digits_say o here))
+    rw (hex_digit (o / 16) (omega arith), hex_digit (o % 16) (omega arith), after)
+    (ap (λ x. Some (x ∷ d)) (digits_say o here))
 
 two_each : (d : Octets) → length (hex_text d) ≡ 2 * length d
 two_each [] = refl

@@ -1,12 +1,12 @@
 -- The parts of data joined are the data, and data in lower case is cut into the same pieces.
-use Rattle.dns_spec.proofs.Common.{common_steps, ◌≡◌, ℕ, ◌≤◌, true, Some, List, [], ◌∷◌, ◌++◌, map, length, refl, sym, ap, ◌∙◌, subst, arith, append-nil, length-append, and_parts, and_from, leb-true, le-leb, false≢true, none-some, same_Some, take_at, drop_at, nil_from_length, flat_map-cons, to_ascii_lowercase, Octets, DomainName, folded, Piece, fixed, domain, string, strings, anything, pieces_of, Part, octets, name, part_octets, joined, part_folded, piece_front, cut, valid, parts, lower_case}
-use Rattle.std.proofs.lemmas.Str.Ascii.{lowercase-lowercase}
+use Rattle.dns_spec.proofs.Common.{common_steps, ◌≡◌, ℕ, ◌≤◌, true, Some, List, [], ◌∷◌, ◌++◌, map, length, refl, sym, ap, ◌∙◌, subst, arith, append-nil, length-append, and_parts, and_from, leb-true, le-leb, false≢true, none-some, same_Some, take_at, drop_at, nil_from_length, flat_map-cons, to_ascii_lowercase, Octets, DomainName, folded, Piece, fixed, domain, string, strings, anything, pieces_of, Part, octets, name, part_octets, joined, part_folded, piece_front, cut, valid, parts, lower_case, lowercase-lowercase}
 use Rattle.dns_spec.proofs.DomainNames.NameLaws.{is_name-folded, length-wire-folded}
 use Rattle.dns_spec.proofs.DataWords.WrittenData.{cut_into, name_part, octets_part, front_taken, all_strings}
 use Rattle.dns_spec.proofs.DataWords.MadeData.{cut-domain, cut-step}
 
 -- a part, and the octets after it, are the whole
-pub piece_whole : (p : Piece) (os : Octets) (part : Part) (rest : Octets) → piece_front p os ≡ Some (part, rest) → os ≡ part_octets part ++ rest
+pub piece_whole : (p : Piece) (os : Octets) (part : Part) (rest : Octets)
+    → piece_front p os ≡ Some (part, rest) → os ≡ part_octets part ++ rest
 piece_whole (fixed f) os part rest h = grind (arith, front_taken, octets_part)
 piece_whole domain os part rest h = grind (arith, name_part)
 piece_whole string [] part rest h = absurd (none-some (part, rest) h)
@@ -14,7 +14,8 @@ piece_whole string (k ∷ os) part rest h = grind (arith, common_steps, front_ta
 piece_whole strings os part rest h = grind (arith, all_strings, append-nil)
 piece_whole anything os part rest h = grind (arith, same_Some, append-nil)
 
-pub cut_whole : (ps : List Piece) (os : Octets) (xs : List Part) → cut ps os ≡ Some xs → joined xs ≡ os
+pub cut_whole : (ps : List Piece) (os : Octets) (xs : List Part)
+    → cut ps os ≡ Some xs → joined xs ≡ os
 unfolding cut
 cut_whole [] [] xs h = ap joined (sym (same_Some [] xs h))
 cut_whole [] (o ∷ os) xs h = absurd (none-some xs h)
@@ -33,7 +34,8 @@ none_after : (rest other : Octets) → rest ≡ [] → length other ≡ length r
 none_after rest other e f = nil_from_length other (f ∙ ap length e)
 
 -- a piece in lower case is that piece, also where what is after it is spelled otherwise
-piece_lowered : (p : Piece) (os : Octets) (part : Part) (rest other : Octets) → piece_front p os ≡ Some (part, rest) → length other ≡ length rest
+piece_lowered : (p : Piece) (os : Octets) (part : Part) (rest other : Octets)
+    → piece_front p os ≡ Some (part, rest) → length other ≡ length rest
     → piece_front p (part_octets (part_folded part) ++ other) ≡ Some (part_folded part, other)
 piece_lowered (fixed f) os part rest other h same =
     grind (arith, length-append, take_at, drop_at, front_taken)
@@ -44,20 +46,24 @@ piece_lowered string (k ∷ os) part rest other h same = grind (arith, common_st
 piece_lowered strings os part rest other h same = grind (arith, all_strings, none_after, append-nil)
 piece_lowered anything os part rest other h same = grind (arith, same_Some, none_after, append-nil)
 
-pub cut_lowered : (ps : List Piece) (os : Octets) (xs : List Part) → cut ps os ≡ Some xs → cut ps (joined (map part_folded xs)) ≡ Some (map part_folded xs)
+pub cut_lowered : (ps : List Piece) (os : Octets) (xs : List Part)
+    → cut ps os ≡ Some xs → cut ps (joined (map part_folded xs)) ≡ Some (map part_folded xs)
 unfolding cut
 cut_lowered [] [] xs h = grind (arith, same_Some)
 cut_lowered [] (o ∷ os) xs h = absurd (none-some xs h)
 cut_lowered (p ∷ ps) os xs h =
     let c = cut_into p ps os xs h in
     let other = joined (map part_folded c.others) in
-    let same : length other ≡ length c.rest = length-lowered c.others ∙ ap length (cut_whole ps c.rest c.others c.more) in
+    let same : length other ≡ length c.rest =
+    length-lowered c.others ∙ ap length (cut_whole ps c.rest c.others c.more) in
     subst (λ x. cut (p ∷ ps) (joined (map part_folded x)) ≡ Some (map part_folded x)) c.whole
     (ap (cut (p ∷ ps)) (flat_map-cons part_octets (part_folded c.part) (map part_folded c.others))
-    ∙ cut-step p ps (part_octets (part_folded c.part) ++ other) (part_folded c.part) other (map part_folded c.others)
+    ∙ cut-step p ps (part_octets (part_folded c.part) ++ other)
+    (part_folded c.part) other (map part_folded c.others)
     (piece_lowered p os c.part c.rest other c.front same) (cut_lowered ps c.rest c.others c.more))
 
-label_lowered : (l : Octets) → map to_ascii_lowercase (map to_ascii_lowercase l) ≡ map to_ascii_lowercase l
+label_lowered : (l : Octets)
+    → map to_ascii_lowercase (map to_ascii_lowercase l) ≡ map to_ascii_lowercase l
 label_lowered [] = refl
 label_lowered (o ∷ l) = grind (arith, lowercase-lowercase, (label_lowered l))
 
@@ -87,9 +93,12 @@ pub joined-parts : (t : ℕ) (d : Octets) → joined (parts t d) ≡ d
 joined-parts t d = grind (arith, append-nil, cut_whole)
 
 -- data in lower case has the same parts, with folded names
-pub lowered_data : (t : ℕ) (d : Octets) → valid t d ≡ true → (valid t (lower_case t d) ≡ true) × (parts t (lower_case t d) ≡ map part_folded (parts t d))
+pub lowered_data : (t : ℕ) (d : Octets) → valid t d ≡ true
+    → (valid t (lower_case t d) ≡ true) × (parts t (lower_case t d) ≡ map part_folded (parts t d))
 lowered_data t d ok =
     grind (arith, cut_data, cut_lowered, length-lowered, cut_whole, and_from, le-leb)
 
-pub lowered-twice : (t : ℕ) (d : Octets) → valid t d ≡ true → lower_case t (lower_case t d) ≡ lower_case t d
-lowered-twice t d ok = ap (λ x. joined (map part_folded x)) (lowered_data t d ok).1 ∙ ap joined (parts_folded-twice (parts t d))
+pub lowered-twice : (t : ℕ) (d : Octets)
+    → valid t d ≡ true → lower_case t (lower_case t d) ≡ lower_case t d
+lowered-twice t d ok = ap (λ x. joined (map part_folded x)) (lowered_data t d ok).1
+    ∙ ap joined (parts_folded-twice (parts t d))

@@ -3,11 +3,13 @@ use Rattle.dns_spec.proofs.Common.{◌≡◌, true, List, ◌∷◌, ◌++◌, S
 use Rattle.dns_spec.proofs.DomainNames.WireNames.{name_of-wire}
 
 -- a name
-pub cut-domain : (n : DomainName) (rest : Octets) → is_name n ≡ true → piece_front domain (wire n ++ rest) ≡ Some (name n, rest)
+pub cut-domain : (n : DomainName) (rest : Octets)
+    → is_name n ≡ true → piece_front domain (wire n ++ rest) ≡ Some (name n, rest)
 cut-domain n rest ok = grind (arith, name_of-wire)
 
 -- a piece, and the pieces after it
-pub cut-step : (p : Piece) (ps : List Piece) (os : Octets) (part : Part) (rest : Octets) (xs : List Part) → piece_front p os ≡ Some (part, rest) → cut ps rest ≡ Some xs
-    → cut (p ∷ ps) os ≡ Some (part ∷ xs)
+pub cut-step : (p : Piece) (ps : List Piece) (os : Octets)
+    (part : Part) (rest : Octets) (xs : List Part) → piece_front p os ≡ Some (part, rest)
+    → cut ps rest ≡ Some xs → cut (p ∷ ps) os ≡ Some (part ∷ xs)
 unfolding cut
 cut-step p ps os part rest xs front after = grind arith

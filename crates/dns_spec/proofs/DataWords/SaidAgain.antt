@@ -1,6 +1,6 @@
--- The words that are written for valid data say that data again, each of them stands alone, and a reader takes them in whole.
-use Rattle.dns_spec.proofs.Common.{◌≡◌, ℕ, zero, suc, ◌*◌, ◌<◌, ◌≤◌, ◌⊎◌, inl, inr, true, false, Bool, ◌||◌, max, Option, None, Some, List, [], ◌∷◌, ◌++◌, length, drop, replicate, nat_le, refl, sym, ◌∙◌, ap, subst, arith, append-nil, false≢true, and_parts, and_from, leb-true, cases_Bool, or_cases, none-some, same_Some, cond_some, some_pair_parts, option_map, unwrap_or, list_all, find, flat_map, Octets, DomainName, name_of, numbers, ipv4, ipv6, Piece, fixed, domain, string, strings, anything, TypeRow, row_of, other_type, pieces_of, Part, name, part_octets, octets_front, piece_front, cut, valid, lower_case, Word, WordForm, name_word, string_word, forms_in, forms_of, SaysTyped, SaysAsSpelled, Says, is_word_octet}
-use Rattle.dns_spec.specs.WrittenText.{word_front, form_words, string_count, words_by, written_words, unknown_words, hex_words, stands_alone}
+-- The words that are written for valid data say that data again, each of them stands alone, and a
+-- reader takes them in whole.
+use Rattle.dns_spec.proofs.Common.{◌≡◌, ℕ, zero, suc, ◌*◌, ◌<◌, ◌≤◌, ◌⊎◌, inl, inr, true, false, Bool, ◌||◌, max, Option, None, Some, List, [], ◌∷◌, ◌++◌, length, drop, replicate, nat_le, refl, sym, ◌∙◌, ap, subst, arith, append-nil, false≢true, and_parts, and_from, leb-true, cases_Bool, or_cases, none-some, same_Some, cond_some, some_pair_parts, option_map, unwrap_or, list_all, find, flat_map, Octets, DomainName, name_of, numbers, ipv4, ipv6, Piece, fixed, domain, string, strings, anything, TypeRow, row_of, other_type, pieces_of, Part, name, part_octets, octets_front, piece_front, cut, valid, lower_case, Word, WordForm, name_word, string_word, forms_in, forms_of, SaysTyped, SaysAsSpelled, Says, is_word_octet, word_front, form_words, string_count, words_by, written_words, unknown_words, hex_words, stands_alone}
 use Rattle.dns_spec.proofs.Records.SortedOnce.{Each}
 use Rattle.dns_spec.proofs.DomainNames.SmallOctets.{Small, small_back}
 use Rattle.dns_spec.proofs.DataWords.WrittenData.{cut_into, all_strings}
@@ -18,49 +18,61 @@ is_counted strings = false
 is_counted anything = false
 is_counted p = true
 
-front_dropped : (k : ℕ) (os : Octets) (part : Part) (rest : Octets) → octets_front k os ≡ Some (part, rest) → (k ≤ length os) × (drop k os ≡ rest)
+front_dropped : (k : ℕ) (os : Octets) (part : Part) (rest : Octets)
+    → octets_front k os ≡ Some (part, rest) → (k ≤ length os) × (drop k os ≡ rest)
 front_dropped k os part rest h = grind (arith, cond_some, leb-true)
 
-piece_said : (c : ℕ) (origin : DomainName) (p : Piece) (fs : List WordForm) (d : Octets) (part : Part) (rest : Octets) → is_counted p ≡ true
-    → piece_front p d ≡ Some (part, rest) → Small d → WordsSaid fs origin rest → WordsSaid (forms_in c p ++ fs) origin d
+piece_said : (c : ℕ) (origin : DomainName) (p : Piece) (fs : List WordForm) (d : Octets)
+    (part : Part) (rest : Octets) → is_counted p ≡ true → piece_front p d ≡ Some (part, rest)
+    → Small d → WordsSaid fs origin rest → WordsSaid (forms_in c p ++ fs) origin d
 piece_said c origin (fixed (numbers m k)) fs d part rest counted h small others =
     let f = front_dropped (m * k) d part rest h in
-    numbers_said m k fs origin d (leb-true k 8 counted) f.0 small (subst (WordsSaid fs origin) (sym f.1) others)
+    numbers_said m k fs origin d
+    (leb-true k 8 counted) f.0 small (subst (WordsSaid fs origin) (sym f.1) others)
 piece_said c origin (fixed ipv4) fs d part rest counted h small others =
     let f = front_dropped 4 d part rest h in
-    said_step _ fs origin d (drop 4 d) (ipv4_front_said origin d f.0 small) (subst (WordsSaid fs origin) (sym f.1) others)
+    said_step _ fs origin d (drop 4 d)
+    (ipv4_front_said origin d f.0 small) (subst (WordsSaid fs origin) (sym f.1) others)
 piece_said c origin (fixed ipv6) fs d part rest counted h small others =
     let f = front_dropped 16 d part rest h in
-    said_step _ fs origin d (drop 16 d) (ipv6_front_said origin d f.0 small) (subst (WordsSaid fs origin) (sym f.1) others)
+    said_step _ fs origin d (drop 16 d)
+    (ipv6_front_said origin d f.0 small) (subst (WordsSaid fs origin) (sym f.1) others)
 piece_said c origin domain fs d part rest counted h small others = go (name_of d) refl h
   where
-    go : (y : Option (DomainName × Octets)) → name_of d ≡ y → option_map {T = DomainName × Octets} {U = Part × Octets} (λ r. (name r.0, r.1)) y ≡ Some (part, rest)
-        → WordsSaid (name_word ∷ fs) origin d
+    go : (y : Option (DomainName × Octets))
+        → name_of d ≡ y → option_map {T = DomainName × Octets} {U = Part × Octets}
+        (λ r. (name r.0, r.1)) y ≡ Some (part, rest) → WordsSaid (name_word ∷ fs) origin d
     go None e f = absurd (none-some (part, rest) f)
     go (Some (n, tail)) e f =
         let p = some_pair_parts (name n) part tail rest f in
         let r = name_read d n tail e in
-        said_step name_word fs origin d tail (name_front_said origin d n tail e r.0 r.1 small) (subst (WordsSaid fs origin) (sym p.1) others)
+        said_step name_word fs origin d tail (name_front_said origin d n tail e r.0 r.1 small)
+        (subst (WordsSaid fs origin) (sym p.1) others)
 piece_said c origin string fs [] part rest counted h small others = grind (arith, none-some)
 piece_said c origin string fs (k ∷ d) part rest counted h small others =
     let f = front_dropped (suc k) (k ∷ d) part rest h in
-    said_step string_word fs origin (k ∷ d) (drop k d) (string_front_said origin k d (omega (arith, f.0)) small) (subst (WordsSaid fs origin) (sym f.1) others)
+    said_step string_word fs origin (k ∷ d) (drop k d) (string_front_said origin k d
+    (omega (arith, f.0)) small) (subst (WordsSaid fs origin) (sym f.1) others)
 piece_said c origin strings fs d part rest counted h small others = absurd (false≢true counted)
 piece_said c origin anything fs d part rest counted h small others = absurd (false≢true counted)
 
-pieces_said : (c : ℕ) (origin : DomainName) (ps : List Piece) (d : Octets) (xs : List Part) → list_all is_counted ps ≡ true → cut ps d ≡ Some xs → Small d
-    → WordsSaid (flat_map (forms_in c) ps) origin d
+pieces_said : (c : ℕ) (origin : DomainName) (ps : List Piece) (d : Octets) (xs : List Part)
+    → list_all is_counted ps ≡ true
+    → cut ps d ≡ Some xs → Small d → WordsSaid (flat_map (forms_in c) ps) origin d
 unfolding cut
 pieces_said c origin [] [] xs counted h small = none_said origin
 pieces_said c origin [] (o ∷ d) xs counted h small = absurd (none-some xs h)
 pieces_said c origin (p ∷ ps) d xs counted h small =
     let f = cut_into p ps d xs h in
     let each = and_parts (is_counted p) (list_all is_counted ps) counted in
-    let after = small_back (part_octets f.part) f.rest (subst Small (piece_whole p d f.part f.rest f.front) small) in
-    piece_said c origin p (flat_map (forms_in c) ps) d f.part f.rest each.0 f.front small (pieces_said c origin ps f.rest f.others each.1 f.more after)
+    let after = small_back
+    (part_octets f.part) f.rest (subst Small (piece_whole p d f.part f.rest f.front) small) in
+    piece_said c origin p (flat_map (forms_in c) ps) d f.part f.rest each.0 f.front small
+    (pieces_said c origin ps f.rest f.others each.1 f.more after)
 
 -- such pieces have the same forms whatever the count
-same_forms : (c e : ℕ) (ps : List Piece) → list_all is_counted ps ≡ true → flat_map (forms_in c) ps ≡ flat_map (forms_in e) ps
+same_forms : (c e : ℕ) (ps : List Piece)
+    → list_all is_counted ps ≡ true → flat_map (forms_in c) ps ≡ flat_map (forms_in e) ps
 same_forms c e [] counted = refl
 same_forms c e (p ∷ ps) counted =
     let rest = same_forms c e ps (and_parts (is_counted p) (list_all is_counted ps) counted).1 in
@@ -94,10 +106,12 @@ abbrev forms_by : ℕ → TypeRow → List WordForm
 forms_by k made = flat_map (forms_in k) made.pieces
 
 -- forms of a type in the table
-forms_are : (t k : ℕ) (made : TypeRow) → row_of t ≡ Some made → forms_of t k ≡ Some (forms_by k made)
+forms_are : (t k : ℕ) (made : TypeRow)
+    → row_of t ≡ Some made → forms_of t k ≡ Some (forms_by k made)
 forms_are t k made e = ap (option_map (forms_by k)) e
 
-counted_formed : (t : ℕ) (origin : DomainName) (d : Octets) (made : TypeRow) (xs : List Part) → row_of t ≡ Some made → list_all is_counted made.pieces ≡ true
+counted_formed : (t : ℕ) (origin : DomainName) (d : Octets) (made : TypeRow) (xs : List Part)
+    → row_of t ≡ Some made → list_all is_counted made.pieces ≡ true
     → cut made.pieces d ≡ Some xs → Small d → Formed t origin d
 counted_formed t origin d made xs e counted h small =
     let k = string_count 0 d in
@@ -105,7 +119,8 @@ counted_formed t origin d made xs e counted h small =
     record {
       forms = fs;
       of_data = forms_are t k made e;
-      of_words = forms_are t (length fs) made e ∙ ap (λ x. Some x) (same_forms (length fs) k made.pieces counted);
+      of_words = forms_are t (length fs) made e
+          ∙ ap (λ x. Some x) (same_forms (length fs) k made.pieces counted);
       words = pieces_said k origin made.pieces d xs counted h small;
     }
 
@@ -117,15 +132,17 @@ length-replicate_strings : (n : ℕ) → length (replicate n string_word) ≡ n
 length-replicate_strings zero = refl
 length-replicate_strings (suc n) = ap suc (length-replicate_strings n)
 
-strings_formed : (t : ℕ) (origin : DomainName) (d : Octets) (made : TypeRow) (xs : List Part) → row_of t ≡ Some made → made.pieces ≡ strings ∷ []
-    → cut (strings ∷ []) d ≡ Some xs → Small d → Formed t origin d
+strings_formed : (t : ℕ) (origin : DomainName) (d : Octets) (made : TypeRow) (xs : List Part)
+    → row_of t ≡ Some made
+    → made.pieces ≡ strings ∷ [] → cut (strings ∷ []) d ≡ Some xs → Small d → Formed t origin d
 strings_formed t origin d made xs e alone h small =
     let c = cut_into strings [] d xs h in
     let all = all_strings d c.rest c.part c.front in
     let k = string_count 0 d in
     let fs = replicate k string_word in
     let count : max 1 k ≡ k = omega (arith, some_string d all.0) in
-    let forms : forms_by k made ≡ fs = ap (flat_map (forms_in k)) alone ∙ append-nil (replicate (max 1 k) string_word) ∙ ap (λ j. replicate j string_word) count in
+    let forms : forms_by k made ≡ fs = ap (flat_map (forms_in k)) alone
+    ∙ append-nil (replicate (max 1 k) string_word) ∙ ap (λ j. replicate j string_word) count in
     let long : length fs ≡ k = length-replicate_strings k in
     record {
       forms = fs;
@@ -135,15 +152,17 @@ strings_formed t origin d made xs e alone h small =
     }
 
 -- an entry of a table passes what all entries pass
-pub entry_passes : {X : Type 0} (p q : X → Bool) (xs : List X) (x : X) → find p xs ≡ Some x → list_all q xs ≡ true → q x ≡ true
+pub entry_passes : {X : Type 0} (p q : X → Bool) (xs : List X) (x : X)
+    → find p xs ≡ Some x → list_all q xs ≡ true → q x ≡ true
 entry_passes p q [] x e all = absurd (none-some x e)
-entry_passes p q (y ∷ xs) x e all = by_cases (cases_Bool (p y)) (λ f. entry_passes p q xs x f parts.1)
+entry_passes p q (y ∷ xs) x e all =
+    by_cases (cases_Bool (p y)) (λ f. entry_passes p q xs x f parts.1)
   where
     parts : (q y ≡ true) × (list_all q xs ≡ true)
     parts = and_parts (q y) (list_all q xs) all
 
     by_cases : (p y ≡ true) ⊎ (p y ≡ false) → (find p xs ≡ Some x → q x ≡ true) → q x ≡ true
-    by_cases (inl here) after = let f : Some y ≡ Some x = rw here at e in ap q (sym (same_Some y x f)) ∙ parts.0
+    by_cases (inl here) after = grind (arith, Some, same_Some)
     by_cases (inr other) after = let f : find p xs ≡ Some x = rw other at e in after f
 
 abbrev has_forms : TypeRow → Bool
@@ -152,68 +171,86 @@ has_forms made = list_all is_counted made.pieces || are_strings_alone made.piece
 row_has_forms : (t : ℕ) (made : TypeRow) → row_of t ≡ Some made → has_forms made ≡ true
 row_has_forms t made e = grind (arith, entry_passes)
 
-formed : (t : ℕ) (origin : DomainName) (d : Octets) (made : TypeRow) → row_of t ≡ Some made → valid t d ≡ true → Small d → Formed t origin d
-formed t origin d made e ok small = by_cases (or_cases (list_all is_counted made.pieces) (are_strings_alone made.pieces) (row_has_forms t made e))
+formed : (t : ℕ) (origin : DomainName) (d : Octets) (made : TypeRow)
+    → row_of t ≡ Some made → valid t d ≡ true → Small d → Formed t origin d
+formed t origin d made e ok small = by_cases (or_cases
+    (list_all is_counted made.pieces) (are_strings_alone made.pieces) (row_has_forms t made e))
   where
     pieces : pieces_of t ≡ made.pieces
     pieces = ap (λ r. (unwrap_or r other_type).pieces) e
 
-    by_cases : (list_all is_counted made.pieces ≡ true) ⊎ (are_strings_alone made.pieces ≡ true) → Formed t origin d
+    by_cases : (list_all is_counted made.pieces ≡ true) ⊎ (are_strings_alone made.pieces ≡ true)
+        → Formed t origin d
     by_cases (inl counted) = grind (arith, cut_data, counted_formed, pieces)
     by_cases (inr alone) =
         let c = cut_data t d ok in
         let is = only_strings made.pieces alone in
-        strings_formed t origin d made c.cut_parts e is (ap (λ ps. cut ps d) (sym (pieces ∙ is)) ∙ c.is_cut) small
+        strings_formed t origin d made c.cut_parts e is
+        (ap (λ ps. cut ps d) (sym (pieces ∙ is)) ∙ c.is_cut) small
 
 -- the words of a type are read by its forms unless the first is the mark
-as_typed : (t : ℕ) (origin : DomainName) (ws : List Word) (d : Octets) → is_unmarked ws ≡ true → SaysTyped t origin ws d → SaysAsSpelled t origin ws d
+as_typed : (t : ℕ) (origin : DomainName) (ws : List Word) (d : Octets)
+    → is_unmarked ws ≡ true → SaysTyped t origin ws d → SaysAsSpelled t origin ws d
 as_typed t origin ws d h h1 = grind arith
 
-typed_said : (t : ℕ) (origin : DomainName) (d : Octets) → Formed t origin d → SaysAsSpelled t origin (written_words t d) d
+typed_said : (t : ℕ) (origin : DomainName) (d : Octets)
+    → Formed t origin d → SaysAsSpelled t origin (written_words t d) d
 typed_said t origin d f = grind (arith, length-form_words, as_typed)
 
 -- words of a type without a mnemonic
 unnamed_words : (t : ℕ) (d : Octets) → row_of t ≡ None → written_words t d ≡ unknown_words d
 unnamed_words t d e = ap (λ o. words_by (option_map (forms_by (string_count 0 d)) o) d) e
 
-pub said_again : (t : ℕ) (origin : DomainName) (d : Octets) → Small d → valid t d ≡ true → SaysAsSpelled t origin (written_words t d) d
+pub said_again : (t : ℕ) (origin : DomainName) (d : Octets)
+    → Small d → valid t d ≡ true → SaysAsSpelled t origin (written_words t d) d
 said_again t origin d small ok = go (row_of t) refl
   where
     go : (r : Option TypeRow) → row_of t ≡ r → SaysAsSpelled t origin (written_words t d) d
-    go None e = subst (λ ws. SaysAsSpelled t origin ws d) (sym (unnamed_words t d e)) (unknown_said d small)
+    go None e =
+        subst (λ ws. SaysAsSpelled t origin ws d) (sym (unnamed_words t d e)) (unknown_said d small)
     go (Some made) e = typed_said t origin d (formed t origin d made e ok small)
 
-pub data_said : (t : ℕ) (origin : DomainName) (d : Octets) → Small d → valid t d ≡ true → Says t (written_words t d) origin (lower_case t d)
+pub data_said : (t : ℕ) (origin : DomainName) (d : Octets)
+    → Small d → valid t d ≡ true → Says t (written_words t d) origin (lower_case t d)
 data_said t origin d small ok = grind (arith, said_again)
 
-unknown_alone : (d : Octets) → length d ≤ 65535 → Small d → list_all stands_alone (unknown_words d) ≡ true
-unknown_alone d short small = and_from _ _ refl (and_from _ _ (decimal_standing (length d) (omega (arith, short))).alone (hex d small))
+unknown_alone : (d : Octets)
+    → length d ≤ 65535 → Small d → list_all stands_alone (unknown_words d) ≡ true
+unknown_alone d short small = and_from _ _ refl
+    (and_from _ _ (decimal_standing (length d) (omega (arith, short))).alone (hex d small))
   where
     hex : (d : Octets) → Small d → list_all stands_alone (hex_words d) ≡ true
     hex [] small = refl
     hex (o ∷ d) small = and_from _ _ (hex_alone o d small) refl
 
-pub words_alone : (t : ℕ) (d : Octets) → Small d → valid t d ≡ true → list_all stands_alone (written_words t d) ≡ true
+pub words_alone : (t : ℕ) (d : Octets)
+    → Small d → valid t d ≡ true → list_all stands_alone (written_words t d) ≡ true
 words_alone t d small ok = go (row_of t) refl
   where
     go : (r : Option TypeRow) → row_of t ≡ r → list_all stands_alone (written_words t d) ≡ true
-    go None e = ap (list_all stands_alone) (unnamed_words t d e) ∙ unknown_alone d (cut_data t d ok).short small
+    go None e = ap (list_all stands_alone) (unnamed_words t d e)
+        ∙ unknown_alone d (cut_data t d ok).short small
     go (Some made) e =
         let f = formed t [] d made e ok small in
         ap (λ o. list_all stands_alone (words_by o d)) f.of_data ∙ f.words.alone
 
 unknown_whole : (d : Octets) → length d ≤ 65535 → Small d → Each TakenWhole (unknown_words d)
-unknown_whole d short small = (runs_escaped is_word_octet 35 refl refl, ((decimal_standing (length d) (omega (arith, short))).whole, hex d small))
+unknown_whole d short small = (
+  runs_escaped is_word_octet 35 refl refl,
+  ((decimal_standing (length d) (omega (arith, short))).whole, hex d small),
+)
   where
     hex : (d : Octets) → Small d → Each TakenWhole (hex_words d)
     hex [] small = tt
     hex (o ∷ d) small = (hex_runs (o ∷ d) small, tt)
 
-pub words_whole : (t : ℕ) (d : Octets) → Small d → valid t d ≡ true → Each TakenWhole (written_words t d)
+pub words_whole : (t : ℕ) (d : Octets)
+    → Small d → valid t d ≡ true → Each TakenWhole (written_words t d)
 words_whole t d small ok = go (row_of t) refl
   where
     go : (r : Option TypeRow) → row_of t ≡ r → Each TakenWhole (written_words t d)
-    go None e = subst (Each TakenWhole) (sym (unnamed_words t d e)) (unknown_whole d (cut_data t d ok).short small)
+    go None e = subst (Each TakenWhole)
+        (sym (unnamed_words t d e)) (unknown_whole d (cut_data t d ok).short small)
     go (Some made) e =
         let f = formed t [] d made e ok small in
         subst (λ o. Each TakenWhole (words_by o d)) (sym f.of_data) f.words.whole

@@ -1,9 +1,7 @@
--- The words that are written stand alone, a reader takes them in whole, and none of them is the mark of the form for data of
+-- The words that are written stand alone, a reader takes them in whole, and none of them is the
+-- mark of the form for data of
 -- any type.
-use Rattle.dns_spec.proofs.Common.{common_steps, ◌≡◌, ℕ, ◌<◌, ◌^◌, Bool, true, false, ◌==◌, List, [], ◌∷◌, ◌++◌, length, refl, sym, ◌∙◌, ap, subst, arith, append_assoc, append-nil, length-append, decimal, rules, and_from, and_right, lt-ltb, if◌then◌else◌, digits, Octets, DomainName, octets_equal, label_text, labels_text, name_text, Word, is_unknown_mark, is_word_octet, is_string_octet}
-use Rattle.std.proofs.lemmas.Fmt.{decimal_nonempty}
-use Rattle.dns_spec.specs.AddressText.{SaysIpv6, ipv6_groups, ipv4_text, groups_text, ipv6_text}
-use Rattle.dns_spec.specs.WrittenText.{plain, quoted, hex_text, is_unbroken, stands_alone}
+use Rattle.dns_spec.proofs.Common.{common_steps, ◌≡◌, ℕ, ◌<◌, ◌^◌, Bool, true, false, ◌==◌, List, [], ◌∷◌, ◌++◌, length, refl, sym, ◌∙◌, ap, subst, arith, append_assoc, append-nil, length-append, decimal, rules, and_from, and_right, lt-ltb, if◌then◌else◌, digits, Octets, DomainName, octets_equal, label_text, labels_text, name_text, Word, is_unknown_mark, is_word_octet, is_string_octet, decimal_nonempty, SaysIpv6, ipv6_groups, ipv4_text, groups_text, ipv6_text, plain, quoted, hex_text, is_unbroken, stands_alone}
 use Rattle.dns_spec.proofs.Records.SortedOnce.{Each}
 use Rattle.dns_spec.proofs.DomainNames.SmallOctets.{Small, small_head, small_tail}
 use Rattle.dns_spec.proofs.NameTexts.WrittenNames.{labels_text_long}
@@ -26,7 +24,8 @@ pub record Standing (w : Word) : Type 0 where
   pub unmarked : is_unknown_mark w ≡ false
 
 bare_alone : (x : Octets) → 0 < length x → Bare x → stands_alone (plain x) ≡ true
-bare_alone x some bare = and_from _ _ (lt-ltb 0 (length x) some) (ap (is_unbroken is_word_octet) (sym (append-nil x)) ∙ bare_text x [] bare refl)
+bare_alone x some bare = and_from _ _ (lt-ltb 0 (length x) some)
+    (ap (is_unbroken is_word_octet) (sym (append-nil x)) ∙ bare_text x [] bare refl)
 
 pub bare_standing : (x : Octets) → 0 < length x → Bare x → Standing (plain x)
 bare_standing x some bare = grind (arith, bare_alone, runs_bare)
@@ -42,7 +41,8 @@ ipv4_standing [] long small = absurd (omega (arith, long))
 ipv4_standing (o ∷ d) long small = search (rules, bare_standing, ipv4_some, small_head, bare_ipv4)
 
 bare_group : (g : ℕ) → g < 65536 → Bare (digits 16 false g)
-bare_group g small = let t = group_digits g small in subst Bare (sym t.spelled) (bare_hex (t.first ∷ t.others) t.below)
+bare_group g small = let t =
+    group_digits g small in subst Bare (sym t.spelled) (bare_hex (t.first ∷ t.others) t.below)
 
 bare_groups : (gs : List ℕ) → Groups gs → Bare (groups_text gs)
 bare_groups gs small = bare_joined 58 (digits 16 false) gs refl (each gs small)
@@ -61,7 +61,8 @@ bare_ipv6 d small =
     grind (arith, groups_of-small, bare_groups, bare_append, groups_taken, groups_dropped)
 
 pub ipv6_standing : (d : Octets) → length d ≡ 16 → Small d → Standing (plain (ipv6_text d))
-ipv6_standing d long small = bare_standing (ipv6_text d) (ipv6_some (ipv6_text d) d (ipv6_said d long small)) (bare_ipv6 d small)
+ipv6_standing d long small = bare_standing
+    (ipv6_text d) (ipv6_some (ipv6_text d) d (ipv6_said d long small)) (bare_ipv6 d small)
 
 -- a dot ends the text of a name
 record DotLast (text : Octets) : Type 0 where
@@ -72,7 +73,11 @@ dot_last : (l : Octets) (n : DomainName) → DotLast (labels_text (l ∷ n))
 dot_last l [] = record { front = label_text l; whole = append-nil (label_text l ++ 46 ∷ []) }
 dot_last l (m ∷ n) =
     let d = dot_last m n in
-    record { front = (label_text l ++ 46 ∷ []) ++ d.front; whole = ap (λ x. (label_text l ++ 46 ∷ []) ++ x) d.whole ∙ sym (append_assoc (label_text l ++ 46 ∷ []) d.front (46 ∷ [])) }
+    record {
+      front = (label_text l ++ 46 ∷ []) ++ d.front;
+      whole = ap (λ x. (label_text l ++ 46 ∷ []) ++ x) d.whole
+          ∙ sym (append_assoc (label_text l ++ 46 ∷ []) d.front (46 ∷ []));
+    }
 
 dotted_unmarked : (x front : Octets) → x ≡ front ++ 46 ∷ [] → is_unknown_mark (plain x) ≡ false
 dotted_unmarked x front e = ap (λ y. is_unknown_mark (plain y)) e ∙ by_cases front
@@ -86,10 +91,12 @@ dotted_unmarked x front e = ap (λ y. is_unknown_mark (plain y)) e ∙ by_cases 
     by_cases (a ∷ []) = and_right (a == 92) _ refl
     by_cases (a ∷ b ∷ front) = and_right (a == 92) _ (and_right (b == 35) _ (longer front))
 
-pub name_standing : (n : DomainName) → Each Small n → Each (λ l. 0 < length l) n → Standing (plain (name_text n))
+pub name_standing : (n : DomainName)
+    → Each Small n → Each (λ l. 0 < length l) n → Standing (plain (name_text n))
 name_standing [] small some = record { alone = refl; whole = name_runs [] small; unmarked = refl }
 name_standing (l ∷ n) small some = record {
-  alone = and_from _ _ (lt-ltb 0 _ (omega (arith, labels_text_long l n some.0))) (labels_unbroken (l ∷ n) small);
+  alone = and_from _ _
+      (lt-ltb 0 _ (omega (arith, labels_text_long l n some.0))) (labels_unbroken (l ∷ n) small);
   whole = name_runs (l ∷ n) small;
   unmarked = (let d = dot_last l n in dotted_unmarked (labels_text (l ∷ n)) d.front d.whole);
 }
@@ -101,7 +108,8 @@ bare_hex_text : (d : Octets) → Small d → Bare (hex_text d)
 bare_hex_text [] small = tt
 bare_hex_text (o ∷ d) small = grind (arith, small_head, (bare_hex_text d (small_tail o d small)))
 
-pub hex_alone : (o : ℕ) (d : Octets) → Small (o ∷ d) → stands_alone (plain (hex_text (o ∷ d))) ≡ true
+pub hex_alone : (o : ℕ) (d : Octets)
+    → Small (o ∷ d) → stands_alone (plain (hex_text (o ∷ d))) ≡ true
 hex_alone o d small = bare_alone (hex_text (o ∷ d)) (omega arith) (bare_hex_text (o ∷ d) small)
 
 pub hex_runs : (d : Octets) → Small d → Runs is_word_octet (hex_text d)

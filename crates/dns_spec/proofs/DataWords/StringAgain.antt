@@ -6,5 +6,6 @@ string_spelled : (s : Octets) → Small s → SpellsString (flat_map string_octe
 string_spelled [] small = refl
 string_spelled (o ∷ s) small = grind (arith, small_head, (string_spelled s (small_tail o s small)))
 
-pub string_said : (s : Octets) → length s ≤ 255 → Small s → SaysString (flat_map string_octet_text s) (length s ∷ s)
+pub string_said : (s : Octets)
+    → length s ≤ 255 → Small s → SaysString (flat_map string_octet_text s) (length s ∷ s)
 string_said s short small = (s, short, string_spelled s small, refl)

@@ -1,6 +1,5 @@
 -- How much of what is written a reader takes into a word or a string: all of it.
-use Rattle.dns_spec.proofs.Common.{◌≡◌, ℕ, ◌+◌, ◌<◌, Bool, true, false, [], ◌∷◌, ◌++◌, length, refl, arith, append_assoc, length-append, rules, agree_below_at, lt-ltb, not-true, eqb-true, is_ascii_digit, flat_map, Octets, DomainName, string_octet_text, is_word_octet, is_string_octet, run_length}
-use Rattle.dns_spec.specs.NameText.{is_special, octet_text, label_text, labels_text, name_text, is_printable}
+use Rattle.dns_spec.proofs.Common.{◌≡◌, ℕ, ◌+◌, ◌<◌, Bool, true, false, [], ◌∷◌, ◌++◌, length, refl, arith, append_assoc, length-append, rules, agree_below_at, lt-ltb, not-true, eqb-true, is_ascii_digit, flat_map, Octets, DomainName, string_octet_text, is_word_octet, is_string_octet, run_length, is_special, octet_text, label_text, labels_text, name_text, is_printable}
 use Rattle.dns_spec.proofs.Records.SortedOnce.{Each}
 use Rattle.dns_spec.proofs.NameTexts.Escapes.{escape-counted}
 use Rattle.dns_spec.proofs.DomainNames.SmallOctets.{Small, small_head, small_tail}
@@ -14,7 +13,8 @@ pub runs_append : (p : ℕ → Bool) (x y : Octets) → Runs p x → Runs p y �
 runs_append p x y h k rest = grind (arith, append_assoc, length-append)
 
 -- an octet that is no digit, with a backslash before it
-pub runs_escaped : (p : ℕ → Bool) (x : ℕ) → is_ascii_digit x ≡ false → is_printable x ≡ true → Runs p (92 ∷ x ∷ [])
+pub runs_escaped : (p : ℕ → Bool) (x : ℕ)
+    → is_ascii_digit x ≡ false → is_printable x ≡ true → Runs p (92 ∷ x ∷ [])
 unfolding run_length
 runs_escaped p x digit printable rest = grind (arith, escape-counted, digit)
 
@@ -36,7 +36,8 @@ octet_runs x small = grind (arith, special_escaped, digit, lt-ltb)
 
 label_runs : (l : Octets) → Small l → Runs is_word_octet (label_text l)
 label_runs [] small = grind arith
-label_runs (x ∷ l) small = runs_append is_word_octet (octet_text x) (label_text l) (octet_runs x (small_head x l small)) (label_runs l (small_tail x l small))
+label_runs (x ∷ l) small = runs_append is_word_octet (octet_text x)
+    (label_text l) (octet_runs x (small_head x l small)) (label_runs l (small_tail x l small))
 
 labels_runs : (n : DomainName) → Each Small n → Runs is_word_octet (labels_text n)
 labels_runs [] small = grind arith
@@ -53,4 +54,6 @@ string_octet_runs o small = grind (arith, eqb-true, digit, lt-ltb)
 
 pub string_runs : (s : Octets) → Small s → Runs is_string_octet (flat_map string_octet_text s)
 string_runs [] small = grind arith
-string_runs (o ∷ s) small = runs_append is_string_octet (string_octet_text o) (flat_map string_octet_text s) (string_octet_runs o (small_head o s small)) (string_runs s (small_tail o s small))
+string_runs (o ∷ s) small =
+    runs_append is_string_octet (string_octet_text o) (flat_map string_octet_text s)
+    (string_octet_runs o (small_head o s small)) (string_runs s (small_tail o s small))

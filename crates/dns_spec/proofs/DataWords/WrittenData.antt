@@ -1,6 +1,5 @@
 -- Data of a type, written without compression, is read back as data of that type.
-use Rattle.dns_spec.proofs.Common.{common_steps, and_parts, leb-true, not-true, eqb-false, false≢true, none-some, same_Some, cond_some, some_pair_parts, length-take-le, Octets, DomainName, wire, is_name, class_in, width, Piece, fixed, domain, string, strings, anything, Part, octets, name, are_strings, octets_front, strings_front, piece_front, cut, valid, OctetsAt, PiecesAt, DataAt}
-use Rattle.std.proofs.Common.{◌≡◌, ℕ, suc, ◌+◌, ◌<◌, true, List, [], ◌∷◌, ◌++◌, length, take, Some, refl, sym, ap, ◌∙◌, subst, arith, append-nil, length-append, take-append-drop, add-zero}
+use Rattle.dns_spec.proofs.Common.{common_steps, and_parts, leb-true, not-true, eqb-false, false≢true, none-some, same_Some, cond_some, some_pair_parts, length-take-le, Octets, DomainName, wire, is_name, class_in, width, Piece, fixed, domain, string, strings, anything, Part, octets, name, are_strings, octets_front, strings_front, piece_front, cut, valid, OctetsAt, PiecesAt, DataAt, ◌≡◌, ℕ, suc, ◌+◌, ◌<◌, true, List, [], ◌∷◌, ◌++◌, length, take, Some, refl, sym, ap, ◌∙◌, subst, arith, append-nil, length-append, take-append-drop, add-zero}
 use Rattle.dns_spec.proofs.DomainNames.WireNames.{name_read}
 use Rattle.dns_spec.proofs.Messages.Places.{Stands, stands_front, stands_rest, stands_within, stands_get, octets_at, name_written}
 
@@ -13,7 +12,8 @@ pub record CutInto (p : Piece) (ps : List Piece) (os : Octets) (xs : List Part) 
   pub more : cut ps rest ≡ Some others
   pub whole : part ∷ others ≡ xs
 
-pub cut_into : (p : Piece) (ps : List Piece) (os : Octets) (xs : List Part) → cut (p ∷ ps) os ≡ Some xs → CutInto p ps os xs
+pub cut_into : (p : Piece) (ps : List Piece) (os : Octets) (xs : List Part)
+    → cut (p ∷ ps) os ≡ Some xs → CutInto p ps os xs
 unfolding cut
 cut_into p ps os xs h = grind (arith, none-some, same_Some)
 
@@ -22,11 +22,13 @@ pub name_part : (os rest : Octets) (part : Part) → piece_front domain os ≡ S
     → (n : DomainName) × (name n ≡ part) × (is_name n ≡ true) × (os ≡ wire n ++ rest)
 name_part os rest part h = grind (arith, none-some, some_pair_parts, name_read)
 
-pub octets_part : (k : ℕ) (os rest : Octets) (part : Part) → octets_front k os ≡ Some (part, rest) → octets (take k os) ≡ part
+pub octets_part : (k : ℕ) (os rest : Octets) (part : Part)
+    → octets_front k os ≡ Some (part, rest) → octets (take k os) ≡ part
 octets_part k os rest part h = grind (arith, cond_some)
 
 -- the octets of data from place i on, and what is after its first part
-module _ {b : Octets} {i : ℕ} (os x rest : Octets) (whole : os ≡ x ++ rest) (at : Stands b i os) where
+module _
+    {b : Octets} {i : ℕ} (os x rest : Octets) (whole : os ≡ x ++ rest) (at : Stands b i os) where
   stands_part : Stands b i x
   stands_part = stands_front x rest (subst (Stands b i) whole at)
 
@@ -36,8 +38,8 @@ module _ {b : Octets} {i : ℕ} (os x rest : Octets) (whole : os ≡ x ++ rest) 
   ends_alike : i + length x + length rest ≡ i + length os
   ends_alike = omega (arith, ap length whole, length-append x rest)
 
-pub front_taken : (k : ℕ) (os : Octets) (part : Part) (rest : Octets) → octets_front k os ≡ Some (part, rest)
-    → (os ≡ take k os ++ rest) × (length (take k os) ≡ k)
+pub front_taken : (k : ℕ) (os : Octets) (part : Part) (rest : Octets)
+    → octets_front k os ≡ Some (part, rest) → (os ≡ take k os ++ rest) × (length (take k os) ≡ k)
 front_taken k os part rest h = grind (arith, cond_some, take-append-drop, length-take-le, leb-true)
 
 pub all_strings : (os rest : Octets) (part : Part) → strings_front os ≡ Some (part, rest)
@@ -47,7 +49,8 @@ all_strings os rest part h = grind (arith, cond_some, and_parts, eqb-false, not-
 nothing_after : {b : Octets} {i : ℕ} (os : Octets) → Stands b i os → Stands b (i + length os) []
 nothing_after {b} {i} os at = stands_rest os [] (subst (Stands b i) (sym (append-nil os)) at)
 
-pub pieces_written : {b : Octets} (ps : List Piece) (os : Octets) (xs : List Part) (i : ℕ) → cut ps os ≡ Some xs → Stands b i os → PiecesAt b ps i (i + length os) os
+pub pieces_written : {b : Octets} (ps : List Piece) (os : Octets) (xs : List Part) (i : ℕ)
+    → cut ps os ≡ Some xs → Stands b i os → PiecesAt b ps i (i + length os) os
 unfolding cut
 pieces_written [] [] xs i h at = (sym (add-zero i), refl)
 pieces_written [] (o ∷ os) xs i h at = absurd (none-some xs h)
@@ -57,13 +60,15 @@ pieces_written {b} (fixed f ∷ ps) os xs i h at =
     let t = front_taken k os c.part c.rest c.front in
     let x = take k os in
     let place : i + length x ≡ i + k = ap (λ z. i + z) t.1 in
-    let end : i + k + length c.rest ≡ i + length os = omega (arith, ends_alike os x c.rest t.0 at, place) in (
+    let end : i + k + length c.rest ≡ i + length os =
+    omega (arith, ends_alike os x c.rest t.0 at, place) in (
       x,
       c.rest,
       subst (λ z. OctetsAt b i (i + z) x) t.1 (octets_at x (stands_part os x c.rest t.0 at)),
       t.0,
       subst (λ e. PiecesAt b ps (i + k) e c.rest) end
-          (pieces_written ps c.rest c.others (i + k) c.more (subst (λ z. Stands b z c.rest) place (stands_others os x c.rest t.0 at))),
+          (pieces_written ps c.rest c.others (i + k) c.more
+          (subst (λ z. Stands b z c.rest) place (stands_others os x c.rest t.0 at))),
     )
 pieces_written {b} (domain ∷ ps) os xs i h at =
     let c = cut_into domain ps os xs h in
@@ -75,7 +80,8 @@ pieces_written {b} (domain ∷ ps) os xs i h at =
       name_written m.0 m.2 (stands_part os x c.rest m.3 at),
       m.3,
       subst (λ e. PiecesAt b ps (i + length x) e c.rest) (ends_alike os x c.rest m.3 at)
-          (pieces_written ps c.rest c.others (i + length x) c.more (stands_others os x c.rest m.3 at)),
+          (pieces_written ps c.rest c.others
+          (i + length x) c.more (stands_others os x c.rest m.3 at)),
     )
 pieces_written {b} (string ∷ ps) [] xs i h at = absurd (none-some xs h)
 pieces_written {b} (string ∷ ps) (k ∷ os) xs i h at =
@@ -83,7 +89,8 @@ pieces_written {b} (string ∷ ps) (k ∷ os) xs i h at =
     let t = front_taken (suc k) (k ∷ os) c.part c.rest c.front in
     let x = take (suc k) (k ∷ os) in
     let place : i + length x ≡ i + 1 + k = omega (arith, t.1) in
-    let end : i + 1 + k + length c.rest ≡ i + length (k ∷ os) = omega (arith, ends_alike (k ∷ os) x c.rest t.0 at, place) in (
+    let end : i + 1 + k + length c.rest ≡ i + length (k ∷ os) =
+    omega (arith, ends_alike (k ∷ os) x c.rest t.0 at, place) in (
       k,
       x,
       c.rest,
@@ -91,7 +98,8 @@ pieces_written {b} (string ∷ ps) (k ∷ os) xs i h at =
       subst (λ z. OctetsAt b i z x) place (octets_at x (stands_part (k ∷ os) x c.rest t.0 at)),
       t.0,
       subst (λ e. PiecesAt b ps (i + 1 + k) e c.rest) end
-          (pieces_written ps c.rest c.others (i + 1 + k) c.more (subst (λ z. Stands b z c.rest) place (stands_others (k ∷ os) x c.rest t.0 at))),
+          (pieces_written ps c.rest c.others (i + 1 + k) c.more
+          (subst (λ z. Stands b z c.rest) place (stands_others (k ∷ os) x c.rest t.0 at))),
     )
 pieces_written {b} (strings ∷ ps) os xs i h at =
     let c = cut_into strings ps os xs h in
@@ -105,11 +113,13 @@ pieces_written {b} (strings ∷ ps) os xs i h at =
       t.1,
       sym (append-nil os),
       refl,
-      subst (λ z. PiecesAt b ps e z []) (add-zero e) (pieces_written ps [] c.others e (ap (cut ps) (sym t.3) ∙ c.more) (nothing_after os at)),
+      subst (λ z. PiecesAt b ps e z []) (add-zero e)
+          (pieces_written ps [] c.others e (ap (cut ps) (sym t.3) ∙ c.more) (nothing_after os at)),
     )
 pieces_written {b} (anything ∷ ps) os xs i h at =
     let c = cut_into anything ps os xs h in
-    let none : c.rest ≡ [] = sym (ap (λ z. z.1) (same_Some (octets os, []) (c.part, c.rest) c.front)) in
+    let none : c.rest ≡ [] =
+    sym (ap (λ z. z.1) (same_Some (octets os, []) (c.part, c.rest) c.front)) in
     let e = i + length os in (
       os,
       [],
@@ -117,10 +127,12 @@ pieces_written {b} (anything ∷ ps) os xs i h at =
       octets_at os at,
       sym (append-nil os),
       refl,
-      subst (λ z. PiecesAt b ps e z []) (add-zero e) (pieces_written ps [] c.others e (ap (cut ps) (sym none) ∙ c.more) (nothing_after os at)),
+      subst (λ z. PiecesAt b ps e z []) (add-zero e)
+          (pieces_written ps [] c.others e (ap (cut ps) (sym none) ∙ c.more) (nothing_after os at)),
     )
 
 -- Valid data of class IN, written as it is, is read back.
-pub data_written : {b : Octets} {i : ℕ} (t : ℕ) (d : Octets) → valid t d ≡ true → Stands b i d → DataAt b t class_in i (i + length d) d
+pub data_written : {b : Octets} {i : ℕ} (t : ℕ) (d : Octets)
+    → valid t d ≡ true → Stands b i d → DataAt b t class_in i (i + length d) d
 data_written {b} {i} t d h at =
     grind (arith, common_steps, stands_within, and_parts, false≢true, pieces_written)

@@ -1,8 +1,5 @@
 -- The longest run of zero groups stands where it is said to stand.
-use Rattle.std.proofs.Common.{◌≡◌, ℕ, zero, suc, ◌+◌, ◌<◌, ◌≤◌, ◌⊎◌, inl, inr, max, Bool, true, false, ◌==◌, List, [], ◌∷◌, ◌++◌, length, take, drop, get_or, replicate, fold, refl, sym, ◌∙◌, ap, subst, arith, append_assoc, take-append-drop, length-drop}
-use Rattle.dns_spec.proofs.Common.{cases_Bool, cases_lt, eqb-true, eq-eqb, true≢false, drop-drop, prefix_len, position_or_len}
-use Rattle.std.proofs.lemmas.List.Sums.{prefix_len-le-length, fails_before_first, passes_at_first}
-use Rattle.dns_spec.specs.AddressText.{zero_runs, longest_run, longest_place}
+use Rattle.dns_spec.proofs.Common.{◌≡◌, ℕ, zero, suc, ◌+◌, ◌<◌, ◌≤◌, ◌⊎◌, inl, inr, max, Bool, true, false, ◌==◌, List, [], ◌∷◌, ◌++◌, length, take, drop, get_or, replicate, fold, refl, sym, ◌∙◌, ap, subst, arith, append_assoc, take-append-drop, length-drop, cases_Bool, cases_lt, eqb-true, eq-eqb, true≢false, drop-drop, prefix_len, position_or_len, prefix_len-le-length, fails_before_first, passes_at_first, zero_runs, longest_run, longest_place}
 
 abbrev pub is_zero : ℕ → Bool
 is_zero n = n == 0
@@ -11,7 +8,8 @@ pub length-zero_runs : (gs : List ℕ) → length (zero_runs gs) ≡ length gs
 length-zero_runs [] = refl
 length-zero_runs (g ∷ gs) = omega (arith, length-zero_runs gs)
 
-pub run_at : (gs : List ℕ) (i : ℕ) → i < length gs → get_or (zero_runs gs) i 0 ≡ prefix_len is_zero (drop i gs)
+pub run_at : (gs : List ℕ) (i : ℕ)
+    → i < length gs → get_or (zero_runs gs) i 0 ≡ prefix_len is_zero (drop i gs)
 run_at [] i inside = absurd (omega (arith, inside))
 run_at (g ∷ gs) zero inside = refl
 run_at (g ∷ gs) (suc i) inside = run_at gs i (omega (arith, inside))
@@ -26,9 +24,12 @@ greatest : (a : ℕ) (xs : List ℕ) → (fold max a xs ≡ a) ⊎ Reached xs (f
 greatest a [] = inl refl
 greatest a (x ∷ xs) = by_cases (greatest (max a x) xs) (cases_lt a x)
   where
-    by_cases : (fold max (max a x) xs ≡ max a x) ⊎ Reached xs (fold max (max a x) xs) → (a < x) ⊎ (x ≤ a) → (fold max a (x ∷ xs) ≡ a) ⊎ Reached (x ∷ xs) (fold max a (x ∷ xs))
-    by_cases (inr r) order = inr (record { place = suc r.place; inside = omega (arith, r.inside); is = r.is })
-    by_cases (inl e) (inl more) = inr (record { place = 0; inside = omega arith; is = omega (arith, e, more) })
+    by_cases : (fold max (max a x) xs ≡ max a x) ⊎ Reached xs (fold max (max a x) xs)
+        → (a < x) ⊎ (x ≤ a) → (fold max a (x ∷ xs) ≡ a) ⊎ Reached (x ∷ xs) (fold max a (x ∷ xs))
+    by_cases (inr r) order =
+        inr (record { place = suc r.place; inside = omega (arith, r.inside); is = r.is })
+    by_cases (inl e) (inl more) =
+        inr (record { place = 0; inside = omega arith; is = omega (arith, e, more) })
     by_cases (inl e) (inr less) = inl (omega (arith, e, less))
 
 -- so a place is found
@@ -48,32 +49,35 @@ longest gs some = by_cases (greatest 0 (zero_runs gs))
     by_cases (inr r) =
         let place = found (longest_run gs) (zero_runs gs) r in
         let inside : longest_place gs < length gs = omega (arith, place, length-zero_runs gs) in
-        let is = eqb-true (get_or (zero_runs gs) (longest_place gs) 0) (longest_run gs) (passes_at_first (λ k. k == longest_run gs) (zero_runs gs) 0 place) in
+        let is = eqb-true (get_or (zero_runs gs) (longest_place gs) 0)
+        (longest_run gs) (passes_at_first (λ k. k == longest_run gs) (zero_runs gs) 0 place) in
         record { inside = inside; long = sym (run_at gs (longest_place gs) inside) ∙ is }
 
 zeros_first : (gs : List ℕ) → take (prefix_len is_zero gs) gs ≡ replicate (prefix_len is_zero gs) 0
 zeros_first [] = refl
 zeros_first (g ∷ gs) = by_cases (zeros_first gs) (cases_Bool (is_zero g))
   where
-    by_cases : take (prefix_len is_zero gs) gs ≡ replicate (prefix_len is_zero gs) 0 → (is_zero g ≡ true) ⊎ (is_zero g ≡ false)
+    by_cases : take (prefix_len is_zero gs) gs ≡ replicate (prefix_len is_zero gs) 0
+        → (is_zero g ≡ true) ⊎ (is_zero g ≡ false)
         → take (prefix_len is_zero (g ∷ gs)) (g ∷ gs) ≡ replicate (prefix_len is_zero (g ∷ gs)) 0
     by_cases after (inl z) =
         let n = prefix_len is_zero gs in
         let one : 1 + n ≡ suc n = omega arith in
         rw z
-        (ap (λ k. take k (g ∷ gs)) one ∙ ap (λ x. x ∷ take n gs) (eqb-true g 0 z) ∙ ap (λ t. 0 ∷ t) after
-        ∙ ap (λ k. replicate k 0) (sym one))
+        (ap (λ k. take k (g ∷ gs)) one ∙ ap (λ x. x ∷ take n gs) (eqb-true g 0 z)
+        ∙ ap (λ t. 0 ∷ t) after ∙ ap (λ k. replicate k 0) (sym one))
     by_cases after (inr other) = rw other refl
 
 -- groups are those before the run, its zeros, and those after it
-pub around_run : (gs : List ℕ) (r : LongestRun gs)
-    → (take (longest_place gs) gs ++ replicate (longest_run gs) 0) ++ drop (longest_place gs + longest_run gs) gs ≡ gs
+pub around_run : (gs : List ℕ) (r : LongestRun gs) → (take (longest_place gs) gs
+    ++ replicate (longest_run gs) 0) ++ drop (longest_place gs + longest_run gs) gs ≡ gs
 around_run gs r =
     let place = longest_place gs in
     let run = longest_run gs in
     let front = take place gs in
     let back = drop place gs in
-    let zeros : take run back ≡ replicate run 0 = subst (λ k. take k back ≡ replicate k 0) r.long (zeros_first back) in
+    let zeros : take run back ≡ replicate run 0 =
+    subst (λ k. take k back ≡ replicate k 0) r.long (zeros_first back) in
     ap (λ z. (front ++ z) ++ drop (place + run) gs) (sym zeros)
     ∙ ap (λ b. (front ++ take run back) ++ b) (sym (drop-drop run place gs))
     ∙ append_assoc front (take run back) (drop run back)

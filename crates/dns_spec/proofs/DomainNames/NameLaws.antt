@@ -1,7 +1,6 @@
--- Laws of names: their wire forms tell them apart, folding keeps lengths, and at or below goes label by label.
-use Rattle.dns_spec.proofs.Common.{common_steps, ◌≡◌, ℕ, zero, suc, ◌+◌, ◌*◌, ◌-◌, ◌<◌, ◌≤◌, Bool, true, false, ◌||◌, ◌⊎◌, [], ◌∷◌, ◌++◌, length, take, drop, map, nat_le, refl, sym, ◌∙◌, ap, arith, inl, inr, length-append, rules, take_at, drop_at, length-map, map-append, list_all, to_ascii_lowercase, Octets, DomainName, wire, is_label, is_name, folded, octets_equal, names_equal, same, at_or_below}
-use Rattle.std.proofs.lemmas.Bool.{and_parts, and_from, and_left, leb-true, le-leb, lt-leb, ltb-true, lt-ltb, eqb-true, eq-eqb, cases_order, false_from_ne_true}
-use Rattle.std.specs.Cmp.Lexicographic.{pointwise_decides}
+-- Laws of names: their wire forms tell them apart, folding keeps lengths, and at or below goes
+-- label by label.
+use Rattle.dns_spec.proofs.Common.{common_steps, ◌≡◌, ℕ, zero, suc, ◌+◌, ◌*◌, ◌-◌, ◌<◌, ◌≤◌, Bool, true, false, ◌||◌, ◌⊎◌, [], ◌∷◌, ◌++◌, length, take, drop, map, nat_le, refl, sym, ◌∙◌, ap, arith, inl, inr, length-append, rules, take_at, drop_at, length-map, map-append, list_all, to_ascii_lowercase, Octets, DomainName, wire, is_label, is_name, folded, octets_equal, names_equal, same, at_or_below, and_parts, and_from, and_left, leb-true, le-leb, lt-leb, ltb-true, lt-ltb, eqb-true, eq-eqb, cases_order, false_from_ne_true, pointwise_decides}
 
 -- what a label's test says
 pub record IsLabel (l : Octets) : Type 0 where
@@ -22,7 +21,8 @@ pub record IsName (n : DomainName) : Type 0 where
 pub IsName-is_name : (n : DomainName) → is_name n ≡ true → IsName n
 IsName-is_name n ok = grind (arith, and_parts, leb-true)
 
-pub is_name-IsName : (n : DomainName) → list_all is_label n ≡ true → length (wire n) ≤ 255 → is_name n ≡ true
+pub is_name-IsName : (n : DomainName)
+    → list_all is_label n ≡ true → length (wire n) ≤ 255 → is_name n ≡ true
 is_name-IsName n labels fits = and_from _ _ labels (le-leb _ _ fits)
 
 -- a name without its first label is a name
@@ -33,32 +33,39 @@ is_name-tail l n ok = grind (arith, IsName-is_name, is_name-IsName, and_parts, l
 pub is_label-head : (l : Octets) (n : DomainName) → is_name (l ∷ n) ≡ true → is_label l ≡ true
 is_label-head l n ok = (and_parts (is_label l) _ (IsName-is_name (l ∷ n) ok).labels).0
 
-pub length-wire-push : (n : DomainName) (l : Octets) → length (wire (n ++ l ∷ [])) ≡ length (wire n) + 1 + length l
+pub length-wire-push : (n : DomainName) (l : Octets)
+    → length (wire (n ++ l ∷ [])) ≡ length (wire n) + 1 + length l
 length-wire-push [] l = omega (arith, length-append l (0 ∷ []))
 length-wire-push (k ∷ n) l = grind (arith, length-append, (length-wire-push n l))
 
 -- a label more is a name, where there is room
-pub is_name-push : (n : DomainName) (l : Octets) → is_name n ≡ true → is_label l ≡ true → length (wire (n ++ l ∷ [])) ≤ 255 → is_name (n ++ l ∷ []) ≡ true
+pub is_name-push : (n : DomainName) (l : Octets) → is_name n ≡ true
+    → is_label l ≡ true → length (wire (n ++ l ∷ [])) ≤ 255 → is_name (n ++ l ∷ []) ≡ true
 is_name-push n l ok is_l fits = grind (arith, common_steps)
 
 -- the wire forms of names tell them apart
-pub wire-injective : (n m : DomainName) → is_name n ≡ true → is_name m ≡ true → wire n ≡ wire m → n ≡ m
+pub wire-injective : (n m : DomainName)
+    → is_name n ≡ true → is_name m ≡ true → wire n ≡ wire m → n ≡ m
 wire-injective [] [] p q e = refl
 wire-injective [] (k ∷ m) p q e = grind (arith, IsLabel-is_label, is_label-head)
 wire-injective (l ∷ n) [] p q e = grind (arith, IsLabel-is_label, is_label-head)
 wire-injective (l ∷ n) (k ∷ m) p q e =
     let as_long : length l ≡ length k = cc in
     let after : l ++ wire n ≡ k ++ wire m = cc in
-    let first : l ≡ k = sym (take_at l (wire n) _ as_long) ∙ ap (take (length k)) after ∙ take_at k (wire m) _ refl in
-    let rest : wire n ≡ wire m = sym (drop_at l (wire n) _ as_long) ∙ ap (drop (length k)) after ∙ drop_at k (wire m) _ refl in
+    let first : l ≡ k = sym (take_at l (wire n) _ as_long)
+    ∙ ap (take (length k)) after ∙ take_at k (wire m) _ refl in
+    let rest : wire n ≡ wire m = sym (drop_at l (wire n) _ as_long)
+    ∙ ap (drop (length k)) after ∙ drop_at k (wire m) _ refl in
     let others : n ≡ m = wire-injective n m (is_name-tail l n p) (is_name-tail k m q) rest in
     cc
 
 -- the tests of equality decide it
-pub octets_equal-decides : (xs ys : Octets) → (octets_equal xs ys ≡ true → xs ≡ ys) × (xs ≡ ys → octets_equal xs ys ≡ true)
+pub octets_equal-decides : (xs ys : Octets)
+    → (octets_equal xs ys ≡ true → xs ≡ ys) × (xs ≡ ys → octets_equal xs ys ≡ true)
 octets_equal-decides = pointwise_decides (λ x y. (eqb-true x y, eq-eqb x y))
 
-pub names_equal-decides : (n m : DomainName) → (names_equal n m ≡ true → n ≡ m) × (n ≡ m → names_equal n m ≡ true)
+pub names_equal-decides : (n m : DomainName)
+    → (names_equal n m ≡ true → n ≡ m) × (n ≡ m → names_equal n m ≡ true)
 names_equal-decides = pointwise_decides octets_equal-decides
 
 -- a test is another where each implies the other
@@ -66,7 +73,8 @@ pub same_tests : (a b : Bool) → (a ≡ true → b ≡ true) → (b ≡ true �
 same_tests a b h h1 = grind arith
 
 -- lengths on the wire are no letters, so folding leaves them alone
-pub map-lowercase-wire : (n : DomainName) → list_all is_label n ≡ true → map to_ascii_lowercase (wire n) ≡ wire (folded n)
+pub map-lowercase-wire : (n : DomainName)
+    → list_all is_label n ≡ true → map to_ascii_lowercase (wire n) ≡ wire (folded n)
 map-lowercase-wire [] ok = refl
 map-lowercase-wire (l ∷ n) ok =
     grind (arith, length-map, map-append, (map-lowercase-wire n (and_parts (is_label l) _ ok).1))
@@ -84,7 +92,9 @@ pub is_name-folded : (n : DomainName) → is_name n ≡ true → is_name (folded
 is_name-folded n ok = grind (arith, IsName-is_name, is_name-IsName, all_folded, length-wire-folded)
 
 -- two names are the same where their wire forms are, folded
-pub same-wire : (n m : DomainName) → is_name n ≡ true → is_name m ≡ true → (same n m ≡ true → map to_ascii_lowercase (wire n) ≡ map to_ascii_lowercase (wire m)) × (map to_ascii_lowercase (wire n) ≡ map to_ascii_lowercase (wire m) → same n m ≡ true)
+pub same-wire : (n m : DomainName) → is_name n ≡ true → is_name m ≡ true
+    → (same n m ≡ true → map to_ascii_lowercase (wire n) ≡ map to_ascii_lowercase (wire m))
+    × (map to_ascii_lowercase (wire n) ≡ map to_ascii_lowercase (wire m) → same n m ≡ true)
 same-wire n m p q =
     grind (arith, map-lowercase-wire, names_equal-decides, wire-injective, is_name-folded)
 
@@ -93,17 +103,21 @@ same-length n m h = grind (arith, names_equal-decides, length-map)
 
 pub same-length-wire : (n m : DomainName) → same n m ≡ true → length (wire n) ≡ length (wire m)
 same-length-wire n m h =
-    let e : length (wire (folded n)) ≡ length (wire (folded m)) = ap (λ k. length (wire k)) ((names_equal-decides (folded n) (folded m)).0 h) in
+    let e : length (wire (folded n)) ≡ length (wire (folded m)) =
+    ap (λ k. length (wire k)) ((names_equal-decides (folded n) (folded m)).0 h) in
     omega (arith, length-wire-folded n, length-wire-folded m)
 
--- a name with a label more at its front is at or below those that it is the same as, and those of the name
-pub at_or_below-cons : (l : Octets) (n a : DomainName) → at_or_below (l ∷ n) a ≡ (same (l ∷ n) a || at_or_below n a)
+-- a name with a label more at its front is at or below those that it is the same as, and those of
+-- the name
+pub at_or_below-cons : (l : Octets) (n a : DomainName)
+    → at_or_below (l ∷ n) a ≡ (same (l ∷ n) a || at_or_below n a)
 at_or_below-cons l n a = by_length (cases_order (length a) (suc (length n)))
   where
     other_length : (length (l ∷ n) ≡ length a → ⊥) → same (l ∷ n) a ≡ false
     other_length differ = false_from_ne_true _ (λ h. differ (same-length (l ∷ n) a h))
 
-    by_length : (length a ≡ suc (length n)) ⊎ ((length a < suc (length n)) ⊎ (suc (length n) < length a)) → at_or_below (l ∷ n) a ≡ (same (l ∷ n) a || at_or_below n a)
+    by_length : (length a ≡ suc (length n)) ⊎ ((length a < suc (length n))
+        ⊎ (suc (length n) < length a)) → at_or_below (l ∷ n) a ≡ (same (l ∷ n) a || at_or_below n a)
     by_length (inl e) = grind arith
     by_length (inr (inl h)) =
         let fits : nat_le (length a) (suc (length n)) ≡ true = le-leb _ _ (omega arith) in
@@ -119,18 +133,21 @@ length-wire-drop (suc k) [] = omega arith
 length-wire-drop (suc k) (l ∷ n) = omega (arith, length-wire-drop k n, length-append l (wire n))
 
 -- a name is as long on the wire as those that it is at or below, or longer
-pub at_or_below-length-wire : (n a : DomainName) → at_or_below n a ≡ true → length (wire a) ≤ length (wire n)
+pub at_or_below-length-wire : (n a : DomainName)
+    → at_or_below n a ≡ true → length (wire a) ≤ length (wire n)
 at_or_below-length-wire n a h = grind (arith, same-length-wire, and_parts, length-wire-drop)
 
 -- where n is no longer on the wire than a, it is at or below a only if it is the same
-pub at_or_below-short : (n a : DomainName) → length (wire n) ≤ length (wire a) → at_or_below n a ≡ same n a
+pub at_or_below-short : (n a : DomainName)
+    → length (wire n) ≤ length (wire a) → at_or_below n a ≡ same n a
 at_or_below-short [] [] h = refl
 at_or_below-short [] (k ∷ a) h = and_left _ _ (lt-leb (suc (length a)) 0 (omega arith))
 at_or_below-short (l ∷ n) a h =
     grind (arith, at_or_below-length-wire, length-append, at_or_below-cons)
 
 -- where n is longer, its first label doesn't matter
-pub at_or_below-long : (l : Octets) (n a : DomainName) → length (wire a) < length (wire (l ∷ n)) → at_or_below (l ∷ n) a ≡ at_or_below n a
+pub at_or_below-long : (l : Octets) (n a : DomainName)
+    → length (wire a) < length (wire (l ∷ n)) → at_or_below (l ∷ n) a ≡ at_or_below n a
 at_or_below-long l n a h = search (rules, false_from_ne_true, same-length-wire, at_or_below-cons)
 
 -- RFC 1035 2.3.4: a name has at most 127 labels besides the root
@@ -139,7 +156,8 @@ length-is_name n ok =
     let name = IsName-is_name n ok in
     omega (arith, length-wire_long n name.labels)
   where
-    length-wire_long : (n : DomainName) → list_all is_label n ≡ true → 2 * length n + 1 ≤ length (wire n)
+    length-wire_long : (n : DomainName)
+        → list_all is_label n ≡ true → 2 * length n + 1 ≤ length (wire n)
     length-wire_long [] ok = omega arith
     length-wire_long (l ∷ n) ok =
         let parts = and_parts (is_label l) _ ok in
@@ -147,10 +165,12 @@ length-is_name n ok =
         omega (arith, length-wire_long n parts.1, length-append l (wire n))
 
 -- the labels of two names, one after another
-pub length-wire-append : (n m : DomainName) → length (wire (n ++ m)) + 1 ≡ length (wire n) + length (wire m)
+pub length-wire-append : (n m : DomainName)
+    → length (wire (n ++ m)) + 1 ≡ length (wire n) + length (wire m)
 length-wire-append [] m = omega arith
 length-wire-append (l ∷ n) m = grind (arith, length-append, (length-wire-append n m))
 
 -- they are a name, where there is room
-pub is_name-append : (n m : DomainName) → is_name n ≡ true → is_name m ≡ true → length (wire (n ++ m)) ≤ 255 → is_name (n ++ m) ≡ true
+pub is_name-append : (n m : DomainName)
+    → is_name n ≡ true → is_name m ≡ true → length (wire (n ++ m)) ≤ 255 → is_name (n ++ m) ≡ true
 is_name-append n m p q fits = grind (arith, common_steps)

@@ -21,4 +21,5 @@ small_back (o ∷ x) y small = small_back x y (small_tail o (x ++ y) small)
 
 pub small_test : (d : Octets) → Small d → list_all (λ o. nat_lt o 256) d ≡ true
 small_test [] small = refl
-small_test (o ∷ d) small = and_from _ _ (lt-ltb o 256 (small_head o d small)) (small_test d (small_tail o d small))
+small_test (o ∷ d) small =
+    and_from _ _ (lt-ltb o 256 (small_head o d small)) (small_test d (small_tail o d small))

@@ -1,11 +1,10 @@
 -- Octets begin with a name's wire form exactly where `name_of` reads that name.
-use Rattle.std.proofs.Common.{◌≡◌, ℕ, zero, suc, ◌+◌, ◌<◌, ◌↔◌, Bool, true, false, nat_le, [], ◌∷◌, ◌++◌, length, take, drop, Option, None, Some, option_map, refl, sym, ap, ◌∙◌, arith, append_assoc, length-append, take-append-drop}
-use Rattle.dns_spec.proofs.Common.{list_all, and_parts, leb-true, none-some, same_Some, cond_some, option_and_then_some, take_at, drop_at, length-take-le, Octets, DomainName, wire, is_label, is_name, with_label, labels_from, name_of}
+use Rattle.dns_spec.proofs.Common.{◌≡◌, ℕ, zero, suc, ◌+◌, ◌<◌, ◌↔◌, Bool, true, false, nat_le, [], ◌∷◌, ◌++◌, length, take, drop, Option, None, Some, option_map, refl, sym, ap, ◌∙◌, arith, append_assoc, length-append, take-append-drop, list_all, and_parts, leb-true, none-some, same_Some, cond_some, option_and_then_some, take_at, drop_at, length-take-le, Octets, DomainName, wire, is_label, is_name, with_label, labels_from, name_of}
 use Rattle.dns_spec.proofs.DomainNames.NameLaws.{IsLabel-is_label, IsName-is_name}
 
 -- fewer than k labels, written as they are on the wire, are read again
-pub labels_taken : (k : ℕ) (n : DomainName) (rest : Octets) → list_all is_label n ≡ true → length n < k
-    → labels_from k (wire n ++ rest) ≡ Some (n, rest)
+pub labels_taken : (k : ℕ) (n : DomainName) (rest : Octets)
+    → list_all is_label n ≡ true → length n < k → labels_from k (wire n ++ rest) ≡ Some (n, rest)
 unfolding labels_from
 labels_taken zero n rest ok few = absurd (omega arith)
 labels_taken (suc k) [] rest ok few = refl
@@ -20,12 +19,14 @@ few_labels (l ∷ n) ok =
     grind (arith, (few_labels n (and_parts (is_label l) (list_all is_label n) ok).1), length-append)
 
 -- a name's wire form is that name, and what follows it
-pub name_of-wire : (n : DomainName) (rest : Octets) → is_name n ≡ true → name_of (wire n ++ rest) ≡ Some (n, rest)
+pub name_of-wire : (n : DomainName) (rest : Octets)
+    → is_name n ≡ true → name_of (wire n ++ rest) ≡ Some (n, rest)
 name_of-wire n rest ok = grind (arith, IsName-is_name, labels_taken, few_labels)
 
 -- the labels that octets are read as stand there in wire form, before the rest
 abbrev LabelsRead : ℕ → Octets → Type 0
-LabelsRead k os = (n : DomainName) (rest : Octets) → labels_from k os ≡ Some (n, rest) → os ≡ wire n ++ rest
+LabelsRead k os =
+    (n : DomainName) (rest : Octets) → labels_from k os ≡ Some (n, rest) → os ≡ wire n ++ rest
 
 labels_read : (k : ℕ) (os : Octets) → LabelsRead k os
 unfolding labels_from
@@ -33,24 +34,31 @@ labels_read zero os n rest h = absurd (none-some (n, rest) h)
 labels_read (suc k) [] n rest h = absurd (none-some (n, rest) h)
 labels_read (suc k) (zero ∷ os) n rest h = grind (arith, same_Some)
 labels_read (suc k) (suc i ∷ os) n rest h =
-    by_room (λ m tail e. labels_read k (drop (suc i) os) m tail e) (nat_le (suc i) (length os)) refl h
+    by_room
+    (λ m tail e. labels_read k (drop (suc i) os) m tail e) (nat_le (suc i) (length os)) refl h
   where
     l : Octets
     l = take (suc i) os
 
-    with_first : LabelsRead k (drop (suc i) os) → (y : Option (DomainName × Octets)) → labels_from k (drop (suc i) os) ≡ y → length l ≡ suc i
+    with_first : LabelsRead k (drop (suc i) os) → (y : Option (DomainName × Octets))
+        → labels_from k (drop (suc i) os) ≡ y → length l ≡ suc i
         → option_map (with_label l) y ≡ Some (n, rest) → suc i ∷ os ≡ wire n ++ rest
     with_first again None e long f = absurd (none-some (n, rest) f)
     with_first again (Some (m, tail)) e long f =
         grind (arith, take-append-drop, append_assoc, same_Some, l)
 
-    by_room : LabelsRead k (drop (suc i) os) → (b : Bool) → nat_le (suc i) (length os) ≡ b
-        → ◌≡◌ {A = Option (DomainName × Octets)} (elim b [ true ↦ option_map (with_label l) (labels_from k (drop (suc i) os)) | false ↦ None ]) (Some (n, rest))
-        → suc i ∷ os ≡ wire n ++ rest
-    by_room again true e f = with_first again (labels_from k (drop (suc i) os)) refl (length-take-le (suc i) os (leb-true _ _ e)) f
+    by_room : LabelsRead k (drop (suc i) os) → (b : Bool) → nat_le (suc i) (length os) ≡ b → ◌≡◌
+        {A = Option (DomainName × Octets)} (elim b [
+          | true ↦ option_map (with_label l) (labels_from k
+              (drop (suc i) os))
+          | false ↦ None
+        ]) (Some (n, rest)) → suc i ∷ os ≡ wire n ++ rest
+    by_room again true e f = with_first again
+        (labels_from k (drop (suc i) os)) refl (length-take-le (suc i) os (leb-true _ _ e)) f
     by_room again false e f = absurd (none-some (n, rest) f)
 
-pub name_read : (os : Octets) (n : DomainName) (rest : Octets) → name_of os ≡ Some (n, rest) → (is_name n ≡ true) × (os ≡ wire n ++ rest)
+pub name_read : (os : Octets) (n : DomainName) (rest : Octets)
+    → name_of os ≡ Some (n, rest) → (is_name n ≡ true) × (os ≡ wire n ++ rest)
 name_read os n rest h = grind (arith, option_and_then_some, cond_some, labels_read)
 
 pub name_of_reads : (octets : Octets) (n : DomainName) (rest : Octets)
@@ -58,16 +66,19 @@ pub name_of_reads : (octets : Octets) (n : DomainName) (rest : Octets)
 name_of_reads octets n rest = grind (arith, name_read, name_of-wire)
 
 -- labels of octets and what follows them are told apart by the octets
-pub wire_fronts_agree : (n m : DomainName) (rest tail : Octets) → list_all is_label n ≡ true → list_all is_label m ≡ true
-    → wire n ++ rest ≡ wire m ++ tail → (n ≡ m) × (rest ≡ tail)
+pub wire_fronts_agree : (n m : DomainName) (rest tail : Octets) → list_all is_label n ≡ true
+    → list_all is_label m ≡ true → wire n ++ rest ≡ wire m ++ tail → (n ≡ m) × (rest ≡ tail)
 wire_fronts_agree [] [] rest tail p q e = (refl, ap (drop 1) e)
 wire_fronts_agree [] (k ∷ m) rest tail p q e = grind (arith, IsLabel-is_label, and_parts)
 wire_fronts_agree (l ∷ n) [] rest tail p q e = grind (arith, IsLabel-is_label, and_parts)
 wire_fronts_agree (l ∷ n) (k ∷ m) rest tail p q e =
     let as_long : length l ≡ length k = cc in
     let after : l ++ (wire n ++ rest) ≡ k ++ (wire m ++ tail) = grind (arith, append_assoc) in
-    let first : l ≡ k = sym (take_at l (wire n ++ rest) _ as_long) ∙ ap (take (length k)) after ∙ take_at k (wire m ++ tail) _ refl in
+    let first : l ≡ k = sym (take_at l (wire n ++ rest) _ as_long)
+    ∙ ap (take (length k)) after ∙ take_at k (wire m ++ tail) _ refl in
     let others : wire n ++ rest ≡ wire m ++ tail =
-    sym (drop_at l (wire n ++ rest) _ as_long) ∙ ap (drop (length k)) after ∙ drop_at k (wire m ++ tail) _ refl in
-    let agree = wire_fronts_agree n m rest tail (and_parts (is_label l) (list_all is_label n) p).1 (and_parts (is_label k) (list_all is_label m) q).1 others in
+    sym (drop_at l (wire n ++ rest) _ as_long)
+    ∙ ap (drop (length k)) after ∙ drop_at k (wire m ++ tail) _ refl in
+    let agree = wire_fronts_agree n m rest tail (and_parts (is_label l) (list_all is_label n) p).1
+    (and_parts (is_label k) (list_all is_label m) q).1 others in
     (ap (λ z. z ∷ n) first ∙ ap (λ z. k ∷ z) agree.0, agree.1)

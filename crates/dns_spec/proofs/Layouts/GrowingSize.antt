@@ -1,45 +1,54 @@
--- The size of a layout grows with each set. So the greatest number of sets that fits is reached by stopping at the first
+-- The size of a layout grows with each set. So the greatest number of sets that fits is reached by
+-- stopping at the first
 -- that does not.
-use Rattle.std.proofs.Common.{◌≡◌, ℕ, zero, suc, ◌+◌, ◌≤◌, Bool, true, false, cond, nat_le, List, [], ◌∷◌, ◌++◌, length, take, Option, refl, sym, ap, ◌∙◌, arith, append_assoc, append-nil, le-leb, leb-true}
-use Rattle.std.proofs.lemmas.List.Concat.{flat_map-append}
-use Rattle.dns_spec.proofs.Common.{ResourceRecord, MessageQuestion, Item, Placed, record_size, record_names, records_size, size}
-use Rattle.dns_spec.specs.Reply.{kept, fitting, greatest}
+use Rattle.dns_spec.proofs.Common.{◌≡◌, ℕ, zero, suc, ◌+◌, ◌≤◌, Bool, true, false, cond, nat_le, List, [], ◌∷◌, ◌++◌, length, take, Option, refl, sym, ap, ◌∙◌, arith, append_assoc, append-nil, le-leb, leb-true, flat_map-append, ResourceRecord, MessageQuestion, Item, Placed, record_size, record_names, records_size, size, kept, fitting, greatest}
 
-records_grow : (ms : List Placed) (p : ℕ) (rs ss : List ResourceRecord) → records_size ms p rs ≤ records_size ms p (rs ++ ss)
+records_grow : (ms : List Placed) (p : ℕ) (rs ss : List ResourceRecord)
+    → records_size ms p rs ≤ records_size ms p (rs ++ ss)
 unfolding records_size
 records_grow ms p [] ss = omega arith
-records_grow ms p (r ∷ rs) ss = let h = records_grow (ms ++ record_names ms p r) (p + record_size ms p r) rs ss in omega (arith, h)
+records_grow ms p (r ∷ rs) ss = let h =
+    records_grow (ms ++ record_names ms p r) (p + record_size ms p r) rs ss in omega (arith, h)
 
 pub size_grows : (q : Option MessageQuestion) (is js : List Item) → size q is ≤ size q (is ++ js)
 unfolding size
 size_grows q is js = grind (arith, flat_map-append, records_grow)
 
--- where no later number passes a test that 1 fails, the greatest that passes is one more than that of the test after it
+-- where no later number passes a test that 1 fails, the greatest that passes is one more than that
+-- of the test after it
 pub greatest-first : (test : ℕ → Bool) (n : ℕ) → ((k : ℕ) → test (suc k) ≡ true → test 1 ≡ true)
     → greatest test (suc n) ≡ cond (test 1) (suc (greatest (λ k. test (suc k)) n)) 0
 greatest-first test zero h = refl
 greatest-first test (suc n) h = grind (arith, (greatest-first test n h))
 
-module _ (size_of : List Item → ℕ) (grows : (is js : List Item) → size_of is ≤ size_of (is ++ js)) (limit : ℕ) where
-  fits_before : (is js : List Item) → nat_le (size_of (is ++ js)) limit ≡ true → nat_le (size_of is) limit ≡ true
+module _ (size_of : List Item → ℕ)
+    (grows : (is js : List Item) → size_of is ≤ size_of (is ++ js)) (limit : ℕ) where
+  fits_before : (is js : List Item)
+      → nat_le (size_of (is ++ js)) limit ≡ true → nat_le (size_of is) limit ≡ true
   fits_before is js e = grind (arith, leb-true, le-leb)
 
-  stops : (front is : List Item) → fitting size_of limit front is ≡ front ++ take (greatest (λ k. nat_le (size_of (front ++ take k is)) limit) (length is)) is
+  stops : (front is : List Item) → fitting size_of limit front is
+      ≡ front ++ take (greatest (λ k. nat_le (size_of (front ++ take k is)) limit) (length is)) is
   stops front [] = sym (append-nil front)
   stops front (i ∷ is) =
       let next = front ++ i ∷ [] in
       let test : ℕ → Bool = λ k. nat_le (size_of (front ++ take k (i ∷ is))) limit in
-      let same : (k : ℕ) → next ++ take k is ≡ front ++ i ∷ take k is = λ k. append_assoc front (i ∷ []) (take k is) in
-      let later : (λ (k : ℕ). nat_le (size_of (next ++ take k is)) limit) ≡ (λ (k : ℕ). test (suc k)) = λ j k. nat_le (size_of (same k j)) limit in
-      let first : (k : ℕ) → test (suc k) ≡ true → test 1 ≡ true = λ k e. fits_before next (take k is) (ap (λ x. nat_le (size_of x) limit) (same k) ∙ e) in
+      let same : (k : ℕ) → next ++ take k is ≡ front ++ i ∷ take k is =
+      λ k. append_assoc front (i ∷ []) (take k is) in
+      let later : (λ (k : ℕ). nat_le (size_of (next ++ take k is)) limit)
+      ≡ (λ (k : ℕ). test (suc k)) = λ j k. nat_le (size_of (same k j)) limit in
+      let first : (k : ℕ) → test (suc k) ≡ true → test 1 ≡ true =
+      λ k e. fits_before next (take k is) (ap (λ x. nat_le (size_of x) limit) (same k) ∙ e) in
       go (test 1) (stops next is ∙ (λ j. next ++ take (greatest (later j) (length is)) is))
       ∙ ap (λ n. front ++ take n (i ∷ is)) (sym (greatest-first test (length is) first))
     where
-      go : (b : Bool)
-          → fitting size_of limit (front ++ i ∷ []) is ≡ (front ++ i ∷ []) ++ take (greatest (λ k. nat_le (size_of (front ++ take (suc k) (i ∷ is))) limit) (length is)) is
-          → cond b (fitting size_of limit (front ++ i ∷ []) is) front
-          ≡ front ++ take (cond b (suc (greatest (λ k. nat_le (size_of (front ++ take (suc k) (i ∷ is))) limit) (length is))) 0) (i ∷ is)
-      go true e = e ∙ append_assoc front (i ∷ []) (take (greatest (λ k. nat_le (size_of (front ++ take (suc k) (i ∷ is))) limit) (length is)) is)
+      go : (b : Bool) → fitting size_of limit (front ++ i ∷ []) is ≡ (front ++ i ∷ []) ++ take
+          (greatest (λ k. nat_le (size_of (front ++ take (suc k) (i ∷ is))) limit) (length is)) is
+          → cond b (fitting size_of limit (front ++ i ∷ []) is) front ≡ front ++ take (cond b (suc
+          (greatest (λ k. nat_le (size_of (front ++ take (suc k) (i ∷ is))) limit) (length is))) 0)
+          (i ∷ is)
+      go true e = e ∙ append_assoc front (i ∷ []) (take
+          (greatest (λ k. nat_le (size_of (front ++ take (suc k) (i ∷ is))) limit) (length is)) is)
       go false e = sym (append-nil front)
 
   pub kept_is_fitting : (is : List Item) → kept size_of limit is ≡ fitting size_of limit [] is

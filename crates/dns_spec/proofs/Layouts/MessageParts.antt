@@ -1,7 +1,5 @@
 -- Header, question and sections of a layout, read back where they stand.
-use Rattle.dns_spec.proofs.Common.{◌≡◌, ℕ, ◌+◌, ◌^◌, ◌<◌, Bool, true, false, cond, nat_le, List, [], ◌∷◌, ◌++◌, length, Option, IfSome, refl, ◌∙◌, subst, arith, append_assoc, length-append, and_parts, leb-true, list_all, option_to_list, Octets, wire, is_name, Header, MessageQuestion, NumberAt, QuestionsAt}
-use Rattle.dns_spec.specs.Layout.{octets16, Section, answer, authority, additional, Item, is_section, records_of, in_section, question_octets, asked_octets, header_octets}
-use Rattle.dns_spec.specs.Laws.{section_rank, sections_in_order, IsAskable}
+use Rattle.dns_spec.proofs.Common.{◌≡◌, ℕ, ◌+◌, ◌^◌, ◌<◌, Bool, true, false, cond, nat_le, List, [], ◌∷◌, ◌++◌, length, Option, IfSome, refl, ◌∙◌, subst, arith, append_assoc, length-append, and_parts, leb-true, list_all, option_to_list, Octets, wire, is_name, Header, MessageQuestion, NumberAt, QuestionsAt, octets16, Section, answer, authority, additional, Item, is_section, records_of, in_section, question_octets, asked_octets, header_octets, section_rank, sections_in_order, IsAskable}
 use Rattle.dns_spec.proofs.Messages.Places.{Stands, stands_front, stands_rest, stands_after, number_at, name_written}
 
 -- sets in the order of their sections are those of the answer, of authority, and additional
@@ -16,28 +14,33 @@ section_empty : (s : Section) (n : ℕ) (is : List Item) → section_rank s < n
     → list_all (λ (j : Item). nat_le n (section_rank j.section)) is ≡ true → in_section s is ≡ []
 section_empty s n [] h all = refl
 section_empty s n (i ∷ is) h all =
-    let p = and_parts (nat_le n (section_rank i.section)) (list_all (λ (j : Item). nat_le n (section_rank j.section)) is) all in
+    let p = and_parts (nat_le n (section_rank i.section))
+    (list_all (λ (j : Item). nat_le n (section_rank j.section)) is) all in
     let later = leb-true n (section_rank i.section) p.0 in
-    section_with s i is false (other_section s i.section (omega (arith, later))) ∙ section_empty s n is h p.1
+    section_with s i is false (other_section s i.section (omega (arith, later)))
+    ∙ section_empty s n is h p.1
 
-pub records_by_section : (items : List Item) → sections_in_order items ≡ true
-    → records_of items ≡ in_section answer items ++ (in_section authority items ++ in_section additional items)
+pub records_by_section : (items : List Item) → sections_in_order items ≡ true → records_of items
+    ≡ in_section answer items ++ (in_section authority items ++ in_section additional items)
 records_by_section [] h = refl
 records_by_section (i ∷ is) h =
-    let p = and_parts (list_all (λ (j : Item). nat_le (section_rank i.section) (section_rank j.section)) is) (sections_in_order is) h in
+    let p = and_parts (list_all (λ (j : Item). nat_le
+    (section_rank i.section) (section_rank j.section)) is) (sections_in_order is) h in
     go i.section refl (records_by_section is p.1) p.0
   where
-    go : (s : Section) → i.section ≡ s → records_of is ≡ in_section answer is ++ (in_section authority is ++ in_section additional is)
-        → list_all (λ (j : Item). nat_le (section_rank i.section) (section_rank j.section)) is ≡ true
-        → i.records ++ records_of is ≡ in_section answer (i ∷ is) ++ (in_section authority (i ∷ is) ++ in_section additional (i ∷ is))
+    go : (s : Section) → i.section ≡ s → records_of is ≡ in_section answer is ++ (in_section
+        authority is ++ in_section additional is) → list_all (λ (j : Item). nat_le (section_rank
+        i.section) (section_rank j.section)) is ≡ true → i.records ++ records_of is ≡ in_section
+        answer (i ∷ is) ++ (in_section authority (i ∷ is) ++ in_section additional (i ∷ is))
     go answer e rest later = grind (arith, section_with, append_assoc)
     go authority e rest later = grind (arith, section_empty, section_with, append_assoc)
     go additional e rest later = grind (arith, section_empty, section_with)
 
 -- the header, field by field
-pub header_at : {b : Octets} (h : Header) (qd an ns ar : ℕ) → h.id < 2 ^ 16 → h.flags < 2 ^ 16 → qd < 2 ^ 16 → an < 2 ^ 16 → ns < 2 ^ 16 → ar < 2 ^ 16
-    → Stands b 0 (header_octets h qd an ns ar)
-    → NumberAt b 0 2 h.id × NumberAt b 2 2 h.flags × NumberAt b 4 2 qd × NumberAt b 6 2 an × NumberAt b 8 2 ns × NumberAt b 10 2 ar
+pub header_at : {b : Octets} (h : Header) (qd an ns ar : ℕ)
+    → h.id < 2 ^ 16 → h.flags < 2 ^ 16 → qd < 2 ^ 16 → an < 2 ^ 16 → ns < 2 ^ 16 → ar < 2 ^ 16
+    → Stands b 0 (header_octets h qd an ns ar) → NumberAt b 0 2 h.id × NumberAt b 2 2 h.flags
+    × NumberAt b 4 2 qd × NumberAt b 6 2 an × NumberAt b 8 2 ns × NumberAt b 10 2 ar
 header_at {b} h qd an ns ar id flags qd-low an-low ns-low ar-low at =
     let o = octets16 h.id in
     let f = octets16 h.flags in
@@ -57,23 +60,28 @@ header_at {b} h qd an ns ar id flags qd-low an-low ns-low ar-low at =
       number_at 2 ar ar-low (stands_after 10 (o ++ f ++ q ++ a ++ n) r refl at),
     )
 
-pub length-question_octets : (q : MessageQuestion) → length (question_octets q) ≡ length (wire q.qname) + 4
+pub length-question_octets : (q : MessageQuestion)
+    → length (question_octets q) ≡ length (wire q.qname) + 4
 length-question_octets q = grind (arith, length-append)
 
 -- the question after the header
-pub question_at_12 : {b : Octets} (q : MessageQuestion) → is_name q.qname ≡ true → q.qtype < 2 ^ 16 → q.qclass < 2 ^ 16
+pub question_at_12 : {b : Octets} (q : MessageQuestion)
+    → is_name q.qname ≡ true → q.qtype < 2 ^ 16 → q.qclass < 2 ^ 16
     → Stands b 12 (question_octets q) → QuestionsAt b 12 (q ∷ []) (12 + length (question_octets q))
 question_at_12 {b} q name qtype qclass at =
     let n = wire q.qname in
     let t = octets16 q.qtype in
     let c = octets16 q.qclass in
     let upto_type : Stands b 12 (n ++ t) = stands_front (n ++ t) c at in
-    let len : length (n ++ t ++ c) ≡ length n + 4 = length-append (n ++ t) c ∙ omega (arith, length-append n t) in
-    let class_place : 12 + length (n ++ t) ≡ 12 + length n + 2 = omega (arith, length-append n t) in (
+    let len : length (n ++ t ++ c) ≡ length n + 4 =
+    length-append (n ++ t) c ∙ omega (arith, length-append n t) in
+    let class_place : 12 + length (n ++ t) ≡ 12 + length n + 2 =
+    omega (arith, length-append n t) in (
       12 + length n,
       name_written q.qname name (stands_front n t upto_type),
       number_at 2 q.qtype qtype (stands_rest n t upto_type),
-      number_at 2 q.qclass qclass (subst (λ x. Stands b x c) class_place (stands_rest (n ++ t) c at)),
+      number_at 2 q.qclass qclass
+          (subst (λ x. Stands b x c) class_place (stands_rest (n ++ t) c at)),
       omega (arith, len),
     )
 
@@ -81,6 +89,6 @@ question_at_12 {b} q name qtype qclass at =
 pub one_question : (q : Option MessageQuestion) → length (option_to_list q) < 2 ^ 16
 one_question q = grind arith
 
-pub asked_at_12 : {b : Octets} (q : Option MessageQuestion) → IfSome q IsAskable → Stands b 12 (asked_octets q)
-    → QuestionsAt b 12 (option_to_list q) (12 + length (asked_octets q))
+pub asked_at_12 : {b : Octets} (q : Option MessageQuestion) → IfSome q IsAskable → Stands b 12
+    (asked_octets q) → QuestionsAt b 12 (option_to_list q) (12 + length (asked_octets q))
 asked_at_12 q h h1 = grind (arith, question_at_12)

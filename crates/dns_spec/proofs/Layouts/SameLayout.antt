@@ -1,6 +1,6 @@
--- Up to 16,384 octets the layout is the one without bound: all its places are in reach of a pointer.
-use Rattle.dns_spec.proofs.Common.{◌≡◌, ℕ, ◌+◌, ◌-◌, ◌<◌, ◌≤◌, true, ◌⊎◌, inl, inr, List, [], ◌∷◌, ◌++◌, length, drop, Option, None, Some, refl, sym, ap, ◌∙◌, subst, arith, append_assoc, append-nil, length-append, none-some, Octets, DomainName, wire, Part, octets, name, ResourceRecord, Header, MessageQuestion, reach, Item, Placed, has_suffix, suffix_place, place_of, shared_octets, Laid, laid_front, data_laid, record_laid, parts_of, record_tail, records_octets, asked_octets, asked_placed, layout, size}
-use Rattle.dns_spec.specs.UnboundedLayout.{unbounded_octets, unbounded_data, unbounded_record, unbounded_records, unbounded_layout, unbounded_size}
+-- Up to 16,384 octets the layout is the one without bound: all its places are in reach of a
+-- pointer.
+use Rattle.dns_spec.proofs.Common.{◌≡◌, ℕ, ◌+◌, ◌-◌, ◌<◌, ◌≤◌, true, ◌⊎◌, inl, inr, List, [], ◌∷◌, ◌++◌, length, drop, Option, None, Some, refl, sym, ap, ◌∙◌, subst, arith, append_assoc, append-nil, length-append, none-some, Octets, DomainName, wire, Part, octets, name, ResourceRecord, Header, MessageQuestion, reach, Item, Placed, has_suffix, suffix_place, place_of, shared_octets, Laid, laid_front, data_laid, record_laid, parts_of, record_tail, records_octets, asked_octets, asked_placed, layout, size, unbounded_octets, unbounded_data, unbounded_record, unbounded_records, unbounded_layout, unbounded_size}
 use Rattle.dns_spec.proofs.Layouts.LayoutSize.{length-layout, length-record_tail}
 use Rattle.dns_spec.proofs.Layouts.UnboundedSize.{length-unbounded_layout}
 use Rattle.dns_spec.proofs.Layouts.SharedNames.{suffix_from, place_again, place_pushed, shared_none, shared_whole, shared_some, shared_alone}
@@ -10,28 +10,36 @@ use Rattle.dns_spec.proofs.Layouts.MessageParts.{length-question_octets}
 abbrev Low : List Placed → Type 0
 Low ms = (l : Octets) (n : DomainName) (p : ℕ) → place_of ms (l ∷ n) ≡ Some p → p < reach
 
-same_octets : (ms : List Placed) → Low ms → (n : DomainName) → shared_octets ms n ≡ unbounded_octets ms n
+same_octets : (ms : List Placed)
+    → Low ms → (n : DomainName) → shared_octets ms n ≡ unbounded_octets ms n
 unfolding shared_octets unbounded_octets
 same_octets ms low [] = refl
 same_octets ms low (l ∷ n) = grind (arith, (same_octets ms low n))
 
 -- a suffix that is new begins among the octets laid out
-pub begins_inside : (ms : List Placed) (n front : DomainName) (l : Octets) (t : DomainName) → n ≡ front ++ l ∷ t → place_of ms (l ∷ t) ≡ None
-    → (length (wire (l ∷ t)) ≤ length (wire n)) × (length (wire n) - length (wire (l ∷ t)) < length (shared_octets ms n))
+pub begins_inside : (ms : List Placed) (n front : DomainName) (l : Octets) (t : DomainName)
+    → n ≡ front ++ l ∷ t → place_of ms (l ∷ t) ≡ None → (length (wire (l ∷ t)) ≤ length (wire n))
+    × (length (wire n) - length (wire (l ∷ t)) < length (shared_octets ms n))
 begins_inside ms n [] l t e none = grind (arith, shared_some)
 begins_inside ms [] (x ∷ front) l t e none = absurd (let z = ap length e in omega (arith, z))
 begins_inside ms (k ∷ n) (x ∷ front) l t e none =
     let r = begins_inside ms n front l t (ap (λ (y : DomainName). drop 1 y) e) none in
-    let out = shared_none ms (k ∷ n) (place_again ms (k ∷ n) (l ∷ t) (record { front = x ∷ front; whole = e }) none) in
-    let longer : length (wire (k ∷ n)) ≡ 1 + length k + length (wire n) = omega (arith, length-append k (wire n)) in
+    let out = shared_none ms
+    (k ∷ n) (place_again ms (k ∷ n) (l ∷ t) (record { front = x ∷ front; whole = e }) none) in
+    let longer : length (wire (k ∷ n)) ≡ 1 + length k + length (wire n) =
+    omega (arith, length-append k (wire n)) in
     let short = r.0 in
-    let inside = r.1 in
-    (omega (arith, longer, short), omega (arith, longer, short, inside, ap length (shared_whole ms k n out), length-append k (shared_octets ms n)))
+    let inside = r.1 in (
+      omega (arith, longer, short),
+      grind (arith, shared_whole, length-append, shared_octets),
+    )
 
-low_more : (ms : List Placed) → Low ms → (n : DomainName) (i : ℕ) → i + length (shared_octets ms n) ≤ reach → Low (ms ++ (n, i) ∷ [])
+low_more : (ms : List Placed) → Low ms
+    → (n : DomainName) (i : ℕ) → i + length (shared_octets ms n) ≤ reach → Low (ms ++ (n, i) ∷ [])
 low_more ms low n i room l t p e = go (place_pushed ms (n, i) (l ∷ t) p e)
   where
-    go : (place_of ms (l ∷ t) ≡ Some p) ⊎ ((place_of ms (l ∷ t) ≡ None) × (has_suffix n (l ∷ t) ≡ true) × (suffix_place (n, i) (l ∷ t) ≡ p)) → p < reach
+    go : (place_of ms (l ∷ t) ≡ Some p) ⊎ ((place_of ms (l ∷ t) ≡ None)
+        × (has_suffix n (l ∷ t) ≡ true) × (suffix_place (n, i) (l ∷ t) ≡ p)) → p < reach
     go (inl f) = low l t p f
     go (inr f) =
         let s = suffix_from n (l ∷ t) f.1 in
@@ -56,17 +64,22 @@ record SameData (ms : List Placed) (a b : Laid) : Type 0 where
 
 -- data after octets, and after a name, from that after it
 abbrev Again : List Part → Type 0
-Again ps = (ms : List Placed) (p : ℕ) → Low ms → Ends p (data_laid ms p ps).written (unbounded_data ms p ps).written → SameData ms (data_laid ms p ps) (unbounded_data ms p ps)
+Again ps = (ms : List Placed) (p : ℕ) → Low ms → Ends p (data_laid ms p ps).written
+    (unbounded_data ms p ps).written → SameData ms (data_laid ms p ps) (unbounded_data ms p ps)
 
-same_name : (ms : List Placed) (p : ℕ) (n : DomainName) (ps : List Part) → Low ms → Again ps → Ends p (data_laid ms p (name n ∷ ps)).written (unbounded_data ms p (name n ∷ ps)).written
+same_name : (ms : List Placed) (p : ℕ) (n : DomainName) (ps : List Part) → Low ms → Again ps
+    → Ends p (data_laid ms p (name n ∷ ps)).written (unbounded_data ms p (name n ∷ ps)).written
     → SameData ms (data_laid ms p (name n ∷ ps)) (unbounded_data ms p (name n ∷ ps))
 unfolding data_laid unbounded_data
 same_name ms p n ps low again = subst Same (same_octets ms low n) same
   where
     Same : Octets → Type 0
     Same x =
-        Ends p (shared_octets ms n ++ (data_laid (ms ++ (n, p) ∷ []) (p + length (shared_octets ms n)) ps).written) (x ++ (unbounded_data (ms ++ (n, p) ∷ []) (p + length x) ps).written)
-        → SameData ms (laid_front (shared_octets ms n) ((n, p) ∷ []) (data_laid (ms ++ (n, p) ∷ []) (p + length (shared_octets ms n)) ps)) (laid_front x ((n, p) ∷ []) (unbounded_data (ms ++ (n, p) ∷ []) (p + length x) ps))
+        Ends p (shared_octets ms n ++ (data_laid (ms ++ (n, p) ∷ [])
+        (p + length (shared_octets ms n)) ps).written) (x ++ (unbounded_data (ms ++ (n, p) ∷ [])
+        (p + length x) ps).written) → SameData ms (laid_front (shared_octets ms n)
+        ((n, p) ∷ []) (data_laid (ms ++ (n, p) ∷ []) (p + length (shared_octets ms n)) ps))
+        (laid_front x ((n, p) ∷ []) (unbounded_data (ms ++ (n, p) ∷ []) (p + length x) ps))
 
     same : Same (shared_octets ms n)
     same ends =
@@ -75,30 +88,43 @@ same_name ms p n ps low again = subst Same (same_octets ms low n) same
         let next : ℕ = p + length o in
         let later = data_laid earlier next ps in
         let others = unbounded_data earlier next ps in
-        let r = again earlier next (low_more ms low n p (ends_front p o later.written others.written ends)) (ends_rest p next o later.written others.written refl ends) in
-        record { same = ap (laid_front o ((n, p) ∷ [])) r.same; low = subst Low (append_assoc ms ((n, p) ∷ []) later.names) r.low }
+        let r = again earlier next (low_more ms low n p (ends_front p o later.written
+        others.written ends)) (ends_rest p next o later.written others.written refl ends) in
+        record {
+          same = ap (laid_front o ((n, p) ∷ [])) r.same;
+          low = subst Low (append_assoc ms ((n, p) ∷ []) later.names) r.low;
+        }
 
 same_data : (ps : List Part) → Again ps
 unfolding data_laid unbounded_data
 same_data [] ms p low ends = record { same = refl; low = subst Low (sym (append-nil ms)) low }
 same_data (octets o ∷ ps) ms p low ends =
     let next : ℕ = p + length o in
-    let r = same_data ps ms next low (ends_rest p next o (data_laid ms next ps).written (unbounded_data ms next ps).written refl ends) in
+    let r = same_data ps ms next low (ends_rest p next o
+    (data_laid ms next ps).written (unbounded_data ms next ps).written refl ends) in
     record { same = ap (laid_front o []) r.same; low = r.low }
 same_data (name n ∷ ps) ms p low ends = same_name ms p n ps low (same_data ps) ends
 
 -- so it is for a record
-same_record : (ms : List Placed) (p : ℕ) (r : ResourceRecord) → Low ms → Ends p (record_laid ms p r).written (unbounded_record ms p r).written
+same_record : (ms : List Placed) (p : ℕ) (r : ResourceRecord)
+    → Low ms → Ends p (record_laid ms p r).written (unbounded_record ms p r).written
     → SameData ms (record_laid ms p r) (unbounded_record ms p r)
 same_record ms p r low = subst Same (same_octets ms low r.owner) same
   where
     Laying : (Octets → Laid) → Octets → Laid
-    Laying data_of o = record { written = o ++ record_tail r (data_of o).written; names = (r.owner, p) ∷ (data_of o).names }
+    Laying data_of o = record {
+      written = o ++ record_tail r (data_of o).written;
+      names = (r.owner, p) ∷ (data_of o).names;
+    }
 
     Same : Octets → Type 0
     Same x =
-        Ends p (Laying (λ o. data_laid (ms ++ (r.owner, p) ∷ []) (p + length o + 10) (parts_of r)) (shared_octets ms r.owner)).written (Laying (λ o. unbounded_data (ms ++ (r.owner, p) ∷ []) (p + length o + 10) (parts_of r)) x).written
-        → SameData ms (Laying (λ o. data_laid (ms ++ (r.owner, p) ∷ []) (p + length o + 10) (parts_of r)) (shared_octets ms r.owner)) (Laying (λ o. unbounded_data (ms ++ (r.owner, p) ∷ []) (p + length o + 10) (parts_of r)) x)
+        Ends p (Laying (λ o. data_laid (ms ++ (r.owner, p) ∷ []) (p + length o + 10) (parts_of r))
+        (shared_octets ms r.owner)).written (Laying (λ o. unbounded_data
+        (ms ++ (r.owner, p) ∷ []) (p + length o + 10) (parts_of r)) x).written → SameData ms
+        (Laying (λ o. data_laid (ms ++ (r.owner, p) ∷ []) (p + length o + 10) (parts_of r))
+        (shared_octets ms r.owner)) (Laying
+        (λ o. unbounded_data (ms ++ (r.owner, p) ∷ []) (p + length o + 10) (parts_of r)) x)
 
     same : Same (shared_octets ms r.owner)
     same ends =
@@ -108,18 +134,25 @@ same_record ms p r low = subst Same (same_octets ms low r.owner) same
         let d = data_laid earlier next (parts_of r) in
         let e = unbounded_data earlier next (parts_of r) in
         let front = ends_front p o (record_tail r d.written) (record_tail r e.written) ends in
-        let tail : Ends (p + length o) (record_tail r d.written) (record_tail r e.written) = ends_rest p (p + length o) o (record_tail r d.written) (record_tail r e.written) refl ends in
-        let s = same_data (parts_of r) earlier next (low_more ms low r.owner p front) (after d.written e.written tail) in
+        let tail : Ends (p + length o) (record_tail r d.written) (record_tail r e.written) =
+        ends_rest p
+        (p + length o) o (record_tail r d.written) (record_tail r e.written) refl ends in
+        let s = same_data (parts_of r) earlier next
+        (low_more ms low r.owner p front) (after d.written e.written tail) in
         record {
-          same = ap (λ (z : Laid). record { written = o ++ record_tail r z.written; names = (r.owner, p) ∷ z.names }) s.same;
+          same = ap (λ (z : Laid).
+              record { written = o ++ record_tail r z.written; names = (r.owner, p) ∷ z.names })
+              s.same;
           low = subst Low (append_assoc ms ((r.owner, p) ∷ []) d.names) s.low;
         }
       where
-        after : (x y : Octets) → Ends (p + length (shared_octets ms r.owner)) (record_tail r x) (record_tail r y) → Ends (p + length (shared_octets ms r.owner) + 10) x y
+        after : (x y : Octets) → Ends (p + length (shared_octets ms r.owner)) (record_tail r x)
+            (record_tail r y) → Ends (p + length (shared_octets ms r.owner) + 10) x y
         after x y (inl h) = inl (omega (arith, h, length-record_tail r x))
         after x y (inr h) = inr (omega (arith, h, length-record_tail r y))
 
-same_records : (ms : List Placed) (p : ℕ) (rs : List ResourceRecord) → Low ms → Ends p (records_octets ms p rs) (unbounded_records ms p rs)
+same_records : (ms : List Placed) (p : ℕ) (rs : List ResourceRecord)
+    → Low ms → Ends p (records_octets ms p rs) (unbounded_records ms p rs)
     → records_octets ms p rs ≡ unbounded_records ms p rs
 unfolding records_octets unbounded_records
 same_records ms p [] low ends = refl
@@ -128,33 +161,44 @@ same_records ms p (r ∷ rs) low ends =
     let b = unbounded_record ms p r in
     let s = same_record ms p r low (front ends) in
     let rest : Laid → Octets = λ l. unbounded_records (ms ++ l.names) (p + length l.written) rs in
-    let again : Ends p (a.written ++ records_octets (ms ++ a.names) (p + length a.written) rs) (a.written ++ rest a) =
-    subst (λ (l : Laid). Ends p (a.written ++ records_octets (ms ++ a.names) (p + length a.written) rs) (l.written ++ rest l)) (sym s.same) ends in
-    let later = same_records (ms ++ a.names) (p + length a.written) rs s.low (ends_rest p (p + length a.written) a.written (records_octets (ms ++ a.names) (p + length a.written) rs) (rest a) refl again) in
+    let again : Ends p (a.written ++ records_octets (ms ++ a.names) (p + length a.written) rs)
+    (a.written ++ rest a) = subst (λ (l : Laid). Ends p (a.written ++ records_octets
+    (ms ++ a.names) (p + length a.written) rs) (l.written ++ rest l)) (sym s.same) ends in
+    let later = same_records (ms ++ a.names)
+    (p + length a.written) rs s.low (ends_rest p (p + length a.written) a.written
+    (records_octets (ms ++ a.names) (p + length a.written) rs) (rest a) refl again) in
     ap (λ z. a.written ++ z) later ∙ ap (λ (l : Laid). l.written ++ rest l) s.same
   where
-    front : Ends p ((record_laid ms p r).written ++ records_octets (ms ++ (record_laid ms p r).names) (p + length (record_laid ms p r).written) rs) ((unbounded_record ms p r).written ++ unbounded_records (ms ++ (unbounded_record ms p r).names) (p + length (unbounded_record ms p r).written) rs)
-        → Ends p (record_laid ms p r).written (unbounded_record ms p r).written
-    front (inl h) = inl (let a = record_laid ms p r in omega (arith, h, length-append a.written (records_octets (ms ++ a.names) (p + length a.written) rs)))
-    front (inr h) = inr (let b = unbounded_record ms p r in omega (arith, h, length-append b.written (unbounded_records (ms ++ b.names) (p + length b.written) rs)))
+    front : Ends p ((record_laid ms p r).written ++ records_octets (ms ++ (record_laid ms
+        p r).names) (p + length (record_laid ms p r).written) rs) ((unbounded_record ms p r).written
+        ++ unbounded_records (ms ++ (unbounded_record ms p r).names) (p + length (unbounded_record
+        ms p r).written) rs) → Ends p (record_laid ms p r).written (unbounded_record ms p r).written
+    front (inl h) = inl (let a = record_laid ms p r in grind (arith, length-append, records_octets))
+    front (inr h) = inr
+        (let b = unbounded_record ms p r in grind (arith, length-append, unbounded_records))
 
 -- the question's name begins in reach
-asked_low : (q : Option MessageQuestion) → 12 + length (asked_octets q) ≤ reach → Low (asked_placed q)
+asked_low : (q : Option MessageQuestion)
+    → 12 + length (asked_octets q) ≤ reach → Low (asked_placed q)
 asked_low q h = grind (arith, none-some, low_more, shared_alone, length-question_octets)
 
-pub same_layout : (h : Header) (q : Option MessageQuestion) (items : List Item) → (size q items ≤ reach) ⊎ (unbounded_size q items ≤ reach)
-    → layout h q items ≡ unbounded_layout h q items
+pub same_layout : (h : Header) (q : Option MessageQuestion) (items : List Item) → (size q items
+    ≤ reach) ⊎ (unbounded_size q items ≤ reach) → layout h q items ≡ unbounded_layout h q items
 unfolding layout unbounded_layout
 same_layout h q items short = go (ends short)
   where
-    go : Ends 0 (layout h q items) (unbounded_layout h q items) → layout h q items ≡ unbounded_layout h q items
+    go : Ends 0 (layout h q items) (unbounded_layout h q items)
+        → layout h q items ≡ unbounded_layout h q items
     go e = grind (arith, length-append, asked_low, ends_front, same_records, ends_rest)
 
-    ends : (size q items ≤ reach) ⊎ (unbounded_size q items ≤ reach) → Ends 0 (layout h q items) (unbounded_layout h q items)
+    ends : (size q items ≤ reach) ⊎ (unbounded_size q items ≤ reach)
+        → Ends 0 (layout h q items) (unbounded_layout h q items)
     ends (inl s) = inl (omega (arith, s, length-layout h q items))
     ends (inr s) = inr (omega (arith, s, length-unbounded_layout h q items))
 
-pub same_size : (q : Option MessageQuestion) (items : List Item) → (size q items ≤ reach) ⊎ (unbounded_size q items ≤ reach) → size q items ≡ unbounded_size q items
+pub same_size : (q : Option MessageQuestion) (items : List Item) → (size q items ≤ reach)
+    ⊎ (unbounded_size q items ≤ reach) → size q items ≡ unbounded_size q items
 same_size q items short =
     let h : Header = record { id = 0; flags = 0 } in
-    sym (length-layout h q items) ∙ ap length (same_layout h q items short) ∙ length-unbounded_layout h q items
+    sym (length-layout h q items)
+    ∙ ap length (same_layout h q items short) ∙ length-unbounded_layout h q items

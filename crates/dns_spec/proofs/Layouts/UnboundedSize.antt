@@ -1,37 +1,38 @@
--- The size of the layout without bound is the length of that layout, and the least that sharing allows.
-use Rattle.std.proofs.Common.{◌≡◌, ℕ, ◌+◌, ◌<◌, ◌≤◌, Bool, true, false, List, [], ◌∷◌, ◌++◌, map, length, Option, None, Some, is_some, refl, ap, ap₂, ◌∙◌, subst, arith, length-append}
-use Rattle.dns_spec.proofs.Common.{map-append, list_any, Octets, DomainName, wire, Part, octets, name, ResourceRecord, Header, MessageQuestion, Item, pointer, Placed, has_suffix, place_of}
-use Rattle.dns_spec.specs.Sharing.{names_in, names_of, labels_size, NameSize, DataSize, RecordsSize, Sharing}
-use Rattle.dns_spec.specs.Sharing.NameSize.{whole, shared}
-use Rattle.dns_spec.specs.Sharing.DataSize.{no_parts, after_octets, after_name}
-use Rattle.dns_spec.specs.Sharing.RecordsSize.{no_records, after_record}
-use Rattle.dns_spec.specs.UnboundedLayout.{unbounded_octets, unbounded_data, unbounded_record, unbounded_records, unbounded_layout, unbounded_cost, unbounded_data_size, unbounded_record_size, unbounded_records_size, unbounded_size}
+-- The size of the layout without bound is the length of that layout, and the least that sharing
+-- allows.
+use Rattle.dns_spec.proofs.Common.{◌≡◌, ℕ, ◌+◌, ◌<◌, ◌≤◌, Bool, true, false, List, [], ◌∷◌, ◌++◌, map, length, Option, None, Some, is_some, refl, ap, ap₂, ◌∙◌, subst, arith, length-append, map-append, list_any, Octets, DomainName, wire, Part, octets, name, ResourceRecord, Header, MessageQuestion, Item, pointer, Placed, has_suffix, place_of, names_in, names_of, labels_size, NameSize, DataSize, RecordsSize, Sharing, whole, shared, no_parts, after_octets, after_name, no_records, after_record, unbounded_octets, unbounded_data, unbounded_record, unbounded_records, unbounded_layout, unbounded_cost, unbounded_data_size, unbounded_record_size, unbounded_records_size, unbounded_size}
 
 -- a name has a place exactly where an earlier name has it as a suffix
 abbrev pub unplaced : List Placed → List DomainName
 unplaced = map (λ (m : Placed). m.0)
 
-pub placed : (ms : List Placed) (s : DomainName) → is_some (place_of ms s) ≡ list_any (λ x. has_suffix x s) (unplaced ms)
+pub placed : (ms : List Placed) (s : DomainName)
+    → is_some (place_of ms s) ≡ list_any (λ x. has_suffix x s) (unplaced ms)
 placed [] s = refl
 placed (m ∷ ms) s = grind (arith, (placed ms s))
 
-pub length-unbounded_octets : (ms : List Placed) (n : DomainName) → length (unbounded_octets ms n) ≡ unbounded_cost (unplaced ms) n
+pub length-unbounded_octets : (ms : List Placed) (n : DomainName)
+    → length (unbounded_octets ms n) ≡ unbounded_cost (unplaced ms) n
 unfolding unbounded_octets unbounded_cost
 length-unbounded_octets ms [] = refl
 length-unbounded_octets ms (l ∷ n) =
     go (place_of ms (l ∷ n)) (length-unbounded_octets ms n)
-    ∙ ap (λ (t : Bool). elim t as (λ _. ℕ) [ true ↦ 2 | false ↦ 1 + length l + unbounded_cost (unplaced ms) n ]) (placed ms (l ∷ n))
+    ∙ ap (λ (t : Bool). elim t as (λ _. ℕ)
+    [ true ↦ 2 | false ↦ 1 + length l + unbounded_cost (unplaced ms) n ]) (placed ms (l ∷ n))
   where
     go : (x : Option ℕ) → length (unbounded_octets ms n) ≡ unbounded_cost (unplaced ms) n
-        → length (elim x as (λ _. Octets) [ None ↦ length l ∷ (l ++ unbounded_octets ms n) | Some p ↦ pointer p ])
-        ≡ elim (is_some x) as (λ _. ℕ) [ true ↦ 2 | false ↦ 1 + length l + unbounded_cost (unplaced ms) n ]
+        → length (elim x as (λ _. Octets)
+        [ None ↦ length l ∷ (l ++ unbounded_octets ms n) | Some p ↦ pointer p ]) ≡ elim
+        (is_some x) as (λ _. ℕ) [ true ↦ 2 | false ↦ 1 + length l + unbounded_cost (unplaced ms) n ]
     go None h = omega (arith, length-append l (unbounded_octets ms n), h)
     go (Some p) h = refl
 
-pub unplaced-push : (ms : List Placed) (n : DomainName) (p : ℕ) → unplaced (ms ++ (n, p) ∷ []) ≡ unplaced ms ++ n ∷ []
+pub unplaced-push : (ms : List Placed) (n : DomainName) (p : ℕ)
+    → unplaced (ms ++ (n, p) ∷ []) ≡ unplaced ms ++ n ∷ []
 unplaced-push ms n p = map-append (λ (m : Placed). m.0) ms ((n, p) ∷ [])
 
-pub length-unbounded_data : (ms : List Placed) (p : ℕ) (ps : List Part) → length (unbounded_data ms p ps).written ≡ unbounded_data_size (unplaced ms) ps
+pub length-unbounded_data : (ms : List Placed) (p : ℕ) (ps : List Part)
+    → length (unbounded_data ms p ps).written ≡ unbounded_data_size (unplaced ms) ps
 unfolding unbounded_data unbounded_data_size
 length-unbounded_data ms p [] = refl
 length-unbounded_data ms p (octets o ∷ ps) =
@@ -40,20 +41,25 @@ length-unbounded_data ms p (name n ∷ ps) =
     let rest = length-unbounded_data (ms ++ (n, p) ∷ []) (p + length (unbounded_octets ms n)) ps in
     grind (arith, length-append, length-unbounded_octets, rest, unplaced-push)
 
-pub unplaced-unbounded_data : (ms : List Placed) (p : ℕ) (ps : List Part) → unplaced (unbounded_data ms p ps).names ≡ names_in ps
+pub unplaced-unbounded_data : (ms : List Placed) (p : ℕ) (ps : List Part)
+    → unplaced (unbounded_data ms p ps).names ≡ names_in ps
 unfolding unbounded_data
 unplaced-unbounded_data ms p [] = refl
 unplaced-unbounded_data ms p (octets o ∷ ps) = unplaced-unbounded_data ms (p + length o) ps
-unplaced-unbounded_data ms p (name n ∷ ps) = ap (λ z. n ∷ z) (unplaced-unbounded_data (ms ++ (n, p) ∷ []) (p + length (unbounded_octets ms n)) ps)
+unplaced-unbounded_data ms p (name n ∷ ps) = ap (λ z. n ∷ z)
+    (unplaced-unbounded_data (ms ++ (n, p) ∷ []) (p + length (unbounded_octets ms n)) ps)
 
-length-unbounded_record : (ms : List Placed) (p : ℕ) (r : ResourceRecord) → length (unbounded_record ms p r).written ≡ unbounded_record_size (unplaced ms) r
+length-unbounded_record : (ms : List Placed) (p : ℕ) (r : ResourceRecord)
+    → length (unbounded_record ms p r).written ≡ unbounded_record_size (unplaced ms) r
 length-unbounded_record ms p r =
     grind (arith, length-unbounded_data, unplaced-push, length-append, length-unbounded_octets)
 
-unplaced-unbounded_record : (ms : List Placed) (p : ℕ) (r : ResourceRecord) → unplaced (ms ++ (unbounded_record ms p r).names) ≡ unplaced ms ++ names_of r
+unplaced-unbounded_record : (ms : List Placed) (p : ℕ) (r : ResourceRecord)
+    → unplaced (ms ++ (unbounded_record ms p r).names) ≡ unplaced ms ++ names_of r
 unplaced-unbounded_record ms p r = grind (arith, map-append, unplaced-unbounded_data)
 
-pub length-unbounded_records : (ms : List Placed) (p : ℕ) (rs : List ResourceRecord) → length (unbounded_records ms p rs) ≡ unbounded_records_size (unplaced ms) rs
+pub length-unbounded_records : (ms : List Placed) (p : ℕ) (rs : List ResourceRecord)
+    → length (unbounded_records ms p rs) ≡ unbounded_records_size (unplaced ms) rs
 unfolding unbounded_records unbounded_records_size
 length-unbounded_records ms p [] = refl
 length-unbounded_records ms p (r ∷ rs) =
@@ -61,9 +67,11 @@ length-unbounded_records ms p (r ∷ rs) =
     let rest = unbounded_records (ms ++ l.names) (p + length l.written) rs in
     length-append l.written rest
     ∙ ap₂ ◌+◌ (length-unbounded_record ms p r)
-    (length-unbounded_records (ms ++ l.names) (p + length l.written) rs ∙ ap (λ z. unbounded_records_size z rs) (unplaced-unbounded_record ms p r))
+    (length-unbounded_records (ms ++ l.names) (p + length l.written) rs
+    ∙ ap (λ z. unbounded_records_size z rs) (unplaced-unbounded_record ms p r))
 
-pub length-unbounded_layout : (h : Header) (q : Option MessageQuestion) (items : List Item) → length (unbounded_layout h q items) ≡ unbounded_size q items
+pub length-unbounded_layout : (h : Header) (q : Option MessageQuestion) (items : List Item)
+    → length (unbounded_layout h q items) ≡ unbounded_size q items
 unfolding unbounded_layout unbounded_size
 length-unbounded_layout h q items = grind (arith, length-append, length-unbounded_records)
 
@@ -71,9 +79,12 @@ abbrev any_has : List DomainName → DomainName → Bool
 any_has ms s = list_any (λ m. has_suffix m s) ms
 
 -- a label more in front of a name
-pub prefixed : {ms : List DomainName} {n : DomainName} {k : ℕ} (l : Octets) → NameSize ms n k → NameSize ms (l ∷ n) (1 + length l + k)
-prefixed {ms} l (whole n) = subst (NameSize ms (l ∷ n)) (omega (arith, length-append l (wire n))) (whole (l ∷ n))
-prefixed {ms} l (shared front m s h) = subst (NameSize ms (l ∷ front ++ m ∷ s)) (omega arith) (shared (l ∷ front) m s h)
+pub prefixed : {ms : List DomainName} {n : DomainName} {k : ℕ} (l : Octets)
+    → NameSize ms n k → NameSize ms (l ∷ n) (1 + length l + k)
+prefixed {ms} l (whole n) =
+    subst (NameSize ms (l ∷ n)) (omega (arith, length-append l (wire n))) (whole (l ∷ n))
+prefixed {ms} l (shared front m s h) =
+    subst (NameSize ms (l ∷ front ++ m ∷ s)) (omega arith) (shared (l ∷ front) m s h)
 
 -- no size of a name is less than its cost
 wire_some : (n : DomainName) → 0 < length (wire n)
@@ -85,27 +96,32 @@ unfolding unbounded_cost
 cost_whole ms [] = grind arith
 cost_whole ms (l ∷ n) = grind (arith, length-append, wire_some, (cost_whole ms n))
 
-cost_before : (ms : List DomainName) (front : DomainName) (l : Octets) (n : DomainName) → any_has ms (l ∷ n) ≡ true → unbounded_cost ms (front ++ l ∷ n) ≤ labels_size front + 2
+cost_before : (ms : List DomainName) (front : DomainName) (l : Octets) (n : DomainName)
+    → any_has ms (l ∷ n) ≡ true → unbounded_cost ms (front ++ l ∷ n) ≤ labels_size front + 2
 unfolding unbounded_cost
 cost_before ms [] l n e = grind arith
 cost_before ms (k ∷ front) l n e = grind (arith, (cost_before ms front l n e))
 
-cost_least : {ms : List DomainName} {n : DomainName} {k : ℕ} → NameSize ms n k → unbounded_cost ms n ≤ k
+cost_least : {ms : List DomainName} {n : DomainName} {k : ℕ}
+    → NameSize ms n k → unbounded_cost ms n ≤ k
 cost_least h = grind (arith, cost_whole, cost_before)
 
 -- so it is for data and records
-data_least : {ms : List DomainName} {ps : List Part} {k : ℕ} → DataSize ms ps k → unbounded_data_size ms ps ≤ k
+data_least : {ms : List DomainName} {ps : List Part} {k : ℕ}
+    → DataSize ms ps k → unbounded_data_size ms ps ≤ k
 unfolding unbounded_data_size
 data_least no_parts = omega arith
 data_least (after_octets o ps k d) = let h = data_least d in omega (arith, h)
 data_least (after_name n ps j k c d) = grind (arith, cost_least, (data_least d))
 
-records_least : {ms : List DomainName} {rs : List ResourceRecord} {k : ℕ} → RecordsSize ms rs k → unbounded_records_size ms rs ≤ k
+records_least : {ms : List DomainName} {rs : List ResourceRecord} {k : ℕ}
+    → RecordsSize ms rs k → unbounded_records_size ms rs ≤ k
 unfolding unbounded_records_size
 records_least no_records = omega arith
 records_least (after_record r rs i j k c d e) =
     grind (arith, cost_least, data_least, (records_least e))
 
-pub unbounded_size_least : (q : Option MessageQuestion) (items : List Item) (z : ℕ) → Sharing q items z → unbounded_size q items ≤ z
+pub unbounded_size_least : (q : Option MessageQuestion) (items : List Item) (z : ℕ)
+    → Sharing q items z → unbounded_size q items ≤ z
 unfolding unbounded_size
 unbounded_size_least q items z s = let h = records_least s.sized in omega (arith, h, s.whole)

@@ -1,15 +1,14 @@
 -- The computed message is what octets spell.
-use Rattle.std.proofs.Common.{◌≡◌, ℕ, zero, suc, ◌+◌, ◌<◌, ◌≤◌, Bool, true, false, cond, nat_lt, nat_le, ◌==◌, ◌↔◌, List, [], ◌∷◌, ◌++◌, length, Option, None, Some, slice_get, option_map, option_and_then, refl, sym, ap, ◌∙◌, subst, arith, rules}
-use Rattle.dns_spec.proofs.Common.{and_parts, and_from, leb-true, le-leb, ltb-true, lt-ltb, eqb-true, eq-eqb, none-some, same_Some, cond_some, option_and_then_some, some_pair_parts, Octets, DomainName, wire, width, Piece, fixed, domain, string, strings, anything, are_strings}
-use Rattle.dns_spec.specs.Reading.{MessageQuestion, MessageRecord, DnsMessage, NameAt, OctetsAt, NumberAt, PiecesAt, DataAt, QuestionsAt, RecordAt, RecordsAt, Spells}
-use Rattle.dns_spec.specs.ComputedReading.{name_at, value_at, octets_upto, strings_only, piece_at, pieces_at, data_at, question_after, message_question_at, record_with, record_after, message_record_at, several, last_section, from_additionals, from_authorities, from_answers, message_at}
+use Rattle.dns_spec.proofs.Common.{◌≡◌, ℕ, zero, suc, ◌+◌, ◌<◌, ◌≤◌, Bool, true, false, cond, nat_lt, nat_le, ◌==◌, ◌↔◌, List, [], ◌∷◌, ◌++◌, length, Option, None, Some, slice_get, option_map, option_and_then, refl, sym, ap, ◌∙◌, subst, arith, rules, and_parts, and_from, leb-true, le-leb, ltb-true, lt-ltb, eqb-true, eq-eqb, none-some, same_Some, cond_some, option_and_then_some, some_pair_parts, Octets, DomainName, wire, width, Piece, fixed, domain, string, strings, anything, are_strings, MessageQuestion, MessageRecord, DnsMessage, NameAt, OctetsAt, NumberAt, PiecesAt, DataAt, QuestionsAt, RecordAt, RecordsAt, Spells, name_at, value_at, octets_upto, strings_only, piece_at, pieces_at, data_at, question_after, message_question_at, record_with, record_after, message_record_at, several, last_section, from_additionals, from_authorities, from_answers, message_at}
 use Rattle.dns_spec.proofs.Messages.NameReading.{name_at_computes}
 
-map_some : {X Y P : Type 0} (f : X → Y) (o : Option X) (y : Y) → option_map f o ≡ Some y → ((x : X) → o ≡ Some x → f x ≡ y → P) → P
+map_some : {X Y P : Type 0} (f : X → Y) (o : Option X) (y : Y)
+    → option_map f o ≡ Some y → ((x : X) → o ≡ Some x → f x ≡ y → P) → P
 map_some f None y e k = absurd (none-some y e)
 map_some f (Some x) y e k = k x refl (same_Some (f x) y e)
 
-then_is : {X Y : Type 0} (f : X → Option Y) (o : Option X) (x : X) (y : Y) → o ≡ Some x → f x ≡ Some y → option_and_then f o ≡ Some y
+then_is : {X Y : Type 0} (f : X → Option Y) (o : Option X) (x : X) (y : Y)
+    → o ≡ Some x → f x ≡ Some y → option_and_then f o ≡ Some y
 then_is f o x y e h = ap (option_and_then f) e ∙ h
 
 module _ (b : Octets) where
@@ -17,7 +16,8 @@ module _ (b : Octets) where
   number_is i k h = record { within = h; spelled = refl }
 
   -- octets
-  octets_found : (i e : ℕ) (o : Octets) (j : ℕ) → octets_upto b i e ≡ Some (o, j) → OctetsAt b i e o × (e ≡ j)
+  octets_found : (i e : ℕ) (o : Octets) (j : ℕ)
+      → octets_upto b i e ≡ Some (o, j) → OctetsAt b i e o × (e ≡ j)
   octets_found i e o j h = grind (arith, cond_some, and_parts, leb-true)
 
   octets_given : (i e : ℕ) (o : Octets) → OctetsAt b i e o → octets_upto b i e ≡ Some (o, e)
@@ -28,17 +28,25 @@ module _ (b : Octets) where
       → (0 < length o) × (are_strings 0 o ≡ true) × (o ≡ o') × (j ≡ j')
   strings_found o o' j j' h = grind (arith, cond_some, and_parts, ltb-true)
 
-  pieces_found : (ps : List Piece) (i e : ℕ) (d : Octets) → pieces_at b ps i e ≡ Some d → PiecesAt b ps i e d
+  pieces_found : (ps : List Piece) (i e : ℕ) (d : Octets)
+      → pieces_at b ps i e ≡ Some d → PiecesAt b ps i e d
   unfolding pieces_at
   pieces_found [] i e d h = let c = cond_some (i == e) [] d h in (eqb-true i e c.0, sym c.1)
   pieces_found (fixed f ∷ ps) i e d h =
-      option_and_then_some (λ r. option_map (λ x. r.0 ++ x) (pieces_at b ps r.1 e)) (octets_upto b i (i + width f)) d h (λ r p q.
-      map_some (λ x. r.0 ++ x) (pieces_at b ps r.1 e) d q (λ rest s t.
-      let o = octets_found i (i + width f) r.0 r.1 p in
-      (r.0, rest, o.0, sym t, subst (λ j. PiecesAt b ps j e rest) (sym o.1) (pieces_found ps r.1 e rest s))))
+      option_and_then_some (λ r. option_map (λ x. r.0 ++ x) (pieces_at b ps r.1 e))
+      (octets_upto b i (i + width f)) d h
+      (λ r p q. map_some (λ x. r.0 ++ x) (pieces_at b ps r.1 e) d q (λ rest s t.
+      let o = octets_found i (i + width f) r.0 r.1 p in (
+        r.0,
+        rest,
+        o.0,
+        sym t,
+        subst (λ j. PiecesAt b ps j e rest) (sym o.1) (pieces_found ps r.1 e rest s),
+      )))
   pieces_found (domain ∷ ps) i e d h =
-      option_and_then_some (λ r. option_map (λ x. r.0 ++ x) (pieces_at b ps r.1 e)) (option_map (λ r. (wire r.0, r.1)) (name_at b i)) d h (λ r p q.
-      map_some (λ x. r.0 ++ x) (pieces_at b ps r.1 e) d q (λ rest s t.
+      option_and_then_some (λ r. option_map (λ x. r.0 ++ x) (pieces_at b ps r.1 e))
+      (option_map (λ r. (wire r.0, r.1)) (name_at b i)) d h
+      (λ r p q. map_some (λ x. r.0 ++ x) (pieces_at b ps r.1 e) d q (λ rest s t.
       map_some (λ r. (wire r.0, r.1)) (name_at b i) r p (λ n u v. (
         n.0,
         r.1,
@@ -48,15 +56,24 @@ module _ (b : Octets) where
         pieces_found ps r.1 e rest s,
       ))))
   pieces_found (string ∷ ps) i e d h =
-      option_and_then_some (λ r. option_map (λ x. r.0 ++ x) (pieces_at b ps r.1 e)) (option_and_then (λ k. octets_upto b i (i + 1 + k)) (slice_get b i)) d h (λ r p q.
-      map_some (λ x. r.0 ++ x) (pieces_at b ps r.1 e) d q (λ rest s t.
-      option_and_then_some (λ k. octets_upto b i (i + 1 + k)) (slice_get b i) r p (λ k u v.
-      let o = octets_found i (i + 1 + k) r.0 r.1 v in
-      (k, r.0, rest, u, o.0, sym t, subst (λ j. PiecesAt b ps j e rest) (sym o.1) (pieces_found ps r.1 e rest s)))))
+      option_and_then_some (λ r. option_map (λ x. r.0 ++ x) (pieces_at b ps r.1 e))
+      (option_and_then (λ k. octets_upto b i (i + 1 + k)) (slice_get b i)) d h
+      (λ r p q. map_some (λ x. r.0 ++ x) (pieces_at b ps r.1 e) d q (λ rest
+      s t. option_and_then_some (λ k. octets_upto b i (i + 1 + k)) (slice_get b i) r p (λ k u v.
+      let o = octets_found i (i + 1 + k) r.0 r.1 v in (
+        k,
+        r.0,
+        rest,
+        u,
+        o.0,
+        sym t,
+        subst (λ j. PiecesAt b ps j e rest) (sym o.1) (pieces_found ps r.1 e rest s),
+      ))))
   pieces_found (strings ∷ ps) i e d h =
-      option_and_then_some (λ r. option_map (λ x. r.0 ++ x) (pieces_at b ps r.1 e)) (option_and_then strings_only (octets_upto b i e)) d h (λ r p q.
-      map_some (λ x. r.0 ++ x) (pieces_at b ps r.1 e) d q (λ rest s t.
-      option_and_then_some strings_only (octets_upto b i e) r p (λ x u v.
+      option_and_then_some (λ r. option_map (λ x. r.0 ++ x) (pieces_at b ps r.1 e))
+      (option_and_then strings_only (octets_upto b i e)) d h
+      (λ r p q. map_some (λ x. r.0 ++ x) (pieces_at b ps r.1 e) d q
+      (λ rest s t. option_and_then_some strings_only (octets_upto b i e) r p (λ x u v.
       let o = octets_found i e x.0 x.1 u in
       let y = strings_found x.0 r.0 x.1 r.1 v in
       let end : e ≡ r.1 = o.1 ∙ y.3 in (
@@ -71,77 +88,113 @@ module _ (b : Octets) where
         pieces_found ps r.1 e rest s,
       ))))
   pieces_found (anything ∷ ps) i e d h =
-      option_and_then_some (λ r. option_map (λ x. r.0 ++ x) (pieces_at b ps r.1 e)) (octets_upto b i e) d h (λ r p q.
-      map_some (λ x. r.0 ++ x) (pieces_at b ps r.1 e) d q (λ rest s t.
-      let o = octets_found i e r.0 r.1 p in
-      (r.0, rest, r.1, subst (λ z. OctetsAt b i z r.0) o.1 o.0, sym t, sym o.1, pieces_found ps r.1 e rest s)))
+      option_and_then_some (λ r. option_map (λ x. r.0 ++ x) (pieces_at b ps r.1 e)) (octets_upto
+      b i e) d h (λ r p q. map_some (λ x. r.0 ++ x) (pieces_at b ps r.1 e) d q (λ rest s t.
+      let o = octets_found i e r.0 r.1 p in (
+        r.0,
+        rest,
+        r.1,
+        subst (λ z. OctetsAt b i z r.0) o.1 o.0,
+        sym t,
+        sym o.1,
+        pieces_found ps r.1 e rest s,
+      )))
 
-  piece_given : (p : Piece) (ps : List Piece) (i e j : ℕ) (o rest d : Octets) → piece_at b p i e ≡ Some (o, j) → pieces_at b ps j e ≡ Some rest → d ≡ o ++ rest
-      → pieces_at b (p ∷ ps) i e ≡ Some d
+  piece_given : (p : Piece) (ps : List Piece) (i e j : ℕ) (o rest d : Octets)
+      → piece_at b p i e ≡ Some (o, j)
+      → pieces_at b ps j e ≡ Some rest → d ≡ o ++ rest → pieces_at b (p ∷ ps) i e ≡ Some d
   unfolding pieces_at
   piece_given p ps i e j o rest d h g s = grind arith
 
-  pieces_given : (ps : List Piece) (i e : ℕ) (d : Octets) → PiecesAt b ps i e d → pieces_at b ps i e ≡ Some d
+  pieces_given : (ps : List Piece) (i e : ℕ) (d : Octets)
+      → PiecesAt b ps i e d → pieces_at b ps i e ≡ Some d
   unfolding pieces_at
   pieces_given [] i e d h = grind (arith, eq-eqb)
   pieces_given (fixed f ∷ ps) i e d h = search (rules, (pieces_given ps (i + width f) e h.1 h.4))
   pieces_given (domain ∷ ps) i e d h =
-      piece_given domain ps i e h.1 (wire h.0) h.2 d (ap (option_map (λ r. (wire r.0, r.1))) ((name_at_computes b i h.0 h.1).1 h.3)) (pieces_given ps h.1 e h.2 h.5) h.4
+      piece_given domain ps i e h.1 (wire h.0) h.2 d (ap (option_map (λ r. (wire r.0, r.1)))
+      ((name_at_computes b i h.0 h.1).1 h.3)) (pieces_given ps h.1 e h.2 h.5) h.4
   pieces_given (string ∷ ps) i e d h =
       search (rules, piece_given, then_is, octets_given, (pieces_given ps (i + 1 + h.0) e h.2 h.6))
   pieces_given (strings ∷ ps) i e d h =
       let whole = octets_given i e h.0 (subst (λ z. OctetsAt b i z h.0) h.7 h.3) in
-      let test = and_from (nat_lt 0 (length h.0)) (are_strings 0 h.0) (lt-ltb 0 (length h.0) h.4) h.5 in
-      piece_given strings ps i e e h.0 h.1 d (then_is strings_only (octets_upto b i e) (h.0, e) (h.0, e) whole (ap (λ t. cond t (Some (h.0, e)) None) test))
+      let test =
+      and_from (nat_lt 0 (length h.0)) (are_strings 0 h.0) (lt-ltb 0 (length h.0) h.4) h.5 in
+      piece_given strings ps i e e h.0 h.1 d (then_is strings_only
+      (octets_upto b i e) (h.0, e) (h.0, e) whole (ap (λ t. cond t (Some (h.0, e)) None) test))
       (pieces_given ps e e h.1 (subst (λ z. PiecesAt b ps z e h.1) h.7 h.8)) h.6
   pieces_given (anything ∷ ps) i e d h =
-      piece_given anything ps i e e h.0 h.1 d (octets_given i e h.0 (subst (λ z. OctetsAt b i z h.0) h.5 h.3))
+      piece_given anything ps i e e h.0 h.1 d
+      (octets_given i e h.0 (subst (λ z. OctetsAt b i z h.0) h.5 h.3))
       (pieces_given ps e e h.1 (subst (λ z. PiecesAt b ps z e h.1) h.5 h.6)) h.4
 
   data_found : (t c i e : ℕ) (d : Octets) → data_at b t c i e ≡ Some d → DataAt b t c i e d
   data_found t c i e d h = grind (arith, and_parts, leb-true, pieces_found, none-some)
 
   -- questions
-  questions_found : (k i : ℕ) (qs : List MessageQuestion) (e : ℕ) → several (message_question_at b) k i ≡ Some (qs, e) → QuestionsAt b i qs e × (length qs ≡ k)
+  questions_found : (k i : ℕ) (qs : List MessageQuestion) (e : ℕ)
+      → several (message_question_at b) k i ≡ Some (qs, e) → QuestionsAt b i qs e × (length qs ≡ k)
   unfolding several
   questions_found zero i qs e h = grind (arith, some_pair_parts)
   questions_found (suc k) i qs e h =
-      option_and_then_some (λ r. option_map (λ s. (r.0 ∷ s.0, s.1)) (several (message_question_at b) k r.1)) (message_question_at b i) (qs, e) h (λ r p g.
-      map_some (λ s. (r.0 ∷ s.0, s.1)) (several (message_question_at b) k r.1) (qs, e) g (λ s u v.
-      option_and_then_some (question_after b) (name_at b i) r p (λ n w x.
-      let c = cond_some (nat_le (n.1 + 4) (length b)) (record { qname = n.0; qtype = value_at b n.1 2; qclass = value_at b (n.1 + 2) 2 }, n.1 + 4) r x in
+      option_and_then_some (λ r. option_map (λ s. (r.0 ∷ s.0, s.1))
+      (several (message_question_at b) k r.1)) (message_question_at b i) (qs, e) h
+      (λ r p g. map_some (λ s. (r.0 ∷ s.0, s.1)) (several (message_question_at b) k r.1)
+      (qs, e) g (λ s u v. option_and_then_some (question_after b) (name_at b i) r p (λ n w x.
+      let c = cond_some (nat_le (n.1 + 4) (length b)) (
+        record { qname = n.0; qtype = value_at b n.1 2; qclass = value_at b (n.1 + 2) 2 },
+        n.1 + 4,
+      ) r x in
       let room = leb-true (n.1 + 4) (length b) c.0 in
       let rest = questions_found k r.1 s.0 s.1 u in
-      let one : QuestionsAt b i (record { qname = n.0; qtype = value_at b n.1 2; qclass = value_at b (n.1 + 2) 2 } ∷ s.0) s.1 = (
+      let one : QuestionsAt b i (record
+      { qname = n.0; qtype = value_at b n.1 2; qclass = value_at b (n.1 + 2) 2 } ∷ s.0) s.1 = (
         n.1,
         (name_at_computes b i n.0 n.1).0 w,
         number_is n.1 2 (omega (arith, room)),
         number_is (n.1 + 2) 2 (omega (arith, room)),
         subst (λ z. QuestionsAt b z s.0 s.1) (sym (ap (λ z. z.1) c.1)) rest.0,
       ) in
-      let same : (record { qname = n.0; qtype = value_at b n.1 2; qclass = value_at b (n.1 + 2) 2 } ∷ s.0, s.1) ≡ (qs, e) = ap (λ z. (z.0 ∷ s.0, s.1)) c.1 ∙ v in
-      (subst (λ (z : List MessageQuestion × ℕ). QuestionsAt b i z.0 z.1) same one, ap length (sym (ap (λ z. z.0) same)) ∙ ap suc rest.1))))
+      let same : (
+        record { qname = n.0; qtype = value_at b n.1 2; qclass = value_at b (n.1 + 2) 2 }
+            ∷ s.0,
+        s.1,
+      ) ≡ (qs, e) = ap (λ z. (z.0 ∷ s.0, s.1)) c.1 ∙ v in (
+        subst (λ (z : List MessageQuestion × ℕ). QuestionsAt b i z.0 z.1) same one,
+        ap length (sym (ap (λ z. z.0) same)) ∙ ap suc rest.1,
+      ))))
 
-  questions_given : (qs : List MessageQuestion) (i e : ℕ) → QuestionsAt b i qs e → several (message_question_at b) (length qs) i ≡ Some (qs, e)
+  questions_given : (qs : List MessageQuestion) (i e : ℕ)
+      → QuestionsAt b i qs e → several (message_question_at b) (length qs) i ≡ Some (qs, e)
   unfolding several
   questions_given [] i e h = ap (λ z. Some ([], z)) h
   questions_given (q ∷ qs) i e h =
       grind (arith, name_at_computes, (questions_given qs ((h.0) + 4) e h.4))
 
   -- records
-  record_found : (i : ℕ) (r : MessageRecord) (e : ℕ) → message_record_at b i ≡ Some (r, e) → (j : ℕ) × (len : ℕ) × RecordAt b i r j len × (j + 10 + len ≡ e)
+  record_found : (i : ℕ) (r : MessageRecord) (e : ℕ) → message_record_at b i ≡ Some (r, e)
+      → (j : ℕ) × (len : ℕ) × RecordAt b i r j len × (j + 10 + len ≡ e)
   record_found i r e h =
-      option_and_then_some (record_after b) (name_at b i) (r, e) h (λ n w x. go n.0 n.1 ((name_at_computes b i n.0 n.1).0 w) (nat_le (n.1 + 10) (length b)) refl x)
+      option_and_then_some (record_after b) (name_at b i) (r, e) h (λ n w x. go n.0 n.1
+      ((name_at_computes b i n.0 n.1).0 w) (nat_le (n.1 + 10) (length b)) refl x)
     where
       go : (n : DomainName) (j : ℕ) → NameAt b i n j → (t : Bool) → nat_le (j + 10) (length b) ≡ t
-          → cond t (option_map (record_with b (n, j)) (data_at b (value_at b j 2) (value_at b (j + 2) 2) (j + 10) (j + 10 + value_at b (j + 8) 2))) None ≡ Some (r, e)
+          → cond t (option_map (record_with b (n, j)) (data_at b (value_at b j 2)
+          (value_at b (j + 2) 2) (j + 10) (j + 10 + value_at b (j + 8) 2))) None ≡ Some (r, e)
           → (j : ℕ) × (len : ℕ) × RecordAt b i r j len × (j + 10 + len ≡ e)
       go n j at false p x = absurd (none-some (r, e) x)
       go n j at true p x =
           let room = leb-true (j + 10) (length b) p in
           let len = value_at b (j + 8) 2 in
-          map_some (record_with b (n, j)) (data_at b (value_at b j 2) (value_at b (j + 2) 2) (j + 10) (j + 10 + len)) (r, e) x (λ d u v.
-          let found : RecordAt b i (record { owner = n; rtype = value_at b j 2; rclass = value_at b (j + 2) 2; ttl = value_at b (j + 4) 4; rdata = d }) j len =
+          map_some (record_with b (n, j)) (data_at b
+          (value_at b j 2) (value_at b (j + 2) 2) (j + 10) (j + 10 + len)) (r, e) x (λ d u v.
+          let found : RecordAt b i (record {
+            owner = n;
+            rtype = value_at b j 2;
+            rclass = value_at b (j + 2) 2;
+            ttl = value_at b (j + 4) 4;
+            rdata = d;
+          }) j len =
           record {
             owner = at;
             rtype = number_is j 2 (omega (arith, room));
@@ -152,18 +205,24 @@ module _ (b : Octets) where
           } in
           (j, len, subst (λ z. RecordAt b i z j len) (ap (λ z. z.0) v) found, ap (λ z. z.1) v))
 
-  records_found : (k i : ℕ) (rs : List MessageRecord) (e : ℕ) → several (message_record_at b) k i ≡ Some (rs, e) → RecordsAt b i rs e × (length rs ≡ k)
+  records_found : (k i : ℕ) (rs : List MessageRecord) (e : ℕ)
+      → several (message_record_at b) k i ≡ Some (rs, e) → RecordsAt b i rs e × (length rs ≡ k)
   unfolding several
   records_found zero i rs e h = grind (arith, some_pair_parts)
   records_found (suc k) i rs e h =
-      option_and_then_some (λ r. option_map (λ s. (r.0 ∷ s.0, s.1)) (several (message_record_at b) k r.1)) (message_record_at b i) (rs, e) h (λ r p g.
+      option_and_then_some (λ r. option_map (λ s. (r.0 ∷ s.0, s.1))
+      (several (message_record_at b) k r.1)) (message_record_at b i) (rs, e) h (λ r p g.
       map_some (λ s. (r.0 ∷ s.0, s.1)) (several (message_record_at b) k r.1) (rs, e) g (λ s u v.
       let one = record_found i r.0 r.1 p in
       let rest = records_found k r.1 s.0 s.1 u in
-      let whole : RecordsAt b i (r.0 ∷ s.0) s.1 = (one.0, one.1, one.2, subst (λ z. RecordsAt b z s.0 s.1) (sym one.3) rest.0) in
-      (subst (λ (z : List MessageRecord × ℕ). RecordsAt b i z.0 z.1) v whole, ap length (sym (ap (λ z. z.0) v)) ∙ ap suc rest.1)))
+      let whole : RecordsAt b i (r.0 ∷ s.0) s.1 =
+      (one.0, one.1, one.2, subst (λ z. RecordsAt b z s.0 s.1) (sym one.3) rest.0) in (
+        subst (λ (z : List MessageRecord × ℕ). RecordsAt b i z.0 z.1) v whole,
+        ap length (sym (ap (λ z. z.0) v)) ∙ ap suc rest.1,
+      )))
 
-  records_given : (rs : List MessageRecord) (i e : ℕ) → RecordsAt b i rs e → several (message_record_at b) (length rs) i ≡ Some (rs, e)
+  records_given : (rs : List MessageRecord) (i e : ℕ)
+      → RecordsAt b i rs e → several (message_record_at b) (length rs) i ≡ Some (rs, e)
   unfolding several
   records_given [] i e h = ap (λ z. Some ([], z)) h
   records_given (r ∷ rs) i e h =
@@ -174,16 +233,28 @@ module _ (b : Octets) where
   unfolding message_at
   message_found m h = go (nat_le 12 (length b)) refl h
     where
-      go : (t : Bool) → nat_le 12 (length b) ≡ t
-          → cond t (option_and_then (from_answers b) (several (message_question_at b) (value_at b 4 2) 12)) None ≡ Some m → Spells b m
+      go : (t : Bool) → nat_le 12 (length b) ≡ t → cond t (option_and_then (from_answers b)
+          (several (message_question_at b) (value_at b 4 2) 12)) None ≡ Some m → Spells b m
       go false p g = absurd (none-some m g)
       go true p g =
           let room = leb-true 12 (length b) p in
-          option_and_then_some (from_answers b) (several (message_question_at b) (value_at b 4 2) 12) m g (λ q q-is g1.
-          option_and_then_some (from_authorities b q.0) (several (message_record_at b) (value_at b 6 2) q.1) m g1 (λ a a-is g2.
-          option_and_then_some (from_additionals b q.0 a.0) (several (message_record_at b) (value_at b 8 2) a.1) m g2 (λ n n-is g3.
-          option_and_then_some (last_section b q.0 a.0 n.0) (several (message_record_at b) (value_at b 10 2) n.1) m g3 (λ r r-is g4.
-          let whole : DnsMessage = record { header = record { id = value_at b 0 2; flags = value_at b 2 2 }; questions = q.0; answers = a.0; authorities = n.0; additionals = r.0 } in
+          option_and_then_some (from_answers b) (several (message_question_at b) (value_at b 4 2)
+          12) m g (λ q q-is g1. option_and_then_some (from_authorities b q.0) (several
+          (message_record_at b) (value_at b 6 2) q.1) m g1 (λ a a-is g2. option_and_then_some
+          (from_additionals b q.0 a.0) (several (message_record_at b) (value_at b 8 2) a.1) m g2
+          (λ n n-is g3. option_and_then_some (last_section b q.0 a.0 n.0)
+          (several (message_record_at b) (value_at b 10 2) n.1) m g3 (λ r r-is g4.
+          let whole : DnsMessage = record {
+            header = record {
+              id = value_at b 0 2;
+              flags = value_at
+                  b 2 2;
+            };
+            questions = q.0;
+            answers = a.0;
+            authorities = n.0;
+            additionals = r.0;
+          } in
           let c = cond_some (r.1 == length b) whole m g4 in
           let qs = questions_found (value_at b 4 2) 12 q.0 q.1 q-is in
           let ans = records_found (value_at b 6 2) q.1 a.0 a.1 a-is in

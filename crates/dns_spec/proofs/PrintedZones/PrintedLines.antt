@@ -9,7 +9,8 @@ use Rattle.dns_spec.proofs.ZoneTexts.ReadWords.{word_token, word_read, no_blank,
 
 -- the words of a record's line
 abbrev pub first_words : ResourceRecord → List Word
-first_words r = plain (name_text r.owner) ∷ plain (decimal r.ttl) ∷ plain (codes "IN") ∷ plain (type_text r.rtype) ∷ []
+first_words r = plain (name_text r.owner) ∷ plain
+    (decimal r.ttl) ∷ plain (codes "IN") ∷ plain (type_text r.rtype) ∷ []
 
 abbrev pub line_words : ResourceRecord → List Word
 line_words r = first_words r ++ written_words r.rtype r.rdata
@@ -47,16 +48,26 @@ record Reads (text : Octets) (ps : List Token) (rest : Octets) : Type 0 where
   tokens : TokensThen text ps rest
   first : prefix_len is_blank text ≡ 0
 
-word_then : (w : Word) (ps : List Token) (text rest : Octets) → Read w → Reads text ps rest → Reads (word_text w ++ 32 ∷ text) (word_token w ∷ blank ∷ ps) rest
+word_then : (w : Word) (ps : List Token) (text rest : Octets) → Read w
+    → Reads text ps rest → Reads (word_text w ++ 32 ∷ text) (word_token w ∷ blank ∷ ps) rest
 word_then w ps text rest r more = record {
-  tokens = (32 ∷ text, word_read w 32 text r.alone r.whole (space_ends text), (text, blank_read text more.first, more.tokens));
+  tokens = (
+    32 ∷ text,
+    word_read w 32 text r.alone r.whole (space_ends text),
+    (text, blank_read text more.first, more.tokens),
+  );
   first = no_blank w (32 ∷ text) r.alone;
 }
 
-words_then : (ws : List Word) (rest : Octets) → Each Read ws → Reads (join_with_byte 32 (map word_text ws) ++ 10 ∷ rest) (words_tokens ws) rest
+words_then : (ws : List Word) (rest : Octets) → Each Read ws
+    → Reads (join_with_byte 32 (map word_text ws) ++ 10 ∷ rest) (words_tokens ws) rest
 words_then [] rest reads = record { tokens = (rest, refl, refl); first = refl }
 words_then (w ∷ []) rest reads = record {
-  tokens = (10 ∷ rest, word_read w 10 rest reads.0.alone reads.0.whole (line_ends rest), (rest, refl, refl));
+  tokens = (
+    10 ∷ rest,
+    word_read w 10 rest reads.0.alone reads.0.whole (line_ends rest),
+    (rest, refl, refl),
+  );
   first = no_blank w (10 ∷ rest) reads.0.alone;
 }
 words_then (w ∷ v ∷ ws) rest reads =
@@ -68,7 +79,8 @@ is_bare_text x = nat_lt 0 (length x) && list_all is_word_octet x
 
 bare_tested : (x : Octets) → list_all is_word_octet x ≡ true → Bare x
 bare_tested [] all = tt
-bare_tested (o ∷ x) all = let p = and_parts (is_word_octet o) (list_all is_word_octet x) all in (p.0, bare_tested x p.1)
+bare_tested (o ∷ x) all =
+    let p = and_parts (is_word_octet o) (list_all is_word_octet x) all in (p.0, bare_tested x p.1)
 
 mnemonic_bare : (t : ℕ) (made : TypeRow) → row_of t ≡ Some made → is_bare_text made.mnemonic ≡ true
 mnemonic_bare t made e = grind (arith, entry_passes)
@@ -76,56 +88,68 @@ mnemonic_bare t made e = grind (arith, entry_passes)
 type_standing : (t : ℕ) → t < 65536 → Standing (plain (type_text t))
 type_standing t small = go (row_of t) refl
   where
-    go : (r : Option TypeRow) → row_of t ≡ r → Standing (plain (unwrap_or (option_map (λ (row : TypeRow). row.mnemonic) r) (numbered_type t)))
-    go None e = bare_standing (numbered_type t) (omega arith) (bare_append (codes "TYPE") (decimal t) (bare_tested (codes "TYPE") refl) (bare_decimal t (omega (arith, small))))
+    go : (r : Option TypeRow) → row_of t ≡ r → Standing
+        (plain (unwrap_or (option_map (λ (row : TypeRow). row.mnemonic) r) (numbered_type t)))
+    go None e = bare_standing (numbered_type t) (omega arith) (bare_append (codes "TYPE")
+        (decimal t) (bare_tested (codes "TYPE") refl) (bare_decimal t (omega (arith, small))))
     go (Some made) e =
-        let p = and_parts (nat_lt 0 (length made.mnemonic)) (list_all is_word_octet made.mnemonic) (mnemonic_bare t made e) in
-        bare_standing made.mnemonic (ltb-true 0 (length made.mnemonic) p.0) (bare_tested made.mnemonic p.1)
+        let p = and_parts (nat_lt 0 (length made.mnemonic))
+        (list_all is_word_octet made.mnemonic) (mnemonic_bare t made e) in
+        bare_standing made.mnemonic
+        (ltb-true 0 (length made.mnemonic) p.0) (bare_tested made.mnemonic p.1)
 
 first_read : (r : ResourceRecord) → IsReadRecord r → Each Read (first_words r)
 first_read r h = (
-  standing_read (plain (name_text r.owner)) (name_standing r.owner (small_labels r.owner h.owner_octets) (some_labels r.owner h.owner)),
+  standing_read (plain (name_text r.owner))
+      (name_standing r.owner (small_labels r.owner h.owner_octets) (some_labels r.owner h.owner)),
   (
     standing_read (plain (decimal r.ttl)) (decimal_standing r.ttl (omega (arith, h.ttl))),
     (
-      standing_read (plain (codes "IN")) (bare_standing (codes "IN") (omega arith) (refl, (refl, tt))),
+      standing_read
+          (plain (codes "IN")) (bare_standing (codes "IN") (omega arith) (refl, (refl, tt))),
       (standing_read (plain (type_text r.rtype)) (type_standing r.rtype h.rtype), tt),
     ),
   ),
 )
 
 -- a line with a text after it
-line_split : (n t y d rest : Octets) → (n ++ codes " " ++ t ++ codes " IN " ++ y ++ codes " " ++ d ++ codes "\n") ++ rest
-    ≡ n ++ 32 ∷ (t ++ 32 ∷ (codes "IN" ++ 32 ∷ (y ++ 32 ∷ (d ++ 10 ∷ rest))))
+line_split : (n t y d rest : Octets) → (n ++ codes " " ++ t ++ codes " IN " ++ y ++ codes " " ++ d
+    ++ codes "\n") ++ rest ≡ n ++ 32 ∷ (t ++ 32 ∷ (codes "IN" ++ 32 ∷ (y ++ 32 ∷ (d ++ 10 ∷ rest))))
 line_split n t y d rest = simp append_assoc
 
-line_read : (r : ResourceRecord) (rest : Octets) → IsReadRecord r → Reads (record_line r ++ rest) (line_tokens r) rest
+line_read : (r : ResourceRecord) (rest : Octets)
+    → IsReadRecord r → Reads (record_line r ++ rest) (line_tokens r) rest
 unfolding data_text
 line_read r rest h =
     let ws = written_words r.rtype r.rdata in
-    let data_read = words_then ws rest (all_read ws (words_alone r.rtype r.rdata h.rdata_octets h.rdata) (words_whole r.rtype r.rdata h.rdata_octets h.rdata)) in
+    let data_read = words_then ws rest (all_read ws (words_alone r.rtype
+    r.rdata h.rdata_octets h.rdata) (words_whole r.rtype r.rdata h.rdata_octets h.rdata)) in
     let firsts = first_read r h in
-    subst (λ t. Reads t (line_tokens r) rest) (sym (line_split (name_text r.owner) (decimal r.ttl) (type_text r.rtype) (data_text r.rtype r.rdata) rest))
+    subst (λ t. Reads t (line_tokens r) rest) (sym (line_split
+    (name_text r.owner) (decimal r.ttl) (type_text r.rtype) (data_text r.rtype r.rdata) rest))
     (word_then (plain (name_text r.owner)) _ _ rest firsts.0
     (word_then (plain (decimal r.ttl)) _ _ rest firsts.1.0
     (word_then (plain (codes "IN")) _ _ rest firsts.1.1.0
     (word_then (plain (type_text r.rtype)) _ _ rest firsts.1.1.1.0 data_read))))
 
-pub line_pieces_read : (r : ResourceRecord) (rest : Octets) → IsReadRecord r → TokensThen (record_line r ++ rest) (line_tokens r) rest
+pub line_pieces_read : (r : ResourceRecord) (rest : Octets)
+    → IsReadRecord r → TokensThen (record_line r ++ rest) (line_tokens r) rest
 line_pieces_read r rest h = (line_read r rest h).tokens
 
 -- what the tokens after a line's words give
-cut_words : (ws : List Word) (ps : List Token) → cut_entries false (words_tokens ws ++ ps) ≡ words_tokens ws ∷ cut_entries false ps
+cut_words : (ws : List Word) (ps : List Token)
+    → cut_entries false (words_tokens ws ++ ps) ≡ words_tokens ws ∷ cut_entries false ps
 cut_words [] ps = refl
 cut_words (w ∷ []) ps = grind (arith, word_token)
 cut_words (w ∷ v ∷ ws) ps = grind (arith, word_token, (cut_words (v ∷ ws) ps))
 
-cut_led : (ws : List Word) (qs ps : List Token) → cut_entries false (qs ++ ps) ≡ qs ∷ cut_entries false ps
-    → cut_entries false (led ws qs ++ ps) ≡ led ws qs ∷ cut_entries false ps
+cut_led : (ws : List Word) (qs ps : List Token) → cut_entries false (qs ++ ps) ≡ qs ∷ cut_entries
+    false ps → cut_entries false (led ws qs ++ ps) ≡ led ws qs ∷ cut_entries false ps
 cut_led [] qs ps cut = cut
 cut_led (w ∷ ws) qs ps cut = grind (arith, (cut_led ws qs ps cut))
 
-pub line_cut : (r : ResourceRecord) (ps : List Token) → cut_entries false (line_tokens r ++ ps) ≡ line_tokens r ∷ cut_entries false ps
+pub line_cut : (r : ResourceRecord) (ps : List Token)
+    → cut_entries false (line_tokens r ++ ps) ≡ line_tokens r ∷ cut_entries false ps
 line_cut r ps = grind (arith, cut_led, cut_words)
 
 words_parentheses : (ws : List Word) → parentheses (words_tokens ws) ≡ []
@@ -133,7 +157,8 @@ words_parentheses [] = refl
 words_parentheses (w ∷ []) = grind (arith, word_token)
 words_parentheses (w ∷ v ∷ ws) = grind (arith, word_token, (words_parentheses (v ∷ ws)))
 
-led_parentheses : (ws : List Word) (ps : List Token) → parentheses ps ≡ [] → parentheses (led ws ps) ≡ []
+led_parentheses : (ws : List Word) (ps : List Token)
+    → parentheses ps ≡ [] → parentheses (led ws ps) ≡ []
 led_parentheses [] ps none = none
 led_parentheses (w ∷ ws) ps none = grind (arith, word_token, (led_parentheses ws ps none))
 
@@ -145,7 +170,8 @@ words_again [] = refl
 words_again (w ∷ []) = grind (arith, word_token)
 words_again (w ∷ v ∷ ws) = grind (arith, word_token, (words_again (v ∷ ws)))
 
-led_again : (ws vs : List Word) (ps : List Token) → filter_map word_of ps ≡ vs → filter_map word_of (led ws ps) ≡ ws ++ vs
+led_again : (ws vs : List Word) (ps : List Token)
+    → filter_map word_of ps ≡ vs → filter_map word_of (led ws ps) ≡ ws ++ vs
 led_again [] vs ps again = again
 led_again (w ∷ ws) vs ps again = grind (arith, word_token, (led_again ws vs ps again))
 

@@ -1,9 +1,5 @@
 -- The text of records means these records.
-use Rattle.dns_spec.proofs.Common.{◌≡◌, ℕ, suc, ◌+◌, ◌<◌, ◌≤◌, inl, inr, Bool, true, false, All, Some, None, List, [], ◌∷◌, ◌++◌, map, length, take, refl, sym, ◌∙◌, ap, subst, arith, codes, decimal, rules, cases_Bool, lt-leb, le-ltb, take_all, none-some, same_Some, MatchOption, is_ascii_digit, AllDigits, Octets, DomainName, octet_text, name_text, type_text, NamesType, Word, Says, plain, written_words, ResourceRecord, bad_owner, IsReadRecord, HasZoneType, record_line}
-use Rattle.std.proofs.lemmas.Fmt.{decimal_is_IsNumeral}
-use Rattle.std.specs.List.{list_any, find, filter, flat_map}
-use Rattle.dns_spec.specs.ZoneText.{Token, most_octets, TokensThen, cut_entries, begins_with, Entry, Entries, ended, with_end, lexical_fault, whole_text, extent_by}
-use Rattle.dns_spec.specs.Meaning.{faulty, gives, owned, kind_of, Fields, fields, directive_word, is_record, OriginIs, NameIs, IsRecord, most_records, RecordGives, KindGives, EntryGives, records, EntriesMean, Means}
+use Rattle.dns_spec.proofs.Common.{◌≡◌, ℕ, suc, ◌+◌, ◌<◌, ◌≤◌, inl, inr, Bool, true, false, All, Some, None, List, [], ◌∷◌, ◌++◌, map, length, take, refl, sym, ◌∙◌, ap, subst, arith, codes, decimal, rules, cases_Bool, lt-leb, le-ltb, take_all, none-some, same_Some, MatchOption, is_ascii_digit, AllDigits, Octets, DomainName, octet_text, name_text, type_text, NamesType, Word, Says, plain, written_words, ResourceRecord, bad_owner, IsReadRecord, HasZoneType, record_line, decimal_is_IsNumeral, list_any, find, filter, flat_map, Token, most_octets, TokensThen, cut_entries, begins_with, Entry, Entries, ended, with_end, lexical_fault, whole_text, extent_by, faulty, gives, owned, kind_of, Fields, fields, directive_word, is_record, OriginIs, NameIs, IsRecord, most_records, RecordGives, KindGives, EntryGives, records, EntriesMean, Means}
 use Rattle.dns_spec.proofs.Records.SortedOnce.{Each}
 use Rattle.dns_spec.proofs.NameTexts.WrittenNames.{name_spelled}
 use Rattle.dns_spec.proofs.DataWords.SaidAgain.{data_said}
@@ -15,11 +11,14 @@ lines_tokens : List ResourceRecord → List Token
 lines_tokens [] = []
 lines_tokens (r ∷ rs) = line_tokens r ++ lines_tokens rs
 
-tokens_then : (ps qs : List Token) (text middle rest : Octets) → TokensThen text ps middle → TokensThen middle qs rest → TokensThen text (ps ++ qs) rest
+tokens_then : (ps qs : List Token) (text middle rest : Octets)
+    → TokensThen text ps middle → TokensThen middle qs rest → TokensThen text (ps ++ qs) rest
 tokens_then [] qs text middle rest h k = subst (λ t. TokensThen t qs rest) (sym h) k
-tokens_then (p ∷ ps) qs text middle rest (others, e, h) k = (others, e, tokens_then ps qs others middle rest h k)
+tokens_then (p ∷ ps) qs text middle rest (others, e, h) k =
+    (others, e, tokens_then ps qs others middle rest h k)
 
-lines_read : (rs : List ResourceRecord) → Each IsReadRecord rs → TokensThen (flat_map record_line rs) (lines_tokens rs) []
+lines_read : (rs : List ResourceRecord)
+    → Each IsReadRecord rs → TokensThen (flat_map record_line rs) (lines_tokens rs) []
 unfolding lines_tokens
 lines_read [] h = refl
 lines_read (r ∷ rs) h =
@@ -32,25 +31,29 @@ line_entry r = ended (line_tokens r)
 abbrev lines_entries : List ResourceRecord → List Entry
 lines_entries rs = map line_entry rs ++ ended [] ∷ []
 
-lines_cut : (rs : List ResourceRecord) → cut_entries false (lines_tokens rs) ≡ map line_tokens rs ++ [] ∷ []
+lines_cut : (rs : List ResourceRecord)
+    → cut_entries false (lines_tokens rs) ≡ map line_tokens rs ++ [] ∷ []
 unfolding lines_tokens
 lines_cut [] = refl
 lines_cut (r ∷ rs) = line_cut r (lines_tokens rs) ∙ ap (λ es. line_tokens r ∷ es) (lines_cut rs)
 
-lines_ended : (rs : List ResourceRecord) → with_end whole_text [] (map line_tokens rs ++ [] ∷ []) ≡ lines_entries rs
+lines_ended : (rs : List ResourceRecord)
+    → with_end whole_text [] (map line_tokens rs ++ [] ∷ []) ≡ lines_entries rs
 lines_ended [] = refl
 lines_ended (r ∷ []) = refl
 lines_ended (r ∷ s ∷ rs) = ap (λ es. line_entry r ∷ es) (lines_ended (s ∷ rs))
 
-text_entries : (rs : List ResourceRecord) → Each IsReadRecord rs → length (flat_map record_line rs) ≤ most_octets
-    → Entries (flat_map record_line rs) (lines_entries rs)
+text_entries : (rs : List ResourceRecord) → Each IsReadRecord rs → length
+    (flat_map record_line rs) ≤ most_octets → Entries (flat_map record_line rs) (lines_entries rs)
 text_entries rs h short =
     let text = flat_map record_line rs in
-    let within = ap (λ goes_on. with_end (extent_by goes_on) [] (cut_entries false (lines_tokens rs))) (le-ltb most_octets (length text) short) in
+    let within = ap (λ goes_on. with_end (extent_by goes_on)
+    [] (cut_entries false (lines_tokens rs))) (le-ltb most_octets (length text) short) in
     record {
       tokens = lines_tokens rs;
       rest = [];
-      spelled = subst (λ t. TokensThen t (lines_tokens rs) []) (sym (take_all most_octets text short)) (lines_read rs h);
+      spelled = subst (λ t. TokensThen t (lines_tokens rs) [])
+          (sym (take_all most_octets text short)) (lines_read rs h);
       at_end = refl;
       entries = sym (within ∙ ap (with_end whole_text []) (lines_cut rs) ∙ lines_ended rs);
     }
@@ -64,12 +67,15 @@ name_begins ((x ∷ l) ∷ n) = grind arith
 
 -- what the words of a line are
 abbrev words_after : ResourceRecord → List Word
-words_after r = plain (decimal r.ttl) ∷ plain (codes "IN") ∷ plain (type_text r.rtype) ∷ written_words r.rtype r.rdata
+words_after r = plain
+    (decimal r.ttl) ∷ plain (codes "IN") ∷ plain (type_text r.rtype) ∷ written_words r.rtype r.rdata
 
-line_kind : (r : ResourceRecord) → kind_of (line_entry r) ≡ owned (plain (name_text r.owner)) (words_after r)
+line_kind : (r : ResourceRecord)
+    → kind_of (line_entry r) ≡ owned (plain (name_text r.owner)) (words_after r)
 line_kind r = grind (arith, line_words_again, name_begins)
 
-digits_begin : (x : Octets) → 0 < length x → AllDigits 10 x → list_any is_ascii_digit (take 1 x) ≡ true
+digits_begin : (x : Octets)
+    → 0 < length x → AllDigits 10 x → list_any is_ascii_digit (take 1 x) ≡ true
 digits_begin x h h1 = grind arith
 
 abbrev line_fields : ResourceRecord → Fields
@@ -97,57 +103,80 @@ type_named t small = grind arith
 abbrev KeepsOrigin : Entry → Type 0
 KeepsOrigin e = directive_word (codes "$origin") (kind_of e) ≡ None
 
-origin_stays : (o : DomainName) (earlier : List Entry) → Each KeepsOrigin earlier → OriginIs o earlier o
+origin_stays : (o : DomainName) (earlier : List Entry)
+    → Each KeepsOrigin earlier → OriginIs o earlier o
 origin_stays o [] h = refl
 origin_stays o (e ∷ earlier) h = grind (arith, (origin_stays o earlier h.1))
 
-line_record : (o : DomainName) (earlier : List Entry) (r : ResourceRecord) → OriginIs o earlier o → IsReadRecord r → HasZoneType r
+line_record : (o : DomainName) (earlier : List Entry) (r : ResourceRecord)
+    → OriginIs o earlier o → IsReadRecord r → HasZoneType r
     → IsRecord o earlier (NameIs o earlier (plain (name_text r.owner))) (line_fields r) r
 line_record o earlier r origin h zone_type = record {
-  owner = (r.owner, (refl, (o, origin, name_spelled o r.owner h.owner_octets h.owner)), sym h.lower_owner);
+  owner = (
+    r.owner,
+    (refl, (o, origin, name_spelled o r.owner h.owner_octets h.owner)),
+    sym h.lower_owner,
+  );
   ttl = (refl, refl, h.ttl);
   rtype = (refl, type_named r.rtype h.rtype, zone_type);
   rdata = (
     r.rtype,
     (refl, type_named r.rtype h.rtype, zone_type),
-    (o, origin, subst (Says r.rtype (written_words r.rtype r.rdata) o) h.lower_data (data_said r.rtype o r.rdata h.rdata_octets h.rdata)),
+    (
+      o,
+      origin,
+      subst (Says r.rtype (written_words r.rtype r.rdata) o) h.lower_data
+          (data_said r.rtype o r.rdata h.rdata_octets h.rdata),
+    ),
   );
 }
 
-line_given : (o : DomainName) (earlier : List Entry) (r : ResourceRecord) → OriginIs o earlier o → IsReadRecord r → HasZoneType r
-    → length (filter is_record earlier) < most_records → EntryGives o earlier (line_entry r) (gives (r ∷ []))
+line_given : (o : DomainName) (earlier : List Entry) (r : ResourceRecord) → OriginIs o earlier o
+    → IsReadRecord r → HasZoneType r → length (filter is_record earlier) < most_records
+    → EntryGives o earlier (line_entry r) (gives (r ∷ []))
 line_given o earlier r origin h zone_type few =
     let answer = gives (r ∷ []) in
     let Owner = NameIs o earlier (plain (name_text r.owner)) in
     let given : RecordGives o earlier bad_owner Owner (line_fields r) answer =
-    record_given o earlier bad_owner Owner (line_fields r) r (line_record o earlier r origin h zone_type) refl (lt-leb most_records (length (filter is_record earlier)) few)
+    record_given o earlier bad_owner Owner (line_fields r) r (line_record o earlier
+    r origin h zone_type) refl (lt-leb most_records (length (filter is_record earlier)) few)
     in
     let by_words : KindGives o earlier (owned (plain (name_text r.owner)) (words_after r)) answer =
     subst (λ f. RecordGives o earlier bad_owner Owner f answer) (sym (fields_are r h)) given
     in
-    let by_kind : KindGives o earlier (kind_of (line_entry r)) answer = subst (λ s. KindGives o earlier s answer) (sym (line_kind r)) by_words in
-    subst (λ fault. MatchOption fault (KindGives o earlier (kind_of (line_entry r)) answer) (λ code. answer ≡ faulty code)) (sym (line_faultless r)) by_kind
+    let by_kind : KindGives o earlier (kind_of (line_entry r)) answer =
+    subst (λ s. KindGives o earlier s answer) (sym (line_kind r)) by_words in
+    subst (λ fault. MatchOption fault (KindGives o earlier (kind_of (line_entry r)) answer)
+    (λ code. answer ≡ faulty code)) (sym (line_faultless r)) by_kind
 
 line_keeps_origin : (r : ResourceRecord) → KeepsOrigin (line_entry r)
 line_keeps_origin r = ap (directive_word (codes "$origin")) (line_kind r)
 
-line_counts : (r : ResourceRecord) (earlier : List Entry) → length (filter is_record (line_entry r ∷ earlier)) ≡ suc (length (filter is_record earlier))
+line_counts : (r : ResourceRecord) (earlier : List Entry)
+    → length (filter is_record (line_entry r ∷ earlier)) ≡ suc (length (filter is_record earlier))
 line_counts r earlier = grind (arith, line_kind)
 
-lines_mean : (o : DomainName) (earlier : List Entry) (rs : List ResourceRecord) → Each KeepsOrigin earlier → Each IsReadRecord rs → Each HasZoneType rs
-    → length (filter is_record earlier) + length rs ≤ most_records → EntriesMean o earlier (lines_entries rs) (records rs)
+lines_mean : (o : DomainName) (earlier : List Entry) (rs : List ResourceRecord) → Each KeepsOrigin
+    earlier → Each IsReadRecord rs → Each HasZoneType rs → length (filter is_record earlier)
+    + length rs ≤ most_records → EntriesMean o earlier (lines_entries rs) (records rs)
 lines_mean o earlier [] keeps h types few = grind (arith, given_then)
 lines_mean o earlier (r ∷ rs) keeps h types few =
     given_then o earlier (line_entry r) (lines_entries rs) (r ∷ []) (records rs)
     (line_given o earlier r (origin_stays o earlier keeps) h.0 types.0 (omega (arith, few)))
-    (lines_mean o (line_entry r ∷ earlier) rs (line_keeps_origin r, keeps) h.1 types.1 (omega (arith, few, line_counts r earlier)))
+    (lines_mean o (line_entry r ∷ earlier) rs
+    (line_keeps_origin r, keeps) h.1 types.1 (omega (arith, few, line_counts r earlier)))
 
 each_from_all : {X : Type 0} (P : X → Type 0) (xs : List X) → All P xs → Each P xs
 each_from_all P [] all = tt
-each_from_all P (x ∷ xs) all = (all 0 x (omega arith), each_from_all P xs (λ k d inside. all (suc k) d (omega arith)))
+each_from_all P (x ∷ xs) all =
+    (all 0 x (omega arith), each_from_all P xs (λ k d inside. all (suc k) d (omega arith)))
 
-pub printed_again : (o : DomainName) (rs : List ResourceRecord) → All IsReadRecord rs → All HasZoneType rs → length rs ≤ most_records
-    → length (flat_map record_line rs) ≤ most_octets → Means o (flat_map record_line rs) (records rs)
+pub printed_again : (o : DomainName) (rs : List ResourceRecord) → All IsReadRecord rs
+    → All HasZoneType rs → length rs ≤ most_records → length (flat_map record_line rs) ≤ most_octets
+    → Means o (flat_map record_line rs) (records rs)
 printed_again o rs all types few short =
-    let each = each_from_all IsReadRecord rs all in
-    (lines_entries rs, text_entries rs each short, lines_mean o [] rs tt each (each_from_all HasZoneType rs types) (omega (arith, few)))
+    let each = each_from_all IsReadRecord rs all in (
+      lines_entries rs,
+      text_entries rs each short,
+      lines_mean o [] rs tt each (each_from_all HasZoneType rs types) (omega (arith, few)),
+    )

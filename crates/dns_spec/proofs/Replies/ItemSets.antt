@@ -1,7 +1,5 @@
 -- In a zone that passes each item of a reply is the records of a set at an owner, with one TTL.
-use Rattle.dns_spec.proofs.Common.{common_steps, eqb-true, eq-eqb, false≢true, or_parts, none-some, same_Some, list_any, DomainName, folded, names_equal, same, type_ns, type_cname, ResourceRecord, ZoneContents, at, of_type, rrset, with_owner, records_at, of_lowest_type, found, ttls_differ, Passes, Section, answer, Item, no_error, item, follows_alias, alias_set, chain, alias_items, asked_records, negative_soa, negative, positive, has_any, outcome_by, outcome_at, outcome, address_sets, extra, items}
-use Rattle.std.proofs.Common.{◌≡◌, ℕ, ◌≤◌, Bool, true, false, ◌&&◌, not, cond, ◌==◌, ◌⊎◌, inl, inr, List, [], ◌∷◌, ◌++◌, map, length, Option, None, Some, All, filter, flat_map, refl, sym, ap, ap₂, ◌∙◌, subst, arith}
-use Rattle.dns_spec.specs.Laws.{IsSetAt}
+use Rattle.dns_spec.proofs.Common.{common_steps, eqb-true, eq-eqb, false≢true, or_parts, none-some, same_Some, list_any, DomainName, folded, names_equal, same, type_ns, type_cname, ResourceRecord, ZoneContents, at, of_type, rrset, with_owner, records_at, of_lowest_type, found, ttls_differ, Passes, Section, answer, Item, no_error, item, follows_alias, alias_set, chain, alias_items, asked_records, negative_soa, negative, positive, has_any, outcome_by, outcome_at, outcome, address_sets, extra, items, ◌≡◌, ℕ, ◌≤◌, Bool, true, false, ◌&&◌, not, cond, ◌==◌, ◌⊎◌, inl, inr, List, [], ◌∷◌, ◌++◌, map, length, Option, None, Some, All, filter, flat_map, refl, sym, ap, ap₂, ◌∙◌, subst, arith, IsSetAt}
 use Rattle.dns_spec.proofs.DomainNames.NameLaws.{names_equal-decides}
 use Rattle.dns_spec.proofs.Records.SortedOnce.{Each, Among, each_at, each_sort, among_filter}
 use Rattle.dns_spec.proofs.Replies.WritableItems.{each_append, each_flat_map, each_from_all, all_from_each}
@@ -13,16 +11,28 @@ pub record IsOf (o : DomainName) (k t : ℕ) (r : ResourceRecord) : Type 0 where
   pub ttl : r.ttl ≡ k
   pub rtype : r.rtype ≡ t
 
-pub as_set : (o : DomainName) (k t : ℕ) (rs : List ResourceRecord) → Each (IsOf o k t) rs → rs ≡ records_at o k (record { rtype = t; ttl = k; rdata = map (λ (r : ResourceRecord). r.rdata) rs })
+pub as_set : (o : DomainName) (k t : ℕ) (rs : List ResourceRecord)
+    → Each (IsOf o k t) rs → rs ≡ records_at o k
+    (record { rtype = t; ttl = k; rdata = map (λ (r : ResourceRecord). r.rdata) rs })
 as_set o k t [] e = refl
 as_set o k t (r ∷ rs) e = grind (arith, ap₂, (as_set o k t rs e.1))
 
 one_set : (o : DomainName) (k t : ℕ) (rs : List ResourceRecord) → Each (IsOf o k t) rs → IsSetAt rs
-one_set o k t rs e = record { owner = o; ttl = k; set = record { rtype = t; ttl = k; rdata = map (λ (r : ResourceRecord). r.rdata) rs }; records = as_set o k t rs e }
+one_set o k t rs e = record {
+  owner = o;
+  ttl = k;
+  set = record {
+    rtype = t;
+    ttl = k;
+    rdata = map (λ (r : ResourceRecord). r.rdata) rs;
+  };
+  records = as_set o k t rs e;
+}
 
 one_record_set : (rs : List ResourceRecord) → length rs ≤ 1 → IsSetAt rs
 one_record_set [] h = one_set [] 0 0 [] tt
-one_record_set (r ∷ []) h = one_set r.owner r.ttl r.rtype (r ∷ []) (record { owner = refl; ttl = refl; rtype = refl }, tt)
+one_record_set (r ∷ []) h =
+    one_set r.owner r.ttl r.rtype (r ∷ []) (record { owner = refl; ttl = refl; rtype = refl }, tt)
 one_record_set (r ∷ s ∷ rs) h = absurd (omega arith)
 
 abbrev Sets : List Item → Type 0
@@ -42,52 +52,79 @@ record FirstOf (t : ℕ) (rs : List ResourceRecord) : Type 0 where
   typed : first.rtype ≡ t
   ttl : first_ttl t rs ≡ first.ttl
 
-first_of_type : (t : ℕ) (rs : List ResourceRecord) (r : ResourceRecord) → Among r rs → r.rtype ≡ t → FirstOf t rs
+first_of_type : (t : ℕ) (rs : List ResourceRecord) (r : ResourceRecord)
+    → Among r rs → r.rtype ≡ t → FirstOf t rs
 unfolding first_ttl
 first_of_type t [] r m e = absurd m
 first_of_type t (s ∷ rs) r m e = go (s.rtype == t) refl m (first_of_type t rs r)
   where
-    go : (b : Bool) → (s.rtype == t) ≡ b → (r ≡ s) ⊎ Among r rs → (Among r rs → r.rtype ≡ t → FirstOf t rs) → FirstOf t (s ∷ rs)
-    go true p n f = record { first = s; among = inl refl; typed = eqb-true s.rtype t p; ttl = ap (λ b. cond b s.ttl (first_ttl t rs)) p }
-    go false p (inl q) f = absurd (false≢true (sym p ∙ eq-eqb s.rtype t (ap (λ (x : ResourceRecord). x.rtype) (sym q) ∙ e)))
+    go : (b : Bool) → (s.rtype == t) ≡ b
+        → (r ≡ s) ⊎ Among r rs → (Among r rs → r.rtype ≡ t → FirstOf t rs) → FirstOf t (s ∷ rs)
+    go true p n f = record {
+      first = s;
+      among = inl refl;
+      typed = eqb-true s.rtype t p;
+      ttl = ap (λ b. cond b s.ttl (first_ttl t rs)) p;
+    }
+    go false p (inl q) f = absurd
+        (false≢true (sym p ∙ eq-eqb s.rtype t (ap (λ (x : ResourceRecord). x.rtype) (sym q) ∙ e)))
     go false p (inr n) f =
         let g = f n e in
-        record { first = g.first; among = inr g.among; typed = g.typed; ttl = ap (λ b. cond b s.ttl (first_ttl t rs)) p ∙ g.ttl }
+        record {
+          first = g.first;
+          among = inr g.among;
+          typed = g.typed;
+          ttl = ap (λ b. cond b s.ttl (first_ttl t rs)) p ∙ g.ttl;
+        }
 
-pub any_false : {X : Type 0} (p : X → Bool) (xs : List X) (a : X) → list_any p xs ≡ false → Among a xs → p a ≡ false
+pub any_false : {X : Type 0} (p : X → Bool) (xs : List X) (a : X)
+    → list_any p xs ≡ false → Among a xs → p a ≡ false
 any_false p [] a e m = absurd m
 any_false p (x ∷ xs) a e (inl q) = ap p q ∙ (or_parts (p x) (list_any p xs) e).0
 any_false p (x ∷ xs) a e (inr m) = any_false p xs a (or_parts (p x) (list_any p xs) e).1 m
 
-pub each_among : {X : Type 0} (P : X → Type 0) (xs : List X) → ((x : X) → Among x xs → P x) → Each P xs
+pub each_among : {X : Type 0} (P : X → Type 0) (xs : List X)
+    → ((x : X) → Among x xs → P x) → Each P xs
 each_among P [] f = tt
 each_among P (x ∷ xs) f = (f x (inl refl), each_among P xs (λ y m. f y (inr m)))
 
-pub filter_test : {X : Type 0} (p : X → Bool) (a : X) (xs : List X) → Among a (filter p xs) → p a ≡ true
+pub filter_test : {X : Type 0} (p : X → Bool) (a : X) (xs : List X)
+    → Among a (filter p xs) → p a ≡ true
 filter_test p a [] m = absurd m
 filter_test p a (x ∷ xs) m = grind (arith, Among, inl, inr, (filter_test p a xs))
 
-pub each_typed : (t : ℕ) (P : ResourceRecord → Type 0) (rs : List ResourceRecord) → Each P rs → Each (λ r. P r × (r.rtype ≡ t)) (of_type t rs)
+pub each_typed : (t : ℕ) (P : ResourceRecord → Type 0) (rs : List ResourceRecord)
+    → Each P rs → Each (λ r. P r × (r.rtype ≡ t)) (of_type t rs)
 each_typed t P rs e =
     grind (arith, each_sort, each_among, each_at, among_filter, eqb-true, filter_test)
 
-owned : (o : DomainName) (P : ℕ → ℕ → Type 0) (rs : List ResourceRecord) → Each (λ (r : ResourceRecord). P r.ttl r.rtype) rs
+owned : (o : DomainName) (P : ℕ → ℕ → Type 0) (rs : List ResourceRecord)
+    → Each (λ (r : ResourceRecord). P r.ttl r.rtype) rs
     → Each (λ (r : ResourceRecord). (r.owner ≡ o) × P r.ttl r.rtype) (with_owner o rs)
 owned o P [] e = tt
 owned o P (r ∷ rs) e = ((refl, e.0), owned o P rs e.1)
 
-module _ (z : ZoneContents) (origin : folded z.origin ≡ z.origin) (low : Each (λ (r : ResourceRecord). folded r.owner ≡ r.owner) z.records) (passes : Passes z) where
+module _ (z : ZoneContents) (origin : folded z.origin ≡ z.origin) (low : Each
+    (λ (r : ResourceRecord). folded r.owner ≡ r.owner) z.records) (passes : Passes z) where
   -- records at one name, of one type, have one TTL
-  same_ttl : (n : DomainName) (r s : ResourceRecord) → Among r (at z n) → Among s (at z n) → r.rtype ≡ s.rtype → r.ttl ≡ s.ttl
+  same_ttl : (n : DomainName) (r s : ResourceRecord)
+      → Among r (at z n) → Among s (at z n) → r.rtype ≡ s.rtype → r.ttl ≡ s.ttl
   same_ttl n r s m k e =
       let test = λ (x : ResourceRecord). same x.owner n in
       let here = among_filter test r z.records m in
-      let alike : folded r.owner ≡ folded n = (names_equal-decides (folded r.owner) (folded n)).0 (filter_test test r z.records m) in
-      let xs : at z r.owner ≡ at z n = ap (λ f. filter (λ (x : ResourceRecord). names_equal (folded x.owner) f) z.records) alike in
-      let fine : ttls_differ z r.owner ≡ false = (checks_at z origin low passes r here).1.1.1.1.1.1.1.0 in
-      let inner = any_false (λ (x : ResourceRecord). list_any (λ (y : ResourceRecord). x.rtype == y.rtype && not (x.ttl == y.ttl)) (at z r.owner)) (at z r.owner) r fine (subst (Among r) (sym xs) m) in
-      let pair = any_false (λ (y : ResourceRecord). r.rtype == y.rtype && not (r.ttl == y.ttl)) (at z r.owner) s inner (subst (Among s) (sym xs) k) in
-      go (r.ttl == s.ttl) refl (ap (λ b. b && not (r.ttl == s.ttl)) (sym (eq-eqb r.rtype s.rtype e)) ∙ pair)
+      let alike : folded r.owner ≡ folded n =
+      (names_equal-decides (folded r.owner) (folded n)).0 (filter_test test r z.records m) in
+      let xs : at z r.owner ≡ at z n = ap
+      (λ f. filter (λ (x : ResourceRecord). names_equal (folded x.owner) f) z.records) alike in
+      let fine : ttls_differ z r.owner ≡ false =
+      (checks_at z origin low passes r here).1.1.1.1.1.1.1.0 in
+      let inner = any_false (λ (x : ResourceRecord). list_any
+      (λ (y : ResourceRecord). x.rtype == y.rtype && not (x.ttl == y.ttl)) (at z r.owner))
+      (at z r.owner) r fine (subst (Among r) (sym xs) m) in
+      let pair = any_false (λ (y : ResourceRecord). r.rtype == y.rtype && not (r.ttl == y.ttl))
+      (at z r.owner) s inner (subst (Among s) (sym xs) k) in
+      go (r.ttl == s.ttl) refl
+      (ap (λ b. b && not (r.ttl == s.ttl)) (sym (eq-eqb r.rtype s.rtype e)) ∙ pair)
     where
       go : (b : Bool) → (r.ttl == s.ttl) ≡ b → not (r.ttl == s.ttl) ≡ false → r.ttl ≡ s.ttl
       go true p q = eqb-true r.ttl s.ttl p
@@ -97,42 +134,54 @@ module _ (z : ZoneContents) (origin : folded z.origin ≡ z.origin) (low : Each 
   HasTtl n t r = r.rtype ≡ t → r.ttl ≡ first_ttl t (at z n)
 
   at_ttl : (n : DomainName) (t : ℕ) → Each (HasTtl n t) (at z n)
-  at_ttl n t = each_among (HasTtl n t) (at z n) (λ r m e. first_is n t r m e (first_of_type t (at z n) r m e))
+  at_ttl n t = each_among
+      (HasTtl n t) (at z n) (λ r m e. first_is n t r m e (first_of_type t (at z n) r m e))
     where
-      first_is : (n : DomainName) (t : ℕ) (r : ResourceRecord) → Among r (at z n) → r.rtype ≡ t → FirstOf t (at z n) → r.ttl ≡ first_ttl t (at z n)
+      first_is : (n : DomainName) (t : ℕ) (r : ResourceRecord)
+          → Among r (at z n) → r.rtype ≡ t → FirstOf t (at z n) → r.ttl ≡ first_ttl t (at z n)
       first_is n t r m e f = same_ttl n r f.first m f.among (e ∙ sym f.typed) ∙ sym f.ttl
 
   -- the set of a type at a name, shown with an owner
   shown_set : (o n : DomainName) (t : ℕ) → IsSetAt (of_type t (with_owner o (at z n)))
   shown_set o n t =
       one_set o (first_ttl t (at z n)) t (of_type t (with_owner o (at z n)))
-      (each_weak (of_type t (with_owner o (at z n))) (each_typed t (λ r. (r.owner ≡ o) × HasTtl n t r) (with_owner o (at z n))
+      (each_weak (of_type t (with_owner o (at z n)))
+      (each_typed t (λ r. (r.owner ≡ o) × HasTtl n t r) (with_owner o (at z n))
       (owned o (λ k u. u ≡ t → k ≡ first_ttl t (at z n)) (at z n) (at_ttl n t))))
     where
-      each_weak : (rs : List ResourceRecord) → Each (λ r. ((r.owner ≡ o) × HasTtl n t r) × (r.rtype ≡ t)) rs → Each (IsOf o (first_ttl t (at z n)) t) rs
+      each_weak : (rs : List ResourceRecord) → Each (λ r. ((r.owner ≡ o) × HasTtl n t r)
+          × (r.rtype ≡ t)) rs → Each (IsOf o (first_ttl t (at z n)) t) rs
       each_weak [] e = tt
-      each_weak (r ∷ rs) e = (record { owner = e.0.0.0; ttl = e.0.0.1 e.0.1; rtype = e.0.1 }, each_weak rs e.1)
+      each_weak (r ∷ rs) e =
+          (record { owner = e.0.0.0; ttl = e.0.0.1 e.0.1; rtype = e.0.1 }, each_weak rs e.1)
 
   -- the records of a set, whose owner is the name in lower case
-  pub own_records : (n : DomainName) (t : ℕ) → Each (IsOf (folded n) (first_ttl t (at z n)) t) (rrset z n t)
+  pub own_records : (n : DomainName) (t : ℕ)
+      → Each (IsOf (folded n) (first_ttl t (at z n)) t) (rrset z n t)
   own_records n t =
       each_weak (rrset z n t) (each_typed t (λ r. (r.owner ≡ folded n) × HasTtl n t r) (at z n)
       (each_among (λ r. (r.owner ≡ folded n) × HasTtl n t r) (at z n) (λ r m.
       let test = λ (x : ResourceRecord). same x.owner n in (
-        sym (each_at (λ (x : ResourceRecord). folded x.owner ≡ x.owner) r z.records low (among_filter test r z.records m)) ∙ (names_equal-decides (folded r.owner) (folded n)).0 (filter_test test r z.records m),
+        sym (each_at (λ (x : ResourceRecord). folded x.owner ≡ x.owner) r z.records low
+            (among_filter test r z.records m))
+            ∙ (names_equal-decides (folded r.owner) (folded n)).0 (filter_test test r z.records m),
         each_at (HasTtl n t) r (at z n) (at_ttl n t) m,
       ))))
     where
-      each_weak : (rs : List ResourceRecord) → Each (λ r. ((r.owner ≡ folded n) × HasTtl n t r) × (r.rtype ≡ t)) rs → Each (IsOf (folded n) (first_ttl t (at z n)) t) rs
+      each_weak : (rs : List ResourceRecord) → Each (λ r. ((r.owner ≡ folded n) × HasTtl n t r)
+          × (r.rtype ≡ t)) rs → Each (IsOf (folded n) (first_ttl t (at z n)) t) rs
       each_weak [] e = tt
-      each_weak (r ∷ rs) e = (record { owner = e.0.0.0; ttl = e.0.0.1 e.0.1; rtype = e.0.1 }, each_weak rs e.1)
+      each_weak (r ∷ rs) e =
+          (record { owner = e.0.0.0; ttl = e.0.0.1 e.0.1; rtype = e.0.1 }, each_weak rs e.1)
 
   referral_set : (c : DomainName) → IsSetAt (with_owner c (rrset z c type_ns))
   referral_set c =
       let k = first_ttl type_ns (at z c) in
-      one_set c k type_ns (with_owner c (rrset z c type_ns)) (shown (rrset z c type_ns) (each_typed type_ns (HasTtl c type_ns) (at z c) (at_ttl c type_ns)))
+      one_set c k type_ns (with_owner c (rrset z c type_ns)) (shown
+      (rrset z c type_ns) (each_typed type_ns (HasTtl c type_ns) (at z c) (at_ttl c type_ns)))
     where
-      shown : (rs : List ResourceRecord) → Each (λ r. HasTtl c type_ns r × (r.rtype ≡ type_ns)) rs → Each (IsOf c (first_ttl type_ns (at z c)) type_ns) (with_owner c rs)
+      shown : (rs : List ResourceRecord) → Each (λ r. HasTtl c type_ns r × (r.rtype ≡ type_ns)) rs
+          → Each (IsOf c (first_ttl type_ns (at z c)) type_ns) (with_owner c rs)
       shown [] e = tt
       shown (r ∷ rs) e = (record { owner = refl; ttl = e.0.0 e.0.1; rtype = e.0.1 }, shown rs e.1)
 
@@ -151,23 +200,27 @@ module _ (z : ZoneContents) (origin : folded z.origin ≡ z.origin) (low : Each 
   units [] = tt
   units (x ∷ xs) = (tt, units xs)
 
-  lowest_set : (q : DomainName) (rs : List ResourceRecord) → Shown q rs → IsSetAt (of_lowest_type rs)
+  lowest_set : (q : DomainName) (rs : List ResourceRecord)
+      → Shown q rs → IsSetAt (of_lowest_type rs)
   lowest_set q rs s = grind (arith, one_record_set, shown_set)
 
-  asked_is_set : (q : DomainName) (rs : List ResourceRecord) (t : ℕ) → Shown q rs → Sets (item answer (asked_records t rs))
+  asked_is_set : (q : DomainName) (rs : List ResourceRecord) (t : ℕ)
+      → Shown q rs → Sets (item answer (asked_records t rs))
   asked_is_set q rs t s = grind (arith, shown_set)
 
   negative_set : Sets (negative_soa z)
   negative_set = grind (arith, common_steps, item_set, one_soa, few_soa, one_record_set)
 
-  main_sets : (t : ℕ) (s : DomainName) (x : Option DomainName) (y : Option (List ResourceRecord)) → found z s ≡ y
-      → Sets (outcome_by z t x y).answers × Sets (outcome_by z t x y).authorities
+  main_sets : (t : ℕ) (s : DomainName) (x : Option DomainName) (y : Option (List ResourceRecord))
+      → found z s ≡ y → Sets (outcome_by z t x y).answers × Sets (outcome_by z t x y).authorities
   main_sets t s (Some c) y e = grind (arith, item_set, referral_set)
   main_sets t s None None e = (tt, negative_set)
-  main_sets t s None (Some rs) e = go (follows_alias t && has_any (of_type type_cname rs)) (has_any (asked_records t rs))
+  main_sets t s None (Some rs) e =
+      go (follows_alias t && has_any (of_type type_cname rs)) (has_any (asked_records t rs))
     where
-      go : (b c : Bool) → Sets (cond b (positive []) (cond c (positive (item answer (asked_records t rs))) (negative z no_error))).answers
-          × Sets (cond b (positive []) (cond c (positive (item answer (asked_records t rs))) (negative z no_error))).authorities
+      go : (b c : Bool) → Sets (cond b (positive []) (cond c (positive (item answer
+          (asked_records t rs))) (negative z no_error))).answers × Sets (cond b (positive [])
+          (cond c (positive (item answer (asked_records t rs))) (negative z no_error))).authorities
       go true c = (tt, tt)
       go false true = (asked_is_set s rs t (found_shown s rs e), tt)
       go false false = (tt, negative_set)
@@ -177,7 +230,8 @@ module _ (z : ZoneContents) (origin : folded z.origin ≡ z.origin) (low : Each 
     where
       go : (b : Bool) → Sets (cond b (flat_map (λ s. item answer (alias_set z s)) (chain z q t)) [])
       go true =
-          each_flat_map (λ (i : Item). IsSetAt i.records) (λ _. Unit {0}) (λ s. item answer (alias_set z s)) (chain z q t)
+          each_flat_map (λ (i : Item). IsSetAt i.records)
+          (λ _. Unit {0}) (λ s. item answer (alias_set z s)) (chain z q t)
           (λ s _. item_set answer (alias_set z s) (alias_is_set s)) (units (chain z q t))
       go false = tt
 
@@ -191,6 +245,7 @@ module _ (z : ZoneContents) (origin : folded z.origin ≡ z.origin) (low : Each 
   unfolding items outcome outcome_at
   items_sets q t = grind (arith, main_sets, each_append, alias_sets, extra_sets)
 
-pub items_are_sets : (z : ZoneContents) → folded z.origin ≡ z.origin → All (λ (r : ResourceRecord). folded r.owner ≡ r.owner) z.records → Passes z
-    → (q : DomainName) (t : ℕ) → All (λ (i : Item). IsSetAt i.records) (items z q t)
+pub items_are_sets : (z : ZoneContents)
+    → folded z.origin ≡ z.origin → All (λ (r : ResourceRecord). folded r.owner ≡ r.owner) z.records
+    → Passes z → (q : DomainName) (t : ℕ) → All (λ (i : Item). IsSetAt i.records) (items z q t)
 items_are_sets z origin low passes q t = grind (arith, all_from_each, items_sets, each_from_all)

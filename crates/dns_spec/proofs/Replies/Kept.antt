@@ -1,6 +1,5 @@
 -- What is kept of a list of sets is its longest beginning that fits.
-use Rattle.std.proofs.Common.{◌≡◌, ℕ, zero, suc, ◌<◌, ◌≤◌, Bool, true, false, cond, nat_le, ◌⊎◌, inl, inr, List, [], length, take, refl, sym, ap, ◌∙◌, arith, eq-or-lt_of_le}
-use Rattle.dns_spec.proofs.Common.{false≢true, length-take-le, Item, kept, greatest}
+use Rattle.dns_spec.proofs.Common.{◌≡◌, ℕ, zero, suc, ◌<◌, ◌≤◌, Bool, true, false, cond, nat_le, ◌⊎◌, inl, inr, List, [], length, take, refl, sym, ap, ◌∙◌, arith, eq-or-lt_of_le, false≢true, length-take-le, Item, kept, greatest}
 
 pub greatest_bound : (test : ℕ → Bool) (n : ℕ) → greatest test n ≤ n
 greatest_bound test zero = omega arith
@@ -14,7 +13,8 @@ pub greatest_most : (test : ℕ → Bool) (n k : ℕ) → k ≤ n → test k ≡
 greatest_most test zero k h e = h
 greatest_most test (suc n) k h e = go (test (suc n)) refl (λ l. greatest_most test n k l e)
   where
-    go : (t : Bool) → test (suc n) ≡ t → (k ≤ n → k ≤ greatest test n) → k ≤ cond t (suc n) (greatest test n)
+    go : (t : Bool)
+        → test (suc n) ≡ t → (k ≤ n → k ≤ greatest test n) → k ≤ cond t (suc n) (greatest test n)
     go true q f = h
     go false q f = f (below (eq-or-lt_of_le h))
       where
@@ -31,9 +31,11 @@ module _ (size_of : List Item → ℕ) (limit : ℕ) (sets : List Item) where
   unfolding how_many
   kept_fits h = grind (arith, greatest_passes)
 
-  pub length-kept : length (kept size_of limit sets) ≡ greatest (λ k. nat_le (size_of (take k sets)) limit) (length sets)
+  pub length-kept : length
+      (kept size_of limit sets) ≡ greatest (λ k. nat_le (size_of (take k sets)) limit) (length sets)
   length-kept = grind (arith, length-take-le, greatest_bound)
 
   -- and no longer beginning does
-  pub kept_longest : (k : ℕ) → k ≤ length sets → size_of (take k sets) ≤ limit → k ≤ length (kept size_of limit sets)
+  pub kept_longest : (k : ℕ)
+      → k ≤ length sets → size_of (take k sets) ≤ limit → k ≤ length (kept size_of limit sets)
   kept_longest k h fits = grind (arith, greatest_most, length-kept)

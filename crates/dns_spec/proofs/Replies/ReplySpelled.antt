@@ -1,11 +1,5 @@
 -- The octets of a reply spell it, and are no more than its limit.
-use Rattle.std.proofs.Common.{◌≡◌, ℕ, ◌+◌, ◌^◌, ◌<◌, ◌≤◌, Bool, true, false, nat_le, ◌==◌, List, [], ◌∷◌, length, take, drop, Option, None, Some, IfSome, All, refl, subst, arith, length-take, mod-lt}
-use Rattle.std.proofs.lemmas.Bool.{cond_both, and_parts, leb-true}
-use Rattle.dns_spec.proofs.Common.{none-some, same_Some, cond_some, Octets, DomainName, is_name, number_of, ZoneContents, Header, MessageQuestion, Spells, name_at, Item, layout, message_of, records_size, size, outcome, items, is_authoritative}
-use Rattle.std.proofs.lemmas.List.Elements.{All-nil, All-take, All-drop}
-use Rattle.dns_spec.specs.Query.{field16, head_of, reply_head, refusal_head, question_of, question_at, query_read}
-use Rattle.dns_spec.specs.Reply.{truncated, Decision, silence, header_alone, question_alone, answered, decide, Reply, answer_with, reply_of, reply_with, reply_octets, reply_message, keep_longest, reply, greatest}
-use Rattle.dns_spec.specs.Laws.{sections_in_order, IsWritable, IsAskable, HasRoom}
+use Rattle.dns_spec.proofs.Common.{◌≡◌, ℕ, ◌+◌, ◌^◌, ◌<◌, ◌≤◌, Bool, true, false, nat_le, ◌==◌, List, [], ◌∷◌, length, take, drop, Option, None, Some, IfSome, All, refl, subst, arith, length-take, mod-lt, cond_both, and_parts, leb-true, none-some, same_Some, cond_some, Octets, DomainName, is_name, number_of, ZoneContents, Header, MessageQuestion, Spells, name_at, Item, layout, message_of, records_size, size, outcome, items, is_authoritative, All-nil, All-take, All-drop, field16, head_of, reply_head, refusal_head, question_of, question_at, query_read, truncated, Decision, silence, header_alone, question_alone, answered, decide, Reply, answer_with, reply_of, reply_with, reply_octets, reply_message, keep_longest, reply, greatest, sections_in_order, IsWritable, IsAskable, HasRoom}
 use Rattle.dns_spec.proofs.Records.SortedOnce.{Each}
 use Rattle.dns_spec.proofs.Messages.NameReading.{name_at_computes}
 use Rattle.dns_spec.proofs.Layouts.MessageParts.{length-question_octets}
@@ -24,23 +18,31 @@ two_bound (a ∷ b ∷ c ∷ os) h e = absurd (omega arith)
 field_bound : (d : Octets) (i : ℕ) → All (λ o. o < 256) d → field16 d i < 2 ^ 16
 field_bound d i e =
     two_bound (take 2 (drop i d)) (omega (arith, length-take 2 (drop i d)))
-    (each_from_all (λ o. o < 256) (take 2 (drop i d)) (All-take (λ o. o < 256) 2 (drop i d) (All-drop (λ o. o < 256) i d e)))
+    (each_from_all (λ o. o < 256)
+    (take 2 (drop i d)) (All-take (λ o. o < 256) 2 (drop i d) (All-drop (λ o. o < 256) i d e)))
 
 -- the header of a reply fits its fields
-flags_bound : (h : Header) (aa tc : Bool) (rcode : ℕ) → rcode < 16 → (reply_head h aa tc rcode).flags < 2 ^ 16
+flags_bound : (h : Header) (aa tc : Bool) (rcode : ℕ)
+    → rcode < 16 → (reply_head h aa tc rcode).flags < 2 ^ 16
 flags_bound h aa tc rcode low = grind (arith, mod-lt)
 
 -- a question that was read fits its fields
-askable : (d : Octets) (q : MessageQuestion) → All (λ o. o < 256) d → question_at d ≡ Some q → IsAskable q
+askable : (d : Octets) (q : MessageQuestion)
+    → All (λ o. o < 256) d → question_at d ≡ Some q → IsAskable q
 unfolding question_at
 askable d q low h = go (name_at d 12) refl h
   where
-    go : (x : Option (DomainName × ℕ)) → name_at d 12 ≡ x
-        → ◌≡◌ {A = Option MessageQuestion} (elim x [ None ↦ None | Some r ↦ question_of d r ]) (Some q) → IsAskable q
+    go : (x : Option (DomainName × ℕ)) → name_at d 12 ≡ x → ◌≡◌ {A = Option MessageQuestion}
+        (elim x [ None ↦ None | Some r ↦ question_of d r ]) (Some q) → IsAskable q
     go None e f = absurd (none-some q f)
     go (Some (n, e)) is f =
-        let c = cond_some (length d == e + 4) (record { qname = n; qtype = field16 d e; qclass = field16 d (e + 2) }) q f in
-        subst IsAskable c.1 (record { qname = ((name_at_computes d 12 n e).0 is).1; qtype = field_bound d e low; qclass = field_bound d (e + 2) low })
+        let c = cond_some (length d == e + 4)
+        (record { qname = n; qtype = field16 d e; qclass = field16 d (e + 2) }) q f in
+        subst IsAskable c.1 (record {
+          qname = ((name_at_computes d 12 n e).0 is).1;
+          qtype = field_bound d e low;
+          qclass = field_bound d (e + 2) low;
+        })
 
 -- a header of a refusal, with the RCODE that it has
 record Refuses (d : Octets) (h : Header) : Type 0 where
@@ -60,7 +62,8 @@ unfolding decide query_read
 decided z d = grind (arith, cond_both)
 
 -- a question with sets that a message has room for
-roomy : (h : Header) (q : Option MessageQuestion) (is : List Item) → h.id < 2 ^ 16 → h.flags < 2 ^ 16 → IfSome q IsAskable → sections_in_order is ≡ true → HasRoom h q is
+roomy : (h : Header) (q : Option MessageQuestion) (is : List Item) → h.id < 2 ^ 16
+    → h.flags < 2 ^ 16 → IfSome q IsAskable → sections_in_order is ≡ true → HasRoom h q is
 roomy h q is id flags ok ordered = grind arith
 
 bare_size : size None [] ≡ 12
@@ -72,60 +75,74 @@ unfolding size records_size
 empty_size q h = grind (arith, leb-true, and_parts, length-question_octets)
 
 -- The octets of a reply spell the message that it is.
-pub reply_spells : (z : ZoneContents) (d : Octets) (limit : ℕ) (r : Reply) → All IsWritable z.records → All (λ o. o < 256) d → 271 ≤ limit → limit ≤ 65535
-    → reply z d limit ≡ Some r → Spells (reply_octets r) (reply_message r)
+pub reply_spells : (z : ZoneContents) (d : Octets) (limit : ℕ) (r : Reply)
+    → All IsWritable z.records → All (λ o. o < 256) d → 271 ≤ limit
+    → limit ≤ 65535 → reply z d limit ≡ Some r → Spells (reply_octets r) (reply_message r)
 unfolding reply reply_with
 reply_spells z d limit r writable low from upto e = go (decide z d) (decided z d) e
   where
     id : field16 d 0 < 2 ^ 16
     id = field_bound d 0 low
 
-    replied : (x : Reply) → Spells (reply_octets x) (reply_message x) → ◌≡◌ {A = Option Reply} (Some x) (Some r) → Spells (reply_octets r) (reply_message r)
+    replied : (x : Reply) → Spells (reply_octets x) (reply_message x)
+        → ◌≡◌ {A = Option Reply} (Some x) (Some r) → Spells (reply_octets r) (reply_message r)
     replied x s e = subst (λ y. Spells (reply_octets y) (reply_message y)) (same_Some x r e) s
 
     -- the header and perhaps the question alone
-    refusing : (h : Header) (q : Option MessageQuestion) → Refuses d h → IfSome q IsAskable → size q [] ≤ 65535 → Spells (layout h q []) (message_of h q [])
+    refusing : (h : Header) (q : Option MessageQuestion) → Refuses d h
+        → IfSome q IsAskable → size q [] ≤ 65535 → Spells (layout h q []) (message_of h q [])
     refusing h q ok may small =
         subst (λ x. Spells (layout x q []) (message_of x q [])) ok.head
         (layout_spells (refusal_head (head_of d) ok.rcode) q []
-        (roomy _ q [] id (flags_bound (head_of d) false false ok.rcode ok.low) may refl) (All-nil IsWritable) small)
+        (roomy _ q [] id (flags_bound (head_of d) false false ok.rcode ok.low) may refl)
+        (All-nil IsWritable) small)
 
     -- a question with the sets that are kept
-    answering : (h : Header) (q : MessageQuestion) → IsAskable q → h.id < 2 ^ 16 → h.flags < 2 ^ 16
-        → Spells (layout h (Some q) (keep_longest z limit q)) (message_of h (Some q) (keep_longest z limit q))
+    answering : (h : Header) (q : MessageQuestion) → IsAskable q
+        → h.id < 2 ^ 16 → h.flags < 2 ^ 16 → Spells (layout h (Some q) (keep_longest z limit q))
+        (message_of h (Some q) (keep_longest z limit q))
     answering h q ok id flags =
         let all = items z q.qname q.qtype in
         let k = greatest (λ n. nat_le (size (Some q) (take n all)) limit) (length all) in
-        let short = kept_fits (size (Some q)) limit all (let small = empty_size q ok.qname in omega (arith, small)) in
+        let short = kept_fits
+        (size (Some q)) limit all (let small = empty_size q ok.qname in omega (arith, small)) in
         layout_spells h (Some q) (take k all)
-        (roomy h (Some q) (take k all) id flags ok (items_in_order z writable q.qname q.qtype ok.qname k))
+        (roomy h (Some q)
+        (take k all) id flags ok (items_in_order z writable q.qname q.qtype ok.qname k))
         (items_writable z writable q.qname q.qtype ok.qname k) (omega (arith, short, upto))
 
-    go : (x : Decision) → Decided d x → reply_of (keep_longest z limit) z x ≡ Some r → Spells (reply_octets r) (reply_message r)
+    go : (x : Decision) → Decided d x
+        → reply_of (keep_longest z limit) z x ≡ Some r → Spells (reply_octets r) (reply_message r)
     go silence ok e = absurd (none-some r e)
-    go (header_alone h) ok e = replied (record { header = h; question = None; sets = [] }) (refusing h None ok tt (let small = bare_size in omega (arith, small))) e
+    go (header_alone h) ok e = grind (arith, replied, None, refusing, bare_size)
     go (question_alone h q) ok e = grind (arith, askable, empty_size, replied, refusing)
     go (answered h q) ok e =
         let may = askable d q low ok.0 in
         let o = outcome z q.qname q.qtype in
         let sets = keep_longest z limit q in
         let head = reply_head h (is_authoritative o) (truncated z q sets) o.rcode in
-        let flags = flags_bound h (is_authoritative o) (truncated z q sets) o.rcode (outcome_rcode z writable q.qname q.qtype may.qname) in
-        replied (answer_with z h q sets) (answering head q may (subst (λ (x : Header). x.id < 2 ^ 16) ok.1 id) flags) e
+        let flags = flags_bound h (is_authoritative o)
+        (truncated z q sets) o.rcode (outcome_rcode z writable q.qname q.qtype may.qname) in
+        replied (answer_with z h q sets)
+        (answering head q may (subst (λ (x : Header). x.id < 2 ^ 16) ok.1 id) flags) e
 
 -- The octets of a reply are no more than its sets were kept for.
-named_question : (d : Octets) (q : MessageQuestion) → question_at d ≡ Some q → is_name q.qname ≡ true
+named_question : (d : Octets) (q : MessageQuestion)
+    → question_at d ≡ Some q → is_name q.qname ≡ true
 unfolding question_at
 named_question d q h = go (name_at d 12) refl h
   where
-    go : (x : Option (DomainName × ℕ)) → name_at d 12 ≡ x
-        → ◌≡◌ {A = Option MessageQuestion} (elim x [ None ↦ None | Some r ↦ question_of d r ]) (Some q) → is_name q.qname ≡ true
+    go : (x : Option (DomainName × ℕ)) → name_at d 12 ≡ x → ◌≡◌ {A = Option MessageQuestion}
+        (elim x [ None ↦ None | Some r ↦ question_of d r ]) (Some q) → is_name q.qname ≡ true
     go None e f = absurd (none-some q f)
     go (Some (n, e)) is f =
-        let c = cond_some (length d == e + 4) (record { qname = n; qtype = field16 d e; qclass = field16 d (e + 2) }) q f in
-        subst (λ (x : MessageQuestion). is_name x.qname ≡ true) c.1 ((name_at_computes d 12 n e).0 is).1
+        let c = cond_some (length d == e + 4)
+        (record { qname = n; qtype = field16 d e; qclass = field16 d (e + 2) }) q f in
+        subst (λ (x : MessageQuestion). is_name x.qname ≡ true) c.1
+        ((name_at_computes d 12 n e).0 is).1
 
-pub reply_fits : (z : ZoneContents) (d : Octets) (limit : ℕ) (r : Reply) → 271 ≤ limit → reply z d limit ≡ Some r → length (reply_octets r) ≤ limit
+pub reply_fits : (z : ZoneContents) (d : Octets) (limit : ℕ) (r : Reply)
+    → 271 ≤ limit → reply z d limit ≡ Some r → length (reply_octets r) ≤ limit
 unfolding reply reply_with
 reply_fits z d limit r from e =
     grind (arith, decided, length-layout, empty_size, named_question, bare_size, kept_fits)

@@ -1,7 +1,5 @@
 -- The sets of a reply begin with those that it may not leave out.
-use Rattle.dns_spec.proofs.Common.{arith, rules, eqb-true, take_at, filter_map, DomainName, type_cname, target, ResourceRecord, ZoneContents, data_order, of_type, cut_of, found, Section, answer, Item}
-use Rattle.std.proofs.Common.{◌≡◌, ℕ, Bool, true, false, cond, ◌==◌, ◌⊎◌, inl, inr, List, [], ◌∷◌, ◌++◌, length, take, Option, None, Some, is_some, option_map, unwrap_or, filter, flat_map, refl, sym, ap, ◌∙◌, append_assoc, append-nil}
-use Rattle.dns_spec.specs.Answer.{item, follows_alias, alias_set, chain, last_sought, alias_items, Outcome, outcome_by, outcome_at, outcome, has_target_type, targets_of, targets_inside, targets_outside, targets, address_sets, extra, main_items, items, required_items}
+use Rattle.dns_spec.proofs.Common.{arith, rules, eqb-true, take_at, filter_map, DomainName, type_cname, target, ResourceRecord, ZoneContents, data_order, of_type, cut_of, found, Section, answer, Item, ◌≡◌, ℕ, Bool, true, false, cond, ◌==◌, ◌⊎◌, inl, inr, List, [], ◌∷◌, ◌++◌, length, take, Option, None, Some, is_some, option_map, unwrap_or, filter, flat_map, refl, sym, ap, ◌∙◌, append_assoc, append-nil, item, follows_alias, alias_set, chain, last_sought, alias_items, Outcome, outcome_by, outcome_at, outcome, has_target_type, targets_of, targets_inside, targets_outside, targets, address_sets, extra, main_items, items, required_items}
 use Rattle.dns_spec.proofs.Records.SortedOnce.{Each, each_sort}
 use Rattle.dns_spec.proofs.Replies.WritableItems.{each_flat_map}
 
@@ -17,22 +15,28 @@ extra_append z earlier (m ∷ ms) ns =
 abbrev pub IsAlias : ResourceRecord → Type 0
 IsAlias r = r.rtype ≡ type_cname
 
-pub each_of_type : (t : ℕ) (rs : List ResourceRecord) → Each (λ (r : ResourceRecord). r.rtype ≡ t) (of_type t rs)
-each_of_type t rs = each_sort data_order (λ (r : ResourceRecord). r.rtype ≡ t) (filter (λ (r : ResourceRecord). r.rtype == t) rs) (filtered rs)
+pub each_of_type : (t : ℕ) (rs : List ResourceRecord)
+    → Each (λ (r : ResourceRecord). r.rtype ≡ t) (of_type t rs)
+each_of_type t rs = each_sort data_order (λ (r : ResourceRecord). r.rtype ≡ t)
+    (filter (λ (r : ResourceRecord). r.rtype == t) rs) (filtered rs)
   where
-    filtered : (ss : List ResourceRecord) → Each (λ (r : ResourceRecord). r.rtype ≡ t) (filter (λ (r : ResourceRecord). r.rtype == t) ss)
+    filtered : (ss : List ResourceRecord) → Each
+        (λ (r : ResourceRecord). r.rtype ≡ t) (filter (λ (r : ResourceRecord). r.rtype == t) ss)
     filtered [] = tt
     filtered (r ∷ ss) = go (r.rtype == t) refl (filtered ss)
       where
-        go : (b : Bool) → (r.rtype == t) ≡ b → Each (λ (r : ResourceRecord). r.rtype ≡ t) (filter (λ (r : ResourceRecord). r.rtype == t) ss)
-            → Each (λ (r : ResourceRecord). r.rtype ≡ t) (cond b (r ∷ filter (λ (r : ResourceRecord). r.rtype == t) ss) (filter (λ (r : ResourceRecord). r.rtype == t) ss))
+        go : (b : Bool) → (r.rtype == t) ≡ b → Each (λ (r : ResourceRecord). r.rtype ≡ t) (filter
+            (λ (r : ResourceRecord). r.rtype == t) ss) → Each (λ (r : ResourceRecord). r.rtype ≡ t)
+            (cond b (r ∷ filter (λ (r : ResourceRecord). r.rtype == t) ss)
+            (filter (λ (r : ResourceRecord). r.rtype == t) ss))
         go true e h = (eqb-true r.rtype t e, h)
         go false e h = h
 
 each_alias : (z : ZoneContents) (s : DomainName) → Each IsAlias (alias_set z s)
 each_alias z s = go (is_some (cut_of z s)) (some (found z s))
   where
-    some : (y : Option (List ResourceRecord)) → Each IsAlias (unwrap_or (option_map (of_type type_cname) y) [])
+    some : (y : Option (List ResourceRecord))
+        → Each IsAlias (unwrap_or (option_map (of_type type_cname) y) [])
     some None = tt
     some (Some rs) = each_of_type type_cname rs
 
@@ -41,19 +45,23 @@ each_alias z s = go (is_some (cut_of z s)) (some (found z s))
     go true e = tt
     go false e = e
 
-pub each_item : (P : ResourceRecord → Type 0) (s : Section) (rs : List ResourceRecord) → Each P rs → Each (λ (i : Item). Each P i.records) (item s rs)
+pub each_item : (P : ResourceRecord → Type 0) (s : Section) (rs : List ResourceRecord)
+    → Each P rs → Each (λ (i : Item). Each P i.records) (item s rs)
 each_item P s rs h = grind arith
 
-pub each_alias_item : (z : ZoneContents) (q : DomainName) (t : ℕ) → Each (λ (i : Item). Each IsAlias i.records) (alias_items z q t)
+pub each_alias_item : (z : ZoneContents) (q : DomainName) (t : ℕ)
+    → Each (λ (i : Item). Each IsAlias i.records) (alias_items z q t)
 each_alias_item z q t = go (follows_alias t)
   where
     units : (ns : List DomainName) → Each (λ _. Unit {0}) ns
     units [] = tt
     units (n ∷ ns) = (tt, units ns)
 
-    go : (b : Bool) → Each (λ (i : Item). Each IsAlias i.records) (cond b (flat_map (λ s. item answer (alias_set z s)) (chain z q t)) [])
+    go : (b : Bool) → Each (λ (i : Item). Each IsAlias i.records)
+        (cond b (flat_map (λ s. item answer (alias_set z s)) (chain z q t)) [])
     go true =
-        each_flat_map (λ (i : Item). Each IsAlias i.records) (λ _. Unit {0}) (λ s. item answer (alias_set z s)) (chain z q t)
+        each_flat_map (λ (i : Item). Each IsAlias i.records)
+        (λ _. Unit {0}) (λ s. item answer (alias_set z s)) (chain z q t)
         (λ s _. each_item IsAlias answer (alias_set z s) (each_alias z s)) (units (chain z q t))
     go false = tt
 
@@ -64,23 +72,27 @@ no_target : (rs : List ResourceRecord) → Each IsAlias rs → filter_map target
 no_target [] e = refl
 no_target (r ∷ rs) e = let none : target_of r ≡ None = rw e.0 refl in rw none (no_target rs e.1)
 
-pub no_targets : (is : List Item) → Each (λ (i : Item). Each IsAlias i.records) is → targets_of is ≡ []
+pub no_targets : (is : List Item)
+    → Each (λ (i : Item). Each IsAlias i.records) is → targets_of is ≡ []
 no_targets is e = search (rules, no_target, each_flat_map)
 
 -- a referral adds nothing to the answer, and nothing else refers
 record Refers (o : Outcome) : Type 0 where
   cases : (o.referral ≡ None) ⊎ (o.answers ≡ [])
 
-refers : (z : ZoneContents) (t : ℕ) (x : Option DomainName) (y : Option (List ResourceRecord)) → Refers (outcome_by z t x y)
+refers : (z : ZoneContents) (t : ℕ) (x : Option DomainName) (y : Option (List ResourceRecord))
+    → Refers (outcome_by z t x y)
 refers z t x y = grind arith
 
-begin : (z : ZoneContents) (o : Outcome) (ms ns : List DomainName) → targets o ≡ ms ++ ns → targets_inside o ≡ ms
-    → main_items o ++ extra z (main_items o) (targets o)
-    ≡ (main_items o ++ extra z (main_items o) (targets_inside o)) ++ extra z (main_items o ++ extra z (main_items o) ms) ns
+begin : (z : ZoneContents) (o : Outcome) (ms ns : List DomainName)
+    → targets o ≡ ms ++ ns → targets_inside o ≡ ms → main_items o ++ extra z
+    (main_items o) (targets o) ≡ (main_items o ++ extra z (main_items o) (targets_inside o))
+    ++ extra z (main_items o ++ extra z (main_items o) ms) ns
 begin z o ms ns whole inside = grind (arith, extra_append, append_assoc)
 
 module _ (z : ZoneContents) (q : DomainName) (t : ℕ) where
-  split : (ms : List DomainName) × (ns : List DomainName) × (targets (outcome z q t) ≡ ms ++ ns) × (targets_inside (outcome z q t) ≡ ms)
+  split : (ms : List DomainName) × (ns : List DomainName)
+      × (targets (outcome z q t) ≡ ms ++ ns) × (targets_inside (outcome z q t) ≡ ms)
   unfolding outcome outcome_at
   split = go (refers z t (cut_of z s) (found z s)).cases
     where
@@ -93,15 +105,18 @@ module _ (z : ZoneContents) (q : DomainName) (t : ℕ) where
       last : Outcome
       last = outcome_by z t (cut_of z s) (found z s)
 
-      go : (last.referral ≡ None) ⊎ (last.answers ≡ [])
-          → (ms : List DomainName) × (ns : List DomainName) × (targets (outcome z q t) ≡ ms ++ ns) × (targets_inside (outcome z q t) ≡ ms)
-      go (inl none) =
-          let inside : targets_inside o ≡ [] = rw none refl in
-          ([], targets o, refl, inside)
+      go : (last.referral ≡ None) ⊎ (last.answers ≡ []) → (ms : List DomainName) × (ns : List
+          DomainName) × (targets (outcome z q t) ≡ ms ++ ns) × (targets_inside (outcome z q t) ≡ ms)
+      go (inl none) = grind (arith, targets_inside, o, targets)
       go (inr none) =
           let answers : targets_of o.answers ≡ [] =
-          ap (λ x. targets_of (alias_items z q t ++ x)) none ∙ ap targets_of (append-nil (alias_items z q t)) ∙ no_targets (alias_items z q t) (each_alias_item z q t) in
-          (targets_inside o, targets_outside o, ap (λ x. x ++ targets_inside o ++ targets_outside o) answers, refl)
+          ap (λ x. targets_of (alias_items z q t ++ x)) none ∙ ap targets_of (append-nil
+          (alias_items z q t)) ∙ no_targets (alias_items z q t) (each_alias_item z q t) in (
+            targets_inside o,
+            targets_outside o,
+            ap (λ x. x ++ targets_inside o ++ targets_outside o) answers,
+            refl,
+          )
 
   pub required_first : take (length (required_items z q t)) (items z q t) ≡ required_items z q t
   unfolding items required_items

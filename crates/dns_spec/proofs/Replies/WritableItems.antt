@@ -1,14 +1,13 @@
--- The sets of an answer stand in the order of their sections, and their records fit a message where those of the zone do.
-use Rattle.std.proofs.Common.{◌≡◌, ℕ, zero, suc, ◌<◌, ◌≤◌, min, append_assoc, append-nil, Bool, true, false, ◌&&◌, cond, nat_le, List, [], ◌∷◌, ◌++◌, map, take, Option, None, Some, All, find, flat_map, refl, sym, subst, arith, rules}
+-- The sets of an answer stand in the order of their sections, and their records fit a message where
+-- those of the zone do.
+use Rattle.dns_spec.proofs.Common.{◌≡◌, ℕ, zero, suc, ◌<◌, ◌≤◌, min, append_assoc, append-nil, Bool, true, false, ◌&&◌, cond, nat_le, List, [], ◌∷◌, ◌++◌, map, take, Option, None, Some, All, find, flat_map, refl, sym, subst, arith, rules, and_from, le-leb, none-some, same_Some, All-nil, All-cons, All-head, All-tail, list_all, Octets, DomainName, is_name, same, suffixes, type_ns, type_cname, Piece, Part, octets, name, piece_front, cut, first_name, target, soa_minimum, ResourceRecord, ZoneContents, at, of_type, rrset, with_owner, cut_of, found, Section, answer, authority, additional, Item, records_of, name_error, no_error, item, follows_alias, alias_set, next_sought, chain_from, chain, last_of, last_sought, alias_items, Outcome, asked_records, negative, positive, has_any, outcome_by, outcome_at, outcome, targets, address_sets, extra, main_items, items, section_rank, sections_in_order, IsWritable}
 use mathlib.Core.List.{reverse_aux}
-use Rattle.dns_spec.proofs.Common.{and_from, le-leb, none-some, same_Some, All-nil, All-cons, All-head, All-tail, list_all, Octets, DomainName, is_name, same, suffixes, type_ns, type_cname, Piece, Part, octets, name, piece_front, cut, first_name, target, soa_minimum, ResourceRecord, ZoneContents, at, of_type, rrset, with_owner, cut_of, found, Section, answer, authority, additional, Item, records_of, name_error, no_error}
-use Rattle.dns_spec.specs.Answer.{item, follows_alias, alias_set, next_sought, chain_from, chain, last_of, last_sought, alias_items, Outcome, asked_records, negative, positive, has_any, outcome_by, outcome_at, outcome, targets, address_sets, extra, main_items, items}
-use Rattle.dns_spec.specs.Laws.{section_rank, sections_in_order, IsWritable}
 use Rattle.dns_spec.proofs.DomainNames.NameLaws.{is_name-tail, is_name-folded}
 use Rattle.dns_spec.proofs.Records.SortedOnce.{Each, each_filter, each_sort}
 use Rattle.dns_spec.proofs.DataWords.WrittenData.{cut_into}
 
-pub each_append : {X : Type 0} (P : X → Type 0) (xs ys : List X) → Each P xs → Each P ys → Each P (xs ++ ys)
+pub each_append : {X : Type 0} (P : X → Type 0) (xs ys : List X)
+    → Each P xs → Each P ys → Each P (xs ++ ys)
 each_append P [] ys e f = f
 each_append P (x ∷ xs) ys e f = (e.0, each_append P xs ys e.1 f)
 
@@ -17,7 +16,8 @@ each_take P zero xs e = tt
 each_take P (suc k) [] e = tt
 each_take P (suc k) (x ∷ xs) e = (e.0, each_take P k xs e.1)
 
-pub each_flat_map : {X Y : Type 0} (P : Y → Type 0) (Q : X → Type 0) (f : X → List Y) (xs : List X) → ((x : X) → Q x → Each P (f x)) → Each Q xs → Each P (flat_map f xs)
+pub each_flat_map : {X Y : Type 0} (P : Y → Type 0) (Q : X → Type 0) (f : X → List Y) (xs : List X)
+    → ((x : X) → Q x → Each P (f x)) → Each Q xs → Each P (flat_map f xs)
 each_flat_map P Q f [] g e = tt
 each_flat_map P Q f (x ∷ xs) g e = grind (arith, each_append, (each_flat_map P Q f xs g e.1))
 
@@ -29,11 +29,13 @@ pub each_from_all : {X : Type 0} (P : X → Type 0) (xs : List X) → All P xs �
 each_from_all P [] a = tt
 each_from_all P (x ∷ xs) a = (All-head P x xs a, each_from_all P xs (All-tail P x xs a))
 
-each_reverse_onto : {X : Type 0} (P : X → Type 0) (xs ys : List X) → Each P xs → Each P ys → Each P (reverse_aux xs ys)
+each_reverse_onto : {X : Type 0} (P : X → Type 0) (xs ys : List X)
+    → Each P xs → Each P ys → Each P (reverse_aux xs ys)
 each_reverse_onto P [] ys e f = f
 each_reverse_onto P (x ∷ xs) ys e f = each_reverse_onto P xs (x ∷ ys) e.1 (e.0, f)
 
-found_each : {X : Type 0} (P : X → Type 0) (test : X → Bool) (xs : List X) (y : X) → Each P xs → find test xs ≡ Some y → P y
+found_each : {X : Type 0} (P : X → Type 0) (test : X → Bool) (xs : List X) (y : X)
+    → Each P xs → find test xs ≡ Some y → P y
 found_each P test [] y e h = absurd (none-some y h)
 found_each P test (x ∷ xs) y e h = grind (arith, same_Some, (found_each P test xs y e.1))
 
@@ -53,18 +55,22 @@ abbrev NamedPart : Part → Type 0
 NamedPart (octets o) = Unit {0}
 NamedPart (name n) = Named n
 
-named_front : (p : Piece) (os rest : Octets) (part : Part) → piece_front p os ≡ Some (part, rest) → NamedPart part
+named_front : (p : Piece) (os rest : Octets) (part : Part)
+    → piece_front p os ≡ Some (part, rest) → NamedPart part
 named_front p os rest part h = grind arith
 
-named_parts : (ps : List Piece) (os : Octets) (xs : List Part) → cut ps os ≡ Some xs → Each NamedPart xs
+named_parts : (ps : List Piece) (os : Octets) (xs : List Part)
+    → cut ps os ≡ Some xs → Each NamedPart xs
 unfolding cut
 named_parts [] [] xs h = subst (Each NamedPart) (same_Some [] xs h) tt
 named_parts [] (o ∷ os) xs h = absurd (none-some xs h)
 named_parts (p ∷ ps) os xs h =
     let c = cut_into p ps os xs h in
-    subst (Each NamedPart) c.whole (named_front p os c.rest c.part c.front, named_parts ps c.rest c.others c.more)
+    subst (Each NamedPart) c.whole
+    (named_front p os c.rest c.part c.front, named_parts ps c.rest c.others c.more)
 
-named_first : (xs : List Part) (m : DomainName) → Each NamedPart xs → first_name xs ≡ Some m → Named m
+named_first : (xs : List Part) (m : DomainName)
+    → Each NamedPart xs → first_name xs ≡ Some m → Named m
 named_first [] m e h = absurd (none-some m h)
 named_first (octets o ∷ xs) m e h = named_first xs m e.1 h
 named_first (name n ∷ xs) m e h = subst Named (same_Some n m h) e.0
@@ -82,21 +88,26 @@ at_writable z n w = each_filter IsWritable (λ (r : ResourceRecord). same r.owne
 of_type_writable : (t : ℕ) (rs : List ResourceRecord) → Writable rs → Writable (of_type t rs)
 of_type_writable t rs w = grind (arith, each_sort, each_filter)
 
-with_owner_writable : (n : DomainName) (rs : List ResourceRecord) → Named n → Writable rs → Writable (with_owner n rs)
+with_owner_writable : (n : DomainName) (rs : List ResourceRecord)
+    → Named n → Writable rs → Writable (with_owner n rs)
 with_owner_writable n [] h w = tt
 with_owner_writable n (r ∷ rs) h w = grind (arith, (with_owner_writable n rs h w.1))
 
 -- The names sought are names.
 module _ (z : ZoneContents) where
-  next_named : (sought : List DomainName) (s m : DomainName) → next_sought z sought s ≡ Some m → Named m
+  next_named : (sought : List DomainName) (s m : DomainName)
+      → next_sought z sought s ≡ Some m → Named m
   next_named sought s m e = grind (arith, named_target)
 
-  chain_from_named : (k : ℕ) (sought : List DomainName) (s : DomainName) → Named s → Each Named (chain_from z k sought s)
+  chain_from_named : (k : ℕ) (sought : List DomainName) (s : DomainName)
+      → Named s → Each Named (chain_from z k sought s)
   unfolding chain_from
   chain_from_named zero sought s h = (h, tt)
-  chain_from_named (suc k) sought s h = (h, go (next_sought z (s ∷ sought) s) refl (λ m n. chain_from_named k (s ∷ sought) m n))
+  chain_from_named (suc k) sought s h =
+      (h, go (next_sought z (s ∷ sought) s) refl (λ m n. chain_from_named k (s ∷ sought) m n))
     where
-      go : (y : Option DomainName) → next_sought z (s ∷ sought) s ≡ y → ((m : DomainName) → Named m → Each Named (chain_from z k (s ∷ sought) m))
+      go : (y : Option DomainName) → next_sought z (s ∷ sought) s ≡ y
+          → ((m : DomainName) → Named m → Each Named (chain_from z k (s ∷ sought) m))
           → Each Named (elim y [ None ↦ [] | Some m ↦ chain_from z k (s ∷ sought) m ])
       go None e f = tt
       go (Some m) e f = f m (next_named (s ∷ sought) s m e)
@@ -107,13 +118,15 @@ module _ (z : ZoneContents) where
 
 -- Over a zone whose records fit a message.
 module _ (z : ZoneContents) (w : Writable z.records) where
-  found_writable : (q : DomainName) (rs : List ResourceRecord) → Named q → found z q ≡ Some rs → Writable rs
+  found_writable : (q : DomainName) (rs : List ResourceRecord)
+      → Named q → found z q ≡ Some rs → Writable rs
   found_writable q rs h e = grind (arith, with_owner_writable, at_writable, none-some, same_Some)
 
   alias_set_writable : (s : DomainName) → Named s → Writable (alias_set z s)
   alias_set_writable s h = grind (arith, of_type_writable, found_writable)
 
-  last_named : (s : DomainName) (ms : List DomainName) → Named s → Each Named ms → Named (last_of s ms)
+  last_named : (s : DomainName) (ms : List DomainName)
+      → Named s → Each Named ms → Named (last_of s ms)
   last_named s [] h e = h
   last_named s (m ∷ ms) h e = last_named m ms e.0 e.1
 
@@ -144,13 +157,17 @@ module _ (z : ZoneContents) (w : Writable z.records) where
   negative_right : (rcode : ℕ) → rcode < 16 → Right (negative z rcode)
   negative_right rcode low = search (rules, item_stood, negative_writable, rrset_writable)
 
-  asked_stood : (t : ℕ) (rs : List ResourceRecord) → Writable rs → Each (Stood answer) (item answer (asked_records t rs))
+  asked_stood : (t : ℕ) (rs : List ResourceRecord)
+      → Writable rs → Each (Stood answer) (item answer (asked_records t rs))
   asked_stood t rs v = grind (arith, of_type_writable)
 
-  answer_from_right : (t : ℕ) (rs : List ResourceRecord) → Writable rs → Right (outcome_by z t None (Some rs))
-  answer_from_right t rs v = go (follows_alias t && has_any (of_type type_cname rs)) (has_any (asked_records t rs))
+  answer_from_right : (t : ℕ) (rs : List ResourceRecord)
+      → Writable rs → Right (outcome_by z t None (Some rs))
+  answer_from_right t rs v =
+      go (follows_alias t && has_any (of_type type_cname rs)) (has_any (asked_records t rs))
     where
-      go : (b c : Bool) → Right (cond b (positive []) (cond c (positive (item answer (asked_records t rs))) (negative z no_error)))
+      go : (b c : Bool) → Right (cond b (positive [])
+          (cond c (positive (item answer (asked_records t rs))) (negative z no_error)))
       go true c = record { rcode = omega arith; answers = tt; authorities = tt }
       go false true = record { rcode = omega arith; answers = asked_stood t rs v; authorities = tt }
       go false false = negative_right no_error (omega arith)
@@ -159,11 +176,13 @@ module _ (z : ZoneContents) (w : Writable z.records) where
   unfolding outcome_at
   outcome_at_right t s h = go (cut_of z s) (found z s) refl refl
     where
-      go : (x : Option DomainName) (y : Option (List ResourceRecord)) → cut_of z s ≡ x → found z s ≡ y → Right (outcome_by z t x y)
+      go : (x : Option DomainName) (y : Option (List ResourceRecord))
+          → cut_of z s ≡ x → found z s ≡ y → Right (outcome_by z t x y)
       go (Some c) y e f = record {
         rcode = omega arith;
         answers = tt;
-        authorities = item_stood authority (with_owner c (rrset z c type_ns)) (with_owner_writable c (rrset z c type_ns) (named_cut z s c h e) (rrset_writable c type_ns));
+        authorities = item_stood authority (with_owner c (rrset z c type_ns)) (with_owner_writable c
+            (rrset z c type_ns) (named_cut z s c h e) (rrset_writable c type_ns));
       }
       go None None e f = negative_right name_error (omega arith)
       go None (Some rs) e f = answer_from_right t rs (found_writable z w s rs h f)
@@ -171,8 +190,11 @@ module _ (z : ZoneContents) (w : Writable z.records) where
   alias_items_stood : (q : DomainName) (t : ℕ) → Named q → Each (Stood answer) (alias_items z q t)
   alias_items_stood q t h = go (follows_alias t)
     where
-      go : (b : Bool) → Each (Stood answer) (cond b (flat_map (λ s. item answer (alias_set z s)) (chain z q t)) [])
-      go true = each_flat_map (Stood answer) Named (λ s. item answer (alias_set z s)) (chain z q t) (λ s n. item_stood answer (alias_set z s) (alias_set_writable z w s n)) (chain_named z q t h)
+      go : (b : Bool) → Each
+          (Stood answer) (cond b (flat_map (λ s. item answer (alias_set z s)) (chain z q t)) [])
+      go true = each_flat_map (Stood answer) Named (λ s. item answer (alias_set z s))
+          (chain z q t) (λ s n. item_stood answer (alias_set z s) (alias_set_writable z w s n))
+          (chain_named z q t h)
       go false = tt
 
   outcome_right : (q : DomainName) (t : ℕ) → Named q → Right (outcome z q t)
@@ -182,11 +204,13 @@ module _ (z : ZoneContents) (w : Writable z.records) where
       let o = outcome_at_right t s (last_named z w q (chain z q t) h (chain_named z q t h)) in
       record {
         rcode = o.rcode;
-        answers = each_append (Stood answer) (alias_items z q t) (outcome_at z t s).answers (alias_items_stood q t h) o.answers;
+        answers = each_append (Stood answer)
+            (alias_items z q t) (outcome_at z t s).answers (alias_items_stood q t h) o.answers;
         authorities = o.authorities;
       }
 
-  extra_stood : (earlier : List Item) (ms : List DomainName) → Each (Stood additional) (extra z earlier ms)
+  extra_stood : (earlier : List Item) (ms : List DomainName)
+      → Each (Stood additional) (extra z earlier ms)
   unfolding extra
   extra_stood earlier [] = tt
   extra_stood earlier (m ∷ ms) =
@@ -195,7 +219,8 @@ module _ (z : ZoneContents) (w : Writable z.records) where
 -- sets in the order of their sections
 abbrev Ordered : List Item → Type 0
 Ordered [] = Unit {0}
-Ordered (i ∷ is) = Each (λ (j : Item). section_rank i.section ≤ section_rank j.section) is × Ordered is
+Ordered (i ∷ is) =
+    Each (λ (j : Item). section_rank i.section ≤ section_rank j.section) is × Ordered is
 
 ordered_take : (k : ℕ) (is : List Item) → Ordered is → Ordered (take k is)
 ordered_take zero is o = tt
@@ -205,20 +230,26 @@ ordered_take (suc k) (i ∷ is) o = grind (arith, each_take, (ordered_take k is 
 abbrev NotBefore : Section → Item → Type 0
 NotBefore s j = section_rank s ≤ section_rank j.section
 
-not_before : (s s' : Section) (js : List Item) → section_rank s ≤ section_rank s' → Each (Stood s') js → Each (NotBefore s) js
+not_before : (s s' : Section) (js : List Item)
+    → section_rank s ≤ section_rank s' → Each (Stood s') js → Each (NotBefore s) js
 not_before s s' [] h g = tt
 not_before s s' (j ∷ js) h g = grind (arith, (not_before s s' js h g.1))
 
 -- sets of one section in front of sets of none before it
-ordered_front : (s : Section) (xs ys : List Item) → Each (Stood s) xs → Each (NotBefore s) ys → Ordered ys → Ordered (xs ++ ys)
+ordered_front : (s : Section) (xs ys : List Item)
+    → Each (Stood s) xs → Each (NotBefore s) ys → Ordered ys → Ordered (xs ++ ys)
 ordered_front s [] ys e f o = o
-ordered_front s (x ∷ xs) ys e f o =
-    (subst (λ r. Each (NotBefore r) (xs ++ ys)) (sym e.0.0) (each_append (NotBefore s) xs ys (not_before s s xs (omega arith) e.1) f), ordered_front s xs ys e.1 f o)
+ordered_front s (x ∷ xs) ys e f o = (
+  subst (λ r. Each (NotBefore r) (xs ++ ys)) (sym e.0.0) (each_append
+      (NotBefore s) xs ys (not_before s s xs (omega arith) e.1) f),
+  ordered_front s xs ys e.1 f o,
+)
 
 ordered_one : (s : Section) (is : List Item) → Each (Stood s) is → Ordered is
 ordered_one s is e = subst Ordered (append-nil is) (ordered_front s is [] e tt tt)
 
-tested : (i : Item) (is : List Item) → Each (λ (j : Item). section_rank i.section ≤ section_rank j.section) is
+tested : (i : Item) (is : List Item)
+    → Each (λ (j : Item). section_rank i.section ≤ section_rank j.section) is
     → list_all (λ (j : Item). nat_le (section_rank i.section) (section_rank j.section)) is ≡ true
 tested i [] e = refl
 tested i (j ∷ js) e = grind (arith, and_from, le-leb, (tested i js e.1))
@@ -226,17 +257,21 @@ tested i (j ∷ js) e = grind (arith, and_from, le-leb, (tested i js e.1))
 in_order : (is : List Item) → Ordered is → sections_in_order is ≡ true
 in_order [] o = refl
 in_order (i ∷ is) o =
-    and_from (list_all (λ (j : Item). nat_le (section_rank i.section) (section_rank j.section)) is) (sections_in_order is) (tested i is o.0) (in_order is o.1)
+    and_from (list_all (λ (j : Item). nat_le (section_rank i.section) (section_rank j.section)) is)
+    (sections_in_order is) (tested i is o.0) (in_order is o.1)
 
-stood_records : (s : Section) (is : List Item) → Each (Stood s) is → Each (λ (i : Item). Writable i.records) is
+stood_records : (s : Section) (is : List Item)
+    → Each (Stood s) is → Each (λ (i : Item). Writable i.records) is
 stood_records s [] e = tt
 stood_records s (i ∷ is) e = (e.0.1, stood_records s is e.1)
 
-records_writable : (is : List Item) → Each (λ (i : Item). Writable i.records) is → Writable (records_of is)
+records_writable : (is : List Item)
+    → Each (λ (i : Item). Writable i.records) is → Writable (records_of is)
 records_writable [] e = tt
 records_writable (i ∷ is) e = grind (arith, each_append, (records_writable is e.1))
 
-module _ (z : ZoneContents) (w : All IsWritable z.records) (q : DomainName) (t : ℕ) (h : is_name q ≡ true) where
+module _ (z : ZoneContents)
+    (w : All IsWritable z.records) (q : DomainName) (t : ℕ) (h : is_name q ≡ true) where
   fits : Writable z.records
   fits = each_from_all IsWritable z.records w
 
@@ -252,11 +287,14 @@ module _ (z : ZoneContents) (w : All IsWritable z.records) (q : DomainName) (t :
       let more = extra z (main_items o) (targets o) in
       let e = extra_stood z fits (main_items o) (targets o) in
       let later : Ordered (o.authorities ++ more) =
-      ordered_front authority o.authorities more r.authorities (not_before authority additional more (omega arith) e) (ordered_one additional more e) in
+      ordered_front authority o.authorities more r.authorities
+      (not_before authority additional more (omega arith) e) (ordered_one additional more e) in
       let all : Ordered (o.answers ++ (o.authorities ++ more)) =
       ordered_front answer o.answers (o.authorities ++ more) r.answers
-      (each_append (NotBefore answer) o.authorities more (not_before answer authority o.authorities (omega arith) r.authorities) (not_before answer additional more (omega arith) e)) later in
-      in_order (take k (items z q t)) (ordered_take k (items z q t) (subst Ordered (sym (append_assoc o.answers o.authorities more)) all))
+      (each_append (NotBefore answer) o.authorities more (not_before answer authority o.authorities
+      (omega arith) r.authorities) (not_before answer additional more (omega arith) e)) later in
+      in_order (take k (items z q t)) (ordered_take k
+      (items z q t) (subst Ordered (sym (append_assoc o.answers o.authorities more)) all))
 
   pub items_writable : (k : ℕ) → All IsWritable (records_of (take k (items z q t)))
   unfolding items
@@ -267,6 +305,8 @@ module _ (z : ZoneContents) (w : All IsWritable z.records) (q : DomainName) (t :
       let e = extra_stood z fits (main_items o) (targets o) in
       let W : Item → Type 0 = λ (i : Item). Writable i.records in
       let all = each_append W (main_items o) more
-      (each_append W o.answers o.authorities (stood_records answer o.answers r.answers) (stood_records authority o.authorities r.authorities))
+      (each_append W o.answers o.authorities (stood_records answer o.answers r.answers)
+      (stood_records authority o.authorities r.authorities))
       (stood_records additional more e) in
-      all_from_each IsWritable (records_of (take k (items z q t))) (records_writable (take k (items z q t)) (each_take W k (items z q t) all))
+      all_from_each IsWritable (records_of (take k (items z q t)))
+      (records_writable (take k (items z q t)) (each_take W k (items z q t) all))

@@ -1,7 +1,6 @@
--- A stream is its frames and the rest, and the rest after all frames is empty or a frame that was cut.
-use Rattle.dns_spec.proofs.Common.{common_steps, leb-true, le-leb, leb-false, none-some, cond_some, take_at, drop_at, length-take-le, All-head, All-tail, All-drop, flat_map, Octets, field16, octets16}
-use Rattle.std.proofs.Common.{◌≡◌, ℕ, zero, suc, ◌+◌, ◌-◌, ◌*◌, ◌^◌, ◌<◌, ◌≤◌, Bool, true, false, cond, nat_le, ◌⊎◌, inl, inr, List, [], ◌∷◌, ◌++◌, length, take, drop, replicate, All, Option, None, Some, refl, sym, ap, ap₂, ◌∙◌, subst, arith, append_assoc, zero-add, length-append, length-drop, mod-eq_of_lt, take-append-drop}
-use Rattle.dns_spec.specs.Stream.{frame, has_frame, first_frame, frames, after_frames, IsCutFrame}
+-- A stream is its frames and the rest, and the rest after all frames is empty or a frame that was
+-- cut.
+use Rattle.dns_spec.proofs.Common.{common_steps, leb-true, le-leb, leb-false, none-some, cond_some, take_at, drop_at, length-take-le, All-head, All-tail, All-drop, flat_map, Octets, field16, octets16, ◌≡◌, ℕ, zero, suc, ◌+◌, ◌-◌, ◌*◌, ◌^◌, ◌<◌, ◌≤◌, Bool, true, false, cond, nat_le, ◌⊎◌, inl, inr, List, [], ◌∷◌, ◌++◌, length, take, drop, replicate, All, Option, None, Some, refl, sym, ap, ap₂, ◌∙◌, subst, arith, append_assoc, zero-add, length-append, length-drop, mod-eq_of_lt, take-append-drop, frame, has_frame, first_frame, frames, after_frames, IsCutFrame}
 use Rattle.dns_spec.proofs.Messages.Places.{number_of-bytes}
 use Rattle.dns_spec.proofs.Replies.WritableItems.{each_from_all}
 
@@ -12,10 +11,12 @@ two_octets a b ha hb = ap₂ (λ x y. x ∷ y ∷ []) (omega arith) (omega arith
 pub two_again : (n : ℕ) (x : Octets) → n < 2 ^ 16 → field16 (octets16 n ++ x) 0 ≡ n
 two_again n x h = number_of-bytes 2 n ∙ mod-eq_of_lt h
 
-front_is : (x : Octets) → All (λ o. o < 256) x → 2 ≤ length x → octets16 (field16 x 0) ++ drop 2 x ≡ x
+front_is : (x : Octets)
+    → All (λ o. o < 256) x → 2 ≤ length x → octets16 (field16 x 0) ++ drop 2 x ≡ x
 front_is x h h1 = grind (arith, common_steps, each_from_all, two_octets)
 
-first_splits : (x m y : Octets) → All (λ o. o < 256) x → first_frame x ≡ Some (m, y) → (frame m ++ y ≡ x) × All (λ o. o < 256) y
+first_splits : (x m y : Octets)
+    → All (λ o. o < 256) x → first_frame x ≡ Some (m, y) → (frame m ++ y ≡ x) × All (λ o. o < 256) y
 unfolding first_frame
 first_splits x m y low e =
     let n = field16 x 0 in
@@ -24,24 +25,30 @@ first_splits x m y low e =
     let two : 2 ≤ length x = omega (arith, whole) in
     let message : take n (drop 2 x) ≡ m = ap (λ r. r.0) c.1 in
     let rest : drop n (drop 2 x) ≡ y = ap (λ r. r.1) c.1 in
-    let len : length m ≡ n = ap length (sym message) ∙ length-take-le n (drop 2 x) (omega (arith, length-drop 2 x, two, whole)) in (
+    let len : length m ≡ n = ap length (sym message)
+    ∙ length-take-le n (drop 2 x) (omega (arith, length-drop 2 x, two, whole)) in (
       ap (λ k. (octets16 k ++ m) ++ y) len ∙ append_assoc (octets16 n) m y
-          ∙ ap (λ z. octets16 n ++ z) (ap₂ ◌++◌ (sym message) (sym rest) ∙ take-append-drop n (drop 2 x)) ∙ front_is x low two,
-      subst (All (λ o. o < 256)) rest (All-drop (λ o. o < 256) n (drop 2 x) (All-drop (λ o. o < 256) 2 x low)),
+          ∙ ap (λ z. octets16 n ++ z) (ap₂ ◌++◌ (sym message) (sym rest)
+          ∙ take-append-drop n (drop 2 x)) ∙ front_is x low two,
+      subst (All (λ o. o < 256)) rest
+          (All-drop (λ o. o < 256) n (drop 2 x) (All-drop (λ o. o < 256) 2 x low)),
     )
 
-pub framed_whole : (k : ℕ) (x : Octets) → All (λ o. o < 256) x → flat_map frame (frames k x) ++ after_frames k x ≡ x
+pub framed_whole : (k : ℕ) (x : Octets)
+    → All (λ o. o < 256) x → flat_map frame (frames k x) ++ after_frames k x ≡ x
 unfolding frames after_frames
 framed_whole zero x low = refl
 framed_whole (suc k) x low = go (first_frame x) refl (framed_whole k)
   where
-    go : (f : Option (Octets × Octets)) → first_frame x ≡ f
-        → ((y : Octets) → All (λ o. o < 256) y → flat_map frame (frames k y) ++ after_frames k y ≡ y)
-        → flat_map frame (elim f as (λ _. List Octets) [ None ↦ [] | Some r ↦ r.0 ∷ frames k r.1 ]) ++ (elim f as (λ _. Octets) [ None ↦ x | Some r ↦ after_frames k r.1 ]) ≡ x
+    go : (f : Option (Octets × Octets)) → first_frame x ≡ f → ((y : Octets)
+        → All (λ o. o < 256) y → flat_map frame (frames k y) ++ after_frames k y ≡ y)
+        → flat_map frame (elim f as (λ _. List Octets) [ None ↦ [] | Some r ↦ r.0 ∷ frames k r.1 ])
+        ++ (elim f as (λ _. Octets) [ None ↦ x | Some r ↦ after_frames k r.1 ]) ≡ x
     go None e more = refl
     go (Some (m, y)) e more =
         let s = first_splits x m y low e in
-        append_assoc (frame m) (flat_map frame (frames k y)) (after_frames k y) ∙ ap (λ z. frame m ++ z) (more y s.1) ∙ s.0
+        append_assoc (frame m) (flat_map frame (frames k y)) (after_frames k y)
+        ∙ ap (λ z. frame m ++ z) (more y s.1) ∙ s.0
 
 -- what does not begin with a whole frame is empty, or a frame that was cut
 pub length_zeros : (n : ℕ) → length {A = ℕ} (replicate n 0) ≡ n
@@ -57,7 +64,8 @@ cut_frame (a ∷ []) low e =
       message = replicate (a * 256) 0;
       short = omega (arith, length_zeros (a * 256), ha);
       missing = 0 ∷ replicate (a * 256) 0;
-      whole = ap (λ n. octets16 n ++ replicate (a * 256) 0) (length_zeros (a * 256) ∙ omega arith) ∙ ap (λ z. z ++ replicate (a * 256) 0) (two_octets a 0 ha (omega arith));
+      whole = ap (λ n. octets16 n ++ replicate (a * 256) 0) (length_zeros (a * 256) ∙ omega arith)
+          ∙ ap (λ z. z ++ replicate (a * 256) 0) (two_octets a 0 ha (omega arith));
       some = omega arith;
       cut = omega arith;
     })
@@ -66,8 +74,8 @@ cut_frame (a ∷ b ∷ x) low e = go (nat_le (2 + n) (length (a ∷ b ∷ x))) r
     n : ℕ
     n = field16 (a ∷ b ∷ x) 0
 
-    go : (t : Bool) → nat_le (2 + n) (length (a ∷ b ∷ x)) ≡ t
-        → ◌≡◌ {A = Option (Octets × Octets)} (cond t (Some (take n x, drop n x)) None) None → (a ∷ b ∷ x ≡ []) ⊎ IsCutFrame (a ∷ b ∷ x)
+    go : (t : Bool) → nat_le (2 + n) (length (a ∷ b ∷ x)) ≡ t → ◌≡◌ {A = Option (Octets × Octets)}
+        (cond t (Some (take n x, drop n x)) None) None → (a ∷ b ∷ x ≡ []) ⊎ IsCutFrame (a ∷ b ∷ x)
     go true p q = absurd (none-some (take n x, drop n x) (sym q))
     go false p q =
         let l = each_from_all (λ o. o < 256) (a ∷ b ∷ x) low in
@@ -76,25 +84,29 @@ cut_frame (a ∷ b ∷ x) low e = go (nat_le (2 + n) (length (a ∷ b ∷ x))) r
         let value : n ≡ a * 256 + b = omega arith in
         let short : length (a ∷ b ∷ x) < 2 + n = leb-false (2 + n) (length (a ∷ b ∷ x)) p in
         let zeros : Octets = replicate (n - length x) 0 in
-        let len : length (x ++ zeros) ≡ a * 256 + b = length-append x zeros ∙ omega (arith, length_zeros (n - length x), short, value) in
+        let len : length (x ++ zeros) ≡ a * 256 + b =
+        length-append x zeros ∙ omega (arith, length_zeros (n - length x), short, value) in
         inr (record {
           message = x ++ zeros;
           short = omega (arith, len, ha, hb);
           missing = zeros;
-          whole = ap (λ k. octets16 k ++ (x ++ zeros)) len ∙ ap (λ z. z ++ (x ++ zeros)) (two_octets a b ha hb);
+          whole = ap (λ k. octets16 k ++ (x ++ zeros)) len
+              ∙ ap (λ z. z ++ (x ++ zeros)) (two_octets a b ha hb);
           some = omega arith;
           cut = omega (arith, length_zeros (n - length x), short);
         })
 
-pub rest_cut : (k : ℕ) (x : Octets) → All (λ o. o < 256) x → length (frames k x) < k → (after_frames k x ≡ []) ⊎ IsCutFrame (after_frames k x)
+pub rest_cut : (k : ℕ) (x : Octets) → All (λ o. o < 256) x
+    → length (frames k x) < k → (after_frames k x ≡ []) ⊎ IsCutFrame (after_frames k x)
 unfolding frames after_frames
 rest_cut zero x low h = absurd (omega arith)
 rest_cut (suc k) x low h = go (first_frame x) refl h (rest_cut k)
   where
-    go : (f : Option (Octets × Octets)) → first_frame x ≡ f
-        → length (elim f as (λ _. List Octets) [ None ↦ [] | Some r ↦ r.0 ∷ frames k r.1 ]) < suc k
-        → ((y : Octets) → All (λ o. o < 256) y → length (frames k y) < k → (after_frames k y ≡ []) ⊎ IsCutFrame (after_frames k y))
-        → ((elim f as (λ _. Octets) [ None ↦ x | Some r ↦ after_frames k r.1 ]) ≡ []) ⊎ IsCutFrame (elim f as (λ _. Octets) [ None ↦ x | Some r ↦ after_frames k r.1 ])
+    go : (f : Option (Octets × Octets)) → first_frame x ≡ f → length (elim f as (λ _. List Octets)
+        [ None ↦ [] | Some r ↦ r.0 ∷ frames k r.1 ]) < suc k → ((y : Octets) → All (λ o. o < 256) y
+        → length (frames k y) < k → (after_frames k y ≡ []) ⊎ IsCutFrame (after_frames k y))
+        → ((elim f as (λ _. Octets) [ None ↦ x | Some r ↦ after_frames k r.1 ]) ≡ [])
+        ⊎ IsCutFrame (elim f as (λ _. Octets) [ None ↦ x | Some r ↦ after_frames k r.1 ])
     go None e l more = cut_frame x low e
     go (Some (m, y)) e l more = more y (first_splits x m y low e).1 (omega arith)
 
@@ -103,14 +115,17 @@ first_again : (m z : Octets) → length m < 2 ^ 16 → first_frame (frame m ++ z
 unfolding first_frame
 first_again m z h = grind (arith, two_again, le-leb, length-append, ap₂, take_at, drop_at)
 
-pub frames_again : (k : ℕ) (ms : List Octets) (x : Octets) → All (λ m. length m < 2 ^ 16) ms → frames (length ms + k) (flat_map frame ms ++ x) ≡ ms ++ frames k x
+pub frames_again : (k : ℕ) (ms : List Octets) (x : Octets) → All (λ m. length m < 2 ^ 16) ms
+    → frames (length ms + k) (flat_map frame ms ++ x) ≡ ms ++ frames k x
 unfolding frames
 frames_again k [] x h = ap (λ n. frames n x) (zero-add k)
 frames_again k (m ∷ ms) x h =
     let more = flat_map frame ms ++ x in
     let first : first_frame ((frame m ++ flat_map frame ms) ++ x) ≡ Some (m, more) =
-    ap first_frame (append_assoc (frame m) (flat_map frame ms) x) ∙ first_again m more (All-head (λ m. length m < 2 ^ 16) m ms h) in
+    ap first_frame (append_assoc (frame m) (flat_map frame ms) x)
+    ∙ first_again m more (All-head (λ m. length m < 2 ^ 16) m ms h) in
     let count : length (m ∷ ms) + k ≡ suc (length ms + k) = omega arith in
     ap (λ n. frames n ((frame m ++ flat_map frame ms) ++ x)) count
-    ∙ ap (λ (f : Option (Octets × Octets)). elim f as (λ _. List Octets) [ None ↦ [] | Some r ↦ r.0 ∷ frames (length ms + k) r.1 ]) first
+    ∙ ap (λ (f : Option (Octets × Octets)). elim f as
+    (λ _. List Octets) [ None ↦ [] | Some r ↦ r.0 ∷ frames (length ms + k) r.1 ]) first
     ∙ ap (λ z. m ∷ z) (frames_again k ms x (All-tail (λ m. length m < 2 ^ 16) m ms h))

@@ -1,6 +1,5 @@
 -- Which sets answer a question, in the corners of its cases, computed from the definitions.
-use Rattle.std.specs.Prelude.{◌≡◌, ℕ, Bool, true, false, List, [], ◌∷◌, ◌++◌, map, length, codes}
-use Rattle.dns_spec.proofs.Common.{bytes_high_first, Octets, DomainName, wire, labels_from, type_cname, type_mx, cut, ResourceRecord, ZoneContents, faults, Section, answer, authority, additional, Item, chain_from, chain, outcome_at, outcome, extra, items, required_items, is_authoritative}
+use Rattle.dns_spec.proofs.Common.{◌≡◌, ℕ, Bool, true, false, List, [], ◌∷◌, ◌++◌, map, length, codes, bytes_high_first, Octets, DomainName, wire, labels_from, type_cname, type_mx, cut, ResourceRecord, ZoneContents, faults, Section, answer, authority, additional, Item, chain_from, chain, outcome_at, outcome, extra, items, required_items, is_authoritative}
 use mathlib.Core.Path.{refl}
 use Rattle.dns_spec.proofs.WorkedExamples.Zones.{dotted, under, entry, in_zone, address, alias, server, net_192, small_zone_with}
 

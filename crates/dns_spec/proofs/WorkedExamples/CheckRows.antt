@@ -1,6 +1,5 @@
 -- The faults of zones, computed from the definitions: most checks once, with what they spare.
-use Rattle.std.specs.Prelude.{◌≡◌, ℕ, zero, suc, ◌+◌, List, [], ◌∷◌, ◌++◌, codes}
-use Rattle.dns_spec.proofs.Common.{bytes_high_first, Octets, DomainName, wire, labels_from, type_txt, type_a, type_soa, type_mx, cut, ResourceRecord, zone_of, Fault, faults}
+use Rattle.dns_spec.proofs.Common.{◌≡◌, ℕ, zero, suc, ◌+◌, List, [], ◌∷◌, ◌++◌, codes, bytes_high_first, Octets, DomainName, wire, labels_from, type_txt, type_a, type_soa, type_mx, cut, ResourceRecord, zone_of, Fault, faults}
 use Rattle.dns_spec.proofs.WorkedExamples.Zones.{dotted, example, under, entry, in_zone, address, alias, server, net_192, soa_of, addresses, small_zone_with, small_zone, large_zone}
 
 -- a fault reported of a name by its text

@@ -1,6 +1,5 @@
 -- Which words ask for what, in the worked cases.
-use Rattle.dns_spec.proofs.Common.{◌≡◌, Bool, not, true, false, List, [], ◌∷◌, ◌++◌, codes, refl, ap, ◌∙◌, lit≤, inl, inr, digits, false≢true, Octets, Options}
-use Rattle.dns_spec.specs.CommandWords.{AreOptions, AskToCheck, AskToServe, is_dashed, by_lines, by_turns, udp, tcp, ZoneWords, ServiceAsked, HasTurns, service_words}
+use Rattle.dns_spec.proofs.Common.{◌≡◌, Bool, not, true, false, List, [], ◌∷◌, ◌++◌, codes, refl, ap, ◌∙◌, lit≤, inl, inr, digits, false≢true, Octets, Options, AreOptions, AskToCheck, AskToServe, is_dashed, by_lines, by_turns, udp, tcp, ZoneWords, ServiceAsked, HasTurns, service_words}
 
 abbrev zone : ZoneWords
 zone = record { origin = codes "example"; file = codes "zone" }

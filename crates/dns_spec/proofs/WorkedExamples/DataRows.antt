@@ -1,9 +1,6 @@
 -- Words and data, text and octets, in the worked cases: computed from the definitions, and where
 -- these are relations, read or refuted.
-use Rattle.dns_spec.proofs.Common.{◌≡◌, ℕ, zero, suc, ◌<◌, ◌^◌, List, [], ◌∷◌, ◌++◌, true, false, refl, sym, ◌∙◌, ap, length, codes, decimal, get_or, arith, digits, false≢true, none-some, same_Some, Octets, labels_from, SpellsName, octet_text, type_by_mnemonic, type_text, Word, Says, SpellsString, hex_octets, ipv6_groups, SaysIpv6, data_text}
-use Rattle.std.specs.Prelude.{None, Some}
-use Rattle.std.proofs.lemmas.Fmt.{first_decimal}
-use Rattle.dns_spec.specs.Data.{cut, type_a, type_hinfo, type_mx, type_txt, type_aaaa, type_srv, Valid, valid, parts, octets, name, lower_case}
+use Rattle.dns_spec.proofs.Common.{◌≡◌, ℕ, zero, suc, ◌<◌, ◌^◌, List, [], ◌∷◌, ◌++◌, true, false, refl, sym, ◌∙◌, ap, length, codes, decimal, get_or, arith, digits, false≢true, none-some, same_Some, Octets, labels_from, SpellsName, octet_text, type_by_mnemonic, type_text, Word, Says, SpellsString, hex_octets, ipv6_groups, SaysIpv6, data_text, None, Some, first_decimal, cut, type_a, type_hinfo, type_mx, type_txt, type_aaaa, type_srv, Valid, valid, parts, octets, name, lower_case}
 use Rattle.dns_spec.proofs.WorkedExamples.Readings.{Rows, SaysOf, are_found, found_is, said_in, string_in, name_in}
 use Rattle.dns_spec.proofs.WorkedExamples.Zones.{hex, dotted, example, under}
 

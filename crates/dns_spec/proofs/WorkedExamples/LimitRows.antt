@@ -1,8 +1,5 @@
 -- Texts past a limit: with an octet too many, and with a record too many.
-use Rattle.std.proofs.Common.{◌≡◌, ℕ, zero, suc, ◌+◌, ◌*◌, ◌<◌, ◌≤◌, inl, true, false, List, [], ◌∷◌, ◌++◌, Option, None, Some, refl, sym, ◌∙◌, ap, subst, codes, length, nat_le, nat_lt, take, drop, arith, lit≤, length-append, le-ltb}
-use Rattle.dns_spec.proofs.Common.{MatchOption, take-append_seam, drop-append_seam, and_parts, lt-ltb, ltb-true, le-leb, lt-leb, Octets, SpellsName, Token, blank, word, line_end, most_octets, is_blank, token_front, TokensThen, run_length, Entry, ended, cut_entries, with_end, whole_text, beginning, extent_by, stop_fault, stop_at, bad_escape, bad_octet, bad_owner, too_long, too_many_records, FileFault, no_words, KindGives, faulty, gives, fault_at, most_records, OriginIs, NameIs, IsRecord, is_record, line_after, Fields, fields, EntryGives, EntriesMean, Means, cut, type_txt, Word, ResourceRecord, digits}
-use Rattle.std.specs.List.{list_all, prefix_len, filter}
-use Rattle.std.proofs.lemmas.List.{append_assoc, take_all}
+use Rattle.dns_spec.proofs.Common.{◌≡◌, ℕ, zero, suc, ◌+◌, ◌*◌, ◌<◌, ◌≤◌, inl, true, false, List, [], ◌∷◌, ◌++◌, Option, None, Some, refl, sym, ◌∙◌, ap, subst, codes, length, nat_le, nat_lt, take, drop, arith, lit≤, length-append, le-ltb, MatchOption, take-append_seam, drop-append_seam, and_parts, lt-ltb, ltb-true, le-leb, lt-leb, Octets, SpellsName, Token, blank, word, line_end, most_octets, is_blank, token_front, TokensThen, run_length, Entry, ended, cut_entries, with_end, whole_text, beginning, extent_by, stop_fault, stop_at, bad_escape, bad_octet, bad_owner, too_long, too_many_records, FileFault, no_words, KindGives, faulty, gives, fault_at, most_records, OriginIs, NameIs, IsRecord, is_record, line_after, Fields, fields, EntryGives, EntriesMean, Means, cut, type_txt, Word, ResourceRecord, digits, list_all, prefix_len, filter, append_assoc, take_all}
 use mathlib.Core.Bool.{xor}
 use Rattle.dns_spec.proofs.ZoneTexts.GivenRecords.{record_given, record_but_count, given_then}
 use Rattle.dns_spec.proofs.WorkedExamples.Readings.{data_in, found_is}
@@ -82,9 +79,8 @@ line_record = record { owner = example; ttl = 7; rtype = type_txt; rdata = 1 ∷
 abbrev line_fields : Fields
 line_fields = fields (bare (codes "7") ∷ bare (codes "TXT") ∷ bare (codes "a") ∷ [])
 
-is_line_record : (k : ℕ)
-    → IsRecord example (earlier k) (NameIs example (earlier k) (bare (codes "@"))) line_fields
-    line_record
+is_line_record : (k : ℕ) → IsRecord example
+    (earlier k) (NameIs example (earlier k) (bare (codes "@"))) line_fields line_record
 unfolding digits cut
 is_line_record k =
     let at : SpellsName example (codes "@") example =
@@ -114,9 +110,8 @@ line_refused k all =
     (faulty too_many_records) (is_line_record k) refl
     (inl (few ∙ le-leb most_records k (omega (arith, all)), refl))
 
-lines_mean : (n k : ℕ) → k + n ≡ most_records
-    → EntriesMean example (earlier k) (entries_of_lines (suc n))
-    (fault_at too_many_records (suc most_records))
+lines_mean : (n k : ℕ) → k + n ≡ most_records → EntriesMean example
+    (earlier k) (entries_of_lines (suc n)) (fault_at too_many_records (suc most_records))
 unfolding entries_of_lines earlier
 lines_mean zero k e =
     let all : k ≡ most_records = omega (arith, e) in
@@ -208,14 +203,7 @@ at_limit ends code few none at_end reports text more full goes_on blanks =
 
     long : most_octets < length (text ++ (ends ++ more))
     long =
-        omega (
-          arith,
-          ap length whole,
-          length-append (text ++ ends) more,
-          length-append text ends,
-          full,
-          goes_on,
-        )
+        grind (arith, whole, length-append)
 
     reported : (o : Option FileFault) → o ≡ Some code
         → MatchOption o (KindGives example [] no_words (faulty code)) (λ c. faulty code ≡ faulty c)

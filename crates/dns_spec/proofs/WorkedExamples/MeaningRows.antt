@@ -1,6 +1,5 @@
 -- What whole texts mean, in the worked cases.
-use Rattle.dns_spec.proofs.Common.{Some, ◌≡◌, ℕ, inr, inl, false, List, [], ◌∷◌, ◌++◌, refl, subst, codes, arith, lit<, lit≤, digits, false≢true, decimal_injective, Octets, DomainName, labels_from, SaysIpv4, Word, Says, cut, type_txt, ResourceRecord, run_length, faulty, NameIs, DataIs, records, fault_at, Means}
-use Rattle.dns_spec.specs.FileFaults.{bad_data, bad_escape, bad_octet, bad_owner, bad_parenthesis, bad_ttl, bad_type, directive_words, no_owner, no_ttl, other_class, unended_string, unknown_directive}
+use Rattle.dns_spec.proofs.Common.{Some, ◌≡◌, ℕ, inr, inl, false, List, [], ◌∷◌, ◌++◌, refl, subst, codes, arith, lit<, lit≤, digits, false≢true, decimal_injective, Octets, DomainName, labels_from, SaysIpv4, Word, Says, cut, type_txt, ResourceRecord, run_length, faulty, NameIs, DataIs, records, fault_at, Means, bad_data, bad_escape, bad_octet, bad_owner, bad_parenthesis, bad_ttl, bad_type, directive_words, no_owner, no_ttl, other_class, unended_string, unknown_directive}
 use Rattle.dns_spec.proofs.DataWords.TypeWords.{one_type}
 use Rattle.dns_spec.proofs.DataWords.OneData.{four_numbers, number_then_dot}
 use Rattle.dns_spec.proofs.WorkedExamples.Readings.{tokens_in, text_with, Mean, are_found, text_in, name_after, found_is}

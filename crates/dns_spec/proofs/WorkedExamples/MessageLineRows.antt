@@ -1,8 +1,5 @@
 -- What is printed of inputs, octet for octet, computed from the definitions.
-use Rattle.dns_spec.proofs.Common.{◌≡◌, ℕ, ◌≤◌, true, false, [], ◌∷◌, ◌++◌, codes, decimal, refl, sym, ◌∙◌, lit≤, inl, inr, digits, none-some, octet_text, Octets, labels_from, cut, hex_octets, data_text, DnsMessage, run, runs_before, name_at, pieces_at, several, message_at}
-use Rattle.std.specs.Prelude.{Option, None, Some}
-use Rattle.dns_spec.specs.Lines.{lines, ended_lines, line_message, line_answers, are_messages}
-use Rattle.dns_spec.specs.MessageLines.{section_line, message_text, PrintsMessage, PrintsInput}
+use Rattle.dns_spec.proofs.Common.{◌≡◌, ℕ, ◌≤◌, true, false, [], ◌∷◌, ◌++◌, codes, decimal, refl, sym, ◌∙◌, lit≤, inl, inr, digits, none-some, octet_text, Octets, labels_from, cut, hex_octets, data_text, DnsMessage, run, runs_before, name_at, pieces_at, several, message_at, Option, None, Some, lines, ended_lines, line_message, line_answers, are_messages, section_line, message_text, PrintsMessage, PrintsInput}
 use Rattle.dns_spec.proofs.Messages.MessageReading.{message_at_computes}
 use Rattle.dns_spec.proofs.WorkedExamples.Zones.{hex, under, net_192}
 use Rattle.dns_spec.proofs.WorkedExamples.MessageRows.{address_digits, address_message, error_digits, error_message}
@@ -24,9 +21,8 @@ prints_message : (l : Option Octets) (b : Octets) (m : DnsMessage) → l ≡ Som
     → message_at b ≡ Some m → PrintsMessage l (record { output = message_text m; passes = true })
 prints_message l b m is_line e = rw is_line (inl (m, (message_at_computes b m).0 e, refl))
 
-prints_fault : (l : Option Octets) (b : Octets) (n : ℕ) → l ≡ Some b → message_at b ≡ None
-    → 1 ≤ n → n ≤ 6
-    → PrintsMessage l
+prints_fault : (l : Option Octets) (b : Octets) (n : ℕ)
+    → l ≡ Some b → message_at b ≡ None → 1 ≤ n → n ≤ 6 → PrintsMessage l
     (record { output = codes "fault " ++ decimal n ++ codes "\n"; passes = false })
 prints_fault l b n is_line e least most =
     rw is_line

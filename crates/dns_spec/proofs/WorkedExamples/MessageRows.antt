@@ -1,8 +1,6 @@
 -- Names, queries and messages read from octets, whole, changed and cut, computed from the
 -- definitions.
-use Rattle.std.specs.Prelude.{◌≡◌, ℕ, zero, suc, ◌+◌, Bool, true, not, List, [], ◌∷◌, ◌++◌, take, drop, replicate, codes}
-use Rattle.std.specs.Prelude.{None, Some}
-use Rattle.dns_spec.proofs.Common.{is_some, option_map, list_all, Octets, DomainName, wire, Header, MessageRecord, DnsMessage, run, runs_before, name_at, pieces_at, several, message_at, absent, refused_with, query, question_at, query_read, pointer}
+use Rattle.dns_spec.proofs.Common.{◌≡◌, ℕ, zero, suc, ◌+◌, Bool, true, not, List, [], ◌∷◌, ◌++◌, take, drop, replicate, codes, None, Some, is_some, option_map, list_all, Octets, DomainName, wire, Header, MessageRecord, DnsMessage, run, runs_before, name_at, pieces_at, several, message_at, absent, refused_with, query, question_at, query_read, pointer}
 use Rattle.dns_spec.proofs.WorkedExamples.Zones.{hex, dotted, under, example, net_192, soa_of, letters, www_query}
 
 -- a reply with an address, whose owner is a pointer at place 29

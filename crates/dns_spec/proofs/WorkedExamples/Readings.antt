@@ -1,9 +1,6 @@
 -- Readings that compute: what a text or a part of it means, with the proof that it does, or nothing
 -- where the reading can't tell.
-use Rattle.dns_spec.proofs.Common.{◌≡◌, ◌≢◌, ℕ, zero, suc, ◌^◌, ◌⊎◌, inl, inr, Bool, true, false, ◌&&◌, ◌||◌, not, ◌==◌, List, [], ◌∷◌, ◌++◌, Option, Some, None, refl, sym, ◌∙◌, ap, subst, codes, decimal, length, map, take, drop, nat_lt, nat_le, arith, MatchOption, MatchBool, bytes_high_first, list_all, slice_split, flat_map, option_map, is_none, digits_value, and_parts, and_from, false≢true, eqb-true, eqb-false, ltb-true, leb-true, le-leb, decimal_is_IsNumeral, none-some, same_Some, Octets, DomainName, wire, folded, is_name, octets_equal, SpellsOctet, TextSpells, SpellsName, escape_front, text_in_lower_case, type_by_mnemonic, numbered_type, NamesType, valid, lower_case, ResourceRecord, Entry, most_octets, token_front, lexical_fault, Token, TokensThen, cut_entries, with_end, whole_text, extent_by, FileFault, unknown_directive, directive_words, bad_owner, no_owner, bad_ttl, other_class, bad_type, no_ttl, bad_data, too_many_records}
-use Rattle.dns_spec.specs.AddressText.{ipv4_text, ipv6_octets}
-use Rattle.dns_spec.specs.DataText.{Word, WordForm, number_word, ipv4_word, ipv6_word, name_word, string_word, SpellsString, SaysForm, may_be_quoted, SaysForms, forms_of, SaysTyped, hex_octets, is_hex_word, SaysUnknown, is_unknown_mark, SaysAsSpelled, Says}
-use Rattle.dns_spec.specs.Meaning.{EntryMeaning, faulty, gives, Nothing, EntryKind, no_words, directive, owned, unowned, kind_of, directive_word, owner_word, OriginIs, NameIs, OwnerBefore, most_ttl, TtlSays, ttl_in_force, TtlIs, is_zone_type, TypeIs, DataIs, IsRecord, Fields, fields, IsNoTtl, is_other_class, are_too_many, RecordGives, DirectiveSays, DirectiveGives, KindGives, EntryGives, Meaning, records, fault_at, after, line_after, EntriesMean, Means}
+use Rattle.dns_spec.proofs.Common.{◌≡◌, ◌≢◌, ℕ, zero, suc, ◌^◌, ◌⊎◌, inl, inr, Bool, true, false, ◌&&◌, ◌||◌, not, ◌==◌, List, [], ◌∷◌, ◌++◌, Option, Some, None, refl, sym, ◌∙◌, ap, subst, codes, decimal, length, map, take, drop, nat_lt, nat_le, arith, MatchOption, MatchBool, bytes_high_first, list_all, slice_split, flat_map, option_map, is_none, digits_value, and_parts, and_from, false≢true, eqb-true, eqb-false, ltb-true, leb-true, le-leb, decimal_is_IsNumeral, none-some, same_Some, Octets, DomainName, wire, folded, is_name, octets_equal, SpellsOctet, TextSpells, SpellsName, escape_front, text_in_lower_case, type_by_mnemonic, numbered_type, NamesType, valid, lower_case, ResourceRecord, Entry, most_octets, token_front, lexical_fault, Token, TokensThen, cut_entries, with_end, whole_text, extent_by, FileFault, unknown_directive, directive_words, bad_owner, no_owner, bad_ttl, other_class, bad_type, no_ttl, bad_data, too_many_records, ipv4_text, ipv6_octets, Word, WordForm, number_word, ipv4_word, ipv6_word, name_word, string_word, SpellsString, SaysForm, may_be_quoted, SaysForms, forms_of, SaysTyped, hex_octets, is_hex_word, SaysUnknown, is_unknown_mark, SaysAsSpelled, Says, EntryMeaning, faulty, gives, Nothing, EntryKind, no_words, directive, owned, unowned, kind_of, directive_word, owner_word, OriginIs, NameIs, OwnerBefore, most_ttl, TtlSays, ttl_in_force, TtlIs, is_zone_type, TypeIs, DataIs, IsRecord, Fields, fields, IsNoTtl, is_other_class, are_too_many, RecordGives, DirectiveSays, DirectiveGives, KindGives, EntryGives, Meaning, records, fault_at, after, line_after, EntriesMean, Means}
 use Rattle.dns_spec.proofs.DomainNames.NameLaws.{octets_equal-decides}
 use Rattle.dns_spec.proofs.NameTexts.Escapes.{escape_spells}
 use Rattle.dns_spec.proofs.WorkedExamples.Zones.{example}
@@ -289,9 +286,8 @@ tested b = Some (by_test b (λ e. e) (λ e h. false≢true (sym e ∙ h)))
 abbrev pub some : {A : Type 0} {P : A → Type 0} → (v : A) × P v → Nothing P → ⊥
 some f none = none f.0 f.1
 
-abbrev unless : {C : Type 0} {Rest : EntryMeaning → Type 0} (fault : FileFault) → Told C
-    → Found Rest
-    → Found (λ given. (C × (given ≡ faulty fault)) ⊎ ((C → ⊥) × Rest given))
+abbrev unless : {C : Type 0} {Rest : EntryMeaning → Type 0} (fault : FileFault)
+    → Told C → Found Rest → Found (λ given. (C × (given ≡ faulty fault)) ⊎ ((C → ⊥) × Rest given))
 unless fault None rest = None
 unless fault (Some (inl c)) rest = Some (faulty fault, inl (c, refl))
 unless fault (Some (inr fails)) rest = and_then rest (λ g. Some (g.0, inr (fails, g.1)))
@@ -310,9 +306,8 @@ no_type_told ws = elim (type_in ws) [
 ]
 
 abbrev whole_record : (o : DomainName) (earlier : List Entry) (Owner : DomainName → Type 0)
-    (f : Fields) → (n : DomainName) × Owner n → (d : Octets) × DataIs o earlier f.others d
-    → Found (λ given. (r : ResourceRecord) × IsRecord o earlier Owner f r
-    × (given ≡ gives (r ∷ [])))
+    (f : Fields) → (n : DomainName) × Owner n → (d : Octets) × DataIs o earlier f.others d → Found
+    (λ given. (r : ResourceRecord) × IsRecord o earlier Owner f r × (given ≡ gives (r ∷ [])))
 whole_record o earlier Owner f n d =
     and_then (ttl_after earlier f.ttl) (λ k. and_then (type_in f.others) (λ t.
     let r : ResourceRecord = record { owner = folded n.0; ttl = k.0; rtype = t.0; rdata = d.0 } in
@@ -321,9 +316,8 @@ whole_record o earlier Owner f n d =
     Some (gives (r ∷ []), (r, is, refl))))
 
 -- What a record gives: its lowest fault, or itself. That its data is at fault isn't told.
-abbrev record_in : (o : DomainName) (earlier : List Entry) (fault : FileFault)
-    (Owner : DomainName → Type 0) (f : Fields) → Known Owner
-    → Found (RecordGives o earlier fault Owner f)
+abbrev record_in : (o : DomainName) (earlier : List Entry) (fault : FileFault) (Owner : DomainName
+    → Type 0) (f : Fields) → Known Owner → Found (RecordGives o earlier fault Owner f)
 record_in o earlier fault Owner f None = None
 record_in o earlier fault Owner f (Some (inr none)) = Some (faulty fault, inl (none, refl))
 record_in o earlier fault Owner f (Some (inl n)) =
@@ -339,8 +333,7 @@ record_in o earlier fault Owner f (Some (inl n)) =
 
 -- what a directive gives
 abbrev directive_in : {A : Type 0} (P : A → Word → Type 0)
-    → ((w : Word) → Known (λ v. P v w)) → (ws : List Word)
-    → Found (DirectiveSays P ws)
+    → ((w : Word) → Known (λ v. P v w)) → (ws : List Word) → Found (DirectiveSays P ws)
 directive_in P one [] = Some (faulty directive_words, inl (λ v h. h, refl))
 directive_in P one (w ∷ v ∷ ws) = Some (faulty directive_words, inl (λ v h. h, refl))
 directive_in P one (w ∷ []) = elim (one w) [

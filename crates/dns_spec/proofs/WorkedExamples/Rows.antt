@@ -1,11 +1,8 @@
 -- The worked replies, to datagrams and to streams, computed from the definitions: octet for octet
 -- where they stand whole, else their header and length, with a part that tells them apart; and
 -- their sizes, added up without writing.
-use Rattle.std.specs.Prelude.{◌≡◌, ℕ, zero, suc, ◌+◌, ◌*◌, List, [], ◌∷◌, ◌++◌, length, take, drop, replicate, codes}
+use Rattle.dns_spec.proofs.Common.{◌≡◌, ℕ, zero, suc, ◌+◌, ◌*◌, List, [], ◌∷◌, ◌++◌, length, take, drop, replicate, codes, Option, None, Some, option_map, Octets, wire, labels_from, cut, type_txt, type_cname, type_srv, ResourceRecord, ZoneContents, run, runs_before, name_at, answer, Item, Placed, shared_octets, data_laid, record_laid, header_octets, records_octets, layout, cost, data_size, records_size, size, chain_from, chain, outcome_at, outcome, extra, items, required_items, keep_longest, reply_with, reply, octets_of, decide, question_at, query_read, Header, MessageQuestion, names_of, frame, first_frame, frames, after_frames, replies}
 use mathlib.Core.Path.{refl}
-use Rattle.std.specs.Prelude.{Option, None, Some}
-use Rattle.dns_spec.proofs.Common.{option_map, Octets, wire, labels_from, cut, type_txt, type_cname, type_srv, ResourceRecord, ZoneContents, run, runs_before, name_at, answer, Item, Placed, shared_octets, data_laid, record_laid, header_octets, records_octets, layout, cost, data_size, records_size, size, chain_from, chain, outcome_at, outcome, extra, items, required_items, keep_longest, reply_with, reply, octets_of, decide, question_at, query_read, Header, MessageQuestion, names_of}
-use Rattle.dns_spec.specs.Stream.{frame, first_frame, frames, after_frames, replies}
 use Rattle.dns_spec.proofs.WorkedExamples.Zones.{hex, dotted, under, entry, in_zone, addresses, query, asks, www_query, small_zone, small_zone_with, large_zone, deep_zone, deep_name}
 
 -- the octets of a reply within a limit

@@ -1,6 +1,5 @@
 -- Names on the wire and as they are written, computed from the definitions.
-use Rattle.std.specs.Prelude.{◌≡◌, [], ◌∷◌, ◌++◌, replicate, codes, Some, None}
-use Rattle.dns_spec.proofs.Common.{labels_from, name_of, escape_front, octet_text, name_text}
+use Rattle.dns_spec.proofs.Common.{◌≡◌, [], ◌∷◌, ◌++◌, replicate, codes, Some, None, labels_from, name_of, escape_front, octet_text, name_text}
 use Rattle.dns_spec.proofs.WorkedExamples.Zones.{dotted, hex}
 
 text_rows :

@@ -1,7 +1,5 @@
 -- Tokens, and why none begins, in the worked cases.
-use Rattle.std.proofs.Common.{◌≡◌, true, false, [], ◌∷◌, Some, None, codes}
-use Rattle.dns_spec.specs.FileFaults.{bad_octet, bad_escape, unended_string, bad_parenthesis, too_long, no_memory, fault_code}
-use Rattle.dns_spec.specs.ZoneText.{blank, comment, word, quoted_string, opening, line_end, run_length, token_front, cut_entries, whole_text, beginning, text_over, in_string, in_token, stop_at, stop_fault}
+use Rattle.dns_spec.proofs.Common.{◌≡◌, true, false, [], ◌∷◌, Some, None, codes, bad_octet, bad_escape, unended_string, bad_parenthesis, too_long, no_memory, fault_code, blank, comment, word, quoted_string, opening, line_end, run_length, token_front, cut_entries, whole_text, beginning, text_over, in_string, in_token, stop_at, stop_fault}
 
 token_rows :
     -- the token that a text begins with, and the text after it

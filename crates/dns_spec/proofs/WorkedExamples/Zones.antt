@@ -1,6 +1,5 @@
 -- The zones and queries of the worked examples, written as a person writes them.
-use Rattle.std.specs.Prelude.{ℕ, zero, suc, ◌+◌, ◌*◌, ◌/◌, ◌%◌, List, [], ◌∷◌, ◌++◌, length, replicate, nat_lt, ◌==◌, if◌then◌else◌, codes}
-use Rattle.dns_spec.proofs.Common.{flat_map, bytes_high_first, digit_value, Octets, DomainName, wire, type_a, type_ns, type_cname, type_soa, type_mx, type_txt, type_srv, ResourceRecord, ZoneContents, zone_of}
+use Rattle.dns_spec.proofs.Common.{ℕ, zero, suc, ◌+◌, ◌*◌, ◌/◌, ◌%◌, List, [], ◌∷◌, ◌++◌, length, replicate, nat_lt, ◌==◌, if◌then◌else◌, codes, flat_map, bytes_high_first, digit_value, Octets, DomainName, wire, type_a, type_ns, type_cname, type_soa, type_mx, type_txt, type_srv, ResourceRecord, ZoneContents, zone_of}
 
 -- `www.example` is the list of the labels `www` and `example`
 abbrev pub with_letter : ℕ → DomainName → DomainName

@@ -1,11 +1,5 @@
 -- The faults of a list of records do not depend on its order.
-use Rattle.std.proofs.Common.{◌≡◌, ℕ, Bool, true, ◌&&◌, eqb, nat_lt, ◌==◌, ◌⊎◌, inl, inr, List, [], ◌∷◌, map, reverse, length, refl, sym, ap, ap₂, ◌∙◌, arith, filter, flat_map, IsPermutation, is_eq, nat_cmp, Equal}
-use Rattle.dns_spec.proofs.Common.{false≢true, lt-ltb, eqb-true, eq-eqb, ne_eqb, ltb-true, reverse-reverse, list_any, IsTotalOrder, lists_ties, to_ascii_lowercase, Octets, DomainName, folded, same, names_equal, label_order, name_order, type_ns, ResourceRecord, ZoneContents, at, owns, distinct}
-use Rattle.std.proofs.lemmas.List.Sums.{length-filter}
-use Rattle.std.proofs.lemmas.List.Sorted.{sum_by-IsPermutation}
-use Rattle.std.proofs.lemmas.Cmp.{nat_cmp_total, nat_list_cmp_total, lists_total, on_total}
-use Rattle.std.proofs.lemmas.Str.Ascii.{lowercase-lowercase}
-use Rattle.dns_spec.specs.Checks.{most_sets, Check, has_target, ttls_differ, ns_target_alias, lacks_address, ns_target_lost, mx_target_alias, data_at_cut, first_is_asterisk, wildcard_ns, large_set, many_sets, Fault, faults_at, checked_names, faults}
+use Rattle.dns_spec.proofs.Common.{◌≡◌, ℕ, Bool, true, ◌&&◌, eqb, nat_lt, ◌==◌, ◌⊎◌, inl, inr, List, [], ◌∷◌, map, reverse, length, refl, sym, ap, ap₂, ◌∙◌, arith, filter, flat_map, IsPermutation, is_eq, nat_cmp, Equal, false≢true, lt-ltb, eqb-true, eq-eqb, ne_eqb, ltb-true, reverse-reverse, list_any, IsTotalOrder, lists_ties, to_ascii_lowercase, Octets, DomainName, folded, same, names_equal, label_order, name_order, type_ns, ResourceRecord, ZoneContents, at, owns, distinct, length-filter, sum_by-IsPermutation, nat_cmp_total, nat_list_cmp_total, lists_total, on_total, lowercase-lowercase, most_sets, Check, has_target, ttls_differ, ns_target_alias, lacks_address, ns_target_lost, mx_target_alias, data_at_cut, first_is_asterisk, wildcard_ns, large_set, many_sets, Fault, faults_at, checked_names, faults}
 use Rattle.dns_spec.proofs.DomainNames.NameLaws.{names_equal-decides}
 use Rattle.dns_spec.proofs.Records.SortedOnce.{Each, Among, length-sort_by, same_sorted}
 
@@ -16,22 +10,27 @@ SameCounts {X} xs ys = (p : X → Bool) → length (filter p xs) ≡ length (fil
 from_permutation : {X : Type 0} (xs ys : List X) → IsPermutation xs ys → SameCounts xs ys
 from_permutation xs ys h p = grind (arith, length-filter, sum_by-IsPermutation)
 
-pub any_counted : {X : Type 0} (p : X → Bool) (xs : List X) → list_any p xs ≡ nat_lt 0 (length (filter p xs))
+pub any_counted : {X : Type 0} (p : X → Bool) (xs : List X)
+    → list_any p xs ≡ nat_lt 0 (length (filter p xs))
 any_counted p [] = refl
 any_counted p (x ∷ xs) = grind (arith, lt-ltb, (any_counted p xs))
 
-same_any : {X : Type 0} (p : X → Bool) (xs ys : List X) → SameCounts xs ys → list_any p xs ≡ list_any p ys
+same_any : {X : Type 0} (p : X → Bool) (xs ys : List X)
+    → SameCounts xs ys → list_any p xs ≡ list_any p ys
 same_any p xs ys c = any_counted p xs ∙ ap (nat_lt 0) (c p) ∙ sym (any_counted p ys)
 
-filter_twice : {X : Type 0} (p q : X → Bool) (xs : List X) → filter q (filter p xs) ≡ filter (λ x. p x && q x) xs
+filter_twice : {X : Type 0} (p q : X → Bool) (xs : List X)
+    → filter q (filter p xs) ≡ filter (λ x. p x && q x) xs
 filter_twice p q [] = refl
 filter_twice p q (x ∷ xs) = grind (arith, (filter_twice p q xs))
 
-same_filter : {X : Type 0} (p : X → Bool) (xs ys : List X) → SameCounts xs ys → SameCounts (filter p xs) (filter p ys)
+same_filter : {X : Type 0} (p : X → Bool) (xs ys : List X)
+    → SameCounts xs ys → SameCounts (filter p xs) (filter p ys)
 same_filter p xs ys c q = grind (arith, filter_twice)
 
 -- the values of a function on such lists are the same
-module _ {X Y : Type 0} (f : X → Y) (eq : Y → Y → Bool) (decides : (a b : Y) → (eq a b ≡ true → a ≡ b) × (a ≡ b → eq a b ≡ true)) where
+module _ {X Y : Type 0} (f : X → Y) (eq : Y → Y → Bool)
+    (decides : (a b : Y) → (eq a b ≡ true → a ≡ b) × (a ≡ b → eq a b ≡ true)) where
   any_value : (a : Y) (xs : List X) → Among a (map f xs) → list_any (λ x. eq a (f x)) xs ≡ true
   any_value a [] m = absurd m
   any_value a (x ∷ xs) (inl e) = grind arith
@@ -41,7 +40,8 @@ module _ {X Y : Type 0} (f : X → Y) (eq : Y → Y → Bool) (decides : (a b : 
   value_any a [] e = absurd (false≢true e)
   value_any a (x ∷ xs) e = grind (arith, Among, inl, inr, (value_any a xs))
 
-  same_values : (xs ys : List X) → SameCounts xs ys → (a : Y) → Among a (map f xs) → Among a (map f ys)
+  same_values : (xs ys : List X)
+      → SameCounts xs ys → (a : Y) → Among a (map f xs) → Among a (map f ys)
   same_values xs ys c a m = grind (arith, value_any, same_any, any_value)
 
 pub each_any : {X : Type 0} (xs : List X) → Each (λ _. Unit {0}) xs
@@ -58,18 +58,21 @@ pub nat_tie : (x y : ℕ) → nat_cmp x y ≡ Equal → eqb x y ≡ true
 nat_tie x y e = nat_ties x y ∙ ap is_eq e
 
 -- how many types records have
-same_type_count : (xs ys : List ResourceRecord) → SameCounts xs ys
-    → length (distinct ◌==◌ (map (λ (r : ResourceRecord). r.rtype) xs)) ≡ length (distinct ◌==◌ (map (λ (r : ResourceRecord). r.rtype) ys))
+same_type_count : (xs ys : List ResourceRecord)
+    → SameCounts xs ys → length (distinct ◌==◌ (map (λ (r : ResourceRecord). r.rtype) xs))
+    ≡ length (distinct ◌==◌ (map (λ (r : ResourceRecord). r.rtype) ys))
 same_type_count xs ys c =
     let f : ResourceRecord → ℕ = λ (r : ResourceRecord). r.rtype in
     let back : SameCounts ys xs = λ p. sym (c p) in
     sym (length-sort_by nat_cmp (distinct ◌==◌ (map f xs)))
-    ∙ ap length (same_sorted nat_cmp nat_cmp_total ◌==◌ nat_tie (λ _. Unit {0}) (λ x y d e t. eqb-true x y t) (map f xs) (map f ys) (each_any (map f xs)) (each_any (map f ys))
+    ∙ ap length (same_sorted nat_cmp nat_cmp_total ◌==◌ nat_tie (λ _. Unit {0}) (λ
+    x y d e t. eqb-true x y t) (map f xs) (map f ys) (each_any (map f xs)) (each_any (map f ys))
     (same_values f eqb eqb_decides xs ys c) (same_values f eqb eqb_decides ys xs back))
     ∙ length-sort_by nat_cmp (distinct ◌==◌ (map f ys))
 
 -- names in lower case are told apart by their order
-lower_twice : (os : Octets) → map to_ascii_lowercase (map to_ascii_lowercase os) ≡ map to_ascii_lowercase os
+lower_twice : (os : Octets)
+    → map to_ascii_lowercase (map to_ascii_lowercase os) ≡ map to_ascii_lowercase os
 lower_twice [] = refl
 lower_twice (o ∷ os) = ap₂ (λ x xs. x ∷ xs) (lowercase-lowercase o) (lower_twice os)
 
@@ -80,7 +83,8 @@ folded_folded (l ∷ n) = ap₂ (λ x xs. x ∷ xs) (lower_twice l) (folded_fold
 abbrev pub Lower : DomainName → Type 0
 Lower n = folded n ≡ n
 
-pub each_lower : (xs : List ResourceRecord) → Each Lower (map (λ (r : ResourceRecord). folded r.owner) xs)
+pub each_lower : (xs : List ResourceRecord)
+    → Each Lower (map (λ (r : ResourceRecord). folded r.owner) xs)
 each_lower [] = tt
 each_lower (r ∷ xs) = (folded_folded r.owner, each_lower xs)
 
@@ -94,8 +98,10 @@ pub name_tie : (n m : DomainName) → name_order n m ≡ Equal → same n m ≡ 
 name_tie n m e =
     let a = reverse (folded n) in
     let b = reverse (folded m) in
-    let t : names_equal a b ≡ true = lists_ties label_order (lists_ties nat_cmp nat_ties) a b ∙ ap is_eq e in
-    let back : folded n ≡ folded m = sym (reverse-reverse (folded n)) ∙ ap reverse ((names_equal-decides a b).0 t) ∙ reverse-reverse (folded m) in
+    let t : names_equal a b ≡ true =
+    lists_ties label_order (lists_ties nat_cmp nat_ties) a b ∙ ap is_eq e in
+    let back : folded n ≡ folded m = sym (reverse-reverse (folded n))
+    ∙ ap reverse ((names_equal-decides a b).0 t) ∙ reverse-reverse (folded m) in
     (names_equal-decides (folded n) (folded m)).1 back
 
 in_rest : {A B C : Type 0} → A ⊎ B → (B → C) → A ⊎ C
@@ -123,7 +129,8 @@ module _ (o : DomainName) (xs ys : List ResourceRecord) (c : SameCounts xs ys) w
   unfolding z z'
   owns_kept n t = same_any (λ (r : ResourceRecord). same r.owner n && r.rtype == t) xs ys c
 
-  target_kept : (n : DomainName) (type : ℕ → Bool) (p q : DomainName → Bool) → ((m : DomainName) → p m ≡ q m) → has_target z n type p ≡ has_target z' n type q
+  target_kept : (n : DomainName) (type : ℕ → Bool) (p q : DomainName → Bool)
+      → ((m : DomainName) → p m ≡ q m) → has_target z n type p ≡ has_target z' n type q
   unfolding z z'
   target_kept n type p q e = grind (arith, z, any_at)
 
@@ -178,14 +185,16 @@ module _ (o : DomainName) (xs ys : List ResourceRecord) (c : SameCounts xs ys) w
   checked_names_kept =
       let f : ResourceRecord → DomainName = λ (r : ResourceRecord). folded r.owner in
       let back : SameCounts ys xs = λ p. sym (c p) in
-      same_sorted name_order name_order_total same name_tie Lower one_lower (folded o ∷ map f xs) (folded o ∷ map f ys)
+      same_sorted name_order name_order_total same name_tie Lower one_lower
+      (folded o ∷ map f xs) (folded o ∷ map f ys)
       (folded_folded o, each_lower xs) (folded_folded o, each_lower ys)
       (λ a m. in_rest m (same_values f names_equal names_equal-decides xs ys c a))
       (λ a m. in_rest m (same_values f names_equal names_equal-decides ys xs back a))
 
   faults_kept : faults z ≡ faults z'
   unfolding faults
-  faults_kept = ap (λ (h : DomainName → List Fault). flat_map h (checked_names z)) (λ k n. faults_at_kept n k) ∙ ap (flat_map (faults_at z')) checked_names_kept
+  faults_kept = ap (λ (h : DomainName → List Fault). flat_map h (checked_names z))
+      (λ k n. faults_at_kept n k) ∙ ap (flat_map (faults_at z')) checked_names_kept
 
 -- The faults of a list of records do not depend on its order.
 pub faults_in_any_order : (o : DomainName) (xs ys : List ResourceRecord) → IsPermutation xs ys

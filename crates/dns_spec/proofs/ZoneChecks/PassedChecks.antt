@@ -1,21 +1,23 @@
 -- A zone that passes has no fault at its origin.
-use Rattle.dns_spec.proofs.Common.{common_steps, ltb-false, folded, same, name_order, type_soa, ResourceRecord, ZoneContents, distinct, sort_by, rrset, at, Check, checks, faults_at, checked_names, faults, Passes}
-use Rattle.std.proofs.Common.{◌≡◌, ℕ, ◌≤◌, Bool, false, ◌⊎◌, inl, inr, List, [], ◌∷◌, ◌++◌, map, length, refl, sym, ap, subst, ◌∙◌, filter, flat_map, ◌==◌, Ordering, arith}
+use Rattle.dns_spec.proofs.Common.{common_steps, ltb-false, folded, same, name_order, type_soa, ResourceRecord, ZoneContents, distinct, sort_by, rrset, at, Check, checks, faults_at, checked_names, faults, Passes, ◌≡◌, ℕ, ◌≤◌, Bool, false, ◌⊎◌, inl, inr, List, [], ◌∷◌, ◌++◌, map, length, refl, sym, ap, subst, ◌∙◌, filter, flat_map, ◌==◌, Ordering, arith}
 use Rattle.dns_spec.proofs.DomainNames.NameLaws.{names_equal-decides}
 use Rattle.dns_spec.proofs.ZoneChecks.FaultOrder.{name_order_total, name_tie, Lower, one_lower}
 use Rattle.dns_spec.proofs.Records.SortedOnce.{Each, Among, each_at, among_sort, among_distinct}
 
 -- no element gives anything where all give nothing
-flat_nothing : {X Y : Type 0} (f : X → List Y) (xs : List X) (a : X) → flat_map f xs ≡ [] → Among a xs → f a ≡ []
+flat_nothing : {X Y : Type 0} (f : X → List Y) (xs : List X) (a : X)
+    → flat_map f xs ≡ [] → Among a xs → f a ≡ []
 flat_nothing f [] a e m = absurd m
 flat_nothing {Y = Y} f (x ∷ xs) a e m = go (f x) refl e m (flat_nothing f xs a)
   where
-    go : (ys : List Y) → f x ≡ ys → ys ++ flat_map f xs ≡ [] → (a ≡ x) ⊎ Among a xs → (flat_map f xs ≡ [] → Among a xs → f a ≡ []) → f a ≡ []
+    go : (ys : List Y) → f x ≡ ys → ys ++ flat_map f xs ≡ []
+        → (a ≡ x) ⊎ Among a xs → (flat_map f xs ≡ [] → Among a xs → f a ≡ []) → f a ≡ []
     go [] p q (inl s) r = ap f s ∙ p
     go [] p q (inr n) r = r q n
     go (y ∷ ys) p q n r = cc
 
-filter_nothing : {X : Type 0} (p : X → Bool) (xs : List X) → filter p xs ≡ [] → Each (λ x. p x ≡ false) xs
+filter_nothing : {X : Type 0} (p : X → Bool) (xs : List X)
+    → filter p xs ≡ [] → Each (λ x. p x ≡ false) xs
 filter_nothing p [] e = tt
 filter_nothing p (x ∷ xs) e = grind (arith, Each, (filter_nothing p xs))
 
@@ -24,12 +26,18 @@ map_nothing f [] e = refl
 map_nothing f (x ∷ xs) e = cc
 
 -- no check holds of the origin of a zone that passes
-pub checks_of_origin : (z : ZoneContents) → folded z.origin ≡ z.origin → Passes z → Each (λ (k : ℕ × Check). k.1 z z.origin ≡ false) checks
+pub checks_of_origin : (z : ZoneContents) → folded z.origin ≡ z.origin
+    → Passes z → Each (λ (k : ℕ × Check). k.1 z z.origin ≡ false) checks
 unfolding faults
 checks_of_origin z low passes =
-    let checked : Among z.origin (checked_names z) = among_sort name_order z.origin (distinct same (folded z.origin ∷ map (λ (r : ResourceRecord). folded r.owner) z.records)) (inl (sym low)) in
-    let none : faults_at z z.origin ≡ [] = flat_nothing (faults_at z) (checked_names z) z.origin passes checked in
-    filter_nothing (λ (k : ℕ × Check). k.1 z z.origin) checks (map_nothing (λ (k : ℕ × Check). record { owner = z.origin; code = k.0 }) (filter (λ (k : ℕ × Check). k.1 z z.origin) checks) none)
+    let checked : Among z.origin (checked_names z) = among_sort name_order z.origin
+    (distinct same (folded z.origin ∷ map (λ (r : ResourceRecord). folded r.owner) z.records))
+    (inl (sym low)) in
+    let none : faults_at z z.origin ≡ [] =
+    flat_nothing (faults_at z) (checked_names z) z.origin passes checked in
+    filter_nothing (λ (k : ℕ × Check). k.1 z z.origin) checks
+    (map_nothing (λ (k : ℕ × Check). record { owner = z.origin; code = k.0 })
+    (filter (λ (k : ℕ × Check). k.1 z z.origin) checks) none)
 
 -- nor of an owner
 among_map : {X Y : Type 0} (f : X → Y) (a : X) (xs : List X) → Among a xs → Among (f a) (map f xs)
@@ -37,33 +45,44 @@ among_map f a [] m = m
 among_map f a (x ∷ xs) (inl e) = inl (ap f e)
 among_map f a (x ∷ xs) (inr m) = inr (among_map f a xs m)
 
-pub checks_at : (z : ZoneContents) → folded z.origin ≡ z.origin → Each (λ (r : ResourceRecord). folded r.owner ≡ r.owner) z.records → Passes z
-    → (r : ResourceRecord) → Among r z.records → Each (λ (k : ℕ × Check). k.1 z r.owner ≡ false) checks
+pub checks_at : (z : ZoneContents) → folded z.origin ≡ z.origin → Each
+    (λ (r : ResourceRecord). folded r.owner ≡ r.owner) z.records → Passes z → (r : ResourceRecord)
+    → Among r z.records → Each (λ (k : ℕ × Check). k.1 z r.owner ≡ false) checks
 unfolding faults
 checks_at z low lows passes r m =
     let f = λ (s : ResourceRecord). folded s.owner in
     let names = folded z.origin ∷ map f z.records in
-    let here : folded r.owner ≡ r.owner = each_at (λ (s : ResourceRecord). folded s.owner ≡ s.owner) r z.records lows m in
-    let listed : Among r.owner names = inr (subst (λ n. Among n (map f z.records)) here (among_map f r z.records m)) in
+    let here : folded r.owner ≡ r.owner =
+    each_at (λ (s : ResourceRecord). folded s.owner ≡ s.owner) r z.records lows m in
+    let listed : Among r.owner names =
+    inr (subst (λ n. Among n (map f z.records)) here (among_map f r z.records m)) in
     let lower : Each Lower names = (ap folded low, all_low z.records lows) in
     let checked : Among r.owner (checked_names z) =
-    among_sort name_order r.owner (distinct same names) (among_distinct name_order name_order_total same name_tie Lower one_lower r.owner names lower listed) in
-    let none : faults_at z r.owner ≡ [] = flat_nothing (faults_at z) (checked_names z) r.owner passes checked in
-    filter_nothing (λ (k : ℕ × Check). k.1 z r.owner) checks (map_nothing (λ (k : ℕ × Check). record { owner = r.owner; code = k.0 }) (filter (λ (k : ℕ × Check). k.1 z r.owner) checks) none)
+    among_sort name_order r.owner (distinct same names) (among_distinct
+    name_order name_order_total same name_tie Lower one_lower r.owner names lower listed) in
+    let none : faults_at z r.owner ≡ [] =
+    flat_nothing (faults_at z) (checked_names z) r.owner passes checked in
+    filter_nothing (λ (k : ℕ × Check). k.1 z r.owner) checks
+    (map_nothing (λ (k : ℕ × Check). record { owner = r.owner; code = k.0 })
+    (filter (λ (k : ℕ × Check). k.1 z r.owner) checks) none)
   where
-    all_low : (rs : List ResourceRecord) → Each (λ (s : ResourceRecord). folded s.owner ≡ s.owner) rs → Each Lower (map (λ (s : ResourceRecord). folded s.owner) rs)
+    all_low : (rs : List ResourceRecord) → Each (λ (s : ResourceRecord). folded s.owner ≡ s.owner)
+        rs → Each Lower (map (λ (s : ResourceRecord). folded s.owner) rs)
     all_low [] e = tt
     all_low (s ∷ rs) e = (ap folded e.0, all_low rs e.1)
 
-sort_short : {X : Type 0} (cmp : X → X → Ordering) (xs : List X) → length xs ≤ 1 → sort_by cmp xs ≡ xs
+sort_short : {X : Type 0} (cmp : X → X → Ordering) (xs : List X)
+    → length xs ≤ 1 → sort_by cmp xs ≡ xs
 sort_short cmp [] h = refl
 sort_short cmp (x ∷ []) h = refl
 sort_short cmp (x ∷ y ∷ xs) h = absurd (omega arith)
 
 -- the SOA at the origin of a zone that passes is the only one
-pub few_soa : (z : ZoneContents) → folded z.origin ≡ z.origin → Passes z → length (filter (λ (r : ResourceRecord). r.rtype == type_soa) (at z z.origin)) ≤ 1
+pub few_soa : (z : ZoneContents) → folded z.origin ≡ z.origin
+    → Passes z → length (filter (λ (r : ResourceRecord). r.rtype == type_soa) (at z z.origin)) ≤ 1
 few_soa z low passes = grind (arith, common_steps, checks_of_origin, names_equal-decides, ltb-false)
 
 -- so no order is asked of it
-pub one_soa : (z : ZoneContents) → folded z.origin ≡ z.origin → Passes z → rrset z z.origin type_soa ≡ filter (λ (r : ResourceRecord). r.rtype == type_soa) (at z z.origin)
+pub one_soa : (z : ZoneContents) → folded z.origin ≡ z.origin → Passes z → rrset z z.origin type_soa
+    ≡ filter (λ (r : ResourceRecord). r.rtype == type_soa) (at z z.origin)
 one_soa z low passes = grind (arith, sort_short, few_soa)

@@ -12,10 +12,9 @@ ttl_known o n h h1 = grind arith
 -- a record is one but for how many there are
 pub record_but_count : (o : DomainName) (earlier : List Entry) (code : FileFault)
     (Owner : DomainName → Type 0) (f : Fields) (r : ResourceRecord) (answer : EntryMeaning)
-    → IsRecord o earlier Owner f r → is_other_class f.class ≡ false
-    → Lowest ((too_many_records, IsTrue (are_too_many earlier)) ∷ [])
-    (λ a. (s : ResourceRecord) × IsRecord o earlier Owner f s × (a ≡ gives (s ∷ []))) answer
-    → RecordGives o earlier code Owner f answer
+    → IsRecord o earlier Owner f r → is_other_class f.class ≡ false → Lowest
+    ((too_many_records, IsTrue (are_too_many earlier)) ∷ []) (λ a. (s : ResourceRecord) × IsRecord
+    o earlier Owner f s × (a ≡ gives (s ∷ []))) answer → RecordGives o earlier code Owner f answer
 record_but_count o earlier code Owner f r answer h class rest =
     inr (
       λ none. none h.owner.0 h.owner.1,

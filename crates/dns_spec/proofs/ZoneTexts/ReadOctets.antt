@@ -1,6 +1,5 @@
 -- What the words of a text spell are octets below 256, where the origin's are.
-use Rattle.std.proofs.Common.{◌≡◌, ℕ, ◌+◌, ◌*◌, ◌<◌, inl, inr, Bool, true, false, cond, ◌&&◌, nat_lt, Option, Some, None, List, [], ◌∷◌, ◌++◌, map, length, refl, sym, subst, arith, flat_map}
-use Rattle.dns_spec.proofs.Common.{agree_below_at, and_parts, ltb-true, length-map, none-some, same_Some, MatchOption, option_map, list_all, is_ascii_hexdigit, digit_value, to_ascii_lowercase, bytes_high_first, Octets, DomainName, wire, is_label, folded, SpellsOctet, LabelThen, TextSpells, SpellsName, Part, part_octets, joined, part_folded, SaysIpv6, ipv6_groups, Word, SpellsString, WordForm, SaysForms, forms_of, SaysTyped, hex_octets, SaysUnknown, Says}
+use Rattle.dns_spec.proofs.Common.{◌≡◌, ℕ, ◌+◌, ◌*◌, ◌<◌, inl, inr, Bool, true, false, cond, ◌&&◌, nat_lt, Option, Some, None, List, [], ◌∷◌, ◌++◌, map, length, refl, sym, subst, arith, flat_map, agree_below_at, and_parts, ltb-true, length-map, none-some, same_Some, MatchOption, option_map, list_all, is_ascii_hexdigit, digit_value, to_ascii_lowercase, bytes_high_first, Octets, DomainName, wire, is_label, folded, SpellsOctet, LabelThen, TextSpells, SpellsName, Part, part_octets, joined, part_folded, SaysIpv6, ipv6_groups, Word, SpellsString, WordForm, SaysForms, forms_of, SaysTyped, hex_octets, SaysUnknown, Says}
 use Rattle.dns_spec.proofs.Records.SortedOnce.{Each}
 use Rattle.dns_spec.proofs.DataWords.NumberAgain.{bytes_below}
 use Rattle.dns_spec.proofs.DataWords.BareWords.{follows}
@@ -32,21 +31,24 @@ each_back (o ∷ x) y small = each_back x y small.1
 octet_small : (text : Octets) (x : ℕ) → SpellsOctet text x → Each Octet text → Octet x
 octet_small text x h h1 = grind arith
 
-label_small : (text l rest : Octets) → LabelThen text l rest → Each Octet text → Each Octet l × Each Octet rest
+label_small : (text l rest : Octets)
+    → LabelThen text l rest → Each Octet text → Each Octet l × Each Octet rest
 label_small text [] rest h small = (tt, subst (Each Octet) h small)
 label_small text (x ∷ l) rest (first, others, cut, spelled, h) small =
     let both : Each Octet (first ++ others) = subst (Each Octet) cut small in
     let after = label_small others l rest h (each_back first others both) in
     ((octet_small first x spelled (each_front first others both), after.0), after.1)
 
-labels_small : (origin : DomainName) (text : Octets) (n : DomainName) → SmallName origin → TextSpells origin text n → Each Octet text → SmallName n
+labels_small : (origin : DomainName) (text : Octets) (n : DomainName)
+    → SmallName origin → TextSpells origin text n → Each Octet text → SmallName n
 labels_small origin text [] from h small = tt
 labels_small origin text (l ∷ n) from (inl (last, is)) small = grind (arith, label_small)
 labels_small origin text (l ∷ n) from (inr (others, first, h)) small =
     let both = label_small text l (46 ∷ others) first small in
     (both.0, labels_small origin others n from h both.1.1)
 
-pub name_small : (origin : DomainName) (text : Octets) (n : DomainName) → SmallName origin → Each Octet text → SpellsName origin text n → SmallName n
+pub name_small : (origin : DomainName) (text : Octets) (n : DomainName)
+    → SmallName origin → Each Octet text → SpellsName origin text n → SmallName n
 name_small origin text n from small h = grind (arith, inl, inr, labels_small)
 
 label_folded_small : (l : Octets) → Each Octet l → Each Octet (map to_ascii_lowercase l)
@@ -71,7 +73,8 @@ string_small text (x ∷ s) (first, others, cut, spelled, h) small =
 
 tested_small : (d : Octets) → list_all (λ x. nat_lt x 256) d ≡ true → Each Octet d
 tested_small [] ok = tt
-tested_small (o ∷ d) ok = let both = and_parts (nat_lt o 256) (list_all (λ x. nat_lt x 256) d) ok in (ltb-true o 256 both.0, tested_small d both.1)
+tested_small (o ∷ d) ok = let both = and_parts (nat_lt o 256) (list_all (λ x. nat_lt x 256) d) ok in
+    (ltb-true o 256 both.0, tested_small d both.1)
 
 groups_small : (gs : List ℕ) → Each Octet (flat_map (bytes_high_first 2) gs)
 groups_small [] = tt
@@ -80,11 +83,14 @@ groups_small (g ∷ gs) = grind (arith, (groups_small gs))
 ipv6_small : (text d : Octets) → SaysIpv6 text d → Each Octet d
 ipv6_small text d said = go (ipv6_groups text) said
   where
-    go : (gs : Option (List ℕ)) → option_map (flat_map (bytes_high_first 2)) gs ≡ Some d → Each Octet d
+    go : (gs : Option (List ℕ))
+        → option_map (flat_map (bytes_high_first 2)) gs ≡ Some d → Each Octet d
     go None e = absurd (none-some d e)
-    go (Some gs) e = subst (Each Octet) (same_Some (flat_map (bytes_high_first 2) gs) d e) (groups_small gs)
+    go (Some gs) e =
+        subst (Each Octet) (same_Some (flat_map (bytes_high_first 2) gs) d e) (groups_small gs)
 
-forms_small : (fs : List WordForm) (origin : DomainName) (ws : List Word) (d : Octets) → SmallName origin → Each SmallWord ws → SaysForms fs origin ws d → Each Octet d
+forms_small : (fs : List WordForm) (origin : DomainName) (ws : List Word) (d : Octets)
+    → SmallName origin → Each SmallWord ws → SaysForms fs origin ws d → Each Octet d
 forms_small [] origin [] d from small h = subst (Each Octet) (sym h) tt
 forms_small [] origin (w ∷ ws) d from small h = absurd h
 forms_small (f ∷ fs) origin [] d from small h = absurd h
@@ -102,10 +108,12 @@ forms_small (f ∷ fs) origin (w ∷ ws) d from small (front, back, is, said, h)
       (forms_small fs origin ws back from small.1 h),
     )
 
-typed_small : (t : ℕ) (origin : DomainName) (ws : List Word) (d : Octets) → SmallName origin → Each SmallWord ws → SaysTyped t origin ws d → Each Octet d
+typed_small : (t : ℕ) (origin : DomainName) (ws : List Word) (d : Octets)
+    → SmallName origin → Each SmallWord ws → SaysTyped t origin ws d → Each Octet d
 typed_small t origin ws d from small said = go (forms_of t (length ws)) said
   where
-    go : (forms : Option (List WordForm)) → MatchOption forms ⊥ (λ fs. SaysForms fs origin ws d) → Each Octet d
+    go : (forms : Option (List WordForm))
+        → MatchOption forms ⊥ (λ fs. SaysForms fs origin ws d) → Each Octet d
     go None none = absurd none
     go (Some fs) h = forms_small fs origin ws d from small h
 
@@ -116,11 +124,12 @@ hex_small : (text d : Octets) → Each Octet text → hex_octets text ≡ Some d
 unfolding hex_octets
 hex_small [] d small e = subst (Each Octet) (same_Some [] d e) tt
 hex_small (h ∷ []) d small e = absurd (none-some d e)
-hex_small (h ∷ l ∷ text) d small e = go (is_ascii_hexdigit h && is_ascii_hexdigit l) refl (hex_octets text) refl e (λ y r. hex_small text y small.1.1 r)
+hex_small (h ∷ l ∷ text) d small e = go (is_ascii_hexdigit h && is_ascii_hexdigit l) refl
+    (hex_octets text) refl e (λ y r. hex_small text y small.1.1 r)
   where
-    go : (t : Bool) → (is_ascii_hexdigit h && is_ascii_hexdigit l) ≡ t → (x : Option Octets) → hex_octets text ≡ x
-        → cond t (option_map (λ y. (16 * digit_value h + digit_value l) ∷ y) x) None ≡ Some d
-        → ((y : Octets) → hex_octets text ≡ Some y → Each Octet y) → Each Octet d
+    go : (t : Bool) → (is_ascii_hexdigit h && is_ascii_hexdigit l) ≡ t → (x : Option Octets)
+        → hex_octets text ≡ x → cond t (option_map (λ y. (16 * digit_value h + digit_value l) ∷ y)
+        x) None ≡ Some d → ((y : Octets) → hex_octets text ≡ Some y → Each Octet y) → Each Octet d
     go false q x r e rest = absurd (none-some d e)
     go true q None r e rest = absurd (none-some d e)
     go true q (Some y) r e rest = grind (arith, and_parts, hex_value_small, same_Some)
@@ -138,12 +147,14 @@ wire_folded_small (l ∷ n) small =
     let rest = wire_folded_small n (each_back l (wire n) small.1) in
     grind (arith, length-map, each_append, label_folded_small, each_front, rest)
 
-parts_folded_small : (xs : List Part) → Each Octet (joined xs) → Each Octet (joined (map part_folded xs))
+parts_folded_small : (xs : List Part)
+    → Each Octet (joined xs) → Each Octet (joined (map part_folded xs))
 parts_folded_small [] small = tt
 parts_folded_small (x ∷ xs) small =
     let rest = parts_folded_small xs (each_back (part_octets x) (joined xs) small) in
     grind (arith, each_append, wire_folded_small, each_front, rest)
 
-pub data_small : (t : ℕ) (origin : DomainName) (ws : List Word) (d : Octets) → SmallName origin → Each SmallWord ws → Says t ws origin d → Each Octet d
+pub data_small : (t : ℕ) (origin : DomainName) (ws : List Word) (d : Octets)
+    → SmallName origin → Each SmallWord ws → Says t ws origin d → Each Octet d
 data_small t origin ws d from small h =
     grind (arith, typed_small, unknown_small, parts_folded_small, joined-parts)

@@ -7,20 +7,24 @@ use Rattle.dns_spec.proofs.DataWords.StandingWords.{TakenWhole}
 abbrev begins_word : ℕ → Bool
 begins_word o = o == 92 || is_word_octet o
 
-word_reached : (o : ℕ) (text : Octets) → begins_word o ≡ true → token_front (o ∷ text) ≡ unquoted_front (o ∷ text)
+word_reached : (o : ℕ) (text : Octets)
+    → begins_word o ≡ true → token_front (o ∷ text) ≡ unquoted_front (o ∷ text)
 word_reached o text begins = grind arith
 
-pub front_taken : (n : ℕ) (text : Octets) → word_length text ≡ suc n → unquoted_front text ≡ Some (word (take (suc n) text), drop (suc n) text)
+pub front_taken : (n : ℕ) (text : Octets) → word_length text ≡ suc n
+    → unquoted_front text ≡ Some (word (take (suc n) text), drop (suc n) text)
 front_taken n text e = grind (arith, false_from_ne_true, eqb-true)
 
 -- the token of a word
 abbrev pub word_token : Word → Token
 word_token w = if w.is_quoted then quoted_string w.raw else word w.raw
 
-first_begins : (o : ℕ) (raw : Octets) → is_unbroken is_word_octet (o ∷ raw) ≡ true → begins_word o ≡ true
+first_begins : (o : ℕ) (raw : Octets)
+    → is_unbroken is_word_octet (o ∷ raw) ≡ true → begins_word o ≡ true
 first_begins o raw h = grind arith
 
-bare_read : (raw : Octets) (c : ℕ) (rest : Octets) → nat_lt 0 (length raw) ≡ true → is_unbroken is_word_octet raw ≡ true → Runs is_word_octet raw
+bare_read : (raw : Octets) (c : ℕ) (rest : Octets)
+    → nat_lt 0 (length raw) ≡ true → is_unbroken is_word_octet raw ≡ true → Runs is_word_octet raw
     → word_length (c ∷ rest) ≡ 0 → token_front (raw ++ c ∷ rest) ≡ Some (word raw, c ∷ rest)
 bare_read [] c rest some unbroken whole ends = absurd (false≢true some)
 bare_read (o ∷ raw) c rest some unbroken whole ends =
@@ -31,21 +35,25 @@ bare_read (o ∷ raw) c rest some unbroken whole ends =
     ∙ ap (λ x. Some (word x, drop (length (o ∷ raw)) text)) (take-append_seam (o ∷ raw) (c ∷ rest))
     ∙ ap (λ x. Some (word (o ∷ raw), x)) (drop-append_seam (o ∷ raw) (c ∷ rest))
 
-string_read : (raw rest : Octets) → Runs is_string_octet raw → token_front (34 ∷ (raw ++ 34 ∷ rest)) ≡ Some (quoted_string raw, rest)
+string_read : (raw rest : Octets) → Runs is_string_octet raw
+    → token_front (34 ∷ (raw ++ 34 ∷ rest)) ≡ Some (quoted_string raw, rest)
 unfolding run_length
 string_read raw rest whole = grind (arith, common_steps, take-append_seam, drop-append_seam)
 
 -- the octet c ends a word
-pub word_read : (w : Word) (c : ℕ) (rest : Octets) → stands_alone w ≡ true → TakenWhole w → word_length (c ∷ rest) ≡ 0
+pub word_read : (w : Word) (c : ℕ) (rest : Octets)
+    → stands_alone w ≡ true → TakenWhole w → word_length (c ∷ rest) ≡ 0
     → token_front (word_text w ++ c ∷ rest) ≡ Some (word_token w, c ∷ rest)
 word_read w c rest alone whole ends = grind (arith, append_assoc, string_read, and_parts, bare_read)
 
 -- a word begins with no blank
-pub no_blank : (w : Word) (rest : Octets) → stands_alone w ≡ true → prefix_len is_blank (word_text w ++ rest) ≡ 0
+pub no_blank : (w : Word) (rest : Octets)
+    → stands_alone w ≡ true → prefix_len is_blank (word_text w ++ rest) ≡ 0
 no_blank w rest alone = grind (arith, eqb-true)
 
 -- a space, and something after it that is none
-pub blank_read : (text : Octets) → prefix_len is_blank text ≡ 0 → token_front (32 ∷ text) ≡ Some (blank, text)
+pub blank_read : (text : Octets)
+    → prefix_len is_blank text ≡ 0 → token_front (32 ∷ text) ≡ Some (blank, text)
 blank_read text none = ap (λ k. Some (blank, drop k text)) none
 
 pub space_ends : (rest : Octets) → word_length (32 ∷ rest) ≡ 0

@@ -1,6 +1,5 @@
 -- Every text is made of tokens, up to a place where none begins.
-use Rattle.dns_spec.proofs.Common.{◌≡◌, ℕ, zero, suc, ◌<◌, List, [], ◌∷◌, length, drop, take, refl, sym, subst, arith, Option, Some, None, ◌==◌, ⊤, if◌then◌else◌, MatchOption, Octets, Token, word, closed, token_front, TokensThen}
-use Rattle.std.proofs.lemmas.List.{length-drop}
+use Rattle.dns_spec.proofs.Common.{◌≡◌, ℕ, zero, suc, ◌<◌, List, [], ◌∷◌, length, drop, take, refl, sym, subst, arith, Option, Some, None, ◌==◌, ⊤, if◌then◌else◌, MatchOption, Octets, Token, word, closed, token_front, TokensThen, length-drop}
 
 -- what comes after the token is shorter than so many octets
 Shorter : ℕ → Option (Token × Octets) → Type 0
@@ -10,8 +9,8 @@ closed-shorter : (n : ℕ) (raw text : Octets) → length text < n → Shorter n
 unfolding Shorter
 closed-shorter n raw text h = grind arith
 
-word-shorter : (k : ℕ) (o : ℕ) (text : Octets)
-    → Shorter (length (o ∷ text)) (if k == 0 then None else Some (word (take k (o ∷ text)), drop k (o ∷ text)))
+word-shorter : (k : ℕ) (o : ℕ) (text : Octets) → Shorter (length (o ∷ text))
+    (if k == 0 then None else Some (word (take k (o ∷ text)), drop k (o ∷ text)))
 unfolding Shorter
 word-shorter k o text = grind (arith, length-drop)
 
@@ -20,7 +19,8 @@ unfolding Shorter
 shorter text = grind (arith, length-drop, closed-shorter)
 
 -- a token has an octet or more
-pub front-shorter : (text : Octets) (p : Token) (others : Octets) → token_front text ≡ Some (p, others) → length others < length text
+pub front-shorter : (text : Octets) (p : Token) (others : Octets)
+    → token_front text ≡ Some (p, others) → length others < length text
 unfolding Shorter
 front-shorter text p others e = subst (Shorter (length text)) e (shorter text)
 
@@ -36,12 +36,18 @@ with_front : (text : Octets) (front : Option (Token × Octets)) → front ≡ to
 with_front text None e more = record { tokens = []; rest = text; spelled = refl; at_end = sym e }
 with_front text (Some r) e more =
     let after = more r.1 (front-shorter text r.0 r.1 (sym e)) in
-    record { tokens = r.0 ∷ after.tokens; rest = after.rest; spelled = (r.1, sym e, after.spelled); at_end = after.at_end }
+    record {
+      tokens = r.0 ∷ after.tokens;
+      rest = after.rest;
+      spelled = (r.1, sym e, after.spelled);
+      at_end = after.at_end;
+    }
 
 tokens-within : (n : ℕ) (text : Octets) → length text < n → HasTokens text
 tokens-within zero text h = absurd (omega (arith, h))
 tokens-within (suc n) text h =
-    with_front text (token_front text) refl (λ others less. tokens-within n others (omega (arith, less, h)))
+    with_front text
+    (token_front text) refl (λ others less. tokens-within n others (omega (arith, less, h)))
 
 pub has_tokens : (text : Octets) → HasTokens text
 has_tokens text = tokens-within (suc (length text)) text (omega arith)

@@ -1,14 +1,12 @@
-use Rattle.dns_spec.proofs.Common.{false, sym, ap, ◌∙◌, exists}
-use Rattle.dns_zone.specs.Nodes.{ZoneNode}
-use Rattle.dns_answer.specs.Targets.{addresses_of}
+use Rattle.dns_answer.proofs.Common.{false, sym, ap, ◌∙◌, exists, ZoneNode, addresses_of}
 use Rattle.dns_answer.proofs.Offering.{Offers-is, Offers-empty, Offers-then}
 use Rattle.dns_answer.proofs.TargetLaws.{none-outside, none-missing, addresses-folded}
 use Rattle.dns_answer.proofs.addresses.offer_address.Goals as goal
 
 pub returns-in_default-clause-offers : goal.returns-in_default-clause-offers
 returns-in_default-clause-offers g c =
-    Offers-empty _ (none-outside c.args.steps.now.zone c.args.target.now c.requires.apex.exists.built
-    (c.in_default.ensures.aimed c.args.steps.now.zone false
+    Offers-empty _ (none-outside c.args.steps.now.zone c.args.target.now
+    c.requires.apex.exists.built (c.in_default.ensures.aimed c.args.steps.now.zone false
     (sym (c.lent.ensures.value ∙ c.origin.ensures.value)) c.requires.lead))
 
 pub returns-in-Encloser-clause-offers : goal.returns-in-Encloser-clause-offers

@@ -1,7 +1,4 @@
-use Rattle.std.proofs.Common.{rules, inr, ◌≡◌, List, take, take_all, ◌<◌, length, ◌&&◌, sym, ap, ap₂, ◌∙◌, subst, arith}
-use Rattle.dns_spec.proofs.Common.{ZoneContents, target, filter_map, list_all, Octets}
-use Rattle.dns_answer.specs.Walks.{Took}
-use Rattle.dns_answer.specs.Targets.{target_at, target_nodes, target_misses, side_takes}
+use Rattle.dns_answer.proofs.Common.{rules, inr, ◌≡◌, List, take, take_all, ◌<◌, length, ◌&&◌, sym, ap, ap₂, ◌∙◌, subst, arith, ZoneContents, target, filter_map, list_all, Octets, Took, target_at, target_nodes, target_misses, side_takes}
 use Rattle.dns_answer.proofs.Taking.{Took-none, Took-then, Took-within}
 use Rattle.dns_answer.proofs.Offering.{Offers-is, Offers-empty, Offers-then}
 use Rattle.dns_answer.proofs.TargetLaws.{side_items-none, side_items-more, Took-more, Took-rest, Offers-rest, all-more}

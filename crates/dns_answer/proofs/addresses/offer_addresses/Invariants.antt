@@ -1,8 +1,4 @@
-use Rattle.std.proofs.Common.{◌≡◌, ◌*◌, [], length}
-use Rattle.std.specs.List.{filter, list_all}
-use Rattle.dns_answer.specs.DraftForm.{Offers}
-use Rattle.dns_answer.specs.Walks.{Took}
-use Rattle.dns_answer.specs.Targets.{targets_of_first, side_items, side_nodes, side_takes}
+use Rattle.dns_answer.proofs.Common.{◌≡◌, ◌*◌, [], length, filter, list_all, Offers, Took, targets_of_first, side_items, side_nodes, side_takes}
 use Rattle.dns_answer.proofs.addresses.offer_addresses.Given as goal
 
 -- what was offered and taken for the first targets, and whether they are meant
@@ -12,7 +8,8 @@ invariant-targets g l =
     let p = side_takes l.side in
     record {
       offers : Offers l.fn.draft l.draft (side_items z p [] (targets_of_first l.i l.set));
-      took : Took l.fn.steps l.steps (side_nodes z p (targets_of_first l.i l.set)) (length (filter p (targets_of_first l.i l.set)));
+      took : Took l.fn.steps l.steps (side_nodes z p (targets_of_first l.i l.set))
+          (length (filter p (targets_of_first l.i l.set)));
       bound : Took l.fn.steps l.steps (127 * l.i) l.i;
       all : l.all ≡ list_all p (targets_of_first l.i l.set);
     }

@@ -1,6 +1,4 @@
-use Rattle.std.proofs.Common.{rules, sym, ap, ◌∙◌}
-use Rattle.dns_spec.proofs.DomainNames.NameLaws.{length-is_name}
-use Rattle.dns_answer.specs.Targets.{target_items, targets_of_first, side_takes}
+use Rattle.dns_answer.proofs.Common.{rules, sym, ap, ◌∙◌, length-is_name, target_items, targets_of_first, side_takes}
 use Rattle.dns_answer.proofs.Taking.{Took-within}
 use Rattle.dns_answer.proofs.Offering.{Offers-empty}
 use Rattle.dns_answer.proofs.TargetLaws.{items-untaken, items-stood, depth-few}

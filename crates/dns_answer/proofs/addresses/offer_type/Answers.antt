@@ -1,4 +1,4 @@
-use Rattle.dns_spec.proofs.Common.{sym, additional}
+use Rattle.dns_answer.proofs.Common.{sym, additional}
 use Rattle.dns_answer.proofs.Offering.{Offers-empty}
 use Rattle.dns_answer.proofs.TargetLaws.{item-none}
 use Rattle.dns_answer.proofs.addresses.offer_type.Goals as goal

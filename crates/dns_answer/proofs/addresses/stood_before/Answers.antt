@@ -1,4 +1,4 @@
-use Rattle.std.proofs.Common.{rules}
+use Rattle.dns_answer.proofs.Common.{rules}
 use Rattle.dns_answer.proofs.TargetLaws.{any-more, stood-some, same-lower}
 use Rattle.dns_answer.proofs.addresses.stood_before.Goals as goal
 

@@ -1,5 +1,4 @@
-use Rattle.dns_spec.proofs.Common.{◌≡◌, false, list_any, same}
-use Rattle.dns_answer.specs.Targets.{targets_of_first}
+use Rattle.dns_answer.proofs.Common.{◌≡◌, false, list_any, same, targets_of_first}
 use Rattle.dns_answer.proofs.addresses.stood_before.Given as goal
 
 abbrev pub invariant-earlier : goal.invariant-earlier

@@ -1,4 +1,4 @@
-use Rattle.dns_spec.proofs.Common.{rules, sym}
+use Rattle.dns_answer.proofs.Common.{rules, sym}
 use Rattle.dns_answer.proofs.SeekSteps.{among-is}
 use Rattle.dns_answer.proofs.chain.is_among.Goals as goal
 

@@ -1,4 +1,4 @@
-use Rattle.std.proofs.Common.{rules}
+use Rattle.dns_answer.proofs.Common.{rules}
 use Rattle.dns_answer.proofs.SeekSteps.{names-count, unsought-is}
 use Rattle.dns_answer.proofs.chain.next_sought.Goals as goal
 

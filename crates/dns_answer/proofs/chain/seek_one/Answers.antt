@@ -1,9 +1,4 @@
-use Rattle.dns_spec.proofs.Common.{◌≡◌, ◌<◌, length, [], ◌∷◌, true, refl, sym, ap, ◌∙◌, subst, arith, false≢true, ZoneContents, most_aliases, positive, referral_to, type_cname}
-use Rattle.dns_zone.specs.Nodes.{ZoneNode}
-use Rattle.dns_answer.specs.Chain.{chain_rest}
-use Rattle.dns_answer.specs.Ending.{Says, TookRest, ending, asked_item}
-use Rattle.dns_answer.specs.Walks.{AreRecords}
-use Rattle.dns_answer.specs.Seeking.{names_of, aliases_left}
+use Rattle.dns_answer.proofs.Common.{◌≡◌, ◌<◌, length, [], ◌∷◌, true, refl, sym, ap, ◌∙◌, subst, arith, false≢true, ZoneContents, most_aliases, positive, referral_to, type_cname, ZoneNode, chain_rest, Says, TookRest, ending, asked_item, AreRecords, names_of, aliases_left}
 use Rattle.dns_answer.proofs.Taking.{Took-none}
 use Rattle.dns_answer.proofs.WaySteps.{leads-to}
 use Rattle.dns_answer.proofs.Offering.{Offers-nothing}
@@ -22,7 +17,8 @@ returns-in-Cut g c =
           (subst (λ y. TookRest c.look_up.new.steps c.refer.new.steps
           (ending y (referral_to y name))) zone c.refer.ensures.took)
           (Offers-nothing _) (rw zone at c.refer.ensures.ends);
-      own = λ r. sym (no-alias_cut c.args.steps.now.zone c.args.qtype c.args.sought.now.name name cut);
+      own = λ r. sym
+          (no-alias_cut c.args.steps.now.zone c.args.qtype c.args.sought.now.name name cut);
     }
 
 pub returns-in-Nothing : goal.returns-in-Nothing

@@ -1,4 +1,4 @@
-use Rattle.std.proofs.Common.{arith, sym, ap, length}
+use Rattle.dns_answer.proofs.Common.{arith, sym, ap, length}
 use Rattle.dns_answer.proofs.chain.seek_targets.Goals as goal
 
 pub returns-in-Last : goal.returns-in-Last

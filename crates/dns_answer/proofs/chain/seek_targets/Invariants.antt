@@ -1,5 +1,4 @@
-use Rattle.dns_spec.proofs.Common.{◌≤◌, [], ◌∷◌, length, most_aliases}
-use Rattle.dns_answer.specs.Seeking.{Completes, MaySeek, names_of, aliases_left}
+use Rattle.dns_answer.proofs.Common.{◌≤◌, [], ◌∷◌, length, most_aliases, Completes, MaySeek, names_of, aliases_left}
 use Rattle.dns_answer.proofs.chain.seek_targets.Given as goal
 
 -- where the names sought so far have led

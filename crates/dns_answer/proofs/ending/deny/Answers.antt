@@ -1,6 +1,4 @@
-use Rattle.dns_spec.proofs.Common.{◌≡◌, ◌∷◌, [], sym, ap, ◌∙◌, min, soa_minimum, type_soa, ZoneContents, rrset, set_of, records_at, authority}
-use Rattle.dns_wire.specs.QueryForm.{code_of}
-use Rattle.dns_zone.specs.Nodes.{ZoneNode}
+use Rattle.dns_answer.proofs.Common.{◌≡◌, ◌∷◌, [], sym, ap, ◌∙◌, min, soa_minimum, type_soa, ZoneContents, rrset, set_of, records_at, authority, code_of, ZoneNode}
 use Rattle.dns_answer.proofs.Offering.{Offers-nothing}
 use Rattle.dns_answer.proofs.Endings.{Ends-denied, soa-item, soa-none}
 use Rattle.dns_answer.proofs.ending.deny.Goals as goal

@@ -1,8 +1,4 @@
-use Rattle.dns_spec.proofs.Common.{rules, true, false, [], sym, ap, subst, length, answer}
-use Rattle.std.specs.List.{filter}
-use Rattle.dns_answer.specs.Ending.{all_names, asked_item}
-use Rattle.dns_answer.specs.Targets.{side_items, side_nodes}
-use Rattle.dns_answer.specs.Walks.{Took}
+use Rattle.dns_answer.proofs.Common.{rules, true, false, [], sym, ap, subst, length, answer, filter, all_names, asked_item, side_items, side_nodes, Took}
 use Rattle.dns_answer.proofs.Offering.{Offers-is}
 use Rattle.dns_answer.proofs.Endings.{Ends-positive, Offers-none}
 use Rattle.dns_answer.proofs.EndingSets.{targets_of_set}

@@ -1,5 +1,4 @@
-use Rattle.dns_spec.proofs.Common.{refl, ap, ◌∙◌, false≢true, is_some, ZoneContents, rrset, type_ns, set_of}
-use Rattle.dns_answer.specs.Targets.{set_targets}
+use Rattle.dns_answer.proofs.Common.{refl, ap, ◌∙◌, false≢true, is_some, ZoneContents, rrset, type_ns, set_of, set_targets}
 use Rattle.dns_answer.proofs.Endings.{Ends-referred, cut-has_servers, Offers-others, Took-referred}
 use Rattle.dns_answer.proofs.Taking.{Took-none}
 use Rattle.dns_answer.proofs.ending.refer.Goals as goal

@@ -1,12 +1,11 @@
-use Rattle.dns_spec.proofs.Common.{rules, is_some, ◌+◌, ◌≡◌, true, ◌-◌, refl, ◌∙◌, arith, false≢true}
-use Rattle.dns_name.proofs.WireLemmas.{IsWireForm-wire, labels_of_spelled}
-use Rattle.dns_answer.specs.Walks.{ends_at_cuts, one_if}
+use Rattle.dns_answer.proofs.Common.{rules, is_some, ◌+◌, ◌≡◌, true, ◌-◌, refl, ◌∙◌, arith, false≢true, IsWireForm-wire, labels_of_spelled, ends_at_cuts, one_if}
 use Rattle.dns_answer.proofs.WaySteps.{missing-child, cut-at_child, there-at_child}
 use Rattle.dns_answer.proofs.LongWays.{cut-whole, missing-whole, aim-deep, there-above, under-origin, label-before}
 use Rattle.dns_answer.proofs.lookup.walk.Goals as goal
 
 pub put_starts-requires-clause-form : goal.put_starts-requires-clause-form
-put_starts-requires-clause-form c = IsWireForm-wire _ _ c.octets-octets.ensures.value c.octets-octets.ensures.is_name
+put_starts-requires-clause-form c =
+    IsWireForm-wire _ _ c.octets-octets.ensures.value c.octets-octets.ensures.is_name
 
 pub put_starts-requires-clause-labels : goal.put_starts-requires-clause-labels
 put_starts-requires-clause-labels c = search (rules, labels_of_spelled)
@@ -16,7 +15,8 @@ labels-init c =
     let aim = c.requires.aim in
     let deep = aim-deep _ _ _ c.args.sought.now c.requires.apex c.args.lead aim in
     let node : c.match-lead.node ≡ c.args.lead = search rules in
-    let visits : c.match-lead.steps.visits ≡ c.args.steps.now.visits + one_if (is_some c.args.lead) = search rules in
+    let visits : c.match-lead.steps.visits
+    ≡ c.args.steps.now.visits + one_if (is_some c.args.lead) = search rules in
     record {
       there = rw node (there-above _ _ _ _ c.requires.apex c.args.lead aim);
       fewer = omega arith;
@@ -33,7 +33,8 @@ pub returns-in_default-clause-way : goal.returns-in_default-clause-way
 returns-in_default-clause-way c =
     let octets = c.octets-octets.ensures in
     let label = label-before _ _ _ c.labels.before
-    (labels_of_spelled _ _ octets.value octets.is_name) c.labels-test.true c.label_after-label.ensures in
+    (labels_of_spelled _ _ octets.value octets.is_name)
+    c.labels-test.true c.label_after-label.ensures in
     missing-whole _ _ _ (c.labels.before - 1) _ _ (rw label
     (missing-child _ _ _ _ _ _ _ c.labels.invariant.there c.or_apex.ensures
     (λ there. false≢true (c.in_default.ensures.child.1 there))))
@@ -43,7 +44,8 @@ returns-then-is_some-clause-way c =
     let inv = c.labels.invariant in
     let octets = c.octets-octets.ensures in
     let label = label-before _ _ _ c.labels.before
-    (labels_of_spelled _ _ octets.value octets.is_name) c.labels-test.true c.label_after-label.ensures in
+    (labels_of_spelled _ _ octets.value octets.is_name)
+    c.labels-test.true c.label_after-label.ensures in
     let ends : ends_at_cuts c.args.cuts ≡ true = search rules in (
       ends,
       cut-whole _ (c.labels.before - 1) _ _ (rw label (cut-at_child _ _ _ _ _ _ _ _ inv.there
@@ -57,7 +59,8 @@ labels-preserved c =
     let down = c.in-Some-down.ensures in
     let octets = c.octets-octets.ensures in
     let label = label-before _ _ _ c.labels.before
-    (labels_of_spelled _ _ octets.value octets.is_name) c.labels-test.true c.label_after-label.ensures in
+    (labels_of_spelled _ _ octets.value octets.is_name)
+    c.labels-test.true c.label_after-label.ensures in
     record {
       there = rw label (there-at_child _ _ _ _ _ _ _ _ inv.there
           (λ _. under-origin _ _ _ _ c.requires.apex c.args.lead c.requires.aim _ inv.fewer)

@@ -1,5 +1,4 @@
-use Rattle.std.proofs.Common.{◌≡◌, ◌+◌, ◌*◌, ◌≤◌, drop}
-use Rattle.dns_answer.specs.Walks.{IsThere, ends_at_cuts, labels_below}
+use Rattle.dns_answer.proofs.Common.{◌≡◌, ◌+◌, ◌*◌, ◌≤◌, drop, IsThere, ends_at_cuts, labels_below}
 use Rattle.dns_answer.proofs.lookup.walk.Given as goal
 
 -- the node is that of the name without its first labels, of which so many are left

@@ -1,12 +1,6 @@
-use Rattle.dns_spec.proofs.Common.{rules, ◌≡◌, true, sym, ap, subst, arith, is_name, ZoneContents, MessageQuestion, All-nil, folded}
-use Rattle.dns_zone.specs.Starts.{IsBelow}
-use Rattle.dns_zone.specs.declared.tree.sought.Sought.{Sought}
-use Rattle.dns_answer.specs.Draft.{empty_draft}
-use Rattle.dns_answer.specs.DraftForm.{Holds}
-use Rattle.dns_answer.specs.Walks.{IsApex}
+use Rattle.dns_answer.proofs.Common.{rules, ◌≡◌, true, sym, ap, subst, arith, is_name, ZoneContents, MessageQuestion, All-nil, folded, IsBelow, Sought, empty_draft, Holds, IsApex}
 use Rattle.dns_answer.proofs.PutReplies.{answers-found, answer-put, answer-costs}
 use Rattle.dns_answer.proofs.reply.put_answer.Goals as goal
-use Rattle.dns_answer.proofs.reply.put_answer.Goals.{then-verdict, else-verdict}
 
 pub seek-followed_alias-requires : goal.seek-followed_alias-requires
 seek-followed_alias-requires g c =
@@ -20,7 +14,10 @@ seek-followed_alias-requires g c =
           below = subst (λ (z : ZoneContents). IsBelow c.args.sought z.origin) (sym apex.zone)
               c.requires.below;
         };
-        lower = record { last = λ h. absurd (omega (arith, h)); others = All-nil (λ (s : Sought). folded s.name ≡ s.name) };
+        lower = record {
+          last = λ h. absurd (omega (arith, h));
+          others = All-nil (λ (s : Sought). folded s.name ≡ s.name);
+        };
         room = record { visits = omega arith; comparisons = omega arith };
       },
     )
@@ -50,4 +47,5 @@ returns-clause-costs g c =
     c.seek-followed_alias.new.steps name c.requires.asked
     (ap (λ (q : MessageQuestion). q.qtype) c.question.view_is)
     c.requires.visits c.requires.comparisons c.apex-apex.ensures.visits
-    c.apex-apex.ensures.comparisons c.apex-apex.ensures.zone c.seek-followed_alias.ensures.seeks.took
+    c.apex-apex.ensures.comparisons
+    c.apex-apex.ensures.zone c.seek-followed_alias.ensures.seeks.took

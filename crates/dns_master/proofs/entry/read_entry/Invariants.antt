@@ -1,5 +1,4 @@
-use Rattle.dns_spec.proofs.Common.{◌≡◌, ◌+◌, false, ◌≤◌, List, length, Word}
-use Rattle.dns_master.specs.WordsForm.{KeptAndCounted}
+use Rattle.dns_master.proofs.Common.{◌≡◌, ◌+◌, false, ◌≤◌, List, length, Word, KeptAndCounted}
 use Rattle.dns_master.proofs.EntryLoop.{EntrySoFar}
 use Rattle.dns_master.proofs.entry.read_entry.Given as goal
 

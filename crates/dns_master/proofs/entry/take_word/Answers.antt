@@ -1,4 +1,4 @@
-use Rattle.std.proofs.Common.{rules}
+use Rattle.dns_master.proofs.Common.{rules}
 use Rattle.dns_master.proofs.WordSteps.{passed-over, word-counted}
 use Rattle.dns_master.proofs.entry.take_word.Goals as goal
 

@@ -1,5 +1,4 @@
-use Rattle.std.proofs.Common.{◌≡◌, length}
-use Rattle.dns_master.specs.WordsForm.{words_in}
+use Rattle.dns_master.proofs.Common.{◌≡◌, length, words_in}
 use Rattle.dns_master.proofs.entry_words.first_word.Given as goal
 
 abbrev pub invariant-tokens : goal.invariant-tokens

@@ -1,4 +1,4 @@
-use Rattle.std.proofs.Common.{rules, refl}
+use Rattle.dns_master.proofs.Common.{rules, refl}
 use Rattle.dns_master.proofs.fields.stated_ttl.Goals as goal
 
 pub returns-in_ok-ok_or-in-Some : goal.returns-in_ok-ok_or-in-Some

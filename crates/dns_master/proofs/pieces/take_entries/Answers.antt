@@ -1,4 +1,4 @@
-use Rattle.std.proofs.Common.{rules, ◌≤◌, length, arith}
+use Rattle.dns_master.proofs.Common.{rules, ◌≤◌, length, arith}
 use Rattle.dns_master.proofs.PieceSteps.{nothing-gathered, more-gathered, faulty-after, counted-more}
 use Rattle.dns_master.proofs.Refusals.{OfEntry-map, entry-told}
 use Rattle.dns_master.proofs.pieces.take_entries.Goals as goal
@@ -9,18 +9,23 @@ entries-init g c = search (rules, nothing-gathered)
 pub returns-in-Err-clause-err : goal.returns-in-Err-clause-err
 returns-in-Err-clause-err g c =
     OfEntry-map c.entry_fault.result
-    (faulty-after c.args.goes_on c.args.reader.now c.entries.reader c.args.text.now c.entries.rest.now (g.G.Gathers.gathered c.args.found.now) (g.G.Gathers.gathered c.entries.found)
-    c.entries.invariant.gathered) (entry-told c.in-Err.code c.entries.reader.line c.entry_fault.result _ c.entry_fault.ensures c.in-Err.ensures.err)
+    (faulty-after c.args.goes_on c.args.reader.now c.entries.reader c.args.text.now
+    c.entries.rest.now (g.G.Gathers.gathered c.args.found.now) (g.G.Gathers.gathered
+    c.entries.found) c.entries.invariant.gathered) (entry-told c.in-Err.code
+    c.entries.reader.line c.entry_fault.result _ c.entry_fault.ensures c.in-Err.ensures.err)
 
 pub entries-preserved : goal.entries-preserved
 entries-preserved g c =
     let next = rw c.in-Ok-Some.field-0-is at c.in-Ok-Some.ensures.ok in
     let less : length c.entries.rest.now ≤ length c.args.text.now = c.entries.invariant.short in
     record {
-      gathered = more-gathered c.args.goes_on c.args.reader.now c.entries.reader c.args.text.now c.entries.rest.now (g.G.Gathers.gathered c.args.found.now)
-          (g.G.Gathers.gathered c.entries.found) c.entries.invariant.gathered c.take_entry.new.self c.in-Ok-Some.taken.1.now _ (g.G.Gathers.gathered c.add_taken.new.found) next.taken
+      gathered = more-gathered c.args.goes_on c.args.reader.now c.entries.reader
+          c.args.text.now c.entries.rest.now (g.G.Gathers.gathered c.args.found.now)
+          (g.G.Gathers.gathered c.entries.found) c.entries.invariant.gathered c.take_entry.new.self
+          c.in-Ok-Some.taken.1.now _ (g.G.Gathers.gathered c.add_taken.new.found) next.taken
           c.in_ok-add_taken.ensures.ok;
-      count = counted-more c.entries.reader.count c.take_entry.new.self.count (g.G.Gathers.gathered c.entries.found) _ (g.G.Gathers.gathered c.add_taken.new.found)
+      count = counted-more c.entries.reader.count c.take_entry.new.self.count
+          (g.G.Gathers.gathered c.entries.found) _ (g.G.Gathers.gathered c.add_taken.new.found)
           c.entries.invariant.count next.counted c.in_ok-add_taken.ensures.ok;
       bound = omega (arith, next.lines, c.entries.invariant.bound);
       short = omega (arith, next.shorter, less);
@@ -28,4 +33,5 @@ entries-preserved g c =
     }
 
 pub entries-smaller : goal.entries-smaller
-entries-smaller g c = let next = rw c.in-Ok-Some.field-0-is at c.in-Ok-Some.ensures.ok in next.shorter
+entries-smaller g c =
+    let next = rw c.in-Ok-Some.field-0-is at c.in-Ok-Some.ensures.ok in next.shorter

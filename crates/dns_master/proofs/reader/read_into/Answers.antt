@@ -1,10 +1,4 @@
-use Rattle.std.proofs.Common.{rules, ◌≢◌, Option, Result, IfErr, None}
-use Rattle.dns_spec.proofs.Common.{Octets, DomainName, fault_at}
-use Rattle.dns_master.specs.Codes.{fault_of}
-use Rattle.dns_master.specs.SourceForm.{GivesMeaning, Decides}
-use Rattle.dns_master.specs.declared.fault.ReadFault.{ReadFault}
-use Rattle.dns_master.specs.declared.fault.ReadCode.TheVariants.{SourceFailed, NoMemory}
-use Rattle.dns_name.proofs.Results.{OnOk-map, IfErr-map, fault_handed_on}
+use Rattle.dns_master.proofs.Common.{rules, ◌≢◌, Option, Result, IfErr, None, Octets, DomainName, fault_at, fault_of, GivesMeaning, Decides, ReadFault, SourceFailed, NoMemory, OnOk-map, IfErr-map, fault_handed_on}
 use Rattle.dns_master.proofs.SourceSteps.{piece-given, fault-given, end-given, limit-given, end-records, limit-records, decided-gives}
 use Rattle.dns_master.proofs.reader.read_into.Goals as goal
 
@@ -47,10 +41,9 @@ returns-in-Ok-clause-decided g c =
 
 -- what is decided is what the source gives
 faults_given : {A : Type 0} (old new : Option Octets) (o : DomainName) (result : Result A ReadFault)
-    → IfErr result (λ f. f.code ≢ SourceFailed → f.code ≢ NoMemory
-    → Decides old new o (fault_at (fault_of f.code) f.line))
-    → IfErr result (λ f. f.code ≢ SourceFailed → f.code ≢ NoMemory
-    → GivesMeaning old o (fault_at (fault_of f.code) f.line))
+    → IfErr result (λ f. f.code ≢ SourceFailed → f.code ≢ NoMemory → Decides old new o
+    (fault_at (fault_of f.code) f.line)) → IfErr result (λ f. f.code ≢ SourceFailed
+    → f.code ≢ NoMemory → GivesMeaning old o (fault_at (fault_of f.code) f.line))
 faults_given old new o result = IfErr-map result (λ f h source memory.
     decided-gives old new o (fault_at (fault_of f.code) f.line) (h source memory))
 

@@ -1,12 +1,13 @@
-use Rattle.std.proofs.Common.{◌≡◌, ◌+◌, ◌≤◌, length}
+use Rattle.dns_master.proofs.Common.{◌≡◌, ◌+◌, ◌≤◌, length}
 use Rattle.dns_master.proofs.SourceSteps.{GivenSoFar}
 use Rattle.dns_master.proofs.reader.read_into.Given as goal
 
 -- what was given so far, and what the entries at its front say of the source
 abbrev pub invariant-pieces : goal.invariant-pieces
 invariant-pieces g l = record {
-  so_far : GivenSoFar (g.R.Read.remaining l.initial.source.device) (g.R.Read.remaining l.source.device) l.origin
-      l.begun.reader l.begun.held.items l.begun.left (g.G.Gathers.gathered l.found);
+  so_far : GivenSoFar (g.R.Read.remaining l.initial.source.device)
+      (g.R.Read.remaining l.source.device) l.origin l.begun.reader l.begun.held.items l.begun.left
+      (g.G.Gathers.gathered l.found);
   count : length (g.G.Gathers.gathered l.found) ≡ l.begun.reader.count;
   fits : l.begun.reader.line + length l.begun.held.items + l.begun.left ≤ 16777217;
   counted : l.source.failures ≡ l.initial.source.failures;

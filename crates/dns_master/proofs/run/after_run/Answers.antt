@@ -1,4 +1,4 @@
-use Rattle.dns_spec.proofs.Common.{rules}
+use Rattle.dns_master.proofs.Common.{rules}
 use Rattle.dns_master.proofs.RunLemmas.{blank-first, spaces-passed}
 use Rattle.dns_master.proofs.run.after_run.Goals as goal
 

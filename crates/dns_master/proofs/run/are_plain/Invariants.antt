@@ -1,4 +1,4 @@
-use Rattle.dns_spec.proofs.Common.{◌≡◌, take, list_all, is_string_octet}
+use Rattle.dns_master.proofs.Common.{◌≡◌, take, list_all, is_string_octet}
 use Rattle.dns_master.proofs.run.are_plain.Given as goal
 
 -- the octets so far are plain or not

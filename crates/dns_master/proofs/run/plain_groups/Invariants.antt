@@ -1,4 +1,4 @@
-use Rattle.dns_spec.proofs.Common.{◌≡◌, ◌≤◌, true, take, drop, length, list_all, is_string_octet}
+use Rattle.dns_master.proofs.Common.{◌≡◌, ◌≤◌, true, take, drop, length, list_all, is_string_octet}
 use Rattle.dns_master.proofs.run.plain_groups.Given as goal
 
 -- the groups in front are plain, and the rest is left

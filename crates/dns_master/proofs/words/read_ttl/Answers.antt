@@ -1,7 +1,9 @@
-use Rattle.dns_spec.proofs.Common.{rules, ap, sym, ◌∙◌, Word}
+use Rattle.dns_master.proofs.Common.{rules, ap, sym, ◌∙◌, Word}
 use Rattle.dns_master.proofs.words.read_ttl.Goals as goal
 
 pub returns : goal.returns
 returns c = λ n.
-    let same = ap (λ (w : Word). w.raw) (sym c.word.view_is) in
-    (λ e. let said = (c.read_number.ensures n).0 e in (search rules, same ∙ said.0, said.1), λ h. (c.read_number.ensures n).1 (sym same ∙ h.1, h.2))
+    let same = ap (λ (w : Word). w.raw) (sym c.word.view_is) in (
+      λ e. let said = (c.read_number.ensures n).0 e in (search rules, same ∙ said.0, said.1),
+      λ h. (c.read_number.ensures n).1 (sym same ∙ h.1, h.2),
+    )

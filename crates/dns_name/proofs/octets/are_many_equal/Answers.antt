@@ -1,4 +1,4 @@
-use Rattle.std.proofs.Common.{arith, length-drop}
+use Rattle.dns_name.proofs.Common.{arith, length-drop}
 use Rattle.dns_name.proofs.OctetRuns.{eight_tell, joined, low_end}
 use Rattle.dns_name.proofs.octets.are_many_equal.Goals as goal
 

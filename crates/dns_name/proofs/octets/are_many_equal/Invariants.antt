@@ -1,4 +1,4 @@
-use Rattle.std.proofs.Common.{◌≡◌, ◌<◌, length}
+use Rattle.dns_name.proofs.Common.{◌≡◌, ◌<◌, length}
 use Rattle.dns_name.proofs.OctetRuns.{AreLow}
 use Rattle.dns_name.proofs.octets.are_many_equal.Given as goal
 

@@ -1,5 +1,4 @@
-use Rattle.std.proofs.Common.{arith}
-use Rattle.std.specs.Int.{from_le_bytes, w64}
+use Rattle.dns_name.proofs.Common.{arith, from_le_bytes, w64}
 use Rattle.dns_name.proofs.OctetRuns.{ends_tell, eight_tell}
 use Rattle.dns_name.proofs.octets.have_same_eights.Goals as goal
 

@@ -1,5 +1,4 @@
-use Rattle.dns_spec.proofs.Common.{◌≡◌, take, list_any}
-use Rattle.dns_name.specs.TextForm.{is_mark}
+use Rattle.dns_name.proofs.Common.{◌≡◌, take, list_any, is_mark}
 use Rattle.dns_name.proofs.text.has_mark.Given as goal
 
 -- whether one of the octets so far is one

@@ -1,5 +1,4 @@
-use Rattle.dns_spec.proofs.Common.{◌≡◌, length, arith, sym, false, eqb-false, eqb-true}
-use Rattle.dns_name.specs.TextForm.{is_label_end}
+use Rattle.dns_name.proofs.Common.{◌≡◌, length, arith, sym, false, eqb-false, eqb-true, is_label_end}
 use Rattle.dns_name.proofs.TextLemmas.{OctetThen-octet_at, OctetThen-shorter, ReadsLabel-push, ReadsLabel-full, no_label_read}
 use Rattle.dns_name.proofs.text.label_text.Goals as goal
 
@@ -23,5 +22,6 @@ pub octets-preserved : goal.octets-preserved
 octets-preserved c =
     let goes_on : is_label_end c.octets.rest.now ≡ false = sym c.octets-test.ensures in
     let next = OctetThen-octet_at _ _ _ goes_on c.in_ok-octet.ensures in
-    let full : length c.octets.octets.items ≡ 64 = eqb-true _ _ (sym c.if-not-is_full.ensures.value) in
+    let full : length c.octets.octets.items ≡ 64 =
+    eqb-true _ _ (sym c.if-not-is_full.ensures.value) in
     ReadsLabel-full _ _ _ _ _ c.octets.invariant next (omega arith)

@@ -1,5 +1,4 @@
-use Rattle.std.proofs.Common.{length}
-use Rattle.dns_name.specs.TextForm.{ReadsLabel}
+use Rattle.dns_name.proofs.Common.{length, ReadsLabel}
 use Rattle.dns_name.proofs.text.label_text.Given as goal
 
 abbrev pub invariant-octets : goal.invariant-octets

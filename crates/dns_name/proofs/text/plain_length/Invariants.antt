@@ -1,5 +1,4 @@
-use Rattle.dns_spec.proofs.Common.{◌≡◌, ◌+◌, length, position_or_len}
-use Rattle.dns_name.specs.TextForm.{is_mark}
+use Rattle.dns_name.proofs.Common.{◌≡◌, ◌+◌, length, position_or_len, is_mark}
 use Rattle.dns_name.proofs.text.plain_length.Given as goal
 
 -- the groups in front have no mark

@@ -1,24 +1,30 @@
-use Rattle.dns_spec.proofs.Common.{◌≡◌, [], length, ap, sym, nil_from_length, eqb-true, eqb-false}
+use Rattle.dns_name.proofs.Common.{◌≡◌, [], length, ap, sym, nil_from_length, eqb-true, eqb-false}
 use Rattle.dns_name.proofs.TextLemmas.{Reads-push, SpellsIff-none, SpellsIff-relative, SpellsIff-absolute, PushesLabel-shorter, spelled_as-fits, spelled_as-fault}
 use Rattle.dns_name.proofs.text.spell_labels.Goals as goal
 
 pub returns-in_err-label_fits : goal.returns-in_err-label_fits
 returns-in_err-label_fits c =
-    let some : c.labels.rest.now ≡ [] → ⊥ = λ e. eqb-false _ _ (sym c.labels-test.ensures) (ap length e) in
-    SpellsIff-none _ _ _ _ _ _ c.labels.invariant some c.in_err-label_fits.ensures.err (spelled_as-fault _ _ c.from_residual.ensures.0)
+    let some : c.labels.rest.now ≡ [] → ⊥ =
+    λ e. eqb-false _ _ (sym c.labels-test.ensures) (ap length e) in
+    SpellsIff-none _ _ _ _ _ _ c.labels.invariant some c.in_err-label_fits.ensures.err
+    (spelled_as-fault _ _ c.from_residual.ensures.0)
 
 pub returns-in_default : goal.returns-in_default
 returns-in_default c =
     SpellsIff-relative _ _ _ _ _ _ _ _ _ _ _ _ c.labels.invariant c.in_ok-label_fits.ensures.ok
-    (nil_from_length _ c.in_default.ensures.cases) c.append-fits.ensures (spelled_as-fits _ _ _ _ _ c.check_fits.ensures)
+    (nil_from_length _ c.in_default.ensures.cases) c.append-fits.ensures
+    (spelled_as-fits _ _ _ _ _ c.check_fits.ensures)
 
 pub labels-smaller : goal.labels-smaller
-labels-smaller c = PushesLabel-shorter _ _ _ _ _ _ _ c.in_ok-label_fits.ensures.ok c.in-Some.ensures.cases.0
+labels-smaller c =
+    PushesLabel-shorter _ _ _ _ _ _ _ c.in_ok-label_fits.ensures.ok c.in-Some.ensures.cases.0
 
 pub labels-preserved : goal.labels-preserved
-labels-preserved c = Reads-push _ _ _ _ _ _ _ _ _ _ c.labels.invariant c.in_ok-label_fits.ensures.ok c.in-Some.ensures.cases.0
+labels-preserved c = Reads-push
+    _ _ _ _ _ _ _ _ _ _ c.labels.invariant c.in_ok-label_fits.ensures.ok c.in-Some.ensures.cases.0
 
 pub returns : goal.returns
 returns c =
     SpellsIff-absolute _ _ _ _ _ _ _ c.labels.invariant
-    (nil_from_length _ (eqb-true _ _ (sym c.labels-test.ensures))) (spelled_as-fits _ _ _ _ _ c.check_fits-2.ensures)
+    (nil_from_length _ (eqb-true _ _ (sym c.labels-test.ensures)))
+    (spelled_as-fits _ _ _ _ _ c.check_fits-2.ensures)

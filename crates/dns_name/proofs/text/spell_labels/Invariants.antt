@@ -1,4 +1,4 @@
-use Rattle.std.proofs.Common.{length}
+use Rattle.dns_name.proofs.Common.{length}
 use Rattle.dns_name.proofs.TextLemmas.{Reads}
 use Rattle.dns_name.proofs.text.spell_labels.Given as goal
 

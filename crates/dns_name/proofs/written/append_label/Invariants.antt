@@ -1,4 +1,4 @@
-use Rattle.dns_spec.proofs.Common.{◌≡◌, ◌≤◌, ◌+◌, ◌*◌, ◌++◌, length, take, label_text}
+use Rattle.dns_name.proofs.Common.{◌≡◌, ◌≤◌, ◌+◌, ◌*◌, ◌++◌, length, take, label_text}
 use Rattle.dns_name.proofs.written.append_label.Given as goal
 
 -- the octets so far are written

@@ -1,4 +1,4 @@
-use Rattle.std.proofs.Common.{length}
+use Rattle.dns_rdata.proofs.Common.{length}
 use Rattle.dns_rdata.proofs.HexLemmas.{HexSoFar}
 use Rattle.dns_rdata.proofs.hex.append_hex.Given as goal
 

@@ -1,4 +1,4 @@
-use Rattle.std.proofs.Common.{arith}
+use Rattle.dns_rdata.proofs.Common.{arith}
 use Rattle.dns_rdata.proofs.Ipv4Lemmas.{not_read, other_end, number_read}
 use Rattle.dns_rdata.proofs.ipv4.octet_and_dot.Goals as goal
 

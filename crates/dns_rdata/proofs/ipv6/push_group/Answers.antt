@@ -1,4 +1,4 @@
-use Rattle.std.proofs.Common.{arith}
+use Rattle.dns_rdata.proofs.Common.{arith}
 use Rattle.dns_rdata.proofs.Ipv6Lemmas.{GroupSoFar-small, GroupSoFar-push}
 use Rattle.dns_rdata.proofs.ipv6.push_group.Goals as goal
 
@@ -12,4 +12,5 @@ overflow_add-group c =
 
 pub digits-preserved : goal.digits-preserved
 digits-preserved c =
-    rw c.from.ensures (GroupSoFar-push _ _ _ _ c.digits.invariant c.digits-test.true c.in-Some.ensures.value c.in-Some.ensures.bound)
+    rw c.from.ensures (GroupSoFar-push _
+    _ _ _ c.digits.invariant c.digits-test.true c.in-Some.ensures.value c.in-Some.ensures.bound)

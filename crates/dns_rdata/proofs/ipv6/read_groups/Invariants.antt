@@ -1,4 +1,4 @@
-use Rattle.std.proofs.Common.{length}
+use Rattle.dns_rdata.proofs.Common.{length}
 use Rattle.dns_rdata.proofs.Ipv6Lemmas.{GroupsSoFar}
 use Rattle.dns_rdata.proofs.ipv6.read_groups.Given as goal
 

@@ -1,4 +1,4 @@
-use Rattle.std.proofs.Common.{length, ◌-◌}
+use Rattle.dns_rdata.proofs.Common.{length, ◌-◌}
 use Rattle.dns_rdata.proofs.Ipv6Lemmas.{GapSoFar}
 use Rattle.dns_rdata.proofs.ipv6.split_at_gap.Given as goal
 

@@ -1,5 +1,4 @@
-use Rattle.dns_spec.proofs.Common.{◌∙◌, ap, prefix_len}
-use Rattle.std.specs.Prelude.{◌==◌}
+use Rattle.dns_rdata.proofs.Common.{◌∙◌, ap, prefix_len, ◌==◌}
 use Rattle.dns_rdata.proofs.Ipv6Lemmas.{to_end}
 use Rattle.dns_rdata.proofs.Ipv6TextLemmas.{LongestSoFar-first, LongestSoFar-longer, LongestSoFar-other}
 use Rattle.dns_rdata.proofs.ipv6_text.longest_zero_run.Goals as goal
@@ -10,8 +9,11 @@ places-init c = LongestSoFar-first _ _ c.zero_run-longest.ensures
 
 pub places-preserved : goal.places-preserved
 places-preserved c =
-    let run = c.zero_run-run.ensures ∙ ap (prefix_len (λ n. n == 0)) (to_end c.args.groups.now c.places.start) in
+    let run = c.zero_run-run.ensures
+    ∙ ap (prefix_len (λ n. n == 0)) (to_end c.args.groups.now c.places.start) in
     elim c.if-run-longest.branch [
-      | then-run-longest w ↦ rw (w.place-is, w.longest-is) (LongestSoFar-longer _ _ _ _ _ c.places.invariant c.places-test.true run w.if-run-longest.true)
-      | else-run-longest w ↦ rw (w.place-is, w.longest-is) (LongestSoFar-other _ _ _ _ _ c.places.invariant c.places-test.true run w.if-run-longest.false)
+      | then-run-longest w ↦ rw (w.place-is, w.longest-is) (LongestSoFar-longer
+          _ _ _ _ _ c.places.invariant c.places-test.true run w.if-run-longest.true)
+      | else-run-longest w ↦ rw (w.place-is, w.longest-is) (LongestSoFar-other
+          _ _ _ _ _ c.places.invariant c.places-test.true run w.if-run-longest.false)
     ]

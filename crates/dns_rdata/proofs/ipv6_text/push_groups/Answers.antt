@@ -1,4 +1,4 @@
-use Rattle.std.proofs.Common.{arith}
+use Rattle.dns_rdata.proofs.Common.{arith}
 use Rattle.dns_rdata.proofs.Ipv6TextLemmas.{GroupsWritten-push, GroupsWritten-end}
 use Rattle.dns_rdata.proofs.ipv6_text.push_groups.Goals as goal
 

@@ -1,4 +1,4 @@
-use Rattle.dns_spec.proofs.Common.{◌≡◌, ◌<◌, ◌^◌, take, AllDigits, digits_value}
+use Rattle.dns_rdata.proofs.Common.{◌≡◌, ◌<◌, ◌^◌, take, AllDigits, digits_value}
 use Rattle.dns_rdata.proofs.number.number_of_digits.Given as goal
 
 -- the digits read so far say the number

@@ -1,4 +1,4 @@
-use Rattle.std.proofs.Common.{refl, arith}
+use Rattle.dns_rdata.proofs.Common.{refl, arith}
 use Rattle.dns_rdata.proofs.NumberLemmas.{SaysIff-none, SaysIff-some, no_text, zero_in_front, no_digits, greater}
 use Rattle.dns_rdata.proofs.number.read_number.Goals as goal
 use Rattle.dns_rdata.proofs.number.read_number.Goals.{else-first-eq48-via-then-first-eq48+else-word-ne1, else-first-eq48-via-else-first-eq48}
@@ -15,7 +15,8 @@ returns-in_err-number c = grind (arith, SaysIff-none, no_digits)
 pub returns-then-number-most : goal.returns-then-number-most
 returns-then-number-most c =
     SaysIff-none _ _ _ refl
-    (greater _ _ c.ranges.most.fits (omega (arith, c.in_ok-number.ensures.1, c.if-number-most.true)))
+    (greater _ _ c.ranges.most.fits
+    (omega (arith, c.in_ok-number.ensures.1, c.if-number-most.true)))
 
 pub returns : goal.returns
 returns c =

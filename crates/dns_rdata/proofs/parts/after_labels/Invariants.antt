@@ -1,4 +1,4 @@
-use Rattle.std.proofs.Common.{length}
+use Rattle.dns_rdata.proofs.Common.{length}
 use Rattle.dns_rdata.proofs.NameFronts.{Alike}
 use Rattle.dns_rdata.proofs.parts.after_labels.Given as goal
 

@@ -1,4 +1,4 @@
-use Rattle.std.proofs.Common.{arith}
+use Rattle.dns_rdata.proofs.Common.{arith}
 use Rattle.dns_rdata.proofs.NameFronts.{strings_after, strings_cut}
 use Rattle.dns_rdata.proofs.parts.are_strings.Goals as goal
 

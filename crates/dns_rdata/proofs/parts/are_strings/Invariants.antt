@@ -1,4 +1,4 @@
-use Rattle.dns_spec.proofs.Common.{◌≡◌, length, are_strings}
+use Rattle.dns_rdata.proofs.Common.{◌≡◌, length, are_strings}
 use Rattle.dns_rdata.proofs.parts.are_strings.Given as goal
 
 abbrev pub invariant-strings : goal.invariant-strings

@@ -1,7 +1,10 @@
-use Rattle.std.proofs.Common.{arith, append_assoc, take_all}
+use Rattle.dns_rdata.proofs.Common.{arith, append_assoc, take_all}
 use Rattle.dns_rdata.proofs.StringLemmas.{plain_text}
 use Rattle.dns_rdata.proofs.string.append_string_text.Goals.{then-are_plain, else-are_plain+else-octets-test}
 use Rattle.dns_rdata.proofs.string.append_string_text.Goals as goal
 
 pub returns : goal.returns
-returns c = elim c.if-are_plain.branch [ then-are_plain w ↦ grind (arith, plain_text, append_assoc) | else-are_plain+else-octets-test w ↦ grind (arith, append_assoc, take_all) ]
+returns c = elim c.if-are_plain.branch [
+  | then-are_plain w ↦ grind (arith, plain_text, append_assoc)
+  | else-are_plain+else-octets-test w ↦ grind (arith, append_assoc, take_all)
+]

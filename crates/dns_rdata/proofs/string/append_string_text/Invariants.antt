@@ -1,4 +1,4 @@
-use Rattle.dns_spec.proofs.Common.{◌≡◌, ◌+◌, ◌*◌, ◌≤◌, ◌++◌, length, take, flat_map, string_octet_text}
+use Rattle.dns_rdata.proofs.Common.{◌≡◌, ◌+◌, ◌*◌, ◌≤◌, ◌++◌, length, take, flat_map, string_octet_text}
 use Rattle.dns_rdata.proofs.string.append_string_text.Given as goal
 
 -- the octets so far are appended, each by at most four

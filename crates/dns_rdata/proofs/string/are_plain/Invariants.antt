@@ -1,5 +1,4 @@
-use Rattle.dns_spec.proofs.Common.{◌≡◌, take, list_all}
-use Rattle.dns_rdata.specs.WrittenForm.{is_plain}
+use Rattle.dns_rdata.proofs.Common.{◌≡◌, take, list_all, is_plain}
 use Rattle.dns_rdata.proofs.string.are_plain.Given as goal
 
 -- the octets so far are plain or not

@@ -1,4 +1,4 @@
-use Rattle.dns_spec.proofs.Common.{arith, length-append, eqb-true, eqb-false}
+use Rattle.dns_rdata.proofs.Common.{arith, length-append, eqb-true, eqb-false}
 use Rattle.dns_rdata.proofs.StringLemmas.{StringSoFar-push, StringSoFar-iff, no_string, string_is_long, octet_at-shorter, none_left}
 use Rattle.dns_rdata.proofs.string.read_string.Goals as goal
 

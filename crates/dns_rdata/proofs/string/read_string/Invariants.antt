@@ -1,4 +1,4 @@
-use Rattle.std.proofs.Common.{◌≤◌, length}
+use Rattle.dns_rdata.proofs.Common.{◌≤◌, length}
 use Rattle.dns_rdata.proofs.StringLemmas.{StringSoFar}
 use Rattle.dns_rdata.proofs.string.read_string.Given as goal
 

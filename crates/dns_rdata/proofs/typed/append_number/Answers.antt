@@ -1,9 +1,4 @@
-use Rattle.dns_spec.proofs.Common.{rules, get_or, ◌≡◌, ◌≤◌, ◌^◌, ℕ, suc, ◌++◌, ◌∷◌, [], decimal, arith, sym, ap, ◌∙◌, bytes_high_first, Octets, SaysNumber}
-use Rattle.dns_name.proofs.Results.{OnOk-map}
-use Rattle.dns_rdata.specs.TypeRows.{size_of}
-use Rattle.dns_rdata.specs.WordForms.{as_it_is, Appends}
-use Rattle.dns_rdata.specs.declared.table.NumberSize.{NumberSize}
-use Rattle.dns_rdata.specs.declared.table.NumberSize.TheVariants.{Two, Four}
+use Rattle.dns_rdata.proofs.Common.{rules, get_or, ◌≡◌, ◌≤◌, ◌^◌, ℕ, suc, ◌++◌, ◌∷◌, [], decimal, arith, sym, ap, ◌∙◌, bytes_high_first, Octets, SaysNumber, OnOk-map, size_of, as_it_is, Appends, NumberSize, Two, Four}
 use Rattle.dns_rdata.proofs.FormWords.{ok_or-some, number_appended}
 use Rattle.dns_rdata.proofs.typed.append_number.Goals as goal
 
@@ -12,20 +7,22 @@ few Two = omega arith
 few Four = omega arith
 
 -- a number that has room in so many octets is appended by them
-appended : (s : NumberSize) (n most : ℕ) (text before after piece : Octets) → (text ≡ decimal n) × (n ≤ most) → suc most ≡ 256 ^ size_of s
-    → piece ≡ bytes_high_first (size_of s) n → after ≡ before ++ piece → Appends as_it_is (SaysNumber (size_of s) text) before after
+appended : (s : NumberSize) (n most : ℕ) (text before after piece : Octets) → (text ≡ decimal n)
+    × (n ≤ most) → suc most ≡ 256 ^ size_of s → piece ≡ bytes_high_first (size_of s) n
+    → after ≡ before ++ piece → Appends as_it_is (SaysNumber (size_of s) text) before after
 appended s n most text before after piece said top is = grind (arith, number_appended, few)
 
 pub returns-in-Two : goal.returns-in-Two
 returns-in-Two c =
     let n = c.in_ok-number.number in
-    let read = ok_or-some c.read_number.result _ n (sym c.ok_or.ensures.value ∙ c.in_ok-number.was) in
+    let read =
+    ok_or-some c.read_number.result _ n (sym c.ok_or.ensures.value ∙ c.in_ok-number.was) in
     let two : Two ≡ c.args.size = search rules in
     let octets = ap (λ x. get_or x 2 0 ∷ get_or x 3 0 ∷ []) c.to_be_bytes.ensures in
     record {
       ok = OnOk-map c.append.result
-          (appended c.args.size n _ c.args.text.now _ _ _ ((c.read_number.ensures n).0 read) c.most.ensures
-          (octets ∙ ap (λ s. bytes_high_first (size_of s) n) two))
+          (appended c.args.size n _ c.args.text.now _ _ _ ((c.read_number.ensures n).0 read)
+          c.most.ensures (octets ∙ ap (λ s. bytes_high_first (size_of s) n) two))
           c.append.ensures.ok;
       fault = search rules;
     }

@@ -1,6 +1,4 @@
-use Rattle.dns_spec.proofs.Common.{◌≡◌, ℕ, List, ◌+◌, [], ◌∷◌, arith, sym, length, replicate, subst, length-replicate, Octets, DomainName, Word, WordForm, SaysWord}
-use Rattle.dns_rdata.specs.WordForms.{form_of, kept, Appends, AppendsFront}
-use Rattle.dns_name.proofs.Results.{fault_handed_on}
+use Rattle.dns_rdata.proofs.Common.{◌≡◌, ℕ, List, ◌+◌, [], ◌∷◌, arith, sym, length, replicate, subst, length-replicate, Octets, DomainName, Word, WordForm, SaysWord, form_of, kept, Appends, AppendsFront, fault_handed_on}
 use Rattle.dns_rdata.proofs.FormFronts.{front-none, front-word, front-joined, no-word, too-long, no-rest, no-more, once_more, one_of}
 use Rattle.dns_rdata.proofs.typed.append_run.Goals as goal
 
@@ -21,11 +19,13 @@ returns-in_err-append_word-clause-fault g c =
     rw (sym (one_of form c.run.counter c.args.run.times c.run-test.true))
     (no-more _ _ _ _ _ (rw (once_more form c.run.counter) at so_far)))
 
-taken : (n : ℕ) (f : WordForm) (origin : DomainName) (w : Word) (ws rest after : List Word) (x y z : Octets) → AppendsFront (replicate n f) origin ws rest x y → rest ≡ w ∷ after
-    → Appends (kept f) (SaysWord f origin w) y z → AppendsFront (replicate (n + 1) f) origin ws after x z
+taken : (n : ℕ) (f : WordForm) (origin : DomainName) (w : Word) (ws rest after : List Word)
+    (x y z : Octets) → AppendsFront (replicate n f) origin ws rest x y → rest ≡ w ∷ after → Appends
+    (kept f) (SaysWord f origin w) y z → AppendsFront (replicate (n + 1) f) origin ws after x z
 taken n f origin w ws rest after x y z front e word =
     subst (λ fs. AppendsFront fs origin ws after x z) (once_more f n)
-    (front-joined origin (replicate n f) (f ∷ []) ws rest after x y z front (front-word origin f w rest after y z e word))
+    (front-joined origin (replicate n f)
+    (f ∷ []) ws rest after x y z front (front-word origin f w rest after y z e word))
 
 pub returns-then-len-gt-MAX_OCTETS-clause-fault : goal.returns-then-len-gt-MAX_OCTETS-clause-fault
 returns-then-len-gt-MAX_OCTETS-clause-fault g c = λ _.

@@ -1,14 +1,14 @@
-use Rattle.dns_spec.proofs.Common.{arith, ap, sym, ◌∙◌, subst, SaysUnknown}
+use Rattle.dns_rdata.proofs.Common.{arith, ap, sym, ◌∙◌, subst, SaysUnknown}
 use Rattle.dns_rdata.proofs.UnknownLemmas.{WordsSoFar, WordsSoFar-more, word_refused, same_fault, past_count, says_unknown, only_octets, count_is_length}
 use Rattle.dns_rdata.proofs.unknown.put_unknown.Goals as goal
 
 pub returns-in_err-append_word-clause-fault : goal.returns-in_err-append_word-clause-fault
 returns-in_err-append_word-clause-fault g c =
     let ws = g.W.Words.to_come c.in-Some.others in
-    same_fault _ _ c.in_err-append_word.field-0.0 c.from_residual-in_err-append_word.ensures.1 (λ memory d said short.
-    word_refused c.in-Some-split_first.word ws (g.W.Words.to_come c.in-Some-split_first.after) _ d
-    (subst (λ rest. WordsSoFar ws rest c.words.octets.items) c.in-Some-split_first.ensures c.words.invariant)
-    (c.in_err-append_word.ensures.fault memory)
+    same_fault _ _ c.in_err-append_word.field-0.0 c.from_residual-in_err-append_word.ensures.1
+    (λ memory d said short. word_refused c.in-Some-split_first.word ws (g.W.Words.to_come
+    c.in-Some-split_first.after) _ d (subst (λ rest. WordsSoFar ws rest c.words.octets.items)
+    c.in-Some-split_first.ensures c.words.invariant) (c.in_err-append_word.ensures.fault memory)
     (subst (λ all. SaysUnknown all d) c.in-Some.ensures said).2)
 
 pub returns-then-len-count-clause-fault : goal.returns-then-len-count-clause-fault
@@ -16,8 +16,10 @@ returns-then-len-count-clause-fault g c = λ _ d said short.
     let number = (c.read_number.ensures c.in_ok-count.count).0 c.in_ok-count.ensures.ok_part in
     let ws = g.W.Words.to_come c.in-Some.others in
     past_count c.in-Some.first ws _ c.in_ok-count.count c.append_word.new.octets.items d
-    (WordsSoFar-more ws _ _ _ _ (subst (λ rest. WordsSoFar ws rest c.words.octets.items) c.in-Some-split_first.ensures c.words.invariant) c.in_ok-append_word.ensures.ok)
-    (sym (ap (λ w. w.raw) c.first.view_is) ∙ number.0) (omega (arith, c.if-len-count.true, c.len.ensures)) number.1
+    (WordsSoFar-more ws _ _ _ _ (subst (λ rest. WordsSoFar ws rest c.words.octets.items)
+    c.in-Some-split_first.ensures c.words.invariant) c.in_ok-append_word.ensures.ok)
+    (sym (ap (λ w. w.raw) c.first.view_is) ∙ number.0)
+    (omega (arith, c.if-len-count.true, c.len.ensures)) number.1
     (subst (λ all. SaysUnknown all d) c.in-Some.ensures said) short
 
 pub words-preserved : goal.words-preserved

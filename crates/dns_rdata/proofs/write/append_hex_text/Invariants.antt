@@ -1,4 +1,4 @@
-use Rattle.dns_spec.proofs.Common.{◌≡◌, ◌+◌, ◌*◌, ◌++◌, length, take, hex_text}
+use Rattle.dns_rdata.proofs.Common.{◌≡◌, ◌+◌, ◌*◌, ◌++◌, length, take, hex_text}
 use Rattle.dns_rdata.proofs.write.append_hex_text.Given as goal
 
 -- the octets so far are appended, two digits each

@@ -1,6 +1,4 @@
-use Rattle.dns_spec.proofs.Common.{◌≡◌, ◌≤◌, ◌+◌, ◌*◌, ◌++◌, length, replicate, number_word, form_words}
-use Rattle.dns_rdata.specs.TypeRows.{size_of}
-use Rattle.dns_rdata.specs.WrittenForm.{spaced, form_rest}
+use Rattle.dns_rdata.proofs.Common.{◌≡◌, ◌≤◌, ◌+◌, ◌*◌, ◌++◌, length, replicate, number_word, form_words, size_of, spaced, form_rest}
 use Rattle.dns_rdata.proofs.write.append_numbers.Given as goal
 
 -- the numbers before those left are appended
@@ -9,9 +7,11 @@ invariant-numbers l = record {
   long : l.left * size_of l.size ≤ length l.rest;
   short : length l.before ≤ 1;
   room : length l.text + 11 * l.left ≤ 4096;
-  appended : l.text ++ spaced l.before (form_words (replicate l.left (number_word (size_of l.size))) l.rest)
-      ≡ l.initial.text ++ spaced l.fn.before (form_words (replicate l.count (number_word (size_of l.size))) l.octets);
-  after : form_rest (replicate l.left (number_word (size_of l.size))) l.rest ≡ form_rest (replicate l.count (number_word (size_of l.size))) l.octets;
+  appended : l.text ++ spaced l.before (form_words
+      (replicate l.left (number_word (size_of l.size))) l.rest) ≡ l.initial.text ++ spaced
+      l.fn.before (form_words (replicate l.count (number_word (size_of l.size))) l.octets);
+  after : form_rest (replicate l.left (number_word (size_of l.size))) l.rest
+      ≡ form_rest (replicate l.count (number_word (size_of l.size))) l.octets;
 }
 
 abbrev pub decreases-numbers : goal.decreases-numbers

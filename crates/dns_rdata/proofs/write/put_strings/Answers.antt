@@ -1,6 +1,4 @@
-use Rattle.dns_spec.proofs.Common.{rules, ap, sym, ◌∙◌, arith, eqb-true, eqb-false, nil_from_length, are_strings}
-use Rattle.dns_name.proofs.Results.{OnErr-always}
-use Rattle.dns_name.proofs.WritesLemmas.{held_more, held_less, held_begun}
+use Rattle.dns_rdata.proofs.Common.{rules, ap, sym, ◌∙◌, arith, eqb-true, eqb-false, nil_from_length, are_strings, OnErr-always, held_more, held_less, held_begun}
 use Rattle.dns_rdata.proofs.SpacedWords.{string_begins, more_strings, spaced-strings, after_strings}
 use Rattle.dns_rdata.proofs.write.put_strings.Goals as goal
 
@@ -10,16 +8,19 @@ append_string-rest-requires-clause-string g c = grind (arith, string_begins, eqb
 pub returns-in_err-make_room-clause-fills : goal.returns-in_err-make_room-clause-fills
 returns-in_err-make_room-clause-fills g c = record {
   ok = search rules;
-  err = OnErr-always c.from_residual.result (held_begun _ _ _ _ _ _ c.strings.invariant.fills c.in_err-make_room.ensures.fills.err);
+  err = OnErr-always c.from_residual.result
+      (held_begun _ _ _ _ _ _ c.strings.invariant.fills c.in_err-make_room.ensures.fills.err);
   counted = search rules;
 }
 
 pub strings-preserved : goal.strings-preserved
 strings-preserved g c =
     let some = eqb-false _ _ (sym c.is_empty.ensures ∙ c.strings-test.true) in
-    let held = held_less _ _ _ _ _ _ _ c.strings.invariant.fills c.in_ok-make_room.ensures.fills.ok in
+    let held =
+    held_less _ _ _ _ _ _ _ c.strings.invariant.fills c.in_ok-make_room.ensures.fills.ok in
     record {
-      strings = ap (are_strings 0) c.append_string-rest.ensures.rest ∙ more_strings _ c.strings.invariant.strings some;
+      strings = ap (are_strings 0) c.append_string-rest.ensures.rest
+          ∙ more_strings _ c.strings.invariant.strings some;
       short = search rules;
       fills = grind (arith, held_more, spaced-strings);
       counted = search rules;

@@ -1,6 +1,4 @@
-use Rattle.dns_spec.proofs.Common.{◌≡◌, ◌≤◌, ◌++◌, IsTrue, length, replicate, are_strings, string_word, form_words, string_count}
-use Rattle.dns_name.specs.Counted.{AppendsAllBut}
-use Rattle.dns_rdata.specs.WrittenForm.{spaced}
+use Rattle.dns_rdata.proofs.Common.{◌≡◌, ◌≤◌, ◌++◌, IsTrue, length, replicate, are_strings, string_word, form_words, string_count, AppendsAllBut, spaced}
 use Rattle.dns_rdata.proofs.write.put_strings.Given as goal
 
 -- the strings before the rest are put
@@ -8,9 +6,10 @@ abbrev pub invariant-strings : goal.invariant-strings
 invariant-strings g l = record {
   strings : IsTrue (are_strings 0 l.rest);
   short : length l.before ≤ 1;
-  fills : AppendsAllBut (g.W.Write.contents l.initial.sink.device) (g.W.Write.contents l.sink.device)
-      (l.initial.text ++ spaced l.fn.before (form_words (replicate (string_count 0 l.octets) string_word) l.octets))
-      (l.text ++ spaced l.before (form_words (replicate (string_count 0 l.rest) string_word) l.rest));
+  fills : AppendsAllBut (g.W.Write.contents l.initial.sink.device)
+      (g.W.Write.contents l.sink.device) (l.initial.text ++ spaced l.fn.before
+      (form_words (replicate (string_count 0 l.octets) string_word) l.octets)) (l.text
+      ++ spaced l.before (form_words (replicate (string_count 0 l.rest) string_word) l.rest));
   counted : l.sink.failures ≡ l.initial.sink.failures;
 }
 

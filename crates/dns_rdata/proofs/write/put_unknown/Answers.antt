@@ -1,6 +1,4 @@
-use Rattle.dns_spec.proofs.Common.{rules, flat_map-append, append-nil, append_assoc, arith}
-use Rattle.dns_name.proofs.Results.{OnErr-always}
-use Rattle.dns_name.proofs.WritesLemmas.{held_before, held_more, held_less, held_begun}
+use Rattle.dns_rdata.proofs.Common.{rules, flat_map-append, append-nil, append_assoc, arith, OnErr-always, held_before, held_more, held_less, held_begun}
 use Rattle.dns_rdata.proofs.write.put_unknown.Goals as goal
 
 -- the mark and the length, and the octets after a space
@@ -10,7 +8,8 @@ chunks-init g c = grind (arith, append_assoc, append-nil, held_before)
 pub returns-in_err-make_room-2 : goal.returns-in_err-make_room-2
 returns-in_err-make_room-2 g c = record {
   ok = search rules;
-  err = OnErr-always c.from_residual-in_err-make_room-2.result (held_begun _ _ _ _ _ _ c.chunks.invariant.fills c.in_err-make_room-2.ensures.fills.err);
+  err = OnErr-always c.from_residual-in_err-make_room-2.result
+      (held_begun _ _ _ _ _ _ c.chunks.invariant.fills c.in_err-make_room-2.ensures.fills.err);
   counted = search rules;
 }
 

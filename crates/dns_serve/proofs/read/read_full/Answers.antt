@@ -9,7 +9,9 @@ calls-preserved g c =
     let r = c.in_ok-came.ensures in record {
       within = search rules;
       room = search rules;
-      low = λ k d h. subst (λ o. o < 256) (sym (get_or_default_zero _ k d h)) (omega (arith, c.type_inv.buf k));
-      consumed = came_after _ _ _ _ _ _ _ s.front_len (subst (Consumes _ _) (sym s.front) i.consumed) r.bytes.0;
+      low = λ k d h. subst
+          (λ o. o < 256) (sym (get_or_default_zero _ k d h)) (omega (arith, c.type_inv.buf k));
+      consumed = came_after _ _ _ _ _ _ _ s.front_len
+          (subst (Consumes _ _) (sym s.front) i.consumed) r.bytes.0;
       counted = search rules;
     }

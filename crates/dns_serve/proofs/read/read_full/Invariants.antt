@@ -7,7 +7,8 @@ invariant-calls g l = record {
   within : l.count ≤ length l.buf;
   room : length l.buf ≡ length l.initial.buf;
   low : All (λ o. o < 256) l.buf;
-  consumed : Consumes (g.R.Read.remaining l.initial.source.device) (g.R.Read.remaining l.source.device) (take l.count l.buf);
+  consumed : Consumes (g.R.Read.remaining l.initial.source.device)
+      (g.R.Read.remaining l.source.device) (take l.count l.buf);
   counted : l.source.failures ≡ l.initial.source.failures;
 }
 

@@ -7,22 +7,27 @@ use Rattle.dns_serve.proofs.stream.serve_stream_in.Goals as goal
 pub returns-in_err-kept-clause-session : goal.returns-in_err-kept-clause-session
 returns-in_err-kept-clause-session g c =
     let p = err_from_is_err_and c.from_residual.result c.from_residual.ensures.1 in
-    rw (p.1, p.2) (unread _ _ _ _ _ _ _ _ c.read_message.new.message _ c.messages.invariant.done c.messages-test.true c.in_err-kept.ensures.read)
+    rw (p.1, p.2) (unread _ _ _ _ _ _ _ _ c.read_message.new.message
+    _ c.messages.invariant.done c.messages-test.true c.in_err-kept.ensures.read)
 
 pub returns-in_err-write_reply-clause-session : goal.returns-in_err-write_reply-clause-session
 returns-in_err-write_reply-clause-session g c =
-    let p = err_from_is_err_and c.from_residual-in_err-write_reply.result c.from_residual-in_err-write_reply.ensures.1 in
-    let reply = begun _ _ _ _ _ _ _ _ _ c.in-Some.is c.in_ok-kept.ensures.read c.split_at.ensures.front c.in_err-write_reply.ensures.err in
+    let p = err_from_is_err_and
+    c.from_residual-in_err-write_reply.result c.from_residual-in_err-write_reply.ensures.1 in
+    let reply = begun _ _ _ _ _ _ _ _ _ c.in-Some.is
+    c.in_ok-kept.ensures.read c.split_at.ensures.front c.in_err-write_reply.ensures.err in
     rw (p.1, p.2) (unwritten _ _ _ _ _ _ _ _ _ c.messages.invariant.done c.messages-test.true reply)
 
 -- the whole reply was written, and then not passed on
 pub returns-in_err-flush-clause-session : goal.returns-in_err-flush-clause-session
 returns-in_err-flush-clause-session g c =
-    let p = err_from_is_err_and c.from_residual-in_err-flush.result c.from_residual-in_err-flush.ensures.1 in
+    let p = err_from_is_err_and
+    c.from_residual-in_err-flush.result c.from_residual-in_err-flush.ensures.1 in
     let written =
     subst (AppendsBeginning _ _) (append-nil _)
     (beginning_of_second _ _ _ _ [] c.in_ok-write_reply.ensures.ok c.in_err-flush.ensures.err) in
-    let reply = begun _ _ _ _ _ _ _ _ _ c.in-Some.is c.in_ok-kept.ensures.read c.split_at.ensures.front written in
+    let reply = begun
+    _ _ _ _ _ _ _ _ _ c.in-Some.is c.in_ok-kept.ensures.read c.split_at.ensures.front written in
     rw (p.1, p.2) (unwritten _ _ _ _ _ _ _ _ _ c.messages.invariant.done c.messages-test.true reply)
 
 pub messages-preserved : goal.messages-preserved
@@ -33,7 +38,8 @@ messages-preserved-in-messages g c =
     let written =
     subst (Appends _ _) (append-nil _)
     (Appends-trans _ _ _ _ [] c.in_ok-write_reply.ensures.ok c.in_ok-flush.ensures.ok) in
-    let reply = answered _ _ _ _ _ _ _ _ _ c.in-Some.is c.in_ok-kept.ensures.read c.split_at.ensures.front written in
+    let reply = answered
+    _ _ _ _ _ _ _ _ _ c.in-Some.is c.in_ok-kept.ensures.read c.split_at.ensures.front written in
     record {
       done = done_more _ _ _ _ _ _ _ _ c.messages.invariant.done reply;
       within = search rules;
@@ -43,8 +49,10 @@ messages-preserved-in-messages g c =
     }
 
 pub returns-after-messages-clause-session : goal.returns-after-messages-clause-session
-returns-after-messages-clause-session g c = served_most _ _ _ _ _ _ _ c.messages.invariant.done (search rules)
+returns-after-messages-clause-session g c =
+    served_most _ _ _ _ _ _ _ c.messages.invariant.done (search rules)
 
 pub returns-in_default-clause-session : goal.returns-in_default-clause-session
 returns-in_default-clause-session g c =
-    served_all _ _ _ _ _ _ _ _ c.messages.invariant.done c.messages-test.true (nothing_read _ _ c.read_message.new.message _ c.in_default.is c.in_ok-kept.ensures.read)
+    served_all _ _ _ _ _ _ _ _ c.messages.invariant.done c.messages-test.true
+    (nothing_read _ _ c.read_message.new.message _ c.in_default.is c.in_ok-kept.ensures.read)

@@ -1,4 +1,4 @@
-use Rattle.std.proofs.Common.{◌≡◌, ◌-◌, ◌≤◌}
+use Rattle.dns_spec.proofs.Common.{◌≡◌, ◌-◌, ◌≤◌}
 use Rattle.dns_serve.specs.Streams.{reply_over_tcp}
 use Rattle.dns_serve.proofs.Sessions.{Done}
 use Rattle.dns_serve.proofs.stream.serve_stream_in.Given as goal

@@ -1,4 +1,4 @@
-use Rattle.std.proofs.Common.{rules, ap}
+use Rattle.dns_spec.proofs.Common.{rules, ap}
 use Rattle.dns_serve.proofs.OneTurn.{turn_without, turn_with, turn_unsent}
 use Rattle.dns_serve.proofs.turn.udp_turn_in.Goals as goal
 
@@ -10,5 +10,7 @@ returns-in-Ok-send-clause-turn g c = search (rules, turn_with)
 
 pub returns-in-Err-clause-turn : goal.returns-in-Err-clause-turn
 returns-in-Err-clause-turn g c =
-    turn_unsent _ _ (ap (λ s. s.zone) c.new-steps.ensures) _ _ _ _ _ _ c.receive.new.buf _ c.respond_in.result _ c.respond_in.new.out c.in-Ok.ensures.datagram c.split_at.ensures.front c.in-Some.is
+    turn_unsent _ _
+    (ap (λ s. s.zone) c.new-steps.ensures) _ _ _ _ _ _ c.receive.new.buf _ c.respond_in.result
+    _ c.respond_in.new.out c.in-Ok.ensures.datagram c.split_at.ensures.front c.in-Some.is
     c.respond_in.ensures.octets c.in-Err.ensures.received

@@ -1,4 +1,4 @@
-use Rattle.std.proofs.Common.{◌≡◌}
+use Rattle.dns_tools.proofs.Common.{◌≡◌}
 use Rattle.dns_tools.proofs.listen.serve_connections.Given as goal
 
 -- each turn asked for one connection

@@ -1,5 +1,4 @@
-use Rattle.std.proofs.Common.{◌≤◌, ◌+◌}
-use Rattle.dns_tools.specs.Turns.{TakesTurns}
+use Rattle.dns_tools.proofs.Common.{◌≤◌, ◌+◌, TakesTurns}
 use Rattle.dns_tools.proofs.listen.serve_datagrams.Given as goal
 
 -- so many turns were taken, none of which failed more than once

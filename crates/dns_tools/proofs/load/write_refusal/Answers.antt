@@ -1,6 +1,4 @@
-use Rattle.std.proofs.Common.{rules}
-use Rattle.dns_master.specs.Codes.{fault_of}
-use Rattle.dns_name.proofs.WritesLemmas.{Writes-same}
+use Rattle.dns_tools.proofs.Common.{rules, fault_of, Writes-same}
 use Rattle.dns_tools.proofs.LineParts.{line_written}
 use Rattle.dns_tools.proofs.load.write_refusal.Goals as goal
 

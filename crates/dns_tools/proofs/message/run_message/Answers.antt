@@ -1,5 +1,4 @@
-use Rattle.dns_spec.proofs.Common.{false, Ok, Err, ap, refl, rules, PrintsMessage}
-use Rattle.dns_tools.specs.KeptLine.{kept_message}
+use Rattle.dns_tools.proofs.Common.{false, Ok, Err, ap, refl, rules, PrintsMessage, kept_message}
 use Rattle.dns_tools.proofs.CheckedZone.{report_begun}
 use Rattle.dns_tools.proofs.PrintedLines.{kept_source, handed_sink, handed_printed, line_printed, line_reported, bad_hex}
 use Rattle.dns_tools.proofs.message.run_message.Goals as goal
@@ -9,7 +8,8 @@ returns-in-Err-clause-sink g c = handed_sink _ c.in-Err.stop c.in-Err.ensures.st
 
 pub returns-in-Err-clause-printed : goal.returns-in-Err-clause-printed
 returns-in-Err-clause-printed g c =
-    handed_printed _ _ _ c.in-Err.stop c.in-Err.ensures.stop (λ e. c.in-Err.ensures.failed (ap Err e))
+    handed_printed _ _ _ c.in-Err.stop c.in-Err.ensures.stop
+    (λ e. c.in-Err.ensures.failed (ap Err e))
 
 pub returns-in_err-write_all-clause-printed : goal.returns-in_err-write_all-clause-printed
 returns-in_err-write_all-clause-printed g c =

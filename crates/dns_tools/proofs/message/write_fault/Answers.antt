@@ -1,5 +1,4 @@
-use Rattle.std.proofs.Common.{rules}
-use Rattle.dns_name.proofs.WritesLemmas.{Writes-same}
+use Rattle.dns_tools.proofs.Common.{rules, Writes-same}
 use Rattle.dns_tools.proofs.LineParts.{three_parts}
 use Rattle.dns_tools.proofs.message.write_fault.Goals as goal
 

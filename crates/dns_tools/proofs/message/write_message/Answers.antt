@@ -1,8 +1,4 @@
-use Rattle.dns_spec.proofs.Common.{rules, ap, ◌∙◌, ◌++◌, codes, flat_map, Appends-trans, DnsMessage, Octets, Option}
-use Rattle.dns_spec.specs.MessageLines.{header_line, question_line, section_line}
-use Rattle.dns_name.specs.Counted.{AppendsBeginning}
-use Rattle.dns_name.proofs.Results.{OnErr-always}
-use Rattle.dns_name.proofs.WritesLemmas.{beginning_of_first, beginning_of_second, Writes-same, Writes-after}
+use Rattle.dns_tools.proofs.Common.{rules, ap, ◌∙◌, ◌++◌, codes, flat_map, Appends-trans, DnsMessage, Octets, Option, header_line, question_line, section_line, AppendsBeginning, OnErr-always, beginning_of_first, beginning_of_second, Writes-same, Writes-after}
 use Rattle.dns_tools.proofs.message.write_message.Goals as goal
 
 -- the lines of a message
@@ -29,8 +25,8 @@ abbrev upto_authorities : DnsMessage → Octets
 upto_authorities m = upto_answers m ++ authorities m
 
 -- of these a beginning was written
-begun_authorities : (m : DnsMessage) (a b : Option Octets) → AppendsBeginning a b (upto_authorities m)
-    → AppendsBeginning a b (upto_authorities m ++ additionals m)
+begun_authorities : (m : DnsMessage) (a b : Option Octets) → AppendsBeginning a b
+    (upto_authorities m) → AppendsBeginning a b (upto_authorities m ++ additionals m)
 begun_authorities m a b h = beginning_of_first a b (upto_authorities m) (additionals m) h
 
 begun_questions : (m : DnsMessage) (a b : Option Octets) → AppendsBeginning a b (upto_questions m)
@@ -69,7 +65,8 @@ returns-in_err-write_records g c =
     ∙ ap questions c.message.view_is) c.in_ok-write_questions.ensures in
     let a = Writes-same (ap (flat_map (section_line (codes "answer"))) c.as_slice-2.ensures.value
     ∙ ap answers c.message.view_is) c.in_err-write_records.ensures in
-    let one = Appends-trans _ _ _ (header_line m) (questions m) c.in_ok-write_header.ensures.ok q.ok in
+    let one =
+    Appends-trans _ _ _ (header_line m) (questions m) c.in_ok-write_header.ensures.ok q.ok in
     record {
       ok = search rules;
       err = OnErr-always c.from_residual-in_err-write_records.result (begun_authorities m _ _
@@ -87,7 +84,8 @@ returns-in_err-write_records-2 g c =
     ∙ ap answers c.message.view_is) c.in_ok-write_records.ensures in
     let b = Writes-same (ap (flat_map (section_line (codes "authority"))) c.as_slice-3.ensures.value
     ∙ ap authorities c.message.view_is) c.in_err-write_records-2.ensures in
-    let one = Appends-trans _ _ _ (header_line m) (questions m) c.in_ok-write_header.ensures.ok q.ok in
+    let one =
+    Appends-trans _ _ _ (header_line m) (questions m) c.in_ok-write_header.ensures.ok q.ok in
     let two = Appends-trans _ _ _ (upto_questions m) (answers m) one a.ok in
     record {
       ok = search rules;
@@ -105,9 +103,10 @@ returns g c =
     ∙ ap answers c.message.view_is) c.in_ok-write_records.ensures in
     let b = Writes-same (ap (flat_map (section_line (codes "authority"))) c.as_slice-3.ensures.value
     ∙ ap authorities c.message.view_is) c.in_ok-write_records-2.ensures in
-    let d = Writes-same (ap (flat_map (section_line (codes "additional"))) c.as_slice-4.ensures.value
-    ∙ ap additionals c.message.view_is) c.write_records-3.ensures in
-    let one = Appends-trans _ _ _ (header_line m) (questions m) c.in_ok-write_header.ensures.ok q.ok in
+    let d = Writes-same (ap (flat_map (section_line (codes "additional")))
+    c.as_slice-4.ensures.value ∙ ap additionals c.message.view_is) c.write_records-3.ensures in
+    let one =
+    Appends-trans _ _ _ (header_line m) (questions m) c.in_ok-write_header.ensures.ok q.ok in
     let two = Appends-trans _ _ _ (upto_questions m) (answers m) one a.ok in
     let three = Appends-trans _ _ _ (upto_answers m) (authorities m) two b.ok in
     Writes-after (upto_authorities m) (additionals m) three (search rules) d

@@ -1,5 +1,4 @@
-use Rattle.std.proofs.Common.{arith, sym}
-use Rattle.std.proofs.lemmas.List.{length-take-le}
+use Rattle.dns_tools.proofs.Common.{arith, sym, length-take-le}
 use Rattle.dns_tools.proofs.once.answer.Goals as goal
 
 pub slice_bounds-spell-end-2 : goal.slice_bounds-spell-end-2

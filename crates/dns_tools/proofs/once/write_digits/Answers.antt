@@ -1,5 +1,4 @@
-use Rattle.std.proofs.Common.{rules}
-use Rattle.dns_name.proofs.WritesLemmas.{Writes-same}
+use Rattle.dns_tools.proofs.Common.{rules, Writes-same}
 use Rattle.dns_tools.proofs.LineDigits.{line_written}
 use Rattle.dns_tools.proofs.once.write_digits.Goals as goal
 

@@ -1,4 +1,4 @@
-use Rattle.dns_spec.proofs.Common.{rules}
+use Rattle.dns_tools.proofs.Common.{rules}
 use Rattle.dns_tools.proofs.LineDigits.{digits16}
 use Rattle.dns_tools.proofs.parts.hex_of.Goals as goal
 

@@ -1,15 +1,11 @@
-use Rattle.dns_spec.proofs.Common.{rules, ◌∙◌, ap, codes, name_text, fault_report}
-use Rattle.dns_spec.specs.Report.{two_digits}
-use Rattle.dns_name.proofs.Results.{OnErr-always}
-use Rattle.dns_name.proofs.WritesLemmas.{Writes-same, Written-more, Written-begun}
-use Rattle.dns_tools.specs.Parts.{parts_text}
-use Rattle.dns_tools.proofs.LineParts.{four_parts, next_piece}
+use Rattle.dns_tools.proofs.Common.{rules, ◌∙◌, ap, fault_report, OnErr-always, Writes-same, Written-more, Written-begun, parts_text}
+use Rattle.dns_tools.proofs.LineParts.{fault_written, next_piece}
 use Rattle.dns_tools.proofs.report.write_check_faults.Goals as goal
 
 pub faults-preserved : goal.faults-preserved
 faults-preserved g c =
-    let line = ap parts_text c.as_slice.ensures ∙ four_parts (name_text c.fault.inside.owner)
-    (codes " Z") (two_digits c.fault.inside.code) (codes "\n") ∙ ap fault_report c.fault.view_is in
+    let line = ap parts_text c.as_slice.ensures
+    ∙ fault_written _ c.fault-item.result c.fault.view_is in
     let next = next_piece fault_report c.args.faults.now c.fault-item.result
     c.faults.fault-index c.faults-test.true c.fault-item.is in
     record {
@@ -20,8 +16,8 @@ faults-preserved g c =
 
 pub returns-in_err-write_parts : goal.returns-in_err-write_parts
 returns-in_err-write_parts g c =
-    let line = ap parts_text c.as_slice.ensures ∙ four_parts (name_text c.fault.inside.owner)
-    (codes " Z") (two_digits c.fault.inside.code) (codes "\n") ∙ ap fault_report c.fault.view_is in
+    let line = ap parts_text c.as_slice.ensures
+    ∙ fault_written _ c.fault-item.result c.fault.view_is in
     let next = next_piece fault_report c.args.faults.now c.fault-item.result
     c.faults.fault-index c.faults-test.true c.fault-item.is in
     record {

@@ -1,6 +1,4 @@
-use Rattle.std.proofs.Common.{◌∙◌, ap}
-use Rattle.dns_name.proofs.WritesLemmas.{Writes-same}
-use Rattle.dns_tools.specs.Parts.{parts_text}
+use Rattle.dns_tools.proofs.Common.{◌∙◌, ap, Writes-same, parts_text}
 use Rattle.dns_tools.proofs.LineParts.{loaded_written}
 use Rattle.dns_tools.proofs.report.write_loaded.Goals as goal
 
@@ -8,5 +6,6 @@ pub returns : goal.returns
 returns g c =
     Writes-same
     (ap parts_text c.as_slice.ensures
-    ∙ loaded_written c.args.zone.now _ _ c.origin.ensures.origin (c.from.ensures ∙ c.serial.ensures))
+    ∙ loaded_written c.args.zone.now _ _ c.origin.ensures.origin
+    (c.from.ensures ∙ c.serial.ensures))
     c.write_parts.ensures

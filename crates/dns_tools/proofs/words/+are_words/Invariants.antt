@@ -1,4 +1,4 @@
-use Rattle.std.proofs.Common.{length}
+use Rattle.dns_tools.proofs.Common.{length}
 use Rattle.dns_tools.proofs.words.+are_words.Given as goal
 
 abbrev pub decreases-are_words : goal.decreases-are_words

@@ -1,8 +1,6 @@
-use Rattle.dns_spec.proofs.Common.{ℕ, List, arith, ◌≡◌, nil_from_length, err_from_is_err_and, Octets}
+use Rattle.dns_wire.proofs.Common.{ℕ, List, arith, ◌≡◌, nil_from_length, err_from_is_err_and, Octets, pieces_in, ArePiecesRead}
 use Rattle.dns_spec.specs.Data as Data
-use Rattle.dns_rdata.specs.TypeRows.{pieces_in}
 use Rattle.dns_rdata.specs.declared.table.Piece.{Piece}
-use Rattle.dns_wire.specs.Pieces.{ArePiecesRead}
 use Rattle.dns_wire.proofs.PieceLemmas.{pieces_none, piece_more, pieces_end}
 use Rattle.dns_wire.proofs.ValidData.{data_valid}
 use Rattle.dns_wire.proofs.data.read_data.Goals as goal

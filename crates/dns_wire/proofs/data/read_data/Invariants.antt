@@ -1,6 +1,4 @@
-use Rattle.std.proofs.Common.{length}
-use Rattle.dns_rdata.specs.TypeRows.{pieces_in}
-use Rattle.dns_wire.specs.Pieces.{ArePiecesRead, data_pieces}
+use Rattle.dns_wire.proofs.Common.{length, pieces_in, ArePiecesRead, data_pieces}
 use Rattle.dns_wire.proofs.data.read_data.Given as goal
 
 abbrev pub invariant-pieces : goal.invariant-pieces

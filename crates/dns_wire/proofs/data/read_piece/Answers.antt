@@ -1,8 +1,5 @@
-use Rattle.dns_spec.proofs.Common.{sym, arith, subst}
-use Rattle.dns_rdata.specs.TypeRows.{piece_of}
-use Rattle.dns_wire.specs.Pieces.{NoPieceAt}
+use Rattle.dns_wire.proofs.Common.{sym, arith, subst, piece_of, NoPieceAt}
 use Rattle.dns_wire.proofs.PieceLemmas.{long_name_none, piece_read}
-use Rattle.dns_wire.proofs.data.read_piece.Goals.{in-Octets, in-Octets-2}
 use Rattle.dns_wire.proofs.data.read_piece.Goals as goal
 
 pub returns-then-place-end-clause-err : goal.returns-then-place-end-clause-err

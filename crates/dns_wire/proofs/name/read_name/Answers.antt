@@ -1,5 +1,4 @@
-use Rattle.std.proofs.Common.{arith, true≢false, sym, length, ◌≤◌, ◌∷◌, [], ◌++◌}
-use Rattle.dns_spec.proofs.Common.{slice_get_within, wire}
+use Rattle.dns_wire.proofs.Common.{arith, true≢false, sym, length, ◌≤◌, ◌∷◌, [], ◌++◌, slice_get_within, wire}
 use Rattle.dns_wire.proofs.Runs.{reading_ends, reading_label, label_too_long, reading_jumps, end_fits}
 use Rattle.dns_wire.proofs.name.read_name.Goals as goal
 
@@ -24,7 +23,8 @@ steps-preserved-in-Label c =
     let push = c.if-not-push.ensures in
     record {
       reading = rw (push.pushed, c.octets-length.ensures.value)
-          (reading_label c.in-Label.label c.steps.invariant.reading step (rw push.pushed at push.is_name));
+          (reading_label c.in-Label.label c.steps.invariant.reading step
+          (rw push.pushed at push.is_name));
       begun = c.steps.invariant.begun;
     }
 

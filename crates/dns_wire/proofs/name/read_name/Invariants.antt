@@ -1,5 +1,4 @@
-use Rattle.std.proofs.Common.{◌≤◌, length, ◌+◌, ◌-◌, ◌*◌}
-use Rattle.dns_wire.specs.Labels.{IsReading}
+use Rattle.dns_wire.proofs.Common.{◌≤◌, length, ◌+◌, ◌-◌, ◌*◌, IsReading}
 use Rattle.dns_wire.proofs.name.read_name.Given as goal
 
 abbrev pub invariant-steps : goal.invariant-steps

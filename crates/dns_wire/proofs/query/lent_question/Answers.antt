@@ -1,5 +1,4 @@
-use Rattle.std.proofs.Common.{sym, ◌∙◌}
-use Rattle.dns_name.proofs.WireLemmas.{IsWireForm-wire, labels_of_spelled}
+use Rattle.dns_wire.proofs.Common.{sym, ◌∙◌, IsWireForm-wire, labels_of_spelled}
 use Rattle.dns_wire.proofs.QueryName.{question_here}
 use Rattle.dns_wire.proofs.query.lent_question.Goals as goal
 
@@ -9,5 +8,9 @@ new-requires c = let e = c.in_ok-end.ensures.some in IsWireForm-wire _ e.name e.
 pub returns : goal.returns
 returns c =
     let e = c.in_ok-end.ensures.some in
-    rw (c.new.ensures.value ∙ labels_of_spelled _ e.name e.octets e.is_name, c.field.ensures, c.field-2.ensures)
+    rw (
+      c.new.ensures.value ∙ labels_of_spelled _ e.name e.octets e.is_name,
+      c.field.ensures,
+      c.field-2.ensures,
+    )
     (sym (question_here _ e.name _ e.read c.if-datagram-end.false))

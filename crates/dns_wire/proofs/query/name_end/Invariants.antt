@@ -1,4 +1,4 @@
-use Rattle.std.proofs.Common.{length, ◌-◌}
+use Rattle.dns_wire.proofs.Common.{length, ◌-◌}
 use Rattle.dns_wire.proofs.QueryName.{ReadTo}
 use Rattle.dns_wire.proofs.query.name_end.Given as goal
 

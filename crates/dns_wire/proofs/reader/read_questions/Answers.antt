@@ -1,4 +1,4 @@
-use Rattle.dns_spec.proofs.Common.{refl, arith, ap, length, length-append}
+use Rattle.dns_wire.proofs.Common.{refl, arith, ap, length, length-append}
 use Rattle.dns_wire.proofs.Anyway.{anyway}
 use Rattle.dns_wire.proofs.ReadLemmas.{no_qtype, no_qclass, questions_in, read_more, read_none, read_end}
 use Rattle.dns_wire.proofs.reader.read_questions.Goals as goal

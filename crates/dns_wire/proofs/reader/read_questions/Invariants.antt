@@ -1,5 +1,4 @@
-use Rattle.std.proofs.Common.{◌≡◌, length}
-use Rattle.dns_wire.specs.Read.{QuestionsRead}
+use Rattle.dns_wire.proofs.Common.{◌≡◌, length, QuestionsRead}
 use Rattle.dns_wire.proofs.reader.read_questions.Given as goal
 
 abbrev pub invariant-questions : goal.invariant-questions

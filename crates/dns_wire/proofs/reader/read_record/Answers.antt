@@ -1,4 +1,4 @@
-use Rattle.dns_spec.proofs.Common.{refl, arith}
+use Rattle.dns_wire.proofs.Common.{refl, arith}
 use Rattle.dns_wire.proofs.Anyway.{anyway, handed_on}
 use Rattle.dns_wire.proofs.ReadLemmas.{too_short, no_room, no_data}
 use Rattle.dns_wire.proofs.reader.read_record.Goals as goal

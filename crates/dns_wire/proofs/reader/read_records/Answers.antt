@@ -1,4 +1,4 @@
-use Rattle.dns_spec.proofs.Common.{arith, ap, length, length-append}
+use Rattle.dns_wire.proofs.Common.{arith, ap, length, length-append}
 use Rattle.dns_wire.proofs.Anyway.{handed_on}
 use Rattle.dns_wire.proofs.ReadLemmas.{records_in, read_more, read_none, read_end}
 use Rattle.dns_wire.proofs.reader.read_records.Goals as goal

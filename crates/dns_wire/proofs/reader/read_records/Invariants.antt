@@ -1,5 +1,4 @@
-use Rattle.std.proofs.Common.{◌≡◌, length}
-use Rattle.dns_wire.specs.Read.{RecordsRead}
+use Rattle.dns_wire.proofs.Common.{◌≡◌, length, RecordsRead}
 use Rattle.dns_wire.proofs.reader.read_records.Given as goal
 
 abbrev pub invariant-records : goal.invariant-records

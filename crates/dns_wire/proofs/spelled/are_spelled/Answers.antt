@@ -1,4 +1,4 @@
-use Rattle.std.proofs.Common.{rules, arith, ap, sym, ◌∙◌, length}
+use Rattle.dns_wire.proofs.Common.{rules, arith, ap, sym, ◌∙◌, length}
 use Rattle.dns_wire.proofs.SpelledLemmas.{spelled_end, root_alone, spelled_label, spelled_jump, spelled_whole, named_after, spelled_front}
 use Rattle.dns_wire.proofs.spelled.are_spelled.Goals as goal
 
@@ -6,7 +6,8 @@ pub returns-in-End-clause-yes : goal.returns-in-End-clause-yes
 returns-in-End-clause-yes c = λ yes n e ok.
     let root = rw c.in-End.is at c.in-Ok.ensures.step in
     let m = c.steps.invariant.named n e ok in
-    c.steps.invariant.forth ((spelled_end root).0 (m.1 ∙ root_alone m.0 (ap length (sym m.1) ∙ search rules)))
+    c.steps.invariant.forth
+    ((spelled_end root).0 (m.1 ∙ root_alone m.0 (ap length (sym m.1) ∙ search rules)))
 
 pub returns-in-End-clause-no : goal.returns-in-End-clause-no
 returns-in-End-clause-no c = grind (arith, spelled_end)

@@ -1,5 +1,4 @@
-use Rattle.dns_spec.proofs.Common.{◌≡◌, true, ◌≤◌, length, ◌+◌, ◌-◌, ◌*◌, DomainName, wire, is_name}
-use Rattle.dns_wire.specs.Kept.{SpelledFrom}
+use Rattle.dns_wire.proofs.Common.{◌≡◌, true, ◌≤◌, length, ◌+◌, ◌-◌, ◌*◌, DomainName, wire, is_name, SpelledFrom}
 use Rattle.dns_wire.proofs.spelled.are_spelled.Given as goal
 
 -- what is left to compare decides as the whole does, and is a name's where the whole is
@@ -7,7 +6,8 @@ abbrev pub invariant-steps : goal.invariant-steps
 invariant-steps l = record {
   forth : SpelledFrom l.message l.run l.place l.rest → SpelledFrom l.message l.at l.at l.suffix;
   back : SpelledFrom l.message l.at l.at l.suffix → SpelledFrom l.message l.run l.place l.rest;
-  named : (n : DomainName) → l.suffix ≡ wire n → is_name n ≡ true → (m : DomainName) × (l.rest ≡ wire m) × (is_name m ≡ true);
+  named : (n : DomainName) → l.suffix ≡ wire n
+      → is_name n ≡ true → (m : DomainName) × (l.rest ≡ wire m) × (is_name m ≡ true);
   begun : l.run ≤ l.place;
 }
 

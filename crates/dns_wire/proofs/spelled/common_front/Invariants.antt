@@ -1,4 +1,4 @@
-use Rattle.std.proofs.Common.{◌-◌, length}
+use Rattle.dns_wire.proofs.Common.{◌-◌, length}
 use Rattle.dns_wire.proofs.CommonFront.{InCommon}
 use Rattle.dns_wire.proofs.spelled.common_front.Given as goal
 

@@ -1,4 +1,4 @@
-use Rattle.dns_wire.specs.Kept.{SpelledAt}
+use Rattle.dns_wire.proofs.Common.{SpelledAt}
 use Rattle.dns_wire.proofs.spelled.may_be_spelled.Given as goal
 
 -- what is left is spelled where the whole is

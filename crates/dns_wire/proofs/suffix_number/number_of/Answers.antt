@@ -1,5 +1,4 @@
-use Rattle.std.proofs.Common.{◌+◌, ◌*◌, ◌/◌, ◌%◌, ◌∙◌, ap, ap₂, length}
-use Rattle.dns_wire.specs.SuffixNumbers.{suffix_number}
+use Rattle.dns_wire.proofs.Common.{◌+◌, ◌*◌, ◌/◌, ◌%◌, ◌∙◌, ap, ap₂, length, suffix_number}
 use Rattle.dns_wire.proofs.suffix_number.number_of.Goals as goal
 
 pub returns-clause-value : goal.returns-clause-value

@@ -1,6 +1,4 @@
-use Rattle.std.proofs.Common.{arith, le-leb}
-use Rattle.std.proofs.lemmas.Bool.{lt-leb}
-use Rattle.dns_wire.specs.SuffixNumbers.{octets_number}
+use Rattle.dns_wire.proofs.Common.{arith, le-leb, lt-leb, octets_number}
 use Rattle.dns_wire.proofs.suffix_number.octets_number.Goals as goal
 
 pub returns-then-octets-le8-clause-value : goal.returns-then-octets-le8-clause-value

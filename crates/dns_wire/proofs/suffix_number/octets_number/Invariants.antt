@@ -1,5 +1,4 @@
-use Rattle.std.proofs.Common.{◌≡◌}
-use Rattle.dns_wire.specs.SuffixNumbers.{with_eights}
+use Rattle.dns_wire.proofs.Common.{◌≡◌, with_eights}
 use Rattle.dns_wire.proofs.suffix_number.octets_number.Given as goal
 
 -- the number of the eights so far

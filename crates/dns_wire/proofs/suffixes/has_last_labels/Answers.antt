@@ -1,4 +1,4 @@
-use Rattle.dns_spec.proofs.Common.{◌∙◌, ◌++◌, ◌∷◌, sym, ap, length, false≢true, eq-eqb, wire}
+use Rattle.dns_wire.proofs.Common.{◌∙◌, ◌++◌, ◌∷◌, sym, ap, length, false≢true, eq-eqb, wire}
 use Rattle.dns_wire.proofs.AskedLemmas.{last_label, last_here, wire_split}
 use Rattle.dns_wire.proofs.suffixes.has_last_labels.Goals as goal
 
@@ -16,4 +16,5 @@ pub returns-clause-no : goal.returns-clause-no
 returns-clause-no c = λ no n front t l e ok whole is.
     let over = c.labels-test.false in
     let here = last_here c.labels.invariant over n front t l e ok whole (ap length is) in
-    false≢true (sym no ∙ eq-eqb (length c.labels.rest.now) (length c.args.suffix.now) (ap length (here ∙ is)))
+    false≢true (sym no
+    ∙ eq-eqb (length c.labels.rest.now) (length c.args.suffix.now) (ap length (here ∙ is)))

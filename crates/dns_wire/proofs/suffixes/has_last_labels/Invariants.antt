@@ -1,4 +1,4 @@
-use Rattle.std.proofs.Common.{length}
+use Rattle.dns_wire.proofs.Common.{length}
 use Rattle.dns_wire.proofs.AskedLemmas.{Last}
 use Rattle.dns_wire.proofs.suffixes.has_last_labels.Given as goal
 

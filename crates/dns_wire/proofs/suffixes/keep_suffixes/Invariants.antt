@@ -1,13 +1,12 @@
-use Rattle.std.proofs.Common.{◌≡◌, length}
-use Rattle.dns_wire.specs.Writing.{Follows}
+use Rattle.dns_wire.proofs.Common.{◌≡◌, length, Follows, suffix_number}
 use Rattle.dns_wire.proofs.SuffixLemmas.{Keep}
-use Rattle.dns_wire.specs.SuffixNumbers.{suffix_number}
 use Rattle.dns_wire.proofs.suffixes.keep_suffixes.Given as goal
 
 -- what is kept and what is to come are the new places
 abbrev pub invariant-suffixes : goal.invariant-suffixes
 invariant-suffixes g l = record {
-  keep : Keep (suffix_number (g.H.SuffixHash.numbers l.initial.hash)) l.initial.places l.places l.name l.rest l.front l.at l.place;
+  keep : Keep (suffix_number (g.H.SuffixHash.numbers l.initial.hash))
+      l.initial.places l.places l.name l.rest l.front l.at l.place;
   more : Follows l.initial.places l.places;
   same : g.H.SuffixHash.numbers l.hash ≡ g.H.SuffixHash.numbers l.initial.hash;
 }

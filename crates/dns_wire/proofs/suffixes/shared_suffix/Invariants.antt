@@ -1,7 +1,5 @@
-use Rattle.std.proofs.Common.{◌≡◌, length, ◌++◌}
-use Rattle.dns_wire.specs.Writing.{asked_places}
+use Rattle.dns_wire.proofs.Common.{◌≡◌, length, ◌++◌, asked_places, suffix_number}
 use Rattle.dns_wire.proofs.SuffixLemmas.{Left}
-use Rattle.dns_wire.specs.SuffixNumbers.{suffix_number}
 use Rattle.dns_wire.proofs.suffixes.shared_suffix.Given as goal
 
 -- the rest of the name is laid out as the whole ends
@@ -9,7 +7,8 @@ abbrev pub invariant-suffixes : goal.invariant-suffixes
 invariant-suffixes g l =
     let head = suffix_number (g.H.SuffixHash.numbers l.initial.hash) in
     record {
-      left : Left head l.message (asked_places head l.message l.asked_end ++ l.places) l.name l.rest;
+      left : Left head l.message
+          (asked_places head l.message l.asked_end ++ l.places) l.name l.rest;
       same : g.H.SuffixHash.numbers l.hash ≡ g.H.SuffixHash.numbers l.initial.hash;
     }
 

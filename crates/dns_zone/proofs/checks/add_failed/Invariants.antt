@@ -1,11 +1,11 @@
-use Rattle.std.proofs.Common.{◌≡◌, ◌≤◌, ◌+◌, ◌++◌, length}
-use Rattle.dns_zone.specs.ReportedForm.{failed_from}
+use Rattle.dns_zone.proofs.Common.{◌≡◌, ◌≤◌, ◌+◌, ◌++◌, length, failed_from}
 use Rattle.dns_zone.proofs.checks.add_failed.Given as goal
 
 -- the faults of the rest, after what was found, are all of them
 abbrev pub invariant-checks : goal.invariant-checks
 invariant-checks l = record {
-  all : l.found.items ++ failed_from l.name l.code l.rest ≡ l.initial.found.items ++ failed_from l.name 1 l.failed;
+  all : l.found.items
+      ++ failed_from l.name l.code l.rest ≡ l.initial.found.items ++ failed_from l.name 1 l.failed;
   codes : l.code + length l.rest ≤ 255;
 }
 

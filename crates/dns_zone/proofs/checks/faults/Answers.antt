@@ -1,7 +1,4 @@
-use Rattle.dns_spec.proofs.Common.{rules, ◌≡◌, ◌-◌, List, length, map, ap, arith, length-take, take_all, flat_map, ZoneContents, wire, Fault, faults}
-use Rattle.dns_zone.specs.NamesForm.{name_of}
-use Rattle.dns_zone.specs.ReportedForm.{reported_at}
-use Rattle.dns_zone.specs.declared.checks.names.CheckedName.{CheckedName}
+use Rattle.dns_zone.proofs.Common.{rules, ◌≡◌, ◌-◌, List, length, map, ap, arith, length-take, take_all, flat_map, ZoneContents, wire, Fault, faults, name_of, reported_at, CheckedName}
 use Rattle.dns_zone.proofs.KeyOrder.{key_length}
 use Rattle.dns_zone.proofs.checks.faults.Goals as goal
 

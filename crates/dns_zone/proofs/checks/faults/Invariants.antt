@@ -1,6 +1,4 @@
-use Rattle.dns_spec.proofs.Common.{◌≡◌, take, map, flat_map}
-use Rattle.dns_zone.specs.NamesForm.{name_of}
-use Rattle.dns_zone.specs.ReportedForm.{reported_at}
+use Rattle.dns_zone.proofs.Common.{◌≡◌, take, map, flat_map, name_of, reported_at}
 use Rattle.dns_zone.proofs.checks.faults.Given as goal
 
 -- the faults of the names so far

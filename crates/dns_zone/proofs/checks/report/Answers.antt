@@ -1,6 +1,4 @@
-use Rattle.dns_spec.proofs.Common.{arith, rules, ◌≡◌, sym, ap, ◌∙◌, DomainName, Octets, folded, same, octets_equal}
-use Rattle.dns_spec.proofs.DomainNames.NameLaws.{names_equal-decides, octets_equal-decides, same_tests}
-use Rattle.dns_zone.specs.KeyForm.{name_key}
+use Rattle.dns_zone.proofs.Common.{arith, rules, ◌≡◌, sym, ap, ◌∙◌, DomainName, Octets, folded, same, octets_equal, names_equal-decides, octets_equal-decides, same_tests, name_key}
 use Rattle.dns_zone.proofs.CheckedNames.{one_key}
 use Rattle.dns_zone.proofs.ReportedNames.{failed_reported}
 use Rattle.dns_zone.proofs.TopmostCut.{below_topmost}

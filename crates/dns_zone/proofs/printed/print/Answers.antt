@@ -1,4 +1,4 @@
-use Rattle.dns_spec.proofs.Common.{◌≤◌, All, length, subst, DomainName, ZoneContents, most_octets, Means, records, HasZoneType, printed_records, zone_text}
+use Rattle.dns_zone.proofs.Common.{◌≤◌, All, length, subst, DomainName, ZoneContents, most_octets, Means, records, HasZoneType, printed_records, zone_text}
 use Rattle.dns_zone.proofs.printed.print.Goals as goal
 
 pub returns-clause-meaning : goal.returns-clause-meaning

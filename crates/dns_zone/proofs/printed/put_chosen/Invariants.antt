@@ -1,14 +1,12 @@
-use Rattle.std.proofs.Common.{◌≡◌, ◌≤◌, ◌++◌, length, drop, filter, flat_map, IfSome}
-use Rattle.dns_spec.specs.ZonePrinted.{record_line}
-use Rattle.dns_name.specs.Counted.{AppendsAllBut}
-use Rattle.dns_zone.specs.ZoneForm.{is_chosen}
+use Rattle.dns_zone.proofs.Common.{◌≡◌, ◌≤◌, ◌++◌, length, drop, filter, flat_map, IfSome, record_line, AppendsAllBut, is_chosen}
 use Rattle.dns_zone.proofs.PrintedRecords.{front_text}
 use Rattle.dns_zone.proofs.printed.put_chosen.Given as goal
 
 -- the chosen records that are left are still to be put
 abbrev pub invariant-records : goal.invariant-records
 invariant-records g l = record {
-  fills : AppendsAllBut (g.W.Write.contents l.initial.sink.device) (g.W.Write.contents l.sink.device)
+  fills : AppendsAllBut
+      (g.W.Write.contents l.initial.sink.device) (g.W.Write.contents l.sink.device)
       (l.initial.text ++ flat_map record_line (filter (is_chosen l.is_soa) l.records))
       (l.text ++ flat_map record_line (filter (is_chosen l.is_soa) (drop l.entry-index l.records)));
   front : IfSome l.last (λ r. (l.front ≡ front_text r.now) × (length l.front ≤ 1035));

@@ -1,34 +1,40 @@
-use Rattle.dns_spec.proofs.Common.{rules, ◌++◌, codes, ◌∙◌, ap, type_text}
-use Rattle.dns_name.proofs.Results.{OnErr-always}
-use Rattle.dns_name.proofs.WritesLemmas.{held_less, held_begun}
+use Rattle.dns_zone.proofs.Common.{rules, ◌++◌, codes, ◌∙◌, ap, type_text, OnErr-always, held_less, held_begun}
 use Rattle.dns_zone.proofs.PrintedRecords.{line_held}
 use Rattle.dns_zone.proofs.printed.put_record.Goals as goal
 
 pub returns-in_err-put_text : goal.returns-in_err-put_text
 returns-in_err-put_text g c =
-    let front = c.push.ensures ∙ ap (λ t. t ++ codes " ") (c.append_text.ensures.text ∙ ap (λ t. t ++ type_text c.entry.inside.rtype.0) c.append.ensures) in
-    let held = line_held _ _ _ _ _ _ _ _ _ c.in_ok-make_room.ensures.fills.ok c.requires.front c.entry.view_is front c.rdata.ensures.value in
+    let front = c.push.ensures ∙ ap (λ t. t ++ codes " ") (c.append_text.ensures.text
+    ∙ ap (λ t. t ++ type_text c.entry.inside.rtype.0) c.append.ensures) in
+    let held = line_held _ _ _ _ _ _ _ _ _ c.in_ok-make_room.ensures.fills.ok
+    c.requires.front c.entry.view_is front c.rdata.ensures.value in
     record {
       ok = search rules;
-      err = OnErr-always c.from_residual-in_err-put_text.result (held_begun _ _ _ _ _ _ held c.in_err-put_text.ensures.err);
+      err = OnErr-always c.from_residual-in_err-put_text.result
+          (held_begun _ _ _ _ _ _ held c.in_err-put_text.ensures.err);
       counted = search rules;
     }
 
 pub returns-in_err-make_room-2 : goal.returns-in_err-make_room-2
 returns-in_err-make_room-2 g c =
-    let front = c.push.ensures ∙ ap (λ t. t ++ codes " ") (c.append_text.ensures.text ∙ ap (λ t. t ++ type_text c.entry.inside.rtype.0) c.append.ensures) in
-    let held = line_held _ _ _ _ _ _ _ _ _ c.in_ok-make_room.ensures.fills.ok c.requires.front c.entry.view_is front c.rdata.ensures.value in
+    let front = c.push.ensures ∙ ap (λ t. t ++ codes " ") (c.append_text.ensures.text
+    ∙ ap (λ t. t ++ type_text c.entry.inside.rtype.0) c.append.ensures) in
+    let held = line_held _ _ _ _ _ _ _ _ _ c.in_ok-make_room.ensures.fills.ok
+    c.requires.front c.entry.view_is front c.rdata.ensures.value in
     let less = held_less _ _ _ _ _ _ _ held c.in_ok-put_text.ensures.ok in
     record {
       ok = search rules;
-      err = OnErr-always c.from_residual-in_err-make_room-2.result (held_begun _ _ _ _ _ _ less c.in_err-make_room-2.ensures.fills.err);
+      err = OnErr-always c.from_residual-in_err-make_room-2.result
+          (held_begun _ _ _ _ _ _ less c.in_err-make_room-2.ensures.fills.err);
       counted = search rules;
     }
 
 pub returns : goal.returns
 returns g c =
-    let front = c.push.ensures ∙ ap (λ t. t ++ codes " ") (c.append_text.ensures.text ∙ ap (λ t. t ++ type_text c.entry.inside.rtype.0) c.append.ensures) in
-    let held = line_held _ _ _ _ _ _ _ _ _ c.in_ok-make_room.ensures.fills.ok c.requires.front c.entry.view_is front c.rdata.ensures.value in
+    let front = c.push.ensures ∙ ap (λ t. t ++ codes " ") (c.append_text.ensures.text
+    ∙ ap (λ t. t ++ type_text c.entry.inside.rtype.0) c.append.ensures) in
+    let held = line_held _ _ _ _ _ _ _ _ _ c.in_ok-make_room.ensures.fills.ok
+    c.requires.front c.entry.view_is front c.rdata.ensures.value in
     let less = held_less _ _ _ _ _ _ _ held c.in_ok-put_text.ensures.ok in
     record {
       ok = rw c.push-2.ensures (held_less _ _ _ _ _ _ _ less c.in_ok-make_room-2.ensures.fills.ok);

@@ -1,5 +1,4 @@
-use Rattle.dns_spec.proofs.Common.{rules}
-use Rattle.dns_spec.proofs.DomainNames.NameLaws.{names_equal-decides}
+use Rattle.dns_zone.proofs.Common.{rules, names_equal-decides}
 use Rattle.dns_zone.proofs.printed.turn_front.Goals as goal
 
 pub returns-then-eq-clause-text : goal.returns-then-eq-clause-text

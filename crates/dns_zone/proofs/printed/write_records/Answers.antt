@@ -1,9 +1,4 @@
-use Rattle.std.proofs.Common.{sym, ◌≡◌, Bool, List, [], ℕ, filter, flat_map, true, false, ◌++◌, ap, rules, subst, ◌∙◌}
-use Rattle.dns_spec.proofs.Common.{flat_map-append, record_line, soa_first, ResourceRecord}
-use Rattle.dns_name.specs.Counted.{AppendsBeginning}
-use Rattle.dns_name.proofs.Results.{OnErr-always}
-use Rattle.dns_name.proofs.WritesLemmas.{Fills-after, Writes-same, Writes-held, held_before}
-use Rattle.dns_zone.specs.ZoneForm.{is_chosen}
+use Rattle.dns_zone.proofs.Common.{sym, ◌≡◌, Bool, List, [], ℕ, filter, flat_map, true, false, ◌++◌, ap, rules, subst, ◌∙◌, flat_map-append, record_line, soa_first, ResourceRecord, AppendsBeginning, OnErr-always, Fills-after, Writes-same, Writes-held, held_before, is_chosen}
 use Rattle.dns_zone.proofs.printed.write_records.Goals as goal
 
 -- the lines of records that an SOA is, or is not
@@ -20,7 +15,8 @@ pub returns-in_err-put_chosen-2 : goal.returns-in_err-put_chosen-2
 returns-in_err-put_chosen-2 g c =
     let rs = c.args.records.now in
     let first = held_before _ _ _ _ (lines_of false rs) c.in_ok-put_chosen.ensures.ok in
-    let both = Fills-after _ _ _ first c.in_ok-put_chosen.ensures.counted c.in_err-put_chosen-2.ensures in
+    let both =
+    Fills-after _ _ _ first c.in_ok-put_chosen.ensures.counted c.in_err-put_chosen-2.ensures in
     record {
       ok = search rules;
       err = OnErr-always c.from_residual-in_err-put_chosen-2.result
@@ -32,5 +28,7 @@ pub returns : goal.returns
 returns g c =
     let rs = c.args.records.now in
     let first = held_before _ _ _ _ (lines_of false rs) c.in_ok-put_chosen.ensures.ok in
-    let both = Fills-after _ _ _ first c.in_ok-put_chosen.ensures.counted c.in_ok-put_chosen-2.ensures in
-    Writes-same (soa_then _ rs c.new-text.ensures) (Writes-held _ _ both.ok both.counted c.finish.ensures)
+    let both =
+    Fills-after _ _ _ first c.in_ok-put_chosen.ensures.counted c.in_ok-put_chosen-2.ensures in
+    Writes-same
+    (soa_then _ rs c.new-text.ensures) (Writes-held _ _ both.ok both.counted c.finish.ensures)

@@ -1,7 +1,4 @@
-use Rattle.dns_spec.proofs.Common.{rules, ◌≡◌, ℕ, ◌≤◌, ◌<◌, ◌∙◌, ap, sym, subst, List, length, get_or, get_or_default, DomainName}
-use Rattle.dns_zone.specs.TreeForm.{row_at, row_name}
-use Rattle.dns_zone.specs.TreeSteps.{IsNext, IsKidAt}
-use Rattle.dns_zone.specs.declared.tree.row.Row.{Row}
+use Rattle.dns_zone.proofs.Common.{rules, ◌≡◌, ℕ, ◌≤◌, ◌<◌, ◌∙◌, ap, sym, subst, List, length, get_or, get_or_default, DomainName, row_at, row_name, IsNext, IsKidAt, Row}
 use Rattle.dns_zone.proofs.KidRows.{is_under}
 use Rattle.dns_zone.proofs.Spans.{none_past}
 use Rattle.dns_zone.proofs.GrowingKids.{Adding, start, next_is, step, done}

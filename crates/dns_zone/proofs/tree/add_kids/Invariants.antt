@@ -1,5 +1,4 @@
-use Rattle.std.proofs.Common.{◌-◌}
-use Rattle.dns_zone.specs.TreeForm.{row_at, row_name}
+use Rattle.dns_zone.proofs.Common.{◌-◌, row_at, row_name}
 use Rattle.dns_zone.proofs.GrowingKids.{Adding}
 use Rattle.dns_zone.proofs.tree.add_kids.Given as goal
 

@@ -1,8 +1,4 @@
-use Rattle.dns_spec.proofs.Common.{◌≡◌, ◌+◌, ◌-◌, ◌≤◌, true, List, ap, ap₂, sym, ◌∙◌, subst, length, take, drop, map, filter, arith, length-append, length-drop, length-take, to_ascii_lowercase, IsPartitionedBy, DomainName, Octets, wire, at_or_below, ResourceRecord}
-use Rattle.dns_spec.proofs.Records.SortedOnce.{Each, each_weaker, filter_each}
-use Rattle.dns_name.specs.WireForm.{labels_of}
-use Rattle.dns_zone.specs.LabelKey.{IsKey}
-use Rattle.dns_zone.specs.TreeForm.{span, under}
+use Rattle.dns_zone.proofs.Common.{◌≡◌, ◌+◌, ◌-◌, ◌≤◌, true, List, ap, ap₂, sym, ◌∙◌, subst, length, take, drop, map, filter, arith, length-append, length-drop, length-take, to_ascii_lowercase, IsPartitionedBy, DomainName, Octets, wire, at_or_below, ResourceRecord, Each, each_weaker, filter_each, labels_of, IsKey, span, under}
 use Rattle.dns_zone.proofs.AtName.{is_at}
 use Rattle.dns_zone.proofs.BoundedKids.{none_at, none_under, widened}
 use Rattle.dns_zone.proofs.ChildNames.{cons_under}
@@ -40,12 +36,7 @@ overflow_sub-result c =
     let child =
     child_there _ c.requires.canonical _ _ c.requires.next _ c.index-records-next.is _ _ _
     c.requires.parent.wire_is c.owner-owner.ensures.value c.shortest_end-name.ensures in
-    omega (
-      arith,
-      ap length (c.octets.ensures.value ∙ ap wire c.owner-owner.ensures.value ∙ child.end),
-      length-append child.front (wire c.shortest_end-name.result),
-      ap length c.octets-2.ensures.value,
-    )
+    grind (arith, wire, length-append)
 
 pub returns : goal.returns
 returns c =
@@ -75,13 +66,7 @@ returns c =
     omega (arith, length-take (end - next) (drop next rs)) in
     let own_fits : own ≤ length others = c.count_in_front-own.ensures.bound in
     let fits : own + count ≤ length others =
-    omega (
-      arith,
-      c.count_under.ensures.bound,
-      ap length c.split_at.ensures.back,
-      length-drop own others,
-      own_fits,
-    ) in
+    grind (arith, length-drop) in
     let below_is : take count (drop own others) ≡ under m (drop own others) =
     rw (← c.split_at.ensures.back) c.count_under.ensures.passing in
     let front_is : Each (λ s. is_under m s ≡ true) (take own others) =

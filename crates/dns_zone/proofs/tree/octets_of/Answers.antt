@@ -1,7 +1,4 @@
-use Rattle.dns_spec.proofs.Common.{rules, ap, ◌∙◌}
-use Rattle.dns_name.specs.WireForm.{labels_of}
-use Rattle.dns_name.proofs.WireLemmas.{IsWireForm-wire}
-use Rattle.dns_zone.specs.TreeForm.{row_octets, row_name}
+use Rattle.dns_zone.proofs.Common.{rules, ap, ◌∙◌, labels_of, IsWireForm-wire, row_octets, row_name}
 use Rattle.dns_zone.proofs.KidRows.{owner_at}
 use Rattle.dns_zone.proofs.tree.octets_of.Goals as goal
 

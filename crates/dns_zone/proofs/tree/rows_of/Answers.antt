@@ -1,6 +1,4 @@
-use Rattle.dns_spec.proofs.Common.{map, filter, take, to_ascii_lowercase, Octets, ◌≡◌, ◌<◌, ◌≤◌, ◌⊎◌, inl, inr, ◌∷◌, ◌++◌, [], ◌+◌, ◌∙◌, ap, sym, subst, length, vec_len, ℕ, List, arith, cases_lt}
-use Rattle.dns_zone.specs.declared.tree.row.Row.{Row}
-use Rattle.dns_zone.specs.LabelKey.{IsKey}
+use Rattle.dns_zone.proofs.Common.{map, filter, take, to_ascii_lowercase, Octets, ◌≡◌, ◌<◌, ◌≤◌, ◌⊎◌, inl, inr, ◌∷◌, ◌++◌, [], ◌+◌, ◌∙◌, ap, sym, subst, length, vec_len, ℕ, List, arith, cases_lt, Row, IsKey}
 use Rattle.dns_zone.proofs.AtName.{is_at}
 use Rattle.dns_zone.proofs.OwnersWalk.{front}
 use Rattle.dns_zone.proofs.OriginRow.{own_in_front, origin_is_row}
@@ -18,7 +16,14 @@ rows-init c =
     own_is _ _ (ap length c.first_octets-label.ensures.value)
     (subst (λ (l : Octets). IsKey c.label_key.result (map to_ascii_lowercase l))
     c.first_octets-label.ensures.value c.label_key.ensures) in
-    let r : Row = record { first = 0; own_end = c.count_in_front.result; end = length rs; place = 0; label_octets = length c.first_octets-label.result.now; key = c.label_key.result } in
+    let r : Row = record {
+      first = 0;
+      own_end = c.count_in_front.result;
+      end = length rs;
+      place = 0;
+      label_octets = length c.first_octets-label.result.now;
+      key = c.label_key.result;
+    } in
     let rows : c.push.new.self.items ≡ r ∷ [] =
     c.in_ok-push.ensures.items ∙ ap (λ (xs : List Row). xs ++ r ∷ []) c.new-rows.ensures.items in
     let bounds : c.push-2.new.self.items ≡ 1 ∷ [] =

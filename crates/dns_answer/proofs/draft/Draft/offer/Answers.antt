@@ -1,4 +1,4 @@
-use Rattle.std.proofs.Common.{rules}
+use Rattle.dns_answer.proofs.Common.{rules}
 use Rattle.dns_answer.proofs.Offering.{Offers-full, put_in, left_out}
 use Rattle.dns_answer.proofs.draft.Draft.offer.Goals as goal
 
@@ -11,4 +11,5 @@ returns-then-not-put_set g c = search (rules, left_out)
 pub returns-else-not-put_set : goal.returns-else-not-put_set
 returns-else-not-put_set g c =
     let p = c.put_set.ensures in
-    put_in _ _ c.put_set.new.self _ _ _ c.self.view_is (search rules) c.if-self.false c.if-not-put_set.false p.limit p.fits p.put
+    put_in _ _ c.put_set.new.self _ _ _ c.self.view_is
+    (search rules) c.if-self.false c.if-not-put_set.false p.limit p.fits p.put

@@ -1,5 +1,4 @@
-use Rattle.std.proofs.Common.{rules}
-use Rattle.dns_spec.proofs.DataWords.LoweredData.{folded-folded}
+use Rattle.dns_master.proofs.Common.{rules, folded-folded}
 use Rattle.dns_master.proofs.record.Record.spell_owner.Goals as goal
 
 pub invariant_of-self : goal.invariant_of-self

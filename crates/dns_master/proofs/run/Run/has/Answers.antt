@@ -1,4 +1,4 @@
-use Rattle.std.proofs.Common.{rules}
+use Rattle.dns_master.proofs.Common.{rules}
 use Rattle.dns_master.proofs.RunTable.{in-words, in-strings}
 use Rattle.dns_master.proofs.run.Run.has.Goals as goal
 

@@ -1,5 +1,4 @@
-use Rattle.dns_spec.proofs.Common.{rules, length, drop, ap, arith, drop_all}
-use Rattle.dns_master.specs.TokenForm.{by_itself}
+use Rattle.dns_master.proofs.Common.{rules, length, drop, ap, arith, drop_all, by_itself}
 use Rattle.dns_master.proofs.RunLemmas.{here-itself, here-end, here-escape, here-no_escape, run-front, run-none}
 use Rattle.dns_master.proofs.run.Run.length.Goals as goal
 
@@ -14,7 +13,8 @@ units-preserved c = search (rules, here-escape)
 
 pub returns-after-units-clause-value : goal.returns-after-units-clause-value
 returns-after-units-clause-value c =
-    let none = run-none (by_itself c.args.self) (drop c.units.place c.args.text.now) (ap length (drop_all c.units.place c.args.text.now c.units-test.false)) in
+    let none = run-none (by_itself c.args.self) (drop c.units.place c.args.text.now)
+    (ap length (drop_all c.units.place c.args.text.now c.units-test.false)) in
     omega (arith, none, c.units.invariant.whole)
 
 pub returns-then-octet-ne92-clause-value : goal.returns-then-octet-ne92-clause-value

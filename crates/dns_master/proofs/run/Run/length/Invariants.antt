@@ -1,11 +1,11 @@
-use Rattle.dns_spec.proofs.Common.{◌≡◌, ◌+◌, ◌-◌, ◌≤◌, length, drop, run_length}
-use Rattle.dns_master.specs.TokenForm.{by_itself}
+use Rattle.dns_master.proofs.Common.{◌≡◌, ◌+◌, ◌-◌, ◌≤◌, length, drop, run_length, by_itself}
 use Rattle.dns_master.proofs.run.Run.length.Given as goal
 
 -- the octets so far, and those of the run that goes on from there, are those of the whole
 abbrev pub invariant-units : goal.invariant-units
 invariant-units l = record {
-  whole : run_length (by_itself l.self) 0 l.text ≡ l.place + run_length (by_itself l.self) 0 (drop l.place l.text);
+  whole : run_length
+      (by_itself l.self) 0 l.text ≡ l.place + run_length (by_itself l.self) 0 (drop l.place l.text);
   bound : l.place ≤ length l.text;
 }
 

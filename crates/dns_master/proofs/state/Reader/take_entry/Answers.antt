@@ -1,51 +1,73 @@
-use Rattle.dns_spec.proofs.Common.{rules, ◌≡◌, ◌+◌, ◌∷◌, ◌++◌, None, true, subst, sym, ap, ◌∙◌, arith, unwrap_or, bad_parenthesis, fault_code, ended, EntryKind, KindGives, faulty, line_after}
-use Rattle.dns_master.specs.EntryForm.{IsWhole}
-use Rattle.dns_name.proofs.Results.{fault_handed_on}
+use Rattle.dns_master.proofs.Common.{rules, ◌≡◌, ◌+◌, ◌∷◌, ◌++◌, None, true, subst, sym, ap, ◌∙◌, arith, unwrap_or, bad_parenthesis, fault_code, ended, EntryKind, KindGives, faulty, line_after, IsWhole, fault_handed_on, later_words}
 use Rattle.dns_master.proofs.TextSteps.{wrong-faulty, same_sort, entry-means, entry-faulty, entry-ends_faulty, entry-line, entry-shorter}
 use Rattle.dns_master.proofs.PieceSteps.{always, end-faulty, entry-on}
-use Rattle.dns_master.specs.WordsLeft.{later_words}
 use Rattle.dns_master.proofs.Refusals.{ForFault-map}
 use Rattle.dns_master.proofs.state.Reader.take_entry.Goals as goal
 
 pub returns-in_err-end-clause-err : goal.returns-in_err-end-clause-err
 returns-in_err-end-clause-err c =
-    fault_handed_on c.from_residual.result c.in_err-end.field-0.0 _ c.from_residual.ensures.1 (ForFault-map c.in_err-end.field-0.0 (λ fault reported more past may o earlier known line.
-    rw reported.0 (rw line (end-faulty c.args.goes_on o earlier c.args.text.now more past bad_parenthesis (line_after earlier) may
-    (wrong-faulty o earlier (unwrap_or c.args.goes_on true) c.args.text.now reported.1) (λ _ e. omega (arith, ap fault_code e))))) c.in_err-end.ensures.err)
+    fault_handed_on c.from_residual.result c.in_err-end.field-0.0 _ c.from_residual.ensures.1
+    (ForFault-map c.in_err-end.field-0.0
+    (λ fault reported more past may o earlier known line. rw reported.0 (rw line (end-faulty
+    c.args.goes_on o earlier c.args.text.now more past bad_parenthesis (line_after earlier) may
+    (wrong-faulty o earlier (unwrap_or c.args.goes_on true) c.args.text.now reported.1)
+    (λ _ e. omega (arith, ap fault_code e))))) c.in_err-end.ensures.err)
 
 pub returns-in_err-is_whole-clause-err : goal.returns-in_err-is_whole-clause-err
 returns-in_err-is_whole-clause-err c =
-    fault_handed_on c.from_residual-in_err-is_whole.result c.in_err-is_whole.field-0.0 _ c.from_residual-in_err-is_whole.ensures.1
+    fault_handed_on c.from_residual-in_err-is_whole.result
+    c.in_err-is_whole.field-0.0 _ c.from_residual-in_err-is_whole.ensures.1
     (ForFault-map c.in_err-is_whole.field-0.0 (λ fault reported more past may o earlier known line.
-    rw line (end-faulty c.args.goes_on o earlier c.args.text.now more past fault (line_after earlier) may
-    (entry-ends_faulty o earlier (unwrap_or c.args.goes_on true) c.args.text.now c.in_ok-end.end.rest.now _ _ c.in_ok-end.end.is_ended c.in_ok-end.end.is_open c.in_ok-end.ensures.ok
-    reported.0 fault reported.1) reported.2)) c.in_err-is_whole.ensures.err)
+    rw line (end-faulty c.args.goes_on o earlier c.args.text.now more past fault
+    (line_after earlier) may (entry-ends_faulty o earlier (unwrap_or c.args.goes_on true)
+    c.args.text.now c.in_ok-end.end.rest.now _ _ c.in_ok-end.end.is_ended
+    c.in_ok-end.end.is_open c.in_ok-end.ensures.ok reported.0 fault reported.1) reported.2))
+    c.in_err-is_whole.ensures.err)
 
 pub returns-in_err-taken-clause-err : goal.returns-in_err-taken-clause-err
 returns-in_err-taken-clause-err c =
-    let sort = same_sort c.args.text.now c.read_entry.new.kept.items c.as_slice.result.now (later_words c.in_ok-end.end.later) _ _ c.is_some_and-is_blank_led.result c.in_ok-end.ensures.ok
+    let sort = same_sort c.args.text.now c.read_entry.new.kept.items c.as_slice.result.now
+    (later_words c.in_ok-end.end.later)
+    _ _ c.is_some_and-is_blank_led.result c.in_ok-end.ensures.ok
     (search rules) c.as_slice.ensures.value in
-    let whole = always (IsWhole c.args.goes_on c.in_ok-end.end.is_ended c.in_ok-end.end.is_open c.in_ok-end.end.rest.now) (c.args.goes_on ≡ None) _ c.if-not-branch.false c.in_ok-is_whole.ensures.ok in
-    fault_handed_on c.from_residual-in_err-taken.result c.in_err-taken.field-0.0 _ c.from_residual-in_err-taken.ensures.1 (ForFault-map c.in_err-taken.field-0.0 (λ fault given more past may o earlier known line.
-    let on = entry-on c.args.goes_on more past c.args.text.now c.in_ok-end.end.rest.now _ _ _ _ may whole c.in_ok-end.ensures.ok in
-    rw line (entry-faulty o earlier past (c.args.text.now ++ more) (c.in_ok-end.end.rest.now ++ more) _ _ c.in_ok-end.end.is_ended c.in_ok-end.end.is_open on.0 on.1 fault
-    (subst (λ (s : EntryKind). KindGives o earlier s (faulty fault)) (sym sort) (given o earlier known)))) c.in_err-taken.ensures.err)
+    let whole = always (IsWhole
+    c.args.goes_on c.in_ok-end.end.is_ended c.in_ok-end.end.is_open c.in_ok-end.end.rest.now)
+    (c.args.goes_on ≡ None) _ c.if-not-branch.false c.in_ok-is_whole.ensures.ok in
+    fault_handed_on c.from_residual-in_err-taken.result
+    c.in_err-taken.field-0.0 _ c.from_residual-in_err-taken.ensures.1
+    (ForFault-map c.in_err-taken.field-0.0 (λ fault given more past may o earlier known line.
+    let on = entry-on c.args.goes_on more
+    past c.args.text.now c.in_ok-end.end.rest.now _ _ _ _ may whole c.in_ok-end.ensures.ok in
+    rw line (entry-faulty o earlier past (c.args.text.now ++ more)
+    (c.in_ok-end.end.rest.now ++ more) _ _ c.in_ok-end.end.is_ended c.in_ok-end.end.is_open
+    on.0 on.1 fault (subst (λ (s : EntryKind). KindGives o earlier s (faulty fault))
+    (sym sort) (given o earlier known)))) c.in_err-taken.ensures.err)
 
 pub returns-clause-ok : goal.returns-clause-ok
 returns-clause-ok c =
-    let sort = same_sort c.args.text.now c.read_entry.new.kept.items c.as_slice.result.now (later_words c.in_ok-end.end.later) _ _ c.is_some_and-is_blank_led.result c.in_ok-end.ensures.ok
+    let sort = same_sort c.args.text.now c.read_entry.new.kept.items c.as_slice.result.now
+    (later_words c.in_ok-end.end.later)
+    _ _ c.is_some_and-is_blank_led.result c.in_ok-end.ensures.ok
     (search rules) c.as_slice.ensures.value in
-    let whole = always (IsWhole c.args.goes_on c.in_ok-end.end.is_ended c.in_ok-end.end.is_open c.in_ok-end.end.rest.now) (c.args.goes_on ≡ None) _ c.if-not-branch.false c.in_ok-is_whole.ensures.ok in
+    let whole = always (IsWhole
+    c.args.goes_on c.in_ok-end.end.is_ended c.in_ok-end.end.is_open c.in_ok-end.end.rest.now)
+    (c.args.goes_on ≡ None) _ c.if-not-branch.false c.in_ok-is_whole.ensures.ok in
     record {
       taken = λ more past later may h o earlier known line.
-          let on = entry-on c.args.goes_on more past c.args.text.now c.in_ok-end.end.rest.now _ _ _ _ may whole c.in_ok-end.ensures.ok in
-          let done = c.in_ok-taken.ensures.ok o earlier (ended c.in_ok-end.ensures.ok.tokens) known sort in
+          let on = entry-on c.args.goes_on more past
+          c.args.text.now c.in_ok-end.end.rest.now _ _ _ _ may whole c.in_ok-end.ensures.ok in
+          let done =
+          c.in_ok-taken.ensures.ok o earlier (ended c.in_ok-end.ensures.ok.tokens) known sort in
           let line_is = ap (λ n. n + c.in_ok-end.end.lines) (c.in_ok-taken.ensures.line ∙ line)
-          ∙ sym (entry-line o earlier true c.args.text.now c.in_ok-end.end.rest.now _ _ c.in_ok-end.end.is_ended c.in_ok-end.end.is_open c.in_ok-end.ensures.ok) in
-          entry-means o earlier past (c.args.text.now ++ more) (c.in_ok-end.end.rest.now ++ more) _ _ c.in_ok-end.end.is_ended c.in_ok-end.end.is_open on.0 on.1 _ done.given later
+          ∙ sym (entry-line o earlier true c.args.text.now c.in_ok-end.end.rest.now
+          _ _ c.in_ok-end.end.is_ended c.in_ok-end.end.is_open c.in_ok-end.ensures.ok) in
+          entry-means o earlier past (c.args.text.now ++ more) (c.in_ok-end.end.rest.now ++ more)
+          _ _ c.in_ok-end.end.is_ended c.in_ok-end.end.is_open on.0 on.1 _ done.given later
           (h o (ended c.in_ok-end.ensures.ok.tokens ∷ earlier) done.known line_is);
       counted = c.in_ok-taken.ensures.counted;
-      shorter = entry-shorter (unwrap_or c.args.goes_on true) c.args.text.now c.in_ok-end.end.rest.now _ _ c.in_ok-end.end.is_ended c.in_ok-end.end.is_open c.requires.some
+      shorter =
+          entry-shorter (unwrap_or c.args.goes_on true) c.args.text.now c.in_ok-end.end.rest.now
+          _ _ c.in_ok-end.end.is_ended c.in_ok-end.end.is_open c.requires.some
           c.in_ok-end.ensures.ok whole;
       lines = omega (arith, c.in_ok-end.ensures.bound, c.in_ok-taken.ensures.line);
     }

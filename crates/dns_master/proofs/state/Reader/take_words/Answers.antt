@@ -1,8 +1,4 @@
-use Rattle.dns_spec.proofs.Common.{rules, ◌≡◌, true, false, refl, subst, sym, ap, ◌∙◌, Word, text_in_lower_case, bad_owner, no_owner}
-use Rattle.dns_spec.specs.Meaning.{KindGives, directive, faulty, is_directive}
-use Rattle.dns_name.proofs.Results.{fault_handed_on}
-use Rattle.dns_master.specs.RecordForm.{SpelledOwner}
-use Rattle.dns_master.specs.WordsLeft.{words_left}
+use Rattle.dns_master.proofs.Common.{rules, ◌≡◌, true, false, refl, subst, sym, ap, ◌∙◌, Word, text_in_lower_case, bad_owner, no_owner, KindGives, directive, faulty, is_directive, fault_handed_on, SpelledOwner, words_left}
 use Rattle.dns_master.proofs.KnowsSteps.{kind-unowned, kind-owned, kind-directive, given-owner, owner-known, owner-read, owned-taken, unowned-taken}
 use Rattle.dns_master.proofs.Refusals.{ForFault-map}
 use Rattle.dns_master.proofs.state.Reader.take_words.Goals as goal
@@ -15,7 +11,8 @@ returns-in_err-take_record-clause-err c =
     (ForFault-map code (λ fault given o earlier known.
     let last = rw (owner-known c.args.self.now c.if-self-eq0.false) at known.owner_is in
     subst (λ s. KindGives o earlier s (faulty fault)) (sym kind) (given-owner o earlier _ _ last.0 _
-    last.1 last.2 c.args.self.now.low no_owner _ (given o earlier _ known))) c.in_err-take_record.ensures.err)
+    last.1 last.2 c.args.self.now.low no_owner _
+    (given o earlier _ known))) c.in_err-take_record.ensures.err)
 
 pub returns-then-is_blank_led-clause-ok : goal.returns-then-is_blank_led-clause-ok
 returns-then-is_blank_led-clause-ok c = λ o earlier e known is.
@@ -43,7 +40,8 @@ returns-in_err-take_record-2-clause-err c =
     fault_handed_on handed.result code _ handed.ensures.1
     (ForFault-map code (λ fault given o earlier known.
     subst (λ s. KindGives o earlier s (faulty fault)) (sym kind) (given-owner o earlier _ _ owner.0
-    _ (owner.1.0, (s.origin, known.origin_is, owner.1.1)) owner.2 c.spell_owner.ensures.low bad_owner _ (given o earlier _ known)))
+    _ (owner.1.0, (s.origin, known.origin_is, owner.1.1))
+    owner.2 c.spell_owner.ensures.low bad_owner _ (given o earlier _ known)))
     c.in_err-take_record-2.ensures.err)
 
 pub returns-clause-ok : goal.returns-clause-ok

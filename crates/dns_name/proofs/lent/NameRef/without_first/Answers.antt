@@ -1,4 +1,4 @@
-use Rattle.dns_spec.proofs.Common.{◌≡◌, ℕ, drop, ap, ◌∙◌, DomainName}
+use Rattle.dns_name.proofs.Common.{◌≡◌, ℕ, drop, ap, ◌∙◌, DomainName}
 use Rattle.dns_name.proofs.OrderLemmas.{drop-next}
 use Rattle.dns_name.proofs.lent.NameRef.without_first.Goals as goal
 
@@ -6,4 +6,5 @@ dropped : (s n : DomainName) (j k : ℕ) → s ≡ drop j n → j ≡ k → s �
 dropped s n j k e f = e ∙ ap (λ i. drop i n) f
 
 pub extra-preserved : goal.extra-preserved
-extra-preserved c = drop-next _ _ c.args.self.now _ c.extra.counter c.extra.invariant c.next.ensures.steps
+extra-preserved c =
+    drop-next _ _ c.args.self.now _ c.extra.counter c.extra.invariant c.next.ensures.steps

@@ -1,4 +1,4 @@
-use Rattle.std.proofs.Common.{◌≡◌, drop}
+use Rattle.dns_name.proofs.Common.{◌≡◌, drop}
 use Rattle.dns_name.proofs.lent.NameRef.without_first.Given as goal
 
 abbrev pub invariant-extra : goal.invariant-extra

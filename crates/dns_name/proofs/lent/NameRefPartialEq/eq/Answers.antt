@@ -1,6 +1,5 @@
-use Rattle.std.proofs.Common.{arith}
+use Rattle.dns_name.proofs.Common.{arith, octets_equal-decides, same_tests}
 use Rattle.dns_name.proofs.WireLemmas.{names_equal_from_octets}
-use Rattle.dns_spec.proofs.DomainNames.NameLaws.{octets_equal-decides, same_tests}
 use Rattle.dns_name.proofs.lent.NameRefPartialEq.eq.Goals as goal
 
 pub returns : goal.returns

@@ -1,6 +1,4 @@
-use Rattle.dns_spec.proofs.Common.{◌≡◌, ◌+◌, ◌-◌, ◌≤◌, ◌++◌, length, take, true, ap, sym, ◌∙◌, arith, wire, is_name, DomainName, Octets}
-use Rattle.dns_spec.proofs.DomainNames.NameLaws.{length-wire-append, is_name-append}
-use Rattle.dns_name.specs.WireForm.{labels_of, IsWireForm}
+use Rattle.dns_name.proofs.Common.{◌≡◌, ◌+◌, ◌-◌, ◌≤◌, ◌++◌, length, take, true, ap, sym, ◌∙◌, arith, wire, is_name, DomainName, Octets, length-wire-append, is_name-append, labels_of, IsWireForm}
 use Rattle.dns_name.proofs.WireLemmas.{labels_of_spelled, IsWireForm-wire, wire-append}
 use Rattle.dns_name.proofs.name.Name.append.Goals as goal
 
@@ -22,18 +20,21 @@ spells n m xs ys zs p = grind (arith, wire-append, wire_is)
 stays_name : (n m : DomainName) (xs ys zs : Octets) → Appends n m xs ys zs → is_name (n ++ m) ≡ true
 stays_name n m xs ys zs p = grind (arith, is_name-append, wire_is, length-wire-append)
 
-appends : (c : goal.After-append_octets) → Appends c.args.self.now c.args.other.now c.self.inside.octets.items c.pop.new.self.items c.append_octets.new.octets.items
+appends : (c : goal.After-append_octets) → Appends c.args.self.now c.args.other.now
+    c.self.inside.octets.items c.pop.new.self.items c.append_octets.new.octets.items
 appends c = grind arith
 
 pub returns-then-remaining_capacity-octets : goal.returns-then-remaining_capacity-octets
 returns-then-remaining_capacity-octets c = grind (arith, wire_is, length-wire-append)
 
 pub invariant_of-self : goal.invariant_of-self
-invariant_of-self c = let p = appends c in IsWireForm-wire _ _ (spells _ _ _ _ _ p) (stays_name _ _ _ _ _ p)
+invariant_of-self c =
+    let p = appends c in IsWireForm-wire _ _ (spells _ _ _ _ _ p) (stays_name _ _ _ _ _ p)
 
 pub returns : goal.returns
 returns c =
     let p = appends c in (
       labels_of_spelled _ _ (spells _ _ _ _ _ p) (stays_name _ _ _ _ _ p),
-      ap is_name (labels_of_spelled _ _ (spells _ _ _ _ _ p) (stays_name _ _ _ _ _ p)) ∙ stays_name _ _ _ _ _ p,
+      ap is_name (labels_of_spelled _ _ (spells _ _ _ _ _ p) (stays_name _ _ _ _ _ p))
+          ∙ stays_name _ _ _ _ _ p,
     )

@@ -1,4 +1,4 @@
-use Rattle.dns_spec.proofs.Common.{[], refl, ap, ◌++◌, ◌∷◌, ◌∙◌, ◌≡◌, wire}
+use Rattle.dns_name.proofs.Common.{[], refl, ap, ◌++◌, ◌∷◌, ◌∙◌, ◌≡◌, wire}
 use Rattle.dns_name.proofs.WireLemmas.{labels_of_spelled, IsWireForm-wire}
 use Rattle.dns_name.proofs.name.Name.clear.Goals as goal
 use Rattle.dns_name.proofs.name.Name.clear.Goals.{After-push}

@@ -1,5 +1,4 @@
-use Rattle.dns_spec.proofs.Common.{arith}
-use Rattle.dns_spec.proofs.DomainNames.NameLaws.{is_name-folded}
+use Rattle.dns_name.proofs.Common.{arith, is_name-folded}
 use Rattle.dns_name.proofs.WireLemmas.{IsWireForm-wire, labels_of_spelled, map-lowercase-octets}
 use Rattle.dns_name.proofs.name.Name.fold_in_place.Goals as goal
 

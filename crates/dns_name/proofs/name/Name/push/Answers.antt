@@ -1,6 +1,4 @@
-use Rattle.dns_spec.proofs.Common.{◌≡◌, ◌+◌, ◌≤◌, ◌∷◌, [], ◌++◌, length, take, ◌-◌, true, ap, sym, ◌∙◌, arith, false≢true, wire, is_name, is_label, DomainName, Octets}
-use Rattle.dns_spec.proofs.DomainNames.NameLaws.{length-wire-push, is_name-push}
-use Rattle.dns_name.specs.WireForm.{labels_of, IsWireForm}
+use Rattle.dns_name.proofs.Common.{◌≡◌, ◌+◌, ◌≤◌, ◌∷◌, [], ◌++◌, length, take, ◌-◌, true, ap, sym, ◌∙◌, arith, false≢true, wire, is_name, is_label, DomainName, Octets, length-wire-push, is_name-push, labels_of, IsWireForm}
 use Rattle.dns_name.proofs.WireLemmas.{labels_of_spelled, IsWireForm-wire, wire-push}
 use Rattle.dns_name.proofs.name.Name.push.Goals as goal
 
@@ -11,20 +9,23 @@ record Pushes (n : DomainName) (l xs ys zs : Octets) : Type 0 where
   front : ys ≡ take (length xs - 1) xs
   back : zs ≡ ((ys ++ length l ∷ []) ++ l) ++ 0 ∷ []
 
-length_more : (n : DomainName) (xs l : Octets) → IsWireForm xs → labels_of xs ≡ n → length (wire (n ++ l ∷ [])) ≡ length xs + 1 + length l
+length_more : (n : DomainName) (xs l : Octets)
+    → IsWireForm xs → labels_of xs ≡ n → length (wire (n ++ l ∷ [])) ≡ length xs + 1 + length l
 length_more n xs l form e = grind (arith, length-wire-push n l)
 
 spells : (n : DomainName) (l xs ys zs : Octets) → Pushes n l xs ys zs → zs ≡ wire (n ++ l ∷ [])
 spells n l xs ys zs p = grind (arith, wire-push)
 
-stays_name : (n : DomainName) (l xs ys zs : Octets) → Pushes n l xs ys zs → is_label l ≡ true → length xs + 1 + length l ≤ 255 → is_name (n ++ l ∷ []) ≡ true
+stays_name : (n : DomainName) (l xs ys zs : Octets) → Pushes n l xs ys zs
+    → is_label l ≡ true → length xs + 1 + length l ≤ 255 → is_name (n ++ l ∷ []) ≡ true
 stays_name n l xs ys zs p is_l fits = grind (arith, is_name-push, length_more)
 
 pub returns-then-remaining_capacity-octets-clause-fits :
     goal.returns-then-remaining_capacity-octets-clause-fits
 returns-then-remaining_capacity-octets-clause-fits c = grind (arith, length_more, false≢true)
 
-pushes : (c : goal.After-push-2) → Pushes c.args.self.now c.args.label c.self.inside.octets.items c.pop.new.self.items c.push-2.new.self.items
+pushes : (c : goal.After-push-2) → Pushes c.args.self.now
+    c.args.label c.self.inside.octets.items c.pop.new.self.items c.push-2.new.self.items
 pushes c = grind arith
 
 fits : (c : goal.After-push-2) → length c.self.inside.octets.items + 1 + length c.args.label ≤ 255
@@ -33,7 +34,8 @@ fits c = let same = ap length c.octets-octets.ensures.value in omega arith
 pub invariant_of-self : goal.invariant_of-self
 invariant_of-self c =
     let p = pushes c in
-    IsWireForm-wire _ _ (spells _ _ _ _ _ p) (stays_name _ _ _ _ _ p c.octets-octets.ensures.is_label (fits c))
+    IsWireForm-wire _ _
+    (spells _ _ _ _ _ p) (stays_name _ _ _ _ _ p c.octets-octets.ensures.is_label (fits c))
 
 pub returns-clause-fits : goal.returns-clause-fits
 returns-clause-fits c = grind (arith, length_more, fits)
@@ -46,7 +48,8 @@ returns-clause-pushed c =
 
 pub returns-then-remaining_capacity-octets-clause-is_name :
     goal.returns-then-remaining_capacity-octets-clause-is_name
-returns-then-remaining_capacity-octets-clause-is_name c = ap is_name (sym c.self.view_is) ∙ c.self.invariant.is_name
+returns-then-remaining_capacity-octets-clause-is_name c =
+    ap is_name (sym c.self.view_is) ∙ c.self.invariant.is_name
 
 pub returns-clause-is_name : goal.returns-clause-is_name
 returns-clause-is_name c =

@@ -1,5 +1,4 @@
-use Rattle.std.proofs.Common.{arith}
-use Rattle.dns_spec.proofs.DomainNames.NameLaws.{octets_equal-decides}
+use Rattle.dns_name.proofs.Common.{arith, octets_equal-decides}
 use Rattle.dns_name.proofs.TextLemmas.{dot_spells_root}
 use Rattle.dns_name.proofs.name.Name.spell.Goals as goal
 

@@ -1,4 +1,4 @@
-use Rattle.std.proofs.Common.{arith}
+use Rattle.dns_name.proofs.Common.{arith}
 use Rattle.dns_name.proofs.WireLemmas.{names_equal_from_octets}
 use Rattle.dns_name.proofs.name.NamePartialEq.eq.Goals as goal
 

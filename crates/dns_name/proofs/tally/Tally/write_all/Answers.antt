@@ -1,4 +1,4 @@
-use Rattle.std.proofs.Common.{arith}
+use Rattle.dns_name.proofs.Common.{arith}
 use Rattle.dns_name.proofs.WritesLemmas.{Appends-take-add}
 use Rattle.dns_name.proofs.tally.Tally.write_all.Goals as goal
 

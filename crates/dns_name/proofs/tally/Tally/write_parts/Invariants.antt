@@ -1,9 +1,9 @@
-use Rattle.dns_spec.proofs.Common.{◌≡◌, take, Appends}
-use Rattle.dns_name.specs.Counted.{joined}
+use Rattle.dns_name.proofs.Common.{◌≡◌, take, Appends, joined}
 use Rattle.dns_name.proofs.tally.Tally.write_parts.Given as goal
 
 abbrev pub invariant-parts : goal.invariant-parts
 invariant-parts g l = record {
-  written : Appends (g.T.Write.contents l.initial.self.device) (g.T.Write.contents l.self.device) (joined (take l.part-index l.parts));
+  written : Appends (g.T.Write.contents l.initial.self.device)
+      (g.T.Write.contents l.self.device) (joined (take l.part-index l.parts));
   counted : l.self.failures ≡ l.initial.self.failures;
 }

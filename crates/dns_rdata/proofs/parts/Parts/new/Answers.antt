@@ -5,4 +5,5 @@ pub returns-clause-names : goal.returns-clause-names
 returns-clause-names c = names_left c.pieces_of_type.result.now c.args.octets.now
 
 pub returns-clause-count : goal.returns-clause-count
-returns-clause-count c = few_parts c.args.rtype.0 c.pieces_of_type.result.now c.args.octets.now c.pieces_of_type.ensures
+returns-clause-count c =
+    few_parts c.args.rtype.0 c.pieces_of_type.result.now c.args.octets.now c.pieces_of_type.ensures

@@ -1,4 +1,4 @@
-use Rattle.dns_spec.proofs.Common.{arith, false≢true}
+use Rattle.dns_rdata.proofs.Common.{arith, false≢true}
 use Rattle.dns_rdata.proofs.PartLemmas.{cut_none, more_are_cut, no_parts_left, shown_first}
 use Rattle.dns_rdata.proofs.parts.PartsIterator.next.Goals as goal
 

@@ -1,5 +1,4 @@
-use Rattle.dns_spec.proofs.Common.{◌≡◌, ◌++◌, All, map, length, part_folded, joined, lower_case}
-use Rattle.dns_rdata.specs.Parts.{HasName}
+use Rattle.dns_rdata.proofs.Common.{◌≡◌, ◌++◌, All, map, length, part_folded, joined, lower_case, HasName}
 use Rattle.dns_rdata.proofs.rdata.Rdata.lowered.Given as goal
 
 -- the parts before those that are still to come are in lower case

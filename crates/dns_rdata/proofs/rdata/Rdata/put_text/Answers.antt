@@ -1,6 +1,4 @@
-use Rattle.std.proofs.Common.{rules, arith}
-use Rattle.dns_name.proofs.Results.{OnErr-always}
-use Rattle.dns_name.proofs.WritesLemmas.{Fills-same, held_more, held_less, held_begun}
+use Rattle.dns_rdata.proofs.Common.{rules, arith, OnErr-always, Fills-same, held_more, held_less, held_begun}
 use Rattle.dns_rdata.proofs.WrittenPieces.{row_text, other_text, there-at, more-at, words-after, spaced-at}
 use Rattle.dns_rdata.proofs.rdata.Rdata.put_text.Goals as goal
 
@@ -17,23 +15,30 @@ returns-in_err-make_room g c = record {
 
 pub returns-in_err-rest : goal.returns-in_err-rest
 returns-in_err-rest g c =
-    let held = held_less _ _ _ _ _ _ _ c.pieces.invariant.fills c.in_ok-make_room.ensures.fills.ok in
-    let more = held_more _ _ _ _ _ _ _ held (spaced-at _ _ _ c.pieces-test.true _ _ c.pieces.invariant.words) in
+    let held =
+    held_less _ _ _ _ _ _ _ c.pieces.invariant.fills c.in_ok-make_room.ensures.fills.ok in
+    let more = held_more _ _ _ _ _ _ _ held
+    (spaced-at _ _ _ c.pieces-test.true _ _ c.pieces.invariant.words) in
     record {
       ok = search rules;
-      err = OnErr-always c.from_residual-in_err-rest.result (held_begun _ _ _ _ _ _ more c.in_err-rest.ensures.fills.err);
+      err = OnErr-always c.from_residual-in_err-rest.result
+          (held_begun _ _ _ _ _ _ more c.in_err-rest.ensures.fills.err);
       counted = search rules;
     }
 
 pub pieces-preserved : goal.pieces-preserved
 pieces-preserved g c =
-    let held = held_less _ _ _ _ _ _ _ c.pieces.invariant.fills c.in_ok-make_room.ensures.fills.ok in
-    let more = held_more _ _ _ _ _ _ _ held (spaced-at _ _ _ c.pieces-test.true _ _ c.pieces.invariant.words) in
+    let held =
+    held_less _ _ _ _ _ _ _ c.pieces.invariant.fills c.in_ok-make_room.ensures.fills.ok in
+    let more = held_more _ _ _ _ _ _ _ held
+    (spaced-at _ _ _ c.pieces-test.true _ _ c.pieces.invariant.words) in
     record {
-      cut = rw c.in_ok-rest.ensures.rest (more-at _ _ _ c.pieces-test.true _ c.pieces.invariant.words c.pieces.invariant.cut);
+      cut = rw c.in_ok-rest.ensures.rest
+          (more-at _ _ _ c.pieces-test.true _ c.pieces.invariant.words c.pieces.invariant.cut);
       words = words-after _ _ c.pieces-test.true c.pieces.invariant.words;
       short = search rules;
-      fills = rw c.in_ok-rest.ensures.rest (held_less _ _ _ _ _ _ _ more c.in_ok-rest.ensures.fills.ok);
+      fills =
+          rw c.in_ok-rest.ensures.rest (held_less _ _ _ _ _ _ _ more c.in_ok-rest.ensures.fills.ok);
       counted = search rules;
     }
 

@@ -1,4 +1,4 @@
-use Rattle.dns_spec.proofs.DataWords.OneData.{data_once}
+use Rattle.dns_rdata.proofs.Common.{data_once}
 use Rattle.dns_rdata.proofs.rdata.Rdata.read_words_in.Goals as goal
 
 pub returns-clause-only : goal.returns-clause-only

@@ -1,5 +1,4 @@
-use Rattle.dns_spec.proofs.Common.{◌≡◌, All, length, first_name, target}
-use Rattle.dns_rdata.specs.Parts.{HasName}
+use Rattle.dns_rdata.proofs.Common.{◌≡◌, All, length, first_name, target, HasName}
 use Rattle.dns_rdata.proofs.rdata.Rdata.target_lent.Given as goal
 
 -- the first name is still to come

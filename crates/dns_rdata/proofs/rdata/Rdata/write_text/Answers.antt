@@ -1,5 +1,4 @@
-use Rattle.dns_spec.proofs.Common.{ap, ◌++◌, data_text}
-use Rattle.dns_name.proofs.WritesLemmas.{Writes-same, Writes-held}
+use Rattle.dns_rdata.proofs.Common.{ap, ◌++◌, data_text, Writes-same, Writes-held}
 use Rattle.dns_rdata.proofs.rdata.Rdata.write_text.Goals as goal
 
 pub returns : goal.returns

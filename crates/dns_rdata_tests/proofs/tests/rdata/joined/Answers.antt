@@ -7,20 +7,26 @@ use Rattle.dns_rdata.specs.Parts.{part_lends, shown_part, with_octets}
 use Rattle.dns_rdata_tests.proofs.tests.rdata.joined.Goals as goal
 
 -- what a walk over the parts of data was lent is the data
-lent_joined : (xs : List Part) (ps : List Data.Part) → map shown_part xs ≡ map with_octets ps → flat_map part_lends xs ≡ joined ps
+lent_joined : (xs : List Part) (ps : List Data.Part)
+    → map shown_part xs ≡ map with_octets ps → flat_map part_lends xs ≡ joined ps
 lent_joined [] [] e = refl
 lent_joined [] (p ∷ ps) e = cc
 lent_joined (x ∷ xs) [] e = cc
 lent_joined (x ∷ xs) (p ∷ ps) e =
-    let first : part_lends x ≡ part_octets p = ap (λ (ys : List (Data.Part × Octets)). (get_or ys 0 (shown_part x)).1) e in
+    let first : part_lends x ≡ part_octets p =
+    ap (λ (ys : List (Data.Part × Octets)). (get_or ys 0 (shown_part x)).1) e in
     flat_map-cons part_lends x xs
     ∙ ap (λ ys. ys ++ flat_map part_lends xs) first
-    ∙ ap (λ ys. part_octets p ++ ys) (lent_joined xs ps (ap (λ (ys : List (Data.Part × Octets)). drop 1 ys) e))
-    ∙ sym (flat_map-cons part_octets p ps)
+    ∙ ap (λ ys. part_octets p ++ ys) (lent_joined xs ps (ap
+    (λ (ys : List (Data.Part × Octets)). drop 1 ys) e)) ∙ sym (flat_map-cons part_octets p ps)
 
 pub returns : goal.returns
 returns c =
     let rest = map with_octets (parts c.args.rtype.0 c.args.octets.now) in
-    let road = YieldsList-from_first shown_part (λ (s : List Data.Part). map with_octets s) rest (ap (map with_octets) (c.into_iter-part-iterator.ensures.into_iter_gives ∙ c.parts-part-items.ensures.parts)) in
-    let all = YieldsList-end road c.parts.yielded _ c.parts.yielded_by _ _ c.in-None.is c.next.ensures.steps in
-    c.parts.invariant ∙ lent_joined c.parts.yielded (parts c.args.rtype.0 c.args.octets.now) all.0 ∙ joined-parts c.args.rtype.0 c.args.octets.now
+    let road = YieldsList-from_first shown_part
+    (λ (s : List Data.Part). map with_octets s) rest (ap (map with_octets)
+    (c.into_iter-part-iterator.ensures.into_iter_gives ∙ c.parts-part-items.ensures.parts)) in
+    let all = YieldsList-end
+    road c.parts.yielded _ c.parts.yielded_by _ _ c.in-None.is c.next.ensures.steps in
+    c.parts.invariant ∙ lent_joined c.parts.yielded (parts c.args.rtype.0 c.args.octets.now) all.0
+    ∙ joined-parts c.args.rtype.0 c.args.octets.now

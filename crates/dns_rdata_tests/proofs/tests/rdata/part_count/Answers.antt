@@ -7,5 +7,7 @@ use Rattle.dns_rdata_tests.proofs.tests.rdata.part_count.Goals as goal
 pub returns : goal.returns
 returns c =
     let data_parts = parts c.args.rtype.0 c.args.octets.now in
-    let road = YieldsList-from_first shown_part (λ (s : List Data.Part). map with_octets s) {s = c.parts.result} (map with_octets data_parts) (ap (map with_octets) c.parts.ensures.parts) in
-    count_from_yields_List c.parts.result c.count.result c.count.ensures.ran road ∙ length-map data_parts with_octets
+    let road = YieldsList-from_first shown_part (λ (s : List Data.Part). map with_octets s) {s =
+    c.parts.result} (map with_octets data_parts) (ap (map with_octets) c.parts.ensures.parts) in
+    count_from_yields_List c.parts.result c.count.result c.count.ensures.ran road
+    ∙ length-map data_parts with_octets

@@ -1,12 +1,16 @@
-use Rattle.dns_spec.proofs.Common.{arith, rules, ◌<◌, ◌≤◌, ◌∙◌, length, refl, sym, eqb-true, eqb-false, take-append-le}
-use Rattle.dns_tools.specs.ExchangeForm.{kept_of, reply_of}
+use Rattle.dns_tools.proofs.Common.{arith, rules, ◌<◌, ◌≤◌, ◌∙◌, length, refl, sym, eqb-true, eqb-false, take-append-le, kept_of, reply_of}
 use Rattle.dns_tools.proofs.LineReads.{AllRead, reading_none, reading_take, taking_begun, reading_failed, all_read, all_given, all_answered, all_begun, finished_empty, finished_line, finished_begun, sink_stopped, source_stopped}
 use Rattle.dns_tools.proofs.LineRuns.{grows_begun}
 use Rattle.dns_tools.proofs.once.Exchange.run.Goals as goal
 use Rattle.dns_tools.proofs.once.Exchange.run.Goals.{else-pieces-test, then-pieces-test+in_ok-count+then-count-eq0, then-not-is_empty+in_ok-end_line, else-not-is_empty}
 
 pub pieces-init : goal.pieces-init
-pieces-init g c = record { source = refl; sink = refl; task = refl; reading = reading_none _ _ _ _ c.requires.fresh }
+pieces-init g c = record {
+  source = refl;
+  sink = refl;
+  task = refl;
+  reading = reading_none _ _ _ _ c.requires.fresh;
+}
 
 pub returns-in_err-count-clause-lines : goal.returns-in_err-count-clause-lines
 returns-in_err-count-clause-lines g c =
@@ -59,7 +63,8 @@ returns-in_err-end_line-clause-lines g c =
     let some = eqb-false (length c.pieces.self.line.front) 0
     (sym c.is_empty.ensures ∙ c.if-not-is_empty.true) in
     let begun = c.in_err-end_line.ensures.answered.err in
-    sink_stopped _ _ c.from_residual-in_err-end_line.result c.from_residual-in_err-end_line.ensures.1
+    sink_stopped
+    _ _ c.from_residual-in_err-end_line.result c.from_residual-in_err-end_line.ensures.1
     (all_begun _ _ _ _ _ _ _ _ all
     (λ held x p. finished_begun _ held _ x _ p some _ begun) (grows_begun _ _ _ begun))
 

@@ -1,5 +1,4 @@
-use Rattle.std.proofs.Common.{◌≡◌}
-use Rattle.dns_tools.specs.ExchangeForm.{kept_of, reply_of}
+use Rattle.dns_tools.proofs.Common.{◌≡◌, kept_of, reply_of}
 use Rattle.dns_tools.proofs.LineReads.{Reading}
 use Rattle.dns_tools.proofs.once.Exchange.run.Given as goal
 
@@ -9,9 +8,9 @@ invariant-pieces g l = record {
   source : l.source.failures ≡ l.initial.source.failures;
   sink : l.sink.failures ≡ l.initial.sink.failures;
   task : reply_of l.self ≡ reply_of l.initial.self;
-  reading : Reading (reply_of l.initial.self) (g.R.Read.remaining l.initial.source.device) (g.R.Read.remaining l.source.device)
-      (g.W.Write.contents l.initial.sink.device) (g.W.Write.contents l.sink.device) l.left
-      (kept_of l.self);
+  reading : Reading (reply_of l.initial.self) (g.R.Read.remaining l.initial.source.device)
+      (g.R.Read.remaining l.source.device) (g.W.Write.contents l.initial.sink.device)
+      (g.W.Write.contents l.sink.device) l.left (kept_of l.self);
 }
 
 abbrev pub decreases-pieces : goal.decreases-pieces

@@ -1,6 +1,4 @@
-use Rattle.dns_spec.proofs.Common.{◌≡◌, ◌++◌, take, Option, Octets}
-use Rattle.dns_tools.specs.ExchangeForm.{kept_of, reply_of}
-use Rattle.dns_tools.specs.Exchanges.{Grows, Progress}
+use Rattle.dns_tools.proofs.Common.{◌≡◌, ◌++◌, take, Option, Octets, kept_of, reply_of, Grows, Progress}
 use Rattle.dns_tools.proofs.once.Exchange.take.Given as goal
 
 -- what was said of the octets before is said of these too, as far as they were taken
@@ -10,8 +8,7 @@ invariant-octets g l = record {
   task : reply_of l.self ≡ reply_of l.initial.self;
   taken : (held : Option Octets) (x : Octets)
       → Progress (reply_of l.initial.self) held (g.W.Write.contents l.initial.sink.device) x
-      (kept_of l.initial.self)
-      → Progress (reply_of l.initial.self) held (g.W.Write.contents l.sink.device)
-      (x ++ take l.octet-index l.octets) (kept_of l.self);
+      (kept_of l.initial.self) → Progress (reply_of l.initial.self) held
+      (g.W.Write.contents l.sink.device) (x ++ take l.octet-index l.octets) (kept_of l.self);
   grows : Grows (g.W.Write.contents l.initial.sink.device) (g.W.Write.contents l.sink.device);
 }

@@ -1,4 +1,4 @@
-use Rattle.std.proofs.Common.{◌-◌}
+use Rattle.dns_tools.proofs.Common.{◌-◌}
 use Rattle.dns_tools.proofs.peer.Peer.hear_out.Given as goal
 
 abbrev pub decreases-octets : goal.decreases-octets

@@ -1,4 +1,4 @@
-use Rattle.std.proofs.Common.{◌≡◌, length}
+use Rattle.dns_tools.proofs.Common.{◌≡◌, length}
 use Rattle.dns_tools.proofs.socket.SocketDatagrams.receive.Given as goal
 
 abbrev pub invariant-calls : goal.invariant-calls

@@ -1,4 +1,4 @@
-use Rattle.dns_spec.proofs.Common.{◌≡◌, length, Keeps}
+use Rattle.dns_tools.proofs.Common.{◌≡◌, length, Keeps}
 use Rattle.dns_tools.proofs.waiting.WaitingRead.read.Given as goal
 
 -- the calls so far took nothing

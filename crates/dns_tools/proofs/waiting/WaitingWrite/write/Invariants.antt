@@ -1,4 +1,4 @@
-use Rattle.std.specs.Io.KnownBytes.{Keeps}
+use Rattle.dns_tools.proofs.Common.{Keeps}
 use Rattle.dns_tools.proofs.waiting.WaitingWrite.write.Given as goal
 
 -- the calls so far wrote nothing

@@ -1,5 +1,4 @@
-use Rattle.std.proofs.Common.{◌≡◌, append_assoc, ◌+◌, ◌≤◌, ◌++◌, sym, subst, arith, length, length-append}
-use Rattle.dns_wire.specs.Draft.{draft_of, with_octets, IsWellKept}
+use Rattle.dns_wire.proofs.Common.{◌≡◌, append_assoc, ◌+◌, ◌≤◌, ◌++◌, sym, subst, arith, length, length-append, draft_of, with_octets, IsWellKept}
 use Rattle.dns_wire.proofs.Steps.{kept_longer, octets_written}
 use Rattle.dns_wire.proofs.page.Page.append.Goals as goal
 use Rattle.dns_wire.proofs.page.Page.append.Given as given
@@ -8,14 +7,19 @@ module _ (g : given.Over) (c : goal.After-extend-2 g) where
   before : IsWellKept g.row.N g.row.SIZE c.args.self.now
   before = subst (IsWellKept g.row.N g.row.SIZE) c.self.view_is c.self.invariant
 
-  put : draft_of c.self.inside.limit c.extend-2.new.octets.items c.self.inside.asked_end c.self.inside.places c.self.inside.counts ≡ with_octets c.args.self.now (c.args.front.now ++ c.args.end.now)
+  put : draft_of c.self.inside.limit
+      c.extend-2.new.octets.items c.self.inside.asked_end c.self.inside.places c.self.inside.counts
+      ≡ with_octets c.args.self.now (c.args.front.now ++ c.args.end.now)
   put = grind (arith, append_assoc)
 
-  fits : length c.args.self.now.octets + length (c.args.front.now ++ c.args.end.now) ≤ c.args.self.now.limit
+  fits : length c.args.self.now.octets + length
+      (c.args.front.now ++ c.args.end.now) ≤ c.args.self.now.limit
   fits = grind (arith, length-append)
 
 pub invariant_of-self : goal.invariant_of-self
-invariant_of-self g c = subst (IsWellKept g.row.N g.row.SIZE) (sym (put g c)) (kept_longer (c.args.front.now ++ c.args.end.now) (before g c) (fits g c))
+invariant_of-self g c = subst (IsWellKept g.row.N g.row.SIZE)
+    (sym (put g c)) (kept_longer (c.args.front.now ++ c.args.end.now) (before g c) (fits g c))
 
 pub returns-clause-writes : goal.returns-clause-writes
-returns-clause-writes g c = λ head. octets_written head (c.args.front.now ++ c.args.end.now) (before g c).asked (fits g c) (put g c)
+returns-clause-writes g c = λ head. octets_written head
+    (c.args.front.now ++ c.args.end.now) (before g c).asked (fits g c) (put g c)

@@ -1,5 +1,4 @@
-use Rattle.dns_spec.proofs.Common.{◌∷◌, [], ◌∙◌, refl, sym, ap, eq-eqb, eqb-true, true≢false, octets, name, type_mx, type_soa}
-use Rattle.dns_name.specs.WireForm.{labels_of}
+use Rattle.dns_wire.proofs.Common.{◌∷◌, [], ◌∙◌, refl, sym, ap, eq-eqb, eqb-true, true≢false, octets, name, type_mx, type_soa, labels_of}
 use Rattle.dns_wire.proofs.SharedData.{one_name_laid, one_left, exchange_laid, server_some, authority_laid}
 use Rattle.dns_wire.proofs.DataWritten.{writes_more, writes_last, writes_short, writes_parts}
 use Rattle.dns_wire.proofs.page.Page.put_data.Goals as goal
@@ -36,7 +35,8 @@ pub returns-then-not-put_name : goal.returns-then-not-put_name
 returns-then-not-put_name g c =
     let s = authority_laid _ _ (eqb-true _ _ (sym c.if-eq-2.ensures)) c.requires.valid c.in-Some.is
     c.in-Name.is c.first_part.ensures in
-    writes_parts c.args.rtype.0 c.args.rdata.now s.parts (writes_short (name _) _ c.if-not-put_name.true refl
+    writes_parts c.args.rtype.0 c.args.rdata.now s.parts
+    (writes_short (name _) _ c.if-not-put_name.true refl
     (c.put_name-then-eq-2.ensures _ (sym s.lent.wire_is) s.lent.is_name))
 
 pub returns-then-put_name : goal.returns-then-put_name
@@ -45,7 +45,8 @@ returns-then-put_name g c =
     c.in-Name.is c.first_part.ensures in
     let at = c.split_at-then-eq-2.ensures in
     writes_parts c.args.rtype.0 c.args.rdata.now (s.parts
-    ∙ ap (λ x. name (labels_of c.in-Name.server.now) ∷ name s.mailbox ∷ octets x ∷ []) (sym at.back))
+    ∙ ap
+    (λ x. name (labels_of c.in-Name.server.now) ∷ name s.mailbox ∷ octets x ∷ []) (sym at.back))
     (writes_more (name _) _ c.if-not-put_name.false
     (c.put_name-then-eq-2.ensures _ (sym s.lent.wire_is) s.lent.is_name)
     (writes_more (name s.mailbox) _ c.if-put_name.true
@@ -56,10 +57,11 @@ pub returns-else-put_name : goal.returns-else-put_name
 returns-else-put_name g c =
     let s = authority_laid _ _ (eqb-true _ _ (sym c.if-eq-2.ensures)) c.requires.valid c.in-Some.is
     c.in-Name.is c.first_part.ensures in
-    writes_parts c.args.rtype.0 c.args.rdata.now s.parts (writes_more (name _) _ c.if-not-put_name.false
-    (c.put_name-then-eq-2.ensures _ (sym s.lent.wire_is) s.lent.is_name)
-    (writes_short (name s.mailbox) _ c.if-put_name.false c.if-put_name.false
-    (c.put_name-then-eq-2-2.ensures _ (c.split_at-then-eq-2.ensures.front ∙ s.whole) s.is_name)))
+    writes_parts c.args.rtype.0 c.args.rdata.now s.parts
+    (writes_more (name _) _ c.if-not-put_name.false
+    (c.put_name-then-eq-2.ensures _ (sym s.lent.wire_is) s.lent.is_name) (writes_short
+    (name s.mailbox) _ c.if-put_name.false c.if-put_name.false (c.put_name-then-eq-2-2.ensures _
+    (c.split_at-then-eq-2.ensures.front ∙ s.whole) s.is_name)))
 
 pub returns : goal.returns
 returns g c =
@@ -68,4 +70,5 @@ returns g c =
     (λ e. true≢false (sym (eq-eqb t type_mx e) ∙ sym c.eq.ensures ∙ c.if-eq.false))
     (λ e. true≢false (sym (eq-eqb t type_soa e) ∙ sym c.eq-2.ensures ∙ c.if-eq-2.false)) in
     let s = one_name_laid t _ other c.requires.shared c.requires.valid in
-    writes_parts c.args.rtype.0 c.args.rdata.now s.3 (writes_last (name s.0) (c.put_name-2.ensures s.0 s.2 s.1))
+    writes_parts c.args.rtype.0 c.args.rdata.now s.3
+    (writes_last (name s.0) (c.put_name-2.ensures s.0 s.2 s.1))

@@ -1,9 +1,4 @@
-use Rattle.dns_spec.proofs.Common.{true, false, ◌≡◌, ℕ, List, append_assoc, length-append, ◌∙◌, refl, sym, ap, ap₂, subst, subst₂, arith, length, take, ◌++◌, ◌∷◌, [], false≢true, Octets, Placed, shared_octets}
-use Rattle.dns_wire.specs.declared.message.Counts.{Counts}
-use Rattle.dns_wire.specs.Kept.{Kept}
-use Rattle.dns_wire.specs.Writing.{asked_places, end_octets, new_places, Holds, name_laid}
-use Rattle.dns_wire.specs.Draft.{Draft, draft_of, known_places, with_octets, IsWellKept, Writes}
-use Rattle.dns_wire.specs.SuffixNumbers.{suffix_number}
+use Rattle.dns_wire.proofs.Common.{true, false, ◌≡◌, ℕ, List, append_assoc, length-append, ◌∙◌, refl, sym, ap, ap₂, subst, subst₂, arith, length, take, ◌++◌, ◌∷◌, [], false≢true, Octets, Placed, shared_octets, Counts, Kept, asked_places, end_octets, new_places, Holds, name_laid, Draft, draft_of, known_places, with_octets, IsWellKept, Writes, suffix_number}
 use Rattle.dns_wire.proofs.AskedLemmas.{kept_more}
 use Rattle.dns_wire.proofs.NameWritten.{shared_cut, holds_name}
 use Rattle.dns_wire.proofs.Steps.{grows_not}
@@ -11,24 +6,29 @@ use Rattle.dns_wire.proofs.page.Page.put_name.Goals as goal
 use Rattle.dns_wire.proofs.page.Page.put_name.Given as given
 
 -- the names of the draft are those of the message that is looked at
-there : {number : Octets → ℕ} {ms : List Placed} {limit a : ℕ} {b message : Octets} {ks : List Kept} {n : Counts} {d : Draft} → draft_of limit b a ks n ≡ d → message ≡ b
-    → Holds number ms d.octets (known_places number d) → Holds number ms message (asked_places number message a ++ ks)
+there : {number : Octets → ℕ} {ms : List Placed} {limit a : ℕ} {b message : Octets} {ks : List Kept}
+    {n : Counts} {d : Draft} → draft_of limit b a ks n ≡ d → message ≡ b → Holds number ms d.octets
+    (known_places number d) → Holds number ms message (asked_places number message a ++ ks)
 there {number} {ms} {a = a} {ks = ks} view is holds = grind arith
 
 pub returns-then-not-append_end : goal.returns-then-not-append_end
 returns-then-not-append_end g c = λ n e ok.
     let now = c.args.self.now in
     let numbers = g.H.SuffixHash.numbers in
-    subst (λ d. Writes (numbers c.args.hash.now) (numbers c.shared_suffix-before.new.hash) now d (name_laid n) false) (sym c.if-not-append_end.ensures.unchanged) (record {
+    subst (λ d. Writes (numbers c.args.hash.now) (numbers c.shared_suffix-before.new.hash) now d
+    (name_laid n) false) (sym c.if-not-append_end.ensures.unchanged) (record {
       grows = grows_not now;
       same = c.shared_suffix-before.ensures.same;
       written = λ ms holds.
-          let shared = c.shared_suffix-before.ensures.shared ms n (there c.self.view_is c.as_slice-message.ensures.value holds) e ok in
-          let whole = ap length (shared_cut ms n ∙ ap₂ (λ x p. x ++ end_octets p) (ap₂ take shared.0 (sym e) ∙ sym c.split_at.ensures.front) shared.1) in
+          let shared = c.shared_suffix-before.ensures.shared ms n
+          (there c.self.view_is c.as_slice-message.ensures.value holds) e ok in
+          let whole = ap length (shared_cut ms n ∙ ap₂ (λ x p. x ++ end_octets p)
+          (ap₂ take shared.0 (sym e) ∙ sym c.split_at.ensures.front) shared.1) in
           record {
             exactly = (
               λ no. absurd (false≢true no),
-              λ room. sym c.if-not-append_end.true ∙ c.append_end.ensures.fits.1 (omega (arith, room, whole, length-append now.octets (shared_octets ms n), length-append c.split_at.result.0.now (end_octets c.shared_suffix-before.result.1))),
+              λ room. sym c.if-not-append_end.true ∙ c.append_end.ensures.fits.1
+                  (grind (arith, length-append, shared_octets, end_octets)),
             );
             written = tt;
             stands = tt;
@@ -39,7 +39,8 @@ module _ (g : given.Over) (c : goal.After-keep_suffixes g) where
   abbrev end : Octets
   end = c.split_at.result.0.now ++ end_octets c.shared_suffix-before.result.1
 
-  is : draft_of c.self-2.inside.limit c.self-2.inside.octets.items c.self-2.inside.asked_end c.self-2.inside.places c.self-2.inside.counts ≡ with_octets c.args.self.now end
+  is : draft_of c.self-2.inside.limit c.self-2.inside.octets.items c.self-2.inside.asked_end
+      c.self-2.inside.places c.self-2.inside.counts ≡ with_octets c.args.self.now end
   is = c.self-2.view_is ∙ c.if-not-append_end.ensures.put
 
   place : c.len-at.result ≡ length c.args.self.now.octets
@@ -57,7 +58,9 @@ returns g c = λ n e ok.
     let o = end g c in
     let ks = ap (λ (d : Draft). d.kept) (is g c) in
     let more = c.keep_suffixes.ensures.more in
-    subst (λ (d : Draft). Writes (numbers c.args.hash.now) (numbers c.keep_suffixes.new.hash) now (record d { kept = c.keep_suffixes.new.places }) (name_laid n) true) (sym (is g c)) (record {
+    subst (λ (d : Draft). Writes (numbers c.args.hash.now) (numbers c.keep_suffixes.new.hash) now
+    (record d { kept = c.keep_suffixes.new.places }) (name_laid n) true)
+    (sym (is g c)) (record {
       grows = record {
         octets = record { more = o; whole = refl };
         kept = record { more = more.more; whole = more.whole ∙ ap (λ x. x ++ more.more) ks };
@@ -67,22 +70,30 @@ returns g c = λ n e ok.
       };
       same = c.keep_suffixes.ensures.same ∙ c.shared_suffix-before.ensures.same;
       written = λ ms holds.
-          let shared = c.shared_suffix-before.ensures.shared ms n (there c.self.view_is c.as_slice-message.ensures.value holds) e ok in
-          let whole = shared_cut ms n ∙ ap₂ (λ x p. x ++ end_octets p) (ap₂ take shared.0 (sym e) ∙ sym c.split_at.ensures.front) shared.1 in
+          let shared = c.shared_suffix-before.ensures.shared ms n
+          (there c.self.view_is c.as_slice-message.ensures.value holds) e ok in
+          let whole = shared_cut ms n ∙ ap₂ (λ x p. x ++ end_octets p)
+          (ap₂ take shared.0 (sym e) ∙ sym c.split_at.ensures.front) shared.1 in
           let room = c.append_end.ensures.fits.0 c.if-not-append_end.false in
           let new = new_places number ms n (length b) in
           let places : c.keep_suffixes.new.places ≡ now.kept ++ new =
           c.keep_suffixes.ensures.kept ms n e ok (sym shared.0)
-          ∙ ap₂ (λ x h. x ++ new_places (suffix_number h) ms n c.len-at.result) ks c.shared_suffix-before.ensures.same
+          ∙ ap₂ (λ x h. x ++ new_places (suffix_number h) ms n c.len-at.result)
+          ks c.shared_suffix-before.ensures.same
           ∙ ap (λ i. now.kept ++ new_places number ms n i) (place g c) in
           let s = subst (IsWellKept g.row.N g.row.SIZE) c.self.view_is c.self.invariant in
-          let known : asked_places number (b ++ o) now.asked_end ++ c.keep_suffixes.new.places ≡ known_places number now ++ new =
-          kept_more number _ _ _ _ _ _ o s.asked refl refl places ∙ sym (append_assoc (asked_places number b now.asked_end) now.kept new) in
+          let known : asked_places number (b ++ o) now.asked_end ++ c.keep_suffixes.new.places
+          ≡ known_places number now ++ new = kept_more number _ _ _ _ _ _ o s.asked refl
+          refl places ∙ sym (append_assoc (asked_places number b now.asked_end) now.kept new) in
           record {
-            exactly = (λ yes. omega (arith, room, ap length whole, length-append b (shared_octets ms n), length-append c.split_at.result.0.now (end_octets c.shared_suffix-before.result.1)), λ fits. refl);
+            exactly = (
+              λ yes. grind (arith, length-append, shared_octets, end_octets),
+              λ fits. refl,
+            );
             written = ap (λ x. b ++ x) (sym whole);
             stands = λ x same held.
-                subst₂ (λ p z. Holds number (ms ++ (n, p) ∷ []) (x ++ shared_octets ms n) z) same (ap (λ p. known_places number now ++ new_places number ms n p) same ∙ sym known)
+                subst₂ (λ p z. Holds number (ms ++ (n, p) ∷ []) (x ++ shared_octets ms n) z) same
+                (ap (λ p. known_places number now ++ new_places number ms n p) same ∙ sym known)
                 (holds_name number ms x (known_places number now) held n ok);
           };
     })

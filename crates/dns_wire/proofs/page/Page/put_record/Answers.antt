@@ -1,5 +1,4 @@
-use Rattle.dns_spec.proofs.Common.{◌≡◌, ◌∙◌, ◌∷◌, [], ◌++◌, sym, ap, cond, octets, parts, laid_parts}
-use Rattle.dns_wire.specs.Writing.{octets_laid, name_laid, tail_laid}
+use Rattle.dns_wire.proofs.Common.{◌≡◌, ◌∙◌, ◌∷◌, [], ◌++◌, sym, ap, cond, octets, parts, laid_parts, octets_laid, name_laid, tail_laid}
 use Rattle.dns_wire.proofs.DataWritten.{plain_laid}
 use Rattle.dns_wire.proofs.Steps.{writes_as, writes_both}
 use Rattle.dns_wire.proofs.page.Page.put_record.Goals as goal
@@ -8,7 +7,8 @@ pub returns-then-shares-clause-writes : goal.returns-then-shares-clause-writes
 returns-then-shares-clause-writes g c =
     let n = c.args.owner.now in
     let tail = tail_laid c.args.rtype.0 c.args.ttl c.args.rdata.now in
-    writes_both (name_laid n) tail c.if-not-put_name.false (c.put_name.ensures n c.octets.ensures.value c.octets.ensures.is_name) c.put_shared_tail.ensures.writes
+    writes_both (name_laid n) tail c.if-not-put_name.false (c.put_name.ensures
+    n c.octets.ensures.value c.octets.ensures.is_name) c.put_shared_tail.ensures.writes
 
 pub returns-else-shares-clause-writes : goal.returns-else-shares-clause-writes
 returns-else-shares-clause-writes g c =
@@ -17,6 +17,10 @@ returns-else-shares-clause-writes g c =
     let d = c.args.rdata.now in
     let x = c.record_numbers.result in
     let tail = tail_laid t c.args.ttl d in
-    let whole : laid_parts t d ≡ octets d ∷ [] = ap (λ b. cond b (parts t d) (octets d ∷ [])) (sym c.requires.shares ∙ c.if-shares.false) in
-    let last = writes_as (octets_laid (x ++ d)) tail (plain_laid t c.args.ttl d x c.record_numbers.ensures whole) (c.append.ensures.writes (g.H.SuffixHash.numbers c.put_name.new.hash)) in
-    writes_both (name_laid n) tail c.if-not-put_name.false (c.put_name.ensures n c.octets.ensures.value c.octets.ensures.is_name) last
+    let whole : laid_parts t d ≡ octets d ∷ [] =
+    ap (λ b. cond b (parts t d) (octets d ∷ [])) (sym c.requires.shares ∙ c.if-shares.false) in
+    let last = writes_as
+    (octets_laid (x ++ d)) tail (plain_laid t c.args.ttl d x c.record_numbers.ensures whole)
+    (c.append.ensures.writes (g.H.SuffixHash.numbers c.put_name.new.hash)) in
+    writes_both (name_laid n) tail c.if-not-put_name.false
+    (c.put_name.ensures n c.octets.ensures.value c.octets.ensures.is_name) last

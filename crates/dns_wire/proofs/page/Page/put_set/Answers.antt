@@ -1,6 +1,4 @@
-use Rattle.dns_spec.proofs.Common.{◌*◌, ◌∙◌, ap, ap₂, true, false, ◌+◌, ◌≤◌, sym, subst, arith, length, take, [], OnTrue, records_at}
-use Rattle.dns_wire.specs.Draft.{Draft, draft_of, IsDraft, IsWellKept, Writes, with_set, with_counted}
-use Rattle.dns_wire.specs.Writing.{shown, octets_laid, records_laid}
+use Rattle.dns_wire.proofs.Common.{◌*◌, ◌∙◌, ap, ap₂, true, false, ◌+◌, ◌≤◌, sym, subst, arith, length, take, [], OnTrue, records_at, Draft, draft_of, IsDraft, IsWellKept, Writes, with_set, with_counted, shown, octets_laid, records_laid}
 use Rattle.dns_wire.proofs.DraftLemmas.{put_fits, put_in, least_of}
 use Rattle.dns_wire.proofs.Steps.{taken_back, never_written, none_written, writes_as}
 use Rattle.dns_wire.proofs.RecordsWritten.{records_none, record_more, records_past, all_taken, set_long}
@@ -11,7 +9,8 @@ pub records-init : goal.records-init
 records-init g c =
     let s = subst (IsWellKept g.row.N g.row.SIZE) c.self.view_is c.self.invariant in
     record {
-      writes = writes_as (octets_laid []) (records_laid []) (λ ms p. sym (records_none ms p)) (none_written (g.H.SuffixHash.numbers c.args.hash.now) c.args.self.now s.asked s.within);
+      writes = writes_as (octets_laid []) (records_laid []) (λ ms p. sym (records_none ms p))
+          (none_written (g.H.SuffixHash.numbers c.args.hash.now) c.args.self.now s.asked s.within);
       longer = omega arith;
     }
 
@@ -20,12 +19,18 @@ records-preserved g c =
     let numbers = g.H.SuffixHash.numbers in
     let set = g.S.SetView.set c.args.set.now in
     let within = c.records-test.true in
-    let done = record_more c.args.owner.now c.args.ttl set c.records.i _ (omega (arith, within, c.len-i-end.ensures.value)) (ap₂ (λ t d. shown c.args.owner.now t c.args.ttl d) c.rtype-rtype.ensures c.rdata.ensures.value) c.records.invariant.writes c.put_record.ensures.writes in
-    let longer = subst (λ t. OnTrue t (length c.records.self.octets + 10 ≤ length c.put_record.new.self.octets)) c.if-not-put_record.false c.put_record.ensures.longer in
+    let done = record_more c.args.owner.now c.args.ttl set c.records.i _
+    (omega (arith, within, c.len-i-end.ensures.value))
+    (ap₂ (λ t d. shown c.args.owner.now t c.args.ttl d) c.rtype-rtype.ensures
+    c.rdata.ensures.value) c.records.invariant.writes c.put_record.ensures.writes in
+    let longer = subst (λ t. OnTrue t (length c.records.self.octets + 10 ≤ length
+    c.put_record.new.self.octets)) c.if-not-put_record.false c.put_record.ensures.longer in
     let so_far = c.records.invariant.longer in
     record {
       writes =
-          subst (λ t. Writes (numbers c.args.hash.now) (numbers c.put_record.new.hash) c.args.self.now c.put_record.new.self (records_laid (take (c.records.i + 1) (records_at c.args.owner.now c.args.ttl set))) t) c.if-not-put_record.false
+          subst (λ t. Writes (numbers c.args.hash.now) (numbers c.put_record.new.hash)
+          c.args.self.now c.put_record.new.self (records_laid (take (c.records.i + 1)
+          (records_at c.args.owner.now c.args.ttl set))) t) c.if-not-put_record.false
           done;
       longer = omega (arith, longer, so_far);
     }
@@ -35,55 +40,80 @@ returns-then-self-octets-clause-fits g c = λ q items draft.
     let set = g.S.SetView.set c.args.set.now in
     let short = c.if-self-octets.true in
     let within = c.self.invariant.within in
-    put_fits q items c.args.section c.args.owner.now c.args.ttl set (never_written (g.H.SuffixHash.numbers c.args.hash.now) c.args.self.now (records_laid (records_at c.args.owner.now c.args.ttl set)) (10 * length set.rdata)
-    (omega (arith, short, within, c.len.ensures.value, c.len-octets.ensures.value, ap (λ (d : Draft). d.limit) c.self.view_is, ap (λ (d : Draft). length d.octets) c.self.view_is)) (set_long c.args.owner.now c.args.ttl set)) draft
+    put_fits q items c.args.section c.args.owner.now c.args.ttl set
+    (never_written (g.H.SuffixHash.numbers c.args.hash.now) c.args.self.now
+    (records_laid (records_at c.args.owner.now c.args.ttl set)) (10 * length set.rdata)
+    (grind arith)
+    (set_long c.args.owner.now c.args.ttl set)) draft
 
 pub returns-then-self-octets-clause-least : goal.returns-then-self-octets-clause-least
 returns-then-self-octets-clause-least g c = λ q items draft low.
-    least_of q (with_set items c.args.section c.args.owner.now c.args.ttl (g.S.SetView.set c.args.set.now)) c.args.self.now.limit false (returns-then-self-octets-clause-fits g c q items draft) low
+    least_of q
+    (with_set items c.args.section c.args.owner.now c.args.ttl (g.S.SetView.set c.args.set.now))
+    c.args.self.now.limit false (returns-then-self-octets-clause-fits g c q items draft) low
 
 module _ (g : given.Over) (c : goal.After-take_back g) where
   -- a part of the records was written
-  tried : Writes (g.H.SuffixHash.numbers c.args.hash.now) (g.H.SuffixHash.numbers c.put_record.new.hash) c.args.self.now c.put_record.new.self (records_laid (records_at c.args.owner.now c.args.ttl (g.S.SetView.set c.args.set.now))) false
+  tried : Writes (g.H.SuffixHash.numbers c.args.hash.now)
+      (g.H.SuffixHash.numbers c.put_record.new.hash) c.args.self.now c.put_record.new.self
+      (records_laid (records_at c.args.owner.now c.args.ttl (g.S.SetView.set c.args.set.now))) false
   tried =
       let set = g.S.SetView.set c.args.set.now in
       let within = c.records-test.true in
-      records_past (records_at c.args.owner.now c.args.ttl set) (c.records.i + 1) c.if-not-put_record.true
-      (record_more c.args.owner.now c.args.ttl set c.records.i _ (omega (arith, within, c.len-i-end.ensures.value)) (ap₂ (λ t d. shown c.args.owner.now t c.args.ttl d) c.rtype-rtype.ensures c.rdata.ensures.value) c.records.invariant.writes c.put_record.ensures.writes)
+      records_past
+      (records_at c.args.owner.now c.args.ttl set) (c.records.i + 1) c.if-not-put_record.true
+      (record_more c.args.owner.now c.args.ttl set c.records.i _
+      (omega (arith, within, c.len-i-end.ensures.value))
+      (ap₂ (λ t d. shown c.args.owner.now t c.args.ttl d) c.rtype-rtype.ensures
+      c.rdata.ensures.value) c.records.invariant.writes c.put_record.ensures.writes)
 
 pub returns-then-not-put_record-clause-unchanged : goal.returns-then-not-put_record-clause-unchanged
 returns-then-not-put_record-clause-unchanged g c =
     let i = c.self-in-records.inside in
-    ap₂ (λ o ks. draft_of i.limit o i.asked_end ks i.counts) c.truncate.ensures.items c.take_back.ensures
-    ∙ ap (λ (d : Draft). record d { octets = take c.len-octets.result d.octets; kept = take c.len-places.result d.kept }) c.self-in-records.view_is
-    ∙ taken_back (tried g c).grows (c.len-octets.ensures.value ∙ ap (λ (d : Draft). length d.octets) c.self.view_is) (c.len-places.ensures.value ∙ ap (λ (d : Draft). length d.kept) c.self.view_is)
+    ap₂ (λ o ks. draft_of i.limit o i.asked_end ks i.counts)
+    c.truncate.ensures.items c.take_back.ensures ∙ ap (λ (d : Draft). record d
+    { octets = take c.len-octets.result d.octets; kept = take c.len-places.result d.kept })
+    c.self-in-records.view_is ∙ taken_back (tried g c).grows
+    (c.len-octets.ensures.value ∙ ap (λ (d : Draft). length d.octets) c.self.view_is)
+    (c.len-places.ensures.value ∙ ap (λ (d : Draft). length d.kept) c.self.view_is)
 
 pub invariant_of-self : goal.invariant_of-self
 invariant_of-self g c =
-    subst (IsWellKept g.row.N g.row.SIZE) (c.self.view_is ∙ sym (returns-then-not-put_record-clause-unchanged g c)) c.self.invariant
+    subst (IsWellKept g.row.N g.row.SIZE)
+    (c.self.view_is ∙ sym (returns-then-not-put_record-clause-unchanged g c)) c.self.invariant
 
 pub returns-then-not-put_record-clause-fits : goal.returns-then-not-put_record-clause-fits
-returns-then-not-put_record-clause-fits g c = λ q items draft. put_fits q items c.args.section c.args.owner.now c.args.ttl (g.S.SetView.set c.args.set.now) (tried g c) draft
+returns-then-not-put_record-clause-fits g c = λ q items draft. put_fits q items
+    c.args.section c.args.owner.now c.args.ttl (g.S.SetView.set c.args.set.now) (tried g c) draft
 
 pub returns-then-not-put_record-clause-least : goal.returns-then-not-put_record-clause-least
 returns-then-not-put_record-clause-least g c = λ q items draft low.
-    least_of q (with_set items c.args.section c.args.owner.now c.args.ttl (g.S.SetView.set c.args.set.now)) c.args.self.now.limit false (returns-then-not-put_record-clause-fits g c q items draft) low
+    least_of q
+    (with_set items c.args.section c.args.owner.now c.args.ttl (g.S.SetView.set c.args.set.now))
+    c.args.self.now.limit false (returns-then-not-put_record-clause-fits g c q items draft) low
 
 module _ (g : given.Over) (c : goal.After-count_records g) where
-  done : Writes (g.H.SuffixHash.numbers c.args.hash.now) (g.H.SuffixHash.numbers c.records.hash) c.args.self.now c.records.self (records_laid (records_at c.args.owner.now c.args.ttl (g.S.SetView.set c.args.set.now))) true
+  done : Writes (g.H.SuffixHash.numbers c.args.hash.now)
+      (g.H.SuffixHash.numbers c.records.hash) c.args.self.now c.records.self
+      (records_laid (records_at c.args.owner.now c.args.ttl (g.S.SetView.set c.args.set.now))) true
   done = grind (arith, all_taken)
 
 pub returns-clause-fits : goal.returns-clause-fits
-returns-clause-fits g c = λ q items draft. put_fits q items c.args.section c.args.owner.now c.args.ttl (g.S.SetView.set c.args.set.now) (done g c) draft
+returns-clause-fits g c = λ q items draft. put_fits q items
+    c.args.section c.args.owner.now c.args.ttl (g.S.SetView.set c.args.set.now) (done g c) draft
 
 pub returns-clause-least : goal.returns-clause-least
 returns-clause-least g c = λ q items draft low.
-    least_of q (with_set items c.args.section c.args.owner.now c.args.ttl (g.S.SetView.set c.args.set.now)) c.args.self.now.limit true (returns-clause-fits g c q items draft) low
+    least_of q (with_set items c.args.section c.args.owner.now c.args.ttl (g.S.SetView.set
+    c.args.set.now)) c.args.self.now.limit true (returns-clause-fits g c q items draft) low
 
 pub returns-clause-put : goal.returns-clause-put
 returns-clause-put g c = λ q items draft.
     let set = g.S.SetView.set c.args.set.now in
     let n = c.count_records.new.counts in
-    let counts = c.count_records.ensures ∙ ap₂ (λ (d : Draft) k. with_counted d.counts c.args.section k) c.self-2.view_is c.len-2.ensures.value in
-    subst (λ (d : Draft). IsDraft (g.H.SuffixHash.numbers c.args.hash.now) q (with_set items c.args.section c.args.owner.now c.args.ttl set) (record d { counts = n })) (sym c.self-2.view_is)
+    let counts = c.count_records.ensures ∙ ap₂ (λ (d : Draft)
+    k. with_counted d.counts c.args.section k) c.self-2.view_is c.len-2.ensures.value in
+    subst (λ (d : Draft). IsDraft (g.H.SuffixHash.numbers c.args.hash.now) q
+    (with_set items c.args.section c.args.owner.now c.args.ttl set) (record d { counts = n }))
+    (sym c.self-2.view_is)
     (put_in q items c.args.section c.args.owner.now c.args.ttl set (done g c) counts draft)

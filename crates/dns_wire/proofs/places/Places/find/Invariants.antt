@@ -1,13 +1,11 @@
-use Rattle.std.proofs.Common.{◌≡◌}
-use Rattle.dns_wire.specs.declared.places.Entry.{Entry}
-use Rattle.dns_wire.specs.Chains.{chain_of}
-use Rattle.dns_wire.specs.Kept.{SpelledAt}
+use Rattle.dns_wire.proofs.Common.{◌≡◌, Entry, chain_of, SpelledAt}
 use Rattle.dns_wire.proofs.ChainLemmas.{Chain}
 use Rattle.dns_wire.proofs.places.Places.find.Given as goal
 
 -- from the entry at hand on, none is the one sought
 abbrev pub invariant-chain : goal.invariant-chain
-invariant-chain g l = Chain (λ (e : Entry). (e.number ≡ l.number) × SpelledAt l.message e.place l.suffix) (chain_of l.number) l.self-inside.entries.items l.newest
+invariant-chain g l = Chain (λ (e : Entry). (e.number ≡ l.number)
+    × SpelledAt l.message e.place l.suffix) (chain_of l.number) l.self-inside.entries.items l.newest
 
 abbrev pub decreases-chain : goal.decreases-chain
 decreases-chain g l = l.newest

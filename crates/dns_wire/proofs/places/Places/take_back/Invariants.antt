@@ -1,4 +1,4 @@
-use Rattle.std.proofs.Common.{◌≡◌, take, length}
+use Rattle.dns_wire.proofs.Common.{◌≡◌, take, length}
 use Rattle.dns_wire.proofs.places.Places.take_back.Given as goal
 
 abbrev pub invariant-places : goal.invariant-places

@@ -1,9 +1,8 @@
-use Rattle.std.proofs.Common.{ℕ, ◌<◌, ◌↔◌, IsFalse, subst}
-use Rattle.dns_spec.specs.Sharing.{Sharing}
-use Rattle.dns_wire.specs.Draft.{with_set}
+use Rattle.dns_wire.proofs.Common.{ℕ, ◌<◌, ◌↔◌, IsFalse, subst, Sharing, with_set}
 use Rattle.dns_wire.proofs.writer.Writer.put_set.Goals as goal
 
 pub returns-clause-least : goal.returns-clause-least
 returns-clause-least g c = λ q items h small.
-    subst (λ n. IsFalse c.put_set.result ↔ ((z : ℕ) → Sharing q (with_set items c.args.section n c.args.ttl (g.S.SetView.set c.args.set.now)) z → c.args.self.now.page.limit < z))
+    subst (λ n. IsFalse c.put_set.result ↔ ((z : ℕ) → Sharing q (with_set items c.args.section
+    n c.args.ttl (g.S.SetView.set c.args.set.now)) z → c.args.self.now.page.limit < z))
     c.lent.ensures.value (c.put_set.ensures.least q items h small)

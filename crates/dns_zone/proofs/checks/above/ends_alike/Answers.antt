@@ -1,5 +1,4 @@
-use Rattle.std.proofs.Common.{rules, ◌-◌, length, ap, arith}
-use Rattle.std.proofs.lemmas.Bool.{false≢true, false_from_ne_true}
+use Rattle.dns_zone.proofs.Common.{rules, ◌-◌, length, ap, arith, false≢true, false_from_ne_true}
 use Rattle.dns_zone.proofs.EndingNames.{ends_in}
 use Rattle.dns_zone.proofs.checks.above.ends_alike.Goals as goal
 

@@ -1,4 +1,4 @@
-use Rattle.dns_spec.proofs.Common.{rules, length, ap, arith}
+use Rattle.dns_zone.proofs.Common.{rules, length, ap, arith}
 use Rattle.dns_zone.proofs.KeyOrder.{some_octets}
 use Rattle.dns_zone.proofs.NameEnds.{end_is}
 use Rattle.dns_zone.proofs.checks.above.is_at_or_below.Goals as goal

@@ -1,5 +1,4 @@
-use Rattle.std.proofs.Common.{rules, ◌∙◌, arith}
-use Rattle.dns_name.proofs.WireLemmas.{IsWireForm-wire, labels_of_spelled}
+use Rattle.dns_zone.proofs.Common.{rules, ◌∙◌, arith, IsWireForm-wire, labels_of_spelled}
 use Rattle.dns_zone.proofs.NameEnds.{first_end, inside, next_end, last_end}
 use Rattle.dns_zone.proofs.checks.above.shortest_end.Goals as goal
 

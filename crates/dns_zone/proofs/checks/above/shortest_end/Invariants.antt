@@ -1,4 +1,4 @@
-use Rattle.std.proofs.Common.{length, ◌-◌}
+use Rattle.dns_zone.proofs.Common.{length, ◌-◌}
 use Rattle.dns_zone.proofs.NameEnds.{GoesOn}
 use Rattle.dns_zone.proofs.checks.above.shortest_end.Given as goal
 

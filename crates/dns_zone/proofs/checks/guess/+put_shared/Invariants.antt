@@ -1,4 +1,4 @@
-use Rattle.std.proofs.Common.{◌-◌}
+use Rattle.dns_zone.proofs.Common.{◌-◌}
 use Rattle.dns_zone.proofs.checks.guess.+put_shared.Given as goal
 
 abbrev pub decreases-put_shared : goal.decreases-put_shared

@@ -1,4 +1,4 @@
-use Rattle.std.proofs.Common.{◌≤◌, length}
+use Rattle.dns_zone.proofs.Common.{◌≤◌, length}
 use Rattle.dns_zone.proofs.checks.guess.after_alike.Given as goal
 
 abbrev pub invariant-runs : goal.invariant-runs

@@ -1,8 +1,4 @@
-use Rattle.dns_spec.proofs.Common.{rules, ◌≡◌, ◌-◌, suc, take, sym, ◌∙◌, subst, arith, refl, false≢true, IsPartitionedBy, name_order, ZoneContents, Less}
-use Rattle.dns_spec.proofs.Records.SortedOnce.{Each}
-use Rattle.dns_spec.proofs.DomainNames.NameLaws.{octets_equal-decides}
-use Rattle.dns_zone.specs.NamesForm.{is_upto, name_of, AreChecked}
-use Rattle.dns_zone.specs.ZoneForm.{IsFront}
+use Rattle.dns_zone.proofs.Common.{rules, ◌≡◌, ◌-◌, suc, take, sym, ◌∙◌, subst, arith, refl, false≢true, IsPartitionedBy, name_order, ZoneContents, Less, Each, octets_equal-decides, is_upto, name_of, AreChecked, IsFront}
 use Rattle.dns_zone.proofs.GrowingNames.{owners_parted, origin_owns, origin_added, others_before}
 use Rattle.dns_zone.proofs.checks.names.add_origin.Goals as goal
 use Rattle.dns_zone.proofs.checks.names.add_origin.Goals.{else-place-gt0-via-then-place-gt0+else-eq, else-place-gt0-via-else-place-gt0}

@@ -1,11 +1,4 @@
-use Rattle.dns_spec.proofs.Common.{rules, ◌≡◌, ◌+◌, ◌-◌, ◌∷◌, ◌++◌, List, [], length, map, take, drop, sym, ap, ap₂, ◌∙◌, subst, arith, drop-drop, map_push, prefix_len, DomainName, ResourceRecord, ZoneContents}
-use Rattle.dns_spec.proofs.Records.SortedOnce.{Each}
-use Rattle.dns_zone.specs.KeyForm.{name_key}
-use Rattle.dns_zone.specs.KeyedForm.{key_in}
-use Rattle.dns_zone.specs.NamesForm.{own_in, first_owner, name_of, IsTopmost, IsChecked}
-use Rattle.dns_zone.specs.OwnerForm.{IsOwner}
-use Rattle.dns_zone.specs.ReportedForm.{owners_once}
-use Rattle.dns_zone.specs.declared.checks.names.CheckedName.{CheckedName}
+use Rattle.dns_zone.proofs.Common.{rules, ◌≡◌, ◌+◌, ◌-◌, ◌∷◌, ◌++◌, List, [], length, map, take, drop, sym, ap, ap₂, ◌∙◌, subst, arith, drop-drop, map_push, prefix_len, DomainName, ResourceRecord, ZoneContents, Each, name_key, key_in, own_in, first_owner, name_of, IsTopmost, IsChecked, IsOwner, owners_once, CheckedName}
 use Rattle.dns_zone.proofs.AtName.{is_at}
 use Rattle.dns_zone.proofs.GrowingNames.{LastName, root_first, comes_next, added_last, each_added, all_added}
 use Rattle.dns_zone.proofs.KeyedNames.{first_keyed}
@@ -154,9 +147,9 @@ owners-preserved c =
       each = subst (Each (λ d. IsChecked (z c) (name_of (z c) d) d)) items
           (each_added (z c) old (added c) (n c) c.owners.invariant.each (name_there c) (checked c));
       whole = (stepped c).has_owners;
-      part = c.split_at.ensures.back ∙ ap (drop (1 + c.count_in_front.result)) c.owners.invariant.part
-          ∙ drop-drop (1 + c.count_in_front.result) c.owners.first c.args.records.now
-          ∙ ap (λ k. drop (c.owners.first + k) c.args.records.now)
+      part = c.split_at.ensures.back ∙ ap (drop (1 + c.count_in_front.result))
+          c.owners.invariant.part ∙ drop-drop (1 + c.count_in_front.result)
+          c.owners.first c.args.records.now ∙ ap (λ k. drop (c.owners.first + k) c.args.records.now)
           (sym c.split_at.ensures.front_len);
       count = omega (arith, count, size);
       last = subst (λ ns. LastName (z c) (map (name_of (z c)) ns) (owners_once (others c))

@@ -1,7 +1,4 @@
-use Rattle.dns_spec.proofs.Common.{◌≡◌, ◌+◌, ◌++◌, length, map, drop, ZoneContents}
-use Rattle.dns_spec.proofs.Records.SortedOnce.{Each}
-use Rattle.dns_zone.specs.NamesForm.{name_of, IsChecked}
-use Rattle.dns_zone.specs.ReportedForm.{HasOwners, owners_once}
+use Rattle.dns_zone.proofs.Common.{◌≡◌, ◌+◌, ◌++◌, length, map, drop, ZoneContents, Each, name_of, IsChecked, HasOwners, owners_once}
 use Rattle.dns_zone.proofs.GrowingNames.{LastName}
 use Rattle.dns_zone.proofs.checks.names.checked_names.Given as goal
 

@@ -1,6 +1,4 @@
-use Rattle.dns_spec.proofs.Common.{◌≡◌, ℕ, Bool, true, false, cond, List, length, sym, ap₂, ◌∙◌, subst, Octets, DomainName, ResourceRecord, ZoneContents, is_cut}
-use Rattle.dns_zone.specs.KeyForm.{name_key}
-use Rattle.dns_zone.specs.NamesForm.{ComesNext, IsTopmost, is_covered}
+use Rattle.dns_zone.proofs.Common.{◌≡◌, ℕ, Bool, true, false, cond, List, length, sym, ap₂, ◌∙◌, subst, Octets, DomainName, ResourceRecord, ZoneContents, is_cut, name_key, ComesNext, IsTopmost, is_covered}
 use Rattle.dns_zone.proofs.TopmostCut.{covered, uncovered}
 use Rattle.dns_zone.proofs.checks.names.cut_of.Goals as goal
 

@@ -1,4 +1,4 @@
-use Rattle.std.proofs.Common.{sym}
+use Rattle.dns_zone.proofs.Common.{sym}
 use Rattle.dns_zone.proofs.SetTests.{few_in_runs}
 use Rattle.dns_zone.proofs.checks.owner.have_large_set.Goals as goal
 

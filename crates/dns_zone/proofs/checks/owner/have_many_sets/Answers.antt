@@ -1,4 +1,4 @@
-use Rattle.dns_spec.proofs.Common.{sym, arith, le-ltb}
+use Rattle.dns_zone.proofs.Common.{sym, arith, le-ltb}
 use Rattle.dns_zone.proofs.SetTests.{sets_upto}
 use Rattle.dns_zone.proofs.checks.owner.have_many_sets.Goals as goal
 

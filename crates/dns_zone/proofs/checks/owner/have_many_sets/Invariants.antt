@@ -1,5 +1,4 @@
-use Rattle.std.proofs.Common.{◌≡◌, length, nat_lt}
-use Rattle.dns_zone.specs.SetWalks.{sets_ended}
+use Rattle.dns_zone.proofs.Common.{◌≡◌, length, nat_lt, sets_ended}
 use Rattle.dns_zone.proofs.checks.owner.have_many_sets.Given as goal
 
 abbrev pub invariant-records : goal.invariant-records

@@ -1,7 +1,4 @@
-use Rattle.std.proofs.Common.{rules, ℕ, Vec, Global, ◌++◌, take, drop, sym, ◌∙◌, ◌≡◌, ◌<◌, ◌≤◌, ◌∷◌, [], All, length, subst, arith, ap, length-append}
-use Rattle.std.proofs.lemmas.List.Elements.{All-push, All-head, All-tail}
-use Rattle.std.proofs.Math.Seq.{take-append_seam}
-use Rattle.dns_zone.specs.declared.order.arranged.Run.{Run}
+use Rattle.dns_zone.proofs.Common.{rules, ℕ, Vec, Global, ◌++◌, take, drop, sym, ◌∙◌, ◌≡◌, ◌<◌, ◌≤◌, ◌∷◌, All, length, subst, arith, ap, length-append, All-push, All-head, All-tail, take-append_seam, Run}
 use Rattle.dns_zone.proofs.order.arranged.places.Goals as goal
 use Rattle.dns_zone.proofs.order.arranged.places.Goals.{then-len-first, else-len-first}
 
@@ -18,12 +15,7 @@ places-preserved c =
       below = subst (All (λ p. p < length c.args.records.now)) (search rules)
           (All-push (λ p. p < length c.args.records.now) c.places.places.items c.places.at
           c.places.invariant.below (omega (arith, end, c.places-test.true)));
-      first = omega (
-        arith,
-        first,
-        ap length items,
-        length-append c.places.places.items (c.places.at ∷ []),
-      );
+      first = grind (arith, length-append);
     }
 
 pub runs-preserved-then-is_some_and : goal.runs-preserved-then-is_some_and

@@ -1,5 +1,4 @@
-use Rattle.std.proofs.Common.{◌≤◌, ◌-◌, All, length}
-use Rattle.dns_zone.specs.declared.order.arranged.Run.{Run}
+use Rattle.dns_zone.proofs.Common.{◌≤◌, ◌-◌, All, length, Run}
 use Rattle.dns_zone.proofs.order.arranged.runs.Given as goal
 
 abbrev pub invariant-runs : goal.invariant-runs

@@ -1,5 +1,4 @@
-use Rattle.dns_spec.proofs.Common.{◌<◌, ◌∙◌, length, rules, arith, IsPermutation-trans}
-use Rattle.std.proofs.lemmas.List.Elements.{All-set}
+use Rattle.dns_zone.proofs.Common.{◌<◌, ◌∙◌, length, rules, arith, IsPermutation-trans, All-set}
 use Rattle.dns_zone.proofs.KeyedNames.{keyed_swapped}
 use Rattle.dns_zone.proofs.order.arranged.settle.Goals as goal
 

@@ -1,5 +1,4 @@
-use Rattle.dns_spec.proofs.Common.{◌≡◌, ◌<◌, All, length, IsPermutation}
-use Rattle.dns_zone.specs.KeyedForm.{AreKeyed}
+use Rattle.dns_zone.proofs.Common.{◌≡◌, ◌<◌, All, length, IsPermutation, AreKeyed}
 use Rattle.dns_zone.proofs.order.arranged.settle.Given as goal
 
 abbrev pub invariant-moves : goal.invariant-moves

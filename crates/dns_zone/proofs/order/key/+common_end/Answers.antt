@@ -1,4 +1,4 @@
-use Rattle.dns_spec.proofs.Common.{rules, false≢true}
+use Rattle.dns_zone.proofs.Common.{rules, false≢true}
 use Rattle.dns_zone.proofs.CommonEnds.{ends_on, some, have_labels}
 use Rattle.dns_zone.proofs.order.key.+common_end.Goals as goal
 
@@ -17,7 +17,8 @@ returns-then-name-other-clause-name t c =
 
 pub returns-then-name-other-2-clause-other : goal.returns-then-name-other-2-clause-other
 returns-then-name-other-2-clause-other t c =
-    ends_on c.after_first_label-then-name-other-2.ensures.end c.common_end-then-name-other-2.ensures.other
+    ends_on c.after_first_label-then-name-other-2.ensures.end
+    c.common_end-then-name-other-2.ensures.other
 
 pub returns-else-are_equal-clause-name : goal.returns-else-are_equal-clause-name
 returns-else-are_equal-clause-name t c =
@@ -25,4 +26,5 @@ returns-else-are_equal-clause-name t c =
 
 pub returns-else-are_equal-clause-other : goal.returns-else-are_equal-clause-other
 returns-else-are_equal-clause-other t c =
-    ends_on c.after_first_label-else-are_equal-2.ensures.end c.common_end-else-are_equal.ensures.other
+    ends_on
+    c.after_first_label-else-are_equal-2.ensures.end c.common_end-else-are_equal.ensures.other

@@ -1,6 +1,4 @@
-use Rattle.dns_spec.proofs.Common.{rules, ◌≡◌, ℕ, zero, suc, ◌==◌, ◌<◌, false, ◌++◌, length, ap, ◌+◌, ◌∷◌, sym, ◌∙◌, arith, length-append, append-nil, eqb-true, false≢true, nil_from_length, Octets, wire}
-use Rattle.dns_name.specs.WireForm.{labels_of, IsWireForm}
-use Rattle.dns_zone.specs.KeyForm.{name_key}
+use Rattle.dns_zone.proofs.Common.{rules, ◌≡◌, ℕ, zero, suc, ◌==◌, ◌<◌, false, ◌++◌, length, ap, ◌+◌, ◌∷◌, sym, ◌∙◌, arith, length-append, append-nil, eqb-true, false≢true, nil_from_length, Octets, wire, labels_of, IsWireForm, name_key}
 use Rattle.dns_zone.proofs.CommonEnds.{size, some, ends_whole, after_ends}
 use Rattle.dns_zone.proofs.order.key.+put_labels.Goals as goal
 
@@ -11,13 +9,7 @@ positive (suc k) h = omega arith
 pub returns-then-is_empty : goal.returns-then-is_empty
 returns-then-is_empty t c =
     let none = eqb-true (length c.args.key.now) 0 (sym c.if-is_empty.ensures) in
-    let e = ends_whole _ _ c.requires.ends (omega (
-      arith,
-      none,
-      c.requires.room,
-      size _ c.requires.wire,
-      size _ c.requires.end,
-    )) in
+    let e = ends_whole _ _ c.requires.ends (grind (arith, size)) in
     ap name_key e ∙ sym (append-nil (name_key (labels_of c.args.end.now)))
     ∙ ap (λ xs. name_key (labels_of c.args.end.now) ++ xs) (sym (nil_from_length _ none))
 
@@ -33,13 +25,7 @@ overflow_sub-after t c =
 parts : (octets after label : Octets) → IsWireForm octets → IsWireForm after
     → labels_of octets ≡ label ∷ labels_of after → length octets ≡ length label + 1 + length after
 parts octets after label whole rest first =
-    omega (
-      arith,
-      size octets whole,
-      size after rest,
-      ap (λ n. length (wire n)) first,
-      length-append label (wire (labels_of after)),
-    )
+    grind (arith, size, wire, length-append, labels_of)
 
 -- the key has room for the first label, and before it for the others
 pub put_label-requires : goal.put_label-requires

@@ -1,4 +1,4 @@
-use Rattle.std.proofs.Common.{rules}
+use Rattle.dns_zone.proofs.Common.{rules}
 use Rattle.dns_zone.proofs.KeyPrefix.{below_longer, below_shorter}
 use Rattle.dns_zone.proofs.order.key.is_below.Goals as goal
 

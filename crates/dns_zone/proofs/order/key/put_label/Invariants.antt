@@ -1,5 +1,4 @@
-use Rattle.std.proofs.Common.{◌≡◌, length, map, take}
-use Rattle.dns_zone.specs.KeyForm.{raised}
+use Rattle.dns_zone.proofs.Common.{◌≡◌, length, map, take, raised}
 use Rattle.dns_zone.proofs.order.key.put_label.Given as goal
 
 -- the octets of the label so far are put

@@ -1,10 +1,4 @@
-use Rattle.dns_spec.proofs.Common.{rules, ◌≡◌, ◌≤◌, ◌<◌, length, ℕ, ◌+◌, List, [], ◌∷◌, ◌++◌, get_or, arith, sym, ap, subst, ◌∙◌, inl, inr, ◌⊎◌, length-append, cases_lt, get_or_append_left, get_or_default, Octets, DomainName, ResourceRecord, IsReadRecord, All, All-nil, take_all}
-use Rattle.std.proofs.Math.Seq.{get_or-append_seam}
-use Rattle.std.proofs.lemmas.List.Elements.{All-more}
-use Rattle.dns_spec.proofs.DomainNames.NameLaws.{names_equal-decides}
-use Rattle.dns_name.proofs.WireLemmas.{labels_of_spelled}
-use Rattle.dns_zone.specs.KeyForm.{name_key}
-use Rattle.dns_zone.specs.KeyedForm.{key_in}
+use Rattle.dns_zone.proofs.Common.{rules, ◌≡◌, ◌≤◌, ◌<◌, length, ℕ, ◌+◌, List, [], ◌∷◌, ◌++◌, get_or, arith, sym, ap, subst, ◌∙◌, inl, inr, ◌⊎◌, length-append, cases_lt, get_or_append_left, get_or_default, Octets, DomainName, ResourceRecord, IsReadRecord, All, All-nil, take_all, get_or-append_seam, All-more, names_equal-decides, labels_of_spelled, name_key, key_in}
 use Rattle.dns_zone.proofs.KeyedNames.{key_stays, key_added}
 use Rattle.dns_zone.proofs.order.keyed.keys_of.Goals as goal
 use Rattle.dns_zone.proofs.order.keyed.keys_of.Goals.{then-ne+in_ok-extend_from_slice-2, else-ne}
@@ -26,12 +20,7 @@ records-init c =
       origin = first;
       count = ap length c.in_ok-starts.ensures.items;
       each = λ i r s l. absurd (omega (arith, l));
-      few = omega (
-        arith,
-        ap length keys,
-        ap length (c.octets.ensures.value ∙ c.of-key.ensures),
-        c.octets.ensures.bound,
-      );
+      few = grind arith;
       read = All-nil IsReadRecord;
     }
 
@@ -45,10 +34,8 @@ AreFirst keys rs k starts =
 
 -- the keys of the records so far, and that of one more
 each_pushed : (keys : Octets) (starts : List ℕ) (rs : List ResourceRecord) (k start : ℕ)
-    → length starts ≡ k
-    → AreFirst keys rs k starts
-    → ((r : ResourceRecord) → IsAt keys start (get_or rs k r).owner)
-    → AreFirst keys rs (k + 1) (starts ++ start ∷ [])
+    → length starts ≡ k → AreFirst keys rs k starts → ((r : ResourceRecord)
+    → IsAt keys start (get_or rs k r).owner) → AreFirst keys rs (k + 1) (starts ++ start ∷ [])
 each_pushed keys starts rs k start count each here i r s l = go (cases_lt i k)
   where
     go : (i < k) ⊎ (k ≤ i) → IsAt keys (get_or (starts ++ start ∷ []) i s) (get_or rs i r).owner

@@ -1,5 +1,4 @@
-use Rattle.dns_spec.proofs.Common.{rules, ◌+◌, refl, sym, arith, All-weaker, IsPermutation-trans, IsReadRecord}
-use Rattle.dns_spec.proofs.Records.RecordOrder.{LowerOwner}
+use Rattle.dns_zone.proofs.Common.{rules, ◌+◌, refl, sym, arith, All-weaker, IsPermutation-trans, IsReadRecord, LowerOwner}
 use Rattle.dns_zone.proofs.KeyedNames.{keyed_swapped}
 use Rattle.dns_zone.proofs.RisenRecords.{once_equal, once_less, once_sorted, once_canonical}
 use Rattle.dns_zone.proofs.order.ordered.once_in_front.Goals as goal

@@ -1,5 +1,4 @@
-use Rattle.dns_spec.proofs.Common.{◌-◌, length, IsPermutation}
-use Rattle.dns_zone.specs.KeyedForm.{AreKeyed}
+use Rattle.dns_zone.proofs.Common.{◌-◌, length, IsPermutation, AreKeyed}
 use Rattle.dns_zone.proofs.RisenRecords.{IsOnce}
 use Rattle.dns_zone.proofs.order.ordered.once_in_front.Given as goal
 

@@ -1,9 +1,4 @@
-use Rattle.dns_spec.proofs.Common.{rules, true, Bool, is_lt, ◌≡◌, ℕ, ◌++◌, List, All, length, take, drop, sym, subst, ◌∙◌, take-append_seam, OnTrue, IsPermutation, ResourceRecord, records_equal, distinct, sort_by, record_order, IsReadRecord}
-use Rattle.std.proofs.lemmas.List.Sorted.{length_permutation, ranks_by, IsPermutation-trans}
-use Rattle.std.proofs.lemmas.Fn.{always_returns_same}
-use Rattle.dns_spec.proofs.Records.RecordOrder.{record_order_total, sort_risen, rises_canonical, all_canonical}
-use Rattle.dns_zone.specs.KeyedForm.{AreKeyed}
-use Rattle.dns_zone.specs.ZoneForm.{AreOrdered}
+use Rattle.dns_zone.proofs.Common.{rules, true, Bool, is_lt, ◌≡◌, ℕ, ◌++◌, List, All, length, take, drop, sym, subst, ◌∙◌, take-append_seam, OnTrue, IsPermutation, ResourceRecord, records_equal, distinct, sort_by, record_order, IsReadRecord, length_permutation, ranks_by, IsPermutation-trans, always_returns_same, record_order_total, sort_risen, rises_canonical, all_canonical, AreKeyed, AreOrdered}
 use Rattle.dns_zone.proofs.order.ordered.ordered.Goals as goal
 use Rattle.dns_zone.proofs.order.ordered.ordered.Goals.{Then-leave_out_duplicates, After-drop-keys-2}
 

@@ -1,5 +1,4 @@
-use Rattle.dns_spec.proofs.Common.{◌≡◌, ◌+◌, ◌-◌, ◌*◌, ◌/◌, ℕ, ◌<◌, ◌^◌, ◌⊎◌, inl, inr, [], map, length, get_or, drop, subst, sym, ◌∙◌, arith, cases_lt, get_or-map, length-map, to_ascii_lowercase, Octets}
-use Rattle.std.proofs.Math.ListN.{drop_of_length-le}
+use Rattle.dns_zone.proofs.Common.{◌≡◌, ◌+◌, ◌-◌, ◌*◌, ◌/◌, ℕ, ◌<◌, ◌^◌, ◌⊎◌, inl, inr, [], map, length, get_or, drop, subst, sym, ◌∙◌, arith, cases_lt, get_or-map, length-map, to_ascii_lowercase, Octets, drop_of_length-le}
 use Rattle.dns_zone.proofs.LabelKeys.{IsPart, label_low, key_end, key_fits, one_octet}
 use Rattle.dns_zone.proofs.tree.label_key.label_key.Goals as goal
 
@@ -49,10 +48,6 @@ returns c =
     ] in
     record {
       value =
-          omega (
-            arith,
-            c.octets.invariant.value,
-            key_end (8 - c.octets.i) (drop c.octets.i l) ended,
-          );
+          grind (arith, key_end);
       low = label_low c.args.label.now (λ k. let h = c.type_inv.label k in omega arith);
     }

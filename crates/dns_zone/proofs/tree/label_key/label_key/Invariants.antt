@@ -1,4 +1,4 @@
-use Rattle.dns_spec.proofs.Common.{map, to_ascii_lowercase}
+use Rattle.dns_zone.proofs.Common.{map, to_ascii_lowercase}
 use Rattle.dns_zone.proofs.LabelKeys.{IsPart}
 use Rattle.dns_zone.proofs.tree.label_key.label_key.Given as goal
 

@@ -1,4 +1,4 @@
-use Rattle.dns_spec.proofs.Common.{◌≡◌, map, length, to_ascii_lowercase, label_order}
+use Rattle.dns_zone.proofs.Common.{◌≡◌, map, length, to_ascii_lowercase, label_order}
 use Rattle.dns_zone.proofs.tree.label_key.order_to.Given as goal
 
 -- the octets so far are alike

@@ -1,5 +1,4 @@
-use Rattle.std.proofs.Common.{rules, length, length-drop, sym, ap, ◌∙◌, arith}
-use Rattle.dns_name.specs.WireForm.{labels_of}
+use Rattle.dns_zone.proofs.Common.{rules, length, length-drop, sym, ap, ◌∙◌, arith, labels_of}
 use Rattle.dns_zone.proofs.LabelStarts.{after_label}
 use Rattle.dns_zone.proofs.tree.labels.label_after.Goals as goal
 

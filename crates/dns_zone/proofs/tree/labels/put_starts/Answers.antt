@@ -1,5 +1,4 @@
-use Rattle.std.proofs.Common.{rules, ◌<◌, ◌∙◌, length, length-set, arith}
-use Rattle.dns_name.specs.WireForm.{labels_of}
+use Rattle.dns_zone.proofs.Common.{rules, ◌<◌, ◌∙◌, length, length-set, arith, labels_of}
 use Rattle.dns_zone.proofs.LabelStarts.{begins-first, begins-next, next-fits, starts-more}
 use Rattle.dns_zone.proofs.tree.labels.put_starts.Goals as goal
 

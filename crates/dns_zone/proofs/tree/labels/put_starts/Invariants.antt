@@ -1,5 +1,4 @@
-use Rattle.std.proofs.Common.{◌≡◌, length}
-use Rattle.dns_zone.specs.Starts.{BeginsAt, AreStarts}
+use Rattle.dns_zone.proofs.Common.{◌≡◌, length, BeginsAt, AreStarts}
 use Rattle.dns_zone.proofs.tree.labels.put_starts.Given as goal
 
 -- the next label, or the root, begins here, and the places of those before are put

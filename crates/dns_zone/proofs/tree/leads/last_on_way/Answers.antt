@@ -1,6 +1,4 @@
-use Rattle.std.proofs.Common.{rules, ap, arith}
-use Rattle.dns_name.proofs.WireLemmas.{IsWireForm-wire, labels_of_spelled}
-use Rattle.dns_zone.specs.Nodes.{ZoneNode}
+use Rattle.dns_zone.proofs.Common.{rules, ap, arith, IsWireForm-wire, labels_of_spelled, ZoneNode}
 use Rattle.dns_zone.proofs.LeadRows.{begins, goes_on, lead_is}
 use Rattle.dns_zone.proofs.tree.leads.last_on_way.Goals as goal
 

@@ -1,4 +1,4 @@
-use Rattle.std.proofs.Common.{◌≤◌}
+use Rattle.dns_zone.proofs.Common.{◌≤◌}
 use Rattle.dns_zone.proofs.LeadRows.{IsOnWay}
 use Rattle.dns_zone.proofs.tree.leads.last_on_way.Given as goal
 

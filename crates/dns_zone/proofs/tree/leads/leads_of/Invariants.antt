@@ -1,5 +1,4 @@
-use Rattle.std.proofs.Common.{◌≡◌, length}
-use Rattle.dns_zone.specs.NodeForm.{AreLeads}
+use Rattle.dns_zone.proofs.Common.{◌≡◌, length, AreLeads}
 use Rattle.dns_zone.proofs.tree.leads.leads_of.Given as goal
 
 abbrev pub invariant-records : goal.invariant-records

@@ -1,5 +1,4 @@
-use Rattle.dns_spec.proofs.Common.{rules, nat_lt, ResourceRecord}
-use Rattle.std.proofs.lemmas.List.Sorted.{IsPartitionPoint-from_clause, IsPartitionedBy-ltb}
+use Rattle.dns_zone.proofs.Common.{rules, nat_lt, ResourceRecord, IsPartitionPoint-from_clause, IsPartitionedBy-ltb}
 use Rattle.dns_zone.proofs.Pairs.{halves}
 use Rattle.dns_zone.proofs.tree.lookup.count_below.Goals as goal
 
@@ -8,5 +7,6 @@ returns-clause-others c =
     let rs = c.args.records.now in
     let t = c.args.rtype.0 in
     (halves (λ (r : ResourceRecord). nat_lt r.rtype t) rs _ c.partition_point.ensures.bound
-    (IsPartitionPoint-from_clause (λ (r : ResourceRecord). nat_lt r.rtype t) rs _ c.partition_point.ensures.partitioned
-    (IsPartitionedBy-ltb (λ (r : ResourceRecord). r.rtype) rs t c.requires) (λ a r q k. search rules))).1
+    (IsPartitionPoint-from_clause (λ (r : ResourceRecord). nat_lt r.rtype t)
+    rs _ c.partition_point.ensures.partitioned (IsPartitionedBy-ltb
+    (λ (r : ResourceRecord). r.rtype) rs t c.requires) (λ a r q k. search rules))).1

@@ -1,4 +1,4 @@
-use Rattle.dns_spec.proofs.Common.{rules, IsPartitionPoint-from_clause, at_or_below, ResourceRecord}
+use Rattle.dns_zone.proofs.Common.{rules, IsPartitionPoint-from_clause, at_or_below, ResourceRecord}
 use Rattle.dns_zone.proofs.Pairs.{halves, none_in_front}
 use Rattle.dns_zone.proofs.tree.lookup.count_under.Goals as goal
 

@@ -1,4 +1,4 @@
-use Rattle.dns_spec.proofs.Common.{eqb, ap, sym, ◌∙◌, take_rest, ResourceRecord}
+use Rattle.dns_zone.proofs.Common.{eqb, ap, sym, ◌∙◌, take_rest, ResourceRecord}
 use Rattle.dns_zone.proofs.Pairs.{pairs_rising, first_passes}
 use Rattle.dns_zone.proofs.Types.{found_first, first_is, first_none}
 use Rattle.dns_zone.proofs.tree.lookup.has_type.Goals as goal
@@ -9,7 +9,8 @@ returns-in-Some c =
     let rs = c.args.records.now in
     c.eq.ensures ∙ ap p c.entry.view_is ∙ first_is p c.in-Some.entry.now _ c.in-Some.ensures.value
     ∙ ap (first_passes p) (take_rest rs c.count_below.result ∙ c.count_below.ensures.others)
-    ∙ sym (found_first (λ (r : ResourceRecord). r.rtype) c.args.rtype.0 rs (pairs_rising (λ (r : ResourceRecord). r.rtype) rs c.requires))
+    ∙ sym (found_first (λ (r : ResourceRecord). r.rtype) c.args.rtype.0 rs
+    (pairs_rising (λ (r : ResourceRecord). r.rtype) rs c.requires))
 
 pub returns-in-None : goal.returns-in-None
 returns-in-None c =
@@ -17,4 +18,5 @@ returns-in-None c =
     let rs = c.args.records.now in
     first_none p _ c.in-None.ensures.value
     ∙ ap (first_passes p) (take_rest rs c.count_below.result ∙ c.count_below.ensures.others)
-    ∙ sym (found_first (λ (r : ResourceRecord). r.rtype) c.args.rtype.0 rs (pairs_rising (λ (r : ResourceRecord). r.rtype) rs c.requires))
+    ∙ sym (found_first (λ (r : ResourceRecord). r.rtype) c.args.rtype.0 rs
+    (pairs_rising (λ (r : ResourceRecord). r.rtype) rs c.requires))

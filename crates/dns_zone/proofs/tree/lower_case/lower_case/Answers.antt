@@ -1,5 +1,4 @@
-use Rattle.dns_spec.proofs.Common.{refl, ap, ◌∙◌, arith, to_ascii_lowercase}
-use Rattle.dns_zone.specs.declared.tree.lower_case.TheConstants.{LOWER_CASE}
+use Rattle.dns_zone.proofs.Common.{refl, ap, ◌∙◌, arith, to_ascii_lowercase, LOWER_CASE}
 use Rattle.dns_zone.proofs.LowerCase.{agree_below, from_table}
 use Rattle.dns_zone.proofs.tree.lower_case.lower_case.Goals as goal
 

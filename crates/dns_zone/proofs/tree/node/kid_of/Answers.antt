@@ -1,7 +1,4 @@
-use Rattle.dns_spec.proofs.Common.{rules, arith, ◌≡◌, ◌∷◌, ◌<◌, map, length, refl, true, ℕ, List, sym, ap, ap₂, ◌∙◌, subst, false≢true, to_ascii_lowercase, Octets, ResourceRecord, exists}
-use Rattle.dns_spec.proofs.Records.SortedOnce.{Each, Among}
-use Rattle.dns_zone.specs.TreeForm.{row_name, row_label, row_at, kids_at, IsRow}
-use Rattle.dns_zone.specs.declared.tree.row.Row.{Row}
+use Rattle.dns_zone.proofs.Common.{rules, arith, ◌≡◌, ◌∷◌, ◌<◌, map, length, refl, true, ℕ, List, sym, ap, ap₂, ◌∙◌, subst, false≢true, to_ascii_lowercase, Octets, ResourceRecord, exists, Each, Among, row_name, row_label, row_at, kids_at, IsRow, Row}
 use Rattle.dns_zone.proofs.Existing.{child-exists}
 use Rattle.dns_zone.proofs.NodeRows.{is_row, are_kids, kid_rows, kid_name, kid_exists, kid_at}
 use Rattle.dns_zone.proofs.tree.node.kid_of.Goals as goal
@@ -38,9 +35,8 @@ returns-in_err-found-clause-child c =
 
 -- the label of the child that was found is the one that was asked for
 found_label : (rs xs : List ResourceRecord) (kids rows : List Row) (i : ℕ) (asked l : Octets)
-    → xs ≡ rs → kids ≡ rows → asked ≡ l
-    → row_label xs (row_at kids i) ≡ map to_ascii_lowercase asked
-    → row_label rs (row_at rows i) ≡ map to_ascii_lowercase l
+    → xs ≡ rs → kids ≡ rows → asked ≡ l → row_label xs (row_at kids i)
+    ≡ map to_ascii_lowercase asked → row_label rs (row_at rows i) ≡ map to_ascii_lowercase l
 found_label rs xs kids rows i asked l e f g h =
     sym (ap₂ (λ (rs : List ResourceRecord) (xs : List Row). row_label rs (row_at xs i)) e f)
     ∙ h ∙ ap (map to_ascii_lowercase) g
@@ -57,7 +53,8 @@ returns-clause-child c =
     let n = row_name t.zone.records (row_at t.rows k) in
     let fits = subst (λ (xs : List Row). i < length xs) c.kids_of-start.ensures.kids
     c.in_ok-found.ensures.found.0 in
-    let label = found_label t.zone.records _ _ (kids_at t.rows t.bounds k) i _ l c.records.ensures.records
+    let label =
+    found_label t.zone.records _ _ (kids_at t.rows t.bounds k) i _ l c.records.ensures.records
     c.kids_of-start.ensures.kids c.octets.ensures.value c.in_ok-found.ensures.found.1 in
     let present : exists t.zone (l ∷ n) ≡ true =
     sym (child-exists t.zone l n (is_row t k c.requires.at).lower)

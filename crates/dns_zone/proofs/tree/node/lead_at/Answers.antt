@@ -1,4 +1,4 @@
-use Rattle.std.proofs.Common.{rules, arith}
+use Rattle.dns_zone.proofs.Common.{rules, arith}
 use Rattle.dns_zone.proofs.LeadRows.{kept-lead}
 use Rattle.dns_zone.proofs.tree.node.lead_at.Goals as goal
 

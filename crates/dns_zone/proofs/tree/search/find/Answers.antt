@@ -1,5 +1,4 @@
-use Rattle.dns_spec.proofs.Common.{rules, ◌≡◌, ◌+◌, ℕ, map, ap, sym, ◌∙◌, subst, arith, to_ascii_lowercase}
-use Rattle.dns_zone.specs.Nodes.{Walk}
+use Rattle.dns_zone.proofs.Common.{rules, ◌≡◌, ◌+◌, ℕ, map, ap, sym, ◌∙◌, subst, arith, to_ascii_lowercase, Walk}
 use Rattle.dns_zone.proofs.NameTree.{label-tie}
 use Rattle.dns_zone.proofs.FoundKid.{Searching, start, half, one_more, go_left, go_right, none_left}
 use Rattle.dns_zone.proofs.tree.search.find.Goals as goal

@@ -1,4 +1,4 @@
-use Rattle.dns_spec.proofs.Common.{◌≡◌, ◌≤◌, ◌+◌, ◌-◌, ℕ, map, to_ascii_lowercase}
+use Rattle.dns_zone.proofs.Common.{◌≡◌, ◌≤◌, ◌+◌, ◌-◌, ℕ, map, to_ascii_lowercase}
 use Rattle.dns_zone.proofs.FoundKid.{Searching}
 use Rattle.dns_zone.proofs.tree.search.find.Given as goal
 

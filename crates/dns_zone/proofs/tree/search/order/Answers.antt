@@ -1,8 +1,5 @@
-use Rattle.dns_spec.proofs.Common.{rules, List, ℕ, ◌≡◌, ◌≤◌, ◌⊎◌, inl, inr, map, length, drop, subst, sym, ap, ap₂, ◌∙◌, nat_cmp, arith, to_ascii_lowercase, label_order, ResourceRecord}
-use Rattle.std.proofs.lemmas.List.{length-map, drop-map}
-use Rattle.dns_zone.specs.LabelKey.{IsKey}
-use Rattle.dns_zone.specs.TreeForm.{row_label, row_name, IsRow, first_of as first_label}
-use Rattle.dns_zone.specs.declared.tree.row.Row.{Row}
+use Rattle.dns_zone.proofs.Common.{rules, List, ℕ, ◌≡◌, ◌≤◌, ◌⊎◌, inl, inr, map, length, drop, subst, sym, ap, ap₂, ◌∙◌, nat_cmp, arith, to_ascii_lowercase, label_order, ResourceRecord, length-map, drop-map, IsKey, row_label, row_name, IsRow, Row}
+use Rattle.dns_zone.specs.TreeForm.{first_of as first_label}
 use Rattle.dns_zone.proofs.LabelKeys.{first_lower, key_order, by_length, after_key}
 use Rattle.dns_zone.proofs.tree.search.order.Goals as goal
 use Rattle.dns_zone.proofs.tree.search.order.Goals.{then-count-le-KEY_OCTETS-via-then-count-le-KEY_OCTETS, then-count-le-KEY_OCTETS-via-else-count-le-KEY_OCTETS+then-label-le-KEY_OCTETS}
@@ -16,7 +13,8 @@ row_key rs row key h e =
 pub returns-then-row-key-clause-order : goal.returns-then-row-key-clause-order
 returns-then-row-key-clause-order c = search (rules, key_order, row_key)
 
-pub returns-then-count-le-KEY_OCTETS-clause-order : goal.returns-then-count-le-KEY_OCTETS-clause-order
+pub returns-then-count-le-KEY_OCTETS-clause-order :
+    goal.returns-then-count-le-KEY_OCTETS-clause-order
 returns-then-count-le-KEY_OCTETS-clause-order c =
     let row = c.args.row.now in
     let own = row_label c.args.records.now row in
@@ -43,7 +41,8 @@ returns-clause-order c =
     let long = c.if-count-le-KEY_OCTETS.false in
     let asked = c.if-label-le-KEY_OCTETS.false in
     c.order_to.ensures
-    ∙ ap₂ label_order (c.split_at.ensures.back ∙ ap (drop 8) (c.first_octets-own.ensures.value ∙ ap first_label (c.new.ensures.value ∙ c.octets_of.ensures.name)))
+    ∙ ap₂ label_order (c.split_at.ensures.back ∙ ap (drop 8) (c.first_octets-own.ensures.value
+    ∙ ap first_label (c.new.ensures.value ∙ c.octets_of.ensures.name)))
     (ap (map to_ascii_lowercase) c.split_at-2.ensures.back
     ∙ sym (drop-map to_ascii_lowercase 8 c.args.label.now))
     ∙ after_key own_key c.requires.key (omega arith) (omega arith)

@@ -1,4 +1,4 @@
-use Rattle.std.proofs.Common.{rules}
+use Rattle.dns_zone.proofs.Common.{rules}
 use Rattle.dns_zone.proofs.BuiltZone.{serial_is}
 use Rattle.dns_zone.proofs.zone.CheckedZone.serial.Goals as goal
 

@@ -1,4 +1,4 @@
-use Rattle.std.proofs.Common.{◌≡◌, take}
+use Rattle.dns_zone.proofs.Common.{◌≡◌, take}
 use Rattle.dns_zone.proofs.zone.Zone.build.Given as goal
 
 -- the store has the records so far

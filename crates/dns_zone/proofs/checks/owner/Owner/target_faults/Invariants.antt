@@ -1,5 +1,4 @@
-use Rattle.dns_spec.proofs.Common.{◌≡◌, ◌||◌, length, list_any}
-use Rattle.dns_zone.specs.OwnerForm.{is_server_alias, is_server_lost, is_exchange_alias}
+use Rattle.dns_zone.proofs.Common.{◌≡◌, ◌||◌, length, list_any, is_server_alias, is_server_lost, is_exchange_alias}
 use Rattle.dns_zone.proofs.checks.owner.Owner.target_faults.Given as goal
 
 -- what was found so far, or is found in the rest, is found in all

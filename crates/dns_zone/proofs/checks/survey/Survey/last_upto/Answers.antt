@@ -1,16 +1,11 @@
-use Rattle.dns_spec.proofs.Common.{◌≡◌, ◌-◌, ◌<◌, ℕ, suc, map, true, List, sym, ap, ◌∙◌, subst, arith, Octets, DomainName, folded, at_or_below, name_order, ZoneContents}
-use Rattle.dns_spec.proofs.DomainNames.NameLaws.{octets_equal-decides}
-use Rattle.dns_spec.proofs.Records.SortedOnce.{Rises}
-use Rattle.dns_zone.specs.ZoneForm.{IsFront}
-use Rattle.dns_zone.specs.KeyForm.{name_key}
-use Rattle.dns_zone.specs.NamesForm.{name_of, is_upto, IsChecked, IsLastUpto, IsSurvey}
-use Rattle.dns_zone.specs.declared.checks.names.CheckedName.{CheckedName}
+use Rattle.dns_zone.proofs.Common.{◌≡◌, ◌-◌, ◌<◌, ℕ, suc, map, true, List, sym, ap, ◌∙◌, subst, arith, Octets, DomainName, folded, at_or_below, name_order, ZoneContents, octets_equal-decides, Rises, IsFront, name_key, name_of, is_upto, IsChecked, IsLastUpto, IsSurvey, CheckedName}
 use Rattle.dns_zone.proofs.CheckedNames.{upto_parted, upto_some, found_there, found_itself}
 use Rattle.dns_zone.proofs.Pairs.{each_get}
 use Rattle.dns_zone.proofs.ReportedNames.{checked_rise}
 use Rattle.dns_zone.proofs.checks.survey.Survey.last_upto.Goals as goal
 
-module _ (y z : ZoneContents) (own : Octets) (names : List CheckedName) (survey : IsSurvey y own names) where
+module _ (y z : ZoneContents)
+    (own : Octets) (names : List CheckedName) (survey : IsSurvey y own names) where
   rises : Rises name_order (map (name_of y) names)
   rises = subst (Rises name_order) (sym survey.names_are.all) (checked_rise y)
 
@@ -30,14 +25,16 @@ count_upto-place-requires c =
 pub overflow_sub-place : goal.overflow_sub-place
 overflow_sub-place c =
     let s =
-    some _ _ _ _ c.self.invariant c.args.target.now _ _ c.self.view_is c.requires.lower c.key-2.ensures
+    some _
+    _ _ _ c.self.invariant c.args.target.now _ _ c.self.view_is c.requires.lower c.key-2.ensures
     c.requires.inside c.count_upto-place.ensures in
     omega (arith, s)
 
 pub bounds-names-place-3 : goal.bounds-names-place-3
 bounds-names-place-3 c =
     let s =
-    some _ _ _ _ c.self.invariant c.args.target.now _ _ c.self.view_is c.requires.lower c.key-2.ensures
+    some _
+    _ _ _ c.self.invariant c.args.target.now _ _ c.self.view_is c.requires.lower c.key-2.ensures
     c.requires.inside c.count_upto-place.ensures in
     let bound = c.count_upto-place.ensures.bound in omega (arith, s, bound)
 
@@ -56,7 +53,8 @@ returns-clause-last c =
 pub returns-2-clause-last : goal.returns-2-clause-last
 returns-2-clause-last c =
     let s =
-    some _ _ _ _ c.self.invariant c.args.target.now _ _ c.self.view_is c.requires.lower c.key-2.ensures
+    some _
+    _ _ _ c.self.invariant c.args.target.now _ _ c.self.view_is c.requires.lower c.key-2.ensures
     c.requires.inside c.count_upto-place.ensures in
     let k = c.count_upto-place.result in
     let next : k ≡ suc (k - 1) = omega (arith, s) in

@@ -1,7 +1,4 @@
-use Rattle.dns_spec.proofs.Common.{rules, ◌≡◌, List, [], ◌∷◌, None, refl, DomainName, ResourceRecord}
-use Rattle.std.specs.List.{slice_get}
-use Rattle.dns_name.proofs.WireLemmas.{labels_of_spelled}
-use Rattle.dns_zone.specs.NamesForm.{first_owner}
+use Rattle.dns_zone.proofs.Common.{rules, ◌≡◌, List, [], ◌∷◌, None, refl, DomainName, ResourceRecord, slice_get, labels_of_spelled, first_owner}
 use Rattle.dns_zone.proofs.checks.survey.Survey.name.Goals as goal
 
 -- without a first record the name is the origin

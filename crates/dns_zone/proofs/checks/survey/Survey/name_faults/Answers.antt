@@ -1,5 +1,4 @@
-use Rattle.dns_spec.proofs.Common.{◌&&◌, ◌==◌, ap, sym, ◌∙◌, list_any, type_cname, ResourceRecord, at, owns}
-use Rattle.dns_zone.specs.KeyForm.{name_key}
+use Rattle.dns_zone.proofs.Common.{◌&&◌, ◌==◌, ap, sym, ◌∙◌, list_any, type_cname, ResourceRecord, at, owns, name_key}
 use Rattle.dns_zone.proofs.OwnRecords.{own_owns}
 use Rattle.dns_zone.proofs.checks.survey.Survey.name_faults.Goals as goal
 

@@ -1,5 +1,4 @@
-use Rattle.std.proofs.Common.{rules}
-use Rattle.dns_spec.proofs.DomainNames.NameLaws.{names_equal-decides}
+use Rattle.dns_zone.proofs.Common.{rules, names_equal-decides}
 use Rattle.dns_zone.proofs.checks.target.LastTarget.move_to.Goals as goal
 
 pub returns-then-eq : goal.returns-then-eq

@@ -1,13 +1,14 @@
-use Rattle.dns_spec.proofs.Common.{rules, subst, ◌∙◌}
-use Rattle.dns_spec.proofs.DomainNames.SmallOctets.{Small}
+use Rattle.dns_zone.proofs.Common.{rules, subst, ◌∙◌, Small}
 use Rattle.dns_zone.proofs.KnownRecords.{small_labels, small_octets}
 use Rattle.dns_zone.proofs.Entries.{IsLaid, laid_in_turn, entry_kept, entry_is}
 use Rattle.dns_zone.proofs.store.entry.Entry.of.Goals as goal
 
 module _ (c : goal.After-result-1) where
-  laid : IsLaid c.read.inside.owner c.read.inside.rdata c.octets-owner.result.now c.extend_from_slice-2.new.self.items
+  laid : IsLaid c.read.inside.owner
+      c.read.inside.rdata c.octets-owner.result.now c.extend_from_slice-2.new.self.items
   laid =
-      laid_in_turn _ _ _ _ _ _ _ c.in_ok-octets.ensures.items c.in_ok-extend_from_slice.ensures.items c.in_ok-extend_from_slice-2.ensures.items
+      laid_in_turn _ _ _ _ _ _ _ c.in_ok-octets.ensures.items
+      c.in_ok-extend_from_slice.ensures.items c.in_ok-extend_from_slice-2.ensures.items
       c.octets-owner.ensures.value c.octets-data.ensures.value c.octets-owner.ensures.is_name
 
 pub invariant_of-result : goal.invariant_of-result

@@ -1,4 +1,4 @@
-use Rattle.std.proofs.Common.{rules}
+use Rattle.dns_zone.proofs.Common.{rules}
 use Rattle.dns_zone.proofs.store.entry.Entry.owner.Goals as goal
 
 pub returns-clause-read : goal.returns-clause-read

@@ -1,4 +1,4 @@
-use Rattle.dns_spec.proofs.Common.{rules, false≢true}
+use Rattle.dns_zone.proofs.Common.{rules, false≢true}
 use Rattle.dns_zone.proofs.tree.node.Node.down.Goals as goal
 
 pub returns-in_err-row-clause-child : goal.returns-in_err-row-clause-child

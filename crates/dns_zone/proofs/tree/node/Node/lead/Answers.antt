@@ -1,4 +1,4 @@
-use Rattle.std.proofs.Common.{rules}
+use Rattle.dns_zone.proofs.Common.{rules}
 use Rattle.dns_zone.proofs.tree.node.Node.lead.Goals as goal
 
 pub returns : goal.returns

@@ -1,7 +1,4 @@
-use Rattle.dns_spec.proofs.Common.{rules, List, sym, ap, ap₂, ◌∙◌, subst, IsNonDecreasingBy, ResourceRecord, at}
-use Rattle.dns_zone.specs.Nodes.{ZoneNode}
-use Rattle.dns_zone.specs.TreeForm.{span, row_at}
-use Rattle.dns_zone.specs.declared.tree.row.Row.{Row}
+use Rattle.dns_zone.proofs.Common.{rules, List, sym, ap, ap₂, ◌∙◌, subst, IsNonDecreasingBy, ResourceRecord, at, ZoneNode, span, row_at, Row}
 use Rattle.dns_zone.proofs.OwnRecords.{own_types}
 use Rattle.dns_zone.proofs.NodeRows.{is_row, node_is}
 use Rattle.dns_zone.proofs.tree.node.Node.own.Goals as goal

@@ -1,5 +1,4 @@
-use Rattle.dns_spec.proofs.Common.{rules, ◌==◌, sym, ap, ◌∙◌, subst, filter, ResourceRecord}
-use Rattle.dns_zone.specs.SetForm.{AreOfType}
+use Rattle.dns_zone.proofs.Common.{rules, ◌==◌, sym, ap, ◌∙◌, subst, filter, ResourceRecord, AreOfType}
 use Rattle.dns_zone.proofs.NodeSets.{of_type_is, are_of_type, sets_kept}
 use Rattle.dns_zone.proofs.tree.node.Node.set.Goals as goal
 

@@ -1,17 +1,16 @@
-use Rattle.dns_spec.proofs.Common.{rules, ◌≡◌, ◌≤◌, ◌<◌, ◌∷◌, length, ap, sym, ◌∙◌, arith, Octets, DomainName, wire, same, at_or_below}
-use Rattle.dns_spec.proofs.DomainNames.NameLaws.{at_or_below-short, at_or_below-long, same-length, length-is_name}
-use Rattle.dns_name.specs.WireForm.{labels_of, IsWireForm}
-use Rattle.dns_name.proofs.WireLemmas.{IsWireForm-wire, labels_of_spelled}
+use Rattle.dns_zone.proofs.Common.{rules, ◌≡◌, ◌≤◌, ◌<◌, ◌∷◌, length, ap, sym, ◌∙◌, arith, Octets, DomainName, wire, same, at_or_below, at_or_below-short, at_or_below-long, same-length, length-is_name, labels_of, IsWireForm, IsWireForm-wire, labels_of_spelled}
 use Rattle.dns_zone.proofs.tree.sought.Sought.below.Goals as goal
 
 pub labels-init : goal.labels-init
 labels-init c = search (rules, labels_of_spelled, IsWireForm-wire)
 
 pub overflow_add-depth : goal.overflow_add-depth
-overflow_add-depth c = omega (arith, c.labels.invariant.deep, length-is_name c.args.name.now c.octets-octets.ensures.is_name)
+overflow_add-depth c = omega
+    (arith, c.labels.invariant.deep, length-is_name c.args.name.now c.octets-octets.ensures.is_name)
 
 -- a suffix that is longer than the ancestor goes on after its first label
-one_on : (xs ys : Octets) (l : Octets) (n a : DomainName) → IsWireForm xs → labels_of xs ≡ l ∷ n → ys ≡ wire a → length ys < length xs → at_or_below n a ≡ at_or_below (labels_of xs) a
+one_on : (xs ys : Octets) (l : Octets) (n a : DomainName) → IsWireForm xs → labels_of xs ≡ l ∷ n
+    → ys ≡ wire a → length ys < length xs → at_or_below n a ≡ at_or_below (labels_of xs) a
 one_on xs ys l n a form e f longer =
     let w : wire (l ∷ n) ≡ xs = ap wire (sym e) ∙ form.wire_is in
     let after = at_or_below-long l n a (omega (arith, ap length w, ap length f)) in
@@ -21,8 +20,10 @@ pub labels-preserved : goal.labels-preserved
 labels-preserved c = search (rules, one_on)
 
 -- a suffix that is no longer decides
-decides : (xs ys : Octets) (a : DomainName) → IsWireForm xs → ys ≡ wire a → length xs ≤ length ys → at_or_below (labels_of xs) a ≡ same (labels_of xs) a
-decides xs ys a form f short = at_or_below-short (labels_of xs) a (omega (arith, ap length form.wire_is, ap length f))
+decides : (xs ys : Octets) (a : DomainName) → IsWireForm xs
+    → ys ≡ wire a → length xs ≤ length ys → at_or_below (labels_of xs) a ≡ same (labels_of xs) a
+decides xs ys a form f short =
+    at_or_below-short (labels_of xs) a (omega (arith, ap length form.wire_is, ap length f))
 
 pub returns-then-not-same : goal.returns-then-not-same
 returns-then-not-same c = search (rules, decides)

@@ -1,5 +1,4 @@
-use Rattle.dns_spec.proofs.Common.{◌≡◌, ◌+◌, length, at_or_below}
-use Rattle.dns_name.specs.WireForm.{labels_of, IsWireForm}
+use Rattle.dns_zone.proofs.Common.{◌≡◌, ◌+◌, length, at_or_below, labels_of, IsWireForm}
 use Rattle.dns_zone.proofs.tree.sought.Sought.below.Given as goal
 
 -- the suffix is at or below the ancestor as the name is, and has so many labels less

@@ -1,5 +1,4 @@
-use Rattle.std.proofs.Common.{[], refl}
-use Rattle.dns_name.proofs.WireLemmas.{IsWireForm-wire}
+use Rattle.dns_zone.proofs.Common.{[], refl, IsWireForm-wire}
 use Rattle.dns_zone.proofs.tree.sought.SoughtDefault.default.Goals as goal
 
 pub new-requires : goal.new-requires
