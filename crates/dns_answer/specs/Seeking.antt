@@ -32,8 +32,8 @@ pub record AreTargets (earlier : List Sought) (s : Sought) : Type 0 where
   pub last : 0 < length earlier → folded s.name ≡ s.name
   pub others : All (λ (e : Sought). folded e.name ≡ e.name) (drop 1 earlier)
 
--- A name may be sought after others: by a way from a lead or the apex, and for it and each alias that
--- may still be followed 129 nodes may be handed out, as for each of 129 targets.
+-- A name may be sought after others: by a way from a lead or the apex, and for it and each alias
+-- that may still be followed 129 nodes may be handed out, as for each of 129 targets.
 pub record MaySeek (s : Walk) (top : ZoneNode) (earlier : List Sought) (n : Sought)
     (l : Option ZoneNode) : Type 0 where
   pub apex : IsApex s.zone top

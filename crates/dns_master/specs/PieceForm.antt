@@ -24,10 +24,12 @@ MayFollow goes_on more past = MatchOption goes_on ⊤ (λ known. (more ≡ []) �
 
 -- Entries were taken from the front of a text, which gave these records: whatever comes after the
 -- text, what is left of it means, with the records before it the whole means.
-abbrev pub FrontTaken : Option Bool → Reader → Octets → List ResourceRecord → Reader → Octets → Type 0
+abbrev pub FrontTaken : Option Bool
+    → Reader → Octets → List ResourceRecord → Reader → Octets → Type 0
 FrontTaken goes_on old text rs new rest =
     (more : Octets) (past : Bool) (later : Meaning) → MayFollow goes_on more past
-    → ReaderMeans new past (rest ++ more) later → ReaderMeans old past (text ++ more) (after rs later)
+    → ReaderMeans new past (rest ++ more) later
+    → ReaderMeans old past (text ++ more) (after rs later)
 
 -- a text has this fault, whatever comes after it
 abbrev pub FrontFaulty : Option Bool → Reader → Octets → FileFault → ℕ → Type 0

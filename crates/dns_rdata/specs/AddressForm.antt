@@ -18,7 +18,8 @@ number_on a (Some b) = number_end (10 * a.0 + b.0, b.1) (digit_at b.1)
 
 -- the number that a text begins with, without zeros in front, and what stands after its digits
 unfoldable pub number_at : Octets → Option (ℕ × Octets)
-number_at text = option_and_then (λ a. if a.0 == 0 then Some a else number_on a (digit_at a.1)) (digit_at text)
+number_at text =
+    option_and_then (λ a. if a.0 == 0 then Some a else number_on a (digit_at a.1)) (digit_at text)
 
 -- a number 0 to 255, a dot, and what stands after it
 abbrev pub OctetThen : Octets → ℕ → Octets → Type 0

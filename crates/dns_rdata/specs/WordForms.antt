@@ -36,7 +36,8 @@ pub record Appends (keeps : Octets → Octets) (says : Octets → Type 0) (befor
 
 -- octets grew by what is kept of those that are said, or there is a fault, and where memory was
 -- found none are said
-pub record AppendsSaid {A : Type 0} (keeps : Octets → Octets) (says : Octets → Type 0) (before after : Octets)
+pub record AppendsSaid
+    {A : Type 0} (keeps : Octets → Octets) (says : Octets → Type 0) (before after : Octets)
     (result : Result A RdataFault) : Type 0 where
   pub ok : OnOk result (Appends keeps says before after)
   pub fault : IfErr result (λ fault. fault ≢ NoMemory → (d : Octets) → says d → ⊥)
@@ -65,8 +66,8 @@ pub record AppendsFront (fs : List text.WordForm) (origin : DomainName) (ws rest
   pub back : (gs : List text.WordForm) (d : Octets) → SaysForms (fs ++ gs) origin ws d
       → (e : Octets) × SaysForms gs origin rest e × (d ≡ spelled ++ e)
 
--- the first words, after n octets of the data, say nothing of data of at most 65,535 octets by these
--- forms, whatever stands after them
+-- the first words, after n octets of the data, say nothing of data of at most 65,535 octets by
+-- these forms, whatever stands after them
 abbrev pub SaysNoFront : ℕ → List text.WordForm → DomainName → List text.Word → Type 0
 SaysNoFront n fs origin ws =
     (gs : List text.WordForm) (d : Octets) → SaysForms (fs ++ gs) origin ws d

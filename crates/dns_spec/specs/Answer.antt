@@ -196,8 +196,8 @@ items z q t =
     main_items o ++ extra z (main_items o) (targets o)
 
 -- The sets that a reply may not leave out: answer, authority, and the glue of a referral (RFC 2181
--- section 9, RFC 9471 section 3.1). All sets begin with them, since the aliases before a referral have no
--- targets.
+-- section 9, RFC 9471 section 3.1). All sets begin with them, since the aliases before a referral
+-- have no targets.
 unfoldable pub required_items : ZoneContents → DomainName → ℕ → List Item
 required_items z q t =
     let o = outcome z q t in

@@ -1,5 +1,5 @@
--- What a reader learns here: how a reply is laid out in octets, and which suffix of a name is shared
--- with an earlier name and by which place.
+-- What a reader learns here: how a reply is laid out in octets, and which suffix of a name is
+-- shared with an earlier name and by which place.
 use Rattle.std.specs.Prelude.{ℕ, ◌+◌, ◌-◌, ◌*◌, Bool, true, false, ◌&&◌, List, [], ◌∷◌, ◌++◌, map, length, nat_le, if◌then◌else◌}
 use Rattle.std.specs.Prelude.{Option, None, Some}
 use Rattle.std.specs.Option.{option_to_list}

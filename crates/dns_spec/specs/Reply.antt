@@ -33,7 +33,8 @@ fitting size_of limit front (i ∷ is) =
     if nat_le (size_of next) limit then fitting size_of limit next is else front
 
 -- RFC 2181 section 9, RFC 9471 section 3.1: TC (RFC 1035 4.1.1) is set where a set that may not be
--- left out is missing, such as glue that fits no more, and not for one that adds to the answer only.
+-- left out is missing, such as glue that fits no more, and not for one that adds to the answer
+-- only.
 abbrev pub truncated : ZoneContents → MessageQuestion → List Item → Bool
 truncated z q sets = nat_lt (length sets) (length (required_items z q.qname q.qtype))
 

@@ -27,8 +27,8 @@ pub record IsNode (z : ZoneContents) (n : DomainName) : Type 0 where
   pub lower : folded n ≡ n
   pub stands : exists z n ≡ true
 
--- A name below the origin at which the way to a record's target may begin: it exists, and no cut is at
--- or above that of an alias (RFC 1034 4.3.2 step 3b).
+-- A name below the origin at which the way to a record's target may begin: it exists, and no cut is
+-- at or above that of an alias (RFC 1034 4.3.2 step 3b).
 pub record IsLead (z : ZoneContents) (rtype : ℕ) (n : DomainName) : Type 0 where
   pub node : IsNode z n
   pub inside : at_or_below n z.origin ≡ true

@@ -1,5 +1,5 @@
--- What a reader learns here: how far a name is below another, and where its labels begin in its wire
--- form.
+-- What a reader learns here: how far a name is below another, and where its labels begin in its
+-- wire form.
 use Rattle.std.specs.Prelude.{◌≡◌, ℕ, ◌+◌, ◌<◌, ◌≤◌, true, List, length, drop, get_or}
 use Rattle.dns_spec.specs.Names.{Octets, DomainName, at_or_below}
 use Rattle.dns_name.specs.WireForm.{labels_of, IsWireForm}

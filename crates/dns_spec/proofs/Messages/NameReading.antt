@@ -273,9 +273,8 @@ pub one_name : (b : Octets) (i : ℕ) (n m : DomainName) (e f : ℕ)
 one_name b i n m e f h g = some_pair_parts n m e f (sym (related b i n e h) ∙ related b i m f g)
 
 -- A name at place 12, directly after the header: no place is after the header and before it, so no
--- pointer is lawful
--- and the name is read label by label.
--- the labels from place i on, of a run that began at place 12, and the place after them
+-- pointer is lawful and the name is read label by label. the labels from place i on, of a run that
+-- began at place 12, and the place after them
 unfoldable pub run12 : Octets → ℕ → Option (DomainName × ℕ)
 run12 d i = run (λ p. None) d 12 (length d - i) i
 
