@@ -8,5 +8,4 @@ mod plain;
 mod reading;
 mod records;
 mod rows;
-mod tokens;
 mod zone;

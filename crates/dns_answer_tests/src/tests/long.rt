@@ -27,27 +27,30 @@ fn sets_about_the_limit_of_udp(rt: HostRuntime) -> Result<(), Fail> {
     check_addresses(&rt, rt.alloc(), &zone)
 }
 
-fn check_limit(rt: &impl Abort, alloc: Global, zone: &Zone) -> Result<(), Fail> {
-    let question = b"\x01t\x07example\x00\x00\x10\x00\x01";
-    let wanted: [&[u8]; 6] = [
-        b"\x12\x34\x84\x00\x00\x01\x00\x01\x00\x00\x00\x00",
-        question,
+// A question, the way it comes, the header of its record, whose data ends with the longest string
+// and one of so many octets.
+const STRINGS: [(&[u8], Limit, &[u8], u8); 2] = [
+    (
+        b"\x01t\x07example\x00\x00\x10\x00\x01",
+        Limit::Udp,
         b"\xc0\x0c\x00\x10\x00\x01\x00\x00\x0e\x10\x01\xd9\xff",
-        &LETTERS,
-        b"\xd8",
-        &LETTERS[..216],
-    ];
-    assert!(rt; is_reply(alloc, zone, Limit::Udp, question, &wanted)?);
-    let question = b"\x01u\x07example\x00\x00\x10\x00\x01";
-    let wanted: [&[u8]; 6] = [
-        b"\x12\x34\x84\x00\x00\x01\x00\x01\x00\x00\x00\x00",
-        question,
+        216,
+    ),
+    (
+        b"\x01u\x07example\x00\x00\x10\x00\x01",
+        Limit::Tcp,
         b"\xc0\x0c\x00\x10\x00\x01\x00\x00\x0e\x10\x01\xda\xff",
-        &LETTERS,
-        b"\xd9",
-        &LETTERS[..217],
-    ];
-    assert!(rt; is_reply(alloc, zone, Limit::Tcp, question, &wanted)?);
+        217,
+    ),
+];
+
+fn check_limit(rt: &impl Abort, alloc: Global, zone: &Zone) -> Result<(), Fail> {
+    let head = b"\x12\x34\x84\x00\x00\x01\x00\x01\x00\x00\x00\x00";
+    for (question, limit, record, count) in STRINGS {
+        let last = &LETTERS[..usize::from(count)];
+        let wanted: [&[u8]; 6] = [head, question, record, &LETTERS, &[count], last];
+        assert!(rt; is_reply(alloc, zone, limit, question, &wanted)?);
+    }
     Ok(())
 }
 

@@ -1,8 +1,90 @@
-//! Faults of whole entries: `R05` to `R13`, of which the least is reported.
+//! Faults of tokens, by their place, and of whole entries, of which the least is reported.
 
 use super::reading::{Row, judge};
 use std::test::Fail;
 
+// `R01`: octets that are not allowed.
+const OCTETS: [Row<'static>; 14] = [
+    (b"\x00", (1, 1)),
+    (b"a\x7f", (1, 1)),
+    (b"\x80", (1, 1)),
+    (b"\xff", (1, 1)),
+    (b"\x0b", (1, 1)),
+    (b"a\rb", (1, 1)),
+    (b"\r", (1, 1)),
+    (b"\r\r\n", (1, 1)),
+    (b"\"a\rb\"", (1, 1)),
+    (b"\"\r", (1, 1)),
+    (b"\"a\x00", (1, 1)),
+    (b"\"a\x7f\"", (1, 1)),
+    (b"; \x00\xff\r\x7f", (0, 0)),
+    (b"; \x00\r\n\x00", (1, 2)),
+];
+
+// `R02`: backslashes that begin no escape.
+const ESCAPES: [Row<'static>; 15] = [
+    (b"\\", (2, 1)),
+    (b"\\\n", (2, 1)),
+    (b"\\\r\n", (2, 1)),
+    (b"\\\t", (2, 1)),
+    (b"\\\x7f", (2, 1)),
+    (b"\\\x80", (2, 1)),
+    (b"\\2", (2, 1)),
+    (b"\\25", (2, 1)),
+    (b"\\25a", (2, 1)),
+    (b"\\256", (2, 1)),
+    (b"\\999", (2, 1)),
+    (b"\\1 0", (2, 1)),
+    (b"\"\\256\"", (2, 1)),
+    (b"\"a\\\n\"", (2, 1)),
+    (b"\"a\\", (2, 1)),
+];
+
+// `R03`: strings that are not ended.
+const STRINGS: [Row<'static>; 6] = [
+    (b"\"", (3, 1)),
+    (b"\"a\nb\"", (3, 1)),
+    (b"\"a\r\nb\"", (3, 1)),
+    (b"\"\\\"", (3, 1)),
+    (b"\n\n(\n\"a\n\")", (3, 3)),
+    (b"(\"", (3, 1)),
+];
+
+// `R04`: parentheses that are not ended, or not begun.
+const PARENTHESES: [Row<'static>; 10] = [
+    (b"(", (4, 1)),
+    (b")", (4, 1)),
+    (b"(()", (4, 1)),
+    (b"())", (4, 1)),
+    (b"\n(\n\n", (4, 2)),
+    (b"( ; )", (4, 1)),
+    (b"( \\)", (4, 1)),
+    (b"( \")\"", (4, 1)),
+    (b"( )\n)", (4, 2)),
+    (b"(;(\n)()\n", (0, 0)),
+];
+
+// The first of several faults, by its place.
+const PLACES: [Row<'static>; 16] = [
+    (b"\x00 \\256", (1, 1)),
+    (b"\\256 \x00", (2, 1)),
+    (b") \x00", (4, 1)),
+    (b"(( \x00", (4, 1)),
+    (b"( \x00", (1, 1)),
+    (b"\" \x00", (1, 1)),
+    (b"\" \\256", (2, 1)),
+    (b"\" \n\x00", (3, 1)),
+    (b"( \\256", (2, 1)),
+    (b"$X )", (4, 1)),
+    (b"$X (\n\n\x00)", (1, 1)),
+    (b"$X \n\x00", (5, 1)),
+    (b"\n$X (\n)\n\x00", (5, 2)),
+    (b"a..b \\", (2, 1)),
+    (b" A 192.0.2.1 \"", (3, 1)),
+    (b"a (\n)\n\n\x00", (11, 1)),
+];
+
+// `R05` and `R06`: directives.
 const DIRECTIVES: [Row<'static>; 33] = [
     (b"$", (5, 1)),
     (b"$X", (5, 1)),
@@ -39,7 +121,8 @@ const DIRECTIVES: [Row<'static>; 33] = [
     (b"\"$TTL\" 5", (7, 1)),
 ];
 
-const OWNERS_AND_TTLS: [Row<'static>; 20] = [
+// `R07` and `R08`: owners.
+const OWNERS: [Row<'static>; 8] = [
     (b"a..b 1 A 192.0.2.1", (7, 1)),
     (b".a 1 A 192.0.2.1", (7, 1)),
     (b"\"\" 1 A 192.0.2.1", (7, 1)),
@@ -48,6 +131,10 @@ const OWNERS_AND_TTLS: [Row<'static>; 20] = [
     (b"$TTL 1\n\n\tA 192.0.2.1", (8, 3)),
     (b" 2147483648 CH X", (8, 1)),
     (b" \"a", (3, 1)),
+];
+
+// `R09`: TTLs.
+const TTLS: [Row<'static>; 12] = [
     (b"\n ;\na 0 A 192.0.2.1\n A 192.0.2.2", (0, 0)),
     (b"a 2147483647 A 192.0.2.1", (0, 0)),
     (b"a 2147483648 A 192.0.2.1", (9, 1)),
@@ -62,6 +149,7 @@ const OWNERS_AND_TTLS: [Row<'static>; 20] = [
     (b"a 1 A 192.0.2.1\n 1x A 192.0.2.1", (9, 2)),
 ];
 
+// `R10`: classes.
 const CLASSES: [Row<'static>; 17] = [
     (b"a 1 CH A 192.0.2.1", (10, 1)),
     (b"a cs 1 A 192.0.2.1", (10, 1)),
@@ -82,6 +170,7 @@ const CLASSES: [Row<'static>; 17] = [
     (b"1 1 A 192.0.2.1", (0, 0)),
 ];
 
+// `R11`: types.
 const TYPES: [Row<'static>; 41] = [
     (b"a", (11, 1)),
     (b"a 1", (11, 1)),
@@ -126,13 +215,18 @@ const TYPES: [Row<'static>; 41] = [
     (b"a 1 TYPE65535 \\# 0", (0, 0)),
 ];
 
-const TTLS_AND_DATA: [Row<'static>; 22] = [
+// `R12`: TTLs that are not known.
+const NO_TTLS: [Row<'static>; 6] = [
     (b"a A 192.0.2.1", (12, 1)),
     (b"a IN A 192.0.2.1", (12, 1)),
     (b"a A x", (12, 1)),
     (b"a TYPE65280", (12, 1)),
     (b"$TTL 5\na A 192.0.2.1", (0, 0)),
     (b"a 5 A 192.0.2.1\nb A 192.0.2.1", (0, 0)),
+];
+
+// `R13`: data.
+const DATA: [Row<'static>; 16] = [
     (b"a 1 A", (13, 1)),
     (b"a 1 A 192.0.2.1 x", (13, 1)),
     (b"a 1 A \"192.0.2.1\"", (13, 1)),
@@ -152,13 +246,43 @@ const TTLS_AND_DATA: [Row<'static>; 22] = [
 ];
 
 #[test]
+fn octets_that_are_not_allowed(rt: HostRuntime) -> Result<(), Fail> {
+    judge(&rt, &OCTETS)
+}
+
+#[test]
+fn backslashes_that_begin_no_escape(rt: HostRuntime) -> Result<(), Fail> {
+    judge(&rt, &ESCAPES)
+}
+
+#[test]
+fn strings_that_are_not_ended(rt: HostRuntime) -> Result<(), Fail> {
+    judge(&rt, &STRINGS)
+}
+
+#[test]
+fn parentheses_that_do_not_match(rt: HostRuntime) -> Result<(), Fail> {
+    judge(&rt, &PARENTHESES)
+}
+
+#[test]
+fn the_first_fault_by_place(rt: HostRuntime) -> Result<(), Fail> {
+    judge(&rt, &PLACES)
+}
+
+#[test]
 fn directives(rt: HostRuntime) -> Result<(), Fail> {
     judge(&rt, &DIRECTIVES)
 }
 
 #[test]
-fn owners_and_ttls(rt: HostRuntime) -> Result<(), Fail> {
-    judge(&rt, &OWNERS_AND_TTLS)
+fn owners(rt: HostRuntime) -> Result<(), Fail> {
+    judge(&rt, &OWNERS)
+}
+
+#[test]
+fn ttls(rt: HostRuntime) -> Result<(), Fail> {
+    judge(&rt, &TTLS)
 }
 
 #[test]
@@ -172,6 +296,11 @@ fn types(rt: HostRuntime) -> Result<(), Fail> {
 }
 
 #[test]
-fn ttls_that_are_not_known_and_data(rt: HostRuntime) -> Result<(), Fail> {
-    judge(&rt, &TTLS_AND_DATA)
+fn ttls_that_are_not_known(rt: HostRuntime) -> Result<(), Fail> {
+    judge(&rt, &NO_TTLS)
+}
+
+#[test]
+fn data(rt: HostRuntime) -> Result<(), Fail> {
+    judge(&rt, &DATA)
 }

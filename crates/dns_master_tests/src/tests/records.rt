@@ -12,6 +12,12 @@ pub(super) type Meant<'a> = (&'a [u8], u32, u16, &'a [u8]);
 // A file, and its records.
 type Case<'a> = (&'a [u8], &'a [Meant<'a>]);
 
+// The address 192.0.2.1.
+const HOST: &[u8] = b"\xc0\x00\x02\x01";
+
+// The address 2001:db8::1:0:0:1.
+const IPV6: &[u8] = b"\x20\x01\x0d\xb8\x00\x00\x00\x00\x00\x01\x00\x00\x00\x00\x00\x01";
+
 pub(super) const MIXED_MEANS: [Meant<'static>; 6] = [
     (
         b"\x07example\x00",
@@ -21,19 +27,14 @@ pub(super) const MIXED_MEANS: [Meant<'static>; 6] = [
         \x00\x00\x00\x03\x00\x00\x00\x04\x00\x00\x00\x05",
     ),
     (b"\x07example\x00", 60, 2, b"\x02ns\x07example\x00"),
-    (b"\x02ns\x07example\x00", 60, 1, b"\xc0\x00\x02\x01"),
-    (
-        b"\x02ns\x07example\x00",
-        60,
-        28,
-        b"\x20\x01\x0d\xb8\x00\x00\x00\x00\x00\x01\x00\x00\x00\x00\x00\x01",
-    ),
+    (b"\x02ns\x07example\x00", 60, 1, HOST),
+    (b"\x02ns\x07example\x00", 60, 28, IPV6),
     (b"\x03a.b\x04deep\x07example\x00", 7, 16, b"\x02hi\x03x;y"),
     (b"\x03a.b\x04deep\x07example\x00", 9, 65280, b"\xab\xcd\xef"),
 ];
 
-// The address 192.0.2.1.
-const HOST: &[u8] = b"\xc0\x00\x02\x01";
+// The name `a.example`.
+const A: &[u8] = b"\x01a\x07example\x00";
 
 const FILES: [Case<'static>; 16] = [
     // Owners and origins.
@@ -109,12 +110,12 @@ const FILES: [Case<'static>; 16] = [
         b"$TTL 3\na A 192.0.2.1\na 5 A 192.0.2.1\na A 192.0.2.1\n\
         $TTL 4\na A 192.0.2.1\na 6 A 192.0.2.1\n A 192.0.2.1",
         &[
-            (b"\x01a\x07example\x00", 3, 1, HOST),
-            (b"\x01a\x07example\x00", 5, 1, HOST),
-            (b"\x01a\x07example\x00", 3, 1, HOST),
-            (b"\x01a\x07example\x00", 4, 1, HOST),
-            (b"\x01a\x07example\x00", 6, 1, HOST),
-            (b"\x01a\x07example\x00", 4, 1, HOST),
+            (A, 3, 1, HOST),
+            (A, 5, 1, HOST),
+            (A, 3, 1, HOST),
+            (A, 4, 1, HOST),
+            (A, 6, 1, HOST),
+            (A, 4, 1, HOST),
         ],
     ),
     (

@@ -32,6 +32,13 @@ fn read_line(alloc: Global, rtype: RType, text: &[u8]) -> Result<Result<Rdata, R
 
 const ANY: RType = RType(65280);
 
+// The root, `a.example`, and five numbers.
+const SOA: [u8; 32] =
+    *b"\x00\x01a\x07example\x00\x00\x00\x00\x01\x00\x00\x00\x00\xff\xff\xff\xff\x00\x00\x00\x02\x00\x00\x00\x03";
+
+// Three numbers, and `ns.`.
+const SRV: [u8; 10] = *b"\x00\x00\xff\xff\x00\x35\x02ns\x00";
+
 #[test]
 fn data_that_words_say(rt: HostRuntime) -> Result<(), Fail> {
     let rows: [(RType, &[u8], &[u8]); 16] = [
@@ -40,21 +47,13 @@ fn data_that_words_say(rt: HostRuntime) -> Result<(), Fail> {
         (RType::NS, b"@", b"\x07example\x00"),
         (RType::NS, b"Ns", b"\x02ns\x07example\x00"),
         (RType::CNAME, b"A\\.b.", b"\x03a.b\x00"),
-        (
-            RType::SOA,
-            b". a 1 0 4294967295 2 3",
-            b"\x00\x01a\x07example\x00\x00\x00\x00\x01\x00\x00\x00\x00\xff\xff\xff\xff\x00\x00\x00\x02\x00\x00\x00\x03",
-        ),
+        (RType::SOA, b". a 1 0 4294967295 2 3", &SOA),
         (RType::PTR, b".", b"\x00"),
         (RType::HINFO, b"\"\" b", b"\x00\x01b"),
         (RType::MX, b"10 Mail", b"\x00\x0a\x04mail\x07example\x00"),
+        (RType::SRV, b"0 65535 53 Ns.", &SRV),
         (RType::TXT, b"\"a\\\"b\\009\"", b"\x04a\"b\x09"),
         (RType::TXT, b"A \"\\#\" .", b"\x01A\x01#\x01."),
-        (
-            RType::SRV,
-            b"0 65535 53 Ns.",
-            b"\x00\x00\xff\xff\x00\x35\x02ns\x00",
-        ),
         (RType::MX, b"\\# 5 0001014100", b"\x00\x01\x01a\x00"),
         (ANY, b"\\# 0", b""),
         (ANY, b"\\# 3 ab CDef", b"\xab\xcd\xef"),

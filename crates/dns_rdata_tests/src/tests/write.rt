@@ -26,10 +26,10 @@ const ROWS: [(RType, &[u8], &[u8]); 25] = [
         b"\x00\x01\x00\x02\x00\x03\x00\x04\x00\x05\x00\x06\x00\x07\x00\x00",
         b"1:2:3:4:5:6:7:0",
     ),
+    (RType::SOA, &SOA, b"Ns. mail.x. 1 7200 900 1209600 300"),
     (RType::NS, b"\x00", b"."),
     (RType::CNAME, b"\x03a.b\x01C\x00", b"a\\.b.C."),
     (RType::PTR, b"\x02ns\x07example\x00", b"ns.example."),
-    (RType::SOA, &SOA, b"Ns. mail.x. 1 7200 900 1209600 300"),
     (
         RType::MX,
         b"\x00\x0a\x04mail\x07example\x00",

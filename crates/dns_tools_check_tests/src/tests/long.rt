@@ -41,21 +41,6 @@ fn judge<R: Abort + AllocGlobal>(
 }
 
 #[test]
-fn a_file_up_to_its_limit(rt: HostRuntime) -> Result<(), Fail> {
-    let alloc = rt.alloc();
-    let comment = MOST_OCTETS.saturating_sub(LEAST.len()).saturating_sub(1);
-    let mut octets = Vec::new(alloc);
-    octets.resize(comment, b';')?;
-    let mut text = String::from_utf8(octets)?;
-    text.push_str("\n")?;
-    text.push_str(LEAST)?;
-    assert_eq!(rt; text.len(), MOST_OCTETS);
-    judge(&rt, &example()?, text.as_str(), LOADED)?;
-    text.push_str(";")?;
-    judge(&rt, &example()?, text.as_str(), "line 6: R15\n")
-}
-
-#[test]
 fn many_records_at_one_owner(rt: HostRuntime) -> Result<(), Fail> {
     let alloc = rt.alloc();
     let mut text = String::from_str(alloc, LEAST)?;
@@ -161,4 +146,19 @@ fn a_sink_that_fails_amid_a_long_report(rt: HostRuntime) -> Result<(), Fail> {
     assert!(rt; written.len() >= 10_000);
     assert!(rt; report.as_str().as_bytes().starts_with(written.as_slice()));
     Ok(())
+}
+
+#[test]
+fn a_file_up_to_its_limit(rt: HostRuntime) -> Result<(), Fail> {
+    let alloc = rt.alloc();
+    let comment = MOST_OCTETS.saturating_sub(LEAST.len()).saturating_sub(1);
+    let mut octets = Vec::new(alloc);
+    octets.resize(comment, b';')?;
+    let mut text = String::from_utf8(octets)?;
+    text.push_str("\n")?;
+    text.push_str(LEAST)?;
+    assert_eq!(rt; text.len(), MOST_OCTETS);
+    judge(&rt, &example()?, text.as_str(), LOADED)?;
+    text.push_str(";")?;
+    judge(&rt, &example()?, text.as_str(), "line 6: R15\n")
 }

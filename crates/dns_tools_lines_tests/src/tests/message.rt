@@ -22,6 +22,17 @@ const ANSWER: &str =
 const PRINTED: &str = "header 1234 8400 1 1 0 0\nquestion www.example. IN A\n\
     answer www.example. 3600 IN A 192.0.2.10\n";
 
+#[test]
+fn the_longest_line(rt: HostRuntime) -> Result<(), Fail> {
+    let mut line = vec![in rt.alloc(); b'0'; 131_070]?;
+    let (text, _) = run(rt.alloc(), line.as_slice(), 4096, 1000, 1000)?;
+    assert_eq!(rt; text.as_slice(), b"fault 6\n".as_slice());
+    line.push(b'0')?;
+    let (text, _) = run(rt.alloc(), line.as_slice(), 4096, 1000, 1000)?;
+    assert_eq!(rt; text.as_slice(), b"bad hex\n".as_slice());
+    Ok(())
+}
+
 // A message in two pieces, and what is printed of it.
 #[test]
 fn messages_and_faults(rt: HostRuntime) -> Result<(), Fail> {
@@ -140,16 +151,5 @@ fn a_write_that_fails(rt: HostRuntime) -> Result<(), Fail> {
         );
         assert_eq!(rt; outcome, Err(Stop::Sink), "{writes} writes");
     }
-    Ok(())
-}
-
-#[test]
-fn the_longest_line(rt: HostRuntime) -> Result<(), Fail> {
-    let mut line = vec![in rt.alloc(); b'0'; 131_070]?;
-    let (text, _) = run(rt.alloc(), line.as_slice(), 4096, 1000, 1000)?;
-    assert_eq!(rt; text.as_slice(), b"fault 6\n".as_slice());
-    line.push(b'0')?;
-    let (text, _) = run(rt.alloc(), line.as_slice(), 4096, 1000, 1000)?;
-    assert_eq!(rt; text.as_slice(), b"bad hex\n".as_slice());
     Ok(())
 }

@@ -122,19 +122,19 @@ fn words_that_are_refused(rt: HostRuntime) {
     let of_checker: [&[&str]; 15] = [
         &[],
         &["example"],
-        &["example", "zone", "zone"],
         &["--quiet"],
+        &["--help"],
+        &["--version"],
         &["--quiet", "example"],
-        &["--quiet", "--quiet", "example", "zone"],
+        &["example", "zone", "zone"],
         &["example", "--quiet", "zone"],
         &["example", "zone", "--print"],
         &["--", "example", "zone"],
-        &["--quiet", "--", "example", "zone"],
         &["--quiet=1", "example", "zone"],
         &["--qui", "example", "zone"],
         &["-q", "example", "zone"],
-        &["--help"],
-        &["--version"],
+        &["--quiet", "--quiet", "example", "zone"],
+        &["--quiet", "--", "example", "zone"],
     ];
     for words in of_checker {
         let found = check_words(rt.alloc(), words).err();

@@ -24,13 +24,15 @@ const NAME_ERROR: Row<'static> = Row {
         \x00\x00\x00\x01\x00\x00\x1c\x20\x00\x00\x03\x84\x00\x12\x75\x00\x00\x00\x01\x2c",
 };
 
+const ANY: Record<'static> = (b"x.y.w.example", RType::TXT, b"\x03any");
+
 // A wildcard: `x.y.w.example`.
 const WILDCARD: Row<'static> = Row {
     name: "a wildcard",
     qname: b"x.y.w.example",
     qtype: 16,
     flags: 0x8400,
-    answers: &[(b"x.y.w.example", RType::TXT, b"\x03any")],
+    answers: &[ANY],
     authorities: &[],
     additionals: &[],
     wanted: b"\x12\x34\x84\x00\x00\x01\x00\x01\x00\x00\x00\x00\x01\x78\x01\x79\x01\x77\x07\x65\
@@ -85,16 +87,18 @@ const NAME_SERVERS: Row<'static> = Row {
         \xc0\x0c\xc0\x25\x00\x01\x00\x01\x00\x00\x0e\x10\x00\x04\xc0\x00\x02\x01",
 };
 
+const ALIASES: [Record<'static>; 2] = [
+    (b"r1.example", RType::CNAME, b"\x02r2\x07example\x00"),
+    (b"r2.example", RType::CNAME, b"\x02r1\x07example\x00"),
+];
+
 // A ring of aliases: `r1.example`.
 const RING: Row<'static> = Row {
     name: "a ring of aliases",
     qname: b"r1.example",
     qtype: 1,
     flags: 0x8400,
-    answers: &[
-        (b"r1.example", RType::CNAME, b"\x02r2\x07example\x00"),
-        (b"r2.example", RType::CNAME, b"\x02r1\x07example\x00"),
-    ],
+    answers: &ALIASES,
     authorities: &[],
     additionals: &[],
     wanted: b"\x12\x34\x84\x00\x00\x01\x00\x02\x00\x00\x00\x00\x02\x72\x31\x07\x65\x78\x61\x6d\
