@@ -1,5 +1,6 @@
 //! Text that is gathered before it is written.
 ghost use Rattle.std.specs.Prelude.{◌≡◌, ◌+◌, ◌-◌, ◌^◌, ◌<◌, ◌≤◌, [], ◌∷◌, ◌++◌, length, take, OnOk};
+ghost use Rattle.dns_spec.specs.NameText.{three_digits};
 ghost use Rattle.dns_name.specs.Counted.{Writes, Fills};
 
 use crate::tally::{SinkFailed, Tally};
@@ -57,6 +58,19 @@ impl TextBuffer {
         ensures { self.new ≡ self.old ++ octet ∷ [] }
     {
         self.octets.push(octet);
+    }
+
+    /// Adds a backslash and the three digits of an octet (RFC 1035 5.1).
+    pub fn push_escape(&mut self, octet: u8)
+        requires { length self.old + 4 ≤ 4096 }
+        ensures { self.new ≡ self.old ++ 92 ∷ three_digits octet }
+    {
+        self.append(&[
+            b'\\',
+            b'0' + octet / 100,
+            b'0' + octet / 10 % 10,
+            b'0' + octet % 10,
+        ]);
     }
 
     /// Takes the last octet out.

@@ -23,6 +23,12 @@ pub struct NameRef<'a> {
     octets: &'a [u8],
 }
 
+/// The labels of a name that are still to come.
+#[derive(Drop)]
+pub struct Labels<'a> {
+    rest: NameRef<'a>,
+}
+
 impl<'a> Model for NameRef<'a> {
     ghost use Rattle.dns_spec.specs.Names.{DomainName};
     ghost use Rattle.dns_name.specs.WireForm.{labels_of, IsWireForm};
@@ -76,7 +82,7 @@ impl<'a> NameRef<'a> {
         ensures count { length self.now ≤ 127 }
     {
         Labels {
-            octets: self.octets,
+            rest: NameRef::new(self.octets),
         }
     }
 }
@@ -178,21 +184,12 @@ impl Eq for NameRef<'_> {
     ghost laws = { lists_equiv (lists_equiv nat_eq_equiv) };
 }
 
-/// The labels of a name that are still to come.
-#[derive(Drop)]
-pub struct Labels<'a> {
-    octets: &'a [u8],
-}
-
 impl<'a> Model for Labels<'a> {
     ghost use Rattle.dns_spec.specs.Names.{DomainName};
-    ghost use Rattle.dns_name.specs.WireForm.{labels_of, IsWireForm};
 
     ghost Value = { DomainName };
 
-    ghost view = { λ l. labels_of l.octets.now };
-
-    ghost invariant = { λ l. IsWireForm l.octets.now };
+    ghost view = { λ l. l.rest };
 }
 
 impl<'a> Iterator for Labels<'a> {
@@ -203,8 +200,8 @@ impl<'a> Iterator for Labels<'a> {
     ghost remaining = { item_count (λ s. s) };
 
     fn next(&mut self) -> Option<Label<'a>> {
-        let (label, rest) = first_label(self.octets)?;
-        self.octets = rest;
+        let (label, rest) = first_label(self.rest.octets)?;
+        self.rest.octets = rest;
         Some(label)
     }
 }
@@ -214,7 +211,7 @@ impl Labels<'_> {
     fn are_those_of(&self, other: &Labels<'_>) -> bool
         ensures { OnTrue result (self.now ≡ other.now) }
     {
-        self.octets == other.octets
+        self.rest.octets == other.rest.octets
     }
 }
 

@@ -43,6 +43,13 @@ fn are_others_equal(left: &[u8], right: &[u8]) -> bool
     left.is_empty() || left[0] == right[0]
 }
 
+fn first_four(octets: &[u8]) -> u32
+    requires { 4 ≤ length octets.now }
+    ensures { result ≡ from_le_bytes w32 (take 4 octets.now) }
+{
+    u32::from_le_bytes(*front(octets))
+}
+
 // Whether runs of more than 16 octets are equal, eight octets at a time.
 fn are_many_equal(left: &[u8], right: &[u8]) -> bool
     requires many { 16 < length left.now }
@@ -61,6 +68,14 @@ fn are_many_equal(left: &[u8], right: &[u8]) -> bool
     have_same_eights(left_rest, right_rest)
 }
 
+// The first eight octets as a number, which tells them.
+fn first_eight(octets: &[u8]) -> u64
+    requires { 8 ≤ length octets.now }
+    ensures { result ≡ from_le_bytes w64 (take 8 octets.now) }
+{
+    u64::from_le_bytes(*front(octets))
+}
+
 fn have_same_eights(left: &[u8], right: &[u8]) -> bool
     requires least { 8 ≤ length left.now }
     requires most { length left.now ≤ 16 }
@@ -72,33 +87,20 @@ fn have_same_eights(left: &[u8], right: &[u8]) -> bool
     first_eight(left) == first_eight(right) && first_eight(left_end) == first_eight(right_end)
 }
 
-// The first eight octets as a number, which tells them.
-fn first_eight(octets: &[u8]) -> u64
-    requires { 8 ≤ length octets.now }
-    ensures { result ≡ from_le_bytes w64 (take 8 octets.now) }
-{
-    let Some(front) = octets.first_chunk::<8>() else {
-        unreachable!();
-    };
-    u64::from_le_bytes(*front)
-}
-
-fn first_four(octets: &[u8]) -> u32
-    requires { 4 ≤ length octets.now }
-    ensures { result ≡ from_le_bytes w32 (take 4 octets.now) }
-{
-    let Some(front) = octets.first_chunk::<4>() else {
-        unreachable!();
-    };
-    u32::from_le_bytes(*front)
-}
-
 fn first_two(octets: &[u8]) -> u16
     requires { 2 ≤ length octets.now }
     ensures { result ≡ from_le_bytes w16 (take 2 octets.now) }
 {
-    let Some(front) = octets.first_chunk::<2>() else {
+    u16::from_le_bytes(*front(octets))
+}
+
+// The first octets, as many as are asked for.
+fn front<const N: usize>(octets: &[u8]) -> &[u8; N]
+    requires { N ≤ length octets.now }
+    ensures { result.now ≡ take N octets.now }
+{
+    let Some(front) = octets.first_chunk() else {
         unreachable!();
     };
-    u16::from_le_bytes(*front)
+    front
 }

@@ -93,12 +93,7 @@ fn append_octet(text: &mut TextBuffer, octet: u8)
     } else if octet.is_ascii_graphic() {
         text.push(octet);
     } else {
-        text.append(&[
-            b'\\',
-            b'0' + octet / 100,
-            b'0' + octet / 10 % 10,
-            b'0' + octet % 10,
-        ]);
+        text.push_escape(octet);
     }
 }
 

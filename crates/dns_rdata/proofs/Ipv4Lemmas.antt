@@ -99,12 +99,11 @@ pub record Ipv4Parts (text d : Octets) : Type 0 where
   pub fourth : ℕ
   pub after_first : Octets
   pub after_second : Octets
-  pub after_third : Octets
   pub is : d ≡ first ∷ second ∷ third ∷ fourth ∷ []
   pub reads_first : OctetThen text first after_first
   pub reads_second : OctetThen after_first second after_second
-  pub reads_third : OctetThen after_second third after_third
-  pub reads_fourth : (after_third ≡ decimal fourth) × (fourth ≤ 255)
+  pub reads_third : OctetThen after_second third (decimal fourth)
+  pub fits : fourth ≤ 255
 
 pub ipv4_parts : (text d : Octets) → SaysIpv4 text d → Ipv4Parts text d
 ipv4_parts text d h =
@@ -120,12 +119,11 @@ ipv4_parts text d h =
       fourth = p.fourth;
       after_first = decimal p.second ++ (46 ∷ (decimal p.third ++ (46 ∷ decimal p.fourth)));
       after_second = decimal p.third ++ (46 ∷ decimal p.fourth);
-      after_third = decimal p.fourth;
       is = p.is;
       reads_first = (p.spelled, omega (arith, first));
       reads_second = (refl, omega (arith, second));
       reads_third = (refl, omega (arith, third));
-      reads_fourth = (refl, omega (arith, fourth));
+      fits = omega (arith, fourth);
     }
 
 pub says_ipv4 : (text d : Octets) → Ipv4Parts text d → SaysIpv4 text d
@@ -163,11 +161,11 @@ second_of text d a r h p =
     (one.0, subst P (sym one.1) p.reads_second)
 
 third_of : (text d : Octets) (a b : ℕ) (r s : Octets) → OctetThen text a r → OctetThen r b s
-    → (p : Ipv4Parts text d) → (a ≡ p.first) × (b ≡ p.second) × OctetThen s p.third p.after_third
+    → (p : Ipv4Parts text d) → (a ≡ p.first) × (b ≡ p.second) × OctetThen s p.third (decimal p.fourth)
 third_of text d a b r s h k p =
     let second = second_of text d a r h p in
     let one = one_octet r b p.second s p.after_second k second.1 in
-    let P : Octets → Type 0 = λ t. OctetThen t p.third p.after_third in
+    let P : Octets → Type 0 = λ t. OctetThen t p.third (decimal p.fourth) in
     (second.0, one.0, subst P (sym one.1) p.reads_third)
 
 fourth_of : (text d : Octets) (a b c : ℕ) (r s t : Octets)
@@ -175,8 +173,8 @@ fourth_of : (text d : Octets) (a b c : ℕ) (r s t : Octets)
     → (a ≡ p.first) × (b ≡ p.second) × (c ≡ p.third) × (t ≡ decimal p.fourth)
 fourth_of text d a b c r s t h k l p =
     let third = third_of text d a b r s h k p in
-    let one = one_octet s c p.third t p.after_third l third.2 in
-    (third.0, third.1, one.0, one.1 ∙ p.reads_fourth.0)
+    let one = one_octet s c p.third t (decimal p.fourth) l third.2 in
+    (third.0, third.1, one.0, one.1)
 
 pub no_first : (text : Octets)
     → ((n : ℕ) (rest : Octets) → OctetThen text n rest → ⊥) → (d : Octets) → Ipv4Parts text d → ⊥
@@ -188,13 +186,13 @@ no_second text a r h none d p = none p.second p.after_second (second_of text d a
 
 pub no_third : (text : Octets) (a b : ℕ) (r s : Octets) → OctetThen text a r → OctetThen r b s
     → ((n : ℕ) (rest : Octets) → OctetThen s n rest → ⊥) → (d : Octets) → Ipv4Parts text d → ⊥
-no_third text a b r s h k none d p = none p.third p.after_third (third_of text d a b r s h k p).2
+no_third text a b r s h k none d p = none p.third (decimal p.fourth) (third_of text d a b r s h k p).2
 
 pub no_fourth : (text : Octets) (a b c : ℕ) (r s t : Octets)
     → OctetThen text a r → OctetThen r b s → OctetThen s c t
     → ((n : ℕ) → (t ≡ decimal n) × (n ≤ 255) → ⊥) → (d : Octets) → Ipv4Parts text d → ⊥
 no_fourth text a b c r s t h k l none d p =
-    none p.fourth ((fourth_of text d a b c r s t h k l p).3, p.reads_fourth.1)
+    none p.fourth ((fourth_of text d a b c r s t h k l p).3, p.fits)
 
 pub all_four : (text : Octets) (a b c e : ℕ) (r s t : Octets) → OctetThen text a r → OctetThen r b s
     → OctetThen s c t → (t ≡ decimal e) × (e ≤ 255) → Ipv4Iff text (Some (a ∷ b ∷ c ∷ e ∷ []))
@@ -207,18 +205,17 @@ all_four text a b c e r s t h k l m =
       fourth = e;
       after_first = r;
       after_second = s;
-      after_third = t;
       is = refl;
       reads_first = h;
       reads_second = k;
-      reads_third = l;
-      reads_fourth = m;
+      reads_third = subst (OctetThen s c) m.0 l;
+      fits = m.1;
     }) alone
   where
     alone : (d : Octets) → Ipv4Parts text d → a ∷ b ∷ c ∷ e ∷ [] ≡ d
     alone d p =
         let same = fourth_of text d a b c r s t h k l p in
         let last = decimal_injective e p.fourth
-        (omega (arith, m.1)) (omega (arith, p.reads_fourth.1)) (sym m.0 ∙ same.3) in
+        (omega (arith, m.1)) (omega (arith, p.fits)) (sym m.0 ∙ same.3) in
         let parts = p.is in
         cc

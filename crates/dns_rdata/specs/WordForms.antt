@@ -12,11 +12,11 @@ use Rattle.dns_rdata.specs.declared.fault.RdataFault.TheVariants.{NoMemory}
 use Rattle.dns_rdata.specs.declared.typed.WordForm.TheVariants.{Number, Ipv4, Ipv6, Domain, String}
 
 abbrev pub form_of : WordForm → text.WordForm
-form_of (Number s) = number_word (size_of s)
 form_of Ipv4 = ipv4_word
 form_of Ipv6 = ipv6_word
 form_of Domain = name_word
 form_of String = string_word
+form_of (Number s) = number_word (size_of s)
 
 -- what is kept of the octets that a word spells: a name is in lower case
 abbrev pub as_it_is : Octets → Octets

@@ -1,6 +1,6 @@
 //! Why words or octets are no data of a type.
 ghost use Rattle.std.specs.Prelude.{◌≡◌};
-ghost use Rattle.dns_rdata.specs.RdataFault.{fault_code};
+ghost use Rattle.dns_rdata.specs.RdataFault.{IsNumberOf};
 ghost use Rattle.dns_rdata.specs.declared.fault.RdataFault.TheVariants.{BadName, NoMemory};
 
 use dns_name::NameFault;
@@ -30,7 +30,7 @@ pub enum RdataFault {
 impl RdataFault {
     /// The number of the fault, 1 to 8 in the order of the variants.
     pub fn code(self) -> u8
-        ensures { result ≡ fault_code self }
+        ensures { IsNumberOf self result }
     {
         self as u8
     }

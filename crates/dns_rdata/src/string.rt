@@ -79,12 +79,7 @@ fn append_octet(text: &mut TextBuffer, octet: u8)
     } else if is_printable(octet) {
         text.push(octet);
     } else {
-        text.append(&[
-            b'\\',
-            b'0' + octet / 100,
-            b'0' + octet / 10 % 10,
-            b'0' + octet % 10,
-        ]);
+        text.push_escape(octet);
     }
 }
 

@@ -3,7 +3,7 @@ ghost use Rattle.std.specs.Prelude.{◌≡◌, ◌+◌, ◌≤◌, ◌<◌, ◌-
 ghost use Rattle.std.specs.Option.{is_some};
 ghost use Rattle.dns_spec.specs.Names.{name_of};
 ghost use Rattle.dns_spec.specs.Data.{Valid, piece_front, string_front, are_strings};
-ghost use Rattle.dns_spec.specs.DataText.{number_word, ipv4_word, ipv6_word, name_word, string_word};
+ghost use Rattle.dns_spec.specs.DataText.{number_word, ipv6_word, name_word, string_word};
 ghost use Rattle.dns_spec.specs.WrittenText.{hex_text, unknown_words, form_words, string_count, data_text};
 ghost use Rattle.dns_name.specs.Counted.{Writes, Fills};
 ghost use Rattle.dns_rdata.specs.TypeRows.{size_of, piece_of};
@@ -107,7 +107,14 @@ fn put_piece<'a, W: Write>(
         Piece::Fixed(Fixed::Numbers { count, size }) => {
             Ok(append_numbers(count, size, before, octets, text))
         }
-        Piece::Fixed(Fixed::Ipv4) => Ok(append_ipv4(before, octets, text)),
+        Piece::Fixed(Fixed::Ipv4) => {
+            let Some((address, rest)) = octets.split_first_chunk::<4>() else {
+                unreachable!();
+            };
+            text.append(before);
+            text.append(text_of_ipv4(address).as_slice());
+            Ok(rest)
+        }
         Piece::Fixed(Fixed::Ipv6) => Ok(append_ipv6(before, octets, text)),
         Piece::Domain => Ok(append_name(before, octets, text)),
         Piece::String => Ok(append_string(before, octets, text)),
@@ -179,6 +186,20 @@ fn append_hex_text(octets: &[u8], text: &mut TextBuffer)
     }
 }
 
+fn append_name<'a>(before: &[u8], octets: &'a [u8], text: &mut TextBuffer) -> &'a [u8]
+    requires name { IsTrue (is_some (name_of octets.now)) }
+    requires short { length before.now ≤ 1 }
+    requires room { length text.old + 1021 ≤ 4096 }
+    ensures { PutsWords (name_word ∷ []) before.now octets.now text.old text.new result.now }
+{
+    let Some((Part::Name(name), rest)) = first_name(octets) else {
+        unreachable!();
+    };
+    text.append(before);
+    NameRef::new(name).append_text(text);
+    rest
+}
+
 fn append_numbers<'a>(
     count: u8,
     size: NumberSize,
@@ -227,20 +248,6 @@ fn append_number<'a>(
     rest
 }
 
-fn append_ipv4<'a>(before: &[u8], octets: &'a [u8], text: &mut TextBuffer) -> &'a [u8]
-    requires long { 4 ≤ length octets.now }
-    requires short { length before.now ≤ 1 }
-    requires room { length text.old + 16 ≤ 4096 }
-    ensures { PutsWords (ipv4_word ∷ []) before.now octets.now text.old text.new result.now }
-{
-    let Some((address, rest)) = octets.split_first_chunk::<4>() else {
-        unreachable!();
-    };
-    text.append(before);
-    text.append(text_of_ipv4(address).as_slice());
-    rest
-}
-
 fn append_ipv6<'a>(before: &[u8], octets: &'a [u8], text: &mut TextBuffer) -> &'a [u8]
     requires long { 16 ≤ length octets.now }
     requires short { length before.now ≤ 1 }
@@ -252,20 +259,6 @@ fn append_ipv6<'a>(before: &[u8], octets: &'a [u8], text: &mut TextBuffer) -> &'
     };
     text.append(before);
     text.append(text_of_ipv6(address).as_slice());
-    rest
-}
-
-fn append_name<'a>(before: &[u8], octets: &'a [u8], text: &mut TextBuffer) -> &'a [u8]
-    requires name { IsTrue (is_some (name_of octets.now)) }
-    requires short { length before.now ≤ 1 }
-    requires room { length text.old + 1021 ≤ 4096 }
-    ensures { PutsWords (name_word ∷ []) before.now octets.now text.old text.new result.now }
-{
-    let Some((Part::Name(name), rest)) = first_name(octets) else {
-        unreachable!();
-    };
-    text.append(before);
-    NameRef::new(name).append_text(text);
     rest
 }
 
