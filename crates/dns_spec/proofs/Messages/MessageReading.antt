@@ -11,6 +11,34 @@ then_is : {X Y : Type 0} (f : X → Option Y) (o : Option X) (x : X) (y : Y)
     → o ≡ Some x → f x ≡ Some y → option_and_then f o ≡ Some y
 then_is f o x y e h = ap (option_and_then f) e ∙ h
 
+-- Things one after the other, given how one of them is read and how they stand.
+module _ {X : Type 0} (read : ℕ → Option (X × ℕ)) (Stand : ℕ → List X → ℕ → Type 0) where
+  several_found : ((i : ℕ) → Stand i [] i)
+      → ((i j e : ℕ) (x : X) (xs : List X)
+      → read i ≡ Some (x, j) → Stand j xs e → Stand i (x ∷ xs) e)
+      → (k i : ℕ) (xs : List X) (e : ℕ)
+      → several read k i ≡ Some (xs, e) → Stand i xs e × (length xs ≡ k)
+  unfolding several
+  several_found none more zero i xs e h = grind (arith, some_pair_parts)
+  several_found none more (suc k) i xs e h =
+      option_and_then_some (λ r. option_map (λ s. (r.0 ∷ s.0, s.1)) (several read k r.1)) (read i)
+      (xs, e) h (λ r p g.
+      map_some (λ s. (r.0 ∷ s.0, s.1)) (several read k r.1) (xs, e) g (λ s u v.
+      let rest = several_found none more k r.1 s.0 s.1 u in (
+        subst (λ (z : List X × ℕ). Stand i z.0 z.1) v (more i r.1 s.1 r.0 s.0 p rest.0),
+        ap length (sym (ap (λ z. z.0) v)) ∙ ap suc rest.1,
+      )))
+
+  several_given : ((i e : ℕ) → Stand i [] e → i ≡ e)
+      → ((i e : ℕ) (x : X) (xs : List X) → Stand i (x ∷ xs) e
+      → (j : ℕ) × (read i ≡ Some (x, j)) × Stand j xs e)
+      → (xs : List X) (i e : ℕ) → Stand i xs e → several read (length xs) i ≡ Some (xs, e)
+  unfolding several
+  several_given none one [] i e h = ap (λ z. Some ([], z)) (none i e h)
+  several_given none one (x ∷ xs) i e h =
+      let front = one i e x xs h in
+      grind (arith, (several_given none one xs front.0 e front.2))
+
 module _ (b : Octets) where
   number_is : (i k : ℕ) → i + k ≤ length b → NumberAt b i k (value_at b i k)
   number_is i k h = record { within = h; spelled = refl }
@@ -28,52 +56,44 @@ module _ (b : Octets) where
       → (0 < length o) × (are_strings 0 o ≡ true) × (o ≡ o') × (j ≡ j')
   strings_found o o' j j' h = grind (arith, cond_some, and_parts, ltb-true)
 
+  piece_found : {P : Type 0} (p : Piece) (ps : List Piece) (i e : ℕ) (d : Octets)
+      → pieces_at b (p ∷ ps) i e ≡ Some d
+      → ((r : Octets × ℕ) (rest : Octets) → piece_at b p i e ≡ Some r
+      → pieces_at b ps r.1 e ≡ Some rest → d ≡ r.0 ++ rest → P) → P
+  unfolding pieces_at
+  piece_found p ps i e d h k =
+      option_and_then_some (λ r. option_map (λ x. r.0 ++ x) (pieces_at b ps r.1 e))
+      (piece_at b p i e) d h (λ r q g. map_some (λ x. r.0 ++ x) (pieces_at b ps r.1 e) d g
+      (λ rest s t. k r rest q s (sym t)))
+
   pieces_found : (ps : List Piece) (i e : ℕ) (d : Octets)
       → pieces_at b ps i e ≡ Some d → PiecesAt b ps i e d
   unfolding pieces_at
   pieces_found [] i e d h = let c = cond_some (i == e) [] d h in (eqb-true i e c.0, sym c.1)
   pieces_found (fixed f ∷ ps) i e d h =
-      option_and_then_some (λ r. option_map (λ x. r.0 ++ x) (pieces_at b ps r.1 e))
-      (octets_upto b i (i + width f)) d h
-      (λ r p q. map_some (λ x. r.0 ++ x) (pieces_at b ps r.1 e) d q (λ rest s t.
-      let o = octets_found i (i + width f) r.0 r.1 p in (
-        r.0,
-        rest,
-        o.0,
-        sym t,
-        subst (λ j. PiecesAt b ps j e rest) (sym o.1) (pieces_found ps r.1 e rest s),
-      )))
+      piece_found (fixed f) ps i e d h (λ r rest p s t.
+      let o = octets_found i (i + width f) r.0 r.1 p in
+      let after = pieces_found ps r.1 e rest s in
+      (r.0, rest, o.0, t, subst (λ j. PiecesAt b ps j e rest) (sym o.1) after))
   pieces_found (domain ∷ ps) i e d h =
-      option_and_then_some (λ r. option_map (λ x. r.0 ++ x) (pieces_at b ps r.1 e))
-      (option_map (λ r. (wire r.0, r.1)) (name_at b i)) d h
-      (λ r p q. map_some (λ x. r.0 ++ x) (pieces_at b ps r.1 e) d q (λ rest s t.
+      piece_found domain ps i e d h (λ r rest p s t.
       map_some (λ r. (wire r.0, r.1)) (name_at b i) r p (λ n u v. (
         n.0,
         r.1,
         rest,
         subst (NameAt b i n.0) (ap (λ z. z.1) v) ((name_at_computes b i n.0 n.1).0 u),
-        sym t ∙ ap (λ z. z.0 ++ rest) (sym v),
+        t ∙ ap (λ z. z.0 ++ rest) (sym v),
         pieces_found ps r.1 e rest s,
-      ))))
+      )))
   pieces_found (string ∷ ps) i e d h =
-      option_and_then_some (λ r. option_map (λ x. r.0 ++ x) (pieces_at b ps r.1 e))
-      (option_and_then (λ k. octets_upto b i (i + 1 + k)) (slice_get b i)) d h
-      (λ r p q. map_some (λ x. r.0 ++ x) (pieces_at b ps r.1 e) d q (λ rest
-      s t. option_and_then_some (λ k. octets_upto b i (i + 1 + k)) (slice_get b i) r p (λ k u v.
-      let o = octets_found i (i + 1 + k) r.0 r.1 v in (
-        k,
-        r.0,
-        rest,
-        u,
-        o.0,
-        sym t,
-        subst (λ j. PiecesAt b ps j e rest) (sym o.1) (pieces_found ps r.1 e rest s),
-      ))))
+      piece_found string ps i e d h (λ r rest p s t.
+      option_and_then_some (λ k. octets_upto b i (i + 1 + k)) (slice_get b i) r p (λ k u v.
+      let o = octets_found i (i + 1 + k) r.0 r.1 v in
+      let after = pieces_found ps r.1 e rest s in
+      (k, r.0, rest, u, o.0, t, subst (λ j. PiecesAt b ps j e rest) (sym o.1) after)))
   pieces_found (strings ∷ ps) i e d h =
-      option_and_then_some (λ r. option_map (λ x. r.0 ++ x) (pieces_at b ps r.1 e))
-      (option_and_then strings_only (octets_upto b i e)) d h
-      (λ r p q. map_some (λ x. r.0 ++ x) (pieces_at b ps r.1 e) d q
-      (λ rest s t. option_and_then_some strings_only (octets_upto b i e) r p (λ x u v.
+      piece_found strings ps i e d h (λ r rest p s t.
+      option_and_then_some strings_only (octets_upto b i e) r p (λ x u v.
       let o = octets_found i e x.0 x.1 u in
       let y = strings_found x.0 r.0 x.1 r.1 v in
       let end : e ≡ r.1 = o.1 ∙ y.3 in (
@@ -83,22 +103,15 @@ module _ (b : Octets) where
         subst (λ z. OctetsAt b i z r.0) end (subst (OctetsAt b i e) y.2 o.0),
         subst (λ z. 0 < length z) y.2 y.0,
         subst (λ z. are_strings 0 z ≡ true) y.2 y.1,
-        sym t,
+        t,
         sym end,
         pieces_found ps r.1 e rest s,
-      ))))
-  pieces_found (anything ∷ ps) i e d h =
-      option_and_then_some (λ r. option_map (λ x. r.0 ++ x) (pieces_at b ps r.1 e)) (octets_upto
-      b i e) d h (λ r p q. map_some (λ x. r.0 ++ x) (pieces_at b ps r.1 e) d q (λ rest s t.
-      let o = octets_found i e r.0 r.1 p in (
-        r.0,
-        rest,
-        r.1,
-        subst (λ z. OctetsAt b i z r.0) o.1 o.0,
-        sym t,
-        sym o.1,
-        pieces_found ps r.1 e rest s,
       )))
+  pieces_found (anything ∷ ps) i e d h =
+      piece_found anything ps i e d h (λ r rest p s t.
+      let o = octets_found i e r.0 r.1 p in
+      let here = subst (λ z. OctetsAt b i z r.0) o.1 o.0 in
+      (r.0, rest, r.1, here, t, sym o.1, pieces_found ps r.1 e rest s))
 
   piece_given : (p : Piece) (ps : List Piece) (i e j : ℕ) (o rest d : Octets)
       → piece_at b p i e ≡ Some (o, j)
@@ -132,44 +145,28 @@ module _ (b : Octets) where
   data_found t c i e d h = grind (arith, and_parts, leb-true, pieces_found, none-some)
 
   -- questions
-  questions_found : (k i : ℕ) (qs : List MessageQuestion) (e : ℕ)
-      → several (message_question_at b) k i ≡ Some (qs, e) → QuestionsAt b i qs e × (length qs ≡ k)
-  unfolding several
-  questions_found zero i qs e h = grind (arith, some_pair_parts)
-  questions_found (suc k) i qs e h =
-      option_and_then_some (λ r. option_map (λ s. (r.0 ∷ s.0, s.1))
-      (several (message_question_at b) k r.1)) (message_question_at b i) (qs, e) h
-      (λ r p g. map_some (λ s. (r.0 ∷ s.0, s.1)) (several (message_question_at b) k r.1)
-      (qs, e) g (λ s u v. option_and_then_some (question_after b) (name_at b i) r p (λ n w x.
+  question_found : (i j e : ℕ) (q : MessageQuestion) (qs : List MessageQuestion)
+      → message_question_at b i ≡ Some (q, j) → QuestionsAt b j qs e → QuestionsAt b i (q ∷ qs) e
+  question_found i j e q qs h rest =
+      option_and_then_some (question_after b) (name_at b i) (q, j) h (λ n w x.
       let c = cond_some (nat_le (n.1 + 4) (length b)) (
         record { qname = n.0; qtype = value_at b n.1 2; qclass = value_at b (n.1 + 2) 2 },
         n.1 + 4,
-      ) r x in
+      ) (q, j) x in
       let room = leb-true (n.1 + 4) (length b) c.0 in
-      let rest = questions_found k r.1 s.0 s.1 u in
-      let one : QuestionsAt b i (record
-      { qname = n.0; qtype = value_at b n.1 2; qclass = value_at b (n.1 + 2) 2 } ∷ s.0) s.1 = (
+      subst (λ z. QuestionsAt b i (z ∷ qs) e) (ap (λ z. z.0) c.1) (
         n.1,
         (name_at_computes b i n.0 n.1).0 w,
         number_is n.1 2 (omega (arith, room)),
         number_is (n.1 + 2) 2 (omega (arith, room)),
-        subst (λ z. QuestionsAt b z s.0 s.1) (sym (ap (λ z. z.1) c.1)) rest.0,
-      ) in
-      let same : (
-        record { qname = n.0; qtype = value_at b n.1 2; qclass = value_at b (n.1 + 2) 2 }
-            ∷ s.0,
-        s.1,
-      ) ≡ (qs, e) = ap (λ z. (z.0 ∷ s.0, s.1)) c.1 ∙ v in (
-        subst (λ (z : List MessageQuestion × ℕ). QuestionsAt b i z.0 z.1) same one,
-        ap length (sym (ap (λ z. z.0) same)) ∙ ap suc rest.1,
-      ))))
+        subst (λ z. QuestionsAt b z qs e) (sym (ap (λ z. z.1) c.1)) rest,
+      ))
 
-  questions_given : (qs : List MessageQuestion) (i e : ℕ)
+  pub questions_given : (qs : List MessageQuestion) (i e : ℕ)
       → QuestionsAt b i qs e → several (message_question_at b) (length qs) i ≡ Some (qs, e)
-  unfolding several
-  questions_given [] i e h = ap (λ z. Some ([], z)) h
-  questions_given (q ∷ qs) i e h =
-      grind (arith, name_at_computes, (questions_given qs ((h.0) + 4) e h.4))
+  questions_given =
+      several_given (message_question_at b) (QuestionsAt b) (λ i e h. h)
+      (λ i e q qs h. (h.0 + 4, grind (arith, name_at_computes), h.4))
 
   -- records
   record_found : (i : ℕ) (r : MessageRecord) (e : ℕ) → message_record_at b i ≡ Some (r, e)
@@ -205,28 +202,22 @@ module _ (b : Octets) where
           } in
           (j, len, subst (λ z. RecordAt b i z j len) (ap (λ z. z.0) v) found, ap (λ z. z.1) v))
 
+  pub record_given : (i j len : ℕ) (r : MessageRecord)
+      → RecordAt b i r j len → message_record_at b i ≡ Some (r, j + 10 + len)
+  record_given i j len r h = grind (arith, name_at_computes, pieces_given)
+
   records_found : (k i : ℕ) (rs : List MessageRecord) (e : ℕ)
       → several (message_record_at b) k i ≡ Some (rs, e) → RecordsAt b i rs e × (length rs ≡ k)
-  unfolding several
-  records_found zero i rs e h = grind (arith, some_pair_parts)
-  records_found (suc k) i rs e h =
-      option_and_then_some (λ r. option_map (λ s. (r.0 ∷ s.0, s.1))
-      (several (message_record_at b) k r.1)) (message_record_at b i) (rs, e) h (λ r p g.
-      map_some (λ s. (r.0 ∷ s.0, s.1)) (several (message_record_at b) k r.1) (rs, e) g (λ s u v.
-      let one = record_found i r.0 r.1 p in
-      let rest = records_found k r.1 s.0 s.1 u in
-      let whole : RecordsAt b i (r.0 ∷ s.0) s.1 =
-      (one.0, one.1, one.2, subst (λ z. RecordsAt b z s.0 s.1) (sym one.3) rest.0) in (
-        subst (λ (z : List MessageRecord × ℕ). RecordsAt b i z.0 z.1) v whole,
-        ap length (sym (ap (λ z. z.0) v)) ∙ ap suc rest.1,
-      )))
+  records_found =
+      several_found (message_record_at b) (RecordsAt b) (λ i. refl) (λ i j e r rs h rest.
+      let one = record_found i r j h in
+      (one.0, one.1, one.2, subst (λ z. RecordsAt b z rs e) (sym one.3) rest))
 
-  records_given : (rs : List MessageRecord) (i e : ℕ)
+  pub records_given : (rs : List MessageRecord) (i e : ℕ)
       → RecordsAt b i rs e → several (message_record_at b) (length rs) i ≡ Some (rs, e)
-  unfolding several
-  records_given [] i e h = ap (λ z. Some ([], z)) h
-  records_given (r ∷ rs) i e h =
-      grind (arith, name_at_computes, pieces_given, (records_given rs (h.0 + 10 + h.1) e h.3))
+  records_given =
+      several_given (message_record_at b) (RecordsAt b) (λ i e h. h)
+      (λ i e r rs h. (h.0 + 10 + h.1, record_given i h.0 h.1 r h.2, h.3))
 
   -- the message
   message_found : (m : DnsMessage) → message_at b ≡ Some m → Spells b m
@@ -256,7 +247,8 @@ module _ (b : Octets) where
             additionals = r.0;
           } in
           let c = cond_some (r.1 == length b) whole m g4 in
-          let qs = questions_found (value_at b 4 2) 12 q.0 q.1 q-is in
+          let qs = several_found (message_question_at b) (QuestionsAt b) (λ i. refl) question_found
+          (value_at b 4 2) 12 q.0 q.1 q-is in
           let ans = records_found (value_at b 6 2) q.1 a.0 a.1 a-is in
           let auth = records_found (value_at b 8 2) a.1 n.0 n.1 n-is in
           let more = records_found (value_at b 10 2) n.1 r.0 r.1 r-is in
