@@ -27,6 +27,6 @@ pub use Rattle.dns_spec.proofs.DataWords.TypeWords.{one_type}
 pub use Rattle.dns_spec.proofs.NameTexts.Escapes.{counted_escape, escape-counted}
 pub use Rattle.dns_spec.proofs.ZoneTexts.Beginnings.{Loose, cut_none, front_kept}
 pub use Rattle.dns_spec.proofs.ZoneTexts.BeginningsMean.{beginning_decides}
-pub use Rattle.dns_spec.proofs.ZoneTexts.TextTokens.{front-shorter, has_tokens}
+pub use Rattle.dns_spec.proofs.ZoneTexts.TextTokens.{front-shorter, has_tokens, tokens_cut}
 pub use Rattle.dns_spec.specs.Meaning.{is_directive}
-pub use Rattle.dns_spec.specs.ZoneText.{EntriesOf, begins_blank, is_blank_token}
+pub use Rattle.dns_spec.specs.ZoneText.{begins_blank, is_blank_token}

@@ -1,5 +1,5 @@
 -- What is read of a beginning of a text holds of every text that goes on from it.
-use Rattle.dns_master.proofs.Common.{◌≡◌, ℕ, ◌+◌, ◌-◌, ◌≤◌, ◌⊎◌, inl, inr, Option, None, Some, Bool, true, false, List, [], ◌++◌, length, length-append, append-nil, append_assoc, refl, sym, ap, ◌∙◌, subst, arith, Octets, DomainName, FileFault, too_long, unwrap_or, MatchBool, false≢true, ResourceRecord, Meaning, records, fault_at, after, EntriesMean, Word, Token, Entry, EntriesOf, extent_by, with_end, cut_entries, beginning, stop_at, stop_fault, beginning_decides, TextMeans, EntryRead, IsWhole, Reads, outcome_of, unended, ReaderMeans, MayFollow, FrontTaken, FrontFaulty, FrontGathered, TextGathered, PieceTaken, AppendsPiece, Reader}
+use Rattle.dns_master.proofs.Common.{◌≡◌, ℕ, ◌+◌, ◌-◌, ◌≤◌, ◌⊎◌, inl, inr, Option, None, Some, Bool, true, false, List, [], ◌++◌, length, length-append, append-nil, append_assoc, refl, sym, ap, ◌∙◌, subst, arith, Octets, DomainName, FileFault, too_long, unwrap_or, MatchBool, false≢true, ResourceRecord, Meaning, records, fault_at, after, EntriesMean, Word, Token, Entry, extent_by, with_end, cut_entries, beginning, stop_at, stop_fault, beginning_decides, tokens_cut, TextMeans, EntryRead, IsWhole, Reads, outcome_of, unended, ReaderMeans, MayFollow, FrontTaken, FrontFaulty, FrontGathered, TextGathered, PieceTaken, AppendsPiece, Reader}
 use Rattle.dns_master.proofs.EntryCuts.{reads-more}
 use Rattle.dns_master.proofs.TextSteps.{over-at_end, nothing-means, past-means}
 use Rattle.dns_master.proofs.EntriesLoop.{after-nil, after-append}
@@ -9,16 +9,10 @@ pub decided-means : (o : DomainName) (earlier : List Entry) (text more : Octets)
     (fault : FileFault) (line : ℕ) → TextMeans o earlier true text (fault_at fault line)
     → (fault ≡ too_long → ⊥) → TextMeans o earlier goes_on (text ++ more) (fault_at fault line)
 decided-means o earlier text more goes_on fault line h other =
-    let cut : EntriesOf beginning text (with_end beginning h.rest (cut_entries false h.tokens)) =
-    record {
-      tokens = h.tokens;
-      rest = h.rest;
-      spelled = h.spelled;
-      at_end = h.at_end;
-      entries = refl;
-    } in
+    let es = with_end beginning h.rest (cut_entries false h.tokens) in
+    let are = tokens_cut beginning text h.tokens h.rest h.spelled h.at_end in
     let found = beginning_decides o earlier (extent_by goes_on) text more fault line
-    (with_end beginning h.rest (cut_entries false h.tokens), cut, h.meant) other in
+    (es, are, h.meant) other in
     record {
       tokens = found.1.tokens;
       rest = found.1.rest;

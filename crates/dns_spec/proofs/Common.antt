@@ -89,5 +89,5 @@ pub use Rattle.dns_spec.specs.WrittenText.{form_words, hex_text, hex_words, is_q
 unfoldable pub use Rattle.dns_spec.specs.WrittenText.{data_text}
 pub use Rattle.dns_spec.specs.ZonePrinted.{HasZoneType, IsReadRecord, is_soa, printed_records, record_line, soa_first}
 unfoldable pub use Rattle.dns_spec.specs.ZonePrinted.{zone_text}
-pub use Rattle.dns_spec.specs.ZoneText.{Entries, Entry, Extent, Token, TokensThen, before_first, beginning, begins_with, blank, closed, closing, comment, cut_entries, ended, entry_words, escape_left, extent_by, extent_of, in_string, in_token, is_blank, is_cut_short, is_line_end, is_open_at_end, lexical_fault, line_end, line_feed_front, most_octets, open_after, opening, parentheses, parenthesis, quoted_front, quoted_string, stop_at, stop_fault, string_fault, string_length, take_turns, text_over, token_front, unended, unit_left, unquoted_front, whole_text, with_end, word, word_length, word_of}
+pub use Rattle.dns_spec.specs.ZoneText.{Entries, EntriesOf, Entry, Extent, Token, TokensThen, before_first, beginning, begins_with, blank, closed, closing, comment, cut_entries, ended, entry_words, escape_left, extent_by, extent_of, in_string, in_token, is_blank, is_cut_short, is_line_end, is_open_at_end, lexical_fault, line_end, line_feed_front, most_octets, open_after, opening, parentheses, parenthesis, quoted_front, quoted_string, stop_at, stop_fault, string_fault, string_length, take_turns, text_over, token_front, unended, unit_left, unquoted_front, whole_text, with_end, word, word_length, word_of}
 unfoldable pub use Rattle.dns_spec.specs.ZoneText.{run_length}

@@ -35,22 +35,6 @@ pub record Header : Type 0 where
   pub id : ℕ
   pub flags : ℕ
 
--- RFC 1035 4.1.1: the RCODEs of this product's replies
-abbrev pub no_error : ℕ
-no_error = 0
-
-abbrev pub format_error : ℕ
-format_error = 1
-
-abbrev pub name_error : ℕ
-name_error = 3
-
-abbrev pub not_implemented : ℕ
-not_implemented = 4
-
-abbrev pub refused : ℕ
-refused = 5
-
 -- RFC 1035 4.1.2: a question of a message
 pub record MessageQuestion : Type 0 where
   pub qname : DomainName
@@ -72,6 +56,22 @@ pub record DnsMessage : Type 0 where
   pub answers : List MessageRecord
   pub authorities : List MessageRecord
   pub additionals : List MessageRecord
+
+-- RFC 1035 4.1.1: the RCODEs of this product's replies
+abbrev pub no_error : ℕ
+no_error = 0
+
+abbrev pub format_error : ℕ
+format_error = 1
+
+abbrev pub name_error : ℕ
+name_error = 3
+
+abbrev pub not_implemented : ℕ
+not_implemented = 4
+
+abbrev pub refused : ℕ
+refused = 5
 
 -- the octets from place i up to place e are d
 pub record OctetsAt (b : Octets) (i e : ℕ) (d : Octets) : Type 0 where

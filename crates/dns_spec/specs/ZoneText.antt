@@ -108,13 +108,8 @@ parenthesis line_end = None
 
 -- LF, or CR LF, which ends an entry outside parentheses
 abbrev pub is_line_end : Token → Bool
-is_line_end blank = false
-is_line_end comment = false
-is_line_end (word raw) = false
-is_line_end (quoted_string raw) = false
-is_line_end opening = false
-is_line_end closing = false
 is_line_end line_end = true
+is_line_end _ = false
 
 -- whether a parenthesis is open after a token, where one was or was not before it
 abbrev pub open_after : Bool → Token → Bool
@@ -273,12 +268,7 @@ entry_words e = filter_map word_of e.tokens
 -- the token is a blank
 abbrev pub is_blank_token : Token → Bool
 is_blank_token blank = true
-is_blank_token comment = false
-is_blank_token (word raw) = false
-is_blank_token (quoted_string raw) = false
-is_blank_token opening = false
-is_blank_token closing = false
-is_blank_token line_end = false
+is_blank_token _ = false
 
 -- whether the entry begins with a space or a tab
 abbrev pub begins_blank : List Token → Bool

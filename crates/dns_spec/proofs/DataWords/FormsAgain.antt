@@ -36,6 +36,18 @@ pub said_step : (f : WordForm) (fs : List WordForm) (origin : DomainName) (d bac
     → FormSaid f origin d back → WordsSaid fs origin back → WordsSaid (f ∷ fs) origin d
 said_step f fs origin d back s others = grind (arith, and_from, Each, TakenWhole)
 
+-- a word for the first n octets
+octets_said : (f : WordForm) (n : ℕ) (origin : DomainName) (d : Octets)
+    → (word_front f d).1 ≡ drop n d → SaysWord f origin (word_front f d).0 (take n d)
+    → Standing (word_front f d).0 → FormSaid f origin d (drop n d)
+octets_said f n origin d after said standing = record {
+  front = take n d;
+  whole = sym (take-append-drop n d);
+  word = said;
+  after = after;
+  standing = standing;
+}
+
 -- numbers of at most 64 bits, which have all their digits
 number_front_said : (k : ℕ) (origin : DomainName) (d : Octets)
     → k ≤ 8 → k ≤ length d → Small d → FormSaid (number_word k) origin d (drop k d)
@@ -45,46 +57,28 @@ number_front_said k origin d short inside small =
     let small' = All-take (λ o. o < 256) k d small in
     let most : 256 ^ length x ≤ 256 ^ 8 = pow-le-pow_right
     {n = 256} (omega arith) {i = length x} {j = 8} (omega (arith, long, short)) in
-    record {
-      front = x;
-      whole = sym (take-append-drop k d);
-      word = record { quotes = refl; said = number_said k x long small' };
-      after = refl;
-      standing = decimal_standing (number_of x) (omega (arith, most, number_of-below x small'));
-    }
+    octets_said (number_word k) k origin d refl
+    (record { quotes = refl; said = number_said k x long small' })
+    (decimal_standing (number_of x) (omega (arith, most, number_of-below x small')))
 
 pub ipv4_front_said : (origin : DomainName) (d : Octets)
     → 4 ≤ length d → Small d → FormSaid ipv4_word origin d (drop 4 d)
-ipv4_front_said origin d inside small = record {
-  front = take 4 d;
-  whole = sym (take-append-drop 4 d);
-  word = record {
-    quotes = refl;
-    said = record {
-      four = length-take-le 4 d inside;
-      octets = small_test (take 4 d) (All-take (λ o. o < 256) 4 d small);
-      spelled = refl;
-    };
-  };
-  after = refl;
-  standing =
-      ipv4_standing (take 4 d) (length-take-le 4 d inside) (All-take (λ o. o < 256) 4 d small);
-}
+ipv4_front_said origin d inside small =
+    let four = length-take-le 4 d inside in
+    let small' = All-take (λ o. o < 256) 4 d small in
+    let octets = small_test (take 4 d) small' in
+    octets_said ipv4_word 4 origin d refl
+    (record { quotes = refl; said = record { four = four; octets = octets; spelled = refl } })
+    (ipv4_standing (take 4 d) four small')
 
 pub ipv6_front_said : (origin : DomainName) (d : Octets)
     → 16 ≤ length d → Small d → FormSaid ipv6_word origin d (drop 16 d)
-ipv6_front_said origin d inside small = record {
-  front = take 16 d;
-  whole = sym (take-append-drop 16 d);
-  word = record {
-    quotes = refl;
-    said =
-        ipv6_said (take 16 d) (length-take-le 16 d inside) (All-take (λ o. o < 256) 16 d small);
-  };
-  after = refl;
-  standing =
-      ipv6_standing (take 16 d) (length-take-le 16 d inside) (All-take (λ o. o < 256) 16 d small);
-}
+ipv6_front_said origin d inside small =
+    let long = length-take-le 16 d inside in
+    let small' = All-take (λ o. o < 256) 16 d small in
+    octets_said ipv6_word 16 origin d refl
+    (record { quotes = refl; said = ipv6_said (take 16 d) long small' })
+    (ipv6_standing (take 16 d) long small')
 
 labels_small : (n : DomainName) → Small (wire n) → All (All (λ o. o < 256)) n
 labels_small [] small k e inside = absurd (omega (arith, inside))

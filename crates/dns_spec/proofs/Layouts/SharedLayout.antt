@@ -57,30 +57,33 @@ module _ (b : Octets) (room : length b < 2 ^ 16) where
   Lays ps os xs = (ms : List Placed) (i : ℕ)
       → Known b i ms → 12 ≤ i → Stands b i (data_octets ms i xs) → Laid ps os ms i xs
 
-  -- after octets, and after a name
+  -- after octets
   module _ (ms : List Placed) (i : ℕ) (o : Octets) (ys : List Part) (known : Known b i ms)
       (header : 12 ≤ i) (at : Stands b i (data_octets ms i (octets o ∷ ys))) where
     at_octets : Stands b i o
     unfolding data_laid
     at_octets = stands_front o (data_octets ms (i + length o) ys) at
 
-    octets_laid : (ps : List Piece) (rest : Octets)
-        → Lays ps rest ys → Laid ps rest ms (i + length o) ys
-    unfolding data_laid
-    octets_laid ps rest lays =
-        lays ms (i + length o) (known_later b i (i + length o) ms (omega arith) known)
-        (omega arith) (stands_rest o (data_octets ms (i + length o) ys) at)
-
     end_of_octets : i + length o + length
         (data_octets ms (i + length o) ys) ≡ i + length (data_octets ms i (octets o ∷ ys))
     unfolding data_laid
     end_of_octets = omega (arith, length-append o (data_octets ms (i + length o) ys))
 
-    known_after : Known b (i + length o + length (data_octets ms (i + length o) ys))
-        (ms ++ data_names ms (i + length o) ys) → Known b
-        (i + length (data_octets ms i (octets o ∷ ys))) (ms ++ data_names ms i (octets o ∷ ys))
+    octets_laid : (ps : List Piece) (rest : Octets) (j : ℕ) → i + length o ≡ j → Lays ps rest ys
+        → OctetsAt b i j o × PiecesAt b ps j (i + length (data_octets ms i (octets o ∷ ys))) rest
+        × Known b (i + length (data_octets ms i (octets o ∷ ys)))
+        (ms ++ data_names ms i (octets o ∷ ys))
     unfolding data_laid
-    known_after k = subst (λ e. Known b e (ms ++ data_names ms (i + length o) ys)) end_of_octets k
+    octets_laid ps rest j place lays =
+        let next = i + length o in
+        let r = lays ms next (known_later b i next ms (omega arith) known)
+        (omega arith) (stands_rest o (data_octets ms next ys) at) in
+        let pieces = subst (λ z. PiecesAt b ps next z rest) end_of_octets r.pieces in (
+          subst (λ z. OctetsAt b i z o) place (octets_at o at_octets),
+          subst (λ z. PiecesAt b ps z (i + length (data_octets ms i (octets o ∷ ys))) rest)
+              place pieces,
+          subst (λ z. Known b z (ms ++ data_names ms next ys)) end_of_octets r.known,
+        )
 
   nil_lays : (os : Octets) (xs : List Part) → cut [] os ≡ Some xs → Lays [] os xs
   unfolding cut data_laid
@@ -108,22 +111,9 @@ module _ (b : Octets) (room : length b < 2 ^ 16) where
       laid at =
           let x = take (width f) os in
           let t = front_taken (width f) os part rest front in
-          let r = octets_laid ms i x ys known header at ps rest lays in
-          let place : i + length x ≡ i + (width f) = ap (λ z. i + z) t.1 in
-          record {
-            pieces = (
-              x,
-              rest,
-              subst (λ z. OctetsAt b i (i + z) x) t.1
-                  (octets_at x (at_octets ms i x ys known header at)),
-              t.0,
-              subst
-                  (λ z. PiecesAt b ps z (i + length (data_octets ms i (octets x ∷ ys))) rest) place
-                  (subst (λ z. PiecesAt b ps (i + length x) z rest)
-                  (end_of_octets ms i x ys known header at) r.pieces),
-            );
-            known = known_after ms i x ys known header at r.known;
-          }
+          let r = octets_laid ms i x ys known header at ps rest
+          (i + width f) (ap (λ z. i + z) t.1) lays in
+          record { pieces = (x, rest, r.0, t.0, r.1); known = r.2 }
 
   string_lays : (ps : List Piece) (os rest : Octets) (part : Part) (ys : List Part) → piece_front
       string os ≡ Some (part, rest) → Lays ps rest ys → Lays (string ∷ ps) os (part ∷ ys)
@@ -137,24 +127,10 @@ module _ (b : Octets) (room : length b < 2 ^ 16) where
       laid at =
           let x = k ∷ take k os in
           let t = front_taken (suc k) (k ∷ os) part rest front in
-          let r = octets_laid ms i x ys known header at ps rest lays in
-          let here = at_octets ms i x ys known header at in
-          let place : i + length x ≡ i + 1 + k = omega (arith, t.1) in
-          record {
-            pieces = (
-              k,
-              x,
-              rest,
-              stands_get k (take k os) here,
-              subst (λ z. OctetsAt b i z x) place (octets_at x here),
-              t.0,
-              subst
-                  (λ z. PiecesAt b ps z (i + length (data_octets ms i (octets x ∷ ys))) rest) place
-                  (subst (λ z. PiecesAt b ps (i + length x) z rest)
-                  (end_of_octets ms i x ys known header at) r.pieces),
-            );
-            known = known_after ms i x ys known header at r.known;
-          }
+          let r = octets_laid ms i x ys known header at ps rest
+          (i + 1 + k) (omega (arith, t.1)) lays in
+          let first = stands_get k (take k os) (at_octets ms i x ys known header at) in
+          record { pieces = (k, x, rest, first, r.0, t.0, r.1); known = r.2 }
 
   -- the last piece of data is all that is left of it
   rest_lays : (ps : List Piece) (os : Octets) (ys : List Part) (ms : List Placed) (i : ℕ)
@@ -164,13 +140,9 @@ module _ (b : Octets) (room : length b < 2 ^ 16) where
       × PiecesAt b ps (i + length os) (i + length (data_octets ms i (octets os ∷ ys))) [] × Known b
       (i + length (data_octets ms i (octets os ∷ ys))) (ms ++ data_names ms i (octets os ∷ ys))
   rest_lays ps os ys ms i known header at lays more =
-      let r = octets_laid ms i os ys known header at ps [] lays in
-      let end = end_of_octets ms i os ys known header at in (
-        octets_at os (at_octets ms i os ys known header at),
-        omega (arith, end, no_octets ps ys more ms (i + length os)),
-        subst (λ e. PiecesAt b ps (i + length os) e []) end r.pieces,
-        known_after ms i os ys known header at r.known,
-      )
+      let r = octets_laid ms i os ys known header at ps [] (i + length os) refl lays in
+      let end = end_of_octets ms i os ys known header at in
+      (r.0, omega (arith, end, no_octets ps ys more ms (i + length os)), r.1, r.2)
 
   -- the last piece of data is all that is left of it
   strings_lays : (ps : List Piece) (os rest : Octets) (part : Part) (ys : List Part)

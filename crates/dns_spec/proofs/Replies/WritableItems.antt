@@ -278,10 +278,10 @@ module _ (z : ZoneContents)
   pub outcome_rcode : (outcome z q t).rcode < 16
   outcome_rcode = (outcome_right z fits q t h).rcode
 
-  -- the sets of an answer, all of them or a beginning
-  pub items_in_order : (k : ℕ) → sections_in_order (take k (items z q t)) ≡ true
+  -- The sets of an answer are in order, and their records can be written;
+  items_stood : Ordered (items z q t) × Each (λ (i : Item). Writable i.records) (items z q t)
   unfolding items
-  items_in_order k =
+  items_stood =
       let o = outcome z q t in
       let r = outcome_right z fits q t h in
       let more = extra z (main_items o) (targets o) in
@@ -293,20 +293,21 @@ module _ (z : ZoneContents)
       ordered_front answer o.answers (o.authorities ++ more) r.answers
       (each_append (NotBefore answer) o.authorities more (not_before answer authority o.authorities
       (omega arith) r.authorities) (not_before answer additional more (omega arith) e)) later in
-      in_order (take k (items z q t)) (ordered_take k
-      (items z q t) (subst Ordered (sym (append_assoc o.answers o.authorities more)) all))
+      let W : Item → Type 0 = λ (i : Item). Writable i.records in (
+        subst Ordered (sym (append_assoc o.answers o.authorities more)) all,
+        each_append W (main_items o) more
+            (each_append W o.answers o.authorities (stood_records answer o.answers r.answers)
+            (stood_records authority o.authorities r.authorities))
+            (stood_records additional more e),
+      )
+
+  -- and so it is with a beginning of them.
+  pub items_in_order : (k : ℕ) → sections_in_order (take k (items z q t)) ≡ true
+  items_in_order k =
+      in_order (take k (items z q t)) (ordered_take k (items z q t) items_stood.0)
 
   pub items_writable : (k : ℕ) → All IsWritable (records_of (take k (items z q t)))
-  unfolding items
   items_writable k =
-      let o = outcome z q t in
-      let r = outcome_right z fits q t h in
-      let more = extra z (main_items o) (targets o) in
-      let e = extra_stood z fits (main_items o) (targets o) in
-      let W : Item → Type 0 = λ (i : Item). Writable i.records in
-      let all = each_append W (main_items o) more
-      (each_append W o.answers o.authorities (stood_records answer o.answers r.answers)
-      (stood_records authority o.authorities r.authorities))
-      (stood_records additional more e) in
       all_from_each IsWritable (records_of (take k (items z q t)))
-      (records_writable (take k (items z q t)) (each_take W k (items z q t) all))
+      (records_writable (take k (items z q t))
+      (each_take (λ (i : Item). Writable i.records) k (items z q t) items_stood.1))

@@ -3,7 +3,7 @@
 -- What is shown of a question is that it can't be without an answer; so which answer it has need
 -- not be found.
 use Rattle.dns_spec.proofs.Common.{arith, rules, ◌≡◌, ℕ, ◌⊎◌, inl, inr, Bool, true, false, List, [], ◌∷◌, Option, Some, None, refl, ap, codes, IsTrue, take, MatchOption, MatchBool, is_none, option_or, false≢true, none-some, Octets, DomainName, folded, octets_equal, Word, ResourceRecord, FileFault, unknown_directive, directive_words, bad_owner, no_owner, most_octets, Extent, extent_of, Entry, with_end, cut_entries, lexical_fault, EntryMeaning, faulty, gives, Nothing, Lowest, EntryKind, no_words, directive, owned, unowned, kind_of, nearest, directive_word, ttl_word, NameIs, OwnerBefore, TtlSays, ttl_in_force, IsRecord, Fields, fields, IsNoTtl, record_faults, RecordGives, OneWord, DirectiveSays, KindGives, EntryGives, Meaning, records, fault_at, after, line_after, EntriesMean, Means, OctetsMean}
-use Rattle.dns_spec.proofs.ZoneTexts.TextTokens.{has_tokens}
+use Rattle.dns_spec.proofs.ZoneTexts.TextTokens.{has_tokens, tokens_cut}
 
 -- it can't be that there is none
 abbrev Sure : Type 0 → Type 0
@@ -177,21 +177,8 @@ octets_sure : (o : DomainName) (extent : Extent) (octets : Octets)
 octets_sure o extent octets =
     let h = has_tokens octets in
     let es = with_end extent h.rest (cut_entries false h.tokens) in
-    and_so (entries_sure o [] es nothing_known)
-    (λ found. sure (
-      found.0,
-      (
-        es,
-        record {
-          tokens = h.tokens;
-          rest = h.rest;
-          spelled = h.spelled;
-          at_end = h.at_end;
-          entries = refl;
-        },
-        found.1,
-      ),
-    ))
+    let are = tokens_cut extent octets h.tokens h.rest h.spelled h.at_end in
+    and_so (entries_sure o [] es nothing_known) (λ found. sure (found.0, (es, are, found.1)))
 
 pub no_text_without_meaning : (o : DomainName) (text : Octets) → Nothing (Means o text) → ⊥
 no_text_without_meaning o text none =

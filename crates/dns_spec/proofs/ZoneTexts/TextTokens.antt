@@ -1,5 +1,5 @@
 -- Every text is made of tokens, up to a place where none begins.
-use Rattle.dns_spec.proofs.Common.{◌≡◌, ℕ, zero, suc, ◌<◌, List, [], ◌∷◌, length, drop, take, refl, sym, subst, arith, Option, Some, None, ◌==◌, ⊤, if◌then◌else◌, MatchOption, Octets, Token, word, closed, token_front, TokensThen, length-drop}
+use Rattle.dns_spec.proofs.Common.{◌≡◌, ℕ, zero, suc, ◌<◌, List, [], ◌∷◌, length, drop, take, refl, sym, subst, arith, Option, Some, None, ◌==◌, ⊤, if◌then◌else◌, MatchOption, Octets, Token, word, closed, token_front, TokensThen, length-drop, false, Extent, EntriesOf, with_end, cut_entries}
 
 -- what comes after the token is shorter than so many octets
 Shorter : ℕ → Option (Token × Octets) → Type 0
@@ -51,3 +51,10 @@ tokens-within (suc n) text h =
 
 pub has_tokens : (text : Octets) → HasTokens text
 has_tokens text = tokens-within (suc (length text)) text (omega arith)
+
+-- the entries into which these tokens are cut
+pub tokens_cut : (extent : Extent) (octets : Octets) (ps : List Token) (rest : Octets)
+    → TokensThen octets ps rest → token_front rest ≡ None
+    → EntriesOf extent octets (with_end extent rest (cut_entries false ps))
+tokens_cut extent octets ps rest spelled at_end =
+    record { tokens = ps; rest = rest; spelled = spelled; at_end = at_end; entries = refl }
