@@ -73,61 +73,33 @@ pub record TypeRow : Type 0 where
   pub pieces : List Piece
   pub compresses : Bool
 
+-- the row of a type whose names take part in compression, and that of any other type
+abbrev pub compressed_row : ℕ → Octets → List Piece → TypeRow
+compressed_row t word ps = record { number = t; mnemonic = word; pieces = ps; compresses = true }
+
+abbrev pub plain_row : ℕ → Octets → List Piece → TypeRow
+plain_row t word ps = record { number = t; mnemonic = word; pieces = ps; compresses = false }
+
 -- RFC 1035 3.3 and 3.4, RFC 3596 2.2, RFC 2782: the data of each type. RFC 3597 section 4: only
 -- names in data of the types of RFC 1035 are compressed, and RFC 2782 forbids it for the target of
 -- SRV.
 abbrev pub type_table : List TypeRow
 type_table =
-    record { number = type_a; mnemonic = codes "A"; pieces = fixed ipv4 ∷ []; compresses = false }
-    ∷ record { number = type_ns; mnemonic = codes "NS"; pieces = domain ∷ []; compresses = true }
-    ∷ record {
-      number = type_cname;
-      mnemonic = codes "CNAME";
-      pieces = domain ∷ [];
-      compresses = true;
-    }
-    ∷ record {
-      number = type_soa;
-      mnemonic = codes "SOA";
-      pieces = domain ∷ domain ∷ fixed (numbers 5 4) ∷ [];
-      compresses = true;
-    }
-    ∷ record { number = type_ptr; mnemonic = codes "PTR"; pieces = domain ∷ []; compresses = true }
-    ∷ record {
-      number = type_hinfo;
-      mnemonic = codes "HINFO";
-      pieces = string ∷ string ∷ [];
-      compresses = false;
-    }
-    ∷ record {
-      number = type_mx;
-      mnemonic = codes "MX";
-      pieces = fixed (numbers 1 2) ∷ domain ∷ [];
-      compresses = true;
-    }
-    ∷ record {
-      number = type_txt;
-      mnemonic = codes "TXT";
-      pieces = strings ∷ [];
-      compresses = false;
-    }
-    ∷ record {
-      number = type_aaaa;
-      mnemonic = codes "AAAA";
-      pieces = fixed ipv6 ∷ [];
-      compresses = false;
-    }
-    ∷ record {
-      number = type_srv;
-      mnemonic = codes "SRV";
-      pieces = fixed (numbers 3 2) ∷ domain ∷ [];
-      compresses = false;
-    }
+    plain_row type_a (codes "A") (fixed ipv4 ∷ [])
+    ∷ compressed_row type_ns (codes "NS") (domain ∷ [])
+    ∷ compressed_row type_cname (codes "CNAME") (domain ∷ [])
+    ∷ compressed_row type_soa (codes "SOA") (domain ∷ domain ∷ fixed (numbers 5 4) ∷ [])
+    ∷ compressed_row type_ptr (codes "PTR") (domain ∷ [])
+    ∷ plain_row type_hinfo (codes "HINFO") (string ∷ string ∷ [])
+    ∷ compressed_row type_mx (codes "MX") (fixed (numbers 1 2) ∷ domain ∷ [])
+    ∷ plain_row type_txt (codes "TXT") (strings ∷ [])
+    ∷ plain_row type_aaaa (codes "AAAA") (fixed ipv6 ∷ [])
+    ∷ plain_row type_srv (codes "SRV") (fixed (numbers 3 2) ∷ domain ∷ [])
     ∷ []
 
 -- RFC 3597 section 3: data of every other type is octets
 abbrev pub other_type : TypeRow
-other_type = record { number = 0; mnemonic = []; pieces = anything ∷ []; compresses = false }
+other_type = plain_row 0 [] (anything ∷ [])
 
 -- the row of a type in the table, where it has one; else that of other types
 abbrev pub row_of : ℕ → Option TypeRow

@@ -6,7 +6,8 @@ use Rattle.dns_spec.proofs.PrintedZones.PrintedMeaning.{printed_again}
 pub printed_moves : (z : ZoneContents) → IsPermutation z.records (printed_records z)
 printed_moves z =
     let sorted = sort_by record_order z.records in
-    IsPermutation-trans z.records sorted (printed_records z) (permutation_sort record_order z.records)
+    IsPermutation-trans z.records sorted (printed_records z)
+    (permutation_sort record_order z.records)
     (IsPermutation-filter_both is_soa (λ r. not (is_soa r)) (λ r. refl) sorted)
 
 pub zone_means : (z : ZoneContents) (o : DomainName) → All IsReadRecord z.records → All HasZoneType
