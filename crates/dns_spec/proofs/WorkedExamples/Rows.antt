@@ -40,6 +40,13 @@ www_reply =
     hex (codes "123484000001000100000000"
     ++ codes "03777777076578616d706c650000010001 c00c0001000100000e100004c000020a")
 
+-- digits that two replies have: the server of the zone with its address, and an alias of `www`
+abbrev servers : Octets
+servers = codes "c00c0002000100000e100005026e73c00c c0250001000100000e100004c0000201"
+
+abbrev to_www : Octets
+to_www = codes "c00c0005000100000e10000603777777c012"
+
 reply_rows :
     -- an address
     (udp small_zone www_query ≡ Some www_reply)
@@ -48,16 +55,10 @@ reply_rows :
     ≡ octets (codes "123484030001000000010000 046e6f7065076578616d706c650000010001"
     ++ codes "c011000600010000012c0026 026e73c011 0a686f73746d6173746572c011 00000001 00001c20"
     ++ codes "00000384 00127500 0000012c"))
-    -- an empty non-terminal is no name error
-    × (outline (udp small_zone (query (codes "b.ent.example") 1)) 31 12
-    ≡ part (codes "123484000001000000010000") 81 (codes "c012000600010000012c0026"))
     -- a wildcard, with the name asked for as owner
     × (udp small_zone (query (codes "x.y.w.example") 16)
     ≡ octets (codes "123484000001000100000000 017801790177076578616d706c650000100001"
     ++ codes "c00c0010000100000e10000403616e79"))
-    -- the name above a wildcard is an empty non-terminal
-    × (outline (udp small_zone (query (codes "w.example") 16)) 27 12
-    ≡ part (codes "123484000001000000010000") 77 (codes "c00e000600010000012c0026"))
     -- a referral with its glue
     × (udp small_zone (query (codes "h.sub.example") 1)
     ≡ octets (codes "123480000001000000010001 016803737562076578616d706c650000010001"
@@ -65,15 +66,20 @@ reply_rows :
     -- an alias followed
     × (udp small_zone (query (codes "alias.example") 1)
     ≡ octets (codes "123484000001000200000000 05616c696173076578616d706c650000010001"
-    ++ codes "c00c0005000100000e10000603777777c012 c02b0001000100000e100004c000020a"))
+    ++ to_www ++ codes "c02b0001000100000e100004c000020a"))
+    -- and the alias itself, where all types are asked for
+    × (udp small_zone (query (codes "alias.example") 255)
+    ≡ octets (codes "123484000001000100000000 05616c696173076578616d706c650000ff0001" ++ to_www))
     -- capitals in the question stay
     × (udp small_zone (query (codes "WWW.Example") 1)
     ≡ octets (codes "123484000001000100000000 03575757074578616d706c650000010001"
     ++ codes "c00c0001000100000e100004c000020a"))
-    -- and the SOA shares nothing with them
-    × (outline (udp small_zone (query (codes "NOPE.Example") 1)) 30 37
-    ≡ part (codes "123484030001000000010000") 87 (codes "076578616d706c6500 00060001 0000012c"
-    ++ codes "0026 026e73c01e 0a686f73746d6173746572c01e"))
+    -- the servers of the zone with their addresses
+    × (udp small_zone (query (codes "example") 2)
+    ≡ octets (codes "123484000001000100000001 076578616d706c650000020001" ++ servers))
+    -- all types of the origin asked for: the servers alone
+    × (udp small_zone (query (codes "example") 255)
+    ≡ octets (codes "123484000001000100000001 076578616d706c650000ff0001" ++ servers))
     -- no reply to what is shorter than a header
     × (udp small_zone (take 11 www_query) ≡ None)
     -- nor to a reply
@@ -103,34 +109,28 @@ reply_rows :
     -- a type that is none of a record
     × (udp small_zone (query (codes "example") 252)
     ≡ octets (codes "123480040001000000000000 076578616d706c650000fc0001"))
-    -- the servers of the zone with their addresses
-    × (udp small_zone (query (codes "example") 2)
-    ≡ octets (codes "123484000001000100000001 076578616d706c650000020001"
-    ++ codes "c00c0002000100000e100005026e73c00c c0250001000100000e100004c0000201"))
-    -- all types of the origin asked for: the servers alone
-    × (udp small_zone (query (codes "example") 255)
-    ≡ octets (codes "123484000001000100000001 076578616d706c650000ff0001"
-    ++ codes "c00c0002000100000e100005026e73c00c c0250001000100000e100004c0000201"))
-    -- an alias itself, where all types are asked for
-    × (udp small_zone (query (codes "alias.example") 255)
-    ≡ octets (codes "123484000001000100000000 05616c696173076578616d706c650000ff0001"
-    ++ codes "c00c0005000100000e10000603777777c012"))
-    -- nothing at a name that only has names below it
+    -- a set of one octet more than fits
+    × (udp large_zone (query (codes "u.example") 16)
+    ≡ octets (codes "123486000001000000000000 0175076578616d706c650000100001"))
+    -- a ring of two aliases
+    × (udp large_zone (query (codes "r1.example") 1)
+    ≡ octets (codes "123484000001000200000000 027231076578616d706c650000010001"
+    ++ codes "c00c0005000100000e100005027232c00f c0280005000100000e100002c00c"))
+    -- In outline: an empty non-terminal is no name error,
+    × (outline (udp small_zone (query (codes "b.ent.example") 1)) 31 12
+    ≡ part (codes "123484000001000000010000") 81 (codes "c012000600010000012c0026"))
+    -- nor is the name above a wildcard,
+    × (outline (udp small_zone (query (codes "w.example") 16)) 27 12
+    ≡ part (codes "123484000001000000010000") 77 (codes "c00e000600010000012c0026"))
+    -- whatever type is asked for.
     × (outline (udp small_zone (query (codes "w.example") 255)) 23 16
     ≡ part (codes "123484000001000000010000") 77 (codes "00ff0001c00e000600010000012c0026"))
     -- a set that fits exactly
     × (outline (udp large_zone (query (codes "t.example") 16)) 27 14
     ≡ part (codes "123484000001000100000000") 512 (codes "c00c0010000100000e1001d9ff61"))
-    -- one octet more does not fit
-    × (udp large_zone (query (codes "u.example") 16)
-    ≡ octets (codes "123486000001000000000000 0175076578616d706c650000100001"))
-    -- and does where there is room
+    -- the set of one octet more, where there is room
     × (outline (tcp large_zone (query (codes "u.example") 16)) 27 14
     ≡ part (codes "123484000001000100000000") 513 (codes "c00c0010000100000e1001daff61"))
-    -- a ring of two aliases
-    × (udp large_zone (query (codes "r1.example") 1)
-    ≡ octets (codes "123484000001000200000000 027231076578616d706c650000010001"
-    ++ codes "c00c0005000100000e100005027232c00f c0280005000100000e100002c00c"))
     -- a chain of 17 aliases, of which 16 are followed
     × (outline (udp large_zone (query (codes "c1.example") 1)) 28 17
     ≡ part (codes "123484000001001100000000") 326 (codes "c00c0005000100000e100005026332c00f"))
@@ -157,6 +157,10 @@ reply_rows :
     ≡ part (codes "123484000001000100000001") 82 (codes "c00c0021000100000e1000120001000200350"
     ++ codes "26e73076578616d706c6500"
     ++ codes "026e73c014 00010001 00000e10 0004 c0000201"))
+    -- the SOA shares nothing with capitals in the question
+    × (outline (udp small_zone (query (codes "NOPE.Example") 1)) 30 37
+    ≡ part (codes "123484030001000000010000") 87 (codes "076578616d706c6500 00060001 0000012c"
+    ++ codes "0026 026e73c01e 0a686f73746d6173746572c01e"))
     -- a name of 127 labels
     × (outline (udp deep_zone (asks deep_name 1)) 271 16
     ≡ part (codes "123484000001000100000000") 287 (codes "c00c0001000100000e100004c0000202"))
