@@ -54,8 +54,8 @@ pub use Rattle.dns_spec.specs.DataText.{Says, SaysAsSpelled, SaysForm, SaysForms
 unfoldable pub use Rattle.dns_spec.specs.DataText.{hex_octets}
 pub use Rattle.dns_spec.specs.FileFaults.{FileFault, bad_data, bad_escape, bad_octet, bad_owner, bad_parenthesis, bad_ttl, bad_type, directive_words, fault_code, no_memory, no_owner, no_ttl, other_class, too_long, too_many_records, unended_string, unknown_directive}
 pub use Rattle.dns_spec.specs.Laws.{HasRoom, IsAskable, IsSetAt, IsWritable, OctetsMean, section_rank, sections_in_order}
-pub use Rattle.dns_spec.specs.Layout.{Item, Laid, Placed, Section, additional, answer, asked_octets, asked_placed, authority, has_suffix, header_octets, in_section, is_section, laid_front, last_place, message_of, message_record, octets16, octets32, parts_of, place_of, pointer, question_octets, reach, reached, record_laid, record_tail, records_of, reply_header, shared_place, suffix_place}
-unfoldable pub use Rattle.dns_spec.specs.Layout.{data_laid, layout, records_octets, shared_octets}
+pub use Rattle.dns_spec.specs.Layout.{Item, Laid, Placed, Section, additional, answer, asked_octets, asked_placed, authority, data_laid, has_suffix, header_octets, in_section, is_section, laid_front, last_place, message_of, message_record, octets16, octets32, parts_of, place_of, pointer, question_octets, reach, reached, record_by, record_laid, record_tail, records_octets, records_of, reply_header, shared_octets, shared_place, suffix_place}
+unfoldable pub use Rattle.dns_spec.specs.Layout.{data_by, layout, octets_by, records_by}
 pub use Rattle.dns_spec.specs.LayoutSize.{data_names, record_names, record_size}
 unfoldable pub use Rattle.dns_spec.specs.LayoutSize.{cost, data_size, records_size, size}
 pub use Rattle.dns_spec.specs.Lines.{are_messages, ended_lines, line_answers, line_ends, line_message, message_answer}
@@ -83,8 +83,8 @@ pub use Rattle.dns_spec.specs.Stream.{IsCutFrame, frame, has_frame, replies}
 unfoldable pub use Rattle.dns_spec.specs.Stream.{after_frames, first_frame, frames}
 pub use Rattle.dns_spec.specs.Tree.{cut_of, exists, found, is_cut}
 pub use Rattle.dns_spec.specs.TypeText.{NamesType, numbered_type, text_in_lower_case, type_by_mnemonic, type_text}
-pub use Rattle.dns_spec.specs.UnboundedLayout.{unbounded_record, unbounded_record_size}
-unfoldable pub use Rattle.dns_spec.specs.UnboundedLayout.{unbounded_cost, unbounded_data, unbounded_data_size, unbounded_layout, unbounded_octets, unbounded_records, unbounded_records_size, unbounded_size}
+pub use Rattle.dns_spec.specs.UnboundedLayout.{unbounded_record_size}
+unfoldable pub use Rattle.dns_spec.specs.UnboundedLayout.{unbounded_cost, unbounded_data_size, unbounded_layout, unbounded_records_size, unbounded_size}
 pub use Rattle.dns_spec.specs.WrittenText.{form_words, hex_text, hex_words, is_quotable, is_unbroken, name_front, plain, quoted, stands_alone, string_count, string_octet_text, unknown_words, word_front, word_text, words_by, written_words}
 unfoldable pub use Rattle.dns_spec.specs.WrittenText.{data_text}
 pub use Rattle.dns_spec.specs.ZonePrinted.{HasZoneType, IsReadRecord, is_soa, printed_records, record_line, soa_first}

@@ -81,16 +81,23 @@ reached (Some p) = if nat_le p last_place then Some p else None
 abbrev pub shared_place : List Placed → DomainName → Option ℕ
 shared_place ms s = reached (place_of ms s)
 
--- RFC 1035 4.1.4: a name is written as its labels before the longest suffix that an earlier name
--- has at a place which a pointer reaches, and a pointer to it; without such a suffix it is written
--- whole. The root is never shared.
-unfoldable pub shared_octets : List Placed → DomainName → Octets
-shared_octets ms [] = 0 ∷ []
-shared_octets ms (l ∷ n) =
-    elim (shared_place ms (l ∷ n)) [
-      | None ↦ length l ∷ (l ++ shared_octets ms n)
+-- How a place is found for a suffix among earlier names, where it is to be shared.
+abbrev pub Lookup : Type 0
+Lookup = List Placed → DomainName → Option ℕ
+
+-- RFC 1035 4.1.4: a name is written as its labels before the longest suffix for which a place is
+-- found, and a pointer to it; without such a suffix it is written whole. The root is never shared.
+unfoldable pub octets_by : Lookup → List Placed → DomainName → Octets
+octets_by find ms [] = 0 ∷ []
+octets_by find ms (l ∷ n) =
+    elim (find ms (l ∷ n)) [
+      | None ↦ length l ∷ (l ++ octets_by find ms n)
       | Some p ↦ pointer p
     ]
+
+-- a suffix is shared that an earlier name has at a place which a pointer reaches
+abbrev pub shared_octets : List Placed → DomainName → Octets
+shared_octets = octets_by shared_place
 
 -- What is laid out: its octets, and the names in it with their places.
 pub record Laid : Type 0 where
@@ -102,12 +109,15 @@ abbrev pub laid_front : Octets → List Placed → Laid → Laid
 laid_front o ms l = record { written = o ++ l.written; names = ms ++ l.names }
 
 -- data laid out from place p on: what is no name, or is none to a writer, stands as it is
-unfoldable pub data_laid : List Placed → ℕ → List Part → Laid
-data_laid ms p [] = record { written = []; names = [] }
-data_laid ms p (octets o ∷ ps) = laid_front o [] (data_laid ms (p + length o) ps)
-data_laid ms p (name n ∷ ps) =
-    let w = shared_octets ms n in
-    laid_front w ((n, p) ∷ []) (data_laid (ms ++ (n, p) ∷ []) (p + length w) ps)
+unfoldable pub data_by : Lookup → List Placed → ℕ → List Part → Laid
+data_by find ms p [] = record { written = []; names = [] }
+data_by find ms p (octets o ∷ ps) = laid_front o [] (data_by find ms (p + length o) ps)
+data_by find ms p (name n ∷ ps) =
+    let w = octets_by find ms n in
+    laid_front w ((n, p) ∷ []) (data_by find (ms ++ (n, p) ∷ []) (p + length w) ps)
+
+abbrev pub data_laid : List Placed → ℕ → List Part → Laid
+data_laid = data_by shared_place
 
 -- the runs and names of a record that a writer sees
 abbrev pub parts_of : ResourceRecord → List Part
@@ -119,18 +129,24 @@ record_tail r d =
     octets16 r.rtype ++ octets16 class_in ++ octets32 r.ttl ++ octets16 (length d) ++ d
 
 -- a record laid out from place p on: its owner is an earlier name of its data
-abbrev pub record_laid : List Placed → ℕ → ResourceRecord → Laid
-record_laid ms p r =
-    let owner = shared_octets ms r.owner in
-    let d = data_laid (ms ++ (r.owner, p) ∷ []) (p + length owner + 10) (parts_of r) in
+abbrev pub record_by : Lookup → List Placed → ℕ → ResourceRecord → Laid
+record_by find ms p r =
+    let owner = octets_by find ms r.owner in
+    let d = data_by find (ms ++ (r.owner, p) ∷ []) (p + length owner + 10) (parts_of r) in
     record { written = owner ++ record_tail r d.written; names = (r.owner, p) ∷ d.names }
 
+abbrev pub record_laid : List Placed → ℕ → ResourceRecord → Laid
+record_laid = record_by shared_place
+
 -- the records laid out from place p on: the names of each are earlier names of those after it
-unfoldable pub records_octets : List Placed → ℕ → List ResourceRecord → Octets
-records_octets ms p [] = []
-records_octets ms p (r ∷ rs) =
-    let l = record_laid ms p r in
-    l.written ++ records_octets (ms ++ l.names) (p + length l.written) rs
+unfoldable pub records_by : Lookup → List Placed → ℕ → List ResourceRecord → Octets
+records_by find ms p [] = []
+records_by find ms p (r ∷ rs) =
+    let l = record_by find ms p r in
+    l.written ++ records_by find (ms ++ l.names) (p + length l.written) rs
+
+abbrev pub records_octets : List Placed → ℕ → List ResourceRecord → Octets
+records_octets = records_by shared_place
 
 -- RFC 1035 4.1.2: the question, spelled as it was asked
 abbrev pub question_octets : MessageQuestion → Octets

@@ -2,49 +2,20 @@
 -- may skip it: a law says that up to 16,384 octets it is the layout, and with that the layout has
 -- the least size there.
 use Rattle.std.specs.Prelude.{ℕ, ◌+◌, true, false, List, [], ◌∷◌, ◌++◌, length}
-use Rattle.std.specs.Prelude.{Option, None, Some}
+use Rattle.std.specs.Prelude.{Option}
 use Rattle.std.specs.List.{list_any}
 use Rattle.dns_spec.specs.Names.{Octets, DomainName}
 use Rattle.dns_spec.specs.Data.{Part, octets, name}
 use Rattle.dns_spec.specs.Records.{ResourceRecord}
 use Rattle.dns_spec.specs.Reading.{Header, MessageQuestion}
-use Rattle.dns_spec.specs.Layout.{Item, records_of, pointer, Placed, has_suffix, place_of, Laid, laid_front, parts_of, record_tail, asked_octets, asked_placed, reply_header}
+use Rattle.dns_spec.specs.Layout.{Item, records_of, has_suffix, place_of, records_by, parts_of, asked_octets, asked_placed, reply_header}
 use Rattle.dns_spec.specs.Sharing.{asked_names, names_of}
 
--- a name is written as its labels before the longest suffix that an earlier name has, and a pointer
--- to it
-unfoldable pub unbounded_octets : List Placed → DomainName → Octets
-unbounded_octets ms [] = 0 ∷ []
-unbounded_octets ms (l ∷ n) =
-    elim (place_of ms (l ∷ n)) [
-      | None ↦ length l ∷ (l ++ unbounded_octets ms n)
-      | Some p ↦ pointer p
-    ]
-
--- data, a record and records laid out from place p on
-unfoldable pub unbounded_data : List Placed → ℕ → List Part → Laid
-unbounded_data ms p [] = record { written = []; names = [] }
-unbounded_data ms p (octets o ∷ ps) = laid_front o [] (unbounded_data ms (p + length o) ps)
-unbounded_data ms p (name n ∷ ps) =
-    let w = unbounded_octets ms n in
-    laid_front w ((n, p) ∷ []) (unbounded_data (ms ++ (n, p) ∷ []) (p + length w) ps)
-
-abbrev pub unbounded_record : List Placed → ℕ → ResourceRecord → Laid
-unbounded_record ms p r =
-    let owner = unbounded_octets ms r.owner in
-    let d = unbounded_data (ms ++ (r.owner, p) ∷ []) (p + length owner + 10) (parts_of r) in
-    record { written = owner ++ record_tail r d.written; names = (r.owner, p) ∷ d.names }
-
-unfoldable pub unbounded_records : List Placed → ℕ → List ResourceRecord → Octets
-unbounded_records ms p [] = []
-unbounded_records ms p (r ∷ rs) =
-    let l = unbounded_record ms p r in
-    l.written ++ unbounded_records (ms ++ l.names) (p + length l.written) rs
-
+-- each name shares the longest suffix that an earlier name has, wherever it is
 unfoldable pub unbounded_layout : Header → Option MessageQuestion → List Item → Octets
 unbounded_layout h q items =
     reply_header h q items ++ asked_octets q
-    ++ unbounded_records (asked_placed q) (12 + length (asked_octets q)) (records_of items)
+    ++ records_by place_of (asked_placed q) (12 + length (asked_octets q)) (records_of items)
 
 -- the size of a name, of data and of records, which no place changes
 unfoldable pub unbounded_cost : List DomainName → DomainName → ℕ

@@ -1,5 +1,5 @@
 -- Data and records are written part by part.
-use Rattle.dns_wire.proofs.Common.{◌≡◌, ◌+◌, ◌-◌, ◌≤◌, ◌∙◌, ℕ, Bool, true, false, List, [], ◌∷◌, ◌++◌, length, take, drop, refl, sym, ap, ap₂, subst, subst₂, arith, append_assoc, append-nil, length-append, take_at, drop_at, take-append-add, Octets, class_in, Part, octets, name, laid_parts, Placed, Laid, octets16, octets32, data_laid, Kept, suffix_number, Follows, Holds, Layout, octets_laid, name_laid, both_laid, parts_laid, tail_laid, Draft, known_places, Writes}
+use Rattle.dns_wire.proofs.Common.{◌≡◌, ◌+◌, ◌-◌, ◌≤◌, ◌∙◌, ℕ, Bool, true, false, List, [], ◌∷◌, ◌++◌, length, take, drop, refl, sym, ap, ap₂, subst, subst₂, arith, append_assoc, append-nil, length-append, take_at, drop_at, take-append-add, Octets, class_in, Part, octets, name, laid_parts, Placed, Laid, octets16, octets32, data_laid, data_by, Kept, suffix_number, Follows, Holds, Layout, octets_laid, name_laid, both_laid, parts_laid, tail_laid, Draft, known_places, Writes}
 use Rattle.dns_wire.proofs.AskedLemmas.{kept_same, take_patched}
 use Rattle.dns_wire.proofs.NameWritten.{holds_octets}
 use Rattle.dns_wire.proofs.Steps.{grows_again, writes_as, writes_both, writes_past}
@@ -14,11 +14,11 @@ all_laid ps ms p = data_laid ms p ps
 
 data_more : (x : Part) (ps : List Part) (ms : List Placed) (p : ℕ)
     → both_laid (part_laid x) (all_laid ps) ms p ≡ data_laid ms p (x ∷ ps)
-unfolding data_laid
+unfolding data_by
 data_more x ps ms p = grind (arith, append-nil)
 
 data_last : (x : Part) (ms : List Placed) (p : ℕ) → part_laid x ms p ≡ data_laid ms p (x ∷ [])
-unfolding data_laid
+unfolding data_by
 data_last x ms p = grind (arith, append-nil, data_more)
 
 -- what follows an owner

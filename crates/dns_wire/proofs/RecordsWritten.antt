@@ -1,5 +1,5 @@
 -- Records are written one after the other.
-use Rattle.dns_wire.proofs.Common.{◌≡◌, ℕ, ◌+◌, ◌*◌, ◌<◌, ◌≤◌, Bool, true, false, List, [], ◌∷◌, ◌++◌, length, take, drop, get_or, refl, sym, ap, ap₂, ◌∙◌, subst, arith, add-zero, append_assoc, append-nil, length-append, take-append-drop, length-map, get_or-map, take_more, take_all, Octets, DomainName, ResourceRecord, RecordSet, records_at, laid_parts, Placed, Laid, laid_front, shared_octets, data_laid, record_laid, record_tail, records_octets, length-record_tail, both_laid, shown, records_laid, Draft, Writes}
+use Rattle.dns_wire.proofs.Common.{◌≡◌, ℕ, ◌+◌, ◌*◌, ◌<◌, ◌≤◌, Bool, true, false, List, [], ◌∷◌, ◌++◌, length, take, drop, get_or, refl, sym, ap, ap₂, ◌∙◌, subst, arith, add-zero, append_assoc, append-nil, length-append, take-append-drop, length-map, get_or-map, take_more, take_all, Octets, DomainName, ResourceRecord, RecordSet, records_at, laid_parts, Placed, Laid, laid_front, shared_octets, data_laid, record_laid, record_tail, records_octets, records_by, length-record_tail, both_laid, shown, records_laid, Draft, Writes}
 use Rattle.dns_wire.proofs.Steps.{writes_as, writes_both, writes_past}
 
 pub records_more : (ms : List Placed) (p : ℕ) (r : ResourceRecord) (rs : List ResourceRecord)
@@ -16,7 +16,7 @@ records_none ms p = refl
 
 pub octets_of_records : (ms : List Placed) (p : ℕ) (rs : List ResourceRecord)
     → (records_laid rs ms p).written ≡ records_octets ms p rs
-unfolding records_laid records_octets
+unfolding records_laid records_by
 octets_of_records ms p [] = refl
 octets_of_records ms p (r ∷ rs) =
     let l = record_laid ms p r in

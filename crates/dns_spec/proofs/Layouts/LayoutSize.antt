@@ -1,5 +1,5 @@
 -- The length of a layout is the size that is added up without writing it.
-use Rattle.dns_spec.proofs.Common.{◌≡◌, ℕ, ◌+◌, List, [], ◌∷◌, ◌++◌, length, Option, refl, ap₂, ◌∙◌, arith, length-append, Octets, DomainName, Part, octets, name, ResourceRecord, Header, MessageQuestion, Item, Placed, shared_octets, data_laid, record_laid, record_tail, records_octets, layout, cost, data_size, data_names, record_size, record_names, records_size, size}
+use Rattle.dns_spec.proofs.Common.{◌≡◌, ℕ, ◌+◌, List, [], ◌∷◌, ◌++◌, length, Option, refl, ap₂, ◌∙◌, arith, length-append, Octets, DomainName, Part, octets, name, ResourceRecord, Header, MessageQuestion, Item, Placed, shared_octets, octets_by, data_laid, data_by, record_laid, record_tail, records_octets, records_by, layout, cost, data_size, data_names, record_size, record_names, records_size, size}
 
 pub length-record_tail : (r : ResourceRecord) (d : Octets)
     → length (record_tail r d) ≡ 10 + length d
@@ -8,14 +8,14 @@ length-record_tail r d = grind (arith, length-append)
 -- the layout: a name costs as many octets as are laid out for it
 pub length-shared_octets : (ms : List Placed) (n : DomainName)
     → length (shared_octets ms n) ≡ cost ms n
-unfolding shared_octets cost
+unfolding octets_by cost
 length-shared_octets ms [] = refl
 length-shared_octets ms (l ∷ n) = grind (arith, length-append, (length-shared_octets ms n))
 
 -- data is as long as its size, and its names have the places that the size gives them
 pub length-data_laid : (ms : List Placed) (p : ℕ) (ps : List Part)
     → length (data_laid ms p ps).written ≡ data_size ms p ps
-unfolding data_laid data_size
+unfolding data_by data_size
 length-data_laid ms p [] = refl
 length-data_laid ms p (octets o ∷ ps) =
     grind (arith, length-append, (length-data_laid ms (p + length o) ps))
@@ -25,7 +25,7 @@ length-data_laid ms p (name n ∷ ps) =
 
 pub names-data_laid : (ms : List Placed) (p : ℕ) (ps : List Part)
     → (data_laid ms p ps).names ≡ data_names ms p ps
-unfolding data_laid
+unfolding data_by
 names-data_laid ms p [] = refl
 names-data_laid ms p (octets o ∷ ps) = names-data_laid ms (p + length o) ps
 names-data_laid ms p (name n ∷ ps) =
@@ -43,7 +43,7 @@ names-record_laid ms p r = grind (arith, names-data_laid, length-shared_octets)
 
 pub length-records_octets : (ms : List Placed) (p : ℕ) (rs : List ResourceRecord)
     → length (records_octets ms p rs) ≡ records_size ms p rs
-unfolding records_octets records_size
+unfolding records_by records_size
 length-records_octets ms p [] = refl
 length-records_octets ms p (r ∷ rs) =
     let l = record_laid ms p r in

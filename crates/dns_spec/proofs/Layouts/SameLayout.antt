@@ -1,6 +1,6 @@
 -- Up to 16,384 octets the layout is the one without bound: all its places are in reach of a
 -- pointer.
-use Rattle.dns_spec.proofs.Common.{◌≡◌, ℕ, ◌+◌, ◌-◌, ◌<◌, ◌≤◌, true, ◌⊎◌, inl, inr, List, [], ◌∷◌, ◌++◌, length, drop, Option, None, Some, refl, sym, ap, ◌∙◌, subst, arith, append_assoc, append-nil, length-append, none-some, Octets, DomainName, wire, Part, octets, name, ResourceRecord, Header, MessageQuestion, reach, Item, Placed, has_suffix, suffix_place, place_of, shared_octets, Laid, laid_front, data_laid, record_laid, parts_of, record_tail, records_octets, asked_octets, asked_placed, layout, size, unbounded_octets, unbounded_data, unbounded_record, unbounded_records, unbounded_layout, unbounded_size}
+use Rattle.dns_spec.proofs.Common.{◌≡◌, ℕ, ◌+◌, ◌-◌, ◌<◌, ◌≤◌, true, ◌⊎◌, inl, inr, List, [], ◌∷◌, ◌++◌, length, drop, Option, None, Some, refl, sym, ap, ◌∙◌, subst, arith, append_assoc, append-nil, length-append, none-some, Octets, DomainName, wire, Part, octets, name, ResourceRecord, Header, MessageQuestion, reach, Item, Placed, has_suffix, suffix_place, place_of, shared_octets, Laid, laid_front, data_laid, record_laid, parts_of, record_tail, records_octets, asked_octets, asked_placed, layout, size, octets_by, data_by, record_by, records_by, unbounded_layout, unbounded_size}
 use Rattle.dns_spec.proofs.Layouts.LayoutSize.{length-layout, length-record_tail}
 use Rattle.dns_spec.proofs.Layouts.UnboundedSize.{length-unbounded_layout}
 use Rattle.dns_spec.proofs.Layouts.SharedNames.{suffix_from, place_again, place_pushed, shared_none, shared_whole, shared_some, shared_alone}
@@ -11,8 +11,8 @@ abbrev Low : List Placed → Type 0
 Low ms = (l : Octets) (n : DomainName) (p : ℕ) → place_of ms (l ∷ n) ≡ Some p → p < reach
 
 same_octets : (ms : List Placed)
-    → Low ms → (n : DomainName) → shared_octets ms n ≡ unbounded_octets ms n
-unfolding shared_octets unbounded_octets
+    → Low ms → (n : DomainName) → shared_octets ms n ≡ octets_by place_of ms n
+unfolding octets_by
 same_octets ms low [] = refl
 same_octets ms low (l ∷ n) = grind (arith, (same_octets ms low n))
 
@@ -31,7 +31,7 @@ begins_inside ms (k ∷ n) (x ∷ front) l t e none =
     let short = r.0 in
     let inside = r.1 in (
       omega (arith, longer, short),
-      grind (arith, shared_whole, length-append, shared_octets),
+      grind (arith, shared_whole, length-append, octets_by),
     )
 
 low_more : (ms : List Placed) → Low ms
@@ -65,21 +65,21 @@ record SameData (ms : List Placed) (a b : Laid) : Type 0 where
 -- data after octets, and after a name, from that after it
 abbrev Again : List Part → Type 0
 Again ps = (ms : List Placed) (p : ℕ) → Low ms → Ends p (data_laid ms p ps).written
-    (unbounded_data ms p ps).written → SameData ms (data_laid ms p ps) (unbounded_data ms p ps)
+    (data_by place_of ms p ps).written → SameData ms (data_laid ms p ps) (data_by place_of ms p ps)
 
 same_name : (ms : List Placed) (p : ℕ) (n : DomainName) (ps : List Part) → Low ms → Again ps
-    → Ends p (data_laid ms p (name n ∷ ps)).written (unbounded_data ms p (name n ∷ ps)).written
-    → SameData ms (data_laid ms p (name n ∷ ps)) (unbounded_data ms p (name n ∷ ps))
-unfolding data_laid unbounded_data
+    → Ends p (data_laid ms p (name n ∷ ps)).written (data_by place_of ms p (name n ∷ ps)).written
+    → SameData ms (data_laid ms p (name n ∷ ps)) (data_by place_of ms p (name n ∷ ps))
+unfolding data_by
 same_name ms p n ps low again = subst Same (same_octets ms low n) same
   where
     Same : Octets → Type 0
     Same x =
         Ends p (shared_octets ms n ++ (data_laid (ms ++ (n, p) ∷ [])
-        (p + length (shared_octets ms n)) ps).written) (x ++ (unbounded_data (ms ++ (n, p) ∷ [])
+        (p + length (shared_octets ms n)) ps).written) (x ++ (data_by place_of (ms ++ (n, p) ∷ [])
         (p + length x) ps).written) → SameData ms (laid_front (shared_octets ms n)
         ((n, p) ∷ []) (data_laid (ms ++ (n, p) ∷ []) (p + length (shared_octets ms n)) ps))
-        (laid_front x ((n, p) ∷ []) (unbounded_data (ms ++ (n, p) ∷ []) (p + length x) ps))
+        (laid_front x ((n, p) ∷ []) (data_by place_of (ms ++ (n, p) ∷ []) (p + length x) ps))
 
     same : Same (shared_octets ms n)
     same ends =
@@ -87,7 +87,7 @@ same_name ms p n ps low again = subst Same (same_octets ms low n) same
         let earlier = ms ++ (n, p) ∷ [] in
         let next : ℕ = p + length o in
         let later = data_laid earlier next ps in
-        let others = unbounded_data earlier next ps in
+        let others = data_by place_of earlier next ps in
         let r = again earlier next (low_more ms low n p (ends_front p o later.written
         others.written ends)) (ends_rest p next o later.written others.written refl ends) in
         record {
@@ -96,19 +96,19 @@ same_name ms p n ps low again = subst Same (same_octets ms low n) same
         }
 
 same_data : (ps : List Part) → Again ps
-unfolding data_laid unbounded_data
+unfolding data_by
 same_data [] ms p low ends = record { same = refl; low = subst Low (sym (append-nil ms)) low }
 same_data (octets o ∷ ps) ms p low ends =
     let next : ℕ = p + length o in
     let r = same_data ps ms next low (ends_rest p next o
-    (data_laid ms next ps).written (unbounded_data ms next ps).written refl ends) in
+    (data_laid ms next ps).written (data_by place_of ms next ps).written refl ends) in
     record { same = ap (laid_front o []) r.same; low = r.low }
 same_data (name n ∷ ps) ms p low ends = same_name ms p n ps low (same_data ps) ends
 
 -- so it is for a record
 same_record : (ms : List Placed) (p : ℕ) (r : ResourceRecord)
-    → Low ms → Ends p (record_laid ms p r).written (unbounded_record ms p r).written
-    → SameData ms (record_laid ms p r) (unbounded_record ms p r)
+    → Low ms → Ends p (record_laid ms p r).written (record_by place_of ms p r).written
+    → SameData ms (record_laid ms p r) (record_by place_of ms p r)
 same_record ms p r low = subst Same (same_octets ms low r.owner) same
   where
     Laying : (Octets → Laid) → Octets → Laid
@@ -120,11 +120,11 @@ same_record ms p r low = subst Same (same_octets ms low r.owner) same
     Same : Octets → Type 0
     Same x =
         Ends p (Laying (λ o. data_laid (ms ++ (r.owner, p) ∷ []) (p + length o + 10) (parts_of r))
-        (shared_octets ms r.owner)).written (Laying (λ o. unbounded_data
+        (shared_octets ms r.owner)).written (Laying (λ o. data_by place_of
         (ms ++ (r.owner, p) ∷ []) (p + length o + 10) (parts_of r)) x).written → SameData ms
         (Laying (λ o. data_laid (ms ++ (r.owner, p) ∷ []) (p + length o + 10) (parts_of r))
         (shared_octets ms r.owner)) (Laying
-        (λ o. unbounded_data (ms ++ (r.owner, p) ∷ []) (p + length o + 10) (parts_of r)) x)
+        (λ o. data_by place_of (ms ++ (r.owner, p) ∷ []) (p + length o + 10) (parts_of r)) x)
 
     same : Same (shared_octets ms r.owner)
     same ends =
@@ -132,7 +132,7 @@ same_record ms p r low = subst Same (same_octets ms low r.owner) same
         let earlier = ms ++ (r.owner, p) ∷ [] in
         let next : ℕ = p + length o + 10 in
         let d = data_laid earlier next (parts_of r) in
-        let e = unbounded_data earlier next (parts_of r) in
+        let e = data_by place_of earlier next (parts_of r) in
         let front = ends_front p o (record_tail r d.written) (record_tail r e.written) ends in
         let tail : Ends (p + length o) (record_tail r d.written) (record_tail r e.written) =
         ends_rest p
@@ -152,15 +152,15 @@ same_record ms p r low = subst Same (same_octets ms low r.owner) same
         after x y (inr h) = inr (omega (arith, h, length-record_tail r y))
 
 same_records : (ms : List Placed) (p : ℕ) (rs : List ResourceRecord)
-    → Low ms → Ends p (records_octets ms p rs) (unbounded_records ms p rs)
-    → records_octets ms p rs ≡ unbounded_records ms p rs
-unfolding records_octets unbounded_records
+    → Low ms → Ends p (records_octets ms p rs) (records_by place_of ms p rs)
+    → records_octets ms p rs ≡ records_by place_of ms p rs
+unfolding records_by
 same_records ms p [] low ends = refl
 same_records ms p (r ∷ rs) low ends =
     let a = record_laid ms p r in
-    let b = unbounded_record ms p r in
+    let b = record_by place_of ms p r in
     let s = same_record ms p r low (front ends) in
-    let rest : Laid → Octets = λ l. unbounded_records (ms ++ l.names) (p + length l.written) rs in
+    let rest : Laid → Octets = λ l. records_by place_of (ms ++ l.names) (p + length l.written) rs in
     let again : Ends p (a.written ++ records_octets (ms ++ a.names) (p + length a.written) rs)
     (a.written ++ rest a) = subst (λ (l : Laid). Ends p (a.written ++ records_octets
     (ms ++ a.names) (p + length a.written) rs) (l.written ++ rest l)) (sym s.same) ends in
@@ -170,12 +170,12 @@ same_records ms p (r ∷ rs) low ends =
     ap (λ z. a.written ++ z) later ∙ ap (λ (l : Laid). l.written ++ rest l) s.same
   where
     front : Ends p ((record_laid ms p r).written ++ records_octets (ms ++ (record_laid ms
-        p r).names) (p + length (record_laid ms p r).written) rs) ((unbounded_record ms p r).written
-        ++ unbounded_records (ms ++ (unbounded_record ms p r).names) (p + length (unbounded_record
-        ms p r).written) rs) → Ends p (record_laid ms p r).written (unbounded_record ms p r).written
-    front (inl h) = inl (let a = record_laid ms p r in grind (arith, length-append, records_octets))
+        p r).names) (p + length (record_laid ms p r).written) rs) ((record_by place_of ms p r).written
+        ++ records_by place_of (ms ++ (record_by place_of ms p r).names) (p + length (record_by place_of
+        ms p r).written) rs) → Ends p (record_laid ms p r).written (record_by place_of ms p r).written
+    front (inl h) = inl (let a = record_laid ms p r in grind (arith, length-append, records_by))
     front (inr h) = inr
-        (let b = unbounded_record ms p r in grind (arith, length-append, unbounded_records))
+        (let b = record_by place_of ms p r in grind (arith, length-append, records_by))
 
 -- the question's name begins in reach
 asked_low : (q : Option MessageQuestion)

@@ -1,5 +1,5 @@
 -- The layout, in which names share suffixes, spells its message.
-use Rattle.dns_spec.proofs.Common.{◌≡◌, ℕ, suc, ◌+◌, ◌^◌, ◌<◌, ◌≤◌, Bool, true, false, cond, nat_le, List, [], ◌∷◌, ◌++◌, map, length, take, drop, Option, None, Some, All, IfSome, is_some, unwrap_or, refl, sym, ap, ◌∙◌, subst, arith, append_assoc, append-nil, length-append, add-zero, zero-add, and_parts, false≢true, none-some, same_Some, cond_some, length-map, map-append, list_all, option_to_list, Octets, wire, is_label, labels_from, ResourceRecord, Header, MessageQuestion, MessageRecord, OctetsAt, NumberAt, PiecesAt, DataAt, RecordsAt, Spells, record_size, record_names, records_size, size, class_in, Fixed, width, Piece, fixed, domain, string, strings, anything, pieces_of, compresses, Part, octets, octets_front, piece_front, cut, valid, parts, laid_parts, octets16, octets32, answer, authority, additional, Item, records_of, in_section, Placed, shared_octets, data_laid, parts_of, record_tail, records_octets, question_octets, asked_octets, asked_placed, reply_header, layout, Section, message_record, message_of, IsWritable, IsAskable, HasRoom}
+use Rattle.dns_spec.proofs.Common.{◌≡◌, ℕ, suc, ◌+◌, ◌^◌, ◌<◌, ◌≤◌, Bool, true, false, cond, nat_le, List, [], ◌∷◌, ◌++◌, map, length, take, drop, Option, None, Some, All, IfSome, is_some, unwrap_or, refl, sym, ap, ◌∙◌, subst, arith, append_assoc, append-nil, length-append, add-zero, zero-add, and_parts, false≢true, none-some, same_Some, cond_some, length-map, map-append, list_all, option_to_list, Octets, wire, is_label, labels_from, ResourceRecord, Header, MessageQuestion, MessageRecord, OctetsAt, NumberAt, PiecesAt, DataAt, RecordsAt, Spells, record_size, record_names, records_size, size, class_in, Fixed, width, Piece, fixed, domain, string, strings, anything, pieces_of, compresses, Part, octets, octets_front, piece_front, cut, valid, parts, laid_parts, octets16, octets32, answer, authority, additional, Item, records_of, in_section, Placed, shared_octets, data_laid, data_by, parts_of, record_tail, records_octets, records_by, question_octets, asked_octets, asked_placed, reply_header, layout, Section, message_record, message_of, IsWritable, IsAskable, HasRoom}
 use Rattle.dns_spec.proofs.Records.SortedOnce.{Each}
 use Rattle.dns_spec.proofs.Messages.Places.{Stands, stands_front, stands_rest, stands_after, stands_all, stands_within, stands_get, number_at, octets_at}
 use Rattle.dns_spec.proofs.DataWords.WrittenData.{cut_into, name_part, octets_part, all_strings, front_taken, data_written}
@@ -24,7 +24,7 @@ drop_none k = grind arith
 
 no_octets : (ps : List Piece) (ys : List Part)
     → cut ps [] ≡ Some ys → (ms : List Placed) (i : ℕ) → length (data_octets ms i ys) ≡ 0
-unfolding cut data_laid labels_from
+unfolding cut data_by labels_from
 no_octets [] ys h ms i = ap (λ z. length (data_octets ms i z)) (sym (same_Some [] ys h))
 no_octets (fixed f ∷ ps) ys h ms i =
     let k = width f in
@@ -61,19 +61,19 @@ module _ (b : Octets) (room : length b < 2 ^ 16) where
   module _ (ms : List Placed) (i : ℕ) (o : Octets) (ys : List Part) (known : Known b i ms)
       (header : 12 ≤ i) (at : Stands b i (data_octets ms i (octets o ∷ ys))) where
     at_octets : Stands b i o
-    unfolding data_laid
+    unfolding data_by
     at_octets = stands_front o (data_octets ms (i + length o) ys) at
 
     end_of_octets : i + length o + length
         (data_octets ms (i + length o) ys) ≡ i + length (data_octets ms i (octets o ∷ ys))
-    unfolding data_laid
+    unfolding data_by
     end_of_octets = omega (arith, length-append o (data_octets ms (i + length o) ys))
 
     octets_laid : (ps : List Piece) (rest : Octets) (j : ℕ) → i + length o ≡ j → Lays ps rest ys
         → OctetsAt b i j o × PiecesAt b ps j (i + length (data_octets ms i (octets o ∷ ys))) rest
         × Known b (i + length (data_octets ms i (octets o ∷ ys)))
         (ms ++ data_names ms i (octets o ∷ ys))
-    unfolding data_laid
+    unfolding data_by
     octets_laid ps rest j place lays =
         let next = i + length o in
         let r = lays ms next (known_later b i next ms (omega arith) known)
@@ -86,7 +86,7 @@ module _ (b : Octets) (room : length b < 2 ^ 16) where
         )
 
   nil_lays : (os : Octets) (xs : List Part) → cut [] os ≡ Some xs → Lays [] os xs
-  unfolding cut data_laid
+  unfolding cut data_by
   nil_lays [] xs e ms i known header at =
       subst (Laid [] [] ms i) (same_Some [] xs e)
       (record {
@@ -173,7 +173,7 @@ module _ (b : Octets) (room : length b < 2 ^ 16) where
 
   domain_lays : (ps : List Piece) (os rest : Octets) (part : Part) (ys : List Part) → piece_front
       domain os ≡ Some (part, rest) → Lays ps rest ys → Lays (domain ∷ ps) os (part ∷ ys)
-  unfolding data_laid
+  unfolding data_by
   domain_lays ps os rest part ys front lays ms i known header =
       let m = name_part os rest part front in
       let n = m.0 in
@@ -235,7 +235,7 @@ module _ (b : Octets) (room : length b < 2 ^ 16) where
 
   whole_laid : (t : ℕ) (d : Octets) (ms : List Placed) (i : ℕ) → valid t d ≡ true → Known b i ms
       → Stands b i (data_octets ms i (octets d ∷ [])) → DataLaid t d ms i (octets d ∷ [])
-  unfolding data_laid
+  unfolding data_by
   whole_laid t d ms i ok known at =
       let none = append-nil d in
       record {
@@ -274,7 +274,7 @@ module _ (b : Octets) (room : length b < 2 ^ 16) where
   records_laid : (rs : List ResourceRecord) (ms : List Placed) (i : ℕ)
       → Known b i ms → 12 ≤ i → Each IsWritable rs → Stands b i (records_octets ms i rs)
       → RecordsAt b i (map message_record rs) (i + length (records_octets ms i rs))
-  unfolding records_octets
+  unfolding records_by
   records_laid [] ms i known header w at = sym (add-zero i)
   records_laid (r ∷ rs) ms i known header w_ok at =
       let n = shared_octets ms r.owner in

@@ -1,6 +1,6 @@
 -- A name that shares a suffix with an earlier name is read back, and its own new suffixes stand
 -- where later names find them.
-use Rattle.dns_spec.proofs.Common.{◌≡◌, ℕ, ◌+◌, ◌-◌, ◌/◌, ◌%◌, ◌<◌, ◌≤◌, Bool, true, false, cond, nat_le, ◌⊎◌, inl, inr, List, [], ◌∷◌, ◌++◌, length, take, drop, Option, None, Some, refl, sym, ap, ap₂, ◌∙◌, subst, arith, append_assoc, length-append, take-append-drop, drop_at, and_parts, and_from, le-leb, leb-true, false≢true, none-some, same_Some, cond_some, list_all, Octets, DomainName, wire, is_label, is_name, names_equal, last_labels, RunAt, NameAt, ends, goes_on, jumps, reach, pointer, Placed, has_suffix, suffix_place, place_of, reached, shared_place, shared_octets}
+use Rattle.dns_spec.proofs.Common.{◌≡◌, ℕ, ◌+◌, ◌-◌, ◌/◌, ◌%◌, ◌<◌, ◌≤◌, Bool, true, false, cond, nat_le, ◌⊎◌, inl, inr, List, [], ◌∷◌, ◌++◌, length, take, drop, Option, None, Some, refl, sym, ap, ap₂, ◌∙◌, subst, arith, append_assoc, length-append, take-append-drop, drop_at, and_parts, and_from, le-leb, leb-true, false≢true, none-some, same_Some, cond_some, list_all, Octets, DomainName, wire, is_label, is_name, names_equal, last_labels, RunAt, NameAt, ends, goes_on, jumps, reach, pointer, Placed, has_suffix, suffix_place, place_of, reached, shared_place, shared_octets, octets_by}
 use Rattle.dns_spec.proofs.Messages.Places.{Stands, stands_front, stands_rest, stands_after, stands_within, stands_get, stands_take, label_parts}
 use Rattle.dns_spec.proofs.DomainNames.NameLaws.{names_equal-decides}
 
@@ -95,16 +95,16 @@ known_later b bound bound' ms h k l n p e =
 -- how a name with a first label is laid out
 pub shared_whole : (ms : List Placed) (l : Octets) (n : DomainName) → shared_place ms (l ∷ n) ≡ None
     → shared_octets ms (l ∷ n) ≡ length l ∷ (l ++ shared_octets ms n)
-unfolding shared_octets
+unfolding octets_by
 shared_whole ms l n e = grind arith
 
 pub shared_pointed : (ms : List Placed) (l : Octets) (n : DomainName) (p : ℕ)
     → shared_place ms (l ∷ n) ≡ Some p → shared_octets ms (l ∷ n) ≡ pointer p
-unfolding shared_octets
+unfolding octets_by
 shared_pointed ms l n p e = grind arith
 
 pub shared_root : (ms : List Placed) → shared_octets ms [] ≡ 0 ∷ []
-unfolding shared_octets
+unfolding octets_by
 shared_root ms = refl
 
 -- at least one octet is laid out of a name

@@ -1,6 +1,6 @@
 -- The size of the layout without bound is the length of that layout, and the least that sharing
 -- allows.
-use Rattle.dns_spec.proofs.Common.{◌≡◌, ℕ, ◌+◌, ◌<◌, ◌≤◌, Bool, true, false, List, [], ◌∷◌, ◌++◌, map, length, Option, None, Some, is_some, refl, ap, ap₂, ◌∙◌, subst, arith, length-append, map-append, list_any, Octets, DomainName, wire, Part, octets, name, ResourceRecord, Header, MessageQuestion, Item, pointer, Placed, has_suffix, place_of, names_in, names_of, labels_size, NameSize, DataSize, RecordsSize, Sharing, whole, shared, no_parts, after_octets, after_name, no_records, after_record, unbounded_octets, unbounded_data, unbounded_record, unbounded_records, unbounded_layout, unbounded_cost, unbounded_data_size, unbounded_record_size, unbounded_records_size, unbounded_size}
+use Rattle.dns_spec.proofs.Common.{◌≡◌, ℕ, ◌+◌, ◌<◌, ◌≤◌, Bool, true, false, List, [], ◌∷◌, ◌++◌, map, length, Option, None, Some, is_some, refl, ap, ap₂, ◌∙◌, subst, arith, length-append, map-append, list_any, Octets, DomainName, wire, Part, octets, name, ResourceRecord, Header, MessageQuestion, Item, pointer, Placed, has_suffix, place_of, parts_of, names_in, names_of, labels_size, NameSize, DataSize, RecordsSize, Sharing, whole, shared, no_parts, after_octets, after_name, no_records, after_record, octets_by, data_by, record_by, records_by, unbounded_layout, unbounded_cost, unbounded_data_size, unbounded_record_size, unbounded_records_size, unbounded_size}
 
 -- a name has a place exactly where an earlier name has it as a suffix
 abbrev pub unplaced : List Placed → List DomainName
@@ -12,59 +12,57 @@ placed [] s = refl
 placed (m ∷ ms) s = grind (arith, (placed ms s))
 
 pub length-unbounded_octets : (ms : List Placed) (n : DomainName)
-    → length (unbounded_octets ms n) ≡ unbounded_cost (unplaced ms) n
-unfolding unbounded_octets unbounded_cost
+    → length (octets_by place_of ms n) ≡ unbounded_cost (unplaced ms) n
+unfolding octets_by unbounded_cost
 length-unbounded_octets ms [] = refl
 length-unbounded_octets ms (l ∷ n) =
     go (place_of ms (l ∷ n)) (length-unbounded_octets ms n)
     ∙ ap (λ (t : Bool). elim t as (λ _. ℕ)
     [ true ↦ 2 | false ↦ 1 + length l + unbounded_cost (unplaced ms) n ]) (placed ms (l ∷ n))
   where
-    go : (x : Option ℕ) → length (unbounded_octets ms n) ≡ unbounded_cost (unplaced ms) n
+    go : (x : Option ℕ) → length (octets_by place_of ms n) ≡ unbounded_cost (unplaced ms) n
         → length (elim x as (λ _. Octets)
-        [ None ↦ length l ∷ (l ++ unbounded_octets ms n) | Some p ↦ pointer p ]) ≡ elim
+        [ None ↦ length l ∷ (l ++ octets_by place_of ms n) | Some p ↦ pointer p ]) ≡ elim
         (is_some x) as (λ _. ℕ) [ true ↦ 2 | false ↦ 1 + length l + unbounded_cost (unplaced ms) n ]
-    go None h = omega (arith, length-append l (unbounded_octets ms n), h)
+    go None h = omega (arith, length-append l (octets_by place_of ms n), h)
     go (Some p) h = refl
 
 pub unplaced-push : (ms : List Placed) (n : DomainName) (p : ℕ)
     → unplaced (ms ++ (n, p) ∷ []) ≡ unplaced ms ++ n ∷ []
 unplaced-push ms n p = map-append (λ (m : Placed). m.0) ms ((n, p) ∷ [])
 
-pub length-unbounded_data : (ms : List Placed) (p : ℕ) (ps : List Part)
-    → length (unbounded_data ms p ps).written ≡ unbounded_data_size (unplaced ms) ps
-unfolding unbounded_data unbounded_data_size
-length-unbounded_data ms p [] = refl
-length-unbounded_data ms p (octets o ∷ ps) =
-    grind (arith, length-append, (length-unbounded_data ms (p + length o) ps))
-length-unbounded_data ms p (name n ∷ ps) =
-    let rest = length-unbounded_data (ms ++ (n, p) ∷ []) (p + length (unbounded_octets ms n)) ps in
+-- how long data is, and which names it has
+unbounded_data_has : (ms : List Placed) (p : ℕ) (ps : List Part)
+    → (length (data_by place_of ms p ps).written ≡ unbounded_data_size (unplaced ms) ps)
+    × (unplaced (data_by place_of ms p ps).names ≡ names_in ps)
+unfolding data_by unbounded_data_size
+unbounded_data_has ms p [] = (refl, refl)
+unbounded_data_has ms p (octets o ∷ ps) =
+    grind (arith, length-append, (unbounded_data_has ms (p + length o) ps))
+unbounded_data_has ms p (name n ∷ ps) =
+    let next = p + length (octets_by place_of ms n) in
+    let rest = unbounded_data_has (ms ++ (n, p) ∷ []) next ps in
     grind (arith, length-append, length-unbounded_octets, rest, unplaced-push)
 
-pub unplaced-unbounded_data : (ms : List Placed) (p : ℕ) (ps : List Part)
-    → unplaced (unbounded_data ms p ps).names ≡ names_in ps
-unfolding unbounded_data
-unplaced-unbounded_data ms p [] = refl
-unplaced-unbounded_data ms p (octets o ∷ ps) = unplaced-unbounded_data ms (p + length o) ps
-unplaced-unbounded_data ms p (name n ∷ ps) = ap (λ z. n ∷ z)
-    (unplaced-unbounded_data (ms ++ (n, p) ∷ []) (p + length (unbounded_octets ms n)) ps)
-
 length-unbounded_record : (ms : List Placed) (p : ℕ) (r : ResourceRecord)
-    → length (unbounded_record ms p r).written ≡ unbounded_record_size (unplaced ms) r
+    → length (record_by place_of ms p r).written ≡ unbounded_record_size (unplaced ms) r
 length-unbounded_record ms p r =
-    grind (arith, length-unbounded_data, unplaced-push, length-append, length-unbounded_octets)
+    grind (arith, unbounded_data_has, unplaced-push, length-append, length-unbounded_octets)
 
 unplaced-unbounded_record : (ms : List Placed) (p : ℕ) (r : ResourceRecord)
-    → unplaced (ms ++ (unbounded_record ms p r).names) ≡ unplaced ms ++ names_of r
-unplaced-unbounded_record ms p r = grind (arith, map-append, unplaced-unbounded_data)
+    → unplaced (ms ++ (record_by place_of ms p r).names) ≡ unplaced ms ++ names_of r
+unplaced-unbounded_record ms p r =
+    let next = p + length (octets_by place_of ms r.owner) + 10 in
+    let laid = unbounded_data_has (ms ++ (r.owner, p) ∷ []) next (parts_of r) in
+    grind (arith, map-append, laid)
 
 pub length-unbounded_records : (ms : List Placed) (p : ℕ) (rs : List ResourceRecord)
-    → length (unbounded_records ms p rs) ≡ unbounded_records_size (unplaced ms) rs
-unfolding unbounded_records unbounded_records_size
+    → length (records_by place_of ms p rs) ≡ unbounded_records_size (unplaced ms) rs
+unfolding records_by unbounded_records_size
 length-unbounded_records ms p [] = refl
 length-unbounded_records ms p (r ∷ rs) =
-    let l = unbounded_record ms p r in
-    let rest = unbounded_records (ms ++ l.names) (p + length l.written) rs in
+    let l = record_by place_of ms p r in
+    let rest = records_by place_of (ms ++ l.names) (p + length l.written) rs in
     length-append l.written rest
     ∙ ap₂ ◌+◌ (length-unbounded_record ms p r)
     (length-unbounded_records (ms ++ l.names) (p + length l.written) rs

@@ -1,13 +1,13 @@
 -- The worked replies, to datagrams and to streams, computed from the definitions: octet for octet
 -- where they stand whole, else their header and length, with a part that tells them apart; and
 -- their sizes, added up without writing.
-use Rattle.dns_spec.proofs.Common.{◌≡◌, ℕ, zero, suc, ◌+◌, ◌*◌, List, [], ◌∷◌, ◌++◌, length, take, drop, replicate, codes, Option, None, Some, option_map, Octets, wire, labels_from, cut, type_txt, type_cname, type_srv, ResourceRecord, ZoneContents, run, runs_before, name_at, answer, Item, Placed, shared_octets, data_laid, record_laid, header_octets, records_octets, layout, cost, data_size, records_size, size, chain_from, chain, outcome_at, outcome, extra, items, required_items, keep_longest, reply_with, reply, octets_of, decide, question_at, query_read, Header, MessageQuestion, names_of, frame, first_frame, frames, after_frames, replies}
+use Rattle.dns_spec.proofs.Common.{◌≡◌, ℕ, zero, suc, ◌+◌, ◌*◌, List, [], ◌∷◌, ◌++◌, length, take, drop, replicate, codes, Option, None, Some, option_map, Octets, wire, labels_from, cut, type_txt, type_cname, type_srv, ResourceRecord, ZoneContents, run, runs_before, name_at, answer, Item, Placed, octets_by, data_by, record_laid, header_octets, records_octets, records_by, layout, cost, data_size, records_size, size, chain_from, chain, outcome_at, outcome, extra, items, required_items, keep_longest, reply_with, reply, octets_of, decide, question_at, query_read, Header, MessageQuestion, names_of, frame, first_frame, frames, after_frames, replies}
 use mathlib.Core.Path.{refl}
 use Rattle.dns_spec.proofs.WorkedExamples.Zones.{hex, dotted, under, entry, in_zone, addresses, query, asks, www_query, small_zone, small_zone_with, large_zone, deep_zone, deep_name}
 
 -- the octets of a reply within a limit
 unfoldable within : ℕ → ZoneContents → Octets → Option Octets
-unfolding labels_from cut run runs_before name_at shared_octets cost data_laid records_octets
+unfolding labels_from cut run runs_before name_at octets_by cost data_by records_by
     layout data_size records_size size chain_from chain outcome_at outcome extra items
     required_items reply_with reply octets_of question_at query_read decide
 within limit z d = octets_of z d limit
@@ -169,8 +169,8 @@ reply_rows :
     -- 64 strings of 255 octets each, past 16,384 octets
     × (outline (tcp (small_zone_with (strings_at_x 64)) (query (codes "x.example") 16)) 27 6
     ≡ part (codes "123484000001004000000000") 17179 (codes "c00c00100001"))
-unfolding within labels_from cut run runs_before name_at shared_octets cost data_laid
-    records_octets layout data_size records_size size chain_from chain outcome_at outcome extra
+unfolding within labels_from cut run runs_before name_at octets_by cost data_by
+    records_by layout data_size records_size size chain_from chain outcome_at outcome extra
     items required_items reply_with reply octets_of question_at query_read decide
 reply_rows = search []
 
@@ -187,13 +187,13 @@ long_rows :
     × (records_octets after_question 17002 (addresses 2 (codes "t26"))
     ≡ hex (codes "03743236c00e 00010001 00000e10 0004 c6336401 03743236c00e 00010001 00000e10"
     ++ codes "0004 c6336402"))
-unfolding labels_from cut shared_octets data_laid records_octets
+unfolding labels_from cut octets_by data_by records_by
 long_rows = (refl, refl)
 
 -- the replies of a server of the small zone, to at most so many messages
 unfoldable answers : ℕ → Octets → Octets
-unfolding first_frame frames within labels_from cut run runs_before name_at shared_octets cost
-    data_laid records_octets layout data_size records_size size chain_from chain outcome_at
+unfolding first_frame frames within labels_from cut run runs_before name_at octets_by cost
+    data_by records_by layout data_size records_size size chain_from chain outcome_at
     outcome extra items required_items reply_with reply octets_of question_at query_read decide
 answers k x = replies (tcp small_zone) (frames k x)
 
@@ -223,7 +223,7 @@ stream_rows :
     × (frames 9 (hex (codes "001d") ++ take 28 www_query) ≡ [])
     × (length (after_frames 9 (hex (codes "001d") ++ take 28 www_query)) ≡ 30)
 unfolding first_frame frames after_frames answers within labels_from cut run runs_before name_at
-    shared_octets cost data_laid records_octets layout data_size records_size size chain_from
+    octets_by cost data_by records_by layout data_size records_size size chain_from
     chain outcome_at outcome extra items required_items reply_with reply octets_of question_at
     query_read decide
 stream_rows = search []
@@ -276,7 +276,7 @@ layout_rows :
     -- the target of SRV is no name to a writer
     × (names_of (in_zone (codes "s") type_srv (replicate 6 0 ++ wire (under (codes "ns"))))
     ≡ under (codes "s") ∷ [])
-unfolding labels_from cut shared_octets data_laid
+unfolding labels_from cut octets_by data_by
 layout_rows = (refl, refl, refl)
 
 -- one record, whose owner begins at place 12
@@ -285,7 +285,7 @@ one_alias = record { section = answer; records = www_alias ∷ [] } ∷ []
 
 -- Without question and records a layout is a header, with counts of 0.
 header_alone : (h : Header) → layout h None [] ≡ header_octets h 0 0 0 0
-unfolding layout records_octets
+unfolding layout records_by
 header_alone h = refl
 
 header_size_rows :
@@ -295,6 +295,6 @@ header_size_rows :
     ≡ hex (codes "000184000000000100000000 03777777076578616d706c6500"
     ++ codes "00050001 00000e10 0005 026e73c010"))
     × (size None one_alias ≡ 12 + 13 + 10 + 5)
-unfolding size records_size labels_from cut shared_octets data_laid records_octets layout cost
+unfolding size records_size labels_from cut octets_by data_by records_by layout cost
     data_size
 header_size_rows = (refl, refl, refl)

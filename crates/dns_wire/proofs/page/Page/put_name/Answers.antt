@@ -1,4 +1,4 @@
-use Rattle.dns_wire.proofs.Common.{true, false, ◌≡◌, ℕ, List, append_assoc, length-append, ◌∙◌, refl, sym, ap, ap₂, subst, subst₂, arith, length, take, ◌++◌, ◌∷◌, [], false≢true, Octets, Placed, shared_octets, Counts, Kept, asked_places, end_octets, new_places, Holds, name_laid, Draft, draft_of, known_places, with_octets, IsWellKept, Writes, suffix_number}
+use Rattle.dns_wire.proofs.Common.{true, false, ◌≡◌, ℕ, List, append_assoc, length-append, ◌∙◌, refl, sym, ap, ap₂, subst, subst₂, arith, length, take, ◌++◌, ◌∷◌, [], false≢true, Octets, Placed, shared_octets, octets_by, Counts, Kept, asked_places, end_octets, new_places, Holds, name_laid, Draft, draft_of, known_places, with_octets, IsWellKept, Writes, suffix_number}
 use Rattle.dns_wire.proofs.AskedLemmas.{kept_more}
 use Rattle.dns_wire.proofs.NameWritten.{shared_cut, holds_name}
 use Rattle.dns_wire.proofs.Steps.{grows_not}
@@ -28,7 +28,7 @@ returns-then-not-append_end g c = λ n e ok.
             exactly = (
               λ no. absurd (false≢true no),
               λ room. sym c.if-not-append_end.true ∙ c.append_end.ensures.fits.1
-                  (grind (arith, length-append, shared_octets, end_octets)),
+                  (grind (arith, length-append, octets_by, end_octets)),
             );
             written = tt;
             stands = tt;
@@ -87,7 +87,7 @@ returns g c = λ n e ok.
           refl places ∙ sym (append_assoc (asked_places number b now.asked_end) now.kept new) in
           record {
             exactly = (
-              λ yes. grind (arith, length-append, shared_octets, end_octets),
+              λ yes. grind (arith, length-append, octets_by, end_octets),
               λ fits. refl,
             );
             written = ap (λ x. b ++ x) (sym whole);
