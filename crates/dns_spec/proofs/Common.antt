@@ -54,7 +54,7 @@ pub use Rattle.dns_spec.specs.DataText.{Says, SaysAsSpelled, SaysForm, SaysForms
 unfoldable pub use Rattle.dns_spec.specs.DataText.{hex_octets}
 pub use Rattle.dns_spec.specs.FileFaults.{FileFault, bad_data, bad_escape, bad_octet, bad_owner, bad_parenthesis, bad_ttl, bad_type, directive_words, fault_code, no_memory, no_owner, no_ttl, other_class, too_long, too_many_records, unended_string, unknown_directive}
 pub use Rattle.dns_spec.specs.Laws.{HasRoom, IsAskable, IsSetAt, IsWritable, OctetsMean, section_rank, sections_in_order}
-pub use Rattle.dns_spec.specs.Layout.{Item, Laid, Placed, Section, additional, answer, asked_octets, asked_placed, authority, data_laid, has_suffix, header_octets, in_section, is_section, laid_front, last_place, message_of, message_record, octets16, octets32, parts_of, place_of, pointer, question_octets, reach, reached, record_by, record_laid, record_tail, records_octets, records_of, reply_header, shared_octets, shared_place, suffix_place}
+pub use Rattle.dns_spec.specs.Layout.{Item, Laid, Lookup, Placed, Section, additional, answer, asked_octets, asked_placed, authority, data_laid, has_suffix, header_octets, in_section, is_section, laid_front, last_place, message_of, message_record, octets16, octets32, parts_of, place_of, pointer, question_octets, reach, reached, record_by, record_laid, record_tail, records_octets, records_of, reply_header, shared_octets, shared_place, suffix_place}
 unfoldable pub use Rattle.dns_spec.specs.Layout.{data_by, layout, octets_by, records_by}
 pub use Rattle.dns_spec.specs.LayoutSize.{data_names, record_names, record_size}
 unfoldable pub use Rattle.dns_spec.specs.LayoutSize.{cost, data_size, records_size, size}

@@ -1,6 +1,6 @@
 -- Up to 16,384 octets the layout is the one without bound: all its places are in reach of a
 -- pointer.
-use Rattle.dns_spec.proofs.Common.{◌≡◌, ℕ, ◌+◌, ◌-◌, ◌<◌, ◌≤◌, true, ◌⊎◌, inl, inr, List, [], ◌∷◌, ◌++◌, length, drop, Option, None, Some, refl, sym, ap, ◌∙◌, subst, arith, append_assoc, append-nil, length-append, none-some, Octets, DomainName, wire, Part, octets, name, ResourceRecord, Header, MessageQuestion, reach, Item, Placed, has_suffix, suffix_place, place_of, shared_octets, Laid, laid_front, data_laid, record_laid, parts_of, record_tail, records_octets, asked_octets, asked_placed, layout, size, octets_by, data_by, record_by, records_by, unbounded_layout, unbounded_size}
+use Rattle.dns_spec.proofs.Common.{◌≡◌, ℕ, ◌+◌, ◌-◌, ◌<◌, ◌≤◌, true, ◌⊎◌, inl, inr, List, [], ◌∷◌, ◌++◌, length, drop, Option, None, Some, refl, sym, ap, ◌∙◌, subst, arith, append_assoc, append-nil, length-append, none-some, Octets, DomainName, wire, Part, octets, name, ResourceRecord, Header, MessageQuestion, reach, Item, Placed, Lookup, shared_place, has_suffix, suffix_place, place_of, shared_octets, Laid, laid_front, data_laid, record_laid, parts_of, record_tail, records_octets, asked_octets, asked_placed, layout, size, octets_by, data_by, record_by, records_by, unbounded_layout, unbounded_size}
 use Rattle.dns_spec.proofs.Layouts.LayoutSize.{length-layout, length-record_tail}
 use Rattle.dns_spec.proofs.Layouts.UnboundedSize.{length-unbounded_layout}
 use Rattle.dns_spec.proofs.Layouts.SharedNames.{suffix_from, place_again, place_pushed, shared_none, shared_whole, shared_some, shared_alone}
@@ -73,13 +73,14 @@ same_name : (ms : List Placed) (p : ℕ) (n : DomainName) (ps : List Part) → L
 unfolding data_by
 same_name ms p n ps low again = subst Same (same_octets ms low n) same
   where
+    Named : Lookup → Octets → Laid
+    Named find x =
+        laid_front x ((n, p) ∷ []) (data_by find (ms ++ (n, p) ∷ []) (p + length x) ps)
+
     Same : Octets → Type 0
     Same x =
-        Ends p (shared_octets ms n ++ (data_laid (ms ++ (n, p) ∷ [])
-        (p + length (shared_octets ms n)) ps).written) (x ++ (data_by place_of (ms ++ (n, p) ∷ [])
-        (p + length x) ps).written) → SameData ms (laid_front (shared_octets ms n)
-        ((n, p) ∷ []) (data_laid (ms ++ (n, p) ∷ []) (p + length (shared_octets ms n)) ps))
-        (laid_front x ((n, p) ∷ []) (data_by place_of (ms ++ (n, p) ∷ []) (p + length x) ps))
+        let own = Named shared_place (shared_octets ms n) in
+        Ends p own.written (Named place_of x).written → SameData ms own (Named place_of x)
 
     same : Same (shared_octets ms n)
     same ends =
@@ -111,20 +112,15 @@ same_record : (ms : List Placed) (p : ℕ) (r : ResourceRecord)
     → SameData ms (record_laid ms p r) (record_by place_of ms p r)
 same_record ms p r low = subst Same (same_octets ms low r.owner) same
   where
-    Laying : (Octets → Laid) → Octets → Laid
-    Laying data_of o = record {
-      written = o ++ record_tail r (data_of o).written;
-      names = (r.owner, p) ∷ (data_of o).names;
-    }
+    Laying : Lookup → Octets → Laid
+    Laying find o =
+        let d = data_by find (ms ++ (r.owner, p) ∷ []) (p + length o + 10) (parts_of r) in
+        record { written = o ++ record_tail r d.written; names = (r.owner, p) ∷ d.names }
 
     Same : Octets → Type 0
     Same x =
-        Ends p (Laying (λ o. data_laid (ms ++ (r.owner, p) ∷ []) (p + length o + 10) (parts_of r))
-        (shared_octets ms r.owner)).written (Laying (λ o. data_by place_of
-        (ms ++ (r.owner, p) ∷ []) (p + length o + 10) (parts_of r)) x).written → SameData ms
-        (Laying (λ o. data_laid (ms ++ (r.owner, p) ∷ []) (p + length o + 10) (parts_of r))
-        (shared_octets ms r.owner)) (Laying
-        (λ o. data_by place_of (ms ++ (r.owner, p) ∷ []) (p + length o + 10) (parts_of r)) x)
+        let own = Laying shared_place (shared_octets ms r.owner) in
+        Ends p own.written (Laying place_of x).written → SameData ms own (Laying place_of x)
 
     same : Same (shared_octets ms r.owner)
     same ends =
@@ -169,13 +165,9 @@ same_records ms p (r ∷ rs) low ends =
     (records_octets (ms ++ a.names) (p + length a.written) rs) (rest a) refl again) in
     ap (λ z. a.written ++ z) later ∙ ap (λ (l : Laid). l.written ++ rest l) s.same
   where
-    front : Ends p ((record_laid ms p r).written ++ records_octets (ms ++ (record_laid ms
-        p r).names) (p + length (record_laid ms p r).written) rs) ((record_by place_of ms p r).written
-        ++ records_by place_of (ms ++ (record_by place_of ms p r).names) (p + length (record_by place_of
-        ms p r).written) rs) → Ends p (record_laid ms p r).written (record_by place_of ms p r).written
-    front (inl h) = inl (let a = record_laid ms p r in grind (arith, length-append, records_by))
-    front (inr h) = inr
-        (let b = record_by place_of ms p r in grind (arith, length-append, records_by))
+    front : Ends p (records_octets ms p (r ∷ rs)) (records_by place_of ms p (r ∷ rs))
+        → Ends p (record_laid ms p r).written (record_by place_of ms p r).written
+    front ends = grind (arith, length-append, records_by)
 
 -- the question's name begins in reach
 asked_low : (q : Option MessageQuestion)
