@@ -22,7 +22,7 @@ pub use Rattle.dns_master.specs.declared.run.Run.{Run}
 pub use Rattle.dns_master.specs.declared.run.TheConstants.{PLAIN_IN}
 pub use Rattle.dns_master.specs.declared.state.Reader.{Reader}
 pub use Rattle.dns_name.proofs.Results.{IfErr-map, OnOk-map, fault_handed_on, fault_turned}
-pub use Rattle.dns_spec.proofs.DataWords.LoweredData.{folded-folded, lowered-twice}
+pub use Rattle.dns_spec.proofs.DataWords.LoweredData.{folded_folded, lowered-twice}
 pub use Rattle.dns_spec.proofs.DataWords.TypeWords.{one_type}
 pub use Rattle.dns_spec.proofs.NameTexts.Escapes.{counted_escape, escape-counted}
 pub use Rattle.dns_spec.proofs.ZoneTexts.Beginnings.{Loose, cut_none, front_kept}

@@ -67,13 +67,13 @@ label_lowered : (l : Octets)
 label_lowered [] = refl
 label_lowered (o ∷ l) = grind (arith, lowercase-lowercase, (label_lowered l))
 
-pub folded-folded : (n : DomainName) → folded (folded n) ≡ folded n
-folded-folded [] = refl
-folded-folded (l ∷ n) = grind (arith, label_lowered, (folded-folded n))
+pub folded_folded : (n : DomainName) → folded (folded n) ≡ folded n
+folded_folded [] = refl
+folded_folded (l ∷ n) = grind (arith, label_lowered, (folded_folded n))
 
 part_folded-twice : (x : Part) → part_folded (part_folded x) ≡ part_folded x
 part_folded-twice (octets o) = refl
-part_folded-twice (name n) = ap name (folded-folded n)
+part_folded-twice (name n) = ap name (folded_folded n)
 
 parts_folded-twice : (xs : List Part) → map part_folded (map part_folded xs) ≡ map part_folded xs
 parts_folded-twice [] = refl

@@ -1,7 +1,7 @@
 -- The canonical text of a zone is its own canonical text, and zones with one such text hold the
 -- same records.
-use Rattle.dns_spec.proofs.Common.{◌≡◌, ◌≤◌, ◌↔◌, ◌<◌, IsTrue, Bool, All, List, [], ◌∷◌, length, refl, sym, ap, ◌∙◌, subst, arith, is_eq, filter, inl, inr, false≢true, Contains, IsPermutation, Octets, DomainName, folded, ResourceRecord, HoldSameRecords, ZoneContents, records_equal, distinct, zone_of, record_order, most_octets, Meaning, records, fault_at, Means, most_records, IsReadRecord, HasZoneType, printed_records, zone_text, Fault, faults, IsPermutation-trans, IsPermutation-sym, Contains-permutation, Options, Report, report_of_faults, Reports}
-use Rattle.dns_spec.proofs.Records.SortedOnce.{Each, Among, each_distinct, distinct_among, among_distinct}
+use Rattle.dns_spec.proofs.Common.{◌≡◌, ◌≤◌, ◌↔◌, ◌<◌, IsTrue, Bool, All, List, [], ◌∷◌, length, refl, sym, ap, ◌∙◌, subst, arith, is_eq, inl, inr, false≢true, Contains, IsPermutation, Octets, DomainName, folded, ResourceRecord, HoldSameRecords, ZoneContents, records_equal, distinct, zone_of, record_order, most_octets, Meaning, records, fault_at, Means, most_records, IsReadRecord, HasZoneType, printed_records, zone_text, Fault, faults, IsPermutation-trans, IsPermutation-sym, Contains-permutation, Options, Report, report_of_faults, Reports}
+use Rattle.dns_spec.proofs.Records.SortedOnce.{Each, Among, each_distinct, distinct_among, among_distinct, filter_short}
 use Rattle.dns_spec.proofs.Records.RecordOrder.{record_order_total, record_ties, LowerOwner, one_record, contains_among, among_contains, each_all, all_each}
 use Rattle.dns_spec.proofs.ZoneTexts.OneMeaning.{meaning_once}
 use Rattle.dns_spec.proofs.PrintedZones.PrintedZone.{printed_moves, zone_means}
@@ -14,14 +14,10 @@ all_distinct : (P : ResourceRecord → Type 0) (rs : List ResourceRecord)
 all_distinct P rs all =
     all_each P (distinct records_equal rs) (each_distinct P records_equal rs (each_all P rs all))
 
-length_filter : {X : Type 0} (p : X → Bool) (xs : List X) → length (filter p xs) ≤ length xs
-length_filter p [] = omega arith
-length_filter p (x ∷ xs) = grind (arith, (length_filter p xs))
-
 length_distinct : {X : Type 0} (eq : X → X → Bool) (xs : List X)
     → length (distinct eq xs) ≤ length xs
 length_distinct eq [] = omega arith
-length_distinct eq (x ∷ xs) = grind (arith, length_filter, (length_distinct eq xs))
+length_distinct eq (x ∷ xs) = grind (arith, filter_short, (length_distinct eq xs))
 
 all_contained : (xs ys : List ResourceRecord)
     → ((a : ResourceRecord) → Among a xs → Among a ys) → All (Contains ys) xs

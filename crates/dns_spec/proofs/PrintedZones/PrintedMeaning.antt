@@ -1,6 +1,6 @@
 -- The text of records means these records.
 use Rattle.dns_spec.proofs.Common.{◌≡◌, ℕ, suc, ◌+◌, ◌<◌, ◌≤◌, inl, inr, Bool, true, false, All, Some, None, List, [], ◌∷◌, ◌++◌, map, length, take, refl, sym, ◌∙◌, ap, subst, arith, codes, decimal, rules, cases_Bool, lt-leb, le-ltb, take_all, none-some, same_Some, MatchOption, is_ascii_digit, AllDigits, Octets, DomainName, octet_text, name_text, type_text, NamesType, Word, Says, plain, written_words, ResourceRecord, bad_owner, IsReadRecord, HasZoneType, record_line, decimal_is_IsNumeral, list_any, find, filter, flat_map, Token, most_octets, TokensThen, cut_entries, begins_with, Entry, Entries, ended, with_end, lexical_fault, whole_text, extent_by, faulty, gives, owned, kind_of, Fields, fields, directive_word, is_record, OriginIs, NameIs, IsRecord, most_records, RecordGives, KindGives, EntryGives, records, EntriesMean, Means}
-use Rattle.dns_spec.proofs.Records.SortedOnce.{Each}
+use Rattle.dns_spec.proofs.Records.SortedOnce.{Each, each_all}
 use Rattle.dns_spec.proofs.NameTexts.WrittenNames.{name_spelled}
 use Rattle.dns_spec.proofs.DataWords.SaidAgain.{data_said}
 use Rattle.dns_spec.proofs.PrintedZones.PrintedLines.{line_tokens, line_pieces_read, line_cut, line_parentheses, line_words_again}
@@ -166,17 +166,12 @@ lines_mean o earlier (r ∷ rs) keeps h types few =
     (lines_mean o (line_entry r ∷ earlier) rs
     (line_keeps_origin r, keeps) h.1 types.1 (omega (arith, few, line_counts r earlier)))
 
-each_from_all : {X : Type 0} (P : X → Type 0) (xs : List X) → All P xs → Each P xs
-each_from_all P [] all = tt
-each_from_all P (x ∷ xs) all =
-    (all 0 x (omega arith), each_from_all P xs (λ k d inside. all (suc k) d (omega arith)))
-
 pub printed_again : (o : DomainName) (rs : List ResourceRecord) → All IsReadRecord rs
     → All HasZoneType rs → length rs ≤ most_records → length (flat_map record_line rs) ≤ most_octets
     → Means o (flat_map record_line rs) (records rs)
 printed_again o rs all types few short =
-    let each = each_from_all IsReadRecord rs all in (
+    let each = each_all IsReadRecord rs all in (
       lines_entries rs,
       text_entries rs each short,
-      lines_mean o [] rs tt each (each_from_all HasZoneType rs types) (omega (arith, few)),
+      lines_mean o [] rs tt each (each_all HasZoneType rs types) (omega (arith, few)),
     )

@@ -1,8 +1,9 @@
 -- The canonical order of records, and lists of records in it.
-use Rattle.dns_spec.proofs.Common.{◌≡◌, zero, suc, Bool, true, false, ◌&&◌, cond, inl, inr, List, [], ◌∷◌, refl, sym, ap, ◌∙◌, arith, All, IsPermutation, is_eq, is_gt, Ordering, Less, rules, and_parts, eqb-true, All-head, All-tail, All-nil, All-cons, IsTotalOrder, lists_ties, DomainName, same, name_order, ResourceRecord, zone_of, records_equal, distinct, insert_by, sort_by, record_order, ordered_zone, faults, nat_cmp_total, nat_list_cmp_total, on_total, then_total, Contains-permutation, IsPermutation-refl, IsPermutation-sym, IsPermutation-cons, IsPermutation-trans, IsPermutation-middle, Contains, ordering_then, eq_by_cmp}
+use Rattle.dns_spec.proofs.Common.{◌≡◌, zero, suc, Bool, true, false, ◌&&◌, cond, inl, inr, List, [], ◌∷◌, refl, sym, ap, ◌∙◌, arith, All, IsPermutation, is_eq, is_gt, Ordering, Less, rules, and_parts, eqb-true, IsTotalOrder, lists_ties, DomainName, same, name_order, ResourceRecord, zone_of, records_equal, distinct, insert_by, sort_by, record_order, ordered_zone, faults, nat_cmp_total, nat_list_cmp_total, on_total, then_total, Contains-permutation, IsPermutation-refl, IsPermutation-sym, IsPermutation-cons, IsPermutation-trans, IsPermutation-middle, Contains, ordering_then, eq_by_cmp}
 use Rattle.dns_spec.proofs.DomainNames.NameLaws.{octets_equal-decides, names_equal-decides}
 use Rattle.dns_spec.proofs.ZoneChecks.FaultOrder.{faults_in_any_order, nat_ties, name_order_total, name_tie, Lower, one_lower}
 use Rattle.dns_spec.proofs.Records.SortedOnce.{Each, Among, each_sort, each_distinct, apart_distinct, Rises, sort_rises}
+pub use Rattle.dns_spec.proofs.Records.SortedOnce.{all_each, each_all}
 
 pub record_order_total : IsTotalOrder record_order
 record_order_total =
@@ -54,14 +55,6 @@ pub among_permutation : {X : Type 0} (a : X) (xs ys : List X)
     → IsPermutation xs ys → Among a xs → Among a ys
 among_permutation a xs ys h m =
     contains_among a ys (Contains-permutation xs ys a h (among_contains a xs m))
-
-pub each_all : {X : Type 0} (P : X → Type 0) (xs : List X) → All P xs → Each P xs
-each_all P [] all = tt
-each_all P (x ∷ xs) all = (All-head P x xs all, each_all P xs (All-tail P x xs all))
-
-pub all_each : {X : Type 0} (P : X → Type 0) (xs : List X) → Each P xs → All P xs
-all_each P [] e = All-nil P
-all_each P (x ∷ xs) e = All-cons P x xs e.0 (all_each P xs e.1)
 
 -- a list in which each element is before those after it is sorted
 pub sort_risen : {X : Type 0} (cmp : X → X → Ordering) (xs : List X)

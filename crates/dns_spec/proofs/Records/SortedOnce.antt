@@ -1,10 +1,22 @@
 -- A list sorted, with each element once, depends only on which elements there are.
-use Rattle.dns_spec.proofs.Common.{arith, ◌≡◌, suc, Bool, true, false, not, ◌⊎◌, inl, inr, List, [], ◌∷◌, length, refl, sym, ap, ap₂, ◌∙◌, subst, filter, is_lt, Ordering, Less, Equal, Greater, false≢true, not-true, tied_itself, ordering_reverse, IsTotalOrder, distinct, insert_by, sort_by}
+use Rattle.dns_spec.proofs.Common.{arith, ◌≡◌, suc, Bool, true, false, not, ◌⊎◌, inl, inr, List, [], ◌∷◌, length, refl, sym, ap, ap₂, ◌∙◌, subst, filter, is_lt, Ordering, Less, Equal, Greater, false≢true, not-true, tied_itself, ordering_reverse, IsTotalOrder, distinct, insert_by, sort_by, All, All-head, All-tail, All-nil, All-cons, map, ◌≤◌}
 
 -- P holds of each element, and x is one of them
 abbrev pub Each : {X : Type 0} → (X → Type 0) → List X → Type 0
 Each P [] = Unit {0}
 Each P (x ∷ xs) = P x × Each P xs
+
+pub each_any : {X : Type 0} (xs : List X) → Each (λ _. Unit {0}) xs
+each_any [] = tt
+each_any (x ∷ xs) = (tt, each_any xs)
+
+pub each_all : {X : Type 0} (P : X → Type 0) (xs : List X) → All P xs → Each P xs
+each_all P [] all = tt
+each_all P (x ∷ xs) all = (All-head P x xs all, each_all P xs (All-tail P x xs all))
+
+pub all_each : {X : Type 0} (P : X → Type 0) (xs : List X) → Each P xs → All P xs
+all_each P [] e = All-nil P
+all_each P (x ∷ xs) e = All-cons P x xs e.0 (all_each P xs e.1)
 
 -- a proof for the first element, before those for the others
 infixr 10 ◌⊲◌
@@ -14,6 +26,12 @@ p ⊲ q = (p, q)
 abbrev pub Among : {X : Type 0} → X → List X → Type 0
 Among x [] = ⊥
 Among x (y ∷ ys) = (x ≡ y) ⊎ Among x ys
+
+pub among_mapped : {X Y : Type 0} (f : X → Y) (x : X) (xs : List X)
+    → Among x xs → Among (f x) (map f xs)
+among_mapped f x [] m = absurd m
+among_mapped f x (y ∷ ys) (inl e) = inl (ap f e)
+among_mapped f x (y ∷ ys) (inr m) = inr (among_mapped f x ys m)
 
 pub each_at : {X : Type 0} (P : X → Type 0) (a : X) (xs : List X) → Each P xs → Among a xs → P a
 each_at P a [] e m = absurd m
@@ -28,6 +46,10 @@ each_filter P p (x ∷ xs) e = grind (arith, (each_filter P p xs e.1))
 pub filter_each : {X : Type 0} (p : X → Bool) (xs : List X) → Each (λ x. p x ≡ true) (filter p xs)
 filter_each p [] = tt
 filter_each p (x ∷ xs) = grind (arith, (filter_each p xs))
+
+pub filter_short : {X : Type 0} (p : X → Bool) (xs : List X) → length (filter p xs) ≤ length xs
+filter_short p [] = omega arith
+filter_short p (x ∷ xs) = grind (arith, (filter_short p xs))
 
 pub each_weaker : {X : Type 0} (P Q : X → Type 0) (xs : List X)
     → ((x : X) → P x → Q x) → Each P xs → Each Q xs

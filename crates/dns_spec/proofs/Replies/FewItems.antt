@@ -1,9 +1,9 @@
 -- An answer of a zone that passes has few targets and few sets, and visits few nodes for each name.
 use Rattle.dns_spec.proofs.Common.{◌≡◌, ℕ, ◌+◌, ◌*◌, ◌≤◌, nat_lt, Bool, true, false, not, ◌==◌, inl, List, [], ◌∷◌, ◌++◌, map, sum, length, Option, None, Some, All, filter, flat_map, refl, sym, ap, ◌∙◌, subst, arith, append-nil, length-append, eqb-true, ltb-false, none-some, flat_map-append, length-map, length-filter_both, option_to_list, DomainName, is_name, folded, names_equal, same, at_or_below, ResourceRecord, ZoneContents, data_order, at, of_type, with_owner, found, Section, answer, Item, records_of, filter_map-append, filter_map, fold, most_of_a_set, count, large_set, Passes, most_aliases, item, alias_set, last_sought, alias_items, Outcome, outcome_by, outcome_at, outcome, targets_of, targets_inside, targets_outside, targets, address_sets, extra, main_items, items, nodes_to, most_visits, names_looked_up}
 use Rattle.dns_spec.proofs.DomainNames.NameLaws.{names_equal-decides, length-is_name}
-use Rattle.dns_spec.proofs.Records.SortedOnce.{Each, Among, each_filter, among_filter, length-sort_by}
+use Rattle.dns_spec.proofs.Records.SortedOnce.{Each, Among, each_filter, among_filter, length-sort_by, each_all, filter_short}
 use Rattle.dns_spec.proofs.Replies.ItemSets.{any_false, filter_test}
-use Rattle.dns_spec.proofs.Replies.WritableItems.{Named, each_append, each_from_all, chain_named, named_target}
+use Rattle.dns_spec.proofs.Replies.WritableItems.{Named, each_append, chain_named, named_target}
 use Rattle.dns_spec.proofs.ZoneChecks.PassedChecks.{checks_at}
 use Rattle.dns_spec.proofs.Replies.RequiredItems.{target_of, each_alias_item, no_targets}
 use Rattle.dns_spec.proofs.Replies.ChainLength.{chain_short}
@@ -23,9 +23,6 @@ targets_last z q t =
 parted : {X : Type 0} (p : X → Bool) (xs : List X)
     → length (filter p xs) + length (filter (λ x. not (p x)) xs) ≡ length xs
 parted p xs = length-filter_both p (λ x. not (p x)) (λ x. refl) xs
-
-filtered_short : {X : Type 0} (p : X → Bool) (xs : List X) → length (filter p xs) ≤ length xs
-filtered_short p xs = let both = parted p xs in omega (arith, both)
 
 mapped_short : {X Y : Type 0} (f : X → Option Y) (xs : List X)
     → length (filter_map f xs) ≤ length xs
@@ -129,7 +126,7 @@ module _ (z : ZoneContents) (origin : folded z.origin ≡ z.origin)
     (low : All (λ (r : ResourceRecord). folded r.owner ≡ r.owner) z.records)
     (passes : Passes z) (q : DomainName) (t : ℕ) where
   pub few_targets : length (targets (outcome z q t)) ≤ most_of_a_set
-  few_targets = grind (arith, targets_few, each_from_all)
+  few_targets = grind (arith, targets_few, each_all)
 
   pub few_items : length (items z q t) ≤ 2 + most_aliases + 2 * most_of_a_set
   unfolding items outcome outcome_at
@@ -168,4 +165,4 @@ module _ (z : ZoneContents) (q : DomainName) (t : ℕ) (h : is_name q ≡ true) 
           (λ m. p m c) (targets_of o.authorities) (targets_named (records_of o.authorities)))
 
   pub few_nodes : most_visits z q t ≤ 128 * names_looked_up z q t
-  few_nodes = grind (arith, nodes_few, chain_named, each_filter, all_named, filtered_short)
+  few_nodes = grind (arith, nodes_few, chain_named, each_filter, all_named, filter_short)

@@ -1,8 +1,8 @@
 -- In a zone that passes each item of a reply is the records of a set at an owner, with one TTL.
 use Rattle.dns_spec.proofs.Common.{common_steps, eqb-true, eq-eqb, false≢true, or_parts, none-some, same_Some, list_any, DomainName, folded, names_equal, same, type_ns, type_cname, ResourceRecord, ZoneContents, at, of_type, rrset, with_owner, records_at, of_lowest_type, found, ttls_differ, Passes, Section, answer, Item, no_error, item, follows_alias, alias_set, chain, alias_items, asked_records, negative_soa, negative, positive, has_any, outcome_by, outcome_at, outcome, address_sets, extra, items, ◌≡◌, ℕ, ◌≤◌, Bool, true, false, ◌&&◌, not, cond, ◌==◌, ◌⊎◌, inl, inr, List, [], ◌∷◌, ◌++◌, map, length, Option, None, Some, All, filter, flat_map, refl, sym, ap, ap₂, ◌∙◌, subst, arith, IsSetAt}
 use Rattle.dns_spec.proofs.DomainNames.NameLaws.{names_equal-decides}
-use Rattle.dns_spec.proofs.Records.SortedOnce.{Each, Among, each_at, each_sort, among_filter}
-use Rattle.dns_spec.proofs.Replies.WritableItems.{each_append, each_flat_map, each_from_all, all_from_each}
+use Rattle.dns_spec.proofs.Records.SortedOnce.{Each, Among, each_at, each_sort, among_filter, each_any, each_all, all_each}
+use Rattle.dns_spec.proofs.Replies.WritableItems.{each_append, each_flat_map}
 use Rattle.dns_spec.proofs.ZoneChecks.PassedChecks.{checks_at, few_soa, one_soa}
 
 -- records with one owner, one TTL and one type are those of a set
@@ -196,10 +196,6 @@ module _ (z : ZoneContents) (origin : folded z.origin ≡ z.origin) (low : Each
   alias_is_set : (s : DomainName) → IsSetAt (alias_set z s)
   alias_is_set s = grind (arith, one_record_set, shown_set)
 
-  units : {X : Type 0} (xs : List X) → Each (λ _. Unit {0}) xs
-  units [] = tt
-  units (x ∷ xs) = (tt, units xs)
-
   lowest_set : (q : DomainName) (rs : List ResourceRecord)
       → Shown q rs → IsSetAt (of_lowest_type rs)
   lowest_set q rs s = grind (arith, one_record_set, shown_set)
@@ -232,7 +228,7 @@ module _ (z : ZoneContents) (origin : folded z.origin ≡ z.origin) (low : Each
       go true =
           each_flat_map (λ (i : Item). IsSetAt i.records)
           (λ _. Unit {0}) (λ s. item answer (alias_set z s)) (chain z q t)
-          (λ s _. item_set answer (alias_set z s) (alias_is_set s)) (units (chain z q t))
+          (λ s _. item_set answer (alias_set z s) (alias_is_set s)) (each_any (chain z q t))
       go false = tt
 
   extra_sets : (earlier : List Item) (ms : List DomainName) → Sets (extra z earlier ms)
@@ -248,4 +244,4 @@ module _ (z : ZoneContents) (origin : folded z.origin ≡ z.origin) (low : Each
 pub items_are_sets : (z : ZoneContents)
     → folded z.origin ≡ z.origin → All (λ (r : ResourceRecord). folded r.owner ≡ r.owner) z.records
     → Passes z → (q : DomainName) (t : ℕ) → All (λ (i : Item). IsSetAt i.records) (items z q t)
-items_are_sets z origin low passes q t = grind (arith, all_from_each, items_sets, each_from_all)
+items_are_sets z origin low passes q t = grind (arith, all_each, items_sets, each_all)

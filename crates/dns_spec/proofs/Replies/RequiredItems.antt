@@ -1,6 +1,6 @@
 -- The sets of a reply begin with those that it may not leave out.
 use Rattle.dns_spec.proofs.Common.{arith, rules, eqb-true, take_at, filter_map, DomainName, type_cname, target, ResourceRecord, ZoneContents, data_order, of_type, cut_of, found, Section, answer, Item, ◌≡◌, ℕ, Bool, true, false, cond, ◌==◌, ◌⊎◌, inl, inr, List, [], ◌∷◌, ◌++◌, length, take, Option, None, Some, is_some, option_map, unwrap_or, filter, flat_map, refl, sym, ap, ◌∙◌, append_assoc, append-nil, item, follows_alias, alias_set, chain, last_sought, alias_items, Outcome, outcome_by, outcome_at, outcome, has_target_type, targets_of, targets_inside, targets_outside, targets, address_sets, extra, main_items, items, required_items}
-use Rattle.dns_spec.proofs.Records.SortedOnce.{Each, each_sort}
+use Rattle.dns_spec.proofs.Records.SortedOnce.{Each, each_sort, each_any}
 use Rattle.dns_spec.proofs.Replies.WritableItems.{each_flat_map}
 
 -- what is added for targets after others
@@ -53,16 +53,12 @@ pub each_alias_item : (z : ZoneContents) (q : DomainName) (t : ℕ)
     → Each (λ (i : Item). Each IsAlias i.records) (alias_items z q t)
 each_alias_item z q t = go (follows_alias t)
   where
-    units : (ns : List DomainName) → Each (λ _. Unit {0}) ns
-    units [] = tt
-    units (n ∷ ns) = (tt, units ns)
-
     go : (b : Bool) → Each (λ (i : Item). Each IsAlias i.records)
         (cond b (flat_map (λ s. item answer (alias_set z s)) (chain z q t)) [])
     go true =
         each_flat_map (λ (i : Item). Each IsAlias i.records)
         (λ _. Unit {0}) (λ s. item answer (alias_set z s)) (chain z q t)
-        (λ s _. each_item IsAlias answer (alias_set z s) (each_alias z s)) (units (chain z q t))
+        (λ s _. each_item IsAlias answer (alias_set z s) (each_alias z s)) (each_any (chain z q t))
     go false = tt
 
 abbrev pub target_of : ResourceRecord → Option DomainName

@@ -1,9 +1,9 @@
 -- The sets of an answer stand in the order of their sections, and their records fit a message where
 -- those of the zone do.
-use Rattle.dns_spec.proofs.Common.{◌≡◌, ℕ, zero, suc, ◌<◌, ◌≤◌, min, append_assoc, append-nil, Bool, true, false, ◌&&◌, cond, nat_le, List, [], ◌∷◌, ◌++◌, map, take, Option, None, Some, All, find, flat_map, refl, sym, subst, arith, rules, and_from, le-leb, none-some, same_Some, All-nil, All-cons, All-head, All-tail, list_all, Octets, DomainName, is_name, same, suffixes, type_ns, type_cname, Piece, Part, octets, name, piece_front, cut, first_name, target, soa_minimum, ResourceRecord, ZoneContents, at, of_type, rrset, with_owner, cut_of, found, Section, answer, authority, additional, Item, records_of, name_error, no_error, item, follows_alias, alias_set, next_sought, chain_from, chain, last_of, last_sought, alias_items, Outcome, asked_records, negative, positive, has_any, outcome_by, outcome_at, outcome, targets, address_sets, extra, main_items, items, section_rank, sections_in_order, IsWritable}
+use Rattle.dns_spec.proofs.Common.{◌≡◌, ℕ, zero, suc, ◌<◌, ◌≤◌, min, append_assoc, append-nil, Bool, true, false, ◌&&◌, cond, nat_le, List, [], ◌∷◌, ◌++◌, map, take, Option, None, Some, All, find, flat_map, refl, sym, subst, arith, rules, and_from, le-leb, none-some, same_Some, list_all, Octets, DomainName, is_name, same, suffixes, type_ns, type_cname, Piece, Part, octets, name, piece_front, cut, first_name, target, soa_minimum, ResourceRecord, ZoneContents, at, of_type, rrset, with_owner, cut_of, found, Section, answer, authority, additional, Item, records_of, name_error, no_error, item, follows_alias, alias_set, next_sought, chain_from, chain, last_of, last_sought, alias_items, Outcome, asked_records, negative, positive, has_any, outcome_by, outcome_at, outcome, targets, address_sets, extra, main_items, items, section_rank, sections_in_order, IsWritable}
 use mathlib.Core.List.{reverse_aux}
 use Rattle.dns_spec.proofs.DomainNames.NameLaws.{is_name-tail, is_name-folded}
-use Rattle.dns_spec.proofs.Records.SortedOnce.{Each, each_filter, each_sort}
+use Rattle.dns_spec.proofs.Records.SortedOnce.{Each, each_filter, each_sort, each_all, all_each}
 use Rattle.dns_spec.proofs.DataWords.WrittenData.{cut_into}
 
 pub each_append : {X : Type 0} (P : X → Type 0) (xs ys : List X)
@@ -20,14 +20,6 @@ pub each_flat_map : {X Y : Type 0} (P : Y → Type 0) (Q : X → Type 0) (f : X 
     → ((x : X) → Q x → Each P (f x)) → Each Q xs → Each P (flat_map f xs)
 each_flat_map P Q f [] g e = tt
 each_flat_map P Q f (x ∷ xs) g e = grind (arith, each_append, (each_flat_map P Q f xs g e.1))
-
-pub all_from_each : {X : Type 0} (P : X → Type 0) (xs : List X) → Each P xs → All P xs
-all_from_each P [] e = All-nil P
-all_from_each P (x ∷ xs) e = All-cons P x xs e.0 (all_from_each P xs e.1)
-
-pub each_from_all : {X : Type 0} (P : X → Type 0) (xs : List X) → All P xs → Each P xs
-each_from_all P [] a = tt
-each_from_all P (x ∷ xs) a = (All-head P x xs a, each_from_all P xs (All-tail P x xs a))
 
 each_reverse_onto : {X : Type 0} (P : X → Type 0) (xs ys : List X)
     → Each P xs → Each P ys → Each P (reverse_aux xs ys)
@@ -273,7 +265,7 @@ records_writable (i ∷ is) e = grind (arith, each_append, (records_writable is 
 module _ (z : ZoneContents)
     (w : All IsWritable z.records) (q : DomainName) (t : ℕ) (h : is_name q ≡ true) where
   fits : Writable z.records
-  fits = each_from_all IsWritable z.records w
+  fits = each_all IsWritable z.records w
 
   pub outcome_rcode : (outcome z q t).rcode < 16
   outcome_rcode = (outcome_right z fits q t h).rcode
@@ -308,6 +300,6 @@ module _ (z : ZoneContents)
 
   pub items_writable : (k : ℕ) → All IsWritable (records_of (take k (items z q t)))
   items_writable k =
-      all_from_each IsWritable (records_of (take k (items z q t)))
+      all_each IsWritable (records_of (take k (items z q t)))
       (records_writable (take k (items z q t))
       (each_take (λ (i : Item). Writable i.records) k (items z q t) items_stood.1))

@@ -1,7 +1,7 @@
 -- A fault stands among those of a zone exactly where its condition holds, once, by the order of
 -- owners and then of codes.
 use Rattle.dns_spec.proofs.Common.{common_steps, ◌≡◌, ℕ, ◌↔◌, Bool, true, false, ◌&&◌, ◌||◌, ◌⊎◌, inl, inr, List, [], ◌∷◌, ◌++◌, map, ◌==◌, filter, refl, sym, ap, ◌∙◌, subst, arith, Ordering, Less, nat_cmp, is_lt, Contains, list_any, list_all, flat_map, ordering_then, and_parts, and_from, false≢true, eqb-true, eq-eqb, tied_itself, flat_map-cons, DomainName, folded, names_equal, same, name_order, ResourceRecord, ZoneContents, owns, distinct, IsStrictlySortedBy, Check, is_origin, is_owner, checks, fails, Fault, faults_at, checked_names, faults, fault_order}
-use Rattle.dns_spec.proofs.Records.SortedOnce.{Each, Among, each_at, Rises, apart_distinct, sort_rises, among_sort, among_distinct, among_filter, filter_among, filter_each, each_filter}
+use Rattle.dns_spec.proofs.Records.SortedOnce.{Each, Among, each_at, Rises, apart_distinct, sort_rises, among_sort, among_distinct, among_filter, filter_among, filter_each, each_filter, among_mapped}
 use Rattle.dns_spec.proofs.Records.RecordOrder.{contains_among, among_contains}
 use Rattle.dns_spec.proofs.ZoneChecks.FaultOrder.{Lower, one_lower, each_lower, name_order_total, name_tie, folded_folded, any_counted}
 
@@ -34,12 +34,6 @@ joined_among f a (y ∷ ys) m =
       | inl k ↦ (y, inl refl, k)
       | inr k ↦ let r = joined_among f a ys k in (r.0, inr r.1, r.2)
     ]
-
-among_mapped : {X Y : Type 0} (f : X → Y) (x : X) (xs : List X)
-    → Among x xs → Among (f x) (map f xs)
-among_mapped f x [] m = absurd m
-among_mapped f x (y ∷ ys) (inl e) = inl (ap f e)
-among_mapped f x (y ∷ ys) (inr m) = inr (among_mapped f x ys m)
 
 mapped_among : {X Y : Type 0} (f : X → Y) (a : Y) (xs : List X)
     → Among a (map f xs) → (x : X) × Among x xs × (a ≡ f x)

@@ -1,7 +1,8 @@
 -- The faults of a list of records do not depend on its order.
-use Rattle.dns_spec.proofs.Common.{◌≡◌, ℕ, Bool, true, ◌&&◌, eqb, nat_lt, ◌==◌, ◌⊎◌, inl, inr, List, [], ◌∷◌, map, reverse, length, refl, sym, ap, ap₂, ◌∙◌, arith, filter, flat_map, IsPermutation, is_eq, nat_cmp, Equal, false≢true, lt-ltb, eqb-true, eq-eqb, ne_eqb, ltb-true, reverse-reverse, list_any, IsTotalOrder, lists_ties, to_ascii_lowercase, Octets, DomainName, folded, same, names_equal, label_order, name_order, type_ns, ResourceRecord, ZoneContents, at, owns, distinct, length-filter, sum_by-IsPermutation, nat_cmp_total, nat_list_cmp_total, lists_total, on_total, lowercase-lowercase, most_sets, Check, has_target, ttls_differ, ns_target_alias, lacks_address, ns_target_lost, mx_target_alias, data_at_cut, first_is_asterisk, wildcard_ns, large_set, many_sets, Fault, faults_at, checked_names, faults}
+use Rattle.dns_spec.proofs.Common.{◌≡◌, ℕ, Bool, true, ◌&&◌, eqb, nat_lt, ◌==◌, ◌⊎◌, inl, inr, List, [], ◌∷◌, map, reverse, length, refl, sym, ap, ap₂, ◌∙◌, arith, filter, flat_map, IsPermutation, is_eq, nat_cmp, Equal, false≢true, lt-ltb, eqb-true, eq-eqb, ne_eqb, ltb-true, reverse-reverse, list_any, IsTotalOrder, lists_ties, DomainName, folded, same, names_equal, label_order, name_order, type_ns, ResourceRecord, ZoneContents, at, owns, distinct, length-filter, sum_by-IsPermutation, nat_cmp_total, nat_list_cmp_total, lists_total, on_total, most_sets, Check, has_target, ttls_differ, ns_target_alias, lacks_address, ns_target_lost, mx_target_alias, data_at_cut, first_is_asterisk, wildcard_ns, large_set, many_sets, Fault, faults_at, checked_names, faults}
 use Rattle.dns_spec.proofs.DomainNames.NameLaws.{names_equal-decides}
-use Rattle.dns_spec.proofs.Records.SortedOnce.{Each, Among, length-sort_by, same_sorted}
+use Rattle.dns_spec.proofs.Records.SortedOnce.{Each, Among, length-sort_by, same_sorted, each_any}
+pub use Rattle.dns_spec.proofs.DataWords.LoweredData.{folded_folded}
 
 -- two lists of which each test passes as many
 abbrev SameCounts : {X : Type 0} → List X → List X → Type 0
@@ -44,10 +45,6 @@ module _ {X Y : Type 0} (f : X → Y) (eq : Y → Y → Bool)
       → SameCounts xs ys → (a : Y) → Among a (map f xs) → Among a (map f ys)
   same_values xs ys c a m = grind (arith, value_any, same_any, any_value)
 
-pub each_any : {X : Type 0} (xs : List X) → Each (λ _. Unit {0}) xs
-each_any [] = tt
-each_any (x ∷ xs) = (tt, each_any xs)
-
 eqb_decides : (a b : ℕ) → (eqb a b ≡ true → a ≡ b) × (a ≡ b → eqb a b ≡ true)
 eqb_decides a b = (eqb-true a b, eq-eqb a b)
 
@@ -71,15 +68,6 @@ same_type_count xs ys c =
     ∙ length-sort_by nat_cmp (distinct ◌==◌ (map f ys))
 
 -- names in lower case are told apart by their order
-lower_twice : (os : Octets)
-    → map to_ascii_lowercase (map to_ascii_lowercase os) ≡ map to_ascii_lowercase os
-lower_twice [] = refl
-lower_twice (o ∷ os) = ap₂ (λ x xs. x ∷ xs) (lowercase-lowercase o) (lower_twice os)
-
-pub folded_folded : (n : DomainName) → folded (folded n) ≡ folded n
-folded_folded [] = refl
-folded_folded (l ∷ n) = ap₂ (λ x xs. x ∷ xs) (lower_twice l) (folded_folded n)
-
 abbrev pub Lower : DomainName → Type 0
 Lower n = folded n ≡ n
 

@@ -2,7 +2,7 @@
 use Rattle.dns_spec.proofs.Common.{common_steps, ltb-false, folded, same, name_order, type_soa, ResourceRecord, ZoneContents, distinct, sort_by, rrset, at, Check, checks, faults_at, checked_names, faults, Passes, ◌≡◌, ℕ, ◌≤◌, Bool, false, ◌⊎◌, inl, inr, List, [], ◌∷◌, ◌++◌, map, length, refl, sym, ap, subst, ◌∙◌, filter, flat_map, ◌==◌, Ordering, arith}
 use Rattle.dns_spec.proofs.DomainNames.NameLaws.{names_equal-decides}
 use Rattle.dns_spec.proofs.ZoneChecks.FaultOrder.{name_order_total, name_tie, Lower, one_lower}
-use Rattle.dns_spec.proofs.Records.SortedOnce.{Each, Among, each_at, among_sort, among_distinct}
+use Rattle.dns_spec.proofs.Records.SortedOnce.{Each, Among, each_at, among_sort, among_distinct, among_mapped}
 
 -- no element gives anything where all give nothing
 flat_nothing : {X Y : Type 0} (f : X → List Y) (xs : List X) (a : X)
@@ -40,11 +40,6 @@ checks_of_origin z low passes =
     (filter (λ (k : ℕ × Check). k.1 z z.origin) checks) none)
 
 -- nor of an owner
-among_map : {X Y : Type 0} (f : X → Y) (a : X) (xs : List X) → Among a xs → Among (f a) (map f xs)
-among_map f a [] m = m
-among_map f a (x ∷ xs) (inl e) = inl (ap f e)
-among_map f a (x ∷ xs) (inr m) = inr (among_map f a xs m)
-
 pub checks_at : (z : ZoneContents) → folded z.origin ≡ z.origin → Each
     (λ (r : ResourceRecord). folded r.owner ≡ r.owner) z.records → Passes z → (r : ResourceRecord)
     → Among r z.records → Each (λ (k : ℕ × Check). k.1 z r.owner ≡ false) checks
@@ -55,7 +50,7 @@ checks_at z low lows passes r m =
     let here : folded r.owner ≡ r.owner =
     each_at (λ (s : ResourceRecord). folded s.owner ≡ s.owner) r z.records lows m in
     let listed : Among r.owner names =
-    inr (subst (λ n. Among n (map f z.records)) here (among_map f r z.records m)) in
+    inr (subst (λ n. Among n (map f z.records)) here (among_mapped f r z.records m)) in
     let lower : Each Lower names = (ap folded low, all_low z.records lows) in
     let checked : Among r.owner (checked_names z) =
     among_sort name_order r.owner (distinct same names) (among_distinct

@@ -1,7 +1,7 @@
 -- The records that a text means are such as are read, of types that zones have, and few enough.
 use Rattle.dns_spec.proofs.Common.{◌≡◌, ℕ, ◌+◌, ◌<◌, ◌≤◌, ◌⊎◌, Bool, true, false, cond, All, List, [], ◌∷◌, ◌++◌, length, drop, filter, Option, Some, None, sym, subst, arith, codes, IsTrue, length-append, rules, All-weaker, ⊤, MatchOption, Octets, DomainName, is_name, folded, SpellsName, valid, lower_case, Word, ResourceRecord, FileFault, IsReadRecord, HasZoneType, Entry, EntryMeaning, faulty, gives, EntryKind, no_words, directive, owned, unowned, kind_of, directive_word, is_record, OriginIs, NameIs, OwnerBefore, most_ttl, TtlIs, TypeIs, DataIs, is_zone_type, Fields, fields, IsRecord, most_records, RecordGives, KindGives, EntryGives, Meaning, records, fault_at, after, EntriesMean, Means}
 use Rattle.dns_spec.proofs.ZoneChecks.FaultOrder.{folded_folded}
-use Rattle.dns_spec.proofs.Records.SortedOnce.{Each}
+use Rattle.dns_spec.proofs.Records.SortedOnce.{Each, each_any}
 use Rattle.dns_spec.proofs.Records.RecordOrder.{LowerOwner, all_each, each_all}
 use Rattle.dns_spec.proofs.DomainNames.NameLaws.{is_name-folded}
 use Rattle.dns_spec.proofs.DataWords.LoweredData.{lowered_data, lowered-twice}
@@ -64,10 +64,6 @@ module _ (o : DomainName) (Kept : Entry → Type 0) (P : ResourceRecord → Type
       → Each Kept es → EntriesMean o [] es (records rs) → All P rs
   records_hold es rs kept h = all_each P rs (entries_meant [] es (records rs) tt kept h)
 
-each_kept : {X : Type 0} (xs : List X) → Each (λ _. Unit {0}) xs
-each_kept [] = tt
-each_kept (x ∷ xs) = (tt, each_kept xs)
-
 -- owners are in lower case
 record_low : (o : DomainName) (earlier : List Entry) (Owner : DomainName → Type 0)
     (f : Fields) (r : ResourceRecord) → IsRecord o earlier Owner f r → LowerOwner r
@@ -84,7 +80,7 @@ pub owners_low : (o : DomainName) (text : Octets) (rs : List ResourceRecord)
     → Means o text (records rs) → All LowerOwner rs
 owners_low o text rs (es, cut, h) =
     records_hold o (λ _. Unit {0}) LowerOwner
-    (λ earlier e keeps kept r is. sort_low o earlier (kind_of e) r is) es rs (each_kept es) h
+    (λ earlier e keeps kept r is. sort_low o earlier (kind_of e) r is) es rs (each_any es) h
 
 -- the words of an entry spell octets below 256
 abbrev SmallSort : EntryKind → Type 0
