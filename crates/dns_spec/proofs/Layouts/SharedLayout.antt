@@ -95,43 +95,7 @@ module _ (b : Octets) (room : length b < 2 ^ 16) where
       })
   nil_lays (o ∷ os) xs e ms i known header at = absurd (none-some xs e)
 
-  fixed_lays : (f : Fixed) (ps : List Piece) (os rest : Octets) (part : Part) (ys : List Part)
-      → octets_front (width f) os ≡ Some (part, rest)
-      → Lays ps rest ys → Lays (fixed f ∷ ps) os (part ∷ ys)
-  fixed_lays f ps os rest part ys front lays ms i known header =
-      subst (λ x. Stands b i (data_octets ms i (x ∷ ys)) → Laid (fixed f ∷ ps) os ms i (x ∷ ys))
-      (octets_part (width f) os rest part front) laid
-    where
-      o : Octets
-      o = take (width f) os
-
-      laid : Stands b i (data_octets ms i (octets (take (width f) os) ∷ ys))
-          → Laid (fixed f ∷ ps) os ms i (octets (take (width f) os) ∷ ys)
-      laid at =
-          let x = take (width f) os in
-          let t = front_taken (width f) os part rest front in
-          let r = octets_laid ms i x ys known header at ps rest
-          (i + width f) (ap (λ z. i + z) t.1) lays in
-          record { pieces = (x, rest, r.0, t.0, r.1); known = r.2 }
-
-  string_lays : (ps : List Piece) (os rest : Octets) (part : Part) (ys : List Part) → piece_front
-      string os ≡ Some (part, rest) → Lays ps rest ys → Lays (string ∷ ps) os (part ∷ ys)
-  string_lays ps [] rest part ys front lays ms i known header = grind (arith, none-some)
-  string_lays ps (k ∷ os) rest part ys front lays ms i known header =
-      subst (λ x. Stands b i (data_octets ms i (x ∷ ys)) → Laid
-      (string ∷ ps) (k ∷ os) ms i (x ∷ ys)) (octets_part (suc k) (k ∷ os) rest part front) laid
-    where
-      laid : Stands b i (data_octets ms i (octets (k ∷ take k os) ∷ ys))
-          → Laid (string ∷ ps) (k ∷ os) ms i (octets (k ∷ take k os) ∷ ys)
-      laid at =
-          let x = k ∷ take k os in
-          let t = front_taken (suc k) (k ∷ os) part rest front in
-          let r = octets_laid ms i x ys known header at ps rest
-          (i + 1 + k) (omega (arith, t.1)) lays in
-          let first = stands_get k (take k os) (at_octets ms i x ys known header at) in
-          record { pieces = (k, x, rest, first, r.0, t.0, r.1); known = r.2 }
-
-  -- the last piece of data is all that is left of it
+  -- octets that are all that is left of the data
   rest_lays : (ps : List Piece) (os : Octets) (ys : List Part) (ms : List Placed) (i : ℕ)
       (known : Known b i ms) (header : 12 ≤ i) (at : Stands b i (data_octets ms i (octets os ∷ ys)))
       → Lays ps [] ys → cut ps [] ≡ Some ys → (OctetsAt b i (i + length os) os)
@@ -143,11 +107,32 @@ module _ (b : Octets) (room : length b < 2 ^ 16) where
       let end = end_of_octets ms i os ys known header at in
       (r.0, omega (arith, end, no_octets ps ys more ms (i + length os)), r.1, r.2)
 
-  -- the last piece of data is all that is left of it
-  strings_lays : (ps : List Piece) (os rest : Octets) (part : Part) (ys : List Part)
-      → piece_front strings os ≡ Some (part, rest)
-      → Lays ps rest ys → cut ps rest ≡ Some ys → Lays (strings ∷ ps) os (part ∷ ys)
-  strings_lays ps os rest part ys front lays more ms i known header =
+  -- a piece in front of others, by the part that it is
+  piece_lays : (p : Piece) (ps : List Piece) (os rest : Octets) (part : Part) (ys : List Part)
+      → piece_front p os ≡ Some (part, rest)
+      → Lays ps rest ys → cut ps rest ≡ Some ys → Lays (p ∷ ps) os (part ∷ ys)
+  unfolding data_by
+  piece_lays (fixed f) ps os rest part ys front lays more ms i known header =
+      let x = take (width f) os in
+      let t = front_taken (width f) os part rest front in
+      subst (λ x. Stands b i (data_octets ms i (x ∷ ys)) → Laid (fixed f ∷ ps) os ms i (x ∷ ys))
+      (octets_part (width f) os rest part front) (λ at.
+      let r = octets_laid ms i x ys known header at ps rest
+      (i + width f) (ap (λ z. i + z) t.1) lays in
+      record { pieces = (x, rest, r.0, t.0, r.1); known = r.2 })
+  piece_lays string ps [] rest part ys front lays more ms i known header =
+      grind (arith, none-some)
+  piece_lays string ps (k ∷ os) rest part ys front lays more ms i known header =
+      let x = k ∷ take k os in
+      let t = front_taken (suc k) (k ∷ os) part rest front in
+      subst (λ x. Stands b i (data_octets ms i (x ∷ ys))
+      → Laid (string ∷ ps) (k ∷ os) ms i (x ∷ ys)) (octets_part (suc k) (k ∷ os) rest part front)
+      (λ at.
+      let r = octets_laid ms i x ys known header at ps rest
+      (i + 1 + k) (omega (arith, t.1)) lays in
+      let first = stands_get k (take k os) (at_octets ms i x ys known header at) in
+      record { pieces = (k, x, rest, first, r.0, t.0, r.1); known = r.2 })
+  piece_lays strings ps os rest part ys front lays more ms i known header =
       let t = all_strings os rest part front in
       subst (λ x. Stands b i (data_octets ms i (x ∷ ys)) → Laid (strings ∷ ps) os ms i (x ∷ ys)) t.2
       (λ at.
@@ -157,11 +142,7 @@ module _ (b : Octets) (room : length b < 2 ^ 16) where
         pieces = (os, [], i + length os, r.0, t.0, t.1, sym (append-nil os), r.1, r.2);
         known = r.3;
       })
-
-  anything_lays : (ps : List Piece) (os rest : Octets) (part : Part) (ys : List Part)
-      → piece_front anything os ≡ Some (part, rest)
-      → Lays ps rest ys → cut ps rest ≡ Some ys → Lays (anything ∷ ps) os (part ∷ ys)
-  anything_lays ps os rest part ys front lays more ms i known header =
+  piece_lays anything ps os rest part ys front lays more ms i known header =
       let t = same_Some (octets os, []) (part, rest) front in
       let none : rest ≡ [] = sym (ap (λ z. z.1) t) in
       subst (λ x. Stands b i (data_octets ms i (x ∷ ys)) → Laid (anything ∷ ps) os ms i (x ∷ ys))
@@ -169,25 +150,21 @@ module _ (b : Octets) (room : length b < 2 ^ 16) where
       let r = rest_lays ps os ys ms i known header at
       (subst (λ z. Lays ps z ys) none lays) (ap (cut ps) (sym none) ∙ more) in
       record { pieces = (os, [], i + length os, r.0, sym (append-nil os), r.1, r.2); known = r.3 })
-
-  domain_lays : (ps : List Piece) (os rest : Octets) (part : Part) (ys : List Part) → piece_front
-      domain os ≡ Some (part, rest) → Lays ps rest ys → Lays (domain ∷ ps) os (part ∷ ys)
-  unfolding data_by
-  domain_lays ps os rest part ys front lays ms i known header =
+  piece_lays domain ps os rest part ys front lays more ms i known header =
       let m = name_part os rest part front in
       let n = m.0 in
       let w = shared_octets ms n in
       subst (λ x. Stands b i (data_octets ms i (x ∷ ys)) → Laid (domain ∷ ps) os ms i (x ∷ ys)) m.1
       (λ at.
-      let more = ms ++ (n, i) ∷ [] in
+      let earlier = ms ++ (n, i) ∷ [] in
       let next = i + length w in
-      let later = data_octets more next ys in
+      let later = data_octets earlier next ys in
       let here : Stands b i w = stands_front w later at in
       let labels = (and_parts (list_all is_label n) (nat_le (length (wire n)) 255) m.2).0 in
-      let known' : Known b next more =
+      let known' : Known b next earlier =
       known_more b i ms known n i (omega arith) header labels here in
-      let r : Laid ps rest more next ys =
-      lays more next known' (omega arith) (stands_rest w later at) in
+      let r : Laid ps rest earlier next ys =
+      lays earlier next known' (omega arith) (stands_rest w later at) in
       let end : next + length later ≡ i + length (w ++ later) =
       omega (arith, length-append w later) in
       record {
@@ -200,31 +177,15 @@ module _ (b : Octets) (room : length b < 2 ^ 16) where
           subst (λ e. PiecesAt b ps next e rest) end r.pieces,
         );
         known = subst (Known b (i + length (w ++ later)))
-            (append_assoc ms ((n, i) ∷ []) (data_names more next ys))
-            (subst (λ e. Known b e (more ++ data_names more next ys)) end r.known);
+            (append_assoc ms ((n, i) ∷ []) (data_names earlier next ys))
+            (subst (λ e. Known b e (earlier ++ data_names earlier next ys)) end r.known);
       })
 
   data_lays : (ps : List Piece) (os : Octets) (xs : List Part) → cut ps os ≡ Some xs → Lays ps os xs
   data_lays [] os xs h = nil_lays os xs h
-  data_lays (fixed f ∷ ps) os xs h =
-      let c = cut_into (fixed f) ps os xs h in
-      subst (Lays (fixed f ∷ ps) os) c.whole
-      (fixed_lays f ps os c.rest c.part c.others c.front (data_lays ps c.rest c.others c.more))
-  data_lays (domain ∷ ps) os xs h =
-      let c = cut_into domain ps os xs h in
-      subst (Lays (domain ∷ ps) os) c.whole
-      (domain_lays ps os c.rest c.part c.others c.front (data_lays ps c.rest c.others c.more))
-  data_lays (string ∷ ps) os xs h =
-      let c = cut_into string ps os xs h in
-      subst (Lays (string ∷ ps) os) c.whole
-      (string_lays ps os c.rest c.part c.others c.front (data_lays ps c.rest c.others c.more))
-  data_lays (strings ∷ ps) os xs h =
-      let c = cut_into strings ps os xs h in
-      subst (Lays (strings ∷ ps) os) c.whole (strings_lays ps os c.rest c.part c.others c.front
-      (data_lays ps c.rest c.others c.more) c.more)
-  data_lays (anything ∷ ps) os xs h =
-      let c = cut_into anything ps os xs h in
-      subst (Lays (anything ∷ ps) os) c.whole (anything_lays ps os c.rest c.part c.others c.front
+  data_lays (p ∷ ps) os xs h =
+      let c = cut_into p ps os xs h in
+      subst (Lays (p ∷ ps) os) c.whole (piece_lays p ps os c.rest c.part c.others c.front
       (data_lays ps c.rest c.others c.more) c.more)
 
   -- data of a record, whose names are earlier names from then on
