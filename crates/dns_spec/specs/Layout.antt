@@ -81,7 +81,8 @@ reached (Some p) = if nat_le p last_place then Some p else None
 abbrev pub shared_place : List Placed → DomainName → Option ℕ
 shared_place ms s = reached (place_of ms s)
 
--- How a place is found for a suffix among earlier names, where it is to be shared.
+-- How a place is found for a suffix among earlier names, where it is to be shared: the layout finds
+-- it by `shared_place`, and by `place_of` where a pointer reached every place.
 abbrev pub Lookup : Type 0
 Lookup = List Placed → DomainName → Option ℕ
 
@@ -95,7 +96,8 @@ octets_by find ms (l ∷ n) =
       | Some p ↦ pointer p
     ]
 
--- a suffix is shared that an earlier name has at a place which a pointer reaches
+-- so the layout writes it: a suffix is shared that an earlier name has at a place which a pointer
+-- reaches
 abbrev pub shared_octets : List Placed → DomainName → Octets
 shared_octets = octets_by shared_place
 
