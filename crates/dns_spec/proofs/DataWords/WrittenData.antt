@@ -32,11 +32,18 @@ module _
   stands_part : Stands b i x
   stands_part = stands_front x rest (subst (Stands b i) whole at)
 
-  stands_others : Stands b (i + length x) rest
-  stands_others = stands_rest x rest (subst (Stands b i) whole at)
-
-  ends_alike : i + length x + length rest ≡ i + length os
-  ends_alike = omega (arith, ap length whole, length-append x rest)
+  octets_written : (ps : List Piece) (j : ℕ) → i + length x ≡ j
+      → ((k : ℕ) → Stands b k rest → PiecesAt b ps k (k + length rest) rest)
+      → OctetsAt b i j x × PiecesAt b ps j (i + length os) rest
+  octets_written ps j place written =
+      let next : ℕ = i + length x in
+      let after = written next (stands_rest x rest (subst (Stands b i) whole at)) in
+      let end : next + length rest ≡ i + length os =
+      omega (arith, ap length whole, length-append x rest) in (
+        subst (λ z. OctetsAt b i z x) place (octets_at x stands_part),
+        subst (λ z. PiecesAt b ps z (i + length os) rest) place
+            (subst (λ e. PiecesAt b ps next e rest) end after),
+      )
 
 pub front_taken : (k : ℕ) (os : Octets) (part : Part) (rest : Octets)
     → octets_front k os ≡ Some (part, rest) → (os ≡ take k os ++ rest) × (length (take k os) ≡ k)
@@ -46,90 +53,49 @@ pub all_strings : (os rest : Octets) (part : Part) → strings_front os ≡ Some
     → (0 < length os) × (are_strings 0 os ≡ true) × (octets os ≡ part) × (rest ≡ [])
 all_strings os rest part h = grind (arith, cond_some, and_parts, eqb-false, not-true)
 
-nothing_after : {b : Octets} {i : ℕ} (os : Octets) → Stands b i os → Stands b (i + length os) []
-nothing_after {b} {i} os at = stands_rest os [] (subst (Stands b i) (sym (append-nil os)) at)
-
 pub pieces_written : {b : Octets} (ps : List Piece) (os : Octets) (xs : List Part) (i : ℕ)
     → cut ps os ≡ Some xs → Stands b i os → PiecesAt b ps i (i + length os) os
 unfolding cut
 pieces_written [] [] xs i h at = (sym (add-zero i), refl)
 pieces_written [] (o ∷ os) xs i h at = absurd (none-some xs h)
-pieces_written {b} (fixed f ∷ ps) os xs i h at =
+pieces_written (fixed f ∷ ps) os xs i h at =
     let c = cut_into (fixed f) ps os xs h in
-    let k = width f in
-    let t = front_taken k os c.part c.rest c.front in
-    let x = take k os in
-    let place : i + length x ≡ i + k = ap (λ z. i + z) t.1 in
-    let end : i + k + length c.rest ≡ i + length os =
-    omega (arith, ends_alike os x c.rest t.0 at, place) in (
-      x,
-      c.rest,
-      subst (λ z. OctetsAt b i (i + z) x) t.1 (octets_at x (stands_part os x c.rest t.0 at)),
-      t.0,
-      subst (λ e. PiecesAt b ps (i + k) e c.rest) end
-          (pieces_written ps c.rest c.others (i + k) c.more
-          (subst (λ z. Stands b z c.rest) place (stands_others os x c.rest t.0 at))),
-    )
-pieces_written {b} (domain ∷ ps) os xs i h at =
+    let t = front_taken (width f) os c.part c.rest c.front in
+    let x = take (width f) os in
+    let r = octets_written os x c.rest t.0 at ps (i + width f) (ap (λ z. i + z) t.1)
+    (λ k. pieces_written ps c.rest c.others k c.more) in
+    (x, c.rest, r.0, t.0, r.1)
+pieces_written (domain ∷ ps) os xs i h at =
     let c = cut_into domain ps os xs h in
     let m = name_part os c.rest c.part c.front in
-    let x = wire m.0 in (
-      m.0,
-      i + length x,
-      c.rest,
-      name_written m.0 m.2 (stands_part os x c.rest m.3 at),
-      m.3,
-      subst (λ e. PiecesAt b ps (i + length x) e c.rest) (ends_alike os x c.rest m.3 at)
-          (pieces_written ps c.rest c.others
-          (i + length x) c.more (stands_others os x c.rest m.3 at)),
-    )
-pieces_written {b} (string ∷ ps) [] xs i h at = absurd (none-some xs h)
-pieces_written {b} (string ∷ ps) (k ∷ os) xs i h at =
+    let x = wire m.0 in
+    let r = octets_written os x c.rest m.3 at ps (i + length x) refl
+    (λ k. pieces_written ps c.rest c.others k c.more) in
+    let spelled = name_written m.0 m.2 (stands_part os x c.rest m.3 at) in
+    (m.0, i + length x, c.rest, spelled, m.3, r.1)
+pieces_written (string ∷ ps) [] xs i h at = absurd (none-some xs h)
+pieces_written (string ∷ ps) (k ∷ os) xs i h at =
     let c = cut_into string ps (k ∷ os) xs h in
     let t = front_taken (suc k) (k ∷ os) c.part c.rest c.front in
     let x = take (suc k) (k ∷ os) in
-    let place : i + length x ≡ i + 1 + k = omega (arith, t.1) in
-    let end : i + 1 + k + length c.rest ≡ i + length (k ∷ os) =
-    omega (arith, ends_alike (k ∷ os) x c.rest t.0 at, place) in (
-      k,
-      x,
-      c.rest,
-      stands_get k os at,
-      subst (λ z. OctetsAt b i z x) place (octets_at x (stands_part (k ∷ os) x c.rest t.0 at)),
-      t.0,
-      subst (λ e. PiecesAt b ps (i + 1 + k) e c.rest) end
-          (pieces_written ps c.rest c.others (i + 1 + k) c.more
-          (subst (λ z. Stands b z c.rest) place (stands_others (k ∷ os) x c.rest t.0 at))),
-    )
-pieces_written {b} (strings ∷ ps) os xs i h at =
+    let r = octets_written (k ∷ os) x c.rest t.0 at ps (i + 1 + k) (omega (arith, t.1))
+    (λ k. pieces_written ps c.rest c.others k c.more) in
+    (k, x, c.rest, stands_get k os at, r.0, t.0, r.1)
+pieces_written (strings ∷ ps) os xs i h at =
     let c = cut_into strings ps os xs h in
     let t = all_strings os c.rest c.part c.front in
-    let e = i + length os in (
-      os,
-      [],
-      e,
-      octets_at os at,
-      t.0,
-      t.1,
-      sym (append-nil os),
-      refl,
-      subst (λ z. PiecesAt b ps e z []) (add-zero e)
-          (pieces_written ps [] c.others e (ap (cut ps) (sym t.3) ∙ c.more) (nothing_after os at)),
-    )
-pieces_written {b} (anything ∷ ps) os xs i h at =
+    let all = sym (append-nil os) in
+    let r = octets_written os os [] all at ps (i + length os) refl
+    (λ k. pieces_written ps [] c.others k (ap (cut ps) (sym t.3) ∙ c.more)) in
+    (os, [], i + length os, r.0, t.0, t.1, all, refl, r.1)
+pieces_written (anything ∷ ps) os xs i h at =
     let c = cut_into anything ps os xs h in
     let none : c.rest ≡ [] =
     sym (ap (λ z. z.1) (same_Some (octets os, []) (c.part, c.rest) c.front)) in
-    let e = i + length os in (
-      os,
-      [],
-      e,
-      octets_at os at,
-      sym (append-nil os),
-      refl,
-      subst (λ z. PiecesAt b ps e z []) (add-zero e)
-          (pieces_written ps [] c.others e (ap (cut ps) (sym none) ∙ c.more) (nothing_after os at)),
-    )
+    let all = sym (append-nil os) in
+    let r = octets_written os os [] all at ps (i + length os) refl
+    (λ k. pieces_written ps [] c.others k (ap (cut ps) (sym none) ∙ c.more)) in
+    (os, [], i + length os, r.0, all, refl, r.1)
 
 -- Valid data of class IN, written as it is, is read back.
 pub data_written : {b : Octets} {i : ℕ} (t : ℕ) (d : Octets)

@@ -1,5 +1,5 @@
 -- The layout, in which names share suffixes, spells its message.
-use Rattle.dns_spec.proofs.Common.{◌≡◌, ℕ, suc, ◌+◌, ◌^◌, ◌<◌, ◌≤◌, Bool, true, false, cond, nat_le, List, [], ◌∷◌, ◌++◌, map, length, take, drop, Option, None, Some, All, IfSome, is_some, unwrap_or, refl, sym, ap, ◌∙◌, subst, arith, append_assoc, append-nil, length-append, add-zero, zero-add, and_parts, false≢true, none-some, same_Some, cond_some, length-map, map-append, list_all, option_to_list, Octets, wire, is_label, labels_from, ResourceRecord, Header, MessageQuestion, MessageRecord, OctetsAt, NumberAt, PiecesAt, DataAt, RecordsAt, Spells, record_size, record_names, records_size, size, class_in, Fixed, width, Piece, fixed, domain, string, strings, anything, pieces_of, compresses, Part, octets, octets_front, piece_front, cut, valid, parts, laid_parts, octets16, octets32, answer, authority, additional, Item, records_of, in_section, Placed, shared_octets, data_laid, data_by, parts_of, record_tail, records_octets, records_by, question_octets, asked_octets, asked_placed, reply_header, layout, Section, message_record, message_of, IsWritable, IsAskable, HasRoom}
+use Rattle.dns_spec.proofs.Common.{◌≡◌, ℕ, suc, ◌+◌, ◌^◌, ◌<◌, ◌≤◌, Bool, true, false, cond, nat_le, List, [], ◌∷◌, ◌++◌, map, length, take, drop, Option, None, Some, All, IfSome, is_some, unwrap_or, refl, sym, ap, ◌∙◌, subst, arith, append_assoc, append-nil, length-append, add-zero, zero-add, and_parts, false≢true, none-some, same_Some, cond_some, length-map, map-append, list_all, option_to_list, Octets, wire, is_label, labels_from, ResourceRecord, Header, MessageQuestion, MessageRecord, OctetsAt, NumberAt, PiecesAt, DataAt, RecordsAt, Spells, record_size, record_names, records_size, size, class_in, width, Piece, fixed, domain, string, strings, anything, pieces_of, compresses, Part, octets, piece_front, cut, valid, parts, laid_parts, octets16, octets32, answer, authority, additional, Item, records_of, in_section, Placed, shared_octets, data_laid, data_by, parts_of, record_tail, records_octets, records_by, question_octets, asked_octets, asked_placed, reply_header, layout, Section, message_record, message_of, IsWritable, IsAskable, HasRoom}
 use Rattle.dns_spec.proofs.Records.SortedOnce.{Each, each_all}
 use Rattle.dns_spec.proofs.Messages.Places.{Stands, stands_front, stands_rest, stands_after, stands_all, stands_within, stands_get, number_at, octets_at}
 use Rattle.dns_spec.proofs.DataWords.WrittenData.{cut_into, name_part, octets_part, all_strings, front_taken, data_written}
