@@ -1,43 +1,24 @@
 -- The computed reader of names spells what the relation spells, and a place spells at most one
 -- name.
-use Rattle.dns_spec.proofs.Common.{◌≡◌, ℕ, zero, suc, ◌+◌, ◌-◌, ◌<◌, ◌≤◌, Bool, cond, ◌↔◌, inl, inr, [], ◌∷◌, length, take, drop, nat_lt, nat_le, Option, None, Some, slice_get, option_map, option_and_then, refl, sym, ap, ◌∙◌, subst, subst₂, arith, lt-ltb, le-ltb, le-leb, ne_eqb, rules, cases_lt, lt-leb, cond-true, none-some, same_Some, slice_get_past, slice_get_within, some_pair_parts, Octets, DomainName, with_label, ends, goes_on, jumps, pointer_place, RunAt, NameAt, RunStep, run_end, run_label, run_pointer, unlawful, pointer_step, step_of, jump, run, runs_before, name_if_short, name_at}
+use Rattle.dns_spec.proofs.Common.{◌≡◌, ℕ, zero, suc, ◌+◌, ◌-◌, ◌<◌, ◌≤◌, ◌↔◌, inl, inr, [], ◌∷◌, length, take, drop, Option, None, Some, slice_get, option_map, option_and_then, refl, sym, ap, ◌∙◌, subst, subst₂, arith, lt-ltb, le-ltb, le-leb, ne_eqb, rules, cases_lt, lt-leb, cond-true, none-some, same_Some, slice_get_past, slice_get_within, some_pair_parts, Octets, DomainName, with_label, ends, goes_on, jumps, pointer_place, RunAt, NameAt, RunStep, run_end, run_label, run_pointer, unlawful, step_of, jump, run, runs_before, name_if_short, name_at}
 
--- What stands at a place: the seven ways in which a reader of names can go on.
-pub data OctetAt (b : Octets) (i : ℕ) : Type 0 where
-  missing : slice_get b i ≡ None → OctetAt b i
-  root : slice_get b i ≡ Some 0 → OctetAt b i
-  label : (k : ℕ) → slice_get b i ≡ Some k → 0 < k → k < 64 → i + 1 + k ≤ length b → OctetAt b i
-  label_past : (k : ℕ)
-      → slice_get b i ≡ Some k → 0 < k → k < 64 → length b < i + 1 + k → OctetAt b i
-  reserved : (o : ℕ) → slice_get b i ≡ Some o → 64 ≤ o → o < 192 → OctetAt b i
-  pointer : (o o' : ℕ)
-      → slice_get b i ≡ Some o → 192 ≤ o → slice_get b (i + 1) ≡ Some o' → OctetAt b i
-  half_pointer : (o : ℕ)
-      → slice_get b i ≡ Some o → 192 ≤ o → slice_get b (i + 1) ≡ None → OctetAt b i
+-- What stands at a place, by the step that a run takes there.
+abbrev StepAt : Octets → ℕ → RunStep → Type 0
+StepAt b i run_end = slice_get b i ≡ Some 0
+StepAt b i (run_label k) =
+    (slice_get b i ≡ Some k) × (0 < k) × (k < 64) × (i + 1 + k ≤ length b)
+StepAt b i (run_pointer p) =
+    (o o' : ℕ) × (slice_get b i ≡ Some o) × (192 ≤ o) × (slice_get b (i + 1) ≡ Some o')
+    × (p ≡ pointer_place o o')
+StepAt b i unlawful = Unit {0}
 
-second_octet : (b : Octets) (i o : ℕ)
-    → slice_get b i ≡ Some o → 192 ≤ o → (x : Option ℕ) → slice_get b (i + 1) ≡ x → OctetAt b i
-second_octet b i o e h None f = half_pointer o e h f
-second_octet b i o e h (Some o') f = pointer o o' e h f
+step_at : (b : Octets) (i : ℕ) → StepAt b i (step_of b i (slice_get b i))
+step_at b i = go (slice_get b i) (slice_get b (i + 1)) refl refl
+  where
+    go : (x y : Option ℕ) → slice_get b i ≡ x → slice_get b (i + 1) ≡ y → StepAt b i (step_of b i x)
+    go x y e f = grind arith
 
-first_octet : (b : Octets) (i : ℕ) (x : Option ℕ) → slice_get b i ≡ x → OctetAt b i
-first_octet b i None e = missing e
-first_octet b i (Some zero) e = root e
-first_octet b i (Some (suc k)) e = elim (cases_lt (suc k) 64) [
-  | inl low ↦ elim (cases_lt (length b) (i + 1 + suc k)) [
-    | inl past ↦ label_past (suc k) e (omega arith) low past
-    | inr inside ↦ label (suc k) e (omega arith) low inside
-  ]
-  | inr high ↦ elim (cases_lt (suc k) 192) [
-    | inl below ↦ reserved (suc k) e high below
-    | inr above ↦ second_octet b i (suc k) e above (slice_get b (i + 1)) refl
-  ]
-]
-
-pub octet_at : (b : Octets) (i : ℕ) → OctetAt b i
-octet_at b i = first_octet b i (slice_get b i) refl
-
--- One step of the computed reader, test by test.
+-- One step of the computed reader.
 module _ (known : ℕ → Option (DomainName × ℕ)) (b : Octets) (s r i : ℕ) where
   abbrev at_step : RunStep → Option (DomainName × ℕ)
   at_step run_end = Some ([], i + 1)
@@ -45,13 +26,6 @@ module _ (known : ℕ → Option (DomainName × ℕ)) (b : Octets) (s r i : ℕ)
       option_map (with_label (take k (drop (i + 1) b))) (run known b s r (i + 1 + k))
   at_step (run_pointer p) = jump known s i p
   at_step unlawful = None
-
-  abbrev high_step : ℕ → Bool → RunStep
-  high_step o t = cond t unlawful (pointer_step o (slice_get b (i + 1)))
-
-  abbrev low_step : ℕ → Bool → RunStep
-  low_step o t = cond t
-      (cond (nat_le (i + 1 + o) (length b)) (run_label o) unlawful) (high_step o (nat_lt o 192))
 
   step_is : (x : Option ℕ) → slice_get b i ≡ x → run known b s (suc r) i ≡ at_step (step_of b i x)
   unfolding run
@@ -63,44 +37,25 @@ module _ (known : ℕ → Option (DomainName × ℕ)) (b : Octets) (s r i : ℕ)
   step_root : slice_get b i ≡ Some 0 → run known b s (suc r) i ≡ Some ([], i + 1)
   step_root e = step_is (Some 0) e
 
-  at_some : (o : ℕ) → slice_get b i ≡ Some o
-      → 0 < o → run known b s (suc r) i ≡ at_step (low_step o (nat_lt o 64))
-  at_some o e h = step_is (Some o) e ∙ ap
-      (λ t. at_step (cond t run_end (low_step o (nat_lt o 64)))) (ne_eqb o 0 (λ z. omega arith))
-
   step_label : (k : ℕ)
       → slice_get b i ≡ Some k → 0 < k → k < 64 → i + 1 + k ≤ length b → run known b s
       (suc r) i ≡ option_map (with_label (take k (drop (i + 1) b))) (run known b s r (i + 1 + k))
   step_label k e h l w =
-      at_some k e h ∙ ap (λ t. at_step (low_step k t)) (lt-ltb k 64 l)
-      ∙ ap (λ t. at_step (cond t (run_label k) unlawful)) (le-leb (i + 1 + k) (length b) w)
+      let step : step_of b i (Some k) ≡ run_label k = grind (arith, ne_eqb, lt-ltb, le-leb) in
+      step_is (Some k) e ∙ ap at_step step
 
   step_label_past : (k : ℕ) → slice_get b i ≡ Some k
       → 0 < k → k < 64 → length b < i + 1 + k → run known b s (suc r) i ≡ None
   step_label_past k e h l w =
-      at_some k e h ∙ ap (λ t. at_step (low_step k t)) (lt-ltb k 64 l)
-      ∙ ap (λ t. at_step (cond t (run_label k) unlawful)) (lt-leb (i + 1 + k) (length b) w)
-
-  at_high : (o : ℕ) → slice_get b i ≡ Some o
-      → 64 ≤ o → run known b s (suc r) i ≡ at_step (high_step o (nat_lt o 192))
-  at_high o e h = at_some o e (omega arith) ∙ ap (λ t. at_step (low_step o t)) (le-ltb o 64 h)
-
-  step_reserved : (o : ℕ)
-      → slice_get b i ≡ Some o → 64 ≤ o → o < 192 → run known b s (suc r) i ≡ None
-  step_reserved o e h l = at_high o e h ∙ ap (λ t. at_step (high_step o t)) (lt-ltb o 192 l)
-
-  at_second : (o : ℕ) (x : Option ℕ) → slice_get b i ≡ Some o
-      → 192 ≤ o → slice_get b (i + 1) ≡ x → run known b s (suc r) i ≡ at_step (pointer_step o x)
-  at_second o x e h f = at_high o e (omega arith)
-      ∙ ap (λ t. at_step (high_step o t)) (le-ltb o 192 h) ∙ ap (λ z. at_step (pointer_step o z)) f
+      let step : step_of b i (Some k) ≡ unlawful = grind (arith, ne_eqb, lt-ltb, lt-leb) in
+      step_is (Some k) e ∙ ap at_step step
 
   step_pointer : (o o' : ℕ) → slice_get b i ≡ Some o → 192 ≤ o → slice_get b (i + 1) ≡ Some o'
       → run known b s (suc r) i ≡ jump known s i (pointer_place o o')
-  step_pointer o o' e h f = at_second o (Some o') e h f
-
-  step_half_pointer : (o : ℕ) → slice_get b i ≡ Some o
-      → 192 ≤ o → slice_get b (i + 1) ≡ None → run known b s (suc r) i ≡ None
-  step_half_pointer o e h f = at_second o None e h f
+  step_pointer o o' e h f =
+      let step : step_of b i (Some o) ≡ run_pointer (pointer_place o o') =
+      grind (arith, ne_eqb, le-ltb) in
+      step_is (Some o) e ∙ ap at_step step
 
 -- a jump to a place in the range, and to another
 after : ℕ → Option (DomainName × ℕ) → Option (DomainName × ℕ)
@@ -137,31 +92,24 @@ past_end known b s r i h = grind (arith, step_missing, slice_get_past)
 
 same_step : (known known' : ℕ → Option (DomainName × ℕ)) (b : Octets) (s r r' i : ℕ)
     → Alike s known known' → ((j : ℕ) → i < j → run known b s r j ≡ run known' b s r' j)
-    → OctetAt b i → run known b s (suc r) i ≡ run known' b s (suc r') i
-same_step known known' b s r r' i a again (missing e) = grind (arith, step_missing)
-same_step known known' b s r r' i a again (root e) = grind (arith, step_root)
-same_step known known' b s r r' i a again (label k e g l w) =
-    step_label known b s r i k e g l w
-    ∙ ap (option_map (with_label (take k (drop (i + 1) b)))) (again (i + 1 + k) (omega arith))
-    ∙ sym (step_label known' b s r' i k e g l w)
-same_step known known' b s r r' i a again (label_past k e g l w) =
-    step_label_past known b s r i k e g l w ∙ sym (step_label_past known' b s r' i k e g l w)
-same_step known known' b s r r' i a again (reserved o e g l) =
-    step_reserved known b s r i o e g l ∙ sym (step_reserved known' b s r' i o e g l)
-same_step known known' b s r r' i a again (pointer o o' e g f) =
-    step_pointer known b s r i o o' e g f
-    ∙ same_jump known known' s i (pointer_place o o') a (place_for s (pointer_place o o'))
-    ∙ sym (step_pointer known' b s r' i o o' e g f)
-same_step known known' b s r r' i a again (half_pointer o e g f) =
-    step_half_pointer known b s r i o e g f ∙ sym (step_half_pointer known' b s r' i o e g f)
+    → (step : RunStep) → at_step known b s r i step ≡ at_step known' b s r' i step
+same_step known known' b s r r' i a again run_end = refl
+same_step known known' b s r r' i a again (run_label k) =
+    ap (option_map (with_label (take k (drop (i + 1) b)))) (again (i + 1 + k) (omega arith))
+same_step known known' b s r r' i a again (run_pointer p) =
+    same_jump known known' s i p a (place_for s p)
+same_step known known' b s r r' i a again unlawful = refl
 
 pub same_run : (known known' : ℕ → Option (DomainName × ℕ)) (b : Octets) (s r r' i : ℕ) → Alike
     s known known' → length b - i ≤ r → length b - i ≤ r' → run known b s r i ≡ run known' b s r' i
 same_run known known' b s zero r' i a h h' = grind (arith, past_end, zero)
 same_run known known' b s (suc r) zero i a h h' = grind (arith, past_end, zero)
 same_run known known' b s (suc r) (suc r') i a h h' =
-    same_step known known' b s r r' i a
-    (λ j l. same_run known known' b s r r' j a (omega arith) (omega arith)) (octet_at b i)
+    step_is known b s r i (slice_get b i) refl
+    ∙ same_step known known' b s r r' i a
+    (λ j l. same_run known known' b s r r' j a (omega arith) (omega arith))
+    (step_of b i (slice_get b i))
+    ∙ sym (step_is known' b s r' i (slice_get b i) refl)
 
 -- The relation is computed.
 known_is : (b : Octets) (k p : ℕ) → runs_before b (suc k) p ≡ run (runs_before b k) b p (length b) p
@@ -203,17 +151,15 @@ after_parts i None n e h = absurd (none-some (n, e) h)
 after_parts i (Some (m, d)) n e h =
     let p = some_pair_parts m n (i + 2) e h in (d, ap (λ x. Some (x, d)) p.0, p.1)
 
-sound_jump : (known : ℕ → Option (DomainName × ℕ)) (b : Octets)
-    → Truthful b known → (s i o o' : ℕ) (n : DomainName) (e : ℕ) → slice_get b i ≡ Some o
-    → 192 ≤ o → slice_get b (i + 1) ≡ Some o' → PlaceFor s (pointer_place o o')
-    → jump known s i (pointer_place o o') ≡ Some (n, e) → RunAt b s i n e
+sound_jump : (known : ℕ → Option (DomainName × ℕ)) (b : Octets) → Truthful b known
+    → (s i p : ℕ) (n : DomainName) (e : ℕ) → StepAt b i (run_pointer p)
+    → PlaceFor s p → jump known s i p ≡ Some (n, e) → RunAt b s i n e
 unfolding after
-sound_jump known b t s i o o' n e at top at' (lawful from before) is =
-    let p = pointer_place o o' in
+sound_jump known b t s i p n e (o, o', at, top, at', place) (lawful from before) is =
     let q = after_parts i (known p) n e (sym (jump_lawful known s i p from before) ∙ is) in
-    subst (RunAt b s i n) q.2 (jumps i o o' p n q.0 at top at' refl from before (t p n q.0 q.1))
-sound_jump known b t s i o o' n e at top at' (too_low h) is = grind arith
-sound_jump known b t s i o o' n e at top at' (too_high h) is = grind arith
+    subst (RunAt b s i n) q.2 (jumps i o o' p n q.0 at top at' place from before (t p n q.0 q.1))
+sound_jump known b t s i p n e at (too_low h) is = grind arith
+sound_jump known b t s i p n e at (too_high h) is = grind arith
 
 labelled_parts : (l : Octets) (x : Option (DomainName × ℕ)) (n : DomainName) (e : ℕ)
     → option_map (with_label l) x ≡ Some (n, e) → (m : DomainName) × (x ≡ Some (m, e)) × (l ∷ m ≡ n)
@@ -221,32 +167,27 @@ labelled_parts l x n e h = grind arith
 
 sound_step : (known : ℕ → Option (DomainName × ℕ)) (b : Octets) → Truthful b known → (s r i : ℕ)
     (n : DomainName) (e : ℕ) → ((j : ℕ) (m : DomainName) (d : ℕ) → run known b s r j ≡ Some (m, d)
-    → RunAt b s j m d) → OctetAt b i → run known b s (suc r) i ≡ Some (n, e) → RunAt b s i n e
-sound_step known b t s r i n e again (missing at) is = grind (arith, none-some, step_missing)
-sound_step known b t s r i n e again (root at) is =
-    grind (arith, some_pair_parts, step_root, subst₂, RunAt, ends)
-sound_step known b t s r i n e again (label k at pos low inside) is =
+    → RunAt b s j m d) → (step : RunStep) → StepAt b i step
+    → at_step known b s r i step ≡ Some (n, e) → RunAt b s i n e
+sound_step known b t s r i n e again run_end at is =
+    grind (arith, some_pair_parts, subst₂, RunAt, ends)
+sound_step known b t s r i n e again (run_label k) (at, pos, low, inside) is =
     let l = take k (drop (i + 1) b) in
-    let q = labelled_parts l (run known b s r (i + 1 + k)) n e
-    (sym (step_label known b s r i k at pos low inside) ∙ is) in
+    let q = labelled_parts l (run known b s r (i + 1 + k)) n e is in
     subst (λ x. RunAt b s i x e) q.2
     (goes_on i k l q.0 e at pos low inside refl (again (i + 1 + k) q.0 e q.1))
-sound_step known b t s r i n e again (label_past k at pos low past) is =
-    absurd (none-some (n, e) (sym (step_label_past known b s r i k at pos low past) ∙ is))
-sound_step known b t s r i n e again (reserved o at from below) is =
-    absurd (none-some (n, e) (sym (step_reserved known b s r i o at from below) ∙ is))
-sound_step known b t s r i n e again (pointer o o' at top at') is =
-    sound_jump known b t s i o o' n e at top at'
-    (place_for s (pointer_place o o')) (sym (step_pointer known b s r i o o' at top at') ∙ is)
-sound_step known b t s r i n e again (half_pointer o at top at') is =
-    absurd (none-some (n, e) (sym (step_half_pointer known b s r i o at top at') ∙ is))
+sound_step known b t s r i n e again (run_pointer p) at is =
+    sound_jump known b t s i p n e at (place_for s p) is
+sound_step known b t s r i n e again unlawful at is = absurd (none-some (n, e) is)
 
 sound_run : (known : ℕ → Option (DomainName × ℕ)) (b : Octets) → Truthful b known
     → (s r i : ℕ) (n : DomainName) (e : ℕ) → run known b s r i ≡ Some (n, e) → RunAt b s i n e
 unfolding run
 sound_run known b t s zero i n e is = absurd (none-some (n, e) is)
 sound_run known b t s (suc r) i n e is =
-    sound_step known b t s r i n e (λ j m d h. sound_run known b t s r j m d h) (octet_at b i) is
+    sound_step known b t s r i n e (λ j m d h. sound_run known b t s r j m d h)
+    (step_of b i (slice_get b i)) (step_at b i)
+    (sym (step_is known b s r i (slice_get b i) refl) ∙ is)
 
 sound : (b : Octets) (k : ℕ) → Truthful b (runs_before b k)
 unfolding runs_before
@@ -315,21 +256,18 @@ module _ (d : Octets) (i : ℕ) where
   jump12 : (p : ℕ) → PlaceFor 12 p → jump none_before 12 i p ≡ None
   jump12 p h = grind arith
 
-  high12 : (o : ℕ) → slice_get d i ≡ Some o
-      → 64 ≤ o → OctetAt d i → run none_before d 12 (suc (length d - i)) i ≡ None
-  high12 o at from (missing e) = step_missing none_before d 12 (length d - i) i e
-  high12 o at from (root e) = absurd (omega (arith, same_Some o 0 (sym at ∙ e)))
-  high12 o at from (label k e pos low inside) = absurd (omega (arith, same_Some o k (sym at ∙ e)))
-  high12 o at from (label_past k e pos low past) = grind (arith, step_label_past)
-  high12 o at from (reserved k e above below) = search (rules, step_reserved)
-  high12 o at from (pointer k o' e top at') =
-      step_pointer none_before d 12 (length d - i) i k o' e top at'
-      ∙ jump12 (pointer_place k o') (place_for 12 (pointer_place k o'))
-  high12 o at from (half_pointer k e top at') = search (rules, step_half_pointer)
+  high12 : (o : ℕ) → slice_get d i ≡ Some o → 64 ≤ o → (step : RunStep) → StepAt d i step
+      → at_step none_before d 12 (length d - i) i step ≡ None
+  high12 o at from run_end e = absurd (omega (arith, same_Some o 0 (sym at ∙ e)))
+  high12 o at from (run_label k) e = absurd (omega (arith, same_Some o k (sym at ∙ e.0)))
+  high12 o at from (run_pointer p) e = jump12 p (place_for 12 p)
+  high12 o at from unlawful e = refl
 
   -- a reserved octet, or a pointer
   pub run12_high : (o : ℕ) → slice_get d i ≡ Some o → 64 ≤ o → run12 d i ≡ None
-  run12_high o at from = search (rules, run12_suc, high12, octet_at)
+  run12_high o at from =
+      run12_suc ∙ step_is none_before d 12 (length d - i) i (slice_get d i) refl
+      ∙ high12 o at from (step_of d i (slice_get d i)) (step_at d i)
 
 -- the name at place 12 is read so
 pub name_at_12 : (d : Octets) → name_at d 12 ≡ option_and_then name_if_short (run12 d 12)
