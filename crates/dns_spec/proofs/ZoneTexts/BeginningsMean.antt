@@ -1,7 +1,7 @@
 -- The first fault of a beginning of a text is the fault of the text.
-use Rattle.dns_spec.proofs.Common.{◌≡◌, ℕ, zero, suc, ◌≤◌, ◌⊎◌, inl, inr, Bool, true, false, ◌&&◌, not, Option, Some, None, List, [], ◌∷◌, ◌++◌, map, length, take, drop, refl, sym, ◌∙◌, ap, subst, arith, false≢true, true≢false, none-some, same_Some, cons_option, Octets, DomainName, ResourceRecord, FileFault, bad_parenthesis, too_long, faulty, gives, Meaning, records, fault_at, after, line_after, EntriesMean, Means, most_octets, extent_of, Token, token_front, TokensThen, parenthesis, parentheses, is_line_end, open_after, before_first, cut_entries, take_turns, is_open_at_end, is_cut_short, string_length, Extent, beginning, stop_at, string_fault, stop_fault, Entry, ended, unended, with_end, OctetsMean}
+use Rattle.dns_spec.proofs.Common.{append-nil, ◌≡◌, ℕ, zero, suc, ◌≤◌, ◌⊎◌, inl, inr, Bool, true, false, ◌&&◌, not, Option, Some, None, List, [], ◌∷◌, ◌++◌, map, length, take, drop, refl, sym, ◌∙◌, ap, subst, arith, false≢true, true≢false, none-some, same_Some, cons_option, Octets, DomainName, ResourceRecord, FileFault, bad_parenthesis, too_long, faulty, gives, Meaning, records, fault_at, after, line_after, EntriesMean, Means, most_octets, extent_of, Token, token_front, TokensThen, parenthesis, parentheses, is_line_end, open_after, before_first, cut_entries, take_turns, is_open_at_end, is_cut_short, string_length, Extent, beginning, stop_at, string_fault, stop_fault, Entry, ended, unended, with_end, OctetsMean}
 use mathlib.Core.Bool.{xor}
-use Rattle.dns_spec.proofs.ZoneTexts.TextTokens.{has_tokens}
+use Rattle.dns_spec.proofs.ZoneTexts.TextTokens.{has_tokens, tokens_cut}
 use Rattle.dns_spec.proofs.ZoneTexts.Beginnings.{Loose, run_more, dropped_more, stop_place, front_kept, none_kept, cut_none}
 
 -- the tokens that a text begins with, wherever it goes on: all of its beginning, or all but the
@@ -163,8 +163,7 @@ unmarked_end [] t e = ap (λ mark. cons_option mark []) e
 unmarked_end (u ∷ ts) t e = ap (cons_option (parenthesis u)) (unmarked_end ts t e)
 
 no_end : (ts : List Token) → parentheses (ts ++ []) ≡ parentheses ts
-no_end [] = refl
-no_end (t ∷ ts) = ap (cons_option (parenthesis t)) (no_end ts)
+no_end ts = ap parentheses (append-nil ts)
 
 -- why a beginning can't go on, and why the text can't
 string_fault_more : (place more : Octets)
@@ -284,20 +283,15 @@ module _ (o : DomainName) (earlier : List Entry) (fault : FileFault)
         (unended beginning rest last ∷ []) (fault_at fault line) → EntriesMean o before
         (with_end extent end (before_all c.part (cut_entries c.now_open us))) (fault_at fault line))
         → OctetsMean o earlier extent (front ++ more) (fault_at fault line)
-    goes_on us end h none tail = (
-      with_end extent end (cut_entries false (s.sure ++ us)),
-      record {
-        tokens = s.sure ++ us;
-        rest = end;
-        spelled = tokens_then (front ++ more) (s.middle ++ more) end s.sure us s.spelled h;
-        at_end = none;
-        entries = refl;
-      },
-      subst (λ es. EntriesMean o earlier es (fault_at fault line))
-          (sym (cut_with extent end s.sure us c))
-          (entries_then o fault line earlier
-          (map ended c.whole) (unended beginning rest last ∷ []) _ tail begun),
-    )
+    goes_on us end h none tail =
+        let spelled = tokens_then (front ++ more) (s.middle ++ more) end s.sure us s.spelled h in (
+          with_end extent end (cut_entries false (s.sure ++ us)),
+          tokens_cut extent (front ++ more) (s.sure ++ us) end spelled none,
+          subst (λ es. EntriesMean o earlier es (fault_at fault line))
+              (sym (cut_with extent end s.sure us c))
+              (entries_then o fault line earlier
+              (map ended c.whole) (unended beginning rest last ∷ []) _ tail begun),
+        )
 
     -- the misplaced parenthesis of the last entry
     wrong : (us : List Token) (end : Octets) (before : List Entry) → take_turns false (parentheses
