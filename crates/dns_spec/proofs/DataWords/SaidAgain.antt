@@ -1,6 +1,6 @@
 -- The words that are written for valid data say that data again, each of them stands alone, and a
 -- reader takes them in whole.
-use Rattle.dns_spec.proofs.Common.{◌≡◌, ℕ, zero, suc, ◌*◌, ◌<◌, ◌≤◌, ◌⊎◌, inl, inr, true, false, Bool, ◌||◌, max, Option, None, Some, List, [], ◌∷◌, ◌++◌, length, drop, replicate, nat_le, refl, sym, ◌∙◌, ap, subst, arith, append-nil, false≢true, and_parts, and_from, leb-true, cases_Bool, or_cases, none-some, same_Some, cond_some, some_pair_parts, option_map, unwrap_or, list_all, find, flat_map, Octets, DomainName, name_of, numbers, ipv4, ipv6, Piece, fixed, domain, string, strings, anything, TypeRow, row_of, other_type, pieces_of, Part, name, part_octets, octets_front, piece_front, cut, valid, lower_case, Word, WordForm, name_word, string_word, forms_in, forms_of, SaysTyped, SaysAsSpelled, Says, is_word_octet, word_front, form_words, string_count, words_by, written_words, unknown_words, hex_words, stands_alone}
+use Rattle.dns_spec.proofs.Common.{length-replicate, ◌≡◌, ℕ, zero, suc, ◌*◌, ◌<◌, ◌≤◌, ◌⊎◌, inl, inr, true, false, Bool, ◌||◌, max, Option, None, Some, List, [], ◌∷◌, ◌++◌, length, drop, replicate, nat_le, refl, sym, ◌∙◌, ap, subst, arith, append-nil, false≢true, and_parts, and_from, leb-true, cases_Bool, or_cases, none-some, same_Some, cond_some, some_pair_parts, option_map, unwrap_or, list_all, find, flat_map, Octets, DomainName, name_of, numbers, ipv4, ipv6, Piece, fixed, domain, string, strings, anything, TypeRow, row_of, other_type, pieces_of, Part, name, part_octets, octets_front, piece_front, cut, valid, lower_case, Word, WordForm, name_word, string_word, forms_in, forms_of, SaysTyped, SaysAsSpelled, Says, is_word_octet, word_front, form_words, string_count, words_by, written_words, unknown_words, hex_words, stands_alone}
 use Rattle.dns_spec.proofs.Records.SortedOnce.{Each}
 use Rattle.dns_spec.proofs.DomainNames.SmallOctets.{Small, small_back}
 use Rattle.dns_spec.proofs.DataWords.WrittenData.{cut_into, all_strings}
@@ -84,13 +84,8 @@ length-form_words (f ∷ fs) d = ap suc (length-form_words fs (word_front f d).1
 
 -- strings to the end
 abbrev are_strings_alone : List Piece → Bool
-are_strings_alone [] = false
-are_strings_alone (p ∷ q ∷ ps) = false
-are_strings_alone (fixed f ∷ []) = false
-are_strings_alone (domain ∷ []) = false
-are_strings_alone (string ∷ []) = false
 are_strings_alone (strings ∷ []) = true
-are_strings_alone (anything ∷ []) = false
+are_strings_alone _ = false
 
 only_strings : (ps : List Piece) → are_strings_alone ps ≡ true → ps ≡ strings ∷ []
 only_strings ps h = grind arith
@@ -128,10 +123,6 @@ some_string : (d : Octets) → 0 < length d → 0 < string_count 0 d
 some_string [] some = absurd (omega (arith, some))
 some_string (k ∷ d) some = omega arith
 
-length-replicate_strings : (n : ℕ) → length (replicate n string_word) ≡ n
-length-replicate_strings zero = refl
-length-replicate_strings (suc n) = ap suc (length-replicate_strings n)
-
 strings_formed : (t : ℕ) (origin : DomainName) (d : Octets) (made : TypeRow) (xs : List Part)
     → row_of t ≡ Some made
     → made.pieces ≡ strings ∷ [] → cut (strings ∷ []) d ≡ Some xs → Small d → Formed t origin d
@@ -143,7 +134,7 @@ strings_formed t origin d made xs e alone h small =
     let count : max 1 k ≡ k = omega (arith, some_string d all.0) in
     let forms : forms_by k made ≡ fs = ap (flat_map (forms_in k)) alone
     ∙ append-nil (replicate (max 1 k) string_word) ∙ ap (λ j. replicate j string_word) count in
-    let long : length fs ≡ k = length-replicate_strings k in
+    let long : length fs ≡ k = length-replicate k string_word in
     record {
       forms = fs;
       of_data = forms_are t k made e ∙ ap (λ x. Some x) forms;
