@@ -1,6 +1,6 @@
 -- The words that are written for valid data say that data again, each of them stands alone, and a
 -- reader takes them in whole.
-use Rattle.dns_spec.proofs.Common.{length-replicate, ◌≡◌, ℕ, zero, suc, ◌*◌, ◌<◌, ◌≤◌, ◌⊎◌, inl, inr, true, false, Bool, ◌||◌, max, Option, None, Some, List, [], ◌∷◌, ◌++◌, length, drop, replicate, nat_le, refl, sym, ◌∙◌, ap, subst, arith, append-nil, false≢true, and_parts, and_from, leb-true, cases_Bool, or_cases, none-some, same_Some, cond_some, some_pair_parts, option_map, unwrap_or, list_all, find, flat_map, Octets, DomainName, name_of, numbers, ipv4, ipv6, Piece, fixed, domain, string, strings, anything, TypeRow, row_of, other_type, pieces_of, Part, name, part_octets, octets_front, piece_front, cut, valid, lower_case, Word, WordForm, name_word, string_word, forms_in, forms_of, SaysTyped, SaysAsSpelled, Says, is_word_octet, word_front, form_words, string_count, words_by, written_words, unknown_words, hex_words, stands_alone}
+use Rattle.dns_spec.proofs.Common.{length-replicate, ◌≡◌, ℕ, suc, ◌*◌, ◌<◌, ◌≤◌, ◌⊎◌, inl, inr, true, false, Bool, ◌||◌, max, Option, None, Some, List, [], ◌∷◌, ◌++◌, length, drop, replicate, nat_le, refl, sym, ◌∙◌, ap, subst, arith, append-nil, false≢true, and_parts, and_from, leb-true, cases_Bool, or_cases, none-some, same_Some, cond_some, some_pair_parts, option_map, unwrap_or, list_all, find, flat_map, Octets, DomainName, name_of, numbers, ipv4, ipv6, Piece, fixed, domain, string, strings, anything, TypeRow, row_of, other_type, pieces_of, Part, name, part_octets, octets_front, piece_front, cut, valid, lower_case, Word, WordForm, name_word, string_word, forms_in, forms_of, SaysTyped, SaysAsSpelled, Says, is_word_octet, word_front, form_words, string_count, words_by, written_words, unknown_words, hex_words, stands_alone}
 use Rattle.dns_spec.proofs.Records.SortedOnce.{Each}
 use Rattle.dns_spec.proofs.DomainNames.SmallOctets.{Small, small_back}
 use Rattle.dns_spec.proofs.DataWords.WrittenData.{cut_into, all_strings}

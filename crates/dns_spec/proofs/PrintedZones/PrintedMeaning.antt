@@ -5,17 +5,12 @@ use Rattle.dns_spec.proofs.NameTexts.WrittenNames.{name_spelled}
 use Rattle.dns_spec.proofs.DataWords.SaidAgain.{data_said}
 use Rattle.dns_spec.proofs.PrintedZones.PrintedLines.{line_tokens, line_pieces_read, line_cut, line_parentheses, line_words_again}
 use Rattle.dns_spec.proofs.ZoneTexts.GivenRecords.{record_given, given_then}
+use Rattle.dns_spec.proofs.ZoneTexts.TextTokens.{tokens_then}
 
 -- the tokens of the lines, one line after the other
 lines_tokens : List ResourceRecord → List Token
 lines_tokens [] = []
 lines_tokens (r ∷ rs) = line_tokens r ++ lines_tokens rs
-
-tokens_then : (ps qs : List Token) (text middle rest : Octets)
-    → TokensThen text ps middle → TokensThen middle qs rest → TokensThen text (ps ++ qs) rest
-tokens_then [] qs text middle rest h k = subst (λ t. TokensThen t qs rest) (sym h) k
-tokens_then (p ∷ ps) qs text middle rest (others, e, h) k =
-    (others, e, tokens_then ps qs others middle rest h k)
 
 lines_read : (rs : List ResourceRecord)
     → Each IsReadRecord rs → TokensThen (flat_map record_line rs) (lines_tokens rs) []

@@ -1,7 +1,7 @@
 -- The first fault of a beginning of a text is the fault of the text.
 use Rattle.dns_spec.proofs.Common.{append-nil, ◌≡◌, ℕ, zero, suc, ◌≤◌, ◌⊎◌, inl, inr, Bool, true, false, ◌&&◌, not, Option, Some, None, List, [], ◌∷◌, ◌++◌, map, length, take, drop, refl, sym, ◌∙◌, ap, subst, arith, false≢true, true≢false, none-some, same_Some, cons_option, Octets, DomainName, ResourceRecord, FileFault, bad_parenthesis, too_long, faulty, gives, Meaning, records, fault_at, after, line_after, EntriesMean, Means, most_octets, extent_of, Token, token_front, TokensThen, parenthesis, parentheses, is_line_end, open_after, before_first, cut_entries, take_turns, is_open_at_end, is_cut_short, string_length, Extent, beginning, stop_at, string_fault, stop_fault, Entry, ended, unended, with_end, OctetsMean}
 use mathlib.Core.Bool.{xor}
-use Rattle.dns_spec.proofs.ZoneTexts.TextTokens.{has_tokens, tokens_cut}
+use Rattle.dns_spec.proofs.ZoneTexts.TextTokens.{has_tokens, tokens_cut, tokens_then}
 use Rattle.dns_spec.proofs.ZoneTexts.Beginnings.{Loose, run_more, dropped_more, stop_place, front_kept, none_kept, cut_none}
 
 -- the tokens that a text begins with, wherever it goes on: all of its beginning, or all but the
@@ -187,12 +187,6 @@ cut_place is_open o text = grind arith
 cut_rest : (is_open : Bool) (rest : Octets)
     → is_cut_short rest ≡ true → stop_fault beginning is_open (stop_at rest) ≡ Some too_long
 cut_rest is_open rest h = grind arith
-
-tokens_then : (text middle rest : Octets) (ts us : List Token)
-    → TokensThen text ts middle → TokensThen middle us rest → TokensThen text (ts ++ us) rest
-tokens_then text middle rest [] us h k = subst (λ t. TokensThen t us rest) (sym h) k
-tokens_then text middle rest (t ∷ ts) us (others, e, h) k =
-    (others, e, tokens_then others middle rest ts us h k)
 
 -- the entries that a text is known to begin with give what they give, whatever comes after them
 module _ (o : DomainName) (fault : FileFault) (line : ℕ) where

@@ -1,5 +1,5 @@
 -- The records that a text means are such as are read, of types that zones have, and few enough.
-use Rattle.dns_spec.proofs.Common.{◌≡◌, ℕ, ◌+◌, ◌<◌, ◌≤◌, ◌⊎◌, Bool, true, false, cond, All, List, [], ◌∷◌, ◌++◌, length, drop, filter, Option, Some, None, sym, subst, arith, codes, IsTrue, length-append, rules, All-weaker, ⊤, MatchOption, Octets, DomainName, is_name, folded, SpellsName, valid, lower_case, Word, ResourceRecord, FileFault, IsReadRecord, HasZoneType, Entry, EntryMeaning, faulty, gives, EntryKind, no_words, directive, owned, unowned, kind_of, directive_word, is_record, OriginIs, NameIs, OwnerBefore, most_ttl, TtlIs, TypeIs, DataIs, is_zone_type, Fields, fields, IsRecord, most_records, RecordGives, KindGives, EntryGives, Meaning, records, fault_at, after, EntriesMean, Means}
+use Rattle.dns_spec.proofs.Common.{◌≡◌, ℕ, ◌+◌, ◌<◌, ◌≤◌, ◌⊎◌, Bool, true, false, cond, All, List, [], ◌∷◌, length, drop, filter, Option, Some, None, sym, subst, arith, codes, IsTrue, length-append, rules, All-weaker, ⊤, MatchOption, Octets, DomainName, is_name, folded, SpellsName, valid, lower_case, Word, ResourceRecord, FileFault, IsReadRecord, HasZoneType, Entry, EntryMeaning, faulty, gives, EntryKind, no_words, directive, owned, unowned, kind_of, directive_word, is_record, OriginIs, NameIs, OwnerBefore, most_ttl, TtlIs, TypeIs, DataIs, is_zone_type, Fields, fields, IsRecord, most_records, RecordGives, KindGives, EntryGives, Meaning, records, fault_at, after, EntriesMean, Means}
 use Rattle.dns_spec.proofs.ZoneChecks.FaultOrder.{folded_folded}
 use Rattle.dns_spec.proofs.Records.SortedOnce.{Each, each_any}
 use Rattle.dns_spec.proofs.Records.RecordOrder.{LowerOwner, all_each, each_all}
@@ -8,6 +8,7 @@ use Rattle.dns_spec.proofs.DataWords.LoweredData.{lowered_data, lowered-twice}
 use Rattle.dns_spec.proofs.ZoneTexts.OneMeaning.{type_once}
 use Rattle.dns_spec.proofs.ZoneTexts.ReadOctets.{Octet, SmallName, SmallWord, name_small, folded_small, data_small}
 use Rattle.dns_spec.proofs.ZoneTexts.ReadTokens.{SmallEntry, entries_small, words_small}
+use Rattle.dns_spec.proofs.Replies.WritableItems.{each_append}
 
 -- a record by the words of an entry of this kind
 abbrev IsRecordOf : DomainName → List Entry → EntryKind → ResourceRecord → Type 0
@@ -48,17 +49,13 @@ module _ (o : DomainName) (Kept : Entry → Type 0) (P : ResourceRecord → Type
   sort_given earlier (owned w ws) answer each h = search (rules, record_given)
   sort_given earlier (unowned ws) answer each h = search (rules, record_given)
 
-  each_joined : (rs ss : List ResourceRecord) → Each P rs → Each P ss → Each P (rs ++ ss)
-  each_joined [] ss h k = k
-  each_joined (r ∷ rs) ss h k = (h.0, each_joined rs ss h.1 k)
-
   entries_meant : (earlier es : List Entry) (m : Meaning)
       → Each Kept earlier → Each Kept es → EntriesMean o earlier es m → Meant m
   entries_meant earlier [] m keeps kept h = subst Meant (sym h) tt
   entries_meant earlier (e ∷ es) m keeps kept (faulty code, given, h) = subst Meant (sym h) tt
   entries_meant earlier (e ∷ es) m keeps kept (gives rs, given, (later, h, is)) =
       let rest = entries_meant (e ∷ earlier) es later (kept.0, keeps) kept.1 h in
-      grind (arith, each_joined, sort_given, rest)
+      grind (arith, each_append, sort_given, rest)
 
   records_hold : (es : List Entry) (rs : List ResourceRecord)
       → Each Kept es → EntriesMean o [] es (records rs) → All P rs

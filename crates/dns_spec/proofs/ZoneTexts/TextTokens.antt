@@ -1,5 +1,5 @@
 -- Every text is made of tokens, up to a place where none begins.
-use Rattle.dns_spec.proofs.Common.{◌≡◌, ℕ, zero, suc, ◌<◌, List, [], ◌∷◌, length, drop, take, refl, sym, subst, arith, Option, Some, None, ◌==◌, ⊤, if◌then◌else◌, MatchOption, Octets, Token, word, closed, token_front, TokensThen, length-drop, false, Extent, EntriesOf, with_end, cut_entries}
+use Rattle.dns_spec.proofs.Common.{◌≡◌, ℕ, zero, suc, ◌<◌, List, [], ◌∷◌, length, drop, take, refl, sym, subst, arith, Option, Some, None, ◌==◌, ⊤, if◌then◌else◌, MatchOption, Octets, Token, word, closed, token_front, TokensThen, length-drop, false, Extent, EntriesOf, with_end, cut_entries, ◌++◌}
 
 -- what comes after the token is shorter than so many octets
 Shorter : ℕ → Option (Token × Octets) → Type 0
@@ -58,3 +58,10 @@ pub tokens_cut : (extent : Extent) (octets : Octets) (ps : List Token) (rest : O
     → EntriesOf extent octets (with_end extent rest (cut_entries false ps))
 tokens_cut extent octets ps rest spelled at_end =
     record { tokens = ps; rest = rest; spelled = spelled; at_end = at_end; entries = refl }
+
+-- tokens and those after them
+pub tokens_then : (text middle rest : Octets) (ts us : List Token)
+    → TokensThen text ts middle → TokensThen middle us rest → TokensThen text (ts ++ us) rest
+tokens_then text middle rest [] us h k = subst (λ t. TokensThen t us rest) (sym h) k
+tokens_then text middle rest (t ∷ ts) us (others, e, h) k =
+    (others, e, tokens_then others middle rest ts us h k)
