@@ -16,14 +16,6 @@ pub struct CheckFault {
     pub code: u8,
 }
 
-impl Model for CheckFault {
-    ghost use Rattle.dns_spec.specs.Checks.{Fault};
-
-    ghost Value = { Fault };
-
-    ghost view = { λ f. record { owner = f.owner; code = f.code } };
-}
-
 /// Why records are no zone.
 #[derive(Drop)]
 pub enum BuildFault {
@@ -31,6 +23,14 @@ pub enum BuildFault {
     Faults(Vec<CheckFault>),
     /// No memory was found.
     NoMemory,
+}
+
+impl Model for CheckFault {
+    ghost use Rattle.dns_spec.specs.Checks.{Fault};
+
+    ghost Value = { Fault };
+
+    ghost view = { λ f. record { owner = f.owner; code = f.code } };
 }
 
 impl From<AllocError> for BuildFault {
