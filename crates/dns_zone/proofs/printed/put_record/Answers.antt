@@ -1,27 +1,35 @@
-use Rattle.dns_zone.proofs.Common.{rules, ◌++◌, codes, ◌∙◌, ap, type_text, OnErr-always, held_less, held_begun}
+use Rattle.dns_zone.proofs.Common.{rules, ◌++◌, codes, ◌∙◌, ap, type_text, data_text, record_line, AppendsAllBut, OnErr-always, held_less, held_begun}
 use Rattle.dns_zone.proofs.PrintedRecords.{line_held}
 use Rattle.dns_zone.proofs.printed.put_record.Goals as goal
+use Rattle.dns_zone.proofs.printed.put_record.Goals.{After-rdata}
+use Rattle.dns_zone.proofs.printed.put_record.Given as given
+
+module _ (g : given.Over) (c : After-rdata g) where
+  -- of the line, its front and its type are put
+  begun : AppendsAllBut (g.W.Write.contents c.args.sink.now.device)
+      (g.W.Write.contents c.make_room.new.sink.device)
+      (c.args.text.now ++ record_line c.args.entry.now)
+      ((c.push.new.self ++ data_text c.entry.inside.rtype.0 c.rdata.result.now) ++ codes "\n")
+  begun =
+      let front = c.push.ensures ∙ ap (λ t. t ++ codes " ") (c.append_text.ensures.text
+      ∙ ap (λ t. t ++ type_text c.entry.inside.rtype.0) c.append.ensures) in
+      line_held _ _ _ _ _ _ _ _ _ c.in_ok-make_room.ensures.fills.ok
+      c.requires.front c.entry.view_is front c.rdata.ensures.value
 
 pub returns-in_err-put_text : goal.returns-in_err-put_text
 returns-in_err-put_text g c =
-    let front = c.push.ensures ∙ ap (λ t. t ++ codes " ") (c.append_text.ensures.text
-    ∙ ap (λ t. t ++ type_text c.entry.inside.rtype.0) c.append.ensures) in
-    let held = line_held _ _ _ _ _ _ _ _ _ c.in_ok-make_room.ensures.fills.ok
-    c.requires.front c.entry.view_is front c.rdata.ensures.value in
+    let begun = begun g (goal.at.returns-in_err-put_text g c).After-rdata in
     record {
       ok = search rules;
       err = OnErr-always c.from_residual-in_err-put_text.result
-          (held_begun _ _ _ _ _ _ held c.in_err-put_text.ensures.err);
+          (held_begun _ _ _ _ _ _ begun c.in_err-put_text.ensures.err);
       counted = search rules;
     }
 
 pub returns-in_err-make_room-2 : goal.returns-in_err-make_room-2
 returns-in_err-make_room-2 g c =
-    let front = c.push.ensures ∙ ap (λ t. t ++ codes " ") (c.append_text.ensures.text
-    ∙ ap (λ t. t ++ type_text c.entry.inside.rtype.0) c.append.ensures) in
-    let held = line_held _ _ _ _ _ _ _ _ _ c.in_ok-make_room.ensures.fills.ok
-    c.requires.front c.entry.view_is front c.rdata.ensures.value in
-    let less = held_less _ _ _ _ _ _ _ held c.in_ok-put_text.ensures.ok in
+    let begun = begun g (goal.at.returns-in_err-make_room-2 g c).After-rdata in
+    let less = held_less _ _ _ _ _ _ _ begun c.in_ok-put_text.ensures.ok in
     record {
       ok = search rules;
       err = OnErr-always c.from_residual-in_err-make_room-2.result
@@ -31,11 +39,8 @@ returns-in_err-make_room-2 g c =
 
 pub returns : goal.returns
 returns g c =
-    let front = c.push.ensures ∙ ap (λ t. t ++ codes " ") (c.append_text.ensures.text
-    ∙ ap (λ t. t ++ type_text c.entry.inside.rtype.0) c.append.ensures) in
-    let held = line_held _ _ _ _ _ _ _ _ _ c.in_ok-make_room.ensures.fills.ok
-    c.requires.front c.entry.view_is front c.rdata.ensures.value in
-    let less = held_less _ _ _ _ _ _ _ held c.in_ok-put_text.ensures.ok in
+    let begun = begun g (goal.at.returns g c).After-rdata in
+    let less = held_less _ _ _ _ _ _ _ begun c.in_ok-put_text.ensures.ok in
     record {
       ok = rw c.push-2.ensures (held_less _ _ _ _ _ _ _ less c.in_ok-make_room-2.ensures.fills.ok);
       err = search rules;

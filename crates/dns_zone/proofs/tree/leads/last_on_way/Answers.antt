@@ -3,8 +3,7 @@ use Rattle.dns_zone.proofs.LeadRows.{begins, goes_on, lead_is}
 use Rattle.dns_zone.proofs.tree.leads.last_on_way.Goals as goal
 
 pub put_starts-requires-clause-form : goal.put_starts-requires-clause-form
-put_starts-requires-clause-form c =
-    IsWireForm-wire _ _ c.octets-octets.ensures.value c.octets-octets.ensures.is_name
+put_starts-requires-clause-form c = search (rules, IsWireForm-wire)
 
 pub put_starts-requires-clause-labels : goal.put_starts-requires-clause-labels
 put_starts-requires-clause-labels c = search (rules, labels_of_spelled)
