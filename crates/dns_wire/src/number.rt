@@ -1,5 +1,5 @@
 //! Numbers in a message, the most significant octet first (RFC 1035 2.3.2).
-ghost use Rattle.std.specs.Prelude.{◌+◌, ◌<◌, ◌≤◌, length, IfOk, IsErr};
+ghost use Rattle.std.specs.Prelude.{◌≡◌, ◌+◌, ◌<◌, ◌≤◌, length, take, drop, IfOk, IsErr};
 ghost use Rattle.dns_spec.specs.Reading.{NumberAt};
 
 use crate::fault::WireFault;
@@ -10,8 +10,7 @@ pub(crate) fn read_u16(message: &[u8], at: usize) -> Result<u16, WireFault>
     ensures ok { IfOk result (λ number. NumberAt message.now at 2 number) }
     ensures err { IsErr result → length message.now < at + 2 }
 {
-    let octets = message.split_at(at).1.first_chunk::<2>();
-    Ok(u16::from_be_bytes(*octets.ok_or(WireFault::Short)?))
+    Ok(u16::from_be_bytes(octets_at(message, at)?))
 }
 
 /// The 32 bits at a place. `Short` where the octets end before.
@@ -20,6 +19,16 @@ pub(crate) fn read_u32(message: &[u8], at: usize) -> Result<u32, WireFault>
     ensures ok { IfOk result (λ number. NumberAt message.now at 4 number) }
     ensures err { IsErr result → length message.now < at + 4 }
 {
-    let octets = message.split_at(at).1.first_chunk::<4>();
-    Ok(u32::from_be_bytes(*octets.ok_or(WireFault::Short)?))
+    Ok(u32::from_be_bytes(octets_at(message, at)?))
+}
+
+// The first octets from a place on.
+fn octets_at<const N: usize>(message: &[u8], at: usize) -> Result<[u8; N], WireFault>
+    requires { at ≤ length message.now }
+    ensures ok { IfOk result (λ octets. (at + N ≤ length message.now)
+        × (octets ≡ take N (drop at message.now))) }
+    ensures err { IsErr result → length message.now < at + N }
+{
+    let octets = message.split_at(at).1.first_chunk();
+    octets.copied().ok_or(WireFault::Short)
 }
