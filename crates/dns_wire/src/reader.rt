@@ -12,6 +12,9 @@ use crate::number::{read_u16, read_u32};
 use dns_rdata::RType;
 use std::alloc::Global;
 
+// What is read, and the place after it.
+type Read<T> = Result<(T, usize), WireFault>;
+
 /// The message that octets are, to their end.
 ///
 /// A fault says why they are none: the first from the left, by the header, the questions and the
@@ -58,12 +61,7 @@ fn read_header(octets: &[u8]) -> Result<(Head, Counts), WireFault>
     Ok((head, counts))
 }
 
-fn read_questions(
-    alloc: Global,
-    message: &[u8],
-    count: u16,
-    at: usize,
-) -> Result<(Vec<Question>, usize), WireFault>
+fn read_questions(alloc: Global, message: &[u8], count: u16, at: usize) -> Read<Vec<Question>>
     requires { at ≤ length message.now }
     ensures ok { IfOk result (λ read. AreQuestions message.now at count read.0.items read.1) }
     ensures err { IfErr result (λ fault. UnlessNoMemory fault (NoQuestions message.now at count)) }
@@ -84,18 +82,13 @@ fn read_questions(
     Ok((questions, place))
 }
 
-fn read_records(
-    alloc: Global,
-    message: &[u8],
-    count: u16,
-    at: usize,
-) -> Result<(Vec<WireRecord>, usize), WireFault>
+fn read_records(alloc: Global, message: &[u8], count: u16, at: usize) -> Read<Vec<WireRecord>>
     requires { at ≤ length message.now }
     ensures ok { IfOk result (λ read. AreRecords message.now at count read.0.items read.1) }
     ensures err { IfErr result (λ fault. UnlessNoMemory fault (NoRecords message.now at count)) }
 {
-    let mut records = Vec::new(alloc);
     let mut place = at;
+    let mut records = Vec::new(alloc);
     'records: for _ in 0..count {
         let (record, after) = read_record(alloc, message, place)?;
         records.push(record)?;
@@ -104,7 +97,7 @@ fn read_records(
     Ok((records, place))
 }
 
-fn read_record(alloc: Global, message: &[u8], at: usize) -> Result<(WireRecord, usize), WireFault>
+fn read_record(alloc: Global, message: &[u8], at: usize) -> Read<WireRecord>
     requires { at ≤ length message.now }
     ensures ok { IfOk result (λ read. WholeRecordAt message.now at read.0 read.1
         × (read.1 ≤ length message.now)) }

@@ -34,8 +34,5 @@ questions-preserved c =
     }
 
 pub returns-clause-ok : goal.returns-clause-ok
-returns-clause-ok c = record {
-  there = read_end (questions_in _) c.questions.invariant.read;
-  as_many = omega arith;
-  within = c.questions.invariant.read.within;
-}
+returns-clause-ok c =
+    grind (arith, read_end (questions_in c.args.message.now) c.questions.invariant.read)

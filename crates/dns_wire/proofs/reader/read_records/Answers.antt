@@ -19,8 +19,5 @@ records-preserved c =
     }
 
 pub returns-clause-ok : goal.returns-clause-ok
-returns-clause-ok c = record {
-  there = read_end (records_in _) c.records.invariant.read;
-  as_many = omega arith;
-  within = c.records.invariant.read.within;
-}
+returns-clause-ok c =
+    grind (arith, read_end (records_in c.args.message.now) c.records.invariant.read)
