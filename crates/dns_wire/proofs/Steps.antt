@@ -1,5 +1,5 @@
 -- Steps of writing: one after the other they write what is laid out one after the other.
-use Rattle.dns_wire.proofs.Common.{◌≡◌, ℕ, ◌+◌, ◌*◌, ◌<◌, ◌≤◌, Bool, true, false, List, [], ◌++◌, length, take, refl, sym, ap, ap₂, subst, subst₂, arith, append_assoc, append-nil, length-append, false≢true, take-append_seam, Octets, Placed, Kept, suffix_number, Holds, IsAsked, Layout, octets_laid, both_laid, Draft, draft_of, with_octets, Grows, Writes, IsWellKept, Counts}
+use Rattle.dns_wire.proofs.Common.{◌≡◌, ℕ, ◌+◌, ◌*◌, ◌<◌, ◌≤◌, Bool, true, false, List, [], ◌++◌, length, take, refl, sym, ap₂, subst, subst₂, arith, append_assoc, append-nil, length-append, false≢true, take-append_seam, Octets, Placed, Kept, suffix_number, Holds, IsAsked, Layout, octets_laid, both_laid, Draft, draft_of, with_octets, Grows, Writes, IsWellKept, Counts}
 use Rattle.dns_wire.proofs.AskedLemmas.{is_asked_more, kept_more}
 use Rattle.dns_wire.proofs.NameWritten.{holds_octets}
 use Rattle.dns_wire.proofs.SuffixLemmas.{follows_none, follows_again}

@@ -5,6 +5,28 @@ use Rattle.dns_wire.proofs.RecordsWritten.{records_none, record_more, records_pa
 use Rattle.dns_wire.proofs.page.Page.put_set.Goals as goal
 use Rattle.dns_wire.proofs.page.Page.put_set.Given as given
 
+module _ (g : given.Over) (c : goal.After-take_back g) where
+  -- a part of the records was written
+  tried : Writes (g.H.SuffixHash.numbers c.args.hash.now)
+      (g.H.SuffixHash.numbers c.put_record.new.hash) c.args.self.now c.put_record.new.self
+      (records_laid (records_at c.args.owner.now c.args.ttl (g.S.SetView.set c.args.set.now))) false
+  tried =
+      let set = g.S.SetView.set c.args.set.now in
+      let within = c.records-test.true in
+      records_past
+      (records_at c.args.owner.now c.args.ttl set) (c.records.i + 1) c.if-not-put_record.true
+      (record_more c.args.owner.now c.args.ttl set c.records.i _
+      (omega (arith, within, c.len-i-end.ensures.value))
+      (ap₂ (λ t d. shown c.args.owner.now t c.args.ttl d) c.rtype-rtype.ensures
+      c.rdata.ensures.value) c.records.invariant.writes c.put_record.ensures.writes)
+
+module _ (g : given.Over) (c : goal.After-count_records g) where
+  -- all of them were
+  done : Writes (g.H.SuffixHash.numbers c.args.hash.now)
+      (g.H.SuffixHash.numbers c.records.hash) c.args.self.now c.records.self
+      (records_laid (records_at c.args.owner.now c.args.ttl (g.S.SetView.set c.args.set.now))) true
+  done = grind (arith, all_taken)
+
 pub records-init : goal.records-init
 records-init g c =
     let s = subst (IsWellKept g.row.N g.row.SIZE) c.self.view_is c.self.invariant in
@@ -48,24 +70,8 @@ returns-then-self-octets-clause-fits g c = λ q items draft.
 
 pub returns-then-self-octets-clause-least : goal.returns-then-self-octets-clause-least
 returns-then-self-octets-clause-least g c = λ q items draft low.
-    least_of q
-    (with_set items c.args.section c.args.owner.now c.args.ttl (g.S.SetView.set c.args.set.now))
-    c.args.self.now.limit false (returns-then-self-octets-clause-fits g c q items draft) low
-
-module _ (g : given.Over) (c : goal.After-take_back g) where
-  -- a part of the records was written
-  tried : Writes (g.H.SuffixHash.numbers c.args.hash.now)
-      (g.H.SuffixHash.numbers c.put_record.new.hash) c.args.self.now c.put_record.new.self
-      (records_laid (records_at c.args.owner.now c.args.ttl (g.S.SetView.set c.args.set.now))) false
-  tried =
-      let set = g.S.SetView.set c.args.set.now in
-      let within = c.records-test.true in
-      records_past
-      (records_at c.args.owner.now c.args.ttl set) (c.records.i + 1) c.if-not-put_record.true
-      (record_more c.args.owner.now c.args.ttl set c.records.i _
-      (omega (arith, within, c.len-i-end.ensures.value))
-      (ap₂ (λ t d. shown c.args.owner.now t c.args.ttl d) c.rtype-rtype.ensures
-      c.rdata.ensures.value) c.records.invariant.writes c.put_record.ensures.writes)
+    least_of q _ c.args.self.now.limit false
+    (returns-then-self-octets-clause-fits g c q items draft) low
 
 pub returns-then-not-put_record-clause-unchanged : goal.returns-then-not-put_record-clause-unchanged
 returns-then-not-put_record-clause-unchanged g c =
@@ -88,15 +94,8 @@ returns-then-not-put_record-clause-fits g c = λ q items draft. put_fits q items
 
 pub returns-then-not-put_record-clause-least : goal.returns-then-not-put_record-clause-least
 returns-then-not-put_record-clause-least g c = λ q items draft low.
-    least_of q
-    (with_set items c.args.section c.args.owner.now c.args.ttl (g.S.SetView.set c.args.set.now))
-    c.args.self.now.limit false (returns-then-not-put_record-clause-fits g c q items draft) low
-
-module _ (g : given.Over) (c : goal.After-count_records g) where
-  done : Writes (g.H.SuffixHash.numbers c.args.hash.now)
-      (g.H.SuffixHash.numbers c.records.hash) c.args.self.now c.records.self
-      (records_laid (records_at c.args.owner.now c.args.ttl (g.S.SetView.set c.args.set.now))) true
-  done = grind (arith, all_taken)
+    least_of q _ c.args.self.now.limit false
+    (returns-then-not-put_record-clause-fits g c q items draft) low
 
 pub returns-clause-fits : goal.returns-clause-fits
 returns-clause-fits g c = λ q items draft. put_fits q items
@@ -104,8 +103,7 @@ returns-clause-fits g c = λ q items draft. put_fits q items
 
 pub returns-clause-least : goal.returns-clause-least
 returns-clause-least g c = λ q items draft low.
-    least_of q (with_set items c.args.section c.args.owner.now c.args.ttl (g.S.SetView.set
-    c.args.set.now)) c.args.self.now.limit true (returns-clause-fits g c q items draft) low
+    least_of q _ c.args.self.now.limit true (returns-clause-fits g c q items draft) low
 
 pub returns-clause-put : goal.returns-clause-put
 returns-clause-put g c = λ q items draft.
