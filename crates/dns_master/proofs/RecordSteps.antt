@@ -1,5 +1,5 @@
 -- The parts of a record one after another: the first that is wrong is the fault that is reported.
-use Rattle.dns_master.proofs.Common.{◌≡◌, ℕ, true, false, List, [], ◌∷◌, drop, refl, sym, ap, ◌∙◌, subst, inl, inr, arith, Option, Some, None, false≢true, none-some, same_Some, option_or, is_none, Octets, DomainName, folded, ResourceRecord, lower_case, cut, Word, Says, Entry, bad_data, bad_type, no_owner, no_ttl, other_class, too_many_records, Nothing, Lowest, IsRecord, Fields, EntryMeaning, faulty, gives, OriginIs, TtlSays, ttl_in_force, TypeIs, DataIs, IsNoTtl, is_other_class, are_too_many, RecordGives, MatchOption, IfSome, option_and, IsTrue, lowered-twice, one_type, IsKept, TtlOf}
+use Rattle.dns_master.proofs.Common.{◌≡◌, ℕ, Bool, true, false, cond, List, [], ◌∷◌, drop, refl, sym, ap, ◌∙◌, subst, inl, inr, arith, Option, Some, None, false≢true, none-some, same_Some, option_or, is_none, Octets, DomainName, folded, ResourceRecord, lower_case, cut, Word, Says, Entry, bad_data, bad_type, no_owner, no_ttl, other_class, too_many_records, Nothing, Lowest, IsRecord, Fields, EntryMeaning, faulty, gives, OriginIs, TtlSays, ttl_in_force, TypeIs, DataIs, IsNoTtl, is_other_class, are_too_many, RecordGives, MatchOption, IfSome, option_and, IsTrue, lowered-twice, one_type, IsKept, TtlOf}
 
 pub type-one : (ws : List Word) (t u : ℕ) → TypeIs ws t → TypeIs ws u → t ≡ u
 type-one [] t u h k = absurd h
@@ -90,11 +90,11 @@ module _ (o : DomainName) (earlier : List Entry) (owner : DomainName) (f : Field
         has_data : Nothing (DataIs o earlier f.others) → ⊥
         has_data none = none d (t, c, (origin, is, said))
 
-        pub count-fault : are_too_many earlier ≡ true
+        count-fault : are_too_many earlier ≡ true
             → RecordGives o earlier no_owner (λ n. n ≡ owner) f (faulty too_many_records)
         count-fault h = from_data (faulty too_many_records) (inr (has_data, inl (h, refl)))
 
-        pub record-given : folded owner ≡ owner
+        record-given : folded owner ≡ owner
             → are_too_many earlier ≡ false → RecordGives o earlier no_owner (λ n. n ≡ owner) f
             (gives (record { owner = owner; ttl = ttl; rtype = t; rdata = d } ∷ []))
         record-given low h =
@@ -109,6 +109,13 @@ module _ (o : DomainName) (earlier : List Entry) (owner : DomainName) (f : Field
             } in
             from_data (gives (r ∷ []))
             (inr (has_data, inr ((λ x. false≢true (sym h ∙ x)), (r, is_record, refl))))
+
+        -- where each part is right, the record is given, unless there are too many before it
+        pub counted : (many : Bool) → folded owner ≡ owner → are_too_many earlier ≡ many
+            → RecordGives o earlier no_owner (λ n. n ≡ owner) f (cond many (faulty too_many_records)
+            (gives (record { owner = owner; ttl = ttl; rtype = t; rdata = d } ∷ [])))
+        counted true low h = count-fault h
+        counted false low h = record-given low h
 
 -- data that words say has its names in lower case
 pub said-lowered : (t : ℕ) (ws : List Word) (o : DomainName) (d : Octets)

@@ -11,42 +11,42 @@ pub enum ReadCode {
     /// An octet is not allowed.
     BadOctet = 1,
     /// A backslash begins no escape.
-    BadEscape = 2,
+    BadEscape,
     /// A quoted string is not ended on its line.
-    UnendedString = 3,
+    UnendedString,
     /// A parenthesis in a parenthesis, a close one without an open one, or the end of the text
     /// inside.
-    Parenthesis = 4,
+    Parenthesis,
     /// A directive other than `$ORIGIN` and `$TTL`.
-    UnknownDirective = 5,
+    UnknownDirective,
     /// The words of a directive.
-    DirectiveWords = 6,
+    DirectiveWords,
     /// The owner is no name.
-    BadOwner = 7,
+    BadOwner,
     /// No owner is stated, and no record before has one.
-    NoOwner = 8,
+    NoOwner,
     /// The TTL is no number up to 2147483647 (RFC 2181 8).
-    BadTtl = 9,
+    BadTtl,
     /// A class other than IN.
-    OtherClass = 10,
+    OtherClass,
     /// No type, or a type that no zone has.
-    BadType = 11,
+    BadType,
     /// No TTL is stated, and none was before.
-    NoTtl = 12,
+    NoTtl,
     /// The data.
-    BadData = 13,
+    BadData,
     /// There are more than 100,000 records.
-    TooManyRecords = 14,
+    TooManyRecords,
     /// The text has more than 16,777,216 octets.
-    TooLong = 15,
+    TooLong,
     /// The source failed.
-    SourceFailed = 16,
+    SourceFailed,
     /// No memory was found.
-    NoMemory = 17,
+    NoMemory,
 }
 
 impl ReadCode {
-    /// The number of the code: 7 of `R07`.
+    /// The number of the code, 1 to 17 in the order of the variants: 7 of `R07`.
     pub fn number(self) -> u8
         ensures { result ≡ code_number self }
     {

@@ -1,7 +1,27 @@
-use Rattle.dns_master.proofs.Common.{rules, ◌≡◌, true, false, sym, ap, ◌∙◌, nat_le, arith, inl, inr, are_too_many, OtherClass, BadType, NoTtl, BadData, TooManyRecords, fault_turned}
-use Rattle.dns_master.proofs.RecordSteps.{said-lowered, ttl-or, class-fault, type-fault, no_ttl-fault, data-fault, count-fault, record-given}
+use Rattle.dns_master.proofs.Common.{rules, ◌≡◌, true, false, sym, ap, ◌∙◌, nat_le, arith, inl, inr, OtherClass, BadType, NoTtl, BadData, TooManyRecords, fault_turned, Bool, [], ◌∷◌, cond, gives, faulty, too_many_records, with_owner}
+use Rattle.dns_master.specs.ReaderForm.{RecordMeans}
+use Rattle.dns_master.proofs.RecordSteps.{said-lowered, ttl-or, class-fault, type-fault, no_ttl-fault, data-fault, counted}
 use Rattle.dns_master.proofs.Refusals.{refused, no-memory}
 use Rattle.dns_master.proofs.state.Reader.read_body.Goals as goal
+use Rattle.dns_master.proofs.state.Reader.read_body.Goals.{After-rdata}
+
+module _ (c : After-rdata) where
+  -- where each part is right, the record is given, unless there are too many before it
+  whole : (many : Bool) → nat_le 100000 c.args.self.now.count ≡ many
+      → RecordMeans c.args.self.now c.args.fields.now (cond many (faulty too_many_records)
+      (gives (with_owner c.args.self.now.last.owner (record {
+        ttl = c.in-Some-or.ttl;
+        rtype = c.in-Some.rtype;
+        rdata = c.in_ok-rdata.rdata;
+      }) ∷ [])))
+  whole many e = λ o earlier before known.
+      let stated = rw c.as_ref.ensures.value at c.in_ok-stated.ensures in
+      let in_force = ttl-or _ _ _ _ stated (ttl-or _ _ _ _ known.default_is known.stated_is) in
+      rw (sym c.fields.view_is)
+      (counted o earlier _ _ _ _ _ stated (search rules) c.in-Some.ensures.0 in_force
+      c.in-Some-or.ttl (search rules) _ known.origin_is known.no_other _
+      (rw c.in-Some.ensures.1 at c.in_ok-rdata.ensures.ok) many c.args.self.now.low
+      (ap (nat_le 100000) (sym known.count_is) ∙ e))
 
 pub returns-then-is_other_class-clause-err : goal.returns-then-is_other_class-clause-err
 returns-then-is_other_class-clause-err c =
@@ -39,26 +59,11 @@ returns-in_err-rdata-clause-err c =
 
 pub returns-then-self-ge-MOST_RECORDS-clause-err : goal.returns-then-self-ge-MOST_RECORDS-clause-err
 returns-then-self-ge-MOST_RECORDS-clause-err c =
-    refused TooManyRecords _ (omega arith) (λ o earlier before known.
-    let stated = rw c.as_ref.ensures.value at c.in_ok-stated.ensures in
-    let in_force = ttl-or _ _ _ _ stated (ttl-or _ _ _ _ known.default_is known.stated_is) in
-    let many : are_too_many earlier ≡ true =
-    ap (nat_le 100000) (sym known.count_is) ∙ search rules in
-    rw (sym c.fields.view_is)
-    (count-fault o earlier _ _ _ _ _ stated (search rules) c.in-Some.ensures.0 in_force
-    c.in-Some-or.ttl (search rules) _ known.origin_is known.no_other _
-    (rw c.in-Some.ensures.1 at c.in_ok-rdata.ensures.ok) many))
+    let whole = whole (goal.at.returns-then-self-ge-MOST_RECORDS-clause-err c).After-rdata in
+    refused TooManyRecords _ (omega arith) (whole true (search rules))
 
 pub returns-clause-kept : goal.returns-clause-kept
 returns-clause-kept c = search (rules, said-lowered)
 
 pub returns-clause-ok : goal.returns-clause-ok
-returns-clause-ok c = λ o earlier before known.
-    let stated = rw c.as_ref.ensures.value at c.in_ok-stated.ensures in
-    let in_force = ttl-or _ _ _ _ stated (ttl-or _ _ _ _ known.default_is known.stated_is) in
-    let few : are_too_many earlier ≡ false =
-    ap (nat_le 100000) (sym known.count_is) ∙ search rules in
-    rw (sym c.fields.view_is)
-    (record-given o earlier _ _ _ _ _ stated (search rules) c.in-Some.ensures.0 in_force
-    c.in-Some-or.ttl (search rules) _ known.origin_is known.no_other _
-    (rw c.in-Some.ensures.1 at c.in_ok-rdata.ensures.ok) c.args.self.now.low few)
+returns-clause-ok c = whole (goal.at.returns-clause-ok c).After-rdata false (search rules)
