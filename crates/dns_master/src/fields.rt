@@ -63,11 +63,11 @@ impl<'a, 'w> Fields<'a, 'w> {
     fn after_class(class: Word<'w>, words: EntryWords<'a, 'w>) -> Fields<'a, 'w>
         ensures { result ≡ ttl_after class.entry (words_left words.entry) }
     {
+        let class = Some(class);
         let (ttl, others) = match words.split_first() {
             Some((first, others)) if is_ttl_word(&first) => (Some(first), others),
             _ => (None, words),
         };
-        let class = Some(class);
         Fields { ttl, class, others }
     }
 }

@@ -1,4 +1,4 @@
-use Rattle.dns_master.proofs.Common.{rules, ◌-◌}
+use Rattle.dns_master.proofs.Common.{rules}
 use Rattle.dns_master.proofs.PieceSteps.{nothing-gathered, piece-taken}
 use Rattle.dns_master.proofs.pieces.Begun.take_piece.Goals as goal
 

@@ -1,8 +1,23 @@
-use Rattle.dns_master.proofs.Common.{rules, ◌≡◌, ◌+◌, ◌∷◌, ◌++◌, None, true, subst, sym, ap, ◌∙◌, arith, unwrap_or, bad_parenthesis, fault_code, ended, EntryKind, KindGives, faulty, line_after, IsWhole, fault_handed_on, later_words}
+use Rattle.dns_master.proofs.Common.{rules, ◌≡◌, ◌+◌, ◌∷◌, ◌++◌, None, true, subst, sym, ap, ◌∙◌, arith, unwrap_or, bad_parenthesis, fault_code, ended, EntryKind, KindGives, faulty, line_after, IsWhole, fault_handed_on, later_words, kind_of, kind_by_words}
 use Rattle.dns_master.proofs.TextSteps.{wrong-faulty, same_sort, entry-means, entry-faulty, entry-ends_faulty, entry-line, entry-shorter}
 use Rattle.dns_master.proofs.PieceSteps.{always, end-faulty, entry-on}
 use Rattle.dns_master.proofs.Refusals.{ForFault-map}
 use Rattle.dns_master.proofs.state.Reader.take_entry.Goals as goal
+use Rattle.dns_master.proofs.state.Reader.take_entry.Goals.{After-is_some_and-is_blank_led}
+
+module _ (c : After-is_some_and-is_blank_led) where
+  -- the words found are those of the entry
+  sort : kind_of (ended c.in_ok-end.ensures.ok.tokens)
+      ≡ kind_by_words c.is_some_and-is_blank_led.result
+      (c.as_slice.result.now ++ later_words c.in_ok-end.end.later)
+  sort = same_sort c.args.text.now c.read_entry.new.kept.items c.as_slice.result.now
+      (later_words c.in_ok-end.end.later) _ _ c.is_some_and-is_blank_led.result
+      c.in_ok-end.ensures.ok (search rules) c.as_slice.ensures.value
+
+  -- nothing that may follow the text is its
+  whole : IsWhole
+      c.args.goes_on c.in_ok-end.end.is_ended c.in_ok-end.end.is_open c.in_ok-end.end.rest.now
+  whole = always _ (c.args.goes_on ≡ None) _ c.if-not-branch.false c.in_ok-is_whole.ensures.ok
 
 pub returns-in_err-end-clause-err : goal.returns-in_err-end-clause-err
 returns-in_err-end-clause-err c =
@@ -26,38 +41,26 @@ returns-in_err-is_whole-clause-err c =
 
 pub returns-in_err-taken-clause-err : goal.returns-in_err-taken-clause-err
 returns-in_err-taken-clause-err c =
-    let sort = same_sort c.args.text.now c.read_entry.new.kept.items c.as_slice.result.now
-    (later_words c.in_ok-end.end.later)
-    _ _ c.is_some_and-is_blank_led.result c.in_ok-end.ensures.ok
-    (search rules) c.as_slice.ensures.value in
-    let whole = always (IsWhole
-    c.args.goes_on c.in_ok-end.end.is_ended c.in_ok-end.end.is_open c.in_ok-end.end.rest.now)
-    (c.args.goes_on ≡ None) _ c.if-not-branch.false c.in_ok-is_whole.ensures.ok in
+    let here = (goal.at.returns-in_err-taken-clause-err c).After-is_some_and-is_blank_led in
     fault_handed_on c.from_residual-in_err-taken.result
     c.in_err-taken.field-0.0 _ c.from_residual-in_err-taken.ensures.1
     (ForFault-map c.in_err-taken.field-0.0 (λ fault given more past may o earlier known line.
     let on = entry-on c.args.goes_on more
-    past c.args.text.now c.in_ok-end.end.rest.now _ _ _ _ may whole c.in_ok-end.ensures.ok in
+    past c.args.text.now c.in_ok-end.end.rest.now _ _ _ _ may (whole here) c.in_ok-end.ensures.ok in
     rw line (entry-faulty o earlier past (c.args.text.now ++ more)
     (c.in_ok-end.end.rest.now ++ more) _ _ c.in_ok-end.end.is_ended c.in_ok-end.end.is_open
     on.0 on.1 fault (subst (λ (s : EntryKind). KindGives o earlier s (faulty fault))
-    (sym sort) (given o earlier known)))) c.in_err-taken.ensures.err)
+    (sym (sort here)) (given o earlier known)))) c.in_err-taken.ensures.err)
 
 pub returns-clause-ok : goal.returns-clause-ok
 returns-clause-ok c =
-    let sort = same_sort c.args.text.now c.read_entry.new.kept.items c.as_slice.result.now
-    (later_words c.in_ok-end.end.later)
-    _ _ c.is_some_and-is_blank_led.result c.in_ok-end.ensures.ok
-    (search rules) c.as_slice.ensures.value in
-    let whole = always (IsWhole
-    c.args.goes_on c.in_ok-end.end.is_ended c.in_ok-end.end.is_open c.in_ok-end.end.rest.now)
-    (c.args.goes_on ≡ None) _ c.if-not-branch.false c.in_ok-is_whole.ensures.ok in
+    let here = (goal.at.returns-clause-ok c).After-is_some_and-is_blank_led in
     record {
       taken = λ more past later may h o earlier known line.
           let on = entry-on c.args.goes_on more past
-          c.args.text.now c.in_ok-end.end.rest.now _ _ _ _ may whole c.in_ok-end.ensures.ok in
+          c.args.text.now c.in_ok-end.end.rest.now _ _ _ _ may (whole here) c.in_ok-end.ensures.ok in
           let done =
-          c.in_ok-taken.ensures.ok o earlier (ended c.in_ok-end.ensures.ok.tokens) known sort in
+          c.in_ok-taken.ensures.ok o earlier (ended c.in_ok-end.ensures.ok.tokens) known (sort here) in
           let line_is = ap (λ n. n + c.in_ok-end.end.lines) (c.in_ok-taken.ensures.line ∙ line)
           ∙ sym (entry-line o earlier true c.args.text.now c.in_ok-end.end.rest.now
           _ _ c.in_ok-end.end.is_ended c.in_ok-end.end.is_open c.in_ok-end.ensures.ok) in
@@ -68,6 +71,6 @@ returns-clause-ok c =
       shorter =
           entry-shorter (unwrap_or c.args.goes_on true) c.args.text.now c.in_ok-end.end.rest.now
           _ _ c.in_ok-end.end.is_ended c.in_ok-end.end.is_open c.requires.some
-          c.in_ok-end.ensures.ok whole;
+          c.in_ok-end.ensures.ok (whole here);
       lines = omega (arith, c.in_ok-end.ensures.bound, c.in_ok-taken.ensures.line);
     }
