@@ -1,5 +1,5 @@
 -- The target of data in lower case is in lower case.
-use Rattle.dns_zone.proofs.Common.{◌≡◌, ℕ, true, Option, Some, IfSome, List, [], ◌∷◌, map, ap, arith, Octets, DomainName, folded, Part, octets, name, part_folded, first_name, valid, parts, lower_case, target, lowered_data}
+use Rattle.dns_zone.proofs.Common.{◌≡◌, ℕ, true, Option, Some, IfSome, List, [], ◌∷◌, map, arith, Octets, DomainName, folded, Part, octets, name, part_folded, first_name, valid, parts, lower_case, target, lowered_data}
 
 first_lowered : (xs : List Part) (m : DomainName)
     → map part_folded xs ≡ xs → first_name xs ≡ Some m → folded m ≡ m

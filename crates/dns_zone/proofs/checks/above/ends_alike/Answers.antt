@@ -1,4 +1,4 @@
-use Rattle.dns_zone.proofs.Common.{rules, ◌-◌, length, ap, arith, false≢true, false_from_ne_true}
+use Rattle.dns_zone.proofs.Common.{rules, length, ap, arith, false≢true, false_from_ne_true}
 use Rattle.dns_zone.proofs.EndingNames.{ends_in}
 use Rattle.dns_zone.proofs.checks.above.ends_alike.Goals as goal
 

@@ -1,4 +1,4 @@
-use Rattle.dns_zone.proofs.Common.{rules, ◌≡◌, ◌-◌, DomainName, folded}
+use Rattle.dns_zone.proofs.Common.{rules, ◌≡◌, DomainName, folded}
 use Rattle.dns_zone.proofs.CheckedNames.{one_key}
 use Rattle.dns_zone.proofs.KeyOrder.{key_order}
 use Rattle.dns_zone.proofs.NameOrder.{same-from, same-tied}
