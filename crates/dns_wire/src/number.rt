@@ -1,5 +1,5 @@
 //! Numbers in a message, the most significant octet first (RFC 1035 2.3.2).
-ghost use Rattle.std.specs.Prelude.{◌≡◌, ◌+◌, ◌<◌, ◌≤◌, length, take, drop, IfOk, IsErr};
+ghost use Rattle.std.specs.Prelude.{◌≡◌, ◌+◌, ◌<◌, ◌≤◌, ◌↔◌, length, take, drop, IfOk, IsErr};
 ghost use Rattle.dns_spec.specs.Reading.{NumberAt};
 
 use crate::fault::WireFault;
@@ -25,10 +25,8 @@ pub(crate) fn read_u32(message: &[u8], at: usize) -> Result<u32, WireFault>
 // The first octets from a place on.
 fn octets_at<const N: usize>(message: &[u8], at: usize) -> Result<[u8; N], WireFault>
     requires { at ≤ length message.now }
-    ensures ok { IfOk result (λ octets. (at + N ≤ length message.now)
-        × (octets ≡ take N (drop at message.now))) }
-    ensures err { IsErr result → length message.now < at + N }
+    ensures ok { IfOk result (λ octets. octets ≡ take N (drop at message.now)) }
+    ensures short { IsErr result ↔ length message.now < at + N }
 {
-    let octets = message.split_at(at).1.first_chunk();
-    octets.copied().ok_or(WireFault::Short)
+    message[at..].first_chunk().copied().ok_or(WireFault::Short)
 }
