@@ -86,10 +86,10 @@ fn offer_target<'z, const N: usize, const SIZE: usize>(
     steps: &mut Steps<'z>,
     draft: &mut Draft<N, SIZE>,
 ) -> bool
-    requires apex { IsApex steps.old.zone apex.now }
-    requires node { node.now.zone ≡ steps.old.zone }
     requires valid { HasValidData set.now }
     requires inside { i < length set.now.rdata }
+    requires apex { IsApex steps.old.zone apex.now }
+    requires node { node.now.zone ≡ steps.old.zone }
     requires room { HasRoom steps.old 128 }
     ensures offers { Offers draft.old draft.new (target_items steps.old.zone (side_takes side.entry)
         (targets_of_first i set.now) (target_at i set.now)) }

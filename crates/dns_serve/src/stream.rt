@@ -43,10 +43,10 @@ pub fn serve_stream<R: Read, W: Write>(
 ) -> Result<u32, StreamFault>
     requires source { source.old.failures < 2 ^ 64 - 1 }
     requires sink { sink.old.failures < 2 ^ 64 - 1 }
-    ensures session { SessionOf (reply_over_tcp zone.now) most
-        (session R.remaining W.contents source.old source.new sink.old sink.new) result }
     ensures source { source.new.failures ≡ source_failures_after source.old.failures result }
     ensures sink { sink.new.failures ≡ sink_failures_after sink.old.failures result }
+    ensures session { SessionOf (reply_over_tcp zone.now) most
+        (session R.remaining W.contents source.old source.new sink.old sink.new) result }
 {
     let ahead = Cell::new(Ahead::Message);
     serve_stream_in(zone, source, sink, most, &mut StreamRoom::new(), &ahead)

@@ -4,8 +4,7 @@ use Rattle.dns_answer.proofs.LongWays.{cut-whole, missing-whole, aim-deep, there
 use Rattle.dns_answer.proofs.lookup.walk.Goals as goal
 
 pub put_starts-requires-clause-form : goal.put_starts-requires-clause-form
-put_starts-requires-clause-form c =
-    IsWireForm-wire _ _ c.octets-octets.ensures.value c.octets-octets.ensures.is_name
+put_starts-requires-clause-form c = search (rules, IsWireForm-wire)
 
 pub put_starts-requires-clause-labels : goal.put_starts-requires-clause-labels
 put_starts-requires-clause-labels c = search (rules, labels_of_spelled)
