@@ -1,5 +1,5 @@
 -- What was written of a report of the file is what a check has to write.
-use Rattle.dns_tools.proofs.Common.{arith, ◌≡◌, ◌≢◌, Bool, List, [], ◌∷◌, Option, Some, None, Result, Ok, Err, IsErrAnd, refl, ap, subst, flat_map, Octets, DomainName, folded, ResourceRecord, ZoneContents, records_equal, distinct, zone_of, Fault, faults, Meaning, records, fault_at, Options, Report, failing, passing, fault_report, report_of_faults, zone_report, report_of_meaning, folded_folded, ordered_passing, AppendsBeginning, fault_of, GivesMeaning, Stop, Memory, Source, Sink, Refusal, File, Zone, LoadFault, Refused, IsRead, LoadedAs, refusal_report, ReportsOn, WrittenAs, ReportedAs, CheckedAs}
+use Rattle.dns_tools.proofs.Common.{arith, ◌≡◌, ◌≢◌, Bool, List, [], ◌∷◌, Option, Some, None, Result, Ok, Err, IsErrAnd, refl, subst, flat_map, Octets, DomainName, folded, ResourceRecord, ZoneContents, records_equal, distinct, zone_of, Fault, faults, Meaning, records, fault_at, Options, Report, failing, passing, fault_report, report_of_faults, zone_report, report_of_meaning, folded_folded, ordered_passing, AppendsBeginning, fault_of, GivesMeaning, Stop, Memory, Source, Sink, Refusal, File, Zone, LoadFault, Refused, IsRead, LoadedAs, refusal_report, ReportsOn, WrittenAs, ReportedAs, CheckedAs}
 
 -- what was written of such a report
 pub reported : (Is : Report → Type 0) (report : Report) (result : Result Bool Stop) (old new :

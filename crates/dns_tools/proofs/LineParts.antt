@@ -1,5 +1,5 @@
 -- Lines of output go out in parts.
-use Rattle.dns_tools.proofs.Common.{◌≡◌, ℕ, ◌+◌, ◌<◌, List, [], ◌++◌, length, drop, get_or, ap, flat_map, append_assoc, append-nil, add-one, codes, decimal, arith, drop-cons, Octets, DomainName, name_text, type_text, hex_text, data_text, FileFault, fault_code, ZoneContents, zone_serial, MessageRecord, DnsMessage, octets16, two_digits, line_report, bare_name_text, loaded_report, class_text, header_line, section_line, data_type, question_line, fault_report, Fault, MessageQuestion}
+use Rattle.dns_tools.proofs.Common.{◌≡◌, ℕ, ◌+◌, ◌<◌, List, [], ◌++◌, length, drop, get_or, flat_map, append_assoc, append-nil, add-one, codes, decimal, arith, drop-cons, Octets, DomainName, name_text, type_text, hex_text, data_text, FileFault, fault_code, ZoneContents, zone_serial, MessageRecord, DnsMessage, octets16, two_digits, line_report, bare_name_text, loaded_report, class_text, header_line, section_line, data_type, question_line, fault_report, Fault, MessageQuestion}
 
 -- the text of the next piece, and those of the pieces after it
 pub next_piece : {A : Type 0} (f : A → Octets) (xs : List A) (x : A) (i : ℕ) → i < length xs

@@ -2,7 +2,6 @@
 use Rattle.std.specs.Prelude.{◌≡◌, Bool, true, false, List, []}
 use Rattle.dns_spec.specs.Names.{Octets, DomainName, folded}
 use Rattle.dns_spec.specs.NameText.{SpellsName}
-use Rattle.dns_spec.specs.Report.{Options}
 use Rattle.dns_spec.specs.CommandWords.{ZoneWords, AskToCheck, Transport, udp, tcp, ServiceAsked, by_lines, by_turns, AskToServe}
 use Rattle.dns_answer.specs.declared.reply.Limit.{Limit}
 use Rattle.dns_answer.specs.declared.reply.Limit.TheVariants as limits
@@ -13,16 +12,13 @@ use Rattle.dns_tools.specs.declared.words.CheckWords.{CheckWords}
 use Rattle.dns_tools.specs.declared.words.ServeWords.{ServeWords}
 use Rattle.dns_tools.specs.declared.fault.FaultWord.{FaultWord}
 use Rattle.dns_tools.specs.declared.fault.FaultWord.TheVariants.{Usage, BadOrigin, NoMemory}
-use Rattle.dns_tools.specs.declared.fault.FaultWord.TheVariants.{SourceFailed, SinkFailed, NotBound}
 
 -- what the words of a command line can be refused for
 abbrev pub is_word_fault : FaultWord → Bool
 is_word_fault Usage = true
 is_word_fault BadOrigin = true
 is_word_fault NoMemory = true
-is_word_fault SourceFailed = false
-is_word_fault SinkFailed = false
-is_word_fault NotBound = false
+is_word_fault _ = false
 
 -- the name that ORIGIN spells, relative to the root, in lower case
 pub record IsOrigin (word : Octets) (origin : DomainName) : Type 0 where
@@ -34,19 +30,25 @@ pub record IsOrigin (word : Octets) (origin : DomainName) : Type 0 where
 abbrev pub IsNoOrigin : Octets → Type 0
 IsNoOrigin word = (n : DomainName) → SpellsName [] word n → ⊥
 
--- the words ask the checker for this
-pub record IsCheckCall (words : List Octets) (call : CheckWords) : Type 0 where
+-- the words ask for this zone, by what they say where ORIGIN and FILE are so
+pub record IsCall (Ask : ZoneWords → Type 0) (name : DomainName) (file : Octets) : Type 0 where
   pub origin : Octets
-  pub asked : AskToCheck words (options_of call.flags)
-      (record { origin = origin; file = call.file.now })
-  pub origin_is : IsOrigin origin call.origin
+  pub asked : Ask (record { origin = origin; file = file })
+  pub origin_is : IsOrigin origin name
 
--- they ask it for something, with an ORIGIN that is no name
-pub record HasBadCheckOrigin (words : List Octets) : Type 0 where
-  pub options : Options
+-- they ask for something, with an ORIGIN that is no name
+pub record HasBadOrigin {A : Type 0} (Ask : A → ZoneWords → Type 0) : Type 0 where
+  pub meant : A
   pub zone : ZoneWords
-  pub asked : AskToCheck words options zone
+  pub asked : Ask meant zone
   pub bad : IsNoOrigin zone.origin
+
+-- the words ask the checker for this
+abbrev pub IsCheckCall : List Octets → CheckWords → Type 0
+IsCheckCall words call = IsCall (AskToCheck words (options_of call.flags)) call.origin call.file.now
+
+abbrev pub HasBadCheckOrigin : List Octets → Type 0
+HasBadCheckOrigin words = HasBadOrigin (AskToCheck words)
 
 abbrev pub transport_of : Limit → Transport
 transport_of limits.Udp = udp
@@ -59,14 +61,9 @@ service_of (Udp address turns) = by_turns udp address.now turns
 service_of (Tcp address turns) = by_turns tcp address.now turns
 
 -- the words ask the server for this
-pub record IsServeCall (words : List Octets) (call : ServeWords) : Type 0 where
-  pub origin : Octets
-  pub asked : AskToServe words (service_of call.service)
-      (record { origin = origin; file = call.file.now })
-  pub origin_is : IsOrigin origin call.origin
+abbrev pub IsServeCall : List Octets → ServeWords → Type 0
+IsServeCall words call =
+    IsCall (AskToServe words (service_of call.service)) call.origin call.file.now
 
-pub record HasBadServeOrigin (words : List Octets) : Type 0 where
-  pub service : ServiceAsked
-  pub zone : ZoneWords
-  pub asked : AskToServe words service zone
-  pub bad : IsNoOrigin zone.origin
+abbrev pub HasBadServeOrigin : List Octets → Type 0
+HasBadServeOrigin words = HasBadOrigin (AskToServe words)

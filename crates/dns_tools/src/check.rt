@@ -3,13 +3,14 @@ ghost use Rattle.std.specs.Prelude.{◌≡◌, ◌<◌, ◌-◌, ◌^◌};
 ghost use Rattle.dns_spec.specs.Report.{failing, passing};
 ghost use Rattle.dns_tools.specs.Checked.{options_of, WrittenAs, CheckedAs};
 ghost use Rattle.dns_tools.specs.Load.{refusal_report};
+ghost use Rattle.dns_tools.specs.declared.fault.Stop.TheVariants.{Sink};
 ghost use Rattle.dns_tools.specs.Stops.{source_failures_after, sink_failures_after};
 
-use crate::fault::Stop;
+use crate::fault::{Outcome, Stop};
 use crate::load::{LoadFault, Refusal, load, write_refusal};
 use crate::report::write_loaded;
 use dns_name::{Name, Tally};
-use dns_zone::CheckedZone;
+use dns_zone::{CheckedZone, PrintFault};
 use std::alloc::Global;
 use std::io::{Read, Write};
 use std::mem::forget;
@@ -21,6 +22,14 @@ pub struct Flags {
     pub quiet: bool,
     /// The zone in its canonical text, where it passes.
     pub print: bool,
+}
+
+impl From<PrintFault> for Stop {
+    ghost from_gives = { λ _ stop. stop ≡ Sink };
+
+    fn from(_fault: PrintFault) -> Stop {
+        Stop::Sink
+    }
 }
 
 /// Checks the zone of an origin in the file that the source gives (RFC 1035 section 5), and writes
@@ -39,7 +48,7 @@ pub fn check_zone<R: Read, W: Write>(
     flags: Flags,
     source: &mut Tally<R>,
     sink: &mut Tally<W>,
-) -> Result<bool, Stop>
+) -> Outcome
     requires source { source.old.failures < 2 ^ 64 - 1 }
     requires sink { sink.old.failures < 2 ^ 64 - 1 }
     ensures report { CheckedAs (R.remaining source.old.device) (R.remaining source.new.device)
@@ -63,11 +72,7 @@ pub fn check_zone<R: Read, W: Write>(
     }
 }
 
-fn report_refusal<W: Write>(
-    flags: Flags,
-    refusal: &Refusal,
-    sink: &mut Tally<W>,
-) -> Result<bool, Stop>
+fn report_refusal<W: Write>(flags: Flags, refusal: &Refusal, sink: &mut Tally<W>) -> Outcome
     requires { sink.old.failures < 2 ^ 64 - 1 }
     ensures written { WrittenAs (failing (options_of flags) (refusal_report refusal.now)) result
         (W.contents sink.old.device) (W.contents sink.new.device) }
@@ -79,11 +84,7 @@ fn report_refusal<W: Write>(
     Ok(false)
 }
 
-fn report_zone<W: Write>(
-    flags: Flags,
-    zone: &CheckedZone,
-    sink: &mut Tally<W>,
-) -> Result<bool, Stop>
+fn report_zone<W: Write>(flags: Flags, zone: &CheckedZone, sink: &mut Tally<W>) -> Outcome
     requires { sink.old.failures < 2 ^ 64 - 1 }
     ensures written { WrittenAs (passing (options_of flags) zone.now) result
         (W.contents sink.old.device) (W.contents sink.new.device) }

@@ -1,14 +1,13 @@
 //! Why a program stops, what it says then, and the status that it ends with.
 ghost use Rattle.std.specs.Prelude.{◌≡◌, ◌⊎◌};
-ghost use Rattle.dns_tools.specs.declared.fault.Stop.TheVariants.{Memory, Source, Sink};
+ghost use Rattle.dns_tools.specs.declared.fault.Stop.TheVariants.{Memory};
 ghost use Rattle.dns_tools.specs.declared.fault.FaultWord.TheVariants.{Usage, BadOrigin, NoMemory};
 ghost use Rattle.dns_tools.specs.Status.{status_of, end_of, status_of_turns};
 ghost use Rattle.dns_tools.specs.Status.{word_of, word_of_turn, word_of_stream};
 
 use clap::error::ErrorKind;
-use dns_name::{NameFault, SinkFailed, SourceFailed};
+use dns_name::NameFault;
 use dns_serve::{StreamFault, TurnFault};
-use dns_zone::PrintFault;
 use std::alloc::{AllocError, AllocFailed};
 use thiserror::Error;
 
@@ -31,33 +30,25 @@ impl From<AllocError> for Stop {
     }
 }
 
-impl From<SourceFailed> for Stop {
-    ghost from_gives = { λ _ stop. stop ≡ Source };
-
-    fn from(_failed: SourceFailed) -> Stop {
-        Stop::Source
+impl Stop {
+    /// What a program says of it.
+    pub fn word(self) -> FaultWord
+        ensures { result ≡ word_of self }
+    {
+        match self {
+            Stop::Memory => FaultWord::NoMemory,
+            Stop::Source => FaultWord::SourceFailed,
+            Stop::Sink => FaultWord::SinkFailed,
+        }
     }
 }
 
-impl From<SinkFailed> for Stop {
-    ghost from_gives = { λ _ stop. stop ≡ Sink };
-
-    fn from(_failed: SinkFailed) -> Stop {
-        Stop::Sink
-    }
-}
-
-impl From<PrintFault> for Stop {
-    ghost from_gives = { λ _ stop. stop ≡ Sink };
-
-    fn from(_fault: PrintFault) -> Stop {
-        Stop::Sink
-    }
-}
+/// What an engine answers, or why it gave up.
+pub type Outcome = Result<bool, Stop>;
 
 /// The status of a program: 0 where its engine answers true, 1 where it answers false, 2 where it
 /// stopped.
-pub fn exit_status(outcome: &Result<bool, Stop>) -> u8
+pub fn exit_status(outcome: &Outcome) -> u8
     ensures { result ≡ status_of outcome.now }
 {
     match outcome {
@@ -68,12 +59,12 @@ pub fn exit_status(outcome: &Result<bool, Stop>) -> u8
 }
 
 /// How a program ends: with the status of its engine's answer, or with the word of its stop.
-pub fn end_of(outcome: Result<bool, Stop>) -> Result<u8, FaultWord>
+pub fn end_of(outcome: Outcome) -> Result<u8, FaultWord>
     ensures { result ≡ end_of outcome }
 {
     match outcome {
         Ok(_) => Ok(exit_status(&outcome)),
-        Err(stop) => Err(FaultWord::from(stop)),
+        Err(stop) => Err(stop.word()),
     }
 }
 
@@ -112,18 +103,6 @@ pub enum FaultWord {
 /// The status of a program that says such a word.
 pub const FAULT_STATUS: u8 = 2;
 
-impl From<Stop> for FaultWord {
-    ghost from_gives = { λ stop word. word ≡ word_of stop };
-
-    fn from(stop: Stop) -> FaultWord {
-        match stop {
-            Stop::Memory => FaultWord::NoMemory,
-            Stop::Source => FaultWord::SourceFailed,
-            Stop::Sink => FaultWord::SinkFailed,
-        }
-    }
-}
-
 impl From<AllocError> for FaultWord {
     ghost from_gives = { λ _ word. word ≡ NoMemory };
 
@@ -132,11 +111,11 @@ impl From<AllocError> for FaultWord {
     }
 }
 
-impl<T: Drop> From<AllocFailed<T>> for FaultWord {
-    ghost from_gives = { λ _ word. word ≡ NoMemory };
+impl From<Stop> for FaultWord {
+    ghost from_gives = { λ stop word. word ≡ word_of stop };
 
-    fn from(_refused: AllocFailed<T>) -> FaultWord {
-        FaultWord::NoMemory
+    fn from(stop: Stop) -> FaultWord {
+        stop.word()
     }
 }
 
@@ -158,6 +137,14 @@ impl From<clap::Error> for FaultWord {
             ErrorKind::OutOfMemory => FaultWord::NoMemory,
             _ => FaultWord::Usage,
         }
+    }
+}
+
+impl<T: Drop> From<AllocFailed<T>> for FaultWord {
+    ghost from_gives = { λ _ word. word ≡ NoMemory };
+
+    fn from(_refused: AllocFailed<T>) -> FaultWord {
+        FaultWord::NoMemory
     }
 }
 
@@ -186,19 +173,17 @@ pub enum TurnWord {
 }
 
 impl From<TurnFault> for TurnWord {
-    ghost from_gives = { λ fault word. word ≡ word_of_turn fault };
-
     fn from(fault: TurnFault) -> TurnWord {
         match fault {
             TurnFault::ReceiveFailed => TurnWord::NoDatagram,
             TurnFault::SendFailed => TurnWord::NotSent,
         }
     }
+
+    ghost from_gives = { λ fault word. word ≡ word_of_turn fault };
 }
 
 impl From<StreamFault> for TurnWord {
-    ghost from_gives = { λ fault word. word ≡ word_of_stream fault };
-
     fn from(fault: StreamFault) -> TurnWord {
         match fault {
             StreamFault::SourceFailed => TurnWord::StreamNotRead,
@@ -206,4 +191,6 @@ impl From<StreamFault> for TurnWord {
             StreamFault::Cut => TurnWord::StreamCut,
         }
     }
+
+    ghost from_gives = { λ fault word. word ≡ word_of_stream fault };
 }

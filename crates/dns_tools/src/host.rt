@@ -4,7 +4,7 @@ ghost use Rattle.std.specs.Prelude.{◌≡◌, ◌⊎◌, Ok, Err, IfOk, IfErr, 
 ghost use Rattle.std.specs.Io.Buffered.{writer_contents};
 ghost use Rattle.std.specs.Io.KnownBytes.{Keeps};
 
-use crate::fault::{FAULT_STATUS, FaultWord, Stop};
+use crate::fault::{FAULT_STATUS, FaultWord, Outcome, Stop};
 use std::alloc::Global;
 use std::env::FillError;
 use std::io::{BufWriter, Error, ErrorKind, Write};
@@ -60,10 +60,7 @@ pub fn open_file<R: Files>(rt: &R, path: &str) -> Result<R::File, FaultWord>
 /// device below it.
 ///
 /// The buffer is taken apart: dropped as it is, it would write once more after a failure.
-pub fn finish<W: Write + Drop>(
-    outcome: Result<bool, Stop>,
-    output: BufWriter<W>,
-) -> (Result<bool, Stop>, W)
+pub fn finish<W: Write + Drop>(outcome: Outcome, output: BufWriter<W>) -> (Outcome, W)
     ensures stopped { IfErr outcome (λ stop. result.0 ≡ Err stop) }
     ensures ended { IfOk outcome (λ passes.
         (result.0 ≡ Ok passes) ⊎ (result.0 ≡ Err Stop.Sink)) }
@@ -79,6 +76,17 @@ pub fn finish<W: Write + Drop>(
     match flushed {
         Ok(()) => (outcome, device),
         Err(_) => (Err(Stop::Sink), device),
+    }
+}
+
+/// The status of a program that ends so, by what it says on standard error where it has to.
+pub fn end(rt: &impl Eprint, status: Result<u8, FaultWord>) -> u8
+    ensures said { IfErr status (λ _. result ≡ 2) }
+    ensures status { IfOk status (λ status. result ≡ status) }
+{
+    match status {
+        Ok(status) => status,
+        Err(word) => say(rt, word),
     }
 }
 

@@ -18,8 +18,10 @@ mod waiting;
 mod words;
 
 pub use check::{Flags, check_zone};
-pub use fault::{FAULT_STATUS, FaultWord, Stop, TurnWord, end_of, exit_status, status_of_turns};
-pub use host::{finish, given_words, open_file, say};
+pub use fault::{
+    FAULT_STATUS, FaultWord, Outcome, Stop, TurnWord, end_of, exit_status, status_of_turns,
+};
+pub use host::{end, finish, given_words, open_file, say};
 pub use listen::{serve_connections, serve_datagrams, socket_at};
 pub use load::{LoadFault, Refusal, load_zone, write_refusal};
 pub use message::run_message;

@@ -4,8 +4,10 @@ ghost use Rattle.std.specs.Bool.{OnTrue, OnFalse};
 ghost use Rattle.dns_spec.specs.Names.{Octets};
 ghost use Rattle.hex.specs.Hex.{decode_of};
 ghost use Rattle.dns_name.specs.Counted.{failures_after};
+ghost use Rattle.dns_tools.specs.declared.fault.Stop.TheVariants.{Source};
 ghost use Rattle.dns_tools.specs.declared.line.TheConstants.{MOST_DIGITS, MOST_OCTETS, PIECE};
 
+use crate::fault::Stop;
 use dns_name::{SourceFailed, Tally};
 use std::alloc::{AllocError, Global};
 use std::io::Read;
@@ -18,6 +20,14 @@ pub(crate) const MOST_DIGITS: usize = 131_070;
 
 /// How many octets of an input are read at once.
 pub(crate) const PIECE: usize = 65_536;
+
+impl From<SourceFailed> for Stop {
+    ghost from_gives = { λ _ stop. stop ≡ Source };
+
+    fn from(_failed: SourceFailed) -> Stop {
+        Stop::Source
+    }
+}
 
 /// What is kept of a line that goes on: its front, as long as it may be a message.
 #[derive(Drop)]

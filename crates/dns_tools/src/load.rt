@@ -77,11 +77,9 @@ pub(crate) fn load<R: Read>(
 }
 
 /// Loads the same zone, to be served.
-pub fn load_zone<R: Read>(
-    alloc: Global,
-    origin: &Name,
-    source: &mut Tally<R>,
-) -> Result<Zone, LoadFault>
+pub fn load_zone<R>(alloc: Global, origin: &Name, source: &mut Tally<R>) -> Result<Zone, LoadFault>
+where
+    R: Read,
     requires { source.old.failures < 2 ^ 64 - 1 }
     ensures counted { source.new.failures ≡ failures_after_load source.old.failures result }
     ensures meaning { LoadedAs (R.remaining source.old.device) (R.remaining source.new.device)

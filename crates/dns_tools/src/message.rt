@@ -12,7 +12,7 @@ ghost use Rattle.dns_tools.specs.KeptLine.{kept_message};
 ghost use Rattle.dns_tools.specs.declared.line.TheConstants.{MOST_OCTETS};
 ghost use Rattle.dns_tools.specs.Stops.{source_failures_after, sink_failures_after};
 
-use crate::fault::Stop;
+use crate::fault::{Outcome, Stop};
 use crate::line::{Line, MOST_OCTETS, PIECE};
 use crate::parts::{Part, write_parts};
 use dns_name::{SinkFailed, Tally};
@@ -30,11 +30,10 @@ use std::io::{Read, Write};
 ///
 /// No more is read once the line is ended or too long, so at most 65,535 octets after it. Where the
 /// run stops, the sink has a beginning of these lines, and no device is used after its failure.
-pub fn run_message<R: Read, W: Write>(
-    alloc: Global,
-    source: &mut Tally<R>,
-    sink: &mut Tally<W>,
-) -> Result<bool, Stop>
+pub fn run_message<R, W>(alloc: Global, source: &mut Tally<R>, sink: &mut Tally<W>) -> Outcome
+where
+    R: Read,
+    W: Write,
     requires source { source.old.failures < 2 ^ 64 - 1 }
     requires sink { sink.old.failures < 2 ^ 64 - 1 }
     ensures source { source.new.failures ≡ source_failures_after source.old.failures result }
@@ -71,7 +70,7 @@ fn first_line<R: Read>(alloc: Global, source: &mut Tally<R>) -> Result<Line, Sto
     Ok(line)
 }
 
-fn print_octets<W: Write>(alloc: Global, octets: &[u8], sink: &mut Tally<W>) -> Result<bool, Stop>
+fn print_octets<W: Write>(alloc: Global, octets: &[u8], sink: &mut Tally<W>) -> Outcome
     requires { sink.old.failures < 2 ^ 64 - 1 }
     ensures counted { sink.new.failures ≡ sink_failures_after sink.old.failures result }
     ensures stop { IfErr result (λ stop. stop ≢ Stop.Source) }

@@ -12,7 +12,7 @@ ghost use Rattle.dns_answer.specs.Limits.{limit_of};
 ghost use Rattle.dns_tools.specs.declared.line.TheConstants.{MOST_OCTETS, PIECE};
 ghost use Rattle.dns_tools.specs.declared.once.TheConstants.{MOST_ANSWER};
 
-use crate::fault::Stop;
+use crate::fault::{Outcome, Stop};
 use crate::line::{Line, MOST_OCTETS, PIECE};
 use dns_answer::{Limit, TcpDraft, UdpDraft, respond_in};
 use dns_name::{SinkFailed, Tally};
@@ -38,10 +38,10 @@ const MOST_ANSWER: usize = 131_071;
 pub fn run_once<R: Read, W: Write>(
     alloc: Global,
     zone: &Zone,
-    limit: Limit,
+    limit: dns_answer::Limit,
     source: &mut Tally<R>,
     sink: &mut Tally<W>,
-) -> Result<bool, Stop>
+) -> Outcome
     requires source { source.old.failures < 2 ^ 64 - 1 }
     requires sink { sink.old.failures < 2 ^ 64 - 1 }
     ensures source { source.new.failures ≡ source_failures_after source.old.failures result }
@@ -100,7 +100,7 @@ impl<'z> Exchange<'z> {
         piece: &mut [u8],
         source: &mut Tally<R>,
         sink: &mut Tally<W>,
-    ) -> Result<bool, Stop>
+    ) -> Outcome
         requires source { source.old.failures < 2 ^ 64 - 1 }
         requires sink { sink.old.failures < 2 ^ 64 - 1 }
         requires piece { length piece.old ≡ PIECE }

@@ -6,7 +6,9 @@ ghost use Rattle.dns_spec.specs.Report.{two_digits};
 ghost use Rattle.dns_spec.specs.WrittenText.{hex_text};
 ghost use Rattle.dns_name.specs.Counted.{Writes};
 ghost use Rattle.dns_tools.specs.Parts.{part_text, parts_text};
+ghost use Rattle.dns_tools.specs.declared.fault.Stop.TheVariants.{Sink};
 
+use crate::fault::Stop;
 use dns_name::{Name, SinkFailed, Tally};
 use dns_rdata::{RType, Rdata};
 use dns_wire::{CLASS_IN, WireRecord};
@@ -34,6 +36,14 @@ pub(crate) enum Part<'a> {
     TypeName(RType),
     /// The data of a record.
     Data(&'a WireRecord),
+}
+
+impl From<SinkFailed> for Stop {
+    ghost from_gives = { λ _ stop. stop ≡ Sink };
+
+    fn from(_failed: SinkFailed) -> Stop {
+        Stop::Sink
+    }
 }
 
 /// Writes parts, one after another.

@@ -66,6 +66,17 @@ pub struct ServeWords<'a> {
     pub file: &'a str,
 }
 
+/// What `zonecheck [--quiet] [--print] ORIGIN FILE` is asked for.
+#[derive(Drop)]
+pub struct CheckWords<'a> {
+    /// What is written.
+    pub flags: Flags,
+    /// The zone's origin, in lower case.
+    pub origin: Name,
+    /// The path of the zone's file.
+    pub file: &'a str,
+}
+
 /// Reads the words after the program's own name: `once [--tcp] ORIGIN FILE`, or `udp` or `tcp` and
 /// `ADDR TURNS ORIGIN FILE`, where ORIGIN is a name relative to the root and TURNS a number from 1
 /// to 1,000,000. ADDR is not read yet.
@@ -78,8 +89,7 @@ pub fn serve_words<'a, S: AsStr>(alloc: Global, words: &'a [S]) -> Result<ServeW
     ensures origin { result ≡ Err FaultWord.BadOrigin
         → HasBadServeOrigin (map S.text words.entry.now) }
 {
-    let command = serve_command(alloc)?;
-    let matches = command.try_get_matches_from(words)?;
+    let matches = serve_command(alloc)?.try_get_matches_from(words)?;
     // What is found is compared with the words.
     match given_service(&matches) {
         Some((service, origin, file)) if ask_to_serve(words, &service, origin, file) => {
@@ -93,17 +103,6 @@ pub fn serve_words<'a, S: AsStr>(alloc: Global, words: &'a [S]) -> Result<ServeW
     }
 }
 
-/// What `zonecheck [--quiet] [--print] ORIGIN FILE` is asked for.
-#[derive(Drop)]
-pub struct CheckWords<'a> {
-    /// What is written.
-    pub flags: Flags,
-    /// The zone's origin, in lower case.
-    pub origin: Name,
-    /// The path of the zone's file.
-    pub file: &'a str,
-}
-
 /// Reads the words after the program's own name: `--quiet` and `--print`, in either order and each
 /// at most once, then ORIGIN, a name relative to the root, and FILE.
 ///
@@ -111,13 +110,12 @@ pub struct CheckWords<'a> {
 /// `bad origin` where ORIGIN is no name. No other option is known, and no word asks for help or for
 /// the version.
 pub fn check_words<'a, S: AsStr>(alloc: Global, words: &'a [S]) -> Result<CheckWords<'a>, FaultWord>
-    ensures fault { IfErr result (λ fault. IsTrue (is_word_fault fault)) }
     ensures asked { IfOk result (IsCheckCall (map S.text words.entry.now)) }
     ensures origin { result ≡ Err FaultWord.BadOrigin
         → HasBadCheckOrigin (map S.text words.entry.now) }
+    ensures fault { IfErr result (λ fault. IsTrue (is_word_fault fault)) }
 {
-    let command = check_command(alloc)?;
-    let matches = command.try_get_matches_from(words)?;
+    let matches = check_command(alloc)?.try_get_matches_from(words)?;
     let flags = Flags {
         quiet: matches.get_flag(QUIET),
         print: matches.get_flag(PRINT),

@@ -3,17 +3,14 @@
 #![tactic(auto)]
 
 use dns_name::Tally;
-use dns_tools::{FaultWord, Waiting, end_of, finish, given_words, run_message, say};
+use dns_tools::{FaultWord, Waiting, end, end_of, finish, given_words, run_message};
 use std::io::{self, BufWriter};
 use std::process::ExitCode;
 use std::rt::Env;
 use std::time::Clock;
 
 fn main(rt: HostRuntime) -> ExitCode {
-    ExitCode::from(match print(&rt) {
-        Ok(status) => status,
-        Err(word) => say(&rt, word),
-    })
+    ExitCode::from(end(&rt, print(&rt)))
 }
 
 // Prints the message of standard input, and gives the status for it. There are no words.

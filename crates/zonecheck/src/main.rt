@@ -4,7 +4,7 @@
 
 use dns_name::Tally;
 use dns_tools::{
-    FaultWord, Waiting, check_words, check_zone, end_of, finish, given_words, open_file, say,
+    FaultWord, Waiting, check_words, check_zone, end, end_of, finish, given_words, open_file,
 };
 use std::io::{self, BufWriter};
 use std::process::ExitCode;
@@ -12,10 +12,7 @@ use std::rt::{Env, Files};
 use std::time::Clock;
 
 fn main(rt: HostRuntime) -> ExitCode {
-    ExitCode::from(match check(&rt) {
-        Ok(status) => status,
-        Err(word) => say(&rt, word),
-    })
+    ExitCode::from(end(&rt, check(&rt)))
 }
 
 // Writes the report of the zone that the words name, and gives the status for it.

@@ -6,9 +6,9 @@
 use dns_name::Tally;
 use dns_serve::StreamRoom;
 use dns_tools::{
-    FaultWord, LoadFault, Refusal, Service, Waiting, end_of, exit_status, finish, given_words,
-    load_zone, open_file, run_once, say, serve_connections, serve_datagrams, serve_words,
-    socket_at, status_of_turns, write_refusal,
+    FaultWord, LoadFault, Refusal, Service, Waiting, end, end_of, exit_status, finish, given_words,
+    load_zone, open_file, run_once, serve_connections, serve_datagrams, serve_words, socket_at,
+    status_of_turns, write_refusal,
 };
 use dns_zone::Zone;
 use std::io::{self, BufWriter};
@@ -18,10 +18,7 @@ use std::rt::{Env, Files};
 use std::time::Clock;
 
 fn main(rt: HostRuntime) -> ExitCode {
-    ExitCode::from(match run(&rt, &rt.stderr()) {
-        Ok(status) => status,
-        Err(word) => say(&rt, word),
-    })
+    ExitCode::from(end(&rt, run(&rt, &rt.stderr())))
 }
 
 // Serves the zone that the words name, as they ask, and gives the status.
