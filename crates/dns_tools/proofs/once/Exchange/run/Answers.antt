@@ -2,7 +2,8 @@ use Rattle.dns_tools.proofs.Common.{arith, rules, ◌<◌, ◌≤◌, ◌∙◌,
 use Rattle.dns_tools.proofs.LineReads.{AllRead, reading_none, reading_take, taking_begun, reading_failed, all_read, all_given, all_answered, all_begun, finished_empty, finished_line, finished_begun, sink_stopped, source_stopped}
 use Rattle.dns_tools.proofs.LineRuns.{grows_begun}
 use Rattle.dns_tools.proofs.once.Exchange.run.Goals as goal
-use Rattle.dns_tools.proofs.once.Exchange.run.Goals.{else-pieces-test, then-pieces-test+in_ok-count+then-count-eq0, then-not-is_empty+in_ok-end_line, else-not-is_empty}
+use Rattle.dns_tools.proofs.once.Exchange.run.Given as given
+use Rattle.dns_tools.proofs.once.Exchange.run.Goals.{After-is_empty, else-pieces-test, then-pieces-test+in_ok-count+then-count-eq0, then-not-is_empty+in_ok-end_line, else-not-is_empty}
 
 pub pieces-init : goal.pieces-init
 pieces-init g c = record {
@@ -44,22 +45,28 @@ pieces-preserved g c =
           c.pieces.invariant.reading _ c.in_ok-take.ensures.taken;
     }
 
+-- all that was read is answered or kept, where the source ended and where no more may be read
+module _ (g : given.Over) (c : After-is_empty g) where
+  all : AllRead (reply_of c.args.self.now) (reply_of c.pieces.self)
+      (g.R.Read.remaining c.args.source.now.device) (g.R.Read.remaining c.pieces-test.source.device)
+      (g.W.Write.contents c.args.sink.now.device) (g.W.Write.contents c.pieces.sink.device)
+      (kept_of c.pieces.self)
+  all =
+      let inv = c.pieces.invariant in
+      elim c.pieces-test.branch [
+        | else-pieces-test w ↦
+            rw w.source-is (all_read _ _ _ _ _ _ c.pieces.left _ inv.task
+            (omega (arith, w.pieces-test.false)) inv.reading)
+        | then-pieces-test+in_ok-count+then-count-eq0 w ↦
+            let some : 0 < length w.read.new.buf = search rules in
+            let bytes = w.in_ok-count.ensures.bytes in
+            rw w.source-is (all_given _ _ _ _ _ _ _ c.pieces.left _ _ _ inv.task bytes.0
+            w.if-count-eq0.true (bytes.1 w.if-count-eq0.true some) inv.reading)
+      ]
+
 pub returns-in_err-end_line-clause-lines : goal.returns-in_err-end_line-clause-lines
 returns-in_err-end_line-clause-lines g c =
-    let inv = c.pieces.invariant in
-    let all : AllRead (reply_of c.args.self.now) (reply_of c.pieces.self)
-    (g.R.Read.remaining c.args.source.now.device) (g.R.Read.remaining c.pieces-test.source.device)
-    (g.W.Write.contents c.args.sink.now.device) (g.W.Write.contents c.pieces.sink.device)
-    (kept_of c.pieces.self) = elim c.pieces-test.branch [
-      | else-pieces-test w ↦
-          rw w.source-is (all_read _ _ _ _ _ _ c.pieces.left _ inv.task
-          (omega (arith, w.pieces-test.false)) inv.reading)
-      | then-pieces-test+in_ok-count+then-count-eq0 w ↦
-          let some : 0 < length w.read.new.buf = search rules in
-          let bytes = w.in_ok-count.ensures.bytes in
-          rw w.source-is (all_given _ _ _ _ _ _ _ c.pieces.left _ _ _ inv.task bytes.0
-          w.if-count-eq0.true (bytes.1 w.if-count-eq0.true some) inv.reading)
-    ] in
+    let all = all g (goal.at.returns-in_err-end_line-clause-lines g c).After-is_empty in
     let some = eqb-false (length c.pieces.self.line.front) 0
     (sym c.is_empty.ensures ∙ c.if-not-is_empty.true) in
     let begun = c.in_err-end_line.ensures.answered.err in
@@ -70,20 +77,7 @@ returns-in_err-end_line-clause-lines g c =
 
 pub returns-clause-lines : goal.returns-clause-lines
 returns-clause-lines g c =
-    let inv = c.pieces.invariant in
-    let all : AllRead (reply_of c.args.self.now) (reply_of c.pieces.self)
-    (g.R.Read.remaining c.args.source.now.device) (g.R.Read.remaining c.pieces-test.source.device)
-    (g.W.Write.contents c.args.sink.now.device) (g.W.Write.contents c.pieces.sink.device)
-    (kept_of c.pieces.self) = elim c.pieces-test.branch [
-      | else-pieces-test w ↦
-          rw w.source-is (all_read _ _ _ _ _ _ c.pieces.left _ inv.task
-          (omega (arith, w.pieces-test.false)) inv.reading)
-      | then-pieces-test+in_ok-count+then-count-eq0 w ↦
-          let some : 0 < length w.read.new.buf = search rules in
-          let bytes = w.in_ok-count.ensures.bytes in
-          rw w.source-is (all_given _ _ _ _ _ _ _ c.pieces.left _ _ _ inv.task bytes.0
-          w.if-count-eq0.true (bytes.1 w.if-count-eq0.true some) inv.reading)
-    ] in
+    let all = all g (goal.at.returns-clause-lines g c).After-is_empty in
     all_answered _ _ _ _ _ _ _ _ all _ (λ held x p. elim c.if-not-is_empty.branch [
       | then-not-is_empty+in_ok-end_line w ↦
           let some = eqb-false (length c.pieces.self.line.front) 0
