@@ -9,7 +9,7 @@ pub use Rattle.dns_master.specs.Codes.{fault_of}
 pub use Rattle.dns_master.specs.SourceForm.{GivesMeaning}
 pub use Rattle.dns_name.proofs.Results.{OnErr-always}
 pub use Rattle.dns_name.proofs.WritesLemmas.{Writes-after, Writes-same, Written, Written-begun, Written-more, beginning_of_first, beginning_of_second}
-pub use Rattle.dns_name.specs.Counted.{AppendsBeginning}
+pub use Rattle.dns_name.specs.Counted.{AppendsBeginning, Counted, Writes}
 pub use Rattle.dns_serve.proofs.OneTurn.{handed_unknown}
 pub use Rattle.dns_serve.specs.Streams.{Session}
 pub use Rattle.dns_spec.proofs.PrintedZones.OrderedReport.{ordered_passing}

@@ -1,10 +1,42 @@
 -- Lines of output go out in parts.
-use Rattle.dns_tools.proofs.Common.{◌≡◌, ℕ, ◌+◌, ◌<◌, List, [], ◌++◌, length, drop, get_or, flat_map, append_assoc, append-nil, add-one, codes, decimal, arith, drop-cons, Octets, DomainName, name_text, type_text, hex_text, data_text, FileFault, fault_code, ZoneContents, zone_serial, MessageRecord, DnsMessage, octets16, two_digits, line_report, bare_name_text, loaded_report, class_text, header_line, section_line, data_type, question_line, fault_report, Fault, MessageQuestion}
+use Rattle.dns_tools.proofs.Common.{◌≡◌, ℕ, ◌+◌, ◌<◌, List, [], ◌++◌, length, drop, get_or, ap, flat_map, append_assoc, append-nil, add-one, false≢true, codes, decimal, arith, drop-cons, Octets, DomainName, name_text, type_text, hex_text, data_text, FileFault, fault_code, ZoneContents, zone_serial, MessageRecord, DnsMessage, octets16, two_digits, line_report, bare_name_text, loaded_report, class_text, header_line, section_line, data_type, question_line, fault_report, Fault, MessageQuestion, Result, Ok, Err, IsErr, Option, Counted, Writes, Writes-same, Written, Written-more, Written-begun, ◌∙◌}
 
 -- the text of the next piece, and those of the pieces after it
 pub next_piece : {A : Type 0} (f : A → Octets) (xs : List A) (x : A) (i : ℕ) → i < length xs
     → x ≡ get_or xs i x → flat_map f (drop i xs) ≡ f x ++ flat_map f (drop (i + 1) xs)
 next_piece f xs x i h e = grind (arith, flat_map, drop-cons, add-one)
+
+-- of a text so much was written, and no failure was counted: the rest is still to come
+pub record IsLeft {V : Type 0} (contents : V → Option Octets) (old now : Counted V)
+    (whole rest : Octets) : Type 0 where
+  pub written : Written (contents old.device) (contents now.device) whole rest
+  pub counted : now.failures ≡ old.failures
+
+-- the next piece is written
+pub piece_written : {V E A T : Type 0} {contents : V → Option Octets} {old mid new : Counted V}
+    {a : A} {x : T} {i : ℕ} {whole text : Octets} (f : T → Octets) (xs : List T)
+    → i < length xs → x ≡ get_or xs i x → IsLeft contents old mid whole (flat_map f (drop i xs))
+    → text ≡ f x → Writes {E = E} contents mid new (Ok a) text
+    → IsLeft contents old new whole (flat_map f (drop (i + 1) xs))
+piece_written {x = x} {i} f xs within is so text w = record {
+  written = Written-more _ _ _ _ _ _ _ so.written (next_piece f xs x i within is)
+      (Writes-same text w).ok;
+  counted = w.counted ∙ so.counted;
+}
+
+-- or a beginning of it, and that is the answer
+pub piece_begun : {V E A F B T : Type 0} {contents : V → Option Octets} {old mid new : Counted V}
+    {e : E} {r : Result B F} {x : T} {i : ℕ} {whole text : Octets} (f : T → Octets) (xs : List T)
+    → i < length xs → x ≡ get_or xs i x → IsLeft contents old mid whole (flat_map f (drop i xs))
+    → text ≡ f x → Writes {A = A} contents mid new (Err e) text → IsErr r
+    → Writes contents old new r whole
+piece_begun {r = Err failed} {x} {i} f xs within is so text w err = record {
+  ok = tt;
+  err = Written-begun _ _ _ _ _ _ _ so.written (next_piece f xs x i within is)
+      (Writes-same text w).err;
+  counted = w.counted ∙ ap (λ count. count + 1) so.counted;
+}
+piece_begun {r = Ok answer} f xs within is so text w err = absurd (false≢true err)
 
 -- nothing comes after the last part
 pub three_parts : (a b c : Octets) → a ++ (b ++ (c ++ [])) ≡ a ++ b ++ c
@@ -36,17 +68,17 @@ header_written m id flags q a n r e f g h i j =
     " ") (hex_text (octets16 m.header.flags)) (decimal (length m.questions)) (decimal (length
     m.answers)) (decimal (length m.authorities)) (decimal (length m.additionals)) (codes "\n"))
 
-pub question_written : (q v : MessageQuestion) → q ≡ v → codes "question "
+pub question_written : {q v : MessageQuestion} → q ≡ v → codes "question "
     ++ (name_text q.qname ++ (class_text q.qclass ++ (type_text q.qtype ++ (codes "\n" ++ []))))
     ≡ question_line v
-question_written q v e =
+question_written {v = v} e =
     rw e (five_parts
     (codes "question ") (name_text v.qname) (class_text v.qclass) (type_text v.qtype) (codes "\n"))
 
-pub fault_written : (f v : Fault) → f ≡ v
+pub fault_written : {f v : Fault} → f ≡ v
     → name_text f.owner ++ (codes " Z" ++ (two_digits f.code ++ (codes "\n" ++ [])))
     ≡ fault_report v
-fault_written f v e =
+fault_written {v = v} e =
     rw e (four_parts (name_text v.owner) (codes " Z") (two_digits v.code) (codes "\n"))
 
 pub section_written : (section : Octets) (r v : MessageRecord) (ttl : ℕ)

@@ -1,11 +1,9 @@
-use Rattle.dns_tools.proofs.Common.{◌≡◌, drop, flat_map, section_line, Written}
+use Rattle.dns_tools.proofs.Common.{drop, flat_map, section_line}
+use Rattle.dns_tools.proofs.LineParts.{IsLeft}
 use Rattle.dns_tools.proofs.message.write_records.Given as goal
 
 -- the lines that are left are still to be written
 abbrev pub invariant-records : goal.invariant-records
-invariant-records g l = record {
-  written : Written (g.W.Write.contents l.initial.sink.device)
-      (g.W.Write.contents l.sink.device) (flat_map (section_line l.section) l.records)
-      (flat_map (section_line l.section) (drop l.record-index l.records));
-  counted : l.sink.failures ≡ l.initial.sink.failures;
-}
+invariant-records g l =
+    IsLeft g.W.Write.contents l.initial.sink l.sink (flat_map (section_line l.section) l.records)
+    (flat_map (section_line l.section) (drop l.record-index l.records))
