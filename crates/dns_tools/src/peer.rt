@@ -46,6 +46,8 @@ pub struct Peer<'a, C> {
     stream: TcpStream,
     clock: &'a C,
     current: Cell<Current>,
+    // When the call that is made began, on the clock, and how long it may wait in all.
+    call: Cell<(Duration, Duration)>,
     // The time-outs of the socket, once they are set.
     read_wait: Cell<Duration>,
     write_wait: Cell<Duration>,
@@ -58,6 +60,7 @@ impl<'a, C: Clock> Peer<'a, C> {
             stream,
             clock,
             current: Cell::new(Current::Awaited),
+            call: Cell::new((Duration::ZERO, Duration::ZERO)),
             read_wait: Cell::new(Duration::ZERO),
             write_wait: Cell::new(Duration::ZERO),
         }
@@ -69,7 +72,7 @@ impl<'a, C: Clock> Peer<'a, C> {
     /// loses what it has not yet got of the replies (RFC 2525 2.17).
     pub(crate) fn hear_out(&self) -> io::Result<()> {
         self.stream.shutdown(Shutdown::Write)?;
-        self.set_read_wait(Duration::from_millis(LAST_SILENCE))?;
+        let mut stream = self.to_read(Duration::from_millis(LAST_SILENCE))?;
         let begun = self.clock.monotonic()?;
         let mut room = [0; 4096];
         let mut heard = 0;
@@ -77,7 +80,7 @@ impl<'a, C: Clock> Peer<'a, C> {
             if left(LAST_TIME, begun, self.clock.monotonic()?).is_zero() {
                 break;
             }
-            heard += match (&self.stream).read(&mut room) {
+            heard += match stream.read(&mut room) {
                 Ok(0) => break,
                 Ok(count) => count,
                 Err(error) if is_interrupted(&error) => 1,
@@ -87,10 +90,15 @@ impl<'a, C: Clock> Peer<'a, C> {
         Ok(())
     }
 
-    // When a call begins, on the clock, and how long it may wait: an error where the time of the
-    // message is over.
-    fn begin_call(&self) -> io::Result<(Duration, Duration)> {
+    // How long a call may wait, after so many tries that were interrupted: what is left of the time
+    // that it had when it began. An error where the time of the message was over then.
+    fn wait_after(&self, tries: u64) -> io::Result<Duration> {
         let now = self.clock.monotonic()?;
+        if tries > 0 {
+            let (begun, whole) = self.call.get();
+            let rest = whole.saturating_sub(now.saturating_sub(begun));
+            return Ok(rest.max(Duration::from_millis(LAST_LOOK)));
+        }
         let silence = Duration::from_millis(SILENCE);
         let wait = match self.current.get() {
             Current::Awaited => silence,
@@ -103,33 +111,26 @@ impl<'a, C: Clock> Peer<'a, C> {
         if wait.is_zero() {
             return Err(io::Error::from(ErrorKind::TimedOut));
         }
-        Ok((now, wait))
+        self.call.set((now, wait));
+        Ok(wait)
     }
 
-    // How long a call may wait that was interrupted, of the whole time that it had then.
-    fn wait_again(&self, begun: Duration, whole: Duration) -> io::Result<Duration> {
-        let passed = self.clock.monotonic()?.saturating_sub(begun);
-        Ok(
-            whole
-                .saturating_sub(passed)
-                .max(Duration::from_millis(LAST_LOOK)),
-        )
-    }
-
-    fn set_read_wait(&self, wait: Duration) -> io::Result<()> {
+    // The stream, where a read waits so long.
+    fn to_read(&self, wait: Duration) -> io::Result<&TcpStream> {
         if self.read_wait.get() != wait {
             self.stream.set_read_timeout(Some(wait))?;
             self.read_wait.set(wait);
         }
-        Ok(())
+        Ok(&self.stream)
     }
 
-    fn set_write_wait(&self, wait: Duration) -> io::Result<()> {
+    // The stream, where a write waits so long.
+    fn to_write(&self, wait: Duration) -> io::Result<&TcpStream> {
         if self.write_wait.get() != wait {
             self.stream.set_write_timeout(Some(wait))?;
             self.write_wait.set(wait);
         }
-        Ok(())
+        Ok(&self.stream)
     }
 }
 
@@ -144,15 +145,11 @@ pub(crate) fn is_interrupted(error: &io::Error) -> bool {
 
 impl<C: Clock> Read for &Peer<'_, C> {
     fn read(&mut self, buf: &mut [u8]) -> io::Result<usize> {
-        let (begun, whole) = self.begin_call()?;
-        let mut wait = whole;
-        'calls: for _ in 0..u64::MAX {
-            self.set_read_wait(wait)?;
-            match (&self.stream).read(buf) {
+        'calls: for tries in 0..u64::MAX {
+            match self.to_read(self.wait_after(tries)?)?.read(buf) {
                 Err(error) if is_interrupted(&error) => {}
                 came => return came,
             }
-            wait = self.wait_again(begun, whole)?;
         }
         Err(io::Error::from(ErrorKind::TimedOut))
     }
@@ -160,15 +157,11 @@ impl<C: Clock> Read for &Peer<'_, C> {
 
 impl<C: Clock> Write for &Peer<'_, C> {
     fn write(&mut self, piece: &[u8]) -> io::Result<usize> {
-        let (begun, whole) = self.begin_call()?;
-        let mut wait = whole;
-        'calls: for _ in 0..u64::MAX {
-            self.set_write_wait(wait)?;
-            match (&self.stream).write(piece) {
+        'calls: for tries in 0..u64::MAX {
+            match self.to_write(self.wait_after(tries)?)?.write(piece) {
                 Err(error) if is_interrupted(&error) => {}
                 taken => return taken,
             }
-            wait = self.wait_again(begun, whole)?;
         }
         Err(io::Error::from(ErrorKind::TimedOut))
     }
