@@ -79,7 +79,7 @@ pub fn finish<W: Write + Drop>(outcome: Outcome, output: BufWriter<W>) -> (Outco
     }
 }
 
-/// The status of a program that ends so, by what it says on standard error where it has to.
+/// The status that a program ends with: its own, or that of the word that it says before.
 pub fn end(rt: &impl Eprint, status: Result<u8, FaultWord>) -> u8
     ensures said { IfErr status (λ _. result ≡ 2) }
     ensures status { IfOk status (λ status. result ≡ status) }
