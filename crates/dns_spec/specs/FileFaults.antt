@@ -39,7 +39,7 @@ pub data FileFault : Type 0 where
   no_memory : FileFault
 
 -- The number of a fault's code: 7 of `R07`.
-abbrev pub fault_code : (fault : FileFault) → ℕ
+abbrev pub fault_code : FileFault → ℕ
 fault_code bad_octet = 1
 fault_code bad_escape = 2
 fault_code unended_string = 3

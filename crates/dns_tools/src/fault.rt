@@ -173,14 +173,14 @@ pub enum TurnWord {
 }
 
 impl From<TurnFault> for TurnWord {
+    ghost from_gives = { λ fault word. word ≡ word_of_turn fault };
+
     fn from(fault: TurnFault) -> TurnWord {
         match fault {
             TurnFault::ReceiveFailed => TurnWord::NoDatagram,
             TurnFault::SendFailed => TurnWord::NotSent,
         }
     }
-
-    ghost from_gives = { λ fault word. word ≡ word_of_turn fault };
 }
 
 impl From<StreamFault> for TurnWord {

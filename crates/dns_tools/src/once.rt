@@ -14,7 +14,7 @@ ghost use Rattle.dns_tools.specs.declared.once.TheConstants.{MOST_ANSWER};
 
 use crate::fault::{Outcome, Stop};
 use crate::line::{Line, MOST_OCTETS, PIECE};
-use dns_answer::{Limit, TcpDraft, UdpDraft, respond_in};
+use dns_answer::{TcpDraft, UdpDraft, respond_in};
 use dns_name::{SinkFailed, Tally};
 use dns_zone::{Steps, Zone};
 use std::alloc::{AllocError, Global};
@@ -62,7 +62,7 @@ pub fn run_once<R: Read, W: Write>(
 #[derive(Drop)]
 struct Exchange<'z> {
     zone: &'z Zone,
-    limit: Limit,
+    limit: dns_answer::Limit,
     // The line that goes on.
     line: Line,
     // Where a line is spelled as octets, and then the digits of its reply.
@@ -77,7 +77,7 @@ struct Exchange<'z> {
 impl<'z> Exchange<'z> {
     ghost use Rattle.dns_tools.specs.ExchangeForm.{kept_of, reply_of};
 
-    fn new(alloc: Global, zone: &'z Zone, limit: Limit) -> Result<Self, AllocError>
+    fn new(alloc: Global, zone: &'z Zone, limit: dns_answer::Limit) -> Result<Self, AllocError>
         ensures fresh { IfOk result (λ e. IsFresh (kept_of e)) }
         ensures task { IfOk result (λ e. reply_of e ≡ reply_within limit zone.now) }
     {
@@ -184,7 +184,7 @@ struct Drafts {
 // whether it is a message.
 fn answer<W: Write>(
     zone: &Zone,
-    limit: Limit,
+    limit: dns_answer::Limit,
     drafts: &mut Drafts,
     line: &Line,
     room: &mut [u8],
@@ -204,8 +204,8 @@ fn answer<W: Write>(
     };
     let (mut steps, datagram) = (Steps::new(zone), &room[..len]);
     let written = match limit {
-        Limit::Udp => respond_in(&mut steps, datagram, &mut drafts.udp, reply),
-        Limit::Tcp => respond_in(&mut steps, datagram, &mut drafts.tcp, reply),
+        dns_answer::Limit::Udp => respond_in(&mut steps, datagram, &mut drafts.udp, reply),
+        dns_answer::Limit::Tcp => respond_in(&mut steps, datagram, &mut drafts.tcp, reply),
     };
     match written {
         Some(len) => write_digits(&reply[..len], room, sink)?,
