@@ -44,12 +44,24 @@ const STRINGS: [(&[u8], Limit, &[u8], u8); 2] = [
     ),
 ];
 
-fn check_limit(rt: &impl Abort, alloc: Global, zone: &Zone) -> Result<(), Fail> {
+// Whether the data of the record in a reply ends with the longest string and one of so many octets.
+fn has_strings(
+    alloc: Global,
+    zone: &Zone,
+    limit: Limit,
+    question: &[u8],
+    record: &[u8],
+    count: u8,
+) -> Result<bool, Fail> {
     let head = b"\x12\x34\x84\x00\x00\x01\x00\x01\x00\x00\x00\x00";
+    let last = &LETTERS[..usize::from(count)];
+    let wanted: [&[u8]; 6] = [head, question, record, &LETTERS, &[count], last];
+    is_reply(alloc, zone, limit, question, &wanted)
+}
+
+fn check_limit(rt: &impl Abort, alloc: Global, zone: &Zone) -> Result<(), Fail> {
     for (question, limit, record, count) in STRINGS {
-        let last = &LETTERS[..usize::from(count)];
-        let wanted: [&[u8]; 6] = [head, question, record, &LETTERS, &[count], last];
-        assert!(rt; is_reply(alloc, zone, limit, question, &wanted)?);
+        assert!(rt; has_strings(alloc, zone, limit, question, record, count)?);
     }
     Ok(())
 }
