@@ -1,5 +1,5 @@
 -- What passes in a part of a list, where nothing passes past the part.
-use Rattle.dns_zone.proofs.Common.{◌≡◌, ℕ, ◌≤◌, Bool, true, List, [], ◌++◌, length, take, drop, sym, ap, ◌∙◌, filter, arith, filter-append, DomainName, at_or_below, ResourceRecord, append-nil, take-append-le, span, under}
+use Rattle.dns_zone.proofs.Common.{Bool, DomainName, List, ResourceRecord, [], ap, append-nil, arith, at_or_below, drop, filter, filter-append, length, span, sym, take, take-append-le, true, under, ℕ, ◌++◌, ◌∙◌, ◌≡◌, ◌≤◌}
 use Rattle.dns_zone.proofs.AtName.{is_at}
 use Rattle.dns_zone.proofs.KidRows.{is_under}
 use Rattle.dns_zone.proofs.NameTree.{itself-under, under-trans}
@@ -25,8 +25,8 @@ pub none_under : (m n : DomainName) (xs : List ResourceRecord) → at_or_below m
     → under n xs ≡ [] → under m xs ≡ []
 none_under m n xs h e = grind (arith, filter_within, is_under, under-trans)
 
-pub none_at : (m n : DomainName) (xs : List ResourceRecord) → at_or_below m n ≡ true
-    → under n xs ≡ [] → filter (is_at m) xs ≡ []
-none_at m n xs h e =
+pub none_at : (m : DomainName) (xs : List ResourceRecord) → under m xs ≡ []
+    → filter (is_at m) xs ≡ []
+none_at m xs e =
     sym (filter_within (is_under m) (is_at m) xs (λ r s. itself-under r.owner m s))
-    ∙ ap (filter (is_at m)) (none_under m n xs h e)
+    ∙ ap (filter (is_at m)) e

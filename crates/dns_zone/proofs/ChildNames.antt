@@ -10,8 +10,6 @@ pub record IsChildOf (n owner m : DomainName) : Type 0 where
   pub labels : m ≡ label ∷ n
   pub lower : folded m ≡ m
   pub above : at_or_below owner m ≡ true
-  pub front : Octets
-  pub end : wire owner ≡ front ++ wire m
 
 pub cons_under : (l : Octets) (m : DomainName) → at_or_below (l ∷ m) m ≡ true
 cons_under l m = under-from (l ∷ m) m (map to_ascii_lowercase l ∷ [], refl)
@@ -47,8 +45,6 @@ child_end n (l ∷ o) b low lower =
           labels = grind (arith, same-is);
           lower = low;
           above = under-from (l ∷ o) (l ∷ o) ([], refl);
-          front = [];
-          end = refl;
         }
     go false e r =
         let long = ltb-false _ _ e in
@@ -58,8 +54,6 @@ child_end n (l ∷ o) b low lower =
           labels = h.labels;
           lower = h.lower;
           above = under-trans (l ∷ o) o _ (cons_under l o) h.above;
-          front = length l ∷ (l ++ h.front);
-          end = grind (arith, append_assoc);
         }
 
 -- an owner has one name of each length above it

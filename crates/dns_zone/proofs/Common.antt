@@ -52,7 +52,7 @@ pub use Rattle.dns_zone.specs.SetWalks.{begins_with_type, sets_ended}
 pub use Rattle.dns_zone.specs.Starts.{AreStarts, BeginsAt}
 pub use Rattle.dns_zone.specs.TreeForm.{AreKids, IsKid, IsRow, IsTree, first_of, kids_at, no_row, owners, room_after, row_at, row_label, span, under}
 unfoldable pub use Rattle.dns_zone.specs.TreeForm.{row_name, row_octets}
-pub use Rattle.dns_zone.specs.TreeSteps.{AddsKids, IsBetween, IsKidAt, IsNext}
+pub use Rattle.dns_zone.specs.TreeSteps.{AddsKids}
 pub use Rattle.dns_zone.specs.ZoneForm.{AreOrdered, IsBuilt, IsCanonical, IsFront, is_chosen}
 pub use Rattle.dns_zone.specs.declared.checks.names.CheckedName.{CheckedName}
 pub use Rattle.dns_zone.specs.declared.order.arranged.Run.{Run}

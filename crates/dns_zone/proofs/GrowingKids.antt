@@ -1,5 +1,5 @@
 -- The rows of a name's children, added one by one.
-use Rattle.dns_zone.proofs.Common.{◌≡◌, ℕ, suc, ◌+◌, ◌-◌, ◌<◌, ◌≤◌, Bool, true, false, ◌⊎◌, inl, inr, List, [], ◌∷◌, ◌++◌, map, length, take, drop, get_or, refl, sym, ap, ap₂, ◌∙◌, arith, subst, filter, is_gt, Ordering, Less, Equal, Greater, length-append, list_any-append, false≢true, true≢false, false_from_ne_true, or_cases, or_right, filter-append, list_any, to_ascii_lowercase, Octets, DomainName, folded, same, names_equal, at_or_below, label_order, ResourceRecord, folded_folded, drop-drop, take-append-drop, get_or-map, drop_more, append-nil, append_assoc, take_at, drop_at, map-append, names_equal-decides, same-length, Each, Among, Rises, each_at, each_weaker, filter_each, filter_test, labels_of_spelled, IsCanonical, span, owners, under, first_of, row_octets, row_name, row_label, IsRow, IsKid, IsBetween, IsNext, IsKidAt, AddsKids, Row}
+use Rattle.dns_zone.proofs.Common.{AddsKids, Among, Bool, DomainName, Each, Equal, Greater, IsCanonical, IsKid, IsRow, Less, List, Octets, Ordering, ResourceRecord, Rises, Row, [], ap, append-nil, append_assoc, ap₂, arith, at_or_below, drop, drop-drop, drop_at, drop_more, each_at, each_weaker, false, false_from_ne_true, false≢true, filter, filter-append, filter_each, filter_test, first_of, folded, folded_folded, get_or, get_or-map, inl, inr, is_gt, label_order, labels_of_spelled, length, length-append, list_any, list_any-append, map, map-append, names_equal, names_equal-decides, or_cases, or_right, owners, refl, row_label, row_name, row_octets, same, same-length, span, subst, suc, sym, take, take-append-drop, take_at, to_ascii_lowercase, true, true≢false, under, ℕ, ◌++◌, ◌+◌, ◌-◌, ◌<◌, ◌∙◌, ◌∷◌, ◌≡◌, ◌≤◌, ◌⊎◌}
 use Rattle.dns_zone.proofs.Pairs.{Pairs, filter_none}
 use Rattle.dns_zone.proofs.NameTree.{label-tie}
 use Rattle.dns_zone.proofs.AtName.{OwnerNotAfter, owners_in_order, is_at}
@@ -7,7 +7,7 @@ use Rattle.dns_zone.proofs.Existing.{under-lower}
 use Rattle.dns_zone.proofs.Spans.{drop_span, take_span, none_before, none_past, in_span, nothing_each, nothing_there, nothing_further, some_passes, any_there, any_nothing, among_left, among_right, each_drop, each_push}
 use Rattle.dns_zone.proofs.ChildNames.{cons_under, one_above, labels_in_order, other_below, under-longer}
 use Rattle.dns_zone.proofs.BoundedKids.{none_under}
-use Rattle.dns_zone.proofs.KidRows.{is_under, pairs_drop}
+use Rattle.dns_zone.proofs.KidRows.{is_under, pairs_drop, IsBetween, IsNext}
 
 pub row_is : (rs : List ResourceRecord) (row : Row) (n : DomainName) → IsRow rs row n
     → row_name rs row ≡ n
@@ -105,28 +105,31 @@ module _ (rs : List ResourceRecord) (canonical : IsCanonical rs) (n : DomainName
       }
 
   module _ (old new : List Row) (k : ℕ) (a : Adding rs n row.own_end old new k) (kid : Row)
-      (h : IsKidAt rs n k kid) where
+      (h : IsKid rs n kid) (begins : kid.first ≡ k) where
     m : DomainName
-    m = h.kid.label ∷ n
+    m = h.label ∷ n
 
     is_kid : IsRow rs kid m
     unfolding m
-    is_kid = h.kid.is_row
+    is_kid = h.is_row
+
+    more : k < kid.end
+    more = let b = is_kid.more in omega (arith, begins)
 
     order : k ≤ kid.end
-    order = let b = h.more in omega arith
+    order = omega (arith, more)
 
     group : span rs k kid.end ≡ under m rs
-    group = ap (λ (i : ℕ). span rs i kid.end) (sym h.first) ∙ is_kid.below
+    group = ap (λ (i : ℕ). span rs i kid.end) (sym begins) ∙ is_kid.below
 
     none_after : under m (drop kid.end rs) ≡ []
     none_after = none_past (is_under m) rs k kid.end order group
 
-    label_is : row_label rs kid ≡ h.kid.label
+    label_is : row_label rs kid ≡ h.label
     unfolding m
     label_is = ap first_of (row_is rs kid m is_kid)
 
-    label_lower : map to_ascii_lowercase h.kid.label ≡ h.kid.label
+    label_lower : map to_ascii_lowercase h.label ≡ h.label
     unfolding m
     label_lower = ap first_of is_kid.lower
 
@@ -135,12 +138,12 @@ module _ (rs : List ResourceRecord) (canonical : IsCanonical rs) (n : DomainName
     first = get_or rs k blank
 
     k_inside : k < length rs
-    k_inside = let b = h.more in let c = is_kid.end_fits in omega arith
+    k_inside = let c = is_kid.end_fits in omega (arith, more)
 
     first_under : is_under m first ≡ true
     unfolding first
     first_under =
-        in_span (is_under m) rs k kid.end order group k blank (omega arith) h.more is_kid.end_fits
+        in_span (is_under m) rs k kid.end order group k blank (omega arith) more is_kid.end_fits
 
     rest : drop k rs ≡ first ∷ drop (k + 1) rs
     unfolding first
@@ -161,7 +164,7 @@ module _ (rs : List ResourceRecord) (canonical : IsCanonical rs) (n : DomainName
         let all =
         (subst (Pairs OwnerNotAfter) rest
         (pairs_drop OwnerNotAfter k rs (owners_in_order rs canonical.ordered))).0 in
-        let b = h.more in
+        let b = more in
         let at : (k + 1) + (kid.end - (k + 1)) ≡ kid.end = omega arith in
         subst (Each (OwnerNotAfter first))
         (drop-drop (kid.end - (k + 1)) (k + 1) rs ∙ ap (λ i. drop i rs) at)
@@ -187,18 +190,18 @@ module _ (rs : List ResourceRecord) (canonical : IsCanonical rs) (n : DomainName
         let under_l = lower_child s.0 l s.2 in
         let lower_l : map to_ascii_lowercase l' ≡ l' = ap first_of (folded_folded (l ∷ [])) in
         let not_gt =
-        labels_in_order first.owner s.0.owner n h.kid.label l' is_row.lower label_lower lower_l
+        labels_in_order first.owner s.0.owner n h.label l' is_row.lower label_lower lower_l
         first_under under_l
         (each_at (OwnerNotAfter first) s.0 (drop kid.end rs) after_first s.1) in
-        let apart : h.kid.label ≡ l' → ⊥ =
+        let apart : h.label ≡ l' → ⊥ =
         λ q. false≢true
         (sym (each_at (λ r. is_under m r ≡ false) s.0 (drop kid.end rs)
         (nothing_each (is_under m) (drop kid.end rs) none_after) s.1)
         ∙ ap (λ (x : Octets). is_under (x ∷ n) s.0) q ∙ under_l)
         in
         ap (λ (x : Octets). label_order x l') label_is
-        ∙ less h.kid.label l' (label_order h.kid.label l') refl not_gt
-        (λ q. apart (label-tie h.kid.label l' q))
+        ∙ less h.label l' (label_order h.label l') refl not_gt
+        (λ q. apart (label-tie h.label l' q))
       where
         less : (x y : Octets) (c : Ordering) → label_order x y ≡ c → is_gt c ≡ false
             → (label_order x y ≡ Equal → ⊥) → c ≡ Less
@@ -213,7 +216,7 @@ module _ (rs : List ResourceRecord) (canonical : IsCanonical rs) (n : DomainName
     unfolding m
     before_it =
         subst (λ (y : Octets). Each (λ x. label_order x y ≡ Less) (map (row_label rs) a.kids))
-        (label_lower ∙ sym label_is) (a.ahead h.kid.label any_here)
+        (label_lower ∙ sym label_is) (a.ahead h.label any_here)
 
     all_now : (l : Octets) → list_any (is_under (l ∷ n)) (take kid.end rs) ≡ true
         → Among (map to_ascii_lowercase l) (map (row_label rs) (a.kids ++ kid ∷ []))
@@ -267,7 +270,7 @@ module _ (rs : List ResourceRecord) (canonical : IsCanonical rs) (n : DomainName
     step = record {
       kids = a.kids ++ kid ∷ [];
       are = ap (λ xs. xs ++ kid ∷ []) a.are ∙ append_assoc old a.kids (kid ∷ []);
-      each = each_push (IsKid rs n) a.kids kid a.each h.kid;
+      each = each_push (IsKid rs n) a.kids kid a.each h;
       rising = grind (arith, labels_now, rises_push, before_it);
       ahead =
           λ l e. subst (Each (λ k. label_order k (map to_ascii_lowercase l) ≡ Less))
@@ -276,8 +279,8 @@ module _ (rs : List ResourceRecord) (canonical : IsCanonical rs) (n : DomainName
           (map (row_label rs) a.kids) (row_label rs kid)
           (a.ahead l (any_later (is_under (l ∷ n)) e)) (later l e));
       all = all_now;
-      few = let b = h.more in let c = a.few in omega (arith, length-append a.kids (kid ∷ []));
-      from = let b = h.more in let c = a.from in omega arith;
+      few = let c = a.few in omega (arith, more, length-append a.kids (kid ∷ []));
+      from = let c = a.from in omega (arith, more);
       fits = is_kid.end_fits;
       between = between_now;
     }

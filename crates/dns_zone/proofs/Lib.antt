@@ -23,8 +23,8 @@ pub mod Existing
 pub mod Spans
 pub mod ChildNames
 pub mod KidRows
+pub mod NameRow
 pub mod GrowingKids
-pub mod OriginRow
 pub mod GrowingTree
 pub mod FoundKid
 pub mod NodeRows

@@ -13,17 +13,15 @@ pub(crate) mod set;
 pub(crate) mod sought;
 pub(crate) mod steps;
 
-ghost use Rattle.std.specs.Prelude.{◌≡◌, ◌<◌, ◌≤◌, [], length, drop, IfOk, OnOk};
+ghost use Rattle.std.specs.Prelude.{◌≡◌, ◌<◌, length, IfOk, OnOk};
 ghost use Rattle.dns_name.specs.WireForm.{labels_of, IsWireForm};
 ghost use Rattle.dns_zone.specs.ZoneForm.{IsBuilt, IsCanonical};
-ghost use Rattle.dns_zone.specs.TreeForm.{row_octets, row_name, row_at, under, IsRow, IsTree};
-ghost use Rattle.dns_zone.specs.TreeSteps.{IsNext, IsKidAt, AddsKids};
+ghost use Rattle.dns_zone.specs.TreeForm.{row_octets, row_name, row_at, IsRow, IsTree};
+ghost use Rattle.dns_zone.specs.TreeSteps.{AddsKids};
 
 use crate::checks::above::shortest_end;
 use crate::kept::Kept;
 use crate::store::entry::Entry;
-use crate::tree::label_key::{first_octets, label_key};
-use crate::tree::lookup::{count_in_front, count_under};
 use crate::tree::row::Row;
 use crate::zone::CheckedZone;
 use dns_name::NameRef;
@@ -51,16 +49,8 @@ pub(crate) fn rows_of(
 {
     let mut rows = Vec::new(alloc);
     let mut bounds = Vec::new(alloc);
-    let label = first_octets(origin);
-    // All records of a zone are at or below the origin, and the first is its own.
-    rows.push(Row {
-        first: 0,
-        own_end: count_in_front(records, origin) as u32,
-        end: records.len() as u32,
-        place: 0,
-        label_octets: label.len() as u8,
-        key: label_key(label),
-    })?;
+    // All records of a zone are at or below the origin.
+    rows.push(Row::of(records, origin, 0, records.len()))?;
     bounds.push(1)?;
     'rows: for number in 0..usize::MAX {
         if number == rows.len() {
@@ -86,7 +76,8 @@ fn add_kids(records: &[Entry], number: usize, rows: &mut Vec<Row>) -> Result<(),
     let end = row.end as usize;
     let mut next = row.own_end as usize;
     'kids: while next < end {
-        let kid = kid_at(records, parent, next, end);
+        let name = shortest_end(&records[next].owner(), parent.len() + 1);
+        let kid = Row::of(records, &name, next, end);
         next = kid.end as usize;
         rows.push(kid)?;
     }
@@ -102,32 +93,4 @@ pub(crate) fn octets_of<'a>(records: &'a [Entry], row: &Row) -> &'a [u8]
 {
     let first = &records[row.first as usize];
     first.owner().octets().split_at(row.place as usize).1
-}
-
-// The row of a child of the name of `parent`: the one that the record at `next` is at or below. No
-// record from `end` on is below `parent`.
-fn kid_at(records: &[Entry], parent: &[u8], next: usize, end: usize) -> Row
-    requires canonical { IsCanonical records.now }
-    requires parent { IsWireForm parent.now }
-    requires next { IsNext records.now (labels_of parent.now) next }
-    requires before { next < end }
-    requires fits { end ≤ length records.now }
-    requires none { under (labels_of parent.now) (drop end records.now) ≡ [] }
-    ensures { IsKidAt records.now (labels_of parent.now) next result }
-{
-    let record = &records[next];
-    let owner = record.owner();
-    let name = shortest_end(&owner, parent.len() + 1);
-    let others = &records[next..end];
-    let own = count_in_front(others, &name);
-    let (_, after) = others.split_at(own);
-    let label = first_octets(&name);
-    Row {
-        first: next as u32,
-        own_end: (next + own) as u32,
-        end: (next + (own + count_under(after, &name))) as u32,
-        place: (owner.octets().len() - name.octets().len()) as u8,
-        label_octets: label.len() as u8,
-        key: label_key(label),
-    }
 }

@@ -1,4 +1,13 @@
 //! Rows of a tree of names.
+ghost use Rattle.std.specs.Prelude.{◌≡◌, ◌<◌, ◌≤◌, true, [], length, take, drop, get_or};
+ghost use Rattle.dns_spec.specs.Names.{folded, at_or_below};
+ghost use Rattle.dns_zone.specs.ZoneForm.{IsCanonical};
+ghost use Rattle.dns_zone.specs.TreeForm.{owners, under, IsRow};
+
+use crate::store::entry::Entry;
+use crate::tree::label_key::{first_octets, label_key};
+use crate::tree::lookup::{count_in_front, count_under};
+use dns_name::NameRef;
 
 /// Which row of its tree a node is. That of the origin is 0.
 #[derive(Clone, Copy)]
@@ -20,4 +29,32 @@ pub(crate) struct Row {
     pub(crate) label_octets: u8,
     /// The key of the name's first label.
     pub(crate) key: u64,
+}
+
+impl Row {
+    /// The row of a name: the record at `first` is at or below it, none before, none from `end` on.
+    pub(crate) fn of(records: &[Entry], name: &NameRef<'_>, first: usize, end: usize) -> Row
+        requires canonical { IsCanonical records.now }
+        requires lower { folded name.now ≡ name.now }
+        requires some { first < end }
+        requires fits { end ≤ length records.now }
+        requires here { at_or_below (get_or (owners records.now) first []) name.now ≡ true }
+        requires before { under name.now (take first records.now) ≡ [] }
+        requires after { under name.now (drop end records.now) ≡ [] }
+        ensures row { IsRow records.now result name.now }
+        ensures first { result.first ≡ first }
+    {
+        let others = &records[first..end];
+        let own = count_in_front(others, name);
+        let (_, after) = others.split_at(own);
+        let label = first_octets(name);
+        Row {
+            first: first as u32,
+            own_end: (first + own) as u32,
+            end: (first + (own + count_under(after, name))) as u32,
+            place: (records[first].owner().octets().len() - name.octets().len()) as u8,
+            label_octets: label.len() as u8,
+            key: label_key(label),
+        }
+    }
 }

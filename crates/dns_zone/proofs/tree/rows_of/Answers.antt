@@ -1,36 +1,37 @@
-use Rattle.dns_zone.proofs.Common.{map, filter, take, to_ascii_lowercase, Octets, ◌≡◌, ◌<◌, ◌≤◌, ◌⊎◌, inl, inr, ◌∷◌, ◌++◌, [], ◌+◌, ◌∙◌, ap, sym, subst, length, vec_len, ℕ, List, arith, cases_lt, Row, IsKey}
-use Rattle.dns_zone.proofs.AtName.{is_at}
-use Rattle.dns_zone.proofs.OwnersWalk.{front}
-use Rattle.dns_zone.proofs.OriginRow.{own_in_front, origin_is_row}
+use Rattle.dns_zone.proofs.Common.{DomainName, IsBuilt, List, ResourceRecord, Row, [], ap, arith, at_or_below, cases_lt, false≢true, get_or, inl, inr, length, owners, subst, sym, true, vec_len, ℕ, ◌++◌, ◌+◌, ◌<◌, ◌∙◌, ◌∷◌, ◌≡◌, ◌≤◌, ◌⊎◌}
+use Rattle.dns_zone.proofs.Existing.{origin-soa, all-inside}
 use Rattle.dns_zone.proofs.GrowingTree.{Growing, begin, advance}
 use Rattle.dns_zone.proofs.tree.rows_of.Goals as goal
+
+-- the first record is at or below the origin
+first_inside : (o : DomainName) (rs : List ResourceRecord)
+    → IsBuilt (record { origin = o; records = rs })
+    → (0 < length rs) × (at_or_below (get_or (owners rs) 0 []) o ≡ true)
+first_inside o [] kept = absurd (false≢true (origin-soa (record { origin = o; records = [] }) kept))
+first_inside o (r ∷ rs) kept = (
+  omega arith,
+  (all-inside (record { origin = o; records = r ∷ rs }) kept).0,
+)
+
+pub of-requires-clause-some : goal.of-requires-clause-some
+of-requires-clause-some c = (first_inside c.args.origin.now c.args.records.now c.requires).0
+
+pub of-requires-clause-here : goal.of-requires-clause-here
+of-requires-clause-here c = (first_inside c.args.origin.now c.args.records.now c.requires).1
 
 pub rows-init : goal.rows-init
 rows-init c =
     let o = c.args.origin.now in
     let rs = c.args.records.now in
-    let own_is : take c.count_in_front.result rs ≡ filter (is_at o) rs =
-    ap (λ k. take k rs) c.count_in_front.ensures.value
-    ∙ (front (is_at o) rs (own_in_front o rs c.requires)).0 in
-    let row = origin_is_row o rs c.requires c.count_in_front.result c.count_in_front.ensures.bound
-    own_is _ _ (ap length c.first_octets-label.ensures.value)
-    (subst (λ (l : Octets). IsKey c.label_key.result (map to_ascii_lowercase l))
-    c.first_octets-label.ensures.value c.label_key.ensures) in
-    let r : Row = record {
-      first = 0;
-      own_end = c.count_in_front.result;
-      end = length rs;
-      place = 0;
-      label_octets = length c.first_octets-label.result.now;
-      key = c.label_key.result;
-    } in
+    let r = c.of.result in
     let rows : c.push.new.self.items ≡ r ∷ [] =
     c.in_ok-push.ensures.items ∙ ap (λ (xs : List Row). xs ++ r ∷ []) c.new-rows.ensures.items in
     let bounds : c.push-2.new.self.items ≡ 1 ∷ [] =
     c.in_ok-push-2.ensures.items ∙ ap (λ (xs : List ℕ). xs ++ 1 ∷ []) c.new-bounds.ensures.items
     in
     subst (λ (xs : List Row). Growing o rs xs c.push-2.new.self.items 0) (sym rows)
-    (subst (λ (xs : List ℕ). Growing o rs (r ∷ []) xs 0) (sym bounds) (begin o rs r row))
+    (subst (λ (xs : List ℕ). Growing o rs (r ∷ []) xs 0) (sym bounds)
+    (begin o rs r c.of.ensures.row))
 
 other_than : (a b : ℕ) → a ≤ b → (a ≡ b → ⊥) → a < b
 other_than a b l n = go (cases_lt a b)
