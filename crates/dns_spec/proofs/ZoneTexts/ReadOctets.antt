@@ -1,5 +1,5 @@
 -- What the words of a text spell are octets below 256, where the origin's are.
-use Rattle.dns_spec.proofs.Common.{◌≡◌, ℕ, ◌+◌, ◌*◌, ◌<◌, inl, inr, Bool, true, false, cond, ◌&&◌, nat_lt, Option, Some, None, List, [], ◌∷◌, ◌++◌, map, length, refl, sym, subst, arith, flat_map, agree_below_at, and_parts, ltb-true, length-map, none-some, same_Some, MatchOption, option_map, list_all, is_ascii_hexdigit, digit_value, to_ascii_lowercase, bytes_high_first, Octets, DomainName, wire, is_label, folded, SpellsOctet, LabelThen, TextSpells, SpellsName, Part, part_octets, joined, part_folded, SaysIpv6, ipv6_groups, Word, SpellsString, WordForm, SaysForms, forms_of, SaysTyped, hex_octets, SaysUnknown, Says}
+use Rattle.dns_spec.proofs.Common.{◌≡◌, ℕ, ◌+◌, ◌*◌, ◌<◌, inl, inr, Bool, true, false, cond, ◌&&◌, nat_lt, Option, Some, None, List, [], ◌∷◌, ◌++◌, map, length, refl, sym, subst, arith, flat_map, agree_below_at, and_parts, ltb-true, length-map, none-some, same_Some, MatchOption, MatchBool, option_map, list_all, is_ascii_hexdigit, digit_value, to_ascii_lowercase, bytes_high_first, Octets, DomainName, wire, is_label, folded, SpellsOctet, LabelThen, TextSpells, SpellsName, Part, part_octets, joined, part_folded, SaysIpv6, ipv6_groups, Word, SpellsString, WordForm, SaysForms, forms_of, SaysTyped, hex_octets, SaysUnknown, is_unknown_mark, SaysAsSpelled, Says, parts}
 use Rattle.dns_spec.proofs.Records.SortedOnce.{Each}
 use Rattle.dns_spec.proofs.DataWords.NumberAgain.{bytes_below}
 use Rattle.dns_spec.proofs.DataWords.BareWords.{follows}
@@ -154,7 +154,19 @@ parts_folded_small (x ∷ xs) small =
     let rest = parts_folded_small xs (each_back (part_octets x) (joined xs) small) in
     grind (arith, each_append, wire_folded_small, each_front, rest)
 
+spelled_small : (t : ℕ) (origin : DomainName) (ws : List Word) (d : Octets)
+    → SmallName origin → Each SmallWord ws → SaysAsSpelled t origin ws d → Each Octet d
+spelled_small t origin [] d from small h = typed_small t origin [] d from small h
+spelled_small t origin (w ∷ ws) d from small h = go (is_unknown_mark w) h
+  where
+    go : (marked : Bool) → MatchBool marked (SaysUnknown ws d) (SaysTyped t origin (w ∷ ws) d)
+        → Each Octet d
+    go true said = unknown_small ws d small.1 said
+    go false said = typed_small t origin (w ∷ ws) d from small said
+
 pub data_small : (t : ℕ) (origin : DomainName) (ws : List Word) (d : Octets)
     → SmallName origin → Each SmallWord ws → Says t ws origin d → Each Octet d
 data_small t origin ws d from small h =
-    grind (arith, typed_small, unknown_small, parts_folded_small, joined-parts)
+    let spelled = spelled_small t origin ws h.as_spelled from small h.said in
+    let whole = subst (Each Octet) (sym (joined-parts t h.as_spelled)) spelled in
+    subst (Each Octet) h.lower (parts_folded_small (parts t h.as_spelled) whole)

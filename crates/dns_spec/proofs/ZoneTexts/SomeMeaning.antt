@@ -82,7 +82,9 @@ module _ (o : DomainName) (earlier : List Entry) where
 
   record_says : (rs : List ResourceRecord) (owner_fault : FileFault) (Owner : DomainName → Type 0)
       (f : Fields) → RecordGives o earlier owner_fault Owner f (gives rs) → EachSays f.ttl
-  record_says rs owner_fault Owner f h = grind arith
+  record_says rs owner_fault Owner f (inl (holds, is)) = absurd (faultless rs owner_fault is)
+  record_says rs owner_fault Owner f (inr (none, inl (holds, is))) = absurd (faultless rs _ is)
+  record_says rs owner_fault Owner f (inr (none, inr (says, others))) = stated_says f.ttl says
 
   record_ttl_says : (rs : List ResourceRecord) (s : EntryKind)
       → KindGives o earlier s (gives rs) → EachSays (ttl_word s)
