@@ -161,7 +161,8 @@ second_of text d a r h p =
     (one.0, subst P (sym one.1) p.reads_second)
 
 third_of : (text d : Octets) (a b : ℕ) (r s : Octets) → OctetThen text a r → OctetThen r b s
-    → (p : Ipv4Parts text d) → (a ≡ p.first) × (b ≡ p.second) × OctetThen s p.third (decimal p.fourth)
+    → (p : Ipv4Parts text d)
+    → (a ≡ p.first) × (b ≡ p.second) × OctetThen s p.third (decimal p.fourth)
 third_of text d a b r s h k p =
     let second = second_of text d a r h p in
     let one = one_octet r b p.second s p.after_second k second.1 in
@@ -186,7 +187,8 @@ no_second text a r h none d p = none p.second p.after_second (second_of text d a
 
 pub no_third : (text : Octets) (a b : ℕ) (r s : Octets) → OctetThen text a r → OctetThen r b s
     → ((n : ℕ) (rest : Octets) → OctetThen s n rest → ⊥) → (d : Octets) → Ipv4Parts text d → ⊥
-no_third text a b r s h k none d p = none p.third (decimal p.fourth) (third_of text d a b r s h k p).2
+no_third text a b r s h k none d p =
+    none p.third (decimal p.fourth) (third_of text d a b r s h k p).2
 
 pub no_fourth : (text : Octets) (a b c : ℕ) (r s t : Octets)
     → OctetThen text a r → OctetThen r b s → OctetThen s c t

@@ -57,10 +57,10 @@ returns-clause-ok c =
     let here = (goal.at.returns-clause-ok c).After-is_some_and-is_blank_led in
     record {
       taken = λ more past later may h o earlier known line.
-          let on = entry-on c.args.goes_on more past
-          c.args.text.now c.in_ok-end.end.rest.now _ _ _ _ may (whole here) c.in_ok-end.ensures.ok in
-          let done =
-          c.in_ok-taken.ensures.ok o earlier (ended c.in_ok-end.ensures.ok.tokens) known (sort here) in
+          let on = entry-on c.args.goes_on more past c.args.text.now c.in_ok-end.end.rest.now
+          _ _ _ _ may (whole here) c.in_ok-end.ensures.ok in
+          let done = c.in_ok-taken.ensures.ok o earlier (ended c.in_ok-end.ensures.ok.tokens)
+          known (sort here) in
           let line_is = ap (λ n. n + c.in_ok-end.end.lines) (c.in_ok-taken.ensures.line ∙ line)
           ∙ sym (entry-line o earlier true c.args.text.now c.in_ok-end.end.rest.now
           _ _ c.in_ok-end.end.is_ended c.in_ok-end.end.is_open c.in_ok-end.ensures.ok) in
