@@ -1,5 +1,5 @@
 -- The sets of an answer are its aliases, and the sets that end it.
-use Rattle.dns_answer.proofs.Common.{◌≡◌, ℕ, ◌+◌, ◌*◌, length, length-append, Bool, true, false, cond, ◌||◌, ◌&&◌, ◌⊎◌, inl, inr, not, min, List, [], ◌∷◌, ◌++◌, map, Option, None, Some, refl, sym, ap, ap₂, ◌∙◌, append-nil, append_assoc, arith, not-true, flat_map-append, filter-append, list_any-append, DomainName, same, at_or_below, type_a, type_ns, type_cname, type_soa, type_aaaa, qtype_any, target, soa_minimum, ResourceRecord, ZoneContents, at, rrset, of_type, with_owner, rising_types, of_first_type, of_lowest_type, cut_of, found, no_error, name_error, Section, answer, authority, Item, records_of, most_aliases, item, follows_alias, alias_items, last_sought, has_any, asked_records, Outcome, referral_to, negative, negative_soa, positive, outcome_by, outcome_at, outcome, targets_of, targets_inside, targets, extra, main_items, items, required_items, chain, targets_in_zone, is_authoritative, nat_tests, any-filter_same, ◌==◌, is_some, list_any, filter, filter_map, Each, each_weaker, filter_each, each_append, each_flat_map, IsAlias, target_of, each_of_type, each_alias_item, item_records, targets_last, same-under, addresses_of, side_items, all_names, inside, not_inside, glue_by, others_by, nodes_by, misses_by, ending_targets, ending_required, chain_rest}
+use Rattle.dns_answer.proofs.Common.{◌≡◌, ℕ, ◌+◌, ◌*◌, length, length-append, Bool, true, false, cond, ◌||◌, ◌&&◌, ◌⊎◌, inl, inr, not, min, List, [], ◌∷◌, ◌++◌, map, Option, None, Some, refl, sym, ap, ap₂, ◌∙◌, append-nil, append_assoc, arith, not-true, flat_map-append, filter-append, list_any-append, DomainName, same, at_or_below, type_a, type_ns, type_cname, type_soa, type_aaaa, qtype_any, target, soa_minimum, ResourceRecord, ZoneContents, at, rrset, of_type, with_owner, rising_types, of_first_type, of_lowest_type, cut_of, found, no_error, name_error, Section, answer, authority, Item, records_of, most_aliases, item, follows_alias, alias_items, last_sought, has_any, asked_records, Outcome, referral_to, negative, negative_soa, positive, outcome_by, outcome_at, outcome, targets_of, targets_inside, targets, extra, main_items, items, required_items, chain, targets_in_zone, is_authoritative, nat_tests, any-filter_same, ◌==◌, is_some, list_any, filter, filter_map, AllByRecursion, each_weaker, filter_each, each_append, each_flat_map, IsAlias, target_of, each_of_type, each_alias_item, item_records, targets_last, same-under, addresses_of, side_items, all_names, inside, not_inside, glue_by, others_by, nodes_by, misses_by, ending_targets, ending_required, chain_rest}
 use Rattle.dns_answer.proofs.EndingSets.{is_target_type}
 use Rattle.dns_answer.proofs.TargetLaws.{depths, depths-append, side_items-append, side_items-none}
 use Rattle.dns_answer.proofs.StandingAddresses.{NotAddress, NoAddresses, extra-side, extra-none}
@@ -38,7 +38,7 @@ module _ (p : DomainName → Bool) (alike : Respects p) where
           (sym (last false e ∙ append-nil (filter p before))) ∙ rest
 
 -- names that stood before and are not met again say nothing
-side-apart : (z : ZoneContents) (xs before ms : List DomainName) → Each (λ m. list_any (same m) xs
+side-apart : (z : ZoneContents) (xs before ms : List DomainName) → AllByRecursion (λ m. list_any (same m) xs
     ≡ false) ms → side_items z all_names (xs ++ before) ms ≡ side_items z all_names before ms
 unfolding side_items
 side-apart z xs before [] e = refl
@@ -61,7 +61,7 @@ module _ (z : ZoneContents) (c : DomainName) (ts : List DomainName) where
   side-both =
       let in_c = filter (inside c) ts in
       let out = filter (not_inside c) ts in
-      let apart : Each (λ m. list_any (same m) in_c ≡ false) out =
+      let apart : AllByRecursion (λ m. list_any (same m) in_c ≡ false) out =
       each_weaker (λ m. not_inside c m ≡ true) (λ m. list_any (same m) in_c ≡ false) out
       (λ m e. any-filter (inside c) alike_inside m false ts (not-true (inside c m) e))
       (filter_each (not_inside c) ts)
@@ -73,7 +73,7 @@ module _ (z : ZoneContents) (c : DomainName) (ts : List DomainName) where
 
 -- records of one type
 abbrev AreOf : ℕ → List ResourceRecord → Type 0
-AreOf u rs = Each (λ (r : ResourceRecord). r.rtype ≡ u) rs
+AreOf u rs = AllByRecursion (λ (r : ResourceRecord). r.rtype ≡ u) rs
 
 no-targets : (s : Section) (u : ℕ) (rs : List ResourceRecord)
     → AreOf u rs → is_target_type u ≡ false → targets_of (item s rs) ≡ []
@@ -223,7 +223,7 @@ module _ (z : ZoneContents) (front : List Item) (clear : NoAddresses front) wher
 -- aliases are no addresses
 aliases_clear : (z : ZoneContents) (q : DomainName) (t : ℕ) → NoAddresses (alias_items z q t)
 aliases_clear z q t =
-    let each = each_flat_map IsAlias (λ (i : Item). Each IsAlias i.records)
+    let each = each_flat_map IsAlias (λ (i : Item). AllByRecursion IsAlias i.records)
     (λ (i : Item). i.records) (alias_items z q t) (λ i h. h) (each_alias_item z q t) in
     each_weaker IsAlias NotAddress (records_of (alias_items z q t))
     (λ r h. ap is_address_type h) each

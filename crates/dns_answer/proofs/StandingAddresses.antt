@@ -1,5 +1,5 @@
 -- The additional sets of a reply are the addresses of the targets that did not stand before.
-use Rattle.dns_answer.proofs.Common.{arith, ◌≡◌, ℕ, Bool, true, false, cond, ◌||◌, ◌&&◌, ◌⊎◌, inl, inr, not, List, [], ◌∷◌, ◌++◌, refl, sym, ap, ap₂, ◌∙◌, Some, and-false, false≢true, false_from_ne_true, and_right, or_parts, flat_map-append, list_any-append, list_any, DomainName, folded, names_equal, same, type_a, type_aaaa, ResourceRecord, ZoneContents, at, rrset, of_type, additional, Item, records_of, ◌==◌, item, stands, has_any, address_set, address_sets, extra, Each, each_weaker, each_typed, each_among, filter_test, item_records, same-is, same-from, addresses_of, target_items, side_items, all_names, at-folded}
+use Rattle.dns_answer.proofs.Common.{arith, ◌≡◌, ℕ, Bool, true, false, cond, ◌||◌, ◌&&◌, ◌⊎◌, inl, inr, not, List, [], ◌∷◌, ◌++◌, refl, sym, ap, ap₂, ◌∙◌, Some, and-false, false≢true, false_from_ne_true, and_right, or_parts, flat_map-append, list_any-append, list_any, DomainName, folded, names_equal, same, type_a, type_aaaa, ResourceRecord, ZoneContents, at, rrset, of_type, additional, Item, records_of, ◌==◌, item, stands, has_any, address_set, address_sets, extra, AllByRecursion, each_weaker, each_typed, each_among, filter_test, item_records, same-is, same-from, addresses_of, target_items, side_items, all_names, at-folded}
 
 abbrev is_at : DomainName → ℕ → ResourceRecord → Bool
 is_at n t r = same r.owner n && r.rtype == t
@@ -10,7 +10,7 @@ stands-append n t xs ys = grind (arith, flat_map-append, list_any-append, record
 
 -- a test that gives one answer at all records
 any-each : (p : ResourceRecord → Bool) (b : Bool) (rs : List ResourceRecord)
-    → Each (λ r. p r ≡ b) rs → list_any p rs ≡ (b && has_any rs)
+    → AllByRecursion (λ r. p r ≡ b) rs → list_any p rs ≡ (b && has_any rs)
 any-each p b [] e = sym (and-false b)
 any-each p b (r ∷ rs) e = ap₂ (λ x y. x || y) e.0 (any-each p b rs e.1) ∙ go b
   where
@@ -35,7 +35,7 @@ rrset-same z n m t e = grind (arith, of_type, at-folded, at, same-is)
 abbrev IsAt : DomainName → ℕ → ResourceRecord → Type 0
 IsAt m t r = (same r.owner m ≡ true) × (r.rtype ≡ t)
 
-set-owners : (z : ZoneContents) (m : DomainName) (t : ℕ) → Each (IsAt m t) (rrset z m t)
+set-owners : (z : ZoneContents) (m : DomainName) (t : ℕ) → AllByRecursion (IsAt m t) (rrset z m t)
 set-owners z m t =
     each_typed t (λ (r : ResourceRecord). same r.owner m ≡ true) (at z m)
     (each_among (λ (r : ResourceRecord). same r.owner m ≡ true)
@@ -120,7 +120,7 @@ abbrev pub NotAddress : ResourceRecord → Type 0
 NotAddress r = (r.rtype == type_a || r.rtype == type_aaaa) ≡ false
 
 abbrev pub NoAddresses : List Item → Type 0
-NoAddresses is = Each NotAddress (records_of is)
+NoAddresses is = AllByRecursion NotAddress (records_of is)
 
 pub extra-side : (z : ZoneContents) (is : List Item) (ms : List DomainName) → NoAddresses is
     → extra z is ms ≡ side_items z all_names [] ms

@@ -8,7 +8,7 @@ pub use Rattle.std.specs.Cmp.Lexicographic.{lists_ties, pointwise_decides, slice
 unfoldable pub use Rattle.std.specs.Fmt.{digits}
 pub use Rattle.std.specs.Int.{byte_at, bytes_high_first}
 pub use Rattle.std.specs.Io.KnownBytes.{Appends, Consumes, IsAtEnd, Keeps}
-pub use Rattle.std.specs.List.{Contains, cons_option, filter_map, find, flat_map, join_with_byte, list_all, list_any, position_or_len, prefix_len, slice_split, starts_with}
+pub use Rattle.std.specs.List.{AllByRecursion, Contains, cons_option, filter_map, find, flat_map, join_with_byte, list_all, list_any, position_or_len, prefix_len, slice_split, starts_with}
 pub use Rattle.std.specs.List.Sorted.{IsNonDecreasingBy, IsPartitionedBy, IsPermutation}
 unfoldable pub use Rattle.std.specs.List.Sorted.{IsStrictlySortedBy}
 pub use Rattle.std.specs.Option.{is_none, is_some, option_and_then, option_map, option_or, option_to_list, unwrap_or}
@@ -26,7 +26,7 @@ pub use Rattle.std.proofs.lemmas.Fmt.{decimal_injective, decimal_is_IsNumeral, d
 pub use Rattle.std.proofs.lemmas.Grind.{common_steps, flat_map-append, get_or_default_zero}
 pub use Rattle.std.proofs.lemmas.List.{drop-drop, drop-take, drop_all, drop_at, drop_more, get_or-drop, get_or-map, get_or-set_other, get_or-set_same, get_or-take, get_or_append_left, get_or_default, get_or_push, length-map, length-replicate, length-reverse, length-take-le, map-append, map_push, nil_from_length, reverse-append, reverse-reverse, take-append-drop, take-append-le, take_all, take_at, take_more, take_rest}
 pub use Rattle.std.proofs.lemmas.List.Concat.{flat_map-cons}
-pub use Rattle.std.proofs.lemmas.List.Elements.{All-append, All-cons, All-contains, All-drop, All-head, All-nil, All-tail, All-take, All-weaker, filter-append, filter_map-append}
+pub use Rattle.std.proofs.lemmas.List.Elements.{All-append, All-cons, All-contains, All-drop, All-from_recursion, All-head, All-nil, All-tail, All-take, All-weaker, filter-append, filter_map-append, recursion_from_All}
 pub use Rattle.std.proofs.lemmas.List.Filters.{length-filter_both}
 pub use Rattle.std.proofs.lemmas.List.Folds.{list_all-append, list_any-append}
 pub use Rattle.std.proofs.lemmas.List.Prefix.{end_rest}

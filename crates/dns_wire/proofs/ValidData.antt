@@ -1,5 +1,5 @@
 -- Data that is read is data of its type, of at most 65,535 octets.
-use Rattle.dns_wire.proofs.Common.{◌≡◌, ℕ, suc, ◌+◌, ◌-◌, ◌≤◌, Bool, true, ◌||◌, nat_le, ◌==◌, List, [], ◌∷◌, ◌++◌, length, slice_get, get_or, Some, is_some, unwrap_or, refl, sym, ap, ◌∙◌, subst, arith, append-nil, add-zero, length-append, if◌then◌else◌, le-leb, ne_eqb, eqb-true, same_Some, slice_get_within, slice_get-get_or, find, Octets, class_in, width, Piece, fixed, domain, string, strings, anything, TypeRow, other_type, Part, octets, octets_front, string_front, piece_front, cut, valid, OctetsAt, PiecesAt, DataAt, length-take-le, length-drop, take_at, drop_at, nil_from_length, get_or-take, get_or-drop, IsName-is_name, name_of-wire, more_are_cut}
+use Rattle.dns_wire.proofs.Common.{AllByRecursion, ◌≡◌, ℕ, suc, ◌+◌, ◌-◌, ◌≤◌, Bool, true, ◌||◌, nat_le, ◌==◌, List, [], ◌∷◌, ◌++◌, length, slice_get, get_or, Some, is_some, unwrap_or, refl, sym, ap, ◌∙◌, subst, arith, append-nil, add-zero, length-append, if◌then◌else◌, le-leb, ne_eqb, eqb-true, same_Some, slice_get_within, slice_get-get_or, find, Octets, class_in, width, Piece, fixed, domain, string, strings, anything, TypeRow, other_type, Part, octets, octets_front, string_front, piece_front, cut, valid, OctetsAt, PiecesAt, DataAt, length-take-le, length-drop, take_at, drop_at, nil_from_length, get_or-take, get_or-drop, IsName-is_name, name_of-wire, more_are_cut}
 use Rattle.dns_wire.proofs.PieceLemmas.{all_forward, run_past}
 
 -- the octets between two places are as many as there are places
@@ -68,12 +68,9 @@ bounded : List Piece → Bool
 bounded ps = (names_among ps == 0) || nat_le (most ps) 65535
 
 -- what holds of each row of the table with a number holds of the row of that type
-abbrev Each : ℕ → (TypeRow → Type 0) → List TypeRow → Type 0
-Each t P [] = Unit {0}
-Each t P (row ∷ rows) = (row.number ≡ t → P row) × Each t P rows
-
 pub by_row : (t : ℕ) (P : TypeRow → Type 0) (rows : List TypeRow) → P other_type
-    → Each t P rows → P (unwrap_or (find (λ (row : TypeRow). row.number == t) rows) other_type)
+    → AllByRecursion (λ row. row.number ≡ t → P row) rows
+    → P (unwrap_or (find (λ (row : TypeRow). row.number == t) rows) other_type)
 by_row t P [] other each = other
 by_row t P (row ∷ others) other each = grind (arith, eqb-true, (by_row t P others other each.1))
 

@@ -1,5 +1,5 @@
 -- The records of a name among records in canonical order.
-use Rattle.dns_zone.proofs.Common.{◌≡◌, Bool, true, false, not, cond, List, [], ◌∷◌, refl, ap, ◌∙◌, subst, filter, is_gt, is_lt, Ordering, arith, false≢true, not-true, nat_list_cmp_total, on_total, upto, IsTotalOrder, ordering_then, IsPartitionedBy, DomainName, same, name_order, ResourceRecord, insert_by, sort_by, data_order, record_order, record_order_total, name_tie, name_order_total, Each, each_weaker, filter_each, AreOrdered}
+use Rattle.dns_zone.proofs.Common.{◌≡◌, Bool, true, false, not, cond, List, [], ◌∷◌, refl, ap, ◌∙◌, subst, filter, is_gt, is_lt, Ordering, arith, false≢true, not-true, nat_list_cmp_total, on_total, upto, IsTotalOrder, ordering_then, IsPartitionedBy, DomainName, same, name_order, ResourceRecord, insert_by, sort_by, data_order, record_order, record_order_total, name_tie, name_order_total, AllByRecursion, each_weaker, filter_each, AreOrdered}
 use Rattle.dns_zone.proofs.Pairs.{Pairs, pairs_weaker, pairs_of, pairs_filter, parted}
 use Rattle.dns_zone.proofs.NameOrder.{same-tied, not_greater}
 
@@ -12,7 +12,7 @@ module _ {X : Type 0} (cmp : X → X → Ordering) (total : IsTotalOrder cmp) wh
   not_before x y h = grind (arith, false≢true)
 
   each_insert : (P : X → Type 0) (x : X) (ys : List X)
-      → P x → Each P ys → Each P (insert_by cmp x ys)
+      → P x → AllByRecursion P ys → AllByRecursion P (insert_by cmp x ys)
   each_insert P x [] p e = (p, tt)
   each_insert P x (y ∷ ys) p e = grind (arith, (each_insert P x ys p e.1))
 
@@ -29,7 +29,7 @@ module _ {X : Type 0} (cmp : X → X → Ordering) (total : IsTotalOrder cmp) wh
   sorted_pairs xs e = subst (Pairs NotAfter) e (sort_pairs xs)
 
   -- and a list in order is sorted
-  pub first_in : (x : X) (xs : List X) → Each (NotAfter x) xs → insert_by cmp x xs ≡ x ∷ xs
+  pub first_in : (x : X) (xs : List X) → AllByRecursion (NotAfter x) xs → insert_by cmp x xs ≡ x ∷ xs
   first_in x [] e = refl
   first_in x (y ∷ ys) e = ap (λ b. cond b (y ∷ insert_by cmp x ys) (x ∷ y ∷ ys)) e.0
 

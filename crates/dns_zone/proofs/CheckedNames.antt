@@ -1,5 +1,5 @@
 -- The names that are checked, as a list: what a search among them by keys finds.
-use Rattle.dns_zone.proofs.Common.{◌≡◌, ℕ, ◌+◌, suc, ◌<◌, ◌≤◌, Bool, true, false, ◌&&◌, not, cond, ◌==◌, nat_lt, ◌⊎◌, inl, inr, List, get_or, zero, drop, length-take, [], ◌∷◌, map, length, take, refl, sym, ap, ap₂, ◌∙◌, subst, arith, filter, is_gt, nat_cmp, Ordering, Less, Equal, Greater, false≢true, true≢false, not-true, and_parts, false_from_ne_true, cases_lt, nat_list_cmp_total, tied_itself, upto, get_or-take, get_or_default, min-eq_left, slice_cmp, starts_with, IsPartitionedBy, ordering_reverse, Octets, DomainName, folded, same, at_or_below, name_order, ResourceRecord, ZoneContents, at, is_cut, at_or_below_cut, checked_names, octets_equal-decides, name_tie, name_order_total, one_lower, Lower, Each, Among, Rises, each_at, each_filter, filter_each, filter_among, name_key, own_in, name_of, IsTopmost, is_covered, is_upto, IsLastAt, IsChecked, IsLastUpto, owners_once, IsFront, CheckedName, each_among}
+use Rattle.dns_zone.proofs.Common.{◌≡◌, ℕ, ◌+◌, suc, ◌<◌, ◌≤◌, Bool, true, false, ◌&&◌, not, cond, ◌==◌, nat_lt, ◌⊎◌, inl, inr, List, get_or, zero, drop, length-take, [], ◌∷◌, map, length, take, refl, sym, ap, ap₂, ◌∙◌, subst, arith, filter, is_gt, nat_cmp, Ordering, Less, Equal, Greater, false≢true, true≢false, not-true, and_parts, false_from_ne_true, cases_lt, nat_list_cmp_total, tied_itself, upto, get_or-take, get_or_default, min-eq_left, slice_cmp, starts_with, IsPartitionedBy, ordering_reverse, Octets, DomainName, folded, same, at_or_below, name_order, ResourceRecord, ZoneContents, at, is_cut, at_or_below_cut, checked_names, octets_equal-decides, name_tie, name_order_total, one_lower, Lower, AllByRecursion, Among, Rises, each_at, each_filter, filter_each, filter_among, name_key, own_in, name_of, IsTopmost, is_covered, is_upto, IsLastAt, IsChecked, IsLastUpto, owners_once, IsFront, CheckedName, each_among}
 use Rattle.dns_zone.proofs.KeyOrder.{key_order}
 use Rattle.dns_zone.proofs.NameOrder.{same-is}
 use Rattle.dns_zone.proofs.NameTree.{under-order}
@@ -30,7 +30,7 @@ rises_pairs f (x ∷ xs) h =
 
 -- those up to place i are the element there, or in order with it
 pub last_at : {X : Type 0} (R : X → X → Type 0) (xs : List X) (i : ℕ) (d : X) → Pairs R xs
-    → i < length xs → Each (λ x. (x ≡ get_or xs i d) ⊎ R x (get_or xs i d)) (take (suc i) xs)
+    → i < length xs → AllByRecursion (λ x. (x ≡ get_or xs i d) ⊎ R x (get_or xs i d)) (take (suc i) xs)
 last_at R [] i d h l = tt
 last_at R (x ∷ xs) zero d h l = (inl refl, tt)
 last_at R (x ∷ xs) (suc i) d h l = grind (arith, each_get, (last_at R xs i d h.1 (omega arith)))
@@ -79,7 +79,7 @@ module _ (z : ZoneContents) where
   name = name_of z
 
   -- a search among names in order
-  module _ (names : List CheckedName) (each : Each (λ c. IsChecked z (name_of z c) c) names)
+  module _ (names : List CheckedName) (each : AllByRecursion (λ c. IsChecked z (name_of z c) c) names)
       (rise : Rises name_order (map (name_of z) names)) (m : DomainName) (low : Lower m)
       (key : Octets) (key_is : key ≡ name_key m) where
     key_tells : (c : CheckedName) → IsChecked z (name c) c
@@ -104,18 +104,18 @@ module _ (z : ZoneContents) where
 
     -- where so many are not after the name
     module _ (k : ℕ) (front : IsFront (is_upto key) names k) where
-      upto_each : Each (λ c. is_gt (name_order (name c) m) ≡ false) (take k names)
+      upto_each : AllByRecursion (λ c. is_gt (name_order (name c) m) ≡ false) (take k names)
       upto_each =
-          subst (Each (λ c. is_gt (name_order (name c) m) ≡ false)) (sym front.passing)
+          subst (AllByRecursion (λ c. is_gt (name_order (name c) m) ≡ false)) (sym front.passing)
           (each_both (λ c. IsChecked z (name c) c) (λ c. is_upto key c ≡ true)
           (λ c. is_gt (name_order (name c) m) ≡ false) (filter (is_upto key) names)
           (λ c h e. sym (ap is_gt (key_tells c h)) ∙ not-true _ e)
           (each_filter (λ c. IsChecked z (name c) c) (is_upto key) names each)
           (filter_each (is_upto key) names))
 
-      pub after_each : Each (λ c. name_order m (name c) ≡ Less) (drop k names)
+      pub after_each : AllByRecursion (λ c. name_order m (name c) ≡ Less) (drop k names)
       after_each =
-          subst (Each (λ c. name_order m (name c) ≡ Less)) (sym front.others)
+          subst (AllByRecursion (λ c. name_order m (name c) ≡ Less)) (sym front.others)
           (each_both (λ c. IsChecked z (name c) c) (λ c. not (is_upto key c) ≡ true)
           (λ c. name_order m (name c) ≡ Less) (filter (λ c. not (is_upto key c)) names)
           (λ c h e. after (name_order (name c) m) (name_order m (name c))
@@ -143,10 +143,10 @@ module _ (z : ZoneContents) where
         fits : i < length names
         fits = let bound = front.bound in omega (arith, next, bound)
 
-        pub in_order : Each (λ d. (d ≡ c) ⊎ InOrder d c) (take k names)
+        pub in_order : AllByRecursion (λ d. (d ≡ c) ⊎ InOrder d c) (take k names)
         in_order =
-            subst (λ j. Each (λ d. (d ≡ c) ⊎ InOrder d c) (take j names)) (sym next)
-            (subst (λ x. Each (λ d. (d ≡ x) ⊎ InOrder d x) (take (suc i) names)) (sym is)
+            subst (λ j. AllByRecursion (λ d. (d ≡ c) ⊎ InOrder d c) (take j names)) (sym next)
+            (subst (λ x. AllByRecursion (λ d. (d ≡ x) ⊎ InOrder d x) (take (suc i) names)) (sym is)
             (last_at InOrder names i c pairs fits))
 
         pub last_checked : IsChecked z (name c) c

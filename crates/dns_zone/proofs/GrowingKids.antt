@@ -1,5 +1,5 @@
 -- The rows of a name's children, added one by one.
-use Rattle.dns_zone.proofs.Common.{AddsKids, Among, Bool, DomainName, Each, Equal, Greater, IsCanonical, IsKid, IsRow, Less, List, Octets, Ordering, ResourceRecord, Rises, Row, [], ap, append-nil, append_assoc, ap₂, arith, at_or_below, drop, drop-drop, drop_at, drop_more, each_at, each_weaker, false, false_from_ne_true, false≢true, filter, filter-append, filter_each, filter_test, first_of, folded, folded_folded, get_or, get_or-map, inl, inr, is_gt, label_order, labels_of_spelled, length, length-append, list_any, list_any-append, map, map-append, names_equal, names_equal-decides, or_cases, or_right, owners, refl, row_label, row_name, row_octets, same, same-length, span, subst, suc, sym, take, take-append-drop, take_at, to_ascii_lowercase, true, true≢false, under, ℕ, ◌++◌, ◌+◌, ◌-◌, ◌<◌, ◌∙◌, ◌∷◌, ◌≡◌, ◌≤◌, ◌⊎◌}
+use Rattle.dns_zone.proofs.Common.{AddsKids, Among, Bool, DomainName, AllByRecursion, Equal, Greater, IsCanonical, IsKid, IsRow, Less, List, Octets, Ordering, ResourceRecord, Rises, Row, [], ap, append-nil, append_assoc, ap₂, arith, at_or_below, drop, drop-drop, drop_at, drop_more, each_at, each_weaker, false, false_from_ne_true, false≢true, filter, filter-append, filter_each, filter_test, first_of, folded, folded_folded, get_or, get_or-map, inl, inr, is_gt, label_order, labels_of_spelled, length, length-append, list_any, list_any-append, map, map-append, names_equal, names_equal-decides, or_cases, or_right, owners, refl, row_label, row_name, row_octets, same, same-length, span, subst, suc, sym, take, take-append-drop, take_at, to_ascii_lowercase, true, true≢false, under, ℕ, ◌++◌, ◌+◌, ◌-◌, ◌<◌, ◌∙◌, ◌∷◌, ◌≡◌, ◌≤◌, ◌⊎◌}
 use Rattle.dns_zone.proofs.Pairs.{Pairs, filter_none}
 use Rattle.dns_zone.proofs.NameTree.{label-tie}
 use Rattle.dns_zone.proofs.AtName.{OwnerNotAfter, owners_in_order, is_at}
@@ -16,7 +16,7 @@ row_is rs row n h = labels_of_spelled (row_octets rs row) n h.octets h.is_name
 
 -- an element that rises above all
 rises_push : (xs : List Octets) (y : Octets) → Rises label_order xs
-    → Each (λ x. label_order x y ≡ Less) xs → Rises label_order (xs ++ y ∷ [])
+    → AllByRecursion (λ x. label_order x y ≡ Less) xs → Rises label_order (xs ++ y ∷ [])
 rises_push [] y r e = (tt, tt)
 rises_push (x ∷ xs) y r e = grind (arith, each_push, (rises_push xs y r.1 e.1))
 
@@ -25,10 +25,10 @@ pub record Adding (rs : List ResourceRecord) (n : DomainName) (own_end : ℕ) (o
     (next : ℕ) : Type 0 where
   pub kids : List Row
   pub are : new ≡ old ++ kids
-  pub each : Each (IsKid rs n) kids
+  pub each : AllByRecursion (IsKid rs n) kids
   pub rising : Rises label_order (map (row_label rs) kids)
   pub ahead : (l : Octets) → list_any (is_under (l ∷ n)) (drop next rs) ≡ true
-      → Each (λ k. label_order k (map to_ascii_lowercase l) ≡ Less) (map (row_label rs) kids)
+      → AllByRecursion (λ k. label_order k (map to_ascii_lowercase l) ≡ Less) (map (row_label rs) kids)
   pub all : (l : Octets) → list_any (is_under (l ∷ n)) (take next rs) ≡ true
       → Among (map to_ascii_lowercase l) (map (row_label rs) kids)
   pub few : length kids ≤ next
@@ -50,7 +50,7 @@ module _ (rs : List ResourceRecord) (canonical : IsCanonical rs) (n : DomainName
       grind (arith, none_under, none_before, is_under, order) in
       let own : under m (span rs row.first row.own_end) ≡ [] =
       filter_none (is_under m) (span rs row.first row.own_end)
-      (subst (Each (λ r. is_under m r ≡ false)) (sym is_row.own)
+      (subst (AllByRecursion (λ r. is_under m r ≡ false)) (sym is_row.own)
       (each_weaker (λ (r : ResourceRecord). same r.owner n ≡ true) (λ r. is_under m r ≡ false)
       (filter (is_at n) rs)
       (λ r s. false_from_ne_true _
@@ -159,14 +159,14 @@ module _ (rs : List ResourceRecord) (canonical : IsCanonical rs) (n : DomainName
         ∙ list_any-append p (span rs k kid.end) (drop kid.end rs)
         ∙ or_right (list_any p (span rs k kid.end)) _ e
 
-    after_first : Each (OwnerNotAfter first) (drop kid.end rs)
+    after_first : AllByRecursion (OwnerNotAfter first) (drop kid.end rs)
     after_first =
         let all =
         (subst (Pairs OwnerNotAfter) rest
         (pairs_drop OwnerNotAfter k rs (owners_in_order rs canonical.ordered))).0 in
         let b = more in
         let at : (k + 1) + (kid.end - (k + 1)) ≡ kid.end = omega arith in
-        subst (Each (OwnerNotAfter first))
+        subst (AllByRecursion (OwnerNotAfter first))
         (drop-drop (kid.end - (k + 1)) (k + 1) rs ∙ ap (λ i. drop i rs) at)
         (each_drop (OwnerNotAfter first) (kid.end - (k + 1)) (drop (k + 1) rs) all)
 
@@ -212,10 +212,10 @@ module _ (rs : List ResourceRecord) (canonical : IsCanonical rs) (n : DomainName
     take_now : take kid.end rs ≡ take k rs ++ under m rs
     take_now = take_span k kid.end rs order ∙ ap (λ xs. take k rs ++ xs) group
 
-    before_it : Each (λ x. label_order x (row_label rs kid) ≡ Less) (map (row_label rs) a.kids)
+    before_it : AllByRecursion (λ x. label_order x (row_label rs kid) ≡ Less) (map (row_label rs) a.kids)
     unfolding m
     before_it =
-        subst (λ (y : Octets). Each (λ x. label_order x y ≡ Less) (map (row_label rs) a.kids))
+        subst (λ (y : Octets). AllByRecursion (λ x. label_order x y ≡ Less) (map (row_label rs) a.kids))
         (label_lower ∙ sym label_is) (a.ahead h.label any_here)
 
     all_now : (l : Octets) → list_any (is_under (l ∷ n)) (take kid.end rs) ≡ true
@@ -273,7 +273,7 @@ module _ (rs : List ResourceRecord) (canonical : IsCanonical rs) (n : DomainName
       each = each_push (IsKid rs n) a.kids kid a.each h;
       rising = grind (arith, labels_now, rises_push, before_it);
       ahead =
-          λ l e. subst (Each (λ k. label_order k (map to_ascii_lowercase l) ≡ Less))
+          λ l e. subst (AllByRecursion (λ k. label_order k (map to_ascii_lowercase l) ≡ Less))
           (sym labels_now)
           (each_push (λ k. label_order k (map to_ascii_lowercase l) ≡ Less)
           (map (row_label rs) a.kids) (row_label rs kid)

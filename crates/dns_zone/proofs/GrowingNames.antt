@@ -1,5 +1,5 @@
 -- The owners of a zone, as they are added to the names that are checked, and the origin.
-use Rattle.dns_zone.proofs.Common.{append-nil, ◌≡◌, ℕ, zero, suc, true, false, ◌⊎◌, inl, inr, List, [], ◌∷◌, ◌++◌, map, take, drop, refl, sym, ap, ◌∙◌, subst, arith, get_or, is_gt, Ordering, Less, Equal, Greater, true≢false, tied_itself, Bor, IsPartitionedBy, ordering_reverse, Octets, DomainName, folded, at_or_below, name_order, ResourceRecord, ZoneContents, name_tie, name_order_total, one_lower, append_assoc, map_push, Each, Among, Rises, each_at, each_weaker, name_key, name_of, is_upto, IsTopmost, IsChecked, AreChecked, AreOwners, ComesNext, IsOwner, owners_once, AreOrdered, IsFront, CheckedName}
+use Rattle.dns_zone.proofs.Common.{append-nil, ◌≡◌, ℕ, zero, suc, true, false, ◌⊎◌, inl, inr, List, [], ◌∷◌, ◌++◌, map, take, drop, refl, sym, ap, ◌∙◌, subst, arith, get_or, is_gt, Ordering, Less, Equal, Greater, true≢false, tied_itself, Bor, IsPartitionedBy, ordering_reverse, Octets, DomainName, folded, at_or_below, name_order, ResourceRecord, ZoneContents, name_tie, name_order_total, one_lower, append_assoc, map_push, AllByRecursion, Among, Rises, each_at, each_weaker, name_key, name_of, is_upto, IsTopmost, IsChecked, AreChecked, AreOwners, ComesNext, IsOwner, owners_once, AreOrdered, IsFront, CheckedName}
 use Rattle.dns_zone.proofs.SetTests.{each_map}
 use Rattle.dns_zone.proofs.Spans.{each_push, among_append, among_get, map_each}
 use Rattle.dns_zone.proofs.AtName.{owners_in_order}
@@ -10,12 +10,12 @@ use Rattle.dns_zone.proofs.TopmostCut.{topmost_none}
 
 -- what stands before a name in a list that rises, and after it
 rises_around : (ns ms : List DomainName) (n : DomainName) → Rises name_order (ns ++ n ∷ ms)
-    → Each (λ m. name_order m n ≡ Less) ns × Each (λ m. name_order n m ≡ Less) ms
+    → AllByRecursion (λ m. name_order m n ≡ Less) ns × AllByRecursion (λ m. name_order n m ≡ Less) ms
 rises_around [] ms n h = (tt, h.0)
 rises_around (k ∷ ns) ms n h =
     let rest = rises_around ns ms n h.1 in ((middle ns h.0, rest.0), rest.1)
   where
-    middle : (ks : List DomainName) → Each (λ m. name_order k m ≡ Less) (ks ++ n ∷ ms)
+    middle : (ks : List DomainName) → AllByRecursion (λ m. name_order k m ≡ Less) (ks ++ n ∷ ms)
         → name_order k n ≡ Less
     middle [] e = e.0
     middle (j ∷ ks) e = middle ks e.1
@@ -27,8 +27,8 @@ pub record LastName (z : ZoneContents) (before after : List DomainName) (key : O
   pub lower : folded name ≡ name
   pub key_is : key ≡ name_key name
   pub topmost : IsTopmost z name cut
-  pub upto : Each (λ m. is_gt (name_order m name) ≡ false) before
-  pub from : Each (λ m. is_gt (name_order name m) ≡ false) after
+  pub upto : AllByRecursion (λ m. is_gt (name_order m name) ≡ false) before
+  pub from : AllByRecursion (λ m. is_gt (name_order name m) ≡ false) after
 
 pub root_first : (z : ZoneContents) (ns : List DomainName) → LastName z [] ns [] 0
 root_first z ns = record {
@@ -40,14 +40,14 @@ root_first z ns = record {
   from = all ns;
 }
   where
-    all : (ms : List DomainName) → Each (λ m. is_gt (name_order [] m) ≡ false) ms
+    all : (ms : List DomainName) → AllByRecursion (λ m. is_gt (name_order [] m) ≡ false) ms
     all [] = tt
     all (m ∷ ms) = grind (arith, under-order, under-from, folded, append-nil, (all ms))
 
 -- one owner more
 module _ (z : ZoneContents) (ordered : AreOrdered z.records) (ns ms : List DomainName)
     (n : DomainName) (all : ns ++ n ∷ ms ≡ owners_once z.records) (low : folded n ≡ n) where
-  around : Each (λ m. name_order m n ≡ Less) ns × Each (λ m. name_order n m ≡ Less) ms
+  around : AllByRecursion (λ m. name_order m n ≡ Less) ns × AllByRecursion (λ m. name_order n m ≡ Less) ms
   around = grind (arith, rises_around, once_rise, owners_in_order)
 
   pub comes_next : (last key origin : Octets) (cut : ℕ) (own : List ResourceRecord)
@@ -91,8 +91,8 @@ module _ (z : ZoneContents) (ordered : AreOrdered z.records) (ns ms : List Domai
   }
 
 pub each_added : (z : ZoneContents) (names : List CheckedName) (c : CheckedName) (n : DomainName)
-    → Each (λ d. IsChecked z (name_of z d) d) names → name_of z c ≡ n → IsChecked z n c
-    → Each (λ d. IsChecked z (name_of z d) d) (names ++ c ∷ [])
+    → AllByRecursion (λ d. IsChecked z (name_of z d) d) names → name_of z c ≡ n → IsChecked z n c
+    → AllByRecursion (λ d. IsChecked z (name_of z d) d) (names ++ c ∷ [])
 each_added z names c n e f h = grind (arith, each_push)
 
 pub all_added : (z : ZoneContents) (names : List CheckedName) (c : CheckedName) (n : DomainName)
@@ -101,8 +101,8 @@ pub all_added : (z : ZoneContents) (names : List CheckedName) (c : CheckedName) 
 all_added z names c n ms f = grind (arith, map_push, append_assoc)
 
 -- an element more, at a place
-each_insert : {X : Type 0} (P : X → Type 0) (xs : List X) (i : ℕ) (x : X) → Each P xs → P x
-    → Each P (take i xs ++ x ∷ drop i xs)
+each_insert : {X : Type 0} (P : X → Type 0) (xs : List X) (i : ℕ) (x : X) → AllByRecursion P xs → P x
+    → AllByRecursion P (take i xs ++ x ∷ drop i xs)
 each_insert P xs zero x e p = (p, e)
 each_insert P [] (suc i) x e p = (p, tt)
 each_insert P (y ∷ ys) (suc i) x e p = (e.0, each_insert P ys i x e.1 p)
@@ -124,7 +124,7 @@ module _ {X Y : Type 0} (f : X → Y) where
   among_insert a (y ∷ ys) (suc i) x (inr (inr m)) = inr (among_insert a ys i x (inr m))
 
 insert_rises : {X : Type 0} (f : X → DomainName) (xs : List X) (i : ℕ) (x : X) → Rises name_order
-    (map f xs) → Each (λ y. name_order (f y) (f x) ≡ Less) (take i xs) → Each (λ y. name_order
+    (map f xs) → AllByRecursion (λ y. name_order (f y) (f x) ≡ Less) (take i xs) → AllByRecursion (λ y. name_order
     (f x) (f y) ≡ Less) (drop i xs) → Rises name_order (map f (take i xs ++ x ∷ drop i xs))
 insert_rises f xs zero x h e g = (each_map (λ n. name_order (f x) n ≡ Less) f xs g, h)
 insert_rises f [] (suc i) x h e g = (tt, tt)
@@ -174,7 +174,7 @@ module _ (z : ZoneContents) (low : folded z.origin ≡ z.origin) (ordered : AreO
     origin_name key = record { key = key; first = 0; end = 0; cut = 0 }
 
     -- it owns nothing
-    module _ (before : Each (λ c. name_order (name_of z c) o ≡ Less) (take k names)) where
+    module _ (before : AllByRecursion (λ c. name_order (name_of z c) o ≡ Less) (take k names)) where
       none : Among o (owners_once z.records) → ⊥
       none m =
           grind (
@@ -215,7 +215,7 @@ module _ (z : ZoneContents) (low : folded z.origin ≡ z.origin) (ordered : AreO
 
     -- all before it, where the last of them is another
     pub others_before : (i : ℕ) → k ≡ suc i → (c : CheckedName) → c ≡ get_or names i c
-        → (c.key.now ≡ key → ⊥) → Each (λ d. name_order (name_of z d) o ≡ Less) (take k names)
+        → (c.key.now ≡ key → ⊥) → AllByRecursion (λ d. name_order (name_of z d) o ≡ Less) (take k names)
     others_before i next c is f =
         each_weaker (λ d. (d ≡ c) ⊎ (name_order (name_of z d) (name_of z c) ≡ Less))
         (λ d. name_order (name_of z d) o ≡ Less) (take k names) go

@@ -1,5 +1,5 @@
 -- Names among records in canonical order, and the name of the next child below one.
-use Rattle.dns_zone.proofs.Common.{AreOrdered, Bool, DomainName, Each, IsCanonical, IsPartitionedBy, IsReadRecord, List, Octets, ResourceRecord, [], ap, ap₂, arith, at_or_below, below, drop, each_weaker, ending, false, false≢true, filter, filter-append, folded, get_or, get_or-drop, get_or-map, inl, inr, is_gt, length, length-drop, name_order, name_order_total, not, owners, subst, suc, sym, take, take-add, take-append-drop, true, true≢false, under, upto, wire, zero, ℕ, ◌++◌, ◌+◌, ◌<◌, ◌∙◌, ◌∷◌, ◌≡◌, ◌⊎◌}
+use Rattle.dns_zone.proofs.Common.{AreOrdered, Bool, DomainName, AllByRecursion, IsCanonical, IsPartitionedBy, IsReadRecord, List, Octets, ResourceRecord, [], ap, ap₂, arith, at_or_below, below, drop, each_weaker, ending, false, false≢true, filter, filter-append, folded, get_or, get_or-drop, get_or-map, inl, inr, is_gt, length, length-drop, name_order, name_order_total, not, owners, subst, suc, sym, take, take-add, take-append-drop, true, true≢false, under, upto, wire, zero, ℕ, ◌++◌, ◌+◌, ◌<◌, ◌∙◌, ◌∷◌, ◌≡◌, ◌⊎◌}
 use Rattle.dns_zone.proofs.Pairs.{Pairs, pairs_of, parted, filter_all}
 use Rattle.dns_zone.proofs.NameTree.{under-order, between}
 use Rattle.dns_zone.proofs.ChildNames.{IsChildOf, cons_under, child_end}
@@ -18,13 +18,13 @@ pairs_drop R (suc k) (x ∷ xs) h = pairs_drop R k xs h.1
 -- records from the first that is at or below a name on
 module _ (m : DomainName) (r : ResourceRecord) (xs : List ResourceRecord)
     (h : Pairs OwnerNotAfter (r ∷ xs)) (here : at_or_below r.owner m ≡ true) where
-  not_before : Each (λ (s : ResourceRecord). is_gt (name_order m s.owner) ≡ false) (r ∷ xs)
+  not_before : AllByRecursion (λ (s : ResourceRecord). is_gt (name_order m s.owner) ≡ false) (r ∷ xs)
   not_before = grind (arith, under-order, each_weaker, upto, name_order_total)
 
   pub under_parted : IsPartitionedBy (is_under m) (r ∷ xs)
   under_parted = search (arith, parted, pairs_of, between, not_before)
 
-  each_not_before : Each (λ s. not (is_before m s) ≡ true) (r ∷ xs)
+  each_not_before : AllByRecursion (λ s. not (is_before m s) ≡ true) (r ∷ xs)
   each_not_before = grind (arith, each_weaker, not_before, name_order_total, true≢false)
 
   pub at_in_front : AreOrdered (r ∷ xs) → IsPartitionedBy (is_at m) (r ∷ xs)
@@ -42,7 +42,7 @@ pub parted_drop : {X : Type 0} (p : X → Bool) (xs : List X) (k : ℕ) → IsPa
 parted_drop p xs k h i j d a b e = grind (arith, length-drop, get_or-drop)
 
 -- records that pass, and then those of the others that do
-pub both_fronts : {X : Type 0} (p : X → Bool) (xs : List X) (a b : ℕ) → Each (λ x. p x ≡ true)
+pub both_fronts : {X : Type 0} (p : X → Bool) (xs : List X) (a b : ℕ) → AllByRecursion (λ x. p x ≡ true)
     (take a xs) → take b (drop a xs) ≡ filter p (drop a xs) → take (a + b) xs ≡ filter p xs
 both_fronts p xs a b e u =
     take-add a b xs ∙ ap₂ ◌++◌ (sym (filter_all p (take a xs) e)) u

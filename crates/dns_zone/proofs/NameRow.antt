@@ -1,6 +1,6 @@
 -- The row of a name that a record is at or below, and none before it, among records in canonical
 -- order.
-use Rattle.dns_zone.proofs.Common.{AreOrdered, DomainName, Each, IsCanonical, IsFront, IsPartitionedBy, List, ResourceRecord, [], ap, arith, at_or_below, drop, drop_more, each_weaker, false, filter, filter-append, filter_each, folded, get_or, get_or-map, is_gt, length, length-drop, length-take, owners, prefix_len, prefix_len-le-length, record_order, record_order_total, span, subst, sym, take, take-append-drop, true, under, wire, ℕ, ◌++◌, ◌+◌, ◌-◌, ◌<◌, ◌∙◌, ◌∷◌, ◌≡◌, ◌≤◌}
+use Rattle.dns_zone.proofs.Common.{AreOrdered, DomainName, AllByRecursion, IsCanonical, IsFront, IsPartitionedBy, List, ResourceRecord, [], ap, arith, at_or_below, drop, drop_more, each_weaker, false, filter, filter-append, filter_each, folded, get_or, get_or-map, is_gt, length, length-drop, length-take, owners, prefix_len, prefix_len-le-length, record_order, record_order_total, span, subst, sym, take, take-append-drop, true, under, wire, ℕ, ◌++◌, ◌+◌, ◌-◌, ◌<◌, ◌∙◌, ◌∷◌, ◌≡◌, ◌≤◌}
 use Rattle.dns_zone.proofs.Pairs.{Pairs, parted_take, filter_within}
 use Rattle.dns_zone.proofs.NameTree.{itself-under}
 use Rattle.dns_zone.proofs.EndingNames.{ends_in}
@@ -93,9 +93,9 @@ module _ (rs : List ResourceRecord) (canonical : IsCanonical rs) (m : DomainName
       all_fit : own + count ≤ length others
       all_fit = omega (arith, own_fits, more.bound, length-drop own others)
 
-      front_is : Each (λ s. is_under m s ≡ true) (take own others)
+      front_is : AllByRecursion (λ s. is_under m s ≡ true) (take own others)
       front_is =
-          subst (Each (λ s. is_under m s ≡ true)) (sym own_others)
+          subst (AllByRecursion (λ s. is_under m s ≡ true)) (sym own_others)
           (each_weaker (λ s. is_at m s ≡ true) (λ s. is_under m s ≡ true) (filter (is_at m) others)
           (λ s h. itself-under s.owner m h) (filter_each (is_at m) others))
 

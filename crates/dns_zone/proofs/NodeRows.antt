@@ -1,5 +1,5 @@
 -- The nodes of a zone by their rows.
-use Rattle.dns_zone.proofs.Common.{◌≡◌, ℕ, ◌+◌, ◌-◌, ◌<◌, ◌≤◌, true, List, [], ◌∷◌, length, drop, get_or, sym, ap, ◌∙◌, arith, subst, length-take, get_or-take, get_or-drop, get_or_default, list_any, Octets, DomainName, at_or_below, ResourceRecord, exists, Each, each_weaker, contains_among, IsNode, IsNodeAt, first_of, row_name, row_label, row_at, kids_at, IsRow, IsKid, AreKids, Row, Tree}
+use Rattle.dns_zone.proofs.Common.{◌≡◌, ℕ, ◌+◌, ◌-◌, ◌<◌, ◌≤◌, true, List, [], ◌∷◌, length, drop, get_or, sym, ap, ◌∙◌, arith, subst, length-take, get_or-take, get_or-drop, get_or_default, list_any, Octets, DomainName, at_or_below, ResourceRecord, exists, AllByRecursion, each_weaker, contains_among, IsNode, IsNodeAt, first_of, row_name, row_label, row_at, kids_at, IsRow, IsKid, AreKids, Row, Tree}
 use Rattle.dns_zone.proofs.Pairs.{each_get}
 use Rattle.dns_zone.proofs.Spans.{in_span, any_there}
 use Rattle.dns_zone.proofs.KidRows.{is_under}
@@ -51,7 +51,7 @@ module _ (t : Tree) (k : ℕ) (at : IsNodeAt t k) where
   pub are_kids : AreKids rs name kids
   are_kids = at.kept.tree.kids k at.row
 
-  pub kid_rows : Each (λ c. IsRow rs c (row_name rs c)) kids
+  pub kid_rows : AllByRecursion (λ c. IsRow rs c (row_name rs c)) kids
   kid_rows =
       each_weaker (IsKid rs name) (λ c. IsRow rs c (row_name rs c)) kids
       (λ c h. own_name rs c (h.label ∷ name) h.is_row) are_kids.each

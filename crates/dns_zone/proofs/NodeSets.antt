@@ -1,5 +1,5 @@
 -- The sets of a name of a built zone.
-use Rattle.dns_zone.proofs.Common.{◌≡◌, ℕ, ◌≤◌, true, false, not, ◌==◌, List, [], ◌∷◌, map, length, Option, None, Some, IfSome, refl, sym, ap, ◌∙◌, subst, filter, is_gt, nat_cmp, arith, eqb-true, eq-eqb, cases_lt, lt-ltb, le-ltb, nat_cmp_total, tied_itself, length-map, none-some, same_Some, IsNonDecreasingBy, DomainName, folded, same, Valid, ResourceRecord, ZoneContents, distinct, sort_by, data_order, record_order, at, rrset, RecordSet, records_at, set_of, rising_types, of_lowest_type, of_first_type, IsReadRecord, Each, each_filter, each_distinct, each_sort, each_weaker, filter_each, length-sort_by, each_all, all_each, count_few, IsOf, as_set, first_ttl, own_records, each_typed, IsSetOf, data_of, lent, AreOfType, IsBuilt}
+use Rattle.dns_zone.proofs.Common.{◌≡◌, ℕ, ◌≤◌, true, false, not, ◌==◌, List, [], ◌∷◌, map, length, Option, None, Some, IfSome, refl, sym, ap, ◌∙◌, subst, filter, is_gt, nat_cmp, arith, eqb-true, eq-eqb, cases_lt, lt-ltb, le-ltb, nat_cmp_total, tied_itself, length-map, none-some, same_Some, IsNonDecreasingBy, DomainName, folded, same, Valid, ResourceRecord, ZoneContents, distinct, sort_by, data_order, record_order, at, rrset, RecordSet, records_at, set_of, rising_types, of_lowest_type, of_first_type, IsReadRecord, AllByRecursion, each_filter, each_distinct, each_sort, each_weaker, filter_each, length-sort_by, recursion_from_All, All-from_recursion, count_few, IsOf, as_set, first_ttl, own_records, each_typed, IsSetOf, data_of, lent, AreOfType, IsBuilt}
 use Rattle.dns_zone.proofs.Pairs.{pairs_of, pairs_filter, pairs_rising, each_both}
 use Rattle.dns_zone.proofs.NameOrder.{same-is, same-from, same-tied}
 use Rattle.dns_zone.proofs.AtName.{data_order_total, ordered_records, unmoved, first_in, first_part}
@@ -14,13 +14,13 @@ data_in_order n t r s p q h =
 
 -- records of one type, as they are read, are lent as a set
 datas : (t : ℕ) (rs : List ResourceRecord)
-    → Each (λ (r : ResourceRecord). IsReadRecord r × (r.rtype ≡ t)) rs → Each (Valid t) (data_of rs)
+    → AllByRecursion (λ (r : ResourceRecord). IsReadRecord r × (r.rtype ≡ t)) rs → AllByRecursion (Valid t) (data_of rs)
 datas t [] e = tt
 datas t (r ∷ rs) e = (subst (λ u. Valid u r.rdata) e.0.1 e.0.0.rdata, datas t rs e.1)
 
 of_one_type : (t : ℕ) (rs : List ResourceRecord)
-    → Each (λ (r : ResourceRecord). IsReadRecord r × (r.rtype ≡ t)) rs → AreOfType rs
-of_one_type t rs h = grind (arith, all_each, datas, each_weaker)
+    → AllByRecursion (λ (r : ResourceRecord). IsReadRecord r × (r.rtype ≡ t)) rs → AreOfType rs
+of_one_type t rs h = grind (arith, All-from_recursion, datas, each_weaker)
 
 -- the lowest type is that of the first record
 not_above : (t u : ℕ) → t ≤ u → is_gt (nat_cmp t u) ≡ false
@@ -44,10 +44,10 @@ lowest_first r rs h =
     (pairs_rising (λ (q : ResourceRecord). q.rtype) (r ∷ rs) h).0)))))
 
 module _ (z : ZoneContents) (kept : IsBuilt z) (n : DomainName) where
-  reads : Each IsReadRecord z.records
-  reads = each_all IsReadRecord z.records kept.each
+  reads : AllByRecursion IsReadRecord z.records
+  reads = recursion_from_All IsReadRecord z.records kept.each
 
-  lows : Each (λ (r : ResourceRecord). folded r.owner ≡ r.owner) z.records
+  lows : AllByRecursion (λ (r : ResourceRecord). folded r.owner ≡ r.owner) z.records
   lows = grind (arith, each_weaker, reads)
 
   module _ (t : ℕ) where
@@ -73,7 +73,7 @@ module _ (z : ZoneContents) (kept : IsBuilt z) (n : DomainName) where
         (λ (r : ResourceRecord). same r.owner n) z.records
         (ordered_records z.records kept.ordered)))))
 
-    read_set : Each (λ (r : ResourceRecord). IsReadRecord r × (r.rtype ≡ t)) (rrset z n t)
+    read_set : AllByRecursion (λ (r : ResourceRecord). IsReadRecord r × (r.rtype ≡ t)) (rrset z n t)
     read_set = grind (arith, each_typed, each_filter, reads)
 
     pub are_of_type : AreOfType (rrset z n t)
@@ -91,7 +91,7 @@ module _ (z : ZoneContents) (kept : IsBuilt z) (n : DomainName) where
         k = first_ttl t (at z n)
 
         shown : (r : ResourceRecord) (rs : List ResourceRecord) → rrset z n t ≡ r ∷ rs
-            → Each (IsOf (folded n) k t) (r ∷ rs)
+            → AllByRecursion (IsOf (folded n) k t) (r ∷ rs)
             → records_at n r.ttl (lent r.rtype r.ttl (r ∷ rs)) ≡ rrset z n r.rtype
         shown r rs p own = grind (arith, as_set, k)
 

@@ -1,5 +1,5 @@
 -- A walk over records of a zone in canonical order, owner by owner.
-use Rattle.dns_zone.proofs.Common.{◌≡◌, ℕ, ◌+◌, Bool, true, false, not, cond, List, [], ◌∷◌, ◌++◌, ◌<◌, length, take, drop, refl, sym, ap, ap₂, ◌∙◌, arith, subst, filter, is_gt, Less, false≢true, false_from_ne_true, length-filter_both, All-head, prefix_len, IsPartitionedBy, DomainName, folded, same, names_equal, name_order, ResourceRecord, ZoneContents, at, record_order, prefix_len_passes, prefix_len_stops, prefix_len-le-length, each_all, all_each, record_order_total, Each, each_filter, filter_each, each_weaker, AreOrdered, IsOwner, first_owner, HasOwners, begins_with_owner, owners_once}
+use Rattle.dns_zone.proofs.Common.{◌≡◌, ℕ, ◌+◌, Bool, true, false, not, cond, List, [], ◌∷◌, ◌++◌, ◌<◌, length, take, drop, refl, sym, ap, ap₂, ◌∙◌, arith, subst, filter, is_gt, Less, false≢true, false_from_ne_true, length-filter_both, All-head, prefix_len, IsPartitionedBy, DomainName, folded, same, names_equal, name_order, ResourceRecord, ZoneContents, at, record_order, prefix_len_passes, prefix_len_stops, prefix_len-le-length, recursion_from_All, All-from_recursion, record_order_total, AllByRecursion, each_filter, filter_each, each_weaker, AreOrdered, IsOwner, first_owner, HasOwners, begins_with_owner, owners_once}
 use Rattle.dns_zone.proofs.Pairs.{Pairs, pairs_filter, each_both, filter_all, filter_within, halves}
 use Rattle.dns_zone.proofs.NameOrder.{same-is, same-from, same-tied}
 use Rattle.dns_zone.proofs.AtName.{unmoved, is_at, OwnerNotAfter, ordered_records, owners_in_order}
@@ -30,7 +30,7 @@ ordered_filter p rs h = unmoved record_order record_order_total (filter p rs)
     (pairs_filter (λ r s. is_gt (record_order r s) ≡ false) p rs (ordered_records rs h))
 
 each_always : (P : ResourceRecord → Type 0) (rs : List ResourceRecord)
-    → ((r : ResourceRecord) → P r) → Each P rs
+    → ((r : ResourceRecord) → P r) → AllByRecursion P rs
 each_always P [] f = tt
 each_always P (r ∷ rs) f = (f r, each_always P rs f)
 
@@ -39,7 +39,7 @@ module _ (z : ZoneContents) where
   IsAll rs r = filter (is_at r.owner) rs ≡ at z r.owner
 
   pub all_owners : AreOrdered z.records → HasOwners z z.records
-  all_owners h = grind (arith, all_each, IsAll, each_always)
+  all_owners h = grind (arith, All-from_recursion, IsAll, each_always)
 
   -- a test of owners keeps all records of an owner or none
   pub kept_owners : (p : ResourceRecord → Bool) (rs : List ResourceRecord)
@@ -47,10 +47,10 @@ module _ (z : ZoneContents) where
       → HasOwners z rs → HasOwners z (filter p rs)
   kept_owners p rs f h = record {
     ordered = ordered_filter p rs h.ordered;
-    all = all_each (IsAll (filter p rs)) (filter p rs)
+    all = All-from_recursion (IsAll (filter p rs)) (filter p rs)
         (each_both (λ r. p r ≡ true) (IsAll rs) (IsAll (filter p rs)) (filter p rs)
         (λ r t e. filter_within p (is_at r.owner) rs (λ s g. f s r g t) ∙ e)
-        (filter_each p rs) (each_filter (IsAll rs) p rs (each_all (IsAll rs) rs h.all)));
+        (filter_each p rs) (each_filter (IsAll rs) p rs (recursion_from_All (IsAll rs) rs h.all)));
   }
 
   at_one : (o : DomainName) (s r : ResourceRecord)

@@ -1,20 +1,20 @@
 -- Lists whose elements are in order, each with each after it, and what a binary search finds in
 -- them.
-use Rattle.dns_zone.proofs.Common.{◌≡◌, ℕ, zero, suc, ◌<◌, ◌≤◌, Bool, true, false, not, cond, List, [], ◌∷◌, length, take, drop, get_or, refl, sym, ap, ap₂, ◌∙◌, ◌||◌, arith, filter, list_any, false≢true, false_from_ne_true, length-take, get_or-take, IsPartitionPoint, IsPartitionedBy, IsNonDecreasingBy, Each, each_filter, each_weaker, IsFront}
+use Rattle.dns_zone.proofs.Common.{◌≡◌, ℕ, zero, suc, ◌<◌, ◌≤◌, Bool, true, false, not, cond, List, [], ◌∷◌, length, take, drop, get_or, refl, sym, ap, ap₂, ◌∙◌, ◌||◌, arith, filter, list_any, false≢true, false_from_ne_true, length-take, get_or-take, IsPartitionPoint, IsPartitionedBy, IsNonDecreasingBy, AllByRecursion, each_filter, each_weaker, IsFront}
 
 -- R holds of each element and each after it
 abbrev pub Pairs : {X : Type 0} → (X → X → Type 0) → List X → Type 0
 Pairs R [] = Unit {0}
-Pairs R (x ∷ xs) = Each (R x) xs × Pairs R xs
+Pairs R (x ∷ xs) = AllByRecursion (R x) xs × Pairs R xs
 
 pub each_get : {X : Type 0} (P : X → Type 0) (xs : List X) (k : ℕ) (d : X)
-    → Each P xs → k < length xs → P (get_or xs k d)
+    → AllByRecursion P xs → k < length xs → P (get_or xs k d)
 each_get P [] k d e h = absurd (omega arith)
 each_get P (x ∷ xs) zero d e h = e.0
 each_get P (x ∷ xs) (suc k) d e h = each_get P xs k d e.1 (omega arith)
 
 pub each_from_get : {X : Type 0} (P : X → Type 0) (xs : List X)
-    → ((k : ℕ) (d : X) → k < length xs → P (get_or xs k d)) → Each P xs
+    → ((k : ℕ) (d : X) → k < length xs → P (get_or xs k d)) → AllByRecursion P xs
 each_from_get P [] h = tt
 each_from_get P (x ∷ xs) h =
     (h 0 x (omega arith), each_from_get P xs (λ k d l. h (suc k) d (omega arith)))
@@ -26,12 +26,12 @@ pairs_weaker R S (x ∷ xs) f p = (each_weaker (R x) (S x) xs (f x) p.0, pairs_w
 
 -- the same, of elements of which P holds
 pub each_both : {X : Type 0} (P Q S : X → Type 0) (xs : List X)
-    → ((x : X) → P x → Q x → S x) → Each P xs → Each Q xs → Each S xs
+    → ((x : X) → P x → Q x → S x) → AllByRecursion P xs → AllByRecursion Q xs → AllByRecursion S xs
 each_both P Q S [] f p q = tt
 each_both P Q S (x ∷ xs) f p q = (f x p.0 q.0, each_both P Q S xs f p.1 q.1)
 
 pub pairs_of : {X : Type 0} (P : X → Type 0) (R S : X → X → Type 0) (xs : List X)
-    → ((x y : X) → P x → P y → R x y → S x y) → Each P xs → Pairs R xs → Pairs S xs
+    → ((x y : X) → P x → P y → R x y → S x y) → AllByRecursion P xs → Pairs R xs → Pairs S xs
 pairs_of P R S [] f e p = tt
 pairs_of P R S (x ∷ xs) f e p = grind (arith, each_both, (pairs_of P R S xs f e.1 p.1))
 
@@ -67,17 +67,17 @@ pairs_rising n (x ∷ xs) h = (
 )
 
 pub filter_all : {X : Type 0} (p : X → Bool) (xs : List X)
-    → Each (λ x. p x ≡ true) xs → filter p xs ≡ xs
+    → AllByRecursion (λ x. p x ≡ true) xs → filter p xs ≡ xs
 filter_all p [] e = refl
 filter_all p (x ∷ xs) e = grind (arith, filter, (filter_all p xs e.1))
 
 pub filter_none : {X : Type 0} (p : X → Bool) (xs : List X)
-    → Each (λ x. p x ≡ false) xs → filter p xs ≡ []
+    → AllByRecursion (λ x. p x ≡ false) xs → filter p xs ≡ []
 filter_none p [] e = refl
 filter_none p (x ∷ xs) e = grind (arith, filter, (filter_none p xs e.1))
 
 pub none_pass : {X : Type 0} (p : X → Bool) (xs : List X)
-    → Each (λ x. p x ≡ false) xs → list_any p xs ≡ false
+    → AllByRecursion (λ x. p x ≡ false) xs → list_any p xs ≡ false
 none_pass p [] e = refl
 none_pass p (x ∷ xs) e = ap₂ ◌||◌ e.0 (none_pass p xs e.1)
 

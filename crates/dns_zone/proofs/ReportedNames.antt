@@ -1,5 +1,5 @@
 -- The names that faults are reported of: the origin, and each owner once.
-use Rattle.dns_zone.proofs.Common.{◌≡◌, ℕ, suc, Bool, true, false, cond, ◌⊎◌, inl, inr, List, [], ◌∷◌, ◌++◌, map, refl, sym, ap₂, ◌==◌, ◌&&◌, filter, is_gt, Less, arith, false≢true, true≢false, and_parts, eqb-true, if◌then◌else◌, DomainName, folded, same, name_order, ResourceRecord, ZoneContents, distinct, Check, checks, checked_names, folded_folded, name_tie, name_order_total, one_lower, Lower, tied_back, alike_right, Each, Among, Rises, each_weaker, sort_rises, apart_distinct, distinct_among, sort_among, among_sort, among_distinct, same_risen, failed_from, begins_with_owner, owners_once, reported_at}
+use Rattle.dns_zone.proofs.Common.{◌≡◌, ℕ, suc, Bool, true, false, cond, ◌⊎◌, inl, inr, List, [], ◌∷◌, ◌++◌, map, refl, sym, ap₂, ◌==◌, ◌&&◌, filter, is_gt, Less, arith, false≢true, true≢false, and_parts, eqb-true, if◌then◌else◌, DomainName, folded, same, name_order, ResourceRecord, ZoneContents, distinct, Check, checks, checked_names, folded_folded, name_tie, name_order_total, one_lower, Lower, tied_back, alike_right, AllByRecursion, Among, Rises, each_weaker, sort_rises, apart_distinct, distinct_among, sort_among, among_sort, among_distinct, same_risen, failed_from, begins_with_owner, owners_once, reported_at}
 use Rattle.dns_zone.proofs.Pairs.{Pairs}
 use Rattle.dns_zone.proofs.NameOrder.{same-is, same-from, same-tied}
 use Rattle.dns_zone.proofs.AtName.{OwnerNotAfter}
@@ -32,7 +32,7 @@ unfolding reported_at
 failed_reported z n = failed_in_order z n 1 checks refl
 
 each_once : (P : DomainName → Type 0) (rs : List ResourceRecord)
-    → Each (λ r. P (folded r.owner)) rs → Each P (owners_once rs)
+    → AllByRecursion (λ r. P (folded r.owner)) rs → AllByRecursion P (owners_once rs)
 each_once P [] e = tt
 each_once P (r ∷ rs) e = grind (arith, (each_once P rs e.1))
 
@@ -50,7 +50,7 @@ less_other n m h s = grind (arith, false≢true, name_tie, tied_back, name_order
 -- after an owner that is not that of the next record, all owners are greater
 pub greater_after : (r : ResourceRecord) (rs : List ResourceRecord)
     → Pairs OwnerNotAfter (r ∷ rs) → begins_with_owner r.owner rs ≡ false
-    → Each (λ s. name_order (folded r.owner) (folded s.owner) ≡ Less) rs
+    → AllByRecursion (λ s. name_order (folded r.owner) (folded s.owner) ≡ Less) rs
 greater_after r [] h e = tt
 greater_after r (q ∷ rs) h e = grind (arith, less_other, lower_order, each_weaker, less_then)
 
@@ -95,10 +95,10 @@ module _ (z : ZoneContents) where
   abbrev names : List DomainName
   names = folded z.origin ∷ owners z.records
 
-  names_lower : Each Lower names
+  names_lower : AllByRecursion Lower names
   names_lower = (folded_folded z.origin, all z.records)
     where
-      all : (rs : List ResourceRecord) → Each Lower (owners rs)
+      all : (rs : List ResourceRecord) → AllByRecursion Lower (owners rs)
       all [] = tt
       all (r ∷ rs) = (folded_folded r.owner, all rs)
 

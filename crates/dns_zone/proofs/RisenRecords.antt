@@ -1,5 +1,5 @@
 -- Records moved to the front, each of which comes before the next.
-use Rattle.dns_zone.proofs.Common.{◌≡◌, ℕ, zero, suc, ◌+◌, ◌<◌, ◌≤◌, ◌⊎◌, inl, inr, List, [], ◌∷◌, length, take, get_or, sym, ap, ap₂, ◌∙◌, arith, All, IsPermutation, is_eq, Less, Equal, Greater, true, ◌-◌, subst, drop, length-take, get_or-take, take-append-drop, get_or_default, cases_lt, true≢false, IsPermutation-sym, ResourceRecord, records_equal, distinct, sort_by, record_order, SwappedAt, IsSorted, LowerOwner, record_order_total, record_ties, one_record, rises_canonical, each_all, among_permutation, among_contains, Among, Rises, each_weaker, among_sort, sort_among, among_distinct, distinct_among, same_risen}
+use Rattle.dns_zone.proofs.Common.{◌≡◌, ℕ, zero, suc, ◌+◌, ◌<◌, ◌≤◌, ◌⊎◌, inl, inr, List, [], ◌∷◌, length, take, get_or, sym, ap, ap₂, ◌∙◌, arith, All, IsPermutation, is_eq, Less, Equal, Greater, true, ◌-◌, subst, drop, length-take, get_or-take, take-append-drop, get_or_default, cases_lt, true≢false, IsPermutation-sym, ResourceRecord, records_equal, distinct, sort_by, record_order, SwappedAt, IsSorted, LowerOwner, record_order_total, record_ties, one_record, rises_canonical, recursion_from_All, among_permutation, among_contains, Among, Rises, each_weaker, among_sort, sort_among, among_distinct, distinct_among, same_risen}
 use Rattle.dns_zone.proofs.Spans.{among_left, among_get}
 
 -- Of the records rs those before place `at` are among the first of xs, up to place `last`, each of
@@ -132,7 +132,7 @@ once_canonical all rs xs last at low given moved h l =
     (rises_front xs last h.rise) (rises_canonical all)
     (λ a m. among_sort record_order a (distinct records_equal all)
     (among_distinct record_order record_order_total records_equal tie LowerOwner one_record a all
-    (each_all LowerOwner all low)
+    (recursion_from_All LowerOwner all low)
     (among_permutation a rs all (IsPermutation-sym all rs given)
     (among_permutation a xs rs (IsPermutation-sym rs xs moved) (front_among a xs (suc last) m)))))
     (λ a m. there a (among_permutation a all rs given

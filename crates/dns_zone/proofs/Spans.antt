@@ -1,5 +1,5 @@
 -- Parts of a list from one place up to another, and the elements that pass a test.
-use Rattle.dns_zone.proofs.Common.{◌≡◌, ℕ, zero, suc, ◌+◌, ◌-◌, ◌<◌, ◌≤◌, Bool, true, false, ◌||◌, not, ◌⊎◌, inl, inr, List, [], ◌∷◌, ◌++◌, map, length, take, drop, get_or, get_or_default, refl, sym, ap, ◌∙◌, arith, subst, filter, length-append, length-take, length-drop, false≢true, or_right, take-append-drop, take-append-le, get_or-take, get_or-drop, nil_from_length, filter-append, length-filter_both, list_any, drop-drop, take-add, Each, Among, filter_each, contains_among, span}
+use Rattle.dns_zone.proofs.Common.{◌≡◌, ℕ, zero, suc, ◌+◌, ◌-◌, ◌<◌, ◌≤◌, Bool, true, false, ◌||◌, not, ◌⊎◌, inl, inr, List, [], ◌∷◌, ◌++◌, map, length, take, drop, get_or, get_or_default, refl, sym, ap, ◌∙◌, arith, subst, filter, length-append, length-take, length-drop, false≢true, or_right, take-append-drop, take-append-le, get_or-take, get_or-drop, nil_from_length, filter-append, length-filter_both, list_any, drop-drop, take-add, AllByRecursion, Among, filter_each, contains_among, span}
 use Rattle.dns_zone.proofs.Pairs.{each_get, filter_all, none_pass}
 
 pub drop_span : {X : Type 0} (a b : ℕ) (xs : List X) → a ≤ b → drop a xs ≡ span xs a b ++ drop b xs
@@ -50,11 +50,11 @@ module _ {X : Type 0} (p : X → Bool) (xs : List X) (a b : ℕ) (h : a ≤ b)
       grind (arith, get_or-take, get_or-drop) in
       subst (λ x. p x ≡ true) here
       (each_get (λ x. p x ≡ true) (span xs a b) (k - a) d
-      (subst (Each (λ x. p x ≡ true)) (sym e) (filter_each p xs)) fits)
+      (subst (AllByRecursion (λ x. p x ≡ true)) (sym e) (filter_each p xs)) fits)
 
 -- nothing passes
 pub nothing_each : {X : Type 0} (p : X → Bool) (xs : List X) → filter p xs ≡ []
-    → Each (λ x. p x ≡ false) xs
+    → AllByRecursion (λ x. p x ≡ false) xs
 nothing_each p [] e = tt
 nothing_each p (x ∷ xs) e = grind (arith, (nothing_each p xs))
 
@@ -108,8 +108,8 @@ pub among_get : {X : Type 0} (xs : List X) (i : ℕ) (d : X)
     → i < length xs → Among (get_or xs i d) xs
 among_get xs i d l = contains_among _ xs (i, l, get_or_default xs i _ d l)
 
-pub map_each : {X Y : Type 0} (f : X → Y) (P : Y → Type 0) (xs : List X) → Each P (map f xs)
-    → Each (λ x. P (f x)) xs
+pub map_each : {X Y : Type 0} (f : X → Y) (P : Y → Type 0) (xs : List X) → AllByRecursion P (map f xs)
+    → AllByRecursion (λ x. P (f x)) xs
 map_each f P [] e = tt
 map_each f P (x ∷ xs) e = (e.0, map_each f P xs e.1)
 
@@ -131,13 +131,13 @@ nothing_further p xs a b h e =
     ) in
     nil_from_length (filter p (drop b xs)) n
 
-pub each_drop : {X : Type 0} (P : X → Type 0) (k : ℕ) (xs : List X) → Each P xs → Each P (drop k xs)
+pub each_drop : {X : Type 0} (P : X → Type 0) (k : ℕ) (xs : List X) → AllByRecursion P xs → AllByRecursion P (drop k xs)
 each_drop P zero xs e = e
 each_drop P (suc k) [] e = e
 each_drop P (suc k) (x ∷ xs) e = each_drop P k xs e.1
 
-pub each_push : {X : Type 0} (P : X → Type 0) (xs : List X) (x : X) → Each P xs → P x
-    → Each P (xs ++ x ∷ [])
+pub each_push : {X : Type 0} (P : X → Type 0) (xs : List X) (x : X) → AllByRecursion P xs → P x
+    → AllByRecursion P (xs ++ x ∷ [])
 each_push P [] x e p = (p, tt)
 each_push P (y ∷ xs) x e p = (e.0, each_push P xs x e.1 p)
 

@@ -1,5 +1,5 @@
 -- Records that stand by their types: the types of one owner.
-use Rattle.dns_zone.proofs.Common.{◌≡◌, ◌==◌, ℕ, ◌-◌, ◌<◌, ◌≤◌, length, get_or, Bool, true, false, not, ◌||◌, ◌⊎◌, cond, nat_lt, eqb, Some, None, List, [], ◌∷◌, refl, sym, ap, ◌∙◌, arith, filter, inl, inr, ltb-true, ltb-false, eqb-true, eq-eqb, ne_eqb, eqb-false, cases_lt, le-ltb, take_all, IsPartitionedBy, IsNonDecreasingBy, ResourceRecord, list_any, slice_get, Each, filter_each}
+use Rattle.dns_zone.proofs.Common.{◌≡◌, ◌==◌, ℕ, ◌-◌, ◌<◌, ◌≤◌, length, get_or, Bool, true, false, not, ◌||◌, ◌⊎◌, cond, nat_lt, eqb, Some, None, List, [], ◌∷◌, refl, sym, ap, ◌∙◌, arith, filter, inl, inr, ltb-true, ltb-false, eqb-true, eq-eqb, ne_eqb, eqb-false, cases_lt, le-ltb, take_all, IsPartitionedBy, IsNonDecreasingBy, ResourceRecord, list_any, slice_get, AllByRecursion, filter_each}
 use Rattle.dns_zone.proofs.Pairs.{halves, Pairs, pairs_of, pairs_filter, pairs_rising, parted, filter_within, first_passes, none_pass}
 
 pub first_is : {X : Type 0} (p : X → Bool) (x : X) (xs : List X)
@@ -17,7 +17,7 @@ first_none p xs h = grind arith
 
 module _ {X : Type 0} (n : X → ℕ) (t : ℕ) where
   greater : (x : X) (xs : List X)
-      → t < n x → Each (λ y. n x ≤ n y) xs → Each (λ y. eqb (n y) t ≡ false) xs
+      → t < n x → AllByRecursion (λ y. n x ≤ n y) xs → AllByRecursion (λ y. eqb (n y) t ≡ false) xs
   greater x [] l e = tt
   greater x (y ∷ ys) l e = grind (arith, ne_eqb, (greater x ys l e.1))
 

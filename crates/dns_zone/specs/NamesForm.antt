@@ -1,14 +1,14 @@
 -- What a reader learns here: the names of a zone that are checked, as a list, and what is kept of
 -- each.
 use Rattle.std.specs.Prelude.{◌≡◌, ℕ, ◌+◌, get_or, ◌<◌, ◌≤◌, ◌==◌, ◌&&◌, not, ◌⊎◌, nat_lt, Bool, true, false, List, [], ◌∷◌, map, length, take}
-use Rattle.std.specs.List.{starts_with}
+use Rattle.std.specs.List.{AllByRecursion, starts_with}
 use Rattle.std.specs.Ordering.{is_gt, nat_cmp}
 use Rattle.std.specs.Cmp.Lexicographic.{slice_cmp}
 use Rattle.dns_spec.specs.Names.{Octets, DomainName, folded, at_or_below, name_order}
 use Rattle.dns_spec.specs.Records.{ResourceRecord, ZoneContents}
 use Rattle.dns_spec.specs.Tree.{is_cut}
 use Rattle.dns_spec.specs.Checks.{checked_names}
-use Rattle.dns_spec.proofs.Records.SortedOnce.{Each, Among}
+use Rattle.dns_spec.proofs.Records.SortedOnce.{Among}
 use Rattle.dns_zone.specs.TreeForm.{span}
 use Rattle.dns_zone.specs.KeyForm.{name_key}
 use Rattle.dns_zone.specs.OwnerForm.{IsOwner}
@@ -65,12 +65,12 @@ pub record IsChecked (z : ZoneContents) (n : DomainName) (c : CheckedName) : Typ
 
 -- all names that are checked, in canonical order
 pub record AreChecked (z : ZoneContents) (names : List CheckedName) : Type 0 where
-  pub each : Each (λ c. IsChecked z (name_of z c) c) names
+  pub each : AllByRecursion (λ c. IsChecked z (name_of z c) c) names
   pub all : map (name_of z) names ≡ checked_names z
 
 -- the owners among them
 pub record AreOwners (z : ZoneContents) (names : List CheckedName) : Type 0 where
-  pub each : Each (λ c. IsChecked z (name_of z c) c) names
+  pub each : AllByRecursion (λ c. IsChecked z (name_of z c) c) names
   pub all : map (name_of z) names ≡ owners_once z.records
 
 -- An owner n that comes next in order after a name o, with the keys of both and of the origin: a

@@ -1,11 +1,11 @@
 -- What a reader learns here: how the names of a zone are kept as rows of numbers, and what such
 -- rows keep.
 use Rattle.std.specs.Prelude.{◌≡◌, ℕ, zero, suc, ◌+◌, ◌-◌, ◌/◌, ◌<◌, ◌≤◌, true, List, [], ◌∷◌, map, length, take, drop, get_or}
-use Rattle.std.specs.List.{filter, list_any}
+use Rattle.std.specs.List.{AllByRecursion, filter, list_any}
 use Rattle.std.specs.Char.{to_ascii_lowercase}
 use Rattle.dns_spec.specs.Names.{Octets, DomainName, wire, is_name, folded, same, at_or_below, label_order}
 use Rattle.dns_spec.specs.Records.{ResourceRecord}
-use Rattle.dns_spec.proofs.Records.SortedOnce.{Each, Among, Rises}
+use Rattle.dns_spec.proofs.Records.SortedOnce.{Among, Rises}
 use Rattle.dns_name.specs.WireForm.{labels_of}
 use Rattle.dns_zone.specs.LabelKey.{IsKey}
 use Rattle.dns_zone.specs.declared.tree.row.Row.{Row}
@@ -60,7 +60,7 @@ pub record IsKid (rs : List ResourceRecord) (n : DomainName) (row : Row) : Type 
 
 -- the rows of all names one label below a name, by their labels
 pub record AreKids (rs : List ResourceRecord) (n : DomainName) (kids : List Row) : Type 0 where
-  pub each : Each (IsKid rs n) kids
+  pub each : AllByRecursion (IsKid rs n) kids
   pub rising : Rises label_order (map (row_label rs) kids)
   pub all : (l : Octets) → list_any (λ (r : ResourceRecord). at_or_below r.owner (l ∷ n)) rs ≡ true
       → Among (map to_ascii_lowercase l) (map (row_label rs) kids)

@@ -1,11 +1,10 @@
 -- What is written for numbers, addresses, names and strings has no octet that ends the word.
-use Rattle.dns_spec.proofs.Common.{◌≡◌, ℕ, ◌+◌, ◌<◌, ◌^◌, inl, inr, Bool, true, false, ◌||◌, not, ◌==◌, List, [], ◌∷◌, ◌++◌, map, refl, arith, append_assoc, decimal, rules, agree_below_at, and_from, cases_Bool, eqb-true, true≢false, decimal_is_IsNumeral, flat_map, join_with_byte, AllDigits, Octets, DomainName, is_special, three_digits, octet_text, label_text, labels_text, ipv4_text, is_word_octet, is_ascii_graphic, digit_char, string_octet_text, is_unbroken, is_quotable}
-use Rattle.dns_spec.proofs.Records.SortedOnce.{Each}
+use Rattle.dns_spec.proofs.Common.{◌≡◌, ℕ, ◌+◌, ◌<◌, ◌^◌, inl, inr, Bool, true, false, ◌||◌, not, ◌==◌, List, [], ◌∷◌, ◌++◌, map, refl, arith, append_assoc, decimal, rules, agree_below_at, and_from, cases_Bool, eqb-true, true≢false, decimal_is_IsNumeral, flat_map, join_with_byte, AllDigits, Octets, DomainName, is_special, three_digits, octet_text, label_text, labels_text, ipv4_text, is_word_octet, is_ascii_graphic, digit_char, string_octet_text, is_unbroken, is_quotable, AllByRecursion}
 use Rattle.dns_spec.proofs.DomainNames.SmallOctets.{Small, small_head, small_tail}
 
 -- octets that end no word by themselves
 abbrev pub Bare : Octets → Type 0
-Bare = Each (λ o. is_word_octet o ≡ true)
+Bare = AllByRecursion (λ o. is_word_octet o ≡ true)
 
 pub bare_append : (x y : Octets) → Bare x → Bare y → Bare (x ++ y)
 bare_append [] y h k = k
@@ -13,7 +12,7 @@ bare_append (o ∷ x) y h k = (h.0, bare_append x y h.1 k)
 
 -- texts with an octet between each two
 pub bare_joined : (c : ℕ) (f : ℕ → Octets) (xs : List ℕ)
-    → is_word_octet c ≡ true → Each (λ x. Bare (f x)) xs → Bare (join_with_byte c (map f xs))
+    → is_word_octet c ≡ true → AllByRecursion (λ x. Bare (f x)) xs → Bare (join_with_byte c (map f xs))
 bare_joined c f [] between each = tt
 bare_joined c f (x ∷ []) between each = each.0
 bare_joined c f (x ∷ y ∷ xs) between each = bare_append (f x) (c ∷ join_with_byte c
@@ -26,7 +25,7 @@ bare_digits (c ∷ ds) all = grind (arith, (bare_digits ds all.1))
 pub bare_decimal : (n : ℕ) → n < 2 ^ 64 → Bare (decimal n)
 bare_decimal n small = bare_digits (decimal n) (decimal_is_IsNumeral n small).0.1
 
-bare_decimals : (d : Octets) → Small d → Each (λ o. Bare (decimal o)) d
+bare_decimals : (d : Octets) → Small d → AllByRecursion (λ o. Bare (decimal o)) d
 bare_decimals [] small = tt
 bare_decimals (o ∷ d) small =
     (bare_decimal o (omega (arith, small_head o d small)), bare_decimals d (small_tail o d small))
@@ -34,7 +33,7 @@ bare_decimals (o ∷ d) small =
 pub bare_ipv4 : (d : Octets) → Small d → Bare (ipv4_text d)
 bare_ipv4 d small = bare_joined 46 decimal d refl (bare_decimals d small)
 
-pub bare_hex : (ds : List ℕ) → Each (λ d. d < 16) ds → Bare (map digit_char ds)
+pub bare_hex : (ds : List ℕ) → AllByRecursion (λ d. d < 16) ds → Bare (map digit_char ds)
 bare_hex [] below = tt
 bare_hex (d ∷ ds) below = grind (arith, agree_below_at, (bare_hex ds below.1))
 
@@ -79,7 +78,7 @@ label_unbroken (x ∷ l) rest small after =
     search (rules, append_assoc, octet_unbroken, small_head, others)
 
 pub labels_unbroken : (n : DomainName)
-    → Each Small n → is_unbroken is_word_octet (labels_text n) ≡ true
+    → AllByRecursion Small n → is_unbroken is_word_octet (labels_text n) ≡ true
 labels_unbroken [] small = refl
 labels_unbroken (l ∷ n) small =
     grind (arith, append_assoc, label_unbroken, (labels_unbroken n small.1))

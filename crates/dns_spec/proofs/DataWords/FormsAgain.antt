@@ -1,7 +1,6 @@
 -- The word that is written for the front of data says that front again, form by form.
-use Rattle.dns_spec.proofs.Common.{◌≡◌, ℕ, zero, suc, ◌+◌, ◌*◌, ◌^◌, ◌<◌, ◌≤◌, All, true, Bool, not, Some, List, [], ◌∷◌, ◌++◌, length, take, drop, replicate, refl, sym, ◌∙◌, ap, subst, arith, take-append-drop, length-drop, add_comm, suc-mul, pow-le-pow_right, and_from, and_parts, false≢true, length-take-le, drop-drop, list_all, Octets, DomainName, wire, is_label, is_name, name_of, are_strings, number_of, Word, WordForm, number_word, ipv4_word, ipv6_word, name_word, string_word, SaysWord, SaysForms, SaysString, is_unknown_mark, All-take, All-drop, name_front, word_front, form_words, string_count, quoted, stands_alone}
+use Rattle.dns_spec.proofs.Common.{◌≡◌, ℕ, zero, suc, ◌+◌, ◌*◌, ◌^◌, ◌<◌, ◌≤◌, All, true, Bool, not, Some, List, [], ◌∷◌, ◌++◌, length, take, drop, replicate, refl, sym, ◌∙◌, ap, subst, arith, take-append-drop, length-drop, add_comm, suc-mul, pow-le-pow_right, and_from, and_parts, false≢true, length-take-le, drop-drop, list_all, Octets, DomainName, wire, is_label, is_name, name_of, are_strings, number_of, Word, WordForm, number_word, ipv4_word, ipv6_word, name_word, string_word, SaysWord, SaysForms, SaysString, is_unknown_mark, All-take, All-drop, name_front, word_front, form_words, string_count, quoted, stands_alone, AllByRecursion}
 use Rattle.dns_spec.proofs.DomainNames.SmallOctets.{Small, small_head, small_tail, small_front, small_back, small_test}
-use Rattle.dns_spec.proofs.Records.SortedOnce.{Each}
 use Rattle.dns_spec.proofs.DomainNames.NameLaws.{IsName-is_name, IsLabel-is_label}
 use Rattle.dns_spec.proofs.NameTexts.WrittenNames.{name_spelled}
 use Rattle.dns_spec.proofs.DataWords.NumberAgain.{number_of-below, number_said}
@@ -26,7 +25,7 @@ pub record FormSaid (f : WordForm) (origin : DomainName) (d back : Octets) : Typ
 pub record WordsSaid (fs : List WordForm) (origin : DomainName) (d : Octets) : Type 0 where
   pub said : SaysForms fs origin (form_words fs d) d
   pub alone : list_all stands_alone (form_words fs d) ≡ true
-  pub whole : Each TakenWhole (form_words fs d)
+  pub whole : AllByRecursion TakenWhole (form_words fs d)
   pub unmarked : is_unmarked (form_words fs d) ≡ true
 
 pub none_said : (origin : DomainName) → WordsSaid [] origin []
@@ -34,7 +33,7 @@ none_said origin = record { said = refl; alone = refl; whole = tt; unmarked = re
 
 pub said_step : (f : WordForm) (fs : List WordForm) (origin : DomainName) (d back : Octets)
     → FormSaid f origin d back → WordsSaid fs origin back → WordsSaid (f ∷ fs) origin d
-said_step f fs origin d back s others = grind (arith, and_from, Each, TakenWhole)
+said_step f fs origin d back s others = grind (arith, and_from, AllByRecursion, TakenWhole)
 
 -- a word for the first n octets
 octets_said : (f : WordForm) (n : ℕ) (origin : DomainName) (d : Octets)
@@ -88,15 +87,15 @@ labels_small (l ∷ n) small (suc k) e inside =
     labels_small n (small_back l (wire n) (small_tail (length l) (l ++ wire n) small)) k e
     (omega (arith, inside))
 
-pub small_labels : (n : DomainName) → All (All (λ o. o < 256)) n → Each Small n
+pub small_labels : (n : DomainName) → All (All (λ o. o < 256)) n → AllByRecursion Small n
 small_labels [] small = tt
 small_labels (l ∷ n) small =
     (small 0 [] (omega arith), small_labels n (λ k e inside. small (suc k) e (omega arith)))
 
-pub some_labels : (n : DomainName) → is_name n ≡ true → Each (λ l. 0 < length l) n
+pub some_labels : (n : DomainName) → is_name n ≡ true → AllByRecursion (λ l. 0 < length l) n
 some_labels n ok = each n (IsName-is_name n ok).labels
   where
-    each : (n : DomainName) → list_all is_label n ≡ true → Each (λ l. 0 < length l) n
+    each : (n : DomainName) → list_all is_label n ≡ true → AllByRecursion (λ l. 0 < length l) n
     each [] all = tt
     each (l ∷ n) all = let parts = and_parts (is_label l) (list_all is_label n) all in
         ((IsLabel-is_label l parts.0).some, each n parts.1)

@@ -1,7 +1,6 @@
 -- Groups that are written with colons between are read as those groups again, and nothing in their
 -- text is a gap.
-use Rattle.dns_spec.proofs.Common.{◌≡◌, ℕ, zero, suc, ◌/◌, ◌%◌, ◌<◌, ◌≤◌, inl, inr, Bool, true, false, ◌&&◌, ◌==◌, All, Option, None, Some, List, [], ◌∷◌, ◌++◌, map, length, nat_lt, nat_le, refl, sym, ◌∙◌, ap, subst, arith, append_assoc, append-nil, agree_below_at, and_from, lt-ltb, le-leb, cases_lt, option_map, list_all, slice_split, is_ascii_hexdigit, digit_char, digits, Octets, digits_is_IsNumeral, slice_split_none, slice_split_at, is_group, group_values, groups_said, around_gap, groups_text}
-use Rattle.dns_spec.proofs.Records.SortedOnce.{Each}
+use Rattle.dns_spec.proofs.Common.{◌≡◌, ℕ, zero, suc, ◌/◌, ◌%◌, ◌<◌, ◌≤◌, inl, inr, Bool, true, false, ◌&&◌, ◌==◌, All, Option, None, Some, List, [], ◌∷◌, ◌++◌, map, length, nat_lt, nat_le, refl, sym, ◌∙◌, ap, subst, arith, append_assoc, append-nil, agree_below_at, and_from, lt-ltb, le-leb, cases_lt, option_map, list_all, slice_split, is_ascii_hexdigit, digit_char, digits, Octets, digits_is_IsNumeral, slice_split_none, slice_split_at, is_group, group_values, groups_said, around_gap, groups_text, AllByRecursion}
 use Rattle.dns_spec.proofs.DataWords.GroupDigits.{one_digit, two_digits, three_of, four_of}
 use Rattle.dns_spec.proofs.DataWords.HexAgain.{hex_digit}
 
@@ -14,7 +13,7 @@ pub record OfDigits (text : Octets) : Type 0 where
   pub others : List ℕ
   pub spelled : text ≡ map digit_char (first ∷ others)
   pub few : length others ≤ 3
-  pub below : Each (λ d. d < 16) (first ∷ others)
+  pub below : AllByRecursion (λ d. d < 16) (first ∷ others)
 
 pub group_digits : (g : ℕ) → g < 65536 → OfDigits (digits 16 false g)
 group_digits g small =
@@ -54,7 +53,7 @@ group_digits g small =
     ]
 
 all_hex : (ds : List ℕ)
-    → Each (λ d. d < 16) ds → list_all is_ascii_hexdigit (map digit_char ds) ≡ true
+    → AllByRecursion (λ d. d < 16) ds → list_all is_ascii_hexdigit (map digit_char ds) ≡ true
 all_hex [] below = refl
 all_hex (d ∷ ds) below = and_from _ _ (hex_digit d below.0) (all_hex ds below.1)
 
@@ -62,7 +61,7 @@ no_colon : (d : ℕ) → d < 16 → is_colon (digit_char d) ≡ false
 no_colon d below = agree_below_at (λ e. is_colon (digit_char e)) (λ e. false) 16 d refl below
 
 no_colons : (ds : List ℕ)
-    → Each (λ d. d < 16) ds → Each (λ o. is_colon o ≡ false) (map digit_char ds)
+    → AllByRecursion (λ d. d < 16) ds → AllByRecursion (λ o. is_colon o ≡ false) (map digit_char ds)
 no_colons [] below = tt
 no_colons (d ∷ ds) below = (no_colon d below.0, no_colons ds below.1)
 
@@ -81,20 +80,20 @@ group_text g small =
     (and_from _ _ some few) (all_hex (t.first ∷ t.others) t.below)
 
 -- the text of a group has no colon
-colonless : (g : ℕ) → g < 65536 → Each (λ o. is_colon o ≡ false) (digits 16 false g)
+colonless : (g : ℕ) → g < 65536 → AllByRecursion (λ o. is_colon o ≡ false) (digits 16 false g)
 colonless g small =
     let t = group_digits g small in
-    let P : Octets → Type 0 = Each (λ o. is_colon o ≡ false) in
+    let P : Octets → Type 0 = AllByRecursion (λ o. is_colon o ≡ false) in
     subst P (sym t.spelled) (no_colons (t.first ∷ t.others) t.below)
 
-all_colonless : (w : Octets) → Each (λ o. is_colon o ≡ false) w → All (λ o. is_colon o ≡ false) w
+all_colonless : (w : Octets) → AllByRecursion (λ o. is_colon o ≡ false) w → All (λ o. is_colon o ≡ false) w
 all_colonless [] each k d inside = absurd (omega (arith, inside))
 all_colonless (o ∷ w) each zero d inside = each.0
 all_colonless (o ∷ w) each (suc k) d inside = all_colonless w each.1 k d (omega (arith, inside))
 
 -- groups are below 65,536
 abbrev pub Groups : List ℕ → Type 0
-Groups = Each (λ g. g < 65536)
+Groups = AllByRecursion (λ g. g < 65536)
 
 parts_of : (g : ℕ) (gs : List ℕ)
     → Groups (g ∷ gs) → slice_split is_colon (groups_text (g ∷ gs)) ≡ map (digits 16 false) (g ∷ gs)
@@ -149,7 +148,7 @@ before-before : (v w : Octets) (o : Option (Octets × Octets))
 before-before v w o = grind (arith, append_assoc)
 
 past_word : (w x : Octets)
-    → Each (λ o. is_colon o ≡ false) w → around_gap (w ++ x) ≡ option_map (before w) (around_gap x)
+    → AllByRecursion (λ o. is_colon o ≡ false) w → around_gap (w ++ x) ≡ option_map (before w) (around_gap x)
 past_word [] x none = grind arith
 past_word (c ∷ w) x none = grind (arith, (past_word w x none.1))
 

@@ -1,7 +1,6 @@
 -- The words that are written for valid data say that data again, each of them stands alone, and a
 -- reader takes them in whole.
-use Rattle.dns_spec.proofs.Common.{length-replicate, ◌≡◌, ℕ, suc, ◌*◌, ◌<◌, ◌≤◌, ◌⊎◌, inl, inr, true, false, Bool, ◌||◌, max, Option, None, Some, List, [], ◌∷◌, ◌++◌, length, drop, replicate, nat_le, refl, sym, ◌∙◌, ap, subst, arith, append-nil, false≢true, and_parts, and_from, leb-true, cases_Bool, or_cases, none-some, same_Some, cond_some, some_pair_parts, option_map, unwrap_or, list_all, find, flat_map, Octets, DomainName, name_of, numbers, ipv4, ipv6, Piece, fixed, domain, string, strings, anything, TypeRow, row_of, other_type, pieces_of, Part, name, part_octets, octets_front, piece_front, cut, valid, lower_case, Word, WordForm, name_word, string_word, forms_in, forms_of, SaysTyped, SaysAsSpelled, Says, is_word_octet, word_front, form_words, string_count, words_by, written_words, unknown_words, hex_words, stands_alone}
-use Rattle.dns_spec.proofs.Records.SortedOnce.{Each}
+use Rattle.dns_spec.proofs.Common.{length-replicate, ◌≡◌, ℕ, suc, ◌*◌, ◌<◌, ◌≤◌, ◌⊎◌, inl, inr, true, false, Bool, ◌||◌, max, Option, None, Some, List, [], ◌∷◌, ◌++◌, length, drop, replicate, nat_le, refl, sym, ◌∙◌, ap, subst, arith, append-nil, false≢true, and_parts, and_from, leb-true, cases_Bool, or_cases, none-some, same_Some, cond_some, some_pair_parts, option_map, unwrap_or, list_all, find, flat_map, Octets, DomainName, name_of, numbers, ipv4, ipv6, Piece, fixed, domain, string, strings, anything, TypeRow, row_of, other_type, pieces_of, Part, name, part_octets, octets_front, piece_front, cut, valid, lower_case, Word, WordForm, name_word, string_word, forms_in, forms_of, SaysTyped, SaysAsSpelled, Says, is_word_octet, word_front, form_words, string_count, words_by, written_words, unknown_words, hex_words, stands_alone, AllByRecursion}
 use Rattle.dns_spec.proofs.DomainNames.SmallOctets.{Small, small_back}
 use Rattle.dns_spec.proofs.DataWords.WrittenData.{cut_into, all_strings}
 use Rattle.dns_spec.proofs.DomainNames.WireNames.{name_read}
@@ -225,23 +224,23 @@ words_alone t d small ok = go (row_of t) refl
         let f = formed t [] d made e ok small in
         ap (λ o. list_all stands_alone (words_by o d)) f.of_data ∙ f.words.alone
 
-unknown_whole : (d : Octets) → length d ≤ 65535 → Small d → Each TakenWhole (unknown_words d)
+unknown_whole : (d : Octets) → length d ≤ 65535 → Small d → AllByRecursion TakenWhole (unknown_words d)
 unknown_whole d short small = (
   runs_escaped is_word_octet 35 refl refl,
   ((decimal_standing (length d) (omega (arith, short))).whole, hex d small),
 )
   where
-    hex : (d : Octets) → Small d → Each TakenWhole (hex_words d)
+    hex : (d : Octets) → Small d → AllByRecursion TakenWhole (hex_words d)
     hex [] small = tt
     hex (o ∷ d) small = (hex_runs (o ∷ d) small, tt)
 
 pub words_whole : (t : ℕ) (d : Octets)
-    → Small d → valid t d ≡ true → Each TakenWhole (written_words t d)
+    → Small d → valid t d ≡ true → AllByRecursion TakenWhole (written_words t d)
 words_whole t d small ok = go (row_of t) refl
   where
-    go : (r : Option TypeRow) → row_of t ≡ r → Each TakenWhole (written_words t d)
-    go None e = subst (Each TakenWhole)
+    go : (r : Option TypeRow) → row_of t ≡ r → AllByRecursion TakenWhole (written_words t d)
+    go None e = subst (AllByRecursion TakenWhole)
         (sym (unnamed_words t d e)) (unknown_whole d (cut_data t d ok).short small)
     go (Some made) e =
         let f = formed t [] d made e ok small in
-        subst (λ o. Each TakenWhole (words_by o d)) (sym f.of_data) f.words.whole
+        subst (λ o. AllByRecursion TakenWhole (words_by o d)) (sym f.of_data) f.words.whole

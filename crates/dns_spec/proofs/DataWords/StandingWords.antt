@@ -1,8 +1,7 @@
 -- The words that are written stand alone, a reader takes them in whole, and none of them is the
 -- mark of the form for data of
 -- any type.
-use Rattle.dns_spec.proofs.Common.{common_steps, ◌≡◌, ℕ, ◌<◌, ◌^◌, Bool, true, false, ◌==◌, List, [], ◌∷◌, ◌++◌, length, refl, sym, ◌∙◌, ap, subst, arith, append_assoc, append-nil, length-append, decimal, rules, and_from, and_right, lt-ltb, if◌then◌else◌, digits, Octets, DomainName, octets_equal, label_text, labels_text, name_text, Word, is_unknown_mark, is_word_octet, is_string_octet, decimal_nonempty, SaysIpv6, ipv6_groups, ipv4_text, groups_text, ipv6_text, plain, quoted, hex_text, is_unbroken, stands_alone}
-use Rattle.dns_spec.proofs.Records.SortedOnce.{Each}
+use Rattle.dns_spec.proofs.Common.{common_steps, ◌≡◌, ℕ, ◌<◌, ◌^◌, Bool, true, false, ◌==◌, List, [], ◌∷◌, ◌++◌, length, refl, sym, ◌∙◌, ap, subst, arith, append_assoc, append-nil, length-append, decimal, rules, and_from, and_right, lt-ltb, if◌then◌else◌, digits, Octets, DomainName, octets_equal, label_text, labels_text, name_text, Word, is_unknown_mark, is_word_octet, is_string_octet, decimal_nonempty, SaysIpv6, ipv6_groups, ipv4_text, groups_text, ipv6_text, plain, quoted, hex_text, is_unbroken, stands_alone, AllByRecursion}
 use Rattle.dns_spec.proofs.DomainNames.SmallOctets.{Small, small_head, small_tail}
 use Rattle.dns_spec.proofs.NameTexts.WrittenNames.{labels_text_long}
 use Rattle.dns_spec.proofs.DataWords.WordRuns.{Runs, runs_bare, name_runs, string_runs}
@@ -47,7 +46,7 @@ bare_group g small = let t =
 bare_groups : (gs : List ℕ) → Groups gs → Bare (groups_text gs)
 bare_groups gs small = bare_joined 58 (digits 16 false) gs refl (each gs small)
   where
-    each : (gs : List ℕ) → Groups gs → Each (λ g. Bare (digits 16 false g)) gs
+    each : (gs : List ℕ) → Groups gs → AllByRecursion (λ g. Bare (digits 16 false g)) gs
     each [] small = tt
     each (g ∷ gs) small = (bare_group g small.0, each gs small.1)
 
@@ -92,7 +91,7 @@ dotted_unmarked x front e = ap (λ y. is_unknown_mark (plain y)) e ∙ by_cases 
     by_cases (a ∷ b ∷ front) = and_right (a == 92) _ (and_right (b == 35) _ (longer front))
 
 pub name_standing : (n : DomainName)
-    → Each Small n → Each (λ l. 0 < length l) n → Standing (plain (name_text n))
+    → AllByRecursion Small n → AllByRecursion (λ l. 0 < length l) n → Standing (plain (name_text n))
 name_standing [] small some = record { alone = refl; whole = name_runs [] small; unmarked = refl }
 name_standing (l ∷ n) small some = record {
   alone = and_from _ _

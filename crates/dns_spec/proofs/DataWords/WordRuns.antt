@@ -1,6 +1,5 @@
 -- How much of what is written a reader takes into a word or a string: all of it.
-use Rattle.dns_spec.proofs.Common.{◌≡◌, ℕ, ◌+◌, ◌<◌, Bool, true, false, [], ◌∷◌, ◌++◌, length, refl, arith, append_assoc, length-append, rules, agree_below_at, lt-ltb, not-true, eqb-true, is_ascii_digit, flat_map, Octets, DomainName, string_octet_text, is_word_octet, is_string_octet, run_length, is_special, octet_text, label_text, labels_text, name_text, is_printable}
-use Rattle.dns_spec.proofs.Records.SortedOnce.{Each}
+use Rattle.dns_spec.proofs.Common.{◌≡◌, ℕ, ◌+◌, ◌<◌, Bool, true, false, [], ◌∷◌, ◌++◌, length, refl, arith, append_assoc, length-append, rules, agree_below_at, lt-ltb, not-true, eqb-true, is_ascii_digit, flat_map, Octets, DomainName, string_octet_text, is_word_octet, is_string_octet, run_length, is_special, octet_text, label_text, labels_text, name_text, is_printable, AllByRecursion}
 use Rattle.dns_spec.proofs.NameTexts.Escapes.{escape-counted}
 use Rattle.dns_spec.proofs.DomainNames.SmallOctets.{Small, small_head, small_tail}
 use Rattle.dns_spec.proofs.DataWords.BareWords.{Bare, follows}
@@ -39,12 +38,12 @@ label_runs [] small = grind arith
 label_runs (x ∷ l) small = runs_append is_word_octet (octet_text x)
     (label_text l) (octet_runs x (small_head x l small)) (label_runs l (small_tail x l small))
 
-labels_runs : (n : DomainName) → Each Small n → Runs is_word_octet (labels_text n)
+labels_runs : (n : DomainName) → AllByRecursion Small n → Runs is_word_octet (labels_text n)
 labels_runs [] small = grind arith
 labels_runs (l ∷ n) small =
     search (rules, runs_append, label_runs, runs_bare, (labels_runs n small.1))
 
-pub name_runs : (n : DomainName) → Each Small n → Runs is_word_octet (name_text n)
+pub name_runs : (n : DomainName) → AllByRecursion Small n → Runs is_word_octet (name_text n)
 name_runs [] small = runs_bare (46 ∷ []) (refl, tt)
 name_runs (l ∷ n) small = labels_runs (l ∷ n) small
 

@@ -1,6 +1,5 @@
 -- The layout, in which names share suffixes, spells its message.
-use Rattle.dns_spec.proofs.Common.{◌≡◌, ℕ, suc, ◌+◌, ◌^◌, ◌<◌, ◌≤◌, Bool, true, false, cond, nat_le, List, [], ◌∷◌, ◌++◌, map, length, take, drop, Option, None, Some, All, IfSome, is_some, unwrap_or, refl, sym, ap, ◌∙◌, subst, arith, append_assoc, append-nil, length-append, add-zero, zero-add, and_parts, false≢true, none-some, same_Some, cond_some, length-map, map-append, list_all, option_to_list, Octets, wire, is_label, labels_from, ResourceRecord, Header, MessageQuestion, MessageRecord, OctetsAt, NumberAt, PiecesAt, DataAt, RecordsAt, Spells, record_size, record_names, records_size, size, class_in, width, Piece, fixed, domain, string, strings, anything, pieces_of, compresses, Part, octets, piece_front, cut, valid, parts, laid_parts, octets16, octets32, answer, authority, additional, Item, records_of, in_section, Placed, shared_octets, data_laid, data_by, parts_of, record_tail, records_octets, records_by, question_octets, asked_octets, asked_placed, reply_header, layout, Section, message_record, message_of, IsWritable, IsAskable, HasRoom}
-use Rattle.dns_spec.proofs.Records.SortedOnce.{Each, each_all}
+use Rattle.dns_spec.proofs.Common.{◌≡◌, ℕ, suc, ◌+◌, ◌^◌, ◌<◌, ◌≤◌, Bool, true, false, cond, nat_le, List, [], ◌∷◌, ◌++◌, map, length, take, drop, Option, None, Some, All, IfSome, is_some, unwrap_or, refl, sym, ap, ◌∙◌, subst, arith, append_assoc, append-nil, length-append, add-zero, zero-add, and_parts, false≢true, none-some, same_Some, cond_some, length-map, map-append, list_all, option_to_list, Octets, wire, is_label, labels_from, ResourceRecord, Header, MessageQuestion, MessageRecord, OctetsAt, NumberAt, PiecesAt, DataAt, RecordsAt, Spells, record_size, record_names, records_size, size, class_in, width, Piece, fixed, domain, string, strings, anything, pieces_of, compresses, Part, octets, piece_front, cut, valid, parts, laid_parts, octets16, octets32, answer, authority, additional, Item, records_of, in_section, Placed, shared_octets, data_laid, data_by, parts_of, record_tail, records_octets, records_by, question_octets, asked_octets, asked_placed, reply_header, layout, Section, message_record, message_of, IsWritable, IsAskable, HasRoom, AllByRecursion, recursion_from_All}
 use Rattle.dns_spec.proofs.Messages.Places.{Stands, stands_front, stands_rest, stands_after, stands_all, stands_within, stands_get, number_at, octets_at}
 use Rattle.dns_spec.proofs.DataWords.WrittenData.{cut_into, name_part, octets_part, all_strings, front_taken, data_written}
 use Rattle.dns_spec.proofs.Layouts.MessageParts.{records_by_section, section_with, header_at, one_question, asked_at_12, length-question_octets}
@@ -232,7 +231,7 @@ module _ (b : Octets) (room : length b < 2 ^ 16) where
 
   -- records laid out from place i on
   records_laid : (rs : List ResourceRecord) (ms : List Placed) (i : ℕ)
-      → Known b i ms → 12 ≤ i → Each IsWritable rs → Stands b i (records_octets ms i rs)
+      → Known b i ms → 12 ≤ i → AllByRecursion IsWritable rs → Stands b i (records_octets ms i rs)
       → RecordsAt b i (map message_record rs) (i + length (records_octets ms i rs))
   unfolding records_by
   records_laid [] ms i known header w at = sym (add-zero i)
@@ -319,7 +318,7 @@ record HasCounts (items : List Item) : Type 0 where
   additionals : length (in_section additional items) < 2 ^ 16
 
 spells_where : (b : Octets) (h : Header) (q : Option MessageQuestion) (items : List Item)
-    → length b < 2 ^ 16 → HasRoom h q items → HasCounts items → Each IsWritable (records_of items)
+    → length b < 2 ^ 16 → HasRoom h q items → HasCounts items → AllByRecursion IsWritable (records_of items)
     → b ≡ reply_header h q items ++ asked_octets q ++ records_octets (asked_placed q)
     (12 + length (asked_octets q)) (records_of items) → Spells b (message_of h q items)
 spells_where b h q items room ok counts writable whole =
@@ -393,4 +392,4 @@ unfolding layout
 layout_spells h q items ok writable short =
     let b = layout h q items in
     spells_where b h q items (omega (arith, length-layout h q items, short)) ok (few_counts q items
-    (omega (arith, short))) (each_all IsWritable (records_of items) writable) refl
+    (omega (arith, short))) (recursion_from_All IsWritable (records_of items) writable) refl

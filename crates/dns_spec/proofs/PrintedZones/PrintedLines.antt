@@ -1,6 +1,5 @@
 -- The line of a record is read as the words of the record, and a line end.
-use Rattle.dns_spec.proofs.Common.{◌≡◌, ℕ, ◌<◌, Bool, true, false, ◌&&◌, Some, None, Option, List, [], ◌∷◌, ◌++◌, map, length, nat_lt, refl, sym, subst, arith, append_assoc, codes, decimal, rules, and_parts, ltb-true, option_map, unwrap_or, list_all, prefix_len, filter_map, join_with_byte, Octets, name_text, TypeRow, row_of, numbered_type, type_text, Word, is_word_octet, plain, word_text, written_words, data_text, stands_alone, ResourceRecord, Token, blank, line_end, is_blank, TokensThen, cut_entries, parentheses, word_of, IsReadRecord, record_line}
-use Rattle.dns_spec.proofs.Records.SortedOnce.{Each}
+use Rattle.dns_spec.proofs.Common.{◌≡◌, ℕ, ◌<◌, Bool, true, false, ◌&&◌, Some, None, Option, List, [], ◌∷◌, ◌++◌, map, length, nat_lt, refl, sym, subst, arith, append_assoc, codes, decimal, rules, and_parts, ltb-true, option_map, unwrap_or, list_all, prefix_len, filter_map, join_with_byte, Octets, name_text, TypeRow, row_of, numbered_type, type_text, Word, is_word_octet, plain, word_text, written_words, data_text, stands_alone, ResourceRecord, Token, blank, line_end, is_blank, TokensThen, cut_entries, parentheses, word_of, IsReadRecord, record_line, AllByRecursion}
 use Rattle.dns_spec.proofs.DataWords.BareWords.{Bare, bare_append, bare_decimal}
 use Rattle.dns_spec.proofs.DataWords.StandingWords.{TakenWhole, Standing, bare_standing, decimal_standing, name_standing}
 use Rattle.dns_spec.proofs.DataWords.FormsAgain.{small_labels, some_labels}
@@ -37,7 +36,7 @@ record Read (w : Word) : Type 0 where
 standing_read : (w : Word) → Standing w → Read w
 standing_read w s = record { alone = s.alone; whole = s.whole }
 
-all_read : (ws : List Word) → list_all stands_alone ws ≡ true → Each TakenWhole ws → Each Read ws
+all_read : (ws : List Word) → list_all stands_alone ws ≡ true → AllByRecursion TakenWhole ws → AllByRecursion Read ws
 all_read [] alone whole = tt
 all_read (w ∷ ws) alone whole =
     let p = and_parts (stands_alone w) (list_all stands_alone ws) alone in
@@ -59,7 +58,7 @@ word_then w ps text rest r more = record {
   first = no_blank w (32 ∷ text) r.alone;
 }
 
-words_then : (ws : List Word) (rest : Octets) → Each Read ws
+words_then : (ws : List Word) (rest : Octets) → AllByRecursion Read ws
     → Reads (join_with_byte 32 (map word_text ws) ++ 10 ∷ rest) (words_tokens ws) rest
 words_then [] rest reads = record { tokens = (rest, refl, refl); first = refl }
 words_then (w ∷ []) rest reads = record {
@@ -98,7 +97,7 @@ type_standing t small = go (row_of t) refl
         bare_standing made.mnemonic
         (ltb-true 0 (length made.mnemonic) p.0) (bare_tested made.mnemonic p.1)
 
-first_read : (r : ResourceRecord) → IsReadRecord r → Each Read (first_words r)
+first_read : (r : ResourceRecord) → IsReadRecord r → AllByRecursion Read (first_words r)
 first_read r h = (
   standing_read (plain (name_text r.owner))
       (name_standing r.owner (small_labels r.owner h.owner_octets) (some_labels r.owner h.owner)),

@@ -1,6 +1,5 @@
 -- The text of records means these records.
-use Rattle.dns_spec.proofs.Common.{◌≡◌, ℕ, suc, ◌+◌, ◌<◌, ◌≤◌, inl, inr, Bool, true, false, All, Some, None, List, [], ◌∷◌, ◌++◌, map, length, take, refl, sym, ◌∙◌, ap, subst, arith, codes, decimal, rules, cases_Bool, lt-leb, le-ltb, take_all, none-some, same_Some, MatchOption, is_ascii_digit, AllDigits, Octets, DomainName, octet_text, name_text, type_text, NamesType, Word, Says, plain, written_words, ResourceRecord, bad_owner, IsReadRecord, HasZoneType, record_line, decimal_is_IsNumeral, list_any, find, filter, flat_map, Token, most_octets, TokensThen, cut_entries, begins_with, Entry, Entries, ended, with_end, lexical_fault, whole_text, extent_by, faulty, gives, owned, kind_of, Fields, fields, directive_word, is_record, OriginIs, NameIs, IsRecord, most_records, RecordGives, KindGives, EntryGives, records, EntriesMean, Means}
-use Rattle.dns_spec.proofs.Records.SortedOnce.{Each, each_all}
+use Rattle.dns_spec.proofs.Common.{◌≡◌, ℕ, suc, ◌+◌, ◌<◌, ◌≤◌, inl, inr, Bool, true, false, All, Some, None, List, [], ◌∷◌, ◌++◌, map, length, take, refl, sym, ◌∙◌, ap, subst, arith, codes, decimal, rules, cases_Bool, lt-leb, le-ltb, take_all, none-some, same_Some, MatchOption, is_ascii_digit, AllDigits, Octets, DomainName, octet_text, name_text, type_text, NamesType, Word, Says, plain, written_words, ResourceRecord, bad_owner, IsReadRecord, HasZoneType, record_line, decimal_is_IsNumeral, list_any, find, filter, flat_map, Token, most_octets, TokensThen, cut_entries, begins_with, Entry, Entries, ended, with_end, lexical_fault, whole_text, extent_by, faulty, gives, owned, kind_of, Fields, fields, directive_word, is_record, OriginIs, NameIs, IsRecord, most_records, RecordGives, KindGives, EntryGives, records, EntriesMean, Means, AllByRecursion, recursion_from_All}
 use Rattle.dns_spec.proofs.NameTexts.WrittenNames.{name_spelled}
 use Rattle.dns_spec.proofs.DataWords.SaidAgain.{data_said}
 use Rattle.dns_spec.proofs.PrintedZones.PrintedLines.{line_tokens, line_pieces_read, line_cut, line_parentheses, line_words_again}
@@ -13,7 +12,7 @@ lines_tokens [] = []
 lines_tokens (r ∷ rs) = line_tokens r ++ lines_tokens rs
 
 lines_read : (rs : List ResourceRecord)
-    → Each IsReadRecord rs → TokensThen (flat_map record_line rs) (lines_tokens rs) []
+    → AllByRecursion IsReadRecord rs → TokensThen (flat_map record_line rs) (lines_tokens rs) []
 unfolding lines_tokens
 lines_read [] h = refl
 lines_read (r ∷ rs) h =
@@ -38,7 +37,7 @@ lines_ended [] = refl
 lines_ended (r ∷ []) = refl
 lines_ended (r ∷ s ∷ rs) = ap (λ es. line_entry r ∷ es) (lines_ended (s ∷ rs))
 
-text_entries : (rs : List ResourceRecord) → Each IsReadRecord rs → length
+text_entries : (rs : List ResourceRecord) → AllByRecursion IsReadRecord rs → length
     (flat_map record_line rs) ≤ most_octets → Entries (flat_map record_line rs) (lines_entries rs)
 text_entries rs h short =
     let text = flat_map record_line rs in
@@ -99,7 +98,7 @@ abbrev KeepsOrigin : Entry → Type 0
 KeepsOrigin e = directive_word (codes "$origin") (kind_of e) ≡ None
 
 origin_stays : (o : DomainName) (earlier : List Entry)
-    → Each KeepsOrigin earlier → OriginIs o earlier o
+    → AllByRecursion KeepsOrigin earlier → OriginIs o earlier o
 origin_stays o [] h = refl
 origin_stays o (e ∷ earlier) h = grind (arith, (origin_stays o earlier h.1))
 
@@ -151,8 +150,8 @@ line_counts : (r : ResourceRecord) (earlier : List Entry)
     → length (filter is_record (line_entry r ∷ earlier)) ≡ suc (length (filter is_record earlier))
 line_counts r earlier = grind (arith, line_kind)
 
-lines_mean : (o : DomainName) (earlier : List Entry) (rs : List ResourceRecord) → Each KeepsOrigin
-    earlier → Each IsReadRecord rs → Each HasZoneType rs → length (filter is_record earlier)
+lines_mean : (o : DomainName) (earlier : List Entry) (rs : List ResourceRecord) → AllByRecursion KeepsOrigin
+    earlier → AllByRecursion IsReadRecord rs → AllByRecursion HasZoneType rs → length (filter is_record earlier)
     + length rs ≤ most_records → EntriesMean o earlier (lines_entries rs) (records rs)
 lines_mean o earlier [] keeps h types few = grind (arith, given_then)
 lines_mean o earlier (r ∷ rs) keeps h types few =
@@ -165,8 +164,8 @@ pub printed_again : (o : DomainName) (rs : List ResourceRecord) → All IsReadRe
     → All HasZoneType rs → length rs ≤ most_records → length (flat_map record_line rs) ≤ most_octets
     → Means o (flat_map record_line rs) (records rs)
 printed_again o rs all types few short =
-    let each = each_all IsReadRecord rs all in (
+    let each = recursion_from_All IsReadRecord rs all in (
       lines_entries rs,
       text_entries rs each short,
-      lines_mean o [] rs tt each (each_all HasZoneType rs types) (omega (arith, few)),
+      lines_mean o [] rs tt each (recursion_from_All HasZoneType rs types) (omega (arith, few)),
     )

@@ -1,9 +1,8 @@
 -- The canonical order of records, and lists of records in it.
-use Rattle.dns_spec.proofs.Common.{◌≡◌, zero, suc, Bool, true, false, ◌&&◌, cond, inl, inr, List, [], ◌∷◌, refl, sym, ap, ◌∙◌, arith, All, IsPermutation, is_eq, is_gt, Ordering, Less, rules, and_parts, eqb-true, IsTotalOrder, lists_ties, DomainName, same, name_order, ResourceRecord, zone_of, records_equal, distinct, insert_by, sort_by, record_order, ordered_zone, faults, nat_cmp_total, nat_list_cmp_total, on_total, then_total, Contains-permutation, IsPermutation-refl, IsPermutation-sym, IsPermutation-cons, IsPermutation-trans, IsPermutation-middle, Contains, ordering_then, eq_by_cmp}
+use Rattle.dns_spec.proofs.Common.{◌≡◌, zero, suc, Bool, true, false, ◌&&◌, cond, inl, inr, List, [], ◌∷◌, refl, sym, ap, ◌∙◌, arith, All, IsPermutation, is_eq, is_gt, Ordering, Less, rules, and_parts, eqb-true, IsTotalOrder, lists_ties, DomainName, same, name_order, ResourceRecord, zone_of, records_equal, distinct, insert_by, sort_by, record_order, ordered_zone, faults, nat_cmp_total, nat_list_cmp_total, on_total, then_total, Contains-permutation, IsPermutation-refl, IsPermutation-sym, IsPermutation-cons, IsPermutation-trans, IsPermutation-middle, Contains, ordering_then, eq_by_cmp, AllByRecursion, All-from_recursion, recursion_from_All}
 use Rattle.dns_spec.proofs.DomainNames.NameLaws.{octets_equal-decides, names_equal-decides}
 use Rattle.dns_spec.proofs.ZoneChecks.FaultOrder.{faults_in_any_order, nat_ties, name_order_total, name_tie, Lower, one_lower}
-use Rattle.dns_spec.proofs.Records.SortedOnce.{Each, Among, each_sort, each_distinct, apart_distinct, Rises, sort_rises}
-pub use Rattle.dns_spec.proofs.Records.SortedOnce.{all_each, each_all}
+use Rattle.dns_spec.proofs.Records.SortedOnce.{Among, each_sort, each_distinct, apart_distinct, Rises, sort_rises}
 
 pub record_order_total : IsTotalOrder record_order
 record_order_total =
@@ -62,7 +61,7 @@ pub sort_risen : {X : Type 0} (cmp : X → X → Ordering) (xs : List X)
 sort_risen cmp [] r = refl
 sort_risen {X} cmp (x ∷ xs) r = ap (insert_by cmp x) (sort_risen cmp xs r.1) ∙ first x xs r.0
   where
-    first : (x : X) (xs : List X) → Each (λ y. cmp x y ≡ Less) xs → insert_by cmp x xs ≡ x ∷ xs
+    first : (x : X) (xs : List X) → AllByRecursion (λ y. cmp x y ≡ Less) xs → insert_by cmp x xs ≡ x ∷ xs
     first x [] e = refl
     first x (y ∷ ys) e =
         ap (λ (o : Ordering). cond (is_gt o) (y ∷ insert_by cmp x ys) (x ∷ y ∷ ys)) e.0
@@ -99,7 +98,7 @@ rises_canonical rs =
 -- what holds of all records holds of those of the canonical list
 pub all_canonical : (P : ResourceRecord → Type 0) (rs : List ResourceRecord)
     → All P rs → All P (sort_by record_order (distinct records_equal rs))
-all_canonical P rs all = search (rules, all_each, each_sort, each_distinct, each_all)
+all_canonical P rs all = search (rules, All-from_recursion, each_sort, each_distinct, recursion_from_All)
 
 -- the canonical zone has the faults of the zone as it was read
 pub ordered_faults : (o : DomainName) (rs : List ResourceRecord)

@@ -1,7 +1,7 @@
 -- Lists that hold the same records make one zone, with one canonical text and one report.
-use Rattle.dns_spec.proofs.Common.{arith, rules, ◌≡◌, ◌↔◌, All, List, ap, sym, ◌∙◌, is_eq, Contains, Octets, DomainName, folded, ResourceRecord, HoldSameRecords, records_equal, distinct, zone_of, sort_by, record_order, ordered_zone, records, Means, IsReadRecord, zone_text, Options, Report, zone_report, report_of_meaning, Reports, All-contains, All-weaker}
+use Rattle.dns_spec.proofs.Common.{arith, rules, ◌≡◌, ◌↔◌, All, List, ap, sym, ◌∙◌, is_eq, Contains, Octets, DomainName, folded, ResourceRecord, HoldSameRecords, records_equal, distinct, zone_of, sort_by, record_order, ordered_zone, records, Means, IsReadRecord, zone_text, Options, Report, zone_report, report_of_meaning, Reports, All-contains, All-weaker, recursion_from_All}
 use Rattle.dns_spec.proofs.Records.SortedOnce.{Among, same_sorted}
-use Rattle.dns_spec.proofs.Records.RecordOrder.{record_order_total, record_ties, LowerOwner, one_record, contains_among, among_contains, each_all}
+use Rattle.dns_spec.proofs.Records.RecordOrder.{record_order_total, record_ties, LowerOwner, one_record, contains_among, among_contains}
 use Rattle.dns_spec.proofs.PrintedZones.OrderedReport.{ordered_text, ordered_report}
 use Rattle.dns_spec.proofs.ZoneTexts.OneMeaning.{meaning_once}
 use Rattle.dns_spec.proofs.ZoneTexts.ReadRecords.{owners_low}
@@ -19,7 +19,7 @@ module _
       All-weaker (Contains rs) LowerOwner (λ r. All-contains LowerOwner rs r low) ss held.1 in
       same_sorted record_order record_order_total records_equal
       (λ r s e. record_ties r s ∙ ap is_eq e) LowerOwner one_record rs ss
-      (each_all LowerOwner rs low) (each_all LowerOwner ss low')
+      (recursion_from_All LowerOwner rs low) (recursion_from_All LowerOwner ss low')
       (λ a. among_held a rs ss held.0) (λ a. among_held a ss rs held.1)
 
   same_zone : (o : DomainName) → ordered_zone o rs ≡ ordered_zone o ss

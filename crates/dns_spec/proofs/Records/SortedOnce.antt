@@ -1,22 +1,10 @@
 -- A list sorted, with each element once, depends only on which elements there are.
-use Rattle.dns_spec.proofs.Common.{arith, ◌≡◌, suc, Bool, true, false, not, ◌⊎◌, inl, inr, List, [], ◌∷◌, length, refl, sym, ap, ap₂, ◌∙◌, subst, filter, is_lt, Ordering, Less, Equal, Greater, false≢true, not-true, tied_itself, ordering_reverse, IsTotalOrder, distinct, insert_by, sort_by, All, All-head, All-tail, All-nil, All-cons, map, ◌≤◌}
+use Rattle.dns_spec.proofs.Common.{arith, ◌≡◌, suc, Bool, true, false, not, ◌⊎◌, inl, inr, List, [], ◌∷◌, length, refl, sym, ap, ap₂, ◌∙◌, subst, filter, is_lt, Ordering, Less, Equal, Greater, false≢true, not-true, tied_itself, ordering_reverse, IsTotalOrder, distinct, insert_by, sort_by, map, ◌≤◌, AllByRecursion}
 
--- P holds of each element, and x is one of them
-abbrev pub Each : {X : Type 0} → (X → Type 0) → List X → Type 0
-Each P [] = Unit {0}
-Each P (x ∷ xs) = P x × Each P xs
-
-pub each_any : {X : Type 0} (xs : List X) → Each (λ _. Unit {0}) xs
+-- P of each element by recursion is a list of proofs; x is one of the elements
+pub each_any : {X : Type 0} (xs : List X) → AllByRecursion (λ _. Unit {0}) xs
 each_any [] = tt
 each_any (x ∷ xs) = (tt, each_any xs)
-
-pub each_all : {X : Type 0} (P : X → Type 0) (xs : List X) → All P xs → Each P xs
-each_all P [] all = tt
-each_all P (x ∷ xs) all = (All-head P x xs all, each_all P xs (All-tail P x xs all))
-
-pub all_each : {X : Type 0} (P : X → Type 0) (xs : List X) → Each P xs → All P xs
-all_each P [] e = All-nil P
-all_each P (x ∷ xs) e = All-cons P x xs e.0 (all_each P xs e.1)
 
 -- a proof for the first element, before those for the others
 infixr 10 ◌⊲◌
@@ -33,17 +21,17 @@ among_mapped f x [] m = absurd m
 among_mapped f x (y ∷ ys) (inl e) = inl (ap f e)
 among_mapped f x (y ∷ ys) (inr m) = inr (among_mapped f x ys m)
 
-pub each_at : {X : Type 0} (P : X → Type 0) (a : X) (xs : List X) → Each P xs → Among a xs → P a
+pub each_at : {X : Type 0} (P : X → Type 0) (a : X) (xs : List X) → AllByRecursion P xs → Among a xs → P a
 each_at P a [] e m = absurd m
 each_at P a (x ∷ xs) e (inl p) = subst P (sym p) e.0
 each_at P a (x ∷ xs) e (inr m) = each_at P a xs e.1 m
 
 pub each_filter : {X : Type 0} (P : X → Type 0) (p : X → Bool) (xs : List X)
-    → Each P xs → Each P (filter p xs)
+    → AllByRecursion P xs → AllByRecursion P (filter p xs)
 each_filter P p [] e = tt
 each_filter P p (x ∷ xs) e = grind (arith, (each_filter P p xs e.1))
 
-pub filter_each : {X : Type 0} (p : X → Bool) (xs : List X) → Each (λ x. p x ≡ true) (filter p xs)
+pub filter_each : {X : Type 0} (p : X → Bool) (xs : List X) → AllByRecursion (λ x. p x ≡ true) (filter p xs)
 filter_each p [] = tt
 filter_each p (x ∷ xs) = grind (arith, (filter_each p xs))
 
@@ -52,7 +40,7 @@ filter_short p [] = omega arith
 filter_short p (x ∷ xs) = grind (arith, (filter_short p xs))
 
 pub each_weaker : {X : Type 0} (P Q : X → Type 0) (xs : List X)
-    → ((x : X) → P x → Q x) → Each P xs → Each Q xs
+    → ((x : X) → P x → Q x) → AllByRecursion P xs → AllByRecursion Q xs
 each_weaker P Q [] f e = tt
 each_weaker P Q (x ∷ xs) f e = (f x e.0, each_weaker P Q xs f e.1)
 
@@ -69,7 +57,7 @@ filter_among p a (x ∷ xs) e m = grind (arith, inl, inr, false≢true, (filter_
 -- each element once
 abbrev pub Apart : {X : Type 0} → (X → X → Bool) → List X → Type 0
 Apart eq [] = Unit {0}
-Apart eq (x ∷ xs) = Each (λ y. eq x y ≡ false) xs × Apart eq xs
+Apart eq (x ∷ xs) = AllByRecursion (λ y. eq x y ≡ false) xs × Apart eq xs
 
 apart_filter : {X : Type 0} (eq : X → X → Bool) (p : X → Bool) (xs : List X)
     → Apart eq xs → Apart eq (filter p xs)
@@ -89,18 +77,18 @@ distinct_among eq a (x ∷ xs) (inr m) =
     inr (distinct_among eq a xs (among_filter (λ y. not (eq x y)) a (distinct eq xs) m))
 
 pub each_distinct : {X : Type 0} (P : X → Type 0) (eq : X → X → Bool) (xs : List X)
-    → Each P xs → Each P (distinct eq xs)
+    → AllByRecursion P xs → AllByRecursion P (distinct eq xs)
 each_distinct P eq [] e = tt
 each_distinct P eq (x ∷ xs) e = grind (arith, each_filter, (each_distinct P eq xs e.1))
 
 -- a sort keeps the elements
 module _ {X : Type 0} (cmp : X → X → Ordering) where
   each_insert : (P : X → Type 0) (x : X) (ys : List X)
-      → P x → Each P ys → Each P (insert_by cmp x ys)
+      → P x → AllByRecursion P ys → AllByRecursion P (insert_by cmp x ys)
   each_insert P x [] p e = (p, tt)
   each_insert P x (y ∷ ys) p e = grind (arith, (each_insert P x ys p e.1))
 
-  pub each_sort : (P : X → Type 0) (xs : List X) → Each P xs → Each P (sort_by cmp xs)
+  pub each_sort : (P : X → Type 0) (xs : List X) → AllByRecursion P xs → AllByRecursion P (sort_by cmp xs)
   each_sort P [] e = tt
   each_sort P (x ∷ xs) e = each_insert P x (sort_by cmp xs) e.0 (each_sort P xs e.1)
 
@@ -133,7 +121,7 @@ module _ {X : Type 0} (cmp : X → X → Ordering) where
   -- each element is before those after it
   abbrev pub Rises : List X → Type 0
   Rises [] = Unit {0}
-  Rises (x ∷ xs) = Each (λ y. cmp x y ≡ Less) xs × Rises xs
+  Rises (x ∷ xs) = AllByRecursion (λ y. cmp x y ≡ Less) xs × Rises xs
 
 turned : (c : Ordering) → ordering_reverse c ≡ Greater → c ≡ Less
 turned c h = grind arith
@@ -144,12 +132,12 @@ module _ {X : Type 0} (cmp : X → X → Ordering) (order : IsTotalOrder cmp)
     (eq : X → X → Bool) (tie : (x y : X) → cmp x y ≡ Equal → eq x y ≡ true)
     (D : X → Type 0) (one : (x y : X) → D x → D y → eq x y ≡ true → x ≡ y) where
   before_all : (x y : X) (ys : List X)
-      → cmp x y ≡ Less → Each (λ z. cmp y z ≡ Less) ys → Each (λ z. cmp x z ≡ Less) ys
+      → cmp x y ≡ Less → AllByRecursion (λ z. cmp y z ≡ Less) ys → AllByRecursion (λ z. cmp x z ≡ Less) ys
   before_all x y [] p e = tt
   before_all x y (z ∷ zs) p e = (order.trans x y z p e.0, before_all x y zs p e.1)
 
   insert_rises : (x : X) (ys : List X)
-      → Rises cmp ys → Each (λ y. eq x y ≡ false) ys → Rises cmp (insert_by cmp x ys)
+      → Rises cmp ys → AllByRecursion (λ y. eq x y ≡ false) ys → Rises cmp (insert_by cmp x ys)
   insert_rises x [] r e = (tt, tt)
   insert_rises x (y ∷ ys) r e =
       grind (arith, before_all, false≢true, each_insert, turned, (insert_rises x ys r.1 e.1))
@@ -158,7 +146,7 @@ module _ {X : Type 0} (cmp : X → X → Ordering) (order : IsTotalOrder cmp)
   sort_rises [] a = tt
   sort_rises (x ∷ xs) a = grind (arith, insert_rises, (sort_rises xs a.1), each_sort)
 
-  pub among_distinct : (a : X) (xs : List X) → Each D xs → Among a xs → Among a (distinct eq xs)
+  pub among_distinct : (a : X) (xs : List X) → AllByRecursion D xs → Among a xs → Among a (distinct eq xs)
   among_distinct a [] d m = m
   among_distinct a (x ∷ xs) d (inl e) = inl e
   among_distinct a (x ∷ xs) d (inr m) =
@@ -198,8 +186,8 @@ module _ {X : Type 0} (cmp : X → X → Ordering) (order : IsTotalOrder cmp)
       after_x a (inl p) n = absurd (n p)
       after_x a (inr m) n = m
 
-  pub same_sorted : (xs ys : List X) → Each D xs
-      → Each D ys → ((a : X) → Among a xs → Among a ys) → ((a : X) → Among a ys → Among a xs)
+  pub same_sorted : (xs ys : List X) → AllByRecursion D xs
+      → AllByRecursion D ys → ((a : X) → Among a xs → Among a ys) → ((a : X) → Among a ys → Among a xs)
       → sort_by cmp (distinct eq xs) ≡ sort_by cmp (distinct eq ys)
   same_sorted xs ys d d' f g =
       same_risen (sort_by cmp (distinct eq xs)) (sort_by cmp (distinct eq ys))

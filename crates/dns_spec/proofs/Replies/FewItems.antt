@@ -1,7 +1,7 @@
 -- An answer of a zone that passes has few targets and few sets, and visits few nodes for each name.
-use Rattle.dns_spec.proofs.Common.{◌≡◌, ℕ, ◌+◌, ◌*◌, ◌≤◌, nat_lt, Bool, true, false, not, ◌==◌, inl, List, [], ◌∷◌, ◌++◌, map, sum, length, Option, None, Some, All, filter, flat_map, refl, sym, ap, ◌∙◌, subst, arith, append-nil, length-append, eqb-true, ltb-false, none-some, flat_map-append, length-map, length-filter_both, option_to_list, DomainName, is_name, folded, names_equal, same, at_or_below, ResourceRecord, ZoneContents, data_order, at, of_type, with_owner, found, Section, answer, Item, records_of, filter_map-append, filter_map, fold, most_of_a_set, count, large_set, Passes, most_aliases, item, alias_set, last_sought, alias_items, Outcome, outcome_by, outcome_at, outcome, targets_of, targets_inside, targets_outside, targets, address_sets, extra, main_items, items, nodes_to, most_visits, names_looked_up}
+use Rattle.dns_spec.proofs.Common.{◌≡◌, ℕ, ◌+◌, ◌*◌, ◌≤◌, nat_lt, Bool, true, false, not, ◌==◌, inl, List, [], ◌∷◌, ◌++◌, map, sum, length, Option, None, Some, All, filter, flat_map, refl, sym, ap, ◌∙◌, subst, arith, append-nil, length-append, eqb-true, ltb-false, none-some, flat_map-append, length-map, length-filter_both, option_to_list, DomainName, is_name, folded, names_equal, same, at_or_below, ResourceRecord, ZoneContents, data_order, at, of_type, with_owner, found, Section, answer, Item, records_of, filter_map-append, filter_map, fold, most_of_a_set, count, large_set, Passes, most_aliases, item, alias_set, last_sought, alias_items, Outcome, outcome_by, outcome_at, outcome, targets_of, targets_inside, targets_outside, targets, address_sets, extra, main_items, items, nodes_to, most_visits, names_looked_up, AllByRecursion, recursion_from_All}
 use Rattle.dns_spec.proofs.DomainNames.NameLaws.{names_equal-decides, length-is_name}
-use Rattle.dns_spec.proofs.Records.SortedOnce.{Each, Among, each_filter, among_filter, length-sort_by, each_all, filter_short}
+use Rattle.dns_spec.proofs.Records.SortedOnce.{Among, each_filter, among_filter, length-sort_by, filter_short}
 use Rattle.dns_spec.proofs.Replies.ItemSets.{any_false, filter_test}
 use Rattle.dns_spec.proofs.Replies.WritableItems.{Named, each_append, chain_named, named_target}
 use Rattle.dns_spec.proofs.ZoneChecks.PassedChecks.{checks_at}
@@ -39,7 +39,7 @@ typed_shown : (o : DomainName) (t : ℕ) (rs : List ResourceRecord)
 typed_shown o t [] = refl
 typed_shown o t (r ∷ rs) = grind (arith, (typed_shown o t rs))
 
-module _ (z : ZoneContents) (origin : folded z.origin ≡ z.origin) (low : Each
+module _ (z : ZoneContents) (origin : folded z.origin ≡ z.origin) (low : AllByRecursion
     (λ (r : ResourceRecord). folded r.owner ≡ r.owner) z.records) (passes : Passes z) where
   -- a limit of this project: a set has at most so many records
   pub count_few : (n : DomainName) (t : ℕ) → count z n t ≤ most_of_a_set
@@ -126,7 +126,7 @@ module _ (z : ZoneContents) (origin : folded z.origin ≡ z.origin)
     (low : All (λ (r : ResourceRecord). folded r.owner ≡ r.owner) z.records)
     (passes : Passes z) (q : DomainName) (t : ℕ) where
   pub few_targets : length (targets (outcome z q t)) ≤ most_of_a_set
-  few_targets = grind (arith, targets_few, each_all)
+  few_targets = grind (arith, targets_few, recursion_from_All)
 
   pub few_items : length (items z q t) ≤ 2 + most_aliases + 2 * most_of_a_set
   unfolding items outcome outcome_at
@@ -141,26 +141,26 @@ pub sum_cons : (x : ℕ) (xs : List ℕ) → sum (x ∷ xs) ≡ x + sum xs
 sum_cons x xs = omega (arith, fold_from (0 + x) xs)
 
 nodes_few : (z : ZoneContents) (ns : List DomainName)
-    → Each Named ns → sum (map (nodes_to z) ns) ≤ 128 * length ns
+    → AllByRecursion Named ns → sum (map (nodes_to z) ns) ≤ 128 * length ns
 nodes_few z [] e = omega arith
 nodes_few z (n ∷ ns) e = grind (arith, length-is_name, sum_cons, (nodes_few z ns e.1))
 
-targets_named : (rs : List ResourceRecord) → Each Named (filter_map target_of rs)
+targets_named : (rs : List ResourceRecord) → AllByRecursion Named (filter_map target_of rs)
 targets_named [] = tt
 targets_named (r ∷ rs) = grind (arith, target_of, named_target, none-some, (targets_named rs))
 
 module _ (z : ZoneContents) (q : DomainName) (t : ℕ) (h : is_name q ≡ true) where
-  all_named : (o : Outcome) → Each Named (targets o)
+  all_named : (o : Outcome) → AllByRecursion Named (targets o)
   all_named o =
       each_append Named (targets_of o.answers ++ targets_inside o) (targets_outside o)
       (each_append Named (targets_of o.answers) (targets_inside o)
       (targets_named (records_of o.answers)) (some (λ m c. at_or_below m c) o.referral))
       (some (λ m c. not (at_or_below m c)) o.referral)
     where
-      some : (p : DomainName → DomainName → Bool) (x : Option DomainName) → Each Named
+      some : (p : DomainName → DomainName → Bool) (x : Option DomainName) → AllByRecursion Named
           (flat_map (λ c. filter (λ m. p m c) (targets_of o.authorities)) (option_to_list x))
       some p None = tt
-      some p (Some c) = subst (Each Named)
+      some p (Some c) = subst (AllByRecursion Named)
           (sym (append-nil (filter (λ m. p m c) (targets_of o.authorities)))) (each_filter Named
           (λ m. p m c) (targets_of o.authorities) (targets_named (records_of o.authorities)))
 

@@ -1,7 +1,7 @@
 -- In a zone that passes each item of a reply is the records of a set at an owner, with one TTL.
-use Rattle.dns_spec.proofs.Common.{common_steps, eqb-true, eq-eqb, false≢true, or_parts, none-some, same_Some, list_any, DomainName, folded, names_equal, same, type_ns, type_cname, ResourceRecord, ZoneContents, at, of_type, rrset, with_owner, records_at, of_lowest_type, found, ttls_differ, Passes, Section, answer, Item, no_error, item, follows_alias, alias_set, chain, alias_items, asked_records, negative_soa, negative, positive, has_any, outcome_by, outcome_at, outcome, address_sets, extra, items, ◌≡◌, ℕ, ◌≤◌, Bool, true, false, ◌&&◌, not, cond, ◌==◌, ◌⊎◌, inl, inr, List, [], ◌∷◌, ◌++◌, map, length, Option, None, Some, All, filter, flat_map, refl, sym, ap, ap₂, ◌∙◌, subst, arith, IsSetAt}
+use Rattle.dns_spec.proofs.Common.{common_steps, eqb-true, eq-eqb, false≢true, or_parts, none-some, same_Some, list_any, DomainName, folded, names_equal, same, type_ns, type_cname, ResourceRecord, ZoneContents, at, of_type, rrset, with_owner, records_at, of_lowest_type, found, ttls_differ, Passes, Section, answer, Item, no_error, item, follows_alias, alias_set, chain, alias_items, asked_records, negative_soa, negative, positive, has_any, outcome_by, outcome_at, outcome, address_sets, extra, items, ◌≡◌, ℕ, ◌≤◌, Bool, true, false, ◌&&◌, not, cond, ◌==◌, ◌⊎◌, inl, inr, List, [], ◌∷◌, ◌++◌, map, length, Option, None, Some, All, filter, flat_map, refl, sym, ap, ap₂, ◌∙◌, subst, arith, IsSetAt, AllByRecursion, recursion_from_All, All-from_recursion}
 use Rattle.dns_spec.proofs.DomainNames.NameLaws.{names_equal-decides}
-use Rattle.dns_spec.proofs.Records.SortedOnce.{Each, Among, each_at, each_sort, among_filter, each_any, each_all, all_each}
+use Rattle.dns_spec.proofs.Records.SortedOnce.{Among, each_at, each_sort, among_filter, each_any}
 use Rattle.dns_spec.proofs.Replies.WritableItems.{each_append, each_flat_map}
 use Rattle.dns_spec.proofs.ZoneChecks.PassedChecks.{checks_at, few_soa, one_soa}
 
@@ -12,12 +12,12 @@ pub record IsOf (o : DomainName) (k t : ℕ) (r : ResourceRecord) : Type 0 where
   pub rtype : r.rtype ≡ t
 
 pub as_set : (o : DomainName) (k t : ℕ) (rs : List ResourceRecord)
-    → Each (IsOf o k t) rs → rs ≡ records_at o k
+    → AllByRecursion (IsOf o k t) rs → rs ≡ records_at o k
     (record { rtype = t; ttl = k; rdata = map (λ (r : ResourceRecord). r.rdata) rs })
 as_set o k t [] e = refl
 as_set o k t (r ∷ rs) e = grind (arith, ap₂, (as_set o k t rs e.1))
 
-one_set : (o : DomainName) (k t : ℕ) (rs : List ResourceRecord) → Each (IsOf o k t) rs → IsSetAt rs
+one_set : (o : DomainName) (k t : ℕ) (rs : List ResourceRecord) → AllByRecursion (IsOf o k t) rs → IsSetAt rs
 one_set o k t rs e = record {
   owner = o;
   ttl = k;
@@ -36,7 +36,7 @@ one_record_set (r ∷ []) h =
 one_record_set (r ∷ s ∷ rs) h = absurd (omega arith)
 
 abbrev Sets : List Item → Type 0
-Sets = Each (λ (i : Item). IsSetAt i.records)
+Sets = AllByRecursion (λ (i : Item). IsSetAt i.records)
 
 item_set : (s : Section) (rs : List ResourceRecord) → IsSetAt rs → Sets (item s rs)
 item_set s rs h = grind arith
@@ -84,7 +84,7 @@ any_false p (x ∷ xs) a e (inl q) = ap p q ∙ (or_parts (p x) (list_any p xs) 
 any_false p (x ∷ xs) a e (inr m) = any_false p xs a (or_parts (p x) (list_any p xs) e).1 m
 
 pub each_among : {X : Type 0} (P : X → Type 0) (xs : List X)
-    → ((x : X) → Among x xs → P x) → Each P xs
+    → ((x : X) → Among x xs → P x) → AllByRecursion P xs
 each_among P [] f = tt
 each_among P (x ∷ xs) f = (f x (inl refl), each_among P xs (λ y m. f y (inr m)))
 
@@ -94,17 +94,17 @@ filter_test p a [] m = absurd m
 filter_test p a (x ∷ xs) m = grind (arith, Among, inl, inr, (filter_test p a xs))
 
 pub each_typed : (t : ℕ) (P : ResourceRecord → Type 0) (rs : List ResourceRecord)
-    → Each P rs → Each (λ r. P r × (r.rtype ≡ t)) (of_type t rs)
+    → AllByRecursion P rs → AllByRecursion (λ r. P r × (r.rtype ≡ t)) (of_type t rs)
 each_typed t P rs e =
     grind (arith, each_sort, each_among, each_at, among_filter, eqb-true, filter_test)
 
 owned : (o : DomainName) (P : ℕ → ℕ → Type 0) (rs : List ResourceRecord)
-    → Each (λ (r : ResourceRecord). P r.ttl r.rtype) rs
-    → Each (λ (r : ResourceRecord). (r.owner ≡ o) × P r.ttl r.rtype) (with_owner o rs)
+    → AllByRecursion (λ (r : ResourceRecord). P r.ttl r.rtype) rs
+    → AllByRecursion (λ (r : ResourceRecord). (r.owner ≡ o) × P r.ttl r.rtype) (with_owner o rs)
 owned o P [] e = tt
 owned o P (r ∷ rs) e = ((refl, e.0), owned o P rs e.1)
 
-module _ (z : ZoneContents) (origin : folded z.origin ≡ z.origin) (low : Each
+module _ (z : ZoneContents) (origin : folded z.origin ≡ z.origin) (low : AllByRecursion
     (λ (r : ResourceRecord). folded r.owner ≡ r.owner) z.records) (passes : Passes z) where
   -- records at one name, of one type, have one TTL
   same_ttl : (n : DomainName) (r s : ResourceRecord)
@@ -133,7 +133,7 @@ module _ (z : ZoneContents) (origin : folded z.origin ≡ z.origin) (low : Each
   abbrev HasTtl : DomainName → ℕ → ResourceRecord → Type 0
   HasTtl n t r = r.rtype ≡ t → r.ttl ≡ first_ttl t (at z n)
 
-  at_ttl : (n : DomainName) (t : ℕ) → Each (HasTtl n t) (at z n)
+  at_ttl : (n : DomainName) (t : ℕ) → AllByRecursion (HasTtl n t) (at z n)
   at_ttl n t = each_among
       (HasTtl n t) (at z n) (λ r m e. first_is n t r m e (first_of_type t (at z n) r m e))
     where
@@ -149,15 +149,15 @@ module _ (z : ZoneContents) (origin : folded z.origin ≡ z.origin) (low : Each
       (each_typed t (λ r. (r.owner ≡ o) × HasTtl n t r) (with_owner o (at z n))
       (owned o (λ k u. u ≡ t → k ≡ first_ttl t (at z n)) (at z n) (at_ttl n t))))
     where
-      each_weak : (rs : List ResourceRecord) → Each (λ r. ((r.owner ≡ o) × HasTtl n t r)
-          × (r.rtype ≡ t)) rs → Each (IsOf o (first_ttl t (at z n)) t) rs
+      each_weak : (rs : List ResourceRecord) → AllByRecursion (λ r. ((r.owner ≡ o) × HasTtl n t r)
+          × (r.rtype ≡ t)) rs → AllByRecursion (IsOf o (first_ttl t (at z n)) t) rs
       each_weak [] e = tt
       each_weak (r ∷ rs) e =
           (record { owner = e.0.0.0; ttl = e.0.0.1 e.0.1; rtype = e.0.1 }, each_weak rs e.1)
 
   -- the records of a set, whose owner is the name in lower case
   pub own_records : (n : DomainName) (t : ℕ)
-      → Each (IsOf (folded n) (first_ttl t (at z n)) t) (rrset z n t)
+      → AllByRecursion (IsOf (folded n) (first_ttl t (at z n)) t) (rrset z n t)
   own_records n t =
       each_weak (rrset z n t) (each_typed t (λ r. (r.owner ≡ folded n) × HasTtl n t r) (at z n)
       (each_among (λ r. (r.owner ≡ folded n) × HasTtl n t r) (at z n) (λ r m.
@@ -168,8 +168,8 @@ module _ (z : ZoneContents) (origin : folded z.origin ≡ z.origin) (low : Each
         each_at (HasTtl n t) r (at z n) (at_ttl n t) m,
       ))))
     where
-      each_weak : (rs : List ResourceRecord) → Each (λ r. ((r.owner ≡ folded n) × HasTtl n t r)
-          × (r.rtype ≡ t)) rs → Each (IsOf (folded n) (first_ttl t (at z n)) t) rs
+      each_weak : (rs : List ResourceRecord) → AllByRecursion (λ r. ((r.owner ≡ folded n) × HasTtl n t r)
+          × (r.rtype ≡ t)) rs → AllByRecursion (IsOf (folded n) (first_ttl t (at z n)) t) rs
       each_weak [] e = tt
       each_weak (r ∷ rs) e =
           (record { owner = e.0.0.0; ttl = e.0.0.1 e.0.1; rtype = e.0.1 }, each_weak rs e.1)
@@ -180,8 +180,8 @@ module _ (z : ZoneContents) (origin : folded z.origin ≡ z.origin) (low : Each
       one_set c k type_ns (with_owner c (rrset z c type_ns)) (shown
       (rrset z c type_ns) (each_typed type_ns (HasTtl c type_ns) (at z c) (at_ttl c type_ns)))
     where
-      shown : (rs : List ResourceRecord) → Each (λ r. HasTtl c type_ns r × (r.rtype ≡ type_ns)) rs
-          → Each (IsOf c (first_ttl type_ns (at z c)) type_ns) (with_owner c rs)
+      shown : (rs : List ResourceRecord) → AllByRecursion (λ r. HasTtl c type_ns r × (r.rtype ≡ type_ns)) rs
+          → AllByRecursion (IsOf c (first_ttl type_ns (at z c)) type_ns) (with_owner c rs)
       shown [] e = tt
       shown (r ∷ rs) e = (record { owner = refl; ttl = e.0.0 e.0.1; rtype = e.0.1 }, shown rs e.1)
 
@@ -244,4 +244,4 @@ module _ (z : ZoneContents) (origin : folded z.origin ≡ z.origin) (low : Each
 pub items_are_sets : (z : ZoneContents)
     → folded z.origin ≡ z.origin → All (λ (r : ResourceRecord). folded r.owner ≡ r.owner) z.records
     → Passes z → (q : DomainName) (t : ℕ) → All (λ (i : Item). IsSetAt i.records) (items z q t)
-items_are_sets z origin low passes q t = grind (arith, all_each, items_sets, each_all)
+items_are_sets z origin low passes q t = grind (arith, All-from_recursion, items_sets, recursion_from_All)

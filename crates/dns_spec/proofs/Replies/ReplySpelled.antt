@@ -1,6 +1,5 @@
 -- The octets of a reply spell it, and are no more than its limit.
-use Rattle.dns_spec.proofs.Common.{◌≡◌, ℕ, ◌+◌, ◌^◌, ◌<◌, ◌≤◌, Bool, true, false, nat_le, ◌==◌, List, [], ◌∷◌, length, take, drop, Option, None, Some, IfSome, All, refl, subst, arith, length-take, mod-lt, cond_both, and_parts, leb-true, none-some, same_Some, cond_some, Octets, DomainName, is_name, number_of, ZoneContents, Header, MessageQuestion, Spells, name_at, Item, layout, message_of, records_size, size, outcome, items, is_authoritative, All-nil, All-take, All-drop, field16, head_of, reply_head, refusal_head, question_of, question_at, query_read, truncated, Decision, silence, header_alone, question_alone, answered, decide, Reply, answer_with, reply_of, reply_with, reply_octets, reply_message, keep_longest, reply, greatest, sections_in_order, IsWritable, IsAskable, HasRoom}
-use Rattle.dns_spec.proofs.Records.SortedOnce.{Each, each_all}
+use Rattle.dns_spec.proofs.Common.{◌≡◌, ℕ, ◌+◌, ◌^◌, ◌<◌, ◌≤◌, Bool, true, false, nat_le, ◌==◌, List, [], ◌∷◌, length, take, drop, Option, None, Some, IfSome, All, refl, subst, arith, length-take, mod-lt, cond_both, and_parts, leb-true, none-some, same_Some, cond_some, Octets, DomainName, is_name, number_of, ZoneContents, Header, MessageQuestion, Spells, name_at, Item, layout, message_of, records_size, size, outcome, items, is_authoritative, All-nil, All-take, All-drop, field16, head_of, reply_head, refusal_head, question_of, question_at, query_read, truncated, Decision, silence, header_alone, question_alone, answered, decide, Reply, answer_with, reply_of, reply_with, reply_octets, reply_message, keep_longest, reply, greatest, sections_in_order, IsWritable, IsAskable, HasRoom, AllByRecursion, recursion_from_All}
 use Rattle.dns_spec.proofs.Messages.NameReading.{name_at_computes}
 use Rattle.dns_spec.proofs.Layouts.MessageParts.{length-question_octets}
 use Rattle.dns_spec.proofs.Layouts.LayoutSize.{length-layout}
@@ -9,7 +8,7 @@ use Rattle.dns_spec.proofs.Replies.WritableItems.{items_in_order, items_writable
 use Rattle.dns_spec.proofs.Replies.Kept.{kept_fits}
 
 -- a field of 16 bits of octets
-two_bound : (os : Octets) → length os ≤ 2 → Each (λ o. o < 256) os → number_of os < 2 ^ 16
+two_bound : (os : Octets) → length os ≤ 2 → AllByRecursion (λ o. o < 256) os → number_of os < 2 ^ 16
 two_bound [] h e = omega arith
 two_bound (a ∷ []) h e = let p = e.0 in omega (arith, p)
 two_bound (a ∷ b ∷ []) h e = let p = e.0 in let q = e.1.0 in omega (arith, p, q)
@@ -18,7 +17,7 @@ two_bound (a ∷ b ∷ c ∷ os) h e = absurd (omega arith)
 field_bound : (d : Octets) (i : ℕ) → All (λ o. o < 256) d → field16 d i < 2 ^ 16
 field_bound d i e =
     two_bound (take 2 (drop i d)) (omega (arith, length-take 2 (drop i d)))
-    (each_all (λ o. o < 256)
+    (recursion_from_All (λ o. o < 256)
     (take 2 (drop i d)) (All-take (λ o. o < 256) 2 (drop i d) (All-drop (λ o. o < 256) i d e)))
 
 -- the header of a reply fits its fields

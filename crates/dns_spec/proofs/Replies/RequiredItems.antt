@@ -1,6 +1,6 @@
 -- The sets of a reply begin with those that it may not leave out.
-use Rattle.dns_spec.proofs.Common.{arith, rules, eqb-true, take_at, filter_map, DomainName, type_cname, target, ResourceRecord, ZoneContents, data_order, of_type, cut_of, found, Section, answer, Item, ◌≡◌, ℕ, Bool, true, false, cond, ◌==◌, ◌⊎◌, inl, inr, List, [], ◌∷◌, ◌++◌, length, take, Option, None, Some, is_some, option_map, unwrap_or, filter, flat_map, refl, sym, ap, ◌∙◌, append_assoc, append-nil, item, follows_alias, alias_set, chain, last_sought, alias_items, Outcome, outcome_by, outcome_at, outcome, has_target_type, targets_of, targets_inside, targets_outside, targets, address_sets, extra, main_items, items, required_items}
-use Rattle.dns_spec.proofs.Records.SortedOnce.{Each, each_sort, each_any}
+use Rattle.dns_spec.proofs.Common.{arith, rules, eqb-true, take_at, filter_map, DomainName, type_cname, target, ResourceRecord, ZoneContents, data_order, of_type, cut_of, found, Section, answer, Item, ◌≡◌, ℕ, Bool, true, false, cond, ◌==◌, ◌⊎◌, inl, inr, List, [], ◌∷◌, ◌++◌, length, take, Option, None, Some, is_some, option_map, unwrap_or, filter, flat_map, refl, sym, ap, ◌∙◌, append_assoc, append-nil, item, follows_alias, alias_set, chain, last_sought, alias_items, Outcome, outcome_by, outcome_at, outcome, has_target_type, targets_of, targets_inside, targets_outside, targets, address_sets, extra, main_items, items, required_items, AllByRecursion}
+use Rattle.dns_spec.proofs.Records.SortedOnce.{each_sort, each_any}
 use Rattle.dns_spec.proofs.Replies.WritableItems.{each_flat_map}
 
 -- what is added for targets after others
@@ -16,47 +16,47 @@ abbrev pub IsAlias : ResourceRecord → Type 0
 IsAlias r = r.rtype ≡ type_cname
 
 pub each_of_type : (t : ℕ) (rs : List ResourceRecord)
-    → Each (λ (r : ResourceRecord). r.rtype ≡ t) (of_type t rs)
+    → AllByRecursion (λ (r : ResourceRecord). r.rtype ≡ t) (of_type t rs)
 each_of_type t rs = each_sort data_order (λ (r : ResourceRecord). r.rtype ≡ t)
     (filter (λ (r : ResourceRecord). r.rtype == t) rs) (filtered rs)
   where
-    filtered : (ss : List ResourceRecord) → Each
+    filtered : (ss : List ResourceRecord) → AllByRecursion
         (λ (r : ResourceRecord). r.rtype ≡ t) (filter (λ (r : ResourceRecord). r.rtype == t) ss)
     filtered [] = tt
     filtered (r ∷ ss) = go (r.rtype == t) refl (filtered ss)
       where
-        go : (b : Bool) → (r.rtype == t) ≡ b → Each (λ (r : ResourceRecord). r.rtype ≡ t) (filter
-            (λ (r : ResourceRecord). r.rtype == t) ss) → Each (λ (r : ResourceRecord). r.rtype ≡ t)
+        go : (b : Bool) → (r.rtype == t) ≡ b → AllByRecursion (λ (r : ResourceRecord). r.rtype ≡ t) (filter
+            (λ (r : ResourceRecord). r.rtype == t) ss) → AllByRecursion (λ (r : ResourceRecord). r.rtype ≡ t)
             (cond b (r ∷ filter (λ (r : ResourceRecord). r.rtype == t) ss)
             (filter (λ (r : ResourceRecord). r.rtype == t) ss))
         go true e h = (eqb-true r.rtype t e, h)
         go false e h = h
 
-each_alias : (z : ZoneContents) (s : DomainName) → Each IsAlias (alias_set z s)
+each_alias : (z : ZoneContents) (s : DomainName) → AllByRecursion IsAlias (alias_set z s)
 each_alias z s = go (is_some (cut_of z s)) (some (found z s))
   where
     some : (y : Option (List ResourceRecord))
-        → Each IsAlias (unwrap_or (option_map (of_type type_cname) y) [])
+        → AllByRecursion IsAlias (unwrap_or (option_map (of_type type_cname) y) [])
     some None = tt
     some (Some rs) = each_of_type type_cname rs
 
-    go : (b : Bool) → Each IsAlias (unwrap_or (option_map (of_type type_cname) (found z s)) [])
-        → Each IsAlias (cond b [] (unwrap_or (option_map (of_type type_cname) (found z s)) []))
+    go : (b : Bool) → AllByRecursion IsAlias (unwrap_or (option_map (of_type type_cname) (found z s)) [])
+        → AllByRecursion IsAlias (cond b [] (unwrap_or (option_map (of_type type_cname) (found z s)) []))
     go true e = tt
     go false e = e
 
 pub each_item : (P : ResourceRecord → Type 0) (s : Section) (rs : List ResourceRecord)
-    → Each P rs → Each (λ (i : Item). Each P i.records) (item s rs)
+    → AllByRecursion P rs → AllByRecursion (λ (i : Item). AllByRecursion P i.records) (item s rs)
 each_item P s rs h = grind arith
 
 pub each_alias_item : (z : ZoneContents) (q : DomainName) (t : ℕ)
-    → Each (λ (i : Item). Each IsAlias i.records) (alias_items z q t)
+    → AllByRecursion (λ (i : Item). AllByRecursion IsAlias i.records) (alias_items z q t)
 each_alias_item z q t = go (follows_alias t)
   where
-    go : (b : Bool) → Each (λ (i : Item). Each IsAlias i.records)
+    go : (b : Bool) → AllByRecursion (λ (i : Item). AllByRecursion IsAlias i.records)
         (cond b (flat_map (λ s. item answer (alias_set z s)) (chain z q t)) [])
     go true =
-        each_flat_map (λ (i : Item). Each IsAlias i.records)
+        each_flat_map (λ (i : Item). AllByRecursion IsAlias i.records)
         (λ _. Unit {0}) (λ s. item answer (alias_set z s)) (chain z q t)
         (λ s _. each_item IsAlias answer (alias_set z s) (each_alias z s)) (each_any (chain z q t))
     go false = tt
@@ -64,12 +64,12 @@ each_alias_item z q t = go (follows_alias t)
 abbrev pub target_of : ResourceRecord → Option DomainName
 target_of r = cond (has_target_type r) (target r.rtype r.rdata) None
 
-no_target : (rs : List ResourceRecord) → Each IsAlias rs → filter_map target_of rs ≡ []
+no_target : (rs : List ResourceRecord) → AllByRecursion IsAlias rs → filter_map target_of rs ≡ []
 no_target [] e = refl
 no_target (r ∷ rs) e = let none : target_of r ≡ None = rw e.0 refl in rw none (no_target rs e.1)
 
 pub no_targets : (is : List Item)
-    → Each (λ (i : Item). Each IsAlias i.records) is → targets_of is ≡ []
+    → AllByRecursion (λ (i : Item). AllByRecursion IsAlias i.records) is → targets_of is ≡ []
 no_targets is e = search (rules, no_target, each_flat_map)
 
 -- a referral adds nothing to the answer, and nothing else refers

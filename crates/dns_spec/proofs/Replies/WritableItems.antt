@@ -1,33 +1,33 @@
 -- The sets of an answer stand in the order of their sections, and their records fit a message where
 -- those of the zone do.
-use Rattle.dns_spec.proofs.Common.{◌≡◌, ℕ, zero, suc, ◌<◌, ◌≤◌, min, append_assoc, append-nil, Bool, true, false, ◌&&◌, cond, nat_le, List, [], ◌∷◌, ◌++◌, map, take, Option, None, Some, All, find, flat_map, refl, sym, subst, arith, rules, and_from, le-leb, none-some, same_Some, list_all, Octets, DomainName, is_name, same, suffixes, type_ns, type_cname, Piece, Part, octets, name, piece_front, cut, first_name, target, soa_minimum, ResourceRecord, ZoneContents, at, of_type, rrset, with_owner, cut_of, found, Section, answer, authority, additional, Item, records_of, name_error, no_error, item, follows_alias, alias_set, next_sought, chain_from, chain, last_of, last_sought, alias_items, Outcome, asked_records, negative, positive, has_any, outcome_by, outcome_at, outcome, targets, address_sets, extra, main_items, items, section_rank, sections_in_order, IsWritable}
+use Rattle.dns_spec.proofs.Common.{◌≡◌, ℕ, zero, suc, ◌<◌, ◌≤◌, min, append_assoc, append-nil, Bool, true, false, ◌&&◌, cond, nat_le, List, [], ◌∷◌, ◌++◌, map, take, Option, None, Some, All, find, flat_map, refl, sym, subst, arith, rules, and_from, le-leb, none-some, same_Some, list_all, Octets, DomainName, is_name, same, suffixes, type_ns, type_cname, Piece, Part, octets, name, piece_front, cut, first_name, target, soa_minimum, ResourceRecord, ZoneContents, at, of_type, rrset, with_owner, cut_of, found, Section, answer, authority, additional, Item, records_of, name_error, no_error, item, follows_alias, alias_set, next_sought, chain_from, chain, last_of, last_sought, alias_items, Outcome, asked_records, negative, positive, has_any, outcome_by, outcome_at, outcome, targets, address_sets, extra, main_items, items, section_rank, sections_in_order, IsWritable, AllByRecursion, recursion_from_All, All-from_recursion}
 use mathlib.Core.List.{reverse_aux}
 use Rattle.dns_spec.proofs.DomainNames.NameLaws.{is_name-tail, is_name-folded}
-use Rattle.dns_spec.proofs.Records.SortedOnce.{Each, each_filter, each_sort, each_all, all_each}
+use Rattle.dns_spec.proofs.Records.SortedOnce.{each_filter, each_sort}
 use Rattle.dns_spec.proofs.DataWords.WrittenData.{cut_into}
 
 pub each_append : {X : Type 0} (P : X → Type 0) (xs ys : List X)
-    → Each P xs → Each P ys → Each P (xs ++ ys)
+    → AllByRecursion P xs → AllByRecursion P ys → AllByRecursion P (xs ++ ys)
 each_append P [] ys e f = f
 each_append P (x ∷ xs) ys e f = (e.0, each_append P xs ys e.1 f)
 
-pub each_take : {X : Type 0} (P : X → Type 0) (k : ℕ) (xs : List X) → Each P xs → Each P (take k xs)
+pub each_take : {X : Type 0} (P : X → Type 0) (k : ℕ) (xs : List X) → AllByRecursion P xs → AllByRecursion P (take k xs)
 each_take P zero xs e = tt
 each_take P (suc k) [] e = tt
 each_take P (suc k) (x ∷ xs) e = (e.0, each_take P k xs e.1)
 
 pub each_flat_map : {X Y : Type 0} (P : Y → Type 0) (Q : X → Type 0) (f : X → List Y) (xs : List X)
-    → ((x : X) → Q x → Each P (f x)) → Each Q xs → Each P (flat_map f xs)
+    → ((x : X) → Q x → AllByRecursion P (f x)) → AllByRecursion Q xs → AllByRecursion P (flat_map f xs)
 each_flat_map P Q f [] g e = tt
 each_flat_map P Q f (x ∷ xs) g e = grind (arith, each_append, (each_flat_map P Q f xs g e.1))
 
 each_reverse_onto : {X : Type 0} (P : X → Type 0) (xs ys : List X)
-    → Each P xs → Each P ys → Each P (reverse_aux xs ys)
+    → AllByRecursion P xs → AllByRecursion P ys → AllByRecursion P (reverse_aux xs ys)
 each_reverse_onto P [] ys e f = f
 each_reverse_onto P (x ∷ xs) ys e f = each_reverse_onto P xs (x ∷ ys) e.1 (e.0, f)
 
 found_each : {X : Type 0} (P : X → Type 0) (test : X → Bool) (xs : List X) (y : X)
-    → Each P xs → find test xs ≡ Some y → P y
+    → AllByRecursion P xs → find test xs ≡ Some y → P y
 found_each P test [] y e h = absurd (none-some y h)
 found_each P test (x ∷ xs) y e h = grind (arith, same_Some, (found_each P test xs y e.1))
 
@@ -35,7 +35,7 @@ found_each P test (x ∷ xs) y e h = grind (arith, same_Some, (found_each P test
 abbrev pub Named : DomainName → Type 0
 Named n = is_name n ≡ true
 
-each_suffix : (n : DomainName) → Named n → Each Named (suffixes n)
+each_suffix : (n : DomainName) → Named n → AllByRecursion Named (suffixes n)
 each_suffix [] h = (h, tt)
 each_suffix (l ∷ n) h = (h, each_suffix n (is_name-tail l n h))
 
@@ -52,17 +52,17 @@ named_front : (p : Piece) (os rest : Octets) (part : Part)
 named_front p os rest part h = grind arith
 
 named_parts : (ps : List Piece) (os : Octets) (xs : List Part)
-    → cut ps os ≡ Some xs → Each NamedPart xs
+    → cut ps os ≡ Some xs → AllByRecursion NamedPart xs
 unfolding cut
-named_parts [] [] xs h = subst (Each NamedPart) (same_Some [] xs h) tt
+named_parts [] [] xs h = subst (AllByRecursion NamedPart) (same_Some [] xs h) tt
 named_parts [] (o ∷ os) xs h = absurd (none-some xs h)
 named_parts (p ∷ ps) os xs h =
     let c = cut_into p ps os xs h in
-    subst (Each NamedPart) c.whole
+    subst (AllByRecursion NamedPart) c.whole
     (named_front p os c.rest c.part c.front, named_parts ps c.rest c.others c.more)
 
 named_first : (xs : List Part) (m : DomainName)
-    → Each NamedPart xs → first_name xs ≡ Some m → Named m
+    → AllByRecursion NamedPart xs → first_name xs ≡ Some m → Named m
 named_first [] m e h = absurd (none-some m h)
 named_first (octets o ∷ xs) m e h = named_first xs m e.1 h
 named_first (name n ∷ xs) m e h = subst Named (same_Some n m h) e.0
@@ -72,7 +72,7 @@ named_target t d m h = grind (arith, none-some, named_first, named_parts)
 
 -- records taken from those of a zone
 abbrev Writable : List ResourceRecord → Type 0
-Writable = Each IsWritable
+Writable = AllByRecursion IsWritable
 
 at_writable : (z : ZoneContents) (n : DomainName) → Writable z.records → Writable (at z n)
 at_writable z n w = each_filter IsWritable (λ (r : ResourceRecord). same r.owner n) z.records w
@@ -92,21 +92,21 @@ module _ (z : ZoneContents) where
   next_named sought s m e = grind (arith, named_target)
 
   chain_from_named : (k : ℕ) (sought : List DomainName) (s : DomainName)
-      → Named s → Each Named (chain_from z k sought s)
+      → Named s → AllByRecursion Named (chain_from z k sought s)
   unfolding chain_from
   chain_from_named zero sought s h = (h, tt)
   chain_from_named (suc k) sought s h =
       (h, go (next_sought z (s ∷ sought) s) refl (λ m n. chain_from_named k (s ∷ sought) m n))
     where
       go : (y : Option DomainName) → next_sought z (s ∷ sought) s ≡ y
-          → ((m : DomainName) → Named m → Each Named (chain_from z k (s ∷ sought) m))
-          → Each Named (elim y [ None ↦ [] | Some m ↦ chain_from z k (s ∷ sought) m ])
+          → ((m : DomainName) → Named m → AllByRecursion Named (chain_from z k (s ∷ sought) m))
+          → AllByRecursion Named (elim y [ None ↦ [] | Some m ↦ chain_from z k (s ∷ sought) m ])
       go None e f = tt
       go (Some m) e f = f m (next_named (s ∷ sought) s m e)
 
-  pub chain_named : (q : DomainName) (t : ℕ) → Named q → Each Named (chain z q t)
+  pub chain_named : (q : DomainName) (t : ℕ) → Named q → AllByRecursion Named (chain z q t)
   unfolding chain
-  chain_named q t h = grind (arith, chain_from_named, Each)
+  chain_named q t h = grind (arith, chain_from_named, AllByRecursion)
 
 -- Over a zone whose records fit a message.
 module _ (z : ZoneContents) (w : Writable z.records) where
@@ -118,7 +118,7 @@ module _ (z : ZoneContents) (w : Writable z.records) where
   alias_set_writable s h = grind (arith, of_type_writable, found_writable)
 
   last_named : (s : DomainName) (ms : List DomainName)
-      → Named s → Each Named ms → Named (last_of s ms)
+      → Named s → AllByRecursion Named ms → Named (last_of s ms)
   last_named s [] h e = h
   last_named s (m ∷ ms) h e = last_named m ms e.0 e.1
 
@@ -126,7 +126,7 @@ module _ (z : ZoneContents) (w : Writable z.records) where
 abbrev Stood : Section → Item → Type 0
 Stood s i = (i.section ≡ s) × Writable i.records
 
-item_stood : (s : Section) (rs : List ResourceRecord) → Writable rs → Each (Stood s) (item s rs)
+item_stood : (s : Section) (rs : List ResourceRecord) → Writable rs → AllByRecursion (Stood s) (item s rs)
 item_stood s rs h = grind arith
 
 abbrev Negative : ResourceRecord → ResourceRecord
@@ -143,14 +143,14 @@ module _ (z : ZoneContents) (w : Writable z.records) where
   -- the outcome of the last name sought
   record Right (o : Outcome) : Type 0 where
     rcode : o.rcode < 16
-    answers : Each (Stood answer) o.answers
-    authorities : Each (Stood authority) o.authorities
+    answers : AllByRecursion (Stood answer) o.answers
+    authorities : AllByRecursion (Stood authority) o.authorities
 
   negative_right : (rcode : ℕ) → rcode < 16 → Right (negative z rcode)
   negative_right rcode low = search (rules, item_stood, negative_writable, rrset_writable)
 
   asked_stood : (t : ℕ) (rs : List ResourceRecord)
-      → Writable rs → Each (Stood answer) (item answer (asked_records t rs))
+      → Writable rs → AllByRecursion (Stood answer) (item answer (asked_records t rs))
   asked_stood t rs v = grind (arith, of_type_writable)
 
   answer_from_right : (t : ℕ) (rs : List ResourceRecord)
@@ -179,10 +179,10 @@ module _ (z : ZoneContents) (w : Writable z.records) where
       go None None e f = negative_right name_error (omega arith)
       go None (Some rs) e f = answer_from_right t rs (found_writable z w s rs h f)
 
-  alias_items_stood : (q : DomainName) (t : ℕ) → Named q → Each (Stood answer) (alias_items z q t)
+  alias_items_stood : (q : DomainName) (t : ℕ) → Named q → AllByRecursion (Stood answer) (alias_items z q t)
   alias_items_stood q t h = go (follows_alias t)
     where
-      go : (b : Bool) → Each
+      go : (b : Bool) → AllByRecursion
           (Stood answer) (cond b (flat_map (λ s. item answer (alias_set z s)) (chain z q t)) [])
       go true = each_flat_map (Stood answer) Named (λ s. item answer (alias_set z s))
           (chain z q t) (λ s n. item_stood answer (alias_set z s) (alias_set_writable z w s n))
@@ -202,7 +202,7 @@ module _ (z : ZoneContents) (w : Writable z.records) where
       }
 
   extra_stood : (earlier : List Item) (ms : List DomainName)
-      → Each (Stood additional) (extra z earlier ms)
+      → AllByRecursion (Stood additional) (extra z earlier ms)
   unfolding extra
   extra_stood earlier [] = tt
   extra_stood earlier (m ∷ ms) =
@@ -212,7 +212,7 @@ module _ (z : ZoneContents) (w : Writable z.records) where
 abbrev Ordered : List Item → Type 0
 Ordered [] = Unit {0}
 Ordered (i ∷ is) =
-    Each (λ (j : Item). section_rank i.section ≤ section_rank j.section) is × Ordered is
+    AllByRecursion (λ (j : Item). section_rank i.section ≤ section_rank j.section) is × Ordered is
 
 ordered_take : (k : ℕ) (is : List Item) → Ordered is → Ordered (take k is)
 ordered_take zero is o = tt
@@ -223,25 +223,25 @@ abbrev NotBefore : Section → Item → Type 0
 NotBefore s j = section_rank s ≤ section_rank j.section
 
 not_before : (s s' : Section) (js : List Item)
-    → section_rank s ≤ section_rank s' → Each (Stood s') js → Each (NotBefore s) js
+    → section_rank s ≤ section_rank s' → AllByRecursion (Stood s') js → AllByRecursion (NotBefore s) js
 not_before s s' [] h g = tt
 not_before s s' (j ∷ js) h g = grind (arith, (not_before s s' js h g.1))
 
 -- sets of one section in front of sets of none before it
 ordered_front : (s : Section) (xs ys : List Item)
-    → Each (Stood s) xs → Each (NotBefore s) ys → Ordered ys → Ordered (xs ++ ys)
+    → AllByRecursion (Stood s) xs → AllByRecursion (NotBefore s) ys → Ordered ys → Ordered (xs ++ ys)
 ordered_front s [] ys e f o = o
 ordered_front s (x ∷ xs) ys e f o = (
-  subst (λ r. Each (NotBefore r) (xs ++ ys)) (sym e.0.0) (each_append
+  subst (λ r. AllByRecursion (NotBefore r) (xs ++ ys)) (sym e.0.0) (each_append
       (NotBefore s) xs ys (not_before s s xs (omega arith) e.1) f),
   ordered_front s xs ys e.1 f o,
 )
 
-ordered_one : (s : Section) (is : List Item) → Each (Stood s) is → Ordered is
+ordered_one : (s : Section) (is : List Item) → AllByRecursion (Stood s) is → Ordered is
 ordered_one s is e = subst Ordered (append-nil is) (ordered_front s is [] e tt tt)
 
 tested : (i : Item) (is : List Item)
-    → Each (λ (j : Item). section_rank i.section ≤ section_rank j.section) is
+    → AllByRecursion (λ (j : Item). section_rank i.section ≤ section_rank j.section) is
     → list_all (λ (j : Item). nat_le (section_rank i.section) (section_rank j.section)) is ≡ true
 tested i [] e = refl
 tested i (j ∷ js) e = grind (arith, and_from, le-leb, (tested i js e.1))
@@ -253,25 +253,25 @@ in_order (i ∷ is) o =
     (sections_in_order is) (tested i is o.0) (in_order is o.1)
 
 stood_records : (s : Section) (is : List Item)
-    → Each (Stood s) is → Each (λ (i : Item). Writable i.records) is
+    → AllByRecursion (Stood s) is → AllByRecursion (λ (i : Item). Writable i.records) is
 stood_records s [] e = tt
 stood_records s (i ∷ is) e = (e.0.1, stood_records s is e.1)
 
 records_writable : (is : List Item)
-    → Each (λ (i : Item). Writable i.records) is → Writable (records_of is)
+    → AllByRecursion (λ (i : Item). Writable i.records) is → Writable (records_of is)
 records_writable [] e = tt
 records_writable (i ∷ is) e = grind (arith, each_append, (records_writable is e.1))
 
 module _ (z : ZoneContents)
     (w : All IsWritable z.records) (q : DomainName) (t : ℕ) (h : is_name q ≡ true) where
   fits : Writable z.records
-  fits = each_all IsWritable z.records w
+  fits = recursion_from_All IsWritable z.records w
 
   pub outcome_rcode : (outcome z q t).rcode < 16
   outcome_rcode = (outcome_right z fits q t h).rcode
 
   -- The sets of an answer are in order, and their records can be written;
-  items_stood : Ordered (items z q t) × Each (λ (i : Item). Writable i.records) (items z q t)
+  items_stood : Ordered (items z q t) × AllByRecursion (λ (i : Item). Writable i.records) (items z q t)
   unfolding items
   items_stood =
       let o = outcome z q t in
@@ -300,6 +300,6 @@ module _ (z : ZoneContents)
 
   pub items_writable : (k : ℕ) → All IsWritable (records_of (take k (items z q t)))
   items_writable k =
-      all_each IsWritable (records_of (take k (items z q t)))
+      All-from_recursion IsWritable (records_of (take k (items z q t)))
       (records_writable (take k (items z q t))
       (each_take (λ (i : Item). Writable i.records) k (items z q t) items_stood.1))

@@ -1,8 +1,7 @@
 -- A stream is its frames and the rest, and the rest after all frames is empty or a frame that was
 -- cut.
-use Rattle.dns_spec.proofs.Common.{common_steps, leb-true, le-leb, leb-false, none-some, cond_some, take_at, drop_at, length-take-le, All-head, All-tail, All-drop, flat_map, Octets, field16, octets16, ◌≡◌, ℕ, zero, suc, ◌+◌, ◌-◌, ◌*◌, ◌^◌, ◌<◌, ◌≤◌, Bool, true, false, cond, nat_le, ◌⊎◌, inl, inr, List, [], ◌∷◌, ◌++◌, length, take, drop, replicate, All, Option, None, Some, refl, sym, ap, ap₂, ◌∙◌, subst, arith, append_assoc, zero-add, length-append, length-drop, mod-eq_of_lt, take-append-drop, frame, has_frame, first_frame, frames, after_frames, IsCutFrame}
+use Rattle.dns_spec.proofs.Common.{common_steps, leb-true, le-leb, leb-false, none-some, cond_some, take_at, drop_at, length-take-le, All-head, All-tail, All-drop, flat_map, Octets, field16, octets16, ◌≡◌, ℕ, zero, suc, ◌+◌, ◌-◌, ◌*◌, ◌^◌, ◌<◌, ◌≤◌, Bool, true, false, cond, nat_le, ◌⊎◌, inl, inr, List, [], ◌∷◌, ◌++◌, length, take, drop, replicate, All, Option, None, Some, refl, sym, ap, ap₂, ◌∙◌, subst, arith, append_assoc, zero-add, length-append, length-drop, mod-eq_of_lt, take-append-drop, frame, has_frame, first_frame, frames, after_frames, IsCutFrame, recursion_from_All}
 use Rattle.dns_spec.proofs.Messages.Places.{number_of-bytes}
-use Rattle.dns_spec.proofs.Records.SortedOnce.{each_all}
 
 -- two octets and the number that they spell
 pub two_octets : (a b : ℕ) → a < 256 → b < 256 → octets16 (a * 256 + b) ≡ a ∷ b ∷ []
@@ -13,7 +12,7 @@ two_again n x h = number_of-bytes 2 n ∙ mod-eq_of_lt h
 
 front_is : (x : Octets)
     → All (λ o. o < 256) x → 2 ≤ length x → octets16 (field16 x 0) ++ drop 2 x ≡ x
-front_is x h h1 = grind (arith, common_steps, each_all, two_octets)
+front_is x h h1 = grind (arith, common_steps, recursion_from_All, two_octets)
 
 first_splits : (x m y : Octets)
     → All (λ o. o < 256) x → first_frame x ≡ Some (m, y) → (frame m ++ y ≡ x) × All (λ o. o < 256) y
@@ -78,7 +77,7 @@ cut_frame (a ∷ b ∷ x) low e = go (nat_le (2 + n) (length (a ∷ b ∷ x))) r
         (cond t (Some (take n x, drop n x)) None) None → (a ∷ b ∷ x ≡ []) ⊎ IsCutFrame (a ∷ b ∷ x)
     go true p q = absurd (none-some (take n x, drop n x) (sym q))
     go false p q =
-        let l = each_all (λ o. o < 256) (a ∷ b ∷ x) low in
+        let l = recursion_from_All (λ o. o < 256) (a ∷ b ∷ x) low in
         let ha : a < 256 = l.0 in
         let hb : b < 256 = l.1.0 in
         let value : n ≡ a * 256 + b = omega arith in

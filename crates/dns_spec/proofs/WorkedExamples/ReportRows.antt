@@ -1,7 +1,6 @@
 -- What is reported of worked zones, octet for octet.
-use Rattle.dns_spec.proofs.Common.{◌≡◌, ℕ, Bool, true, false, List, [], ◌∷◌, ◌++◌, codes, refl, lit<, lit≤, ◌<◌, All, Contains, digits, octet_text, Octets, DomainName, wire, labels_from, type_a, type_ns, type_soa, type_txt, cut, hex_octets, data_text, ResourceRecord, HoldSameRecords, zone_of, faults, bad_ttl, bad_type, records, fault_at, zone_text, IsReadRecord, record_line, Options, Report, Reports, report_of_meaning, zone_report}
+use Rattle.dns_spec.proofs.Common.{◌≡◌, ℕ, Bool, true, false, List, [], ◌∷◌, ◌++◌, codes, refl, lit<, lit≤, ◌<◌, All, Contains, digits, octet_text, Octets, DomainName, wire, labels_from, type_a, type_ns, type_soa, type_txt, cut, hex_octets, data_text, ResourceRecord, HoldSameRecords, zone_of, faults, bad_ttl, bad_type, records, fault_at, zone_text, IsReadRecord, record_line, Options, Report, Reports, report_of_meaning, zone_report, All-from_recursion}
 use Rattle.dns_spec.proofs.WorkedExamples.FileRows.{small_file, six_records, small_file_means}
-use Rattle.dns_spec.proofs.Records.RecordOrder.{all_each}
 use Rattle.dns_spec.proofs.WorkedExamples.Zones.{dotted, example, entry, in_zone, alias, server, soa_of, strings_data, net_192, small_records, small_zone_with}
 
 abbrev options : Bool → Bool → Options
@@ -108,8 +107,8 @@ report_rows = search []
 
 same_in_another_order : HoldSameRecords once_each twice_for_7
 same_in_another_order = (
-  all_each (Contains twice_for_7) once_each ((1, lit< tt, refl), ((0, lit< tt, refl), tt)),
-  all_each (Contains once_each) twice_for_7
+  All-from_recursion (Contains twice_for_7) once_each ((1, lit< tt, refl), ((0, lit< tt, refl), tt)),
+  All-from_recursion (Contains once_each) twice_for_7
       ((1, lit< tt, refl), ((0, lit< tt, refl), ((1, lit< tt, refl), tt))),
 )
 
@@ -140,15 +139,15 @@ its_line = refl
 it_is_read : IsReadRecord odd_record
 unfolding odd_record cut labels_from
 it_is_read = record {
-  owner_octets = all_each (All (λ o. o < 256)) odd_record.owner (
-    all_each (λ o. o < 256) (36 ∷ 7 ∷ 46 ∷ []) (lit< tt, (lit< tt, (lit< tt, tt))),
-    (all_each (λ o. o < 256) (codes "a") (lit< tt, tt), tt),
+  owner_octets = All-from_recursion (All (λ o. o < 256)) odd_record.owner (
+    All-from_recursion (λ o. o < 256) (36 ∷ 7 ∷ 46 ∷ []) (lit< tt, (lit< tt, (lit< tt, tt))),
+    (All-from_recursion (λ o. o < 256) (codes "a") (lit< tt, tt), tt),
   );
   owner = refl;
   lower_owner = refl;
   ttl = lit≤ tt;
   rtype = lit< tt;
-  rdata_octets = all_each (λ o. o < 256) odd_record.rdata
+  rdata_octets = All-from_recursion (λ o. o < 256) odd_record.rdata
       (lit< tt, (lit< tt, (lit< tt, (lit< tt, tt))));
   rdata = refl;
   lower_data = refl;

@@ -1,7 +1,7 @@
 -- A fault stands among those of a zone exactly where its condition holds, once, by the order of
 -- owners and then of codes.
-use Rattle.dns_spec.proofs.Common.{common_steps, ◌≡◌, ℕ, ◌↔◌, Bool, true, false, ◌&&◌, ◌||◌, ◌⊎◌, inl, inr, List, [], ◌∷◌, ◌++◌, map, ◌==◌, filter, refl, sym, ap, ◌∙◌, subst, arith, Ordering, Less, nat_cmp, is_lt, Contains, list_any, list_all, flat_map, ordering_then, and_parts, and_from, false≢true, eqb-true, eq-eqb, tied_itself, flat_map-cons, DomainName, folded, names_equal, same, name_order, ResourceRecord, ZoneContents, owns, distinct, IsStrictlySortedBy, Check, is_origin, is_owner, checks, fails, Fault, faults_at, checked_names, faults, fault_order}
-use Rattle.dns_spec.proofs.Records.SortedOnce.{Each, Among, each_at, Rises, apart_distinct, sort_rises, among_sort, among_distinct, among_filter, filter_among, filter_each, each_filter, among_mapped}
+use Rattle.dns_spec.proofs.Common.{common_steps, ◌≡◌, ℕ, ◌↔◌, Bool, true, false, ◌&&◌, ◌||◌, ◌⊎◌, inl, inr, List, [], ◌∷◌, ◌++◌, map, ◌==◌, filter, refl, sym, ap, ◌∙◌, subst, arith, Ordering, Less, nat_cmp, is_lt, Contains, list_any, list_all, flat_map, ordering_then, and_parts, and_from, false≢true, eqb-true, eq-eqb, tied_itself, flat_map-cons, DomainName, folded, names_equal, same, name_order, ResourceRecord, ZoneContents, owns, distinct, IsStrictlySortedBy, Check, is_origin, is_owner, checks, fails, Fault, faults_at, checked_names, faults, fault_order, AllByRecursion}
+use Rattle.dns_spec.proofs.Records.SortedOnce.{Among, each_at, Rises, apart_distinct, sort_rises, among_sort, among_distinct, among_filter, filter_among, filter_each, each_filter, among_mapped}
 use Rattle.dns_spec.proofs.Records.RecordOrder.{contains_among, among_contains}
 use Rattle.dns_spec.proofs.ZoneChecks.FaultOrder.{Lower, one_lower, each_lower, name_order_total, name_tie, folded_folded, any_counted}
 
@@ -70,7 +70,7 @@ owner_if_owns z n t e =
 abbrev OfChecked : ZoneContents → DomainName → ℕ × Check → Type 0
 OfChecked z n c = c.1 z n ≡ true → IsChecked z n
 
-each_of_checked : (z : ZoneContents) (n : DomainName) → Each (OfChecked z n) checks
+each_of_checked : (z : ZoneContents) (n : DomainName) → AllByRecursion (OfChecked z n) checks
 each_of_checked z n = grind (arith, common_steps, owner_if_owns)
 
 pub failing_is_checked : (z : ZoneContents) (n : DomainName) (code : ℕ)
@@ -164,7 +164,7 @@ rises_from {X} cmp (x ∷ xs) e =
     (each_less xs parts.0, rises_from cmp xs parts.1)
   where
     each_less : (ys : List X)
-        → list_all (λ y. is_lt (cmp x y)) ys ≡ true → Each (λ y. cmp x y ≡ Less) ys
+        → list_all (λ y. is_lt (cmp x y)) ys ≡ true → AllByRecursion (λ y. cmp x y ≡ Less) ys
     each_less [] e = tt
     each_less (y ∷ ys) e = let parts =
         and_parts (is_lt (cmp x y)) _ e in (less_from (cmp x y) parts.0, each_less ys parts.1)
@@ -182,7 +182,7 @@ rises_mapped {X} {Y} cmp order f keeps (x ∷ xs) r =
     (each xs r.0, rises_mapped cmp order f keeps xs r.1)
   where
     each : (ys : List X)
-        → Each (λ y. cmp x y ≡ Less) ys → Each (λ y. order (f x) y ≡ Less) (map f ys)
+        → AllByRecursion (λ y. cmp x y ≡ Less) ys → AllByRecursion (λ y. order (f x) y ≡ Less) (map f ys)
     each [] e = tt
     each (y ∷ ys) e = (keeps x y e.0, each ys e.1)
 
@@ -195,12 +195,12 @@ rises_joined {X} cmp (x ∷ xs) ys r s before = (
 )
   where
     from_among : (zs : List X)
-        → ((z : X) → Among z zs → cmp x z ≡ Less) → Each (λ z. cmp x z ≡ Less) zs
+        → ((z : X) → Among z zs → cmp x z ≡ Less) → AllByRecursion (λ z. cmp x z ≡ Less) zs
     from_among [] f = tt
     from_among (z ∷ zs) f = (f z (inl refl), from_among zs (λ a m. f a (inr m)))
 
-    each_joined : (zs ws : List X) → Each (λ y. cmp x y ≡ Less) zs
-        → ((y : X) → Among y ws → cmp x y ≡ Less) → Each (λ y. cmp x y ≡ Less) (zs ++ ws)
+    each_joined : (zs ws : List X) → AllByRecursion (λ y. cmp x y ≡ Less) zs
+        → ((y : X) → Among y ws → cmp x y ≡ Less) → AllByRecursion (λ y. cmp x y ≡ Less) (zs ++ ws)
     each_joined [] ws e f = from_among ws f
     each_joined (z ∷ zs) ws e f = (e.0, each_joined zs ws e.1 f)
 

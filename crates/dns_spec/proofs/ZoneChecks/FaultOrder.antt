@@ -1,7 +1,7 @@
 -- The faults of a list of records do not depend on its order.
-use Rattle.dns_spec.proofs.Common.{◌≡◌, ℕ, Bool, true, ◌&&◌, eqb, nat_lt, ◌==◌, ◌⊎◌, inl, inr, List, [], ◌∷◌, map, reverse, length, refl, sym, ap, ap₂, ◌∙◌, arith, filter, flat_map, IsPermutation, is_eq, nat_cmp, Equal, false≢true, lt-ltb, eqb-true, eq-eqb, ne_eqb, ltb-true, reverse-reverse, list_any, IsTotalOrder, lists_ties, DomainName, folded, same, names_equal, label_order, name_order, type_ns, ResourceRecord, ZoneContents, at, owns, distinct, length-filter, sum_by-IsPermutation, nat_cmp_total, nat_list_cmp_total, lists_total, on_total, most_sets, Check, has_target, ttls_differ, ns_target_alias, lacks_address, ns_target_lost, mx_target_alias, data_at_cut, first_is_asterisk, wildcard_ns, large_set, many_sets, Fault, faults_at, checked_names, faults}
+use Rattle.dns_spec.proofs.Common.{◌≡◌, ℕ, Bool, true, ◌&&◌, eqb, nat_lt, ◌==◌, ◌⊎◌, inl, inr, List, [], ◌∷◌, map, reverse, length, refl, sym, ap, ap₂, ◌∙◌, arith, filter, flat_map, IsPermutation, is_eq, nat_cmp, Equal, false≢true, lt-ltb, eqb-true, eq-eqb, ne_eqb, ltb-true, reverse-reverse, list_any, IsTotalOrder, lists_ties, DomainName, folded, same, names_equal, label_order, name_order, type_ns, ResourceRecord, ZoneContents, at, owns, distinct, length-filter, sum_by-IsPermutation, nat_cmp_total, nat_list_cmp_total, lists_total, on_total, most_sets, Check, has_target, ttls_differ, ns_target_alias, lacks_address, ns_target_lost, mx_target_alias, data_at_cut, first_is_asterisk, wildcard_ns, large_set, many_sets, Fault, faults_at, checked_names, faults, AllByRecursion}
 use Rattle.dns_spec.proofs.DomainNames.NameLaws.{names_equal-decides}
-use Rattle.dns_spec.proofs.Records.SortedOnce.{Each, Among, length-sort_by, same_sorted, each_any}
+use Rattle.dns_spec.proofs.Records.SortedOnce.{Among, length-sort_by, same_sorted, each_any}
 pub use Rattle.dns_spec.proofs.DataWords.LoweredData.{folded_folded}
 
 -- two lists of which each test passes as many
@@ -72,7 +72,7 @@ abbrev pub Lower : DomainName → Type 0
 Lower n = folded n ≡ n
 
 pub each_lower : (xs : List ResourceRecord)
-    → Each Lower (map (λ (r : ResourceRecord). folded r.owner) xs)
+    → AllByRecursion Lower (map (λ (r : ResourceRecord). folded r.owner) xs)
 each_lower [] = tt
 each_lower (r ∷ xs) = (folded_folded r.owner, each_lower xs)
 

@@ -1,8 +1,8 @@
 -- A zone that passes has no fault at its origin.
-use Rattle.dns_spec.proofs.Common.{common_steps, ltb-false, folded, same, name_order, type_soa, ResourceRecord, ZoneContents, distinct, sort_by, rrset, at, Check, checks, faults_at, checked_names, faults, Passes, ◌≡◌, ℕ, ◌≤◌, Bool, false, ◌⊎◌, inl, inr, List, [], ◌∷◌, ◌++◌, map, length, refl, sym, ap, subst, ◌∙◌, filter, flat_map, ◌==◌, Ordering, arith}
+use Rattle.dns_spec.proofs.Common.{common_steps, ltb-false, folded, same, name_order, type_soa, ResourceRecord, ZoneContents, distinct, sort_by, rrset, at, Check, checks, faults_at, checked_names, faults, Passes, ◌≡◌, ℕ, ◌≤◌, Bool, false, ◌⊎◌, inl, inr, List, [], ◌∷◌, ◌++◌, map, length, refl, sym, ap, subst, ◌∙◌, filter, flat_map, ◌==◌, Ordering, arith, AllByRecursion}
 use Rattle.dns_spec.proofs.DomainNames.NameLaws.{names_equal-decides}
 use Rattle.dns_spec.proofs.ZoneChecks.FaultOrder.{name_order_total, name_tie, Lower, one_lower}
-use Rattle.dns_spec.proofs.Records.SortedOnce.{Each, Among, each_at, among_sort, among_distinct, among_mapped}
+use Rattle.dns_spec.proofs.Records.SortedOnce.{Among, each_at, among_sort, among_distinct, among_mapped}
 
 -- no element gives anything where all give nothing
 flat_nothing : {X Y : Type 0} (f : X → List Y) (xs : List X) (a : X)
@@ -17,9 +17,9 @@ flat_nothing {Y = Y} f (x ∷ xs) a e m = go (f x) refl e m (flat_nothing f xs a
     go (y ∷ ys) p q n r = cc
 
 filter_nothing : {X : Type 0} (p : X → Bool) (xs : List X)
-    → filter p xs ≡ [] → Each (λ x. p x ≡ false) xs
+    → filter p xs ≡ [] → AllByRecursion (λ x. p x ≡ false) xs
 filter_nothing p [] e = tt
-filter_nothing p (x ∷ xs) e = grind (arith, Each, (filter_nothing p xs))
+filter_nothing p (x ∷ xs) e = grind (arith, AllByRecursion, (filter_nothing p xs))
 
 map_nothing : {X Y : Type 0} (f : X → Y) (xs : List X) → map f xs ≡ [] → xs ≡ []
 map_nothing f [] e = refl
@@ -27,7 +27,7 @@ map_nothing f (x ∷ xs) e = cc
 
 -- no check holds of the origin of a zone that passes
 pub checks_of_origin : (z : ZoneContents) → folded z.origin ≡ z.origin
-    → Passes z → Each (λ (k : ℕ × Check). k.1 z z.origin ≡ false) checks
+    → Passes z → AllByRecursion (λ (k : ℕ × Check). k.1 z z.origin ≡ false) checks
 unfolding faults
 checks_of_origin z low passes =
     let checked : Among z.origin (checked_names z) = among_sort name_order z.origin
@@ -40,9 +40,9 @@ checks_of_origin z low passes =
     (filter (λ (k : ℕ × Check). k.1 z z.origin) checks) none)
 
 -- nor of an owner
-pub checks_at : (z : ZoneContents) → folded z.origin ≡ z.origin → Each
+pub checks_at : (z : ZoneContents) → folded z.origin ≡ z.origin → AllByRecursion
     (λ (r : ResourceRecord). folded r.owner ≡ r.owner) z.records → Passes z → (r : ResourceRecord)
-    → Among r z.records → Each (λ (k : ℕ × Check). k.1 z r.owner ≡ false) checks
+    → Among r z.records → AllByRecursion (λ (k : ℕ × Check). k.1 z r.owner ≡ false) checks
 unfolding faults
 checks_at z low lows passes r m =
     let f = λ (s : ResourceRecord). folded s.owner in
@@ -51,7 +51,7 @@ checks_at z low lows passes r m =
     each_at (λ (s : ResourceRecord). folded s.owner ≡ s.owner) r z.records lows m in
     let listed : Among r.owner names =
     inr (subst (λ n. Among n (map f z.records)) here (among_mapped f r z.records m)) in
-    let lower : Each Lower names = (ap folded low, all_low z.records lows) in
+    let lower : AllByRecursion Lower names = (ap folded low, all_low z.records lows) in
     let checked : Among r.owner (checked_names z) =
     among_sort name_order r.owner (distinct same names) (among_distinct
     name_order name_order_total same name_tie Lower one_lower r.owner names lower listed) in
@@ -61,8 +61,8 @@ checks_at z low lows passes r m =
     (map_nothing (λ (k : ℕ × Check). record { owner = r.owner; code = k.0 })
     (filter (λ (k : ℕ × Check). k.1 z r.owner) checks) none)
   where
-    all_low : (rs : List ResourceRecord) → Each (λ (s : ResourceRecord). folded s.owner ≡ s.owner)
-        rs → Each Lower (map (λ (s : ResourceRecord). folded s.owner) rs)
+    all_low : (rs : List ResourceRecord) → AllByRecursion (λ (s : ResourceRecord). folded s.owner ≡ s.owner)
+        rs → AllByRecursion Lower (map (λ (s : ResourceRecord). folded s.owner) rs)
     all_low [] e = tt
     all_low (s ∷ rs) e = (ap folded e.0, all_low rs e.1)
 

@@ -1,8 +1,8 @@
 -- The records that a text means are such as are read, of types that zones have, and few enough.
-use Rattle.dns_spec.proofs.Common.{◌≡◌, ℕ, ◌+◌, ◌<◌, ◌≤◌, ◌⊎◌, Bool, true, false, cond, All, List, [], ◌∷◌, length, drop, filter, Option, Some, None, sym, subst, arith, codes, IsTrue, length-append, rules, All-weaker, ⊤, MatchOption, Octets, DomainName, is_name, folded, SpellsName, valid, lower_case, Word, ResourceRecord, FileFault, IsReadRecord, HasZoneType, Entry, EntryMeaning, faulty, gives, EntryKind, no_words, directive, owned, unowned, kind_of, directive_word, is_record, OriginIs, NameIs, OwnerBefore, most_ttl, TtlIs, TypeIs, DataIs, is_zone_type, Fields, fields, IsRecord, most_records, RecordGives, KindGives, EntryGives, Meaning, records, fault_at, after, EntriesMean, Means}
+use Rattle.dns_spec.proofs.Common.{◌≡◌, ℕ, ◌+◌, ◌<◌, ◌≤◌, ◌⊎◌, Bool, true, false, cond, All, List, [], ◌∷◌, length, drop, filter, Option, Some, None, sym, subst, arith, codes, IsTrue, length-append, rules, All-weaker, ⊤, MatchOption, Octets, DomainName, is_name, folded, SpellsName, valid, lower_case, Word, ResourceRecord, FileFault, IsReadRecord, HasZoneType, Entry, EntryMeaning, faulty, gives, EntryKind, no_words, directive, owned, unowned, kind_of, directive_word, is_record, OriginIs, NameIs, OwnerBefore, most_ttl, TtlIs, TypeIs, DataIs, is_zone_type, Fields, fields, IsRecord, most_records, RecordGives, KindGives, EntryGives, Meaning, records, fault_at, after, EntriesMean, Means, AllByRecursion, All-from_recursion, recursion_from_All}
 use Rattle.dns_spec.proofs.ZoneChecks.FaultOrder.{folded_folded}
-use Rattle.dns_spec.proofs.Records.SortedOnce.{Each, each_any}
-use Rattle.dns_spec.proofs.Records.RecordOrder.{LowerOwner, all_each, each_all}
+use Rattle.dns_spec.proofs.Records.SortedOnce.{each_any}
+use Rattle.dns_spec.proofs.Records.RecordOrder.{LowerOwner}
 use Rattle.dns_spec.proofs.DomainNames.NameLaws.{is_name-folded}
 use Rattle.dns_spec.proofs.DataWords.LoweredData.{lowered_data, lowered-twice}
 use Rattle.dns_spec.proofs.ZoneTexts.OneMeaning.{type_once}
@@ -26,14 +26,14 @@ unless_holds Q h code answer h1 h2 = grind arith
 -- What holds of each record by the words of an entry holds of all that a text means. The entries of
 -- the text keep what `Kept` says.
 module _ (o : DomainName) (Kept : Entry → Type 0) (P : ResourceRecord → Type 0)
-    (holds : (earlier : List Entry) (e : Entry) → Each Kept earlier
+    (holds : (earlier : List Entry) (e : Entry) → AllByRecursion Kept earlier
     → Kept e → (r : ResourceRecord) → IsRecordOf o earlier (kind_of e) r → P r) where
   abbrev Given : EntryMeaning → Type 0
   Given (faulty code) = ⊤
-  Given (gives rs) = Each P rs
+  Given (gives rs) = AllByRecursion P rs
 
   abbrev Meant : Meaning → Type 0
-  Meant (records rs) = Each P rs
+  Meant (records rs) = AllByRecursion P rs
   Meant (fault_at code line) = ⊤
 
   record_given : (earlier : List Entry) (code : FileFault) (Owner : DomainName → Type 0)
@@ -50,7 +50,7 @@ module _ (o : DomainName) (Kept : Entry → Type 0) (P : ResourceRecord → Type
   sort_given earlier (unowned ws) answer each h = search (rules, record_given)
 
   entries_meant : (earlier es : List Entry) (m : Meaning)
-      → Each Kept earlier → Each Kept es → EntriesMean o earlier es m → Meant m
+      → AllByRecursion Kept earlier → AllByRecursion Kept es → EntriesMean o earlier es m → Meant m
   entries_meant earlier [] m keeps kept h = subst Meant (sym h) tt
   entries_meant earlier (e ∷ es) m keeps kept (faulty code, given, h) = subst Meant (sym h) tt
   entries_meant earlier (e ∷ es) m keeps kept (gives rs, given, (later, h, is)) =
@@ -58,8 +58,8 @@ module _ (o : DomainName) (Kept : Entry → Type 0) (P : ResourceRecord → Type
       grind (arith, each_append, sort_given, rest)
 
   records_hold : (es : List Entry) (rs : List ResourceRecord)
-      → Each Kept es → EntriesMean o [] es (records rs) → All P rs
-  records_hold es rs kept h = all_each P rs (entries_meant [] es (records rs) tt kept h)
+      → AllByRecursion Kept es → EntriesMean o [] es (records rs) → All P rs
+  records_hold es rs kept h = All-from_recursion P rs (entries_meant [] es (records rs) tt kept h)
 
 -- owners are in lower case
 record_low : (o : DomainName) (earlier : List Entry) (Owner : DomainName → Type 0)
@@ -82,9 +82,9 @@ owners_low o text rs (es, cut, h) =
 -- the words of an entry spell octets below 256
 abbrev SmallSort : EntryKind → Type 0
 SmallSort no_words = Unit {0}
-SmallSort (directive name ws) = Each SmallWord ws
-SmallSort (owned w ws) = SmallWord w × Each SmallWord ws
-SmallSort (unowned ws) = Each SmallWord ws
+SmallSort (directive name ws) = AllByRecursion SmallWord ws
+SmallSort (owned w ws) = SmallWord w × AllByRecursion SmallWord ws
+SmallSort (unowned ws) = AllByRecursion SmallWord ws
 
 sort_small : (e : Entry) → SmallEntry e → SmallSort (kind_of e)
 sort_small e small = grind (arith, words_small)
@@ -99,21 +99,21 @@ directive_small name s h = grind arith
 
 -- the words after a TTL and a class are words of the record
 abbrev SmallFields : Fields → Type 0
-SmallFields f = Each SmallWord f.others
+SmallFields f = AllByRecursion SmallWord f.others
 
 fields_by : (b : Bool) (f g : Fields) → SmallFields f → SmallFields g → SmallFields (cond b f g)
 fields_by b f g h h1 = grind arith
 
-fields_small : (ws : List Word) → Each SmallWord ws → Each SmallWord (fields ws).others
+fields_small : (ws : List Word) → AllByRecursion SmallWord ws → AllByRecursion SmallWord (fields ws).others
 fields_small ws h = grind (arith, fields_by)
 
-drop_small : (ws : List Word) → Each SmallWord ws → Each SmallWord (drop 1 ws)
+drop_small : (ws : List Word) → AllByRecursion SmallWord ws → AllByRecursion SmallWord (drop 1 ws)
 drop_small ws h = grind arith
 
 -- names, relative to an origin of such octets
 module _ (o : DomainName) (from : SmallName o) where
   origin_small : (earlier : List Entry) (n : DomainName)
-      → Each SmallEntry earlier → OriginIs o earlier n → SmallName n
+      → AllByRecursion SmallEntry earlier → OriginIs o earlier n → SmallName n
   origin_small [] n small h = subst SmallName (sym h) from
   origin_small (e ∷ earlier) n small h =
       go (directive_word (codes "$origin") (kind_of e)) (directive_small (codes "$origin")
@@ -126,18 +126,18 @@ module _ (o : DomainName) (from : SmallName o) where
       go (Some w) word before (m, is, spelled) = name_small m w.raw n (before m is) word spelled
 
   name_is_small : (earlier : List Entry) (w : Word) (n : DomainName)
-      → Each SmallEntry earlier → SmallWord w → NameIs o earlier w n → SmallName n
+      → AllByRecursion SmallEntry earlier → SmallWord w → NameIs o earlier w n → SmallName n
   name_is_small earlier w n small word (unquoted, (m, is, spelled)) =
       name_small m w.raw n (origin_small earlier m small is) word spelled
 
   owner_small : (earlier : List Entry) (n : DomainName)
-      → Each SmallEntry earlier → OwnerBefore o earlier n → SmallName n
+      → AllByRecursion SmallEntry earlier → OwnerBefore o earlier n → SmallName n
   owner_small [] n small h = absurd h
   owner_small (e ∷ earlier) n small h =
       grind (arith, sort_small, SmallName, name_is_small, (owner_small earlier n small.1))
 
   rdata_small : (earlier : List Entry) (ws : List Word) (d : Octets)
-      → Each SmallEntry earlier → Each SmallWord ws → DataIs o earlier ws d → Each Octet d
+      → AllByRecursion SmallEntry earlier → AllByRecursion SmallWord ws → DataIs o earlier ws d → AllByRecursion Octet d
   rdata_small earlier ws d small words (t, type, (m, is, said)) =
       data_small t m (drop 1 ws) d (origin_small earlier m small is) (drop_small ws words) said
 
@@ -162,17 +162,17 @@ ttl_fits : (earlier : List Entry) (stated : Option Word) (n : ℕ)
 ttl_fits earlier stated n h = grind arith
 
 all_octets : (n : DomainName) → SmallName n → All (All Octet) n
-all_octets n small = grind (arith, all_each, Octet, SmallName, Each)
+all_octets n small = grind (arith, All-from_recursion, Octet, SmallName, AllByRecursion)
 
 small_name : (n : DomainName) → All (All Octet) n → SmallName n
-small_name n all = grind (arith, each_all, Octet, Each, SmallName)
+small_name n all = grind (arith, recursion_from_All, Octet, AllByRecursion, SmallName)
 
 pub folded_octets : (n : DomainName) → All (All Octet) n → All (All Octet) (folded n)
 folded_octets n all = all_octets (folded n) (folded_small n (small_name n all))
 
 record_read : (o : DomainName) (earlier : List Entry)
     (Owner : DomainName → Type 0) (f : Fields) (r : ResourceRecord) → SmallName o
-    → Each SmallEntry earlier → ((n : DomainName) → Owner n → (is_name n ≡ true) × SmallName n)
+    → AllByRecursion SmallEntry earlier → ((n : DomainName) → Owner n → (is_name n ≡ true) × SmallName n)
     → SmallFields f → IsRecord o earlier Owner f r → IsReadRecord r × HasZoneType r
 record_read o earlier Owner f r from small owners words is =
     let (n, owns, e) = is.owner in
@@ -185,7 +185,7 @@ record_read o earlier Owner f r from small owners words is =
         lower_owner = record_low o earlier Owner f r is;
         ttl = ttl_fits earlier f.ttl r.ttl is.ttl;
         rtype = known.0;
-        rdata_octets = all_each Octet r.rdata
+        rdata_octets = All-from_recursion Octet r.rdata
             (rdata_small o from earlier f.others r.rdata small words is.rdata);
         rdata = said.0;
         lower_data = said.1;
@@ -194,7 +194,7 @@ record_read o earlier Owner f r from small owners words is =
     )
 
 sort_read : (o : DomainName) (earlier : List Entry) (s : EntryKind) (r : ResourceRecord)
-    → SmallName o → Each SmallEntry earlier
+    → SmallName o → AllByRecursion SmallEntry earlier
     → SmallSort s → IsRecordOf o earlier s r → IsReadRecord r × HasZoneType r
 sort_read o earlier no_words r from small words is = absurd is
 sort_read o earlier (directive name ws) r from small words is = absurd is

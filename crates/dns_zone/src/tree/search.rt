@@ -3,7 +3,8 @@ ghost use Rattle.std.specs.Prelude.{◌≡◌, ◌+◌, ◌<◌, ◌≤◌, map,
 ghost use Rattle.std.specs.Char.{to_ascii_lowercase};
 ghost use Rattle.dns_spec.specs.Names.{label_order};
 ghost use Rattle.dns_spec.specs.Meaning.{most_records};
-ghost use Rattle.dns_spec.proofs.Records.SortedOnce.{Each, Among, Rises};
+ghost use Rattle.dns_spec.proofs.Records.SortedOnce.{Among, Rises};
+ghost use Rattle.std.specs.List.{AllByRecursion};
 ghost use Rattle.dns_zone.specs.LabelKey.{IsKey};
 ghost use Rattle.dns_zone.specs.TreeForm.{row_label, row_name, row_at, IsRow};
 
@@ -23,7 +24,7 @@ pub(crate) fn find(
     label: &[u8],
     steps: &mut Steps<'_>,
 ) -> Option<usize>
-    requires rows { Each (λ k. IsRow records.now k (row_name records.now k)) kids.now }
+    requires rows { AllByRecursion (λ k. IsRow records.now k (row_name records.now k)) kids.now }
     requires rising { Rises label_order (map (row_label records.now) kids.now) }
     requires few { length kids.now ≤ most_records }
     requires comparisons { steps.old.comparisons ≤ 4294967278 }

@@ -1,4 +1,4 @@
-use Rattle.dns_zone.proofs.Common.{rules, ◌≡◌, ◌+◌, ◌-◌, ◌∷◌, ◌++◌, List, [], length, map, take, drop, sym, ap, ap₂, ◌∙◌, subst, arith, drop-drop, map_push, prefix_len, DomainName, ResourceRecord, ZoneContents, Each, name_key, key_in, own_in, first_owner, name_of, IsTopmost, IsChecked, IsOwner, owners_once, CheckedName}
+use Rattle.dns_zone.proofs.Common.{rules, ◌≡◌, ◌+◌, ◌-◌, ◌∷◌, ◌++◌, List, [], length, map, take, drop, sym, ap, ap₂, ◌∙◌, subst, arith, drop-drop, map_push, prefix_len, DomainName, ResourceRecord, ZoneContents, AllByRecursion, name_key, key_in, own_in, first_owner, name_of, IsTopmost, IsChecked, IsOwner, owners_once, CheckedName}
 use Rattle.dns_zone.proofs.AtName.{is_at}
 use Rattle.dns_zone.proofs.GrowingNames.{LastName, root_first, comes_next, added_last, each_added, all_added}
 use Rattle.dns_zone.proofs.KeyedNames.{first_keyed}
@@ -144,7 +144,7 @@ owners-preserved c =
       all = subst (λ ns. map (name_of (z c)) ns ++ owners_once (others c)
           ≡ owners_once c.args.records.now) items
           (all_added (z c) old (added c) (n c) (owners_once (others c)) (name_there c) ∙ whole c);
-      each = subst (Each (λ d. IsChecked (z c) (name_of (z c) d) d)) items
+      each = subst (AllByRecursion (λ d. IsChecked (z c) (name_of (z c) d) d)) items
           (each_added (z c) old (added c) (n c) c.owners.invariant.each (name_there c) (checked c));
       whole = (stepped c).has_owners;
       part = c.split_at.ensures.back ∙ ap (drop (1 + c.count_in_front.result))

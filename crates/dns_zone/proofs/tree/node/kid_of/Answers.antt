@@ -1,4 +1,4 @@
-use Rattle.dns_zone.proofs.Common.{rules, arith, ◌≡◌, ◌∷◌, ◌<◌, map, length, refl, true, ℕ, List, sym, ap, ap₂, ◌∙◌, subst, false≢true, to_ascii_lowercase, Octets, ResourceRecord, exists, Each, Among, row_name, row_label, row_at, kids_at, IsRow, Row}
+use Rattle.dns_zone.proofs.Common.{rules, arith, ◌≡◌, ◌∷◌, ◌<◌, map, length, refl, true, ℕ, List, sym, ap, ap₂, ◌∙◌, subst, false≢true, to_ascii_lowercase, Octets, ResourceRecord, exists, AllByRecursion, Among, row_name, row_label, row_at, kids_at, IsRow, Row}
 use Rattle.dns_zone.proofs.Existing.{child-exists}
 use Rattle.dns_zone.proofs.NodeRows.{is_row, are_kids, kid_rows, kid_name, kid_exists, kid_at}
 use Rattle.dns_zone.proofs.tree.node.kid_of.Goals as goal
@@ -7,9 +7,9 @@ pub find-requires-clause-rows : goal.find-requires-clause-rows
 find-requires-clause-rows c =
     let t = c.args.tree.now in
     let k = c.args.row.0 in
-    subst (λ (rs : List ResourceRecord). Each (λ (r : Row). IsRow rs r (row_name rs r))
+    subst (λ (rs : List ResourceRecord). AllByRecursion (λ (r : Row). IsRow rs r (row_name rs r))
     c.kids_of-start.result.1.now) (sym c.records.ensures.records)
-    (subst (Each (λ (r : Row). IsRow t.zone.records r (row_name t.zone.records r)))
+    (subst (AllByRecursion (λ (r : Row). IsRow t.zone.records r (row_name t.zone.records r)))
     (sym c.kids_of-start.ensures.kids) (kid_rows t k c.requires.at))
 
 pub returns-in_err-found-clause-child : goal.returns-in_err-found-clause-child
