@@ -28,7 +28,7 @@ pub use Rattle.dns_spec.proofs.Replies.ReplySpelled.{reply_spells}
 pub use Rattle.dns_spec.proofs.Replies.RequiredItems.{IsAlias, each_alias_item, each_of_type, target_of}
 pub use Rattle.dns_spec.proofs.Replies.WritableItems.{each_append, each_flat_map}
 pub use Rattle.dns_spec.proofs.ZoneChecks.FaultOrder.{folded_folded}
-pub use Rattle.dns_spec.proofs.ZoneChecks.PassedChecks.{checks_at, few_soa, one_soa}
+pub use Rattle.dns_spec.proofs.ZoneChecks.PassedChecks.{passes_check, few_soa, one_soa}
 pub use Rattle.dns_spec.specs.Answer.{most_comparisons, stands}
 pub use Rattle.dns_spec.specs.Checks.{outside}
 pub use Rattle.dns_spec.specs.Reply.{decide_question}

@@ -1,5 +1,5 @@
 -- The targets of a set, one after the other, and what was offered for those before.
-use Rattle.dns_answer.proofs.Common.{◌≡◌, ℕ, zero, suc, ◌+◌, ◌-◌, ◌<◌, ◌≤◌, Bool, true, false, ◌||◌, ◌&&◌, ◌⊎◌, inl, inr, not, List, [], ◌∷◌, ◌++◌, map, sum, length, take, drop, get_or, Option, None, Some, refl, sym, ap, ap₂, ◌∙◌, arith, add-one, append_assoc, append-nil, length-append, subst, take-append-drop, list_all-append, list_any-append, option_to_list, Octets, DomainName, folded, names_equal, same, at_or_below, target, type_a, type_aaaa, ResourceRecord, ZoneContents, at, of_type, RecordSet, set_of, Section, additional, item, targets_in_zone, exists, lt-ltb, IsReadRecord, take-suc, and-true, and-false, false≢true, false_from_ne_true, or_left, or_right, cases_lt, filter-append, filter_map-append, list_all, list_any, filter, filter_map, cons_option, Walk, IsBuilt, nat_lt, is_owner, outside, Among, filter_among, each_weaker, checks_at, recursion_from_All, sum_cons, each_among, filter_none, same-from, same-under, itself-under, at-folded, Took, State, Offers, set_targets, targets_of_first, target_at, takes_target, addresses_of, depth_in, target_items, side_items, side_nodes, target_nodes, target_misses}
+use Rattle.dns_answer.proofs.Common.{◌≡◌, ℕ, zero, suc, ◌+◌, ◌-◌, ◌<◌, ◌≤◌, Bool, true, false, ◌||◌, ◌&&◌, ◌⊎◌, inl, inr, not, List, [], ◌∷◌, ◌++◌, map, sum, length, take, drop, get_or, Option, None, Some, refl, sym, ap, ap₂, ◌∙◌, arith, add-one, append_assoc, append-nil, length-append, subst, take-append-drop, list_all-append, list_any-append, option_to_list, Octets, DomainName, folded, names_equal, same, at_or_below, target, type_a, type_aaaa, ResourceRecord, ZoneContents, at, of_type, RecordSet, set_of, Section, additional, item, targets_in_zone, exists, lt-ltb, IsReadRecord, take-suc, and-true, and-false, false≢true, false_from_ne_true, or_left, or_right, cases_lt, filter-append, filter_map-append, list_all, list_any, filter, filter_map, cons_option, Walk, IsBuilt, nat_lt, is_owner, outside, Among, filter_among, each_weaker, passes_check, recursion_from_All, sum_cons, each_among, filter_none, same-from, same-under, itself-under, at-folded, Took, State, Offers, set_targets, targets_of_first, target_at, takes_target, addresses_of, depth_in, target_items, side_items, side_nodes, target_nodes, target_misses}
 use Rattle.dns_answer.proofs.Taking.{Took-then, Took-within}
 use Rattle.dns_answer.proofs.Offering.{Offers-is, Offers-then, Offers-full}
 
@@ -154,7 +154,8 @@ owner_inside : (z : ZoneContents)
 owner_inside z kept r m =
     let lows = each_weaker IsReadRecord (λ (s : ResourceRecord). folded s.owner ≡ s.owner) z.records
     (λ s h. h.lower_owner) (recursion_from_All IsReadRecord z.records kept.each) in
-    let out : outside z r.owner ≡ false = (checks_at z kept.low lows kept.passes r m).1.1.1.1.0 in
+    let out : outside z r.owner ≡ false =
+    passes_check z kept.low lows kept.passes r m outside (search (inl, inr) depth 16) in
     go (at_or_below r.owner z.origin)
     (ap (λ b. b && not (at_or_below r.owner z.origin)) (sym (owner z r m)) ∙ out)
   where

@@ -32,8 +32,8 @@ pub use Rattle.dns_spec.proofs.Records.SortedOnce.{Among, Rises, among_distinct,
 pub use Rattle.dns_spec.proofs.Replies.FewItems.{count_few}
 pub use Rattle.dns_spec.proofs.Replies.ItemSets.{IsOf, as_set, each_among, each_typed, filter_test, first_ttl, own_records}
 pub use Rattle.dns_spec.proofs.ZoneChecks.FaultOrder.{Lower, folded_folded, name_order_total, name_tie, nat_ties, one_lower}
-pub use Rattle.dns_spec.proofs.ZoneChecks.PassedChecks.{checks_at, checks_of_origin, one_soa}
-pub use Rattle.dns_spec.specs.Checks.{below_cut}
+pub use Rattle.dns_spec.proofs.ZoneChecks.PassedChecks.{passes_check, checks_of_origin, one_soa}
+pub use Rattle.dns_spec.specs.Checks.{below_cut, outside}
 pub use Rattle.dns_spec.specs.Tree.{closest_encloser, without_first}
 pub use Rattle.dns_zone.specs.EntryForm.{IsEntry, data_in, owner_in}
 pub use Rattle.dns_zone.specs.KeyForm.{EndsWith, ended, name_key, raised}

@@ -1,5 +1,5 @@
 -- Which names exist in a built zone.
-use Rattle.dns_zone.proofs.Common.{◌≡◌, ◌<◌, Bool, true, false, ◌&&◌, not, ◌==◌, List, [], ◌∷◌, map, length, refl, sym, ap, ap₂, ◌∙◌, arith, and_parts, false≢true, or_right, lt-ltb, length-map, to_ascii_lowercase, list_any, Octets, DomainName, folded, same, at_or_below, type_soa, ResourceRecord, ZoneContents, at, owns, is_owner, exists, IsReadRecord, folded_folded, AllByRecursion, Among, each_weaker, filter_among, recursion_from_All, checks_of_origin, checks_at, each_among, IsNode, IsBuilt}
+use Rattle.dns_zone.proofs.Common.{◌≡◌, ◌<◌, Bool, true, false, ◌&&◌, not, ◌==◌, List, [], ◌∷◌, map, length, refl, sym, ap, ap₂, ◌∙◌, arith, and_parts, false≢true, or_right, lt-ltb, length-map, to_ascii_lowercase, list_any, Octets, DomainName, folded, same, at_or_below, type_soa, ResourceRecord, ZoneContents, at, owns, is_owner, exists, IsReadRecord, folded_folded, AllByRecursion, Among, each_weaker, filter_among, recursion_from_All, checks_of_origin, passes_check, each_among, IsNode, IsBuilt}
 use Rattle.dns_zone.proofs.NameOrder.{same-from}
 use Rattle.dns_zone.proofs.NameTree.{itself-under}
 
@@ -41,7 +41,7 @@ all-inside z kept =
     each_weaker IsReadRecord (λ (s : ResourceRecord). folded s.owner ≡ s.owner) z.records
     (λ s h. h.lower_owner) (recursion_from_All IsReadRecord z.records kept.each) in
     let fine : (is_owner z r.owner && not (at_or_below r.owner z.origin)) ≡ false =
-    (checks_at z kept.low lows kept.passes r m).1.1.1.1.0 in
+    passes_check z kept.low lows kept.passes r m outside (search (inl, inr) depth 16) in
     let own : Among r (at z r.owner) = grind (arith, filter_among, same-from) in
     let owner : is_owner z r.owner ≡ true = lt-ltb 0 _ (some_length r (at z r.owner) own) in
     inside (at_or_below r.owner z.origin)

@@ -1,10 +1,10 @@
 -- An answer of a zone that passes has few targets and few sets, and visits few nodes for each name.
-use Rattle.dns_spec.proofs.Common.{◌≡◌, ℕ, ◌+◌, ◌*◌, ◌≤◌, nat_lt, Bool, true, false, not, ◌==◌, inl, List, [], ◌∷◌, ◌++◌, map, sum, length, Option, None, Some, All, filter, flat_map, refl, sym, ap, ◌∙◌, subst, arith, append-nil, length-append, eqb-true, ltb-false, none-some, flat_map-append, length-map, length-filter_both, option_to_list, DomainName, is_name, folded, names_equal, same, at_or_below, ResourceRecord, ZoneContents, data_order, at, of_type, with_owner, found, Section, answer, Item, records_of, filter_map-append, filter_map, fold, most_of_a_set, count, large_set, Passes, most_aliases, item, alias_set, last_sought, alias_items, Outcome, outcome_by, outcome_at, outcome, targets_of, targets_inside, targets_outside, targets, address_sets, extra, main_items, items, nodes_to, most_visits, names_looked_up, AllByRecursion, recursion_from_All}
+use Rattle.dns_spec.proofs.Common.{◌≡◌, ℕ, ◌+◌, ◌*◌, ◌≤◌, nat_lt, Bool, true, false, not, ◌==◌, inl, List, [], ◌∷◌, ◌++◌, map, sum, length, Option, None, Some, All, filter, flat_map, refl, sym, ap, ◌∙◌, subst, arith, append-nil, length-append, eqb-true, ltb-false, none-some, flat_map-append, length-map, length-filter_both, option_to_list, DomainName, is_name, folded, names_equal, same, at_or_below, ResourceRecord, ZoneContents, data_order, at, of_type, with_owner, found, Section, answer, Item, records_of, filter_map-append, filter_map, fold, most_of_a_set, count, large_set, Passes, most_aliases, item, alias_set, last_sought, alias_items, Outcome, outcome_by, outcome_at, outcome, targets_of, targets_inside, targets_outside, targets, address_sets, extra, main_items, items, nodes_to, most_visits, names_looked_up, AllByRecursion, recursion_from_All, inr}
 use Rattle.dns_spec.proofs.DomainNames.NameLaws.{names_equal-decides, length-is_name}
 use Rattle.dns_spec.proofs.Records.SortedOnce.{Among, each_filter, among_filter, length-sort_by, filter_short}
 use Rattle.dns_spec.proofs.Replies.ItemSets.{any_false, filter_test}
 use Rattle.dns_spec.proofs.Replies.WritableItems.{Named, each_append, chain_named, named_target}
-use Rattle.dns_spec.proofs.ZoneChecks.PassedChecks.{checks_at}
+use Rattle.dns_spec.proofs.ZoneChecks.PassedChecks.{passes_check}
 use Rattle.dns_spec.proofs.Replies.RequiredItems.{target_of, each_alias_item, no_targets}
 use Rattle.dns_spec.proofs.Replies.ChainLength.{chain_short}
 
@@ -57,7 +57,7 @@ module _ (z : ZoneContents) (origin : folded z.origin ≡ z.origin) (low : AllBy
           let one_name : at z r.owner ≡ at z n = ap (λ (f : DomainName). filter
           (λ (s : ResourceRecord). names_equal (folded s.owner) f) z.records) alike in
           let fine : large_set z r.owner ≡ false =
-          (checks_at z origin low passes r in_zone).1.1.1.1.1.1.1.1.1.1.1.1.1.0 in
+          passes_check z origin low passes r in_zone large_set (search (inl, inr) depth 16) in
           let one : nat_lt most_of_a_set (count z r.owner r.rtype) ≡ false =
           any_false (λ (q : ResourceRecord). nat_lt most_of_a_set (count z r.owner q.rtype))
           (at z r.owner) r fine (subst (Among r) (sym one_name) in_at)

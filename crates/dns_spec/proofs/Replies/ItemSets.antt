@@ -3,7 +3,7 @@ use Rattle.dns_spec.proofs.Common.{common_steps, eqb-true, eq-eqb, false≢true,
 use Rattle.dns_spec.proofs.DomainNames.NameLaws.{names_equal-decides}
 use Rattle.dns_spec.proofs.Records.SortedOnce.{Among, each_at, each_sort, among_filter, each_any}
 use Rattle.dns_spec.proofs.Replies.WritableItems.{each_append, each_flat_map}
-use Rattle.dns_spec.proofs.ZoneChecks.PassedChecks.{checks_at, few_soa, one_soa}
+use Rattle.dns_spec.proofs.ZoneChecks.PassedChecks.{passes_check, few_soa, one_soa}
 
 -- records with one owner, one TTL and one type are those of a set
 pub record IsOf (o : DomainName) (k t : ℕ) (r : ResourceRecord) : Type 0 where
@@ -117,7 +117,7 @@ module _ (z : ZoneContents) (origin : folded z.origin ≡ z.origin) (low : AllBy
       let xs : at z r.owner ≡ at z n = ap
       (λ f. filter (λ (x : ResourceRecord). names_equal (folded x.owner) f) z.records) alike in
       let fine : ttls_differ z r.owner ≡ false =
-      (checks_at z origin low passes r here).1.1.1.1.1.1.1.0 in
+      passes_check z origin low passes r here ttls_differ (search (inl, inr) depth 16) in
       let inner = any_false (λ (x : ResourceRecord). list_any
       (λ (y : ResourceRecord). x.rtype == y.rtype && not (x.ttl == y.ttl)) (at z r.owner))
       (at z r.owner) r fine (subst (Among r) (sym xs) m) in

@@ -39,12 +39,16 @@ checks_of_origin z low passes =
     (map_nothing (λ (k : ℕ × Check). record { owner = z.origin; code = k.0 })
     (filter (λ (k : ℕ × Check). k.1 z z.origin) checks) none)
 
--- nor of an owner
-pub checks_at : (z : ZoneContents) → folded z.origin ≡ z.origin → AllByRecursion
+-- one of the list
+abbrev pub IsCheck : Check → Type 0
+IsCheck c = Among c (map (λ (k : ℕ × Check). k.1) checks)
+
+-- nor does one hold of an owner
+pub passes_check : (z : ZoneContents) → folded z.origin ≡ z.origin → AllByRecursion
     (λ (r : ResourceRecord). folded r.owner ≡ r.owner) z.records → Passes z → (r : ResourceRecord)
-    → Among r z.records → AllByRecursion (λ (k : ℕ × Check). k.1 z r.owner ≡ false) checks
+    → Among r z.records → (c : Check) → IsCheck c → c z r.owner ≡ false
 unfolding faults
-checks_at z low lows passes r m =
+passes_check z low lows passes r m c is_check =
     let f = λ (s : ResourceRecord). folded s.owner in
     let names = folded z.origin ∷ map f z.records in
     let here : folded r.owner ≡ r.owner =
@@ -57,9 +61,10 @@ checks_at z low lows passes r m =
     name_order name_order_total same name_tie Lower one_lower r.owner names lower listed) in
     let none : faults_at z r.owner ≡ [] =
     flat_nothing (faults_at z) (checked_names z) r.owner passes checked in
-    filter_nothing (λ (k : ℕ × Check). k.1 z r.owner) checks
+    let all = filter_nothing (λ (k : ℕ × Check). k.1 z r.owner) checks
     (map_nothing (λ (k : ℕ × Check). record { owner = r.owner; code = k.0 })
-    (filter (λ (k : ℕ × Check). k.1 z r.owner) checks) none)
+    (filter (λ (k : ℕ × Check). k.1 z r.owner) checks) none) in
+    each_at (λ k. k z r.owner ≡ false) c (map (λ (k : ℕ × Check). k.1) checks) all is_check
   where
     all_low : (rs : List ResourceRecord) → AllByRecursion (λ (s : ResourceRecord). folded s.owner ≡ s.owner)
         rs → AllByRecursion Lower (map (λ (s : ResourceRecord). folded s.owner) rs)
