@@ -38,7 +38,8 @@ module _ (p : DomainName → Bool) (alike : Respects p) where
           (sym (last false e ∙ append-nil (filter p before))) ∙ rest
 
 -- names that stood before and are not met again say nothing
-side-apart : (z : ZoneContents) (xs before ms : List DomainName) → AllByRecursion (λ m. list_any (same m) xs
+side-apart : (z : ZoneContents) (xs before ms : List DomainName)
+    → AllByRecursion (λ m. list_any (same m) xs
     ≡ false) ms → side_items z all_names (xs ++ before) ms ≡ side_items z all_names before ms
 unfolding side_items
 side-apart z xs before [] e = refl

@@ -1,10 +1,11 @@
 -- How the sets that end an answer are offered.
-use Rattle.dns_answer.proofs.Common.{◌≡◌, ◌⊎◌, inl, inr, ℕ, Bool, true, false, cond, not, min, List, [], ◌∷◌, ◌++◌, map, reverse, length, get_or, None, Some, refl, sym, ap, ap₂, ◌∙◌, arith, and_parts, length-map, is_some, Octets, DomainName, folded, suffixes, below, type_ns, type_soa, soa_minimum, ResourceRecord, ZoneContents, rrset, owns, RecordSet, set_of, records_at, authority, Item, item, Outcome, main_items, targets_of, negative_soa, negative, positive, referral_to, is_cut, cut_of, no_error, filter, find, list_all, few_soa, one_soa, IsBuilt, code_of, State, Offers, side_items, side_nodes, set_targets, Took, Ends, IsPlain, TookRest, ending, all_names, inside, not_inside, ending_targets, glue_by, others_by, Verdict, set-owned, Walk, ZoneNode, IsSetOf}
+use Rattle.dns_answer.proofs.Common.{◌≡◌, ◌⊎◌, inl, inr, ℕ, Bool, true, not, min, List, [], ◌∷◌, ◌++◌, map, reverse, length, get_or, None, Some, refl, sym, ap, ap₂, ◌∙◌, arith, and_parts, length-map, is_some, Octets, DomainName, folded, suffixes, below, type_ns, type_soa, soa_minimum, ResourceRecord, ZoneContents, rrset, owns, RecordSet, set_of, records_at, authority, Item, item, Outcome, main_items, targets_of, negative_soa, negative, positive, referral_to, is_cut, cut_of, no_error, filter, list_all, few_soa, one_soa, IsBuilt, code_of, State, Offers, side_items, side_nodes, set_targets, Took, Ends, IsPlain, TookRest, ending, all_names, inside, not_inside, ending_targets, glue_by, others_by, Verdict, set-owned, Walk, ZoneNode, IsSetOf}
 use Rattle.dns_answer.proofs.Taking.{Took-then, Took-within}
 use Rattle.dns_answer.proofs.AnswerItems.{denial-no_targets}
 use Rattle.dns_answer.proofs.Offering.{Offers-is, Offers-nothing, Offers-empty, Offers-then, Offers-full}
 use Rattle.dns_answer.proofs.TargetLaws.{side_items-none, items-untaken}
 use Rattle.dns_answer.proofs.EndingSets.{is_target_type, targets_of_set, item-shown}
+use Rattle.dns_spec.proofs.General.Tests.{found_passes}
 
 -- the sets of an outcome are offered in their order
 pub says-in_order : (z : ZoneContents) (o : Outcome) {w w1 w2 w' : State} {v : Verdict}
@@ -75,20 +76,10 @@ module _ (z : ZoneContents) where
   pub soa-none : set_of (rrset z z.origin type_soa) ≡ None → negative_soa z ≡ []
   soa-none e = grind arith
 
--- what a search finds passes
-find_passes : {X : Type 0} (p : X → Bool) (xs : List X) (x : X) → find p xs ≡ Some x → p x ≡ true
-find_passes p [] x e = absurd (cc)
-find_passes p (y ∷ ys) x e = go (p y) refl e (find_passes p ys x)
-  where
-    go : (b : Bool) → p y ≡ b
-        → cond b (Some y) (find p ys) ≡ Some x → (find p ys ≡ Some x → p x ≡ true) → p x ≡ true
-    go true is e rest = let same_one : y ≡ x = cc in ap p (sym same_one) ∙ is
-    go false is e rest = rest e
-
 pub cut-has_servers : (z : ZoneContents) (n c : DomainName)
     → cut_of z n ≡ Some c → is_some (set_of (rrset z c type_ns)) ≡ true
 cut-has_servers z n c e = set-owned z c type_ns ∙ (and_parts (below c z.origin)
-    (owns z c type_ns) (find_passes (is_cut z) (reverse (suffixes (folded n))) c e)).1
+    (owns z c type_ns) (found_passes (is_cut z) (reverse (suffixes (folded n))) c e)).1
 
 -- where all targets are at or below the cut there are no others
 none-outside_cut : (z : ZoneContents) (c : DomainName) (before ms : List DomainName)

@@ -2,6 +2,7 @@
 use Rattle.dns_master.proofs.Common.{◌≡◌, ℕ, Bool, true, false, ◌&&◌, ◌==◌, not, List, [], ◌∷◌, ◌++◌, refl, sym, ap, ◌∙◌, subst, Some, None, ◌⊎◌, inl, inr, arith, false≢true, eq-eqb, none-some, cons_option, Octets, Token, token_front, TokensThen, parenthesis, parentheses, is_line_end, open_after, before_first, cut_entries, take_turns, is_cut_short, fold, Loose, front_kept, cut_none, Step, misplaced, over, onward, step, Outcome, unended, wrong, Reads}
 use mathlib.Core.Bool.{xor}
 use Rattle.dns_master.specs.EntryForm.{ended}
+use Rattle.dns_spec.proofs.ZoneTexts.BeginningsMean.{cut-on}
 
 step_code : Step → ℕ
 step_code misplaced = 0
@@ -75,10 +76,6 @@ has_first b (p ∷ ps) = go (is_line_end p && not b) (has_first (open_after b p)
         ])
     go true h = record { first = p ∷ []; others = cut_entries false ps; is = refl }
     go false h = with_first p (cut_entries (open_after b p) ps) h
-
-cut-on : (b : Bool) (p : Token) (ps : List Token) → (is_line_end p && not b) ≡ false
-    → cut_entries b (p ∷ ps) ≡ before_first p (cut_entries (open_after b p) ps)
-cut-on b p ps h = rw (h, cut_entries) refl
 
 -- an entry that a line end ends
 pub record EndedCut (b : Bool) (text : Octets) (ps : List Token) (others : Octets) : Type 0 where

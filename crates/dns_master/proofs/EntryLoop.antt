@@ -1,17 +1,7 @@
 -- An entry is read token by token: what the tokens so far and those to come give, all give.
-use Rattle.dns_master.proofs.Common.{◌≡◌, ℕ, ◌+◌, ◌≤◌, Bool, true, false, cond, List, [], ◌∷◌, ◌++◌, length, refl, sym, ap, ◌∙◌, subst, arith, append_assoc, append-nil, Option, Some, None, Octets, Word, Token, token_front, TokensThen, is_line_end, word_of, filter, cons_option, front-shorter, misplaced, over, onward, step, Outcome, unended, wrong, Reads, token_words, line_ends, EntryRead, IsWrong}
+use Rattle.dns_master.proofs.Common.{◌≡◌, ℕ, ◌+◌, ◌≤◌, Bool, true, false, cond, List, [], ◌∷◌, ◌++◌, length, refl, sym, ap, ◌∙◌, subst, arith, append_assoc, append-nil, Some, None, Octets, Word, Token, token_front, is_line_end, word_of, filter, cons_option, front-shorter, misplaced, over, onward, step, Outcome, unended, wrong, Reads, token_words, line_ends, EntryRead, IsWrong}
 use Rattle.dns_master.specs.EntryForm.{ended}
-
-pub tokens-append : (text middle rest : Octets) (ps qs : List Token)
-    → TokensThen text ps middle → TokensThen middle qs rest → TokensThen text (ps ++ qs) rest
-tokens-append text middle rest [] qs h k = subst (λ x. TokensThen x qs rest) (sym h) k
-tokens-append text middle rest (p ∷ ps) qs h k =
-    (h.0, h.1, tokens-append h.0 middle rest ps qs h.2 k)
-
-pub cons_option-append : {X : Type 0} (x : Option X) (xs ys : List X)
-    → cons_option x (xs ++ ys) ≡ cons_option x xs ++ ys
-cons_option-append None xs ys = refl
-cons_option-append (Some x) xs ys = refl
+use Rattle.dns_spec.proofs.General.Options.{cons_option-append}
 
 pub words-append : (ps qs : List Token) → token_words (ps ++ qs) ≡ token_words ps ++ token_words qs
 words-append [] qs = refl

@@ -1,5 +1,5 @@
 -- What is read of a beginning of a text holds of every text that goes on from it.
-use Rattle.dns_master.proofs.Common.{◌≡◌, ℕ, ◌+◌, ◌-◌, ◌≤◌, ◌⊎◌, inl, inr, Option, None, Some, Bool, true, false, List, [], ◌++◌, length, length-append, append-nil, append_assoc, refl, sym, ap, ◌∙◌, subst, arith, Octets, DomainName, FileFault, too_long, unwrap_or, MatchBool, false≢true, ResourceRecord, Meaning, records, fault_at, after, EntriesMean, Word, Token, Entry, extent_by, with_end, cut_entries, beginning, stop_at, stop_fault, beginning_decides, tokens_cut, TextMeans, EntryRead, IsWhole, Reads, outcome_of, unended, ReaderMeans, MayFollow, FrontTaken, FrontFaulty, FrontGathered, TextGathered, PieceTaken, AppendsPiece, Reader}
+use Rattle.dns_master.proofs.Common.{◌≡◌, ℕ, ◌+◌, ◌-◌, ◌≤◌, ◌⊎◌, inl, inr, Option, None, Some, Bool, true, false, List, [], ◌++◌, length, length-append, append-nil, append_assoc, refl, sym, ap, ◌∙◌, subst, arith, Octets, DomainName, FileFault, too_long, unwrap_or, false≢true, ResourceRecord, Meaning, records, fault_at, after, EntriesMean, Word, Token, Entry, extent_by, with_end, cut_entries, beginning, stop_at, stop_fault, beginning_decides, tokens_cut, TextMeans, EntryRead, IsWhole, Reads, outcome_of, unended, ReaderMeans, MayFollow, FrontTaken, FrontFaulty, FrontGathered, TextGathered, PieceTaken, AppendsPiece, Reader}
 use Rattle.dns_master.proofs.EntryCuts.{reads-more}
 use Rattle.dns_master.proofs.TextSteps.{over-at_end, nothing-means, past-means}
 use Rattle.dns_master.proofs.EntriesLoop.{after-nil, after-append}
@@ -20,10 +20,6 @@ decided-means o earlier text more goes_on fault line h other =
       at_end = found.1.at_end;
       meant = subst (λ es. EntriesMean o earlier es (fault_at fault line)) found.1.entries found.2;
     }
-
--- what holds where an answer is true
-pub always : (P Q : Type 0) (b : Bool) → b ≡ true → MatchBool b P Q → P
-always P Q b e h = subst (λ x. MatchBool x P Q) e h
 
 -- an entry that is at hand as a whole, of a text that goes on from it
 module _ (goes_on : Option Bool)

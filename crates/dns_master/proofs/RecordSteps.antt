@@ -1,9 +1,6 @@
 -- The parts of a record one after another: the first that is wrong is the fault that is reported.
-use Rattle.dns_master.proofs.Common.{◌≡◌, ℕ, Bool, true, false, cond, List, [], ◌∷◌, drop, refl, sym, ap, ◌∙◌, subst, inl, inr, arith, Option, Some, None, false≢true, none-some, same_Some, option_or, is_none, Octets, DomainName, folded, ResourceRecord, lower_case, cut, Word, Says, Entry, bad_data, bad_type, no_owner, no_ttl, other_class, too_many_records, Nothing, Lowest, IsRecord, Fields, EntryMeaning, faulty, gives, OriginIs, TtlSays, ttl_in_force, TypeIs, DataIs, IsNoTtl, is_other_class, are_too_many, RecordGives, MatchOption, IfSome, option_and, IsTrue, lowered-twice, one_type, IsKept, TtlOf}
-
-pub type-one : (ws : List Word) (t u : ℕ) → TypeIs ws t → TypeIs ws u → t ≡ u
-type-one [] t u h k = absurd h
-type-one (w ∷ ws) t u h k = one_type w.raw t u h.1 k.1
+use Rattle.dns_master.proofs.Common.{◌≡◌, ℕ, Bool, true, false, cond, List, [], ◌∷◌, drop, refl, sym, ap, ◌∙◌, subst, inl, inr, arith, Option, Some, None, false≢true, none-some, same_Some, option_or, is_none, Octets, DomainName, folded, ResourceRecord, lower_case, cut, Word, Says, Entry, bad_data, bad_type, no_owner, no_ttl, other_class, too_many_records, Nothing, Lowest, IsRecord, Fields, EntryMeaning, faulty, gives, OriginIs, TtlSays, ttl_in_force, TypeIs, DataIs, IsNoTtl, is_other_class, are_too_many, RecordGives, MatchOption, IfSome, option_and, IsTrue, lowered-twice, IsKept, TtlOf}
+use Rattle.dns_spec.proofs.ZoneTexts.OneMeaning.{type_once}
 
 pub ttl-or : (v w : Option Word) (m n : Option ℕ)
     → TtlOf v m → TtlOf w n → TtlOf (option_or v w) (option_or m n)
@@ -82,7 +79,7 @@ module _ (o : DomainName) (earlier : List Entry) (owner : DomainName) (f : Field
           → RecordGives o earlier no_owner (λ n. n ≡ owner) f (faulty bad_data)
       data-fault none =
           let other : Nothing (DataIs o earlier f.others) = λ d h.
-          none d (subst (λ u. Says u (drop 1 f.others) origin d) (type-one f.others h.0 t h.1 c)
+          none d (subst (λ u. Says u (drop 1 f.others) origin d) (type_once f.others h.0 t h.1 c)
           (subst (λ m. Says h.0 (drop 1 f.others) m d) (only h.2.0 h.2.1) h.2.2)) in
           from_data (faulty bad_data) (inl (other, refl))
 

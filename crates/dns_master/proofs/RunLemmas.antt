@@ -1,6 +1,7 @@
 -- How far a run goes, octet by octet and escape by escape.
-use Rattle.dns_master.proofs.Common.{eqb-true, get_or, ◌≡◌, ℕ, zero, suc, sym, cond, ◌+◌, ◌≤◌, ◌<◌, Bool, true, false, [], ◌∷◌, length, take, drop, refl, ◌∙◌, ap, arith, Option, None, Some, ◌==◌, nat_eq, MatchOption, list_all, position, position_or_len, prefix_len, unwrap_or, and_parts, false≢true, ltb-false, none-some, same_Some, prefix_len-le-length, Octets, is_blank, escape_left, unit_left, run_length, is_word_octet, is_string_octet, pointwise, same_text, drop_all, drop-drop, at_drop_more, counted_escape, escape-counted, by_itself, Run}
+use Rattle.dns_master.proofs.Common.{get_or, ◌≡◌, ℕ, zero, suc, sym, cond, ◌+◌, ◌≤◌, ◌<◌, Bool, true, false, [], ◌∷◌, length, take, drop, refl, ◌∙◌, ap, arith, Option, None, Some, ◌==◌, nat_eq, MatchOption, list_all, position, position_or_len, prefix_len, unwrap_or, and_parts, ltb-false, none-some, same_Some, prefix_len-le-length, Octets, is_blank, escape_left, unit_left, run_length, is_word_octet, is_string_octet, pointwise, same_text, drop_all, drop-drop, at_drop_more, counted_escape, escape-counted, by_itself, Run}
 use Rattle.dns_master.specs.declared.run.Run.TheVariants.{Word as WordRun, String as StringRun}
+use Rattle.dns_spec.proofs.DataWords.BareWords.{no_backslash}
 
 -- where the first octet of a sort stands
 pub place-some : (p : ℕ → Bool) (text : Octets) (n : ℕ)
@@ -14,9 +15,6 @@ place-none p text e = grind (arith, none-some, ltb-false, prefix_len-le-length)
 pub none-after : (p : ℕ → Bool) (text : Octets)
     → position p text ≡ None → [] ≡ drop (position_or_len p text) text
 none-after p text e = grind (arith, position_or_len, place-none, drop_all)
-
-is-other : (by : ℕ → Bool) (o : ℕ) → by 92 ≡ false → by o ≡ true → (o == 92) ≡ false
-is-other by o none h = grind (arith, false≢true, eqb-true)
 
 module _ (by : ℕ → Bool) where
   -- the octets of an escape
@@ -66,8 +64,8 @@ one_more i k = omega arith
 
 -- a backslash stands in no run by itself
 pub no-backslash : (run : Run) (o : ℕ) → by_itself run o ≡ true → (o == 92) ≡ false
-no-backslash WordRun o h = is-other is_word_octet o refl h
-no-backslash StringRun o h = is-other is_string_octet o refl h
+no-backslash WordRun o h = no_backslash is_word_octet o refl h
+no-backslash StringRun o h = no_backslash is_string_octet o refl h
 
 -- how the run goes on at a place
 module _ (run : Run) (text : Octets) (i : ℕ) (inside : i < length text) where

@@ -1,14 +1,7 @@
 -- The octets of a source, read piece by piece.
-use Rattle.dns_master.proofs.Common.{◌≡◌, ℕ, zero, suc, ◌+◌, ◌≤◌, ◌<◌, ◌⊎◌, inl, inr, Bool, true, false, List, [], ◌∷◌, ◌++◌, length, take, nat_lt, length-append, append-nil, append_assoc, refl, sym, ap, ◌∙◌, subst, arith, Option, Some, None, take_all, take_at, Consumes, IsAtEnd, lt-ltb, le-ltb, Octets, DomainName, ResourceRecord, FileFault, Meaning, Means, records, fault_at, after, TextMeans, ReaderMeans, TextGathered, PieceTaken, PieceFaulty, Reader, AppendsPiece, GivesMeaning, Decides}
+use Rattle.dns_master.proofs.Common.{◌≡◌, ℕ, ◌+◌, ◌≤◌, ◌<◌, ◌⊎◌, inl, inr, Bool, true, false, List, [], ◌++◌, length, take, nat_lt, length-append, append-nil, append_assoc, refl, sym, ap, ◌∙◌, subst, arith, Option, Some, None, take_all, take_at, Consumes, IsAtEnd, lt-ltb, le-ltb, Octets, DomainName, ResourceRecord, FileFault, Meaning, Means, records, fault_at, after, TextMeans, ReaderMeans, TextGathered, PieceTaken, PieceFaulty, Reader, AppendsPiece, GivesMeaning, Decides}
 use Rattle.dns_master.proofs.EntriesLoop.{after-append, looked-means}
-
--- a beginning that is not longer than what is looked at is a beginning of that
-looked_at : (n : ℕ) (front more : Octets)
-    → length front ≤ n → (rest : Octets) × (take n (front ++ more) ≡ front ++ rest)
-looked_at n [] more short = (take n more, refl)
-looked_at zero (o ∷ front) more short = absurd (omega (arith, short))
-looked_at (suc n) (o ∷ front) more short =
-    grind (arith, (looked_at n front more (omega (arith, short))))
+use Rattle.dns_spec.proofs.General.Fronts.{looked_at}
 
 pub Consumes-more : (old middle new : Option Octets) (text came text' : Octets) → Consumes
     old middle text → Consumes middle new came → text' ≡ text ++ came → Consumes old new text'

@@ -1,8 +1,10 @@
 -- What a text means from an entry on: what the entry gives, and what the text after it means.
 use Rattle.dns_master.proofs.Common.{◌≡◌, ℕ, ◌+◌, ◌≤◌, ◌<◌, Bool, true, false, ◌||◌, ◌==◌, List, [], ◌∷◌, ◌++◌, length, take, inl, inr, ◌⊎◌, refl, sym, ap, ◌∙◌, subst, arith, Option, Some, None, false≢true, none-some, if◌then◌else◌, MatchOption, list_any, Octets, DomainName, Word, ResourceRecord, bad_parenthesis, too_long, FileFault, EntryMeaning, faulty, gives, Meaning, records, fault_at, after, line_after, KindGives, kind_of, kind_by_words, EntryGives, EntriesMean, Token, quoted_string, line_end, Entry, ended, token_front, TokensThen, is_blank, is_blank_token, begins_blank, closed, line_feed_front, cut_entries, with_end, is_open_at_end, take_turns, parentheses, whole_text, extent_by, stop_fault, stop_at, Extent, beginning, in_string, in_token, has_tokens, front-shorter, Reads, unended, IsWrong, line_ends, EntryRead, outcome_of, TextMeans}
 use Rattle.dns_master.specs.EntryForm as form
-use Rattle.dns_master.proofs.EntryLoop.{lines-append, tokens-append}
+use Rattle.dns_master.proofs.EntryLoop.{lines-append}
 use Rattle.dns_master.proofs.EntryCuts.{EndedCut, HasFirst, has_first, reads-ended, reads-unended, reads-wrong}
+use Rattle.dns_spec.proofs.ZoneTexts.TextTokens.{tokens_then}
+unfoldable use Rattle.dns_spec.proofs.ZoneTexts.SomeMeaning.{is_faulty}
 
 -- an entry that nothing is wrong with by its place gives what its kind gives
 by_sort : (o : DomainName) (earlier : List Entry) (e : Entry) (answer : EntryMeaning)
@@ -40,7 +42,7 @@ module _ (o : DomainName) (earlier : List Entry) (goes_on : Bool) (text : Octets
         record {
           tokens = ps ++ h.tokens;
           rest = h.rest;
-          spelled = tokens-append text others h.rest ps h.tokens c.spelled h.spelled;
+          spelled = tokens_then text others h.rest ps h.tokens c.spelled h.spelled;
           at_end = h.at_end;
           meant = subst
               (λ es. EntriesMean o earlier es (after rs later)) (sym (cut_after h.rest h.tokens)) (
@@ -58,7 +60,7 @@ module _ (o : DomainName) (earlier : List Entry) (goes_on : Bool) (text : Octets
         record {
           tokens = ps ++ h.tokens;
           rest = h.rest;
-          spelled = tokens-append text others h.rest ps h.tokens c.spelled h.spelled;
+          spelled = tokens_then text others h.rest ps h.tokens c.spelled h.spelled;
           at_end = h.at_end;
           meant = subst (λ es. EntriesMean o earlier es (fault_at code (line_after earlier)))
               (sym (cut_after h.rest h.tokens))
@@ -118,7 +120,7 @@ module _ (o : DomainName) (earlier : List Entry) (goes_on : Bool) (text : Octets
       record {
         tokens = ps ++ h.tokens;
         rest = h.rest;
-        spelled = tokens-append text c.rest h.rest ps h.tokens c.spelled h.spelled;
+        spelled = tokens_then text c.rest h.rest ps h.tokens c.spelled h.spelled;
         at_end = h.at_end;
         meant = subst (λ es. EntriesMean o earlier (with_end (extent_by goes_on) h.rest es)
             (fault_at bad_parenthesis (line_after earlier))) (sym w.cuts)
@@ -200,10 +202,6 @@ begins-blank b text (p ∷ ps) outcome h = blank-front text h.0 p h.1
 answer_records : EntryMeaning → List ResourceRecord
 answer_records (faulty code) = []
 answer_records (gives rs) = rs
-
-is_faulty : EntryMeaning → Bool
-is_faulty (faulty code) = true
-is_faulty (gives rs) = false
 
 -- an entry without tokens, the last of a text, gives nothing
 meant-nothing : (o : DomainName) (earlier : List Entry) (later : Meaning) (answer : EntryMeaning)

@@ -1,6 +1,9 @@
 -- The words of a text, by its tokens: each token's word, and those of the text after it.
 use Rattle.dns_master.proofs.Common.{◌≡◌, ℕ, zero, suc, ◌+◌, ◌≤◌, ◌<◌, List, [], ◌∷◌, ◌++◌, length, take, refl, sym, ap, ◌∙◌, arith, append_assoc, append-nil, Option, Some, None, cons_option, Octets, Word, Token, token_front, TokensThen, word_of, front-shorter, token_words, words_from, words_of_first, words_in, KeptAndCounted, WordTaken}
-use Rattle.dns_master.proofs.EntryLoop.{cons_option-append, tokens-append, words-append}
+use Rattle.dns_master.proofs.EntryLoop.{words-append}
+use Rattle.dns_spec.proofs.ZoneTexts.TextTokens.{tokens_then}
+use Rattle.dns_spec.proofs.Common.{take-append_seam}
+use Rattle.dns_spec.proofs.General.Options.{cons_option-append}
 
 same_later : (f g : Octets → List Word) (front : Option (Token × Octets))
     → ((p : Token) (others : Octets) → front ≡ Some (p, others) → f others ≡ g others)
@@ -51,10 +54,6 @@ words-then text rest (p ∷ ps) h =
     words-front text h.0 p h.1 ∙ ap (cons_option (word_of p)) (words-then h.0 rest ps h.2)
     ∙ cons_option-append (word_of p) (token_words ps) (words_in rest)
 
-take-length : {X : Type 0} (xs ys : List X) → take (length xs) (xs ++ ys) ≡ xs
-take-length [] ys = refl
-take-length (x ∷ xs) ys = ap (λ zs. x ∷ zs) (take-length xs ys)
-
 length-more : {X : Type 0} (xs ys : List X) → length xs ≤ length (xs ++ ys)
 length-more [] ys = omega arith
 length-more (x ∷ xs) ys = grind (arith, (length-more xs ys))
@@ -66,12 +65,12 @@ module _ (kept : List Word) (later rest : Octets)
   counted-enough = grind (arith, length-more, words-then)
 
   pub counted-words : kept ++ take count (words_in later) ≡ all
-  counted-words = grind (arith, words-then, take-length)
+  counted-words = grind (arith, words-then, take-append_seam)
 
 module _ (p : Token) (others : Octets) (kept : List Word) (later : Octets) (count : ℕ) where
   one-more : (rest : Octets) → token_front rest ≡ Some (p, others)
       → (ps : List Token) → TokensThen later ps rest → TokensThen later (ps ++ p ∷ []) others
-  one-more rest e ps h = tokens-append later rest others ps (p ∷ []) h (others, e, refl)
+  one-more rest e ps h = tokens_then later rest others ps (p ∷ []) h (others, e, refl)
 
   all-more : (ps : List Token) (all : List Word) → all ≡ kept ++ token_words ps
       → all ++ token_words (p ∷ []) ≡ kept ++ token_words (ps ++ p ∷ [])

@@ -1,7 +1,6 @@
 pub mod Common
 pub mod OctetRuns
 pub mod OrderLemmas
-pub mod Results
 pub mod TextLemmas
 pub mod WireLemmas
 pub mod WrittenLemmas

@@ -1,5 +1,6 @@
 -- Runs of octets are told by their first and their last octets, and these by numbers.
-use Rattle.dns_name.proofs.Common.{◌≡◌, ◌==◌, ◌↔◌, IsTrue, ℕ, zero, suc, ◌+◌, ◌-◌, ◌<◌, ◌≤◌, List, [], ◌∷◌, length, take, drop, get_or, refl, sym, ap, ap₂, ◌∙◌, subst, arith, eqb-true, eq-eqb, le_bytes_2, le_bytes_4, le_bytes_8, length-take-le, length-drop, take-length, from_le_bytes, w16, w32, w64}
+use Rattle.dns_name.proofs.Common.{◌≡◌, ◌==◌, ◌↔◌, IsTrue, ℕ, zero, suc, ◌+◌, ◌-◌, ◌<◌, ◌≤◌, List, [], ◌∷◌, length, take, drop, get_or, refl, sym, ◌∙◌, arith, eqb-true, eq-eqb, le_bytes_2, le_bytes_4, le_bytes_8, length-take-le, length-drop, from_le_bytes, w16, w32, w64}
+use Rattle.dns_spec.proofs.General.Fronts.{same_fronts_ends, take_last}
 
 abbrev pub AreLow : List ℕ → Type 0
 AreLow xs = (i : ℕ) → get_or xs i 0 < 256
@@ -38,27 +39,11 @@ two_tell a b long-a long-b low-a low-b e =
     (length-take-le 2 a long-a) (low_front 2 a low-a) refl) ∙ le_bytes_2 (take 2 b)
     (from_le_bytes w16 (take 2 a)) (length-take-le 2 b long-b) (low_front 2 b low-b) e
 
-pub joined : (k j : ℕ) (a b : List ℕ) → k ≤ j → take j a ≡ take j b → drop k a ≡ drop k b → a ≡ b
-joined zero j a b h e d = d
-joined (suc k) zero a b h e d = absurd (omega arith)
-joined (suc k) (suc j) [] [] h e d = refl
-joined (suc k) (suc j) [] (y ∷ b) h e d = absurd (omega (arith, ap length e))
-joined (suc k) (suc j) (x ∷ a) [] h e d = absurd (omega (arith, ap length e))
-joined (suc k) (suc j) (x ∷ a) (y ∷ b) h e d = ap₂ (λ z zs. z ∷ zs)
-    (ap (λ l. get_or l 0 0) e) (joined k j a b (omega (arith, h)) (ap (drop 1) e) d)
-
-last_of : (k : ℕ) (xs : List ℕ)
-    → k ≤ length xs → take k (drop (length xs - k) xs) ≡ drop (length xs - k) xs
-last_of k xs long =
-    let all : length (drop (length xs - k) xs) ≡ k =
-    omega (arith, length-drop (length xs - k) xs, long) in
-    subst (λ j. take j (drop (length xs - k) xs) ≡ drop (length xs - k) xs) all
-    (take-length (drop (length xs - k) xs))
-
 -- the first k and the last k octets of k to 2k are all of them, and so are their numbers
 pub ends_tell : (k : ℕ) (f : List ℕ → ℕ) → Tells k f → (a b a' b' : List ℕ) {m n m' n' : ℕ}
     → length b ≡ length a → k ≤ length a → length a ≤ k + k → AreLow a → AreLow b
     → a' ≡ drop (length a - k) a → b' ≡ drop (length b - k) b → m ≡ f (take k a) → n ≡ f (take k b)
     → m ≡ n → m' ≡ f (take k a') → n' ≡ f (take k b') → IsTrue (m' == n') ↔ (a ≡ b)
 ends_tell k f tell a b a' b' same least most low-a low-b own-a own-b first second
-    front third fourth = grind (arith, length-drop, low_end, last_of, joined, eqb-true, eq-eqb)
+    front third fourth =
+    grind (arith, length-drop, low_end, take_last, same_fronts_ends, eqb-true, eq-eqb)

@@ -1,5 +1,6 @@
 -- The order of names, whose labels are compared from the right, goes label by label from the left.
-use Rattle.dns_name.proofs.Common.{◌≡◌, ℕ, zero, suc, ◌+◌, ◌-◌, ◌<◌, ◌≤◌, ◌⊎◌, min, inl, inr, List, [], ◌∷◌, ◌++◌, length, take, drop, reverse, Option, Ordering, Less, Equal, Greater, refl, sym, ◌∙◌, ap, arith, cases_order, nat_cmp_is, slice_cmp, Octets, DomainName, last_labels, label_order, reverse-append, length-reverse, length-take, length-drop, take-append-drop, YieldsFirst, ordering_then, nat_cmp}
+use Rattle.dns_name.proofs.Common.{◌≡◌, ℕ, zero, suc, ◌+◌, ◌-◌, ◌≤◌, ◌⊎◌, min, inl, inr, [], ◌∷◌, ◌++◌, length, take, drop, reverse, Option, Ordering, Equal, refl, sym, ◌∙◌, ap, arith, cases_order, slice_cmp, Octets, DomainName, last_labels, label_order, reverse-append, length-reverse, length-take, length-drop, take-append-drop, YieldsFirst, ordering_then, nat_cmp}
+use Rattle.dns_spec.proofs.General.Orderings.{then_equal, less_by, cmp_self, slice_cmp-append, slice_cmp-reverse-cons, by_length}
 
 drop-one : (k : ℕ) (n : DomainName) → drop 1 (drop k n) ≡ drop (suc k) n
 drop-one zero n = refl
@@ -10,60 +11,6 @@ drop-one (suc k) (l ∷ n) = drop-one k n
 pub drop-next : (s t n : DomainName) (r : Option Octets) (k : ℕ)
     → s ≡ drop k n → YieldsFirst (λ x. x) s r t → t ≡ drop (k + 1) n
 drop-next s t n r k e h = grind (arith, drop-one)
-
-then_assoc : (a b c : Ordering)
-    → ordering_then (ordering_then a b) c ≡ ordering_then a (ordering_then b c)
-then_assoc Less b c = refl
-then_assoc Equal b c = refl
-then_assoc Greater b c = refl
-
-then_equal : (a : Ordering) → ordering_then a Equal ≡ a
-then_equal Less = refl
-then_equal Equal = refl
-then_equal Greater = refl
-
-module _ {A : Type 0} (R : A → A → Ordering) where
-  -- as long lists go before what stands after them
-  slice_cmp-append : (xs ys us vs : List A) → length xs ≡ length ys
-      → slice_cmp R (xs ++ us) (ys ++ vs) ≡ ordering_then (slice_cmp R xs ys) (slice_cmp R us vs)
-  slice_cmp-append [] [] us vs e = refl
-  slice_cmp-append [] (y ∷ ys) us vs e = absurd (omega arith)
-  slice_cmp-append (x ∷ xs) [] us vs e = absurd (omega arith)
-  slice_cmp-append (x ∷ xs) (y ∷ ys) us vs e =
-      grind (arith, (slice_cmp-append xs ys us vs (omega arith)), then_assoc)
-
-  -- the first of both lists is compared last
-  pub slice_cmp-reverse-cons : (x y : A) (xs ys : List A) (o : Ordering) → length xs ≡ length ys
-      → ordering_then (slice_cmp R (reverse xs) (reverse ys)) (ordering_then (R x y) o)
-      ≡ ordering_then (slice_cmp R (reverse (x ∷ xs)) (reverse (y ∷ ys))) o
-  slice_cmp-reverse-cons x y xs ys o e =
-      let long : length (reverse xs) ≡ length (reverse ys) =
-      length-reverse xs ∙ e ∙ sym (length-reverse ys) in
-      let S = slice_cmp R (reverse xs) (reverse ys) in
-      let last : slice_cmp R (reverse xs ++ x ∷ []) (reverse ys ++ y ∷ []) ≡ ordering_then S
-      (R x y) = slice_cmp-append (reverse xs) (reverse ys) (x ∷ []) (y ∷ []) long
-      ∙ ap (ordering_then S) (then_equal (R x y))
-      in
-      sym (rw (reverse-append (x ∷ []) xs, reverse-append (y ∷ []) ys)
-      (ap (λ p. ordering_then p o) last ∙ then_assoc S (R x y) o))
-
-  -- where a list is empty, the lengths decide
-  by_length : (xs ys : List A)
-      → (length xs ≡ 0) ⊎ (length ys ≡ 0) → slice_cmp R xs ys ≡ nat_cmp (length xs) (length ys)
-  by_length [] [] e = refl
-  by_length [] (y ∷ ys) e = nat_cmp_is 0 (length (y ∷ ys)) Less (omega arith)
-  by_length (x ∷ xs) [] e = nat_cmp_is (length (x ∷ xs)) 0 Greater (omega arith)
-  by_length (x ∷ xs) (y ∷ ys) (inl e) = absurd (omega arith)
-  by_length (x ∷ xs) (y ∷ ys) (inr e) = absurd (omega arith)
-
-less_by : (a b k : ℕ)
-    → k ≤ a → k ≤ b → (a ≡ b) ⊎ ((a < b) ⊎ (b < a)) → nat_cmp (a - k) (b - k) ≡ nat_cmp a b
-less_by a b k p q (inl e) =
-    sym (nat_cmp_is (a - k) (b - k) Equal (omega arith)) ∙ nat_cmp_is a b Equal e
-less_by a b k p q (inr (inl h)) =
-    sym (nat_cmp_is (a - k) (b - k) Less (omega arith)) ∙ nat_cmp_is a b Less h
-less_by a b k p q (inr (inr h)) =
-    sym (nat_cmp_is (a - k) (b - k) Greater (omega arith)) ∙ nat_cmp_is a b Greater h
 
 -- the last k labels of both go before how many labels there are, where one name has no more
 pub order_of_last : (n m : DomainName) (k : ℕ)
@@ -111,11 +58,6 @@ pub order_is : (n m left right : DomainName) (k a b : ℕ) (longer result : Orde
     longer → result ≡ slice_cmp label_order (reverse n) (reverse m)
 order_is n m left right k a b longer result p q shared e f g h =
     grind (arith, cases_order, order_of_last)
-
-cmp_self : {A : Type 0} (R : A → A → Ordering)
-    → ((x : A) → R x x ≡ Equal) → (xs : List A) → slice_cmp R xs xs ≡ Equal
-cmp_self R h [] = refl
-cmp_self R h (x ∷ xs) = rw (h x) (cmp_self R h xs)
 
 -- where the labels that are left are the same, those so far decide
 pub order_stays : (n m : DomainName) (order : Ordering)

@@ -1,5 +1,8 @@
 -- Reading a text from left to right finds what it spells, and nothing else.
-use Rattle.dns_name.proofs.Common.{Result, Ok, Err, ◌≡◌, ℕ, suc, ◌+◌, ◌-◌, ◌*◌, ◌<◌, ◌≤◌, inl, inr, Bool, true, false, ◌&&◌, ◌==◌, nat_le, [], ◌∷◌, ◌++◌, length, take, drop, Option, Some, None, refl, sym, ◌∙◌, ap, subst, arith, length-append, option_and_then, MatchBool, if◌then◌else◌, is_ascii_digit, IsAsciiDigit, IsNotAsciiDigit, list_all, position_or_len, Octets, DomainName, wire, is_label, is_name, three_digits_value, SpellsOctet, LabelThen, TextSpells, SpellsName, append_assoc, append-nil, length-take, take_all, take-append-le, true≢false, false≢true, and_parts, and_from, and_left, and_right, and_cases, lt-leb, leb-false, eqb-true, eqb-false, or_parts, eq-eqb, ne_eqb, lt-ltb, ltb-true, le-leb, leb-true, cases_Bool, IsErr, is_label-head, length-wire-append, IsName-is_name, IsLabel-is_label, digit_at, decimal_at, escaped_at, octet_at, is_mark, is_label_end, ReadsLabel, PushesLabel, HasNoLabel, Appended, SpellsIff, spelled_as}
+use Rattle.dns_name.proofs.Common.{Result, Ok, Err, ◌≡◌, ℕ, suc, ◌+◌, ◌-◌, ◌*◌, ◌<◌, ◌≤◌, inl, inr, Bool, true, false, ◌&&◌, ◌==◌, nat_le, [], ◌∷◌, ◌++◌, length, take, drop, Some, None, refl, sym, ◌∙◌, ap, subst, arith, length-append, MatchBool, if◌then◌else◌, is_ascii_digit, IsAsciiDigit, IsNotAsciiDigit, list_all, position_or_len, Octets, DomainName, wire, is_label, is_name, three_digits_value, SpellsOctet, LabelThen, TextSpells, SpellsName, append_assoc, append-nil, length-take, take_all, take-append-le, true≢false, false≢true, and_parts, and_from, and_left, and_right, lt-leb, eqb-true, eqb-false, or_parts, eq-eqb, ne_eqb, lt-ltb, ltb-true, le-leb, leb-true, cases_Bool, IsErr, is_label-head, length-wire-append, IsName-is_name, IsLabel-is_label, digit_at, decimal_at, escaped_at, octet_at, is_mark, is_label_end, ReadsLabel, PushesLabel, HasNoLabel, Appended, SpellsIff, spelled_as}
+use Rattle.dns_spec.proofs.General.Options.{and_then_some, if_some, some_parts}
+use Rattle.dns_spec.proofs.DomainNames.WireNames.{wire_some}
+use Rattle.dns_spec.proofs.NameTexts.Escapes.{not-digit}
 
 -- a text is the spelling of an octet and others
 abbrev pub OctetThen : Octets → ℕ → Octets → Type 0
@@ -7,10 +10,6 @@ OctetThen text x others = (first : Octets) × (text ≡ first ++ others) × Spel
 
 no_digit : (a : ℕ) → IsNotAsciiDigit a → is_ascii_digit a ≡ false
 no_digit a h = grind (arith, and_left, lt-leb, and_right)
-
-no_digit_from : (a : ℕ) → is_ascii_digit a ≡ false → IsNotAsciiDigit a
-no_digit_from a h = elim (and_cases (nat_le 48 a) _ h)
-    [ inl low ↦ inl (leb-false _ _ low) | inr high ↦ inr (leb-false _ _ high) ]
 
 -- a spelling is read, whatever stands after it
 octet_at-spelled : (first : Octets) (x : ℕ) (others : Octets)
@@ -22,18 +21,6 @@ octet_at-spelled first x others h =
 pub octet_at-OctetThen : (text : Octets) (x : ℕ) (others : Octets)
     → OctetThen text x others → octet_at text ≡ Some (x, others)
 octet_at-OctetThen text x others (first, e, h) = ap octet_at e ∙ octet_at-spelled first x others h
-
-and_then_some : {A B : Type 0} (f : A → Option B) (o : Option A) (y : B)
-    → option_and_then f o ≡ Some y → (x : A) × (o ≡ Some x) × (f x ≡ Some y)
-and_then_some f None y e = cc
-and_then_some f (Some x) y e = (x, refl, e)
-
-some_parts : (v w : ℕ × Octets) → Some v ≡ Some w → (v.0 ≡ w.0) × (v.1 ≡ w.1)
-some_parts v w e = grind arith
-
-if_some : {A : Type 0} (t : Bool) (x y : A)
-    → (if t then Some x else None) ≡ Some y → (t ≡ true) × (x ≡ y)
-if_some t x y h = grind arith
 
 digit_read : (text : Octets) (v : ℕ × Octets)
     → digit_at text ≡ Some v → (a : ℕ) × (text ≡ a ∷ v.1) × IsAsciiDigit a × (v.0 ≡ a - 48)
@@ -79,7 +66,7 @@ escaped_read (a ∷ rest) x others e =
           let after : rest ≡ others = ap (λ w. w.1) printable.1 in (
             92 ∷ a ∷ [],
             ap (λ w. 92 ∷ a ∷ w) after,
-            (refl, same_octet, leb-true _ _ parts.0, leb-true _ _ parts.1, no_digit_from a none),
+            (refl, same_octet, leb-true _ _ parts.0, leb-true _ _ parts.1, not-digit a none),
           )
     ]
 
@@ -355,11 +342,7 @@ pub Holds-append : (read : DomainName)
 Holds-append read true name labels true new (e, ok) (f, ok') = grind arith
 Holds-append read true name labels false new (e, ok) over = grind arith
 Holds-append read false name labels more new over h =
-    omega (arith, length-wire-append read labels, some_octet labels)
-  where
-    some_octet : (n : DomainName) → 0 < length (wire n)
-    some_octet [] = omega arith
-    some_octet (l ∷ n) = omega arith
+    omega (arith, length-wire-append read labels, wire_some labels)
 
 -- how far a word is read
 pub record Reads (origin : DomainName)

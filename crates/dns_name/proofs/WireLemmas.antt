@@ -1,5 +1,6 @@
 -- The wire form and the labels that it spells give one another back.
-use Rattle.dns_name.proofs.Common.{Bool, map, ◌↔◌, ◌≡◌, ℕ, zero, suc, ◌-◌, ◌≤◌, true, [], ◌∷◌, ◌++◌, length, take, drop, refl, sym, ◌∙◌, ap, arith, length-append, and_parts, list_all, to_ascii_lowercase, folded, same, octets_equal, names_equal, Octets, DomainName, wire, is_label, is_name, take_at, drop_at, append_assoc, append-nil, nil_from_length, same_tests, same-wire, wire-injective, octets_equal-decides, names_equal-decides, map-lowercase-wire, IsLabel-is_label, IsName-is_name, is_name-tail, labels_up_to, labels_of, IsWireForm}
+use Rattle.dns_name.proofs.Common.{Bool, map, ◌↔◌, ◌≡◌, ℕ, zero, suc, ◌-◌, ◌≤◌, true, [], ◌∷◌, ◌++◌, length, take, drop, refl, sym, ◌∙◌, ap, arith, length-append, and_parts, list_all, to_ascii_lowercase, folded, same, octets_equal, names_equal, Octets, DomainName, wire, is_label, is_name, take_at, drop_at, append_assoc, append-nil, nil_from_length, same_tests, same-wire, wire-injective, octets_equal-decides, names_equal-decides, map-lowercase-wire, IsLabel-is_label, IsName-is_name, is_name-tail, labels_up_to, labels_of, IsWireForm, at_or_below, at_or_below-short}
+use Rattle.dns_spec.proofs.DomainNames.WireNames.{wire_front, label_octets}
 
 labels_up_to-wire : (n : DomainName) (most : ℕ)
     → list_all is_label n ≡ true → length (wire n) ≤ most → labels_up_to most (wire n) ≡ n
@@ -79,22 +80,16 @@ empty_by_cases (l ∷ n) e = cc
 pub IsWireForm-nil : (xs : Octets) → IsWireForm xs → length xs ≡ 0 → ⊥
 IsWireForm-nil xs form e = empty_by_cases _ (form.wire_is ∙ nil_from_length xs e)
 
--- the wire form up to the root's length
-front : DomainName → Octets
-front [] = []
-front (l ∷ n) = length l ∷ (l ++ front n)
-
-wire-front : (n : DomainName) → wire n ≡ front n ++ 0 ∷ []
-unfolding front
+wire-front : (n : DomainName) → wire n ≡ label_octets n ++ 0 ∷ []
 wire-front [] = refl
 wire-front (l ∷ n) = grind (arith, append_assoc, (wire-front n))
 
-front-push : (n : DomainName) (l : Octets) → front (n ++ l ∷ []) ≡ front n ++ length l ∷ l
-unfolding front
+front-push : (n : DomainName) (l : Octets)
+    → label_octets (n ++ l ∷ []) ≡ label_octets n ++ length l ∷ l
 front-push [] l = ap (λ xs. length l ∷ xs) (append-nil l)
 front-push (k ∷ n) l = grind (arith, append_assoc, (front-push n l))
 
-front_taken : (n : DomainName) → take (length (wire n) - 1) (wire n) ≡ front n
+front_taken : (n : DomainName) → take (length (wire n) - 1) (wire n) ≡ label_octets n
 front_taken n = grind (arith, wire-front, length-append, take_at)
 
 -- one label more, next to the root: what stands before the root's length stays
@@ -122,11 +117,10 @@ map-lowercase-octets xs n form e = grind (arith, map-lowercase-wire, IsName-is_n
 -- the labels of another name next to the root: what stands before the root's length stays
 pub wire-append : (n m : DomainName) (xs : Octets)
     → xs ≡ take (length (wire n) - 1) (wire n) → xs ++ wire m ≡ wire (n ++ m)
-unfolding front
-wire-append n m xs e = ap (λ ys. ys ++ wire m) (e ∙ front_taken n) ∙ sym (after_front n)
-  where
-    after_front : (n : DomainName) → wire (n ++ m) ≡ front n ++ wire m
-    after_front [] = refl
-    after_front (l ∷ n) =
-        ap (λ xs. length l ∷ (l ++ xs)) (after_front n)
-        ∙ ap (λ xs. length l ∷ xs) (sym (append_assoc l (front n) (wire m)))
+wire-append n m xs e = ap (λ ys. ys ++ wire m) (e ∙ front_taken n) ∙ sym (wire_front n m)
+
+-- a suffix that is no longer decides
+pub no_longer_decides : (xs ys : Octets) (a : DomainName) → IsWireForm xs
+    → ys ≡ wire a → length xs ≤ length ys → at_or_below (labels_of xs) a ≡ same (labels_of xs) a
+no_longer_decides xs ys a form f short =
+    at_or_below-short (labels_of xs) a (omega (arith, ap length form.wire_is, ap length f))

@@ -1,7 +1,7 @@
 -- A text that is written piece by piece: what two pieces, one after the other, have appended, and
 -- what is still to come.
 use Rattle.dns_name.proofs.Common.{◌≡◌, ℕ, suc, ◌+◌, ◌-◌, ◌<◌, List, [], ◌∷◌, ◌++◌, slice_index_or, Result, ap, ◌∙◌, Option, length, take, drop, sym, subst, arith, append_assoc, length-drop, length-append, take-add, take-append-add, take-suc, take_all, take-append-le, take-append-drop, append-nil, flat_map-append, Bor, Appends, Appends-trans, Counted, Writes, Fills, failures_after, joined, AppendsBeginning, AppendsAllBut}
-use Rattle.dns_name.proofs.Results.{OnOk-map, OnErr-map}
+use Rattle.dns_spec.proofs.Common.{on_ok_weaker, on_err_weaker}
 
 -- the first n octets of a text, and then the first m of the rest, `&text[n..]`
 pub Appends-take-add : (a b c : Option (List ℕ)) (text : List ℕ) (n m : ℕ)
@@ -54,9 +54,9 @@ pub Writes-after : {W A E : Type 0}
     → Appends (contents old.device) (contents mid.device) xs → mid.failures ≡ old.failures
     → Writes contents mid new r ys → Writes contents old new r (xs ++ ys)
 Writes-after {contents = contents} {old} {mid} {new} {r} xs ys h same w = record {
-  ok = OnOk-map r (λ k. Appends-trans
+  ok = on_ok_weaker r (λ k. Appends-trans
       (contents old.device) (contents mid.device) (contents new.device) xs ys h k) w.ok;
-  err = OnErr-map r (λ k. beginning_of_second
+  err = on_err_weaker r (λ k. beginning_of_second
       (contents old.device) (contents mid.device) (contents new.device) xs ys h k) w.err;
   counted = w.counted ∙ ap (λ count. failures_after count r) same;
 }
@@ -127,8 +127,8 @@ pub Fills-after : {W A E : Type 0} {contents : W → Option (List ℕ)}
     → AppendsAllBut (contents old.device) (contents mid.device) whole held → mid.failures
     ≡ old.failures → Fills contents mid new r held less → Fills contents old new r whole less
 Fills-after {contents = contents} {old} {mid} {new} {r} whole held less so same f = record {
-  ok = OnOk-map r (λ then. after then) f.ok;
-  err = OnErr-map r (λ begun. begins begun) f.err;
+  ok = on_ok_weaker r (λ then. after then) f.ok;
+  err = on_err_weaker r (λ begun. begins begun) f.err;
   counted = f.counted ∙ ap (λ count. failures_after count r) same;
 }
   where

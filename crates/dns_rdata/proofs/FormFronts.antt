@@ -94,10 +94,6 @@ module _ (origin : DomainName) where
       → (d : Octets) → SaysForms fs origin ws d → n + length d ≤ 65535 → ⊥
   no-all n fs ws none d h = none [] d (subst (λ v. SaysForms v origin ws d) (sym (append-nil fs)) h)
 
--- so many of a form, and one more
-pub once_more : (f : WordForm) (n : ℕ) → replicate n f ++ f ∷ [] ≡ replicate (n + 1) f
-once_more f n = replicate-append-replicate n 1 f
-
 -- one of so many of a form
 pub one_of : (f : WordForm) (i n : ℕ)
     → i < n → replicate (i + 1) f ++ replicate (n - (i + 1)) f ≡ replicate n f

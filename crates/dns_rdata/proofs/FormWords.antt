@@ -1,8 +1,5 @@
 -- What is appended for a word by its form.
-use Rattle.dns_rdata.proofs.Common.{◌≡◌, ℕ, ◌<◌, ◌≤◌, ◌^◌, ◌++◌, Option, Some, Ok, decimal, refl, sym, ap, ◌∙◌, arith, bytes_high_first, Octets, DomainName, wire, folded, SpellsName, ok_or, Result, IsTrue, ◌||◌, not, Word, WordForm, SaysNumber, SaysName, SaysForm, SaysWord, may_be_quoted, name_word, RdataFault, number_once, name_once, map-lowercase-wire, IsName-is_name, as_it_is, kept, Appends, AppendsSaid}
-
-pub ok_or-some : {A E : Type 0} (x : Option A) (e : E) (a : A) → ok_or x e ≡ Ok a → x ≡ Some a
-ok_or-some x e a h = grind arith
+use Rattle.dns_rdata.proofs.Common.{◌≡◌, ℕ, ◌<◌, ◌≤◌, ◌^◌, ◌++◌, decimal, refl, sym, ap, ◌∙◌, arith, bytes_high_first, Octets, DomainName, wire, folded, SpellsName, Result, IsTrue, ◌||◌, not, Word, WordForm, SaysNumber, SaysName, SaysForm, SaysWord, may_be_quoted, name_word, RdataFault, number_once, name_once, map-lowercase-wire, IsName-is_name, as_it_is, kept, Appends, AppendsSaid}
 
 pub number_appended : (k : ℕ) → k ≤ 4 → (n : ℕ) (text before after piece : Octets)
     → text ≡ decimal n → n < 256 ^ k → piece ≡ bytes_high_first k n

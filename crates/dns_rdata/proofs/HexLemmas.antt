@@ -1,8 +1,6 @@
 -- Hex digits read from left to right, two an octet.
 use Rattle.dns_rdata.proofs.Common.{◌%◌, ◌&&◌, ◌≡◌, ℕ, ◌+◌, ◌*◌, ◌<◌, inl, inr, ◌⊎◌, true, false, [], ◌∷◌, ◌++◌, length, refl, sym, ◌∙◌, ap, arith, option_map, option_and_then, is_ascii_hexdigit, digit_value, cases_Bool, Octets, hex_octets, Option, Some, None, append_assoc, append-nil, hex_front, AppendsHex}
-
-none_is_some : {A : Type 0} (x : A) → None ≡ Some x → ⊥
-none_is_some x e = cc
+use Rattle.dns_spec.proofs.Common.{none-some}
 
 -- what two digits and what stands after them say
 front_says : (text : Octets) (x : ℕ) (others : Octets) → hex_front text ≡ Some (x, others)
@@ -18,14 +16,14 @@ front_says (h ∷ l ∷ rest) x others e =
         → hex_octets (h ∷ l ∷ rest) ≡ option_map (λ d. x ∷ d) (hex_octets others)
     by_cases (inl high) (inl low) = grind arith
     by_cases (inl high) (inr low) =
-        let f : None ≡ Some (x, others) = rw (high, low) at e in absurd (none_is_some _ f)
+        let f : None ≡ Some (x, others) = rw (high, low) at e in absurd (none-some _ f)
     by_cases (inr high) low =
-        let f : None ≡ Some (x, others) = rw high at e in absurd (none_is_some _ f)
+        let f : None ≡ Some (x, others) = rw high at e in absurd (none-some _ f)
 
 pub front_shorter : (text : Octets) (x : ℕ) (others : Octets)
     → hex_front text ≡ Some (x, others) → length others < length text
 unfolding hex_front
-front_shorter text x others h = grind (arith, none_is_some)
+front_shorter text x others h = grind (arith, none-some)
 
 -- what was read and what the rest says are what the text says
 pub record HexSoFar (text old octets rest : Octets) : Type 0 where
@@ -50,7 +48,7 @@ HexSoFar-push text old octets rest x others so_far e = record {
 pub HexSoFar-refuses : (text old octets rest new : Octets) → HexSoFar text old octets rest
     → (rest ≡ [] → ⊥) → hex_front rest ≡ None → AppendsHex text false old new
 unfolding hex_front hex_octets
-HexSoFar-refuses text old octets rest new so_far more e = grind (arith, none_is_some)
+HexSoFar-refuses text old octets rest new so_far more e = grind (arith, none-some)
 
 pub HexSoFar-end : (text old octets rest : Octets)
     → HexSoFar text old octets rest → rest ≡ [] → AppendsHex text true old octets
@@ -92,7 +90,7 @@ hex_octets-append (h ∷ l ∷ text) others even =
 pub even_digits : (text d : Octets) → hex_octets text ≡ Some d → length text % 2 ≡ 0
 unfolding hex_octets
 even_digits [] d e = refl
-even_digits (h ∷ []) d e = absurd (none_is_some d e)
+even_digits (h ∷ []) d e = absurd (none-some d e)
 even_digits (h ∷ l ∷ text) d e = by_cases (even_digits text)
     (hex_octets text) refl (cases_Bool (is_ascii_hexdigit h && is_ascii_hexdigit l))
   where
@@ -100,6 +98,6 @@ even_digits (h ∷ l ∷ text) d e = by_cases (even_digits text)
         → hex_octets text ≡ o → ((is_ascii_hexdigit h && is_ascii_hexdigit l) ≡ true)
         ⊎ ((is_ascii_hexdigit h && is_ascii_hexdigit l) ≡ false) → length (h ∷ l ∷ text) % 2 ≡ 0
     by_cases even None none (inl digits) =
-        let f : None ≡ Some d = rw (digits, none) at e in absurd (none_is_some d f)
+        let f : None ≡ Some d = rw (digits, none) at e in absurd (none-some d f)
     by_cases even (Some x) some (inl digits) = omega (arith, even x some)
-    by_cases even o is (inr bad) = let f : None ≡ Some d = rw bad at e in absurd (none_is_some d f)
+    by_cases even o is (inr bad) = let f : None ≡ Some d = rw bad at e in absurd (none-some d f)

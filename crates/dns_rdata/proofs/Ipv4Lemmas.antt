@@ -1,5 +1,5 @@
 -- The numbers of an address stand between its dots.
-use Rattle.dns_rdata.proofs.Common.{◌≡◌, ◌↔◌, ℕ, [], ◌∷◌, ◌++◌, ◌+◌, ◌/◌, ◌%◌, ◌<◌, ◌≤◌, ◌⊎◌, length, refl, sym, ◌∙◌, ap, subst, arith, decimal, ne_eqb, eqb-false, lt-ltb, ltb-true, leb-true, and_from, and_parts, Octets, SaysIpv4, decimal_digit, decimal_step, decimal_injective, append-nil, Option, Some, None, four_numbers, OctetThen, number_at}
+use Rattle.dns_rdata.proofs.Common.{◌≡◌, ◌↔◌, ℕ, [], ◌∷◌, ◌++◌, ◌+◌, ◌/◌, ◌%◌, ◌<◌, ◌≤◌, ◌⊎◌, length, refl, sym, ◌∙◌, ap, subst, arith, decimal, ne_eqb, eqb-false, lt-ltb, ltb-true, leb-true, and_from, and_parts, Octets, SaysIpv4, decimal_digit, decimal_step, decimal_injective, append-nil, Option, Some, None, four_numbers, OctetThen, number_at, none-some}
 use Rattle.dns_name.specs.TextForm.{digit_at}
 
 -- a text begins with a digit or with none
@@ -136,10 +136,7 @@ Ipv4Iff text r = (d : Octets) → (r ≡ Some d) ↔ SaysIpv4 text d
 pub Ipv4Iff-none : (text : Octets) (r : Option Octets)
     → r ≡ None → ((d : Octets) → Ipv4Parts text d → ⊥) → Ipv4Iff text r
 Ipv4Iff-none text r none refuted = λ d.
-    (λ h. absurd (none_is_some d (sym none ∙ h)), λ h. absurd (refuted d (ipv4_parts text d h)))
-  where
-    none_is_some : (d : Octets) → None ≡ Some d → ⊥
-    none_is_some d e = cc
+    (λ h. absurd (none-some d (sym none ∙ h)), λ h. absurd (refuted d (ipv4_parts text d h)))
 
 pub Ipv4Iff-some : (text d : Octets) (r : Option Octets)
     → r ≡ Some d → Ipv4Parts text d → ((e : Octets) → Ipv4Parts text e → d ≡ e) → Ipv4Iff text r

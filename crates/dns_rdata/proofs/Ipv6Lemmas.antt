@@ -1,15 +1,11 @@
 -- Groups of an IPv6 address, read from left to right.
-use Rattle.dns_rdata.proofs.Common.{◌≡◌, ℕ, ◌+◌, ◌-◌, ◌*◌, ◌^◌, ◌<◌, ◌≤◌, Bool, true, false, ◌&&◌, ◌==◌, List, [], ◌∷◌, ◌++◌, length, take, drop, get_or, replicate, nat_lt, nat_le, refl, sym, ◌∙◌, ap, subst, arith, length-append, length-drop, option_map, option_and_then, list_all, slice_split, position_or_len, flat_map, bytes_high_first, OnTrue, is_ascii_hexdigit, digit_value, digits_value, and_from, true≢false, false≢true, eq-eqb, le-leb, lt-leb, ltb-true, ltb-false, le-ltb, leb-false, and_parts, eqb-true, same_Some, none-some, cond_some, option_and_then_some, Octets, Option, Some, None, if◌then◌else◌, position, MatchOption, append_assoc, take_all, length-replicate, list_all_more, slice_split_first, digits_value_more, pow-le-pow_right, pow-suc, add-one, is_group, group_values, groups_said, around_gap, filled_groups, eight_groups, groups_by, ipv6_groups, ipv6_octets, SaysIpv6, digit_of, few_groups}
-
-some_inner : {A : Type 0} (x y : A) → Some x ≡ Some y → x ≡ y
-some_inner x y e = cc
-
-none_is_some : {A : Type 0} (x : A) → None ≡ Some x → ⊥
-none_is_some x e = cc
+use Rattle.dns_rdata.proofs.Common.{◌≡◌, ℕ, ◌+◌, ◌-◌, ◌*◌, ◌^◌, ◌<◌, ◌≤◌, Bool, true, false, ◌&&◌, List, [], ◌∷◌, ◌++◌, length, take, drop, get_or, replicate, nat_lt, nat_le, refl, sym, ◌∙◌, ap, subst, arith, length-append, length-drop, option_map, option_and_then, list_all, slice_split, position_or_len, flat_map, bytes_high_first, OnTrue, is_ascii_hexdigit, digit_value, digits_value, and_from, true≢false, false≢true, eq-eqb, le-leb, lt-leb, ltb-true, ltb-false, le-ltb, leb-false, and_parts, eqb-true, same_Some, none-some, cond_some, option_and_then_some, Octets, Option, Some, None, if◌then◌else◌, position, MatchOption, append_assoc, length-replicate, list_all_more, slice_split_first, digits_value_more, pow-le-pow_right, pow-suc, add-one, is_group, group_values, groups_said, around_gap, filled_groups, eight_groups, groups_by, ipv6_groups, ipv6_octets, SaysIpv6, digit_of, few_groups}
+use Rattle.dns_spec.proofs.Common.{none-some, same_Some}
+use Rattle.dns_spec.proofs.DataWords.GroupsAgain.{is_colon, with_front}
 
 -- a hex digit, and none
 digit_is : (c v : ℕ) → Some v ≡ digit_of c → (is_ascii_hexdigit c ≡ true) × (v ≡ digit_value c)
-digit_is c v e = grind (arith, some_inner, none_is_some)
+digit_is c v e = grind (arith, same_Some, none-some)
 
 -- the digits of a group so far
 pub record GroupSoFar (text : Octets) (i value : ℕ) : Type 0 where
@@ -36,20 +32,16 @@ GroupSoFar-push text i value v so_far inside e small =
 -- eight groups one by one
 pub eight : (gs : List ℕ) → length gs ≡ 8 → gs ≡ get_or gs 0 0 ∷ get_or gs 1 0 ∷ get_or
     gs 2 0 ∷ get_or gs 3 0 ∷ get_or gs 4 0 ∷ get_or gs 5 0 ∷ get_or gs 6 0 ∷ get_or gs 7 0 ∷ []
-eight gs e = listed gs e
-  where
-    listed : (gs : List ℕ) → length gs ≡ 8 → gs ≡ get_or gs 0 0 ∷ get_or gs 1 0 ∷ get_or
-        gs 2 0 ∷ get_or gs 3 0 ∷ get_or gs 4 0 ∷ get_or gs 5 0 ∷ get_or gs 6 0 ∷ get_or gs 7 0 ∷ []
-    listed (a ∷ b ∷ c ∷ d ∷ f ∷ g ∷ h ∷ k ∷ []) e = refl
-    listed [] e = absurd (omega (arith, e))
-    listed (a ∷ []) e = absurd (omega (arith, e))
-    listed (a ∷ b ∷ []) e = absurd (omega (arith, e))
-    listed (a ∷ b ∷ c ∷ []) e = absurd (omega (arith, e))
-    listed (a ∷ b ∷ c ∷ d ∷ []) e = absurd (omega (arith, e))
-    listed (a ∷ b ∷ c ∷ d ∷ f ∷ []) e = absurd (omega (arith, e))
-    listed (a ∷ b ∷ c ∷ d ∷ f ∷ g ∷ []) e = absurd (omega (arith, e))
-    listed (a ∷ b ∷ c ∷ d ∷ f ∷ g ∷ h ∷ []) e = absurd (omega (arith, e))
-    listed (a ∷ b ∷ c ∷ d ∷ f ∷ g ∷ h ∷ k ∷ l ∷ gs) e = absurd (omega (arith, e))
+eight (a ∷ b ∷ c ∷ d ∷ f ∷ g ∷ h ∷ k ∷ []) e = refl
+eight [] e = absurd (omega (arith, e))
+eight (a ∷ []) e = absurd (omega (arith, e))
+eight (a ∷ b ∷ []) e = absurd (omega (arith, e))
+eight (a ∷ b ∷ c ∷ []) e = absurd (omega (arith, e))
+eight (a ∷ b ∷ c ∷ d ∷ []) e = absurd (omega (arith, e))
+eight (a ∷ b ∷ c ∷ d ∷ f ∷ []) e = absurd (omega (arith, e))
+eight (a ∷ b ∷ c ∷ d ∷ f ∷ g ∷ []) e = absurd (omega (arith, e))
+eight (a ∷ b ∷ c ∷ d ∷ f ∷ g ∷ h ∷ []) e = absurd (omega (arith, e))
+eight (a ∷ b ∷ c ∷ d ∷ f ∷ g ∷ h ∷ k ∷ l ∷ gs) e = absurd (omega (arith, e))
 
 pub eight_octets : (gs a b c d f g h k : List ℕ) → length gs ≡ 8 → a ≡ bytes_high_first 2 (get_or
     gs 0 0) → b ≡ bytes_high_first 2 (get_or gs 1 0) → c ≡ bytes_high_first 2 (get_or gs 2 0)
@@ -60,9 +52,6 @@ pub eight_octets : (gs a b c d f g h k : List ℕ) → length gs ≡ 8 → a ≡
     ∷ get_or g 0 0 ∷ get_or g 1 0 ∷ get_or h 0 0 ∷ get_or h 1 0 ∷ get_or k 0 0 ∷ get_or k 1 0 ∷ [])
     ≡ option_map (flat_map (bytes_high_first 2)) (eight_groups gs)
 eight_octets gs a b c d f g h k four ea eb ec ed ef eg eh ek = grind (arith, eight)
-
-abbrev pub with_front : Octets → Octets × Octets → Octets × Octets
-with_front front r = (front ++ r.0, r.1)
 
 -- what stands before a place has no gap
 pub record GapSoFar (text : Octets) (place : ℕ) : Type 0 where
@@ -80,10 +69,6 @@ GapSoFar-end text place so_far end = so_far.whole ∙ ap (option_map (with_front
     short (c ∷ []) h = refl
     short (c ∷ d ∷ t) h = absurd (omega (arith, h))
 
--- groups with colons between, one at least
-abbrev is_colon : ℕ → Bool
-is_colon o = o == 58
-
 abbrev one_or_more : Octets → Option (List ℕ)
 one_or_more text = group_values (slice_split is_colon text)
 
@@ -96,7 +81,7 @@ one_or_more-said text h = grind arith
 
 first_group : (text : Octets) (end : ℕ) → Some end ≡ position is_colon text
     → one_or_more text ≡ group_then (take end text) (one_or_more (drop (end + 1) text))
-first_group text end e = grind (arith, some_inner, ltb-true, none_is_some, slice_split_first)
+first_group text end e = grind (arith, same_Some, ltb-true, none-some, slice_split_first)
 
 one_part : (p : ℕ → Bool) (text : Octets)
     → length text ≤ position_or_len p text → slice_split p text ≡ text ∷ []
@@ -105,7 +90,7 @@ one_part p (x ∷ text) h = grind (arith, (one_part p text))
 
 last_group : (text : Octets)
     → None ≡ position is_colon text → one_or_more text ≡ group_then text (Some [])
-last_group text e = grind (arith, none_is_some, one_part, ltb-false)
+last_group text e = grind (arith, none-some, one_part, ltb-false)
 
 -- the groups read so far, and the text after them
 pub record GroupsSoFar (text : Octets) (groups : List ℕ) (rest : Octets) : Type 0 where
@@ -178,12 +163,6 @@ all_groups text rest old new so_far more e pushes =
     let few : few_groups new ≡ Some new = rw room refl in
     sym (ap (option_and_then few_groups) whole ∙ few)
 
--- a part of a slice up to its end
-pub to_end : (text : Octets) (from : ℕ)
-    → take (length text - from) (drop from text) ≡ drop from text
-to_end text from =
-    take_all (length text - from) (drop from text) (omega (arith, length-drop from text))
-
 -- zero groups after those in front, as far as there is room for those after
 pub record FilledSoFar (old groups back : List ℕ) : Type 0 where
   pub zeros : groups ≡ old ++ replicate (length groups - length old) 0
@@ -192,11 +171,11 @@ pub record FilledSoFar (old groups back : List ℕ) : Type 0 where
 
 -- what `few_groups` keeps
 few_none : (o : List ℕ) → None ≡ few_groups o → 8 < length o
-few_none o e = grind (arith, none_is_some, leb-false)
+few_none o e = grind (arith, none-some, leb-false)
 
 pub all_said : (gs : List ℕ) (o : Option (List ℕ))
     → Some gs ≡ option_and_then few_groups o → o ≡ Some gs
-all_said gs o h = grind (arith, none_is_some, some_inner)
+all_said gs o h = grind (arith, none-some, same_Some)
 
 abbrev octets_of : Option (List ℕ) → Option Octets
 octets_of = option_map (flat_map (bytes_high_first 2))

@@ -1,5 +1,4 @@
 pub mod Common
-pub mod TableRows
 pub mod TypeDigits
 pub mod NumberLemmas
 pub mod Ipv4Lemmas

@@ -1,5 +1,5 @@
 -- Digits read from left to right say a number, and only a number's own text says it.
-use Rattle.dns_rdata.proofs.Common.{◌≡◌, ◌↔◌, ℕ, [], ◌∷◌, ◌+◌, ◌-◌, ◌*◌, ◌<◌, ◌≤◌, ◌^◌, List, length, take, get_or, inl, inr, refl, sym, ◌∙◌, ap, subst, arith, decimal, cases_lt, IsAsciiDigit, IsNotAsciiDigit, AllDigits, digits_value, digits, Octets, take_all, Option, Some, None, SomeIff, digits_value_more, digits_more, digit_at, digits_value-take-le, numerals_by_value, tells_digits, decimal_is_IsNumeral, decimal-digits_value, first_decimal, length-decimal-le}
+use Rattle.dns_rdata.proofs.Common.{◌≡◌, ◌↔◌, ℕ, [], ◌∷◌, ◌+◌, ◌-◌, ◌*◌, ◌<◌, ◌≤◌, ◌^◌, List, length, take, get_or, inl, inr, refl, sym, ◌∙◌, ap, subst, arith, decimal, cases_lt, IsAsciiDigit, IsNotAsciiDigit, AllDigits, digits_value, digits, Octets, take_all, Option, Some, None, SomeIff, digits_value_more, digits_more, digit_at, digits_value-take-le, numerals_by_value, tells_digits, decimal_is_IsNumeral, decimal-digits_value, first_decimal, length-decimal-le, same_Some}
 
 -- an octet that is no digit
 pub no_digit : (ds : List ℕ) (i : ℕ)
@@ -86,13 +86,11 @@ pub SaysIff-some : (text : Octets) (most k : ℕ) (r : Option ℕ)
     → 0 < length text → (get_or text 0 0 ≡ 48 → length text ≡ 1) → SaysIff text most r
 SaysIff-some text most k r some value le small all some_octet zero_alone = λ n. (
   λ h.
-      (let one : k ≡ n = only k n (sym some ∙ h) in (text_is ∙ ap decimal one, omega (arith, one))),
+      (let one : k ≡ n = same_Some k n (sym some ∙ h) in
+      (text_is ∙ ap decimal one, omega (arith, one))),
   λ h. some ∙ ap (λ j. Some j) (value ∙ (says_digits text n (omega (arith, h.1)) h.0).1),
 )
   where
-    only : (k n : ℕ) → Some k ≡ Some n → k ≡ n
-    only k n e = cc
-
     text_is : text ≡ decimal k
     text_is =
         sym (decimal-digits_value (numerals_by_value (AllDigits 10) tells_digits)

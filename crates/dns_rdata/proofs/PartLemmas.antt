@@ -3,7 +3,8 @@ use Rattle.dns_rdata.proofs.Common.{◌==◌, ◌≡◌, ℕ, suc, ◌≤◌, tr
 use Rattle.dns_spec.specs.Data as Data
 use Rattle.dns_rdata.specs.declared.table.Piece.{Piece}
 use Rattle.dns_rdata.specs.declared.parts.Part.{Part}
-use Rattle.dns_rdata.proofs.TableRows.{found_passes}
+use Rattle.dns_spec.proofs.General.Options.{is_some-option_map}
+use Rattle.dns_spec.proofs.General.Tests.{entry_passes}
 
 -- what is cut after the first part
 pub cut_more : (p : Data.Piece) (ps : List Data.Piece)
@@ -16,10 +17,6 @@ pub cut_none : (p : Data.Piece) (ps : List Data.Piece) (os : Octets)
     → piece_front p os ≡ None → cut (p ∷ ps) os ≡ None
 unfolding cut
 cut_none p ps os e = grind arith
-
-is_some-option_map : {A B : Type 0} (f : A → B) (x : Option A)
-    → is_some (option_map f x) ≡ is_some x
-is_some-option_map f x = grind arith
 
 pub more_are_cut :
     (p : Data.Piece) (ps : List Data.Piece) (os : Octets) (part : Data.Part) (rest : Octets)
@@ -72,7 +69,7 @@ names_left ps os = grind (arith, All-nil, cut_names)
 
 -- no type has more than three pieces
 few_pieces : (t : ℕ) → length (pieces_of t) ≤ 3
-few_pieces t = grind (arith, leb-true, found_passes)
+few_pieces t = grind (arith, leb-true, entry_passes)
 
 cut_length : (ps : List Data.Piece) (os : Octets) (xs : List Data.Part)
     → cut ps os ≡ Some xs → length xs ≡ length ps

@@ -1,5 +1,7 @@
 -- Reading a string from left to right finds what it spells, and nothing else.
 use Rattle.dns_rdata.proofs.Common.{◌≡◌, ◌↔◌, ℕ, ◌<◌, ◌≤◌, true, false, inl, inr, ◌==◌, ◌||◌, if◌then◌else◌, [], ◌∷◌, ◌++◌, length, refl, sym, ◌∙◌, ap, subst, arith, length-append, Some, None, append_assoc, append-nil, cases_Bool, and_parts, not-true, eqb-true, false≢true, list_any, list_all, flat_map, Octets, SpellsString, SpellsStringOctet, string_octet_text, is_plain, octet_at, escaped_at, octet_at-OctetThen, OctetThen-octet_at}
+use Rattle.dns_spec.proofs.General.Options.{some_parts}
+use Rattle.dns_spec.proofs.Common.{none-some}
 
 -- a text is the spelling of an octet of a string, and others
 abbrev pub StringOctetThen : Octets → ℕ → Octets → Type 0
@@ -12,9 +14,6 @@ unfolding octet_at
 spelled_read text x others (first, e, inl spelled) =
     octet_at-OctetThen text x others (first, e, spelled)
 spelled_read text x others (first, e, inr (dot, is_dot)) = grind arith
-
-some_parts : (v w : ℕ × Octets) → Some v ≡ Some w → (v.0 ≡ w.0) × (v.1 ≡ w.1)
-some_parts v w e = grind arith
 
 read_spelled : (text : Octets) (x : ℕ) (others : Octets)
     → octet_at text ≡ Some (x, others) → StringOctetThen text x others
@@ -42,9 +41,6 @@ pub record StringSoFar (text read rest : Octets) : Type 0 where
 pub StringSoFar-none : (text : Octets) → StringSoFar text [] text
 StringSoFar-none text = record { all = λ s h. h; only = λ s h. (s, refl, h) }
 
-none_is_some : {A : Type 0} (x : A) → None ≡ Some x → ⊥
-none_is_some x e = cc
-
 pub StringSoFar-push : (text read rest : Octets) (x : ℕ) (others : Octets) → StringSoFar
     text read rest → octet_at rest ≡ Some (x, others) → StringSoFar text (read ++ x ∷ []) others
 unfolding octet_at
@@ -54,7 +50,7 @@ StringSoFar-push text read rest x others so_far e = record { all = all; only = o
     all s h = grind (arith, read_spelled, append_assoc)
 
     after : (t : Octets) → SpellsString rest t → (u : Octets) × (t ≡ x ∷ u) × SpellsString others u
-    after [] empty = absurd (none_is_some (x, others) (ap octet_at (sym empty) ∙ e))
+    after [] empty = absurd (none-some (x, others) (ap octet_at (sym empty) ∙ e))
     after (y ∷ u) (first, more, f, spelled, h) =
         let one = some_parts
         (y, more) (x, others) (sym (spelled_read rest y more (first, f, spelled)) ∙ e) in
@@ -64,10 +60,6 @@ StringSoFar-push text read rest x others so_far e = record { all = all; only = o
     only : (s : Octets)
         → SpellsString text s → (t : Octets) × (s ≡ (read ++ x ∷ []) ++ t) × SpellsString others t
     only s h = grind (arith, append_assoc, after)
-
-pub none_left : (text : Octets) → length text ≡ 0 → text ≡ []
-none_left [] e = refl
-none_left (o ∷ text) e = absurd (omega (arith, e))
 
 -- all of the text is read
 pub StringSoFar-end : (text read rest : Octets)
@@ -102,7 +94,7 @@ no_string text read rest so_far more none s h =
     by_cases : (t : Octets) → SpellsString rest t → ⊥
     by_cases [] empty = more empty
     by_cases (y ∷ t) (first, others, e, spelled, g) =
-        none_is_some (y, others) (sym none ∙ spelled_read rest y others (first, e, spelled))
+        none-some (y, others) (sym none ∙ spelled_read rest y others (first, e, spelled))
 
 -- a string of 255 octets has no more
 pub string_is_long : (text read rest : Octets) → StringSoFar text read rest

@@ -1,21 +1,13 @@
 -- What words say by the forms of a type is data of the type, where it is not too long, and what is
 -- kept of it is that data
 -- in lower case.
-use Rattle.dns_rdata.proofs.Common.{◌≡◌, ◌↔◌, ℕ, zero, suc, ◌*◌, ◌≤◌, Bool, true, false, ◌&&◌, nat_le, ◌==◌, List, [], ◌∷◌, ◌++◌, map, max, length, replicate, Option, Some, refl, sym, ap, ◌∙◌, subst, arith, append-nil, append_assoc, length-append, list_all, flat_map, is_some, option_map, unwrap_or, MatchOption, to_ascii_lowercase, and_parts, and_from, le-leb, leb-true, ne_eqb, false≢true, take_at, drop_at, flat_map-cons, Octets, DomainName, Fixed, width, numbers, ipv4, ipv6, Piece, fixed, domain, string, strings, anything, Part, octets, name, part_octets, part_folded, joined, octets_front, strings_front, piece_front, are_strings, cut, type_table, other_type, row_of, pieces_of, Valid, Word, WordForm, SaysWord, ipv6_word, ipv4_word, number_word, string_word, SaysForms, SaysTyped, SaysAsSpelled, Says, forms_in, map-lowercase-wire, IsName-is_name, cut-domain, cut-step, cut_whole, length-lowered, lowered_data, length-bytes_high_first, kept, SaysKept, AppendsFront, is_marked}
+use Rattle.dns_rdata.proofs.Common.{◌≡◌, ◌↔◌, ℕ, zero, suc, ◌*◌, ◌≤◌, Bool, true, false, ◌&&◌, nat_le, ◌==◌, List, [], ◌∷◌, ◌++◌, map, max, length, replicate, Option, Some, refl, sym, ap, ◌∙◌, subst, arith, append-nil, append_assoc, length-append, list_all, flat_map, is_some, option_map, unwrap_or, MatchOption, to_ascii_lowercase, and_parts, and_from, le-leb, leb-true, ne_eqb, false≢true, drop_at, flat_map-cons, Octets, DomainName, Fixed, width, numbers, ipv4, ipv6, Piece, fixed, domain, string, strings, anything, Part, octets, name, part_octets, part_folded, joined, octets_front, strings_front, piece_front, are_strings, cut, type_table, other_type, row_of, pieces_of, Valid, Word, WordForm, SaysWord, ipv6_word, ipv4_word, number_word, string_word, SaysForms, SaysTyped, SaysAsSpelled, Says, forms_in, map-lowercase-wire, IsName-is_name, cut-domain, cut-step, cut_whole, length-lowered, lowered_data, length-bytes_high_first, kept, SaysKept, AppendsFront, is_marked}
 use Rattle.dns_spec.proofs.Common.{TypeRow}
 use Rattle.dns_rdata.proofs.NameFronts.{strings_after}
-use Rattle.dns_rdata.proofs.TableRows.{found_passes}
 use Rattle.dns_rdata.proofs.Ipv6Lemmas.{length-ipv6}
 use Rattle.dns_rdata.proofs.FormFronts.{as_many_words, kept_said}
-
--- octets of so many begin with so many
-front_of : (k : ℕ) (x rest : Octets)
-    → length x ≡ k → octets_front k (x ++ rest) ≡ Some (octets x, rest)
-front_of k x rest e = rw (
-  le-leb k (length (x ++ rest)) (omega (arith, length-append x rest)),
-  take_at x rest k e,
-  drop_at x rest k e,
-) refl
+use Rattle.dns_spec.proofs.General.Tests.{entry_passes}
+use Rattle.dns_spec.proofs.DataWords.MadeData.{cut-octets}
 
 -- of words that say a piece and then more: the part that it is, and what says the rest
 record Front (p : Piece) (gs : List WordForm) (origin : DomainName) (d e : Octets) : Type 0 where
@@ -102,7 +94,7 @@ module _ (gs : List WordForm) (origin : DomainName) where
     rest = r.rest;
     low = r.low;
     others = r.others;
-    front = ap (octets_front (width f)) r.whole ∙ front_of (width f) r.run r.rest r.long;
+    front = ap (octets_front (width f)) r.whole ∙ cut-octets (width f) r.run r.rest r.long;
     lowered = r.kept_whole;
     more = r.more;
   }
@@ -146,7 +138,7 @@ piece_said k origin string ps ok (w ∷ ws) d e (front, back, low, is, kept_is, 
       low = low;
       others = ws;
       front = ap (piece_front string) (is ∙ ap (λ x. x ++ back) octets_are)
-          ∙ front_of (suc (length s)) (length s ∷ s) back refl;
+          ∙ cut-octets (suc (length s)) (length s ∷ s) back refl;
       lowered = kept_is ∙ ap (λ x. x ++ low) octets_are;
       more = h;
     }
@@ -229,8 +221,8 @@ module _ (t : ℕ) (row : TypeRow) (origin : DomainName) (ws : List Word) (count
     cut_of : CutInto row.pieces a.spelled e
     cut_of =
         let whole = simp append-nil at (a.on [] [] [] (refl, refl)) in
-        pieces_said count origin row.pieces (found_passes (λ (r : TypeRow). r.number == t)
-        (λ (r : TypeRow). are_in_order r.pieces) type_table row rows_in_order (sym is))
+        pieces_said count origin row.pieces (entry_passes (λ (r : TypeRow). r.number == t)
+        (λ (r : TypeRow). are_in_order r.pieces) type_table row (sym is) rows_in_order)
         ws a.spelled e (subst (λ v. SaysKept
         (flat_map (forms_in count) row.pieces) origin ws a.spelled v) (sym a.grown) whole)
 

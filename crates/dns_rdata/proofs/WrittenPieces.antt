@@ -2,9 +2,9 @@
 use Rattle.dns_rdata.proofs.Common.{◌≡◌, ℕ, ◌+◌, ◌<◌, Bool, true, ◌&&◌, ◌==◌, List, [], ◌∷◌, ◌++◌, length, drop, slice_index_or, Option, Some, None, refl, sym, ap, ◌∙◌, arith, add-one, drop-cons, and_parts, false≢true, is_some, option_map, list_all, flat_map, Octets, Piece, cut, piece_front, type_table, row_of, forms_in, words_by, unknown_words, string_count, data_text, piece_of, pieces_in, AreCut, spaced, piece_words, piece_rest, pieces_words, has_words, have_words}
 use Rattle.dns_spec.specs.Data as Data
 use Rattle.dns_rdata.specs.declared.table.Piece as code
-use Rattle.dns_rdata.proofs.TableRows.{found_passes}
 use Rattle.dns_rdata.proofs.PartLemmas.{cut_none, more_are_cut}
 use Rattle.dns_rdata.proofs.SpacedWords.{space, joined_words, spaced-forms, some_forms, after_piece, is_single, words_of_pieces}
+use Rattle.dns_spec.proofs.General.Tests.{entry_passes}
 
 module _
     (p : Piece) (ps : List Piece) (d : Octets) (are_cut : is_some (cut (p ∷ ps) d) ≡ true) where
@@ -63,8 +63,8 @@ module _ (t : ℕ) (row : Data.TypeRow) (found : Some row ≡ row_of t) where
   unfolding is_written
   row_tests =
       and_parts (have_words row.pieces) (list_all is_single (drop 1 row.pieces))
-      (found_passes (λ (r : Data.TypeRow). r.number == t) is_written type_table row rows_are_written
-      (sym found))
+      (entry_passes (λ (r : Data.TypeRow). r.number == t) is_written type_table row (sym found)
+      rows_are_written)
 
   pub row_text : (d : Octets) → spaced [] (pieces_words row.pieces d) ≡ data_text t d
   unfolding data_text

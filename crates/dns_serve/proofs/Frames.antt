@@ -1,6 +1,6 @@
 -- Octets that are not a whole frame, and a message in its frame, by the parts in which they are
 -- read.
-use Rattle.dns_spec.proofs.Common.{◌≡◌, ℕ, ◌+◌, ◌-◌, ◌^◌, ◌<◌, ◌≤◌, min, ◌⊎◌, inl, inr, [], ◌∷◌, ◌++◌, length, take, replicate, None, refl, sym, ap, ◌∙◌, arith, append_assoc, append-nil, length-append, cases_lt, leb-true, take_all, take-append-le, Octets, most_over_udp, field16, octets16, first_frame, IsCutFrame, All-cons, All-nil}
+use Rattle.dns_spec.proofs.Common.{◌≡◌, ℕ, ◌+◌, ◌-◌, ◌^◌, ◌<◌, ◌≤◌, min, ◌⊎◌, inl, inr, [], ◌∷◌, ◌++◌, length, take, replicate, None, refl, sym, ap, ◌∙◌, arith, append_assoc, append-nil, length-append, cases_lt, leb-true, take_all, take-append-le, Octets, most_over_udp, field16, octets16, first_frame, IsCutFrame, All-cons, All-nil, nil_from_length}
 use Rattle.dns_spec.proofs.Streams.StreamFrames.{two_again, length_zeros, cut_frame}
 
 -- the octets begin with no whole frame, since its length says more
@@ -45,13 +45,9 @@ kept_front n front rest hf hr = go (cases_lt n most_over_udp)
     go (inl less) =
         let short : length (front ++ rest) ≤ most_over_udp =
         omega (arith, length-append front rest, hf, hr, less) in
-        let none : rest ≡ [] = empty rest (omega (arith, hr, less)) in
+        let none : rest ≡ [] = nil_from_length rest (omega (arith, hr, less)) in
         sym (take_all most_over_udp (front ++ rest) short
         ∙ ap (λ r. front ++ r) none ∙ append-nil front)
-      where
-        empty : (r : Octets) → length r ≡ 0 → r ≡ []
-        empty [] e = refl
-        empty (x ∷ r) e = absurd (omega arith)
     go (inr more) =
         let len : length front ≡ most_over_udp = omega (arith, hf, more) in
         sym (take-append-le most_over_udp front rest (omega (arith, len))

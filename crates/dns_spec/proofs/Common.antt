@@ -20,11 +20,11 @@ pub use Rattle.std.proofs.Math.Arith.{mod-mul}
 pub use Rattle.std.proofs.Math.Bool.{and-false, or-false}
 pub use Rattle.std.proofs.Math.Nat.{min-eq_left, pow-le-pow_right}
 pub use Rattle.std.proofs.Math.Seq.{drop-append_seam, drop-cons, take-add, take-append-add, take-append_seam, take-length, take-suc}
-pub use Rattle.std.proofs.lemmas.Bool.{agree_below_at, and_from, and_left, and_parts, and_right, cases_Bool, cases_lt, cases_order, cond-true, cond_both, eq-eqb, eqb-false, eqb-true, false_from_ne_true, false≢true, le-leb, le-ltb, leb-false, leb-true, lt-leb, lt-ltb, ltb-false, ltb-true, ne_eqb, not-true, or_cases, or_left, or_parts, or_right, true≢false}
+pub use Rattle.std.proofs.lemmas.Bool.{MatchBool-at_true, OnTrue_at, agree_below_at, and_from, and_left, and_parts, and_right, cases_Bool, cases_lt, cases_order, cond-true, cond_both, eq-eqb, eqb-false, eqb-true, false_from_ne_true, false≢true, le-leb, le-ltb, leb-false, leb-true, lt-leb, lt-ltb, ltb-false, ltb-true, ne_eqb, not-true, or_cases, or_left, or_parts, or_right, true≢false}
 pub use Rattle.std.proofs.lemmas.Cmp.{lists_total, nat_cmp_total, nat_list_cmp_total, on_total, then_total, tied_itself, upto}
 pub use Rattle.std.proofs.lemmas.Fmt.{decimal_injective, decimal_is_IsNumeral, decimal_nonempty, digits_is_IsNumeral, first_decimal, hex_one_digit, hex_two_digits}
 pub use Rattle.std.proofs.lemmas.Grind.{common_steps, flat_map-append, get_or_default_zero}
-pub use Rattle.std.proofs.lemmas.List.{drop-drop, drop-take, drop_all, drop_at, drop_more, get_or-drop, get_or-map, get_or-set_other, get_or-set_same, get_or-take, get_or_append_left, get_or_default, get_or_push, length-map, length-replicate, length-reverse, length-take-le, map-append, map_push, nil_from_length, reverse-append, reverse-reverse, take-append-drop, take-append-le, take_all, take_at, take_more, take_rest}
+pub use Rattle.std.proofs.lemmas.List.{drop-drop, drop-take, drop_all, drop_at, drop_more, get_or-drop, get_or-map, get_or-set_other, get_or-set_same, get_or-take, get_or_append_left, get_or_default, get_or_push, length-map, length-replicate, length-reverse, length-take-le, map-append, map_push, nil_from_length, replicate_more, reverse-append, reverse-reverse, take-append-drop, take-append-le, take_all, take_at, take_more, take_rest}
 pub use Rattle.std.proofs.lemmas.List.Concat.{flat_map-cons}
 pub use Rattle.std.proofs.lemmas.List.Elements.{All-append, All-cons, All-contains, All-drop, All-from_recursion, All-head, All-nil, All-tail, All-take, All-weaker, filter-append, filter_map-append, recursion_from_All}
 pub use Rattle.std.proofs.lemmas.List.Filters.{length-filter_both}
@@ -35,7 +35,7 @@ pub use Rattle.std.proofs.lemmas.List.Splits.{slice_split_at, slice_split_none}
 pub use Rattle.std.proofs.lemmas.List.Sums.{fails_before_first, length-filter, passes_at_first, prefix_len-le-length}
 pub use Rattle.std.proofs.lemmas.Nat.{mul-add-lt, same_from_place}
 pub use Rattle.std.proofs.lemmas.Option.{cond_some, none-some, option_and_then_some, same_Some, slice_get-get_or, slice_get_past, slice_get_within, some_pair_parts}
-pub use Rattle.std.proofs.lemmas.Result.{err_from_is_err_and}
+pub use Rattle.std.proofs.lemmas.Result.{IfErr-weaker, err_from_is_err_and, on_err_weaker, on_ok_weaker}
 pub use Rattle.std.proofs.lemmas.Str.{digit_value-digit_char}
 pub use Rattle.std.proofs.lemmas.Str.Ascii.{lowercase-lowercase}
 pub use Rattle.std.proofs.lemmas.Str.Parse.{digit_from_value}
@@ -46,7 +46,7 @@ unfoldable pub use Rattle.dns_spec.specs.Answer.{chain, chain_from, extra, items
 pub use Rattle.dns_spec.specs.Checks.{Check, Fault, Passes, at_or_below_cut, checked_names, checks, count, data_at_cut, fails, fault_order, faults_at, first_is_asterisk, has_target, is_origin, is_owner, lacks_address, large_set, many_sets, most_of_a_set, most_sets, mx_target_alias, ns_target_alias, ns_target_lost, ttls_differ, wildcard_ns}
 unfoldable pub use Rattle.dns_spec.specs.Checks.{faults}
 pub use Rattle.dns_spec.specs.CommandWords.{AreOptions, AskToCheck, AskToServe, HasTurns, ServiceAsked, ZoneWords, by_lines, by_turns, is_dashed, service_words, tcp, udp}
-pub use Rattle.dns_spec.specs.ComputedReading.{RunStep, data_at, from_additionals, from_answers, from_authorities, jump, last_section, message_question_at, message_record_at, name_if_short, octets_upto, piece_at, pointer_step, question_after, record_after, record_with, run_end, run_label, run_pointer, step_of, strings_only, unlawful, value_at}
+pub use Rattle.dns_spec.specs.ComputedReading.{RunStep, data_at, from_additionals, from_answers, from_authorities, jump, last_section, message_question_at, message_record_at, name_if_short, octets_upto, piece_at, question_after, record_after, record_with, run_end, run_label, run_pointer, step_of, strings_only, unlawful, value_at}
 unfoldable pub use Rattle.dns_spec.specs.ComputedReading.{message_at, name_at, pieces_at, run, runs_before, several}
 pub use Rattle.dns_spec.specs.Data.{Fixed, Part, Piece, TypeRow, Valid, anything, are_strings, class_in, compresses, domain, first_name, fixed, ipv4, ipv6, joined, laid_parts, lower_case, name, number_of, numbers, octets, octets_front, other_type, part_folded, part_octets, parts, piece_front, pieces_of, qtype_any, row_of, soa_minimum, string, string_front, strings, strings_front, target, type_a, type_aaaa, type_cname, type_hinfo, type_mx, type_ns, type_soa, type_srv, type_table, type_txt, valid, width}
 unfoldable pub use Rattle.dns_spec.specs.Data.{cut}

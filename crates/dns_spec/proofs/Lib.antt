@@ -1,4 +1,5 @@
 pub mod Common
+pub mod General
 pub mod DomainNames
 pub mod NameTexts
 pub mod DataWords

@@ -1,4 +1,3 @@
 -- Records: their order, and lists of them with each record once.
 pub mod RecordOrder
-pub mod SortedOnce
 pub mod SameRecords

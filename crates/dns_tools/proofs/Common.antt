@@ -7,7 +7,6 @@ pub use Rattle.std.proofs.KnownBytes.{Consumes-kept}
 pub use Rattle.std.proofs.lemmas.List.{take_more_set}
 pub use Rattle.dns_master.specs.Codes.{fault_of}
 pub use Rattle.dns_master.specs.SourceForm.{GivesMeaning}
-pub use Rattle.dns_name.proofs.Results.{OnErr-always}
 pub use Rattle.dns_name.proofs.WritesLemmas.{Writes-after, Writes-same, Written, Written-begun, Written-more, beginning_of_first, beginning_of_second}
 pub use Rattle.dns_name.specs.Counted.{AppendsBeginning, Counted, Writes}
 pub use Rattle.dns_serve.proofs.OneTurn.{handed_unknown}
@@ -42,3 +41,4 @@ pub use Rattle.hex.proofs.Pairs.{cons_byte}
 pub use Rattle.hex.specs.Hex.{IsBytes, decode_of, encode_lower, hex_digit_value, lower_digits}
 unfoldable pub use Rattle.hex.specs.Hex.{decode_pairs, encode_with}
 pub use Rattle.hex.specs.declared.error.FromHexError.{FromHexError}
+pub use Rattle.dns_spec.proofs.General.Results.{OnErr-always}

@@ -2,6 +2,7 @@
 use Rattle.dns_tools.proofs.Common.{◌≡◌, ◌≢◌, ℕ, ◌+◌, ◌-◌, ◌^◌, ◌<◌, ◌≤◌, Bool, ◌&&◌, ◌⊎◌, inl, inr, [], ◌∷◌, ◌++◌, length, take, Option, Some, None, Result, Ok, Err, IsErrAnd, refl, sym, ap, ◌∙◌, subst, arith, append_assoc, append-nil, length-append, is_some, take_all, take-append-le, length-take-le, cases_lt, take-append-add, Appends, Consumes, IsAtEnd, Keeps, Octets, Appends-nil, Appends-trans, Consumes-trans, Consumes-kept, lines, line_ends, ended_lines, line_message, message_answer, line_answers, are_messages, AppendsBeginning, beginning_of_second, Session, Kept, IsFresh, Progress, Begun, Answered, IsInput, LinesAnswered, HasAnsweredLines, HasAnsweredEnded, HasBegunAnswers, Grows, KeepsUp, kept_message, Stop, Source, Sink}
 use Rattle.dns_tools.proofs.KeptLines.{line_alone, lines_nil, kept_says}
 use Rattle.dns_tools.proofs.LineRuns.{one_answer, one_flag, progress_none}
+use Rattle.dns_spec.proofs.Common.{nil_from_length}
 
 -- so much was read, and so many octets more may be
 pub record Reading (reply : Octets → Option Octets) (a b x y : Option Octets) (left : ℕ) (k : Kept)
@@ -16,14 +17,11 @@ front_lines : (front : Octets) → line_ends front ≡ 0 → length front ≢ 0 
 front_lines [] e some = absurd (some refl)
 front_lines (o ∷ front) e some = line_alone o front e
 
-nil_of : (x : Octets) → length x ≡ 0 → x ≡ []
-nil_of [] e = refl
-nil_of (o ∷ x) e = absurd (omega (arith, e))
-
 empty_front : (front line : Octets) → line ≡ take 131070 front → length line ≡ 0 → front ≡ []
 empty_front front line e none = elim (cases_lt (length front) 131070) [
   | inl small ↦
-      nil_of front (sym (ap length (e ∙ take_all 131070 front (omega (arith, small)))) ∙ none)
+      nil_from_length front (sym (ap length (e ∙ take_all 131070 front (omega (arith, small))))
+      ∙ none)
   | inr large ↦ absurd (omega (arith, none, ap length e, length-take-le 131070 front large))
 ]
 

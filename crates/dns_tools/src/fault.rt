@@ -32,7 +32,7 @@ impl From<AllocError> for Stop {
 
 impl Stop {
     /// What a program says of it.
-    pub fn word(self) -> FaultWord
+    fn word(self) -> FaultWord
         ensures { result ≡ word_of self }
     {
         match self {

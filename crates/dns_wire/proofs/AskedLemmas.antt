@@ -1,8 +1,9 @@
 -- The name of the question has the places of its suffixes, whatever comes after it; each of them
 -- stands so far before its end.
-use Rattle.dns_wire.proofs.Common.{◌≡◌, ℕ, zero, suc, ◌+◌, ◌-◌, ◌<◌, ◌≤◌, true, ◌⊎◌, inl, inr, List, [], ◌∷◌, ◌++◌, length, take, drop, refl, sym, ap, ◌∙◌, subst, arith, append_assoc, length-append, take-append-drop, take_at, replicate, ap₂, Option, None, Some, IfSome, and_parts, list_all, Octets, DomainName, wire, is_name, is_label, take-add, drop-drop, drop-take, take-append-le, length-take, length-drop, Stands, run_written, labels_of_spelled, IsWireForm-wire, labels_of, IsWireForm, Kept, IsKept, SpellsName, IsSharedAt, NoneSpelled, AfterLabel, name_before, IsAsked, asked_places, NotAsked, IsLastOf, new_places}
+use Rattle.dns_wire.proofs.Common.{◌≡◌, ℕ, zero, suc, ◌+◌, ◌-◌, ◌<◌, ◌≤◌, true, ◌⊎◌, inl, inr, List, [], ◌∷◌, ◌++◌, length, take, drop, refl, sym, ap, ◌∙◌, subst, arith, append_assoc, length-append, take-append-drop, take_at, replicate, ap₂, Option, None, Some, IfSome, and_parts, list_all, Octets, DomainName, wire, is_name, is_label, drop-drop, drop-take, take-append-le, length-take, length-drop, Stands, run_written, labels_of_spelled, IsWireForm-wire, labels_of, IsWireForm, Kept, IsKept, SpellsName, IsSharedAt, NoneSpelled, AfterLabel, name_before, IsAsked, asked_places, NotAsked, IsLastOf, new_places}
 use Rattle.dns_wire.proofs.SuffixLemmas.{one_run, next_label, kept-root}
 use Rattle.dns_wire.proofs.NameWritten.{kept_left, kept_right, kept_split, kept_sound, kept_complete, NewSuffix, is_name-suffix}
+use Rattle.dns_spec.proofs.DomainNames.WireNames.{wire_split, longer_wire}
 
 -- what stands between the header and its end
 pub before_is : {b : Octets} {a : ℕ} {front name : Octets}
@@ -82,28 +83,6 @@ is_asked_whole {b} {a} n o e ok short end = record {
   near = omega (arith, short, end);
   name = λ h. IsWireForm-wire (name_before b a) n (name_whole n b o a e end) ok;
 }
-
--- octets written over after it leave it
-pub take_patched : (a k : ℕ) (b x b' : Octets)
-    → b' ≡ take k b ++ x → a ≤ k → k ≤ length b → take a b' ≡ take a b
-take_patched a k b x b' e low inside =
-    let long = length-take k b in
-    let front = length-take a b in
-    let more : a + (k - a) ≡ k = omega (arith, low) in
-    let split : take k b ≡ take a b ++ take (k - a) (drop a b) =
-    ap (λ j. take j b) (sym more) ∙ take-add a (k - a) b in
-    ap (take a) e ∙ take-append-le a (take k b) x (omega (arith, low, long, inside)) ∙ ap (take a)
-    split ∙ take_at (take a b) (take (k - a) (drop a b)) a (omega (arith, front, low, inside))
-
--- a suffix of the name stands so far before its end
-pub wire_split : (front s : DomainName) → (x : Octets) × (wire (front ++ s) ≡ x ++ wire s)
-wire_split [] s = ([], refl)
-wire_split (l ∷ front) s =
-    let r = wire_split front s in (
-      length l ∷ (l ++ r.0),
-      ap (λ z. length l ∷ (l ++ z)) r.1
-          ∙ ap (λ z. length l ∷ z) (sym (append_assoc l r.0 (wire s))),
-    )
 
 record StandsBefore (b : Octets) (a : ℕ) (n s : DomainName) : Type 0 where
   stands : Stands b (a - length (wire s)) (wire s)
@@ -285,10 +264,6 @@ last_label {name} {rest} {after} {count} k last a longer = record {
 
 pub last_of : {name rest : Octets} {count : ℕ} → Last name rest count → IsLastOf name rest
 last_of last n e ok = let a = last.all n e ok in (a.front, a.left, a.whole, a.spelled)
-
-longer_wire : (g s : DomainName) → length (wire s) ≤ length (wire (g ++ s))
-longer_wire [] s = omega arith
-longer_wire (l ∷ g) s = let h = longer_wire g s in omega (arith, h, length-append l (wire (g ++ s)))
 
 pub last_here : {name rest : Octets} {count : ℕ} → Last name rest count
     → length rest ≤ count → (n front t : DomainName) (l : Octets) → name ≡ wire n

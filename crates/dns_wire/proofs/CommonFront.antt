@@ -1,45 +1,14 @@
 -- Octets that a message spells at a place stand there, but for a pointer where the two differ.
-use Rattle.dns_wire.proofs.Common.{◌≡◌, ℕ, zero, suc, ◌+◌, ◌<◌, ◌≤◌, [], ◌∷◌, ◌++◌, length, take, drop, slice_get, Some, refl, sym, ap, ap₂, ◌∙◌, subst, arith, append_assoc, length-append, drop_at, get_or, ltb-true, ltb-false, take-add, Octets, DomainName, wire, RunAt, ends, goes_on, jumps, length-take-le, length-drop, drop-drop, none-some, same_Some, slice_get_within, get_or_from_slice_get, slice_get-get_or, LabelAt, PointerAt, NoRunAt, SpelledAt, HasAt, IsCommon}
-use Rattle.dns_wire.proofs.Runs.{get_more, label_there, pointer_there}
+use Rattle.dns_wire.proofs.Common.{◌≡◌, ℕ, ◌+◌, ◌<◌, ◌≤◌, [], ◌∷◌, ◌++◌, length, take, drop, slice_get, Some, refl, sym, ap, ap₂, ◌∙◌, subst, arith, length-append, drop_at, get_or, ltb-true, ltb-false, take-add, Octets, DomainName, wire, RunAt, ends, goes_on, jumps, length-take-le, length-drop, drop-drop, same_Some, slice_get_within, get_or_from_slice_get, LabelAt, PointerAt, NoRunAt, SpelledAt, HasAt, IsCommon}
+use Rattle.dns_wire.proofs.Runs.{label_there, pointer_there}
+use Rattle.dns_spec.proofs.DomainNames.WireNames.{label_octets, wire_front}
+use Rattle.dns_spec.proofs.General.Places.{get_taken, get_dropped, get_front, get_seam, drop_get}
 
 -- so many octets in front are in common
 pub record InCommon (same : ℕ) (left right : Octets) : Type 0 where
   pub within : same ≤ length left
   pub most : same ≤ length right
   pub alike : take same left ≡ take same right
-
--- the octets of labels, without the root's
-abbrev pub label_octets : DomainName → Octets
-label_octets [] = []
-label_octets (l ∷ n) = length l ∷ (l ++ label_octets n)
-
-pub wire_front : (f t : DomainName) → wire (f ++ t) ≡ label_octets f ++ wire t
-wire_front [] t = refl
-wire_front (l ∷ f) t = grind (arith, append_assoc, (wire_front f t))
-
--- where an element of a part stands in the whole
-get_taken : (m k : ℕ) (xs : Octets) → k < m → slice_get (take m xs) k ≡ slice_get xs k
-get_taken zero k xs h = absurd (omega arith)
-get_taken (suc m) k [] h = refl
-get_taken (suc m) zero (x ∷ xs) h = refl
-get_taken (suc m) (suc k) (x ∷ xs) h = get_taken m k xs (omega arith)
-
-get_dropped : (s k : ℕ) (b : Octets) → slice_get (drop s b) k ≡ slice_get b (s + k)
-get_dropped zero k b = ap (slice_get b) {x = k} {y = 0 + k} (omega arith)
-get_dropped (suc s) k [] = refl
-get_dropped (suc s) k (x ∷ b) = grind (arith, (get_dropped s k b))
-
-get_front : (x y : Octets) (k : ℕ) → k < length x → slice_get (x ++ y) k ≡ slice_get x k
-get_front x y k h = let at = slice_get-get_or x k 0 h in get_more x y k _ at ∙ sym at
-
-get_seam : (x y : Octets) → slice_get (x ++ y) (length x) ≡ slice_get y 0
-get_seam [] y = refl
-get_seam (o ∷ x) y = get_seam x y
-
-drop_get : (b : Octets) (i k : ℕ) → slice_get b i ≡ Some k → drop i b ≡ k ∷ drop (i + 1) b
-drop_get [] i k at = absurd (none-some k at)
-drop_get (x ∷ b) zero k at = ap (λ z. z ∷ b) (same_Some x k at)
-drop_get (x ∷ b) (suc i) k at = grind (arith, (drop_get b i k))
 
 -- a label before other octets
 has_label : {b y : Octets} {i : ℕ} (l : Octets) → LabelAt b i l → HasAt b (i + 1 + length l) y

@@ -1,8 +1,8 @@
 -- A name laid out is one more earlier name: the message spells its suffixes, and the places kept
 -- answer for them.
-use Rattle.dns_wire.proofs.Common.{◌≡◌, ℕ, zero, suc, ◌+◌, ◌-◌, ◌<◌, ◌≤◌, Bool, true, false, cond, nat_le, ◌⊎◌, inl, inr, List, [], ◌∷◌, ◌++◌, length, take, drop, replicate, slice_get, Option, None, Some, refl, sym, ap, ap₂, ◌∙◌, subst, arith, append_assoc, append-nil, length-append, and_parts, leb-true, none-some, same_Some, take-append-le, take-append-add, list_all, Octets, DomainName, wire, is_name, is_label, RunAt, ends, goes_on, jumps, Placed, has_suffix, suffix_place, place_of, last_place, shared_place, shared_octets, is_name-tail, Stands, begins_inside, suffix_from, suffix_to, place_again, place_pushed, shared_is, shared_to, shared_none, shared_whole, shared_pointed, shared_root, Known, known_more, Kept, IsKept, front_size, pointed_place, end_octets, new_places, Answers, Holds}
-use Rattle.dns_wire.proofs.Runs.{get_more}
+use Rattle.dns_wire.proofs.Common.{◌≡◌, ℕ, zero, suc, ◌+◌, ◌-◌, ◌<◌, ◌≤◌, Bool, true, false, cond, nat_le, ◌⊎◌, inl, inr, List, [], ◌∷◌, ◌++◌, length, take, drop, replicate, slice_get, Option, None, Some, refl, sym, ap, ap₂, ◌∙◌, subst, arith, append_assoc, append-nil, length-append, and_parts, leb-true, none-some, same_Some, take-append-add, list_all, Octets, DomainName, wire, is_name, is_label, RunAt, ends, goes_on, jumps, Placed, has_suffix, suffix_place, place_of, last_place, shared_place, shared_octets, is_name-tail, Stands, begins_inside, suffix_from, suffix_to, place_again, place_pushed, shared_is, shared_to, shared_none, shared_whole, shared_pointed, shared_root, Known, known_more, Kept, IsKept, front_size, pointed_place, end_octets, new_places, Answers, Holds}
 use Rattle.dns_wire.proofs.SuffixLemmas.{front-as, front-root, pointed-as, pointed-root, kept-as, kept-more, kept-root}
+use Rattle.dns_spec.proofs.General.Places.{get_more, take_within}
 
 -- a name is laid out as its front and its end
 pub shared_cut : (ms : List Placed) (n : DomainName)
@@ -26,19 +26,12 @@ shared_cut ms (l ∷ n) = go (shared_place ms (l ∷ n)) refl (shared_cut ms n)
         shared_pointed ms l n p e ∙ ap₂ (λ k x. take k (wire (l ∷ n)) ++ end_octets x)
         (sym (front-as ms l n e)) (sym (pointed-as ms l n e))
 
--- what is read stays, whatever comes after
-take_more : (b x : Octets) (i k : ℕ)
-    → i + k ≤ length b → take k (drop i (b ++ x)) ≡ take k (drop i b)
-take_more b x zero k h = take-append-le k b x (omega (arith, h))
-take_more [] x (suc i) k h = absurd (omega arith)
-take_more (y ∷ b) x (suc i) k h = take_more b x i k (omega arith)
-
 run_more : {b : Octets} {s i e : ℕ} {n : DomainName} (x : Octets)
     → RunAt b s i n e → RunAt (b ++ x) s i n e
 run_more {b} x (ends i at) = ends i (get_more b x i 0 at)
 run_more {b} x (goes_on i k l n e at some short within is rest) =
     goes_on i k l n e (get_more b x i k at) some short (omega (arith, within, length-append b x))
-    (is ∙ sym (take_more b x (i + 1) k within)) (run_more x rest)
+    (is ∙ sym (take_within b x (i + 1) k within)) (run_more x rest)
 run_more {b} x (jumps i o o' p n e at high at' is from before rest) =
     jumps i o o' p n e
     (get_more b x i o at) high (get_more b x (i + 1) o' at') is from before (run_more x rest)

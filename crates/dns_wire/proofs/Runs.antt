@@ -1,12 +1,5 @@
 -- What a run of labels has at a place decides how it goes on.
-use Rattle.dns_wire.proofs.Common.{pointer_place, ◌≡◌, ℕ, zero, suc, List, ◌+◌, ◌<◌, ◌≤◌, true, IfSome, [], ◌∷◌, ◌++◌, length, take, drop, get_or, slice_get, Option, Some, refl, sym, ap, ◌∙◌, subst, arith, append_assoc, append-nil, length-append, none-some, same_Some, slice_get_within, slice_get-get_or, Octets, DomainName, wire, is_name, RunAt, NameAt, ends, goes_on, jumps, length-take-le, length-drop, LabelAt, PointerAt, NoRunAt, NoNameAt, IsReading, end_or}
-
--- what is read stays, whatever comes after
-pub get_more : {A : Type 0} (xs ys : List A) (i : ℕ) (x : A)
-    → slice_get xs i ≡ Some x → slice_get (xs ++ ys) i ≡ Some x
-get_more [] ys i x at = absurd (none-some x at)
-get_more (y ∷ xs) ys zero x at = at
-get_more (y ∷ xs) ys (suc i) x at = get_more xs ys i x at
+use Rattle.dns_wire.proofs.Common.{pointer_place, ◌≡◌, ℕ, ◌+◌, ◌<◌, ◌≤◌, true, IfSome, [], ◌∷◌, ◌++◌, length, take, drop, get_or, slice_get, Option, Some, refl, sym, ap, ◌∙◌, subst, arith, append_assoc, append-nil, length-append, same_Some, slice_get_within, slice_get-get_or, Octets, DomainName, wire, is_name, RunAt, NameAt, ends, goes_on, jumps, length-take-le, length-drop, LabelAt, PointerAt, NoRunAt, NoNameAt, IsReading, end_or}
 
 -- how a run goes on from place i: it ends, has a label, or a pointer
 pub data GoesOn (b : Octets) (s i : ℕ) (n : DomainName) (e : ℕ) : Type 0 where

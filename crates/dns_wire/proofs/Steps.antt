@@ -8,7 +8,7 @@ use Rattle.dns_wire.proofs.SuffixLemmas.{follows_none, follows_again}
 pub kept_with : {N size a : ℕ} {b : Octets} {ks : List Kept} {n : Counts} {d : Draft} → IsWellKept N
     size d → length b ≤ d.limit → 2 * length ks ≤ length b → IsAsked b a → 12 ≤ length b → n.answers
     + n.authorities + n.additionals ≤ length b → IsWellKept N size (draft_of d.limit b a ks n)
-kept_with s within few asked header listed = grind arith
+kept_with s within few asked header fit = grind arith
 
 -- with octets after the others
 pub kept_longer : {N size : ℕ} {d : Draft} (o : Octets) → IsWellKept N size d
@@ -16,10 +16,10 @@ pub kept_longer : {N size : ℕ} {d : Draft} (o : Octets) → IsWellKept N size 
 kept_longer {d = d} o s fits =
     let few = s.few in
     let header = s.header in
-    let listed = s.listed in
+    let fit = s.counts_fit in
     let long = length-append d.octets o in
     kept_with s (omega (arith, fits, long)) (omega (arith, few, long)) (is_asked_more
-    o s.asked refl refl) (omega (arith, header, long)) (omega (arith, listed, long))
+    o s.asked refl refl) (omega (arith, header, long)) (omega (arith, fit, long))
 
 pub grows_not : (d : Draft) → Grows d d
 grows_not d = grind (arith, follows_none)

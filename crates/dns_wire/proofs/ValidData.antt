@@ -1,6 +1,7 @@
 -- Data that is read is data of its type, of at most 65,535 octets.
-use Rattle.dns_wire.proofs.Common.{AllByRecursion, ◌≡◌, ℕ, suc, ◌+◌, ◌-◌, ◌≤◌, Bool, true, ◌||◌, nat_le, ◌==◌, List, [], ◌∷◌, ◌++◌, length, slice_get, get_or, Some, is_some, unwrap_or, refl, sym, ap, ◌∙◌, subst, arith, append-nil, add-zero, length-append, if◌then◌else◌, le-leb, ne_eqb, eqb-true, same_Some, slice_get_within, slice_get-get_or, find, Octets, class_in, width, Piece, fixed, domain, string, strings, anything, TypeRow, other_type, Part, octets, octets_front, string_front, piece_front, cut, valid, OctetsAt, PiecesAt, DataAt, length-take-le, length-drop, take_at, drop_at, nil_from_length, get_or-take, get_or-drop, IsName-is_name, name_of-wire, more_are_cut}
+use Rattle.dns_wire.proofs.Common.{AllByRecursion, ◌≡◌, ℕ, suc, ◌+◌, ◌-◌, ◌≤◌, Bool, true, ◌||◌, nat_le, ◌==◌, List, [], ◌∷◌, ◌++◌, length, slice_get, get_or, Some, is_some, unwrap_or, refl, sym, ap, ◌∙◌, subst, arith, append-nil, add-zero, length-append, if◌then◌else◌, ne_eqb, eqb-true, same_Some, slice_get_within, slice_get-get_or, find, Octets, class_in, width, Piece, fixed, domain, string, strings, anything, TypeRow, other_type, Part, octets, string_front, piece_front, cut, valid, OctetsAt, PiecesAt, DataAt, length-take-le, length-drop, nil_from_length, get_or-take, get_or-drop, IsName-is_name, name_of-wire, more_are_cut}
 use Rattle.dns_wire.proofs.PieceLemmas.{all_forward, run_past}
+use Rattle.dns_spec.proofs.DataWords.MadeData.{cut-octets}
 
 -- the octets between two places are as many as there are places
 octets_length : {b : Octets} {i e : ℕ} {o : Octets} → OctetsAt b i e o → length o ≡ e - i
@@ -104,16 +105,12 @@ cut_more : (p : Piece) (ps : List Piece) (d rest : Octets) (part : Part)
     → piece_front p d ≡ Some (part, rest) → IsCut ps rest → IsCut (p ∷ ps) d
 cut_more p ps d rest part front more = more_are_cut p ps d part rest front ∙ more
 
-front_cut : (k : ℕ) (o rest : Octets)
-    → length o ≡ k → octets_front k (o ++ rest) ≡ Some (octets o, rest)
-front_cut k o rest long = grind (arith, le-leb, length-append, take_at, drop_at)
-
 pieces_cut : (b : Octets) (ps : List Piece) (i e : ℕ) (d : Octets)
     → PiecesAt b ps i e d → IsCut ps d
 unfolding cut
 pieces_cut b [] i e d h = grind arith
 pieces_cut b (fixed f ∷ ps) i e d h =
-    grind (arith, octets_length, cut_more, front_cut, (pieces_cut b ps (i + width f) e h.1 h.4))
+    grind (arith, octets_length, cut_more, cut-octets, (pieces_cut b ps (i + width f) e h.1 h.4))
 pieces_cut b (domain ∷ ps) i e d h =
     grind (arith, cut_more, name_of-wire, (pieces_cut b ps h.1 e h.2 h.5))
 pieces_cut b (string ∷ ps) i e d h = cut_more string ps d h.2
@@ -127,7 +124,7 @@ pieces_cut b (string ∷ ps) i e d h = cut_more string ps d h.2
         let first : k ≡ h.0 =
         ap (λ (xs : Octets). get_or xs 0 0) (sym p) ∙ first_octet b i h.0 h.1 h.3 h.4 in
         ap (λ o. string_front (o ++ h.2)) p
-        ∙ front_cut (suc k) (k ∷ os) h.2 (long ∙ ap suc (sym first))
+        ∙ cut-octets (suc k) (k ∷ os) h.2 (long ∙ ap suc (sym first))
         ∙ ap (λ o. Some (octets o, h.2)) (sym p)
 pieces_cut b (strings ∷ ps) i e d h =
     grind (arith, nothing_between, append-nil, ne_eqb, cut_more, (pieces_cut b ps h.2 e h.1 h.8))

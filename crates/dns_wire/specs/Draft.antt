@@ -141,4 +141,4 @@ pub record IsWellKept (N size : ℕ) (d : Draft) : Type 0 where
   pub most : N ≤ 8192
   pub asked : IsAsked d.octets d.asked_end
   pub header : 12 ≤ length d.octets
-  pub listed : d.counts.answers + d.counts.authorities + d.counts.additionals ≤ length d.octets
+  pub counts_fit : d.counts.answers + d.counts.authorities + d.counts.additionals ≤ length d.octets

@@ -3,8 +3,8 @@ use Rattle.dns_zone.proofs.Common.{Bool, DomainName, List, ResourceRecord, [], a
 use Rattle.dns_zone.proofs.AtName.{is_at}
 use Rattle.dns_zone.proofs.KidRows.{is_under}
 use Rattle.dns_zone.proofs.NameTree.{itself-under, under-trans}
-use Rattle.dns_zone.proofs.Pairs.{filter_within}
 use Rattle.dns_zone.proofs.Spans.{drop_span}
+use Rattle.dns_spec.proofs.General.Filters.{filter_within}
 
 module _ {X : Type 0} (p : X → Bool) (xs : List X) (a b : ℕ) (h : a ≤ b)
     (e : filter p (drop b xs) ≡ []) where

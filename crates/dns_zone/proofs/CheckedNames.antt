@@ -3,23 +3,13 @@ use Rattle.dns_zone.proofs.Common.{◌≡◌, ℕ, ◌+◌, suc, ◌<◌, ◌≤
 use Rattle.dns_zone.proofs.KeyOrder.{key_order}
 use Rattle.dns_zone.proofs.NameOrder.{same-is}
 use Rattle.dns_zone.proofs.NameTree.{under-order}
-use Rattle.dns_zone.proofs.Pairs.{Pairs, halves, pairs_of, each_both, each_get, parted, filter_none}
 use Rattle.dns_zone.proofs.ReportedNames.{owners, among_once, among_checked}
-use Rattle.dns_zone.proofs.Spans.{map_each, some_passes}
 use Rattle.dns_zone.proofs.TopmostCut.{at_cut, covers, covered, uncovered, topmost_fits}
-
-pub among_map : {X Y : Type 0} (f : X → Y) (y : Y) (xs : List X) → Among y (map f xs)
-    → (x : X) × Among x xs × (y ≡ f x)
-among_map f y [] m = absurd m
-among_map f y (x ∷ xs) (inl e) = (x, inl refl, e)
-among_map f y (x ∷ xs) (inr m) =
-    let (a, k, e) = among_map f y xs m in (a, inr k, e)
-
-pub map_among : {X Y : Type 0} (f : X → Y) (x : X) (xs : List X) → Among x xs
-    → Among (f x) (map f xs)
-map_among f x [] m = m
-map_among f x (y ∷ ys) (inl e) = inl (ap f e)
-map_among f x (y ∷ ys) (inr m) = inr (map_among f x ys m)
+use Rattle.dns_spec.proofs.General.Elements.{each_both, each_get, map_each, mapped_among, among_mapped}
+use Rattle.dns_spec.proofs.General.Filters.{filter_none}
+use Rattle.dns_spec.proofs.General.Pairs.{Pairs, pairs_of, parted}
+use Rattle.dns_spec.proofs.General.Fronts.{halves}
+use Rattle.dns_spec.proofs.General.Tests.{any_among}
 
 -- names that rise, each with each after it
 pub rises_pairs : {X : Type 0} (f : X → DomainName) (xs : List X) → Rises name_order (map f xs)
@@ -30,7 +20,8 @@ rises_pairs f (x ∷ xs) h =
 
 -- those up to place i are the element there, or in order with it
 pub last_at : {X : Type 0} (R : X → X → Type 0) (xs : List X) (i : ℕ) (d : X) → Pairs R xs
-    → i < length xs → AllByRecursion (λ x. (x ≡ get_or xs i d) ⊎ R x (get_or xs i d)) (take (suc i) xs)
+    → i < length xs
+    → AllByRecursion (λ x. (x ≡ get_or xs i d) ⊎ R x (get_or xs i d)) (take (suc i) xs)
 last_at R [] i d h l = tt
 last_at R (x ∷ xs) zero d h l = (inl refl, tt)
 last_at R (x ∷ xs) (suc i) d h l = grind (arith, each_get, (last_at R xs i d h.1 (omega arith)))
@@ -66,11 +57,11 @@ module _ (z : ZoneContents) where
       → same r.owner m ≡ true → Among m (owners_once z.records)
   owner_among m low r a e =
       among_once m z.records (subst (λ n. Among n (owners z.records)) (same-is r.owner m e ∙ low)
-      (map_among (λ (s : ResourceRecord). folded s.owner) r z.records a))
+      (among_mapped (λ (s : ResourceRecord). folded s.owner) r z.records a))
 
   -- a cut is an owner
   pub cut_among : (c : DomainName) → Lower c → is_cut z c ≡ true → Among c (owners_once z.records)
-  cut_among c low h = grind (arith, some_passes, and_parts, owner_among)
+  cut_among c low h = grind (arith, any_among, and_parts, owner_among)
 
   pub none_at : (m : DomainName) → Lower m → (Among m (owners_once z.records) → ⊥) → at z m ≡ []
   none_at m low f = grind (arith, filter_none, each_among, false_from_ne_true, owner_among)
@@ -79,7 +70,8 @@ module _ (z : ZoneContents) where
   name = name_of z
 
   -- a search among names in order
-  module _ (names : List CheckedName) (each : AllByRecursion (λ c. IsChecked z (name_of z c) c) names)
+  module _ (names : List CheckedName)
+      (each : AllByRecursion (λ c. IsChecked z (name_of z c) c) names)
       (rise : Rises name_order (map (name_of z) names)) (m : DomainName) (low : Lower m)
       (key : Octets) (key_is : key ≡ name_key m) where
     key_tells : (c : CheckedName) → IsChecked z (name c) c
@@ -175,7 +167,7 @@ module _ (z : ZoneContents) where
             go (inr l) =
                 let zero_is : k ≡ 0 = omega arith in
                 let (c, b, e) =
-                among_map name z.origin names (subst (Among z.origin) (sym all)
+                mapped_among name z.origin names (subst (Among z.origin) (sym all)
                 (among_checked z z.origin (inl (sym low_origin)))) in
                 absurd (subst (λ j. Among c (take j names)) zero_is (upto_among c b
                 (ap (λ n. is_gt (name_order n m)) (sym e) ∙ under-order m z.origin under)))
@@ -186,7 +178,7 @@ module _ (z : ZoneContents) where
           checked = last_checked i next c is;
           upto = last_upto i next c is;
           last = λ n a e.
-              let (d, b, f) = among_map name n names (subst (Among n) (sym all) a) in
+              let (d, b, f) = mapped_among name n names (subst (Among n) (sym all) a) in
               ap (λ j. is_gt (name_order j (name c))) f
               ∙ upto_last i next c is d b (ap (λ j. is_gt (name_order j m)) (sym f) ∙ e);
         }

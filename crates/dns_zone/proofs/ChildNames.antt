@@ -1,8 +1,8 @@
 -- Names one label below a name.
 use Rattle.dns_zone.proofs.Common.{◌≡◌, ◌+◌, ◌<◌, ◌≤◌, Bool, true, false, nat_lt, if◌then◌else◌, List, [], ◌∷◌, ◌++◌, map, reverse, length, drop, refl, sym, ap, ap₂, ◌∙◌, arith, is_gt, false≢true, and_parts, and_from, leb-true, lt-ltb, ltb-true, ltb-false, cases_lt, nat_list_cmp_total, tied_itself, slice_cmp, to_ascii_lowercase, Octets, DomainName, wire, folded, same, at_or_below, below, label_order, name_order, reverse-append, append_assoc, at_or_below-short, same-length-wire, ending}
-use Rattle.dns_zone.proofs.AtName.{first_part}
 use Rattle.dns_zone.proofs.NameOrder.{same-is}
 use Rattle.dns_zone.proofs.NameTree.{Under, under-is, under-from, under-trans, below-cons}
+use Rattle.dns_spec.proofs.General.Orderings.{first_part}
 
 -- a name m one label below n, which an owner is at or below
 pub record IsChildOf (n owner m : DomainName) : Type 0 where

@@ -1,7 +1,8 @@
 -- Names that end with the same labels, and the keys that begin alike then.
 use Rattle.dns_zone.proofs.Common.{◌≡◌, ℕ, ◌-◌, ◌<◌, ◌≤◌, true, [], ◌∷◌, ◌++◌, length, take, drop, sym, ap, ◌∙◌, arith, append_assoc, length-append, cases_order, take-append_seam, Octets, DomainName, wire, is_name, labels_of_spelled, labels_of, IsWireForm, name_key, EndsWith}
-use Rattle.dns_zone.proofs.KeyOrder.{some_octets, key_length}
+use Rattle.dns_zone.proofs.KeyOrder.{key_length}
 use Rattle.dns_zone.proofs.KeyPrefix.{key_append}
+use Rattle.dns_spec.proofs.DomainNames.WireNames.{wire_some, longer_wire}
 
 pub ends_first : (n m : DomainName) (l : Octets) → n ≡ l ∷ m → EndsWith n m
 ends_first n m l e = record { front = l ∷ []; whole = e }
@@ -17,15 +18,10 @@ pub size : (xs : Octets) → IsWireForm xs → length xs ≡ length (wire (label
 size xs w = ap length (sym w.wire_is)
 
 pub some : (xs : Octets) → IsWireForm xs → 0 < length xs
-some xs w = omega (arith, size xs w, some_octets (labels_of xs))
-
--- a name with labels in front is longer
-more : (n e : DomainName) → length (wire e) ≤ length (wire (n ++ e))
-more [] e = omega arith
-more (l ∷ n) e = omega (arith, more n e, length-append l (wire (n ++ e)))
+some xs w = omega (arith, size xs w, wire_some (labels_of xs))
 
 pub fits : (n e : DomainName) → EndsWith n e → length (wire e) ≤ length (wire n)
-fits n e f = omega (arith, more f.front e, ap (λ x. length (wire x)) f.whole)
+fits n e f = omega (arith, longer_wire f.front e, ap (λ x. length (wire x)) f.whole)
 
 -- an end as long as the name is the name
 pub ends_whole : (n e : DomainName) → EndsWith n e → length (wire n) ≤ length (wire e) → n ≡ e
@@ -33,7 +29,7 @@ ends_whole n e f h = go f.front f.whole
   where
     go : (front : DomainName) → n ≡ front ++ e → n ≡ e
     go [] w = w
-    go (l ∷ ls) w = grind (arith, more, length-append)
+    go (l ∷ ls) w = grind (arith, longer_wire, length-append)
 
 -- and a longer name ends so after its first label
 pub ends_after : (n m e : DomainName) (l : Octets) → EndsWith n e → n ≡ l ∷ m
@@ -55,7 +51,7 @@ both_roots xs ys w v f g = sym (root xs w f) ∙ root ys v g
         go : (n : DomainName) → wire n ≡ zs → wire [] ≡ zs
         go [] e = e
         go (l ∷ n) e =
-            absurd (omega (arith, h, ap length e, some_octets n, length-append l (wire n)))
+            absurd (omega (arith, h, ap length e, wire_some n, length-append l (wire n)))
 
 -- the key of a name begins with that of its end
 pub key_begins : (n e : DomainName) (key : Octets) (k : ℕ)

@@ -1,12 +1,8 @@
 -- Which names exist in a built zone.
-use Rattle.dns_zone.proofs.Common.{◌≡◌, ◌<◌, Bool, true, false, ◌&&◌, not, ◌==◌, List, [], ◌∷◌, map, length, refl, sym, ap, ap₂, ◌∙◌, arith, and_parts, false≢true, or_right, lt-ltb, length-map, to_ascii_lowercase, list_any, Octets, DomainName, folded, same, at_or_below, type_soa, ResourceRecord, ZoneContents, at, owns, is_owner, exists, IsReadRecord, folded_folded, AllByRecursion, Among, each_weaker, filter_among, recursion_from_All, checks_of_origin, passes_check, each_among, IsNode, IsBuilt}
+use Rattle.dns_zone.proofs.Common.{◌≡◌, ◌<◌, Bool, true, false, ◌&&◌, not, ◌==◌, List, [], ◌∷◌, map, length, refl, sym, ap, ap₂, ◌∙◌, arith, and_parts, false≢true, lt-ltb, length-map, to_ascii_lowercase, Octets, DomainName, folded, same, at_or_below, type_soa, ResourceRecord, ZoneContents, at, owns, is_owner, exists, IsReadRecord, folded_folded, AllByRecursion, Among, each_weaker, filter_among, recursion_from_All, checks_of_origin, passes_check, each_among, IsNode, IsBuilt, inl, inr, outside}
 use Rattle.dns_zone.proofs.NameOrder.{same-from}
 use Rattle.dns_zone.proofs.NameTree.{itself-under}
-
-pub any_weaker : {X : Type 0} (p q : X → Bool) (xs : List X) → ((x : X) → p x ≡ true → q x ≡ true)
-    → list_any p xs ≡ true → list_any q xs ≡ true
-any_weaker p q [] f e = absurd (false≢true e)
-any_weaker p q (x ∷ xs) f e = grind (arith, or_right, (any_weaker p q xs f))
+use Rattle.dns_spec.proofs.General.Tests.{any_weaker}
 
 -- only the lower case of a name counts
 pub under-lower : (n a b : DomainName) → folded a ≡ folded b → length a ≡ length b

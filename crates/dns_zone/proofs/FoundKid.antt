@@ -1,6 +1,6 @@
 -- A label among those of children, which rise.
 use Rattle.dns_zone.proofs.Common.{◌≡◌, ℕ, zero, suc, ◌+◌, ◌-◌, ◌/◌, ◌<◌, ◌≤◌, ◌⊎◌, inl, inr, List, [], ◌∷◌, map, length, get_or, sym, ap, ◌∙◌, add-one, arith, subst, Less, Equal, Greater, cases_lt, false≢true, nat_list_cmp_total, tied_itself, get_or-map, length-map, get_or_default, Octets, label_order, ResourceRecord, Among, Rises, among_contains, row_label, row_at, room_after, Row, Walk}
-use Rattle.dns_zone.proofs.Pairs.{each_get}
+use Rattle.dns_spec.proofs.General.Elements.{each_get}
 
 rises_at : (ls : List Octets) (i j : ℕ) → Rises label_order ls → i < j → j < length ls
     → label_order (get_or ls i []) (get_or ls j []) ≡ Less

@@ -1,13 +1,16 @@
 -- The rows of a name's children, added one by one.
 use Rattle.dns_zone.proofs.Common.{AddsKids, Among, Bool, DomainName, AllByRecursion, Equal, Greater, IsCanonical, IsKid, IsRow, Less, List, Octets, Ordering, ResourceRecord, Rises, Row, [], ap, append-nil, append_assoc, ap₂, arith, at_or_below, drop, drop-drop, drop_at, drop_more, each_at, each_weaker, false, false_from_ne_true, false≢true, filter, filter-append, filter_each, filter_test, first_of, folded, folded_folded, get_or, get_or-map, inl, inr, is_gt, label_order, labels_of_spelled, length, length-append, list_any, list_any-append, map, map-append, names_equal, names_equal-decides, or_cases, or_right, owners, refl, row_label, row_name, row_octets, same, same-length, span, subst, suc, sym, take, take-append-drop, take_at, to_ascii_lowercase, true, true≢false, under, ℕ, ◌++◌, ◌+◌, ◌-◌, ◌<◌, ◌∙◌, ◌∷◌, ◌≡◌, ◌≤◌, ◌⊎◌}
-use Rattle.dns_zone.proofs.Pairs.{Pairs, filter_none}
 use Rattle.dns_zone.proofs.NameTree.{label-tie}
 use Rattle.dns_zone.proofs.AtName.{OwnerNotAfter, owners_in_order, is_at}
 use Rattle.dns_zone.proofs.Existing.{under-lower}
-use Rattle.dns_zone.proofs.Spans.{drop_span, take_span, none_before, none_past, in_span, nothing_each, nothing_there, nothing_further, some_passes, any_there, any_nothing, among_left, among_right, each_drop, each_push}
+use Rattle.dns_zone.proofs.Spans.{drop_span, take_span, none_before, none_past, in_span, nothing_further}
 use Rattle.dns_zone.proofs.ChildNames.{cons_under, one_above, labels_in_order, other_below, under-longer}
 use Rattle.dns_zone.proofs.BoundedKids.{none_under}
-use Rattle.dns_zone.proofs.KidRows.{is_under, pairs_drop, IsBetween, IsNext}
+use Rattle.dns_zone.proofs.KidRows.{is_under, IsBetween, IsNext}
+use Rattle.dns_spec.proofs.General.Elements.{each_drop, each_push, among_front, among_back}
+use Rattle.dns_spec.proofs.General.Filters.{filter_none, nothing_there, filter_nothing}
+use Rattle.dns_spec.proofs.General.Tests.{any_nothing, any_among, among_any}
+use Rattle.dns_spec.proofs.General.Pairs.{Pairs, pairs_drop}
 
 pub row_is : (rs : List ResourceRecord) (row : Row) (n : DomainName) → IsRow rs row n
     → row_name rs row ≡ n
@@ -28,7 +31,8 @@ pub record Adding (rs : List ResourceRecord) (n : DomainName) (own_end : ℕ) (o
   pub each : AllByRecursion (IsKid rs n) kids
   pub rising : Rises label_order (map (row_label rs) kids)
   pub ahead : (l : Octets) → list_any (is_under (l ∷ n)) (drop next rs) ≡ true
-      → AllByRecursion (λ k. label_order k (map to_ascii_lowercase l) ≡ Less) (map (row_label rs) kids)
+      → AllByRecursion (λ k. label_order k (map to_ascii_lowercase l) ≡ Less)
+      (map (row_label rs) kids)
   pub all : (l : Octets) → list_any (is_under (l ∷ n)) (take next rs) ≡ true
       → Among (map to_ascii_lowercase l) (map (row_label rs) kids)
   pub few : length kids ≤ next
@@ -150,7 +154,7 @@ module _ (rs : List ResourceRecord) (canonical : IsCanonical rs) (n : DomainName
     rest = drop_more rs k blank k_inside
 
     any_here : list_any (is_under m) (drop k rs) ≡ true
-    any_here = grind (arith, any_there, is_under, rest, first_under)
+    any_here = grind (arith, among_any, is_under, rest, first_under)
 
     any_later : (p : ResourceRecord → Bool) → list_any p (drop kid.end rs) ≡ true
         → list_any p (drop k rs) ≡ true
@@ -185,7 +189,7 @@ module _ (rs : List ResourceRecord) (canonical : IsCanonical rs) (n : DomainName
         → label_order (row_label rs kid) (map to_ascii_lowercase l) ≡ Less
     unfolding m
     later l e =
-        let s = some_passes (is_under (l ∷ n)) (drop kid.end rs) e in
+        let s = any_among (is_under (l ∷ n)) (drop kid.end rs) e in
         let l' = map to_ascii_lowercase l in
         let under_l = lower_child s.0 l s.2 in
         let lower_l : map to_ascii_lowercase l' ≡ l' = ap first_of (folded_folded (l ∷ [])) in
@@ -196,7 +200,7 @@ module _ (rs : List ResourceRecord) (canonical : IsCanonical rs) (n : DomainName
         let apart : h.label ≡ l' → ⊥ =
         λ q. false≢true
         (sym (each_at (λ r. is_under m r ≡ false) s.0 (drop kid.end rs)
-        (nothing_each (is_under m) (drop kid.end rs) none_after) s.1)
+        (filter_nothing (is_under m) (drop kid.end rs) none_after) s.1)
         ∙ ap (λ (x : Octets). is_under (x ∷ n) s.0) q ∙ under_l)
         in
         ap (λ (x : Octets). label_order x l') label_is
@@ -212,10 +216,12 @@ module _ (rs : List ResourceRecord) (canonical : IsCanonical rs) (n : DomainName
     take_now : take kid.end rs ≡ take k rs ++ under m rs
     take_now = take_span k kid.end rs order ∙ ap (λ xs. take k rs ++ xs) group
 
-    before_it : AllByRecursion (λ x. label_order x (row_label rs kid) ≡ Less) (map (row_label rs) a.kids)
+    before_it : AllByRecursion (λ x. label_order x (row_label rs kid) ≡ Less)
+        (map (row_label rs) a.kids)
     unfolding m
     before_it =
-        subst (λ (y : Octets). AllByRecursion (λ x. label_order x y ≡ Less) (map (row_label rs) a.kids))
+        subst (λ (y : Octets). AllByRecursion (λ x. label_order x y ≡ Less)
+        (map (row_label rs) a.kids))
         (label_lower ∙ sym label_is) (a.ahead h.label any_here)
 
     all_now : (l : Octets) → list_any (is_under (l ∷ n)) (take kid.end rs) ≡ true
@@ -230,16 +236,16 @@ module _ (rs : List ResourceRecord) (canonical : IsCanonical rs) (n : DomainName
         go : (list_any (is_under (l ∷ n)) (take k rs) ≡ true)
             ⊎ (list_any (is_under (l ∷ n)) (under m rs) ≡ true)
             → Among (map to_ascii_lowercase l) (map (row_label rs) a.kids ++ row_label rs kid ∷ [])
-        go (inl f) = grind (arith, among_left)
+        go (inl f) = grind (arith, among_front)
         go (inr f) =
-            let s = some_passes (is_under (l ∷ n)) (under m rs) f in
+            let s = any_among (is_under (l ∷ n)) (under m rs) f in
             let one : m ≡ map to_ascii_lowercase l ∷ n =
             one_above s.0.owner m (map to_ascii_lowercase l ∷ n)
             (filter_test (is_under m) s.0 rs s.1) (lower_child s.0 l s.2) refl is_kid.lower
             (ap₂ (λ (x : Octets) (y : DomainName). x ∷ y) (ap first_of (folded_folded (l ∷ [])))
             is_row.lower)
             in
-            among_right (map to_ascii_lowercase l) (map (row_label rs) a.kids)
+            among_back (map to_ascii_lowercase l) (map (row_label rs) a.kids)
             (row_label rs kid ∷ []) (inl (sym (ap first_of one) ∙ sym label_is))
 
     between_now : IsBetween rs n kid.end

@@ -1,16 +1,16 @@
 -- The owners of a zone, as they are added to the names that are checked, and the origin.
 use Rattle.dns_zone.proofs.Common.{append-nil, ◌≡◌, ℕ, zero, suc, true, false, ◌⊎◌, inl, inr, List, [], ◌∷◌, ◌++◌, map, take, drop, refl, sym, ap, ◌∙◌, subst, arith, get_or, is_gt, Ordering, Less, Equal, Greater, true≢false, tied_itself, Bor, IsPartitionedBy, ordering_reverse, Octets, DomainName, folded, at_or_below, name_order, ResourceRecord, ZoneContents, name_tie, name_order_total, one_lower, append_assoc, map_push, AllByRecursion, Among, Rises, each_at, each_weaker, name_key, name_of, is_upto, IsTopmost, IsChecked, AreChecked, AreOwners, ComesNext, IsOwner, owners_once, AreOrdered, IsFront, CheckedName}
-use Rattle.dns_zone.proofs.SetTests.{each_map}
-use Rattle.dns_zone.proofs.Spans.{each_push, among_append, among_get, map_each}
 use Rattle.dns_zone.proofs.AtName.{owners_in_order}
-use Rattle.dns_zone.proofs.CheckedNames.{among_map, map_among, itself_upto, equal_upto, one_key, cut_among, none_at, upto_parted, upto_among, after_each, in_order, last_checked, last_upto}
+use Rattle.dns_zone.proofs.CheckedNames.{itself_upto, equal_upto, one_key, cut_among, none_at, upto_parted, upto_among, after_each, in_order, last_checked, last_upto}
 use Rattle.dns_zone.proofs.NameTree.{under-from, under-order}
 use Rattle.dns_zone.proofs.ReportedNames.{once_rise, IsName, names_checked}
 use Rattle.dns_zone.proofs.TopmostCut.{topmost_none}
+use Rattle.dns_spec.proofs.General.Elements.{each_map, each_push, among_get, map_each, each_put, put_among, among_put, among_either, mapped_among, among_mapped}
 
 -- what stands before a name in a list that rises, and after it
 rises_around : (ns ms : List DomainName) (n : DomainName) → Rises name_order (ns ++ n ∷ ms)
-    → AllByRecursion (λ m. name_order m n ≡ Less) ns × AllByRecursion (λ m. name_order n m ≡ Less) ms
+    → AllByRecursion (λ m. name_order m n ≡ Less) ns
+    × AllByRecursion (λ m. name_order n m ≡ Less) ms
 rises_around [] ms n h = (tt, h.0)
 rises_around (k ∷ ns) ms n h =
     let rest = rises_around ns ms n h.1 in ((middle ns h.0, rest.0), rest.1)
@@ -47,7 +47,8 @@ root_first z ns = record {
 -- one owner more
 module _ (z : ZoneContents) (ordered : AreOrdered z.records) (ns ms : List DomainName)
     (n : DomainName) (all : ns ++ n ∷ ms ≡ owners_once z.records) (low : folded n ≡ n) where
-  around : AllByRecursion (λ m. name_order m n ≡ Less) ns × AllByRecursion (λ m. name_order n m ≡ Less) ms
+  around : AllByRecursion (λ m. name_order m n ≡ Less) ns
+      × AllByRecursion (λ m. name_order n m ≡ Less) ms
   around = grind (arith, rises_around, once_rise, owners_in_order)
 
   pub comes_next : (last key origin : Octets) (cut : ℕ) (own : List ResourceRecord)
@@ -63,7 +64,7 @@ module _ (z : ZoneContents) (ordered : AreOrdered z.records) (ns ms : List Domai
     owner = i;
     upto = h.from.0;
     cuts = λ c d is u.
-        go c u (among_append c ns (n ∷ ms) (subst (Among c) (sym all) (cut_among z c d is)));
+        go c u (among_either c ns (n ∷ ms) (subst (Among c) (sym all) (cut_among z c d is)));
   }
     where
       go : (c : DomainName) → at_or_below n c ≡ true
@@ -100,37 +101,15 @@ pub all_added : (z : ZoneContents) (names : List CheckedName) (c : CheckedName) 
     → map (name_of z) (names ++ c ∷ []) ++ ms ≡ map (name_of z) names ++ n ∷ ms
 all_added z names c n ms f = grind (arith, map_push, append_assoc)
 
--- an element more, at a place
-each_insert : {X : Type 0} (P : X → Type 0) (xs : List X) (i : ℕ) (x : X) → AllByRecursion P xs → P x
-    → AllByRecursion P (take i xs ++ x ∷ drop i xs)
-each_insert P xs zero x e p = (p, e)
-each_insert P [] (suc i) x e p = (p, tt)
-each_insert P (y ∷ ys) (suc i) x e p = (e.0, each_insert P ys i x e.1 p)
-
-module _ {X Y : Type 0} (f : X → Y) where
-  insert_among : (a : Y) (xs : List X) (i : ℕ) (x : X)
-      → Among a (map f (take i xs ++ x ∷ drop i xs)) → (a ≡ f x) ⊎ Among a (map f xs)
-  insert_among a xs zero x m = m
-  insert_among a [] (suc i) x m = m
-  insert_among a (y ∷ ys) (suc i) x (inl e) = inr (inl e)
-  insert_among a (y ∷ ys) (suc i) x (inr m) = grind (arith, (insert_among a ys i x m))
-
-  among_insert : (a : Y) (xs : List X) (i : ℕ) (x : X) → (a ≡ f x) ⊎ Among a (map f xs)
-      → Among a (map f (take i xs ++ x ∷ drop i xs))
-  among_insert a xs zero x m = m
-  among_insert a [] (suc i) x m = m
-  among_insert a (y ∷ ys) (suc i) x (inl e) = inr (among_insert a ys i x (inl e))
-  among_insert a (y ∷ ys) (suc i) x (inr (inl e)) = inl e
-  among_insert a (y ∷ ys) (suc i) x (inr (inr m)) = inr (among_insert a ys i x (inr m))
-
 insert_rises : {X : Type 0} (f : X → DomainName) (xs : List X) (i : ℕ) (x : X) → Rises name_order
-    (map f xs) → AllByRecursion (λ y. name_order (f y) (f x) ≡ Less) (take i xs) → AllByRecursion (λ y. name_order
+    (map f xs) → AllByRecursion (λ y. name_order (f y) (f x) ≡ Less) (take i xs)
+    → AllByRecursion (λ y. name_order
     (f x) (f y) ≡ Less) (drop i xs) → Rises name_order (map f (take i xs ++ x ∷ drop i xs))
 insert_rises f xs zero x h e g = (each_map (λ n. name_order (f x) n ≡ Less) f xs g, h)
 insert_rises f [] (suc i) x h e g = (tt, tt)
 insert_rises f (y ∷ ys) (suc i) x h e g = (
   each_map (λ n. name_order (f y) n ≡ Less) f (take i ys ++ x ∷ drop i ys)
-      (each_insert (λ z. name_order (f y) (f z) ≡ Less) ys i x
+      (each_put (λ z. name_order (f y) (f z) ≡ Less) ys i x
       (map_each f (λ n. name_order (f y) n ≡ Less) ys h.0) e.0),
   insert_rises f ys i x h.1 e.1 g,
 )
@@ -167,7 +146,7 @@ module _ (z : ZoneContents) (low : folded z.origin ≡ z.origin) (ordered : AreO
       where
         go : (c : CheckedName) → name_of z c ≡ o → Among c names → (a : DomainName) → IsName z a
             → Among a (map (name_of z) names)
-        go c e m a (inl f) = grind (arith, map_among)
+        go c e m a (inl f) = grind (arith, among_mapped)
         go c e m a (inr k) = subst (Among a) (sym are.all) k
 
     abbrev origin_name : Bor Octets → CheckedName
@@ -179,7 +158,7 @@ module _ (z : ZoneContents) (low : folded z.origin ≡ z.origin) (ordered : AreO
       none m =
           grind (
             arith,
-            among_map,
+            mapped_among,
             upto_among,
             rise,
             key_is,
@@ -197,12 +176,12 @@ module _ (z : ZoneContents) (low : folded z.origin ≡ z.origin) (ordered : AreO
           let c = origin_name b in
           let checked : IsChecked z o c = grind (arith, none_at, none, topmost_none) in
           record {
-            each = each_insert (λ d. IsChecked z (name_of z d) d) names k c are.each checked;
+            each = each_put (λ d. IsChecked z (name_of z d) d) names k c are.each checked;
             all = names_checked z (map (name_of z) (take k names ++ c ∷ drop k names))
                 (insert_rises (name_of z) names k c rise before
                 (after_each z names are.each rise o low key key_is k front))
-                (λ a m. from a (insert_among (name_of z) a names k c m))
-                (λ a m. among_insert (name_of z) a names k c (back a m));
+                (λ a m. from a (put_among (name_of z) a names k c m))
+                (λ a m. among_put (name_of z) a names k c (back a m));
           }
         where
           from : (a : DomainName) → (a ≡ o) ⊎ Among a (map (name_of z) names) → IsName z a
@@ -215,7 +194,8 @@ module _ (z : ZoneContents) (low : folded z.origin ≡ z.origin) (ordered : AreO
 
     -- all before it, where the last of them is another
     pub others_before : (i : ℕ) → k ≡ suc i → (c : CheckedName) → c ≡ get_or names i c
-        → (c.key.now ≡ key → ⊥) → AllByRecursion (λ d. name_order (name_of z d) o ≡ Less) (take k names)
+        → (c.key.now ≡ key → ⊥)
+        → AllByRecursion (λ d. name_order (name_of z d) o ≡ Less) (take k names)
     others_before i next c is f =
         each_weaker (λ d. (d ≡ c) ⊎ (name_order (name_of z d) (name_of z c) ≡ Less))
         (λ d. name_order (name_of z d) o ≡ Less) (take k names) go

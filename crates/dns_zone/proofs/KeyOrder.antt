@@ -1,10 +1,7 @@
 -- The keys of names in lower case stand in the order of the names.
-use Rattle.dns_zone.proofs.Common.{◌≡◌, ℕ, ◌+◌, ◌<◌, ◌≤◌, ◌⊎◌, inl, inr, List, [], ◌∷◌, ◌++◌, length, drop, get_or, map, reverse, refl, sym, ap, ap₂, ◌∙◌, Ordering, Less, Equal, Greater, nat_cmp, arith, cases_order, cases_lt, lt-ltb, le-ltb, flat_map-cons, to_ascii_lowercase, nat_cmp_is, slice_cmp, flat_map, ordering_then, Octets, DomainName, folded, label_order, name_order, wire, reverse-append, map_push, length-map, length-append, flat_map_more, lowercase_is, raised, ended, name_key}
-
--- the root's length ends a name
-pub some_octets : (n : DomainName) → 0 < length (wire n)
-some_octets [] = omega arith
-some_octets (l ∷ n) = omega arith
+use Rattle.dns_zone.proofs.Common.{◌≡◌, ℕ, ◌+◌, ◌<◌, ◌≤◌, ◌⊎◌, inl, inr, [], ◌∷◌, ◌++◌, length, drop, get_or, map, reverse, refl, sym, ap, ap₂, ◌∙◌, Ordering, Less, Equal, Greater, nat_cmp, arith, cases_order, cases_lt, lt-ltb, le-ltb, flat_map-cons, to_ascii_lowercase, nat_cmp_is, slice_cmp, flat_map, ordering_then, Octets, DomainName, folded, label_order, name_order, wire, reverse-append, length-map, length-append, flat_map_more, lowercase_is, raised, ended, name_key}
+use Rattle.dns_spec.proofs.General.Orderings.{then_assoc}
+use Rattle.dns_spec.proofs.General.Elements.{map_reverse}
 
 -- an octet of a name in lower case
 abbrev pub IsLow : ℕ → Type 0
@@ -36,10 +33,6 @@ raised_order x y p q = go (cases_order x y)
     go (inr (inr l)) = sym (nat_cmp_is (raised x) (raised y) Greater (raised_less y x q p l))
         ∙ nat_cmp_is x y Greater l
 
-then_of_then : (a b c : Ordering)
-    → ordering_then a (ordering_then b c) ≡ ordering_then (ordering_then a b) c
-then_of_then a b c = grind arith
-
 -- ended labels are compared as the labels, and what stands after them after that
 ended_order : (xs ys us vs : Octets)
     → map to_ascii_lowercase xs ≡ xs → map to_ascii_lowercase ys ≡ ys → slice_cmp nat_cmp
@@ -56,7 +49,7 @@ ended_order (x ∷ xs) (y ∷ ys) us vs p q =
       raised_order,
       low_octet,
       get_or,
-      then_of_then,
+      (λ (a b c : Ordering). sym (then_assoc a b c)),
       nat_cmp,
       label_order,
       slice_cmp,
@@ -98,12 +91,6 @@ key_flat [] = refl
 key_flat (l ∷ n) =
     ap (λ xs. xs ++ ended l) (key_flat n) ∙ flat_map_more ended [] (reverse n) l
     ∙ ap (flat_map ended) (sym (reverse-append (l ∷ []) n))
-
-pub map_reverse : {X Y : Type 0} (f : X → Y) (xs : List X) → map f (reverse xs) ≡ reverse (map f xs)
-map_reverse f [] = refl
-map_reverse f (x ∷ xs) =
-    ap (map f) (reverse-append (x ∷ []) xs) ∙ map_push f (reverse xs) x
-    ∙ ap (λ ys. ys ++ f x ∷ []) (map_reverse f xs) ∙ sym (reverse-append (f x ∷ []) (map f xs))
 
 pub key_order : (n m : DomainName)
     → folded n ≡ n → folded m ≡ m → slice_cmp nat_cmp (name_key n) (name_key m) ≡ name_order n m

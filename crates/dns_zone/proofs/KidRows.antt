@@ -1,24 +1,19 @@
 -- Names among records in canonical order, and the name of the next child below one.
-use Rattle.dns_zone.proofs.Common.{AreOrdered, Bool, DomainName, AllByRecursion, IsCanonical, IsPartitionedBy, IsReadRecord, List, Octets, ResourceRecord, [], ap, ap₂, arith, at_or_below, below, drop, each_weaker, ending, false, false≢true, filter, filter-append, folded, get_or, get_or-drop, get_or-map, inl, inr, is_gt, length, length-drop, name_order, name_order_total, not, owners, subst, suc, sym, take, take-add, take-append-drop, true, true≢false, under, upto, wire, zero, ℕ, ◌++◌, ◌+◌, ◌<◌, ◌∙◌, ◌∷◌, ◌≡◌, ◌⊎◌}
-use Rattle.dns_zone.proofs.Pairs.{Pairs, pairs_of, parted, filter_all}
+use Rattle.dns_zone.proofs.Common.{AreOrdered, Bool, DomainName, AllByRecursion, IsCanonical, IsPartitionedBy, IsReadRecord, List, Octets, ResourceRecord, [], ap, arith, at_or_below, below, drop, each_weaker, ending, false, false≢true, folded, get_or, get_or-map, inl, inr, is_gt, length, name_order, name_order_total, not, owners, subst, suc, sym, take, true, true≢false, under, upto, wire, ℕ, ◌+◌, ◌<◌, ◌∙◌, ◌∷◌, ◌≡◌, ◌⊎◌}
 use Rattle.dns_zone.proofs.NameTree.{under-order, between}
 use Rattle.dns_zone.proofs.ChildNames.{IsChildOf, cons_under, child_end}
-use Rattle.dns_zone.proofs.Spans.{nothing_there}
 use Rattle.dns_zone.proofs.AtName.{OwnerNotAfter, is_at, is_before, at_parted}
+use Rattle.dns_spec.proofs.General.Filters.{filter_all, nothing_there}
+use Rattle.dns_spec.proofs.General.Pairs.{Pairs, pairs_of, parted}
 
 abbrev pub is_under : DomainName → ResourceRecord → Bool
 is_under m r = at_or_below r.owner m
 
-pub pairs_drop : {X : Type 0} (R : X → X → Type 0) (k : ℕ) (xs : List X) → Pairs R xs
-    → Pairs R (drop k xs)
-pairs_drop R zero xs h = h
-pairs_drop R (suc k) [] h = h
-pairs_drop R (suc k) (x ∷ xs) h = pairs_drop R k xs h.1
-
 -- records from the first that is at or below a name on
 module _ (m : DomainName) (r : ResourceRecord) (xs : List ResourceRecord)
     (h : Pairs OwnerNotAfter (r ∷ xs)) (here : at_or_below r.owner m ≡ true) where
-  not_before : AllByRecursion (λ (s : ResourceRecord). is_gt (name_order m s.owner) ≡ false) (r ∷ xs)
+  not_before : AllByRecursion (λ (s : ResourceRecord). is_gt (name_order m s.owner) ≡ false)
+      (r ∷ xs)
   not_before = grind (arith, under-order, each_weaker, upto, name_order_total)
 
   pub under_parted : IsPartitionedBy (is_under m) (r ∷ xs)
@@ -35,18 +30,6 @@ module _ (m : DomainName) (r : ResourceRecord) (xs : List ResourceRecord)
 pub owner_at : (rs : List ResourceRecord) (k : ℕ) (r : ResourceRecord) → k < length rs
     → r ≡ get_or rs k r → get_or (owners rs) k [] ≡ r.owner
 owner_at rs k r h e = grind (arith, get_or-map)
-
--- what is left of a list whose passing elements stand in front is such a list too
-pub parted_drop : {X : Type 0} (p : X → Bool) (xs : List X) (k : ℕ) → IsPartitionedBy p xs
-    → IsPartitionedBy p (drop k xs)
-parted_drop p xs k h i j d a b e = grind (arith, length-drop, get_or-drop)
-
--- records that pass, and then those of the others that do
-pub both_fronts : {X : Type 0} (p : X → Bool) (xs : List X) (a b : ℕ) → AllByRecursion (λ x. p x ≡ true)
-    (take a xs) → take b (drop a xs) ≡ filter p (drop a xs) → take (a + b) xs ≡ filter p xs
-both_fronts p xs a b e u =
-    take-add a b xs ∙ ap₂ ◌++◌ (sym (filter_all p (take a xs) e)) u
-    ∙ sym (ap (filter p) (sym (take-append-drop a xs)) ∙ filter-append p (take a xs) (drop a xs))
 
 -- of each name one label below n, all records stand before a place or none
 abbrev pub IsBetween : List ResourceRecord → DomainName → ℕ → Type 0

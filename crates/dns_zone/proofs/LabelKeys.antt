@@ -1,6 +1,8 @@
 -- The order of labels is that of their keys, where these differ; where they are the same it is that
 -- of what follows the keys, or of the labels' lengths.
 use Rattle.dns_zone.proofs.Common.{◌≡◌, ℕ, zero, suc, ◌+◌, ◌*◌, ◌^◌, ◌<◌, ◌≤◌, ◌⊎◌, inl, inr, [], ◌∷◌, ◌-◌, ◌/◌, add-one, drop-cons, map, length, drop, get_or, refl, sym, ap, ◌∙◌, arith, Less, Greater, nat_cmp, mul-le-mul_right, one-le-pow, cases_lt, cases_order, nat_list_cmp_total, to_ascii_lowercase, nat_cmp_is, Octets, DomainName, folded, label_order, lowercase_is, IsKey, key_of, first_of}
+use Rattle.dns_spec.proofs.General.Numbers.{lesser_parts}
+use Rattle.dns_spec.proofs.Common.{same_from_place}
 
 abbrev Low : Octets → Type 0
 Low a = (i : ℕ) → get_or a i 0 < 256
@@ -15,27 +17,6 @@ key_low (suc n) [] low = omega (arith, one-le-pow (suc n) 256 (omega arith))
 key_low (suc n) (x ∷ a) low =
     let first : x ≤ 255 = let h = low 0 in omega arith in
     omega (arith, key_low n a (rest_low x a low), mul-le-mul_right (256 ^ n) first)
-
--- numbers of a first digit and the rest: the first digits decide, or the rests do
-lesser_parts : (p x y k l : ℕ) → k < p → l < p → x * p + k < y * p + l
-    → (x < y) ⊎ ((x ≡ y) × (k < l))
-lesser_parts p x y k l s t h = go (cases_order x y)
-  where
-    go : (x ≡ y) ⊎ ((x < y) ⊎ (y < x)) → (x < y) ⊎ ((x ≡ y) × (k < l))
-    go (inl e) = inr (e, omega (arith, ap (λ z. z * p) e))
-    go (inr (inl m)) = inl m
-    go (inr (inr m)) =
-        let more : suc y * p ≤ x * p = mul-le-mul_right p (omega arith) in absurd (omega arith)
-
-same_parts : (p x y k l : ℕ) → k < p → l < p → x * p + k ≡ y * p + l → (x ≡ y) × (k ≡ l)
-same_parts p x y k l s t h = go (cases_order x y)
-  where
-    go : (x ≡ y) ⊎ ((x < y) ⊎ (y < x)) → (x ≡ y) × (k ≡ l)
-    go (inl e) = (e, omega (arith, ap (λ z. z * p) e))
-    go (inr (inl m)) =
-        let more : suc x * p ≤ y * p = mul-le-mul_right p (omega arith) in absurd (omega arith)
-    go (inr (inr m)) =
-        let more : suc y * p ≤ x * p = mul-le-mul_right p (omega arith) in absurd (omega arith)
 
 -- labels that begin alike
 same_head : (x y : ℕ) (a b : Octets) → x ≡ y → label_order (x ∷ a) (y ∷ b) ≡ label_order a b
@@ -60,7 +41,7 @@ alike : (n x y : ℕ) (a b : Octets) → Low (x ∷ a) → Low (y ∷ b)
     → key_of (suc n) (x ∷ a) ≡ key_of (suc n) (y ∷ b) → (x ≡ y) × (key_of n a ≡ key_of n b)
 unfolding key_of
 alike n x y a b v w h =
-    same_parts (256 ^ n) x y (key_of n a) (key_of n b) (key_low n a (rest_low x a v))
+    same_from_place x (key_of n a) y (key_of n b) (256 ^ n) (key_low n a (rest_low x a v))
     (key_low n b (rest_low y b w)) h
 
 one_more : (j k : ℕ) → nat_cmp (suc j) (suc k) ≡ nat_cmp j k

@@ -8,7 +8,6 @@ pub mod RisenRecords
 pub mod BoundedKids
 pub mod BuiltZone
 pub mod PrintedRecords
-pub mod Pairs
 pub mod NameOrder
 pub mod AtName
 pub mod Types
@@ -35,7 +34,6 @@ pub mod TopmostCut
 pub mod CheckedNames
 pub mod GrowingNames
 pub mod LabelKeys
-pub mod LowerCase
 pub mod LabelStarts
 pub mod WayLaws
 pub mod LeadRows

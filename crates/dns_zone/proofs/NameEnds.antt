@@ -1,6 +1,6 @@
 -- The shortest end of a name that has so many octets or more.
 use Rattle.dns_zone.proofs.Common.{◌≡◌, ℕ, suc, ◌+◌, ◌-◌, ◌<◌, ◌≤◌, Bool, true, false, nat_lt, ◌||◌, if◌then◌else◌, [], ◌∷◌, length, drop, get_or, refl, sym, ap, ap₂, ◌∙◌, arith, length-append, length-drop, false_from_ne_true, ltb-true, ltb-false, lt-ltb, or-false, drop_at, drop-drop, get_or-drop, Octets, DomainName, wire, is_name, folded, same, at_or_below, names_equal, at_or_below-cons, at_or_below-short, at_or_below-long, at_or_below-length-wire, is_name-tail, ending}
-use Rattle.dns_zone.proofs.KeyOrder.{some_octets}
+use Rattle.dns_spec.proofs.DomainNames.WireNames.{wire_some}
 
 -- what holds while the labels of a name n are passed: its octets xs go on at place k with an end of
 -- it, whose shortest end is that of n
@@ -27,7 +27,7 @@ module _ (least : ℕ) (n : DomainName) (xs : Octets) (k : ℕ) (h : GoesOn leas
   first = grind (arith, get_or-drop)
 
   pub inside : k < length xs
-  inside = omega (arith, size, some_octets h.rest)
+  inside = omega (arith, size, wire_some h.rest)
 
   pub next_end : 0 < least → k + 1 + x ≤ length xs - least → GoesOn least n xs (k + 1 + x)
   next_end some fits = go h.rest h.octets size first h.name h.end
@@ -60,7 +60,7 @@ module _ (least : ℕ) (n : DomainName) (xs : Octets) (k : ℕ) (h : GoesOn leas
 -- a name in lower case is at or below another where its end of as many octets is that name
 pub end_is : (n m : DomainName) → folded n ≡ n → folded m ≡ m
     → names_equal (ending (length (wire m)) n) m ≡ at_or_below n m
-end_is [] m low lower = sym (at_or_below-short [] m (some_octets m) ∙ ap (names_equal []) lower)
+end_is [] m low lower = sym (at_or_below-short [] m (wire_some m) ∙ ap (names_equal []) lower)
 end_is (l ∷ n) m low lower =
     go (nat_lt (length (wire n)) (length (wire m))) refl (end_is n m (ap (drop 1) low) lower)
   where

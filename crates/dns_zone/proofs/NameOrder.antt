@@ -1,5 +1,5 @@
 -- The canonical order of names.
-use Rattle.dns_zone.proofs.Common.{◌≡◌, true, false, is_gt, is_lt, Ordering, Equal, arith, false≢true, tied_itself, DomainName, folded, same, name_order, name_order_total, names_equal-decides}
+use Rattle.dns_zone.proofs.Common.{◌≡◌, true, Equal, arith, tied_itself, DomainName, folded, same, name_order, name_order_total, names_equal-decides}
 
 pub same-is : (n m : DomainName) → same n m ≡ true → folded n ≡ folded m
 same-is n m h = (names_equal-decides (folded n) (folded m)).0 h
@@ -9,7 +9,3 @@ same-from n m e = (names_equal-decides (folded n) (folded m)).1 e
 
 pub same-tied : (n m : DomainName) → same n m ≡ true → name_order n m ≡ Equal
 same-tied n m h = grind (arith, same-is, tied_itself, name_order_total)
-
--- the three answers of an order
-pub not_greater : (c : Ordering) → is_gt c ≡ false → is_lt c ≡ false → c ≡ Equal
-not_greater c h h1 = grind (arith, false≢true)

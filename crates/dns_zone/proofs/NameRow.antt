@@ -1,13 +1,14 @@
 -- The row of a name that a record is at or below, and none before it, among records in canonical
 -- order.
 use Rattle.dns_zone.proofs.Common.{AreOrdered, DomainName, AllByRecursion, IsCanonical, IsFront, IsPartitionedBy, List, ResourceRecord, [], ap, arith, at_or_below, drop, drop_more, each_weaker, false, filter, filter-append, filter_each, folded, get_or, get_or-map, is_gt, length, length-drop, length-take, owners, prefix_len, prefix_len-le-length, record_order, record_order_total, span, subst, sym, take, take-append-drop, true, under, wire, ℕ, ◌++◌, ◌+◌, ◌-◌, ◌<◌, ◌∙◌, ◌∷◌, ◌≡◌, ◌≤◌}
-use Rattle.dns_zone.proofs.Pairs.{Pairs, parted_take, filter_within}
 use Rattle.dns_zone.proofs.NameTree.{itself-under}
 use Rattle.dns_zone.proofs.EndingNames.{ends_in}
-use Rattle.dns_zone.proofs.OwnersWalk.{front}
-use Rattle.dns_zone.proofs.AtName.{unmoved, ordered_records, OwnerNotAfter, owners_in_order, is_at}
+use Rattle.dns_zone.proofs.AtName.{ordered_records, OwnerNotAfter, owners_in_order, is_at}
 use Rattle.dns_zone.proofs.BoundedKids.{none_at, widened}
-use Rattle.dns_zone.proofs.KidRows.{is_under, pairs_drop, under_parted, at_in_front, both_fronts}
+use Rattle.dns_zone.proofs.KidRows.{is_under, under_parted, at_in_front}
+use Rattle.dns_spec.proofs.General.Filters.{filter_within}
+use Rattle.dns_spec.proofs.General.Pairs.{Pairs, unmoved, pairs_drop}
+use Rattle.dns_spec.proofs.General.Fronts.{parted_take, both_fronts, front}
 
 module _ (rs : List ResourceRecord) (canonical : IsCanonical rs) (m : DomainName) (first : ℕ)
     (fits : first < length rs) (here : at_or_below (get_or (owners rs) first []) m ≡ true) where

@@ -1,10 +1,11 @@
 -- The nodes of a zone by their rows.
 use Rattle.dns_zone.proofs.Common.{◌≡◌, ℕ, ◌+◌, ◌-◌, ◌<◌, ◌≤◌, true, List, [], ◌∷◌, length, drop, get_or, sym, ap, ◌∙◌, arith, subst, length-take, get_or-take, get_or-drop, get_or_default, list_any, Octets, DomainName, at_or_below, ResourceRecord, exists, AllByRecursion, each_weaker, contains_among, IsNode, IsNodeAt, first_of, row_name, row_label, row_at, kids_at, IsRow, IsKid, AreKids, Row, Tree}
-use Rattle.dns_zone.proofs.Pairs.{each_get}
-use Rattle.dns_zone.proofs.Spans.{in_span, any_there}
+use Rattle.dns_zone.proofs.Spans.{in_span}
 use Rattle.dns_zone.proofs.KidRows.{is_under}
 use Rattle.dns_zone.proofs.GrowingKids.{row_is}
 use Rattle.dns_zone.proofs.GrowingTree.{own_name}
+use Rattle.dns_spec.proofs.General.Elements.{each_get}
+use Rattle.dns_spec.proofs.General.Tests.{among_any}
 
 -- the name of a row exists
 pub row_exists : (rs : List ResourceRecord) (row : Row) (n : DomainName) → IsRow rs row n
@@ -15,7 +16,7 @@ row_exists rs row n h =
     let here =
     in_span (is_under n) rs row.first row.end order h.below row.first d (omega arith) h.more
     h.end_fits in
-    any_there (is_under n) rs (get_or rs row.first d)
+    among_any (is_under n) (get_or rs row.first d) rs
     (contains_among (get_or rs row.first d) rs
     (row.first, h.some, get_or_default rs row.first (get_or rs row.first d) d h.some)) here
 

@@ -1,9 +1,10 @@
 -- The sets of a name of a built zone.
-use Rattle.dns_zone.proofs.Common.{◌≡◌, ℕ, ◌≤◌, true, false, not, ◌==◌, List, [], ◌∷◌, map, length, Option, None, Some, IfSome, refl, sym, ap, ◌∙◌, subst, filter, is_gt, nat_cmp, arith, eqb-true, eq-eqb, cases_lt, lt-ltb, le-ltb, nat_cmp_total, tied_itself, length-map, none-some, same_Some, IsNonDecreasingBy, DomainName, folded, same, Valid, ResourceRecord, ZoneContents, distinct, sort_by, data_order, record_order, at, rrset, RecordSet, records_at, set_of, rising_types, of_lowest_type, of_first_type, IsReadRecord, AllByRecursion, each_filter, each_distinct, each_sort, each_weaker, filter_each, length-sort_by, recursion_from_All, All-from_recursion, count_few, IsOf, as_set, first_ttl, own_records, each_typed, IsSetOf, data_of, lent, AreOfType, IsBuilt}
-use Rattle.dns_zone.proofs.Pairs.{pairs_of, pairs_filter, pairs_rising, each_both}
+use Rattle.dns_zone.proofs.Common.{◌≡◌, ℕ, ◌≤◌, true, false, not, ◌==◌, List, [], ◌∷◌, map, length, Option, None, Some, IfSome, refl, sym, ap, ◌∙◌, subst, filter, is_gt, nat_cmp, arith, eqb-true, nat_cmp_total, tied_itself, length-map, none-some, same_Some, IsNonDecreasingBy, DomainName, folded, same, Valid, ResourceRecord, ZoneContents, distinct, sort_by, data_order, record_order, at, rrset, RecordSet, records_at, set_of, rising_types, of_lowest_type, of_first_type, IsReadRecord, AllByRecursion, each_filter, each_distinct, each_sort, each_weaker, filter_each, length-sort_by, recursion_from_All, All-from_recursion, count_few, IsOf, as_set, first_ttl, own_records, each_typed, IsSetOf, data_of, lent, AreOfType, IsBuilt}
 use Rattle.dns_zone.proofs.NameOrder.{same-is, same-from, same-tied}
-use Rattle.dns_zone.proofs.AtName.{data_order_total, ordered_records, unmoved, first_in, first_part}
-use Rattle.dns_zone.proofs.SetTests.{each_map}
+use Rattle.dns_zone.proofs.AtName.{data_order_total, ordered_records}
+use Rattle.dns_spec.proofs.General.Elements.{each_both, each_map}
+use Rattle.dns_spec.proofs.General.Pairs.{pairs_of, pairs_filter, pairs_rising, unmoved, first_in}
+use Rattle.dns_spec.proofs.General.Orderings.{first_part, not_above}
 
 -- records of one name and one type stand by their data
 data_in_order : (n : DomainName) (t : ℕ) (r s : ResourceRecord)
@@ -14,7 +15,8 @@ data_in_order n t r s p q h =
 
 -- records of one type, as they are read, are lent as a set
 datas : (t : ℕ) (rs : List ResourceRecord)
-    → AllByRecursion (λ (r : ResourceRecord). IsReadRecord r × (r.rtype ≡ t)) rs → AllByRecursion (Valid t) (data_of rs)
+    → AllByRecursion (λ (r : ResourceRecord). IsReadRecord r × (r.rtype ≡ t)) rs
+    → AllByRecursion (Valid t) (data_of rs)
 datas t [] e = tt
 datas t (r ∷ rs) e = (subst (λ u. Valid u r.rdata) e.0.1 e.0.0.rdata, datas t rs e.1)
 
@@ -23,9 +25,6 @@ of_one_type : (t : ℕ) (rs : List ResourceRecord)
 of_one_type t rs h = grind (arith, All-from_recursion, datas, each_weaker)
 
 -- the lowest type is that of the first record
-not_above : (t u : ℕ) → t ≤ u → is_gt (nat_cmp t u) ≡ false
-not_above t u h = grind (arith, cases_lt, lt-ltb, le-ltb, eq-eqb)
-
 lowest_first : (r : ResourceRecord) (rs : List ResourceRecord) → IsNonDecreasingBy
     (λ (q : ResourceRecord). q.rtype) (r ∷ rs) → rising_types (r ∷ rs) ≡ r.rtype ∷ sort_by nat_cmp
     (filter (λ u. not (r.rtype == u)) (distinct ◌==◌ (map (λ (q : ResourceRecord). q.rtype) rs)))

@@ -1,8 +1,9 @@
 -- The records of a name of a zone, by their types, and what is found for a target.
-use Rattle.dns_zone.proofs.Common.{◌≡◌, ℕ, ◌≤◌, Bool, true, false, ◌&&◌, ◌==◌, List, [], ◌∷◌, refl, sym, ◌∙◌, arith, filter, is_gt, Equal, cases_lt, le-ltb, ne_eqb, true≢false, list_any, IsNonDecreasingBy, DomainName, same, name_order, ResourceRecord, ZoneContents, at, owns, record_order, filter_each, AreOrdered}
-use Rattle.dns_zone.proofs.Pairs.{pairs_of, pairs_filter, rising}
+use Rattle.dns_zone.proofs.Common.{◌≡◌, ℕ, ◌≤◌, true, false, ◌==◌, sym, ◌∙◌, arith, is_gt, Equal, cases_lt, le-ltb, ne_eqb, true≢false, list_any, IsNonDecreasingBy, DomainName, same, name_order, ResourceRecord, ZoneContents, at, owns, record_order, filter_each, AreOrdered}
 use Rattle.dns_zone.proofs.NameOrder.{same-is, same-from, same-tied}
 use Rattle.dns_zone.proofs.AtName.{ordered_records}
+use Rattle.dns_spec.proofs.General.Tests.{any_filter}
+use Rattle.dns_spec.proofs.General.Pairs.{pairs_of, pairs_filter, rising}
 
 -- the records of one name stand by their types
 type_up_to : (r s : ResourceRecord)
@@ -19,11 +20,6 @@ own_types z n h =
     (filter_each (λ (r : ResourceRecord). same r.owner n) z.records)
     (pairs_filter (λ r s. is_gt (record_order r s) ≡ false)
     (λ (r : ResourceRecord). same r.owner n) z.records (ordered_records z.records h)))
-
-any_filter : {X : Type 0} (p q : X → Bool) (xs : List X)
-    → list_any q (filter p xs) ≡ list_any (λ x. p x && q x) xs
-any_filter p q [] = refl
-any_filter p q (x ∷ xs) = grind (arith, (any_filter p q xs))
 
 pub own_owns : (z : ZoneContents) (n : DomainName) (t : ℕ)
     → list_any (λ (r : ResourceRecord). r.rtype == t) (at z n) ≡ owns z n t

@@ -1,22 +1,15 @@
 -- A walk over records of a zone in canonical order, owner by owner.
-use Rattle.dns_zone.proofs.Common.{◌≡◌, ℕ, ◌+◌, Bool, true, false, not, cond, List, [], ◌∷◌, ◌++◌, ◌<◌, length, take, drop, refl, sym, ap, ap₂, ◌∙◌, arith, subst, filter, is_gt, Less, false≢true, false_from_ne_true, length-filter_both, All-head, prefix_len, IsPartitionedBy, DomainName, folded, same, names_equal, name_order, ResourceRecord, ZoneContents, at, record_order, prefix_len_passes, prefix_len_stops, prefix_len-le-length, recursion_from_All, All-from_recursion, record_order_total, AllByRecursion, each_filter, filter_each, each_weaker, AreOrdered, IsOwner, first_owner, HasOwners, begins_with_owner, owners_once}
-use Rattle.dns_zone.proofs.Pairs.{Pairs, pairs_filter, each_both, filter_all, filter_within, halves}
+use Rattle.dns_zone.proofs.Common.{◌≡◌, ℕ, ◌+◌, Bool, true, false, not, cond, List, [], ◌∷◌, ◌++◌, ◌<◌, length, take, drop, refl, sym, ap, ap₂, ◌∙◌, arith, subst, filter, is_gt, Less, false≢true, false_from_ne_true, length-filter_both, All-head, prefix_len, IsPartitionedBy, DomainName, folded, same, names_equal, name_order, ResourceRecord, ZoneContents, at, record_order, recursion_from_All, All-from_recursion, record_order_total, each_filter, filter_each, each_weaker, AreOrdered, IsOwner, first_owner, HasOwners, begins_with_owner, owners_once}
 use Rattle.dns_zone.proofs.NameOrder.{same-is, same-from, same-tied}
-use Rattle.dns_zone.proofs.AtName.{unmoved, is_at, OwnerNotAfter, ordered_records, owners_in_order}
+use Rattle.dns_zone.proofs.AtName.{is_at, OwnerNotAfter, ordered_records, owners_in_order}
 use Rattle.dns_zone.proofs.KidRows.{at_in_front}
 use Rattle.dns_zone.proofs.NameTree.{itself-under}
 use Rattle.dns_zone.proofs.OwnRecords.{own_types}
 use Rattle.dns_zone.proofs.ReportedNames.{greater_after}
-
--- what passes a test, counted from the front, is all that passes it where this comes first
-pub front : {X : Type 0} (p : X → Bool) (xs : List X) → IsPartitionedBy p xs → (take
-    (prefix_len p xs) xs ≡ filter p xs) × (drop (prefix_len p xs) xs ≡ filter (λ x. not (p x)) xs)
-front p xs h =
-    halves p xs (prefix_len p xs) (prefix_len-le-length p xs) (
-      λ k d a m. prefix_len_passes p xs k d m,
-      λ k d a m. false_from_ne_true _ (λ t. false≢true
-          (sym (prefix_len_stops p xs d (omega arith)) ∙ h (prefix_len p xs) k d a m t)),
-    )
+use Rattle.dns_spec.proofs.General.Elements.{each_both, each_always}
+use Rattle.dns_spec.proofs.General.Filters.{filter_all, filter_within}
+use Rattle.dns_spec.proofs.General.Pairs.{Pairs, pairs_filter, unmoved}
+use Rattle.dns_spec.proofs.General.Fronts.{front}
 
 -- of records of a name the first one need not be looked at
 pub one_more : (n : DomainName) (r : ResourceRecord) (rs : List ResourceRecord) (k : ℕ)
@@ -28,11 +21,6 @@ ordered_filter : (p : ResourceRecord → Bool) (rs : List ResourceRecord)
     → AreOrdered rs → AreOrdered (filter p rs)
 ordered_filter p rs h = unmoved record_order record_order_total (filter p rs)
     (pairs_filter (λ r s. is_gt (record_order r s) ≡ false) p rs (ordered_records rs h))
-
-each_always : (P : ResourceRecord → Type 0) (rs : List ResourceRecord)
-    → ((r : ResourceRecord) → P r) → AllByRecursion P rs
-each_always P [] f = tt
-each_always P (r ∷ rs) f = (f r, each_always P rs f)
 
 module _ (z : ZoneContents) where
   abbrev IsAll : List ResourceRecord → ResourceRecord → Type 0

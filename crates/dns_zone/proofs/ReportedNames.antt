@@ -1,8 +1,8 @@
 -- The names that faults are reported of: the origin, and each owner once.
 use Rattle.dns_zone.proofs.Common.{◌≡◌, ℕ, suc, Bool, true, false, cond, ◌⊎◌, inl, inr, List, [], ◌∷◌, ◌++◌, map, refl, sym, ap₂, ◌==◌, ◌&&◌, filter, is_gt, Less, arith, false≢true, true≢false, and_parts, eqb-true, if◌then◌else◌, DomainName, folded, same, name_order, ResourceRecord, ZoneContents, distinct, Check, checks, checked_names, folded_folded, name_tie, name_order_total, one_lower, Lower, tied_back, alike_right, AllByRecursion, Among, Rises, each_weaker, sort_rises, apart_distinct, distinct_among, sort_among, among_sort, among_distinct, same_risen, failed_from, begins_with_owner, owners_once, reported_at}
-use Rattle.dns_zone.proofs.Pairs.{Pairs}
 use Rattle.dns_zone.proofs.NameOrder.{same-is, same-from, same-tied}
 use Rattle.dns_zone.proofs.AtName.{OwnerNotAfter}
+use Rattle.dns_spec.proofs.General.Pairs.{Pairs}
 
 -- the codes of checks rise by one
 abbrev rise_by_one : ℕ → List (ℕ × Check) → Bool

@@ -1,6 +1,6 @@
 -- Records moved to the front, each of which comes before the next.
-use Rattle.dns_zone.proofs.Common.{◌≡◌, ℕ, zero, suc, ◌+◌, ◌<◌, ◌≤◌, ◌⊎◌, inl, inr, List, [], ◌∷◌, length, take, get_or, sym, ap, ap₂, ◌∙◌, arith, All, IsPermutation, is_eq, Less, Equal, Greater, true, ◌-◌, subst, drop, length-take, get_or-take, take-append-drop, get_or_default, cases_lt, true≢false, IsPermutation-sym, ResourceRecord, records_equal, distinct, sort_by, record_order, SwappedAt, IsSorted, LowerOwner, record_order_total, record_ties, one_record, rises_canonical, recursion_from_All, among_permutation, among_contains, Among, Rises, each_weaker, among_sort, sort_among, among_distinct, distinct_among, same_risen}
-use Rattle.dns_zone.proofs.Spans.{among_left, among_get}
+use Rattle.dns_zone.proofs.Common.{◌≡◌, ℕ, zero, suc, ◌+◌, ◌<◌, ◌≤◌, ◌⊎◌, inl, inr, List, [], ◌∷◌, length, take, get_or, sym, ap, ap₂, ◌∙◌, arith, All, IsPermutation, is_eq, Less, Equal, Greater, true, ◌-◌, subst, get_or_default, cases_lt, true≢false, IsPermutation-sym, ResourceRecord, records_equal, distinct, sort_by, record_order, SwappedAt, IsSorted, LowerOwner, record_order_total, record_ties, one_record, rises_canonical, recursion_from_All, among_permutation, among_contains, Among, Rises, each_weaker, among_sort, sort_among, among_distinct, distinct_among, same_risen}
+use Rattle.dns_spec.proofs.General.Elements.{among_taken, taken_among}
 
 -- Of the records rs those before place `at` are among the first of xs, up to place `last`, each of
 -- which comes before the next. Those after are where they were.
@@ -109,15 +109,6 @@ rises_front (x ∷ y ∷ xs) (suc k) h =
       rest,
     )
 
-among_front : (a : ResourceRecord) (xs : List ResourceRecord) (i k : ℕ) → i ≤ k → i < length xs
-    → Among (get_or xs i a) (take (suc k) xs)
-among_front a xs i k l m = grind (arith, length-take, get_or-take, among_get)
-
-front_among : (a : ResourceRecord) (xs : List ResourceRecord) (k : ℕ)
-    → Among a (take k xs) → Among a xs
-front_among a xs k m =
-    subst (Among a) (take-append-drop k xs) (among_left a (take k xs) (drop k xs) m)
-
 -- once all are among the first, these are the records in canonical order, each once
 pub once_canonical : (all rs xs : List ResourceRecord) (last at : ℕ) → All LowerOwner all
     → IsPermutation all rs → IsPermutation rs xs → IsOnce rs xs last at → length xs ≤ at
@@ -134,7 +125,7 @@ once_canonical all rs xs last at low given moved h l =
     (among_distinct record_order record_order_total records_equal tie LowerOwner one_record a all
     (recursion_from_All LowerOwner all low)
     (among_permutation a rs all (IsPermutation-sym all rs given)
-    (among_permutation a xs rs (IsPermutation-sym rs xs moved) (front_among a xs (suc last) m)))))
+    (among_permutation a xs rs (IsPermutation-sym rs xs moved) (taken_among a xs (suc last) m)))))
     (λ a m. there a (among_permutation a all rs given
     (distinct_among records_equal a all
     (sort_among record_order a (distinct records_equal all) m))))
@@ -146,4 +137,4 @@ once_canonical all rs xs last at low given moved h l =
         let (j, c, f) = h.kept i a (omega (arith, b, size, l)) b in
         let inside = h.inside (omega (arith, b, size)) in
         subst (λ x. Among x (take (suc last) xs)) (sym f ∙ e)
-        (among_front a xs j last c (omega (arith, c, inside)))
+        (among_taken a xs j last c (omega (arith, c, inside)))

@@ -1,21 +1,13 @@
 -- What the neighbours among records that stand by their types tell of the RRsets of an owner.
 use Rattle.dns_zone.proofs.Common.{◌≡◌, ℕ, zero, suc, ◌+◌, ◌<◌, ◌≤◌, Bool, true, false, ◌&&◌, ◌||◌, not, cond, nat_lt, eqb, ◌==◌, List, [], ◌∷◌, map, length, drop, refl, sym, ap, ap₂, ◌∙◌, arith, filter, add-one, drop-drop, drop_all, ltb-false, eqb-true, ne_eqb, eqb-false, eq-eqb, cases_lt, lt-ltb, le-ltb, or_right, or_parts, list_any, ResourceRecord, distinct, zip, begins_with_type, sets_ended, AllByRecursion, each_weaker, each_distinct}
-use Rattle.dns_zone.proofs.Spans.{filter_again}
-use Rattle.dns_zone.proofs.Pairs.{Pairs, filter_all}
+use Rattle.dns_spec.proofs.General.Elements.{each_map}
+use Rattle.dns_spec.proofs.General.Filters.{filter_all, filter_again}
+use Rattle.dns_spec.proofs.General.Tests.{any_alike, any_either}
+use Rattle.dns_spec.proofs.General.Pairs.{Pairs}
+use Rattle.dns_spec.proofs.General.Numbers.{other_than}
 
 abbrev TypeUpTo : ResourceRecord → ResourceRecord → Type 0
 TypeUpTo r s = r.rtype ≤ s.rtype
-
--- tests of one list that agree, and of two in turn
-any_alike : {X : Type 0} (p q : X → Bool) (xs : List X)
-    → ((x : X) → p x ≡ q x) → list_any p xs ≡ list_any q xs
-any_alike p q [] f = refl
-any_alike p q (x ∷ xs) f = ap₂ ◌||◌ (f x) (any_alike p q xs f)
-
-any_either : {X : Type 0} (p q : X → Bool) (xs : List X)
-    → list_any (λ x. p x || q x) xs ≡ (list_any p xs || list_any q xs)
-any_either p q [] = refl
-any_either p q (x ∷ xs) = grind (arith, (any_either p q xs))
 
 -- TTLs
 abbrev differ : ResourceRecord → ResourceRecord → Bool
@@ -99,21 +91,21 @@ no_more t [] e = refl
 no_more t (s ∷ rs) e = grind (arith, ne_eqb, (no_more t rs e.1))
 
 none_after : (t k : ℕ) (rs : List ResourceRecord)
-    → AllByRecursion (λ (s : ResourceRecord). t < s.rtype) rs → begins_with_type t (drop k rs) ≡ false
+    → AllByRecursion (λ (s : ResourceRecord). t < s.rtype) rs
+    → begins_with_type t (drop k rs) ≡ false
 none_after t zero [] e = refl
 none_after t zero (s ∷ rs) e = let first = e.0 in ne_eqb s.rtype t (λ h. absurd (omega arith))
 none_after t (suc k) [] e = refl
 none_after t (suc k) (s ∷ rs) e = none_after t k rs e.1
 
-other_than : (a b : ℕ) → a ≤ b → (b ≡ a → ⊥) → a < b
-other_than a b l n = grind (arith, cases_lt)
-
 above_all : (t : ℕ) (s : ResourceRecord) (rs : List ResourceRecord)
-    → t < s.rtype → AllByRecursion (TypeUpTo s) rs → AllByRecursion (λ (q : ResourceRecord). t < q.rtype) rs
+    → t < s.rtype → AllByRecursion (TypeUpTo s) rs
+    → AllByRecursion (λ (q : ResourceRecord). t < q.rtype) rs
 above_all t s rs l e = grind (arith, each_weaker, TypeUpTo)
 
 -- more than k of them are of the least type exactly where the one k after the first is
-run_after : (t k : ℕ) (rs : List ResourceRecord) → AllByRecursion (λ (s : ResourceRecord). t ≤ s.rtype) rs
+run_after : (t k : ℕ) (rs : List ResourceRecord)
+    → AllByRecursion (λ (s : ResourceRecord). t ≤ s.rtype) rs
     → Pairs TypeUpTo rs → nat_lt k (length (of_number t rs)) ≡ begins_with_type t (drop k rs)
 run_after t zero [] e h = refl
 run_after t (suc k) [] e h = le-ltb (suc k) 0 (omega arith)
@@ -166,11 +158,6 @@ pub large-in_runs : (k : ℕ) (rs : List ResourceRecord) → Pairs TypeUpTo rs
 large-in_runs k rs h = in_runs k rs ∙ sym (large-walk k rs h)
 
 -- how many types
-pub each_map : {X Y : Type 0} (P : Y → Type 0) (f : X → Y) (xs : List X)
-    → AllByRecursion (λ x. P (f x)) xs → AllByRecursion P (map f xs)
-each_map P f [] e = tt
-each_map P f (x ∷ xs) e = (e.0, each_map P f xs e.1)
-
 abbrev number_types : List ResourceRecord → ℕ
 number_types rs = length (distinct ◌==◌ (map (λ (r : ResourceRecord). r.rtype) rs))
 
@@ -198,7 +185,8 @@ types-walk (r ∷ s ∷ rs) h = go (eqb s.rtype r.rtype) refl (types-walk (s ∷
         let next = h.0.0 in
         let above : r.rtype < s.rtype =
         other_than r.rtype s.rtype next (eqb-false s.rtype r.rtype e) in
-        let others : AllByRecursion (λ t. r.rtype < t) (map (λ (q : ResourceRecord). q.rtype) (s ∷ rs)) =
+        let others : AllByRecursion (λ t. r.rtype < t)
+        (map (λ (q : ResourceRecord). q.rtype) (s ∷ rs)) =
         each_map (λ t. r.rtype < t)
         (λ (q : ResourceRecord). q.rtype) (s ∷ rs) (above, above_all r.rtype s rs above h.1.0)
         in

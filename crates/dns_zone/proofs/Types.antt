@@ -1,48 +1,8 @@
 -- Records that stand by their types: the types of one owner.
-use Rattle.dns_zone.proofs.Common.{◌≡◌, ◌==◌, ℕ, ◌-◌, ◌<◌, ◌≤◌, length, get_or, Bool, true, false, not, ◌||◌, ◌⊎◌, cond, nat_lt, eqb, Some, None, List, [], ◌∷◌, refl, sym, ap, ◌∙◌, arith, filter, inl, inr, ltb-true, ltb-false, eqb-true, eq-eqb, ne_eqb, eqb-false, cases_lt, le-ltb, take_all, IsPartitionedBy, IsNonDecreasingBy, ResourceRecord, list_any, slice_get, AllByRecursion, filter_each}
-use Rattle.dns_zone.proofs.Pairs.{halves, Pairs, pairs_of, pairs_filter, pairs_rising, parted, filter_within, first_passes, none_pass}
-
-pub first_is : {X : Type 0} (p : X → Bool) (x : X) (xs : List X)
-    → Some x ≡ slice_get xs 0 → p x ≡ first_passes p xs
-first_is p x xs h = grind arith
-
-pub first_rest : {X : Type 0} (x : X) (xs : List X)
-    → Some x ≡ slice_get xs 0 → (ys : List X) × (xs ≡ x ∷ ys)
-first_rest x [] e = cc
-first_rest x (y ∷ ys) e = let same : y ≡ x = cc in (ys, ap (λ z. z ∷ ys) same)
-
-pub first_none : {X : Type 0} (p : X → Bool) (xs : List X)
-    → None ≡ slice_get xs 0 → false ≡ first_passes p xs
-first_none p xs h = grind arith
-
-module _ {X : Type 0} (n : X → ℕ) (t : ℕ) where
-  greater : (x : X) (xs : List X)
-      → t < n x → AllByRecursion (λ y. n x ≤ n y) xs → AllByRecursion (λ y. eqb (n y) t ≡ false) xs
-  greater x [] l e = tt
-  greater x (y ∷ ys) l e = grind (arith, ne_eqb, (greater x ys l e.1))
-
-  -- one has the number exactly where the first that is not below it has
-  pub found_first : (xs : List X) → Pairs (λ x y. n x ≤ n y) xs → list_any (λ x. eqb (n x) t) xs
-      ≡ first_passes (λ x. eqb (n x) t) (filter (λ x. not (nat_lt (n x) t)) xs)
-  found_first [] h = refl
-  found_first (x ∷ xs) h = go (nat_lt (n x) t) (eqb (n x) t) refl refl (found_first xs h.1)
-    where
-      go : (b c : Bool) → nat_lt (n x) t ≡ b → eqb (n x) t ≡ c → list_any (λ x. eqb (n x) t) xs
-          ≡ first_passes (λ x. eqb (n x) t) (filter (λ x. not (nat_lt (n x) t)) xs)
-          → (c || list_any (λ x. eqb (n x) t) xs) ≡ first_passes (λ x. eqb (n x) t) (cond (not b)
-          (x ∷ filter (λ x. not (nat_lt (n x) t)) xs) (filter (λ x. not (nat_lt (n x) t)) xs))
-      go true true l e r =
-          let below = ltb-true _ _ l in let level = eqb-true _ _ e in absurd (omega arith)
-      go true false l e r = r
-      go false true l e r = sym e
-      go false false l e r =
-          let above : t ≤ n x = ltb-false _ _ l in
-          let other : t < n x = other_than (cases_lt t (n x)) above in
-          none_pass (λ x. eqb (n x) t) xs (greater x xs other h.0) ∙ sym e
-        where
-          other_than : (t < n x) ⊎ (n x ≤ t) → t ≤ n x → t < n x
-          other_than (inl k) a = k
-          other_than (inr k) a = absurd (eqb-false (n x) t e (omega arith))
+use Rattle.dns_zone.proofs.Common.{◌≡◌, ◌==◌, ℕ, ◌-◌, ◌<◌, ◌≤◌, length, get_or, Bool, true, not, nat_lt, List, [], sym, ◌∙◌, arith, filter, eqb-true, eq-eqb, ne_eqb, le-ltb, take_all, IsPartitionedBy, IsNonDecreasingBy, ResourceRecord, filter_each}
+use Rattle.dns_spec.proofs.General.Filters.{filter_within}
+use Rattle.dns_spec.proofs.General.Pairs.{pairs_of, pairs_filter, pairs_rising, parted}
+use Rattle.dns_spec.proofs.General.Fronts.{halves}
 
 -- records by their types: those of a type stand in front of those that are not below it
 module _ (t : ℕ) where

@@ -4,7 +4,7 @@ use Rattle.dns_zone.proofs.ChildNames.{cons_under}
 use Rattle.dns_zone.proofs.NameTree.{under-trans}
 use Rattle.dns_zone.proofs.OwnRecords.{own_owns}
 use Rattle.dns_zone.proofs.Existing.{exists-lower}
-pub use Rattle.dns_zone.proofs.Existing.{any_weaker}
+pub use Rattle.dns_spec.proofs.General.Tests.{any_weaker}
 
 -- names above and below
 pub above_under : (l : Octets) (n a : DomainName) (k : ℕ)

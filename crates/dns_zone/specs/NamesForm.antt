@@ -8,12 +8,12 @@ use Rattle.dns_spec.specs.Names.{Octets, DomainName, folded, at_or_below, name_o
 use Rattle.dns_spec.specs.Records.{ResourceRecord, ZoneContents}
 use Rattle.dns_spec.specs.Tree.{is_cut}
 use Rattle.dns_spec.specs.Checks.{checked_names}
-use Rattle.dns_spec.proofs.Records.SortedOnce.{Among}
 use Rattle.dns_zone.specs.TreeForm.{span}
 use Rattle.dns_zone.specs.KeyForm.{name_key}
 use Rattle.dns_zone.specs.OwnerForm.{IsOwner}
 use Rattle.dns_zone.specs.ReportedForm.{owners_once}
 use Rattle.dns_zone.specs.declared.checks.names.CheckedName.{CheckedName}
+use Rattle.dns_spec.proofs.General.Elements.{Among}
 
 -- the records of a name, and the name: the origin is the one that may have no records
 abbrev pub own_in : List ResourceRecord → CheckedName → List ResourceRecord

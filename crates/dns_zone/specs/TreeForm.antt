@@ -5,10 +5,11 @@ use Rattle.std.specs.List.{AllByRecursion, filter, list_any}
 use Rattle.std.specs.Char.{to_ascii_lowercase}
 use Rattle.dns_spec.specs.Names.{Octets, DomainName, wire, is_name, folded, same, at_or_below, label_order}
 use Rattle.dns_spec.specs.Records.{ResourceRecord}
-use Rattle.dns_spec.proofs.Records.SortedOnce.{Among, Rises}
 use Rattle.dns_name.specs.WireForm.{labels_of}
 use Rattle.dns_zone.specs.LabelKey.{IsKey}
 use Rattle.dns_zone.specs.declared.tree.row.Row.{Row}
+use Rattle.dns_spec.proofs.General.Elements.{Among}
+use Rattle.dns_spec.proofs.General.Sorted.{Rises}
 
 -- the elements from place a up to place b
 abbrev pub span : {X : Type 0} → List X → ℕ → ℕ → List X

@@ -32,7 +32,7 @@ use std::alloc::{AllocError, Global};
 /// of all owners, and of the origin where it owns nothing too.
 ///
 /// An error only where memory for the list of faults, for keys or for names was not found.
-#[tactic(auto, using(crate::proofs::KeyOrder::some_octets))]
+#[tactic(auto, using(crate::proofs::Common::wire_some))]
 pub(crate) fn faults<'a>(
     alloc: Global,
     origin: &'a NameRef<'a>,

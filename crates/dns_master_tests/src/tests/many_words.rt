@@ -58,9 +58,9 @@ fn last_hex_digit(number: usize) -> u8 {
 // A file that is one record has these data.
 fn compare<R: Abort + AllocGlobal>(rt: &R, text: &[u8], data: &[u8]) -> Result<(), Fail> {
     for lengths in [&[usize::MAX], ONE] {
-        let listed = read(rt.alloc(), by(text, lengths))??;
-        assert_eq!(rt; listed.len(), 1, "of {text:?}");
-        for record in &listed {
+        let records = read(rt.alloc(), by(text, lengths))??;
+        assert_eq!(rt; records.len(), 1, "of {text:?}");
+        for record in &records {
             assert_eq!(rt; record.rdata.octets(), data, "of {text:?}");
         }
     }

@@ -90,8 +90,8 @@ fn a_fault_of_an_entry_of_many_pieces(rt: HostRuntime) -> Result<(), Fail> {
 fn a_file_from_sources_of_few_octets(rt: HostRuntime) -> Result<(), Fail> {
     let text = after_comment(rt.alloc(), 9_000, MIXED.as_bytes())?;
     for most in [1, 2, 4_095, 4_096, 4_097] {
-        let listed = read(rt.alloc(), by(&text, &[most]))??;
-        judge_all(&rt, &listed, MIXED.as_bytes(), &MIXED_MEANS)?;
+        let records = read(rt.alloc(), by(&text, &[most]))??;
+        judge_all(&rt, &records, MIXED.as_bytes(), &MIXED_MEANS)?;
     }
     Ok(())
 }
@@ -101,8 +101,8 @@ fn entries_that_cross_the_end_of_a_piece_at_each_octet(rt: HostRuntime) -> Resul
     for within in 0..=MIXED.len() {
         let length = PIECE.saturating_sub(within);
         let text = after_comment(rt.alloc(), length, MIXED.as_bytes())?;
-        let listed = read(rt.alloc(), text.as_slice())??;
-        judge_all(&rt, &listed, MIXED.as_bytes(), &MIXED_MEANS)?;
+        let records = read(rt.alloc(), text.as_slice())??;
+        judge_all(&rt, &records, MIXED.as_bytes(), &MIXED_MEANS)?;
     }
     Ok(())
 }

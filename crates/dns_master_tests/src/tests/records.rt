@@ -183,12 +183,12 @@ fn compare<R: Abort + AllocGlobal>(rt: &R, text: &[u8], meant: &[Meant<'_>]) -> 
 /// Compares the records of a text with what is meant.
 pub(super) fn judge_all<R: Abort>(
     rt: &R,
-    listed: &[Record],
+    records: &[Record],
     text: &[u8],
     meant: &[Meant<'_>],
 ) -> Result<(), Fail> {
-    assert_eq!(rt; listed.len(), meant.len(), "of {text:?}");
-    for (record, wanted) in listed.iter().zip(meant) {
+    assert_eq!(rt; records.len(), meant.len(), "of {text:?}");
+    for (record, wanted) in records.iter().zip(meant) {
         judge(rt, text, record, wanted);
     }
     Ok(())

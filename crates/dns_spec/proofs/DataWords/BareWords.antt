@@ -1,6 +1,7 @@
 -- What is written for numbers, addresses, names and strings has no octet that ends the word.
-use Rattle.dns_spec.proofs.Common.{◌≡◌, ℕ, ◌+◌, ◌<◌, ◌^◌, inl, inr, Bool, true, false, ◌||◌, not, ◌==◌, List, [], ◌∷◌, ◌++◌, map, refl, arith, append_assoc, decimal, rules, agree_below_at, and_from, cases_Bool, eqb-true, true≢false, decimal_is_IsNumeral, flat_map, join_with_byte, AllDigits, Octets, DomainName, is_special, three_digits, octet_text, label_text, labels_text, ipv4_text, is_word_octet, is_ascii_graphic, digit_char, string_octet_text, is_unbroken, is_quotable, AllByRecursion}
+use Rattle.dns_spec.proofs.Common.{◌≡◌, ℕ, ◌+◌, ◌<◌, ◌^◌, Bool, true, false, List, [], ◌∷◌, ◌++◌, map, refl, arith, append_assoc, decimal, rules, agree_below_at, and_from, decimal_is_IsNumeral, flat_map, join_with_byte, AllDigits, Octets, DomainName, is_special, three_digits, octet_text, label_text, labels_text, ipv4_text, is_word_octet, is_ascii_graphic, digit_char, string_octet_text, is_unbroken, is_quotable, AllByRecursion, ◌==◌, cases_Bool, inl, true≢false, eqb-true, inr}
 use Rattle.dns_spec.proofs.DomainNames.SmallOctets.{Small, small_head, small_tail}
+use Rattle.dns_spec.proofs.General.Truths.{follows}
 
 -- octets that end no word by themselves
 abbrev pub Bare : Octets → Type 0
@@ -12,7 +13,8 @@ bare_append (o ∷ x) y h k = (h.0, bare_append x y h.1 k)
 
 -- texts with an octet between each two
 pub bare_joined : (c : ℕ) (f : ℕ → Octets) (xs : List ℕ)
-    → is_word_octet c ≡ true → AllByRecursion (λ x. Bare (f x)) xs → Bare (join_with_byte c (map f xs))
+    → is_word_octet c ≡ true → AllByRecursion (λ x. Bare (f x)) xs
+    → Bare (join_with_byte c (map f xs))
 bare_joined c f [] between each = tt
 bare_joined c f (x ∷ []) between each = each.0
 bare_joined c f (x ∷ y ∷ xs) between each = bare_append (f x) (c ∷ join_with_byte c
@@ -53,10 +55,6 @@ digits_octet p x rest digit none small after = grind arith
 
 bare_below_10 : (e : ℕ) → e < 10 → is_word_octet (48 + e) ≡ true
 bare_below_10 e small = agree_below_at (λ d. is_word_octet (48 + d)) (λ d. true) 10 e refl small
-
--- a test that follows from another
-pub follows : (a b : Bool) → (not a || b) ≡ true → a ≡ true → b ≡ true
-follows a b h h1 = grind arith
 
 pub graphic_bare : (x : ℕ)
     → x < 256 → is_special x ≡ false → is_ascii_graphic x ≡ true → is_word_octet x ≡ true

@@ -4,7 +4,7 @@ use Rattle.dns_spec.proofs.Common.{◌≡◌, ℕ, zero, suc, ◌/◌, ◌%◌, 
 use Rattle.dns_spec.proofs.DataWords.GroupDigits.{one_digit, two_digits, three_of, four_of}
 use Rattle.dns_spec.proofs.DataWords.HexAgain.{hex_digit}
 
-abbrev is_colon : ℕ → Bool
+abbrev pub is_colon : ℕ → Bool
 is_colon o = o == 58
 
 -- the text of a group is one to four digits
@@ -86,7 +86,8 @@ colonless g small =
     let P : Octets → Type 0 = AllByRecursion (λ o. is_colon o ≡ false) in
     subst P (sym t.spelled) (no_colons (t.first ∷ t.others) t.below)
 
-all_colonless : (w : Octets) → AllByRecursion (λ o. is_colon o ≡ false) w → All (λ o. is_colon o ≡ false) w
+all_colonless : (w : Octets) → AllByRecursion (λ o. is_colon o ≡ false) w
+    → All (λ o. is_colon o ≡ false) w
 all_colonless [] each k d inside = absurd (omega (arith, inside))
 all_colonless (o ∷ w) each zero d inside = each.0
 all_colonless (o ∷ w) each (suc k) d inside = all_colonless w each.1 k d (omega (arith, inside))
@@ -140,31 +141,32 @@ groups_again (g ∷ gs) small =
     ∙ ap group_values (parts_of g gs small) ∙ values_of (g ∷ gs) small
 
 -- what is found after a text without a gap
-abbrev before : Octets → Octets × Octets → Octets × Octets
-before w r = (w ++ r.0, r.1)
+abbrev pub with_front : Octets → Octets × Octets → Octets × Octets
+with_front w r = (w ++ r.0, r.1)
 
 before-before : (v w : Octets) (o : Option (Octets × Octets))
-    → option_map (before v) (option_map (before w) o) ≡ option_map (before (v ++ w)) o
+    → option_map (with_front v) (option_map (with_front w) o) ≡ option_map (with_front (v ++ w)) o
 before-before v w o = grind (arith, append_assoc)
 
 past_word : (w x : Octets)
-    → AllByRecursion (λ o. is_colon o ≡ false) w → around_gap (w ++ x) ≡ option_map (before w) (around_gap x)
+    → AllByRecursion (λ o. is_colon o ≡ false) w
+    → around_gap (w ++ x) ≡ option_map (with_front w) (around_gap x)
 past_word [] x none = grind arith
 past_word (c ∷ w) x none = grind (arith, (past_word w x none.1))
 
 past_groups : (g : ℕ) (gs : List ℕ) (x : Octets) → Groups (g ∷ gs) → around_gap
-    (groups_text (g ∷ gs) ++ x) ≡ option_map (before (groups_text (g ∷ gs))) (around_gap x)
+    (groups_text (g ∷ gs) ++ x) ≡ option_map (with_front (groups_text (g ∷ gs))) (around_gap x)
 past_groups g [] x small = past_word (digits 16 false g) x (colonless g small.0)
 past_groups g (h ∷ gs) x small =
     let w = digits 16 false g in
     let text = groups_text (h ∷ gs) in
     let t = digit_first h gs small.1 in
     let colon : around_gap
-    (58 ∷ (text ++ x)) ≡ option_map (before (58 ∷ [])) (around_gap (text ++ x)) = grind arith in
+    (58 ∷ (text ++ x)) ≡ option_map (with_front (58 ∷ [])) (around_gap (text ++ x)) = grind arith in
     ap around_gap (append_assoc w (58 ∷ text) x)
     ∙ past_word w (58 ∷ (text ++ x)) (colonless g small.0)
-    ∙ ap (option_map (before w))
-    (colon ∙ ap (option_map (before (58 ∷ []))) (past_groups h gs x small.1)
+    ∙ ap (option_map (with_front w))
+    (colon ∙ ap (option_map (with_front (58 ∷ []))) (past_groups h gs x small.1)
     ∙ before-before (58 ∷ []) text (around_gap x)) ∙ before-before w (58 ∷ text) (around_gap x)
 
 pub no_gap : (gs : List ℕ) → Groups gs → around_gap (groups_text gs) ≡ None

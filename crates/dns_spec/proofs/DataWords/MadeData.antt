@@ -1,5 +1,5 @@
 -- Data that begins with a name, or with a piece of any kind, is cut there.
-use Rattle.dns_spec.proofs.Common.{◌≡◌, true, List, ◌∷◌, ◌++◌, Some, arith, Octets, DomainName, wire, is_name, Piece, Part, name, piece_front, cut, domain}
+use Rattle.dns_spec.proofs.Common.{◌≡◌, true, List, ◌∷◌, ◌++◌, Some, arith, Octets, DomainName, wire, is_name, Piece, Part, name, piece_front, cut, domain, ℕ, length, octets_front, octets, le-leb, length-append, take_at, drop_at}
 use Rattle.dns_spec.proofs.DomainNames.WireNames.{name_of-wire}
 
 -- a name
@@ -13,3 +13,7 @@ pub cut-step : (p : Piece) (ps : List Piece) (os : Octets)
     → cut ps rest ≡ Some xs → cut (p ∷ ps) os ≡ Some (part ∷ xs)
 unfolding cut
 cut-step p ps os part rest xs front after = grind arith
+
+pub cut-octets : (k : ℕ) (o rest : Octets)
+    → length o ≡ k → octets_front k (o ++ rest) ≡ Some (octets o, rest)
+cut-octets k o rest long = grind (arith, le-leb, length-append, take_at, drop_at)

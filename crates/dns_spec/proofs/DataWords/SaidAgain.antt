@@ -1,6 +1,6 @@
 -- The words that are written for valid data say that data again, each of them stands alone, and a
 -- reader takes them in whole.
-use Rattle.dns_spec.proofs.Common.{length-replicate, ◌≡◌, ℕ, suc, ◌*◌, ◌<◌, ◌≤◌, ◌⊎◌, inl, inr, true, false, Bool, ◌||◌, max, Option, None, Some, List, [], ◌∷◌, ◌++◌, length, drop, replicate, nat_le, refl, sym, ◌∙◌, ap, subst, arith, append-nil, false≢true, and_parts, and_from, leb-true, cases_Bool, or_cases, none-some, same_Some, cond_some, some_pair_parts, option_map, unwrap_or, list_all, find, flat_map, Octets, DomainName, name_of, numbers, ipv4, ipv6, Piece, fixed, domain, string, strings, anything, TypeRow, row_of, other_type, pieces_of, Part, name, part_octets, octets_front, piece_front, cut, valid, lower_case, Word, WordForm, name_word, string_word, forms_in, forms_of, SaysTyped, SaysAsSpelled, Says, is_word_octet, word_front, form_words, string_count, words_by, written_words, unknown_words, hex_words, stands_alone, AllByRecursion}
+use Rattle.dns_spec.proofs.Common.{length-replicate, ◌≡◌, ℕ, suc, ◌*◌, ◌<◌, ◌≤◌, ◌⊎◌, inl, inr, true, false, Bool, ◌||◌, max, Option, None, Some, List, [], ◌∷◌, ◌++◌, length, drop, replicate, nat_le, refl, sym, ◌∙◌, ap, subst, arith, append-nil, false≢true, and_parts, and_from, leb-true, or_cases, none-some, cond_some, some_pair_parts, option_map, unwrap_or, list_all, flat_map, Octets, DomainName, name_of, numbers, ipv4, ipv6, Piece, fixed, domain, string, strings, anything, TypeRow, row_of, other_type, pieces_of, Part, name, part_octets, octets_front, piece_front, cut, valid, lower_case, Word, WordForm, name_word, string_word, forms_in, forms_of, SaysTyped, SaysAsSpelled, Says, is_word_octet, word_front, form_words, string_count, words_by, written_words, unknown_words, hex_words, stands_alone, AllByRecursion}
 use Rattle.dns_spec.proofs.DomainNames.SmallOctets.{Small, small_back}
 use Rattle.dns_spec.proofs.DataWords.WrittenData.{cut_into, all_strings}
 use Rattle.dns_spec.proofs.DomainNames.WireNames.{name_read}
@@ -9,6 +9,7 @@ use Rattle.dns_spec.proofs.DataWords.HexAgain.{unknown_said}
 use Rattle.dns_spec.proofs.DataWords.WordRuns.{runs_escaped}
 use Rattle.dns_spec.proofs.DataWords.StandingWords.{TakenWhole, decimal_standing, hex_alone, hex_runs}
 use Rattle.dns_spec.proofs.DataWords.FormsAgain.{WordsSaid, is_unmarked, none_said, said_step, ipv4_front_said, ipv6_front_said, name_front_said, string_front_said, numbers_said, strings_said}
+use Rattle.dns_spec.proofs.General.Tests.{entry_passes}
 
 -- a piece whose words are as many whatever the record has, with numbers of at most 64 bits
 abbrev is_counted : Piece → Bool
@@ -141,20 +142,6 @@ strings_formed t origin d made xs e alone h small =
       words = strings_said k origin d refl all.1 small;
     }
 
--- an entry of a table passes what all entries pass
-pub entry_passes : {X : Type 0} (p q : X → Bool) (xs : List X) (x : X)
-    → find p xs ≡ Some x → list_all q xs ≡ true → q x ≡ true
-entry_passes p q [] x e all = absurd (none-some x e)
-entry_passes p q (y ∷ xs) x e all =
-    by_cases (cases_Bool (p y)) (λ f. entry_passes p q xs x f parts.1)
-  where
-    parts : (q y ≡ true) × (list_all q xs ≡ true)
-    parts = and_parts (q y) (list_all q xs) all
-
-    by_cases : (p y ≡ true) ⊎ (p y ≡ false) → (find p xs ≡ Some x → q x ≡ true) → q x ≡ true
-    by_cases (inl here) after = grind (arith, Some, same_Some)
-    by_cases (inr other) after = let f : find p xs ≡ Some x = rw other at e in after f
-
 abbrev has_forms : TypeRow → Bool
 has_forms made = list_all is_counted made.pieces || are_strings_alone made.pieces
 
@@ -224,7 +211,8 @@ words_alone t d small ok = go (row_of t) refl
         let f = formed t [] d made e ok small in
         ap (λ o. list_all stands_alone (words_by o d)) f.of_data ∙ f.words.alone
 
-unknown_whole : (d : Octets) → length d ≤ 65535 → Small d → AllByRecursion TakenWhole (unknown_words d)
+unknown_whole : (d : Octets) → length d ≤ 65535 → Small d
+    → AllByRecursion TakenWhole (unknown_words d)
 unknown_whole d short small = (
   runs_escaped is_word_octet 35 refl refl,
   ((decimal_standing (length d) (omega (arith, short))).whole, hex d small),

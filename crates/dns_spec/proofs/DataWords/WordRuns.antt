@@ -2,7 +2,8 @@
 use Rattle.dns_spec.proofs.Common.{◌≡◌, ℕ, ◌+◌, ◌<◌, Bool, true, false, [], ◌∷◌, ◌++◌, length, refl, arith, append_assoc, length-append, rules, agree_below_at, lt-ltb, not-true, eqb-true, is_ascii_digit, flat_map, Octets, DomainName, string_octet_text, is_word_octet, is_string_octet, run_length, is_special, octet_text, label_text, labels_text, name_text, is_printable, AllByRecursion}
 use Rattle.dns_spec.proofs.NameTexts.Escapes.{escape-counted}
 use Rattle.dns_spec.proofs.DomainNames.SmallOctets.{Small, small_head, small_tail}
-use Rattle.dns_spec.proofs.DataWords.BareWords.{Bare, follows}
+use Rattle.dns_spec.proofs.DataWords.BareWords.{Bare}
+use Rattle.dns_spec.proofs.General.Truths.{follows}
 
 -- a run goes on over all of these octets, whatever stands after them
 abbrev pub Runs : (ℕ → Bool) → Octets → Type 0

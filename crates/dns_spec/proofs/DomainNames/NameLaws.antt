@@ -1,6 +1,6 @@
 -- Laws of names: their wire forms tell them apart, folding keeps lengths, and at or below goes
 -- label by label.
-use Rattle.dns_spec.proofs.Common.{common_steps, ◌≡◌, ℕ, zero, suc, ◌+◌, ◌*◌, ◌-◌, ◌<◌, ◌≤◌, Bool, true, false, ◌||◌, ◌⊎◌, [], ◌∷◌, ◌++◌, length, take, drop, map, nat_le, refl, sym, ◌∙◌, ap, arith, inl, inr, length-append, rules, take_at, drop_at, length-map, map-append, list_all, to_ascii_lowercase, Octets, DomainName, wire, is_label, is_name, folded, octets_equal, names_equal, same, at_or_below, and_parts, and_from, and_left, leb-true, le-leb, lt-leb, ltb-true, lt-ltb, eqb-true, eq-eqb, cases_order, false_from_ne_true, pointwise_decides}
+use Rattle.dns_spec.proofs.Common.{common_steps, ◌≡◌, ℕ, zero, suc, ◌+◌, ◌*◌, ◌-◌, ◌<◌, ◌≤◌, true, false, ◌||◌, ◌⊎◌, [], ◌∷◌, ◌++◌, length, take, drop, map, nat_le, refl, sym, ◌∙◌, ap, arith, inl, inr, length-append, rules, take_at, drop_at, length-map, map-append, list_all, to_ascii_lowercase, Octets, DomainName, wire, is_label, is_name, folded, octets_equal, names_equal, same, at_or_below, and_parts, and_from, and_left, leb-true, le-leb, lt-leb, ltb-true, lt-ltb, eqb-true, eq-eqb, cases_order, false_from_ne_true, pointwise_decides}
 
 -- what a label's test says
 pub record IsLabel (l : Octets) : Type 0 where
@@ -67,10 +67,6 @@ octets_equal-decides = pointwise_decides (λ x y. (eqb-true x y, eq-eqb x y))
 pub names_equal-decides : (n m : DomainName)
     → (names_equal n m ≡ true → n ≡ m) × (n ≡ m → names_equal n m ≡ true)
 names_equal-decides = pointwise_decides octets_equal-decides
-
--- a test is another where each implies the other
-pub same_tests : (a b : Bool) → (a ≡ true → b ≡ true) → (b ≡ true → a ≡ true) → a ≡ b
-same_tests a b h h1 = grind arith
 
 -- lengths on the wire are no letters, so folding leaves them alone
 pub map-lowercase-wire : (n : DomainName)

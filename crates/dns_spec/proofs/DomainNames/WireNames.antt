@@ -1,5 +1,5 @@
 -- Octets begin with a name's wire form exactly where `name_of` reads that name.
-use Rattle.dns_spec.proofs.Common.{◌≡◌, ℕ, zero, suc, ◌+◌, ◌<◌, ◌↔◌, Bool, true, false, nat_le, [], ◌∷◌, ◌++◌, length, take, drop, Option, None, Some, option_map, refl, sym, ap, ◌∙◌, arith, append_assoc, length-append, take-append-drop, list_all, and_parts, leb-true, none-some, same_Some, cond_some, option_and_then_some, take_at, drop_at, length-take-le, Octets, DomainName, wire, is_label, is_name, with_label, labels_from, name_of}
+use Rattle.dns_spec.proofs.Common.{◌≡◌, ℕ, zero, suc, ◌+◌, ◌<◌, ◌↔◌, Bool, true, false, nat_le, [], ◌∷◌, ◌++◌, length, take, drop, Option, None, Some, option_map, refl, sym, ap, ◌∙◌, arith, append_assoc, length-append, take-append-drop, list_all, and_parts, leb-true, none-some, same_Some, cond_some, option_and_then_some, take_at, drop_at, length-take-le, Octets, DomainName, wire, is_label, is_name, with_label, labels_from, name_of, ◌≤◌}
 use Rattle.dns_spec.proofs.DomainNames.NameLaws.{IsLabel-is_label, IsName-is_name}
 
 -- fewer than k labels, written as they are on the wire, are read again
@@ -82,3 +82,31 @@ wire_fronts_agree (l ∷ n) (k ∷ m) rest tail p q e =
     let agree = wire_fronts_agree n m rest tail (and_parts (is_label l) (list_all is_label n) p).1
     (and_parts (is_label k) (list_all is_label m) q).1 others in
     (ap (λ z. z ∷ n) first ∙ ap (λ z. k ∷ z) agree.0, agree.1)
+
+-- the octet of the root is there
+pub wire_some : (n : DomainName) → 0 < length (wire n)
+wire_some [] = omega arith
+wire_some (l ∷ n) = omega arith
+
+-- a suffix of the name stands so far before its end
+pub wire_split : (front s : DomainName) → (x : Octets) × (wire (front ++ s) ≡ x ++ wire s)
+wire_split [] s = ([], refl)
+wire_split (l ∷ front) s =
+    let r = wire_split front s in (
+      length l ∷ (l ++ r.0),
+      ap (λ z. length l ∷ (l ++ z)) r.1
+          ∙ ap (λ z. length l ∷ z) (sym (append_assoc l r.0 (wire s))),
+    )
+
+pub longer_wire : (g s : DomainName) → length (wire s) ≤ length (wire (g ++ s))
+longer_wire [] s = omega arith
+longer_wire (l ∷ g) s = let h = longer_wire g s in omega (arith, h, length-append l (wire (g ++ s)))
+
+-- the octets of labels, without the root's
+abbrev pub label_octets : DomainName → Octets
+label_octets [] = []
+label_octets (l ∷ n) = length l ∷ (l ++ label_octets n)
+
+pub wire_front : (f t : DomainName) → wire (f ++ t) ≡ label_octets f ++ wire t
+wire_front [] t = refl
+wire_front (l ∷ f) t = grind (arith, append_assoc, (wire_front f t))

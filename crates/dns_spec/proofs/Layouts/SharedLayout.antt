@@ -5,6 +5,7 @@ use Rattle.dns_spec.proofs.DataWords.WrittenData.{cut_into, name_part, octets_pa
 use Rattle.dns_spec.proofs.Layouts.MessageParts.{records_by_section, section_with, header_at, one_question, asked_at_12, length-question_octets}
 use Rattle.dns_spec.proofs.Layouts.LayoutSize.{length-layout}
 use Rattle.dns_spec.proofs.Layouts.SharedNames.{Known, known_later, known_more, name_shared, nothing_known, shared_alone}
+use Rattle.dns_spec.proofs.General.Fronts.{take_none, drop_none}
 
 -- what is laid out of data
 abbrev data_octets : List Placed → ℕ → List Part → Octets
@@ -14,12 +15,6 @@ abbrev data_names : List Placed → ℕ → List Part → List Placed
 data_names ms p ps = (data_laid ms p ps).names
 
 -- after the last octet there are only parts without octets
-take_none : (k : ℕ) → take {A = ℕ} k [] ≡ []
-take_none k = grind arith
-
-drop_none : (k : ℕ) → drop {A = ℕ} k [] ≡ []
-drop_none k = grind arith
-
 no_octets : (ps : List Piece) (ys : List Part)
     → cut ps [] ≡ Some ys → (ms : List Placed) (i : ℕ) → length (data_octets ms i ys) ≡ 0
 unfolding cut data_by labels_from
@@ -318,7 +313,8 @@ record HasCounts (items : List Item) : Type 0 where
   additionals : length (in_section additional items) < 2 ^ 16
 
 spells_where : (b : Octets) (h : Header) (q : Option MessageQuestion) (items : List Item)
-    → length b < 2 ^ 16 → HasRoom h q items → HasCounts items → AllByRecursion IsWritable (records_of items)
+    → length b < 2 ^ 16 → HasRoom h q items → HasCounts items
+    → AllByRecursion IsWritable (records_of items)
     → b ≡ reply_header h q items ++ asked_octets q ++ records_octets (asked_placed q)
     (12 + length (asked_octets q)) (records_of items) → Spells b (message_of h q items)
 spells_where b h q items room ok counts writable whole =

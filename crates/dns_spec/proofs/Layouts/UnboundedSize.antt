@@ -1,6 +1,7 @@
 -- The size of the layout without bound is the length of that layout, and the least that sharing
 -- allows.
-use Rattle.dns_spec.proofs.Common.{◌≡◌, ℕ, ◌+◌, ◌<◌, ◌≤◌, Bool, true, false, List, [], ◌∷◌, ◌++◌, map, length, Option, None, Some, is_some, refl, ap, ap₂, ◌∙◌, subst, arith, length-append, map-append, list_any, Octets, DomainName, wire, Part, octets, name, ResourceRecord, Header, MessageQuestion, Item, pointer, Placed, has_suffix, place_of, parts_of, names_in, names_of, labels_size, NameSize, DataSize, RecordsSize, Sharing, whole, shared, no_parts, after_octets, after_name, no_records, after_record, octets_by, data_by, record_by, records_by, unbounded_layout, unbounded_cost, unbounded_data_size, unbounded_record_size, unbounded_records_size, unbounded_size}
+use Rattle.dns_spec.proofs.Common.{◌≡◌, ℕ, ◌+◌, ◌≤◌, Bool, true, false, List, [], ◌∷◌, ◌++◌, map, length, Option, None, Some, is_some, refl, ap, ap₂, ◌∙◌, subst, arith, length-append, map-append, list_any, Octets, DomainName, wire, Part, octets, name, ResourceRecord, Header, MessageQuestion, Item, pointer, Placed, has_suffix, place_of, parts_of, names_in, names_of, labels_size, NameSize, DataSize, RecordsSize, Sharing, whole, shared, no_parts, after_octets, after_name, no_records, after_record, octets_by, data_by, record_by, records_by, unbounded_layout, unbounded_cost, unbounded_data_size, unbounded_record_size, unbounded_records_size, unbounded_size}
+use Rattle.dns_spec.proofs.DomainNames.WireNames.{wire_some}
 
 -- a name has a place exactly where an earlier name has it as a suffix
 abbrev pub unplaced : List Placed → List DomainName
@@ -85,10 +86,6 @@ prefixed {ms} l (shared front m s h) =
     subst (NameSize ms (l ∷ front ++ m ∷ s)) (omega arith) (shared (l ∷ front) m s h)
 
 -- no size of a name is less than its cost
-wire_some : (n : DomainName) → 0 < length (wire n)
-wire_some [] = omega arith
-wire_some (l ∷ n) = omega arith
-
 cost_whole : (ms : List DomainName) (n : DomainName) → unbounded_cost ms n ≤ length (wire n)
 unfolding unbounded_cost
 cost_whole ms [] = grind arith

@@ -1,15 +1,7 @@
 -- The computed message is what octets spell.
-use Rattle.dns_spec.proofs.Common.{◌≡◌, ℕ, zero, suc, ◌+◌, ◌<◌, ◌≤◌, Bool, true, false, cond, nat_lt, nat_le, ◌==◌, ◌↔◌, List, [], ◌∷◌, ◌++◌, length, Option, None, Some, slice_get, option_map, option_and_then, refl, sym, ap, ◌∙◌, subst, arith, rules, and_parts, and_from, leb-true, le-leb, ltb-true, lt-ltb, eqb-true, eq-eqb, none-some, same_Some, cond_some, option_and_then_some, some_pair_parts, Octets, DomainName, wire, width, Piece, fixed, domain, string, strings, anything, are_strings, MessageQuestion, MessageRecord, DnsMessage, NameAt, OctetsAt, NumberAt, PiecesAt, DataAt, QuestionsAt, RecordAt, RecordsAt, Spells, name_at, value_at, octets_upto, strings_only, piece_at, pieces_at, data_at, question_after, message_question_at, record_with, record_after, message_record_at, several, last_section, from_additionals, from_authorities, from_answers, message_at}
+use Rattle.dns_spec.proofs.Common.{◌≡◌, ℕ, zero, suc, ◌+◌, ◌<◌, ◌≤◌, Bool, true, false, cond, nat_lt, nat_le, ◌==◌, ◌↔◌, List, [], ◌∷◌, ◌++◌, length, Option, None, Some, slice_get, option_map, option_and_then, refl, sym, ap, ◌∙◌, subst, arith, rules, and_parts, and_from, leb-true, le-leb, ltb-true, lt-ltb, eqb-true, eq-eqb, none-some, cond_some, option_and_then_some, some_pair_parts, Octets, DomainName, wire, width, Piece, fixed, domain, string, strings, anything, are_strings, MessageQuestion, MessageRecord, DnsMessage, NameAt, OctetsAt, NumberAt, PiecesAt, DataAt, QuestionsAt, RecordAt, RecordsAt, Spells, name_at, value_at, octets_upto, strings_only, piece_at, pieces_at, data_at, question_after, message_question_at, record_with, record_after, message_record_at, several, last_section, from_additionals, from_authorities, from_answers, message_at}
 use Rattle.dns_spec.proofs.Messages.NameReading.{name_at_computes}
-
-map_some : {X Y P : Type 0} (f : X → Y) (o : Option X) (y : Y)
-    → option_map f o ≡ Some y → ((x : X) → o ≡ Some x → f x ≡ y → P) → P
-map_some f None y e k = absurd (none-some y e)
-map_some f (Some x) y e k = k x refl (same_Some (f x) y e)
-
-then_is : {X Y : Type 0} (f : X → Option Y) (o : Option X) (x : X) (y : Y)
-    → o ≡ Some x → f x ≡ Some y → option_and_then f o ≡ Some y
-then_is f o x y e h = ap (option_and_then f) e ∙ h
+use Rattle.dns_spec.proofs.General.Options.{map_some, then_is}
 
 -- Things one after the other, given how one of them is read and how they stand.
 module _ {X : Type 0} (read : ℕ → Option (X × ℕ)) (Stand : ℕ → List X → ℕ → Type 0) where

@@ -61,7 +61,7 @@ front-spelled (a ∷ b ∷ c ∷ text) x rest e = go (is_ascii_digit a
           ),
         )
 
-not-digit : (a : ℕ) → is_ascii_digit a ≡ false → IsNotAsciiDigit a
+pub not-digit : (a : ℕ) → is_ascii_digit a ≡ false → IsNotAsciiDigit a
 not-digit a h = grind arith
 
 escape-spelled : (text : Octets) (x : ℕ) (rest : Octets)

@@ -1,28 +1,10 @@
 -- What is reported of a zone does not depend on the order of its records.
-use Rattle.dns_spec.proofs.Common.{◌≡◌, ◌≤◌, Bool, ◌⊎◌, inl, inr, List, [], ◌∷◌, length, refl, sym, ap, ◌∙◌, filter, ◌==◌, arith, DomainName, folded, same, type_soa, ResourceRecord, ZoneContents, records_equal, distinct, zone_of, sort_by, record_order, ordered_zone, first_serial, zone_serial, faults, zone_text, Options, passing, zone_report}
+use Rattle.dns_spec.proofs.Common.{◌≡◌, List, [], refl, sym, ap, ◌∙◌, filter, ◌==◌, arith, DomainName, folded, same, type_soa, ResourceRecord, ZoneContents, records_equal, distinct, zone_of, sort_by, record_order, ordered_zone, first_serial, zone_serial, faults, zone_text, Options, passing, zone_report}
 use Rattle.dns_spec.proofs.ZoneChecks.FaultOrder.{folded_folded}
-use Rattle.dns_spec.proofs.Records.SortedOnce.{Among, each_at, filter_each, among_filter, filter_among, among_sort, sort_among}
-use Rattle.dns_spec.proofs.Records.RecordOrder.{sort_risen, rises_canonical, ordered_faults}
+use Rattle.dns_spec.proofs.Records.RecordOrder.{rises_canonical, ordered_faults}
 use Rattle.dns_spec.proofs.ZoneChecks.PassedChecks.{few_soa, one_soa}
-
--- lists of at most one element, with the same elements
-same_single : {X : Type 0} (xs ys : List X) → length xs ≤ 1 → length ys ≤ 1
-    → ((a : X) → Among a xs → Among a ys) → ((a : X) → Among a ys → Among a xs) → xs ≡ ys
-same_single [] [] h k forth back = refl
-same_single [] (y ∷ ys) h k forth back = absurd (back y (inl refl))
-same_single (x ∷ xs) [] h k forth back = absurd (forth x (inl refl))
-same_single (x ∷ []) (y ∷ []) h k forth back = go (forth x (inl refl))
-  where
-    go : (x ≡ y) ⊎ ⊥ → x ∷ [] ≡ y ∷ []
-    go (inl e) = ap (λ z. z ∷ []) e
-    go (inr m) = absurd m
-same_single (x ∷ w ∷ xs) (y ∷ ys) h k forth back = absurd (omega arith)
-same_single (x ∷ []) (y ∷ w ∷ ys) h k forth back = absurd (omega arith)
-
--- what passes two tests, in a list and in another with the same elements
-kept_among : {X : Type 0} (p q : X → Bool) (a : X) (xs ys : List X) → ((b : X)
-    → Among b xs → Among b ys) → Among a (filter p (filter q xs)) → Among a (filter p (filter q ys))
-kept_among p q a xs ys forth m = grind (arith, among_filter, filter_among, each_at, filter_each)
+use Rattle.dns_spec.proofs.General.Filters.{same_single, kept_among}
+use Rattle.dns_spec.proofs.General.Sorted.{among_sort, sort_among, sort_risen}
 
 module _ (o : DomainName) (rs : List ResourceRecord) where
   pub ordered_text : zone_text (ordered_zone o rs) ≡ zone_text (zone_of o rs)

@@ -1,33 +1,20 @@
 -- The canonical text of a zone is its own canonical text, and zones with one such text hold the
 -- same records.
-use Rattle.dns_spec.proofs.Common.{◌≡◌, ◌≤◌, ◌↔◌, ◌<◌, IsTrue, Bool, All, List, [], ◌∷◌, length, refl, sym, ap, ◌∙◌, subst, arith, is_eq, inl, inr, false≢true, Contains, IsPermutation, Octets, DomainName, folded, ResourceRecord, HoldSameRecords, ZoneContents, records_equal, distinct, zone_of, record_order, most_octets, Meaning, records, fault_at, Means, most_records, IsReadRecord, HasZoneType, printed_records, zone_text, Fault, faults, IsPermutation-trans, IsPermutation-sym, Contains-permutation, Options, Report, report_of_faults, Reports, AllByRecursion, recursion_from_All, All-from_recursion}
-use Rattle.dns_spec.proofs.Records.SortedOnce.{Among, each_distinct, distinct_among, among_distinct, filter_short}
-use Rattle.dns_spec.proofs.Records.RecordOrder.{record_order_total, record_ties, LowerOwner, one_record, contains_among, among_contains}
+use Rattle.dns_spec.proofs.Common.{◌≡◌, ◌≤◌, ◌↔◌, ◌<◌, IsTrue, All, List, [], ◌∷◌, length, sym, ap, ◌∙◌, subst, arith, is_eq, false≢true, IsPermutation, Octets, DomainName, folded, ResourceRecord, HoldSameRecords, ZoneContents, records_equal, distinct, zone_of, record_order, most_octets, Meaning, records, fault_at, Means, most_records, IsReadRecord, HasZoneType, printed_records, zone_text, Fault, faults, IsPermutation-trans, IsPermutation-sym, Contains-permutation, Options, Report, report_of_faults, Reports, recursion_from_All, All-from_recursion}
+use Rattle.dns_spec.proofs.Records.RecordOrder.{record_order_total, record_ties, LowerOwner, one_record}
 use Rattle.dns_spec.proofs.ZoneTexts.OneMeaning.{meaning_once}
 use Rattle.dns_spec.proofs.PrintedZones.PrintedZone.{printed_moves, zone_means}
 use Rattle.dns_spec.proofs.ZoneTexts.ReadRecords.{owners_low, records_read, records_few, folded_octets}
 use Rattle.dns_spec.proofs.Records.SameRecords.{same_reports}
+use Rattle.dns_spec.proofs.General.Elements.{Among, contains_among, among_contains, held_among}
+use Rattle.dns_spec.proofs.General.Sorted.{each_distinct, distinct_among, among_distinct, length_distinct}
 
 -- each element once, and what is printed, leave out no record and add none
 all_distinct : (P : ResourceRecord → Type 0) (rs : List ResourceRecord)
     → All P rs → All P (distinct records_equal rs)
 all_distinct P rs all =
-    All-from_recursion P (distinct records_equal rs) (each_distinct P records_equal rs (recursion_from_All P rs all))
-
-length_distinct : {X : Type 0} (eq : X → X → Bool) (xs : List X)
-    → length (distinct eq xs) ≤ length xs
-length_distinct eq [] = omega arith
-length_distinct eq (x ∷ xs) = grind (arith, filter_short, (length_distinct eq xs))
-
-all_contained : (xs ys : List ResourceRecord)
-    → ((a : ResourceRecord) → Among a xs → Among a ys) → All (Contains ys) xs
-all_contained xs ys forth = All-from_recursion (Contains ys) xs (each_contained xs forth)
-  where
-    each_contained : (zs : List ResourceRecord)
-        → ((a : ResourceRecord) → Among a zs → Among a ys) → AllByRecursion (Contains ys) zs
-    each_contained [] f = tt
-    each_contained (z ∷ zs) f =
-        (among_contains z ys (f z (inl refl)), each_contained zs (λ a m. f a (inr m)))
+    All-from_recursion P (distinct records_equal rs)
+    (each_distinct P records_equal rs (recursion_from_All P rs all))
 
 pub printed_hold_same : (o : DomainName) (rs : List ResourceRecord)
     → All LowerOwner rs → HoldSameRecords rs (printed_records (zone_of o rs))
@@ -40,9 +27,9 @@ printed_hold_same o rs low =
     λ a m. among_distinct record_order record_order_total records_equal (λ r s e. record_ties r s
     ∙ ap is_eq e) LowerOwner one_record a rs (recursion_from_All LowerOwner rs low) m
     in (
-      all_contained rs printed (λ a m. contains_among a printed
+      held_among rs printed (λ a m. contains_among a printed
           (Contains-permutation once printed a moved (among_contains a once (keeps a m)))),
-      all_contained printed rs
+      held_among printed rs
           (λ a m. distinct_among records_equal a rs
           (contains_among a once (Contains-permutation printed once a
           (IsPermutation-sym once printed moved) (among_contains a printed m)))),

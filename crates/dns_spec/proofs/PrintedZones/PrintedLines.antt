@@ -3,8 +3,9 @@ use Rattle.dns_spec.proofs.Common.{◌≡◌, ℕ, ◌<◌, Bool, true, false, �
 use Rattle.dns_spec.proofs.DataWords.BareWords.{Bare, bare_append, bare_decimal}
 use Rattle.dns_spec.proofs.DataWords.StandingWords.{TakenWhole, Standing, bare_standing, decimal_standing, name_standing}
 use Rattle.dns_spec.proofs.DataWords.FormsAgain.{small_labels, some_labels}
-use Rattle.dns_spec.proofs.DataWords.SaidAgain.{entry_passes, words_alone, words_whole}
+use Rattle.dns_spec.proofs.DataWords.SaidAgain.{words_alone, words_whole}
 use Rattle.dns_spec.proofs.ZoneTexts.ReadWords.{word_token, word_read, no_blank, blank_read, space_ends, line_ends}
+use Rattle.dns_spec.proofs.General.Tests.{entry_passes}
 
 -- the words of a record's line
 abbrev pub first_words : ResourceRecord → List Word
@@ -36,7 +37,8 @@ record Read (w : Word) : Type 0 where
 standing_read : (w : Word) → Standing w → Read w
 standing_read w s = record { alone = s.alone; whole = s.whole }
 
-all_read : (ws : List Word) → list_all stands_alone ws ≡ true → AllByRecursion TakenWhole ws → AllByRecursion Read ws
+all_read : (ws : List Word) → list_all stands_alone ws ≡ true → AllByRecursion TakenWhole ws
+    → AllByRecursion Read ws
 all_read [] alone whole = tt
 all_read (w ∷ ws) alone whole =
     let p = and_parts (stands_alone w) (list_all stands_alone ws) alone in
@@ -123,13 +125,13 @@ line_read r rest h =
     let ws = written_words r.rtype r.rdata in
     let data_read = words_then ws rest (all_read ws (words_alone r.rtype
     r.rdata h.rdata_octets h.rdata) (words_whole r.rtype r.rdata h.rdata_octets h.rdata)) in
-    let firsts = first_read r h in
+    let (owner, (ttl, (class, (rtype, _)))) = first_read r h in
     subst (λ t. Reads t (line_tokens r) rest) (sym (line_split
     (name_text r.owner) (decimal r.ttl) (type_text r.rtype) (data_text r.rtype r.rdata) rest))
-    (word_then (plain (name_text r.owner)) _ _ rest firsts.0
-    (word_then (plain (decimal r.ttl)) _ _ rest firsts.1.0
-    (word_then (plain (codes "IN")) _ _ rest firsts.1.1.0
-    (word_then (plain (type_text r.rtype)) _ _ rest firsts.1.1.1.0 data_read))))
+    (word_then (plain (name_text r.owner)) _ _ rest owner
+    (word_then (plain (decimal r.ttl)) _ _ rest ttl
+    (word_then (plain (codes "IN")) _ _ rest class
+    (word_then (plain (type_text r.rtype)) _ _ rest rtype data_read))))
 
 pub line_pieces_read : (r : ResourceRecord) (rest : Octets)
     → IsReadRecord r → TokensThen (record_line r ++ rest) (line_tokens r) rest

@@ -1,5 +1,5 @@
 -- The text of records means these records.
-use Rattle.dns_spec.proofs.Common.{◌≡◌, ℕ, suc, ◌+◌, ◌<◌, ◌≤◌, inl, inr, Bool, true, false, All, Some, None, List, [], ◌∷◌, ◌++◌, map, length, take, refl, sym, ◌∙◌, ap, subst, arith, codes, decimal, rules, cases_Bool, lt-leb, le-ltb, take_all, none-some, same_Some, MatchOption, is_ascii_digit, AllDigits, Octets, DomainName, octet_text, name_text, type_text, NamesType, Word, Says, plain, written_words, ResourceRecord, bad_owner, IsReadRecord, HasZoneType, record_line, decimal_is_IsNumeral, list_any, find, filter, flat_map, Token, most_octets, TokensThen, cut_entries, begins_with, Entry, Entries, ended, with_end, lexical_fault, whole_text, extent_by, faulty, gives, owned, kind_of, Fields, fields, directive_word, is_record, OriginIs, NameIs, IsRecord, most_records, RecordGives, KindGives, EntryGives, records, EntriesMean, Means, AllByRecursion, recursion_from_All}
+use Rattle.dns_spec.proofs.Common.{◌≡◌, ℕ, suc, ◌+◌, ◌<◌, ◌≤◌, true, false, All, Some, None, List, [], ◌∷◌, ◌++◌, map, length, take, refl, sym, ◌∙◌, ap, subst, arith, codes, decimal, rules, lt-leb, le-ltb, take_all, MatchOption, is_ascii_digit, AllDigits, Octets, DomainName, octet_text, name_text, type_text, NamesType, Word, Says, plain, written_words, ResourceRecord, bad_owner, IsReadRecord, HasZoneType, record_line, decimal_is_IsNumeral, list_any, filter, flat_map, Token, most_octets, TokensThen, cut_entries, begins_with, Entry, Entries, ended, with_end, lexical_fault, whole_text, extent_by, faulty, gives, owned, kind_of, Fields, fields, directive_word, is_record, OriginIs, NameIs, IsRecord, most_records, RecordGives, KindGives, EntryGives, records, EntriesMean, Means, AllByRecursion, recursion_from_All}
 use Rattle.dns_spec.proofs.NameTexts.WrittenNames.{name_spelled}
 use Rattle.dns_spec.proofs.DataWords.SaidAgain.{data_said}
 use Rattle.dns_spec.proofs.PrintedZones.PrintedLines.{line_tokens, line_pieces_read, line_cut, line_parentheses, line_words_again}
@@ -86,10 +86,6 @@ line_faultless : (r : ResourceRecord) → lexical_fault (line_entry r) ≡ None
 line_faultless r = grind (arith, line_parentheses)
 
 -- a type's word names it
-found_passes : {X : Type 0} (p : X → Bool) (xs : List X) (x : X) → find p xs ≡ Some x → p x ≡ true
-found_passes p [] x e = absurd (none-some x e)
-found_passes p (y ∷ xs) x e = grind (arith, cases_Bool, inl, same_Some, inr, (found_passes p xs x))
-
 type_named : (t : ℕ) → t < 65536 → NamesType (type_text t) t
 type_named t small = grind arith
 
@@ -150,8 +146,10 @@ line_counts : (r : ResourceRecord) (earlier : List Entry)
     → length (filter is_record (line_entry r ∷ earlier)) ≡ suc (length (filter is_record earlier))
 line_counts r earlier = grind (arith, line_kind)
 
-lines_mean : (o : DomainName) (earlier : List Entry) (rs : List ResourceRecord) → AllByRecursion KeepsOrigin
-    earlier → AllByRecursion IsReadRecord rs → AllByRecursion HasZoneType rs → length (filter is_record earlier)
+lines_mean : (o : DomainName) (earlier : List Entry) (rs : List ResourceRecord)
+    → AllByRecursion KeepsOrigin
+    earlier → AllByRecursion IsReadRecord rs → AllByRecursion HasZoneType rs
+    → length (filter is_record earlier)
     + length rs ≤ most_records → EntriesMean o earlier (lines_entries rs) (records rs)
 lines_mean o earlier [] keeps h types few = grind (arith, given_then)
 lines_mean o earlier (r ∷ rs) keeps h types few =

@@ -1,7 +1,7 @@
 -- The canonical text of a zone means its records, which it prints in another order.
 use Rattle.dns_spec.proofs.Common.{◌≡◌, ◌≤◌, not, All, length, refl, sym, subst, IsPermutation, DomainName, record_order, ZoneContents, sort_by, most_octets, most_records, records, Means, IsPermutation-trans, IsPermutation-filter_both, All-permutation, length_permutation, IsReadRecord, HasZoneType, is_soa, printed_records, zone_text}
-use Rattle.dns_spec.proofs.Records.RecordOrder.{permutation_sort}
 use Rattle.dns_spec.proofs.PrintedZones.PrintedMeaning.{printed_again}
+use Rattle.dns_spec.proofs.General.Sorted.{permutation_sort}
 
 pub printed_moves : (z : ZoneContents) → IsPermutation z.records (printed_records z)
 printed_moves z =

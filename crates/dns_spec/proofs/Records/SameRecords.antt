@@ -1,14 +1,11 @@
 -- Lists that hold the same records make one zone, with one canonical text and one report.
 use Rattle.dns_spec.proofs.Common.{arith, rules, ◌≡◌, ◌↔◌, All, List, ap, sym, ◌∙◌, is_eq, Contains, Octets, DomainName, folded, ResourceRecord, HoldSameRecords, records_equal, distinct, zone_of, sort_by, record_order, ordered_zone, records, Means, IsReadRecord, zone_text, Options, Report, zone_report, report_of_meaning, Reports, All-contains, All-weaker, recursion_from_All}
-use Rattle.dns_spec.proofs.Records.SortedOnce.{Among, same_sorted}
-use Rattle.dns_spec.proofs.Records.RecordOrder.{record_order_total, record_ties, LowerOwner, one_record, contains_among, among_contains}
+use Rattle.dns_spec.proofs.Records.RecordOrder.{record_order_total, record_ties, LowerOwner, one_record}
 use Rattle.dns_spec.proofs.PrintedZones.OrderedReport.{ordered_text, ordered_report}
 use Rattle.dns_spec.proofs.ZoneTexts.OneMeaning.{meaning_once}
 use Rattle.dns_spec.proofs.ZoneTexts.ReadRecords.{owners_low}
-
-among_held : {X : Type 0} (a : X) (xs ys : List X) → All (Contains ys) xs → Among a xs → Among a ys
-among_held a xs ys held m =
-    contains_among a ys (All-contains (Contains ys) xs a held (among_contains a xs m))
+use Rattle.dns_spec.proofs.General.Elements.{among_held}
+use Rattle.dns_spec.proofs.General.Sorted.{same_sorted}
 
 module _
     (rs ss : List ResourceRecord) (low : All LowerOwner rs) (held : HoldSameRecords rs ss) where

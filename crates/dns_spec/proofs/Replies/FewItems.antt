@@ -1,12 +1,15 @@
 -- An answer of a zone that passes has few targets and few sets, and visits few nodes for each name.
-use Rattle.dns_spec.proofs.Common.{◌≡◌, ℕ, ◌+◌, ◌*◌, ◌≤◌, nat_lt, Bool, true, false, not, ◌==◌, inl, List, [], ◌∷◌, ◌++◌, map, sum, length, Option, None, Some, All, filter, flat_map, refl, sym, ap, ◌∙◌, subst, arith, append-nil, length-append, eqb-true, ltb-false, none-some, flat_map-append, length-map, length-filter_both, option_to_list, DomainName, is_name, folded, names_equal, same, at_or_below, ResourceRecord, ZoneContents, data_order, at, of_type, with_owner, found, Section, answer, Item, records_of, filter_map-append, filter_map, fold, most_of_a_set, count, large_set, Passes, most_aliases, item, alias_set, last_sought, alias_items, Outcome, outcome_by, outcome_at, outcome, targets_of, targets_inside, targets_outside, targets, address_sets, extra, main_items, items, nodes_to, most_visits, names_looked_up, AllByRecursion, recursion_from_All, inr}
+use Rattle.dns_spec.proofs.Common.{◌≡◌, ℕ, ◌+◌, ◌*◌, ◌≤◌, nat_lt, Bool, true, false, not, ◌==◌, inl, List, [], ◌∷◌, ◌++◌, map, sum, length, Option, None, Some, All, filter, flat_map, refl, sym, ap, ◌∙◌, subst, arith, append-nil, length-append, eqb-true, ltb-false, none-some, flat_map-append, length-map, option_to_list, DomainName, is_name, folded, names_equal, same, at_or_below, ResourceRecord, ZoneContents, data_order, at, of_type, with_owner, found, Section, answer, Item, records_of, filter_map-append, filter_map, most_of_a_set, count, large_set, Passes, most_aliases, item, alias_set, last_sought, alias_items, Outcome, outcome_by, outcome_at, outcome, targets_of, targets_inside, targets_outside, targets, address_sets, extra, main_items, items, nodes_to, most_visits, names_looked_up, AllByRecursion, recursion_from_All, inr}
 use Rattle.dns_spec.proofs.DomainNames.NameLaws.{names_equal-decides, length-is_name}
-use Rattle.dns_spec.proofs.Records.SortedOnce.{Among, each_filter, among_filter, length-sort_by, filter_short}
-use Rattle.dns_spec.proofs.Replies.ItemSets.{any_false, filter_test}
-use Rattle.dns_spec.proofs.Replies.WritableItems.{Named, each_append, chain_named, named_target}
+use Rattle.dns_spec.proofs.Replies.WritableItems.{Named, chain_named, named_target}
 use Rattle.dns_spec.proofs.ZoneChecks.PassedChecks.{passes_check}
 use Rattle.dns_spec.proofs.Replies.RequiredItems.{target_of, each_alias_item, no_targets}
 use Rattle.dns_spec.proofs.Replies.ChainLength.{chain_short}
+use Rattle.dns_spec.proofs.General.Elements.{Among, each_append}
+use Rattle.dns_spec.proofs.General.Filters.{each_filter, among_filter, filter_short, filter_test, filtered_lengths, mapped_short}
+use Rattle.dns_spec.proofs.General.Tests.{any_false}
+use Rattle.dns_spec.proofs.General.Sorted.{length-sort_by}
+use Rattle.dns_spec.proofs.General.Numbers.{sum_cons}
 
 -- the records of items
 pub item_records : (s : Section) (rs : List ResourceRecord) → records_of (item s rs) ≡ rs
@@ -20,15 +23,6 @@ targets_last z q t =
     grind (arith, target_of, flat_map-append, filter_map-append, no_targets, each_alias_item)
 
 -- lengths
-parted : {X : Type 0} (p : X → Bool) (xs : List X)
-    → length (filter p xs) + length (filter (λ x. not (p x)) xs) ≡ length xs
-parted p xs = length-filter_both p (λ x. not (p x)) (λ x. refl) xs
-
-mapped_short : {X Y : Type 0} (f : X → Option Y) (xs : List X)
-    → length (filter_map f xs) ≤ length xs
-mapped_short f [] = omega arith
-mapped_short {Y = Y} f (x ∷ xs) = grind (arith, (mapped_short f xs))
-
 targets_short : (s : Section) (rs : List ResourceRecord)
     → length (targets_of (item s rs)) ≤ length rs
 targets_short s rs = grind (arith, item_records, mapped_short)
@@ -89,7 +83,7 @@ module _ (z : ZoneContents) (origin : folded z.origin ≡ z.origin) (low : AllBy
       grind (
         arith,
         length-append,
-        parted,
+        filtered_lengths,
         targets_short,
         length-map,
         length-sort_by,
@@ -133,13 +127,6 @@ module _ (z : ZoneContents) (origin : folded z.origin ≡ z.origin)
   few_items = grind (arith, length-append, main_one, alias_items_few, extra_few, few_targets)
 
 -- nodes
-fold_from : (k : ℕ) (xs : List ℕ) → fold ◌+◌ k xs ≡ k + sum xs
-fold_from k [] = omega arith
-fold_from k (x ∷ xs) = omega (arith, fold_from (k + x) xs, fold_from (0 + x) xs)
-
-pub sum_cons : (x : ℕ) (xs : List ℕ) → sum (x ∷ xs) ≡ x + sum xs
-sum_cons x xs = omega (arith, fold_from (0 + x) xs)
-
 nodes_few : (z : ZoneContents) (ns : List DomainName)
     → AllByRecursion Named ns → sum (map (nodes_to z) ns) ≤ 128 * length ns
 nodes_few z [] e = omega arith

@@ -1,9 +1,11 @@
 -- In a zone that passes each item of a reply is the records of a set at an owner, with one TTL.
-use Rattle.dns_spec.proofs.Common.{common_steps, eqb-true, eq-eqb, false≢true, or_parts, none-some, same_Some, list_any, DomainName, folded, names_equal, same, type_ns, type_cname, ResourceRecord, ZoneContents, at, of_type, rrset, with_owner, records_at, of_lowest_type, found, ttls_differ, Passes, Section, answer, Item, no_error, item, follows_alias, alias_set, chain, alias_items, asked_records, negative_soa, negative, positive, has_any, outcome_by, outcome_at, outcome, address_sets, extra, items, ◌≡◌, ℕ, ◌≤◌, Bool, true, false, ◌&&◌, not, cond, ◌==◌, ◌⊎◌, inl, inr, List, [], ◌∷◌, ◌++◌, map, length, Option, None, Some, All, filter, flat_map, refl, sym, ap, ap₂, ◌∙◌, subst, arith, IsSetAt, AllByRecursion, recursion_from_All, All-from_recursion}
+use Rattle.dns_spec.proofs.Common.{common_steps, eqb-true, eq-eqb, false≢true, none-some, same_Some, list_any, DomainName, folded, names_equal, same, type_ns, type_cname, ResourceRecord, ZoneContents, at, of_type, rrset, with_owner, records_at, of_lowest_type, found, ttls_differ, Passes, Section, answer, Item, no_error, item, follows_alias, alias_set, chain, alias_items, asked_records, negative_soa, negative, positive, has_any, outcome_by, outcome_at, outcome, address_sets, extra, items, ◌≡◌, ℕ, ◌≤◌, Bool, true, false, ◌&&◌, not, cond, ◌==◌, ◌⊎◌, inl, inr, List, [], ◌∷◌, ◌++◌, map, length, Option, None, Some, All, filter, flat_map, refl, sym, ap, ap₂, ◌∙◌, subst, arith, IsSetAt, AllByRecursion, recursion_from_All, All-from_recursion}
 use Rattle.dns_spec.proofs.DomainNames.NameLaws.{names_equal-decides}
-use Rattle.dns_spec.proofs.Records.SortedOnce.{Among, each_at, each_sort, among_filter, each_any}
-use Rattle.dns_spec.proofs.Replies.WritableItems.{each_append, each_flat_map}
 use Rattle.dns_spec.proofs.ZoneChecks.PassedChecks.{passes_check, few_soa, one_soa}
+use Rattle.dns_spec.proofs.General.Elements.{Among, each_at, each_any, each_append, each_flat_map, each_among}
+use Rattle.dns_spec.proofs.General.Filters.{among_filter, filter_test}
+use Rattle.dns_spec.proofs.General.Tests.{any_false}
+use Rattle.dns_spec.proofs.General.Sorted.{each_sort}
 
 -- records with one owner, one TTL and one type are those of a set
 pub record IsOf (o : DomainName) (k t : ℕ) (r : ResourceRecord) : Type 0 where
@@ -17,7 +19,8 @@ pub as_set : (o : DomainName) (k t : ℕ) (rs : List ResourceRecord)
 as_set o k t [] e = refl
 as_set o k t (r ∷ rs) e = grind (arith, ap₂, (as_set o k t rs e.1))
 
-one_set : (o : DomainName) (k t : ℕ) (rs : List ResourceRecord) → AllByRecursion (IsOf o k t) rs → IsSetAt rs
+one_set : (o : DomainName) (k t : ℕ) (rs : List ResourceRecord) → AllByRecursion (IsOf o k t) rs
+    → IsSetAt rs
 one_set o k t rs e = record {
   owner = o;
   ttl = k;
@@ -76,22 +79,6 @@ first_of_type t (s ∷ rs) r m e = go (s.rtype == t) refl m (first_of_type t rs 
           typed = g.typed;
           ttl = ap (λ b. cond b s.ttl (first_ttl t rs)) p ∙ g.ttl;
         }
-
-pub any_false : {X : Type 0} (p : X → Bool) (xs : List X) (a : X)
-    → list_any p xs ≡ false → Among a xs → p a ≡ false
-any_false p [] a e m = absurd m
-any_false p (x ∷ xs) a e (inl q) = ap p q ∙ (or_parts (p x) (list_any p xs) e).0
-any_false p (x ∷ xs) a e (inr m) = any_false p xs a (or_parts (p x) (list_any p xs) e).1 m
-
-pub each_among : {X : Type 0} (P : X → Type 0) (xs : List X)
-    → ((x : X) → Among x xs → P x) → AllByRecursion P xs
-each_among P [] f = tt
-each_among P (x ∷ xs) f = (f x (inl refl), each_among P xs (λ y m. f y (inr m)))
-
-pub filter_test : {X : Type 0} (p : X → Bool) (a : X) (xs : List X)
-    → Among a (filter p xs) → p a ≡ true
-filter_test p a [] m = absurd m
-filter_test p a (x ∷ xs) m = grind (arith, Among, inl, inr, (filter_test p a xs))
 
 pub each_typed : (t : ℕ) (P : ResourceRecord → Type 0) (rs : List ResourceRecord)
     → AllByRecursion P rs → AllByRecursion (λ r. P r × (r.rtype ≡ t)) (of_type t rs)
@@ -168,7 +155,8 @@ module _ (z : ZoneContents) (origin : folded z.origin ≡ z.origin) (low : AllBy
         each_at (HasTtl n t) r (at z n) (at_ttl n t) m,
       ))))
     where
-      each_weak : (rs : List ResourceRecord) → AllByRecursion (λ r. ((r.owner ≡ folded n) × HasTtl n t r)
+      each_weak : (rs : List ResourceRecord)
+          → AllByRecursion (λ r. ((r.owner ≡ folded n) × HasTtl n t r)
           × (r.rtype ≡ t)) rs → AllByRecursion (IsOf (folded n) (first_ttl t (at z n)) t) rs
       each_weak [] e = tt
       each_weak (r ∷ rs) e =
@@ -180,7 +168,8 @@ module _ (z : ZoneContents) (origin : folded z.origin ≡ z.origin) (low : AllBy
       one_set c k type_ns (with_owner c (rrset z c type_ns)) (shown
       (rrset z c type_ns) (each_typed type_ns (HasTtl c type_ns) (at z c) (at_ttl c type_ns)))
     where
-      shown : (rs : List ResourceRecord) → AllByRecursion (λ r. HasTtl c type_ns r × (r.rtype ≡ type_ns)) rs
+      shown : (rs : List ResourceRecord)
+          → AllByRecursion (λ r. HasTtl c type_ns r × (r.rtype ≡ type_ns)) rs
           → AllByRecursion (IsOf c (first_ttl type_ns (at z c)) type_ns) (with_owner c rs)
       shown [] e = tt
       shown (r ∷ rs) e = (record { owner = refl; ttl = e.0.0 e.0.1; rtype = e.0.1 }, shown rs e.1)
@@ -244,4 +233,5 @@ module _ (z : ZoneContents) (origin : folded z.origin ≡ z.origin) (low : AllBy
 pub items_are_sets : (z : ZoneContents)
     → folded z.origin ≡ z.origin → All (λ (r : ResourceRecord). folded r.owner ≡ r.owner) z.records
     → Passes z → (q : DomainName) (t : ℕ) → All (λ (i : Item). IsSetAt i.records) (items z q t)
-items_are_sets z origin low passes q t = grind (arith, All-from_recursion, items_sets, recursion_from_All)
+items_are_sets z origin low passes q t =
+    grind (arith, All-from_recursion, items_sets, recursion_from_All)

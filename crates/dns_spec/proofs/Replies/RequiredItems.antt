@@ -1,7 +1,7 @@
 -- The sets of a reply begin with those that it may not leave out.
 use Rattle.dns_spec.proofs.Common.{arith, rules, eqb-true, take_at, filter_map, DomainName, type_cname, target, ResourceRecord, ZoneContents, data_order, of_type, cut_of, found, Section, answer, Item, ◌≡◌, ℕ, Bool, true, false, cond, ◌==◌, ◌⊎◌, inl, inr, List, [], ◌∷◌, ◌++◌, length, take, Option, None, Some, is_some, option_map, unwrap_or, filter, flat_map, refl, sym, ap, ◌∙◌, append_assoc, append-nil, item, follows_alias, alias_set, chain, last_sought, alias_items, Outcome, outcome_by, outcome_at, outcome, has_target_type, targets_of, targets_inside, targets_outside, targets, address_sets, extra, main_items, items, required_items, AllByRecursion}
-use Rattle.dns_spec.proofs.Records.SortedOnce.{each_sort, each_any}
-use Rattle.dns_spec.proofs.Replies.WritableItems.{each_flat_map}
+use Rattle.dns_spec.proofs.General.Elements.{each_any, each_flat_map}
+use Rattle.dns_spec.proofs.General.Sorted.{each_sort}
 
 -- what is added for targets after others
 pub extra_append : (z : ZoneContents) (earlier : List Item) (ms ns : List DomainName)
@@ -25,8 +25,10 @@ each_of_type t rs = each_sort data_order (λ (r : ResourceRecord). r.rtype ≡ t
     filtered [] = tt
     filtered (r ∷ ss) = go (r.rtype == t) refl (filtered ss)
       where
-        go : (b : Bool) → (r.rtype == t) ≡ b → AllByRecursion (λ (r : ResourceRecord). r.rtype ≡ t) (filter
-            (λ (r : ResourceRecord). r.rtype == t) ss) → AllByRecursion (λ (r : ResourceRecord). r.rtype ≡ t)
+        go : (b : Bool) → (r.rtype == t) ≡ b
+            → AllByRecursion (λ (r : ResourceRecord). r.rtype ≡ t) (filter
+            (λ (r : ResourceRecord). r.rtype == t) ss)
+            → AllByRecursion (λ (r : ResourceRecord). r.rtype ≡ t)
             (cond b (r ∷ filter (λ (r : ResourceRecord). r.rtype == t) ss)
             (filter (λ (r : ResourceRecord). r.rtype == t) ss))
         go true e h = (eqb-true r.rtype t e, h)
@@ -40,8 +42,10 @@ each_alias z s = go (is_some (cut_of z s)) (some (found z s))
     some None = tt
     some (Some rs) = each_of_type type_cname rs
 
-    go : (b : Bool) → AllByRecursion IsAlias (unwrap_or (option_map (of_type type_cname) (found z s)) [])
-        → AllByRecursion IsAlias (cond b [] (unwrap_or (option_map (of_type type_cname) (found z s)) []))
+    go : (b : Bool)
+        → AllByRecursion IsAlias (unwrap_or (option_map (of_type type_cname) (found z s)) [])
+        → AllByRecursion IsAlias (cond b []
+        (unwrap_or (option_map (of_type type_cname) (found z s)) []))
     go true e = tt
     go false e = e
 

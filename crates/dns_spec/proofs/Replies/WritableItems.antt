@@ -1,35 +1,12 @@
 -- The sets of an answer stand in the order of their sections, and their records fit a message where
 -- those of the zone do.
-use Rattle.dns_spec.proofs.Common.{◌≡◌, ℕ, zero, suc, ◌<◌, ◌≤◌, min, append_assoc, append-nil, Bool, true, false, ◌&&◌, cond, nat_le, List, [], ◌∷◌, ◌++◌, map, take, Option, None, Some, All, find, flat_map, refl, sym, subst, arith, rules, and_from, le-leb, none-some, same_Some, list_all, Octets, DomainName, is_name, same, suffixes, type_ns, type_cname, Piece, Part, octets, name, piece_front, cut, first_name, target, soa_minimum, ResourceRecord, ZoneContents, at, of_type, rrset, with_owner, cut_of, found, Section, answer, authority, additional, Item, records_of, name_error, no_error, item, follows_alias, alias_set, next_sought, chain_from, chain, last_of, last_sought, alias_items, Outcome, asked_records, negative, positive, has_any, outcome_by, outcome_at, outcome, targets, address_sets, extra, main_items, items, section_rank, sections_in_order, IsWritable, AllByRecursion, recursion_from_All, All-from_recursion}
-use mathlib.Core.List.{reverse_aux}
+use Rattle.dns_spec.proofs.Common.{◌≡◌, ℕ, zero, suc, ◌<◌, ◌≤◌, min, append_assoc, append-nil, Bool, true, false, ◌&&◌, cond, nat_le, List, [], ◌∷◌, ◌++◌, map, take, Option, None, Some, All, flat_map, refl, sym, subst, arith, rules, and_from, le-leb, none-some, same_Some, list_all, Octets, DomainName, is_name, same, suffixes, type_ns, type_cname, Piece, Part, octets, name, piece_front, cut, first_name, target, soa_minimum, ResourceRecord, ZoneContents, at, of_type, rrset, with_owner, cut_of, found, Section, answer, authority, additional, Item, records_of, name_error, no_error, item, follows_alias, alias_set, next_sought, chain_from, chain, last_of, last_sought, alias_items, Outcome, asked_records, negative, positive, has_any, outcome_by, outcome_at, outcome, targets, address_sets, extra, main_items, items, section_rank, sections_in_order, IsWritable, AllByRecursion, recursion_from_All, All-from_recursion}
 use Rattle.dns_spec.proofs.DomainNames.NameLaws.{is_name-tail, is_name-folded}
-use Rattle.dns_spec.proofs.Records.SortedOnce.{each_filter, each_sort}
 use Rattle.dns_spec.proofs.DataWords.WrittenData.{cut_into}
-
-pub each_append : {X : Type 0} (P : X → Type 0) (xs ys : List X)
-    → AllByRecursion P xs → AllByRecursion P ys → AllByRecursion P (xs ++ ys)
-each_append P [] ys e f = f
-each_append P (x ∷ xs) ys e f = (e.0, each_append P xs ys e.1 f)
-
-pub each_take : {X : Type 0} (P : X → Type 0) (k : ℕ) (xs : List X) → AllByRecursion P xs → AllByRecursion P (take k xs)
-each_take P zero xs e = tt
-each_take P (suc k) [] e = tt
-each_take P (suc k) (x ∷ xs) e = (e.0, each_take P k xs e.1)
-
-pub each_flat_map : {X Y : Type 0} (P : Y → Type 0) (Q : X → Type 0) (f : X → List Y) (xs : List X)
-    → ((x : X) → Q x → AllByRecursion P (f x)) → AllByRecursion Q xs → AllByRecursion P (flat_map f xs)
-each_flat_map P Q f [] g e = tt
-each_flat_map P Q f (x ∷ xs) g e = grind (arith, each_append, (each_flat_map P Q f xs g e.1))
-
-each_reverse_onto : {X : Type 0} (P : X → Type 0) (xs ys : List X)
-    → AllByRecursion P xs → AllByRecursion P ys → AllByRecursion P (reverse_aux xs ys)
-each_reverse_onto P [] ys e f = f
-each_reverse_onto P (x ∷ xs) ys e f = each_reverse_onto P xs (x ∷ ys) e.1 (e.0, f)
-
-found_each : {X : Type 0} (P : X → Type 0) (test : X → Bool) (xs : List X) (y : X)
-    → AllByRecursion P xs → find test xs ≡ Some y → P y
-found_each P test [] y e h = absurd (none-some y h)
-found_each P test (x ∷ xs) y e h = grind (arith, same_Some, (found_each P test xs y e.1))
+use Rattle.dns_spec.proofs.General.Elements.{each_append, each_take, each_flat_map, each_reverse_onto}
+use Rattle.dns_spec.proofs.General.Filters.{each_filter}
+use Rattle.dns_spec.proofs.General.Tests.{found_each}
+use Rattle.dns_spec.proofs.General.Sorted.{each_sort}
 
 -- names above a name, and in lower case
 abbrev pub Named : DomainName → Type 0
@@ -126,7 +103,8 @@ module _ (z : ZoneContents) (w : Writable z.records) where
 abbrev Stood : Section → Item → Type 0
 Stood s i = (i.section ≡ s) × Writable i.records
 
-item_stood : (s : Section) (rs : List ResourceRecord) → Writable rs → AllByRecursion (Stood s) (item s rs)
+item_stood : (s : Section) (rs : List ResourceRecord) → Writable rs
+    → AllByRecursion (Stood s) (item s rs)
 item_stood s rs h = grind arith
 
 abbrev Negative : ResourceRecord → ResourceRecord
@@ -179,7 +157,8 @@ module _ (z : ZoneContents) (w : Writable z.records) where
       go None None e f = negative_right name_error (omega arith)
       go None (Some rs) e f = answer_from_right t rs (found_writable z w s rs h f)
 
-  alias_items_stood : (q : DomainName) (t : ℕ) → Named q → AllByRecursion (Stood answer) (alias_items z q t)
+  alias_items_stood : (q : DomainName) (t : ℕ) → Named q
+      → AllByRecursion (Stood answer) (alias_items z q t)
   alias_items_stood q t h = go (follows_alias t)
     where
       go : (b : Bool) → AllByRecursion
@@ -223,13 +202,15 @@ abbrev NotBefore : Section → Item → Type 0
 NotBefore s j = section_rank s ≤ section_rank j.section
 
 not_before : (s s' : Section) (js : List Item)
-    → section_rank s ≤ section_rank s' → AllByRecursion (Stood s') js → AllByRecursion (NotBefore s) js
+    → section_rank s ≤ section_rank s' → AllByRecursion (Stood s') js
+    → AllByRecursion (NotBefore s) js
 not_before s s' [] h g = tt
 not_before s s' (j ∷ js) h g = grind (arith, (not_before s s' js h g.1))
 
 -- sets of one section in front of sets of none before it
 ordered_front : (s : Section) (xs ys : List Item)
-    → AllByRecursion (Stood s) xs → AllByRecursion (NotBefore s) ys → Ordered ys → Ordered (xs ++ ys)
+    → AllByRecursion (Stood s) xs → AllByRecursion (NotBefore s) ys → Ordered ys
+    → Ordered (xs ++ ys)
 ordered_front s [] ys e f o = o
 ordered_front s (x ∷ xs) ys e f o = (
   subst (λ r. AllByRecursion (NotBefore r) (xs ++ ys)) (sym e.0.0) (each_append
@@ -271,7 +252,8 @@ module _ (z : ZoneContents)
   outcome_rcode = (outcome_right z fits q t h).rcode
 
   -- The sets of an answer are in order, and their records can be written;
-  items_stood : Ordered (items z q t) × AllByRecursion (λ (i : Item). Writable i.records) (items z q t)
+  items_stood : Ordered (items z q t)
+      × AllByRecursion (λ (i : Item). Writable i.records) (items z q t)
   unfolding items
   items_stood =
       let o = outcome z q t in

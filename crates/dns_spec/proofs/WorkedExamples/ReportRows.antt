@@ -107,7 +107,8 @@ report_rows = search []
 
 same_in_another_order : HoldSameRecords once_each twice_for_7
 same_in_another_order = (
-  All-from_recursion (Contains twice_for_7) once_each ((1, lit< tt, refl), ((0, lit< tt, refl), tt)),
+  All-from_recursion (Contains twice_for_7) once_each
+      ((1, lit< tt, refl), ((0, lit< tt, refl), tt)),
   All-from_recursion (Contains once_each) twice_for_7
       ((1, lit< tt, refl), ((0, lit< tt, refl), ((1, lit< tt, refl), tt))),
 )

@@ -1,58 +1,12 @@
 -- The faults of a list of records do not depend on its order.
-use Rattle.dns_spec.proofs.Common.{◌≡◌, ℕ, Bool, true, ◌&&◌, eqb, nat_lt, ◌==◌, ◌⊎◌, inl, inr, List, [], ◌∷◌, map, reverse, length, refl, sym, ap, ap₂, ◌∙◌, arith, filter, flat_map, IsPermutation, is_eq, nat_cmp, Equal, false≢true, lt-ltb, eqb-true, eq-eqb, ne_eqb, ltb-true, reverse-reverse, list_any, IsTotalOrder, lists_ties, DomainName, folded, same, names_equal, label_order, name_order, type_ns, ResourceRecord, ZoneContents, at, owns, distinct, length-filter, sum_by-IsPermutation, nat_cmp_total, nat_list_cmp_total, lists_total, on_total, most_sets, Check, has_target, ttls_differ, ns_target_alias, lacks_address, ns_target_lost, mx_target_alias, data_at_cut, first_is_asterisk, wildcard_ns, large_set, many_sets, Fault, faults_at, checked_names, faults, AllByRecursion}
+use Rattle.dns_spec.proofs.Common.{◌≡◌, ℕ, Bool, true, ◌&&◌, eqb, nat_lt, ◌==◌, List, [], ◌∷◌, map, reverse, length, sym, ap, ap₂, ◌∙◌, arith, flat_map, IsPermutation, is_eq, nat_cmp, Equal, eqb-true, reverse-reverse, list_any, IsTotalOrder, lists_ties, DomainName, folded, same, names_equal, label_order, name_order, type_ns, ResourceRecord, ZoneContents, at, owns, distinct, nat_cmp_total, nat_list_cmp_total, lists_total, on_total, most_sets, Check, has_target, ttls_differ, ns_target_alias, lacks_address, ns_target_lost, mx_target_alias, data_at_cut, first_is_asterisk, wildcard_ns, large_set, many_sets, Fault, faults_at, checked_names, faults, AllByRecursion}
 use Rattle.dns_spec.proofs.DomainNames.NameLaws.{names_equal-decides}
-use Rattle.dns_spec.proofs.Records.SortedOnce.{Among, length-sort_by, same_sorted, each_any}
 pub use Rattle.dns_spec.proofs.DataWords.LoweredData.{folded_folded}
-
--- two lists of which each test passes as many
-abbrev SameCounts : {X : Type 0} → List X → List X → Type 0
-SameCounts {X} xs ys = (p : X → Bool) → length (filter p xs) ≡ length (filter p ys)
-
-from_permutation : {X : Type 0} (xs ys : List X) → IsPermutation xs ys → SameCounts xs ys
-from_permutation xs ys h p = grind (arith, length-filter, sum_by-IsPermutation)
-
-pub any_counted : {X : Type 0} (p : X → Bool) (xs : List X)
-    → list_any p xs ≡ nat_lt 0 (length (filter p xs))
-any_counted p [] = refl
-any_counted p (x ∷ xs) = grind (arith, lt-ltb, (any_counted p xs))
-
-same_any : {X : Type 0} (p : X → Bool) (xs ys : List X)
-    → SameCounts xs ys → list_any p xs ≡ list_any p ys
-same_any p xs ys c = any_counted p xs ∙ ap (nat_lt 0) (c p) ∙ sym (any_counted p ys)
-
-filter_twice : {X : Type 0} (p q : X → Bool) (xs : List X)
-    → filter q (filter p xs) ≡ filter (λ x. p x && q x) xs
-filter_twice p q [] = refl
-filter_twice p q (x ∷ xs) = grind (arith, (filter_twice p q xs))
-
-same_filter : {X : Type 0} (p : X → Bool) (xs ys : List X)
-    → SameCounts xs ys → SameCounts (filter p xs) (filter p ys)
-same_filter p xs ys c q = grind (arith, filter_twice)
-
--- the values of a function on such lists are the same
-module _ {X Y : Type 0} (f : X → Y) (eq : Y → Y → Bool)
-    (decides : (a b : Y) → (eq a b ≡ true → a ≡ b) × (a ≡ b → eq a b ≡ true)) where
-  any_value : (a : Y) (xs : List X) → Among a (map f xs) → list_any (λ x. eq a (f x)) xs ≡ true
-  any_value a [] m = absurd m
-  any_value a (x ∷ xs) (inl e) = grind arith
-  any_value a (x ∷ xs) (inr m) = grind (arith, (any_value a xs m))
-
-  value_any : (a : Y) (xs : List X) → list_any (λ x. eq a (f x)) xs ≡ true → Among a (map f xs)
-  value_any a [] e = absurd (false≢true e)
-  value_any a (x ∷ xs) e = grind (arith, Among, inl, inr, (value_any a xs))
-
-  same_values : (xs ys : List X)
-      → SameCounts xs ys → (a : Y) → Among a (map f xs) → Among a (map f ys)
-  same_values xs ys c a m = grind (arith, value_any, same_any, any_value)
-
-eqb_decides : (a b : ℕ) → (eqb a b ≡ true → a ≡ b) × (a ≡ b → eqb a b ≡ true)
-eqb_decides a b = (eqb-true a b, eq-eqb a b)
-
-pub nat_ties : (x y : ℕ) → eqb x y ≡ is_eq (nat_cmp x y)
-nat_ties x y = grind (arith, ne_eqb, ltb-true)
-
-pub nat_tie : (x y : ℕ) → nat_cmp x y ≡ Equal → eqb x y ≡ true
-nat_tie x y e = nat_ties x y ∙ ap is_eq e
+use Rattle.dns_spec.proofs.General.Elements.{each_any}
+use Rattle.dns_spec.proofs.General.Tests.{SameCounts, from_permutation, same_any, same_filter, same_values}
+use Rattle.dns_spec.proofs.General.Sorted.{length-sort_by, same_sorted}
+use Rattle.dns_spec.proofs.General.Orderings.{eqb_decides, nat_ties, nat_tie}
+use Rattle.dns_spec.proofs.General.Truths.{in_rest}
 
 -- how many types records have
 same_type_count : (xs ys : List ResourceRecord)
@@ -91,9 +45,6 @@ name_tie n m e =
     let back : folded n ≡ folded m = sym (reverse-reverse (folded n))
     ∙ ap reverse ((names_equal-decides a b).0 t) ∙ reverse-reverse (folded m) in
     (names_equal-decides (folded n) (folded m)).1 back
-
-in_rest : {A B C : Type 0} → A ⊎ B → (B → C) → A ⊎ C
-in_rest h h1 = grind arith
 
 -- each check, over one origin and two such lists
 module _ (o : DomainName) (xs ys : List ResourceRecord) (c : SameCounts xs ys) where

@@ -1,29 +1,10 @@
 -- A zone that passes has no fault at its origin.
-use Rattle.dns_spec.proofs.Common.{common_steps, ltb-false, folded, same, name_order, type_soa, ResourceRecord, ZoneContents, distinct, sort_by, rrset, at, Check, checks, faults_at, checked_names, faults, Passes, ◌≡◌, ℕ, ◌≤◌, Bool, false, ◌⊎◌, inl, inr, List, [], ◌∷◌, ◌++◌, map, length, refl, sym, ap, subst, ◌∙◌, filter, flat_map, ◌==◌, Ordering, arith, AllByRecursion}
+use Rattle.dns_spec.proofs.Common.{common_steps, ltb-false, folded, same, name_order, type_soa, ResourceRecord, ZoneContents, distinct, rrset, at, Check, checks, faults_at, checked_names, faults, Passes, ◌≡◌, ℕ, ◌≤◌, false, inl, inr, List, [], ◌∷◌, map, length, sym, ap, subst, filter, ◌==◌, arith, AllByRecursion}
 use Rattle.dns_spec.proofs.DomainNames.NameLaws.{names_equal-decides}
 use Rattle.dns_spec.proofs.ZoneChecks.FaultOrder.{name_order_total, name_tie, Lower, one_lower}
-use Rattle.dns_spec.proofs.Records.SortedOnce.{Among, each_at, among_sort, among_distinct, among_mapped}
-
--- no element gives anything where all give nothing
-flat_nothing : {X Y : Type 0} (f : X → List Y) (xs : List X) (a : X)
-    → flat_map f xs ≡ [] → Among a xs → f a ≡ []
-flat_nothing f [] a e m = absurd m
-flat_nothing {Y = Y} f (x ∷ xs) a e m = go (f x) refl e m (flat_nothing f xs a)
-  where
-    go : (ys : List Y) → f x ≡ ys → ys ++ flat_map f xs ≡ []
-        → (a ≡ x) ⊎ Among a xs → (flat_map f xs ≡ [] → Among a xs → f a ≡ []) → f a ≡ []
-    go [] p q (inl s) r = ap f s ∙ p
-    go [] p q (inr n) r = r q n
-    go (y ∷ ys) p q n r = cc
-
-filter_nothing : {X : Type 0} (p : X → Bool) (xs : List X)
-    → filter p xs ≡ [] → AllByRecursion (λ x. p x ≡ false) xs
-filter_nothing p [] e = tt
-filter_nothing p (x ∷ xs) e = grind (arith, AllByRecursion, (filter_nothing p xs))
-
-map_nothing : {X Y : Type 0} (f : X → Y) (xs : List X) → map f xs ≡ [] → xs ≡ []
-map_nothing f [] e = refl
-map_nothing f (x ∷ xs) e = cc
+use Rattle.dns_spec.proofs.General.Elements.{Among, each_at, among_mapped}
+use Rattle.dns_spec.proofs.General.Filters.{filter_nothing, map_nothing, flat_nothing}
+use Rattle.dns_spec.proofs.General.Sorted.{among_sort, among_distinct, sort_short}
 
 -- no check holds of the origin of a zone that passes
 pub checks_of_origin : (z : ZoneContents) → folded z.origin ≡ z.origin
@@ -53,12 +34,12 @@ passes_check z low lows passes r m c is_check =
     let names = folded z.origin ∷ map f z.records in
     let here : folded r.owner ≡ r.owner =
     each_at (λ (s : ResourceRecord). folded s.owner ≡ s.owner) r z.records lows m in
-    let listed : Among r.owner names =
+    let named : Among r.owner names =
     inr (subst (λ n. Among n (map f z.records)) here (among_mapped f r z.records m)) in
     let lower : AllByRecursion Lower names = (ap folded low, all_low z.records lows) in
     let checked : Among r.owner (checked_names z) =
     among_sort name_order r.owner (distinct same names) (among_distinct
-    name_order name_order_total same name_tie Lower one_lower r.owner names lower listed) in
+    name_order name_order_total same name_tie Lower one_lower r.owner names lower named) in
     let none : faults_at z r.owner ≡ [] =
     flat_nothing (faults_at z) (checked_names z) r.owner passes checked in
     let all = filter_nothing (λ (k : ℕ × Check). k.1 z r.owner) checks
@@ -66,16 +47,11 @@ passes_check z low lows passes r m c is_check =
     (filter (λ (k : ℕ × Check). k.1 z r.owner) checks) none) in
     each_at (λ k. k z r.owner ≡ false) c (map (λ (k : ℕ × Check). k.1) checks) all is_check
   where
-    all_low : (rs : List ResourceRecord) → AllByRecursion (λ (s : ResourceRecord). folded s.owner ≡ s.owner)
+    all_low : (rs : List ResourceRecord)
+        → AllByRecursion (λ (s : ResourceRecord). folded s.owner ≡ s.owner)
         rs → AllByRecursion Lower (map (λ (s : ResourceRecord). folded s.owner) rs)
     all_low [] e = tt
     all_low (s ∷ rs) e = (ap folded e.0, all_low rs e.1)
-
-sort_short : {X : Type 0} (cmp : X → X → Ordering) (xs : List X)
-    → length xs ≤ 1 → sort_by cmp xs ≡ xs
-sort_short cmp [] h = refl
-sort_short cmp (x ∷ []) h = refl
-sort_short cmp (x ∷ y ∷ xs) h = absurd (omega arith)
 
 -- the SOA at the origin of a zone that passes is the only one
 pub few_soa : (z : ZoneContents) → folded z.origin ≡ z.origin

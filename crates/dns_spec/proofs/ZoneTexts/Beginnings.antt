@@ -1,8 +1,10 @@
 -- A text that goes on begins with the tokens of its beginning, but for the last of them, which may
 -- go on too.
-use Rattle.dns_spec.proofs.Common.{◌≡◌, ℕ, zero, suc, ◌+◌, ◌⊎◌, inl, inr, Bool, true, false, not, ◌==◌, Option, Some, None, [], ◌∷◌, ◌++◌, length, take, drop, refl, sym, ◌∙◌, ap, subst, arith, if◌then◌else◌, eqb-true, true≢false, false≢true, none-some, prefix_len, Octets, is_word_octet, Token, blank, comment, word, is_blank, unit_left, run_length, word_length, string_length, quoted_front, unquoted_front, line_feed_front, token_front, parenthesis, is_line_end, is_cut_short}
+use Rattle.dns_spec.proofs.Common.{◌≡◌, ℕ, zero, suc, ◌+◌, ◌⊎◌, inl, inr, Bool, true, false, not, ◌==◌, Option, Some, None, [], ◌∷◌, ◌++◌, take, drop, refl, sym, ◌∙◌, ap, subst, arith, if◌then◌else◌, eqb-true, true≢false, false≢true, none-some, prefix_len, Octets, is_word_octet, Token, blank, comment, word, is_blank, unit_left, run_length, word_length, string_length, quoted_front, unquoted_front, line_feed_front, token_front, parenthesis, is_line_end, is_cut_short}
 use Rattle.dns_spec.proofs.ZoneTexts.ReadWords.{front_taken}
 use Rattle.dns_spec.proofs.NameTexts.Escapes.{counted_escape}
+use Rattle.dns_spec.proofs.General.Fronts.{drop_one, dropped_more, taken_more}
+use Rattle.dns_spec.proofs.General.Tests.{prefix_more}
 
 -- what is not cut short is not where the text goes on
 pub uncut : (place more : Octets)
@@ -12,9 +14,6 @@ uncut place more h = grind arith
 counted_more : (text more : Octets) → (counted_escape text ≡ 0 → is_cut_short (92 ∷ text) ≡ false)
     → counted_escape (text ++ more) ≡ counted_escape text
 counted_more text more h = grind arith
-
-drop_one : (n o : ℕ) (text : Octets) → drop (1 + n) (o ∷ text) ≡ drop n text
-drop_one n o text = let next : 1 + n ≡ suc n = omega arith in ap (λ m. drop m (o ∷ text)) next
 
 module _ (by : ℕ → Bool) where
   unit_more : (o : ℕ) (text more : Octets) → (unit_left by o text ≡ None
@@ -47,24 +46,6 @@ module _ (by : ℕ → Bool) where
       go None e later h = grind (arith, ℕ, Some, run_length, unit_more)
       go (Some k) e later h =
           grind (arith, ℕ, None, run_length, unit_more, none-some, is_cut_short, drop_one)
-
--- what comes first, and what comes after, where more comes after that
-pub dropped_more : (n : ℕ) (text more : Octets) (x : ℕ) (xs : Octets)
-    → drop n text ≡ x ∷ xs → drop n (text ++ more) ≡ x ∷ (xs ++ more)
-dropped_more zero text more x xs e = ap (λ t. t ++ more) e
-dropped_more (suc n) [] more x xs e = absurd (omega (arith, ap length e))
-dropped_more (suc n) (o ∷ text) more x xs e = dropped_more n text more x xs e
-
-pub taken_more : (n : ℕ) (text more : Octets) (x : ℕ) (xs : Octets)
-    → drop n text ≡ x ∷ xs → take n (text ++ more) ≡ take n text
-taken_more zero text more x xs e = refl
-taken_more (suc n) [] more x xs e = absurd (omega (arith, ap length e))
-taken_more (suc n) (o ∷ text) more x xs e = ap (λ t. o ∷ t) (taken_more n text more x xs e)
-
-prefix_more : (p : ℕ → Bool) (text more : Octets) (x : ℕ) (xs : Octets)
-    → drop (prefix_len p text) text ≡ x ∷ xs → prefix_len p (text ++ more) ≡ prefix_len p text
-prefix_more p [] more x xs e = absurd (omega (arith, ap length e))
-prefix_more p (o ∷ text) more x xs e = grind (arith, drop_one, (prefix_more p text more x xs))
 
 -- a token that may go on
 pub record Loose (t : Token) : Type 0 where

@@ -1,8 +1,10 @@
 -- The first fault of a beginning of a text is the fault of the text.
-use Rattle.dns_spec.proofs.Common.{append-nil, ◌≡◌, ℕ, zero, suc, ◌≤◌, ◌⊎◌, inl, inr, Bool, true, false, ◌&&◌, not, Option, Some, None, List, [], ◌∷◌, ◌++◌, map, length, take, drop, refl, sym, ◌∙◌, ap, subst, arith, false≢true, true≢false, none-some, same_Some, cons_option, Octets, DomainName, ResourceRecord, FileFault, bad_parenthesis, too_long, faulty, gives, Meaning, records, fault_at, after, line_after, EntriesMean, Means, most_octets, extent_of, Token, token_front, TokensThen, parenthesis, parentheses, is_line_end, open_after, before_first, cut_entries, take_turns, is_open_at_end, is_cut_short, string_length, Extent, beginning, stop_at, string_fault, stop_fault, Entry, ended, unended, with_end, OctetsMean}
+use Rattle.dns_spec.proofs.Common.{append-nil, ◌≡◌, ℕ, ◌≤◌, ◌⊎◌, inl, inr, Bool, true, false, ◌&&◌, not, Option, Some, None, List, [], ◌∷◌, ◌++◌, map, length, drop, refl, sym, ◌∙◌, ap, subst, arith, false≢true, true≢false, none-some, same_Some, cons_option, Octets, DomainName, ResourceRecord, FileFault, bad_parenthesis, too_long, faulty, gives, Meaning, records, fault_at, after, line_after, EntriesMean, Means, most_octets, extent_of, Token, token_front, TokensThen, parenthesis, parentheses, is_line_end, open_after, before_first, cut_entries, take_turns, is_open_at_end, is_cut_short, string_length, Extent, beginning, stop_at, string_fault, stop_fault, Entry, ended, unended, with_end, OctetsMean}
 use mathlib.Core.Bool.{xor}
 use Rattle.dns_spec.proofs.ZoneTexts.TextTokens.{has_tokens, tokens_cut, tokens_then}
-use Rattle.dns_spec.proofs.ZoneTexts.Beginnings.{Loose, run_more, dropped_more, stop_place, front_kept, none_kept, cut_none}
+use Rattle.dns_spec.proofs.ZoneTexts.Beginnings.{Loose, run_more, stop_place, front_kept, none_kept, cut_none}
+use Rattle.dns_spec.proofs.General.Truths.{and_later}
+use Rattle.dns_spec.proofs.General.Fronts.{looked_at, dropped_more}
 
 -- the tokens that a text begins with, wherever it goes on: all of its beginning, or all but the
 -- last
@@ -72,7 +74,7 @@ record Cuts (is_open : Bool) (ts : List Token) : Type 0 where
   cuts : (us : List Token)
       → cut_entries is_open (ts ++ us) ≡ whole ++ before_all part (cut_entries now_open us)
 
-cut-on : (b : Bool) (t : Token) (ts : List Token) → (is_line_end t && not b) ≡ false
+pub cut-on : (b : Bool) (t : Token) (ts : List Token) → (is_line_end t && not b) ≡ false
     → cut_entries b (t ∷ ts) ≡ before_first t (cut_entries (open_after b t) ts)
 cut-on b t ts h = rw (h, cut_entries) refl
 
@@ -143,9 +145,6 @@ unfolding fault_of
 after-fault rs later fault line h = grind arith
 
 -- a parenthesis that is misplaced stays so, whatever comes after
-and_later : (x y z : Bool) → (y ≡ false → z ≡ false) → (x && y) ≡ false → (x && z) ≡ false
-and_later x y z h h1 = grind arith
-
 turns_fail : (b : Bool) (ts us : List Token)
     → take_turns b (parentheses ts) ≡ false → take_turns b (parentheses (ts ++ us)) ≡ false
 turns_fail b [] us h = absurd (true≢false h)
@@ -390,13 +389,6 @@ pub beginning_decides : (o : DomainName)
 beginning_decides o earlier extent front more fault line (es, cut, meant) other =
     decided o earlier fault line extent front more other cut.tokens cut.rest cut.spelled cut.at_end
     (subst (λ es. EntriesMean o earlier es (fault_at fault line)) cut.entries meant)
-
--- a beginning that is not longer than what is looked at is a beginning of that
-looked_at : (n : ℕ) (front more : Octets)
-    → length front ≤ n → (rest : Octets) × (take n (front ++ more) ≡ front ++ rest)
-looked_at n [] more short = (take n more, refl)
-looked_at zero (o ∷ front) more short = absurd (omega (arith, short))
-looked_at (suc n) (o ∷ front) more short = grind (arith, (looked_at n front more))
 
 pub text_decided : (o : DomainName) (front more : Octets) (fault : FileFault) (line : ℕ)
     → length front ≤ most_octets → OctetsMean o [] beginning front (fault_at fault line)

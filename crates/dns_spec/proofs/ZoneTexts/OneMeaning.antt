@@ -1,13 +1,9 @@
 -- A text means one thing.
-use Rattle.dns_spec.proofs.Common.{◌≡◌, ℕ, inl, inr, List, [], ◌∷◌, drop, Option, None, refl, sym, ◌∙◌, ap, ap₂, subst, subst₂, arith, codes, rules, MatchOption, some_pair_parts, decimal_injective, Octets, DomainName, folded, SpellsName, Word, Says, ResourceRecord, Token, token_front, TokensThen, Entry, FileFault, EntryMeaning, faulty, gives, Lowest, EntryKind, no_words, directive, owned, unowned, kind_of, directive_word, owner_word, OriginIs, NameIs, OwnerBefore, TtlIs, TypeIs, DataIs, IsRecord, Fields, record_faults, RecordGives, DirectiveGives, KindGives, EntryGives, Meaning, fault_at, after, line_after, EntriesMean, Means}
+use Rattle.dns_spec.proofs.Common.{◌≡◌, ℕ, inl, inr, List, [], ◌∷◌, drop, Option, None, refl, sym, ◌∙◌, ap, ap₂, subst, subst₂, arith, codes, rules, some_pair_parts, decimal_injective, Octets, DomainName, folded, SpellsName, Word, Says, ResourceRecord, Token, token_front, TokensThen, Entry, FileFault, EntryMeaning, faulty, gives, Lowest, EntryKind, no_words, directive, owned, unowned, kind_of, directive_word, owner_word, OriginIs, NameIs, OwnerBefore, TtlIs, TypeIs, DataIs, IsRecord, Fields, record_faults, RecordGives, DirectiveGives, KindGives, EntryGives, Meaning, fault_at, after, line_after, EntriesMean, Means}
 use Rattle.dns_spec.proofs.NameTexts.OneName.{name_once}
 use Rattle.dns_spec.proofs.DataWords.OneData.{data_once}
 use Rattle.dns_spec.proofs.DataWords.TypeWords.{one_type}
-
--- what is one by either case is one
-by_option : {X N : Type 0} {P Q : Type 0} {R S : X → Type 0} (o : Option X) (n m : N) → (P
-    → Q → n ≡ m) → ((x : X) → R x → S x → n ≡ m) → MatchOption o P R → MatchOption o Q S → n ≡ m
-by_option o n m h h1 h2 h3 = grind arith
+use Rattle.dns_spec.proofs.General.Options.{by_option}
 
 -- an answer that holds is the only one
 abbrev Once : (EntryMeaning → Type 0) → Type 0

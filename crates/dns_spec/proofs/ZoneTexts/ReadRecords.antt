@@ -1,14 +1,13 @@
 -- The records that a text means are such as are read, of types that zones have, and few enough.
 use Rattle.dns_spec.proofs.Common.{◌≡◌, ℕ, ◌+◌, ◌<◌, ◌≤◌, ◌⊎◌, Bool, true, false, cond, All, List, [], ◌∷◌, length, drop, filter, Option, Some, None, sym, subst, arith, codes, IsTrue, length-append, rules, All-weaker, ⊤, MatchOption, Octets, DomainName, is_name, folded, SpellsName, valid, lower_case, Word, ResourceRecord, FileFault, IsReadRecord, HasZoneType, Entry, EntryMeaning, faulty, gives, EntryKind, no_words, directive, owned, unowned, kind_of, directive_word, is_record, OriginIs, NameIs, OwnerBefore, most_ttl, TtlIs, TypeIs, DataIs, is_zone_type, Fields, fields, IsRecord, most_records, RecordGives, KindGives, EntryGives, Meaning, records, fault_at, after, EntriesMean, Means, AllByRecursion, All-from_recursion, recursion_from_All}
 use Rattle.dns_spec.proofs.ZoneChecks.FaultOrder.{folded_folded}
-use Rattle.dns_spec.proofs.Records.SortedOnce.{each_any}
 use Rattle.dns_spec.proofs.Records.RecordOrder.{LowerOwner}
 use Rattle.dns_spec.proofs.DomainNames.NameLaws.{is_name-folded}
 use Rattle.dns_spec.proofs.DataWords.LoweredData.{lowered_data, lowered-twice}
 use Rattle.dns_spec.proofs.ZoneTexts.OneMeaning.{type_once}
 use Rattle.dns_spec.proofs.ZoneTexts.ReadOctets.{Octet, SmallName, SmallWord, name_small, folded_small, data_small}
 use Rattle.dns_spec.proofs.ZoneTexts.ReadTokens.{SmallEntry, entries_small, words_small}
-use Rattle.dns_spec.proofs.Replies.WritableItems.{each_append}
+use Rattle.dns_spec.proofs.General.Elements.{each_any, each_append}
 
 -- a record by the words of an entry of this kind
 abbrev IsRecordOf : DomainName → List Entry → EntryKind → ResourceRecord → Type 0
@@ -104,7 +103,8 @@ SmallFields f = AllByRecursion SmallWord f.others
 fields_by : (b : Bool) (f g : Fields) → SmallFields f → SmallFields g → SmallFields (cond b f g)
 fields_by b f g h h1 = grind arith
 
-fields_small : (ws : List Word) → AllByRecursion SmallWord ws → AllByRecursion SmallWord (fields ws).others
+fields_small : (ws : List Word) → AllByRecursion SmallWord ws
+    → AllByRecursion SmallWord (fields ws).others
 fields_small ws h = grind (arith, fields_by)
 
 drop_small : (ws : List Word) → AllByRecursion SmallWord ws → AllByRecursion SmallWord (drop 1 ws)
@@ -137,7 +137,8 @@ module _ (o : DomainName) (from : SmallName o) where
       grind (arith, sort_small, SmallName, name_is_small, (owner_small earlier n small.1))
 
   rdata_small : (earlier : List Entry) (ws : List Word) (d : Octets)
-      → AllByRecursion SmallEntry earlier → AllByRecursion SmallWord ws → DataIs o earlier ws d → AllByRecursion Octet d
+      → AllByRecursion SmallEntry earlier → AllByRecursion SmallWord ws → DataIs o earlier ws d
+      → AllByRecursion Octet d
   rdata_small earlier ws d small words (t, type, (m, is, said)) =
       data_small t m (drop 1 ws) d (origin_small earlier m small is) (drop_small ws words) said
 
@@ -172,7 +173,8 @@ folded_octets n all = all_octets (folded n) (folded_small n (small_name n all))
 
 record_read : (o : DomainName) (earlier : List Entry)
     (Owner : DomainName → Type 0) (f : Fields) (r : ResourceRecord) → SmallName o
-    → AllByRecursion SmallEntry earlier → ((n : DomainName) → Owner n → (is_name n ≡ true) × SmallName n)
+    → AllByRecursion SmallEntry earlier
+    → ((n : DomainName) → Owner n → (is_name n ≡ true) × SmallName n)
     → SmallFields f → IsRecord o earlier Owner f r → IsReadRecord r × HasZoneType r
 record_read o earlier Owner f r from small owners words is =
     let (n, owns, e) = is.owner in

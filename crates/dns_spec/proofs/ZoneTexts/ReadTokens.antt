@@ -3,7 +3,8 @@
 use Rattle.dns_spec.proofs.Common.{◌≡◌, ℕ, zero, suc, ◌+◌, Bool, true, false, not, ◌&&◌, Option, Some, None, List, [], ◌∷◌, take, refl, arith, filter_map, eqb-true, leb-true, none-some, same_Some, Octets, Token, blank, comment, word, quoted_string, opening, closing, line_end, escape_left, unit_left, run_length, TokensThen, is_line_end, open_after, before_first, cut_entries, Entry, with_end, Entries, word_of, entry_words, Extent, AllByRecursion}
 use Rattle.dns_spec.proofs.ZoneTexts.ReadOctets.{Octet, SmallWord}
 
-escape_left_small : (text : Octets) (k : ℕ) → escape_left text ≡ Some k → AllByRecursion Octet (take k text)
+escape_left_small : (text : Octets) (k : ℕ) → escape_left text ≡ Some k
+    → AllByRecursion Octet (take k text)
 escape_left_small text k e = grind arith
 
 unit_small : (p : ℕ → Bool) → ((o : ℕ) → p o ≡ true → Octet o) → (o : ℕ) (text : Octets) (k : ℕ)
@@ -24,7 +25,8 @@ run_small p small zero (o ∷ text) left =
     go (unit_left p o text) refl (λ k. run_small p small k text)
   where
     go : (u : Option ℕ) → unit_left p o text ≡ u
-        → ((k : ℕ) → AllByRecursion Octet (take k text) → AllByRecursion Octet (take (run_length p k text) text)) → AllByRecursion
+        → ((k : ℕ) → AllByRecursion Octet (take k text)
+        → AllByRecursion Octet (take (run_length p k text) text)) → AllByRecursion
         Octet (take (elim u as (λ _. ℕ) [ None ↦ 0 | Some k ↦ 1 + run_length p k text ]) (o ∷ text))
     go None e after = tt
     go (Some k) e after = let unit = unit_small p small o text k e in
@@ -48,16 +50,19 @@ tokens_small text (p ∷ ps) rest (others, e, h) =
 
 -- the entries that tokens are cut into
 before_small : (p : Token) (pss : List (List Token))
-    → SmallToken p → AllByRecursion (AllByRecursion SmallToken) pss → AllByRecursion (AllByRecursion SmallToken) (before_first p pss)
+    → SmallToken p → AllByRecursion (AllByRecursion SmallToken) pss
+    → AllByRecursion (AllByRecursion SmallToken) (before_first p pss)
 before_small p pss h h1 = grind arith
 
 cut_small : (is_open : Bool) (ps : List Token)
-    → AllByRecursion SmallToken ps → AllByRecursion (AllByRecursion SmallToken) (cut_entries is_open ps)
+    → AllByRecursion SmallToken ps
+    → AllByRecursion (AllByRecursion SmallToken) (cut_entries is_open ps)
 cut_small is_open [] small = (tt, tt)
 cut_small is_open (p ∷ ps) small =
     go (is_line_end p && not is_open) (λ opened. cut_small opened ps small.1)
   where
-    go : (t : Bool) → ((opened : Bool) → AllByRecursion (AllByRecursion SmallToken) (cut_entries opened ps))
+    go : (t : Bool)
+        → ((opened : Bool) → AllByRecursion (AllByRecursion SmallToken) (cut_entries opened ps))
         → AllByRecursion (AllByRecursion SmallToken) (elim t as (λ _. List (List Token)) [
           | true ↦ (p ∷ []) ∷ cut_entries
               false ps
@@ -71,17 +76,20 @@ abbrev pub SmallEntry : Entry → Type 0
 SmallEntry e = AllByRecursion SmallToken e.tokens
 
 ended_small : (extent : Extent) (rest : Octets) (pss : List (List Token))
-    → AllByRecursion (AllByRecursion SmallToken) pss → AllByRecursion SmallEntry (with_end extent rest pss)
+    → AllByRecursion (AllByRecursion SmallToken) pss
+    → AllByRecursion SmallEntry (with_end extent rest pss)
 ended_small extent rest [] small = tt
 ended_small extent rest (ps ∷ []) small = (small.0, tt)
 ended_small extent rest (ps ∷ qs ∷ pss) small =
     (small.0, ended_small extent rest (qs ∷ pss) small.1)
 
-pub entries_small : (text : Octets) (es : List Entry) → Entries text es → AllByRecursion SmallEntry es
+pub entries_small : (text : Octets) (es : List Entry) → Entries text es
+    → AllByRecursion SmallEntry es
 entries_small text es h = grind (arith, AllByRecursion, ended_small, cut_small, tokens_small)
 
 -- the words of an entry
-words_of_small : (ps : List Token) → AllByRecursion SmallToken ps → AllByRecursion SmallWord (filter_map word_of ps)
+words_of_small : (ps : List Token) → AllByRecursion SmallToken ps
+    → AllByRecursion SmallWord (filter_map word_of ps)
 words_of_small [] small = tt
 words_of_small (blank ∷ ps) small = words_of_small ps small.1
 words_of_small (comment ∷ ps) small = words_of_small ps small.1

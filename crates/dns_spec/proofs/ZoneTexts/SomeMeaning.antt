@@ -4,19 +4,7 @@
 -- not be found.
 use Rattle.dns_spec.proofs.Common.{arith, rules, ◌≡◌, ℕ, ◌⊎◌, inl, inr, Bool, true, false, List, [], ◌∷◌, Option, Some, None, refl, ap, codes, IsTrue, take, MatchOption, MatchBool, is_none, option_or, false≢true, none-some, Octets, DomainName, folded, octets_equal, Word, ResourceRecord, FileFault, unknown_directive, directive_words, bad_owner, no_owner, most_octets, Extent, extent_of, Entry, with_end, cut_entries, lexical_fault, EntryMeaning, faulty, gives, Nothing, Lowest, EntryKind, no_words, directive, owned, unowned, kind_of, nearest, directive_word, ttl_word, NameIs, OwnerBefore, TtlSays, ttl_in_force, IsRecord, Fields, fields, IsNoTtl, record_faults, RecordGives, OneWord, DirectiveSays, KindGives, EntryGives, Meaning, records, fault_at, after, line_after, EntriesMean, Means, OctetsMean}
 use Rattle.dns_spec.proofs.ZoneTexts.TextTokens.{has_tokens, tokens_cut}
-
--- it can't be that there is none
-abbrev Sure : Type 0 → Type 0
-Sure A = (A → ⊥) → ⊥
-
-sure : {A : Type 0} → A → Sure A
-sure a none = none a
-
-and_so : {A B : Type 0} → Sure A → (A → Sure B) → Sure B
-and_so a f none = a (λ x. f x none)
-
-either_way : (A : Type 0) → Sure (A ⊎ (A → ⊥))
-either_way A none = none (inr (λ a. none (inl a)))
+use Rattle.dns_spec.proofs.General.Truths.{Sure, sure, and_so, either_way}
 
 -- what is not nothing is there
 some_there : {A : Type 0} {P : A → Type 0} → (Nothing P → ⊥) → Sure ((v : A) × P v)
@@ -66,7 +54,7 @@ record Known (earlier : List Entry) : Type 0 where
   default : EachSays (nearest (directive_word (codes "$ttl")) earlier)
   stated : EachSays (nearest ttl_word earlier)
 
-is_faulty : EntryMeaning → Bool
+unfoldable pub is_faulty : EntryMeaning → Bool
 is_faulty (faulty fault) = true
 is_faulty (gives rs) = false
 

@@ -51,7 +51,7 @@ pub(crate) fn keys_of<'a>(
 }
 
 /// The key of a record's owner, which begins at `start`.
-#[tactic(auto, using(crate::proofs::KeyOrder::some_octets))]
+#[tactic(auto, using(crate::proofs::Common::wire_some))]
 pub(crate) fn key_at<'a>(keys: &'a [u8], start: u32, of: &Entry) -> &'a [u8]
     ensures value { result.now ≡ key_in keys.now start of.now.owner }
     ensures lower { folded of.now.owner ≡ of.now.owner }

@@ -21,7 +21,7 @@ use std::cmp::Ordering;
 
 /// The records, each once, in canonical order (RFC 4034 6.1, 6.3, RFC 2181 5), with the keys of
 /// their owners. They mostly are once they are arranged, which one walk sees.
-#[tactic(auto, using(crate::proofs::KeyOrder::some_octets))]
+#[tactic(auto, using(crate::proofs::Common::wire_some))]
 pub(crate) fn ordered(
     alloc: Global,
     origin: &NameRef<'_>,

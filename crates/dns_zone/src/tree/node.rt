@@ -159,7 +159,7 @@ impl<'z> Node<'z> {
     }
 
     /// The records of the lowest type at the name; `None` where it owns none.
-    #[tactic(auto, using(crate::proofs::Types::first_rest, crate::proofs::NodeSets::lowest))]
+    #[tactic(auto, using(crate::proofs::Common::first_rest, crate::proofs::NodeSets::lowest))]
     pub fn first_set(&self) -> Option<RecordSet<'z>>
         ensures set { result ≡ set_of (of_lowest_type (at self.now.zone self.now.name)) }
         ensures kept { IfSome result (IsSetOf self.now) }

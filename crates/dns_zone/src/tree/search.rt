@@ -3,10 +3,11 @@ ghost use Rattle.std.specs.Prelude.{◌≡◌, ◌+◌, ◌<◌, ◌≤◌, map,
 ghost use Rattle.std.specs.Char.{to_ascii_lowercase};
 ghost use Rattle.dns_spec.specs.Names.{label_order};
 ghost use Rattle.dns_spec.specs.Meaning.{most_records};
-ghost use Rattle.dns_spec.proofs.Records.SortedOnce.{Among, Rises};
 ghost use Rattle.std.specs.List.{AllByRecursion};
 ghost use Rattle.dns_zone.specs.LabelKey.{IsKey};
 ghost use Rattle.dns_zone.specs.TreeForm.{row_label, row_name, row_at, IsRow};
+ghost use Rattle.dns_spec.proofs.General.Elements.{Among};
+ghost use Rattle.dns_spec.proofs.General.Sorted.{Rises};
 
 use crate::store::entry::Entry;
 use crate::tree::label_key::{KEY_OCTETS, first_octets, label_key, order_to};

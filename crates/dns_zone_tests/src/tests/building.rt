@@ -76,8 +76,8 @@ fn a_zone_is_built_of_a_store(rt: HostRuntime) -> Result<(), Fail> {
     let origin = Name::read_text(b"example.", &Name::root())?;
     let text = file_with(rt.alloc(), b"")?;
     let mut store = Store::new(rt.alloc());
-    for listed in &read_zone(rt.alloc(), &origin, &mut Tally::new(text.as_slice()))? {
-        store.add(listed)?;
+    for record in &read_zone(rt.alloc(), &origin, &mut Tally::new(text.as_slice()))? {
+        store.add(record)?;
     }
     assert_eq!(rt; store.count(), 9);
     if store.count() > 100_000 {

@@ -1,4 +1,4 @@
-use Rattle.dns_master.proofs.Common.{rules, ◌≢◌, Option, Result, IfErr, None, Octets, DomainName, fault_at, fault_of, GivesMeaning, Decides, ReadFault, SourceFailed, NoMemory, OnOk-map, IfErr-map, fault_handed_on}
+use Rattle.dns_master.proofs.Common.{rules, ◌≢◌, Option, Result, IfErr, None, Octets, DomainName, fault_at, fault_of, GivesMeaning, Decides, ReadFault, SourceFailed, NoMemory, on_ok_weaker, IfErr-weaker, fault_handed_on}
 use Rattle.dns_master.proofs.SourceSteps.{piece-given, fault-given, end-given, limit-given, end-records, limit-records, decided-gives}
 use Rattle.dns_master.proofs.reader.read_into.Goals as goal
 
@@ -13,7 +13,7 @@ pub returns-then-not-branch-clause-whole : goal.returns-then-not-branch-clause-w
 returns-then-not-branch-clause-whole g c =
     let piece = c.in_ok-take_piece.ensures.ok in
     let so = piece-given _ _ _ _ _ _ _ _ c.pieces.invariant.so_far _ _ _ _ _ piece in
-    OnOk-map c.finish.result (end-records _ _ None _ _ _ _ _ so _ (piece.over (search rules)).1)
+    on_ok_weaker c.finish.result (end-records _ _ None _ _ _ _ _ so _ (piece.over (search rules)).1)
     c.finish.ensures.ok
 
 pub returns-then-not-branch-clause-decided : goal.returns-then-not-branch-clause-decided
@@ -21,7 +21,7 @@ returns-then-not-branch-clause-decided g c =
     let piece = c.in_ok-take_piece.ensures.ok in
     let so = piece-given _ _ _ _ _ _ _ _ c.pieces.invariant.so_far _ _ _ _ _ piece in
     let over = (piece.over (search rules)).1 in
-    IfErr-map c.finish.result (λ f h source memory.
+    IfErr-weaker c.finish.result _ _ (λ f h source memory.
     end-given _ _ None _ _ _ _ _ so (fault_at (fault_of f.code) f.line) over (h.told memory))
     c.finish.ensures.err
 
@@ -30,12 +30,12 @@ pieces-preserved g c = search (rules, piece-given)
 
 pub returns-in-Ok-clause-whole : goal.returns-in-Ok-clause-whole
 returns-in-Ok-clause-whole g c =
-    OnOk-map c.finish-in-Ok.result (limit-records _ _ _ _ _ _ _ _ c.pieces.invariant.so_far _ _
+    on_ok_weaker c.finish-in-Ok.result (limit-records _ _ _ _ _ _ _ _ c.pieces.invariant.so_far _ _
     (search rules) c.in-Ok.ensures.ok) c.finish-in-Ok.ensures.ok
 
 pub returns-in-Ok-clause-decided : goal.returns-in-Ok-clause-decided
 returns-in-Ok-clause-decided g c =
-    IfErr-map c.finish-in-Ok.result (λ f h source memory.
+    IfErr-weaker c.finish-in-Ok.result _ _ (λ f h source memory.
     limit-given _ _ _ _ _ _ _ _ c.pieces.invariant.so_far _ (fault_at (fault_of f.code) f.line)
     (search rules) c.in-Ok.ensures.ok (h.told memory)) c.finish-in-Ok.ensures.err
 
@@ -44,7 +44,7 @@ faults_given : {A : Type 0} (old new : Option Octets) (o : DomainName) (result :
     → IfErr result (λ f. f.code ≢ SourceFailed → f.code ≢ NoMemory → Decides old new o
     (fault_at (fault_of f.code) f.line)) → IfErr result (λ f. f.code ≢ SourceFailed
     → f.code ≢ NoMemory → GivesMeaning old o (fault_at (fault_of f.code) f.line))
-faults_given old new o result = IfErr-map result (λ f h source memory.
+faults_given old new o result = IfErr-weaker result _ _ (λ f h source memory.
     decided-gives old new o (fault_at (fault_of f.code) f.line) (h source memory))
 
 pub returns-in_err-take_piece-clause-fault : goal.returns-in_err-take_piece-clause-fault
@@ -53,7 +53,7 @@ returns-in_err-take_piece-clause-fault g c =
 
 pub returns-then-not-branch-clause-ok : goal.returns-then-not-branch-clause-ok
 returns-then-not-branch-clause-ok g c =
-    OnOk-map c.finish.result (decided-gives _ _ _ _) (returns-then-not-branch-clause-whole g c)
+    on_ok_weaker c.finish.result (decided-gives _ _ _ _) (returns-then-not-branch-clause-whole g c)
 
 pub returns-then-not-branch-clause-fault : goal.returns-then-not-branch-clause-fault
 returns-then-not-branch-clause-fault g c =
@@ -61,7 +61,7 @@ returns-then-not-branch-clause-fault g c =
 
 pub returns-in-Ok-clause-ok : goal.returns-in-Ok-clause-ok
 returns-in-Ok-clause-ok g c =
-    OnOk-map c.finish-in-Ok.result (decided-gives _ _ _ _) (returns-in-Ok-clause-whole g c)
+    on_ok_weaker c.finish-in-Ok.result (decided-gives _ _ _ _) (returns-in-Ok-clause-whole g c)
 
 pub returns-in-Ok-clause-fault : goal.returns-in-Ok-clause-fault
 returns-in-Ok-clause-fault g c =

@@ -1,6 +1,6 @@
 use Rattle.dns_name.proofs.Common.{arith, LabelThen}
-use Rattle.dns_name.proofs.Results.{OnErr-always}
 use Rattle.dns_name.proofs.TextLemmas.{up_to_mark, label_alone, label_read_alone, PushesLabel-label}
+use Rattle.dns_spec.proofs.General.Results.{OnErr-always}
 use Rattle.dns_name.proofs.text.push_label.Goals as goal
 
 pub returns-in_err-push_octets-clause-err : goal.returns-in_err-push_octets-clause-err

@@ -1,6 +1,6 @@
 use Rattle.dns_rdata.proofs.Common.{sym, ap, ◌∙◌, length, eqb-true, eqb-false}
-use Rattle.dns_rdata.proofs.StringLemmas.{none_left}
 use Rattle.dns_rdata.proofs.HexLemmas.{HexSoFar-push, HexSoFar-refuses, HexSoFar-end, front_shorter}
+use Rattle.dns_spec.proofs.Common.{nil_from_length}
 use Rattle.dns_rdata.proofs.hex.append_hex.Goals as goal
 
 pub returns-in_default : goal.returns-in_default
@@ -19,4 +19,4 @@ octets-preserved c =
 pub returns : goal.returns
 returns c =
     HexSoFar-end _ _ _ _ c.octets.invariant
-    (none_left _ (eqb-true _ _ (sym c.is_empty.ensures ∙ c.octets-test.false)))
+    (nil_from_length _ (eqb-true _ _ (sym c.is_empty.ensures ∙ c.octets-test.false)))

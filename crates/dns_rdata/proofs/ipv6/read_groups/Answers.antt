@@ -1,5 +1,6 @@
 use Rattle.dns_rdata.proofs.Common.{sym, ◌∙◌, refl, take, ◌+◌, eqb-false}
-use Rattle.dns_rdata.proofs.Ipv6Lemmas.{GroupsSoFar-push, refused_before_colon, refused_last, all_groups, to_end}
+use Rattle.dns_rdata.proofs.Ipv6Lemmas.{GroupsSoFar-push, refused_before_colon, refused_last, all_groups}
+use Rattle.dns_spec.proofs.Common.{take_rest}
 use Rattle.dns_rdata.proofs.ipv6.read_groups.Goals as goal
 
 pub returns-then-not-push_group : goal.returns-then-not-push_group
@@ -13,7 +14,7 @@ returns-then-not-push_group c =
 pub groups-preserved : goal.groups-preserved
 groups-preserved c =
     let ensures = c.if-not-push_group.ensures in
-    rw (to_end c.groups.rest.now (c.in-Some.end + 1))
+    rw (take_rest c.groups.rest.now (c.in-Some.end + 1))
     (GroupsSoFar-push _ _ (take c.in-Some.end c.groups.rest.now)
     _ _ _ c.groups.invariant c.in-Some.ensures refl (ensures.pushed, ensures.value))
 

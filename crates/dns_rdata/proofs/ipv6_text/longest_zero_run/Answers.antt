@@ -1,8 +1,8 @@
 use Rattle.dns_rdata.proofs.Common.{◌∙◌, ap, prefix_len, ◌==◌}
-use Rattle.dns_rdata.proofs.Ipv6Lemmas.{to_end}
 use Rattle.dns_rdata.proofs.Ipv6TextLemmas.{LongestSoFar-first, LongestSoFar-longer, LongestSoFar-other}
 use Rattle.dns_rdata.proofs.ipv6_text.longest_zero_run.Goals as goal
 use Rattle.dns_rdata.proofs.ipv6_text.longest_zero_run.Goals.{then-run-longest, else-run-longest}
+use Rattle.dns_spec.proofs.Common.{take_rest}
 
 pub places-init : goal.places-init
 places-init c = LongestSoFar-first _ _ c.zero_run-longest.ensures
@@ -10,7 +10,7 @@ places-init c = LongestSoFar-first _ _ c.zero_run-longest.ensures
 pub places-preserved : goal.places-preserved
 places-preserved c =
     let run = c.zero_run-run.ensures
-    ∙ ap (prefix_len (λ n. n == 0)) (to_end c.args.groups.now c.places.start) in
+    ∙ ap (prefix_len (λ n. n == 0)) (take_rest c.args.groups.now c.places.start) in
     elim c.if-run-longest.branch [
       | then-run-longest w ↦ rw (w.place-is, w.longest-is) (LongestSoFar-longer
           _ _ _ _ _ c.places.invariant c.places-test.true run w.if-run-longest.true)

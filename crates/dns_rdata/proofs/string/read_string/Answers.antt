@@ -1,5 +1,6 @@
 use Rattle.dns_rdata.proofs.Common.{arith, length-append, eqb-true, eqb-false}
-use Rattle.dns_rdata.proofs.StringLemmas.{StringSoFar-push, StringSoFar-iff, no_string, string_is_long, octet_at-shorter, none_left}
+use Rattle.dns_rdata.proofs.StringLemmas.{StringSoFar-push, StringSoFar-iff, no_string, string_is_long, octet_at-shorter}
+use Rattle.dns_spec.proofs.Common.{nil_from_length}
 use Rattle.dns_rdata.proofs.string.read_string.Goals as goal
 
 pub returns-in_err-octet-clause-none : goal.returns-in_err-octet-clause-none
@@ -15,4 +16,4 @@ pub octets-preserved : goal.octets-preserved
 octets-preserved c = grind (arith, StringSoFar-push, eqb-false, length-append)
 
 pub returns-clause-some : goal.returns-clause-some
-returns-clause-some c = grind (arith, StringSoFar-iff, none_left, eqb-true)
+returns-clause-some c = grind (arith, StringSoFar-iff, nil_from_length, eqb-true)

@@ -1,6 +1,6 @@
 use Rattle.dns_rdata.proofs.Common.{Bor, octets_equal, type_table, text_in_lower_case, TypeRow, row_for}
+use Rattle.dns_spec.proofs.General.Tests.{found_row}
 use Rattle.dns_spec.specs.Data as Data
-use Rattle.dns_rdata.proofs.TableRows.{found_row}
 use Rattle.dns_rdata.proofs.table.row_of_mnemonic.Goals as goal
 
 pub returns : goal.returns

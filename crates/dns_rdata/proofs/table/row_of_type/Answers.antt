@@ -1,6 +1,6 @@
 use Rattle.dns_rdata.proofs.Common.{◌==◌, Bor, type_table, TypeRow, row_for}
+use Rattle.dns_spec.proofs.General.Tests.{found_row}
 use Rattle.dns_spec.specs.Data as Data
-use Rattle.dns_rdata.proofs.TableRows.{found_row}
 use Rattle.dns_rdata.proofs.table.row_of_type.Goals as goal
 
 pub returns : goal.returns

@@ -1,5 +1,6 @@
-use Rattle.dns_rdata.proofs.Common.{rules, get_or, ◌≡◌, ◌≤◌, ◌^◌, ℕ, suc, ◌++◌, ◌∷◌, [], decimal, arith, sym, ap, ◌∙◌, bytes_high_first, Octets, SaysNumber, OnOk-map, size_of, as_it_is, Appends, NumberSize, Two, Four}
-use Rattle.dns_rdata.proofs.FormWords.{ok_or-some, number_appended}
+use Rattle.dns_rdata.proofs.Common.{rules, get_or, ◌≡◌, ◌≤◌, ◌^◌, ℕ, suc, ◌++◌, ◌∷◌, [], decimal, arith, sym, ap, ◌∙◌, bytes_high_first, Octets, SaysNumber, on_ok_weaker, size_of, as_it_is, Appends, NumberSize, Two, Four}
+use Rattle.dns_rdata.proofs.FormWords.{number_appended}
+use Rattle.dns_spec.proofs.General.Options.{ok_or-some}
 use Rattle.dns_rdata.proofs.typed.append_number.Goals as goal
 
 few : (s : NumberSize) → size_of s ≤ 4
@@ -20,7 +21,7 @@ returns-in-Two c =
     let two : Two ≡ c.args.size = search rules in
     let octets = ap (λ x. get_or x 2 0 ∷ get_or x 3 0 ∷ []) c.to_be_bytes.ensures in
     record {
-      ok = OnOk-map c.append.result
+      ok = on_ok_weaker c.append.result
           (appended c.args.size n _ c.args.text.now _ _ _ ((c.read_number.ensures n).0 read)
           c.most.ensures (octets ∙ ap (λ s. bytes_high_first (size_of s) n) two))
           c.append.ensures.ok;

@@ -1,5 +1,6 @@
 use Rattle.dns_rdata.proofs.Common.{◌≡◌, ℕ, List, ◌+◌, [], ◌∷◌, arith, sym, length, replicate, subst, length-replicate, Octets, DomainName, Word, WordForm, SaysWord, form_of, kept, Appends, AppendsFront, fault_handed_on}
-use Rattle.dns_rdata.proofs.FormFronts.{front-none, front-word, front-joined, no-word, too-long, no-rest, no-more, once_more, one_of}
+use Rattle.dns_rdata.proofs.FormFronts.{front-none, front-word, front-joined, no-word, too-long, no-rest, no-more, one_of}
+use Rattle.dns_spec.proofs.Common.{replicate_more}
 use Rattle.dns_rdata.proofs.typed.append_run.Goals as goal
 
 pub run-init : goal.run-init
@@ -17,13 +18,13 @@ returns-in_err-append_word-clause-fault g c =
     (fault.ensures.fault other) in
     let so_far = no-rest _ _ (form ∷ []) _ _ _ _ c.run.invariant.front none in
     rw (sym (one_of form c.run.counter c.args.run.times c.run-test.true))
-    (no-more _ _ _ _ _ (rw (once_more form c.run.counter) at so_far)))
+    (no-more _ _ _ _ _ (rw (replicate_more c.run.counter form) at so_far)))
 
 taken : (n : ℕ) (f : WordForm) (origin : DomainName) (w : Word) (ws rest after : List Word)
     (x y z : Octets) → AppendsFront (replicate n f) origin ws rest x y → rest ≡ w ∷ after → Appends
     (kept f) (SaysWord f origin w) y z → AppendsFront (replicate (n + 1) f) origin ws after x z
 taken n f origin w ws rest after x y z front e word =
-    subst (λ fs. AppendsFront fs origin ws after x z) (once_more f n)
+    subst (λ fs. AppendsFront fs origin ws after x z) (replicate_more n f)
     (front-joined origin (replicate n f)
     (f ∷ []) ws rest after x y z front (front-word origin f w rest after y z e word))
 

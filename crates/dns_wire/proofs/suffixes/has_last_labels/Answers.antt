@@ -1,5 +1,6 @@
 use Rattle.dns_wire.proofs.Common.{◌∙◌, ◌++◌, ◌∷◌, sym, ap, length, false≢true, eq-eqb, wire}
-use Rattle.dns_wire.proofs.AskedLemmas.{last_label, last_here, wire_split}
+use Rattle.dns_wire.proofs.AskedLemmas.{last_label, last_here}
+use Rattle.dns_spec.proofs.DomainNames.WireNames.{wire_split}
 use Rattle.dns_wire.proofs.suffixes.has_last_labels.Goals as goal
 
 pub labels-preserved : goal.labels-preserved

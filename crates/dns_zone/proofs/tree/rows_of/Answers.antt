@@ -1,6 +1,7 @@
-use Rattle.dns_zone.proofs.Common.{DomainName, IsBuilt, List, ResourceRecord, Row, [], ap, arith, at_or_below, cases_lt, false≢true, get_or, inl, inr, length, owners, subst, sym, true, vec_len, ℕ, ◌++◌, ◌+◌, ◌<◌, ◌∙◌, ◌∷◌, ◌≡◌, ◌≤◌, ◌⊎◌}
+use Rattle.dns_zone.proofs.Common.{DomainName, IsBuilt, List, ResourceRecord, Row, [], ap, arith, at_or_below, false≢true, get_or, length, owners, subst, sym, true, vec_len, ℕ, ◌++◌, ◌+◌, ◌<◌, ◌∙◌, ◌∷◌, ◌≡◌}
 use Rattle.dns_zone.proofs.Existing.{origin-soa, all-inside}
 use Rattle.dns_zone.proofs.GrowingTree.{Growing, begin, advance}
+use Rattle.dns_spec.proofs.General.Numbers.{other_than}
 use Rattle.dns_zone.proofs.tree.rows_of.Goals as goal
 
 -- the first record is at or below the origin
@@ -33,13 +34,6 @@ rows-init c =
     (subst (λ (xs : List ℕ). Growing o rs (r ∷ []) xs 0) (sym bounds)
     (begin o rs r c.of.ensures.row))
 
-other_than : (a b : ℕ) → a ≤ b → (a ≡ b → ⊥) → a < b
-other_than a b l n = go (cases_lt a b)
-  where
-    go : (a < b) ⊎ (b ≤ a) → a < b
-    go (inl h) = h
-    go (inr h) = absurd (n (omega arith))
-
 pub rows-preserved : goal.rows-preserved
 rows-preserved c =
     let o = c.args.origin.now in
@@ -56,7 +50,7 @@ rows-preserved c =
     omega (arith, c.add_kids.new.rows.ok.0) in e) in
     let less : i < length rows =
     other_than i (length rows) c.rows.invariant.upto
-    (λ e. c.if-number-len.false (e ∙ sym count)) in
+    (λ e. c.if-number-len.false (sym e ∙ sym count)) in
     subst (λ (bs : List ℕ). Growing o rs rows' bs (i + 1))
     (sym (c.in_ok-push-3.ensures.items ∙ ap (λ (k : ℕ). c.rows.bounds.items ++ k ∷ []) count'))
     (advance o rs rows c.rows.bounds.items i c.rows.invariant less rows' c.in_ok-add_kids.ensures)

@@ -1,9 +1,10 @@
 use Rattle.dns_master.proofs.Common.{rules, ◌≡◌, ◌+◌, ◌∷◌, ◌++◌, None, true, subst, sym, ap, ◌∙◌, arith, unwrap_or, bad_parenthesis, fault_code, ended, EntryKind, KindGives, faulty, line_after, IsWhole, fault_handed_on, later_words, kind_of, kind_by_words}
 use Rattle.dns_master.proofs.TextSteps.{wrong-faulty, same_sort, entry-means, entry-faulty, entry-ends_faulty, entry-line, entry-shorter}
-use Rattle.dns_master.proofs.PieceSteps.{always, end-faulty, entry-on}
+use Rattle.dns_master.proofs.PieceSteps.{end-faulty, entry-on}
 use Rattle.dns_master.proofs.Refusals.{ForFault-map}
 use Rattle.dns_master.proofs.state.Reader.take_entry.Goals as goal
 use Rattle.dns_master.proofs.state.Reader.take_entry.Goals.{After-is_some_and-is_blank_led}
+use Rattle.dns_spec.proofs.Common.{MatchBool-at_true}
 
 module _ (c : After-is_some_and-is_blank_led) where
   -- the words found are those of the entry
@@ -17,7 +18,9 @@ module _ (c : After-is_some_and-is_blank_led) where
   -- nothing that may follow the text is its
   whole : IsWhole
       c.args.goes_on c.in_ok-end.end.is_ended c.in_ok-end.end.is_open c.in_ok-end.end.rest.now
-  whole = always _ (c.args.goes_on ≡ None) _ c.if-not-branch.false c.in_ok-is_whole.ensures.ok
+  whole =
+      MatchBool-at_true _ (c.args.goes_on ≡ None)
+      c.if-not-branch.false c.in_ok-is_whole.ensures.ok
 
 pub returns-in_err-end-clause-err : goal.returns-in_err-end-clause-err
 returns-in_err-end-clause-err c =

@@ -1,6 +1,6 @@
 use Rattle.dns_name.proofs.Common.{rules}
-use Rattle.dns_name.proofs.Results.{OnErr-always}
 use Rattle.dns_name.proofs.WritesLemmas.{beginning_of_parts}
+use Rattle.dns_spec.proofs.General.Results.{OnErr-always}
 use Rattle.dns_name.proofs.tally.Tally.write_parts.Goals as goal
 
 pub returns-in_err-write_all : goal.returns-in_err-write_all

@@ -1,7 +1,8 @@
 use Rattle.dns_wire.proofs.Common.{true, ℕ, ◌≡◌, ◌+◌, ◌-◌, ◌≤◌, ◌∙◌, refl, sym, ap, ap₂, subst, subst₂, arith, length, take, drop, ◌++◌, append-nil, length-append, Octets, octets16, refill, take_at, drop-drop, length-take, length-drop, length-record_tail, Draft, Writes, octets_laid, both_laid, parts_laid, tail_laid, shown}
-use Rattle.dns_wire.proofs.AskedLemmas.{is_asked_same, take_patched}
+use Rattle.dns_wire.proofs.AskedLemmas.{is_asked_same}
 use Rattle.dns_wire.proofs.DataWritten.{tail_written}
 use Rattle.dns_wire.proofs.Steps.{kept_with, writes_both, writes_past}
+use Rattle.dns_spec.proofs.General.Fronts.{take_patched}
 use Rattle.dns_wire.proofs.page.Page.put_shared_tail.Goals as goal
 use Rattle.dns_wire.proofs.page.Page.put_shared_tail.Given as given
 
@@ -68,7 +69,7 @@ invariant_of-self g c =
     let within = s.within in
     let few = s.few in
     let header = s.header in
-    let listed = s.listed in
+    let fit = s.counts_fit in
     let end = s.asked.inside in
     let in_it = inside g c in
     let there = in_it.0 in
@@ -77,7 +78,7 @@ invariant_of-self g c =
     kept_with s (omega (arith, within, long)) (omega (arith, few, long))
     (is_asked_same s.asked (take_patched c.self-2.inside.asked_end (a + 8) b (patch g c a b) _
     (set g c) (omega (arith, low)) (omega (arith, there))) refl (omega (arith, end, long)))
-    (omega (arith, header, long)) (omega (arith, listed, long))
+    (omega (arith, header, long)) (omega (arith, fit, long))
 
 pub returns-clause-writes : goal.returns-clause-writes
 returns-clause-writes g c =

@@ -30,7 +30,8 @@ returns c =
           ∙ (octets_equal-decides w.index.result.now.key.now c.args.key.now).1 e))
       | else-place-gt0-via-else-place-gt0 w ↦
           let none : 0 ≡ k = omega arith in
-          subst (λ j. AllByRecursion (λ d. name_order (name_of z d) z.origin ≡ Less) (take j names)) none tt
+          subst (λ j. AllByRecursion (λ d. name_order (name_of z d) z.origin ≡ Less)
+          (take j names)) none tt
     ] in
     subst (AreChecked z) (sym c.in_ok-insert.ensures.items)
     (origin_added z c.requires.lower c.requires.ordered names c.requires.owners c.args.key.now

@@ -1,6 +1,6 @@
 use Rattle.dns_zone.proofs.Common.{rules, IsPartitionPoint-from_clause, is_upto}
 use Rattle.dns_zone.proofs.CheckedNames.{last_front}
-use Rattle.dns_zone.proofs.Pairs.{halves}
+use Rattle.dns_spec.proofs.General.Fronts.{halves}
 use Rattle.dns_zone.proofs.checks.names.count_upto.Goals as goal
 
 pub returns : goal.returns

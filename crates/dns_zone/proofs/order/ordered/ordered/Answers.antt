@@ -1,9 +1,8 @@
-use Rattle.dns_zone.proofs.Common.{rules, true, Bool, is_lt, ◌≡◌, ℕ, ◌++◌, List, All, length, take, drop, sym, subst, ◌∙◌, take-append_seam, OnTrue, IsPermutation, ResourceRecord, records_equal, distinct, sort_by, record_order, IsReadRecord, length_permutation, ranks_by, IsPermutation-trans, always_returns_same, record_order_total, sort_risen, rises_canonical, all_canonical, AreKeyed, AreOrdered}
+use Rattle.dns_zone.proofs.Common.{rules, true, is_lt, ◌≡◌, ℕ, ◌++◌, List, All, length, take, drop, sym, subst, ◌∙◌, take-append_seam, IsPermutation, ResourceRecord, record_order, IsReadRecord, length_permutation, ranks_by, IsPermutation-trans, always_returns_same, record_order_total, sort_risen, rises_canonical, all_canonical, AreKeyed, AreOrdered}
 use Rattle.dns_zone.proofs.order.ordered.ordered.Goals as goal
 use Rattle.dns_zone.proofs.order.ordered.ordered.Goals.{Then-leave_out_duplicates, After-drop-keys-2}
-
-abbrev canonical : List ResourceRecord → List ResourceRecord
-canonical rs = sort_by record_order (distinct records_equal rs)
+use Rattle.dns_zone.proofs.AtName.{canonical}
+use Rattle.dns_spec.proofs.Common.{OnTrue_at}
 
 -- the records once they are arranged, which is written to all of their list
 module _ (rs lent near : List ResourceRecord) (count : ℕ) (is : lent ≡ rs)
@@ -46,9 +45,6 @@ pub returns-then-leave_out_duplicates-clause-each :
     goal.returns-then-leave_out_duplicates-clause-each
 returns-then-leave_out_duplicates-clause-each c = all_read _ _ (each c) (once c)
 
-passed : {P : Type 0} (b : Bool) → b ≡ true → OnTrue b P → P
-passed {P} b e h = subst (λ t. OnTrue t P) e h
-
 module _ (c : After-drop-keys-2) where
   read : All IsReadRecord c.args.records.items
   read = subst (All IsReadRecord) c.as_slice.ensures.value c.in_ok-keys.ensures.read
@@ -62,7 +58,7 @@ module _ (c : After-drop-keys-2) where
 
   sorted : c.leave_out_duplicates-2.new.records.items ≡ canonical c.args.records.items
   sorted =
-      passed _ none_later c.leave_out_duplicates-2.ensures.once c.args.records.items read
+      OnTrue_at none_later c.leave_out_duplicates-2.ensures.once c.args.records.items read
       (IsPermutation-trans _ _ _ (IsPermutation-trans _ _ _
       (moved c.args.records.items c.as_mut_slice.result.now c.arrange.new.records
       c.args.records.len c.as_mut_slice.ensures.value c.arrange.ensures.permutation
@@ -84,4 +80,4 @@ returns-clause-keyed c =
     (λ ks. AreKeyed ks c.leave_out_duplicates-2.new.records.items
     c.leave_out_duplicates-2.new.starts.items)
     c.as_slice-5.ensures.value
-    (passed _ (none_later c) c.leave_out_duplicates-2.ensures.keyed)
+    (OnTrue_at (none_later c) c.leave_out_duplicates-2.ensures.keyed)

@@ -1,11 +1,8 @@
-use Rattle.dns_zone.proofs.Common.{rules, ◌≡◌, DomainName, folded}
+use Rattle.dns_zone.proofs.Common.{rules}
 use Rattle.dns_zone.proofs.CheckedNames.{one_key}
 use Rattle.dns_zone.proofs.KeyOrder.{key_order}
 use Rattle.dns_zone.proofs.NameOrder.{same-from, same-tied}
 use Rattle.dns_zone.proofs.order.ordered.owner_order.Goals as goal
-
-abbrev Low : DomainName → Type 0
-Low n = folded n ≡ n
 
 pub returns-then-octets-clause-value : goal.returns-then-octets-clause-value
 returns-then-octets-clause-value c = search (rules, same-tied, same-from, one_key)

@@ -1,9 +1,7 @@
-use Rattle.dns_zone.proofs.Common.{rules, ◌≡◌, ◌≤◌, sort_by, record_order, distinct, records_equal, ap, sym, ◌∙◌, subst, arith, length, vec_len, List, nil_from_length, false≢true, eqb-true, eq-eqb, DomainName, faults, ResourceRecord, folded_folded, IsBuilt}
+use Rattle.dns_zone.proofs.Common.{rules, ◌≡◌, ◌≤◌, ap, sym, ◌∙◌, subst, arith, length, vec_len, List, nil_from_length, false≢true, eqb-true, eq-eqb, DomainName, faults, ResourceRecord, folded_folded, IsBuilt}
 use Rattle.dns_zone.proofs.BuiltZone.{found_of_read, built}
+use Rattle.dns_zone.proofs.AtName.{canonical}
 use Rattle.dns_zone.proofs.store.Store.check.Goals as goal
-
-abbrev canonical : List ResourceRecord → List ResourceRecord
-canonical rs = sort_by record_order (distinct records_equal rs)
 
 pub faults-requires-clause-lower : goal.faults-requires-clause-lower
 faults-requires-clause-lower c = search (rules, folded_folded)

@@ -1,5 +1,5 @@
 use Rattle.dns_zone.proofs.Common.{rules, nat_lt, ResourceRecord, IsPartitionPoint-from_clause, IsPartitionedBy-ltb}
-use Rattle.dns_zone.proofs.Pairs.{halves}
+use Rattle.dns_spec.proofs.General.Fronts.{halves}
 use Rattle.dns_zone.proofs.tree.lookup.count_below.Goals as goal
 
 pub returns-clause-others : goal.returns-clause-others

@@ -1,6 +1,18 @@
-use Rattle.dns_zone.proofs.Common.{rules, IsPartitionPoint-from_clause, at_or_below, ResourceRecord}
-use Rattle.dns_zone.proofs.Pairs.{halves, none_in_front}
+use Rattle.dns_zone.proofs.Common.{◌≡◌, Bool, false, List, [], ◌∷◌, refl, arith, false≢true, false_from_ne_true, IsPartitionedBy, IsFront, rules, IsPartitionPoint-from_clause, at_or_below, ResourceRecord}
+use Rattle.dns_spec.proofs.General.Tests.{first_passes}
+use Rattle.dns_spec.proofs.General.Fronts.{halves}
 use Rattle.dns_zone.proofs.tree.lookup.count_under.Goals as goal
+
+-- where the first element does not pass, none does
+none_in_front : {X : Type 0} (p : X → Bool) (xs : List X) → first_passes p xs ≡ false
+    → IsPartitionedBy p xs → IsFront p xs 0
+none_in_front p [] fails parts = record { bound = omega arith; passing = refl; others = refl }
+none_in_front p (x ∷ xs) fails parts =
+    let none = halves p (x ∷ xs) 0 (omega arith) (
+      λ k d a b. absurd (omega (arith, b)),
+      λ k d a b. let before = parts 0 k d in grind (arith, false_from_ne_true, false≢true),
+    ) in
+    record { bound = omega arith; passing = none.0; others = none.1 }
 
 pub returns-in_default : goal.returns-in_default
 returns-in_default c = none_in_front _ _ (search rules) c.requires.in_front

@@ -1,6 +1,6 @@
 use Rattle.dns_zone.proofs.Common.{eqb, ap, sym, ◌∙◌, take_rest, ResourceRecord}
-use Rattle.dns_zone.proofs.Pairs.{pairs_rising, first_passes}
-use Rattle.dns_zone.proofs.Types.{found_first, first_is, first_none}
+use Rattle.dns_spec.proofs.General.Tests.{first_passes, first_is, first_none}
+use Rattle.dns_spec.proofs.General.Pairs.{pairs_rising, found_first}
 use Rattle.dns_zone.proofs.tree.lookup.has_type.Goals as goal
 
 pub returns-in-Some : goal.returns-in-Some

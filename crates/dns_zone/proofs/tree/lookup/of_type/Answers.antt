@@ -1,8 +1,8 @@
 use Rattle.dns_zone.proofs.Common.{rules, ◌≡◌, ◌==◌, ◌-◌, ◌<◌, length, get_or, arith, sym, ap, ◌∙◌, subst, filter, take_rest, IsPartitionedBy, IsPartitionPoint-from_clause, ResourceRecord}
-use Rattle.dns_zone.proofs.Pairs.{halves}
 use Rattle.dns_zone.proofs.Types.{type_parted, type_others, all_of_type, none_above, none_below}
 use Rattle.dns_zone.proofs.tree.lookup.of_type.Goals as goal
 use Rattle.dns_zone.proofs.tree.lookup.of_type.Goals.{then-rtype-first-via-then-rtype-first, then-rtype-first-via-else-rtype-first+then-last-rtype}
+use Rattle.dns_spec.proofs.General.Fronts.{halves}
 
 pub returns-then-rtype-first : goal.returns-then-rtype-first
 returns-then-rtype-first c =

@@ -1,6 +1,6 @@
 use Rattle.dns_zone.proofs.Common.{◌==◌, nat_lt, length, ap, ◌∙◌, filter, List, list_any, ResourceRecord, large_set, NameOfZone}
-use Rattle.dns_zone.proofs.Pairs.{pairs_rising}
 use Rattle.dns_zone.proofs.SetTests.{large-in_runs}
+use Rattle.dns_spec.proofs.General.Pairs.{pairs_rising}
 use Rattle.dns_zone.proofs.checks.owner.Owner.has_large_set.Goals as goal
 
 pub returns : goal.returns

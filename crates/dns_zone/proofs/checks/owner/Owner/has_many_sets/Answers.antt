@@ -1,6 +1,6 @@
 use Rattle.dns_zone.proofs.Common.{◌==◌, nat_lt, length, map, ap, sym, ◌∙◌, List, ResourceRecord, distinct, many_sets, NameOfZone}
-use Rattle.dns_zone.proofs.Pairs.{pairs_rising}
 use Rattle.dns_zone.proofs.SetTests.{types-walk}
+use Rattle.dns_spec.proofs.General.Pairs.{pairs_rising}
 use Rattle.dns_zone.proofs.checks.owner.Owner.has_many_sets.Goals as goal
 
 pub returns : goal.returns

@@ -1,6 +1,6 @@
 use Rattle.dns_zone.proofs.Common.{◌==◌, ◌&&◌, not, ap, ◌∙◌, List, list_any, ResourceRecord, ttls_differ, NameOfZone}
-use Rattle.dns_zone.proofs.Pairs.{pairs_rising}
 use Rattle.dns_zone.proofs.SetTests.{ttls-in_pairs}
+use Rattle.dns_spec.proofs.General.Pairs.{pairs_rising}
 use Rattle.dns_zone.proofs.checks.owner.Owner.has_other_ttls.Goals as goal
 
 pub returns : goal.returns

@@ -1,7 +1,7 @@
 use Rattle.dns_zone.proofs.Common.{◌≡◌, ◌-◌, ◌<◌, ℕ, suc, map, true, List, sym, ap, ◌∙◌, subst, arith, Octets, DomainName, folded, at_or_below, name_order, ZoneContents, octets_equal-decides, Rises, IsFront, name_key, name_of, is_upto, IsChecked, IsLastUpto, IsSurvey, CheckedName}
 use Rattle.dns_zone.proofs.CheckedNames.{upto_parted, upto_some, found_there, found_itself}
-use Rattle.dns_zone.proofs.Pairs.{each_get}
 use Rattle.dns_zone.proofs.ReportedNames.{checked_rise}
+use Rattle.dns_spec.proofs.General.Elements.{each_get}
 use Rattle.dns_zone.proofs.checks.survey.Survey.last_upto.Goals as goal
 
 module _ (y z : ZoneContents)

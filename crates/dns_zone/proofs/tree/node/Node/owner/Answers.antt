@@ -1,6 +1,6 @@
 use Rattle.dns_zone.proofs.Common.{sym, ap, ◌∙◌, subst, refl, inl, folded, same, ResourceRecord, Among, filter_test}
 use Rattle.dns_zone.proofs.NameOrder.{same-is}
-use Rattle.dns_zone.proofs.Types.{first_rest}
+use Rattle.dns_spec.proofs.General.Tests.{first_rest}
 use Rattle.dns_zone.proofs.tree.node.Node.owner.Goals as goal
 
 pub returns-clause-name : goal.returns-clause-name

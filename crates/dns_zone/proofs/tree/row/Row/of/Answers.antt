@@ -1,8 +1,9 @@
-use Rattle.dns_zone.proofs.Common.{IsFront, IsPartitionedBy, List, ResourceRecord, ap, arith, drop, length, row_octets, span, subst, sym, wire, ◌-◌, ◌<◌, ◌∙◌, ◌≡◌, ◌≤◌}
-use Rattle.dns_zone.proofs.KidRows.{is_under, parted_drop, owner_at}
+use Rattle.dns_zone.proofs.Common.{IsFront, IsPartitionedBy, List, ResourceRecord, arith, drop, length, row_octets, span, subst, sym, wire, ◌-◌, ◌<◌, ◌∙◌, ◌≡◌, ◌≤◌}
+use Rattle.dns_zone.proofs.KidRows.{is_under, owner_at}
 use Rattle.dns_zone.proofs.NameRow.{under_others, ends, reached}
 use Rattle.dns_zone.proofs.tree.row.Row.of.Goals as goal
 use Rattle.dns_zone.proofs.tree.row.Row.of.Goals.{After-octets-2}
+use Rattle.dns_spec.proofs.General.Fronts.{parted_drop}
 
 pub count_under-requires-clause-in_front : goal.count_under-requires-clause-in_front
 count_under-requires-clause-in_front c =

@@ -1,4 +1,5 @@
-use Rattle.dns_zone.proofs.Common.{rules, ◌≡◌, ◌≤◌, ◌<◌, ◌∷◌, length, ap, sym, ◌∙◌, arith, Octets, DomainName, wire, same, at_or_below, at_or_below-short, at_or_below-long, same-length, length-is_name, labels_of, IsWireForm, IsWireForm-wire, labels_of_spelled}
+use Rattle.dns_zone.proofs.Common.{rules, ◌≡◌, ◌<◌, ◌∷◌, length, ap, sym, ◌∙◌, arith, Octets, DomainName, wire, at_or_below, at_or_below-long, same-length, length-is_name, labels_of, IsWireForm, IsWireForm-wire, labels_of_spelled}
+use Rattle.dns_name.proofs.WireLemmas.{no_longer_decides}
 use Rattle.dns_zone.proofs.tree.sought.Sought.below.Goals as goal
 
 pub labels-init : goal.labels-init
@@ -19,17 +20,11 @@ one_on xs ys l n a form e f longer =
 pub labels-preserved : goal.labels-preserved
 labels-preserved c = search (rules, one_on)
 
--- a suffix that is no longer decides
-decides : (xs ys : Octets) (a : DomainName) → IsWireForm xs
-    → ys ≡ wire a → length xs ≤ length ys → at_or_below (labels_of xs) a ≡ same (labels_of xs) a
-decides xs ys a form f short =
-    at_or_below-short (labels_of xs) a (omega (arith, ap length form.wire_is, ap length f))
-
 pub returns-then-not-same : goal.returns-then-not-same
-returns-then-not-same c = search (rules, decides)
+returns-then-not-same c = search (rules, no_longer_decides)
 
 pub new-requires-2 : goal.new-requires-2
 new-requires-2 c = IsWireForm-wire _ _ c.octets-octets.ensures.value c.octets-octets.ensures.is_name
 
 pub returns : goal.returns
-returns c = search (rules, same-length, labels_of_spelled, decides, length-is_name)
+returns c = search (rules, same-length, labels_of_spelled, no_longer_decides, length-is_name)

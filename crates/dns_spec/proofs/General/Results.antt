@@ -1,19 +1,10 @@
 -- What is known of a result, said of another fact: where a call succeeds, and where it fails.
-use Rattle.dns_name.proofs.Common.{◌≡◌, Result, IfErr, OnOk, OnErr, IsErrAnd, arith}
+use Rattle.std.proofs.Common.{OnErr}
+use Rattle.dns_spec.proofs.Common.{IfErr, IsErrAnd, Result, arith, ◌≡◌}
 
 -- what holds anyway, holds where a call fails
 pub OnErr-always : {A E P : Type 0} (result : Result A E) → P → OnErr result P
 OnErr-always result h = grind arith
-
-pub OnOk-map : {A E P Q : Type 0} (result : Result A E) → (P → Q) → OnOk result P → OnOk result Q
-OnOk-map result h h1 = grind arith
-
-pub OnErr-map : {A E P Q : Type 0} (result : Result A E) → (P → Q) → OnErr result P → OnErr result Q
-OnErr-map result h h1 = grind arith
-
-pub IfErr-map : {A E : Type 0} {P Q : E → Type 0} (result : Result A E)
-    → ((e : E) → P e → Q e) → IfErr result P → IfErr result Q
-IfErr-map result h h1 = grind arith
 
 -- a fault that is handed on, and what holds of it
 pub fault_handed_on : {A F : Type 0} (result : Result A F) (fault : F) (P : F → Type 0)

@@ -1,58 +1,8 @@
 -- A list sorted, with each element once, depends only on which elements there are.
-use Rattle.dns_spec.proofs.Common.{arith, ◌≡◌, suc, Bool, true, false, not, ◌⊎◌, inl, inr, List, [], ◌∷◌, length, refl, sym, ap, ap₂, ◌∙◌, subst, filter, is_lt, Ordering, Less, Equal, Greater, false≢true, not-true, tied_itself, ordering_reverse, IsTotalOrder, distinct, insert_by, sort_by, map, ◌≤◌, AllByRecursion}
-
--- P of each element by recursion is a list of proofs; x is one of the elements
-pub each_any : {X : Type 0} (xs : List X) → AllByRecursion (λ _. Unit {0}) xs
-each_any [] = tt
-each_any (x ∷ xs) = (tt, each_any xs)
-
--- a proof for the first element, before those for the others
-infixr 10 ◌⊲◌
-abbrev pub ◌⊲◌ : {P Q : Type 0} → P → Q → P × Q
-p ⊲ q = (p, q)
-
-abbrev pub Among : {X : Type 0} → X → List X → Type 0
-Among x [] = ⊥
-Among x (y ∷ ys) = (x ≡ y) ⊎ Among x ys
-
-pub among_mapped : {X Y : Type 0} (f : X → Y) (x : X) (xs : List X)
-    → Among x xs → Among (f x) (map f xs)
-among_mapped f x [] m = absurd m
-among_mapped f x (y ∷ ys) (inl e) = inl (ap f e)
-among_mapped f x (y ∷ ys) (inr m) = inr (among_mapped f x ys m)
-
-pub each_at : {X : Type 0} (P : X → Type 0) (a : X) (xs : List X) → AllByRecursion P xs → Among a xs → P a
-each_at P a [] e m = absurd m
-each_at P a (x ∷ xs) e (inl p) = subst P (sym p) e.0
-each_at P a (x ∷ xs) e (inr m) = each_at P a xs e.1 m
-
-pub each_filter : {X : Type 0} (P : X → Type 0) (p : X → Bool) (xs : List X)
-    → AllByRecursion P xs → AllByRecursion P (filter p xs)
-each_filter P p [] e = tt
-each_filter P p (x ∷ xs) e = grind (arith, (each_filter P p xs e.1))
-
-pub filter_each : {X : Type 0} (p : X → Bool) (xs : List X) → AllByRecursion (λ x. p x ≡ true) (filter p xs)
-filter_each p [] = tt
-filter_each p (x ∷ xs) = grind (arith, (filter_each p xs))
-
-pub filter_short : {X : Type 0} (p : X → Bool) (xs : List X) → length (filter p xs) ≤ length xs
-filter_short p [] = omega arith
-filter_short p (x ∷ xs) = grind (arith, (filter_short p xs))
-
-pub each_weaker : {X : Type 0} (P Q : X → Type 0) (xs : List X)
-    → ((x : X) → P x → Q x) → AllByRecursion P xs → AllByRecursion Q xs
-each_weaker P Q [] f e = tt
-each_weaker P Q (x ∷ xs) f e = (f x e.0, each_weaker P Q xs f e.1)
-
-pub among_filter : {X : Type 0} (p : X → Bool) (a : X) (xs : List X)
-    → Among a (filter p xs) → Among a xs
-among_filter p a [] m = m
-among_filter p a (x ∷ xs) m = grind (arith, inl, inr, (among_filter p a xs))
-
-pub filter_among : {X : Type 0} (p : X → Bool) (a : X) (xs : List X)
-    → p a ≡ true → Among a xs → Among a (filter p xs)
-filter_among p a [] e m = m
-filter_among p a (x ∷ xs) e m = grind (arith, inl, inr, false≢true, (filter_among p a xs e))
+use Rattle.dns_spec.proofs.Common.{Bool, Equal, Greater, Less, List, Ordering, [], ap, ap₂, arith, cond, false, filter, inl, inr, is_gt, is_lt, length, map, not, refl, subst, suc, sym, true, ◌&&◌, ◌++◌, ◌∙◌, ◌∷◌, ◌≡◌, ◌≤◌, ◌⊎◌, IsTotalOrder, AllByRecursion, list_all, IsPermutation, IsStrictlySortedBy, ordering_reverse, and_parts, false≢true, not-true, tied_itself, IsPermutation-cons, IsPermutation-middle, IsPermutation-refl, IsPermutation-sym, IsPermutation-trans, distinct, insert_by, sort_by}
+use Rattle.dns_spec.proofs.General.Elements.{Among, each_at, each_weaker}
+use Rattle.dns_spec.proofs.General.Filters.{each_filter, filter_each, filter_short, among_filter, filter_among}
+use Rattle.dns_spec.proofs.General.Orderings.{less_from}
 
 -- each element once
 abbrev pub Apart : {X : Type 0} → (X → X → Bool) → List X → Type 0
@@ -83,12 +33,13 @@ each_distinct P eq (x ∷ xs) e = grind (arith, each_filter, (each_distinct P eq
 
 -- a sort keeps the elements
 module _ {X : Type 0} (cmp : X → X → Ordering) where
-  each_insert : (P : X → Type 0) (x : X) (ys : List X)
+  pub each_insert : (P : X → Type 0) (x : X) (ys : List X)
       → P x → AllByRecursion P ys → AllByRecursion P (insert_by cmp x ys)
   each_insert P x [] p e = (p, tt)
   each_insert P x (y ∷ ys) p e = grind (arith, (each_insert P x ys p e.1))
 
-  pub each_sort : (P : X → Type 0) (xs : List X) → AllByRecursion P xs → AllByRecursion P (sort_by cmp xs)
+  pub each_sort : (P : X → Type 0) (xs : List X) → AllByRecursion P xs
+      → AllByRecursion P (sort_by cmp xs)
   each_sort P [] e = tt
   each_sort P (x ∷ xs) e = each_insert P x (sort_by cmp xs) e.0 (each_sort P xs e.1)
 
@@ -132,7 +83,8 @@ module _ {X : Type 0} (cmp : X → X → Ordering) (order : IsTotalOrder cmp)
     (eq : X → X → Bool) (tie : (x y : X) → cmp x y ≡ Equal → eq x y ≡ true)
     (D : X → Type 0) (one : (x y : X) → D x → D y → eq x y ≡ true → x ≡ y) where
   before_all : (x y : X) (ys : List X)
-      → cmp x y ≡ Less → AllByRecursion (λ z. cmp y z ≡ Less) ys → AllByRecursion (λ z. cmp x z ≡ Less) ys
+      → cmp x y ≡ Less → AllByRecursion (λ z. cmp y z ≡ Less) ys
+      → AllByRecursion (λ z. cmp x z ≡ Less) ys
   before_all x y [] p e = tt
   before_all x y (z ∷ zs) p e = (order.trans x y z p e.0, before_all x y zs p e.1)
 
@@ -146,7 +98,8 @@ module _ {X : Type 0} (cmp : X → X → Ordering) (order : IsTotalOrder cmp)
   sort_rises [] a = tt
   sort_rises (x ∷ xs) a = grind (arith, insert_rises, (sort_rises xs a.1), each_sort)
 
-  pub among_distinct : (a : X) (xs : List X) → AllByRecursion D xs → Among a xs → Among a (distinct eq xs)
+  pub among_distinct : (a : X) (xs : List X) → AllByRecursion D xs → Among a xs
+      → Among a (distinct eq xs)
   among_distinct a [] d m = m
   among_distinct a (x ∷ xs) d (inl e) = inl e
   among_distinct a (x ∷ xs) d (inr m) =
@@ -187,7 +140,8 @@ module _ {X : Type 0} (cmp : X → X → Ordering) (order : IsTotalOrder cmp)
       after_x a (inr m) n = m
 
   pub same_sorted : (xs ys : List X) → AllByRecursion D xs
-      → AllByRecursion D ys → ((a : X) → Among a xs → Among a ys) → ((a : X) → Among a ys → Among a xs)
+      → AllByRecursion D ys → ((a : X) → Among a xs → Among a ys)
+      → ((a : X) → Among a ys → Among a xs)
       → sort_by cmp (distinct eq xs) ≡ sort_by cmp (distinct eq ys)
   same_sorted xs ys d d' f g =
       same_risen (sort_by cmp (distinct eq xs)) (sort_by cmp (distinct eq ys))
@@ -197,3 +151,108 @@ module _ {X : Type 0} (cmp : X → X → Ordering) (order : IsTotalOrder cmp)
       (f a (distinct_among eq a xs (sort_among cmp a (distinct eq xs) m)))))
       (λ a m. among_sort cmp a (distinct eq xs) (among_distinct a xs d
       (g a (distinct_among eq a ys (sort_among cmp a (distinct eq ys) m)))))
+
+-- a list in which each element is before those after it is sorted
+pub sort_risen : {X : Type 0} (cmp : X → X → Ordering) (xs : List X)
+    → Rises cmp xs → sort_by cmp xs ≡ xs
+sort_risen cmp [] r = refl
+sort_risen {X} cmp (x ∷ xs) r = ap (insert_by cmp x) (sort_risen cmp xs r.1) ∙ first x xs r.0
+  where
+    first : (x : X) (xs : List X) → AllByRecursion (λ y. cmp x y ≡ Less) xs
+        → insert_by cmp x xs ≡ x ∷ xs
+    first x [] e = refl
+    first x (y ∷ ys) e =
+        ap (λ (o : Ordering). cond (is_gt o) (y ∷ insert_by cmp x ys) (x ∷ y ∷ ys)) e.0
+
+-- a sort moves elements
+pub permutation_insert : {X : Type 0} (cmp : X → X → Ordering) (x : X) (ys : List X)
+    → IsPermutation (x ∷ ys) (insert_by cmp x ys)
+permutation_insert cmp x [] = IsPermutation-refl (x ∷ [])
+permutation_insert cmp x (y ∷ ys) = go (is_gt (cmp x y)) (permutation_insert cmp x ys)
+  where
+    go : (t : Bool) → IsPermutation (x ∷ ys) (insert_by cmp x ys)
+        → IsPermutation (x ∷ y ∷ ys) (cond t (y ∷ insert_by cmp x ys) (x ∷ y ∷ ys))
+    go true h =
+        IsPermutation-trans (x ∷ y ∷ ys) (y ∷ x ∷ ys) (y ∷ insert_by cmp x ys)
+        (IsPermutation-sym (y ∷ x ∷ ys) (x ∷ y ∷ ys) (IsPermutation-middle (y ∷ []) x ys))
+        (IsPermutation-cons y (x ∷ ys) (insert_by cmp x ys) h)
+    go false h = IsPermutation-refl (x ∷ y ∷ ys)
+
+pub permutation_sort : {X : Type 0} (cmp : X → X → Ordering) (xs : List X)
+    → IsPermutation xs (sort_by cmp xs)
+permutation_sort cmp [] = IsPermutation-refl []
+permutation_sort cmp (x ∷ xs) =
+    IsPermutation-trans (x ∷ xs) (x ∷ sort_by cmp xs) (sort_by cmp (x ∷ xs))
+    (IsPermutation-cons x xs (sort_by cmp xs) (permutation_sort cmp xs))
+    (permutation_insert cmp x (sort_by cmp xs))
+
+-- A list rises where a test of each with those after it says so.
+unfoldable pub rises_test : {X : Type 0} → (X → X → Ordering) → List X → Bool
+rises_test cmp [] = true
+rises_test cmp (x ∷ xs) = list_all (λ y. is_lt (cmp x y)) xs && rises_test cmp xs
+
+pub rises_from : {X : Type 0} (cmp : X → X → Ordering) (xs : List X)
+    → rises_test cmp xs ≡ true → Rises cmp xs
+unfolding rises_test
+rises_from cmp [] e = tt
+rises_from {X} cmp (x ∷ xs) e =
+    let parts = and_parts (list_all (λ y. is_lt (cmp x y)) xs) (rises_test cmp xs) e in
+    (each_less xs parts.0, rises_from cmp xs parts.1)
+  where
+    each_less : (ys : List X)
+        → list_all (λ y. is_lt (cmp x y)) ys ≡ true → AllByRecursion (λ y. cmp x y ≡ Less) ys
+    each_less [] e = tt
+    each_less (y ∷ ys) e = let parts =
+        and_parts (is_lt (cmp x y)) _ e in (less_from (cmp x y) parts.0, each_less ys parts.1)
+
+pub rises_filtered : {X : Type 0} (cmp : X → X → Ordering) (p : X → Bool) (xs : List X)
+    → Rises cmp xs → Rises cmp (filter p xs)
+rises_filtered cmp p [] r = tt
+rises_filtered {X} cmp p (x ∷ xs) r = grind (arith, each_filter, (rises_filtered cmp p xs r.1))
+
+pub rises_mapped : {X Y : Type 0} (cmp : X → X → Ordering) (order : Y → Y → Ordering) (f : X → Y)
+    → ((x y : X) → cmp x y ≡ Less → order (f x) (f y) ≡ Less)
+    → (xs : List X) → Rises cmp xs → Rises order (map f xs)
+rises_mapped cmp order f keeps [] r = tt
+rises_mapped {X} {Y} cmp order f keeps (x ∷ xs) r =
+    (each xs r.0, rises_mapped cmp order f keeps xs r.1)
+  where
+    each : (ys : List X)
+        → AllByRecursion (λ y. cmp x y ≡ Less) ys
+        → AllByRecursion (λ y. order (f x) y ≡ Less) (map f ys)
+    each [] e = tt
+    each (y ∷ ys) e = (keeps x y e.0, each ys e.1)
+
+pub rises_joined : {X : Type 0} (cmp : X → X → Ordering) (xs ys : List X) → Rises cmp xs
+    → Rises cmp ys → ((x y : X) → Among x xs → Among y ys → cmp x y ≡ Less) → Rises cmp (xs ++ ys)
+rises_joined cmp [] ys r s before = s
+rises_joined {X} cmp (x ∷ xs) ys r s before = (
+  each_joined xs ys r.0 (λ y m. before x y (inl refl) m),
+  rises_joined cmp xs ys r.1 s (λ a y m k. before a y (inr m) k),
+)
+  where
+    from_among : (zs : List X)
+        → ((z : X) → Among z zs → cmp x z ≡ Less) → AllByRecursion (λ z. cmp x z ≡ Less) zs
+    from_among [] f = tt
+    from_among (z ∷ zs) f = (f z (inl refl), from_among zs (λ a m. f a (inr m)))
+
+    each_joined : (zs ws : List X) → AllByRecursion (λ y. cmp x y ≡ Less) zs
+        → ((y : X) → Among y ws → cmp x y ≡ Less) → AllByRecursion (λ y. cmp x y ≡ Less) (zs ++ ws)
+    each_joined [] ws e f = from_among ws f
+    each_joined (z ∷ zs) ws e f = (e.0, each_joined zs ws e.1 f)
+
+pub strictly_sorted : {X : Type 0} (cmp : X → X → Ordering) (xs : List X)
+    → Rises cmp xs → IsStrictlySortedBy cmp xs
+unfolding IsStrictlySortedBy
+strictly_sorted cmp xs h = grind arith
+
+pub sort_short : {X : Type 0} (cmp : X → X → Ordering) (xs : List X)
+    → length xs ≤ 1 → sort_by cmp xs ≡ xs
+sort_short cmp [] h = refl
+sort_short cmp (x ∷ []) h = refl
+sort_short cmp (x ∷ y ∷ xs) h = absurd (omega arith)
+
+pub length_distinct : {X : Type 0} (eq : X → X → Bool) (xs : List X)
+    → length (distinct eq xs) ≤ length xs
+length_distinct eq [] = omega arith
+length_distinct eq (x ∷ xs) = grind (arith, filter_short, (length_distinct eq xs))

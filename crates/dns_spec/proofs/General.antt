@@ -1,0 +1,13 @@
+-- Lists, options, results and sums: what knows nothing of DNS, a file for each word.
+pub mod Elements
+pub mod Filters
+pub mod Fronts
+pub mod Numbers
+pub mod Options
+pub mod Orderings
+pub mod Pairs
+pub mod Places
+pub mod Results
+pub mod Sorted
+pub mod Tests
+pub mod Truths

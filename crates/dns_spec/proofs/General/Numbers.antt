@@ -1,0 +1,25 @@
+-- Numbers: sums, and what a bound leaves.
+use Rattle.std.proofs.Math.Nat.{mul-le-mul_right}
+use Rattle.dns_spec.proofs.Common.{List, [], ap, arith, fold, inl, inr, suc, sum, ℕ, ◌*◌, ◌+◌, ◌<◌, ◌∷◌, ◌≡◌, ◌≤◌, ◌⊎◌, cases_order, cases_lt}
+
+-- a sum from its first number on
+pub fold_from : (k : ℕ) (xs : List ℕ) → fold ◌+◌ k xs ≡ k + sum xs
+fold_from k [] = omega arith
+fold_from k (x ∷ xs) = omega (arith, fold_from (k + x) xs, fold_from (0 + x) xs)
+
+pub sum_cons : (x : ℕ) (xs : List ℕ) → sum (x ∷ xs) ≡ x + sum xs
+sum_cons x xs = omega (arith, fold_from (0 + x) xs)
+
+-- numbers of a first digit and the rest: the first digits decide, or the rests do
+pub lesser_parts : (p x y k l : ℕ) → k < p → l < p → x * p + k < y * p + l
+    → (x < y) ⊎ ((x ≡ y) × (k < l))
+lesser_parts p x y k l s t h = go (cases_order x y)
+  where
+    go : (x ≡ y) ⊎ ((x < y) ⊎ (y < x)) → (x < y) ⊎ ((x ≡ y) × (k < l))
+    go (inl e) = inr (e, omega (arith, ap (λ z. z * p) e))
+    go (inr (inl m)) = inl m
+    go (inr (inr m)) =
+        let more : suc y * p ≤ x * p = mul-le-mul_right p (omega arith) in absurd (omega arith)
+
+pub other_than : (a b : ℕ) → a ≤ b → (b ≡ a → ⊥) → a < b
+other_than a b l n = grind (arith, cases_lt)

@@ -1,0 +1,33 @@
+-- What a test tells, and sums of two cases.
+use Rattle.dns_spec.proofs.Common.{Bool, arith, false, inl, inr, not, true, ◌&&◌, ◌||◌, ◌≡◌, ◌⊎◌}
+
+pub four_tests : (a b c d : Bool) → (a && b && c && d) ≡ (a && (b && (c && d)))
+four_tests a b c d = grind arith
+
+pub in_rest : {A B C : Type 0} → A ⊎ B → (B → C) → A ⊎ C
+in_rest h h1 = grind arith
+
+-- a test that fails, and one that fails where it does
+pub and_later : (x y z : Bool) → (y ≡ false → z ≡ false) → (x && y) ≡ false → (x && z) ≡ false
+and_later x y z h h1 = grind arith
+
+-- a test that follows from another
+pub follows : (a b : Bool) → (not a || b) ≡ true → a ≡ true → b ≡ true
+follows a b h h1 = grind arith
+
+-- a test is another where each implies the other
+pub same_tests : (a b : Bool) → (a ≡ true → b ≡ true) → (b ≡ true → a ≡ true) → a ≡ b
+same_tests a b h h1 = grind arith
+
+-- it can't be that there is none
+abbrev pub Sure : Type 0 → Type 0
+Sure A = (A → ⊥) → ⊥
+
+pub sure : {A : Type 0} → A → Sure A
+sure a none = none a
+
+pub and_so : {A B : Type 0} → Sure A → (A → Sure B) → Sure B
+and_so a f none = a (λ x. f x none)
+
+pub either_way : (A : Type 0) → Sure (A ⊎ (A → ⊥))
+either_way A none = none (inr (λ a. none (inl a)))
