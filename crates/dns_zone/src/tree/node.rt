@@ -64,9 +64,11 @@ impl<'z> Lead<'z> {
         self.node.name()
     }
 
-    /// Hands out the node, which is counted. Condition: `visits` is below 4,294,967,295.
+    /// Hands out the node, which is counted. Conditions: the steps are over the node's zone, and
+    /// `visits` is below 4,294,967,295.
     pub fn node(self, steps: &mut Steps<'z>) -> Node<'z>
-        requires { steps.old.visits < 4294967295 }
+        requires zone { steps.old.zone ≡ self.zone }
+        requires visits { steps.old.visits < 4294967295 }
         ensures node { result ≡ self.entry }
         ensures visits { steps.new ≡ record steps.old { visits = steps.old.visits + 1 } }
     {
