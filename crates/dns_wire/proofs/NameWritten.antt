@@ -1,8 +1,9 @@
 -- A name laid out is one more earlier name: the message spells its suffixes, and the places kept
 -- answer for them.
-use Rattle.dns_wire.proofs.Common.{◌≡◌, ℕ, zero, suc, ◌+◌, ◌-◌, ◌<◌, ◌≤◌, Bool, true, false, cond, nat_le, ◌⊎◌, inl, inr, List, [], ◌∷◌, ◌++◌, length, take, drop, replicate, slice_get, Option, None, Some, refl, sym, ap, ap₂, ◌∙◌, subst, arith, append_assoc, append-nil, length-append, and_parts, leb-true, none-some, same_Some, take-append-add, list_all, Octets, DomainName, wire, is_name, is_label, RunAt, ends, goes_on, jumps, Placed, has_suffix, suffix_place, place_of, last_place, shared_place, shared_octets, is_name-tail, Stands, begins_inside, suffix_from, suffix_to, place_again, place_pushed, shared_is, shared_to, shared_none, shared_whole, shared_pointed, shared_root, Known, known_more, Kept, IsKept, front_size, pointed_place, end_octets, new_places, Answers, Holds}
-use Rattle.dns_wire.proofs.SuffixLemmas.{front-as, front-root, pointed-as, pointed-root, kept-as, kept-more, kept-root}
+use Rattle.dns_wire.proofs.Common.{◌≡◌, ℕ, zero, suc, ◌+◌, ◌-◌, ◌<◌, ◌≤◌, Bool, true, false, cond, nat_le, ◌⊎◌, inl, inr, List, [], ◌∷◌, ◌++◌, length, take, drop, replicate, slice_get, Option, None, Some, refl, sym, ap, ap₂, ◌∙◌, subst, arith, append_assoc, append-nil, length-append, and_parts, leb-true, none-some, same_Some, take-append-add, list_all, Octets, DomainName, wire, is_name, is_label, RunAt, ends, goes_on, jumps, Placed, has_suffix, suffix_place, place_of, last_place, shared_place, shared_octets, is_name-tail, Stands, begins_inside, suffix_from, suffix_to, place_again, place_pushed, shared_is, shared_to, shared_none, shared_whole, shared_pointed, shared_root, AfterLabel, Known, known_more, Kept, IsKept, front_size, pointed_place, end_octets, new_places, Answers, Holds}
+use Rattle.dns_wire.proofs.SuffixLemmas.{Left, next_label, front-as, front-root, pointed-as, pointed-root, kept-as, kept-more, kept-root}
 use Rattle.dns_spec.proofs.General.Places.{get_more, take_within}
+use Rattle.dns_spec.proofs.Layouts.SharedNames.{shared_some}
 
 -- a name is laid out as its front and its end
 pub shared_cut : (ms : List Placed) (n : DomainName)
@@ -25,6 +26,61 @@ shared_cut ms (l ∷ n) = go (shared_place ms (l ∷ n)) refl (shared_cut ms n)
     go (Some p) e h =
         shared_pointed ms l n p e ∙ ap₂ (λ k x. take k (wire (l ∷ n)) ++ end_octets x)
         (sym (front-as ms l n e)) (sym (pointed-as ms l n e))
+
+-- how many octets these are
+length-shared : (ms : List Placed) (n : DomainName) → length (shared_octets ms n)
+    ≡ front_size ms n + length (end_octets (pointed_place ms n))
+length-shared ms [] = grind (arith, shared_root, front-root, pointed-root)
+length-shared ms (l ∷ n) = go (shared_place ms (l ∷ n)) refl (length-shared ms n)
+  where
+    go : (x : Option ℕ) → shared_place ms (l ∷ n) ≡ x → length (shared_octets ms n)
+        ≡ front_size ms n + length (end_octets (pointed_place ms n)) → length (shared_octets ms
+        (l ∷ n)) ≡ front_size ms (l ∷ n) + length (end_octets (pointed_place ms (l ∷ n)))
+    go None e h = omega (
+      arith,
+      h,
+      ap length (shared_whole ms l n e),
+      length-append l (shared_octets ms n),
+      front-as ms l n e,
+      ap (λ x. length (end_octets x)) (pointed-as ms l n e),
+    )
+    go (Some p) e h = omega (
+      arith,
+      ap length (shared_pointed ms l n p e),
+      front-as ms l n e,
+      ap (λ x. length (end_octets x)) (pointed-as ms l n e),
+    )
+
+-- with a first label there are two octets at least
+at_least_two : (ms : List Placed) (l : Octets) (t : DomainName) (x : Option ℕ)
+    → shared_place ms (l ∷ t) ≡ x → 2 ≤ length (shared_octets ms (l ∷ t))
+at_least_two ms l t None e =
+    let some = shared_some ms t in
+    omega (arith, some, ap length (shared_whole ms l t e), length-append l (shared_octets ms t))
+at_least_two ms l t (Some p) e = omega (arith, ap length (shared_pointed ms l t p e))
+
+-- with a label left to look at, two octets come after those before it
+pub left_past : {head : Octets → ℕ} {b : Octets} {ks : List Kept} {name rest after : Octets}
+    {k room : ℕ} → Left head b ks name rest → AfterLabel rest k after
+    → room < length name - length rest + 2 → (ms : List Placed) (n : DomainName)
+    → Holds head ms b ks → name ≡ wire n → is_name n ≡ true → room < length (shared_octets ms n)
+left_past {name = name} {rest} left a past ms n holds e ok =
+    let x = left.all ms n holds e ok in
+    let f = next_label x.left x.spelled x.is_name a in
+    let front = x.front in
+    let two = at_least_two ms f.label f.labels (shared_place ms (f.label ∷ f.labels)) refl in
+    let short = left.shorter in
+    omega (
+      arith,
+      front,
+      past,
+      short,
+      two,
+      length-shared ms n,
+      length-shared ms x.left,
+      ap (λ p. length (end_octets p)) x.place,
+      ap (λ m. length (shared_octets ms m)) f.whole,
+    )
 
 run_more : {b : Octets} {s i e : ℕ} {n : DomainName} (x : Octets)
     → RunAt b s i n e → RunAt (b ++ x) s i n e

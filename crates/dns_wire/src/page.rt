@@ -279,9 +279,13 @@ impl<const N: usize, const SIZE: usize> Page<N, SIZE> {
             result }
     {
         let message = self.octets.as_slice();
-        let (before, place) = shared_suffix(&self.places, message, hash, name, self.asked_end);
-        let (front, _) = name.split_at(before);
         let at = self.octets.len();
+        let room = self.limit - at;
+        let laid = shared_suffix(&self.places, message, hash, name, self.asked_end, room);
+        let Some((before, place)) = laid else {
+            return false;
+        };
+        let (front, _) = name.split_at(before);
         if !self.append_end(front, place) {
             return false;
         }

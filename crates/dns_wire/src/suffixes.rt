@@ -2,7 +2,7 @@
 //! and the places that are kept of the rest (RFC 1035 4.1.4).
 ghost use Rattle.std.specs.Prelude.{◌≡◌, List, ◌+◌, ◌-◌, ◌*◌, ◌≤◌, ◌<◌, ◌^◌, [], ◌∷◌, ◌++◌, length, drop, min, IsTrue, IfSome, IsNone, ℕ, false};
 ghost use Rattle.dns_spec.specs.Names.{Octets, DomainName, wire, is_name};
-ghost use Rattle.dns_spec.specs.Layout.{Placed};
+ghost use Rattle.dns_spec.specs.Layout.{Placed, shared_octets};
 ghost use Rattle.dns_wire.specs.Writing.{IsAsked, asked_places, NotAsked, IsLastOf, front_size, pointed_place, new_places, Follows, AfterLabel, Holds};
 ghost use Rattle.dns_wire.specs.Kept.{IsSharedAt, NoneSpelled};
 ghost use Rattle.dns_wire.specs.SuffixNumbers.{suffix_number};
@@ -15,33 +15,44 @@ use dns_name::are_equal;
 // The last place that the 14 bits of a pointer reach.
 const LAST_PLACE: usize = 16383;
 
-/// How a name, in its wire form, is laid out: how many octets are before the longest suffix that a
-/// pointer may stand for, and the place of that suffix.
+/// How a name, in its wire form, is laid out in `room` octets: how many octets are before the longest
+/// suffix that a pointer may stand for, and the place of that suffix. `None` if it does not fit: no
+/// suffix is looked up if the labels before it leave no room for a pointer.
 pub(crate) fn shared_suffix<H: SuffixHash, const N: usize>(
     places: &Places<N>,
     message: &[u8],
     hash: &mut H,
     name: &[u8],
     asked_end: usize,
-) -> (usize, Option<u16>)
+    room: usize,
+) -> Option<(usize, Option<u16>)>
     requires asked { IsAsked message.now asked_end }
-    ensures shared { (ms : List Placed) (n : DomainName)
+    ensures shared { IfSome result (λ laid. (ms : List Placed) (n : DomainName)
         → Holds (suffix_number (H.numbers hash.old)) ms message.now
         (asked_places (suffix_number (H.numbers hash.old)) message.now asked_end ++ places.now)
         → name.now ≡ wire n → IsTrue (is_name n)
-        → (front_size ms n ≡ result.0) × (pointed_place ms n ≡ result.1) }
-    ensures inside { result.0 ≤ length name.now }
-    ensures reached { IfSome result.1 (λ place. place < 16384) }
+        → (front_size ms n ≡ laid.0) × (pointed_place ms n ≡ laid.1)) }
+    ensures past { IsNone result → (ms : List Placed) (n : DomainName)
+        → Holds (suffix_number (H.numbers hash.old)) ms message.now
+        (asked_places (suffix_number (H.numbers hash.old)) message.now asked_end ++ places.now)
+        → name.now ≡ wire n → IsTrue (is_name n) → room < length (shared_octets ms n) }
+    ensures inside { IfSome result (λ laid. laid.0 ≤ length name.now) }
+    ensures reached { IfSome result (λ laid. IfSome laid.1 (λ place. place < 16384)) }
     ensures same { H.numbers hash.new ≡ H.numbers hash.old }
 {
     let mut rest = name;
     'suffixes: while let Some((_, after)) = after_first_label(rest) {
+        let before = name.len() - rest.len();
+        // A pointer has two octets, and no label has fewer.
+        if before + 2 > room {
+            return None;
+        }
         if let Some(place) = find_suffix(places, message, hash, rest, asked_end) {
-            return (name.len() - rest.len(), Some(place));
+            return Some((before, Some(place)));
         }
         rest = after;
     }
-    (name.len() - rest.len(), None)
+    Some((name.len() - rest.len(), None))
 }
 
 // A place at which the message spells a suffix: one in the name of the question, or one that is

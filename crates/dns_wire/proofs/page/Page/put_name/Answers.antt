@@ -15,12 +15,12 @@ pub returns-then-not-append_end : goal.returns-then-not-append_end
 returns-then-not-append_end g c = λ n e ok.
     let now = c.args.self.now in
     let numbers = g.H.SuffixHash.numbers in
-    subst (λ d. Writes (numbers c.args.hash.now) (numbers c.shared_suffix-before.new.hash) now d
+    subst (λ d. Writes (numbers c.args.hash.now) (numbers c.shared_suffix-laid.new.hash) now d
     (name_laid n) false) (sym c.if-not-append_end.ensures.unchanged) (record {
       grows = grows_not now;
-      same = c.shared_suffix-before.ensures.same;
+      same = c.shared_suffix-laid.ensures.same;
       written = λ ms holds.
-          let shared = c.shared_suffix-before.ensures.shared ms n
+          let shared = c.in-Some.ensures.shared ms n
           (there c.self.view_is c.as_slice-message.ensures.value holds) e ok in
           let whole = ap length (shared_cut ms n ∙ ap₂ (λ x p. x ++ end_octets p)
           (ap₂ take shared.0 (sym e) ∙ sym c.split_at.ensures.front) shared.1) in
@@ -37,7 +37,7 @@ returns-then-not-append_end g c = λ n e ok.
 
 module _ (g : given.Over) (c : goal.After-keep_suffixes g) where
   abbrev end : Octets
-  end = c.split_at.result.0.now ++ end_octets c.shared_suffix-before.result.1
+  end = c.split_at.result.0.now ++ end_octets c.in-Some.place
 
   is : draft_of c.self-2.inside.limit c.self-2.inside.octets.items c.self-2.inside.asked_end
       c.self-2.inside.places c.self-2.inside.counts ≡ with_octets c.args.self.now end
@@ -68,9 +68,9 @@ returns g c = λ n e ok.
         limit = refl;
         counts = refl;
       };
-      same = c.keep_suffixes.ensures.same ∙ c.shared_suffix-before.ensures.same;
+      same = c.keep_suffixes.ensures.same ∙ c.shared_suffix-laid.ensures.same;
       written = λ ms holds.
-          let shared = c.shared_suffix-before.ensures.shared ms n
+          let shared = c.in-Some.ensures.shared ms n
           (there c.self.view_is c.as_slice-message.ensures.value holds) e ok in
           let whole = shared_cut ms n ∙ ap₂ (λ x p. x ++ end_octets p)
           (ap₂ take shared.0 (sym e) ∙ sym c.split_at.ensures.front) shared.1 in
@@ -79,7 +79,7 @@ returns g c = λ n e ok.
           let places : c.keep_suffixes.new.places ≡ now.kept ++ new =
           c.keep_suffixes.ensures.kept ms n e ok (sym shared.0)
           ∙ ap₂ (λ x h. x ++ new_places (suffix_number h) ms n c.len-at.result)
-          ks c.shared_suffix-before.ensures.same
+          ks c.shared_suffix-laid.ensures.same
           ∙ ap (λ i. now.kept ++ new_places number ms n i) (place g c) in
           let s = subst (IsWellKept g.row.N g.row.SIZE) c.self.view_is c.self.invariant in
           let known : asked_places number (b ++ o) now.asked_end ++ c.keep_suffixes.new.places
