@@ -73,7 +73,7 @@ pub writes_more : {head head' head'' : Octets → ℕ} {d d' d'' : Draft} {t fit
     head' head'' d' d'' (all_laid ps) fits → Writes head head'' d d'' (all_laid (x ∷ ps)) fits
 writes_more x ps is first next =
     writes_as (both_laid (part_laid x) (all_laid ps))
-    (all_laid (x ∷ ps)) (data_more x ps) (writes_both (part_laid x) (all_laid ps) is first next)
+    (all_laid (x ∷ ps)) (data_more x ps) (writes_both (part_laid x) (all_laid ps) (λ _ _ _. tt) is first next)
 
 pub writes_last : {head head' : Octets → ℕ} {d d' : Draft} {fits : Bool} (x : Part)
     → Writes head head' d d' (part_laid x) fits → Writes head head' d d' (all_laid (x ∷ [])) fits
@@ -119,13 +119,13 @@ tail_written {head} {head'} {d} {d'} {d''} t ttl o now inside first next set =
         counts = grown.counts;
       };
       same = next.same;
-      written = λ ms holds.
-          let one = first.written ms holds in
+      written = λ ms holds _.
+          let one = first.written ms holds tt in
           let b' = d'.octets in
           let ks' = known_places number d' in
           let there : Holds number ms b' ks' = subst₂ (λ m x. Holds number m x ks')
           (append-nil ms) (sym one.written) (one.stands b refl holds) in
-          let two = next.written ms there in
+          let two = next.written ms there tt in
           let place : length b' ≡ length b + 10 =
           ap length one.written ∙ length-append b (numbers_of t ttl 0) in
           let l = parts_laid t o ms (length b + 10) in

@@ -45,7 +45,7 @@ pub put_fits : {head head' : Octets → ℕ} {t : Bool} {d d' : Draft} (q : Opti
     → Writes head head' d d' (records_laid (records_at owner ttl set)) t → IsDraft head q items d
     → (t ≡ true) ↔ (size q (items ++ item_of section owner ttl set ∷ []) ≤ d.limit)
 put_fits {head} {d = d} q items section owner ttl set w draft =
-    let exactly = (w.written (names_so_far q items) draft.holds).exactly in
+    let exactly = (w.written (names_so_far q items) draft.holds tt).exactly in
     let size_is = draft_size head q items d draft (item_of section owner ttl set) in (
       λ so. let room = exactly.0 so in omega (arith, room, size_is),
       λ fits. exactly.1 (omega (arith, fits, size_is)),
@@ -65,7 +65,7 @@ pub put_in : {head head' : Octets → ℕ} {d d' : Draft} {n : Counts} (q : Opti
 put_in {head} {d = d} {d'} q items section owner ttl set w counts draft =
     let before = names_so_far q items in
     let more = records_laid (records_at owner ttl set) before (length d.octets) in
-    let done = w.written before draft.holds in
+    let done = w.written before draft.holds tt in
     let l = records_laid (records_of items) (asked_placed q) (12 + length (asked_octets q)) in
     let all = whole head q items d draft (item_of section owner ttl set) in
     let front = replicate 12 0 ++ asked_octets q in

@@ -100,7 +100,7 @@ record_more
     (ap (λ x. front ++ x ∷ []) is ∙ record_taken owner ttl set i inside)
     (writes_as (both_laid (records_laid front) (records_laid (given ∷ [])))
     (records_laid (front ++ given ∷ [])) (records_split front (given ∷ []))
-    (writes_both (records_laid front) (records_laid (given ∷ [])) refl so_far (writes_as
+    (writes_both (records_laid front) (records_laid (given ∷ [])) (λ _ _ _. tt) refl so_far (writes_as
     (λ ms p. record_laid ms p given) (records_laid (given ∷ [])) (record_alone given) next)))
 
 -- where some of the records do not fit

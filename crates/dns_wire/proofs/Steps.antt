@@ -1,5 +1,5 @@
 -- Steps of writing: one after the other they write what is laid out one after the other.
-use Rattle.dns_wire.proofs.Common.{◌≡◌, ℕ, ◌+◌, ◌*◌, ◌<◌, ◌≤◌, Bool, true, false, List, [], ◌++◌, length, take, refl, sym, ap₂, subst, subst₂, arith, append_assoc, append-nil, length-append, false≢true, take-append_seam, Octets, Placed, Kept, suffix_number, Holds, IsAsked, Layout, octets_laid, both_laid, Draft, draft_of, with_octets, Grows, Writes, IsWellKept, Counts}
+use Rattle.dns_wire.proofs.Common.{◌≡◌, ℕ, ◌+◌, ◌*◌, ◌<◌, ◌≤◌, Bool, true, false, List, [], ◌++◌, length, take, refl, sym, ap₂, subst, subst₂, arith, append_assoc, append-nil, length-append, false≢true, take-append_seam, Octets, Placed, Kept, suffix_number, Holds, IsAsked, Layout, octets_laid, both_laid, Draft, draft_of, with_octets, HasNames, Grows, Writes, WritesAfter, IsWellKept, Counts}
 use Rattle.dns_wire.proofs.AskedLemmas.{is_asked_more, kept_more}
 use Rattle.dns_wire.proofs.NameWritten.{holds_octets}
 use Rattle.dns_wire.proofs.SuffixLemmas.{follows_none, follows_again}
@@ -46,7 +46,7 @@ octets_written {d} head o asked fits is =
         counts = refl;
       };
       same = refl;
-      written = λ ms holds.
+      written = λ ms holds _.
           let kept = kept_more (suffix_number head) _ _ _ _ _ _ o asked refl refl refl in
           record {
             exactly = (λ yes. omega (arith, fits, length-append d.octets o), λ h. refl);
@@ -60,22 +60,26 @@ pub none_written : (head : Octets → ℕ) (d : Draft) → IsAsked d.octets d.as
     → length d.octets ≤ d.limit → Writes head head d d (octets_laid []) true
 none_written head d asked within = grind (arith, octets_written, append-nil)
 
-pub writes_as : {head head' : Octets → ℕ} {d d' : Draft} {fits : Bool} (f g : Layout)
-    → ((ms : List Placed) (p : ℕ) → f ms p ≡ g ms p)
-    → Writes head head' d d' f fits → Writes head head' d d' g fits
-writes_as {head} {d = d} {d'} {fits} f g same w = grind arith
+pub writes_as : {known : List Placed → Type 0} {head head' : Octets → ℕ} {d d' : Draft} {fits : Bool}
+    (f g : Layout) → ((ms : List Placed) (p : ℕ) → f ms p ≡ g ms p)
+    → WritesAfter known head head' d d' f fits → WritesAfter known head head' d d' g fits
+writes_as {known} {head} {d = d} {d'} {fits} f g same w = grind arith
 
 -- what follows something that was written
-pub writes_both : {head head' head'' : Octets → ℕ} {d d' d'' : Draft} {t fits : Bool} (f g : Layout)
-    → t ≡ true → Writes head head' d d' f t
-    → Writes head' head'' d' d'' g fits → Writes head head'' d d'' (both_laid f g) fits
-writes_both {head} {head'} {head''} {d} {d'} {d''} {t} {fits} f g is first next =
+pub writes_both : {known known' : List Placed → Type 0} {head head' head'' : Octets → ℕ}
+    {d d' d'' : Draft} {t fits : Bool} (f g : Layout)
+    → ((ms : List Placed) → HasNames d head ms → known ms
+    → known' (ms ++ (f ms (length d.octets)).names)) → t ≡ true
+    → WritesAfter known head head' d d' f t → WritesAfter known' head' head'' d' d'' g fits
+    → WritesAfter known head head'' d d'' (both_laid f g) fits
+writes_both {known} {known'} {head} {head'} {head''} {d} {d'} {d''} {t} {fits} f g link is first next =
     grind (arith, length-append, append_assoc)
 
 -- where a part does not fit, the whole does not
-pub writes_past : {head head' : Octets → ℕ} {d d' : Draft} {t fits : Bool} (f g : Layout)
-    → t ≡ false → fits ≡ false → ((ms : List Placed) (p : ℕ) → length (f ms p).written ≤ length
-    (g ms p).written) → Writes head head' d d' f t → Writes head head' d d' g fits
+pub writes_past : {known : List Placed → Type 0} {head head' : Octets → ℕ} {d d' : Draft}
+    {t fits : Bool} (f g : Layout) → t ≡ false → fits ≡ false
+    → ((ms : List Placed) (p : ℕ) → length (f ms p).written ≤ length (g ms p).written)
+    → WritesAfter known head head' d d' f t → WritesAfter known head head' d d' g fits
 writes_past {d = d} {fits = fits} f g is is_too longer w = grind (arith, false≢true, length-append)
 
 pub never_written : (head : Octets → ℕ) (d : Draft) (f : Layout) (k : ℕ) → d.limit < length d.octets

@@ -1,5 +1,5 @@
 -- What a reader learns here: what a writer has written of a message so far.
-use Rattle.std.specs.Prelude.{◌≡◌, ◌↔◌, ℕ, ◌+◌, ◌*◌, ◌<◌, ◌≤◌, ◌^◌, Bool, List, [], ◌∷◌, ◌++◌, length, min, replicate, if◌then◌else◌, Option, IfSome, IsTrue}
+use Rattle.std.specs.Prelude.{⊤, ◌≡◌, ◌↔◌, ℕ, ◌+◌, ◌*◌, ◌<◌, ◌≤◌, ◌^◌, Bool, List, [], ◌∷◌, ◌++◌, length, min, replicate, if◌then◌else◌, Option, IfSome, IsTrue}
 use Rattle.std.specs.Bool.{OnTrue}
 use Rattle.std.specs.Option.{option_to_list}
 use Rattle.dns_spec.specs.Names.{Octets, DomainName}
@@ -105,14 +105,18 @@ pub record IsWritten (number : Octets → ℕ) (ms : List Placed) (old new : Dra
       → Holds number ms x (known_places number old)
       → StandsIn number ms x laid (known_places number new))
 
--- A step that writes what is laid out. The hash that is lent has the same numbers before it and
--- after it.
-pub record Writes (head head' : Octets → ℕ) (old new : Draft) (layout : Layout) (fits : Bool)
-    : Type 0 where
+-- A step that writes what is laid out after names of which this is known. The hash that is lent has
+-- the same numbers before it and after it.
+pub record WritesAfter (known : List Placed → Type 0) (head head' : Octets → ℕ) (old new : Draft)
+    (layout : Layout) (fits : Bool) : Type 0 where
   pub grows : Grows old new
   pub same : head' ≡ head
-  pub written : (ms : List Placed) → HasNames old head ms
+  pub written : (ms : List Placed) → HasNames old head ms → known ms
       → IsWritten (suffix_number head) ms old new (layout ms (length old.octets)) fits
+
+-- a step that writes what is laid out after whatever names
+abbrev pub Writes : (Octets → ℕ) → (Octets → ℕ) → Draft → Draft → Layout → Bool → Type 0
+Writes = WritesAfter (λ ms. ⊤)
 
 -- the names of the records so far, with their places
 abbrev pub names_so_far : Option MessageQuestion → List Item → List Placed

@@ -19,7 +19,7 @@ returns-then-not-append_end g c = λ n e ok.
     (name_laid n) false) (sym c.if-not-append_end.ensures.unchanged) (record {
       grows = grows_not now;
       same = c.shared_suffix-laid.ensures.same;
-      written = λ ms holds.
+      written = λ ms holds _.
           let shared = c.in-Some.ensures.shared ms n
           (there c.self.view_is c.as_slice-message.ensures.value holds) e ok in
           let whole = ap length (shared_cut ms n ∙ ap₂ (λ x p. x ++ end_octets p)
@@ -69,7 +69,7 @@ returns g c = λ n e ok.
         counts = refl;
       };
       same = c.keep_suffixes.ensures.same ∙ c.shared_suffix-laid.ensures.same;
-      written = λ ms holds.
+      written = λ ms holds _.
           let shared = c.in-Some.ensures.shared ms n
           (there c.self.view_is c.as_slice-message.ensures.value holds) e ok in
           let whole = shared_cut ms n ∙ ap₂ (λ x p. x ++ end_octets p)

@@ -27,7 +27,7 @@ returns-then-not-put_data-clause-writes g c =
     let d = parts_laid t o ms (p + 10) in
     let same = ap₂ (λ m k. length (parts_laid t o m (p + k)).written) (append-nil ms) ten in
     grind (arith, length-append, parts_laid, length-record_tail, shown))
-    (writes_both (octets_laid z) (parts_laid t o) c.if-not-append.false
+    (writes_both (octets_laid z) (parts_laid t o) (λ _ _ _. tt) c.if-not-append.false
     (c.append.ensures.writes (g.H.SuffixHash.numbers c.args.hash.now)) c.put_data.ensures)
 
 module _ (g : given.Over) (c : goal.After-self-3-1 g) where
