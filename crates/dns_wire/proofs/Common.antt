@@ -37,7 +37,7 @@ pub use Rattle.dns_wire.specs.Read.{AreQuestions, AreRead, AreRecords, HeaderAt,
 pub use Rattle.dns_wire.specs.SuffixNumbers.{with_eights}
 unfoldable pub use Rattle.dns_wire.specs.SuffixNumbers.{octets_number, suffix_number}
 pub use Rattle.dns_wire.specs.WireFault.{UnlessNoMemory}
-pub use Rattle.dns_wire.specs.Writing.{AfterLabel, Answers, Follows, Holds, IsAsked, IsLastOf, Layout, NotAsked, both_laid, end_octets, name_before, name_laid, octets_laid, parts_laid, shown, tail_laid}
+pub use Rattle.dns_wire.specs.Writing.{AfterLabel, Answers, Follows, Form, Holds, IsAsked, IsForm, IsLaid, IsLaidAs, IsLastOf, Layout, NotAsked, both_laid, end_octets, form_again, name_before, name_laid, octets_laid, parts_laid, shown, tail_laid}
 unfoldable pub use Rattle.dns_wire.specs.Writing.{asked_places, front_size, new_places, pointed_place, records_laid}
 pub use Rattle.dns_wire.specs.declared.fault.WireFault.{WireFault}
 pub use Rattle.dns_wire.specs.declared.message.Counts.{Counts}

@@ -11,6 +11,7 @@ mod SpelledLemmas
 mod CommonFront
 mod SuffixLemmas
 mod NameWritten
+mod LaidAgain
 mod AskedLemmas
 mod Steps
 mod DataWritten

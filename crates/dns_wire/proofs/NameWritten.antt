@@ -195,12 +195,12 @@ kept_sound head ms (l ∷ n) i p h (k, at) = go (shared_place ms (l ∷ n)) refl
         }
 
 -- the place of a suffix among more names
-place_left : (ms : List Placed) (m : Placed) (s : DomainName) (p : ℕ)
-    → place_of ms s ≡ Some p → place_of (ms ++ m ∷ []) s ≡ Some p
-place_left [] m s p e = absurd (none-some p e)
-place_left (k ∷ ms) m s p e = grind (arith, (place_left ms m s p))
+pub place_left : (ms more : List Placed) (s : DomainName) (p : ℕ)
+    → place_of ms s ≡ Some p → place_of (ms ++ more) s ≡ Some p
+place_left [] more s p e = absurd (none-some p e)
+place_left (k ∷ ms) more s p e = grind (arith, (place_left ms more s p))
 
-place_new : (ms : List Placed) (m : Placed) (s : DomainName) → place_of ms s ≡ None
+pub place_new : (ms : List Placed) (m : Placed) (s : DomainName) → place_of ms s ≡ None
     → has_suffix m.0 s ≡ true → place_of (ms ++ m ∷ []) s ≡ Some (suffix_place m s)
 place_new [] m s e is = ap (λ t. cond t (Some (suffix_place m s)) None) is
 place_new (k ∷ ms) m s e is = go (has_suffix k.0 s) e (λ f. place_new ms m s f is)
@@ -250,7 +250,7 @@ module _ (head : Octets → ℕ) (ms : List Placed) (b : Octets)
                 s.0,
                 s.1,
                 shared_to (ms ++ (n, length b) ∷ [])
-                    (s.0 ∷ s.1) p (place_left ms (n, length b) (s.0 ∷ s.1) p is.0) is.1,
+                    (s.0 ∷ s.1) p (place_left ms ((n, length b) ∷ []) (s.0 ∷ s.1) p is.0) is.1,
                 s.3,
               )
           go (inr new) =

@@ -1,5 +1,6 @@
 -- Records are written one after the other.
-use Rattle.dns_wire.proofs.Common.{◌≡◌, ℕ, ◌+◌, ◌*◌, ◌<◌, ◌≤◌, Bool, true, false, List, [], ◌∷◌, ◌++◌, length, take, drop, get_or, refl, sym, ap, ap₂, ◌∙◌, subst, arith, add-zero, append_assoc, append-nil, length-append, take-append-drop, length-map, get_or-map, take_more, take_all, Octets, DomainName, ResourceRecord, RecordSet, records_at, laid_parts, Placed, Laid, laid_front, shared_octets, data_laid, record_laid, record_tail, records_octets, records_by, length-record_tail, both_laid, shown, records_laid, Draft, Writes}
+use Rattle.dns_wire.proofs.Common.{◌≡◌, ℕ, ◌+◌, ◌*◌, ◌<◌, ◌≤◌, Bool, true, false, List, [], ◌∷◌, ◌++◌, length, take, drop, get_or, refl, sym, ap, ap₂, ◌∙◌, subst, subst₂, arith, add-zero, map, append_assoc, append-nil, length-append, take-append-drop, length-map, get_or-map, take_more, take_all, Octets, DomainName, ResourceRecord, RecordSet, records_at, laid_parts, Placed, Laid, laid_front, shared_octets, data_laid, record_laid, record_tail, records_octets, records_by, length-record_tail, both_laid, shown, records_laid, Draft, HasNames, Writes, WritesAfter, IsLaid, IsLaidAs, Form, form_again, ◌==◌, OnTrue, false≢true, ne_eqb, zero, suc}
+use Rattle.dns_wire.proofs.LaidAgain.{laid_again}
 use Rattle.dns_wire.proofs.Steps.{writes_as, writes_both, writes_past}
 
 pub records_more : (ms : List Placed) (p : ℕ) (r : ResourceRecord) (rs : List ResourceRecord)
@@ -86,22 +87,75 @@ pub all_taken : (owner : DomainName) (ttl : ℕ) (set : RecordSet) (i : ℕ)
     → length set.rdata ≤ i → take i (records_at owner ttl set) ≡ records_at owner ttl set
 all_taken owner ttl set i over = grind (arith, length-map, take_all)
 
+-- the first name of records is the owner of the first
+first_name : (rs : List ResourceRecord) (r : ResourceRecord) (i : ℕ) (ms : List Placed) (p : ℕ)
+    → (more : List Placed) × ((records_laid (take (suc i) (r ∷ rs)) ms p).names ≡ (r.owner, p) ∷ more)
+first_name rs r i ms p = (_, ap (λ (l : Laid). l.names) (records_more ms p r (take i rs)))
+
+owner_first : (owner : DomainName) (ttl : ℕ) (set : RecordSet) (i : ℕ) (ms : List Placed) (p : ℕ)
+    → 0 < i → 0 < length set.rdata → (more : List Placed)
+    × ((records_laid (take i (records_at owner ttl set)) ms p).names ≡ (owner, p) ∷ more)
+owner_first owner ttl set zero ms p some has = absurd (omega (arith, some))
+owner_first owner ttl set (suc i) ms p some has = go set.rdata refl
+  where
+    go : (ds : List Octets) → set.rdata ≡ ds → (more : List Placed)
+        × ((records_laid (take (suc i) (records_at owner ttl set)) ms p).names ≡ (owner, p) ∷ more)
+    go [] e = absurd (omega (arith, has, ap length e))
+    go (d ∷ ds) e =
+        let show = λ (d : Octets). shown owner set.rtype ttl d in
+        let x = first_name (map show ds) (show d) i ms p in (
+          x.0,
+          ap (λ ds. (records_laid (take (suc i) (map show ds)) ms p).names) e ∙ x.1,
+        )
+
+-- so the owner of the others is known
+owner_again : (head : Octets → ℕ) (d : Draft) (owner : DomainName) (ttl : ℕ) (set : RecordSet)
+    (i start : ℕ) (form : Form) → i < length set.rdata → start ≡ length d.octets
+    → (0 < i → (ms : List Placed) → HasNames d head ms → IsLaid ms owner form)
+    → (ms : List Placed) → HasNames d head ms → IsLaidAs owner (i == 0) (form_again start form)
+    (ms ++ (records_laid (take i (records_at owner ttl set)) ms (length d.octets)).names)
+owner_again head d owner ttl set zero start form inside is known ms holds =
+    λ no. absurd (false≢true (sym no))
+owner_again head d owner ttl set (suc i) start form inside is known ms holds = λ _.
+    let p = length d.octets in
+    let x = owner_first owner ttl set (suc i) ms p (omega arith) (omega (arith, inside)) in
+    subst₂ (λ k names. IsLaid (ms ++ names) owner (form_again k form)) (sym is) (sym x.1)
+    (laid_again ms x.0 owner p form holds.before (known (omega arith) ms holds))
+
+-- and it is known after each record
+pub form_known : {t : Bool} (head head' : Octets → ℕ) (d d' : Draft) (owner : DomainName)
+    (form form' : Form) (i : ℕ) → (i ≡ 0 → d' ≡ d) → head' ≡ head
+    → (0 < i → (ms : List Placed) → HasNames d head ms → IsLaid ms owner form)
+    → ((i == 0) ≡ true → OnTrue t ((ms : List Placed) → HasNames d' head' ms → IsLaid ms owner form'))
+    → ((i == 0) ≡ false → form' ≡ form)
+    → t ≡ true → (ms : List Placed) → HasNames d head ms → IsLaid ms owner form'
+form_known head head' d d' owner form form' zero begins same known first others put ms holds =
+    subst (λ t. OnTrue t ((ms : List Placed) → HasNames d' head' ms → IsLaid ms owner form')) put
+    (first refl) ms (subst₂ (λ d h. HasNames d h ms) (sym (begins refl)) (sym same) holds)
+form_known head head' d d' owner form form' (suc i) begins same known first others put ms holds =
+    subst (IsLaid ms owner) (sym (others (ne_eqb (suc i) 0 (λ e. omega (arith, e))))) (known (omega arith) ms holds)
+
 -- a record more of a set
-pub record_more : {head head' head'' : Octets → ℕ} {d d' d'' : Draft}
-    {fits : Bool} (owner : DomainName) (ttl : ℕ) (set : RecordSet) (i : ℕ) (given : ResourceRecord)
-    → i < length set.rdata → given ≡ shown owner set.rtype ttl (get_or set.rdata i [])
+pub record_more : {head head' head'' : Octets → ℕ} {d d' d'' : Draft} {fits : Bool}
+    (owner : DomainName) (ttl : ℕ) (set : RecordSet) (i start : ℕ) (form : Form)
+    (given : ResourceRecord) → i < length set.rdata
+    → given ≡ shown owner set.rtype ttl (get_or set.rdata i []) → start ≡ length d.octets
+    → (0 < i → (ms : List Placed) → HasNames d head ms → IsLaid ms owner form)
     → Writes head head' d d' (records_laid (take i (records_at owner ttl set))) true
-    → Writes head' head'' d' d'' (λ ms p. record_laid ms p given) fits
+    → WritesAfter (IsLaidAs owner (i == 0) (form_again start form)) head' head'' d' d''
+    (λ ms p. record_laid ms p given) fits
     → Writes head head'' d d'' (records_laid (take (i + 1) (records_at owner ttl set))) fits
-record_more
-    {head} {head'} {head''} {d} {d'} {d''} {fits} owner ttl set i given inside is so_far next =
+record_more {head} {head'} {head''} {d} {d'} {d''} {fits}
+    owner ttl set i start form given inside is begins known so_far next =
     let front = take i (records_at owner ttl set) in
+    let last = records_laid (given ∷ []) in
     subst (λ rs. Writes head head'' d d'' (records_laid rs) fits)
     (ap (λ x. front ++ x ∷ []) is ∙ record_taken owner ttl set i inside)
-    (writes_as (both_laid (records_laid front) (records_laid (given ∷ [])))
+    (writes_as (both_laid (records_laid front) last)
     (records_laid (front ++ given ∷ [])) (records_split front (given ∷ []))
-    (writes_both (records_laid front) (records_laid (given ∷ [])) (λ _ _ _. tt) refl so_far (writes_as
-    (λ ms p. record_laid ms p given) (records_laid (given ∷ [])) (record_alone given) next)))
+    (writes_both (records_laid front) last
+    (λ ms holds _. owner_again head d owner ttl set i start form inside begins known ms holds) refl
+    so_far (writes_as (λ ms p. record_laid ms p given) last (record_alone given) next)))
 
 -- where some of the records do not fit
 pub records_past : {head head' : Octets → ℕ} {d d' : Draft} {t : Bool} (rs : List ResourceRecord)

@@ -193,7 +193,7 @@ module _ (head : Octets → ℕ) (ms : List Placed) (l : Octets) (n : DomainName
       ∷ new_places head ms n (p + 1 + length l)) []) (le-leb p last_place low)
 
   -- nothing is kept past the reach of a pointer, or of a shared suffix
-  kept-high : last_place < p → new_places head ms (l ∷ n) p ≡ []
+  pub kept-high : last_place < p → new_places head ms (l ∷ n) p ≡ []
   kept-high high = go (shared_place ms (l ∷ n)) refl (nat_le p last_place) refl
     where
       go : (x : Option ℕ) → shared_place ms (l ∷ n) ≡ x
@@ -312,7 +312,7 @@ keep_past {head} {old} {ks} {place = place} k keep a past ms n e ok f =
     ∙ ap (λ x. ks ++ x) none ∙ append-nil ks)
 
 -- nothing is kept of a name that is a pointer alone
-keep_none : (head : Octets → ℕ) (ms : List Placed) (n : DomainName) (at : ℕ) (ks : List Kept)
+pub keep_none : (head : Octets → ℕ) (ms : List Placed) (n : DomainName) (at : ℕ) (ks : List Kept)
     → front_size ms n ≡ 0 → ks ≡ ks ++ new_places head ms n at
 keep_none head ms [] at ks none =
     sym (append-nil ks) ∙ ap (λ x. ks ++ x) (sym (kept-root head ms at))

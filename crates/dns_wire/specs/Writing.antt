@@ -1,7 +1,7 @@
 -- What a reader learns here: how a writer lays a name out, which places it keeps for later names,
 -- and what must hold of the places kept, and of the octets written so far, that later names share
 -- rightly.
-use Rattle.std.specs.Prelude.{◌≡◌, ℕ, ◌+◌, ◌<◌, ◌≤◌, List, [], ◌∷◌, ◌++◌, ◌-◌, length, replicate, take, drop, nat_le, IsTrue, if◌then◌else◌}
+use Rattle.std.specs.Prelude.{◌≡◌, ℕ, zero, suc, Bool, IsFalse, IfSome, ◌+◌, ◌<◌, ◌≤◌, List, [], ◌∷◌, ◌++◌, ◌-◌, length, replicate, take, drop, nat_le, IsTrue, if◌then◌else◌}
 use Rattle.std.specs.Prelude.{Option, None, Some}
 use Rattle.dns_spec.specs.Names.{Octets, DomainName, wire, is_name}
 use Rattle.dns_spec.specs.Data.{laid_parts}
@@ -30,6 +30,29 @@ unfoldable pub pointed_place : List Placed → DomainName → Option ℕ
 pointed_place ms [] = None
 pointed_place ms (l ∷ n) =
     elim (shared_place ms (l ∷ n)) [ None ↦ pointed_place ms n | Some p ↦ Some p ]
+
+-- how a name is laid out: how many octets of its labels are before the suffix that it shares, and the
+-- place of that suffix
+abbrev pub Form : Type 0
+Form = ℕ × Option ℕ
+
+abbrev pub IsLaid : List Placed → DomainName → Form → Type 0
+IsLaid ms n form = (front_size ms n ≡ form.0) × (pointed_place ms n ≡ form.1)
+
+-- the octets have these, and a pointer reaches the place
+pub record IsForm (o : Octets) (form : Form) : Type 0 where
+  pub inside : form.0 ≤ length o
+  pub reached : IfSome form.1 (λ p. p < 16384)
+
+-- How a name is laid out after it was laid out so at a place: as a pointer to that, if there are
+-- labels and a pointer reaches them; else as it was.
+abbrev pub form_again : ℕ → Form → Form
+form_again at (zero, p) = (zero, p)
+form_again at (suc k, p) = if nat_le at last_place then (zero, Some at) else (suc k, p)
+
+-- what is known of the owner of a record that is not the first of its set
+abbrev pub IsLaidAs : DomainName → Bool → Form → List Placed → Type 0
+IsLaidAs n first form ms = IsFalse first → IsLaid ms n form
 
 -- a name ends with the root's length, or with a pointer
 abbrev pub end_octets : Option ℕ → Octets

@@ -6,16 +6,16 @@ ghost use Rattle.std.specs.Option.{option_copied};
 ghost use Rattle.dns_spec.specs.Names.{Octets, DomainName, wire, is_name};
 ghost use Rattle.dns_spec.specs.Data.{Valid, class_in, compresses};
 ghost use Rattle.dns_spec.specs.Reading.{MessageQuestion, Spells};
-ghost use Rattle.dns_spec.specs.Layout.{Item, layout, header_octets, message_of, octets16, octets32, pointer, record_laid, records_of};
+ghost use Rattle.dns_spec.specs.Layout.{Item, Placed, layout, header_octets, message_of, octets16, octets32, pointer, record_laid, records_of};
 ghost use Rattle.dns_spec.specs.LayoutSize.{size};
 ghost use Rattle.dns_spec.specs.Laws.{sections_in_order, IsWritable};
 ghost use Rattle.dns_spec.specs.Sharing.{Sharing};
-ghost use Rattle.dns_wire.specs.Writing.{end_octets, shown, octets_laid, name_laid, parts_laid, tail_laid};
-ghost use Rattle.dns_wire.specs.Draft.{with_counted, with_octets, Writes};
+ghost use Rattle.dns_wire.specs.Writing.{IsAsked, IsForm, IsLaid, IsLaidAs, form_again, end_octets, shown, octets_laid, name_laid, parts_laid, tail_laid};
+ghost use Rattle.dns_wire.specs.Draft.{with_counted, with_octets, HasNames, Writes, WritesAfter};
 
 use crate::message::{CLASS_IN, Counts, HEADER_OCTETS, Head, QuestionRef};
 use crate::places::{Places, SuffixHash};
-use crate::suffixes::{keep_suffixes, shared_suffix};
+use crate::suffixes::{LAST_PLACE, keep_suffixes, place_before, shared_suffix};
 use arrayvec::ArrayVec;
 use byteorder::{BigEndian, ByteOrder};
 use dns_name::NameRef;
@@ -153,8 +153,12 @@ impl<const N: usize, const SIZE: usize> Page<N, SIZE> {
         }
         let rtype = set.rtype();
         let shares = rtype.compresses();
+        let mut form = (0, None);
         'records: for i in 0..set.len() {
-            if !self.put_record(hash, owner, rtype, shares, ttl, set.rdata(i)) {
+            let (first, rdata) = (i == 0, set.rdata(i));
+            if !self.put_record(
+                hash, owner, first, octets, &mut form, rtype, shares, ttl, rdata,
+            ) {
                 self.octets.truncate(octets);
                 self.places.take_back(places);
                 return false;
@@ -186,11 +190,15 @@ impl<const N: usize, const SIZE: usize> Page<N, SIZE> {
         octets.len()
     }
 
-    // Writes a record of class IN. False where it does not fit; then a part of it may be written.
+    // Writes a record of class IN, of a set that begins at `start`. False if it does not fit; then a
+    // part of it may be written. `form` is how the owner of the first record is laid out.
     fn put_record<H: SuffixHash>(
         &mut self,
         hash: &mut H,
         owner: &NameRef<'_>,
+        first: bool,
+        start: usize,
+        form: &mut (usize, Option<u16>),
         rtype: RType,
         shares: bool,
         ttl: u32,
@@ -198,12 +206,19 @@ impl<const N: usize, const SIZE: usize> Page<N, SIZE> {
     ) -> bool
         requires valid { Valid rtype.0 rdata.now }
         requires shares { shares ≡ compresses rtype.0 }
-        ensures writes { Writes (H.numbers hash.old) (H.numbers hash.new) self.old self.new
+        requires form { IsForm (wire owner.now) form.old }
+        requires start { start ≤ length self.old.octets }
+        ensures writes { WritesAfter (IsLaidAs owner.now first (form_again start form.old))
+            (H.numbers hash.old) (H.numbers hash.new) self.old self.new
             (λ ms p. record_laid ms p (shown owner.now rtype.0 ttl rdata.now)) result }
         ensures longer { OnTrue result
             (length self.old.octets + 10 ≤ length self.new.octets) }
+        ensures form { IsForm (wire owner.now) form.new }
+        ensures first { IsTrue first → OnTrue result ((ms : List Placed)
+            → HasNames self.old (H.numbers hash.old) ms → IsLaid ms owner.now form.new) }
+        ensures others { IsFalse first → form.new ≡ form.old }
     {
-        if !self.put_name(hash, owner.octets()) {
+        if !self.put_owner(hash, owner, first, start, form) {
             return false;
         }
         if shares {
@@ -271,12 +286,72 @@ impl<const N: usize, const SIZE: usize> Page<N, SIZE> {
         self.put_name(hash, rdata)
     }
 
-    // Writes a name, given in its wire form: its labels before the longest suffix that is shared,
-    // and a pointer to that; or the whole name. False, with nothing written, where it does not fit.
+    // Writes the owner of a record. That of the first record of a set is looked up. The others point
+    // to where it begins, or are as it is: a pointer, the root, or a name that begins past the reach
+    // of pointers. In line, it saves some 50 instructions a record.
+    #[inline(always)]
+    fn put_owner<H: SuffixHash>(
+        &mut self,
+        hash: &mut H,
+        owner: &NameRef<'_>,
+        first: bool,
+        start: usize,
+        form: &mut (usize, Option<u16>),
+    ) -> bool
+        requires form { IsForm (wire owner.now) form.old }
+        requires start { start ≤ length self.old.octets }
+        ensures writes { WritesAfter (IsLaidAs owner.now first (form_again start form.old))
+            (H.numbers hash.old) (H.numbers hash.new) self.old self.new
+            (name_laid owner.now) result }
+        ensures form { IsForm (wire owner.now) form.new }
+        ensures first { IsTrue first → OnTrue result ((ms : List Placed)
+            → HasNames self.old (H.numbers hash.old) ms → IsLaid ms owner.now form.new) }
+        ensures others { IsFalse first → form.new ≡ form.old }
+    {
+        let name = owner.octets();
+        if !first {
+            let (before, place) = *form;
+            if before > 0 && start <= LAST_PLACE {
+                return self.append_end(&[], Some(start as u16));
+            }
+            let (front, _) = name.split_at(before);
+            return self.append_end(front, place);
+        }
+        // Most owners are the name of the question, or its end.
+        let Some(place) = place_before(self.octets.as_slice(), self.asked_end, name) else {
+            return self.lay_name(hash, name, form);
+        };
+        *form = (0, Some(place));
+        self.append_end(&[], Some(place))
+    }
+
+    // Writes a name in data.
     fn put_name<H: SuffixHash>(&mut self, hash: &mut H, name: &[u8]) -> bool
         ensures { (n : DomainName) → name.now ≡ wire n → IsTrue (is_name n)
             → Writes (H.numbers hash.old) (H.numbers hash.new) self.old self.new (name_laid n)
             result }
+    {
+        self.lay_name(hash, name, &mut (0, None))
+    }
+
+    // Writes a name, given in its wire form: its labels before the longest suffix that is shared,
+    // and a pointer to that; or the whole name. False, with nothing written, if it does not fit.
+    // `form` gets how many octets are before that suffix, and the suffix's place.
+    #[inline(never)]
+    fn lay_name<H: SuffixHash>(
+        &mut self,
+        hash: &mut H,
+        name: &[u8],
+        form: &mut (usize, Option<u16>),
+    ) -> bool
+        requires { IsForm name.now form.old }
+        ensures writes { (n : DomainName) → name.now ≡ wire n → IsTrue (is_name n)
+            → Writes (H.numbers hash.old) (H.numbers hash.new) self.old self.new (name_laid n)
+            result }
+        ensures form { IsForm name.now form.new }
+        ensures laid { OnTrue result ((ms : List Placed) (n : DomainName)
+            → HasNames self.old (H.numbers hash.old) ms → name.now ≡ wire n → IsTrue (is_name n)
+            → IsLaid ms n form.new) }
     {
         let message = self.octets.as_slice();
         let at = self.octets.len();
@@ -290,6 +365,7 @@ impl<const N: usize, const SIZE: usize> Page<N, SIZE> {
             return false;
         }
         keep_suffixes(&mut self.places, hash, name, before, at);
+        *form = (before, place);
         true
     }
 
@@ -302,6 +378,7 @@ impl<const N: usize, const SIZE: usize> Page<N, SIZE> {
         ensures put { OnTrue result
             (self.new ≡ with_octets self.old (front.now ++ end_octets place)) }
         ensures unchanged { OnFalse result (self.new ≡ self.old) }
+        ensures asked { IsAsked self.old.octets self.old.asked_end }
     {
         match place {
             Some(place) => self.append(front, &(0xc000 + place).to_be_bytes()),
@@ -317,6 +394,7 @@ impl<const N: usize, const SIZE: usize> Page<N, SIZE> {
         ensures unchanged { OnFalse result (self.new ≡ self.old) }
         ensures writes { (head : Octets → ℕ) → Writes head head self.old self.new
             (octets_laid (front.now ++ end.now)) result }
+        ensures asked { IsAsked self.old.octets self.old.asked_end }
     {
         let room = self.limit - self.octets.len();
         if room < front.len() || room - front.len() < end.len() {

@@ -13,11 +13,11 @@ use crate::suffix_number::number_of;
 use dns_name::are_equal;
 
 // The last place that the 14 bits of a pointer reach.
-const LAST_PLACE: usize = 16383;
+pub(crate) const LAST_PLACE: usize = 16383;
 
-/// How a name, in its wire form, is laid out in `room` octets: how many octets are before the longest
-/// suffix that a pointer may stand for, and the place of that suffix. `None` if it does not fit: no
-/// suffix is looked up if the labels before it leave no room for a pointer.
+/// How a name, in its wire form, is laid out in `room` octets: how many octets are before the
+/// longest suffix that a pointer may stand for, and the place of that suffix. `None` if it does not
+/// fit: no suffix is looked up if the labels before it leave no room for a pointer.
 pub(crate) fn shared_suffix<H: SuffixHash, const N: usize>(
     places: &Places<N>,
     message: &[u8],
@@ -86,10 +86,11 @@ fn find_suffix<H: SuffixHash, const N: usize>(
 // The place at which the name of the question, which ends at a place, has a suffix. It is not kept:
 // only one place is so far before that end. In line, it saves up to a twentieth of a reply.
 #[inline(always)]
-fn place_before(message: &[u8], end: usize, suffix: &[u8]) -> Option<u16>
+pub(crate) fn place_before(message: &[u8], end: usize, suffix: &[u8]) -> Option<u16>
     requires { IsAsked message.now end }
     ensures found { (head : Octets → ℕ) → IfSome result (λ place. IsSharedAt
         (asked_places head message.now end) message.now suffix.now place) }
+    ensures reached { IfSome result (λ place. place < 16384) }
     ensures none { IsNone result → NotAsked message.now end suffix.now }
 {
     if suffix.len() < 2 {

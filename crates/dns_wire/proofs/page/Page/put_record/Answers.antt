@@ -7,8 +7,7 @@ pub returns-then-shares-clause-writes : goal.returns-then-shares-clause-writes
 returns-then-shares-clause-writes g c =
     let n = c.args.owner.now in
     let tail = tail_laid c.args.rtype.0 c.args.ttl c.args.rdata.now in
-    writes_both (name_laid n) tail (λ _ _ _. tt) c.if-not-put_name.false (c.put_name.ensures
-    n c.octets.ensures.value c.octets.ensures.is_name) c.put_shared_tail.ensures.writes
+    writes_both (name_laid n) tail (λ _ _ _. tt) c.if-not-put_owner.false c.put_owner.ensures.writes c.put_shared_tail.ensures.writes
 
 pub returns-else-shares-clause-writes : goal.returns-else-shares-clause-writes
 returns-else-shares-clause-writes g c =
@@ -21,6 +20,6 @@ returns-else-shares-clause-writes g c =
     ap (λ b. cond b (parts t d) (octets d ∷ [])) (sym c.requires.shares ∙ c.if-shares.false) in
     let last = writes_as
     (octets_laid (x ++ d)) tail (plain_laid t c.args.ttl d x c.record_numbers.ensures whole)
-    (c.append.ensures.writes (g.H.SuffixHash.numbers c.put_name.new.hash)) in
-    writes_both (name_laid n) tail (λ _ _ _. tt) c.if-not-put_name.false
-    (c.put_name.ensures n c.octets.ensures.value c.octets.ensures.is_name) last
+    (c.append.ensures.writes (g.H.SuffixHash.numbers c.put_owner.new.hash)) in
+    writes_both (name_laid n) tail (λ _ _ _. tt) c.if-not-put_owner.false
+    c.put_owner.ensures.writes last

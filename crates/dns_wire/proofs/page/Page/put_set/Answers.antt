@@ -1,7 +1,7 @@
-use Rattle.dns_wire.proofs.Common.{◌*◌, ◌∙◌, ap, ap₂, true, false, ◌+◌, ◌≤◌, sym, subst, arith, length, take, [], OnTrue, records_at, Draft, draft_of, IsDraft, IsWellKept, Writes, with_set, with_counted, shown, octets_laid, records_laid}
+use Rattle.dns_wire.proofs.Common.{◌*◌, ◌∙◌, ap, ap₂, true, false, ◌+◌, ◌≤◌, sym, subst, arith, refl, length, take, [], OnTrue, records_at, Draft, draft_of, IsDraft, IsWellKept, Writes, with_set, with_counted, shown, octets_laid, records_laid}
 use Rattle.dns_wire.proofs.DraftLemmas.{put_fits, put_in, least_of}
 use Rattle.dns_wire.proofs.Steps.{taken_back, never_written, none_written, writes_as}
-use Rattle.dns_wire.proofs.RecordsWritten.{records_none, record_more, records_past, all_taken, set_long}
+use Rattle.dns_wire.proofs.RecordsWritten.{records_none, record_more, form_known, records_past, all_taken, set_long}
 use Rattle.dns_wire.proofs.page.Page.put_set.Goals as goal
 use Rattle.dns_wire.proofs.page.Page.put_set.Given as given
 
@@ -15,10 +15,12 @@ module _ (g : given.Over) (c : goal.After-take_back g) where
       let within = c.records-test.true in
       records_past
       (records_at c.args.owner.now c.args.ttl set) (c.records.i + 1) c.if-not-put_record.true
-      (record_more c.args.owner.now c.args.ttl set c.records.i _
+      (record_more c.args.owner.now c.args.ttl set c.records.i c.len-octets.result c.records.form _
       (omega (arith, within, c.len-i-end.ensures.value))
       (ap₂ (λ t d. shown c.args.owner.now t c.args.ttl d) c.rtype-rtype.ensures
-      c.rdata.ensures.value) c.records.invariant.writes c.put_record.ensures.writes)
+      c.rdata-rdata.ensures.value)
+      (c.len-octets.ensures.value ∙ ap (λ (d : Draft). length d.octets) c.self.view_is)
+      c.records.invariant.known c.records.invariant.writes c.put_record.ensures.writes)
 
 module _ (g : given.Over) (c : goal.After-count_records g) where
   -- all of them were
@@ -34,6 +36,9 @@ records-init g c =
       writes = writes_as (octets_laid []) (records_laid []) (λ ms p. sym (records_none ms p))
           (none_written (g.H.SuffixHash.numbers c.args.hash.now) c.args.self.now s.asked s.within);
       longer = omega arith;
+      begins = λ _. refl;
+      form = record { inside = omega arith; reached = tt };
+      known = λ some. absurd (omega (arith, some));
     }
 
 pub records-preserved : goal.records-preserved
@@ -41,13 +46,16 @@ records-preserved g c =
     let numbers = g.H.SuffixHash.numbers in
     let set = g.S.SetView.set c.args.set.now in
     let within = c.records-test.true in
-    let done = record_more c.args.owner.now c.args.ttl set c.records.i _
+    let done = record_more c.args.owner.now c.args.ttl set c.records.i c.len-octets.result c.records.form _
     (omega (arith, within, c.len-i-end.ensures.value))
     (ap₂ (λ t d. shown c.args.owner.now t c.args.ttl d) c.rtype-rtype.ensures
-    c.rdata.ensures.value) c.records.invariant.writes c.put_record.ensures.writes in
+    c.rdata-rdata.ensures.value)
+    (c.len-octets.ensures.value ∙ ap (λ (d : Draft). length d.octets) c.self.view_is)
+    c.records.invariant.known c.records.invariant.writes c.put_record.ensures.writes in
     let longer = subst (λ t. OnTrue t (length c.records.self.octets + 10 ≤ length
     c.put_record.new.self.octets)) c.if-not-put_record.false c.put_record.ensures.longer in
-    let so_far = c.records.invariant.longer in
+    let so = c.records.invariant in
+    let so_far = so.longer in
     record {
       writes =
           subst (λ t. Writes (numbers c.args.hash.now) (numbers c.put_record.new.hash)
@@ -55,6 +63,12 @@ records-preserved g c =
           (records_at c.args.owner.now c.args.ttl set))) t) c.if-not-put_record.false
           done;
       longer = omega (arith, longer, so_far);
+      begins = λ none. absurd (omega (arith, none));
+      form = c.put_record.ensures.form;
+      known = λ _. form_known (numbers c.args.hash.now) (numbers c.records.hash) c.args.self.now
+          c.records.self c.args.owner.now c.records.form c.put_record.new.form c.records.i
+          so.begins so.writes.same so.known c.put_record.ensures.first c.put_record.ensures.others
+          c.if-not-put_record.false;
     }
 
 pub returns-then-self-octets-clause-fits : goal.returns-then-self-octets-clause-fits

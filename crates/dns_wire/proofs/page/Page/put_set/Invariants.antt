@@ -1,7 +1,7 @@
-use Rattle.dns_wire.proofs.Common.{true, ◌≤◌, ◌+◌, take, length, records_at, Writes, records_laid}
+use Rattle.dns_wire.proofs.Common.{true, ◌≡◌, ◌<◌, ◌≤◌, ◌+◌, take, length, List, wire, records_at, Placed, IsForm, IsLaid, HasNames, Writes, records_laid}
 use Rattle.dns_wire.proofs.page.Page.put_set.Given as goal
 
--- so many records of the set are written
+-- so many records of the set are written, and it is known how their owner was laid out
 abbrev pub invariant-records : goal.invariant-records
 invariant-records g l =
     let numbers = g.H.SuffixHash.numbers in
@@ -9,4 +9,8 @@ invariant-records g l =
       writes : Writes (numbers l.initial.hash) (numbers l.hash) l.initial.self l.self
           (records_laid (take l.i (records_at l.owner l.ttl (g.S.SetView.set l.set)))) true;
       longer : length l.initial.self.octets + l.i ≤ length l.self.octets;
+      begins : l.i ≡ 0 → l.self ≡ l.initial.self;
+      form : IsForm (wire l.owner) l.form;
+      known : 0 < l.i → (ms : List Placed) → HasNames l.initial.self (numbers l.initial.hash) ms
+          → IsLaid ms l.owner l.form;
     }

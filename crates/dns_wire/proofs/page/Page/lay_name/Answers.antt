@@ -1,18 +1,13 @@
-use Rattle.dns_wire.proofs.Common.{true, false, ◌≡◌, ℕ, List, append_assoc, length-append, ◌∙◌, refl, sym, ap, ap₂, subst, subst₂, arith, length, take, ◌++◌, ◌∷◌, [], false≢true, Octets, Placed, shared_octets, octets_by, Counts, Kept, asked_places, end_octets, new_places, Holds, name_laid, Draft, draft_of, known_places, with_octets, IsWellKept, Writes, suffix_number}
+use Rattle.dns_wire.proofs.Common.{true, false, ◌≡◌, append_assoc, length-append, ◌∙◌, refl, sym, ap, ap₂, subst, subst₂, arith, length, take, ◌++◌, ◌∷◌, [], false≢true, Octets, shared_octets, octets_by, asked_places, end_octets, new_places, Holds, name_laid, Draft, draft_of, known_places, with_octets, IsWellKept, Writes, suffix_number}
 use Rattle.dns_wire.proofs.AskedLemmas.{kept_more}
 use Rattle.dns_wire.proofs.NameWritten.{shared_cut, holds_name}
+use Rattle.dns_wire.proofs.LaidAgain.{names_there}
 use Rattle.dns_wire.proofs.Steps.{grows_not}
-use Rattle.dns_wire.proofs.page.Page.put_name.Goals as goal
-use Rattle.dns_wire.proofs.page.Page.put_name.Given as given
+use Rattle.dns_wire.proofs.page.Page.lay_name.Goals as goal
+use Rattle.dns_wire.proofs.page.Page.lay_name.Given as given
 
--- the names of the draft are those of the message that is looked at
-there : {number : Octets → ℕ} {ms : List Placed} {limit a : ℕ} {b message : Octets} {ks : List Kept}
-    {n : Counts} {d : Draft} → draft_of limit b a ks n ≡ d → message ≡ b → Holds number ms d.octets
-    (known_places number d) → Holds number ms message (asked_places number message a ++ ks)
-there {number} {ms} {a = a} {ks = ks} view is holds = grind arith
-
-pub returns-then-not-append_end : goal.returns-then-not-append_end
-returns-then-not-append_end g c = λ n e ok.
+pub returns-then-not-append_end-clause-writes : goal.returns-then-not-append_end-clause-writes
+returns-then-not-append_end-clause-writes g c = λ n e ok.
     let now = c.args.self.now in
     let numbers = g.H.SuffixHash.numbers in
     subst (λ d. Writes (numbers c.args.hash.now) (numbers c.shared_suffix-laid.new.hash) now d
@@ -21,7 +16,7 @@ returns-then-not-append_end g c = λ n e ok.
       same = c.shared_suffix-laid.ensures.same;
       written = λ ms holds _.
           let shared = c.in-Some.ensures.shared ms n
-          (there c.self.view_is c.as_slice-message.ensures.value holds) e ok in
+          (names_there c.self.view_is c.as_slice-message.ensures.value holds) e ok in
           let whole = ap length (shared_cut ms n ∙ ap₂ (λ x p. x ++ end_octets p)
           (ap₂ take shared.0 (sym e) ∙ sym c.split_at.ensures.front) shared.1) in
           record {
@@ -49,8 +44,8 @@ module _ (g : given.Over) (c : goal.After-keep_suffixes g) where
 pub invariant_of-self : goal.invariant_of-self
 invariant_of-self g c = grind (arith, length-append)
 
-pub returns : goal.returns
-returns g c = λ n e ok.
+pub returns-clause-writes : goal.returns-clause-writes
+returns-clause-writes g c = λ n e ok.
     let now = c.args.self.now in
     let b = now.octets in
     let numbers = g.H.SuffixHash.numbers in
@@ -71,7 +66,7 @@ returns g c = λ n e ok.
       same = c.keep_suffixes.ensures.same ∙ c.shared_suffix-laid.ensures.same;
       written = λ ms holds _.
           let shared = c.in-Some.ensures.shared ms n
-          (there c.self.view_is c.as_slice-message.ensures.value holds) e ok in
+          (names_there c.self.view_is c.as_slice-message.ensures.value holds) e ok in
           let whole = shared_cut ms n ∙ ap₂ (λ x p. x ++ end_octets p)
           (ap₂ take shared.0 (sym e) ∙ sym c.split_at.ensures.front) shared.1 in
           let room = c.append_end.ensures.fits.0 c.if-not-append_end.false in

@@ -1,0 +1,237 @@
+-- A name that was laid out is laid out again by what is known of it.
+use Rattle.dns_wire.proofs.Common.{◌≡◌, ◌↔◌, ℕ, zero, suc, ◌+◌, ◌<◌, ◌≤◌, Bool, true, false, cond, nat_le, List, [], ◌∷◌, ◌++◌, length, take, Option, None, Some, refl, sym, ap, ap₂, ◌∙◌, subst, arith, append_assoc, append-nil, length-append, le-leb, leb-true, leb-false, lt-leb, ◌⊎◌, inl, inr, false≢true, OnTrue, Octets, DomainName, wire, is_name, Placed, suffix_place, place_of, last_place, shared_place, shared_octets, suffix_to, shared_is, shared_to, shared_none, Kept, IsSharedAt, front_size, pointed_place, end_octets, asked_places, new_places, Holds, Follows, IsAsked, name_laid, Form, IsLaid, form_again, suffix_number, Counts, Draft, draft_of, HasNames, WritesAfter, known_places, with_octets, subst₂}
+use Rattle.std.specs.Bool.{OnFalse}
+use Rattle.dns_wire.proofs.AskedLemmas.{kept_more}
+use Rattle.dns_wire.proofs.NameWritten.{holds_name, place_left, place_new, shared_cut}
+use Rattle.dns_wire.proofs.SuffixLemmas.{found, front-as, front-root, pointed-as, pointed-root, kept-root, kept-high, keep_none, follows_none}
+use Rattle.dns_wire.proofs.Steps.{grows_not}
+use Rattle.dns_spec.proofs.Layouts.SharedNames.{Suffix}
+
+-- a suffix of a name that was laid out at a place
+place_added : (ms more : List Placed) (n : DomainName) (p : ℕ) (s : DomainName) → Suffix n s
+    → place_of ms s ≡ None → place_of (ms ++ (n, p) ∷ more) s ≡ Some (suffix_place (n, p) s)
+place_added ms more n p s suffix none =
+    ap (λ x. place_of x s) (sym (append_assoc ms ((n, p) ∷ []) more))
+    ∙ place_left (ms ++ (n, p) ∷ []) more s (suffix_place (n, p) s)
+    (place_new ms (n, p) s none (suffix_to n s suffix))
+
+-- past the reach of a pointer it is shared as it was
+shared_still : (ms more : List Placed) (n : DomainName) (p : ℕ) (s : DomainName) → Suffix n s
+    → last_place < p → shared_place (ms ++ (n, p) ∷ more) s ≡ shared_place ms s
+shared_still ms more n p s suffix high = go (place_of ms s) refl
+  where
+    go : (x : Option ℕ)
+        → place_of ms s ≡ x → shared_place (ms ++ (n, p) ∷ more) s ≡ shared_place ms s
+    go None e = grind (arith, place_added, shared_none, lt-leb)
+    go (Some q) e = grind (arith, place_left)
+
+-- how a name is laid out depends on where its suffixes are shared
+same_form : (ms ms' : List Placed) (n : DomainName) → ((s : DomainName)
+    → Suffix n s → shared_place ms' s ≡ shared_place ms s)
+    → IsLaid ms' n (front_size ms n, pointed_place ms n)
+same_form ms ms' [] same =
+    (front-root ms' ∙ sym (front-root ms), pointed-root ms' ∙ sym (pointed-root ms))
+same_form ms ms' (l ∷ n) same =
+    go (shared_place ms (l ∷ n)) refl (same_form ms ms' n (λ s h. same s
+    (record { front = l ∷ h.front; whole = ap (λ x. l ∷ x) h.whole })))
+  where
+    own : shared_place ms' (l ∷ n) ≡ shared_place ms (l ∷ n)
+    own = same (l ∷ n) (record { front = []; whole = refl })
+
+    go : (x : Option ℕ) → shared_place ms (l ∷ n) ≡ x
+        → IsLaid ms' n (front_size ms n, pointed_place ms n)
+        → IsLaid ms' (l ∷ n) (front_size ms (l ∷ n), pointed_place ms (l ∷ n))
+    go None e h = (
+      front-as ms' l n (own ∙ e) ∙ ap (λ k. 1 + length l + k) h.0 ∙ sym (front-as ms l n e),
+      pointed-as ms' l n (own ∙ e) ∙ h.1 ∙ sym (pointed-as ms l n e),
+    )
+    go (Some p) e h = (
+      front-as ms' l n (own ∙ e) ∙ sym (front-as ms l n e),
+      pointed-as ms' l n (own ∙ e) ∙ sym (pointed-as ms l n e),
+    )
+
+-- a name that was laid out so at a place, after names before that
+pub laid_again : (ms more : List Placed) (n : DomainName) (p : ℕ) (form : Form)
+    → ((l : Octets) (t : DomainName) (q : ℕ) → place_of ms (l ∷ t) ≡ Some q → q < p)
+    → IsLaid ms n form → IsLaid (ms ++ (n, p) ∷ more) n (form_again p form)
+laid_again ms more [] p (zero, x) before laid =
+    (front-root _, pointed-root _ ∙ sym (pointed-root ms) ∙ laid.1)
+laid_again ms more [] p (suc k, x) before laid =
+    absurd (let z = sym laid.0 ∙ front-root ms in omega (arith, z))
+laid_again ms more (l ∷ t) p (zero, x) before laid = go (shared_place ms (l ∷ t)) refl
+  where
+    go : (y : Option ℕ)
+        → shared_place ms (l ∷ t) ≡ y → IsLaid (ms ++ (l ∷ t, p) ∷ more) (l ∷ t) (zero, x)
+    go None e = absurd (let z = sym laid.0 ∙ front-as ms l t e in omega (arith, z))
+    go (Some q) e =
+        let is = shared_is ms (l ∷ t) q e in
+        let still = shared_to (ms ++ (l ∷ t, p) ∷ more) (l ∷ t) q
+        (place_left ms ((l ∷ t, p) ∷ more) (l ∷ t) q is.0) is.1 in (
+          front-as (ms ++ (l ∷ t, p) ∷ more) l t still,
+          pointed-as (ms ++ (l ∷ t, p) ∷ more) l t still ∙ sym (pointed-as ms l t e) ∙ laid.1,
+        )
+laid_again ms more (l ∷ t) p (suc k, x) before laid = go (nat_le p last_place) refl
+  where
+    ms' : List Placed
+    ms' = ms ++ (l ∷ t, p) ∷ more
+
+    own : Suffix (l ∷ t) (l ∷ t)
+    own = record { front = []; whole = refl }
+
+    unplaced : p ≤ last_place → (y : Option ℕ) → place_of ms (l ∷ t) ≡ y
+        → place_of ms (l ∷ t) ≡ None
+    unplaced low None e = e
+    unplaced low (Some q) e =
+        let here = before l t q e in
+        let shared = shared_to ms (l ∷ t) q e (omega (arith, here, low)) in
+        absurd (let z = sym laid.0 ∙ front-as ms l t shared in omega (arith, z))
+
+    go : (b : Bool) → nat_le p last_place ≡ b
+        → IsLaid ms' (l ∷ t) (cond b (zero, Some p) (suc k, x))
+    go true e =
+        let low = leb-true p last_place e in
+        let none = unplaced low (place_of ms (l ∷ t)) refl in
+        let at : suffix_place (l ∷ t, p) (l ∷ t) ≡ p = omega arith in
+        let shared = shared_to ms' (l ∷ t) p
+        (place_added ms more (l ∷ t) p (l ∷ t) own none ∙ ap Some at) (omega (arith, low)) in
+        (front-as ms' l t shared, pointed-as ms' l t shared)
+    go false e =
+        let high = leb-false p last_place e in
+        let same = same_form ms ms' (l ∷ t)
+        (λ s suffix. shared_still ms more (l ∷ t) p s suffix high) in
+        (same.0 ∙ laid.0, same.1 ∙ laid.1)
+
+-- of such a name nothing is kept
+pub none_kept : (head : Octets → ℕ) (ms : List Placed) (n : DomainName) (start at : ℕ) (form : Form)
+    → start ≤ at → IsLaid ms n (form_again start form) → new_places head ms n at ≡ []
+none_kept head ms n start at (zero, x) after laid = sym (keep_none head ms n at [] laid.0)
+none_kept head ms n start at (suc k, x) after laid = go (nat_le start last_place) refl n laid
+  where
+    go : (b : Bool) → nat_le start last_place ≡ b → (n : DomainName)
+        → IsLaid ms n (cond b (zero, Some start) (suc k, x)) → new_places head ms n at ≡ []
+    go true e n laid = sym (keep_none head ms n at [] laid.0)
+    go false e [] laid = kept-root head ms at
+    go false e (l ∷ t) laid =
+        let high = leb-false start last_place e in
+        kept-high head ms l t at (omega (arith, high, after))
+
+-- a name that the message spells at a place that is kept
+pub laid_there : {head : Octets → ℕ} {ms : List Placed} {b : Octets} {ks : List Kept} {o : Octets}
+    (n : DomainName) (p : ℕ) → Holds head ms b ks → o ≡ wire n → is_name n ≡ true
+    → IsSharedAt ks b o p → IsLaid ms n (zero, Some p)
+laid_there {ms = ms} {b} {ks} n p holds e ok shared =
+    let s = subst (λ o. IsSharedAt ks b o p) e shared in
+    let f = found n holds ok s.kept (s.spelled n refl ok) in (
+      ap (front_size ms) f.whole ∙ front-as ms f.label f.labels f.shared,
+      ap (pointed_place ms) f.whole ∙ pointed-as ms f.label f.labels f.shared,
+    )
+
+-- the octets of a name that is laid out so
+pub laid_cut : (ms : List Placed) (n : DomainName) (form : Form)
+    → IsLaid ms n form → shared_octets ms n ≡ take form.0 (wire n) ++ end_octets form.1
+laid_cut ms n form laid = shared_cut ms n
+    ∙ ap₂ (λ k p. take k (wire n) ++ end_octets p) laid.0 laid.1
+
+pub form_low : (at : ℕ) (form : Form)
+    → 0 < form.0 → at ≤ last_place → form_again at form ≡ (zero, Some at)
+form_low at (zero, x) some low = absurd (omega (arith, some))
+form_low at (suc k, x) some low =
+    ap (λ b. cond b (zero, Some at) (suc k, x)) (le-leb at last_place low)
+
+pub form_kept : (at : ℕ) (form : Form)
+    → (form.0 ≤ 0) ⊎ (last_place < at) → form_again at form ≡ form
+form_kept at (zero, x) h = refl
+form_kept at (suc k, x) (inl none) = absurd (omega (arith, none))
+form_kept at (suc k, x) (inr high) =
+    ap (λ b. cond b (zero, Some at) (suc k, x)) (lt-leb at last_place high)
+
+-- a name is written by the octets that it is laid out as, and its places are kept
+pub name_put : {known : List Placed → Type 0} {head head' : Octets → ℕ} {d d' : Draft}
+    {ks : List Kept} (n : DomainName) (o : Octets) → is_name n ≡ true
+    → IsAsked d.octets d.asked_end → length d.octets + length o ≤ d.limit → head' ≡ head
+    → Follows d.kept ks → d' ≡ record (with_octets d o) { kept = ks }
+    → ((ms : List Placed) → HasNames d head ms → known ms → (shared_octets ms n ≡ o)
+    × (ks ≡ d.kept ++ new_places (suffix_number head) ms n (length d.octets)))
+    → WritesAfter known head head' d d' (name_laid n) true
+name_put {known} {head} {head'} {d} {ks = ks} n o ok asked room same more is laid =
+    subst (λ d'. WritesAfter known head head' d d' (name_laid n) true) (sym is) (record {
+      grows = record {
+        octets = record { more = o; whole = refl };
+        kept = more;
+        asked = refl;
+        limit = refl;
+        counts = refl;
+      };
+      same = same;
+      written = λ ms holds knows.
+          let number = suffix_number head in
+          let b = d.octets in
+          let x = laid ms holds knows in
+          let new = new_places number ms n (length b) in
+          let places : asked_places number (b ++ o) d.asked_end ++ ks ≡ known_places number d ++ new
+          = kept_more number _ _ _ _ _ _ o asked refl refl x.1
+          ∙ sym (append_assoc (asked_places number b d.asked_end) d.kept new) in
+          record {
+            exactly = (
+              λ yes. omega (arith, room, length-append b (shared_octets ms n), ap length x.0),
+              λ fits. refl,
+            );
+            written = ap (λ x. b ++ x) (sym x.0);
+            stands = λ x same held.
+                subst₂ (λ p z. Holds number (ms ++ (n, p) ∷ []) (x ++ shared_octets ms n) z) same
+                (ap (λ p. known_places number d ++ new_places number ms n p) same ∙ sym places)
+                (holds_name number ms x (known_places number d) held n ok);
+          };
+    })
+
+-- an owner of which no place is kept is written, or does not fit
+pub owner_put : {known : List Placed → Type 0} {head : Octets → ℕ} {d d' : Draft} {t : Bool}
+    (n : DomainName) (form : Form) (front : Octets) → is_name n ≡ true
+    → IsAsked d.octets d.asked_end → front ≡ take form.0 (wire n)
+    → ((t ≡ true) ↔ (length d.octets + (length front + length (end_octets form.1)) ≤ d.limit))
+    → OnTrue t (d' ≡ with_octets d (front ++ end_octets form.1)) → OnFalse t (d' ≡ d)
+    → ((ms : List Placed) → HasNames d head ms → known ms → IsLaid ms n form
+    × (new_places (suffix_number head) ms n (length d.octets) ≡ []))
+    → WritesAfter known head head d d' (name_laid n) t
+owner_put {known} {head} {d} {t = true} n form front ok asked cut fits put not laid =
+    let end = end_octets form.1 in
+    let room = fits.0 refl in
+    name_put n (front ++ end) ok asked (omega (arith, room, length-append front end)) refl
+    (follows_none d.kept) put (λ ms holds knows.
+    let l = laid ms holds knows in (
+      laid_cut ms n form l.0 ∙ ap (λ x. x ++ end) (sym cut),
+      sym (ap (λ x. d.kept ++ x) l.1 ∙ append-nil d.kept),
+    ))
+owner_put {known} {head} {d} {t = false} n form front ok asked cut fits put not laid =
+    subst (λ d'. WritesAfter known head head d d' (name_laid n) false) (sym not) (record {
+      grows = grows_not d;
+      same = refl;
+      written = λ ms holds knows.
+          let whole = ap length (laid_cut ms n form (laid ms holds knows).0
+          ∙ ap (λ x. x ++ end_octets form.1) (sym cut)) in
+          record {
+            exactly = (
+              λ no. absurd (false≢true no),
+              λ room. fits.1 (omega (
+                arith,
+                room,
+                whole,
+                length-append d.octets (shared_octets ms n),
+                length-append front (end_octets form.1),
+              )),
+            );
+            written = tt;
+            stands = tt;
+          };
+    })
+
+-- the names of a draft are those of the octets that are looked at
+pub names_there : {number : Octets → ℕ} {ms : List Placed} {limit a : ℕ} {b message : Octets}
+    {ks : List Kept} {n : Counts} {d : Draft} → draft_of limit b a ks n ≡ d → message ≡ b
+    → Holds number ms d.octets (known_places number d)
+    → Holds number ms message (asked_places number message a ++ ks)
+names_there {number} {ms} {a = a} {ks = ks} view is holds = grind arith
+
+pub anyhow : {P : Type 0} (t : Bool) → P → OnTrue t P
+anyhow true p = p
+anyhow false p = tt
