@@ -1,6 +1,6 @@
 -- What a reader learns here: how the places that are kept hang together, so that those of one chain
 -- are found without the others.
-use Rattle.std.specs.Prelude.{◌≡◌, ℕ, zero, suc, ◌<◌, ◌%◌, List, length, get_or, ◌==◌, if◌then◌else◌}
+use Rattle.std.specs.Prelude.{◌≡◌, ℕ, zero, suc, ◌<◌, ◌/◌, ◌%◌, List, length, get_or, ◌==◌, if◌then◌else◌}
 use Rattle.dns_wire.specs.declared.places.Entry.{Entry}
 use Rattle.dns_wire.specs.Kept.{Kept}
 
@@ -9,7 +9,7 @@ kept_in e = record { place = e.place; number = e.number }
 
 -- the chain of the suffixes with a number
 abbrev pub chain_of : ℕ → ℕ
-chain_of number = number % 128
+chain_of number = number / 2 % 128
 
 -- an entry by how many came before it
 abbrev pub entry_at : List Entry → ℕ → Entry

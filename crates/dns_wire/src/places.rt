@@ -8,12 +8,12 @@ use crate::spelled::is_spelled;
 use arrayvec::ArrayVec;
 use std::marker::Model;
 
-// So many chains of places: a suffix with number k is in the one of k modulo this.
+// How many chains of places there are: a suffix with number k is in the one of k / 2 modulo this.
 //
-// However a hash chooses, a chain has suffixes of eight lengths, 32 octets apart, since five of
-// the seven bits that choose it are of the length. So of a name it has one for each 32 octets: at
-// most 512 in the 16,384 octets that a pointer reaches, and one more for each name there. A reply
-// has some 82 names, so a suffix is compared by its octets with some 82 of its length at most.
+// However a hash chooses, a chain has suffixes of four lengths, 64 octets apart, since six of the
+// seven bits that choose it are of the length. So of a name it has one for each 64 octets: at most
+// 256 in the 16,384 octets that a pointer reaches, and one more for each name there. A reply has
+// some 82 names, so a suffix is compared by its octets with some 82 of its length at most.
 const HEADS: usize = 128;
 
 // A place, which entry of its chain was kept before it, counted from 1 with 0 for none, and the
@@ -102,9 +102,9 @@ impl<const N: usize> Places<N> {
     {
         let mut newest = self.heads[chain_of(number)];
         'chain: while newest > 0 {
-            let entry = self.entries.as_slice()[usize::from(newest) - 1];
-            let place = usize::from(entry.place);
-            if entry.number == number && is_spelled(message, place, suffix) {
+            // A reference: a copy of the entry would take half as long again.
+            let entry = &self.entries.as_slice()[usize::from(newest) - 1];
+            if entry.number == number && is_spelled(message, usize::from(entry.place), suffix) {
                 return Some(entry.place);
             }
             newest = entry.next;
@@ -118,7 +118,7 @@ fn chain_of(number: u32) -> usize
     ensures chain { result ≡ chain_of number }
     ensures low { result < 128 }
 {
-    (number % HEADS as u32) as usize
+    (number / 2 % HEADS as u32) as usize
 }
 
 /// Chooses the chain in which a suffix is looked for: a number below 1,024, the same at every call

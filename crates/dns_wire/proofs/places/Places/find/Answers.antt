@@ -56,8 +56,9 @@ module _ (g : given.Over) (c : goal.Joined-else-entry-number g) where
       let other : P (entry_at es passed.0) → ⊥ =
       λ there. let sought = subst P (sym passed.2) there in elim c.else-entry-number.branch [
         | else-entry-number-via-then-entry-number+else-is_spelled w ↦
-            false≢true (sym w.if-is_spelled.false ∙ w.is_spelled.ensures.no (subst (λ q.
-            SpelledAt c.args.message.now q c.args.suffix.now) (sym c.from-place.ensures) sought.1))
+            false≢true (sym w.if-is_spelled.false ∙ w.is_spelled.ensures.no
+            (subst (λ q. SpelledAt c.args.message.now q c.args.suffix.now)
+            (sym w.from-then-entry-number.ensures) sought.1))
         | else-entry-number-via-else-entry-number w ↦ w.if-entry-number.false sought.0
       ] in
       chain_next P (chain_of c.args.number) es c.self.inside.heads passed.0 c.self.invariant
