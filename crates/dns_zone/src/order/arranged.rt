@@ -56,7 +56,8 @@ pub(crate) fn arrange(
     Ok(())
 }
 
-// The runs of records whose keys begin at one place, in order.
+// The runs of records of one owner, in order: their keys begin at one place and have one length. By
+// the place alone the root, whose key has no octets, would be taken for the owner after it.
 fn runs(
     alloc: Global,
     base: usize,
@@ -73,10 +74,13 @@ fn runs(
     let (origin, _) = keys.split_at(base.min(keys.len()));
     let mut at = 0;
     'runs: while at < records.len() {
-        let others = starts[at + 1..].iter();
-        let end = at + 1 + others.take_while(|start| **start == starts[at]).count();
+        let key = key_at(keys, starts[at], &records[at]);
+        let others = starts[at + 1..].iter().zip(records[at + 1..].iter());
+        let own = others.take_while(|(start, one)| **start == starts[at]
+            && one.owner().octets().len() == key.len() + 1);
+        let end = at + 1 + own.count();
         runs.push(Run {
-            front: front_after(origin, key_at(keys, starts[at], &records[at])),
+            front: front_after(origin, key),
             at: at as u32,
             end: end as u32,
         })?;
