@@ -1,7 +1,7 @@
 -- What a reader learns here: octets that stand in the order of names, by which names are sorted and
 -- found.
-use Rattle.std.specs.Prelude.{◌≡◌, ℕ, ◌+◌, [], ◌∷◌, ◌++◌, map, nat_lt, if◌then◌else◌}
-use Rattle.dns_spec.specs.Names.{Octets, DomainName}
+use Rattle.std.specs.Prelude.{◌≡◌, ℕ, ◌+◌, ◌<◌, true, [], ◌∷◌, ◌++◌, length, take, map, nat_lt, if◌then◌else◌}
+use Rattle.dns_spec.specs.Names.{Octets, DomainName, wire, is_name}
 
 -- An octet of a name in lower case, where 65 to 90 do not stand: those below are one more, so that
 -- 0 is left to end a label.
@@ -17,7 +17,23 @@ abbrev pub name_key : DomainName → Octets
 name_key [] = []
 name_key (l ∷ n) = name_key n ++ ended l
 
--- the last labels of a name are those of another
-pub record EndsWith (n end : DomainName) : Type 0 where
-  pub front : DomainName
-  pub whole : n ≡ front ++ end
+-- the same octets follow what is left of two runs
+pub record GoOnAlike (one left other right : Octets) : Type 0 where
+  pub end : Octets
+  pub whole_one : one ≡ left ++ end
+  pub whole_other : other ≡ right ++ end
+
+-- so many octets at the ends of two runs are the same
+pub record AreAlike (count : ℕ) (one other : Octets) : Type 0 where
+  pub left : Octets
+  pub right : Octets
+  pub same : GoOnAlike one left other right
+  pub size : length same.end ≡ count
+
+-- A key begins as that of a name does, whose wire form ends with the same octets as another, so
+-- many.
+pub record BeginsAs (count : ℕ) (octets key : Octets) : Type 0 where
+  pub name : DomainName
+  pub is_name : is_name name ≡ true
+  pub alike : AreAlike count octets (wire name)
+  pub kept : (k : ℕ) → k < count → take k key ≡ take k (name_key name)

@@ -160,7 +160,8 @@ impl<'a> Survey<'a> {
         }
         let (own, is_under_cut) = self.at(last);
         let is_lost = !self.has_address(target, own)
-            && (!is_under_cut || owner_is_cut && is_at_or_below(target, owner));
+            && (!is_under_cut
+                || owner_is_cut && ends_alike(target, owner) && is_at_or_below(target, owner));
         (has_type(own, RType::CNAME), is_lost)
     }
 

@@ -1,11 +1,11 @@
 //! Keys of names: octets whose plain order is the canonical order of the names.
-ghost use Rattle.std.specs.Prelude.{◌≡◌, ◌+◌, ◌<◌, ◌≤◌, ◌++◌, [], length};
+ghost use Rattle.std.specs.Prelude.{◌≡◌, ◌+◌, ◌<◌, ◌≤◌, [], length};
 ghost use Rattle.dns_spec.specs.Names.{DomainName, folded, at_or_below, below};
 ghost use Rattle.dns_name.specs.WireForm.{labels_of, IsWireForm};
-ghost use Rattle.dns_zone.specs.KeyForm.{ended, name_key, EndsWith};
+ghost use Rattle.dns_zone.specs.KeyForm.{raised, ended, name_key, GoOnAlike, AreAlike, BeginsAs};
 
 use arrayvec::ArrayVec;
-use dns_name::{Name, NameRef, are_equal, first_label};
+use dns_name::{Name, NameRef, first_label};
 use std::marker::Model;
 
 const MAX_OCTETS: usize = 255;
@@ -47,20 +47,19 @@ impl Key {
 
     /// Makes the key of one name that of another. The labels that both end with stay, so that names
     /// which are alike but for their first labels take little time, however many they have.
-    #[tactic(auto, using(crate::proofs::SearchSteps::wire_steps))]
     pub(crate) fn move_to(&mut self, from: &NameRef<'_>, name: &NameRef<'_>)
         requires { self.old ≡ name_key from.now }
         ensures { self.new ≡ name_key name.now }
     {
         let octets = name.octets();
-        let end = common_end(after_first_label(octets), after_first_label(from.octets()));
-        let kept = end.len() - 1;
-        self.octets.truncate(kept);
-        let (front, _) = octets.split_at(octets.len() - end.len());
-        if self.octets.try_extend_from_slice(front).is_err() {
+        let count = octets.len() - 1;
+        self.octets.truncate(count);
+        let (more, _) = octets.split_at(count - self.octets.len());
+        if self.octets.try_extend_from_slice(more).is_err() {
             unreachable!();
         }
-        put_labels(octets, end, self.octets.as_mut_slice().split_at_mut(kept).1);
+        let alike = count_alike(octets, from.octets());
+        put_labels(octets, alike, self.octets.as_mut_slice());
     }
 
     /// Its octets, one fewer than the wire form of the name has.
@@ -90,56 +89,51 @@ pub(crate) fn is_below(key: &[u8], other: &[u8]) -> bool
     key.len() > other.len() && is_under(key, other)
 }
 
-// The most labels that both names in wire form end with, as they stand in the first.
-fn common_end<'a>(name: &'a [u8], other: &'a [u8]) -> &'a [u8]
-    requires name { IsWireForm name.now }
-    requires other { IsWireForm other.now }
-    ensures wire { IsWireForm result.now }
-    ensures name { EndsWith (labels_of name.now) (labels_of result.now) }
-    ensures other { EndsWith (labels_of other.now) (labels_of result.now) }
+// How many octets at their ends are the same.
+fn count_alike(one: &[u8], other: &[u8]) -> usize
+    ensures { AreAlike result one.now other.now }
 {
-    if name.len() > other.len() {
-        common_end(after_first_label(name), other)
-    } else if name.len() < other.len() {
-        common_end(name, after_first_label(other))
-    } else if are_equal(name, other) {
-        name
-    } else {
-        common_end(after_first_label(name), after_first_label(other))
-    }
+    let (left, right) = before_alike::<8>(one, other);
+    one.len() - before_alike::<1>(left, right).0.len()
 }
 
-// A name in wire form without its first label. The root has none.
-#[tactic(auto, using(crate::proofs::CommonEnds::ends_first))]
-fn after_first_label(name: &[u8]) -> &[u8]
-    requires { IsWireForm name.now }
-    ensures wire { IsWireForm result.now }
-    ensures end { EndsWith (labels_of name.now) (labels_of result.now) }
-    ensures shorter { 1 < length name.now → length result.now < length name.now }
+// What stands before the runs of so many octets that both end with.
+fn before_alike<'a, const N: usize>(one: &'a [u8], other: &'a [u8]) -> (&'a [u8], &'a [u8])
+    requires some { 0 < N }
+    requires few { N ≤ 8 }
+    ensures { GoOnAlike one.now result.0.now other.now result.1.now }
 {
-    match first_label(name) {
-        Some((_, after)) => after,
-        None => name,
+    let (mut one, mut other) = (one, other);
+    'runs: while let Some((rest, end)) = one.split_last_chunk::<N>() {
+        let Some((others, last)) = other.split_last_chunk::<N>() else {
+            break;
+        };
+        if end != last {
+            break;
+        }
+        one = rest;
+        other = others;
     }
+    (one, other)
 }
 
-// Puts the labels of a name in wire form into the part of a key after that of an end of the name.
-fn put_labels(octets: &[u8], end: &[u8], key: &mut [u8])
+// Puts the labels of a name in wire form into a key of as many octets as its own, which begins as
+// the key of another name does. As many octets as are said are the same at the ends of both names:
+// of these, the labels that both end with stay in the key.
+fn put_labels(octets: &[u8], alike: usize, key: &mut [u8])
     requires wire { IsWireForm octets.now }
-    requires end { IsWireForm end.now }
-    requires ends { EndsWith (labels_of octets.now) (labels_of end.now) }
-    requires room { length octets.now ≡ length key.old + length end.now }
-    ensures { name_key (labels_of octets.now) ≡ name_key (labels_of end.now) ++ key.new }
+    requires room { length octets.now ≡ length key.old + 1 }
+    requires begins { BeginsAs alike octets.now key.old }
+    ensures { key.new ≡ name_key (labels_of octets.now) }
 {
-    if key.is_empty() {
-        return;
+    let mut rest = octets;
+    'labels: while rest.len() > 1 && (rest.len() > alike || key[rest.len() - 2] > 0) {
+        let Some((label, after)) = first_label(rest) else {
+            unreachable!();
+        };
+        put_label(label.octets(), &mut key[after.len() - 1..rest.len() - 1]);
+        rest = after;
     }
-    let Some((label, after)) = first_label(octets) else {
-        unreachable!();
-    };
-    let (others, own) = key.split_at_mut(after.len() - end.len());
-    put_label(label.octets(), own);
-    put_labels(after, end, others);
 }
 
 // Puts a label in lower case and its end. Octets below 65 are one more, since 65 to 90 do not stand
@@ -148,9 +142,19 @@ fn put_label(label: &[u8], key: &mut [u8])
     requires { length key.old ≡ length label.now + 1 }
     ensures { key.new ≡ ended label.now }
 {
+    if let [octet] = label {
+        key[0] = raised(*octet);
+        key[1] = 0;
+        return;
+    }
     'octets: for place in 0..label.len() {
-        let octet = label[place];
-        key[place] = if octet < 65 { octet + 1 } else { octet };
+        key[place] = raised(label[place]);
     }
     key[label.len()] = 0;
+}
+
+fn raised(octet: u8) -> u8
+    ensures { result ≡ raised octet }
+{
+    if octet < 65 { octet + 1 } else { octet }
 }
