@@ -91,8 +91,11 @@ fn say_of_turn(rt: &impl Eprint, are_said: bool, word: TurnWord) -> bool {
 /// read, or a message did not come in time, `S2` where it could not be written, or a reply was not
 /// taken in time, `S3` where it ended inside a message. Such a turn counts.
 ///
-/// A message has thirty seconds, from its first octet until the last of its reply is taken, and a
-/// silence ten. Replies to messages that came together are sent together, before more is waited
+/// A connection ends if its first octet does not come within two seconds (`S1`), or if its peer
+/// says nothing for 300 milliseconds after a reply. A message has ten seconds, from its first octet
+/// until the last of its reply is taken. Ten seconds after a connection was accepted no further
+/// message of it begins; its peer is then heard for a second at most. So it holds the others for 21
+/// seconds at most. Replies to messages that came together are sent together, before more is waited
 /// for, and have the time of the last of these.
 ///
 /// `bind` where the address can't be had. The room is lent for one connection after the other.
@@ -130,8 +133,8 @@ struct Connections {
 }
 
 impl Connections {
-    // Asks for a connection, answers its messages, and hears what its peer still says where it has
-    // not ended.
+    // Asks for a connection, answers its messages, and hears what its peer still says if it has not
+    // ended.
     fn serve_next<R: Clock + AllocGlobal>(
         &mut self,
         rt: &R,
@@ -146,7 +149,9 @@ impl Connections {
             thread::sleep(rt, Duration::from_millis(PAUSE));
             return Err(TurnWord::NotAccepted);
         };
-        let peer = Peer::new(stream, rt);
+        let Ok(peer) = Peer::new(stream, rt) else {
+            return Err(TurnWord::from(StreamFault::SourceFailed));
+        };
         let ahead = Cell::new(Ahead::Message);
         // Questions that come together are read together, and so are their replies sent, where
         // there is memory for that.
@@ -161,13 +166,7 @@ impl Connections {
         let served = serve_stream_in(zone, &mut source, &mut sink, MOST_MESSAGES, room, &ahead);
         // What could not be sent is not tried again.
         let _unsent = sink.into_inner().into_parts();
-        match served {
-            Err(StreamFault::Cut) => {}
-            Ok(count) if count < MOST_MESSAGES => {}
-            _ => {
-                let _heard = peer.hear_out();
-            }
-        }
+        let _heard = peer.hear_out();
         served?;
         Ok(())
     }

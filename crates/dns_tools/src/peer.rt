@@ -8,135 +8,113 @@ use std::net::{Shutdown, TcpStream};
 use std::time::{Clock, Duration};
 
 // Times in milliseconds. Connections are served one after another, and no peer may hold the others
-// for ever: these are limits of this project.
+// for ever: these are limits of this project (RFC 7766 6.2.3, 6.2.4).
 
-// How long a peer may say nothing, or take nothing.
-const SILENCE: u64 = 10_000;
+// How long the first octet of a connection may take.
+const FIRST: u64 = 2_000;
+
+// How long a peer may say nothing after a reply, or while it is only heard.
+const SILENCE: u64 = 300;
 
 // How long a message may take, from its first octet until the last of its reply is taken.
-const MESSAGE: u64 = 30_000;
+const MESSAGE: u64 = 10_000;
+
+// How long messages of a connection may begin, from when it was accepted.
+const CONNECTION: u64 = 10_000;
+
+// How long a peer is only heard.
+const HEARING: u64 = 1_000;
 
 // How long a call waits that was interrupted when its time was over: it takes what has come.
 const LAST_LOOK: u64 = 1;
 
-// After the last message a peer is heard until it has said nothing for so long, for so long in
-// all, and for so many octets.
-const LAST_SILENCE: u64 = 1_000;
-
-const LAST_TIME: u64 = 10_000;
-
-const LAST_OCTETS: usize = 16_777_216;
-
-// The message that is read or answered.
-#[derive(Clone, Copy)]
-enum Current {
-    // No octet of it has come.
-    Awaited,
-    // It began after the last call on the socket: its time runs from the next.
-    Begun,
-    // Its time runs since then, on the clock.
-    Since(Duration),
-}
-
 /// A connection and its clock. As a reader and a writer, shared by both, it makes a call that the
-/// system interrupts again, and its calls end by an error where the time of the message is over: a
-/// silence of ten seconds, or thirty seconds from its first octet.
+/// system interrupts again, and its calls end by an error when their time is over.
 #[derive(Drop)]
 pub struct Peer<'a, C> {
     stream: TcpStream,
     clock: &'a C,
-    current: Cell<Current>,
-    // When the call that is made began, on the clock, and how long it may wait in all.
-    call: Cell<(Duration, Duration)>,
-    // The time-outs of the socket, once they are set.
-    read_wait: Cell<Duration>,
-    write_wait: Cell<Duration>,
+    // From when on no message begins, on the clock.
+    ends: Duration,
+    // When octets last came: `None` before the first, and after the end.
+    heard: Cell<Option<Duration>>,
+    // When the calls that are made end.
+    until: Cell<Duration>,
 }
 
 impl<'a, C: Clock> Peer<'a, C> {
-    /// The peer of a connection, before its first message.
-    pub(crate) fn new(stream: TcpStream, clock: &'a C) -> Peer<'a, C> {
-        Peer {
+    /// The peer of a connection that was just accepted, before its first message.
+    pub(crate) fn new(stream: TcpStream, clock: &'a C) -> io::Result<Peer<'a, C>> {
+        let now = clock.monotonic()?;
+        Ok(Peer {
             stream,
             clock,
-            current: Cell::new(Current::Awaited),
-            call: Cell::new((Duration::ZERO, Duration::ZERO)),
-            read_wait: Cell::new(Duration::ZERO),
-            write_wait: Cell::new(Duration::ZERO),
-        }
+            ends: after(now, CONNECTION),
+            heard: Cell::new(None),
+            until: Cell::new(after(now, FIRST)),
+        })
     }
 
-    /// Ends what is written, and hears the peer until it ends too, for a second of silence at most.
+    /// Ends what is written, and hears the peer until it ends too, for 300 milliseconds of silence
+    /// and a second in all at most. A peer that has ended, or was never heard, has no more to say.
     ///
     /// A socket that is closed before all of its input is read resets the connection, and the peer
     /// loses what it has not yet got of the replies (RFC 2525 2.17).
     pub(crate) fn hear_out(&self) -> io::Result<()> {
+        if self.heard.get().is_none() {
+            return Ok(());
+        }
         self.stream.shutdown(Shutdown::Write)?;
-        let mut stream = self.to_read(Duration::from_millis(LAST_SILENCE))?;
-        let begun = self.clock.monotonic()?;
+        let ends = after(self.clock.monotonic()?, HEARING);
         let mut room = [0; 4096];
-        let mut heard = 0;
-        'octets: while heard < LAST_OCTETS {
-            if left(LAST_TIME, begun, self.clock.monotonic()?).is_zero() {
+        let mut peer = self;
+        'calls: for _ in 0..u64::MAX {
+            self.wait_for_silence(ends)?;
+            if peer.read(&mut room)? == 0 {
                 break;
             }
-            heard += match stream.read(&mut room) {
-                Ok(0) => break,
-                Ok(count) => count,
-                Err(error) if is_interrupted(&error) => 1,
-                Err(error) => return Err(error),
-            };
         }
         Ok(())
     }
 
-    // How long a call may wait, after so many tries that were interrupted: what is left of the time
-    // that it had when it began. An error where the time of the message was over then.
+    // Gives the next calls the time of a silence, up to that time.
+    fn wait_for_silence(&self, ends: Duration) -> io::Result<()> {
+        let silence = after(self.clock.monotonic()?, SILENCE);
+        self.until.set(silence.min(ends));
+        Ok(())
+    }
+
+    // How long a call may wait after so many tries that were interrupted.
     fn wait_after(&self, tries: u64) -> io::Result<Duration> {
-        let now = self.clock.monotonic()?;
-        if tries > 0 {
-            let (begun, whole) = self.call.get();
-            let rest = whole.saturating_sub(now.saturating_sub(begun));
-            return Ok(rest.max(Duration::from_millis(LAST_LOOK)));
-        }
-        let silence = Duration::from_millis(SILENCE);
-        let wait = match self.current.get() {
-            Current::Awaited => silence,
-            Current::Begun => {
-                self.current.set(Current::Since(now));
-                silence
-            }
-            Current::Since(begun) => silence.min(left(MESSAGE, begun, now)),
-        };
-        if wait.is_zero() {
+        let rest = self.until.get().saturating_sub(self.clock.monotonic()?);
+        if tries == 0 && rest.is_zero() {
             return Err(io::Error::from(ErrorKind::TimedOut));
         }
-        self.call.set((now, wait));
-        Ok(wait)
+        Ok(rest.max(Duration::from_millis(LAST_LOOK)))
     }
 
-    // The stream, where a read waits so long.
-    fn to_read(&self, wait: Duration) -> io::Result<&TcpStream> {
-        if self.read_wait.get() != wait {
-            self.stream.set_read_timeout(Some(wait))?;
-            self.read_wait.set(wait);
-        }
-        Ok(&self.stream)
-    }
-
-    // The stream, where a write waits so long.
-    fn to_write(&self, wait: Duration) -> io::Result<&TcpStream> {
-        if self.write_wait.get() != wait {
-            self.stream.set_write_timeout(Some(wait))?;
-            self.write_wait.set(wait);
-        }
-        Ok(&self.stream)
+    // Whether the octets that came last begin no message.
+    fn is_over(&self) -> bool {
+        self.heard.get().is_some_and(|heard| heard >= self.ends)
     }
 }
 
-// What is left of so many milliseconds since then.
-fn left(millis: u64, since: Duration, now: Duration) -> Duration {
-    Duration::from_millis(millis).saturating_sub(now.saturating_sub(since))
+// So many milliseconds after a time.
+fn after(time: Duration, millis: u64) -> Duration {
+    time.saturating_add(Duration::from_millis(millis))
+}
+
+// Whether a call that waits so long is not made again.
+fn is_last(wait: Duration) -> bool {
+    wait <= Duration::from_millis(LAST_LOOK)
+}
+
+// Whether nothing came in the time of a call.
+fn is_silence(error: &io::Error) -> bool {
+    matches!(
+        error.kind(),
+        ErrorKind::WouldBlock | ErrorKind::TimedOut | ErrorKind::Interrupted
+    )
 }
 
 pub(crate) fn is_interrupted(error: &io::Error) -> bool {
@@ -146,9 +124,16 @@ pub(crate) fn is_interrupted(error: &io::Error) -> bool {
 impl<C: Clock> Read for &Peer<'_, C> {
     fn read(&mut self, buf: &mut [u8]) -> io::Result<usize> {
         'calls: for tries in 0..u64::MAX {
-            match self.to_read(self.wait_after(tries)?)?.read(buf) {
-                Err(error) if is_interrupted(&error) => {}
-                came => return came,
+            let wait = self.wait_after(tries)?;
+            self.stream.set_read_timeout(Some(wait))?;
+            match (&self.stream).read(buf) {
+                Err(error) if is_interrupted(&error) && !is_last(wait) => {}
+                came => {
+                    let count = came?;
+                    let now = self.clock.monotonic()?;
+                    self.heard.set((count > 0).then_some(now));
+                    return Ok(count);
+                }
             }
         }
         Err(io::Error::from(ErrorKind::TimedOut))
@@ -158,8 +143,10 @@ impl<C: Clock> Read for &Peer<'_, C> {
 impl<C: Clock> Write for &Peer<'_, C> {
     fn write(&mut self, piece: &[u8]) -> io::Result<usize> {
         'calls: for tries in 0..u64::MAX {
-            match self.to_write(self.wait_after(tries)?)?.write(piece) {
-                Err(error) if is_interrupted(&error) => {}
+            let wait = self.wait_after(tries)?;
+            self.stream.set_write_timeout(Some(wait))?;
+            match (&self.stream).write(piece) {
+                Err(error) if is_interrupted(&error) && !is_last(wait) => {}
                 taken => return taken,
             }
         }
@@ -193,14 +180,32 @@ impl<C: Clock> Read for Messages<'_, C> {
     fn read(&mut self, buf: &mut [u8]) -> io::Result<usize> {
         let peer = *self.source.get_ref();
         let begins = self.ahead.get() == Ahead::Message;
-        if begins {
-            peer.current.set(Current::Awaited);
+        let is_first = peer.heard.get().is_none();
+        if begins && peer.is_over() {
+            return Ok(0);
         }
-        let count = self.source.read(buf)?;
-        if begins {
-            peer.current.set(Current::Begun);
+        if begins && !is_first && self.source.buffer().is_empty() {
+            peer.wait_for_silence(peer.ends)?;
         }
-        self.ahead.set(ahead_of(self.source.buffer()));
+        let count = match self.source.read(buf) {
+            // An end of the input, after which more is heard only if it was no whole silence.
+            Err(error) if begins && !is_first && is_silence(&error) => {
+                if peer.until.get() < peer.ends {
+                    peer.heard.set(None);
+                }
+                return Ok(0);
+            }
+            came => came?,
+        };
+        match peer.heard.get() {
+            Some(heard) if begins => peer.until.set(after(heard, MESSAGE)),
+            _ => {}
+        }
+        self.ahead.set(if peer.is_over() {
+            Ahead::Awaited
+        } else {
+            ahead_of(self.source.buffer())
+        });
         Ok(count)
     }
 }
