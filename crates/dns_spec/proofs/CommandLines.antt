@@ -1,6 +1,7 @@
 -- The words of a command line say what they ask for: ORIGIN and FILE are the last two, and those
 -- before them say the rest.
 use Rattle.dns_spec.proofs.Common.{◌≡◌, ℕ, Bool, List, [], ◌∷◌, ◌++◌, length, get_or, codes, refl, ap, ap₂, arith, length-append, list_any, decimal_injective, Octets, octets_equal, Options, ZoneWords, AskToCheck, ServiceAsked, AskToServe}
+use Rattle.dns_spec.specs.CommandWords.{SocketAsked, AskAtSocket}
 
 word : ℕ → List Octets → Octets
 word k ws = get_or ws k []
@@ -31,3 +32,8 @@ pub one_service : (words : List Octets) (s t : ServiceAsked) (y z : ZoneWords)
     → AskToServe words s y → AskToServe words t z → (s ≡ t) × (y ≡ z)
 unfolding word
 one_service words s t y z one other = grind (arith, decimal_injective)
+
+pub one_socket : (words : List Octets) (a b : SocketAsked) (y z : ZoneWords)
+    → AskAtSocket words a y → AskAtSocket words b z → (a ≡ b) × (y ≡ z)
+unfolding word
+one_socket words a b y z one other = grind (arith, decimal_injective)

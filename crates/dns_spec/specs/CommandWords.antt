@@ -1,5 +1,5 @@
--- What a reader learns here: which words of a command line ask the checker and the server for what.
--- All of it is this project's choice.
+-- What a reader learns here: which arguments ask the checker and the servers for what. All of it is
+-- this project's choice.
 use Rattle.std.specs.Prelude.{⊤, ◌≡◌, ℕ, ◌≤◌, ◌⊎◌, Bool, false, not, List, [], ◌∷◌, ◌++◌, reverse, ◌==◌, if◌then◌else◌, IsTrue, codes, decimal}
 use Rattle.dns_spec.specs.Names.{Octets}
 use Rattle.dns_spec.specs.Report.{Options}
@@ -64,3 +64,19 @@ pub record AskToServe (words : List Octets) (service : ServiceAsked) (zone : Zon
     : Type 0 where
   pub turns : HasTurns service
   pub zone_is : EndWords words (service_words service) zone
+
+-- what the server of a given socket is asked for: so many turns over a transport
+pub record SocketAsked : Type 0 where
+  pub transport : Transport
+  pub turns : ℕ
+
+abbrev pub transport_word : Transport → Octets
+transport_word udp = codes "udp"
+transport_word tcp = codes "tcp"
+
+-- `zonesocket udp|tcp TURNS ORIGIN FILE`
+pub record AskAtSocket (words : List Octets) (asked : SocketAsked) (zone : ZoneWords)
+    : Type 0 where
+  pub few : (1 ≤ asked.turns) × (asked.turns ≤ 1000000)
+  pub zone_is : EndWords words
+      (transport_word asked.transport ∷ decimal asked.turns ∷ []) zone

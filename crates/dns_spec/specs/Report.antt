@@ -46,6 +46,12 @@ loaded_report z =
     codes "zone " ++ bare_name_text z.origin ++ codes "/IN: loaded serial "
     ++ decimal (zone_serial z) ++ codes "\nOK\n"
 
+-- what a server of a given socket says once it serves the zone
+abbrev pub serving_report : ZoneContents → Octets
+serving_report z =
+    codes "zone " ++ bare_name_text z.origin ++ codes "/IN: serving serial "
+    ++ decimal (zone_serial z) ++ codes "\n"
+
 -- with `is_quiet` and without `is_printing` no fault is reported
 abbrev pub failing : Options → Octets → Report
 failing options lines =

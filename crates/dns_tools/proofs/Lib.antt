@@ -1,5 +1,6 @@
 pub mod Common
 mod LineParts
+mod SocketArguments
 mod CheckedZone
 mod PrintedLines
 pub mod LineDigits

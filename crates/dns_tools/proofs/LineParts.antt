@@ -1,5 +1,6 @@
 -- Lines of output go out in parts.
 use Rattle.dns_tools.proofs.Common.{◌≡◌, ℕ, ◌+◌, ◌<◌, List, [], ◌++◌, length, drop, get_or, ap, flat_map, append_assoc, append-nil, add-one, false≢true, codes, decimal, arith, drop-cons, Octets, DomainName, name_text, type_text, hex_text, data_text, FileFault, fault_code, ZoneContents, zone_serial, MessageRecord, DnsMessage, octets16, two_digits, line_report, bare_name_text, loaded_report, class_text, header_line, section_line, data_type, question_line, fault_report, Fault, MessageQuestion, Result, Ok, Err, IsErr, Option, Counted, Writes, Writes-same, Written, Written-more, Written-begun, ◌∙◌}
+use Rattle.dns_spec.specs.Report.{serving_report}
 
 -- the text of the next piece, and those of the pieces after it
 pub next_piece : {A : Type 0} (f : A → Octets) (xs : List A) (x : A) (i : ℕ) → i < length xs
@@ -103,3 +104,10 @@ pub loaded_written : (z : ZoneContents) (origin : DomainName) (serial : ℕ)
 loaded_written z origin serial e f =
     rw (e, f) (five_parts (codes "zone ") (bare_name_text z.origin)
     (codes "/IN: loaded serial ") (decimal (zone_serial z)) (codes "\nOK\n"))
+
+pub serving_written : (z : ZoneContents) (origin : DomainName) (serial : ℕ)
+    → origin ≡ z.origin → serial ≡ zone_serial z → codes "zone " ++ (bare_name_text origin ++ (codes
+    "/IN: serving serial " ++ (decimal serial ++ (codes "\n" ++ [])))) ≡ serving_report z
+serving_written z origin serial e f =
+    rw (e, f) (five_parts (codes "zone ") (bare_name_text z.origin)
+    (codes "/IN: serving serial ") (decimal (zone_serial z)) (codes "\n"))

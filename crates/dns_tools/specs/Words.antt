@@ -2,7 +2,7 @@
 use Rattle.std.specs.Prelude.{◌≡◌, Bool, true, false, List, []}
 use Rattle.dns_spec.specs.Names.{Octets, DomainName, folded}
 use Rattle.dns_spec.specs.NameText.{SpellsName}
-use Rattle.dns_spec.specs.CommandWords.{ZoneWords, AskToCheck, Transport, udp, tcp, ServiceAsked, by_lines, by_turns, AskToServe}
+use Rattle.dns_spec.specs.CommandWords.{ZoneWords, AskToCheck, Transport, udp, tcp, ServiceAsked, by_lines, by_turns, AskToServe, SocketAsked, AskAtSocket}
 use Rattle.dns_answer.specs.declared.reply.Limit.{Limit}
 use Rattle.dns_answer.specs.declared.reply.Limit.TheVariants as limits
 use Rattle.dns_tools.specs.Checked.{options_of}
@@ -10,6 +10,7 @@ use Rattle.dns_tools.specs.declared.words.Service.{Service}
 use Rattle.dns_tools.specs.declared.words.Service.TheVariants.{Once, Udp, Tcp}
 use Rattle.dns_tools.specs.declared.words.CheckWords.{CheckWords}
 use Rattle.dns_tools.specs.declared.words.ServeWords.{ServeWords}
+use Rattle.dns_tools.specs.declared.words.SocketWords.{SocketWords}
 use Rattle.dns_tools.specs.declared.fault.FaultWord.{FaultWord}
 use Rattle.dns_tools.specs.declared.fault.FaultWord.TheVariants.{Usage, BadOrigin, NoMemory}
 
@@ -67,3 +68,18 @@ IsServeCall words call =
 
 abbrev pub HasBadServeOrigin : List Octets → Type 0
 HasBadServeOrigin words = HasBadOrigin (AskToServe words)
+
+-- the words ask the server of a given socket for this
+abbrev pub socket_asked : SocketWords → SocketAsked
+socket_asked call = record { transport = transport_of call.transport; turns = call.turns }
+
+abbrev pub IsSocketCall : List Octets → SocketWords → Type 0
+IsSocketCall words call =
+    IsCall (AskAtSocket words (socket_asked call)) call.origin call.file.now
+
+abbrev pub HasBadSocketOrigin : List Octets → Type 0
+HasBadSocketOrigin words = HasBadOrigin (AskAtSocket words)
+
+-- they ask it for nothing
+abbrev pub AskNoSocket : List Octets → Type 0
+AskNoSocket words = (a : SocketAsked) (z : ZoneWords) → AskAtSocket words a z → ⊥

@@ -4,11 +4,17 @@ ghost use Rattle.std.specs.Prelude.{◌≡◌, ◌⊎◌, Ok, Err, IfOk, IfErr, 
 ghost use Rattle.std.specs.Io.Buffered.{writer_contents};
 ghost use Rattle.std.specs.Io.KnownBytes.{Keeps};
 
-use crate::fault::{FAULT_STATUS, FaultWord, Outcome, Stop};
+use crate::fault::{FAULT_STATUS, FaultWord, Outcome, Stop, end_of, exit_status};
+use crate::load::{Refusal, write_refusal};
+use crate::report::write_serving;
+use crate::waiting::Waiting;
+use dns_name::Tally;
+use dns_zone::Zone;
 use std::alloc::Global;
 use std::env::FillError;
-use std::io::{BufWriter, Error, ErrorKind, Write};
+use std::io::{self, BufWriter, Error, ErrorKind, Write};
 use std::rt::{Env, Files};
+use std::time::Clock;
 use std::{env, fs};
 
 /// The words after the program's own name, which is not looked at. Words that are no text are none
@@ -76,6 +82,47 @@ pub fn finish<W: Write + Drop>(outcome: Outcome, output: BufWriter<W>) -> (Outco
     match flushed {
         Ok(()) => (outcome, device),
         Err(_) => (Err(Stop::Sink), device),
+    }
+}
+
+/// Says on standard error why there is no zone to serve, in the lines of the checker, and returns
+/// the status for it.
+pub fn refuse<R: Clock + AllocGlobal, E: Print>(
+    rt: &R,
+    errors: &E,
+    refusal: &Refusal,
+) -> Result<u8, FaultWord> {
+    let mut sink = Tally::new(buffered_stream(rt, errors)?);
+    let written = write_refusal(refusal, &mut sink);
+    let outcome = match written {
+        Ok(()) => Ok(false),
+        Err(failed) => Err(failed.into()),
+    };
+    let (outcome, _device) = finish(outcome, sink.into_inner());
+    Ok(exit_status(&outcome))
+}
+
+/// Says on standard output that a zone is served, in one line: `P1` if that can't be written.
+pub fn say_serving<R: Clock + Print + AllocGlobal>(rt: &R, zone: &Zone) -> Result<(), FaultWord> {
+    let mut sink = Tally::new(buffered_stream(rt, rt)?);
+    let written = write_serving(zone, &mut sink);
+    let outcome = match written {
+        Ok(()) => Ok(true),
+        Err(failed) => Err(failed.into()),
+    };
+    let (outcome, _device) = finish(outcome, sink.into_inner());
+    end_of(outcome)?;
+    Ok(())
+}
+
+// A standard stream behind a buffer, which is waited for.
+fn buffered_stream<'a, R: Clock + AllocGlobal, P: Print>(
+    rt: &'a R,
+    stream: &'a P,
+) -> Result<BufWriter<Waiting<'a, io::Printer<'a, P>, R>>, FaultWord> {
+    match BufWriter::new(rt.alloc(), Waiting::new(io::writer(stream), rt)) {
+        Ok(buffered) => Ok(buffered),
+        Err(_) => Err(FaultWord::NoMemory),
     }
 }
 

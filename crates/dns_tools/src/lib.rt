@@ -21,11 +21,15 @@ pub use check::{Flags, check_zone};
 pub use fault::{
     FAULT_STATUS, FaultWord, Outcome, Stop, TurnWord, end_of, exit_status, status_of_turns,
 };
-pub use host::{end, finish, given_words, open_file, say};
-pub use listen::{serve_connections, serve_datagrams, socket_at};
+pub use host::{end, finish, given_words, open_file, refuse, say, say_serving};
+pub use listen::{
+    given_listener, given_socket, listener_at, serve_connections, serve_datagrams, socket_at,
+};
 pub use load::{LoadFault, Refusal, load_zone, write_refusal};
 pub use message::run_message;
 pub use once::run_once;
 pub use socket::Socket;
 pub use waiting::Waiting;
-pub use words::{CheckWords, ServeWords, Service, check_words, serve_words};
+pub use words::{
+    CheckWords, ServeWords, Service, SocketWords, check_words, serve_words, socket_words,
+};

@@ -1,18 +1,19 @@
-//! A server on its address: turns over UDP, and connections over TCP, one after another.
+//! A server at its socket: turns over UDP, and connections over TCP, one after another.
 ghost use Rattle.std.specs.Prelude.{◌≡◌, ◌+◌, ◌-◌, ◌^◌, ◌<◌, false, IfOk, IfErr};
 ghost use Rattle.dns_tools.specs.Turns.{TakesTurns};
 
 use crate::fault::{FaultWord, TurnWord};
 use crate::peer::{Messages, Peer};
-use crate::socket::Socket;
+use crate::socket::{Socket, is_made_again};
 use dns_answer::UdpDraft;
 use dns_name::Tally;
 use dns_serve::{Ahead, Datagrams, StreamFault, StreamRoom, serve_stream_in, udp_turn_in};
 use dns_zone::Zone;
 use std::alloc::Global;
 use std::cell::Cell;
-use std::io::{self, BufReader, BufWriter, Read, Write};
+use std::io::{self, BufReader, BufWriter, ErrorKind, Read, Write};
 use std::net::{Net, SocketAddr, TcpListener, TcpStream, UdpSocket};
+use std::os::fd::{AsFd, OwnedFd};
 use std::thread;
 use std::time::{Clock, Duration};
 
@@ -24,7 +25,7 @@ const MOST_MESSAGES: u32 = 1_000_000;
 const PAUSE: u64 = 100;
 
 /// A UDP socket at an address, which has received nothing. `bind` where the address can't be had.
-pub fn socket_at<R: Net>(rt: &R, address: &str) -> Result<Socket, FaultWord>
+pub fn socket_at<'a, R: Net + Clock>(rt: &'a R, address: &str) -> Result<Socket<'a, R>, FaultWord>
     ensures socket { IfOk result (λ socket. socket ≡ record {
       failures = 0;
       has_sender = false;
@@ -32,9 +33,74 @@ pub fn socket_at<R: Net>(rt: &R, address: &str) -> Result<Socket, FaultWord>
     ensures fault { IfErr result (λ fault. fault ≡ FaultWord.NotBound) }
 {
     match UdpSocket::bind(rt, socket_address(address)?) {
-        Ok(socket) => Ok(Socket::new(socket)),
+        Ok(socket) => Ok(Socket::new(socket, rt)),
         Err(_) => Err(FaultWord::NotBound),
     }
+}
+
+/// A listening TCP socket at an address. `bind` where the address can't be had.
+pub fn listener_at<R>(rt: &R, address: &str) -> Result<TcpListener, FaultWord>
+where
+    R: Net<Listener = TcpListener, Stream = TcpStream>,
+    ensures { IfErr result (λ fault. fault ≡ FaultWord.NotBound) }
+{
+    match TcpListener::bind(rt, socket_address(address)?) {
+        Ok(listener) => Ok(listener),
+        Err(_) => Err(FaultWord::NotBound),
+    }
+}
+
+/// The UDP socket that a process was given, which has received nothing. `bind` if what it was
+/// given is no UDP socket with an address and a port.
+///
+/// No flag of the socket is changed, since other processes may share it.
+pub fn given_socket<'a, I: AsFd, C: Clock>(
+    given: &I,
+    clock: &'a C,
+) -> Result<Socket<'a, C>, FaultWord>
+    ensures socket { IfOk result (λ socket. socket ≡ record {
+      failures = 0;
+      has_sender = false;
+    }) }
+    ensures fault { IfErr result (λ fault. fault ≡ FaultWord.NotBound) }
+{
+    let socket = UdpSocket::from(copy_of(given)?);
+    // An option of TCP is what a socket of UDP does not have.
+    let is_udp = TcpStream::from(copy_of(given)?).nodelay().is_err();
+    if is_udp && has_port(socket.local_addr()) {
+        return Ok(Socket::new(socket, clock));
+    }
+    Err(FaultWord::NotBound)
+}
+
+/// The listening TCP socket that a process was given. `bind` if what it was given is no TCP socket
+/// with an address and a port, or is a connection.
+///
+/// No flag of the socket is changed, since other processes may share it.
+pub fn given_listener<I: AsFd>(given: &I) -> Result<TcpListener, FaultWord>
+    ensures { IfErr result (λ fault. fault ≡ FaultWord.NotBound) }
+{
+    let listener = TcpListener::from(copy_of(given)?);
+    let stream = TcpStream::from(copy_of(given)?);
+    let is_tcp = stream.nodelay().is_ok();
+    if is_tcp && has_port(listener.local_addr()) && stream.peer_addr().is_err() {
+        return Ok(listener);
+    }
+    Err(FaultWord::NotBound)
+}
+
+// Another descriptor of what a process was given.
+fn copy_of<I: AsFd>(given: &I) -> Result<OwnedFd, FaultWord>
+    ensures { IfErr result (λ fault. fault ≡ FaultWord.NotBound) }
+{
+    match given.as_fd().try_clone_to_owned() {
+        Ok(copy) => Ok(copy),
+        Err(_) => Err(FaultWord::NotBound),
+    }
+}
+
+fn has_port(address: io::Result<SocketAddr>) -> bool {
+    address.is_ok_and(|address| address.port() > 0)
 }
 
 /// Takes so many turns at a device, one after another, and tells whether standard error had each
@@ -86,7 +152,7 @@ fn say_of_turn(rt: &impl Eprint, are_said: bool, word: TurnWord) -> bool {
     are_said && rt.eprintln(word).is_ok()
 }
 
-/// Serves so many connections at an address, one after another, and tells whether standard error
+/// Serves so many connections at a listener, one after another, and tells whether standard error
 /// had each word that was due: `accept` where none was accepted, `S1` where a stream could not be
 /// read, or a message did not come in time, `S2` where it could not be written, or a reply was not
 /// taken in time, `S3` where it ended inside a message. Such a turn counts.
@@ -98,21 +164,17 @@ fn say_of_turn(rt: &impl Eprint, are_said: bool, word: TurnWord) -> bool {
 /// seconds at most. Replies to messages that came together are sent together, before more is waited
 /// for, and have the time of the last of these.
 ///
-/// `bind` where the address can't be had. The room is lent for one connection after the other.
+/// The room is lent for one connection after the other.
 pub fn serve_connections<R>(
     rt: &R,
     zone: &Zone,
-    address: &str,
+    listener: TcpListener,
     turns: u32,
     room: &mut StreamRoom,
-) -> Result<bool, FaultWord>
+) -> bool
 where
-    R: Net<Listener = TcpListener, Stream = TcpStream> + Clock + Eprint + AllocGlobal,
-    ensures { IfErr result (λ fault. fault ≡ FaultWord.NotBound) }
+    R: Clock + Eprint + AllocGlobal,
 {
-    let Ok(listener) = TcpListener::bind(rt, socket_address(address)?) else {
-        return Err(FaultWord::NotBound);
-    };
     let mut connections = Connections { listener, asked: 0 };
     let mut are_said = true;
     'connections: for _ in 0..turns {
@@ -122,7 +184,7 @@ where
     }
     let are_all_asked = connections.asked == u64::from(turns);
     prove!(are_all_asked);
-    Ok(are_said)
+    are_said
 }
 
 // A listener, with the count of the connections that it was asked for.
@@ -145,7 +207,7 @@ impl Connections {
         ensures { self.new.asked ≡ self.old.asked + 1 }
     {
         self.asked += 1;
-        let Ok((stream, _)) = self.listener.accept() else {
+        let Ok(stream) = accepted(rt, &self.listener) else {
             thread::sleep(rt, Duration::from_millis(PAUSE));
             return Err(TurnWord::NotAccepted);
         };
@@ -170,6 +232,18 @@ impl Connections {
         served?;
         Ok(())
     }
+}
+
+// The next connection of a listener, which is waited for even if the listener is set not to block.
+fn accepted(clock: &impl Clock, listener: &TcpListener) -> io::Result<TcpStream> {
+    'calls: for _ in 0..u64::MAX {
+        match listener.accept() {
+            Ok((stream, _)) => return Ok(stream),
+            Err(error) if is_made_again(&error, clock) => {}
+            Err(error) => return Err(error),
+        }
+    }
+    Err(io::Error::from(ErrorKind::TimedOut))
 }
 
 // A sink that keeps what it is given, or keeps nothing where there is no memory.

@@ -2,20 +2,26 @@
 ghost use Rattle.std.specs.Prelude.{◌≡◌, false, None};
 
 use crate::peer::is_interrupted;
+use crate::waiting::is_put_off;
 use dns_serve::{Datagrams, Failed};
+use std::io::Error;
 use std::marker::Model;
 use std::net::{SocketAddr, UdpSocket};
+use std::time::Clock;
 
-/// A UDP socket that is bound to an address, with the count of its failures.
+/// A UDP socket that is bound to an address, with the count of its failures. Its calls wait, even
+/// if it is set not to block: another process may share it and set that.
 #[derive(Drop)]
-pub struct Socket {
+pub struct Socket<'a, C> {
     socket: UdpSocket,
+    // For the pauses of calls that are put off.
+    clock: &'a C,
     // Who sent the last datagram.
     sender: Option<SocketAddr>,
     failures: u64,
 }
 
-impl Model for Socket {
+impl<'a, C> Model for Socket<'a, C> {
     ghost use Rattle.std.specs.Option.{is_some};
     ghost use Rattle.dns_tools.specs.Sockets.{SocketState};
 
@@ -24,21 +30,22 @@ impl Model for Socket {
     ghost view = { λ s. record { failures = s.failures; has_sender = is_some s.sender } };
 }
 
-impl Socket {
+impl<'a, C: Clock> Socket<'a, C> {
     /// The socket with a count of 0, and nobody to send to.
-    pub fn new(socket: UdpSocket) -> Socket
+    pub fn new(socket: UdpSocket, clock: &'a C) -> Socket<'a, C>
         ensures { result ≡ record { failures = 0; has_sender = false } }
     {
         Socket {
             socket,
+            clock,
             sender: None,
             failures: 0,
         }
     }
 }
 
-// A call that the system interrupts is made again: it took nothing, and sent nothing.
-impl Datagrams for Socket {
+// A call that the system interrupts or puts off is made again: it took nothing, and sent nothing.
+impl<C: Clock> Datagrams for Socket<'_, C> {
     ghost received = { λ _. None };
 
     ghost sent = { λ _. None };
@@ -54,7 +61,7 @@ impl Datagrams for Socket {
                     self.sender = Some(sender);
                     return Ok(count);
                 }
-                Err(error) if is_interrupted(&error) => {}
+                Err(error) if is_made_again(&error, self.clock) => {}
                 Err(_) => break,
             }
         }
@@ -67,7 +74,7 @@ impl Datagrams for Socket {
             'calls: for _ in 0..u64::MAX {
                 match self.socket.send_to(reply, sender) {
                     Ok(_) => return Ok(()),
-                    Err(error) if is_interrupted(&error) => {}
+                    Err(error) if is_made_again(&error, self.clock) => {}
                     Err(_) => break,
                 }
             }
@@ -79,4 +86,9 @@ impl Datagrams for Socket {
     fn failures(&self) -> u64 {
         self.failures
     }
+}
+
+// Whether a call is made again; one that was put off after a pause.
+pub(crate) fn is_made_again(error: &Error, clock: &impl Clock) -> bool {
+    is_interrupted(error) || is_put_off(error, clock)
 }

@@ -60,7 +60,7 @@ impl<T: Write, C: Clock> Write for Waiting<'_, T, C> {
 }
 
 // Whether a call was put off: then the pause has passed.
-fn is_put_off(error: &io::Error, clock: &impl Clock) -> bool {
+pub(crate) fn is_put_off(error: &io::Error, clock: &impl Clock) -> bool {
     let put_off = error.kind() == ErrorKind::WouldBlock;
     if put_off {
         thread::sleep(clock, Duration::from_millis(PAUSE));

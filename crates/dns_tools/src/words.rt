@@ -1,9 +1,9 @@
-//! The words of the programs' command lines.
-ghost use Rattle.std.specs.Prelude.{◌≡◌, ◌⊎◌, ◌≤◌, [], ◌∷◌, IsTrue, IfOk, IfErr, IfSome, Err, map, not, decimal};
+//! The arguments of the programs.
+ghost use Rattle.std.specs.Prelude.{◌≡◌, ◌⊎◌, ℕ, ◌≤◌, [], ◌∷◌, IsTrue, IfOk, IfErr, IfSome, IsNone, Err, map, not, decimal};
 ghost use Rattle.std.specs.Bool.{OnTrue};
-ghost use Rattle.dns_spec.specs.CommandWords.{is_dashed, EndWords, AskToCheck, AskToServe};
+ghost use Rattle.dns_spec.specs.CommandWords.{is_dashed, EndWords, AskToCheck, AskToServe, Transport, transport_word};
 ghost use Rattle.dns_tools.specs.Checked.{options_of};
-ghost use Rattle.dns_tools.specs.Words.{is_word_fault, service_of, IsOrigin, IsNoOrigin, IsCheckCall, HasBadCheckOrigin, IsServeCall, HasBadServeOrigin};
+ghost use Rattle.dns_tools.specs.Words.{is_word_fault, service_of, IsOrigin, IsNoOrigin, IsCheckCall, HasBadCheckOrigin, IsServeCall, HasBadServeOrigin, IsSocketCall, HasBadSocketOrigin, AskNoSocket, transport_of};
 
 use crate::check::Flags;
 use crate::fault::FaultWord;
@@ -77,6 +77,19 @@ pub struct CheckWords<'a> {
     pub file: &'a str,
 }
 
+/// What `zonesocket udp|tcp TURNS ORIGIN FILE` is asked for.
+#[derive(Drop)]
+pub struct SocketWords<'a> {
+    /// The transport of the given socket, by its limit of replies.
+    pub transport: Limit,
+    /// How many turns there are, 1 to 1,000,000.
+    pub turns: u32,
+    /// The zone's origin, in lower case.
+    pub origin: Name,
+    /// The path of the zone's file.
+    pub file: &'a str,
+}
+
 /// Reads the words after the program's own name: `once [--tcp] ORIGIN FILE`, or `udp` or `tcp` and
 /// `ADDR TURNS ORIGIN FILE`, where ORIGIN is a name relative to the root and TURNS a number from 1
 /// to 1,000,000. ADDR is not read yet.
@@ -129,6 +142,69 @@ pub fn check_words<'a, S: AsStr>(alloc: Global, words: &'a [S]) -> Result<CheckW
         }),
         _ => Err(FaultWord::Usage),
     }
+}
+
+/// Reads the arguments after the program's own name: `udp` or `tcp`, TURNS, a number from 1 to
+/// 1,000,000, ORIGIN, a name relative to the root, and FILE.
+///
+/// `usage` if and only if they are other arguments, or ORIGIN or FILE begins with `-`; then
+/// `bad origin` if ORIGIN is no name.
+pub fn socket_words<'a, S: AsStr>(words: &'a [S]) -> Result<SocketWords<'a>, FaultWord>
+    ensures asked { IfOk result (IsSocketCall (map S.text words.entry.now)) }
+    ensures origin { result ≡ Err FaultWord.BadOrigin
+        → HasBadSocketOrigin (map S.text words.entry.now) }
+    ensures usage { result ≡ Err FaultWord.Usage → AskNoSocket (map S.text words.entry.now) }
+    ensures fault { IfErr result
+        (λ fault. (fault ≡ FaultWord.Usage) ⊎ (fault ≡ FaultWord.BadOrigin)) }
+{
+    let [transport, turns, origin, file] = words else {
+        return Err(FaultWord::Usage);
+    };
+    let (origin, file) = (origin.as_str(), file.as_str());
+    match (
+        said_transport(transport.as_str()),
+        said_turns(turns.as_str()),
+    ) {
+        (Some(transport), Some(turns)) if !is_dashed(origin) && !is_dashed(file) => {
+            Ok(SocketWords {
+                transport,
+                turns,
+                origin: given_origin(origin)?,
+                file,
+            })
+        }
+        _ => Err(FaultWord::Usage),
+    }
+}
+
+fn said_transport(word: &str) -> Option<Limit>
+    ensures some { IfSome result (λ limit. word.now ≡ transport_word (transport_of limit)) }
+    ensures none { IsNone result → (t : Transport) → word.now ≡ transport_word t → ⊥ }
+{
+    match word {
+        UDP => Some(Limit::Udp),
+        TCP => Some(Limit::Tcp),
+        _ => None,
+    }
+}
+
+// The number of turns that TURNS is.
+fn said_turns(word: &str) -> Option<u32>
+    ensures some { IfSome result
+        (λ turns. (word.now ≡ decimal turns) × (1 ≤ turns) × (turns ≤ 1000000)) }
+    ensures none { IsNone result → (n : ℕ) → word.now ≡ decimal n → 1 ≤ n → n ≤ 1000000 → ⊥ }
+{
+    let turns = read_number(word.as_bytes(), MOST_TURNS)?;
+    if turns == 0 {
+        return None;
+    }
+    Some(turns)
+}
+
+fn is_dashed(word: &str) -> bool
+    ensures { result ≡ is_dashed word.now }
+{
+    matches!(word.as_bytes(), [b'-', ..])
 }
 
 // The name that ORIGIN spells, relative to the root and in lower case.
@@ -197,13 +273,13 @@ fn before_zone<'a, S: AsStr>(words: &'a [S], origin: &str, file: &str) -> Option
 fn is_count(word: &str, turns: u32) -> bool
     ensures { OnTrue result ((word.now ≡ decimal turns) × (1 ≤ turns) × (turns ≤ 1000000)) }
 {
-    turns > 0 && read_number(word.as_bytes(), MOST_TURNS) == Some(turns)
+    said_turns(word) == Some(turns)
 }
 
 fn is_value(word: &str, value: &str) -> bool
     ensures { OnTrue result ((word.now ≡ value.now) × IsTrue (not (is_dashed value.now))) }
 {
-    word == value && !matches!(value.as_bytes(), [b'-', ..])
+    word == value && !is_dashed(value)
 }
 
 fn serve_command<'a>(alloc: Global) -> Result<Command<'a>, AllocError> {

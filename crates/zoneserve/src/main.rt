@@ -6,12 +6,12 @@
 use dns_name::Tally;
 use dns_serve::StreamRoom;
 use dns_tools::{
-    FaultWord, LoadFault, Refusal, Service, Waiting, end, end_of, exit_status, finish, given_words,
-    load_zone, open_file, run_once, serve_connections, serve_datagrams, serve_words, socket_at,
-    status_of_turns, write_refusal,
+    FaultWord, LoadFault, Service, Waiting, end, end_of, given_words, listener_at, load_zone,
+    open_file, refuse, run_once, serve_connections, serve_datagrams, serve_words, socket_at,
+    status_of_turns,
 };
 use dns_zone::Zone;
-use std::io::{self, BufWriter};
+use std::io;
 use std::net::{Net, TcpListener, TcpStream};
 use std::process::ExitCode;
 use std::rt::{Env, Files};
@@ -61,27 +61,9 @@ where
             let Ok(mut room) = Box::new(rt.alloc(), StreamRoom::new()) else {
                 return Err(FaultWord::NoMemory);
             };
-            serve_connections(rt, zone, address, *turns, &mut room)?
+            let listener = listener_at(rt, address)?;
+            serve_connections(rt, zone, listener, *turns, &mut room)
         }
     };
     Ok(status_of_turns(are_said))
-}
-
-// Says on standard error why there is no zone to serve, in the lines of the checker.
-fn refuse<R: Clock + AllocGlobal, E: Print>(
-    rt: &R,
-    errors: &E,
-    refusal: &Refusal,
-) -> Result<u8, FaultWord> {
-    let Ok(output) = BufWriter::new(rt.alloc(), Waiting::new(io::writer(errors), rt)) else {
-        return Err(FaultWord::NoMemory);
-    };
-    let mut sink = Tally::new(output);
-    let written = write_refusal(refusal, &mut sink);
-    let outcome = match written {
-        Ok(()) => Ok(false),
-        Err(failed) => Err(failed.into()),
-    };
-    let (outcome, _device) = finish(outcome, sink.into_inner());
-    Ok(exit_status(&outcome))
 }
