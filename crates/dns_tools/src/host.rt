@@ -91,7 +91,10 @@ pub fn refuse<R: Clock + AllocGlobal, E: Print>(
     rt: &R,
     errors: &E,
     refusal: &Refusal,
-) -> Result<u8, FaultWord> {
+) -> Result<u8, FaultWord>
+    ensures status { IfOk result (λ status. (status ≡ 1) ⊎ (status ≡ 2)) }
+    ensures fault { IfErr result (λ fault. fault ≡ FaultWord.NoMemory) }
+{
     let mut sink = Tally::new(buffered_stream(rt, errors)?);
     let written = write_refusal(refusal, &mut sink);
     let outcome = match written {
@@ -103,7 +106,10 @@ pub fn refuse<R: Clock + AllocGlobal, E: Print>(
 }
 
 /// Says on standard output that a zone is served, in one line: `P1` if that can't be written.
-pub fn say_serving<R: Clock + Print + AllocGlobal>(rt: &R, zone: &Zone) -> Result<(), FaultWord> {
+pub fn say_serving<R: Clock + Print + AllocGlobal>(rt: &R, zone: &Zone) -> Result<(), FaultWord>
+    ensures { IfErr result
+        (λ fault. (fault ≡ FaultWord.SinkFailed) ⊎ (fault ≡ FaultWord.NoMemory)) }
+{
     let mut sink = Tally::new(buffered_stream(rt, rt)?);
     let written = write_serving(zone, &mut sink);
     let outcome = match written {
@@ -119,7 +125,9 @@ pub fn say_serving<R: Clock + Print + AllocGlobal>(rt: &R, zone: &Zone) -> Resul
 fn buffered_stream<'a, R: Clock + AllocGlobal, P: Print>(
     rt: &'a R,
     stream: &'a P,
-) -> Result<BufWriter<Waiting<'a, io::Printer<'a, P>, R>>, FaultWord> {
+) -> Result<BufWriter<Waiting<'a, io::Printer<'a, P>, R>>, FaultWord>
+    ensures { IfErr result (λ fault. fault ≡ FaultWord.NoMemory) }
+{
     match BufWriter::new(rt.alloc(), Waiting::new(io::writer(stream), rt)) {
         Ok(buffered) => Ok(buffered),
         Err(_) => Err(FaultWord::NoMemory),

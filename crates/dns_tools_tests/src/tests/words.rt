@@ -1,5 +1,5 @@
 use dns_answer::Limit;
-use dns_tools::{FaultWord, Flags, Service, check_words, serve_words};
+use dns_tools::{FaultWord, Flags, Service, check_words, serve_words, socket_words};
 use std::test::Fail;
 
 #[test]
@@ -146,4 +146,42 @@ fn words_that_are_refused(rt: HostRuntime) {
         let found = check_words(rt.alloc(), &["--quiet", origin, "zone"]).err();
         assert_eq!(rt; found, Some(FaultWord::BadOrigin), "at {origin:?}");
     }
+}
+
+#[test]
+fn arguments_of_the_server_of_a_given_socket(rt: HostRuntime) -> Result<(), Fail> {
+    let taken: [(&[&str], Limit, u32); 3] = [
+        (&["udp", "1", "Example.", "zone"], Limit::Udp, 1),
+        (&["tcp", "1000000", "example", "zone"], Limit::Tcp, 1_000_000),
+        (&["tcp", "7", "example", "zone"], Limit::Tcp, 7),
+    ];
+    for (words, transport, turns) in taken {
+        let said = socket_words(words)?;
+        assert!(rt; said.transport == transport && said.turns == turns, "at {words:?}");
+        assert_eq!(rt; said.origin.octets(), b"\x07example\x00".as_slice());
+        assert_eq!(rt; said.file, "zone");
+    }
+    let refused: [&[&str]; 14] = [
+        &[],
+        &["udp", "1", "example"],
+        &["udp", "1", "example", "zone", "zone"],
+        &["once", "1", "example", "zone"],
+        &["UDP", "1", "example", "zone"],
+        &["", "1", "example", "zone"],
+        &["udp", "0", "example", "zone"],
+        &["udp", "01", "example", "zone"],
+        &["udp", "1000001", "example", "zone"],
+        &["udp", "-1", "example", "zone"],
+        &["udp", "", "example", "zone"],
+        &["udp", "1", "-example", "zone"],
+        &["tcp", "1", "example", "-"],
+        &["tcp", "1", "--help", "zone"],
+    ];
+    for words in refused {
+        let found = socket_words(words).err();
+        assert_eq!(rt; found, Some(FaultWord::Usage), "at {words:?}");
+    }
+    let found = socket_words(&["udp", "1", "a..b", "zone"]).err();
+    assert_eq!(rt; found, Some(FaultWord::BadOrigin));
+    Ok(())
 }
