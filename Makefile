@@ -1,8 +1,10 @@
 .PHONY: run programs built install uninstall clean package operate examples docs-check test edits misuse clients speed faults caught hostile messages worst memory bench
 
 PREFIX ?= /usr/local
-NAMES = zonecheck zoneserve dnsmsg
+NAMES = zonecheck zoneserve dnsmsg zonesocket
 PROGRAMS = $(foreach name,$(NAMES),crates/$(name)/out/$(name))
+# Those of the first three that the tools run one after another.
+THREE = $(wordlist 1,3,$(PROGRAMS))
 PAGES = $(wildcard man/*.1)
 DOC = $(DESTDIR)$(PREFIX)/share/doc/mitrehyssop
 SHARE = $(DESTDIR)$(PREFIX)/share/mitrehyssop
@@ -21,6 +23,7 @@ programs:
 	cd crates/zonecheck && rt run -- example ../../examples/example.zone
 	cd crates/zoneserve && rt run -- once example ../../examples/example.zone </dev/null
 	cd crates/dnsmsg && rt run <stdin
+	cd crates/zonesocket && { rt run -- udp 1 example ../../examples/example.zone </dev/null; [ $$? = 2 ]; }
 
 # Builds the programs where one is missing, or older than a source.
 built:
@@ -87,13 +90,13 @@ edits:
 # Runs the programs on wrong words, on files that can't be read, on faulty files, and on outputs that take nothing, and sees
 # that callers which misuse a walk over a zone don't compile. It is no part of the gate.
 misuse: programs
-	tools/misuse crates/zonecheck/out/zonecheck crates/zoneserve/out/zoneserve
+	tools/misuse crates/zonecheck/out/zonecheck crates/zoneserve/out/zoneserve crates/zonesocket/out/zonesocket
 	tools/must-not-compile
 
 # Serves real clients on loopback: dig, kdig, dnsperf, a resolver, and peers that behave badly; has NSD, Knot and BIND answer from
 # a canonical text; and runs docs/OPERATE.md. It is no part of the gate.
 clients: built
-	tools/clients crates/zoneserve/out/zoneserve
+	tools/clients crates/zoneserve/out/zoneserve crates/zonesocket/out/zonesocket
 	tools/elsewhere crates/zonecheck/out/zonecheck
 	$(MAKE) operate
 
@@ -126,7 +129,7 @@ messages: built
 
 # Measures the programs on the inputs that cost the most. It decides nothing, and is no part of the gate.
 worst: built
-	tools/worst $(PROGRAMS)
+	tools/worst $(THREE)
 
 # Refuses each program each of its allocations in turn. It proves nothing, and is no part of the gate.
 memory:
