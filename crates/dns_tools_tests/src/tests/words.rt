@@ -152,12 +152,19 @@ fn words_that_are_refused(rt: HostRuntime) {
 fn arguments_of_the_server_of_a_given_socket(rt: HostRuntime) -> Result<(), Fail> {
     let taken: [(&[&str], Limit, u32); 3] = [
         (&["udp", "1", "Example.", "zone"], Limit::Udp, 1),
-        (&["tcp", "1000000", "example", "zone"], Limit::Tcp, 1_000_000),
+        (
+            &["tcp", "1000000", "example", "zone"],
+            Limit::Tcp,
+            1_000_000,
+        ),
         (&["tcp", "7", "example", "zone"], Limit::Tcp, 7),
     ];
     for (words, transport, turns) in taken {
         let said = socket_words(words)?;
-        assert!(rt; said.transport == transport && said.turns == turns, "at {words:?}");
+        assert!(rt;
+            said.transport == transport && said.turns == turns,
+            "at {words:?}"
+        );
         assert_eq!(rt; said.origin.octets(), b"\x07example\x00".as_slice());
         assert_eq!(rt; said.file, "zone");
     }
