@@ -145,20 +145,16 @@ impl<const N: usize, const SIZE: usize> Page<N, SIZE> {
         ensures limit { self.new.limit ≡ self.old.limit }
         ensures same { H.numbers hash.new ≡ H.numbers hash.old }
     {
-        let octets = self.octets.len();
-        let places = self.places.len();
+        let (octets, places) = (self.octets.len(), self.places.len());
         // However short they are, each has 10 octets after its owner.
         if (self.limit - octets) / 10 < set.len() {
             return false;
         }
-        let rtype = set.rtype();
+        let (rtype, form) = (set.rtype(), &mut (0, None));
         let shares = rtype.compresses();
-        let mut form = (0, None);
         'records: for i in 0..set.len() {
             let (first, rdata) = (i == 0, set.rdata(i));
-            if !self.put_record(
-                hash, owner, first, octets, &mut form, rtype, shares, ttl, rdata,
-            ) {
+            if !self.put_record(hash, owner, first, octets, form, rtype, shares, ttl, rdata) {
                 self.octets.truncate(octets);
                 self.places.take_back(places);
                 return false;
