@@ -121,7 +121,7 @@ pub fn say_serving<R: Clock + Print + AllocGlobal>(rt: &R, zone: &Zone) -> Resul
     Ok(())
 }
 
-// A standard stream behind a buffer, which is waited for.
+// A standard stream that is waited for, with a buffer.
 fn buffered_stream<'a, R: Clock + AllocGlobal, P: Print>(
     rt: &'a R,
     stream: &'a P,

@@ -1,5 +1,9 @@
 -- The rows on the way from the origin to a target.
-use Rattle.dns_zone.proofs.Common.{◌≡◌, ◌⊎◌, inl, inr, ℕ, ◌<◌, ◌≤◌, true, false, List, [], ◌∷◌, ◌++◌, map, length, length-append, get_or, None, refl, ap, arith, to_ascii_lowercase, is_some, cases_lt, get_or-map, get_or_append_left, get_or_push, Octets, DomainName, folded, at_or_below, below, type_ns, type_cname, ResourceRecord, ZoneContents, rrset, set_of, cut_of, IsNodeAt, IsZoneTree, IsLeadRow, IsLeadAt, AreLeads, row_name, row_at, Row, Tree}
+use Rattle.dns_zone.proofs.Common.{◌≡◌, ◌⊎◌, inl, inr, ℕ, ◌<◌, ◌≤◌, true, false, List, [], ◌∷◌, ◌++◌, map, length, length-append, get_or, None, refl, ap, arith, to_ascii_lowercase, is_some, cases_lt, get_or-map, get_or_append_left, get_or_push, Octets, DomainName, folded, at_or_below, below, type_ns, type_cname, ResourceRecord, ZoneContents, rrset, set_of, cut_of, IsNodeAt, IsZoneTree, IsLeadRow, IsLeadAt, AreLeads, set, length-set, get_or-set_same, get_or-set_other, subst, sym, row_name, row_at, Row, Tree}
+use Rattle.std.specs.Prelude.{replicate}
+use Rattle.std.proofs.lemmas.List.{get_or-replicate}
+use Rattle.dns_spec.proofs.Common.{length-replicate}
+use Rattle.dns_zone.specs.NodeForm.{TargetWay, IsOnWay, type_at}
 use Rattle.dns_zone.proofs.NameTree.{itself-under, below-cons}
 use Rattle.dns_zone.proofs.NameOrder.{same-from}
 use Rattle.dns_zone.proofs.NodeRows.{node_is, is_row}
@@ -10,16 +14,9 @@ use Rattle.dns_zone.proofs.WayLaws.{cut-none, cut-by_set, no_cut-at_origin}
 abbrev pub name_at : Tree → ℕ → DomainName
 name_at t k = row_name t.zone.records (row_at t.rows k)
 
--- the row of the origin, or of a name below it that may be a lead
-pub record IsOnWay (t : Tree) (rtype k : ℕ) : Type 0 where
-  pub at : IsNodeAt t k
-  pub inside : at_or_below (name_at t k) t.zone.origin ≡ true
-  pub longer : (k ≡ 0) ⊎ (length t.zone.origin < length (name_at t k))
-  pub long : length t.zone.origin ≤ length (name_at t k)
-  pub uncut : rtype ≡ type_cname → cut_of t.zone (name_at t k) ≡ None
-
-pub begins : (t : Tree) (rtype : ℕ) → IsZoneTree t → IsOnWay t rtype 0
-begins t rtype kept =
+pub begins : (w : TargetWay) → IsZoneTree w.tree → IsOnWay w 0
+begins w kept =
+    let t = w.tree in
     let z = t.zone in
     let named : name_at t 0 ≡ t.zone.origin =
     row_is t.zone.records (row_at t.rows 0) t.zone.origin kept.tree.origin in
@@ -33,10 +30,12 @@ begins t rtype kept =
     }
 
 -- a child that is no cut, where the way ends at cuts
-pub goes_on : (t : Tree) (rtype k j : ℕ) (l : Octets) → IsOnWay t rtype k
-    → IsNodeAt t j → name_at t j ≡ map to_ascii_lowercase l ∷ name_at t k → (rtype ≡ type_cname
-    → is_some (set_of (rrset t.zone (name_at t j) type_ns)) ≡ false) → IsOnWay t rtype j
-goes_on t rtype k j l way at named servers =
+pub goes_on : (w : TargetWay) (k j : ℕ) (l : Octets) → IsOnWay w k
+    → IsNodeAt w.tree j → name_at w.tree j ≡ map to_ascii_lowercase l ∷ name_at w.tree k
+    → (w.is_of_alias ≡ true
+    → is_some (set_of (rrset w.tree.zone (name_at w.tree j) type_ns)) ≡ false) → IsOnWay w j
+goes_on w k j l way at named servers =
+    let t = w.tree in
     let z = t.zone in
     let n = name_at t k in
     let kid = map to_ascii_lowercase l in
@@ -51,15 +50,37 @@ goes_on t rtype k j l way at named servers =
       uncut = grind (arith, cut-none, cut-by_set);
     }
 
-pub lead_is : (t : Tree) (rtype k : ℕ) → IsOnWay t rtype k → IsLeadAt t.zone t.rows rtype k
-lead_is t rtype k way = grind (arith, node_is)
+pub lead_is : (w : TargetWay) (rtype k : ℕ) → IsOnWay w k
+    → (rtype ≡ type_cname → w.is_of_alias ≡ true) → IsLeadAt w.tree.zone w.tree.rows rtype k
+lead_is w rtype k way alias =
+    let t = w.tree in
+    grind (arith, node_is)
 
--- a record more
-pub leads_more : (z : ZoneContents) (rows : List Row) (leads : List ℕ) (j k : ℕ)
-    (r : ResourceRecord) → AreLeads z rows leads → length leads ≡ j → j < length z.records
-    → r ≡ get_or z.records j r → IsLeadAt z rows r.rtype k → AreLeads z rows (leads ++ k ∷ [])
-leads_more z rows leads j k r are count inside is lead =
-    grind (arith, cases_lt, get_or-map, get_or_append_left, length-append, get_or_push)
+-- before any record has a lead
+pub leads_begin : (z : ZoneContents) (rows : List Row) (n : ℕ) → AreLeads z rows (replicate n 0)
+leads_begin z rows n j inside =
+    inl (get_or-replicate n j 0 0 (omega (arith, inside, length-replicate {A = ℕ} n 0)))
+
+same_or_other : (i j : ℕ) → (i ≡ j) ⊎ (i ≡ j → ⊥)
+same_or_other i j = grind arith
+
+-- another lead for a record
+pub leads_set : (z : ZoneContents) (rows : List Row) (leads : List ℕ) (j k : ℕ)
+    (r : ResourceRecord) → AreLeads z rows leads → j < length leads → j < length z.records
+    → r ≡ get_or z.records j r → IsLeadAt z rows r.rtype k → AreLeads z rows (set leads j k)
+leads_set z rows leads j k r are fits inside is lead i l = go (same_or_other i j)
+  where
+    go : (i ≡ j) ⊎ (i ≡ j → ⊥) → IsLeadAt z rows (type_at z.records i) (get_or (set leads j k) i 0)
+    go (inl e) =
+        let typed : type_at z.records i ≡ r.rtype = grind (arith, get_or-map) in
+        let here : get_or (set leads j k) i 0 ≡ k = grind (arith, get_or-set_same) in
+        subst (λ t. IsLeadAt z rows t (get_or (set leads j k) i 0)) (sym typed)
+        (subst (λ x. IsLeadAt z rows r.rtype x) (sym here) lead)
+    go (inr other) =
+        let here : get_or (set leads j k) i 0 ≡ get_or leads i 0 =
+        grind (arith, get_or-set_other) in
+        subst (λ x. IsLeadAt z rows (type_at z.records i) x) (sym here)
+        (are i (omega (arith, l, length-set leads j k)))
 
 -- a lead that is kept for a record
 pub kept-lead : (t : Tree) (rs : List ResourceRecord) (leads : List ℕ)

@@ -1,6 +1,7 @@
 -- The row of a name that a record is at or below, and none before it, among records in canonical
 -- order.
-use Rattle.dns_zone.proofs.Common.{AreOrdered, DomainName, AllByRecursion, IsCanonical, IsFront, IsPartitionedBy, List, ResourceRecord, [], ap, arith, at_or_below, drop, drop_more, each_weaker, false, filter, filter-append, filter_each, folded, get_or, get_or-map, is_gt, length, length-drop, length-take, owners, prefix_len, prefix_len-le-length, record_order, record_order_total, span, subst, sym, take, take-append-drop, true, under, wire, ℕ, ◌++◌, ◌+◌, ◌-◌, ◌<◌, ◌∙◌, ◌∷◌, ◌≡◌, ◌≤◌}
+use Rattle.dns_zone.proofs.Common.{AreOrdered, DomainName, AllByRecursion, IsCanonical, IsFront, IsPartitionedBy, List, ResourceRecord, [], ap, arith, at_or_below, drop, drop_more, each_weaker, false, filter, filter-append, filter_each, folded, get_or, get_or-map, is_gt, rules, length, length-drop, length-take, owners, prefix_len, prefix_len-le-length, cases_lt, inl, inr, ◌⊎◌, refl, zero, suc, record_order, record_order_total, span, subst, sym, take, take-append-drop, true, under, wire, ℕ, ◌++◌, ◌+◌, ◌-◌, ◌<◌, ◌∙◌, ◌∷◌, ◌≡◌, ◌≤◌}
+use Rattle.std.specs.Prelude.{max}
 use Rattle.dns_zone.proofs.NameTree.{itself-under}
 use Rattle.dns_zone.proofs.EndingNames.{ends_in}
 use Rattle.dns_zone.proofs.AtName.{ordered_records, OwnerNotAfter, owners_in_order, is_at}
@@ -9,6 +10,10 @@ use Rattle.dns_zone.proofs.KidRows.{is_under, under_parted, at_in_front}
 use Rattle.dns_spec.proofs.General.Filters.{filter_within}
 use Rattle.dns_spec.proofs.General.Pairs.{Pairs, unmoved, pairs_drop}
 use Rattle.dns_spec.proofs.General.Fronts.{parted_take, both_fronts, front}
+
+one_of : {X : Type 0} (n : ℕ) (x : X) (xs : List X) → 0 < n → take 1 (take n (x ∷ xs)) ≡ x ∷ []
+one_of zero x xs h = absurd (omega (arith, h))
+one_of (suc n) x xs h = refl
 
 module _ (rs : List ResourceRecord) (canonical : IsCanonical rs) (m : DomainName) (first : ℕ)
     (fits : first < length rs) (here : at_or_below (get_or (owners rs) first []) m ≡ true) where
@@ -80,8 +85,10 @@ module _ (rs : List ResourceRecord) (canonical : IsCanonical rs) (m : DomainName
     some_under : 0 < length (under m (drop first rs))
     some_under = grind (arith, rest_is, above)
 
-    module _ (own count : ℕ) (own_is : own ≡ prefix_len (is_at m) others)
-        (more : IsFront (is_under m) (drop own others) count) where
+    -- the first record is known to be at or below the name, where it is not the name's own
+    module _ (own known count : ℕ) (own_is : own ≡ prefix_len (is_at m) others)
+        (some : first < end) (known_is : known ≡ max own 1)
+        (more : IsFront (is_under m) (drop known others) count) where
       own_fits : own ≤ length others
       own_fits = omega (arith, own_is, prefix_len-le-length (is_at m) others)
 
@@ -91,8 +98,16 @@ module _ (rs : List ResourceRecord) (canonical : IsCanonical rs) (m : DomainName
           ∙ (front (is_at m) others
           (parted_take (is_at m) (drop first rs) (end - first) own_front)).0
 
-      all_fit : own + count ≤ length others
-      all_fit = omega (arith, own_fits, more.bound, length-drop own others)
+      first_is : take 1 others ≡ r ∷ []
+      first_is =
+          ap (λ ys. take 1 (take (end - first) ys)) rest_is
+          ∙ one_of (end - first) r (drop (first + 1) rs) (omega (arith, some))
+
+      known_fits : known ≤ length others
+      known_fits = grind (arith, own_fits, known_is, first_is, length-take)
+
+      all_fit : known + count ≤ length others
+      all_fit = omega (arith, known_fits, more.bound, length-drop known others)
 
       front_is : AllByRecursion (λ s. is_under m s ≡ true) (take own others)
       front_is =
@@ -100,18 +115,28 @@ module _ (rs : List ResourceRecord) (canonical : IsCanonical rs) (m : DomainName
           (each_weaker (λ s. is_at m s ≡ true) (λ s. is_under m s ≡ true) (filter (is_at m) others)
           (λ s h. itself-under s.owner m h) (filter_each (is_at m) others))
 
-      from_first : take (own + count) (drop first rs) ≡ under m (drop first rs)
-      from_first =
-          widened (is_under m) rs first end upto after (own + count) all_fit
-          (both_fronts (is_under m) others own count front_is more.passing)
+      known_front : (0 < own) ⊎ (own ≤ 0)
+          → AllByRecursion (λ s. is_under m s ≡ true) (take known others)
+      known_front (inl l) =
+          let same : known ≡ own = grind (arith, known_is) in
+          subst (λ k. AllByRecursion (λ s. is_under m s ≡ true) (take k others)) (sym same) front_is
+      known_front (inr l) =
+          let same : known ≡ 1 = grind (arith, known_is) in
+          subst (λ k. AllByRecursion (λ s. is_under m s ≡ true) (take k others)) (sym same)
+          (subst (AllByRecursion (λ s. is_under m s ≡ true)) (sym first_is) (search (rules, above)))
 
-      pub reached : (0 < own + count) × (first + (own + count) ≤ end)
+      from_first : take (known + count) (drop first rs) ≡ under m (drop first rs)
+      from_first =
+          widened (is_under m) rs first end upto after (known + count) all_fit
+          (both_fronts (is_under m) others known count (known_front (cases_lt 0 own)) more.passing)
+
+      pub reached : (0 < known + count) × (first + (known + count) ≤ end)
           × (span rs first (first + own) ≡ filter (is_at m) rs)
-          × (span rs first (first + (own + count)) ≡ under m rs)
+          × (span rs first (first + (known + count)) ≡ under m rs)
       reached =
           let of_own : first + own - first ≡ own = omega arith in
-          let of_all : first + (own + count) - first ≡ own + count = omega arith in
-          let taken = length-take (own + count) (drop first rs) in (
+          let of_all : first + (known + count) - first ≡ known + count = omega arith in
+          let taken = length-take (known + count) (drop first rs) in (
             omega (arith, some_under, ap length from_first, taken),
             omega (arith, all_fit, upto, length-take (end - first) (drop first rs)),
             ap (λ k. take k (drop first rs)) of_own

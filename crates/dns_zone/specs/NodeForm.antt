@@ -1,11 +1,14 @@
 -- What a reader learns here: what the tree of a zone keeps, and which name a row of it stands for.
-use Rattle.std.specs.Prelude.{◌≡◌, ◌⊎◌, ℕ, ◌<◌, List, map, length, get_or}
+use Rattle.std.specs.Prelude.{◌≡◌, ◌⊎◌, ℕ, ◌<◌, ◌≤◌, Bool, true, List, All, None, map, length, get_or}
+use Rattle.dns_spec.specs.Names.{at_or_below}
 use Rattle.dns_spec.specs.Records.{ResourceRecord, ZoneContents}
+use Rattle.dns_spec.specs.Tree.{cut_of}
 use Rattle.dns_zone.specs.Nodes.{ZoneNode, IsLead}
 use Rattle.dns_zone.specs.ZoneForm.{IsBuilt}
 use Rattle.dns_zone.specs.TreeForm.{IsTree, row_name, row_at}
 use Rattle.dns_zone.specs.declared.tree.row.Row.{Row}
 use Rattle.dns_zone.specs.declared.tree.Tree.{Tree}
+use Rattle.dns_zone.specs.declared.tree.way.Step.{Step}
 
 -- the row of a lead for records of a type
 pub record IsLeadRow (z : ZoneContents) (rows : List Row) (rtype k : ℕ) : Type 0 where
@@ -39,3 +42,21 @@ node_at t k = record { zone = t.zone; name = row_name t.zone.records (row_at t.r
 pub record IsNodeAt (t : Tree) (k : ℕ) : Type 0 where
   pub kept : IsZoneTree t
   pub row : k < length t.rows
+
+-- the ways to targets through a tree: to those of aliases, or to those of other records
+pub record TargetWay : Type 0 where
+  pub tree : Tree
+  pub is_of_alias : Bool
+
+-- the row of the origin, or of a name below it that may be a lead
+pub record IsOnWay (w : TargetWay) (k : ℕ) : Type 0 where
+  pub at : IsNodeAt w.tree k
+  pub inside : at_or_below (node_at w.tree k).name w.tree.zone.origin ≡ true
+  pub longer : (k ≡ 0) ⊎ (length w.tree.zone.origin < length (node_at w.tree k).name)
+  pub long : length w.tree.zone.origin ≤ length (node_at w.tree k).name
+  pub uncut : w.is_of_alias ≡ true → cut_of w.tree.zone (node_at w.tree k).name ≡ None
+
+-- the names on a way
+pub record IsWay (w : TargetWay) (names : List Step) : Type 0 where
+  pub kept : IsZoneTree w.tree
+  pub each : All (λ (s : Step). IsOnWay w s.row.0) names

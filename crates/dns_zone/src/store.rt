@@ -114,12 +114,16 @@ impl Store {
         let origin = origin.fold();
         let (records, keyed) = ordered(alloc, &origin.lent(), entries)?;
         let found = faults(alloc, &origin.lent(), records.as_slice(), &keyed)?;
-        drop(keyed);
+        let numbers = Kept::new(keyed.numbers);
         if !found.is_empty() {
             return Err(BuildFault::Faults(found));
         }
         let records = Kept::new(records);
-        Ok(CheckedZone { origin, records })
+        Ok(CheckedZone {
+            origin,
+            records,
+            numbers,
+        })
     }
 }
 

@@ -12,6 +12,7 @@ pub(crate) mod search;
 pub(crate) mod set;
 pub(crate) mod sought;
 pub(crate) mod steps;
+pub(crate) mod way;
 
 ghost use Rattle.std.specs.Prelude.{◌≡◌, ◌<◌, length, IfOk, OnOk};
 ghost use Rattle.dns_name.specs.WireForm.{labels_of, IsWireForm};

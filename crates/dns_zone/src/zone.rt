@@ -28,6 +28,8 @@ use std::marker::Model;
 pub struct CheckedZone {
     pub(crate) origin: Name,
     pub(crate) records: Kept<Entry>,
+    /// How many records stood before each one in the file. Empty if records are short.
+    pub(crate) numbers: Kept<u32>,
 }
 
 impl Model for CheckedZone {
@@ -108,7 +110,7 @@ impl Zone {
 
     /// The zone that was checked, to be served: its names are found, and where the way to each
     /// target begins, so that an alias to a name of many labels costs a question no more than a
-    /// short one. Memory is taken for 32 octets for each name and for 8 for each record.
+    /// short one. Memory is taken for 32 octets for each name and for 12 for each record.
     pub fn of(alloc: Global, zone: CheckedZone) -> Result<Zone, AllocError>
         ensures { IfOk result (λ whole. whole ≡ zone) }
     {

@@ -8,7 +8,7 @@ ghost use Rattle.std.specs.List.Sorted.{IsPermutation};
 ghost use Rattle.dns_spec.specs.Meaning.{most_records};
 ghost use Rattle.dns_zone.specs.KeyedForm.{AreKeyed};
 
-use crate::order::keyed::key_at;
+use crate::order::keyed::{key_at, swap_numbers};
 use crate::order::own_order;
 use crate::store::entry::Entry;
 use std::alloc::{AllocError, Global};
@@ -26,9 +26,9 @@ struct Run {
     end: u32,
 }
 
-/// Moves records, with where their keys begin, into canonical order. Duplicates are kept, and
-/// nothing here says that it is that order: who needs it looks, and sorts where it is not. The
-/// first `base` octets of the keys are that of the origin.
+/// Moves records, with where their keys begin and with their numbers, into canonical order.
+/// Duplicates are kept, and nothing here says that it is that order: who needs it looks, and sorts
+/// where it is not. The first `base` octets of the keys are that of the origin.
 ///
 /// Memory is taken for 24 octets for each run of records of one owner, and for 4 octets for each
 /// record.
@@ -39,6 +39,7 @@ pub(crate) fn arrange(
     keys: &[u8],
     records: &mut [Entry],
     starts: &mut [u32],
+    numbers: &mut [u32],
 ) -> Result<(), AllocError>
     requires keyed { AreKeyed keys.now records.old starts.old }
     requires few { length records.old ≤ most_records }
@@ -50,7 +51,7 @@ pub(crate) fn arrange(
     let sources = places.as_mut_slice();
     if sources.len() == records.len() {
         'places: for at in 0..records.len() {
-            settle(keys, records, starts, sources, at);
+            settle(keys, records, starts, numbers, sources, at);
         }
     }
     Ok(())
@@ -234,7 +235,14 @@ fn sort_own(records: &[Entry], places: &mut [u32], first: usize)
 
 // Moves to the place `first` the record that comes there, and on to the place which that leaves,
 // until the record of `first` is moved.
-fn settle(keys: &[u8], records: &mut [Entry], starts: &mut [u32], places: &mut [u32], first: usize)
+fn settle(
+    keys: &[u8],
+    records: &mut [Entry],
+    starts: &mut [u32],
+    numbers: &mut [u32],
+    places: &mut [u32],
+    first: usize,
+)
     requires first { first < length records.old }
     requires keyed { AreKeyed keys.now records.old starts.old }
     requires few { length records.old ≤ most_records }
@@ -253,6 +261,7 @@ fn settle(keys: &[u8], records: &mut [Entry], starts: &mut [u32], places: &mut [
         }
         records.swap(at, from);
         starts.swap(at, from);
+        swap_numbers(numbers, at, from);
         at = from;
     }
 }

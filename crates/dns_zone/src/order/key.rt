@@ -89,8 +89,8 @@ pub(crate) fn is_below(key: &[u8], other: &[u8]) -> bool
     key.len() > other.len() && is_under(key, other)
 }
 
-// How many octets at their ends are the same.
-fn count_alike(one: &[u8], other: &[u8]) -> usize
+/// How many octets at their ends are the same.
+pub(crate) fn count_alike(one: &[u8], other: &[u8]) -> usize
     ensures { AreAlike result one.now other.now }
 {
     let (left, right) = before_alike::<8>(one, other);

@@ -11,12 +11,18 @@ use crate::store::entry::Entry;
 use dns_name::NameRef;
 use std::alloc::{AllocError, Global};
 
-/// The key of the origin, then those of the owners of records, and where that of each record
-/// begins. Neighbours of one owner share theirs.
+// If records have no more octets on the average, their order in the file is not kept.
+const FEW_OCTETS: usize = 64;
+
+/// The keys of owners, and the order that records had in the file.
 #[derive(Drop)]
 pub(crate) struct Keyed {
+    /// The key of the origin, then those of the owners.
     pub(crate) keys: Vec<u8>,
+    /// Where the key of each record's owner begins. Neighbours of one owner share theirs.
     pub(crate) starts: Vec<u32>,
+    /// How many records stood before each one in the file. Empty if records are short.
+    pub(crate) numbers: Vec<u32>,
 }
 
 #[tactic(auto, using(crate::proofs::SearchSteps::wire_steps))]
@@ -33,6 +39,7 @@ pub(crate) fn keys_of<'a>(
 {
     let mut keys = Vec::new(alloc);
     let mut starts = Vec::with_capacity(alloc, records.len())?;
+    let numbers = numbers_of(alloc, records)?;
     let mut key = Key::of(origin);
     keys.extend_from_slice(key.octets())?;
     let mut last = NameRef::new(origin.octets());
@@ -47,7 +54,30 @@ pub(crate) fn keys_of<'a>(
         }
         starts.push(start)?;
     }
-    Ok(Keyed { keys, starts })
+    Ok(Keyed {
+        keys,
+        starts,
+        numbers,
+    })
+}
+
+fn numbers_of(alloc: Global, records: &[Entry]) -> Result<Vec<u32>, AllocError>
+    requires { length records.now ≤ most_records }
+{
+    let octets = records
+        .iter()
+        .fold(0_usize, |sum, each| sum.wrapping_add(each.octet_count()));
+    if octets / FEW_OCTETS <= records.len() {
+        return Ok(Vec::new(alloc));
+    }
+    Vec::from_iter(alloc, 0..records.len() as u32)
+}
+
+/// Swaps the numbers of two records, if they are kept.
+pub(crate) fn swap_numbers(numbers: &mut [u32], one: usize, other: usize) {
+    if one < numbers.len() && other < numbers.len() {
+        numbers.swap(one, other);
+    }
 }
 
 /// The key of a record's owner, which begins at `start`.

@@ -12,7 +12,7 @@ ghost use Rattle.dns_zone.specs.KeyedForm.{key_in, AreKeyed};
 ghost use Rattle.dns_zone.specs.ZoneForm.{AreOrdered};
 
 use crate::order::arranged::arrange;
-use crate::order::keyed::{Keyed, key_at, keys_of};
+use crate::order::keyed::{Keyed, key_at, keys_of, swap_numbers};
 use crate::order::{own_order, record_order};
 use crate::store::entry::Entry;
 use dns_name::NameRef;
@@ -38,46 +38,60 @@ pub(crate) fn ordered(
     ensures keyed { IfOk result (λ (kept, keyed). AreKeyed keyed.keys.items kept.items
         keyed.starts.items) }
 {
-    let Keyed { keys, mut starts } = keys_of(alloc, &*origin, records.as_slice())?;
+    let mut keyed = keys_of(alloc, &*origin, records.as_slice())?;
     arrange(
         alloc,
         origin.octets().len() - 1,
-        keys.as_slice(),
+        keyed.keys.as_slice(),
         records.as_mut_slice(),
-        starts.as_mut_slice(),
+        keyed.starts.as_mut_slice(),
+        keyed.numbers.as_mut_slice(),
     )?;
-    if leave_out_duplicates(keys.as_slice(), &mut records, &mut starts) {
-        return Ok((records, Keyed { keys, starts }));
+    if leave_out_duplicates(&mut records, &mut keyed) {
+        return Ok((records, keyed));
     }
     records.sort_unstable_by(|one, other| record_order(one, other));
-    let Keyed { keys, mut starts } = keys_of(alloc, &*origin, records.as_slice())?;
-    leave_out_duplicates(keys.as_slice(), &mut records, &mut starts);
-    Ok((records, Keyed { keys, starts }))
+    let mut keyed = keys_of(alloc, &*origin, records.as_slice())?;
+    leave_out_duplicates(&mut records, &mut keyed);
+    Ok((records, keyed))
 }
 
 // Leaves out each record that is equal to the one before. None is where one comes after the next,
 // which the answer says.
-fn leave_out_duplicates(keys: &[u8], records: &mut Vec<Entry>, starts: &mut Vec<u32>) -> bool
-    requires { AreKeyed keys.now records.old.items starts.old.items }
+fn leave_out_duplicates(records: &mut Vec<Entry>, keyed: &mut Keyed) -> bool
+    requires { AreKeyed keyed.old.keys.items records.old.items keyed.old.starts.items }
     ensures sorted { IsSorted record_order records.old.items → result ≡ true }
     ensures moved { OnFalse result (IsPermutation records.old.items records.new.items) }
     ensures bound { length records.new.items ≤ length records.old.items }
-    ensures keyed { OnTrue result (AreKeyed keys.now records.new.items starts.new.items) }
+    ensures keys { keyed.new.keys ≡ keyed.old.keys }
+    ensures keyed { OnTrue result (AreKeyed keyed.new.keys.items records.new.items
+        keyed.new.starts.items) }
     ensures once { OnTrue result ((rs : List ResourceRecord) → All IsReadRecord rs
         → IsPermutation rs records.old.items
         → records.new.items ≡ sort_by record_order (distinct records_equal rs)) }
 {
-    let Some(count) = once_in_front(keys, records.as_mut_slice(), starts.as_mut_slice()) else {
+    let Some(count) = once_in_front(
+        keyed.keys.as_slice(),
+        records.as_mut_slice(),
+        keyed.starts.as_mut_slice(),
+        keyed.numbers.as_mut_slice(),
+    ) else {
         return false;
     };
     records.truncate(count);
-    starts.truncate(count);
+    keyed.starts.truncate(count);
+    keyed.numbers.truncate(count);
     true
 }
 
 // Moves each record that is not equal to the one before to the front, and says how many these are.
 // None where one comes after the next.
-fn once_in_front(keys: &[u8], records: &mut [Entry], starts: &mut [u32]) -> Option<usize>
+fn once_in_front(
+    keys: &[u8],
+    records: &mut [Entry],
+    starts: &mut [u32],
+    numbers: &mut [u32],
+) -> Option<usize>
     requires { AreKeyed keys.now records.old starts.old }
     ensures permutation { IsPermutation records.old records.new }
     ensures keyed { AreKeyed keys.now records.new starts.new }
@@ -95,6 +109,7 @@ fn once_in_front(keys: &[u8], records: &mut [Entry], starts: &mut [u32]) -> Opti
                 last += 1;
                 records.swap(last, at);
                 starts.swap(last, at);
+                swap_numbers(numbers, last, at);
             }
             Ordering::Equal => {}
             Ordering::Greater => return None,

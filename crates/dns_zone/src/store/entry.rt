@@ -67,6 +67,11 @@ impl Entry {
         NameRef::new(self.octets.as_slice().split_at(count).0)
     }
 
+    /// How many octets its owner and its data have together.
+    pub(crate) fn octet_count(&self) -> usize {
+        self.octets.len()
+    }
+
     pub(crate) fn rdata(&self) -> &[u8]
         ensures value { result.now ≡ self.now.rdata }
         ensures valid { Valid self.now.rtype self.now.rdata }

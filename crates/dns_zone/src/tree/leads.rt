@@ -1,64 +1,66 @@
 //! Where the way to the target of a record begins.
-ghost use Rattle.std.specs.Prelude.{IfOk};
-ghost use Rattle.dns_zone.specs.NodeForm.{IsZoneTree, IsLeadAt, AreLeads};
-ghost use Rattle.dns_zone.specs.Starts.{IsBelow};
+ghost use Rattle.std.specs.Prelude.{◌≤◌, length, IfOk};
+ghost use Rattle.dns_spec.specs.Meaning.{most_records};
+ghost use Rattle.dns_zone.specs.NodeForm.{IsZoneTree, AreLeads};
 
 use crate::checks::target::target;
 use crate::store::entry::Entry;
 use crate::tree::Tree;
-use crate::tree::labels::{MOST_LABELS, label_after, put_starts};
-use crate::tree::node::{Node, kid_of};
-use crate::tree::row::RowNumber;
-use crate::tree::sought::Sought;
-use crate::tree::steps::Steps;
+use crate::tree::way::Way;
 use dns_rdata::RType;
 use std::alloc::{AllocError, Global};
 
-/// For each record the row of the last name on the way to its target, or 0 where that has none, is
-/// outside of the zone. The way of an alias ends before a cut. Memory is taken for 8 octets for
-/// each record.
-#[tactic(auto, using(crate::proofs::LeadRows::leads_more))]
+/// For each record the row of the last name on the way to its target; 0 if it has no target, if
+/// that is outside of the zone, or if the last name is the origin. The way of an alias ends before
+/// a cut. Memory is taken for 12 octets for each record.
+///
+/// Targets are visited in the order of the file. A file needs few octets for a target of many
+/// labels only if it ends as the one before does, so that each step is paid by a label that is
+/// written.
 pub(crate) fn leads_of(alloc: Global, tree: &Tree) -> Result<Vec<usize>, AllocError>
     requires { IsZoneTree tree.now }
     ensures { IfOk result (λ leads. AreLeads tree.now.zone tree.now.rows leads.items) }
 {
     let records = tree.zone.records();
-    let mut leads = Vec::with_capacity(alloc, records.len())?;
-    'records: for record in records {
-        let lead = match target(record) {
-            Some(name) => match Sought::below(&name, &tree.zone.origin().lent()) {
-                Some(sought) => last_on_way(tree, &sought, record.rtype),
-                None => 0,
-            },
-            None => 0,
+    let mut leads = Vec::new(alloc);
+    leads.resize(records.len(), 0)?;
+    let places = places_in_file(alloc, tree.zone.numbers.lent(), records)?;
+    let mut way = Way::new(tree, false);
+    let mut way_of_aliases = Way::new(tree, true);
+    'records: for place in places.as_slice() {
+        let place = *place as usize;
+        if place >= leads.len() {
+            continue;
+        }
+        let record = &records[place];
+        let Some(target) = target(record) else {
+            continue;
         };
-        leads.push(lead)?;
+        let lead = if record.rtype == RType::CNAME {
+            way_of_aliases.lead_to(&target)
+        } else {
+            way.lead_to(&target)
+        };
+        leads[place] = lead;
     }
     Ok(leads)
 }
 
-// The row of the last name that exists on the way from the origin to a name, or 0 where that is the
-// origin. The way of an alias ends before a cut.
-fn last_on_way(tree: &Tree, sought: &Sought<'_>, rtype: RType) -> usize
-    requires tree { IsZoneTree tree.now }
-    requires below { IsBelow sought.now tree.now.zone.origin }
-    ensures { IsLeadAt tree.now.zone tree.now.rows rtype.0 result }
+// The places of the records in the order of the file, or as they are if that is not known. The
+// number of a record that was there twice may have no place.
+fn places_in_file(alloc: Global, numbers: &[u32], records: &[Entry]) -> Result<Vec<u32>, AllocError>
+    requires { length records.now ≤ most_records }
 {
-    let octets = sought.name.octets();
-    let mut starts = [0; MOST_LABELS];
-    put_starts(octets, sought.depth, &mut starts);
-    let mut row = RowNumber(0);
-    let mut before = sought.depth;
-    'labels: while before > 0 {
-        let label = label_after(octets, &starts, before - 1);
-        let Some(kid) = kid_of(tree, row, &label, &mut Steps::over(tree)) else {
-            break;
-        };
-        if rtype == RType::CNAME && Node::at(tree, kid).set(RType::NS).is_some() {
-            break;
-        }
-        row = kid;
-        before -= 1;
+    if numbers.is_empty() {
+        return Vec::from_iter(alloc, 0..records.len() as u32);
     }
-    row.0
+    let most = numbers.iter().fold(0, |most, number| most.max(*number));
+    let mut places = Vec::new(alloc);
+    places.resize(most as usize + 1, u32::MAX)?;
+    'places: for (place, number) in (0..u32::MAX).zip(numbers.iter()) {
+        if let Some(found) = places.get_mut(*number as usize) {
+            *found = place;
+        }
+    }
+    Ok(places)
 }

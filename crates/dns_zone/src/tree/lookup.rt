@@ -21,12 +21,16 @@ pub(crate) fn count_under(records: &[Entry], name: &NameRef<'_>) -> usize
     requires lower { folded name.now ≡ name.now }
     ensures { IsFront (λ (r : ResourceRecord). at_or_below r.owner name.now) records.now result }
 {
-    // Most names have none below them.
-    let Some(first) = records.first() else {
+    // Most names have no name below them. If one has, all of these records may be below it: that
+    // is so for each name with one child.
+    let (Some(first), Some(last)) = (records.first(), records.last()) else {
         return 0;
     };
     if !is_under(first, name) {
         return 0;
+    }
+    if is_under(last, name) {
+        return records.len();
     }
     records.partition_point(|entry| is_under(entry, name))
 }

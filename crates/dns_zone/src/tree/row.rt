@@ -10,7 +10,7 @@ use crate::tree::lookup::{count_in_front, count_under};
 use dns_name::NameRef;
 
 /// Which row of its tree a node is. That of the origin is 0.
-#[derive(Clone, Copy)]
+#[derive(Clone, Copy, Default)]
 pub(crate) struct RowNumber(pub(crate) usize);
 
 /// A name of a zone: which of the zone's records, in canonical order, are at or below it, and which
@@ -46,12 +46,14 @@ impl Row {
     {
         let others = &records[first..end];
         let own = count_in_front(others, name);
-        let (_, after) = others.split_at(own);
+        // The first record is at or below the name.
+        let known = own.max(1);
+        let (_, after) = others.split_at(known);
         let label = first_octets(name);
         Row {
             first: first as u32,
             own_end: (first + own) as u32,
-            end: (first + (own + count_under(after, name))) as u32,
+            end: (first + (known + count_under(after, name))) as u32,
             place: (records[first].owner().octets().len() - name.octets().len()) as u8,
             label_octets: label.len() as u8,
             key: label_key(label),

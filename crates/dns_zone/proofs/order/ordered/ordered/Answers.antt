@@ -1,6 +1,6 @@
 use Rattle.dns_zone.proofs.Common.{rules, true, is_lt, ◌≡◌, ℕ, ◌++◌, List, All, length, take, drop, sym, subst, ◌∙◌, take-append_seam, IsPermutation, ResourceRecord, record_order, IsReadRecord, length_permutation, ranks_by, IsPermutation-trans, always_returns_same, record_order_total, sort_risen, rises_canonical, all_canonical, AreKeyed, AreOrdered}
 use Rattle.dns_zone.proofs.order.ordered.ordered.Goals as goal
-use Rattle.dns_zone.proofs.order.ordered.ordered.Goals.{Then-leave_out_duplicates, After-drop-keys-2}
+use Rattle.dns_zone.proofs.order.ordered.ordered.Goals.{Then-leave_out_duplicates, After-drop-keyed-4}
 use Rattle.dns_zone.proofs.AtName.{canonical}
 use Rattle.dns_spec.proofs.Common.{OnTrue_at}
 
@@ -28,7 +28,7 @@ module _ (rs xs : List ResourceRecord) (each : All IsReadRecord rs) (is : xs ≡
 
 module _ (c : Then-leave_out_duplicates) where
   each : All IsReadRecord c.args.records.items
-  each = subst (All IsReadRecord) c.as_slice.ensures.value c.in_ok-keys.ensures.read
+  each = subst (All IsReadRecord) c.as_slice.ensures.value c.in_ok-keyed.ensures.read
 
   once : c.leave_out_duplicates.new.records.items ≡ canonical c.args.records.items
   once =
@@ -45,9 +45,9 @@ pub returns-then-leave_out_duplicates-clause-each :
     goal.returns-then-leave_out_duplicates-clause-each
 returns-then-leave_out_duplicates-clause-each c = all_read _ _ (each c) (once c)
 
-module _ (c : After-drop-keys-2) where
+module _ (c : After-drop-keyed-4) where
   read : All IsReadRecord c.args.records.items
-  read = subst (All IsReadRecord) c.as_slice.ensures.value c.in_ok-keys.ensures.read
+  read = subst (All IsReadRecord) c.as_slice.ensures.value c.in_ok-keyed.ensures.read
 
   none_later : c.leave_out_duplicates-2.result ≡ true
   none_later =
@@ -75,9 +75,4 @@ pub returns-clause-each : goal.returns-clause-each
 returns-clause-each c = all_read _ _ (read c) (sorted c)
 
 pub returns-clause-keyed : goal.returns-clause-keyed
-returns-clause-keyed c =
-    subst
-    (λ ks. AreKeyed ks c.leave_out_duplicates-2.new.records.items
-    c.leave_out_duplicates-2.new.starts.items)
-    c.as_slice-5.ensures.value
-    (OnTrue_at (none_later c) c.leave_out_duplicates-2.ensures.keyed)
+returns-clause-keyed c = OnTrue_at (none_later c) c.leave_out_duplicates-2.ensures.keyed

@@ -1,4 +1,4 @@
-use Rattle.dns_zone.proofs.Common.{◌≡◌, Bool, false, List, [], ◌∷◌, refl, arith, false≢true, false_from_ne_true, IsPartitionedBy, IsFront, rules, IsPartitionPoint-from_clause, at_or_below, ResourceRecord}
+use Rattle.dns_zone.proofs.Common.{◌≡◌, ◌∙◌, ◌-◌, Bool, true, false, ap, sym, length, get_or, List, [], ◌∷◌, refl, arith, false≢true, false_from_ne_true, IsPartitionedBy, IsFront, rules, IsPartitionPoint-from_clause, at_or_below, ResourceRecord}
 use Rattle.dns_spec.proofs.General.Tests.{first_passes}
 use Rattle.dns_spec.proofs.General.Fronts.{halves}
 use Rattle.dns_zone.proofs.tree.lookup.count_under.Goals as goal
@@ -19,6 +19,25 @@ returns-in_default c = none_in_front _ _ (search rules) c.requires.in_front
 
 pub returns-then-not-is_under : goal.returns-then-not-is_under
 returns-then-not-is_under c = none_in_front _ _ (search rules) c.requires.in_front
+
+-- where the last element passes, all do
+all_in_front : {X : Type 0} (p : X → Bool) (xs : List X) → ((d : X)
+    → p (get_or xs (length xs - 1) d) ≡ true) → IsPartitionedBy p xs → IsFront p xs (length xs)
+all_in_front p xs last parts =
+    let found = halves p xs (length xs) (omega arith) (
+      λ k d a b. parts k (length xs - 1) d (omega (arith, b)) (omega (arith, b)) (last d),
+      λ k d a b. absurd (omega (arith, a, b)),
+    ) in
+    record { bound = omega arith; passing = found.0; others = found.1 }
+
+pub returns-then-is_under : goal.returns-then-is_under
+returns-then-is_under c =
+    let rs = c.args.records.now in
+    let last : (d : ResourceRecord) → get_or rs (length rs - 1) d ≡ c.in-Some-Some.last.now =
+    search rules in
+    all_in_front _ rs
+    (λ d. ap (λ (r : ResourceRecord). at_or_below r.owner c.args.name.now) (last d)
+    ∙ sym c.is_under-2.ensures ∙ c.if-is_under.true) c.requires.in_front
 
 pub returns : goal.returns
 returns c =

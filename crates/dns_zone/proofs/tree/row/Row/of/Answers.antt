@@ -11,7 +11,7 @@ count_under-requires-clause-in_front c =
     subst (λ (ys : List ResourceRecord). IsPartitionedBy (is_under m) ys)
     (sym c.split_at.ensures.back)
     (parted_drop (is_under m) (span c.args.records.now c.args.first c.args.end)
-    c.count_in_front-own.result
+    c.max-known.result
     (under_others c.args.records.now c.requires.canonical m c.args.first
     (omega (arith, c.requires.some, c.requires.fits)) c.requires.here c.requires.before c.args.end
     (omega (arith, c.requires.some)) c.requires.after))
@@ -42,11 +42,13 @@ returns-clause-row c =
     let count = c.count_under.result in
     let fits : first < length rs = omega (arith, c.requires.some, c.requires.fits) in
     let upto : first ≤ end = omega (arith, c.requires.some) in
-    let more : IsFront (is_under m) (drop own (span rs first end)) count =
+    let known = c.max-known.result in
+    let more : IsFront (is_under m) (drop known (span rs first end)) count =
     subst (λ (ys : List ResourceRecord). IsFront (is_under m) ys count) c.split_at.ensures.back
     c.count_under.ensures in
     let reach =
     reached rs c.requires.canonical m first fits c.requires.here c.requires.before end upto
-    c.requires.after own count c.count_in_front-own.ensures.value more in
+    c.requires.after own known count c.count_in_front-own.ensures.value c.requires.some
+    c.max-known.ensures more in
     let name = place (goal.at.returns-clause-row c).After-octets-2 in
     grind (arith, owner_at)

@@ -1,0 +1,157 @@
+//! The way from the origin of a zone to one target after another.
+ghost use Rattle.std.specs.Prelude.{ℕ, ◌≡◌, true};
+ghost use Rattle.dns_name.specs.WireForm.{IsWireForm};
+ghost use Rattle.dns_spec.specs.Data.{type_cname};
+ghost use Rattle.dns_zone.specs.NodeForm.{IsZoneTree, IsLeadAt, IsOnWay};
+
+use crate::order::key::count_alike;
+use crate::tree::Tree;
+use crate::tree::labels::MOST_LABELS;
+use crate::tree::node::{Node, kid_of};
+use crate::tree::row::RowNumber;
+use crate::tree::steps::Steps;
+use arrayvec::ArrayVec;
+use dns_name::{Label, NameRef, first_label};
+use dns_rdata::RType;
+use std::marker::Model;
+
+// A name below the origin that exists: its row, and how many octets it has on the wire.
+#[derive(Clone, Copy, Default)]
+struct Step {
+    row: RowNumber,
+    octets: usize,
+}
+
+/// The names that exist on the way from the origin to the last target, one after the other. The way
+/// of an alias ends before a cut. The names that the next target ends with too stay.
+#[derive(Drop)]
+pub(crate) struct Way<'z> {
+    tree: &'z Tree,
+    is_of_alias: bool,
+    target: NameRef<'z>,
+    names: ArrayVec<Step, MOST_LABELS>,
+    // How many octets the first name on the way has that does not exist; 0 if that is not known.
+    missing: usize,
+}
+
+impl<'z> Model for Way<'z> {
+    ghost use Rattle.dns_zone.specs.NodeForm.{TargetWay, IsWay};
+
+    ghost Value = { TargetWay };
+
+    ghost view = { λ w. record { tree = w.tree.now; is_of_alias = w.is_of_alias } };
+
+    ghost invariant = { λ w. IsWay (record { tree = w.tree.now; is_of_alias = w.is_of_alias })
+        w.names.items };
+}
+
+impl<'z> Way<'z> {
+    /// The way to the origin.
+    pub(crate) fn new(tree: &'z Tree, is_of_alias: bool) -> Way<'z>
+        requires { IsZoneTree tree.now }
+        ensures { result ≡ record { tree = tree.now; is_of_alias = is_of_alias } }
+    {
+        Way {
+            tree,
+            is_of_alias,
+            target: NameRef::new(&[0]),
+            names: ArrayVec::new(),
+            missing: 0,
+        }
+    }
+
+    /// The row of the last name that exists on the way to a target; 0 if that is the origin, or if
+    /// the target is outside of the zone.
+    pub(crate) fn lead_to(&mut self, target: &NameRef<'z>) -> usize
+        ensures same { self.new ≡ self.old }
+        ensures lead { (rtype : ℕ) → (rtype ≡ type_cname → self.old.is_of_alias ≡ true)
+            → IsLeadAt self.old.tree.zone self.old.tree.rows rtype result }
+    {
+        let octets = target.octets();
+        if !octets.ends_with(self.tree.zone.origin().octets()) {
+            return 0;
+        }
+        self.turn_to(target);
+        self.last().0
+    }
+
+    // Leaves the names that the target does not end with, and goes on to the last that exists.
+    fn turn_to(&mut self, target: &NameRef<'z>)
+        ensures { self.new ≡ self.old }
+    {
+        if self.target == *target {
+            return;
+        }
+        let octets = target.octets();
+        let alike = count_alike(octets, self.target.octets());
+        if self.missing > alike {
+            self.missing = 0;
+        }
+        self.go_to(octets, alike);
+        self.target = NameRef::new(octets);
+    }
+
+    // Goes to the last name that exists on the way to this one, and says if it is this one. As many
+    // octets as are `alike` end the target and the last target.
+    fn go_to(&mut self, name: &[u8], alike: usize) -> bool
+        requires { IsWireForm name.now }
+        ensures { self.new ≡ self.old }
+    {
+        self.turn_back(name.len().min(alike));
+        let Some((label, rest)) = first_label(name) else {
+            return self.is_origin(name);
+        };
+        match self.names.last() {
+            Some(last) if last.octets == name.len() => return true,
+            None if self.is_origin(name) => return true,
+            _ => {}
+        }
+        name.len() != self.missing && self.go_to(rest, alike) && self.go_down(&label, name.len())
+    }
+
+    fn is_origin(&self, name: &[u8]) -> bool {
+        self.tree.zone.origin().octets() == name
+    }
+
+    // Leaves the names that have more octets.
+    fn turn_back(&mut self, most: usize)
+        ensures { self.new ≡ self.old }
+    {
+        'names: while let Some(last) = self.names.last() {
+            if last.octets <= most {
+                break;
+            }
+            self.names.pop();
+        }
+    }
+
+    fn last(&self) -> RowNumber
+        ensures { IsOnWay self.now result.0 }
+    {
+        match self.names.last() {
+            Some(last) => last.row,
+            None => RowNumber(0),
+        }
+    }
+
+    // Goes down to the child of this label, a name of so many octets, if it exists and the way does
+    // not end there.
+    fn go_down(&mut self, label: &Label<'_>, octets: usize) -> bool
+        ensures { self.new ≡ self.old }
+    {
+        let kid = kid_of(self.tree, self.last(), label, &mut Steps::over(self.tree));
+        let Some(row) = kid else {
+            self.missing = octets;
+            return false;
+        };
+        if self.is_of_alias && Node::at(self.tree, row).set(RType::NS).is_some() {
+            self.missing = octets;
+            return false;
+        }
+        if self.names.is_full() {
+            return false;
+        }
+        self.names.push(Step { row, octets });
+        true
+    }
+}
