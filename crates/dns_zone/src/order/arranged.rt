@@ -1,8 +1,8 @@
 //! Records brought into canonical order by few moves.
 //!
-//! A sort compares whole names, which takes time. So runs of records of one owner are sorted in
-//! the records' stead, by the fronts of their keys and then by whole keys, and each record is moved
-//! once.
+//! A sort compares whole names, which takes time. So runs of records of one owner are sorted in the
+//! records' stead, by so many octets of their keys at a time as are beside them, and each record is
+//! moved once.
 ghost use Rattle.std.specs.Prelude.{◌≡◌, ◌<◌, ◌≤◌, All, length, IfOk};
 ghost use Rattle.std.specs.List.Sorted.{IsPermutation};
 ghost use Rattle.dns_spec.specs.Meaning.{most_records};
@@ -16,6 +16,9 @@ use std::cmp::Ordering;
 
 // How many octets of an owner's key, after that of the origin, are kept beside it.
 const FRONT_OCTETS: usize = 16;
+
+// A key has no more fronts, one after the other.
+const MOST_FRONTS: usize = 16;
 
 // Records of one owner that stand side by side, from one place up to another, and the first octets
 // of the owner's key after that of the origin.
@@ -87,47 +90,92 @@ fn runs(
         })?;
         at = end;
     }
-    runs.sort_unstable_by(|one, other| front_order(one, other));
-    let mut first = 0;
-    'alike: while first < runs.len() {
-        let others = runs.as_slice()[first + 1..].iter();
-        let alike = others.take_while(|run| front_order(&runs[first], run).is_eq());
-        let end = first + 1 + alike.count();
-        if end > first + 1 {
-            sort_alike(keys, records, starts, runs.as_mut_slice(), first, end);
-        }
-        first = end;
-    }
+    let end = runs.len();
+    sort_runs(
+        keys,
+        records,
+        starts,
+        runs.as_mut_slice(),
+        0,
+        end,
+        MOST_FRONTS,
+    );
     Ok(runs)
 }
 
-// Sorts runs whose fronts are alike: by the octets after those that all of their keys begin with,
-// and then by their keys.
-fn sort_alike(
+// Sorts the runs from one place up to another by their fronts, and those whose fronts are alike by
+// the next ones, at most so many times more.
+fn sort_runs(
     keys: &[u8],
     records: &[Entry],
     starts: &[u32],
     runs: &mut [Run],
     first: usize,
     end: usize,
+    times: usize,
 )
+    requires order { first ≤ end }
+    requires fits { end ≤ length runs.old }
+    requires within { All (λ (r : Run). r.end ≤ length records.now) runs.old }
+    ensures within { All (λ (r : Run). r.end ≤ length records.now) runs.new }
+    ensures count { length runs.new ≡ length runs.old }
+{
+    runs[first..end].sort_unstable_by(|one, other| front_order(one, other));
+    if times == 0 {
+        return;
+    }
+    let mut at = first;
+    'alike: while at < end {
+        let next = at + count_of_front(&runs[at..end]);
+        if next > at + 1 && put_fronts(keys, records, starts, runs, at, next) {
+            sort_runs(keys, records, starts, runs, at, next, times - 1);
+        }
+        at = next;
+    }
+}
+
+// How many of the first runs have the front of the first one.
+fn count_of_front(runs: &[Run]) -> usize
+    ensures some { 0 < length runs.now → 0 < result }
+    ensures bound { result ≤ length runs.now }
+{
+    let Some((first, others)) = runs.split_first() else {
+        return 0;
+    };
+    let alike = others
+        .iter()
+        .take_while(|run| front_order(first, run).is_eq());
+    1 + alike.count()
+}
+
+// Makes the octets after those that the keys of these runs begin with their fronts. Whether a key
+// has any.
+fn put_fronts(
+    keys: &[u8],
+    records: &[Entry],
+    starts: &[u32],
+    runs: &mut [Run],
+    first: usize,
+    end: usize,
+) -> bool
     requires order { first < end }
     requires fits { end ≤ length runs.old }
     requires within { All (λ (r : Run). r.end ≤ length records.now) runs.old }
     ensures within { All (λ (r : Run). r.end ≤ length records.now) runs.new }
     ensures count { length runs.new ≡ length runs.old }
 {
-    let begins = key_of(keys, records, starts, &runs[first]);
-    let mut shared = begins;
+    let mut shared = key_of(keys, records, starts, &runs[first]);
     'shared: for at in first..end {
         shared = common_front(shared, key_of(keys, records, starts, &runs[at]));
     }
+    let mut has_octets = false;
     'fronts: for at in first..end {
         let key = key_of(keys, records, starts, &runs[at]);
-        runs[at].front = front_of(key.split_at(shared.len().min(key.len())).1);
+        let (_, rest) = key.split_at(shared.len().min(key.len()));
+        runs[at].front = front_of(rest);
+        has_octets |= !rest.is_empty();
     }
-    let alike = &mut runs[first..end];
-    alike.sort_unstable_by(|one, other| run_order(keys, records, starts, one, other));
+    has_octets
 }
 
 fn common_front<'a>(one: &'a [u8], other: &[u8]) -> &'a [u8] {

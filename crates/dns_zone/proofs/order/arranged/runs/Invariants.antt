@@ -6,9 +6,3 @@ invariant-runs l = All (λ (r : Run). r.end ≤ length l.records) l.runs.items
 
 abbrev pub decreases-runs : goal.decreases-runs
 decreases-runs l = length l.records - l.at
-
-abbrev pub invariant-alike : goal.invariant-alike
-invariant-alike l = All (λ (r : Run). r.end ≤ length l.records) l.runs.items
-
-abbrev pub decreases-alike : goal.decreases-alike
-decreases-alike l = length l.runs.items - l.first

@@ -1,5 +1,5 @@
 use Rattle.dns_zone.proofs.Common.{◌≡◌, ◌≤◌, All, length, Run}
-use Rattle.dns_zone.proofs.order.arranged.sort_alike.Given as goal
+use Rattle.dns_zone.proofs.order.arranged.put_fronts.Given as goal
 
 abbrev pub invariant-shared : goal.invariant-shared
 invariant-shared l = length l.runs ≡ length l.fn.runs
