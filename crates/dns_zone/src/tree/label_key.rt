@@ -6,7 +6,7 @@ ghost use Rattle.dns_zone.specs.LabelKey.{IsKey};
 ghost use Rattle.dns_zone.specs.TreeForm.{first_of};
 
 use crate::tree::lower_case::lower_case;
-use dns_name::NameRef;
+use dns_name::{NameRef, are_equal};
 use std::cmp::Ordering;
 
 /// How many octets a key has.
@@ -40,9 +40,10 @@ pub(crate) fn first_octets<'a>(name: &NameRef<'a>) -> &'a [u8]
 
 /// The order of a label in lower case and of another, whose case is ignored.
 pub(crate) fn order_to(lower: &[u8], label: &[u8]) -> Ordering
+    requires { map to_ascii_lowercase lower.now ≡ lower.now }
     ensures { result ≡ label_order lower.now (map to_ascii_lowercase label.now) }
 {
-    let (mut left, mut right) = (lower, label);
+    let (mut left, mut right) = after_same(lower, label);
     'octets: while let Some((one, left_rest)) = left.split_first() {
         let Some((other, right_rest)) = right.split_first() else {
             return Ordering::Greater;
@@ -59,4 +60,23 @@ pub(crate) fn order_to(lower: &[u8], label: &[u8]) -> Ordering
     } else {
         Ordering::Less
     }
+}
+
+// What follows the eights of octets that both begin with.
+fn after_same<'a>(lower: &'a [u8], label: &'a [u8]) -> (&'a [u8], &'a [u8])
+    requires { map to_ascii_lowercase lower.now ≡ lower.now }
+    ensures { label_order result.0.now (map to_ascii_lowercase result.1.now)
+        ≡ label_order lower.now (map to_ascii_lowercase label.now) }
+{
+    let (mut left, mut right) = (lower, label);
+    'eights: while left.len() >= 8 && right.len() >= 8 {
+        let (front, left_rest) = left.split_at(8);
+        let (begin, right_rest) = right.split_at(8);
+        if !are_equal(front, begin) {
+            break;
+        }
+        left = left_rest;
+        right = right_rest;
+    }
+    (left, right)
 }

@@ -33,6 +33,16 @@ returns-then-count-le-KEY_OCTETS-clause-order c =
     ∙ ap₂ nat_cmp (c.from-count.ensures ∙ own_count) (sym count)
     ∙ by_length own_key c.requires.key short
 
+pub order_to-requires : goal.order_to-requires
+order_to-requires c =
+    let own = c.first_octets-own.result.now in
+    let lower : map to_ascii_lowercase own ≡ own =
+    subst (λ l. map to_ascii_lowercase l ≡ l) (sym (c.first_octets-own.ensures.value
+    ∙ ap first_label (c.new.ensures.value ∙ c.octets_of.ensures.name)))
+    (first_lower (row_name c.args.records.now c.args.row.now) c.requires.row.lower) in
+    ap (map to_ascii_lowercase) c.split_at.ensures.back
+    ∙ sym (drop-map to_ascii_lowercase 8 own) ∙ ap (drop 8) lower ∙ sym c.split_at.ensures.back
+
 pub returns-clause-order : goal.returns-clause-order
 returns-clause-order c =
     let count = length-map c.args.label.now to_ascii_lowercase in
