@@ -1,10 +1,31 @@
 """What a run of a program takes, for tools that measure."""
 import os
+import resource
 import subprocess
 import tempfile
 
 # A run that takes longer is ended.
 SECONDS = 600
+# How many instructions a zone file may take for each octet that is read or written, to be checked and to be loaded by the server.
+MOST_TO_CHECK = 670
+MOST_TO_LOAD = 910
+# How many a reply over TCP may take: in all, and for each octet of the query and the reply.
+MOST_A_REPLY = 100_000_000
+MOST_AN_OCTET = 1_000
+# How many a question over UDP may take, whatever zone of 100,000 records it is asked of, without the digits of its line and of
+# the reply's, which take some 30 an octet. docs/DECISIONS.md says why they are as many.
+MOST_OVER_UDP = 200_000
+DIGITS_AN_OCTET = 30
+# What a zone needs.
+HEAD = b"$TTL 60\n@ SOA . . 1 2 3 4 5\n@ NS .\n"
+
+
+def timed(words, given=b""):
+    """How many octets a run writes, its status, and its seconds of the processor in user space, to less than a hundredth."""
+    with tempfile.TemporaryFile() as sink:
+        before = resource.getrusage(resource.RUSAGE_CHILDREN).ru_utime
+        run = subprocess.run(words, input=given, stdout=sink, stderr=subprocess.DEVNULL)
+        return sink.seek(0, os.SEEK_END), run.returncode, resource.getrusage(resource.RUSAGE_CHILDREN).ru_utime - before
 
 
 def taken(words, given):

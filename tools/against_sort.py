@@ -1,0 +1,86 @@
+"""An order of records that costs the checker's sort most.
+
+Whoever writes a file knows how the standard library's sort in place chooses pivots, so the order can be made for it: the sort is
+run over elements without values, and each comparison gives one a value, the least that is left, so late that each pivot is among
+the least (McIlroy, "A killer adversary for quicksort", 1999). After 2 log n partitions of nearly all a heap sort takes over.
+"""
+
+
+class Sort:
+    """The sort in place of `count` elements whose values its comparisons decide; the last is the greatest."""
+
+    def __init__(self, count):
+        self.values = [None] * (count - 1) + [count - 1]
+        self.decided, self.asked = 0, None
+        self.row = list(range(count))
+
+    def less(self, one, other):
+        """Whether one element is less than another. Of two without values, one gets the next."""
+        values = self.values
+        if values[one] is None and values[other] is None:
+            values[one if one == self.asked else other] = self.decided
+            self.decided += 1
+        if values[one] is None:
+            self.asked = one
+        elif values[other] is None:
+            self.asked = other
+        return values[one] is not None and (values[other] is None or values[one] < values[other])
+
+    def median(self, a, b, c, size):
+        """The place of a pivot: the median of three, each that of three more if they begin stretches of eight or more."""
+        if size >= 8:
+            m = size // 8
+            a, b, c = (self.median(place, place + m * 4, place + m * 7, m) for place in (a, b, c))
+        x, y, z = self.row[a], self.row[b], self.row[c]
+        below_y = self.less(x, y)
+        if below_y != self.less(x, z):
+            return a
+        return c if self.less(y, z) != below_y else b
+
+    def partition(self, low, high, pivot, or_equal):
+        """Puts the element at `pivot` after those of the stretch that go before it, and returns its place."""
+        row = self.row
+        row[low], row[pivot] = row[pivot], row[low]
+        pivot = row[low]
+
+        def goes(one):
+            return not self.less(pivot, one) if or_equal else self.less(one, pivot)
+
+        left = low + 1
+        while left < high and goes(row[left]):
+            left += 1
+        if left < high - 1:
+            held = row[left + 1]
+            for hole in range(left + 1, high - 1):
+                one = row[hole + 1]
+                is_before = goes(one)
+                row[hole], row[left] = row[left], one
+                left += is_before
+            is_before = goes(held)
+            row[high - 1], row[left] = row[left], held
+            left += is_before
+        row[low], row[left - 1] = row[left - 1], pivot
+        return left - 1
+
+    def sort(self, low, high, depth):
+        """Sorts as far as the heap sort."""
+        while high - low > 16 and depth:
+            depth -= 1
+            m = (high - low) // 8
+            pivot = self.median(low, low + m * 4, low + m * 7, m)
+            if low and not self.less(self.row[low - 1], self.row[pivot]):
+                low = self.partition(low, high, pivot, True) + 1
+            else:
+                middle = self.partition(low, high, pivot, False)
+                self.sort(low, middle, depth)
+                low = middle + 1
+
+
+def order_against_sort(count):
+    """The numbers below `count` in such an order, the greatest last."""
+    sort = Sort(count)
+    sort.sort(0, count, 2 * (count.bit_length() - 1))
+    for one in sort.row:
+        if sort.values[one] is None:
+            sort.values[one], sort.decided = sort.decided, sort.decided + 1
+    return sort.values
