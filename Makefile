@@ -8,6 +8,7 @@ THREE = $(wordlist 1,3,$(PROGRAMS))
 PAGES = $(wildcard man/*.1)
 DOC = $(DESTDIR)$(PREFIX)/share/doc/mitrehyssop
 SHARE = $(DESTDIR)$(PREFIX)/share/mitrehyssop
+LIBEXEC = $(DESTDIR)$(PREFIX)/libexec/mitrehyssop
 UNITS = $(DESTDIR)$(PREFIX)/lib/systemd/system
 # The documents for operators; the others are for those who work on the source.
 DOCUMENTS = $(foreach name,OPERATE CODES FROM-BIND ZONEFILE REPLY PROVED PERFORMANCE,docs/$(name).md)
@@ -32,12 +33,14 @@ built:
 # Installs what is built below PREFIX, or below DESTDIR where a package is made. The examples lie beside the documents by a link,
 # since small systems keep no documents, and scripts use them.
 install: built
-	install -d "$(DESTDIR)$(PREFIX)/bin" "$(DESTDIR)$(PREFIX)/share/man/man1" "$(DOC)/docs/plots" "$(SHARE)/examples" "$(COMPLETIONS)" "$(UNITS)"
+	install -d "$(DESTDIR)$(PREFIX)/bin" "$(DESTDIR)$(PREFIX)/share/man/man1" "$(DOC)/docs/plots" "$(SHARE)/examples" "$(COMPLETIONS)"
+	install -d "$(LIBEXEC)" "$(UNITS)"
 	install -m 755 $(PROGRAMS) "$(DESTDIR)$(PREFIX)/bin"
 	install -m 644 $(PAGES) "$(DESTDIR)$(PREFIX)/share/man/man1"
 	install -m 644 README.md LICENSE-MIT LICENSE-APACHE "$(DOC)"
 	install -m 644 $(DOCUMENTS) "$(DOC)/docs"
 	install -m 644 docs/plots/*.svg "$(DOC)/docs/plots"
+	install -m 755 libexec/* "$(LIBEXEC)"
 	cp examples/* "$(SHARE)/examples"
 	sed -i 's|/usr/share/|$(PREFIX)/share/|g' "$(DESTDIR)$(PREFIX)"/share/man/man1/zone*.1 "$(DOC)"/README.md "$(DOC)"/docs/*.md "$(SHARE)"/examples/*
 	ln -sfn ../../mitrehyssop/examples "$(DOC)/examples"
@@ -48,7 +51,7 @@ uninstall:
 	rm -f $(foreach name,$(NAMES),"$(DESTDIR)$(PREFIX)/bin/$(name)" "$(COMPLETIONS)/$(name)")
 	rm -f $(foreach page,$(PAGES),"$(DESTDIR)$(PREFIX)/share/man/man1/$(notdir $(page))")
 	rm -f $(foreach unit,$(wildcard systemd/*),"$(UNITS)/$(notdir $(unit))")
-	rm -rf "$(DOC)" "$(SHARE)"
+	rm -rf "$(DOC)" "$(SHARE)" "$(LIBEXEC)"
 
 # Takes away what was built, proofs that are kept too: the next build proves all.
 clean:
@@ -78,6 +81,7 @@ docs-check: built
 	tools/test-deploy crates/zonecheck/out/zonecheck
 	tools/test-from-bind crates/zonecheck/out/zonecheck
 	tools/test-serve crates/zonecheck/out/zonecheck
+	tools/test-workers $(PROGRAMS)
 	docs/plots/mistakes | cmp - docs/plots/mistakes.svg
 
 test:
