@@ -80,7 +80,6 @@ docs-check: built
 	tools/test-explain crates/zonecheck/out/zonecheck
 	tools/test-deploy crates/zonecheck/out/zonecheck
 	tools/test-from-bind crates/zonecheck/out/zonecheck
-	tools/test-serve crates/zonecheck/out/zonecheck
 	tools/test-workers $(PROGRAMS)
 	docs/plots/mistakes | cmp - docs/plots/mistakes.svg
 
@@ -104,11 +103,12 @@ clients: built
 	tools/elsewhere crates/zonecheck/out/zonecheck
 	$(MAKE) operate
 
-# Measures zoneserve beside NSD, Knot and BIND where they are installed, and how long a restart takes. It decides nothing, and is
-# no part of the gate.
+# Measures the servers beside NSD, Knot and BIND where they are installed, what reloads lose, and what several processes at a
+# socket give. It decides nothing, and is no part of the gate.
 speed: built
 	tools/speed crates/zoneserve/out/zoneserve
-	tools/gap crates/zoneserve/out/zoneserve
+	tools/gap crates/zonesocket/out/zonesocket
+	tools/sharing crates/zonesocket/out/zonesocket
 
 # Runs the programs on bad days: refused memory, failing calls of the system, bad streams, signals. It is no part of the
 # gate.

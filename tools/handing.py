@@ -1,0 +1,83 @@
+"""Sockets of loopback that are handed to libexec/workers, as systemd hands them, for tools that test and measure it."""
+import contextlib
+import os
+import shutil
+import socket
+import subprocess
+import tempfile
+import time
+from pathlib import Path
+
+LIBEXEC = Path(__file__).resolve().parent.parent / "libexec"
+
+
+def bound(kind, address):
+    """A socket that is bound, and listens over TCP. It keeps as many octets as the unit's sockets do."""
+    one = socket.socket(socket.AF_INET, kind)
+    one.setsockopt(socket.SOL_SOCKET, socket.SO_REUSEADDR, 1)
+    one.setsockopt(socket.SOL_SOCKET, socket.SO_RCVBUF, 1 << 20)
+    one.bind(address)
+    if kind == socket.SOCK_STREAM:
+        one.listen(1024)
+    return one
+
+
+def begin(given, words, environment, errors=subprocess.DEVNULL):
+    """`workers` with these arguments, and sockets as its descriptors 3, 4, ..
+
+    The sockets are doubled far up first, so that none of them has the number of another.
+    """
+    far = [os.dup2(one.fileno(), one.fileno() + 100) for one in given]
+    places = " ".join(f"{3 + place}<&{number}" for place, number in enumerate(far))
+    shell = ["bash", "-c", f'exec "$@" {places}', "-", LIBEXEC / "workers", *map(str, words)]
+    more = {**environment, "LISTEN_FDS": str(len(given))}
+    run = subprocess.Popen(shell, env=more, stdin=subprocess.DEVNULL, stderr=errors, pass_fds=far, start_new_session=True)
+    for number in far:
+        os.close(number)
+    return run
+
+
+def tell(run, environment, *words):
+    """The status of tell-workers."""
+    return subprocess.run([LIBEXEC / "tell-workers", *words], env={**environment, "MAINPID": str(run.pid)}, timeout=60).returncode
+
+
+def until(what, seconds=5):
+    """Whether something holds within so many seconds."""
+    end = time.monotonic() + seconds
+    while not (holds := what()) and time.monotonic() < end:
+        time.sleep(0.02)
+    return holds
+
+
+def processes(run, transport=""):
+    """The workers of a transport, or all."""
+    listed = subprocess.run(["ps", "-o", "pid=,args=", "--ppid", str(run.pid)], capture_output=True, text=True).stdout
+    return sorted(int(line.split()[0]) for line in listed.splitlines() if f"zonesocket {transport}" in line)
+
+
+def end(run, given):
+    """Ends `workers`, and has the addresses free."""
+    left = processes(run)
+    run.terminate()
+    run.wait(timeout=5)
+    until(lambda: not any(Path(f"/proc/{one}").exists() for one in left))
+    for one in given:
+        one.close()
+
+
+@contextlib.contextmanager
+def serving(programs, address, origin, file, **settings):
+    """`workers` of a zone at a socket of each transport, with the folder of the programs; a way to have it load the file anew."""
+    room = tempfile.mkdtemp()
+    environment = {**os.environ, "PATH": f"{programs}:{os.environ['PATH']}", "RUNTIME_DIRECTORY": room, **settings}
+    given = [bound(kind, address) for kind in [socket.SOCK_DGRAM, socket.SOCK_STREAM]]
+    run = begin(given, [origin, file], environment)
+    try:
+        if tell(run, environment) != 0:
+            raise RuntimeError("workers does not serve")
+        run.reload = lambda: tell(run, environment, "reload")
+        yield run
+    finally:
+        end(run, given)
+        shutil.rmtree(room)
