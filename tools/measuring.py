@@ -1,8 +1,11 @@
 """What a run of a program takes, for tools that measure."""
+import contextlib
 import os
+import re
 import resource
 import subprocess
 import tempfile
+from pathlib import Path
 
 # A run that takes longer is ended.
 SECONDS = 600
@@ -58,3 +61,24 @@ def instructions(words, given, patience=SECONDS):
             return None
         said = run.stderr.decode(errors="replace").splitlines()
         return next(int(line.split()[-1]) for line in said if "Collected" in line)
+
+
+def seconds_of(server):
+    """The processor's time of the processes in a server's session so far, in user space and in all, in seconds."""
+    tick = os.sysconf("SC_CLK_TCK")
+    user = system = 0
+    for stat in Path("/proc").glob("[0-9]*/stat"):
+        with contextlib.suppress(OSError):
+            fields = stat.read_text().rsplit(")", 1)[1].split()
+            if int(fields[3]) == server.pid:
+                user, system = user + int(fields[11]), system + int(fields[12])
+    return user / tick, (user + system) / tick
+
+
+def by_dnsperf(address, port, asked, queries, rate=0):
+    """dnsperf's run through a file of names, at most so many a second: how many were answered, and how many a second."""
+    lines = sum(1 for _ in open(asked))
+    words = ["dnsperf", "-s", address, "-p", str(port), "-d", asked, "-n", str(max(queries // lines, 1)), "-q", "200", "-l", "60"]
+    words += ["-Q", str(rate)] if rate else []
+    said = subprocess.run(words, capture_output=True, text=True, timeout=90).stdout
+    return int(re.search(r"Queries completed:\s+(\d+)", said)[1]), float(re.search(r"Queries per second:\s+([\d.]+)", said)[1])

@@ -1,0 +1,89 @@
+"""Other servers, without a log, for tools that measure beside them."""
+import contextlib
+import os
+import subprocess
+import time
+from pathlib import Path
+
+# What is in braces is filled in.
+NSD = """server:
+  ip-address: {here}@{port}
+  server-count: {workers}
+  username: ""
+  chroot: ""
+  zonesdir: "{folder}"
+  database: ""
+  pidfile: "{folder}/nsd.pid"
+  xfrdfile: "{folder}/xfrd.state"
+  xfrdir: "{folder}"
+  zonelistfile: "{folder}/zone.list"
+  tcp-query-count: 0
+  rrl-ratelimit: 0
+  verbosity: 0
+remote-control:
+  control-enable: yes
+  control-interface: "{folder}/nsd.ctl"
+zone:
+  name: "example"
+  zonefile: "{zone}"
+"""
+KNOT = """server:
+  rundir: "{folder}"
+  listen: {here}@{port}
+  udp-workers: {workers}
+  tcp-workers: {workers}
+  background-workers: 1
+log:
+  - target: stderr
+    any: error
+control:
+  listen: "{folder}/knot.sock"
+database:
+  storage: "{folder}"
+zone:
+  - domain: example
+    file: "{zone}"
+    semantic-checks: off
+    zonefile-sync: -1
+    journal-content: none
+"""
+BIND = """options {{
+  directory "{folder}"; pid-file none; session-keyfile none; listen-on port {port} {{ {here}; }}; listen-on-v6 {{ none; }};
+  recursion no; notify no; minimal-responses no; rate-limit {{ }}; querylog no;
+}};
+controls {{ }};
+logging {{ category default {{ null; }}; }};
+zone "example" {{ type primary; file "{zone}"; check-names ignore; }};
+"""
+
+# Each one's name, what has to be installed, its settings, its words, and those that have it load its zone anew.
+SERVERS = [
+    ("nsd", "nsd", NSD, ["nsd", "-d", "-c", "{conf}"], ["nsd-control", "-c", "{conf}", "reload", "example"]),
+    ("knotd", "knotd", KNOT, ["knotd", "-c", "{conf}"], ["knotc", "-b", "-s", "{folder}/knot.sock", "zone-reload", "example"]),
+    ("named", "named", BIND, ["named", "-f", "-4", "-n", "{workers}", "-c", "{conf}"], None),
+]
+
+
+def filled(words, **values):
+    return [word.format(**values) for word in words]
+
+
+@contextlib.contextmanager
+def serving(row, address, folder, zone, workers):
+    """A server of this list, with so many processes or workers, and a way to have it load its zone anew."""
+    name, _, settings, words, reload = row
+    values = {"here": address[0], "port": address[1], "folder": folder, "zone": zone, "workers": workers}
+    values["conf"] = Path(folder, f"{name}.conf")
+    values["conf"].write_text(settings.format(**values))
+    quiet = {"stdin": subprocess.DEVNULL, "stdout": subprocess.DEVNULL, "stderr": subprocess.DEVNULL}
+    server = subprocess.Popen(filled(words, **values), start_new_session=True, **quiet)
+    server.reload = reload and (lambda: subprocess.run(filled(reload, **values), **quiet))
+    try:
+        yield server
+    finally:
+        server.terminate()
+        with contextlib.suppress(subprocess.TimeoutExpired):
+            server.wait(10)
+        with contextlib.suppress(ProcessLookupError):
+            os.killpg(server.pid, 9)
+        time.sleep(0.5)
