@@ -1,4 +1,4 @@
-.PHONY: run programs built install uninstall clean package operate examples docs-check test edits misuse clients speed faults caught hostile messages worst memory bench
+.PHONY: run programs built install uninstall clean package operate examples docs-check test edits misuse clients speed scale faults caught hostile messages worst memory bench
 
 PREFIX ?= /usr/local
 NAMES = zonecheck zoneserve dnsmsg zonesocket
@@ -11,7 +11,7 @@ SHARE = $(DESTDIR)$(PREFIX)/share/mitrehyssop
 LIBEXEC = $(DESTDIR)$(PREFIX)/libexec/mitrehyssop
 UNITS = $(DESTDIR)$(PREFIX)/lib/systemd/system
 # The documents for operators; the others are for those who work on the source.
-DOCUMENTS = $(foreach name,OPERATE CODES FROM-BIND ZONEFILE REPLY PROVED PERFORMANCE,docs/$(name).md)
+DOCUMENTS = $(foreach name,OPERATE SCALE CODES FROM-BIND ZONEFILE REPLY PROVED PERFORMANCE,docs/$(name).md)
 COMPLETIONS = $(DESTDIR)$(PREFIX)/share/bash-completion/completions
 
 # Builds the programs, checks two zones in examples/, and asks the server about one of them.
@@ -109,6 +109,13 @@ speed: built
 	tools/speed crates/zoneserve/out/zoneserve
 	tools/gap crates/zonesocket/out/zonesocket
 	tools/sharing crates/zonesocket/out/zonesocket
+
+# Runs the services of docs/SCALE.md in network namespaces: with dnsdist in front, on three hosts with one address, and NSD
+# as a hidden primary. It is no part of the gate, and leaves out what is not installed.
+scale: built
+	tools/test-behind $(PROGRAMS)
+	tools/test-anycast $(PROGRAMS)
+	tools/test-hidden $(PROGRAMS)
 
 # Runs the programs on bad days: refused memory, failing calls of the system, bad streams, signals. It is no part of the
 # gate.

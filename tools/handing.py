@@ -11,6 +11,13 @@ from pathlib import Path
 LIBEXEC = Path(__file__).resolve().parent.parent / "libexec"
 
 
+def linked(words, folder):
+    """A folder with the programs that a command line names, to be put on the path."""
+    for word in words:
+        os.symlink(Path(word).resolve(), Path(folder, Path(word).name))
+    return folder
+
+
 def bound(kind, address):
     """A socket that is bound, and listens over TCP. It keeps as many octets as the unit's sockets do."""
     one = socket.socket(socket.AF_INET, kind)

@@ -1,0 +1,37 @@
+-- Takes the OPT record (EDNS) off a query before the server gets it, so that no FORMERR comes back. The reply has none, which tells a
+-- resolver that there is no EDNS here, and it asks once. For dnsdist with LuaJIT, as Debian's.
+local ffi = require("ffi")
+local C = ffi.C
+
+-- The place after the question of a message `p` of `n` octets with one question, or nil.
+local function after_question(p, n)
+    if n < 12 or p[4] ~= 0 or p[5] ~= 1 then return nil end
+    local at = 12
+    while at < n and p[at] ~= 0 do
+        if p[at] > 63 then return nil end
+        at = at + p[at] + 1
+    end
+    if at + 5 > n then return nil end
+    return at + 5
+end
+
+-- Whether all that follows is one record, an OPT of the root of version 0, which ends with the message.
+local function is_opt(p, n, at)
+    return p[6] + p[7] + p[8] + p[9] + p[10] == 0 and p[11] == 1 and at + 11 <= n
+        and p[at] == 0 and p[at + 1] == 0 and p[at + 2] == 41 and p[at + 6] == 0
+        and at + 11 + p[at + 9] * 256 + p[at + 10] == n
+end
+
+function takeEDNS(dq)
+    local n = tonumber(C.dnsdist_ffi_dnsquestion_get_len(dq))
+    local p = ffi.cast("uint8_t*", C.dnsdist_ffi_dnsquestion_get_header(dq))
+    local at = after_question(p, n)
+    if at and is_opt(p, n, at) then
+        p[11] = 0
+        C.dnsdist_ffi_dnsquestion_set_len(dq, at)
+    end
+    return DNSAction.None
+end
+
+addAction(EDNSVersionRule(0), ERCodeAction(DNSRCode.BADVERS))
+addAction(AllRule(), LuaFFIAction(takeEDNS))
