@@ -1,5 +1,5 @@
--- Takes the OPT record (EDNS) off a query before the server gets it, so that no FORMERR comes back. The reply has none, which tells a
--- resolver that there is no EDNS here, and it asks once. For dnsdist with LuaJIT, as Debian's.
+-- Takes the OPT record (EDNS) off a query before the server gets it, so that no FORMERR comes back. The reply has none, which
+-- tells a resolver that there is no EDNS here, and it asks once. For dnsdist with LuaJIT, as Debian's.
 local ffi = require("ffi")
 local C = ffi.C
 

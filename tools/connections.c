@@ -1,8 +1,8 @@
 /*
- * Asks a server over TCP by connections of one question each: `connections PORT COUNT AT_ONCE`, at 127.0.0.1, COUNT in all and AT_ONCE
- * at once, for the SOA record of example. It prints how many were replied a second. A connection that fails, or ends without a
- * reply, ends it with status 1. Each of them has one of 250 addresses of loopback in turn, since an address has 28,000 ports, which
- * are kept for a while.
+ * Asks a server over TCP by connections of one question each: `connections PORT COUNT AT_ONCE`, at 127.0.0.1, COUNT in all and
+ * AT_ONCE at once, for the SOA record of example. It prints how many were replied a second. A connection that fails, or ends
+ * without a reply, ends it with status 1. Each of them has one of 250 addresses of loopback in turn, since an address has 28,000
+ * ports, which are kept for a while.
  */
 #include <arpa/inet.h>
 #include <errno.h>
@@ -51,7 +51,8 @@ int main(int count, char **words) {
     struct epoll_event events[64];
     struct timespec begun, over;
     long left = atol(words[2]), begun_count = atol(words[3]), all = left;
-    server = (struct sockaddr_in){.sin_family = AF_INET, .sin_port = htons(atoi(words[1])), .sin_addr.s_addr = htonl(INADDR_LOOPBACK)};
+    server = (struct sockaddr_in){.sin_family = AF_INET, .sin_port = htons(atoi(words[1]))};
+    server.sin_addr.s_addr = htonl(INADDR_LOOPBACK);
     waiting = epoll_create1(0);
     clock_gettime(CLOCK_MONOTONIC, &begun);
     for (long i = 0; i < begun_count; i++) begin();
