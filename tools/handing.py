@@ -57,15 +57,20 @@ def until(what, seconds=5):
     return holds
 
 
+def children(run, words=""):
+    """The processes that `workers` has started, or those of them whose words have these."""
+    listed = subprocess.run(["ps", "-o", "pid=,args=", "--ppid", str(run.pid)], capture_output=True, text=True).stdout
+    return sorted(int(line.split()[0]) for line in listed.splitlines() if words in line)
+
+
 def processes(run, transport=""):
     """The workers of a transport, or all."""
-    listed = subprocess.run(["ps", "-o", "pid=,args=", "--ppid", str(run.pid)], capture_output=True, text=True).stdout
-    return sorted(int(line.split()[0]) for line in listed.splitlines() if f"zonesocket {transport}" in line)
+    return children(run, f"zonesocket {transport}")
 
 
 def end(run, given):
     """Ends `workers`, and has the addresses free."""
-    left = processes(run)
+    left = children(run)
     run.terminate()
     run.wait(timeout=5)
     until(lambda: not any(Path(f"/proc/{one}").exists() for one in left))
