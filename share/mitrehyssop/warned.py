@@ -1,0 +1,211 @@
+"""Warnings about a zone: what mostly is a mistake, and may be meant. docs/CODES.md has each with its RFC and what to do."""
+import collections
+import re
+
+from faults import Fault
+from master import octets, parent, within
+
+HOST = re.compile(r"(?:\*\.)?(?:[a-z0-9](?:[a-z0-9-]*[a-z0-9])?\.)+|(?:.*\.)?gc\._msdcs\..*")
+FOUR = re.compile(r"\d+\.\d+\.\d+\.\d+\.")
+TARGETS = {"NS", "CNAME", "PTR", "MX", "SRV"}
+# How a text begins: at which names it has a meaning, an example of one, and what else it needs.
+TEXTS = {"v=dmarc1": (r"_dmarc\.|.*\._report\._dmarc\.", "_dmarc", "p="), "v=dkim1": (r".+\._domainkey\.", "NAME._domainkey", "p="),
+         "v=stsv1": (r"_mta-sts\.", "_mta-sts", "id="), "v=tlsrptv1": (r"_smtp\._tls\.", "_smtp._tls", "rua="),
+         "v=bimi1": (r".+\._bimi\.", "NAME._bimi", "l=")}
+
+
+class Warnings:
+    """Looks at the records of a zone, and finds a record, a code and a sentence each time."""
+
+    def __init__(self, zone):
+        self.of, self.zone = zone, zone.zone
+        self.nodes, self.sets = set(), collections.defaultdict(dict)
+        for record in zone.records:
+            self.sets[record.owner].setdefault(record.rtype, []).append(record)
+            full = record.owner
+            while full and full not in self.nodes:
+                self.nodes.add(full)
+                full = parent(full)
+        servers = [record for sets in self.sets.values() for record in sets.get("NS", ())]
+        self.cuts = {record.owner for record in servers if record.owner != self.zone}
+        self.glue = {record.data[0] for record in servers}
+
+    def look(self):
+        for full, sets in self.sets.items():
+            if not within(full, self.zone):
+                continue
+            first = next(iter(sets.values()))[0]
+            plain = HOST.fullmatch(full) is not None
+            if not plain or FOUR.match(full) or full.endswith((self.zone + self.zone, ".com." + self.zone, ".org." + self.zone,
+                                                              ".arpa." + self.zone)):
+                yield from self.name(first, full)
+            for rtype, records in sets.items():
+                for record in records:
+                    if record.line in self.of.guessed:
+                        continue
+                    if record.ttl == "0":
+                        yield record, "W16", "the TTL is 0: it is asked for again and again"
+                    if rtype in TARGETS:
+                        yield from self.target(record, record.data[-1])
+                    elif rtype == "TXT":
+                        yield from self.text(record)
+            if "SRV" in sets and not re.match(r"(?:\*\.)?_[^.]+\._[^.]+\.", full):
+                yield sets["SRV"][0], "W15", "the owner of SRV is not of the form _service._protocol"
+            if "A" in sets or "AAAA" in sets:
+                yield from self.host(full, sets, plain)
+        origin = self.sets.get(self.zone, {})
+        for record in origin.get("SOA", ())[:1]:
+            if record.line not in self.of.guessed and len(record.data) == 7:
+                yield from self.soa(record, origin)
+        yield from self.servers(origin)
+
+    def repeats(self, full):
+        """Whether a name ends with the origin twice, the root's apart."""
+        return self.zone != "." and ("." + full).endswith("." + self.zone + self.zone)
+
+    def name(self, record, full):
+        if "\\@" in full:
+            yield record, "W11", "@ inside a name; it means the origin only if it is the whole name"
+        if "*" in (full[2:] if full.startswith("*.") else full):
+            yield record, "W12", "a * that is not the whole first label matches nothing"
+        if FOUR.match(full) and not self.zone.endswith("arpa."):
+            yield record, "W05", f"the owner is an address: {full}"
+        elif self.repeats(full) or self.zone != "." and re.search(r"\.(com|org|arpa)\.$", full[:-len(self.zone)]):
+            yield record, "W07", f"the owner is {full}: is a final dot missing?"
+
+    def host(self, full, sets, plain):
+        record = (sets.get("A") or sets["AAAA"])[0]
+        if not plain and "\\@" not in full and "*" not in full[1:]:
+            yield record, "W10", f"{full} has an address, and an octet that host names do not have"
+        cut = self.cut(full)
+        if cut and full not in self.glue:
+            yield record, "W22", f"an address below the delegation of {cut} that no server has: it is never answered"
+
+    def cut(self, full):
+        """The lowest cut that a name is at or below."""
+        while self.cuts and full and full != self.zone:
+            if full in self.cuts:
+                return full
+            full = parent(full)
+        return None
+
+    def found(self, full):
+        """The types at a name of the zone, by a wildcard too; None if it does not exist."""
+        if full in self.nodes:
+            return set(self.sets.get(full, ()))
+        while full not in self.nodes:
+            full = parent(full)
+            if full is None or not within(full, self.zone):
+                return None
+        star = self.sets.get("*." + full if full != "." else "*.")
+        return set(star) if star else None
+
+    def target(self, record, full):
+        rtype, inside = record.rtype, within(full, self.zone)
+        if rtype == "CNAME":
+            yield from self.alias(record, full)
+        if rtype == "MX" and full == "." and len(self.sets[record.owner]["MX"]) > 1:
+            yield record, "W21", "a null MX, which says that there is no mail, beside others"
+        if rtype == "NS" and inside and not self.cut(full) and not {"A", "AAAA"} & set(self.sets.get(full, ())) or full == ".":
+            return
+        arpa = self.zone.endswith("arpa.")
+        if inside and FOUR.match(full) and not arpa:
+            yield record, "W05", f"the target is an address: {full}; write the name of a host"
+        elif re.search("[/:]", full) and rtype != "PTR" and not arpa:
+            yield record, "W06", f"the target is a URL or has a port: {full}; write the name of the host"
+        elif self.repeats(full):
+            yield record, "W07", f"the target is {full}: is a final dot missing?"
+        elif "\\@" in full:
+            yield record, "W11", f"@ inside the target {full}; it means the origin only if it is the whole name"
+        elif (rtype in ("NS", "MX", "SRV") or rtype == "PTR" and arpa) and not HOST.fullmatch(full):
+            yield record, "W10", f"the host {full} has an octet that host names do not have"
+        elif inside and not self.of.partial and full not in self.of.doubtful:
+            yield from self.inside(record, full)
+
+    def inside(self, record, full):
+        """What is said of a target in the zone by what the zone has at it."""
+        cut, types = self.cut(full), self.found(full)
+        if cut:
+            if record.rtype == "NS" and not within(full, record.owner if record.owner in self.cuts else full + "\\") and not self.sets.get(full):
+                yield record, "W09", f"the server {full} is in the zone of {cut}, and has no address here: it may be missing there too"
+        elif types is None:
+            own = full[:-len(self.zone)]
+            yield record, "W08", f"the target {full} does not exist" + (f"; write {own} if it is in another zone" if own.count(".") > 1 else "")
+        elif not types & {"A", "AAAA", "CNAME"} and (record.rtype in ("MX", "SRV") or "_" not in record.owner + full):
+            yield record, "W09", f"the target {full} has no address"
+
+    def alias(self, record, full):
+        chain = [record.owner]
+        while full not in chain and "CNAME" in self.sets.get(full, ()):
+            chain.append(full)
+            full = self.sets[full]["CNAME"][0].data[0]
+        if full in chain:
+            yield record, "W13", "an alias to itself" if full == record.data[0] == record.owner else f"the alias leads back to {full}"
+        elif len(chain) > 1:
+            yield record, "W14", f"the target {record.data[0]} is an alias too: write {full}"
+
+    def soa(self, record, origin):
+        mname, rname, _, *times = record.data
+        refresh, retry, expire, minimum = map(int, times)
+        if "NS" in origin and all(mname != server.data[0] for server in origin["NS"]):
+            yield record, "W02", f"the first name, {mname}, is not one of the servers"
+        if "\\@" in rname:
+            yield record, "W03", f"the mailbox {rname} has @: write a dot for it"
+        for full in (mname, rname):
+            if self.repeats(full):
+                yield record, "W07", f"the name {full}: is a final dot missing?"
+        if retry >= refresh:
+            yield record, "W04", f"the retry time {retry} is not less than the refresh time {refresh}"
+        if expire < refresh + retry:
+            yield record, "W04", f"the expire time {expire} is less than the refresh and retry times together"
+        if minimum > 86400:
+            yield record, "W04", f"the last number, {minimum}, is how many seconds names are not found after they are added: more than a day"
+
+    def text(self, record):
+        parts = [octets(part) for part in record.data]
+        whole, owner = "".join(parts).lower(), record.owner
+        kind = whole.partition(";")[0].strip()
+        if whole.startswith("v=spf1"):
+            if any(a and b and a[-1] != " " != b[0] and len(a) < 250 for a, b in zip(parts, parts[1:])):
+                yield record, "W18", "the strings of the SPF text are joined without a space: write one string, or a space at the end of each"
+            if record is not self.sets[owner]["TXT"][0] and sum(octets(other.data[0]).lower().startswith("v=spf1")
+                                                                for other in self.sets[owner]["TXT"]) > 1:
+                yield record, "W17", "more than one SPF text at a name: none of them holds"
+            if owner.startswith("_dmarc.") or "._domainkey." in owner:
+                yield record, "W20", "an SPF text means nothing at this name"
+        elif kind in TEXTS:
+            names, example, needed = TEXTS[kind]
+            if not re.match(names, owner):
+                yield record, "W20", f"this text means nothing at this name: it belongs to {example}"
+            if needed not in whole and not (kind == "v=dmarc1" and "._report._dmarc." in owner):
+                yield record, "W19", f"the text lacks {needed}; is it cut off at a ; without quotation marks?"
+        elif re.match(r".+\._domainkey\.", owner) and "p=" not in whole:
+            yield record, "W19", "the text lacks p=; is it cut off at a ; without quotation marks?"
+        elif owner.startswith("_dmarc."):
+            yield record, "W20", "the text is no DMARC policy: it begins with v=DMARC1"
+        if re.match("\u00e2\u0080[\u0098-\u009f]", whole):
+            yield record, "W24", "the text begins with a curly quotation mark"
+
+    def servers(self, origin):
+        servers = origin.get("NS", ())
+        if len(servers) == 1:
+            yield servers[0], "W01", "the zone has one server only"
+        addresses = [{record.data[0] for rtype in ("A", "AAAA") for record in self.sets.get(server.data[0], {}).get(rtype, ())}
+                     for server in servers]
+        if len(servers) > 1 and addresses[0] and all(other == addresses[0] for other in addresses) and len(addresses[0]) <= 2:
+            yield servers[0], "W23", f"all servers have one address: {' and '.join(sorted(addresses[0]))}"
+
+
+def warnings(zone):
+    """The warnings about a zone that was checked, by their lines."""
+    found = list(Warnings(zone).look())
+    if found and zone.lines is None:
+        zone.split()
+        index = collections.defaultdict(list)
+        for record in zone.model():
+            index[record.owner, record.rtype].append(record)
+        for record, _, _ in found:
+            same = index[record.owner, record.rtype]
+            record.line = next((other.line for other in same if other.data == record.data), same[0].line if same else 0)
+    return sorted({Fault(zone.places[record.line], code, record.owner, text) for record, code, text in found},
+                  key=lambda fault: (fault.place[1], fault.code))
