@@ -13,11 +13,28 @@ RANGE = re.compile(r"(\d{1,10})-(\d{1,10})(?:/(\d{1,10})|(?!/))")
 SIGN = re.compile(r"\\.|\$\$|\$\{(-?\d{1,9})(?:,(\d{1,3})(?:,([doxXnN]))?)?\}|\$(?P<bad>\{)?", re.S)
 
 
+def printable(token):
+    """A token with \\DDD for octets that a zone file may not have here."""
+    if token.isascii() and token.isprintable():
+        return token
+    return "".join(c if " " <= c <= "~" or c == "\t" else f"\\{ord(c):03}" for c in token)
+
+
+def joined(entry, first):
+    """The tokens of an entry from one on, with blanks if there are some between them."""
+    text = ""
+    for place in range(first, len(entry.tokens)):
+        apart = not entry.spans or place == first or place >= len(entry.spans) or entry.spans[place][:2] != (
+            entry.spans[place - 1][0], entry.spans[place - 1][2])
+        text += " " * apart + printable(entry.tokens[place])
+    return text
+
+
 class Refused(Exception):
     """An entry can't be converted; the text says why."""
 
 
-def generic(rtype, tokens, origin):
+def generic(rtype, text, origin):
     """Data as RFC 3597 writes it, by the reader of dnspython, and None; or None and why not."""
     try:
         import dns.name
@@ -27,7 +44,7 @@ def generic(rtype, tokens, origin):
     try:
         with warnings.catch_warnings():
             warnings.simplefilter("ignore")
-            data = dns.rdata.from_text("IN", rtype, " ".join(tokens), dns.name.from_text(origin), False).to_generic().data
+            data = dns.rdata.from_text("IN", rtype, text, dns.name.from_text(origin), False).to_generic().data
     except Exception as error:  # Its readers raise many kinds.
         return None, f"the data is invalid for {rtype}: {error}"
     return f"\\# {len(data)} {data.hex()}".strip(), None
@@ -142,7 +159,7 @@ class Importer:
             if any(len(token) % 2 for token in data[2:]):
                 changes.update({at + 3: "".join(data[2:]), **{at + 4 + k: "" for k in range(len(data) - 3)}})
         elif rtype in OTHERS:
-            text, why = generic(rtype, [self.ascii(token) for token in data], self.origin)
+            text, why = generic(rtype, joined(entry, at + 1), self.origin)
             if text is None:
                 self.notes[len(self.lines)] = why
                 return self.changed(entry, lines, changes)
@@ -170,19 +187,13 @@ class Importer:
         for place in range(min(len(spans), len(entry.tokens)) - 1, -1, -1):
             line, begin, end = spans[place]
             text = lines[line - entry.begin]
-            lines[line - entry.begin] = text[:begin] + changes.get(place, self.ascii(text[begin:end])) + text[end:]
+            lines[line - entry.begin] = text[:begin] + changes.get(place, printable(text[begin:end])) + text[end:]
         if -1 in changes:
             lines[0] = changes[-1] + lines[0]
         if entry.depth > 1:
             pieces = [match.group() for line in lines for match in PIECE.finditer(line) if match.group()[0] not in "();\r"]
             lines = ["".join(pieces)] + [""] * (len(lines) - 1)
         return lines
-
-    def ascii(self, token):
-        """A token with \\DDD for octets that a zone file may not have here."""
-        if token.isascii() and token.isprintable():
-            return token
-        return "".join(c if " " <= c <= "~" or c == "\t" else f"\\{ord(c):03}" for c in token)
 
     def include(self, entry, place, stack):
         """Adds the file of $INCLUDE FILE [ORIGIN]; origin and owner are as before after it."""
@@ -242,7 +253,7 @@ def expanded(zone, reader, entry):
     importer = Importer(reader.origin, os.path.dirname(zone.path) or ".")
     importer.owner, importer.default = reader.owner, reader.default
     try:
-        after = importer.entry(entry, zone.lines[entry.begin:entry.end], zone.places[entry.begin], ())
+        lines = importer.entry(entry, zone.lines[entry.begin:entry.end], zone.places[entry.begin], ())
     except Refused:
         return None
-    return importer.lines + after
+    return ["" if line in importer.notes else text for line, text in enumerate(importer.lines)] + lines

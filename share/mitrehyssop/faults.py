@@ -4,6 +4,7 @@ zonecheck reports the first faulty entry of a file. Here that entry is mended as
 that can't be known, and the file is checked again. So the rest is judged as it is once the entry is right.
 """
 import collections
+import gc
 import os
 import re
 import shutil
@@ -62,6 +63,7 @@ def text_of(file, line, severity, code, owner, message, text):
 
 def run(program, main):
     """Runs a program, and ends with its status; 2 if its output can't be written."""
+    gc.disable()  # Nothing here makes cycles worth looking for, and records are many.
     sys.stdout.reconfigure(errors="backslashreplace")
     try:
         status = main()
@@ -97,7 +99,7 @@ class Zone:
 
     def __init__(self, origin, text, path, places=None, notes=None, sources=None):
         self.origin, self.path, self.text, self.places, self.notes, self.sources = origin, path, text, places, notes or {}, sources
-        self.zone = name(origin, ".") or "."
+        self.zone, self.converted = name(origin, ".") or ".", places is not None
         self.lines, self.faults, self.records, self.passes, self.more, self.partial = None, [], [], False, False, False
         self.guessed, self.untimed, self.doubtful, self.mended = set(), set(), set(), collections.Counter()
 
@@ -109,7 +111,7 @@ class Zone:
             self.records = list(canonical(said))
             return self
         self.split()
-        if "\r" in self.text and "\n" not in self.text and len(self.lines) == 1:
+        if "\r" in self.text.rstrip("\r\n") and "\n" not in self.text.rstrip("\n"):
             self.found(0, said.split()[-1], "the lines of the file end with CR alone: write LF for each, as `tr '\\r' '\\n'` does")
             self.text, self.places = self.text.replace("\r", "\n"), None
             self.split()
@@ -120,7 +122,7 @@ class Zone:
             if len(self.faults) >= MOST or not self.mend(reader, int(line) - 1, code):
                 break
             status, said = zonecheck(self.origin, "\n".join(self.lines))
-        self.records = self.model()
+        self.records = [] if said.startswith("line ") else self.model()
         if status and not said.startswith("line "):
             ZoneFaults(self).report(said)
         self.faults.sort(key=lambda fault: (fault.place[1], fault.code))

@@ -111,6 +111,9 @@ class Mending:
 
     def r02(self):
         bad = re.compile(r"\\(?!(?:[01]\d\d|2[0-4]\d|25[0-5])|[^\d\r])")
+        if "\\" in self.tokens:
+            self.put_tokens([token for token in self.tokens if token != "\\"])
+            return "a backslash does not join a line with the next: take it out, and write parentheses around data on several lines"
         tokens = [re.sub(r"\\(?:\d{3}|\D)|\\", lambda match: match.group() if not bad.match(match.group()) else "\\" + match.group(), token)
                   for token in self.tokens]
         self.put_tokens(tokens)
@@ -146,14 +149,15 @@ class Mending:
 
     def r05(self):
         if self.first.upper() in ("$INCLUDE", "$GENERATE"):
-            self.lines = bind.expanded(self.zone, self.reader, self.entry)
-            return f"{self.first} is not known here: `zoneimport` writes its records"
-        if BEGIN.match(" ".join(self.tokens)) and self.rtype in KINDS:
-            self.put_tokens(["\\" + self.first, *self.tokens[1:]])
-            return f"an owner that begins with $ is written \\{self.first}"
+            self.lines = None if self.zone.converted else bind.expanded(self.zone, self.reader, self.entry)
+            self.zone.partial = self.zone.partial or self.lines is None
+            return f"{self.first} is not known here: `zoneimport` writes its records, and `zonelint --bind` reads it"
         near = difflib.get_close_matches(self.first.upper(), ["$ORIGIN", "$TTL"], 1)
         if near:
             self.put_tokens([near[0], *self.tokens[1:]])
+        elif self.rtype in KINDS and self.data:
+            self.put_tokens(["\\" + self.first, *self.tokens[1:]])
+            return f"an owner that begins with $ is written \\{self.first}"
         return f"{self.first} is not known: the only directives here are $ORIGIN and $TTL" + (f": write {near[0]}" if near else "")
 
     def r06(self):
@@ -218,20 +222,24 @@ class Mending:
         tokens, rtype = self.tokens, self.rtype
         if re.match(r"#|//|--|/\*", tokens[0]):
             return f"a comment begins with ; here, and not with {re.match('#|//|--|/.', tokens[0]).group()}"
-        if self.entry.blank and tokens[1:] and (BEGIN.match(" ".join(tokens))):
+        if self.entry.blank and tokens[0].upper() == rtype and BEGIN.match(" ".join(tokens)):
             self.lines = [" ".join(tokens)]
             return f"{tokens[0]} is in the place of the type: an owner begins in the first column"
         if not rtype:
             return self.no_type(f"no type after {tokens[-1]}")
+        found = address(tokens[-1])
+        if found and not self.data:
+            self.put(rtype=found[0], data=[found[1]])
+            return f"no type before {tokens[-1]}: write {found[0]}"
         if rtype == "IN" or rtype[0].isdigit():
             self.put_tokens([*tokens[:len(tokens) - len(self.data) - 1], *self.data])
             return f"{rtype}: the class is there twice: take one out" if rtype == "IN" else \
                 f"{rtype}: the TTL is there twice, or the type is missing: take one out"
         if rtype in DNSSEC:
             return self.no_type(f"{rtype} is a type of DNSSEC, which is not served here. " + (
-                "The zone below would be unsigned: take its DS out once that is meant, and wait for the TTL before its keys go"
-                if rtype in ("DS", "TYPE43") else "First take the DS of this zone out at the parent, if it has one, and wait as long "
-                "as its TTL says; then take these records out, or serve the zone by another server"))
+                "Serve the zone by another server; or take the record out, and after its TTL sign the zone below no more"
+                if rtype in ("DS", "TYPE43") else "Serve the zone by another server; or take its DS out at the parent, if there is one, "
+                "wait as long as the TTL of the DS says, and then take this record out"))
         if rtype in ("DNAME", "TYPE39"):
             return self.no_type(f"{rtype} is not served here: an alias for each name takes its place")
         if rtype in ("ALIAS", "ANAME"):
@@ -239,16 +247,12 @@ class Mending:
             self.put(rtype="A", data=[INSTEAD["4"]])
             return f"{rtype} is not a DNS type: write the A and AAAA records of its target"
         bare = rtype.strip('":,.')
-        near = next(iter([bare] if bare in KINDS or bare in OTHERS else difflib.get_close_matches(bare, [*KINDS, *OTHERS], 1)), None)
+        near = bare if bare in KINDS or bare in OTHERS else next(iter(difflib.get_close_matches(bare, [*KINDS, *OTHERS], 1) if bare[2:] else []), None)
         if rtype in OTHERS:
-            data, why = bind.generic(rtype, self.data, self.reader.origin)
+            data, why = bind.generic(rtype, bind.joined(self.entry, len(self.tokens) - len(self.data)), self.reader.origin)
             self.put(rtype=f"TYPE{OTHERS[rtype]}", data=(data or "\\# 0").split(" "))
             return f"{rtype} is not known by name: " + (f"{why}" if data is None else f"write {self.rtype} {data[:60]}"
                                                         + (".." if data[60:] else "") + ", as `zoneimport` does")
-        found = address(tokens[-1])
-        if found and len(tokens) <= 2 + bool(self.ttl) + bool(self.rrclass):
-            self.put(rtype=found[0], data=[found[1]])
-            return f"no type before {tokens[-1]}: write {found[0]}"
         if near:
             self.put(rtype=near)
         else:
@@ -280,12 +284,14 @@ class Mending:
         self.guess = None in fixed or len(fixed) < len(kinds)
         fixed = [good or INSTEAD[kind] for kind, good in zip(kinds, fixed)] + [INSTEAD[kind] for kind in kinds[len(fixed):]]
         self.put(data=fixed)
+        if not data and not notes:
+            notes.append("there is none")
         return f"{rtype} takes {TAKES[rtype]}; " + "; ".join(dict.fromkeys(notes)) if notes else f"{rtype} takes {TAKES[rtype]}"
 
     def unknown_form(self, rtype):
         digits = "".join(self.data[2:])
         if self.data[:1] != ["\\#"]:
-            data, why = bind.generic(rtype, self.data, self.reader.origin)
+            data, why = bind.generic(rtype, bind.joined(self.entry, len(self.tokens) - len(self.data)), self.reader.origin)
             self.put(data=(data or "\\# 0").split(" "))
             return f"{rtype} takes \\#, a length and hex digits" + (f": write {data}" if data else "")
         if rtype in KINDS or not re.fullmatch(r"(?:[0-9a-fA-F]{2})*", digits):
@@ -298,8 +304,8 @@ class Mending:
     def counted(self, rtype, data, kinds, notes):
         """As many fields as a type has, if that can be known."""
         count, front = len(data), []
-        while len(data) > (1 if kinds == "s" else len(kinds)) and kinds != "ss" and (data[0].upper() == "IN" or seconds(data[0]) is not None
-                                                                                    and kinds[0] not in "s"):
+        while len(data) > len(kinds) and kinds[0] != "s" and (
+                data[0].upper() == "IN" or seconds(data[0]) is not None and (kinds[0] != "H" or seconds(data[kinds.count("H")]) is not None)):
             front.append(data.pop(0))
         if front:
             self.put(ttl=next((token for token in front if token.upper() != "IN"), self.ttl))
@@ -311,6 +317,9 @@ class Mending:
                 return data[::-1]
             return data
         fields = f"{count} field{'s' * (count != 1)}, and not {len(kinds)}"
+        if rtype == "SOA" and len(data) < 6 and self.take_lines(data):
+            notes.append(f"its lines are not joined: write ( at the end of line {self.number(self.entry.begin)}, and ) after the last number")
+            return data
         if rtype == "MX" and len(data) == 1 and seconds(data[0]) is None:
             notes.append(f"the number is missing: write MX 10 {data[0]}")
             return ["10", *data]
@@ -325,6 +334,21 @@ class Mending:
         else:
             notes.append(fields)
         return data[:len(kinds)] if len(data) > len(kinds) or kinds in ("ss", "s") else []
+
+    def take_lines(self, data):
+        """Adds the numbers of an SOA record on the lines after it that have no other entry, if they are all of them."""
+        more = []
+        for at in range(self.entry.end, min(self.entry.end + 9, len(self.zone.lines))):
+            line = self.zone.lines[at]
+            pieces = [match.group() for match in PIECE.finditer(line) if match.group()[0] not in " \t\r;"]
+            if BEGIN.match(line) or any(seconds(piece) is None and piece not in "()" for piece in pieces):
+                break
+            more += [piece for piece in pieces if piece not in "()"]
+            if len(data) + len(more) == 7:
+                self.entry.end = at + 1
+                data += more
+                return True
+        return False
 
     def as_number(self, token, kind):
         bare, most = token.strip('"'), LARGEST[kind]
@@ -351,7 +375,8 @@ class Mending:
         if not found:
             bare = token.strip('"')
             if re.search(r"[g-zG-Z]", bare) and name(bare, self.reader.origin) and ":" not in bare:
-                return None, f"{token} is not an address: for another name of the zone's host write CNAME in place of {rtype}"
+                self.rtype = "CNAME"
+                return bare, f"{token} is a name: write CNAME {bare} for an alias"
             return None, f"{token} is not one"
         if found[0] != rtype:
             self.rtype = found[0]

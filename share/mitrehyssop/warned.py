@@ -20,7 +20,13 @@ class Warnings:
     def __init__(self, zone):
         self.of, self.zone = zone, zone.zone
         self.nodes, self.sets = set(), collections.defaultdict(dict)
+        seen = set()
         for record in zone.records:
+            if not zone.passes:
+                key = (record.owner, record.rtype, *record.data)
+                if key in seen:
+                    continue
+                seen.add(key)
             self.sets[record.owner].setdefault(record.rtype, []).append(record)
             full = record.owner
             while full and full not in self.nodes:
@@ -168,7 +174,7 @@ class Warnings:
         if whole.startswith("v=spf1"):
             if any(a and b and a[-1] != " " != b[0] and len(a) < 250 for a, b in zip(parts, parts[1:])):
                 yield record, "W18", "the strings of the SPF text are joined without a space: write one string, or a space at the end of each"
-            if record is not self.sets[owner]["TXT"][0] and sum(octets(other.data[0]).lower().startswith("v=spf1")
+            if sum(octets(other.data[0]).lower().startswith("v=spf1")
                                                                 for other in self.sets[owner]["TXT"]) > 1:
                 yield record, "W17", "more than one SPF text at a name: none of them holds"
             if owner.startswith("_dmarc.") or "._domainkey." in owner:
