@@ -27,7 +27,7 @@ def joined(entry, first):
         apart = not entry.spans or place == first or place >= len(entry.spans) or entry.spans[place][:2] != (
             entry.spans[place - 1][0], entry.spans[place - 1][2])
         text += " " * apart + printable(entry.tokens[place])
-    return text
+    return text[1:]
 
 
 class Refused(Exception):

@@ -74,8 +74,11 @@ def run(program, main):
     except KeyboardInterrupt:
         status = 130
     except OSError as error:
-        print(f"{program}: standard output: {error.strerror}", file=sys.stderr)
+        print(f"{program}: {error.strerror}", file=sys.stderr)
         os.dup2(os.open(os.devnull, os.O_WRONLY), 1)
+        status = 2
+    except Exception as error:  # Status 1 says that a zone has faults.
+        print(f"{program}: {type(error).__name__}: {error}", file=sys.stderr)
         status = 2
     sys.exit(status)
 
@@ -138,6 +141,8 @@ class Zone:
 
     def model(self):
         """The records of the lines as they are now."""
+        if self.lines is None:
+            self.split()
         return list(Reader(self.lines, self.zone).records())
 
     def shown(self, fault, severity):

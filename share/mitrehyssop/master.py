@@ -208,7 +208,7 @@ def data_of(rtype, tokens, origin):
         return [string(octets(token) or "") for token in tokens]
     if kinds == "6":
         try:
-            return [str(ipaddress.IPv6Address(tokens[0]))]
+            return [str(ipaddress.IPv6Address("".join(tokens)))]
         except ValueError:
             return tokens
     return [(name(token, origin) or token) if kind == "n" else token for kind, token in zip(kinds, tokens)]

@@ -111,12 +111,11 @@ class Mending:
 
     def r02(self):
         bad = re.compile(r"\\(?!(?:[01]\d\d|2[0-4]\d|25[0-5])|[^\d\r])")
-        if "\\" in self.tokens:
+        text = bind.joined(self.entry, 0)
+        if re.search(r"(?:^| )\\$", text) and "\\" in self.tokens:
             self.put_tokens([token for token in self.tokens if token != "\\"])
             return "a backslash does not join a line with the next: take it out, and write parentheses around data on several lines"
-        tokens = [re.sub(r"\\(?:\d{3}|\D)|\\", lambda match: match.group() if not bad.match(match.group()) else "\\" + match.group(), token)
-                  for token in self.tokens]
-        self.put_tokens(tokens)
+        self.lines = [" " * self.entry.blank + re.sub(r"\\(?:\d{3}|\D)|\\", lambda match: "\\" * bool(bad.match(match.group())) + match.group(), text)]
         return "a backslash that begins no escape: write \\\\ for a backslash itself; an octet is \\000 to \\255"
 
     def r03(self):

@@ -23,7 +23,7 @@ class Warnings:
         seen = set()
         for record in zone.records:
             if not zone.passes:
-                key = (record.owner, record.rtype, *record.data)
+                key = (record.owner, record.ttl, record.rtype, *record.data)
                 if key in seen:
                     continue
                 seen.add(key)
@@ -60,7 +60,7 @@ class Warnings:
             if "A" in sets or "AAAA" in sets:
                 yield from self.host(full, sets, plain)
         origin = self.sets.get(self.zone, {})
-        for record in origin.get("SOA", ())[:1]:
+        for record in origin.get("SOA", ()):
             if record.line not in self.of.guessed and len(record.data) == 7:
                 yield from self.soa(record, origin)
         yield from self.servers(origin)
