@@ -154,7 +154,7 @@ class Importer:
                 self.implied = seconds(data[6])
             if self.implied is not None:
                 after = 0 if owner is None else 1
-                changes[after] = f"{self.implied} {entry.tokens[after]}"
+                changes[after] = f"{self.implied} " + (entry.tokens[after] if after < at or rtype not in OTHERS else "")
         if data[:1] == ["\\#"]:
             if any(len(token) % 2 for token in data[2:]):
                 changes.update({at + 3: "".join(data[2:]), **{at + 4 + k: "" for k in range(len(data) - 3)}})
@@ -163,7 +163,7 @@ class Importer:
             if text is None:
                 self.notes[len(self.lines)] = why
                 return self.changed(entry, lines, changes)
-            fields = [changes.get(k, token) for k, token in enumerate(entry.tokens[:at])]
+            fields = [changes.get(k, printable(token)) for k, token in enumerate(entry.tokens[:at])] + changes.get(at, "").split()
             front = (changes.get(-1, "") if owner is None else "") + " " * (owner is None)
             return [front + " ".join([*fields, f"TYPE{OTHERS[rtype]}", text]) + (" " + entry.note if entry.note else "")] + [""] * (len(lines) - 1)
         else:
@@ -200,7 +200,7 @@ class Importer:
         tokens = entry.tokens
         if len(tokens) not in (2, 3):
             raise Refused("$INCLUDE takes a file and an origin")
-        path = os.path.join(self.folder, os.fsdecode((octets(tokens[1]) or "").encode("latin-1")))
+        path = os.path.join(self.folder, os.fsdecode((octets(tokens[1]) or "").replace("\0", "").encode("latin-1")))
         real = os.path.realpath(path)
         origin = name(tokens[2], self.origin) if len(tokens) == 3 else self.origin
         if os.path.commonpath([real, self.folder]) != self.folder:

@@ -98,7 +98,7 @@ def name(text, origin):
             label = octets(match[1]) if match else None
             if not label or len(label) > 63:
                 return None
-            labels.append(escaped(label.lower(), '"$().;@\\').replace(" ", "\\032"))
+            labels.append(escaped(label.encode("latin-1").lower().decode("latin-1"), '"$().;@\\').replace(" ", "\\032"))
             at = match.end()
             ends = match[2]
         if not labels:
