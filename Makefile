@@ -3,6 +3,9 @@
 PREFIX ?= /usr/local
 NAMES = zonecheck zoneserve dnsmsg zonesocket
 PROGRAMS = $(foreach name,$(NAMES),crates/$(name)/out/$(name))
+# Those in Python, and their modules.
+SCRIPTS = $(wildcard bin/*)
+MODULES = $(wildcard share/mitrehyssop/*.py)
 # Those of the first three that the tools run one after another.
 THREE = $(wordlist 1,3,$(PROGRAMS))
 PAGES = $(wildcard man/*.1)
@@ -33,7 +36,8 @@ built:
 # since small systems keep no documents, and scripts use them.
 install: built
 	install -d "$(DESTDIR)$(PREFIX)/bin" "$(DESTDIR)$(PREFIX)/share/man/man1" "$(DOC)/docs/plots" "$(SHARE)/examples" "$(COMPLETIONS)" "$(UNITS)"
-	install -m 755 $(PROGRAMS) "$(DESTDIR)$(PREFIX)/bin"
+	install -m 755 $(PROGRAMS) $(SCRIPTS) "$(DESTDIR)$(PREFIX)/bin"
+	install -m 644 $(MODULES) "$(SHARE)"
 	install -m 644 $(PAGES) "$(DESTDIR)$(PREFIX)/share/man/man1"
 	install -m 644 README.md LICENSE-MIT LICENSE-APACHE "$(DOC)"
 	install -m 644 $(DOCUMENTS) "$(DOC)/docs"
@@ -42,10 +46,10 @@ install: built
 	sed -i 's|/usr/share/|$(PREFIX)/share/|g' "$(DESTDIR)$(PREFIX)"/share/man/man1/zone*.1 "$(DOC)"/README.md "$(DOC)"/docs/*.md "$(SHARE)"/examples/*
 	ln -sfn ../../mitrehyssop/examples "$(DOC)/examples"
 	for unit in systemd/*; do sed 's|@PREFIX@|$(PREFIX)|' "$$unit" >"$(UNITS)/$${unit##*/}"; done
-	for name in $(NAMES); do install -m 644 tools/completion "$(COMPLETIONS)/$$name"; done
+	for name in $(NAMES) $(notdir $(SCRIPTS)); do install -m 644 tools/completion "$(COMPLETIONS)/$$name"; done
 
 uninstall:
-	rm -f $(foreach name,$(NAMES),"$(DESTDIR)$(PREFIX)/bin/$(name)" "$(COMPLETIONS)/$(name)")
+	rm -f $(foreach name,$(NAMES) $(notdir $(SCRIPTS)),"$(DESTDIR)$(PREFIX)/bin/$(name)" "$(COMPLETIONS)/$(name)")
 	rm -f $(foreach page,$(PAGES),"$(DESTDIR)$(PREFIX)/share/man/man1/$(notdir $(page))")
 	rm -f $(foreach unit,$(wildcard systemd/*),"$(UNITS)/$(notdir $(unit))")
 	rm -rf "$(DOC)" "$(SHARE)"
@@ -73,10 +77,9 @@ docs-check: built
 	tools/definitions | cmp - docs/DEFINITIONS.md
 	tools/docs-check $(PROGRAMS)
 	tools/remedies crates/zonecheck/out/zonecheck
-	tools/test-units crates/zonecheck/out/zonecheck
-	tools/test-explain crates/zonecheck/out/zonecheck
+	tools/test-lint crates/zonecheck/out/zonecheck
+	tools/test-import crates/zonecheck/out/zonecheck
 	tools/test-deploy crates/zonecheck/out/zonecheck
-	tools/test-from-bind crates/zonecheck/out/zonecheck
 	tools/test-serve crates/zonecheck/out/zonecheck
 	docs/plots/mistakes | cmp - docs/plots/mistakes.svg
 
