@@ -13,7 +13,7 @@ DOC = $(DESTDIR)$(PREFIX)/share/doc/mitrehyssop
 SHARE = $(DESTDIR)$(PREFIX)/share/mitrehyssop
 UNITS = $(DESTDIR)$(PREFIX)/lib/systemd/system
 # The documents for operators; the others are for those who work on the source.
-DOCUMENTS = $(foreach name,OPERATE CODES FROM-BIND ZONEFILE REPLY PROVED PERFORMANCE,docs/$(name).md)
+DOCUMENTS = $(foreach name,OPERATE CODES IMPORT ZONEFILE REPLY PROVED PERFORMANCE,docs/$(name).md)
 COMPLETIONS = $(DESTDIR)$(PREFIX)/share/bash-completion/completions
 
 # Builds the programs, checks two zones in examples/, and asks the server about one of them.
@@ -71,8 +71,8 @@ operate: built
 examples: built
 	tools/examples crates/zonecheck/out/zonecheck
 
-# Runs the commands of the documents and compares what they print, tries the remedies of docs/CODES.md and the scripts of
-# examples/, and sees that the pages that are made by scripts are as these make them.
+# Runs the commands of the documents and compares what they print, tries the remedies of docs/CODES.md, zonelint, zoneimport and
+# the scripts of examples/, and sees that the pages that are made by scripts are as these make them.
 docs-check: built
 	tools/definitions | cmp - docs/DEFINITIONS.md
 	tools/docs-check $(PROGRAMS)
