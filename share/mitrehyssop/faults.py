@@ -14,7 +14,7 @@ import tempfile
 from pathlib import Path
 
 import bind
-from master import address, Reader, canonical, entry_at, escaped, name, parent, within
+from master import Names, Reader, address, canonical, entry_at, escaped, name, twice, unique, within
 from mending import Mending
 
 MOST = 100                  # faults that are reported of a file
@@ -127,7 +127,7 @@ class Zone:
             status, said = zonecheck(self.origin, "\n".join(self.lines))
         self.records = [] if said.startswith("line ") else self.model()
         if status and not said.startswith("line "):
-            ZoneFaults(self).report(said)
+            ZoneFaults(self, self.records).report(said)
         self.faults.sort(key=lambda fault: (fault.place[1], fault.code))
         self.more, self.faults = len(self.faults) >= MOST and bool(status), self.faults[:MOST]
         return self
@@ -206,50 +206,32 @@ class Zone:
                 return
 
 
-class ZoneFaults:
-    """The faults of a zone: for each that zonecheck reports the entries that have it, and what to do."""
-
-    def __init__(self, zone):
-        self.of, self.zone, self.records = zone, zone.zone, zone.records
-        self.owned, self.types = collections.defaultdict(list), collections.defaultdict(set)
-        for record in zone.records:
-            self.owned[record.owner].append(record)
-            self.types[record.owner].add(record.rtype)
-        self.cuts = {owner for owner, types in self.types.items() if "NS" in types and owner != self.zone and within(owner, self.zone)}
-        self.soas = [record for record in zone.records if record.rtype == "SOA"]
+class ZoneFaults(Names):
+    """The faults of a zone: for each that zonecheck reports the records that have it, and what to do."""
 
     def report(self, said):
-        for line in said.splitlines():
-            owner, code = line.rsplit(" ", 1)
-            found = list(getattr(self, code.lower())(owner))
-            if found or code in ("Z08", "Z09", "Z10", "Z11") and (self.of.guessed or self.of.untimed or self.of.doubtful):
-                for record, text in found:
-                    self.of.found(record.line if record else 0, code, text, owner)
-            elif owner not in self.of.doubtful:
-                self.of.found(self.owned[owner][0].line if self.owned[owner] else 0, code, "this name has the fault", owner)
+        self.soas = [record for record in self.of.records if record.rtype == "SOA"]
+        for owner, code in (line.rsplit(" ", 1) for line in said.splitlines()):
+            found = list(self.FOUND[code](self, owner))
+            doubtful = code in ("Z01", "Z04") and owner in self.of.doubtful or not found and code in ("Z08", "Z09", "Z10", "Z11") and (
+                self.of.guessed or self.of.untimed or self.of.doubtful)
+            for record, text in [] if doubtful else found or [(self.first(owner), "the name has this fault")]:
+                self.of.found(record.line if record else 0, code, text, owner)
             if len(self.of.faults) > MOST:
                 return
 
-    def line(self, record):
-        """Where a record is, as a part of a sentence."""
-        file, number = self.of.places[record.line]
-        return f"line {number}" if file == self.of.path else f"line {number} of {file}"
+    def first(self, owner):
+        return next(iter(self.at(owner)), None)
 
-    def others(self, records, record):
-        """The lines of the other records of some."""
-        lines = sorted({other.line: self.line(other) for other in records if other.line != record.line}.items())
-        return " and ".join(text for _, text in lines[:3]) or "the same line"
+    def lines(self, records):
+        """The lines of records, as a part of a sentence."""
+        places = [self.of.places[line] for line in sorted({record.line for record in records})]
+        return " and ".join(f"line {line}" + (f" of {file}" if file != self.of.path else "") for file, line in places[:3]) or "the same line"
 
-    def at(self, owner, *types):
-        return [record for record in self.owned[owner] if not types or record.rtype in types]
-
-    def cut(self, owner):
-        """The cut that a name is at or below, if it is."""
-        found = None
-        while owner and owner != self.zone:
-            found = owner if owner in self.cuts else found
-            owner = parent(owner)
-        return found
+    def each(self, records, text, others=None):
+        """Records that are at fault together: {} in the text is where the others are."""
+        for record in records:
+            yield record, text.format(self.lines(other for other in others or records if other.line != record.line))
 
     def end(self, target):
         """What an alias leads to."""
@@ -259,56 +241,39 @@ class ZoneFaults:
             target = self.at(target, "CNAME")[0].data[0]
         return target
 
-    def z01(self, owner):
-        first = (self.owned[owner] or [None])[0]
-        if owner in self.of.doubtful:
-            return
-        text = "the origin has no SOA record"
+    def no_soa(self, owner):
+        server = next((record.data[0] for record in self.at(owner, "NS")), self.below("ns1"))
+        do = f": add `{owner} 3600 IN SOA {server} {self.below('hostmaster')} 1 7200 900 1209600 300`"
         if self.soas:
-            soa = self.soas[0]
-            dotless = within(soa.owner, self.zone) and soa.owner.endswith(self.zone + self.zone)
-            do = f"write @ as its owner, which lacks its final dot" if dotless else f"give {soa.owner} as ORIGIN, if the file is of that zone"
-            text += f"; {self.line(soa)} has the one of {soa.owner}: {do}"
-        else:
-            server = next((record.data[0] for record in self.at(owner, "NS")), self.below("ns1"))
-            text += f": add `{owner} 3600 IN SOA {server} {self.below('hostmaster')} 1 7200 900 1209600 300`"
-        yield first, text
+            other = self.soas[0].owner
+            do = f"; {self.lines(self.soas[:1])} has the one of {other}: " + (
+                "write @ as its owner, which lacks its final dot" if twice(other, self.zone) else f"give {other} as ORIGIN, if the file is of that zone")
+        yield self.first(owner), "the origin has no SOA record" + do
+
+    def no_ns(self, owner):
+        server = next((record.data[0] for record in self.at(owner, "SOA")), self.below("ns1"))
+        lost = within(server, self.zone) and not self.at(server, "A", "AAAA")
+        yield self.first(owner), (f"the origin has no NS record: add one for each server, as `{owner} 3600 IN NS {server}`"
+                                  + ", with the address of the server" * lost)
 
     def below(self, label):
         return f"{label}." if self.zone == "." else f"{label}.{self.zone}"
 
-    def z02(self, owner):
-        soas = self.at(owner, "SOA")
-        for record in soas:
-            yield record, f"more than one SOA record; see {self.others(soas, record)}: keep one"
+    def soa_below(self, owner):
+        if twice(owner, self.zone):
+            do = "its owner lacks the final dot: write @"
+        elif self.at(self.zone, "SOA"):
+            do = "take it out"
+        else:
+            do = "write @ as its owner, or " * within(owner, self.zone) + f"give {owner} as ORIGIN, if the file is of that zone"
+        return self.each(self.at(owner, "SOA"), "an SOA record that is not at the origin: " + do.replace("{", "{{").replace("}", "}}"))
 
-    def z03(self, owner):
-        for record in self.at(owner, "SOA"):
-            if owner.endswith("." + self.zone + self.zone) or owner == self.zone + self.zone:
-                do = "its owner lacks the final dot: write @"
-            elif self.at(self.zone, "SOA"):
-                do = "take it out"
-            elif within(owner, self.zone):
-                do = f"write @ as its owner, or give {owner} as ORIGIN, if the file is of that zone"
-            else:
-                do = f"give {owner} as ORIGIN, if the file is of that zone"
-            yield record, f"an SOA record that is not at the origin: {do}"
-
-    def z04(self, owner):
-        if owner in self.of.doubtful:
-            return
-        server = self.at(owner, "SOA")[0].data[0] if self.at(owner, "SOA") else self.below("ns1")
-        text = f"the origin has no NS record: add one for each server, as `{owner} 3600 IN NS {server}`"
-        if within(server, self.zone) and not self.types[server] & {"A", "AAAA"}:
-            text += ", with the address of the server"
-        yield (self.owned[owner] or [None])[0], text
-
-    def z05(self, owner):
-        outside = [soa for soa in self.soas if not within(soa.owner, self.zone)]
-        targets = {record.data[-1] for record in self.records if record.rtype in ("NS", "MX", "SRV") and record.data}
-        for record in self.owned[owner]:
-            if outside and not self.at(self.zone, "SOA"):
-                do = f"the SOA of the file is that of {outside[0].owner}: give that as ORIGIN"
+    def outside(self, owner):
+        soa = next((soa for soa in self.soas if not within(soa.owner, self.zone)), None)
+        targets = {record.data[-1] for record in self.of.records if record.rtype in ("NS", "MX", "SRV") and record.data}
+        for record in self.at(owner):
+            if soa and not self.at(self.zone, "SOA"):
+                do = f"the SOA of the file is that of {soa.owner}: give that as ORIGIN"
             elif record.rtype in ("A", "AAAA") and owner in targets:
                 do = "the address of a host outside the zone is in the zone of that host: take the record out"
             elif owner.count(".") == 1 and owner != ".":
@@ -317,86 +282,59 @@ class ZoneFaults:
                 do = "take the record out, or put it into the file of its own zone"
             yield record, f"the name is not in the zone {self.zone}; {do}"
 
-    def z06(self, owner):
+    def alias(self, owner):
         aliases = self.at(owner, "CNAME")
-        others = [record for record in self.owned[owner] if record.rtype != "CNAME"]
-        for record in aliases:
-            if owner == self.zone:
-                do = "take the CNAME out, and write the A and AAAA records of its target"
-            else:
-                do = f"keep it or the other, on {self.others(others, record)}"
-            yield record, f"a CNAME and other records at one name: {do}"
-        for record in others if owner != self.zone else []:
-            yield record, f"other records at the name of a CNAME: keep it or the CNAME, on {self.others(aliases, record)}"
+        if owner == self.zone:
+            return self.each(aliases, "a CNAME and other records at one name: take the CNAME out, and write the A and AAAA records of its target")
+        others = [record for record in self.at(owner) if record.rtype != "CNAME"]
+        return [*self.each(aliases, "a CNAME and other records at one name: keep it or the other, on {}", others),
+                *self.each(others, "other records at the name of a CNAME: keep it or the CNAME, on {}", aliases)]
 
-    def z07(self, owner):
-        aliases = self.at(owner, "CNAME")
-        for record in aliases:
-            yield record, f"more than one CNAME at one name; see {self.others(aliases, record)}: keep one"
-
-    def z08(self, owner):
-        for rtype in sorted(self.types[owner]):
-            records = self.at(owner, rtype)
-            first = {record.ttl: record for record in reversed(records)}
+    def times(self, owner):
+        for rtype, records in self.sets[owner].items():
+            first = {record.ttl: record for record in reversed(records)}.values()
             if len(first) > 1 and not any(record.line in self.of.untimed for record in records):
-                for record in sorted(first.values(), key=lambda record: record.line):
-                    yield record, (f"the TTL of this {rtype} record is {record.ttl}, and that of {self.others(first.values(), record)} is "
-                                   f"another: give all {rtype} records of the name the TTL {records[0].ttl}")
+                for record in first:
+                    others = self.lines(other for other in first if other is not record)
+                    yield record, (f"the TTL of this {rtype} record is {record.ttl}, and that of {others} is another: "
+                                   f"give all {rtype} records of the name the TTL {records[0].ttl}")
 
-    def z09(self, owner):
-        for record in self.at(owner, "NS"):
-            if self.at(record.data[0], "CNAME"):
-                yield record, f"the server {record.data[0]} is an alias: write {self.end(record.data[0])}"
-
-    def z10(self, owner):
+    def servers(self, owner):
         for record in self.at(owner, "NS"):
             target, cut = record.data[0], self.cut(record.data[0])
-            if record.line in self.of.guessed or target in self.of.doubtful or not within(target, self.zone):
+            if record.line in self.of.guessed or target in self.of.doubtful or not within(target, self.zone) or self.at(target, "A", "AAAA") \
+                    or cut and not (owner in self.cuts and within(target, owner)):
                 continue
-            if self.types[target] & {"A", "AAAA"} or cut and not (owner in self.cuts and within(target, owner)):
-                continue
-            yield record, f"a server in the zone without an address: {target}: {self.server(record, target)}"
+            written, found = record.last, address(record.last)
+            do = f"add `{target} 3600 IN A` with its address, or take the NS record out"
+            if found:
+                do = f"{found[1]} is an address: write a name, as `NS ns9`, and for that name `ns9 {found[0]} {found[1]}`"
+            elif twice(target, self.zone):
+                do = f"the final dot is missing: write {written}."
+            elif self.at(target, "CNAME"):
+                do = f"write {self.end(target)}, to which it is an alias"
+            elif "." in written and written[-1] != "." and (owner == self.zone or not within(target, owner)):
+                do = f"write {written}. if it is in another zone; else {do}"
+            yield record, f"a server in the zone without an address: {target}: {do}"
 
-    def server(self, record, target):
-        """What to do about a server without an address."""
-        written, found = record.last, address(record.last)
-        if found:
-            return f"{found[1]} is an address: write a name, as `NS ns9`, and for that name `ns9 {found[0]} {found[1]}`"
-        if target.endswith("." + self.zone + self.zone) and self.zone != ".":
-            return f"the final dot is missing: write {written}."
-        if self.at(target, "CNAME"):
-            return f"write {self.end(target)}, to which it is an alias"
-        add = f"add `{target} 3600 IN A` with its address, or take the NS record out"
-        elsewhere = "." in written and written[-1] != "." and (record.owner == self.zone or not within(target, record.owner))
-        return f"write {written}. if it is in another zone; else {add}" if elsewhere else add
-
-    def z11(self, owner):
-        for record in self.at(owner, "MX", "SRV"):
-            if self.at(record.data[-1], "CNAME") and within(record.data[-1], self.zone):
-                yield record, f"an {record.rtype} host that is an alias: {record.data[-1]}: write {self.end(record.data[-1])}"
-
-    def z12(self, owner):
+    def delegated(self, owner):
         cut = self.cut(owner) or owner
-        above = [record for record in self.at(cut, "NS")]
-        for record in self.owned[owner]:
+        for record in self.at(owner):
             if record.rtype not in ("A", "AAAA") and (record.rtype != "NS" or owner != cut):
                 yield record, (f"data at or below a delegation, where it is never answered: take it out (it belongs to the zone {cut}), or "
-                               f"the NS records of {cut} on {self.others(above, record)}")
+                               f"the NS records of {cut} on {self.lines(self.at(cut, 'NS'))}")
 
-    def z13(self, owner):
-        for record in self.at(owner, "NS"):
-            yield record, "NS at a wildcard: take it out, and delegate each name by itself"
-
-    def z14(self, owner):
-        for rtype in sorted(self.types[owner]):
-            data = {}
-            for record in self.at(owner, rtype):
-                data.setdefault((tuple(record.data), record.ttl), record)
-            if len(data) > 64:
-                yield list(data.values())[64], f"{len(data)} {rtype} records at one name: at most 64 are served; spread them over several names"
-
-    def z15(self, owner):
-        first = {record.rtype: record for record in reversed(self.owned[owner])}
-        last = sorted(first.values(), key=lambda record: record.line)[32:33]
-        for record in last:
-            yield record, f"{len(first)} types at one name: at most 32 are served; spread them over several names"
+    FOUND = {
+        "Z01": no_soa, "Z02": lambda self, owner: self.each(self.at(owner, "SOA"), "more than one SOA record; see {}: keep one"),
+        "Z03": soa_below, "Z04": no_ns, "Z05": outside, "Z06": alias,
+        "Z07": lambda self, owner: self.each(self.at(owner, "CNAME"), "more than one CNAME at one name; see {}: keep one"), "Z08": times,
+        "Z09": lambda self, owner: [(record, f"the server {record.data[0]} is an alias: write {self.end(record.data[0])}")
+                                    for record in self.at(owner, "NS") if self.at(record.data[0], "CNAME")], "Z10": servers,
+        "Z11": lambda self, owner: [(record, f"an {record.rtype} host that is an alias: {record.data[-1]}: write {self.end(record.data[-1])}")
+                                    for record in self.at(owner, "MX", "SRV") if within(record.data[-1], self.zone) and self.at(record.data[-1], "CNAME")],
+        "Z12": delegated, "Z13": lambda self, owner: self.each(self.at(owner, "NS"), "NS at a wildcard: take it out, and delegate each name by itself"),
+        "Z14": lambda self, owner: [(records[64], f"{len(records)} {rtype} records at one name: at most 64 are served; spread them over several names")
+                                    for rtype, records in ((rtype, unique(records)) for rtype, records in self.sets[owner].items()) if records[64:]],
+        "Z15": lambda self, owner: [(list(self.sets[owner].values())[32][0], f"{len(self.sets[owner])} types at one name: at most 32 are served; "
+                                     "spread them over several names")] if len(self.sets[owner]) > 32 else [],
+    }

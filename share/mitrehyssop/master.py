@@ -3,6 +3,7 @@
 It judges nothing, since zonecheck does. So it also reads faulty entries, and ends each where it most likely ends. Texts have
 one character for each octet (latin-1).
 """
+import collections
 import functools
 import ipaddress
 import re
@@ -118,6 +119,11 @@ def parent(full):
 
 def within(full, zone):
     return full == zone or zone == "." or full.endswith("." + zone)
+
+
+def twice(full, zone):
+    """Whether a name ends with a zone's name twice, as one without its final dot does."""
+    return zone != "." and within(full, zone + zone)
 
 
 class Entry:
@@ -273,3 +279,31 @@ def canonical(text):
         else:
             data = data.split(" ")
         yield Record(owner, ttl, rtype, data)
+
+
+def unique(records):
+    """Records without duplicates: of each the first."""
+    return list({(record.owner, record.ttl, record.rtype, *record.data): record for record in reversed(records)}.values())[::-1]
+
+
+class Names:
+    """The records of a zone by owner and type, and its cuts."""
+
+    def __init__(self, zone, records):
+        self.of, self.zone, self.sets, self.cuts = zone, zone.zone, collections.defaultdict(dict), set()
+        for record in records:
+            self.sets[record.owner].setdefault(record.rtype, []).append(record)
+            if record.rtype == "NS" and record.owner != self.zone and within(record.owner, self.zone):
+                self.cuts.add(record.owner)
+
+    def at(self, owner, *types):
+        """The records of a name, of some types if they are named."""
+        return [record for rtype, records in self.sets.get(owner, {}).items() if not types or rtype in types for record in records]
+
+    def cut(self, full):
+        """The highest cut that a name is at or below, or None."""
+        found = None
+        while self.cuts and full and full != self.zone:
+            found = full if full in self.cuts else found
+            full = parent(full)
+        return found

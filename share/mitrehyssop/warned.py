@@ -3,7 +3,7 @@ import collections
 import re
 
 from faults import Fault
-from master import octets, parent, within
+from master import Names, octets, parent, twice, unique, within
 
 HOST = re.compile(r"(?:\*\.)?(?:[a-z0-9](?:[a-z0-9-]*[a-z0-9])?\.)+|(?:.*\.)?gc\._msdcs\..*")
 FOUR = re.compile(r"\d+\.\d+\.\d+\.\d+\.")
@@ -14,27 +14,17 @@ TEXTS = {"v=dmarc1": (r"_dmarc\.|.*\._report\._dmarc\.", "_dmarc", "p="), "v=dki
          "v=bimi1": (r".+\._bimi\.", "NAME._bimi", "l=")}
 
 
-class Warnings:
+class Warnings(Names):
     """Looks at the records of a zone, and finds a record, a code and a sentence each time."""
 
     def __init__(self, zone):
-        self.of, self.zone = zone, zone.zone
-        self.nodes, self.sets = set(), collections.defaultdict(dict)
-        seen = set()
-        for record in zone.records:
-            if not zone.passes:
-                key = (record.owner, record.ttl, record.rtype, *record.data)
-                if key in seen:
-                    continue
-                seen.add(key)
-            self.sets[record.owner].setdefault(record.rtype, []).append(record)
-            full = record.owner
+        super().__init__(zone, zone.records if zone.passes else unique(zone.records))
+        self.nodes = set()
+        for full in self.sets:
             while full and full not in self.nodes:
                 self.nodes.add(full)
                 full = parent(full)
-        servers = [record for sets in self.sets.values() for record in sets.get("NS", ())]
-        self.cuts = {record.owner for record in servers if record.owner != self.zone}
-        self.glue = {record.data[0] for record in servers}
+        self.glue = {record.data[0] for sets in self.sets.values() for record in sets.get("NS", ())}
 
     def look(self):
         for full, sets in self.sets.items():
@@ -65,10 +55,6 @@ class Warnings:
                 yield from self.soa(record, origin)
         yield from self.servers(origin)
 
-    def repeats(self, full):
-        """Whether a name ends with the origin twice, the root's apart."""
-        return self.zone != "." and ("." + full).endswith("." + self.zone + self.zone)
-
     def name(self, record, full):
         if "\\@" in full:
             yield record, "W11", "@ inside a name; it means the origin only if it is the whole name"
@@ -76,7 +62,7 @@ class Warnings:
             yield record, "W12", "a * that is not the whole first label matches nothing"
         if FOUR.match(full) and not self.zone.endswith("arpa."):
             yield record, "W05", f"the owner is an address: {full}"
-        elif self.repeats(full) or self.zone != "." and re.search(r"\.(com|org|arpa)\.$", full[:-len(self.zone)]):
+        elif twice(full, self.zone) or self.zone != "." and re.search(r"\.(com|org|arpa)\.$", full[:-len(self.zone)]):
             yield record, "W07", f"the owner is {full}: is a final dot missing?"
 
     def host(self, full, sets, plain):
@@ -86,14 +72,6 @@ class Warnings:
         cut = self.cut(full)
         if cut and full not in self.glue:
             yield record, "W22", f"an address below the delegation of {cut} that no server has: it is never answered"
-
-    def cut(self, full):
-        """The lowest cut that a name is at or below."""
-        while self.cuts and full and full != self.zone:
-            if full in self.cuts:
-                return full
-            full = parent(full)
-        return None
 
     def found(self, full):
         """The types at a name of the zone, by a wildcard too; None if it does not exist."""
@@ -119,7 +97,7 @@ class Warnings:
             yield record, "W05", f"the target is an address: {full}; write the name of a host"
         elif re.search("[/:]", full) and rtype != "PTR" and not arpa:
             yield record, "W06", f"the target is a URL or has a port: {full}; write the name of the host"
-        elif self.repeats(full):
+        elif twice(full, self.zone):
             yield record, "W07", f"the target is {full}: is a final dot missing?"
         elif "\\@" in full:
             yield record, "W11", f"@ inside the target {full}; it means the origin only if it is the whole name"
@@ -158,7 +136,7 @@ class Warnings:
         if "\\@" in rname:
             yield record, "W03", f"the mailbox {rname} has @: write a dot for it"
         for full in (mname, rname):
-            if self.repeats(full):
+            if twice(full, self.zone):
                 yield record, "W07", f"the name {full}: is a final dot missing?"
         if retry >= refresh:
             yield record, "W04", f"the retry time {retry} is not less than the refresh time {refresh}"
