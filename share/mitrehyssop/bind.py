@@ -1,16 +1,20 @@
-"""Reads a zone file as BIND does, and writes each entry as zonecheck reads it. Lines stay, and each new one has the place of its entry."""
+"""Reads a zone file as BIND does, and writes its entries as zonecheck reads them. Lines stay, and new ones have the place of their entry."""
 import os
 import re
 import stat
 import warnings
 
-from master import KINDS, NAMED, OTHERS, PIECE, PLAIN, entry_at, groups, head, name, octets, seconds
+from master import KINDS, NAMED, OTHERS, PIECE, Entry, entry_at, groups, head, name, octets, seconds
 
-LARGEST = 16777216
-DEEPEST = 10
+LARGEST = 16777216          # octets of what is written
+DEEPEST, FILES = 10, 1000   # files that include one another, and all that are included
 NUMBERED = {f"TYPE{number}": rtype for rtype, number in OTHERS.items()}
 RANGE = re.compile(r"(\d{1,10})-(\d{1,10})(?:/(\d{1,10})|(?!/))")
 SIGN = re.compile(r"\\.|\$\$|\$\{(-?\d{1,9})(?:,(\d{1,3})(?:,([doxXnN]))?)?\}|\$(?P<bad>\{)?", re.S)
+
+
+class Refused(Exception):
+    """An entry can't be converted; the text says why."""
 
 
 def printable(token):
@@ -21,17 +25,13 @@ def printable(token):
 
 
 def joined(entry, first):
-    """The tokens of an entry from one on, with blanks if there are some between them."""
-    text = ""
-    for place in range(first, len(entry.tokens)):
-        apart = not entry.spans or place == first or place >= len(entry.spans) or entry.spans[place][:2] != (
-            entry.spans[place - 1][0], entry.spans[place - 1][2])
-        text += " " * apart + printable(entry.tokens[place])
+    """The tokens of an entry from one on, with a blank where there is one between them."""
+    text, end = "", None
+    for place, token in enumerate(entry.tokens[first:], first):
+        span = entry.spans[place] if entry.spans and place < len(entry.spans) else (None, None, None)
+        text += " " * (end is None or span[:2] != end) + printable(token)
+        end = span[::2] if entry.spans else None
     return text[1:]
-
-
-class Refused(Exception):
-    """An entry can't be converted; the text says why."""
 
 
 def generic(rtype, text, origin):
@@ -56,19 +56,18 @@ def generated(text, number):
 
     def one(match):
         nonlocal offset
-        if match.group() == "$$" or match.group()[0] == "\\":
-            return match.group()[-1:] if match.group() == "$$" else match.group()
         if match["bad"]:
             raise Refused(f"{text}: after ${{ are an offset, a width and one of d, o, x, X, n and N")
+        if match.group()[0] == "\\" or match.group() == "$$":
+            return match.group().replace("$$", "$")
         offset = int(match[1]) if match[1] else offset
         width, base, value = int(match[2] or 0), match[3] or "d", number + offset
         if width > 127 or value > 2147483647:
             raise Refused(f"{text}: the width or the number is too great")
-        if base in "nN":
-            digits = f"{value & 0xffffffff:x}"[::-1].ljust((width + 1) // 2, "0")
-            result = ".".join(digits) + ("." if len(digits) * 2 == width else "")
-            return result.upper() if base == "N" else result
-        return f"%0{width}{base}" % (value if base == "d" else value & 0xffffffff)
+        if base not in "nN":
+            return f"%0{width}{base}" % (value if base == "d" else value & 0xffffffff)
+        digits = f"{value & 0xffffffff:{'X' if base == 'N' else 'x'}}"[::-1].ljust((width + 1) // 2, "0")
+        return ".".join(digits) + "." * (len(digits) * 2 == width)
 
     return SIGN.sub(one, text)
 
@@ -77,12 +76,10 @@ class Importer:
     """Makes `lines` and their `places` of a file and those that it includes; `notes` says of lines why they are as they were."""
 
     def __init__(self, origin, folder):
-        self.origin = name(origin, ".") or "."
-        self.folder = os.path.realpath(folder)
-        self.lines, self.places, self.notes, self.size = [], [], {}, 0
-        self.owner = self.default = self.implied = None
-        self.sources = {}
-        self.restate = False
+        self.origin, self.folder = name(origin, ".") or ".", os.path.realpath(folder)
+        self.lines, self.places, self.notes, self.sources, self.size, self.files = [], [], {}, {}, 0, 0
+        # The owner, and whether the next record has to state it; $TTL, or "" if a record has a TTL; the TTL by the SOA record.
+        self.owner, self.restate, self.default, self.implied = None, False, None, None
 
     def read(self, text, path, stack=()):
         """Adds the entries of a text."""
@@ -92,15 +89,13 @@ class Importer:
         at = 0
         while at < len(lines) and self.size <= LARGEST:
             entry = entry_at(lines, at, nested=True)
-            old = lines[entry.begin:entry.end]
-            begun = len(self.lines)
+            old, begun = lines[at:entry.end], len(self.lines)
             try:
-                new = self.entry(entry, old, (path, at + 1), stack)
+                new = self.entry(entry, old, (path, at + 1), stack) if entry.tokens else old
             except Refused as error:
-                self.notes[begun] = str(error)
-                new = old
-            for number, line in enumerate(new):
-                self.add(line, (path, at + 1 + min(number, len(old) - 1)))
+                self.notes[begun], new = str(error), old
+            for number, line in enumerate(new, at + 1):
+                self.add(line, (path, min(number, entry.end)))
             at = entry.end
 
     def add(self, line, place):
@@ -110,18 +105,16 @@ class Importer:
 
     def entry(self, entry, lines, place, stack):
         """The new lines of an entry."""
-        first = entry.tokens[0].upper() if entry.tokens and not entry.blank else ""
-        if not entry.tokens:
-            return lines
+        first, count = entry.tokens[0].upper() if not entry.blank else "", len(entry.tokens)
         if first == "$INCLUDE":
-            return self.include(entry, place, stack)
+            return self.include(entry.tokens, place, stack)
         if first == "$GENERATE":
-            return self.generate(entry, place)
+            return self.generate(entry.tokens)
         if first == "$DATE":
             return [";" + line for line in lines]
-        if first == "$ORIGIN" and len(entry.tokens) == 2:
+        if first == "$ORIGIN" and count == 2:
             self.origin = name(entry.tokens[1], self.origin) or self.origin
-        if first == "$TTL" and len(entry.tokens) == 2:
+        if first == "$TTL" and count == 2:
             self.default, self.implied = entry.tokens[1], None
             value = seconds(self.default)
             return self.changed(entry, lines, {} if value is None else {1: str(value)})
@@ -129,120 +122,102 @@ class Importer:
 
     def record(self, entry, lines):
         """The lines of a record."""
-        changes = {}
         owner, ttl, _, at = head(entry)
-        if owner is None and self.restate and self.owner:
-            changes[-1] = self.owner
+        changes, tokens, front = {}, entry.tokens, self.owner if owner is None and self.restate and self.owner else ""
         if owner is not None:
             if owner[0] == '"':
-                changes[0] = (octets(owner) or "").replace(" ", "\\032")
-                owner = changes[0] or owner
+                changes[0] = owner = (octets(owner) or "").replace(" ", "\\032") or owner
             self.owner = name(owner, self.origin) or self.owner
         self.restate = False
-        if at == len(entry.tokens):
-            return self.changed(entry, lines, changes)
-        typed, data = entry.tokens[at].upper(), entry.tokens[at + 1:]
+        typed, data = "".join(tokens[at:at + 1]).upper(), tokens[at + 1:]
         rtype = NAMED.get(typed, NUMBERED.get(typed, typed))
         if ttl is not None:
             self.default = self.default or ""
-            value = seconds(ttl)
-            if value is not None:
-                changes[entry.tokens.index(ttl, owner is not None)] = str(value)
-        else:
-            if self.default is None and rtype == "SOA" and len(data) == 7:
-                self.default = ""
-                self.implied = seconds(data[6])
-            if self.implied is not None:
-                after = 0 if owner is None else 1
-                changes[after] = f"{self.implied} " + (entry.tokens[after] if after < at or rtype not in OTHERS else "")
-        if data[:1] == ["\\#"]:
-            if any(len(token) % 2 for token in data[2:]):
-                changes.update({at + 3: "".join(data[2:]), **{at + 4 + k: "" for k in range(len(data) - 3)}})
-        elif rtype in OTHERS:
+            changes[tokens.index(ttl, owner is not None)] = ttl if seconds(ttl) is None else str(seconds(ttl))
+        elif self.default is None and rtype == "SOA" and len(data) == 7:
+            self.default, self.implied = "", seconds(data[6])
+        if typed and typed != rtype and data[:1] != ["\\#"]:
+            changes[at] = rtype
+        whole = rtype in OTHERS and data[:1] != ["\\#"]
+        if data[:1] == ["\\#"] and any(len(token) % 2 for token in data[2:]):
+            changes.update({at + 3: "".join(data[2:]), **{place: "" for place in range(at + 4, len(tokens))}})
+        elif whole:
             text, why = generic(rtype, joined(entry, at + 1), self.origin)
             if text is None:
-                self.notes[len(self.lines)] = why
-                return self.changed(entry, lines, changes)
-            fields = [changes.get(k, printable(token)) for k, token in enumerate(entry.tokens[:at])] + changes.get(at, "").split()
-            front = (changes.get(-1, "") if owner is None else "") + " " * (owner is None)
-            return [front + " ".join([*fields, f"TYPE{OTHERS[rtype]}", text]) + (" " + entry.note if entry.note else "")] + [""] * (len(lines) - 1)
-        else:
-            if typed != rtype:
-                changes[at] = rtype
+                self.notes[len(self.lines)], whole = why, False
+            else:
+                changes[at] = f"TYPE{OTHERS[rtype]} {text}"
+        elif data[:1] != ["\\#"]:
             for place, (kind, token) in enumerate(zip(KINDS.get(rtype, ""), data), at + 1):
-                plain = token.isdigit() or rtype == "SOA" and place > at + 3
-                value = seconds(token) if kind in "HL" and plain else None
-                if value is not None and str(value) != token:
-                    changes[place] = str(value)
-                elif kind == "6" and "." in token:
-                    changes[place] = groups(token) or token
-        return self.changed(entry, lines, changes)
+                value = seconds(token) if kind in "HL" and (token.isdigit() or rtype == "SOA" and place > at + 3) else None
+                if value is not None or kind == "6" and "." in token:
+                    changes[place] = str(value) if kind != "6" else groups(token) or token
+        if ttl is None and self.implied is not None and typed:
+            after = owner is not None
+            changes[after] = f"{self.implied} {changes.get(after, printable(tokens[after]))}"
+        if not whole:
+            return self.changed(entry, lines, changes, front)
+        fields = [changes.get(place, printable(token)) for place, token in enumerate(tokens[:at + 1])]
+        return [" ".join([front] * (owner is None) + fields + [entry.note] * bool(entry.note))] + [""] * (len(lines) - 1)
 
-    def changed(self, entry, lines, changes):
+    def changed(self, entry, lines, changes, front=""):
         """The lines of an entry with other tokens in some places: each stays where it is."""
-        if not changes and (entry.spans is None or entry.depth < 2 and all(line.isascii() and line.isprintable() for line in lines)):
+        if not (changes or front or entry.depth > 1 or entry.spans and not all(line.isascii() and line.isprintable() for line in lines)):
             return lines
         lines = list(lines)
         spans = entry.spans or [(entry.begin, *match.span()) for match in re.finditer(r"[^ \t\r]+", lines[0])]
-        for place in range(min(len(spans), len(entry.tokens)) - 1, -1, -1):
-            line, begin, end = spans[place]
+        for place, (line, begin, end) in reversed(list(enumerate(spans[:len(entry.tokens)]))):
             text = lines[line - entry.begin]
             lines[line - entry.begin] = text[:begin] + changes.get(place, printable(text[begin:end])) + text[end:]
-        if -1 in changes:
-            lines[0] = changes[-1] + lines[0]
+        lines[0] = front + lines[0]
         if entry.depth > 1:
             pieces = [match.group() for line in lines for match in PIECE.finditer(line) if match.group()[0] not in "();\r"]
             lines = ["".join(pieces)] + [""] * (len(lines) - 1)
         return lines
 
-    def include(self, entry, place, stack):
+    def include(self, tokens, place, stack):
         """Adds the file of $INCLUDE FILE [ORIGIN]; origin and owner are as before after it."""
-        tokens = entry.tokens
         if len(tokens) not in (2, 3):
             raise Refused("$INCLUDE takes a file and an origin")
         path = os.path.join(self.folder, os.fsdecode((octets(tokens[1]) or "").replace("\0", "").encode("latin-1")))
-        real = os.path.realpath(path)
-        origin = name(tokens[2], self.origin) if len(tokens) == 3 else self.origin
-        if os.path.commonpath([real, self.folder]) != self.folder:
-            raise Refused(f"{tokens[1]} is outside {self.folder}; --include-from names another folder")
-        if real in stack or len(stack) >= DEEPEST:
-            raise Refused(f"{tokens[1]} includes itself" if real in stack else f"more than {DEEPEST} files include one another")
-        if origin is None:
-            raise Refused(f"{tokens[2]} is not a name")
+        real, before, owner = os.path.realpath(path), self.origin, self.owner
+        origin = name(tokens[2], before) if len(tokens) == 3 else before
+        self.files += 1
+        for bad, why in ((os.path.commonpath([real, self.folder]) != self.folder, f"is outside {self.folder}; --include-from names another folder"),
+                         (real in stack, "includes itself"), (len(stack) >= DEEPEST, f"is deeper than {DEEPEST} files that include one another"),
+                         (self.files > FILES, f"is more than {FILES} files"), (origin is None, "has an origin that is not a name")):
+            if bad:
+                raise Refused(f"{tokens[1]} {why}")
         try:
             if not stat.S_ISREG(os.stat(real).st_mode):
                 raise Refused(f"{tokens[1]} is not a plain file")
             with open(real, "rb") as file:
                 text = file.read(LARGEST + 1).decode("latin-1")
-        except (OSError, ValueError) as error:
-            raise Refused(f"{tokens[1]}: {getattr(error, 'strerror', None) or error}") from None
-        before, owner = self.origin, self.owner
-        self.origin = origin
+        except OSError as error:
+            raise Refused(f"{tokens[1]}: {error.strerror}") from None
         if origin != before:
             self.add(f"$ORIGIN {origin}", place)
-        self.read(text, os.path.relpath(real) if not os.path.isabs(place[0]) else real, (*stack, real))
+        self.origin = origin
+        self.read(text, real if os.path.isabs(place[0]) else os.path.relpath(real), (*stack, real))
         changed, self.origin, self.owner, self.restate = self.origin != before, before, owner, True
         return [f"$ORIGIN {before}"] if changed else []
 
-    def generate(self, entry, place):
+    def generate(self, tokens):
         """The records of $GENERATE FIRST-LAST[/STEP] OWNER [TTL] [CLASS] TYPE DATA."""
-        tokens = entry.tokens
-        _, ttl, rrclass, at = head(type(entry)(entry.begin, tokens[2:], False)) if len(tokens) > 3 else (None, None, None, 9)
-        found = RANGE.match(tokens[1]) if len(tokens) > 1 else None
+        found = RANGE.match("".join(tokens[1:2]))
         first, last, step = (int(part or 1) for part in found.groups()) if found else (1, 0, 0)
         if first > last or last > 2147483647 or not step:
-            raise Refused(f"$GENERATE takes a range, as 1-9 or 1-9/2, and not {tokens[1] if len(tokens) > 1 else 'nothing'}")
-        if len(tokens) != at + 4 or tokens[2][0] == '"':
+            raise Refused(f"$GENERATE takes a range, as 1-9 or 1-9/2, and not {''.join(tokens[1:2]) or 'nothing'}")
+        if len(tokens) < 4 or len(tokens) != head(Entry(0, tokens[2:], False))[3] + 4 or tokens[2][0] == '"':
             raise Refused("$GENERATE takes a range, an owner, a type and one token of data; data of several has quotation marks")
         if (last - first) // step >= 100000:
             raise Refused("$GENERATE makes more than 100,000 records")
-        data = tokens[-1]
+        data, owner, lines = tokens[-1], self.owner, []
         if data[0] == '"':
-            data = re.sub(r'\\(.)', lambda match: '"' if match[1] == '"' else match.group(), data[1:-1], flags=re.S)
-        owner, default, lines = self.owner, self.default, []
+            data = re.sub(r"\\(.)", lambda match: match.group().replace('\\"', '"'), data[1:-1], flags=re.S)
         for number in range(first, last + 1, step):
             front = generated(tokens[2], number)
-            line = " ".join([("\\" if front[:1] == "$" else "") + front, *tokens[3:-1], generated(data, number)])
+            line = " ".join(["\\" * front.startswith("$") + front, *tokens[3:-1], generated(data, number)])
             lines += self.record(entry_at([line], 0, nested=True), [line])
         self.owner, self.restate = owner, True
         return lines
