@@ -122,14 +122,14 @@ class Zone:
         reader = Reader(self.lines, self.zone)
         while said.startswith("line "):
             line, code = re.fullmatch(r"line (\d+): (R\d\d)\n", said).groups()
-            if len(self.faults) >= MOST or not self.mend(reader, int(line) - 1, code):
+            if len(self.faults) >= MOST or self.mended.total() >= 5 * MOST or not self.mend(reader, int(line) - 1, code):
                 break
             status, said = zonecheck(self.origin, "\n".join(self.lines))
         self.records = [] if said.startswith("line ") else self.model()
         if status and not said.startswith("line "):
             ZoneFaults(self, self.records).report(said)
         self.faults.sort(key=lambda fault: (fault.place[1], fault.code))
-        self.more, self.faults = len(self.faults) >= MOST and bool(status), self.faults[:MOST]
+        self.more, self.faults = len(self.faults) >= MOST or self.mended.total() >= 5 * MOST, self.faults[:MOST]
         return self
 
     def split(self):
@@ -153,8 +153,10 @@ class Zone:
 
     def found(self, line, code, text, owner=""):
         fault = Fault(self.places[line], code, owner, self.notes.get(line, text))
-        if not self.faults or fault != self.faults[-1]:
-            self.faults.append(fault)
+        if self.faults and fault == self.faults[-1]:
+            return False
+        self.faults.append(fault)
+        return True
 
     def mend(self, reader, line, code):
         """Reports the fault of an entry, and mends it. False if what follows can't be checked."""
@@ -166,8 +168,13 @@ class Zone:
         # An entry that is at fault again as it was mended, or for the octets put into it, has one fault.
         self.mended[line, code] += 1
         again = self.mended[line, code] > (3 if code == "R01" else 1)
-        if text and not again and not (mending.follows and self.mended[line, "silent"]):
-            self.found(line, code, text)
+        if text and not again and not (mending.follows and self.mended[line, "silent"]) and not self.found(line, code, text):
+            # More records of one $GENERATE are at fault alike.
+            for at in range(line, len(self.lines)):
+                if self.places[at] != self.places[line]:
+                    break
+                self.lines[at] = ""
+            return True
         if mending.silent or again:
             self.mended[line, "silent"] += 1
         if mending.ends:
