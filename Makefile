@@ -39,7 +39,7 @@ install: built
 	install -m 755 $(PROGRAMS) $(SCRIPTS) "$(DESTDIR)$(PREFIX)/bin"
 	install -m 644 $(MODULES) "$(SHARE)"
 	install -m 644 $(PAGES) "$(DESTDIR)$(PREFIX)/share/man/man1"
-	install -m 644 README.md LICENSE-MIT LICENSE-APACHE "$(DOC)"
+	install -m 644 README.md CHANGELOG.md SECURITY.md VERSION LICENSE-MIT LICENSE-APACHE "$(DOC)"
 	install -m 644 $(DOCUMENTS) "$(DOC)/docs"
 	install -m 644 docs/plots/*.svg "$(DOC)/docs/plots"
 	cp examples/* "$(SHARE)/examples"
