@@ -40,13 +40,13 @@ class Warnings(Names):
                     if record.line in self.of.guessed:
                         continue
                     if record.ttl == "0":
-                        yield record, "W16", "the TTL is 0: it is asked for again and again"
+                        yield record, "W06", "the TTL is 0: it is asked for again and again"
                     if rtype in TARGETS:
                         yield from self.target(record, record.data[-1])
                     elif rtype == "TXT":
                         yield from self.text(record)
             if "SRV" in sets and not re.match(r"(?:\*\.)?_[^.]+\._[^.]+\.", full):
-                yield sets["SRV"][0], "W15", "the owner of SRV is not of the form _service._protocol"
+                yield sets["SRV"][0], "W36", "the owner of SRV is not of the form _service._protocol"
             if "A" in sets or "AAAA" in sets:
                 yield from self.host(full, sets, plain)
         origin = self.sets.get(self.zone, {})
@@ -57,21 +57,21 @@ class Warnings(Names):
 
     def name(self, record, full):
         if "\\@" in full:
-            yield record, "W11", "@ inside a name; it means the origin only if it is the whole name"
+            yield record, "W34", "@ inside a name; it means the origin only if it is the whole name"
         if "*" in (full[2:] if full.startswith("*.") else full):
-            yield record, "W12", "a * that is not the whole first label matches nothing"
+            yield record, "W35", "a * that is not the whole first label matches nothing"
         if FOUR.match(full) and not self.zone.endswith("arpa."):
-            yield record, "W05", f"the owner is an address: {full}"
+            yield record, "W32", f"the owner is an address: {full}"
         elif twice(full, self.zone) or self.zone != "." and re.search(r"\.(com|org|arpa)\.$", full[:-len(self.zone)]):
-            yield record, "W07", f"the owner is {full}: is a final dot missing?"
+            yield record, "W31", f"the owner is {full}: is a final dot missing?"
 
     def host(self, full, sets, plain):
         record = (sets.get("A") or sets["AAAA"])[0]
         if not plain and "\\@" not in full and "*" not in full[1:]:
-            yield record, "W10", f"{full} has an address, and an octet that host names do not have"
+            yield record, "W33", f"{full} has an address, and an octet that host names do not have"
         cut = self.cut(full)
         if cut and full not in self.glue:
-            yield record, "W22", f"an address below the delegation of {cut} that no server has: it is never answered"
+            yield record, "W47", f"an address below the delegation of {cut} that no server has: it is never answered"
 
     def found(self, full):
         """The types at a name of the zone, by a wildcard too; None if it does not exist."""
@@ -89,20 +89,20 @@ class Warnings(Names):
         if rtype == "CNAME":
             yield from self.alias(record, full)
         if rtype == "MX" and full == "." and len(self.sets[record.owner]["MX"]) > 1:
-            yield record, "W21", "a null MX, which says that there is no mail, beside others"
+            yield record, "W46", "a null MX, which says that there is no mail, beside others"
         if rtype == "NS" and inside and not self.cut(full) and not {"A", "AAAA"} & set(self.sets.get(full, ())) or full == ".":
             return
         arpa = self.zone.endswith("arpa.")
         if inside and FOUR.match(full) and not arpa:
-            yield record, "W05", f"the target is an address: {full}; write the name of a host"
+            yield record, "W32", f"the target is an address: {full}; write the name of a host"
         elif re.search("[/:]", full) and rtype != "PTR" and not arpa:
-            yield record, "W06", f"the target is a URL or has a port: {full}; write the name of the host"
+            yield record, "W41", f"the target is a URL or has a port: {full}; write the name of the host"
         elif twice(full, self.zone):
-            yield record, "W07", f"the target is {full}: is a final dot missing?"
+            yield record, "W31", f"the target is {full}: is a final dot missing?"
         elif "\\@" in full:
-            yield record, "W11", f"@ inside the target {full}; it means the origin only if it is the whole name"
+            yield record, "W34", f"@ inside the target {full}; it means the origin only if it is the whole name"
         elif (rtype in ("NS", "MX", "SRV") or rtype == "PTR" and arpa) and not HOST.fullmatch(full):
-            yield record, "W10", f"the host {full} has an octet that host names do not have"
+            yield record, "W33", f"the host {full} has an octet that host names do not have"
         elif inside and not self.of.partial and full not in self.of.doubtful:
             yield from self.inside(record, full)
 
@@ -111,12 +111,12 @@ class Warnings(Names):
         cut, types = self.cut(full), self.found(full)
         if cut:
             if record.rtype == "NS" and not within(full, record.owner if record.owner in self.cuts else full + "\\") and not self.sets.get(full):
-                yield record, "W09", f"the server {full} is in the zone of {cut}, and has no address here: it may be missing there too"
+                yield record, "W43", f"the server {full} is in the zone of {cut}, and has no address here: it may be missing there too"
         elif types is None:
             own = full[:-len(self.zone)]
-            yield record, "W08", f"the target {full} does not exist" + (f"; write {own} if it is in another zone" if own.count(".") > 1 else "")
+            yield record, "W42", f"the target {full} does not exist" + (f"; write {own} if it is in another zone" if own.count(".") > 1 else "")
         elif not types & {"A", "AAAA", "CNAME"} and (record.rtype in ("MX", "SRV") or "_" not in record.owner + full):
-            yield record, "W09", f"the target {full} has no address"
+            yield record, "W43", f"the target {full} has no address"
 
     def alias(self, record, full):
         chain = [record.owner]
@@ -124,9 +124,9 @@ class Warnings(Names):
             chain.append(full)
             full = self.sets[full]["CNAME"][0].data[0]
         if full in chain:
-            yield record, "W13", "an alias to itself" if full == record.data[0] == record.owner else f"the alias leads back to {full}"
+            yield record, "W44", "an alias to itself" if full == record.data[0] == record.owner else f"the alias leads back to {full}"
         elif len(chain) > 1:
-            yield record, "W14", f"the target {record.data[0]} is an alias too: write {full}"
+            yield record, "W45", f"the target {record.data[0]} is an alias too: write {full}"
 
     def soa(self, record, origin):
         mname, rname, _, *times = record.data
@@ -137,7 +137,7 @@ class Warnings(Names):
             yield record, "W03", f"the mailbox {rname} has @: write a dot for it"
         for full in (mname, rname):
             if twice(full, self.zone):
-                yield record, "W07", f"the name {full}: is a final dot missing?"
+                yield record, "W31", f"the name {full}: is a final dot missing?"
         if retry >= refresh:
             yield record, "W04", f"the retry time {retry} is not less than the refresh time {refresh}"
         if expire < refresh + retry:
@@ -151,24 +151,24 @@ class Warnings(Names):
         kind = whole.partition(";")[0].strip()
         if whole.startswith("v=spf1"):
             if any(a and b and a[-1] != " " != b[0] and len(a) < 250 for a, b in zip(parts, parts[1:])):
-                yield record, "W18", "the strings of the SPF text are joined without a space: write one string, or a space at the end of each"
+                yield record, "W52", "the strings of the SPF text are joined without a space: write one string, or a space at the end of each"
             if sum(octets(other.data[0]).lower().startswith("v=spf1")
                                                                 for other in self.sets[owner]["TXT"]) > 1:
-                yield record, "W17", "more than one SPF text at a name: none of them holds"
+                yield record, "W51", "more than one SPF text at a name: none of them holds"
             if owner.startswith("_dmarc.") or "._domainkey." in owner:
-                yield record, "W20", "an SPF text means nothing at this name"
+                yield record, "W54", "an SPF text means nothing at this name"
         elif kind in TEXTS:
             names, example, needed = TEXTS[kind]
             if not re.match(names, owner):
-                yield record, "W20", f"this text means nothing at this name: it belongs to {example}"
+                yield record, "W54", f"this text means nothing at this name: it belongs to {example}"
             if needed not in whole and not (kind == "v=dmarc1" and "._report._dmarc." in owner):
-                yield record, "W19", f"the text lacks {needed}; is it cut off at a ; without quotation marks?"
+                yield record, "W53", f"the text lacks {needed}; is it cut off at a ; without quotation marks?"
         elif re.match(r".+\._domainkey\.", owner) and "p=" not in whole:
-            yield record, "W19", "the text lacks p=; is it cut off at a ; without quotation marks?"
+            yield record, "W53", "the text lacks p=; is it cut off at a ; without quotation marks?"
         elif owner.startswith("_dmarc."):
-            yield record, "W20", "the text is no DMARC policy: it begins with v=DMARC1"
+            yield record, "W54", "the text is no DMARC policy: it begins with v=DMARC1"
         if re.match("\u00e2\u0080[\u0098-\u009f]", whole):
-            yield record, "W24", "the text begins with a curly quotation mark"
+            yield record, "W55", "the text begins with a curly quotation mark"
 
     def servers(self, origin):
         servers = origin.get("NS", ())
@@ -177,7 +177,7 @@ class Warnings(Names):
         addresses = [{record.data[0] for rtype in ("A", "AAAA") for record in self.sets.get(server.data[0], {}).get(rtype, ())}
                      for server in servers]
         if len(servers) > 1 and addresses[0] and all(other == addresses[0] for other in addresses) and len(addresses[0]) <= 2:
-            yield servers[0], "W23", f"all servers have one address: {' and '.join(sorted(addresses[0]))}"
+            yield servers[0], "W05", f"all servers have one address: {' and '.join(sorted(addresses[0]))}"
 
 
 def warnings(zone):
