@@ -86,9 +86,15 @@ class Importer:
         lines = self.sources[path] = text.split("\n")
         if stack and not lines[-1]:
             lines.pop()
-        at = 0
+        at, nested = 0, True
         while at < len(lines) and self.size <= LARGEST:
-            entry = entry_at(lines, at, nested=True)
+            if not lines[at]:
+                at += 1
+                self.add("", (path, at))
+                continue
+            entry = entry_at(lines, at, nested)
+            # One that is not closed reads to the end: those after it are read without parentheses inside others.
+            nested = nested and entry.flaw != "parenthesis"
             old, begun = lines[at:entry.end], len(self.lines)
             try:
                 new = self.entry(entry, old, (path, at + 1), stack) if entry.tokens else old
@@ -164,12 +170,13 @@ class Importer:
         """The lines of an entry with other tokens in some places: each stays where it is."""
         if not (changes or front or entry.depth > 1 or entry.spans and not all(line.isascii() and line.isprintable() for line in lines)):
             return lines
-        lines = list(lines)
+        parts, ends = [[front], *([] for _ in lines[1:])], [0] * len(lines)
         spans = entry.spans or [(entry.begin, *match.span()) for match in re.finditer(r"[^ \t\r]+", lines[0])]
-        for place, (line, begin, end) in reversed(list(enumerate(spans[:len(entry.tokens)]))):
-            text = lines[line - entry.begin]
-            lines[line - entry.begin] = text[:begin] + changes.get(place, printable(text[begin:end])) + text[end:]
-        lines[0] = front + lines[0]
+        for place, (line, begin, end) in enumerate(spans[:len(entry.tokens)]):
+            at = line - entry.begin
+            parts[at] += lines[at][ends[at]:begin], changes.get(place, printable(lines[at][begin:end]))
+            ends[at] = end
+        lines = ["".join(part) + line[end:] for part, line, end in zip(parts, lines, ends)]
         if entry.depth > 1:
             pieces = [match.group() for line in lines for match in PIECE.finditer(line) if match.group()[0] not in "();\r"]
             lines = ["".join(pieces)] + [""] * (len(lines) - 1)
@@ -228,7 +235,7 @@ def expanded(zone, reader, entry):
     importer = Importer(reader.origin, os.path.dirname(zone.path) or ".")
     importer.owner, importer.default = reader.owner, reader.default
     try:
-        lines = importer.entry(entry, zone.lines[entry.begin:entry.end], zone.places[entry.begin], ())
+        lines = importer.entry(entry, zone.lines[entry.begin:entry.end], zone.place(entry.begin), ())
     except Refused:
         return None
     return ["" if line in importer.notes else text for line, text in enumerate(importer.lines)] + lines

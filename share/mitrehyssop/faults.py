@@ -5,6 +5,7 @@ that can't be known, and the file is checked again. So the rest is judged as it 
 """
 import collections
 import gc
+import itertools
 import os
 import re
 import shutil
@@ -133,11 +134,14 @@ class Zone:
         return self
 
     def split(self):
-        """Makes the lines, and their places if an importer has not."""
+        """Makes the lines, which are also those of the file if no importer made them."""
         self.lines = self.text.split("\n")
         if self.places is None:
-            self.places = [(self.path, number) for number in range(1, len(self.lines) + 1)]
             self.sources = {self.path: self.lines[:]}
+
+    def place(self, line):
+        """The file and the number of a line."""
+        return self.places[line] if self.places else (self.path, line + 1)
 
     def model(self):
         """The records of the lines as they are now."""
@@ -148,11 +152,11 @@ class Zone:
     def shown(self, fault, severity):
         """A fault with its line, and nothing in it but printable ASCII."""
         file, line = fault.place
-        return (file, line, severity, fault.code, fault.name, escaped(fault.text, ""), escaped(
+        return (file, line, severity, fault.code, fault.name, escaped(fault.text[:2000], ""), escaped(
             self.sources[file][line - 1].rstrip("\r").expandtabs()[:300], ""))
 
     def found(self, line, code, text, owner=""):
-        fault = Fault(self.places[line], code, owner, self.notes.get(line, text))
+        fault = Fault(self.place(line), code, owner, self.notes.get(line, text))
         if self.faults and fault == self.faults[-1]:
             return False
         self.faults.append(fault)
@@ -171,7 +175,7 @@ class Zone:
         if text and not again and not (mending.follows and self.mended[line, "silent"]) and not self.found(line, code, text):
             # More records of one $GENERATE are at fault alike.
             for at in range(line, len(self.lines)):
-                if self.places[at] != self.places[line]:
+                if self.place(at) != self.place(line):
                     break
                 self.lines[at] = ""
             return True
@@ -195,7 +199,8 @@ class Zone:
         if len(lines) <= count:
             self.lines[entry.begin:entry.end] = lines + [""] * (count - len(lines))
         else:
-            place = self.places[entry.begin]
+            place = self.place(entry.begin)
+            self.places = self.places or [(self.path, number) for number in range(1, len(self.lines) + 1)]
             self.lines[entry.begin:entry.end] = lines
             self.places[entry.begin:entry.end] = [place] * len(lines)
 
@@ -218,6 +223,7 @@ class ZoneFaults(Names):
 
     def report(self, said):
         self.soas = [record for record in self.of.records if record.rtype == "SOA"]
+        self.targets = {record.data[-1] for record in self.of.records if record.rtype in ("NS", "MX", "SRV") and record.data}
         for owner, code in (line.rsplit(" ", 1) for line in said.splitlines()):
             found = list(self.FOUND[code](self, owner))
             doubtful = code in ("Z01", "Z04") and owner in self.of.doubtful or not found and code in ("Z08", "Z09", "Z10", "Z11") and (
@@ -231,13 +237,13 @@ class ZoneFaults(Names):
         return next(iter(self.at(owner)), None)
 
     def lines(self, records):
-        """The lines of records, as a part of a sentence."""
-        places = [self.of.places[line] for line in sorted({record.line for record in records})]
-        return " and ".join(f"line {line}" + (f" of {file}" if file != self.of.path else "") for file, line in places[:3]) or "the same line"
+        """The lines of the first three of some records, as a part of a sentence."""
+        places = dict.fromkeys(self.of.place(record.line) for record in itertools.islice(records, 3))
+        return " and ".join(f"line {line}" + (f" of {file}" if file != self.of.path else "") for file, line in places) or "the same line"
 
     def each(self, records, text, others=None):
         """Records that are at fault together: {} in the text is where the others are."""
-        for record in records:
+        for record in records[:MOST]:
             yield record, text.format(self.lines(other for other in others or records if other.line != record.line))
 
     def end(self, target):
@@ -277,11 +283,10 @@ class ZoneFaults(Names):
 
     def outside(self, owner):
         soa = next((soa for soa in self.soas if not within(soa.owner, self.zone)), None)
-        targets = {record.data[-1] for record in self.of.records if record.rtype in ("NS", "MX", "SRV") and record.data}
         for record in self.at(owner):
             if soa and not self.at(self.zone, "SOA"):
                 do = f"the SOA of the file is that of {soa.owner}: give that as ORIGIN"
-            elif record.rtype in ("A", "AAAA") and owner in targets:
+            elif record.rtype in ("A", "AAAA") and owner in self.targets:
                 do = "the address of a host outside the zone is in the zone of that host: take the record out"
             elif owner.count(".") == 1 and owner != ".":
                 do = f"write {owner[:-1]} without the final dot, or take the record out"

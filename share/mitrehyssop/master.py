@@ -9,7 +9,7 @@ import ipaddress
 import re
 import socket
 
-PIECE = re.compile(r'[ \t\r]+|;.*|"(?:[^"\\]|\\.)*(?:(?P<shut>")|\\?)|[()]|(?:[^ \t\r;"()\\]|\\.)+|\\', re.S)
+PIECE = re.compile(r'[ \t\r]+|;.*|"(?:[^"\\]+|\\.)*(?:(?P<shut>")|\\?)|[()]|(?:[^ \t\r;"()\\]+|\\.)+|\\', re.S)
 PLAIN = re.compile(r"[^\"();\\\x00-\x08\x0b-\x1f\x7f-\xff]*")
 SIMPLE = re.compile(r"(?:[!#%&'*+,\-/0-9:<=>?A-Z\[\]^_`a-z{|}~]{1,63}(?:\.|$))+")
 ESCAPE = re.compile(r"\\(\d{3}|.)", re.S)
@@ -88,8 +88,8 @@ def name(text, origin):
     """An absolute name as the canonical text has it, of a name relative to an origin; None if it is invalid."""
     if text == "@":
         return origin
-    if text == ".":
-        return text
+    if text == "." or len(text) > 1020:
+        return text if text == "." else None
     if SIMPLE.fullmatch(text):
         full, ends = text.lower(), text[-1]
     else:

@@ -48,7 +48,7 @@ class Mending:
         self.lines = [" " * self.entry.blank + " ".join(tokens)]
 
     def line(self, at):
-        return f"line {self.zone.places[at][1]}"
+        return f"line {self.zone.place(at)[1]}"
 
     def r01(self):
         text, notes = self.zone.text, []
@@ -122,7 +122,7 @@ class Mending:
                 f"a parenthesis is not closed: write ) at the end of {self.line(last)}")
 
     def r05(self):
-        first, near = self.tokens[0], difflib.get_close_matches(self.tokens[0].upper(), ["$ORIGIN", "$TTL"], 1)
+        first, near = self.tokens[0], difflib.get_close_matches(self.tokens[0][:20].upper(), ["$ORIGIN", "$TTL"], 1)
         if first.upper() in ("$INCLUDE", "$GENERATE"):
             self.lines = None if self.zone.converted else bind.expanded(self.zone, self.reader, self.entry)
             self.zone.partial = self.zone.partial or self.lines is None
@@ -206,7 +206,7 @@ class Mending:
             return f"{rtype} is not known by name: " + (why or f"write {self.rtype} {data[:60]}{'..' * bool(data[60:])}, as `zoneimport` does")
         bare = rtype.strip('":,.')
         known = rtype in DNSSEC or rtype in ("DNAME", "TYPE39")
-        near = [bare] if bare in KINDS or bare in OTHERS else difflib.get_close_matches(bare, [*KINDS, *OTHERS], 1) if bare[2:] else []
+        near = [bare] if bare in KINDS or bare in OTHERS else difflib.get_close_matches(bare[:20], [*KINDS, *OTHERS], 1) if bare[2:] else []
         if near and not known:
             self.put(rtype=near[0])
             return f"{tokens[len(tokens) - len(self.data) - 1]} is not a type: write {near[0]}"

@@ -9,7 +9,7 @@ HOST = re.compile(r"(?:\*\.)?(?:[a-z0-9](?:[a-z0-9-]*[a-z0-9])?\.)+|(?:.*\.)?gc\
 FOUR = re.compile(r"\d+\.\d+\.\d+\.\d+\.")
 TARGETS = {"NS", "CNAME", "PTR", "MX", "SRV"}
 # How a text begins: at which names it has a meaning, an example of one, and what else it needs.
-TEXTS = {"v=dmarc1": (r"_dmarc\.|.*\._report\._dmarc\.", "_dmarc", "p="), "v=dkim1": (r".+\._domainkey\.", "NAME._domainkey", "p="),
+TEXTS = {"v=dmarc1": (r"_dmarc\.|.*\._report\._dmarc\.", "_dmarc", "p="), "v=dkim1": (r"(?!_).+\._domainkey\.", "NAME._domainkey", "p="),
          "v=stsv1": (r"_mta-sts\.", "_mta-sts", "id="), "v=tlsrptv1": (r"_smtp\._tls\.", "_smtp._tls", "rua="),
          "v=bimi1": (r".+\._bimi\.", "NAME._bimi", "l=")}
 
@@ -60,7 +60,8 @@ class Warnings(Names):
             yield record, "W34", "@ inside a name; it means the origin only if it is the whole name"
         if "*" in (full[2:] if full.startswith("*.") else full):
             yield record, "W35", "a * that is not the whole first label matches nothing"
-        if FOUR.match(full) and not self.zone.endswith("arpa."):
+        # Lists of addresses have such owners, with addresses that mean nothing else.
+        if FOUR.match(full) and not self.zone.endswith("arpa.") and not any(host.data[0].startswith("127.") for host in self.at(full, "A")):
             yield record, "W32", f"the owner is an address: {full}"
         elif twice(full, self.zone) or self.zone != "." and re.search(r"\.(com|org|arpa)\.$", full[:-len(self.zone)]):
             yield record, "W31", f"the owner is {full}: is a final dot missing?"
@@ -120,7 +121,8 @@ class Warnings(Names):
 
     def alias(self, record, full):
         chain = [record.owner]
-        while full not in chain and "CNAME" in self.sets.get(full, ()):
+        # A server follows 16 aliases.
+        while full not in chain and len(chain) < 20 and "CNAME" in self.sets.get(full, ()):
             chain.append(full)
             full = self.sets[full]["CNAME"][0].data[0]
         if full in chain:
@@ -163,7 +165,7 @@ class Warnings(Names):
                 yield record, "W54", f"this text means nothing at this name: it belongs to {example}"
             if needed not in whole and not (kind == "v=dmarc1" and "._report._dmarc." in owner):
                 yield record, "W53", f"the text lacks {needed}; is it cut off at a ; without quotation marks?"
-        elif re.match(r".+\._domainkey\.", owner) and "p=" not in whole:
+        elif re.match(r"(?!_).+\._domainkey\.", owner) and "p=" not in whole:
             yield record, "W53", "the text lacks p=; is it cut off at a ; without quotation marks?"
         elif owner.startswith("_dmarc."):
             yield record, "W54", "the text is no DMARC policy: it begins with v=DMARC1"
@@ -191,5 +193,5 @@ def warnings(zone):
         for record, _, _ in found:
             same = index[record.owner, record.rtype]
             record.line = next((other.line for other in same if other.data == record.data), same[0].line if same else 0)
-    return sorted({Fault(zone.places[record.line], code, record.owner, text) for record, code, text in found},
+    return sorted({Fault(zone.place(record.line), code, record.owner, text) for record, code, text in found},
                   key=lambda fault: (fault.place[1], fault.code))
