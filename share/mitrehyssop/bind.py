@@ -1,4 +1,4 @@
-"""Reads a zone file as BIND does, and writes its entries as zonecheck reads them. Lines stay, and new ones have the place of their entry."""
+"""Reads a zone file as BIND does, and writes its entries as zonecheck reads them, each on its lines."""
 import os
 import re
 import stat
@@ -168,7 +168,8 @@ class Importer:
 
     def changed(self, entry, lines, changes, front=""):
         """The lines of an entry with other tokens in some places: each stays where it is."""
-        if not (changes or front or entry.depth > 1 or entry.spans and not all(line.isascii() and line.isprintable() for line in lines)):
+        plain = not entry.spans or all(line.isascii() and line.isprintable() for line in lines)
+        if plain and not changes and not front and entry.depth < 2:
             return lines
         parts, ends = [[front], *([] for _ in lines[1:])], [0] * len(lines)
         spans = entry.spans or [(entry.begin, *match.span()) for match in re.finditer(r"[^ \t\r]+", lines[0])]
@@ -190,11 +191,12 @@ class Importer:
         real, before, owner = os.path.realpath(path), self.origin, self.owner
         origin = name(tokens[2], before) if len(tokens) == 3 else before
         self.files += 1
-        for bad, why in ((os.path.commonpath([real, self.folder]) != self.folder, f"is outside {self.folder}; --include-from names another folder"),
-                         (real in stack, "includes itself"), (len(stack) >= DEEPEST, f"is deeper than {DEEPEST} files that include one another"),
-                         (self.files > FILES, f"is more than {FILES} files"), (origin is None, "has an origin that is not a name")):
-            if bad:
-                raise Refused(f"{tokens[1]} {why}")
+        if os.path.commonpath([real, self.folder]) != self.folder:
+            raise Refused(f"{tokens[1]} is outside {self.folder}; --include-from names another folder")
+        if real in stack or origin is None:
+            raise Refused(f"{tokens[1]} includes itself" if origin else f"{tokens[2]} is not a name")
+        if len(stack) >= DEEPEST or self.files > FILES:
+            raise Refused(f"{tokens[1]} is deeper than {DEEPEST} files that include one another, or more than {FILES} files")
         try:
             if not stat.S_ISREG(os.stat(real).st_mode):
                 raise Refused(f"{tokens[1]} is not a plain file")

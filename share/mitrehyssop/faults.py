@@ -20,6 +20,7 @@ from mending import Mending
 
 MOST = 100                  # faults that are reported of a file
 LARGEST = 16777216          # octets that zonecheck reads of a file, and one more to see that there are more
+SPREAD = "spread them over several names"
 Fault = collections.namedtuple("Fault", "place code name text")
 
 
@@ -55,11 +56,6 @@ def zonecheck(origin, text, *options):
 def plain(text):
     """A text that changes no terminal: \\DDD for what is not printable."""
     return text if text.isprintable() else escaped(os.fsencode(text).decode("latin-1").expandtabs(), "")
-
-
-def text_of(file, line, severity, code, owner, message, text):
-    """A fault or a warning as a line that editors know, and the line of the file."""
-    return f"{plain(file)}:{line}: {code}: {owner and owner + ': '}{message}\n    {text}\n"
 
 
 def run(program, main):
@@ -102,7 +98,8 @@ class Zone:
     """
 
     def __init__(self, origin, text, path, places=None, notes=None, sources=None):
-        self.origin, self.path, self.text, self.places, self.notes, self.sources = origin, path, text, places, notes or {}, sources
+        self.origin, self.path, self.text = origin, path, text
+        self.places, self.notes, self.sources = places, notes or {}, sources
         self.zone, self.converted = name(origin, ".") or ".", places is not None
         self.lines, self.faults, self.records, self.passes, self.more, self.partial = None, [], [], False, False, False
         self.guessed, self.untimed, self.doubtful, self.mended = set(), set(), set(), collections.Counter()
@@ -116,7 +113,8 @@ class Zone:
             return self
         self.split()
         if "\r" in self.text.rstrip("\r\n") and "\n" not in self.text.rstrip("\n"):
-            self.found(0, said.split()[-1], "the lines of the file end with CR alone: write LF for each, as `tr '\\r' '\\n'` does")
+            do = "write LF for each, as `tr '\\r' '\\n'` does"
+            self.found(0, said.split()[-1], f"the lines of the file end with CR alone: {do}")
             self.text, self.places = self.text.replace("\r", "\n"), None
             self.split()
             status, said = zonecheck(self.origin, self.text)
@@ -149,11 +147,18 @@ class Zone:
             self.split()
         return list(Reader(self.lines, self.zone).records())
 
-    def shown(self, fault, severity):
-        """A fault with its line, and nothing in it but printable ASCII."""
-        file, line = fault.place
-        return (file, line, severity, fault.code, fault.name, escaped(fault.text[:2000], ""), escaped(
-            self.sources[file][line - 1].rstrip("\r").expandtabs()[:300], ""))
+    def report(self, warned):
+        """The faults and warnings with their lines, the same as a text in the form that editors know, and what bounds them."""
+        found, text = [], ""
+        for severity, faults in (("error", self.faults), ("warning", warned[:MOST])):
+            for (file, line), code, owner, message in faults:
+                message = escaped(message[:2000], "")
+                shown = escaped(self.sources[file][line - 1].rstrip("\r").expandtabs()[:300], "")
+                found.append((file, line, severity, code, owner, message, shown))
+                text += f"{plain(file)}:{line}: {code}: {owner and owner + ': '}{message}\n    {shown}\n"
+        bounds = f"{plain(self.path)}: {MOST} faults are reported, and there may be more\n" * self.more
+        bounds += f"{plain(self.path)}: {MOST} of {len(warned)} warnings are reported\n" * (len(warned) > MOST)
+        return found, text + bounds, bounds
 
     def found(self, line, code, text, owner=""):
         fault = Fault(self.place(line), code, owner, self.notes.get(line, text))
@@ -225,9 +230,9 @@ class ZoneFaults(Names):
         self.soas = [record for record in self.of.records if record.rtype == "SOA"]
         self.targets = {record.data[-1] for record in self.of.records if record.rtype in ("NS", "MX", "SRV") and record.data}
         for owner, code in (line.rsplit(" ", 1) for line in said.splitlines()):
-            found = list(self.FOUND[code](self, owner))
-            doubtful = code in ("Z01", "Z04") and owner in self.of.doubtful or not found and code in ("Z08", "Z09", "Z10", "Z11") and (
-                self.of.guessed or self.of.untimed or self.of.doubtful)
+            found = list(self.FOUND[code](self, owner, code))
+            doubtful = code in ("Z01", "Z04") and owner in self.of.doubtful or \
+                not found and code in ("Z08", "Z09", "Z10", "Z11") and (self.of.guessed or self.of.untimed or self.of.doubtful)
             for record, text in [] if doubtful else found or [(self.first(owner), "the name has this fault")]:
                 self.of.found(record.line if record else 0, code, text, owner)
             if len(self.of.faults) > MOST:
@@ -239,7 +244,7 @@ class ZoneFaults(Names):
     def lines(self, records):
         """The lines of the first three of some records, as a part of a sentence."""
         places = dict.fromkeys(self.of.place(record.line) for record in itertools.islice(records, 3))
-        return " and ".join(f"line {line}" + (f" of {file}" if file != self.of.path else "") for file, line in places) or "the same line"
+        return " and ".join(f"line {line}" + f" of {file}" * (file != self.of.path) for file, line in places) or "the same line"
 
     def each(self, records, text, others=None):
         """Records that are at fault together: {} in the text is where the others are."""
@@ -254,16 +259,17 @@ class ZoneFaults(Names):
             target = self.at(target, "CNAME")[0].data[0]
         return target
 
-    def no_soa(self, owner):
+    def no_soa(self, owner, _):
         server = next((record.data[0] for record in self.at(owner, "NS")), self.below("ns1"))
         do = f": add `{owner} 3600 IN SOA {server} {self.below('hostmaster')} 1 7200 900 1209600 300`"
         if self.soas:
             other = self.soas[0].owner
-            do = f"; {self.lines(self.soas[:1])} has the one of {other}: " + (
-                "write @ as its owner, which lacks its final dot" if twice(other, self.zone) else f"give {other} as ORIGIN, if the file is of that zone")
+            do = "write @ as its owner, which lacks its final dot" if twice(other, self.zone) else \
+                f"give {other} as ORIGIN, if the file is of that zone"
+            do = f"; {self.lines(self.soas[:1])} has the one of {other}: {do}"
         yield self.first(owner), "the origin has no SOA record" + do
 
-    def no_ns(self, owner):
+    def no_ns(self, owner, _):
         server = next((record.data[0] for record in self.at(owner, "SOA")), self.below("ns1"))
         lost = within(server, self.zone) and not self.at(server, "A", "AAAA")
         yield self.first(owner), (f"the origin has no NS record: add one for each server, as `{owner} 3600 IN NS {server}`"
@@ -272,16 +278,16 @@ class ZoneFaults(Names):
     def below(self, label):
         return f"{label}." if self.zone == "." else f"{label}.{self.zone}"
 
-    def soa_below(self, owner):
+    def soa_below(self, owner, _):
         if twice(owner, self.zone):
             do = "its owner lacks the final dot: write @"
         elif self.at(self.zone, "SOA"):
             do = "take it out"
         else:
             do = "write @ as its owner, or " * within(owner, self.zone) + f"give {owner} as ORIGIN, if the file is of that zone"
-        return self.each(self.at(owner, "SOA"), "an SOA record that is not at the origin: " + do.replace("{", "{{").replace("}", "}}"))
+        return [(record, f"an SOA record that is not at the origin: {do}") for record in self.at(owner, "SOA")]
 
-    def outside(self, owner):
+    def outside(self, owner, _):
         soa = next((soa for soa in self.soas if not within(soa.owner, self.zone)), None)
         for record in self.at(owner):
             if soa and not self.at(self.zone, "SOA"):
@@ -294,15 +300,15 @@ class ZoneFaults(Names):
                 do = "take the record out, or put it into the file of its own zone"
             yield record, f"the name is not in the zone {self.zone}; {do}"
 
-    def alias(self, owner):
-        aliases = self.at(owner, "CNAME")
+    def alias(self, owner, _):
+        aliases, says = self.at(owner, "CNAME"), "a CNAME and other records at one name: "
         if owner == self.zone:
-            return self.each(aliases, "a CNAME and other records at one name: take the CNAME out, and write the A and AAAA records of its target")
+            return self.each(aliases, says + "take the CNAME out, and write the A and AAAA records of its target")
         others = [record for record in self.at(owner) if record.rtype != "CNAME"]
-        return [*self.each(aliases, "a CNAME and other records at one name: keep it or the other, on {}", others),
+        return [*self.each(aliases, says + "keep it or the other, on {}", others),
                 *self.each(others, "other records at the name of a CNAME: keep it or the CNAME, on {}", aliases)]
 
-    def times(self, owner):
+    def times(self, owner, _):
         for rtype, records in self.sets[owner].items():
             first = {record.ttl: record for record in reversed(records)}.values()
             if len(first) > 1 and not any(record.line in self.of.untimed for record in records):
@@ -311,11 +317,11 @@ class ZoneFaults(Names):
                     yield record, (f"the TTL of this {rtype} record is {record.ttl}, and that of {others} is another: "
                                    f"give all {rtype} records of the name the TTL {records[0].ttl}")
 
-    def servers(self, owner):
+    def servers(self, owner, _):
         for record in self.at(owner, "NS"):
             target, cut = record.data[0], self.cut(record.data[0])
-            if record.line in self.of.guessed or target in self.of.doubtful or not within(target, self.zone) or self.at(target, "A", "AAAA") \
-                    or cut and not (owner in self.cuts and within(target, owner)):
+            spared = cut and not (owner in self.cuts and within(target, owner)) or self.at(target, "A", "AAAA")
+            if spared or record.line in self.of.guessed or target in self.of.doubtful or not within(target, self.zone):
                 continue
             written, found = record.last, address(record.last)
             do = f"add `{target} 3600 IN A` with its address, or take the NS record out"
@@ -329,24 +335,32 @@ class ZoneFaults(Names):
                 do = f"write {written}. if it is in another zone; else {do}"
             yield record, f"a server in the zone without an address: {target}: {do}"
 
-    def delegated(self, owner):
+    def delegated(self, owner, _):
         cut = self.cut(owner) or owner
-        for record in self.at(owner):
-            if record.rtype not in ("A", "AAAA") and (record.rtype != "NS" or owner != cut):
-                yield record, (f"data at or below a delegation, where it is never answered: take it out (it belongs to the zone {cut}), or "
-                               f"the NS records of {cut} on {self.lines(self.at(cut, 'NS'))}")
+        do = f"take it out (it belongs to the zone {cut}), or the NS records of {cut} on {self.lines(self.at(cut, 'NS'))}"
+        return [(record, f"data at or below a delegation, where it is never answered: {do}") for record in self.at(owner)
+                if record.rtype not in ("A", "AAAA") and (record.rtype != "NS" or owner != cut)]
 
-    FOUND = {
-        "Z01": no_soa, "Z02": lambda self, owner: self.each(self.at(owner, "SOA"), "more than one SOA record; see {}: keep one"),
-        "Z03": soa_below, "Z04": no_ns, "Z05": outside, "Z06": alias,
-        "Z07": lambda self, owner: self.each(self.at(owner, "CNAME"), "more than one CNAME at one name; see {}: keep one"), "Z08": times,
-        "Z09": lambda self, owner: [(record, f"the server {record.data[0]} is an alias: write {self.end(record.data[0])}")
-                                    for record in self.at(owner, "NS") if self.at(record.data[0], "CNAME")], "Z10": servers,
-        "Z11": lambda self, owner: [(record, f"an {record.rtype} host that is an alias: {record.data[-1]}: write {self.end(record.data[-1])}")
-                                    for record in self.at(owner, "MX", "SRV") if within(record.data[-1], self.zone) and self.at(record.data[-1], "CNAME")],
-        "Z12": delegated, "Z13": lambda self, owner: self.each(self.at(owner, "NS"), "NS at a wildcard: take it out, and delegate each name by itself"),
-        "Z14": lambda self, owner: [(records[64], f"{len(records)} {rtype} records at one name: at most 64 are served; spread them over several names")
-                                    for rtype, records in ((rtype, unique(records)) for rtype, records in self.sets[owner].items()) if records[64:]],
-        "Z15": lambda self, owner: [(list(self.sets[owner].values())[32][0], f"{len(self.sets[owner])} types at one name: at most 32 are served; "
-                                     "spread them over several names")] if len(self.sets[owner]) > 32 else [],
-    }
+    def aliased(self, owner, code):
+        for record in self.at(owner, *["NS"] if code == "Z09" else ["MX", "SRV"]):
+            target = record.data[-1]
+            if within(target, self.zone) and self.at(target, "CNAME"):
+                what = f"the server {target} is an alias" if code == "Z09" else \
+                    f"an {record.rtype} host that is an alias: {target}"
+                yield record, f"{what}: write {self.end(target)}"
+
+    def many(self, owner, code):
+        for rtype, records in self.sets[owner].items() if code == "Z14" else []:
+            for record in unique(records)[64:65]:
+                yield record, f"{len(unique(records))} {rtype} records at one name: at most 64 are served; {SPREAD}"
+        for records in list(self.sets[owner].values())[32:33] if code == "Z15" else []:
+            yield records[0], f"{len(self.sets[owner])} types at one name: at most 32 are served; {SPREAD}"
+
+    def alike(self, owner, code):
+        rtype, text = {"Z02": ("SOA", "more than one SOA record; see {}: keep one"),
+                       "Z07": ("CNAME", "more than one CNAME at one name; see {}: keep one"),
+                       "Z13": ("NS", "NS at a wildcard: take it out, and delegate each name by itself")}[code]
+        return self.each(self.at(owner, rtype), text)
+
+    FOUND = {"Z01": no_soa, "Z02": alike, "Z03": soa_below, "Z04": no_ns, "Z05": outside, "Z06": alias, "Z07": alike,
+             "Z08": times, "Z09": aliased, "Z10": servers, "Z11": aliased, "Z12": delegated, "Z13": alike, "Z14": many, "Z15": many}

@@ -67,10 +67,8 @@ def octets(token):
         token = token[1:-1] if len(token) > 1 and token[-1] == '"' else token[1:]
     if "\\" not in token:
         return token
-    try:
-        return ESCAPE.sub(lambda match: chr(int(match[1])) if match[1].isdigit() else match[1], token).encode("latin-1").decode("latin-1")
-    except ValueError:
-        return None
+    text = ESCAPE.sub(lambda match: chr(int(match[1])) if match[1].isdigit() else match[1], token)
+    return text if not text or max(text) <= "\xff" else None
 
 
 def escaped(text, also):
@@ -178,7 +176,7 @@ def entry_at(lines, begin, nested=False, most=None):
 
 
 def take_rest(lines, entry):
-    """Adds the lines to an entry on which its last string goes on, as far as they have no other entry and the mark that ends it."""
+    """Adds the lines on which the last string of an entry goes on, if the mark that ends it comes before another entry."""
     for at in range(entry.end, min(entry.end + 60, len(lines))):
         if BEGIN.match(lines[at]):
             return
@@ -221,11 +219,11 @@ def data_of(rtype, tokens, origin):
 
 
 class Record:
-    """A record: owner, TTL, type, data as the canonical text has it, and the line on which its entry begins (from 0)."""
-    __slots__ = ("owner", "ttl", "rtype", "data", "line", "origin", "last")
+    """A record with its data as the canonical text has it, the line on which its entry begins (from 0), and its last token."""
+    __slots__ = ("owner", "ttl", "rtype", "data", "line", "last")
 
-    def __init__(self, owner, ttl, rtype, data, line=None, origin=None, last=""):
-        self.owner, self.ttl, self.rtype, self.data, self.line, self.origin, self.last = owner, ttl, rtype, data, line, origin, last
+    def __init__(self, owner, ttl, rtype, data, line=None, last=""):
+        self.owner, self.ttl, self.rtype, self.data, self.line, self.last = owner, ttl, rtype, data, line, last
 
 
 class Reader:
@@ -267,7 +265,7 @@ class Reader:
         rtype = tokens[at].upper()
         rtype = NAMED.get(rtype, rtype)
         data = data_of(rtype, tokens[at + 1:], self.origin)
-        return Record(self.owner, ttl or self.default or self.stated, rtype, data, entry.begin, self.origin, tokens[-1])
+        return Record(self.owner, ttl or self.default or self.stated, rtype, data, entry.begin, tokens[-1])
 
 
 def canonical(text):
@@ -298,7 +296,8 @@ class Names:
 
     def at(self, owner, *types):
         """The records of a name, of some types if they are named."""
-        return [record for rtype, records in self.sets.get(owner, {}).items() if not types or rtype in types for record in records]
+        sets = self.sets.get(owner, {})
+        return [record for rtype in sets if not types or rtype in types for record in sets[rtype]]
 
     def cut(self, full):
         """The highest cut that a name is at or below, or None."""

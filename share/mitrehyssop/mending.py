@@ -54,9 +54,11 @@ class Mending:
         text, notes = self.zone.text, []
         form = {"\0\0\0\2": "raw", "\0\0\0\3": "map"}.get(text[:4])
         self.ends = form is not None or text[:2] in ("\xff\xfe", "\xfe\xff")
+        if form:
+            do = f"`named-compilezone -f {form} -F text -o NEW ORIGIN FILE` writes it as text"
+            return f"the file is in the {form} format of BIND: {do}"
         if self.ends:
-            return (f"the file is in the {form} format of BIND: `named-compilezone -f {form} -F text -o NEW ORIGIN FILE` writes it as text"
-                    if form else "the file is UTF-16: `iconv -f UTF-16 -t UTF-8 FILE` writes it in octets")
+            return "the file is UTF-16: `iconv -f UTF-16 -t UTF-8 FILE` writes it in octets"
         self.lines = [self.clean(self.zone.lines[at], at, notes) for at in range(self.entry.begin, self.entry.end)]
         return "; ".join(dict.fromkeys(notes)) or "an octet that is not allowed: only printable ASCII, spaces and tabs are"
 
@@ -69,7 +71,8 @@ class Mending:
         text, written, is_text = line.encode("latin-1").decode("utf-8", "surrogateescape"), "", False
         for characters, what, instead in STRAY:
             if set(characters) & set(text):
-                notes.append(where + what + ": " + (f"write {'a space' if instead == ' ' else instead + ' for each'}" if instead else "take it out"))
+                do = {"": "take it out", " ": "write a space"}.get(instead, f"write {instead} for each")
+                notes.append(f"{where}{what}: {do}")
                 text = text.translate(dict.fromkeys(map(ord, characters), instead))
         for piece in (match.group() for match in PIECE.finditer(text)):
             bare = re.sub(r"[\0-\x08\x0a-\x1f\x7f]", "", piece)
@@ -84,12 +87,13 @@ class Mending:
     def ascii(self, piece, is_text, where, notes):
         """A token with \\DDD for the octets of characters beyond ASCII, or with names as DNS has them."""
         if is_text:
-            octet = [f"\\{octet:03}" if octet > 126 else chr(octet) for octet in piece.encode("utf-8", "surrogateescape")]
-            notes.append(f"{where}not ASCII: write \\DDD for each such octet, here {''.join(one for one in octet if one[1:])[:80]}")
-            return "".join(octet)
+            spelled = [f"\\{octet:03}" if octet > 126 else chr(octet) for octet in piece.encode("utf-8", "surrogateescape")]
+            here = "".join(octet for octet in spelled if octet[1:])[:80]
+            notes.append(f"{where}not ASCII: write \\DDD for each such octet, here {here}")
+            return "".join(spelled)
         characters = "".join(chr(ord(c) - 0xdc00) if "\udc80" <= c <= "\udcff" else c for c in piece)
-        full = ".".join(label if label.isascii() else "xn--" + unicodedata.normalize("NFC", label.lower()).encode("punycode").decode()
-                        for label in characters.split("."))
+        labels = unicodedata.normalize("NFC", characters.lower()).split(".")
+        full = ".".join(label if label.isascii() else "xn--" + label.encode("punycode").decode() for label in labels)
         notes.append(f"{where}not ASCII: write the name as DNS has it, {full}")
         return full
 
@@ -97,8 +101,9 @@ class Mending:
         text = bind.joined(self.entry, 0)
         if re.search(r"(?:^| )\\$", text) and "\\" in self.tokens:
             self.put_tokens(*(token for token in self.tokens if token != "\\"))
-            return "a backslash does not join a line with the next: take it out, and write parentheses around data on several lines"
-        self.put_tokens(re.sub(r"\\(?:([01]\d\d|2[0-4]\d|25[0-5]|[^\d\r])|\d{3}|)", lambda match: "\\" * (not match[1]) + match.group(), text))
+            return "a backslash does not join two lines: take it out, and write parentheses around data on several lines"
+        escape = r"\\(?:([01]\d\d|2[0-4]\d|25[0-5]|[^\d\r])|\d{3}|)"
+        self.put_tokens(re.sub(escape, lambda match: "\\" * (not match[1]) + match.group(), text))
         return "a backslash that begins no escape: write \\\\ for a backslash itself; an octet is \\000 to \\255"
 
     def r03(self):
@@ -196,31 +201,34 @@ class Mending:
             return f"no type before {tokens[-1]}: write {found[0]}"
         if rtype == "IN" or rtype[:1].isdigit():
             self.put_tokens(*tokens[:len(tokens) - len(self.data) - 1], *self.data)
-            return f"{rtype}: the " + ("class is there twice" if rtype == "IN" else "TTL is there twice, or the type is missing") + ": take one out"
+            what = "class is there twice" if rtype == "IN" else "TTL is there twice, or the type is missing"
+            return f"{rtype}: the {what}: take one out"
         if rtype in ("ALIAS", "ANAME"):
             self.put(rtype="A", data=[INSTEAD["4"]], guess=True)
             return f"{rtype} is not a DNS type: write the A and AAAA records of its target"
         if rtype in OTHERS:
             data, why = bind.generic(rtype, bind.joined(self.entry, len(tokens) - len(self.data)), self.reader.origin)
             self.put(rtype=f"TYPE{OTHERS[rtype]}", data=(data or "\\# 0").split(" "))
-            return f"{rtype} is not known by name: " + (why or f"write {self.rtype} {data[:60]}{'..' * bool(data[60:])}, as `zoneimport` does")
+            do = why or f"write {self.rtype} {data[:60]}{'..' * bool(data[60:])}, as `zoneimport` does"
+            return f"{rtype} is not known by name: {do}"
         bare = rtype.strip('":,.')
         known = rtype in DNSSEC or rtype in ("DNAME", "TYPE39")
-        near = [bare] if bare in KINDS or bare in OTHERS else difflib.get_close_matches(bare[:20], [*KINDS, *OTHERS], 1) if bare[2:] else []
-        if near and not known:
+        near = difflib.get_close_matches(bare[:20], [*KINDS, *OTHERS], 1) if bare[2:] and not known else []
+        near = [bare] if bare in KINDS or bare in OTHERS else near
+        if near:
             self.put(rtype=near[0])
             return f"{tokens[len(tokens) - len(self.data) - 1]} is not a type: write {near[0]}"
         # The entry is taken out: its owner may own more than is known.
         self.zone.doubtful.add(name(self.owner, self.reader.origin) if self.owner else self.reader.owner)
         if not rtype:
             return f"no type after {tokens[-1]}"
+        if rtype in DNSSEC:
+            do = "the record out, and after its TTL sign the zone below no more" if rtype in ("DS", "TYPE43") else \
+                "its DS out at the parent, if there is one, wait as long as the TTL of the DS says, and then take this record out"
+            return f"{rtype} is a type of DNSSEC, which is not served here. Serve the zone by another server; or take {do}"
         if known:
-            return f"{rtype} is " + ("not served here: an alias for each name takes its place" if rtype not in DNSSEC else
-                "a type of DNSSEC, which is not served here. Serve the zone by another server; or take " + (
-                    "the record out, and after its TTL sign the zone below no more" if rtype in ("DS", "TYPE43") else
-                    "its DS out at the parent, if there is one, wait as long as the TTL of the DS says, and then take this record out"))
-        return (f"{tokens[len(tokens) - len(self.data) - 1]} is not a type: A, NS, CNAME, SOA, PTR, HINFO, MX, TXT, AAAA and SRV are known by name, "
-                "others are TYPEn")
+            return f"{rtype} is not served here: an alias for each name takes its place"
+        return f"{tokens[len(tokens) - len(self.data) - 1]} is not a type: known are {', '.join(KINDS)}, and others as TYPEn"
 
     def r13(self):
         rtype = NAMED.get(self.rtype, self.rtype)
@@ -231,8 +239,8 @@ class Mending:
         data = self.counted(rtype, list(self.data), kinds, notes)
         kinds = kinds * len(data) if kinds == "s" else kinds
         for kind, token in zip(kinds, data):
-            as_kind = {"n": self.as_name, "s": self.as_string, "4": self.as_address, "6": self.as_address}.get(kind, self.as_number)
-            good, note = as_kind(token, kind)
+            good, note = {"n": self.as_name, "s": self.as_string, "4": self.as_address, "6": self.as_address,
+                          "H": self.as_number, "L": self.as_number}[kind](token, kind)
             notes += [note] if note else []
             fixed.append(good)
         self.guess = None in fixed or len(fixed) < len(kinds)
@@ -257,8 +265,10 @@ class Mending:
     def counted(self, rtype, data, kinds, notes):
         """As many fields as a type has, if that can be known."""
         count, front = len(data), []
-        while len(data) > len(kinds) and kinds[0] != "s" and (
-                data[0].upper() == "IN" or seconds(data[0]) is not None and (kinds[0] != "H" or seconds(data[kinds.count("H")]) is not None)):
+        while len(data) > len(kinds) and kinds[0] != "s":
+            numbers = [seconds(token) is not None for token in data]
+            if data[0].upper() != "IN" and not (numbers[0] and (kinds[0] != "H" or numbers[kinds.count("H")])):
+                break
             front.append(data.pop(0))
         if front:
             self.ttl = next((str(seconds(token)) for token in front if token.upper() != "IN"), self.ttl)
@@ -271,15 +281,17 @@ class Mending:
             return data
         fields = f"{count} field{'s' * (count != 1)}, and not {len(kinds)}"
         if rtype == "SOA" and len(data) < 6 and self.take_lines(data):
-            notes.append(f"its lines are not joined: write ( at the end of {self.line(self.entry.begin)}, and ) after the last number")
+            begin = self.line(self.entry.begin)
+            notes.append(f"its lines are not joined: write ( at the end of {begin}, and ) after the last number")
         elif rtype == "MX" and plain == [False]:
             notes.append(f"the number is missing: write MX 10 {data[0]}")
             data.insert(0, "10")
         elif rtype == "SOA" and len(data) == 6:
             named = plain[:2] == [False, True]
             data.insert(*(1, "hostmaster") if named else (6, "3600"))
-            notes.append(f"{fields}: " + ("the second name is missing, the mailbox: write hostmaster after the first" if named else
-                                          "one of the five numbers is missing: write 3600 at the end, if it is the minimum"))
+            do = "the second name is missing, the mailbox: write hostmaster after the first" if named else \
+                "one of the five numbers is missing: write 3600 at the end, if it is the minimum"
+            notes.append(f"{fields}: {do}")
         elif len(data) > len(kinds):
             several = all(map(address, data)) and "a record has one address: write a record for each"
             notes.append(f"{fields}: {several or f'a comment begins with ;, write it before {data[len(kinds)]}'}")

@@ -9,7 +9,8 @@ HOST = re.compile(r"(?:\*\.)?(?:[a-z0-9](?:[a-z0-9-]*[a-z0-9])?\.)+|(?:.*\.)?gc\
 FOUR = re.compile(r"\d+\.\d+\.\d+\.\d+\.")
 TARGETS = {"NS", "CNAME", "PTR", "MX", "SRV"}
 # How a text begins: at which names it has a meaning, an example of one, and what else it needs.
-TEXTS = {"v=dmarc1": (r"_dmarc\.|.*\._report\._dmarc\.", "_dmarc", "p="), "v=dkim1": (r"(?!_).+\._domainkey\.", "NAME._domainkey", "p="),
+TEXTS = {"v=dmarc1": (r"_dmarc\.|.*\._report\._dmarc\.", "_dmarc", "p="),
+         "v=dkim1": (r"(?!_).+\._domainkey\.", "NAME._domainkey", "p="),
          "v=stsv1": (r"_mta-sts\.", "_mta-sts", "id="), "v=tlsrptv1": (r"_smtp\._tls\.", "_smtp._tls", "rua="),
          "v=bimi1": (r".+\._bimi\.", "NAME._bimi", "l=")}
 
@@ -60,8 +61,9 @@ class Warnings(Names):
             yield record, "W34", "@ inside a name; it means the origin only if it is the whole name"
         if "*" in (full[2:] if full.startswith("*.") else full):
             yield record, "W35", "a * that is not the whole first label matches nothing"
-        # Lists of addresses have such owners, with addresses that mean nothing else.
-        if FOUR.match(full) and not self.zone.endswith("arpa.") and not any(host.data[0].startswith("127.") for host in self.at(full, "A")):
+        # Lists of addresses have such owners, with addresses that are codes.
+        listed = any(host.data[0].startswith("127.") for host in self.at(full, "A"))
+        if FOUR.match(full) and not self.zone.endswith("arpa.") and not listed:
             yield record, "W32", f"the owner is an address: {full}"
         elif twice(full, self.zone) or self.zone != "." and re.search(r"\.(com|org|arpa)\.$", full[:-len(self.zone)]):
             yield record, "W31", f"the owner is {full}: is a final dot missing?"
@@ -111,11 +113,13 @@ class Warnings(Names):
         """What is said of a target in the zone by what the zone has at it."""
         cut, types = self.cut(full), self.found(full)
         if cut:
-            if record.rtype == "NS" and not within(full, record.owner if record.owner in self.cuts else full + "\\") and not self.sets.get(full):
-                yield record, "W43", f"the server {full} is in the zone of {cut}, and has no address here: it may be missing there too"
+            own = record.owner in self.cuts and within(full, record.owner)
+            if record.rtype == "NS" and not own and not self.sets.get(full):
+                yield record, "W43", f"the server {full} is in the zone of {cut}, and has no address here: is it there?"
         elif types is None:
             own = full[:-len(self.zone)]
-            yield record, "W42", f"the target {full} does not exist" + (f"; write {own} if it is in another zone" if own.count(".") > 1 else "")
+            do = f"; write {own} if it is in another zone" if own.count(".") > 1 else ""
+            yield record, "W42", f"the target {full} does not exist{do}"
         elif not types & {"A", "AAAA", "CNAME"} and (record.rtype in ("MX", "SRV") or "_" not in record.owner + full):
             yield record, "W43", f"the target {full} has no address"
 
@@ -126,7 +130,7 @@ class Warnings(Names):
             chain.append(full)
             full = self.sets[full]["CNAME"][0].data[0]
         if full in chain:
-            yield record, "W44", "an alias to itself" if full == record.data[0] == record.owner else f"the alias leads back to {full}"
+            yield record, "W44", f"the alias leads back to {full}" if record.data[0] != record.owner else "an alias to itself"
         elif len(chain) > 1:
             yield record, "W45", f"the target {record.data[0]} is an alias too: write {full}"
 
@@ -145,7 +149,7 @@ class Warnings(Names):
         if expire < refresh + retry:
             yield record, "W04", f"the expire time {expire} is less than the refresh and retry times together"
         if minimum > 86400:
-            yield record, "W04", f"the last number, {minimum}, is how many seconds names are not found after they are added: more than a day"
+            yield record, "W04", f"the last number {minimum} keeps resolvers from new names for more than a day"
 
     def text(self, record):
         parts = [octets(part) for part in record.data]
@@ -153,7 +157,7 @@ class Warnings(Names):
         kind = whole.partition(";")[0].strip()
         if whole.startswith("v=spf1"):
             if any(a and b and a[-1] != " " != b[0] and len(a) < 250 for a, b in zip(parts, parts[1:])):
-                yield record, "W52", "the strings of the SPF text are joined without a space: write one string, or a space at the end of each"
+                yield record, "W52", "the strings of the SPF text are joined without a space: write one, or end each with one"
             if sum(octets(other.data[0]).lower().startswith("v=spf1")
                                                                 for other in self.sets[owner]["TXT"]) > 1:
                 yield record, "W51", "more than one SPF text at a name: none of them holds"
