@@ -84,7 +84,8 @@ def imported(origin, text, path, folder):
     """A zone of a file as BIND has it: its lines as they are converted, with the places that they come from."""
     if text[:3] == "\0\0\0" or text[:2] in ("\xff\xfe", "\xfe\xff"):
         return Zone(origin, text, path)
-    importer = bind.Importer(origin, folder or os.path.dirname(path) or ".")
+    near = "" if path.startswith("/dev/") else os.path.dirname(path)
+    importer = bind.Importer(origin, folder or near or ".")
     importer.read(text.removeprefix("\xef\xbb\xbf"), path)
     return Zone(origin, "\n".join(importer.lines), path, importer.places, importer.notes, importer.sources)
 
@@ -363,4 +364,5 @@ class ZoneFaults(Names):
         return self.each(self.at(owner, rtype), text)
 
     FOUND = {"Z01": no_soa, "Z02": alike, "Z03": soa_below, "Z04": no_ns, "Z05": outside, "Z06": alias, "Z07": alike,
-             "Z08": times, "Z09": aliased, "Z10": servers, "Z11": aliased, "Z12": delegated, "Z13": alike, "Z14": many, "Z15": many}
+             "Z08": times, "Z09": aliased, "Z10": servers, "Z11": aliased, "Z12": delegated, "Z13": alike, "Z14": many,
+             "Z15": many}

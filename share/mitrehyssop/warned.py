@@ -3,7 +3,7 @@ import collections
 import re
 
 from faults import Fault
-from master import Names, octets, parent, twice, unique, within
+from master import Names, address, octets, parent, twice, unique, within
 
 HOST = re.compile(r"(?:\*\.)?(?:[a-z0-9](?:[a-z0-9-]*[a-z0-9])?\.)+|(?:.*\.)?gc\._msdcs\..*")
 FOUR = re.compile(r"\d+\.\d+\.\d+\.\d+\.")
@@ -96,7 +96,8 @@ class Warnings(Names):
         if rtype == "NS" and inside and not self.cut(full) and not {"A", "AAAA"} & set(self.sets.get(full, ())) or full == ".":
             return
         arpa = self.zone.endswith("arpa.")
-        if inside and FOUR.match(full) and not arpa:
+        own = full[:-len(self.zone) - 1] if inside else full
+        if FOUR.fullmatch(full) or inside and FOUR.match(full) and not arpa or ":" in own and address(own):
             yield record, "W32", f"the target is an address: {full}; write the name of a host"
         elif re.search("[/:]", full) and rtype != "PTR" and not arpa:
             yield record, "W41", f"the target is a URL or has a port: {full}; write the name of the host"
