@@ -180,7 +180,7 @@ class Importer:
         lines = ["".join(part) + line[end:] for part, line, end in zip(parts, lines, ends)]
         if entry.depth > 1:
             pieces = [match.group() for line in lines for match in PIECE.finditer(line) if match.group()[0] not in "();\r"]
-            lines = ["".join(pieces)] + [""] * (len(lines) - 1)
+            lines = ["".join(pieces).replace("\r", "")] + [""] * (len(lines) - 1)
         return lines
 
     def include(self, tokens, place, stack):

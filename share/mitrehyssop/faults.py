@@ -162,7 +162,7 @@ class Zone:
         return found, text + bounds, bounds
 
     def found(self, line, code, text, owner=""):
-        fault = Fault(self.place(line), code, owner, self.notes.get(line, text))
+        fault = Fault(self.place(line), code, owner, self.notes.get(line, text) if code in ("R05", "R11", "R13") else text)
         if self.faults and fault == self.faults[-1]:
             return False
         self.faults.append(fault)
