@@ -15,10 +15,12 @@ LARGEST = {"H": 65535, "L": 4294967295}
 # Data for an entry whose own can't be known. Its names are outside the zone.
 INSTEAD = {"4": "192.0.2.1", "6": "2001:db8::1", "n": "host.invalid.", "s": '"text"', "H": "10", "L": "3600"}
 # What texts from elsewhere bring along: the characters, what they are, and what is written for each.
-STRAY = [("\ufeff", "a byte order mark", ""), ("\u201c\u201d\u201e\u201f", "a curly quotation mark", '"'),
-         ("\u2018\u2019\u201a", "a curly apostrophe", "'"), ("\u200b\u200c\u200d\u2060\u00ad", "an invisible character", ""),
-         ("\u2010\u2011\u2012\u2013\u2014\u2212", "a special dash", "-"),
-         ("\u00a0\u202f\u3000" + "".join(map(chr, range(0x2000, 0x200b))), "a special space", " ")]
+# Octets that are not UTF-8, here \udc80 to \udcff, are those of Windows-1252.
+STRAY = [("\ufeff", "a byte order mark", ""), ("\u201c\u201d\u201e\u201f\udc93\udc94\udc84", "a curly quotation mark", '"'),
+         ("\u2018\u2019\u201a\udc91\udc92", "a curly apostrophe", "'"),
+         ("\u200b\u200c\u200d\u2060\u00ad", "an invisible character", ""),
+         ("\u2010\u2011\u2012\u2013\u2014\u2212\udc96\udc97", "a special dash", "-"),
+         ("\u00a0\u202f\u3000\udca0" + "".join(map(chr, range(0x2000, 0x200b))), "a special space", " ")]
 TIME = "a plain number of seconds up to 2147483647"
 
 

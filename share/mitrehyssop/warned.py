@@ -9,10 +9,18 @@ HOST = re.compile(r"(?:\*\.)?(?:[a-z0-9](?:[a-z0-9-]*[a-z0-9])?\.)+|(?:.*\.)?gc\
 FOUR = re.compile(r"\d+\.\d+\.\d+\.\d+\.")
 TARGETS = {"NS", "CNAME", "PTR", "MX", "SRV"}
 # How a text begins: at which names it has a meaning, an example of one, and what else it needs.
-TEXTS = {"v=dmarc1": (r"_dmarc\.|.*\._report\._dmarc\.", "_dmarc", "p="),
-         "v=dkim1": (r"(?!_).+\._domainkey\.", "NAME._domainkey", "p="),
-         "v=stsv1": (r"_mta-sts\.", "_mta-sts", "id="), "v=tlsrptv1": (r"_smtp\._tls\.", "_smtp._tls", "rua="),
-         "v=bimi1": (r".+\._bimi\.", "NAME._bimi", "l=")}
+TEXTS = {"v=DMARC1": (r"_dmarc\.|.*\._report\._dmarc\.", "_dmarc", "p="),
+         "v=DKIM1": (r"(?!_).+\._domainkey\.", "NAME._domainkey", "p="),
+         "v=STSv1": (r"_mta-sts\.", "_mta-sts", "id="), "v=TLSRPTv1": (r"_smtp\._tls\.", "_smtp._tls", "rua="),
+         "v=BIMI1": (r".+\._bimi\.", "NAME._bimi", "l="), "v=spf1": None}
+
+KIND = re.compile(f"({'|'.join(TEXTS)})(?![^ ;])", re.I)
+
+
+def kind_of(record):
+    """The kind of a text by how it begins, in either case."""
+    found = KIND.match(octets(record.data[0]))
+    return next(kind for kind in TEXTS if kind.lower() == found[1].lower()) if found else None
 
 
 class Warnings(Names):
@@ -153,27 +161,28 @@ class Warnings(Names):
             yield record, "W04", f"the last number {minimum} keeps resolvers from new names for more than a day"
 
     def text(self, record):
-        parts = [octets(part) for part in record.data]
-        whole, owner = "".join(parts).lower(), record.owner
-        kind = whole.partition(";")[0].strip()
-        if whole.startswith("v=spf1"):
+        parts, owner = [octets(part) for part in record.data], record.owner
+        whole, texts = "".join(parts), self.sets[owner]["TXT"]
+        kind = kind_of(record)
+        if kind and kind != "v=DKIM1" and sum(kind_of(other) == kind for other in texts) > 1:
+            yield record, "W51", f"more than one text of {kind} at a name: none of them holds"
+        if kind == "v=spf1":
             if any(a and b and a[-1] != " " != b[0] and len(a) < 250 for a, b in zip(parts, parts[1:])):
                 yield record, "W52", "the strings of the SPF text are joined without a space: write one, or end each with one"
-            if sum(octets(other.data[0]).lower().startswith("v=spf1")
-                                                                for other in self.sets[owner]["TXT"]) > 1:
-                yield record, "W51", "more than one SPF text at a name: none of them holds"
             if owner.startswith("_dmarc.") or "._domainkey." in owner:
                 yield record, "W54", "an SPF text means nothing at this name"
-        elif kind in TEXTS:
+        elif kind:
             names, example, needed = TEXTS[kind]
             if not re.match(names, owner):
                 yield record, "W54", f"this text means nothing at this name: it belongs to {example}"
-            if needed not in whole and not (kind == "v=dmarc1" and "._report._dmarc." in owner):
+            elif not whole.startswith(kind) or whole[len(kind):].lstrip()[:1] not in ("", ";"):
+                yield record, "W54", f"the text means nothing unless it begins with {kind} and a semicolon"
+            if needed not in whole.lower() and "._report._dmarc." not in owner:
                 yield record, "W53", f"the text lacks {needed}; is it cut off at a ; without quotation marks?"
-        elif re.match(r"(?!_).+\._domainkey\.", owner) and "p=" not in whole:
+        elif re.match(TEXTS["v=DKIM1"][0], owner) and "p=" not in whole:
             yield record, "W53", "the text lacks p=; is it cut off at a ; without quotation marks?"
         elif owner.startswith("_dmarc."):
-            yield record, "W54", "the text is no DMARC policy: it begins with v=DMARC1"
+            yield record, "W54", "the text is no DMARC policy: it begins with v=DMARC1 and a semicolon"
         if re.match("\u00e2\u0080[\u0098-\u009f]", whole):
             yield record, "W55", "the text begins with a curly quotation mark"
 
