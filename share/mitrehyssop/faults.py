@@ -174,7 +174,7 @@ class Zone:
             pass
         entry = entry_at(self.lines, line)
         mending = Mending(self, reader, entry)
-        text = mending.apply(code)
+        text = getattr(mending, code.lower())()
         # An entry that is at fault again as it was mended, or for the octets put into it, has one fault.
         self.mended[line, code] += 1
         again = self.mended[line, code] > (3 if code == "R01" else 1)

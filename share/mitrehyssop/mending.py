@@ -25,7 +25,7 @@ TIME = "a plain number of seconds up to 2147483647"
 
 
 class Mending:
-    """What is done about an entry. `apply` returns the sentence, and sets what follows.
+    """What is done about an entry. The method of its code returns the sentence, and sets what follows.
 
     `lines` are those for the entry, or None if it is taken out; `guess` says that its data is not its own, `untimed` that its
     TTL is not; `silent` that a fault of it as it is mended may come from the mending, `follows` that this one may; `ends` that
@@ -37,9 +37,6 @@ class Mending:
         self.guess = self.untimed = self.silent = self.follows = self.ends = False
         self.owner, self.ttl, self.rrclass, at = head(entry) if self.tokens else (None, None, None, 0)
         self.rtype, self.data = "".join(self.tokens[at:at + 1]).upper(), self.tokens[at + 1:]
-
-    def apply(self, code):
-        return getattr(self, code.lower())()
 
     def put(self, **changed):
         """Writes the record anew."""
@@ -68,36 +65,42 @@ class Mending:
         """A line without octets that are not allowed, with notes of what was done."""
         line, end = (line[:-1], "\r") if line.endswith("\r") else (line, "")
         comment = next((match.start() for match in PIECE.finditer(line) if match.group()[0] == ";"), len(line))
-        found = re.search(r"[^\t -~]", line[:comment])
-        where = f"the octet {ord(found.group()):02X} at place {found.start() + 1} of {self.line(at)} is " if found else ""
-        text, written, is_text = line.encode("latin-1").decode("utf-8", "surrogateescape"), "", False
+        whole, before = (part.encode("latin-1").decode("utf-8", "surrogateescape") for part in (line, line[:comment]))
+        text = whole
+
+        def note(is_meant, says):
+            index = next((index for index, character in enumerate(whole) if is_meant(character)), 0)
+            place = len(whole[:index].encode("utf-8", "surrogateescape")) + 1
+            notes.append(f"the octet {ord(line[place - 1]):02X} at place {place} of {self.line(at)} is {says}")
         for characters, what, instead in STRAY:
-            if set(characters) & set(text):
+            if set(characters) & set(before):
                 do = {"": "take it out", " ": "write a space"}.get(instead, f"write {instead} for each")
-                notes.append(f"{where}{what}: {do}")
+                note(characters.__contains__, f"{what}: {do}")
                 text = text.translate(dict.fromkeys(map(ord, characters), instead))
+        written, is_text, known = "", False, "".join(characters for characters, _, _ in STRAY)
         for piece in (match.group() for match in PIECE.finditer(text)):
             bare = re.sub(r"[\0-\x08\x0a-\x1f\x7f]", "", piece)
             if piece[0] == ";":
                 break
             if bare != piece:
-                notes.append(where + ("a CR that is not before LF" if "\r" in piece else "a control character") + ": take it out")
+                what = "a CR that is not before LF" if "\r" in piece else "a control character"
+                note(lambda character: character < " " and character != "\t" or character == "\x7f", f"{what}: take it out")
             is_text = is_text or bare.upper() in ("TXT", "HINFO")
-            written += bare if bare.isascii() else self.ascii(bare, is_text or bare[0] == '"', where, notes)
+            if not bare.isascii():
+                bare, do = self.ascii(bare, is_text or bare[0] == '"')
+                note(lambda character: not character.isascii() and character not in known, f"not ASCII: write {do}")
+            written += bare
         return written + end
 
-    def ascii(self, piece, is_text, where, notes):
-        """A token with \\DDD for the octets of characters beyond ASCII, or with names as DNS has them."""
+    def ascii(self, piece, is_text):
+        """A token with \\DDD for the octets of characters beyond ASCII, or with names as DNS has them; and what to write."""
         if is_text:
             spelled = [f"\\{octet:03}" if octet > 126 else chr(octet) for octet in piece.encode("utf-8", "surrogateescape")]
-            here = "".join(octet for octet in spelled if octet[1:])[:80]
-            notes.append(f"{where}not ASCII: write \\DDD for each such octet, here {here}")
-            return "".join(spelled)
+            return "".join(spelled), f"\\DDD for each such octet, here {''.join(octet for octet in spelled if octet[1:])[:80]}"
         characters = "".join(chr(ord(c) - 0xdc00) if "\udc80" <= c <= "\udcff" else c for c in piece)
         labels = unicodedata.normalize("NFC", characters.lower()).split(".")
         full = ".".join(label if label.isascii() else "xn--" + label.encode("punycode").decode() for label in labels)
-        notes.append(f"{where}not ASCII: write the name as DNS has it, {full}")
-        return full
+        return full, f"the name as DNS has it, {full}"
 
     def r02(self):
         text = bind.joined(self.entry, 0)
