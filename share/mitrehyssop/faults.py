@@ -71,7 +71,8 @@ def run(program, main):
     except KeyboardInterrupt:
         status = 130
     except OSError as error:
-        print(f"{program}: {error.strerror}", file=sys.stderr)
+        if not isinstance(error, BrokenPipeError):
+            print(f"{program}: {error.strerror}", file=sys.stderr)
         os.dup2(os.open(os.devnull, os.O_WRONLY), 1)
         status = 2
     except Exception as error:  # Status 1 says that a zone has faults.
