@@ -46,7 +46,7 @@ class Warnings(Names):
                 yield from self.name(first, full)
             for rtype, records in sets.items():
                 for record in records:
-                    if record.line in self.of.guessed:
+                    if record.line in self.of.guessed or record.data[:1] == ["\\#"]:
                         continue
                     if record.ttl == "0":
                         yield record, "W06", "the TTL is 0: it is asked for again and again"
@@ -60,7 +60,7 @@ class Warnings(Names):
                 yield from self.host(full, sets, plain)
         origin = self.sets.get(self.zone, {})
         for record in origin.get("SOA", ()):
-            if record.line not in self.of.guessed and len(record.data) == 7:
+            if record.line not in self.of.guessed and record.data[0] != "\\#":
                 yield from self.soa(record, origin)
         yield from self.servers(origin)
 
