@@ -156,7 +156,7 @@ class Zone:
             for (file, line), code, owner, message in faults:
                 message = escaped(message[:2000], "")
                 shown = escaped(self.sources[file][line - 1].rstrip("\r").expandtabs()[:300], "")
-                found.append((file, line, severity, code, owner, message, shown))
+                found.append((file.encode("utf-8", "backslashreplace").decode(), line, severity, code, owner, message, shown))
                 text += f"{plain(file)}:{line}: {code}: {owner and owner + ': '}{message}\n    {shown}\n"
         bounds = f"{plain(self.path)}: {MOST} faults are reported, and there may be more\n" * self.more
         bounds += f"{plain(self.path)}: {MOST} of {len(warned)} warnings are reported\n" * (len(warned) > MOST)
