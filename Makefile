@@ -3,6 +3,9 @@
 PREFIX ?= /usr/local
 NAMES = zonecheck zoneserve dnsmsg zonesocket
 PROGRAMS = $(foreach name,$(NAMES),crates/$(name)/out/$(name))
+# Those in Python, and their modules.
+SCRIPTS = $(wildcard bin/*)
+MODULES = $(wildcard share/mitrehyssop/*.py)
 # Those of the first three that the tools run one after another.
 THREE = $(wordlist 1,3,$(PROGRAMS))
 PAGES = $(wildcard man/*.1)
@@ -11,7 +14,7 @@ SHARE = $(DESTDIR)$(PREFIX)/share/mitrehyssop
 LIBEXEC = $(DESTDIR)$(PREFIX)/libexec/mitrehyssop
 UNITS = $(DESTDIR)$(PREFIX)/lib/systemd/system
 # The documents for operators; the others are for those who work on the source.
-DOCUMENTS = $(foreach name,OPERATE SCALE CODES FROM-BIND ZONEFILE REPLY PROVED PERFORMANCE,docs/$(name).md)
+DOCUMENTS = $(foreach name,OPERATE SCALE CODES IMPORT ZONEFILE REPLY PROVED PERFORMANCE,docs/$(name).md)
 COMPLETIONS = $(DESTDIR)$(PREFIX)/share/bash-completion/completions
 
 # Builds the programs, checks two zones in examples/, and asks the server about one of them.
@@ -35,9 +38,10 @@ built:
 install: built
 	install -d "$(DESTDIR)$(PREFIX)/bin" "$(DESTDIR)$(PREFIX)/share/man/man1" "$(DOC)/docs/plots" "$(SHARE)/examples" "$(COMPLETIONS)"
 	install -d "$(LIBEXEC)" "$(UNITS)"
-	install -m 755 $(PROGRAMS) "$(DESTDIR)$(PREFIX)/bin"
+	install -m 755 $(PROGRAMS) $(SCRIPTS) "$(DESTDIR)$(PREFIX)/bin"
+	install -m 644 $(MODULES) "$(SHARE)"
 	install -m 644 $(PAGES) "$(DESTDIR)$(PREFIX)/share/man/man1"
-	install -m 644 README.md LICENSE-MIT LICENSE-APACHE "$(DOC)"
+	install -m 644 README.md CHANGELOG.md SECURITY.md VERSION LICENSE-MIT LICENSE-APACHE "$(DOC)"
 	install -m 644 $(DOCUMENTS) "$(DOC)/docs"
 	install -m 644 docs/plots/*.svg "$(DOC)/docs/plots"
 	install -m 755 libexec/* "$(LIBEXEC)"
@@ -45,10 +49,10 @@ install: built
 	sed -i 's|/usr/share/|$(PREFIX)/share/|g' "$(DESTDIR)$(PREFIX)"/share/man/man1/zone*.1 "$(DOC)"/README.md "$(DOC)"/docs/*.md "$(SHARE)"/examples/*
 	ln -sfn ../../mitrehyssop/examples "$(DOC)/examples"
 	for unit in systemd/*; do sed 's|@PREFIX@|$(PREFIX)|' "$$unit" >"$(UNITS)/$${unit##*/}"; done
-	for name in $(NAMES); do install -m 644 tools/completion "$(COMPLETIONS)/$$name"; done
+	for name in $(NAMES) $(notdir $(SCRIPTS)); do install -m 644 tools/completion "$(COMPLETIONS)/$$name"; done
 
 uninstall:
-	rm -f $(foreach name,$(NAMES),"$(DESTDIR)$(PREFIX)/bin/$(name)" "$(COMPLETIONS)/$(name)")
+	rm -f $(foreach name,$(NAMES) $(notdir $(SCRIPTS)),"$(DESTDIR)$(PREFIX)/bin/$(name)" "$(COMPLETIONS)/$(name)")
 	rm -f $(foreach page,$(PAGES),"$(DESTDIR)$(PREFIX)/share/man/man1/$(notdir $(page))")
 	rm -f $(foreach unit,$(wildcard systemd/*),"$(UNITS)/$(notdir $(unit))")
 	rm -rf "$(DOC)" "$(SHARE)" "$(LIBEXEC)"
@@ -70,16 +74,15 @@ operate: built
 examples: built
 	tools/examples crates/zonecheck/out/zonecheck
 
-# Runs the commands of the documents and compares what they print, tries the remedies of docs/CODES.md and the scripts of
-# examples/, and sees that the pages that are made by scripts are as these make them.
+# Runs the commands of the documents and compares what they print, tries the remedies of docs/CODES.md, zonelint, zoneimport and
+# the scripts of examples/, and sees that the pages that are made by scripts are as these make them.
 docs-check: built
 	tools/definitions | cmp - docs/DEFINITIONS.md
 	tools/docs-check $(PROGRAMS)
 	tools/remedies crates/zonecheck/out/zonecheck
-	tools/test-units crates/zonecheck/out/zonecheck
-	tools/test-explain crates/zonecheck/out/zonecheck
+	tools/test-lint crates/zonecheck/out/zonecheck
+	tools/test-import crates/zonecheck/out/zonecheck
 	tools/test-deploy crates/zonecheck/out/zonecheck
-	tools/test-from-bind crates/zonecheck/out/zonecheck
 	tools/test-workers $(PROGRAMS)
 	docs/plots/mistakes | cmp - docs/plots/mistakes.svg
 
