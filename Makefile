@@ -3,7 +3,7 @@
 PREFIX ?= /usr/local
 NAMES = zonecheck zoneserve dnsmsg zonesocket
 PROGRAMS = $(foreach name,$(NAMES),crates/$(name)/out/$(name))
-# Those in Python, and their modules.
+# Those that are scripts, and the modules of those in Python.
 SCRIPTS = $(wildcard bin/*)
 MODULES = $(wildcard share/mitrehyssop/*.py)
 # Those of the first three that the tools run one after another.
