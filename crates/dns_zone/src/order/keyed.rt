@@ -70,7 +70,16 @@ fn numbers_of(alloc: Global, records: &[Entry]) -> Result<Vec<u32>, AllocError>
     if octets / FEW_OCTETS <= records.len() {
         return Ok(Vec::new(alloc));
     }
-    Vec::from_iter(alloc, 0..records.len() as u32)
+    in_turn(alloc, records.len() as u32)
+}
+
+/// The numbers below this one, in turn.
+pub(crate) fn in_turn(alloc: Global, count: u32) -> Result<Vec<u32>, AllocError> {
+    let mut numbers = Vec::with_capacity(alloc, count as usize)?;
+    'numbers: for number in 0..count {
+        numbers.push(number)?;
+    }
+    Ok(numbers)
 }
 
 /// Swaps the numbers of two records, if they are kept.

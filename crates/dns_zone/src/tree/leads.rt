@@ -4,6 +4,7 @@ ghost use Rattle.dns_spec.specs.Meaning.{most_records};
 ghost use Rattle.dns_zone.specs.NodeForm.{IsZoneTree, AreLeads};
 
 use crate::checks::target::target;
+use crate::order::keyed::in_turn;
 use crate::store::entry::Entry;
 use crate::tree::Tree;
 use crate::tree::way::Way;
@@ -52,7 +53,7 @@ fn places_in_file(alloc: Global, numbers: &[u32], records: &[Entry]) -> Result<V
     requires { length records.now ≤ most_records }
 {
     if numbers.is_empty() {
-        return Vec::from_iter(alloc, 0..records.len() as u32);
+        return in_turn(alloc, records.len() as u32);
     }
     let most = numbers.iter().fold(0, |most, number| most.max(*number));
     let mut places = Vec::new(alloc);
