@@ -8,7 +8,6 @@ mod NameLoop
 mod QueryName
 mod ChainLemmas
 mod SpelledLemmas
-mod CommonFront
 mod SuffixLemmas
 mod NameWritten
 mod LaidAgain

@@ -1,6 +1,6 @@
 -- What a reader learns here: which places a writer keeps for the suffixes of names, and what it
 -- means that one is found.
-use Rattle.std.specs.Prelude.{◌≡◌, ◌≢◌, ℕ, ◌<◌, ◌≤◌, List, length, take, drop, slice_get, Some, IsTrue}
+use Rattle.std.specs.Prelude.{◌≡◌, ℕ, ◌<◌, ◌≤◌, List, length, take, drop, slice_get, Some, IsTrue}
 use Rattle.dns_spec.specs.Names.{Octets, DomainName, wire, is_name}
 use Rattle.dns_spec.specs.Reading.{RunAt}
 
@@ -38,13 +38,6 @@ pub record IsSharedAt (ks : List Kept) (b o : Octets) (p : ℕ) : Type 0 where
 -- from a place of a message on stand these octets
 abbrev pub HasAt : Octets → ℕ → Octets → Type 0
 HasAt b p o = (p ≤ length b) × (take (length o) (drop p b) ≡ o)
-
--- two runs have k octets in common at their fronts, and the first has not the next of the second
-pub record IsCommon (x y : Octets) (k : ℕ) : Type 0 where
-  pub within : k ≤ length x
-  pub most : k ≤ length y
-  pub alike : take k x ≡ take k y
-  pub other : k < length y → slice_get x k ≢ slice_get y k
 
 -- at none of the places kept with this number the message spells the suffix
 abbrev pub NoneSpelled : List Kept → ℕ → Octets → Octets → Type 0

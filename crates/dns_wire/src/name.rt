@@ -75,18 +75,6 @@ pub(crate) fn step_at(message: &[u8], run: usize, place: usize) -> Result<Step<'
     }
 }
 
-/// Where a pointer leads that stands at a place of a run of labels that began at `run`.
-pub(crate) fn jump_at(message: &[u8], run: usize, place: usize) -> Option<usize>
-    ensures some { IfSome result (λ target. PointerAt message.now run place target) }
-    ensures none { IsNone result → 192 ≤ get_or message.now place 0
-        → NoRunAt message.now run place }
-{
-    if *message.get(place)? < 192 {
-        return None;
-    }
-    pointer_at(message, run, place).ok()
-}
-
 // Where a pointer of two octets leads, the first from 192 on.
 fn pointer_at(message: &[u8], run: usize, place: usize) -> Result<usize, WireFault>
     requires inside { place < length message.now }

@@ -46,7 +46,7 @@ fn mixed(number: u64) -> u64
     (product >> 64) as u64 ^ number.wrapping_mul(SPREAD)
 }
 
-pub(crate) fn eight_at(octets: &[u8], at: usize) -> u64
+fn eight_at(octets: &[u8], at: usize) -> u64
     requires { at + 8 ≤ length octets.now }
     ensures { result ≡ from_le_bytes w64 (take 8 (drop at octets.now)) }
 {

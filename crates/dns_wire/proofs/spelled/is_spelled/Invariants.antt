@@ -1,5 +1,5 @@
 use Rattle.dns_wire.proofs.Common.{◌≡◌, true, ◌≤◌, length, ◌+◌, ◌-◌, ◌*◌, DomainName, wire, is_name, SpelledFrom}
-use Rattle.dns_wire.proofs.spelled.are_spelled.Given as goal
+use Rattle.dns_wire.proofs.spelled.is_spelled.Given as goal
 
 -- what is left to compare decides as the whole does, and is a name's where the whole is
 abbrev pub invariant-steps : goal.invariant-steps

@@ -1,6 +1,6 @@
 use Rattle.dns_wire.proofs.Common.{rules, arith, ap, sym, ◌∙◌, length}
 use Rattle.dns_wire.proofs.SpelledLemmas.{spelled_end, root_alone, spelled_label, spelled_jump, spelled_whole, named_after, spelled_front}
-use Rattle.dns_wire.proofs.spelled.are_spelled.Goals as goal
+use Rattle.dns_wire.proofs.spelled.is_spelled.Goals as goal
 
 pub returns-in-End-clause-yes : goal.returns-in-End-clause-yes
 returns-in-End-clause-yes c = λ yes n e ok.
