@@ -56,8 +56,7 @@ pub use Rattle.dns_spec.specs.FileFaults.{FileFault, bad_data, bad_escape, bad_o
 pub use Rattle.dns_spec.specs.Laws.{HasRoom, IsAskable, IsSetAt, IsWritable, OctetsMean, section_rank, sections_in_order}
 pub use Rattle.dns_spec.specs.Layout.{Item, Laid, Lookup, Placed, Section, additional, answer, asked_octets, asked_placed, authority, data_laid, has_suffix, header_octets, in_section, is_section, laid_front, last_place, message_of, message_record, octets16, octets32, parts_of, place_of, pointer, question_octets, reach, reached, record_by, record_laid, record_tail, records_octets, records_of, reply_header, shared_octets, shared_place, suffix_place}
 unfoldable pub use Rattle.dns_spec.specs.Layout.{data_by, layout, octets_by, records_by}
-pub use Rattle.dns_spec.specs.LayoutSize.{data_names, record_names, record_size}
-unfoldable pub use Rattle.dns_spec.specs.LayoutSize.{cost, data_size, records_size, size}
+unfoldable pub use Rattle.dns_spec.specs.LayoutSize.{size}
 pub use Rattle.dns_spec.specs.Lines.{are_messages, ended_lines, line_answers, line_ends, line_message, message_answer}
 unfoldable pub use Rattle.dns_spec.specs.Lines.{lines}
 pub use Rattle.dns_spec.specs.Meaning.{DataIs, DirectiveGives, DirectiveSays, EntriesMean, EntryGives, EntryKind, EntryMeaning, Fields, IsNoTtl, IsRecord, KindGives, Lowest, Meaning, Means, NameIs, Nothing, OneWord, OriginIs, OwnerBefore, RecordGives, TtlIs, TtlSays, TypeIs, after, are_too_many, directive, directive_word, fault_at, faulty, fields, gives, is_other_class, is_record, is_zone_type, kind_by_words, kind_of, line_after, most_records, most_ttl, nearest, no_words, owned, owner_word, record_faults, records, ttl_in_force, ttl_word, unowned}
@@ -75,16 +74,12 @@ pub use Rattle.dns_spec.specs.Reply.{Decision, Reply, answer_with, answered, dec
 unfoldable pub use Rattle.dns_spec.specs.Reply.{decide, octets_of, reply, reply_with}
 pub use Rattle.dns_spec.specs.Report.{Options, Report, Reports, fault_report, passing, report_of_faults, report_of_meaning, zone_report}
 pub use Rattle.dns_spec.specs.Sets.{RecordSet, of_first_type, of_lowest_type, records_at, rising_types, set_of}
-pub use Rattle.dns_spec.specs.Sharing.{DataSize, NameSize, RecordsSize, Sharing, asked_names, labels_size, names_in, names_of}
-pub use Rattle.dns_spec.specs.Sharing.DataSize.{after_name, after_octets, no_parts}
-pub use Rattle.dns_spec.specs.Sharing.NameSize.{shared, whole}
-pub use Rattle.dns_spec.specs.Sharing.RecordsSize.{after_record, no_records}
+pub use Rattle.dns_spec.specs.Sharing.{IsLawful, Sharing}
 pub use Rattle.dns_spec.specs.Stream.{IsCutFrame, frame, has_frame, replies}
 unfoldable pub use Rattle.dns_spec.specs.Stream.{after_frames, first_frame, frames}
 pub use Rattle.dns_spec.specs.Tree.{cut_of, exists, found, is_cut}
 pub use Rattle.dns_spec.specs.TypeText.{NamesType, numbered_type, text_in_lower_case, type_by_mnemonic, type_text}
-pub use Rattle.dns_spec.specs.UnboundedLayout.{unbounded_record_size}
-unfoldable pub use Rattle.dns_spec.specs.UnboundedLayout.{unbounded_cost, unbounded_data_size, unbounded_layout, unbounded_records_size, unbounded_size}
+unfoldable pub use Rattle.dns_spec.specs.UnboundedLayout.{unbounded_layout, unbounded_size}
 pub use Rattle.dns_spec.specs.WrittenText.{form_words, hex_text, hex_words, is_quotable, is_unbroken, name_front, plain, quoted, stands_alone, string_count, string_octet_text, unknown_words, word_front, word_text, words_by, written_words}
 unfoldable pub use Rattle.dns_spec.specs.WrittenText.{data_text}
 pub use Rattle.dns_spec.specs.ZonePrinted.{HasZoneType, IsReadRecord, is_soa, printed_records, record_line, soa_first}

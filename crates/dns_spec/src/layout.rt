@@ -1,4 +1,4 @@
-//! Laws of layouts: the octets laid out are the message, and their number is the size added up.
+//! Laws of layouts: the octets laid out are the message, and as many as their size says.
 
 ghost use Rattle.std.specs.Prelude.{◌≡◌, ℕ, List, ◌<◌, ◌≤◌, ◌⊎◌, ◌↔◌, All, Option, length};
 ghost use Rattle.dns_spec.specs.Reading.{Header, MessageQuestion, Spells};
@@ -8,7 +8,7 @@ ghost use Rattle.dns_spec.specs.Sharing.{Sharing};
 ghost use Rattle.dns_spec.specs.UnboundedLayout.{unbounded_layout, unbounded_size};
 ghost use Rattle.dns_spec.specs.Laws.{IsWritable, HasRoom};
 
-/// The layout is as long as its size, which is added up without writing it.
+/// The layout is as long as its size, whatever its header.
 pub fn layout_has_its_size()
     ensures { (h : Header) (q : Option MessageQuestion) (items : List Item)
         → length (layout h q items) ≡ size q items }
@@ -33,7 +33,7 @@ pub fn layout_is_without_bound_within_reach()
         × (size q items ≡ unbounded_size q items) }
 {}
 
-/// The layout without bound is as long as its size, which is added up without writing it.
+/// The layout without bound is as long as its size.
 pub fn unbounded_layout_has_its_size()
     ensures { (h : Header) (q : Option MessageQuestion) (items : List Item)
         → length (unbounded_layout h q items) ≡ unbounded_size q items }

@@ -18,7 +18,7 @@ pub use Rattle.dns_rdata.specs.declared.parts.Part.TheVariants.{Name}
 pub use Rattle.dns_spec.proofs.DataWords.WrittenData.{cut_into, front_taken, name_part, octets_part}
 pub use Rattle.dns_spec.proofs.DomainNames.NameLaws.{IsName-is_name, is_label-head, is_name-push, is_name-tail, wire-injective}
 pub use Rattle.dns_spec.proofs.DomainNames.WireNames.{name_of-wire}
-pub use Rattle.dns_spec.proofs.Layouts.LayoutSize.{length-layout, length-record_tail, length-records_octets}
+pub use Rattle.dns_spec.proofs.Layouts.LayoutSize.{length-layout, length-record_tail}
 pub use Rattle.dns_spec.proofs.Layouts.LeastSize.{past_limit}
 pub use Rattle.dns_spec.proofs.Layouts.SameLayout.{begins_inside}
 pub use Rattle.dns_spec.proofs.Layouts.SharedLayout.{layout_spells}

@@ -1,5 +1,5 @@
 -- A set more in a draft: its size is that of the layout, and it has one set more.
-use Rattle.dns_wire.proofs.Common.{◌≡◌, ◌↔◌, ℕ, ◌+◌, ◌≤◌, ◌^◌, Bool, true, false, cond, List, [], ◌∷◌, ◌++◌, length, take, drop, replicate, Option, refl, sym, ap, ◌∙◌, subst, subst₂, arith, All, IfSome, Some, append_assoc, append-nil, length-append, ◌<◌, lt_of_not-le, false≢true, take-append-add, Octets, DomainName, wire, RecordSet, records_at, Header, MessageQuestion, Spells, size, Sharing, IsWritable, IsAskable, sections_in_order, length-map, length-drop, flat_map-append, Item, Laid, laid_front, records_of, in_section, is_section, asked_octets, asked_placed, octets16, question_octets, layout, header_octets, message_of, shared_alone, layout_spells, past_limit, length-records_octets, length-layout, Section, asked_places, new_places, Holds, records_laid, suffix_number, Draft, draft_of, known_places, HasNames, IsDraft, Writes, with_counted, counts_of, item_of, names_so_far, Counts}
+use Rattle.dns_wire.proofs.Common.{◌≡◌, ◌↔◌, ℕ, ◌+◌, ◌≤◌, ◌^◌, Bool, true, false, cond, List, [], ◌∷◌, ◌++◌, length, take, drop, replicate, Option, refl, sym, ap, ◌∙◌, subst, subst₂, arith, All, IfSome, Some, append_assoc, append-nil, length-append, ◌<◌, lt_of_not-le, false≢true, take-append-add, Octets, DomainName, wire, RecordSet, records_at, Header, MessageQuestion, Spells, size, Sharing, IsWritable, IsAskable, sections_in_order, length-map, length-drop, flat_map-append, Item, Laid, laid_front, records_of, in_section, is_section, asked_octets, asked_placed, octets16, question_octets, layout, header_octets, message_of, shared_alone, layout_spells, past_limit, length-layout, Section, asked_places, new_places, Holds, records_laid, suffix_number, Draft, draft_of, known_places, HasNames, IsDraft, Writes, with_counted, counts_of, item_of, names_so_far, Counts}
 use Rattle.dns_spec.specs.Layout as Layout
 use Rattle.dns_wire.proofs.AskedLemmas.{asked_whole}
 use Rattle.dns_wire.proofs.NameWritten.{holds_nothing, holds_octets, holds_name}
@@ -35,8 +35,8 @@ module _ (head : Octets → ℕ) (q : Option MessageQuestion)
       let l = (records_laid (records_of items) ms p).written in
       let more = (records_laid i.records (names_so_far q items) (length d.octets)).written in
       let rs = records_of (items ++ i ∷ []) in
-      let written = sym (length-records_octets ms p rs) ∙ ap length
-      (sym (octets_of_records ms p rs)) ∙ ap (λ (x : Laid). length x.written) (whole i) in
+      let written = ap length (sym (octets_of_records ms p rs))
+      ∙ ap (λ (x : Laid). length x.written) (whole i) in
       omega (arith, written, next_place, length-append l more, length-append d.octets more)
 
 -- A set was put exactly where the layout with it is within the limit.

@@ -1,14 +1,21 @@
 -- The size of a layout grows with each set. So the greatest number of sets that fits is reached by
 -- stopping at the first
 -- that does not.
-use Rattle.dns_spec.proofs.Common.{◌≡◌, ℕ, zero, suc, ◌+◌, ◌≤◌, Bool, true, false, cond, nat_le, List, [], ◌∷◌, ◌++◌, length, take, Option, refl, sym, ap, ◌∙◌, arith, append_assoc, append-nil, le-leb, leb-true, flat_map-append, ResourceRecord, MessageQuestion, Item, Placed, record_size, record_names, records_size, size, kept, fitting, greatest}
+use Rattle.dns_spec.proofs.Common.{◌≡◌, ℕ, zero, suc, ◌+◌, ◌≤◌, Bool, true, false, cond, nat_le, List, [], ◌∷◌, ◌++◌, length, take, Option, refl, sym, ap, ◌∙◌, arith, append_assoc, append-nil, le-leb, leb-true, flat_map-append, ResourceRecord, MessageQuestion, Item, Placed, size, kept, fitting, greatest, length-append, record_laid, records_octets, records_by}
 
 records_grow : (ms : List Placed) (p : ℕ) (rs ss : List ResourceRecord)
-    → records_size ms p rs ≤ records_size ms p (rs ++ ss)
-unfolding records_size
+    → length (records_octets ms p rs) ≤ length (records_octets ms p (rs ++ ss))
+unfolding records_by
 records_grow ms p [] ss = omega arith
-records_grow ms p (r ∷ rs) ss = let h =
-    records_grow (ms ++ record_names ms p r) (p + record_size ms p r) rs ss in omega (arith, h)
+records_grow ms p (r ∷ rs) ss =
+    let l = record_laid ms p r in
+    let h = records_grow (ms ++ l.names) (p + length l.written) rs ss in
+    omega (
+      arith,
+      h,
+      length-append l.written (records_octets (ms ++ l.names) (p + length l.written) rs),
+      length-append l.written (records_octets (ms ++ l.names) (p + length l.written) (rs ++ ss)),
+    )
 
 pub size_grows : (q : Option MessageQuestion) (is js : List Item) → size q is ≤ size q (is ++ js)
 unfolding size

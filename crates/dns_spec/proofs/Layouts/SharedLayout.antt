@@ -1,9 +1,9 @@
 -- The layout, in which names share suffixes, spells its message.
-use Rattle.dns_spec.proofs.Common.{◌≡◌, ℕ, suc, ◌+◌, ◌^◌, ◌<◌, ◌≤◌, Bool, true, false, cond, nat_le, List, [], ◌∷◌, ◌++◌, map, length, take, drop, Option, None, Some, All, IfSome, is_some, unwrap_or, refl, sym, ap, ◌∙◌, subst, arith, append_assoc, append-nil, length-append, add-zero, zero-add, and_parts, false≢true, none-some, same_Some, cond_some, length-map, map-append, list_all, option_to_list, Octets, wire, is_label, labels_from, ResourceRecord, Header, MessageQuestion, MessageRecord, OctetsAt, NumberAt, PiecesAt, DataAt, RecordsAt, Spells, record_size, record_names, records_size, size, class_in, width, Piece, fixed, domain, string, strings, anything, pieces_of, compresses, Part, octets, piece_front, cut, valid, parts, laid_parts, octets16, octets32, answer, authority, additional, Item, records_of, in_section, Placed, shared_octets, data_laid, data_by, parts_of, record_tail, records_octets, records_by, question_octets, asked_octets, asked_placed, reply_header, layout, Section, message_record, message_of, IsWritable, IsAskable, HasRoom, AllByRecursion, recursion_from_All}
+use Rattle.dns_spec.proofs.Common.{◌≡◌, ℕ, suc, ◌+◌, ◌^◌, ◌<◌, ◌≤◌, Bool, true, false, cond, nat_le, List, [], ◌∷◌, ◌++◌, map, length, take, drop, Option, None, Some, All, IfSome, is_some, unwrap_or, refl, sym, ap, ◌∙◌, subst, arith, append_assoc, append-nil, length-append, add-zero, zero-add, and_parts, false≢true, none-some, same_Some, cond_some, length-map, map-append, list_all, option_to_list, Octets, wire, is_label, labels_from, ResourceRecord, Header, MessageQuestion, MessageRecord, OctetsAt, NumberAt, PiecesAt, DataAt, RecordsAt, Spells, size, class_in, width, Piece, fixed, domain, string, strings, anything, pieces_of, compresses, Part, octets, piece_front, cut, valid, parts, laid_parts, octets16, octets32, answer, authority, additional, Item, records_of, in_section, Placed, shared_octets, data_laid, data_by, parts_of, record_tail, records_octets, records_by, question_octets, asked_octets, asked_placed, reply_header, layout, Section, message_record, message_of, IsWritable, IsAskable, HasRoom, AllByRecursion, recursion_from_All, record_laid}
 use Rattle.dns_spec.proofs.Messages.Places.{Stands, stands_front, stands_rest, stands_after, stands_all, stands_within, stands_get, number_at, octets_at}
 use Rattle.dns_spec.proofs.DataWords.WrittenData.{cut_into, name_part, octets_part, all_strings, front_taken, data_written}
 use Rattle.dns_spec.proofs.Layouts.MessageParts.{records_by_section, section_with, header_at, one_question, asked_at_12, length-question_octets}
-use Rattle.dns_spec.proofs.Layouts.LayoutSize.{length-layout}
+use Rattle.dns_spec.proofs.Layouts.LayoutSize.{length-layout, length-record_tail}
 use Rattle.dns_spec.proofs.Layouts.SharedNames.{Known, known_later, known_more, name_shared, nothing_known, shared_alone}
 use Rattle.dns_spec.proofs.General.Fronts.{take_none, drop_none}
 
@@ -370,11 +370,21 @@ section_bound s [] = omega arith
 section_bound s (i ∷ is) = grind (arith, section_with, length-append, (section_bound s is))
 
 shared_bound : (ms : List Placed) (p : ℕ) (rs : List ResourceRecord)
-    → length rs ≤ records_size ms p rs
-unfolding records_size
+    → length rs ≤ length (records_octets ms p rs)
+unfolding records_by
 shared_bound ms p [] = omega arith
 shared_bound ms p (r ∷ rs) =
-    let b = shared_bound (ms ++ record_names ms p r) (p + record_size ms p r) rs in omega (arith, b)
+    let w = shared_octets ms r.owner in
+    let d = data_laid (ms ++ (r.owner, p) ∷ []) (p + length w + 10) (parts_of r) in
+    let l = record_laid ms p r in
+    let rest = records_octets (ms ++ l.names) (p + length l.written) rs in
+    omega (
+      arith,
+      shared_bound (ms ++ l.names) (p + length l.written) rs,
+      length-append l.written rest,
+      length-append w (record_tail r d.written),
+      length-record_tail r d.written,
+    )
 
 few_counts : (q : Option MessageQuestion) (is : List Item) → size q is < 2 ^ 16 → HasCounts is
 unfolding size

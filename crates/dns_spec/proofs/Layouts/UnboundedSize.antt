@@ -1,122 +1,119 @@
 -- The size of the layout without bound is the length of that layout, and the least that sharing
 -- allows.
-use Rattle.dns_spec.proofs.Common.{◌≡◌, ℕ, ◌+◌, ◌≤◌, Bool, true, false, List, [], ◌∷◌, ◌++◌, map, length, Option, None, Some, is_some, refl, ap, ap₂, ◌∙◌, subst, arith, length-append, map-append, list_any, Octets, DomainName, wire, Part, octets, name, ResourceRecord, Header, MessageQuestion, Item, pointer, Placed, has_suffix, place_of, parts_of, names_in, names_of, labels_size, NameSize, DataSize, RecordsSize, Sharing, whole, shared, no_parts, after_octets, after_name, no_records, after_record, octets_by, data_by, record_by, records_by, unbounded_layout, unbounded_cost, unbounded_data_size, unbounded_record_size, unbounded_records_size, unbounded_size}
-use Rattle.dns_spec.proofs.DomainNames.WireNames.{wire_some}
+use Rattle.dns_spec.proofs.Common.{◌≡◌, ℕ, ◌+◌, ◌≤◌, true, List, [], ◌∷◌, ◌++◌, map, length, Option, None, Some, is_some, refl, ap, ap₂, sym, ◌∙◌, arith, false≢true, length-append, map-append, list_any, Octets, DomainName, Part, octets, name, ResourceRecord, Header, MessageQuestion, Item, pointer, Placed, Lookup, has_suffix, place_of, parts_of, Laid, Sharing, IsLawful, octets_by, data_by, record_by, records_by, unbounded_layout, unbounded_size}
+use Rattle.dns_spec.proofs.Layouts.LayoutSize.{length-record_tail}
 
--- a name has a place exactly where an earlier name has it as a suffix
-abbrev pub unplaced : List Placed → List DomainName
-unplaced = map (λ (m : Placed). m.0)
-
+-- a suffix has a place exactly where an earlier name has it
 pub placed : (ms : List Placed) (s : DomainName)
-    → is_some (place_of ms s) ≡ list_any (λ x. has_suffix x s) (unplaced ms)
+    → is_some (place_of ms s) ≡ list_any (λ (m : Placed). has_suffix m.0 s) ms
 placed [] s = refl
 placed (m ∷ ms) s = grind (arith, (placed ms s))
 
-pub length-unbounded_octets : (ms : List Placed) (n : DomainName)
-    → length (octets_by place_of ms n) ≡ unbounded_cost (unplaced ms) n
-unfolding octets_by unbounded_cost
-length-unbounded_octets ms [] = refl
-length-unbounded_octets ms (l ∷ n) =
-    go (place_of ms (l ∷ n)) (length-unbounded_octets ms n)
-    ∙ ap (λ (t : Bool). elim t as (λ _. ℕ)
-    [ true ↦ 2 | false ↦ 1 + length l + unbounded_cost (unplaced ms) n ]) (placed ms (l ∷ n))
-  where
-    go : (x : Option ℕ) → length (octets_by place_of ms n) ≡ unbounded_cost (unplaced ms) n
-        → length (elim x as (λ _. Octets)
-        [ None ↦ length l ∷ (l ++ octets_by place_of ms n) | Some p ↦ pointer p ]) ≡ elim
-        (is_some x) as (λ _. ℕ) [ true ↦ 2 | false ↦ 1 + length l + unbounded_cost (unplaced ms) n ]
-    go None h = omega (arith, length-append l (octets_by place_of ms n), h)
-    go (Some p) h = refl
+-- which names there are, wherever they begin
+abbrev unplaced : List Placed → List DomainName
+unplaced = map (λ (m : Placed). m.0)
 
-pub unplaced-push : (ms : List Placed) (n : DomainName) (p : ℕ)
+unplaced-push : (ms : List Placed) (n : DomainName) (p : ℕ)
     → unplaced (ms ++ (n, p) ∷ []) ≡ unplaced ms ++ n ∷ []
 unplaced-push ms n p = map-append (λ (m : Placed). m.0) ms ((n, p) ∷ [])
-
--- how long data is, and which names it has
-unbounded_data_has : (ms : List Placed) (p : ℕ) (ps : List Part)
-    → (length (data_by place_of ms p ps).written ≡ unbounded_data_size (unplaced ms) ps)
-    × (unplaced (data_by place_of ms p ps).names ≡ names_in ps)
-unfolding data_by unbounded_data_size
-unbounded_data_has ms p [] = (refl, refl)
-unbounded_data_has ms p (octets o ∷ ps) =
-    grind (arith, length-append, (unbounded_data_has ms (p + length o) ps))
-unbounded_data_has ms p (name n ∷ ps) =
-    let next = p + length (octets_by place_of ms n) in
-    let rest = unbounded_data_has (ms ++ (n, p) ∷ []) next ps in
-    grind (arith, length-append, length-unbounded_octets, rest, unplaced-push)
-
-length-unbounded_record : (ms : List Placed) (p : ℕ) (r : ResourceRecord)
-    → length (record_by place_of ms p r).written ≡ unbounded_record_size (unplaced ms) r
-length-unbounded_record ms p r =
-    grind (arith, unbounded_data_has, unplaced-push, length-append, length-unbounded_octets)
-
-unplaced-unbounded_record : (ms : List Placed) (p : ℕ) (r : ResourceRecord)
-    → unplaced (ms ++ (record_by place_of ms p r).names) ≡ unplaced ms ++ names_of r
-unplaced-unbounded_record ms p r =
-    let next = p + length (octets_by place_of ms r.owner) + 10 in
-    let laid = unbounded_data_has (ms ++ (r.owner, p) ∷ []) next (parts_of r) in
-    grind (arith, map-append, laid)
-
-pub length-unbounded_records : (ms : List Placed) (p : ℕ) (rs : List ResourceRecord)
-    → length (records_by place_of ms p rs) ≡ unbounded_records_size (unplaced ms) rs
-unfolding records_by unbounded_records_size
-length-unbounded_records ms p [] = refl
-length-unbounded_records ms p (r ∷ rs) =
-    let l = record_by place_of ms p r in
-    let rest = records_by place_of (ms ++ l.names) (p + length l.written) rs in
-    length-append l.written rest
-    ∙ ap₂ ◌+◌ (length-unbounded_record ms p r)
-    (length-unbounded_records (ms ++ l.names) (p + length l.written) rs
-    ∙ ap (λ z. unbounded_records_size z rs) (unplaced-unbounded_record ms p r))
 
 pub length-unbounded_layout : (h : Header) (q : Option MessageQuestion) (items : List Item)
     → length (unbounded_layout h q items) ≡ unbounded_size q items
 unfolding unbounded_layout unbounded_size
-length-unbounded_layout h q items = grind (arith, length-append, length-unbounded_records)
+length-unbounded_layout h q items = grind (arith, length-append)
 
-abbrev any_has : List DomainName → DomainName → Bool
-any_has ms s = list_any (λ m. has_suffix m s) ms
+-- what an earlier name has is found among the same names at other places
+found_again : (ms ks : List Placed) (s : DomainName) → unplaced ms ≡ unplaced ks
+    → list_any (λ (m : Placed). has_suffix m.0 s) ks ≡ true → is_some (place_of ms s) ≡ true
+found_again ms ks s e h = placed ms s ∙ named ms ∙ ap (list_any (λ x. has_suffix x s)) e
+    ∙ sym (named ks) ∙ h
+  where
+    named : (ns : List Placed) → list_any (λ (m : Placed). has_suffix m.0 s) ns
+        ≡ list_any (λ x. has_suffix x s) (unplaced ns)
+    named [] = refl
+    named (m ∷ ns) = grind (arith, (named ns))
 
--- a label more in front of a name
-pub prefixed : {ms : List DomainName} {n : DomainName} {k : ℕ} (l : Octets)
-    → NameSize ms n k → NameSize ms (l ∷ n) (1 + length l + k)
-prefixed {ms} l (whole n) =
-    subst (NameSize ms (l ∷ n)) (omega (arith, length-append l (wire n))) (whole (l ∷ n))
-prefixed {ms} l (shared front m s h) =
-    subst (NameSize ms (l ∷ front ++ m ∷ s)) (omega arith) (shared (l ∷ front) m s h)
+name_some : (find : Lookup) (ms : List Placed) (n : DomainName) → 1 ≤ length (octets_by find ms n)
+unfolding octets_by
+name_some find ms [] = omega arith
+name_some find ms (l ∷ n) = go (find ms (l ∷ n))
+  where
+    go : (x : Option ℕ) → 1 ≤ length (elim x as (λ _. Octets)
+        [ None ↦ length l ∷ (l ++ octets_by find ms n) | Some p ↦ pointer p ])
+    go None = omega arith
+    go (Some p) = omega arith
 
--- no size of a name is less than its cost
-cost_whole : (ms : List DomainName) (n : DomainName) → unbounded_cost ms n ≤ length (wire n)
-unfolding unbounded_cost
-cost_whole ms [] = grind arith
-cost_whole ms (l ∷ n) = grind (arith, length-append, wire_some, (cost_whole ms n))
+module _ (find : Lookup) (lawful : IsLawful find) where
+  -- no lawful choice makes a name shorter than the longest suffix does
+  name_least : (ms ks : List Placed) (n : DomainName) → unplaced ms ≡ unplaced ks
+      → length (octets_by place_of ms n) ≤ length (octets_by find ks n)
+  unfolding octets_by
+  name_least ms ks [] e = omega arith
+  name_least ms ks (l ∷ n) e =
+      go (place_of ms (l ∷ n)) (find ks (l ∷ n)) refl refl (name_least ms ks n e)
+    where
+      go : (x y : Option ℕ) → place_of ms (l ∷ n) ≡ x → find ks (l ∷ n) ≡ y
+          → length (octets_by place_of ms n) ≤ length (octets_by find ks n)
+          → length (elim x as (λ _. Octets)
+          [ None ↦ length l ∷ (l ++ octets_by place_of ms n) | Some p ↦ pointer p ])
+          ≤ length (elim y as (λ _. Octets)
+          [ None ↦ length l ∷ (l ++ octets_by find ks n) | Some p ↦ pointer p ])
+      go (Some p) (Some o) f g h = omega arith
+      go (Some p) None f g h =
+          omega (arith, length-append l (octets_by find ks n), name_some find ks n)
+      go None None f g h = omega (
+        arith,
+        h,
+        length-append l (octets_by place_of ms n),
+        length-append l (octets_by find ks n),
+      )
+      go None (Some o) f g h = absurd (false≢true
+          (sym (ap is_some f) ∙ found_again ms ks (l ∷ n) e (lawful ks (l ∷ n) o g)))
 
-cost_before : (ms : List DomainName) (front : DomainName) (l : Octets) (n : DomainName)
-    → any_has ms (l ∷ n) ≡ true → unbounded_cost ms (front ++ l ∷ n) ≤ labels_size front + 2
-unfolding unbounded_cost
-cost_before ms [] l n e = grind arith
-cost_before ms (k ∷ front) l n e = grind (arith, (cost_before ms front l n e))
+  -- data has the same names, however they share, and is no shorter
+  record DataLeast (a b : Laid) : Type 0 where
+    same : unplaced a.names ≡ unplaced b.names
+    least : length a.written ≤ length b.written
 
-cost_least : {ms : List DomainName} {n : DomainName} {k : ℕ}
-    → NameSize ms n k → unbounded_cost ms n ≤ k
-cost_least h = grind (arith, cost_whole, cost_before)
+  data_least : (ms ks : List Placed) (p o : ℕ) (ps : List Part) → unplaced ms ≡ unplaced ks
+      → DataLeast (data_by place_of ms p ps) (data_by find ks o ps)
+  unfolding data_by
+  data_least ms ks p o [] e = record { same = refl; least = omega arith }
+  data_least ms ks p o (octets x ∷ ps) e =
+      let rest = data_least ms ks (p + length x) (o + length x) ps e in
+      record { same = rest.same; least = grind (arith, length-append, rest) }
+  data_least ms ks p o (name n ∷ ps) e =
+      let w = octets_by place_of ms n in
+      let v = octets_by find ks n in
+      let more = unplaced-push ms n p ∙ ap (λ z. z ++ n ∷ []) e ∙ sym (unplaced-push ks n o) in
+      let rest = data_least (ms ++ (n, p) ∷ []) (ks ++ (n, o) ∷ [])
+      (p + length w) (o + length v) ps more in record {
+        same = ap (λ z. n ∷ z) rest.same;
+        least = grind (arith, length-append, rest, name_least);
+      }
 
--- so it is for data and records
-data_least : {ms : List DomainName} {ps : List Part} {k : ℕ}
-    → DataSize ms ps k → unbounded_data_size ms ps ≤ k
-unfolding unbounded_data_size
-data_least no_parts = omega arith
-data_least (after_octets o ps k d) = let h = data_least d in omega (arith, h)
-data_least (after_name n ps j k c d) = grind (arith, cost_least, (data_least d))
-
-records_least : {ms : List DomainName} {rs : List ResourceRecord} {k : ℕ}
-    → RecordsSize ms rs k → unbounded_records_size ms rs ≤ k
-unfolding unbounded_records_size
-records_least no_records = omega arith
-records_least (after_record r rs i j k c d e) =
-    grind (arith, cost_least, data_least, (records_least e))
+  records_least : (ms ks : List Placed) (p o : ℕ) (rs : List ResourceRecord)
+      → unplaced ms ≡ unplaced ks
+      → length (records_by place_of ms p rs) ≤ length (records_by find ks o rs)
+  unfolding records_by
+  records_least ms ks p o [] e = omega arith
+  records_least ms ks p o (r ∷ rs) e =
+      let w = octets_by place_of ms r.owner in
+      let v = octets_by find ks r.owner in
+      let l = record_by place_of ms p r in
+      let k = record_by find ks o r in
+      let more = unplaced-push ms r.owner p ∙ ap (λ z. z ++ r.owner ∷ []) e
+      ∙ sym (unplaced-push ks r.owner o) in
+      let inside = data_least (ms ++ (r.owner, p) ∷ []) (ks ++ (r.owner, o) ∷ [])
+      (p + length w + 10) (o + length v + 10) (parts_of r) more in
+      let later = map-append (λ (m : Placed). m.0) ms l.names
+      ∙ ap₂ (λ y z. y ++ r.owner ∷ z) e inside.same
+      ∙ sym (map-append (λ (m : Placed). m.0) ks k.names) in
+      let rest = records_least (ms ++ l.names) (ks ++ k.names)
+      (p + length l.written) (o + length k.written) rs later in
+      grind (arith, length-append, length-record_tail, inside, rest, name_least)
 
 pub unbounded_size_least : (q : Option MessageQuestion) (items : List Item) (z : ℕ)
     → Sharing q items z → unbounded_size q items ≤ z
 unfolding unbounded_size
-unbounded_size_least q items z s = let h = records_least s.sized in omega (arith, h, s.whole)
+unbounded_size_least q items z s = grind (arith, records_least)

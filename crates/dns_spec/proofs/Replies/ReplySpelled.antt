@@ -1,5 +1,5 @@
 -- The octets of a reply spell it, and are no more than its limit.
-use Rattle.dns_spec.proofs.Common.{◌≡◌, ℕ, ◌+◌, ◌^◌, ◌<◌, ◌≤◌, Bool, true, false, nat_le, ◌==◌, List, [], ◌∷◌, length, take, drop, Option, None, Some, IfSome, All, refl, subst, arith, length-take, mod-lt, cond_both, and_parts, leb-true, none-some, same_Some, cond_some, Octets, DomainName, is_name, number_of, ZoneContents, Header, MessageQuestion, Spells, name_at, Item, layout, message_of, records_size, size, outcome, items, is_authoritative, All-nil, All-take, All-drop, field16, head_of, reply_head, refusal_head, question_of, question_at, query_read, truncated, Decision, silence, header_alone, question_alone, answered, decide, Reply, answer_with, reply_of, reply_with, reply_octets, reply_message, keep_longest, reply, greatest, sections_in_order, IsWritable, IsAskable, HasRoom, AllByRecursion, recursion_from_All}
+use Rattle.dns_spec.proofs.Common.{◌≡◌, ℕ, ◌+◌, ◌^◌, ◌<◌, ◌≤◌, Bool, true, false, nat_le, ◌==◌, List, [], ◌∷◌, length, take, drop, Option, None, Some, IfSome, All, refl, subst, arith, length-take, mod-lt, cond_both, and_parts, leb-true, none-some, same_Some, cond_some, Octets, DomainName, is_name, number_of, ZoneContents, Header, MessageQuestion, Spells, name_at, Item, layout, message_of, size, outcome, items, is_authoritative, All-nil, All-take, All-drop, field16, head_of, reply_head, refusal_head, question_of, question_at, query_read, truncated, Decision, silence, header_alone, question_alone, answered, decide, Reply, answer_with, reply_of, reply_with, reply_octets, reply_message, keep_longest, reply, greatest, sections_in_order, IsWritable, IsAskable, HasRoom, AllByRecursion, recursion_from_All, records_by}
 use Rattle.dns_spec.proofs.Messages.NameReading.{name_at_computes}
 use Rattle.dns_spec.proofs.Layouts.MessageParts.{length-question_octets}
 use Rattle.dns_spec.proofs.Layouts.LayoutSize.{length-layout}
@@ -66,11 +66,11 @@ roomy : (h : Header) (q : Option MessageQuestion) (is : List Item) → h.id < 2 
 roomy h q is id flags ok ordered = grind arith
 
 bare_size : size None [] ≡ 12
-unfolding size records_size
+unfolding size records_by
 bare_size = refl
 
 empty_size : (q : MessageQuestion) → is_name q.qname ≡ true → size (Some q) [] ≤ 271
-unfolding size records_size
+unfolding size records_by
 empty_size q h = grind (arith, leb-true, and_parts, length-question_octets)
 
 -- The octets of a reply spell the message that it is.

@@ -1,14 +1,14 @@
 -- The worked replies, to datagrams and to streams, computed from the definitions: octet for octet
 -- where they stand whole, else their header and length, with a part that tells them apart; and
--- their sizes, added up without writing.
-use Rattle.dns_spec.proofs.Common.{◌≡◌, ℕ, zero, suc, ◌+◌, ◌*◌, List, [], ◌∷◌, ◌++◌, length, take, drop, replicate, codes, Option, None, Some, option_map, Octets, wire, labels_from, cut, type_txt, type_cname, type_srv, ResourceRecord, ZoneContents, run, runs_before, name_at, answer, Item, Placed, octets_by, data_by, record_laid, header_octets, records_octets, records_by, layout, cost, data_size, records_size, size, chain_from, chain, outcome_at, outcome, extra, items, required_items, keep_longest, reply_with, reply, octets_of, decide, question_at, query_read, Header, MessageQuestion, names_of, frame, first_frame, frames, after_frames, replies}
+-- their sizes.
+use Rattle.dns_spec.proofs.Common.{◌≡◌, ℕ, zero, suc, ◌+◌, ◌*◌, List, [], ◌∷◌, ◌++◌, length, take, drop, replicate, codes, Option, None, Some, option_map, Octets, wire, labels_from, cut, type_txt, type_cname, type_srv, ResourceRecord, ZoneContents, run, runs_before, name_at, answer, Item, Placed, octets_by, data_by, record_laid, header_octets, records_octets, records_by, layout, size, chain_from, chain, outcome_at, outcome, extra, items, required_items, keep_longest, reply_with, reply, octets_of, decide, question_at, query_read, Header, MessageQuestion, frame, first_frame, frames, after_frames, replies}
 use mathlib.Core.Path.{refl}
 use Rattle.dns_spec.proofs.WorkedExamples.Zones.{hex, dotted, under, entry, in_zone, addresses, query, asks, www_query, small_zone, small_zone_with, large_zone, deep_zone, deep_name}
 
 -- the octets of a reply within a limit
 unfoldable within : ℕ → ZoneContents → Octets → Option Octets
-unfolding labels_from cut run runs_before name_at octets_by cost data_by records_by
-    layout data_size records_size size chain_from chain outcome_at outcome extra items
+unfolding labels_from cut run runs_before name_at octets_by data_by records_by
+    layout size chain_from chain outcome_at outcome extra items
     required_items reply_with reply octets_of question_at query_read decide
 within limit z d = octets_of z d limit
 
@@ -169,8 +169,8 @@ reply_rows :
     -- 64 strings of 255 octets each, past 16,384 octets
     × (outline (tcp (small_zone_with (strings_at_x 64)) (query (codes "x.example") 16)) 27 6
     ≡ part (codes "123484000001004000000000") 17179 (codes "c00c00100001"))
-unfolding within labels_from cut run runs_before name_at octets_by cost data_by
-    records_by layout data_size records_size size chain_from chain outcome_at outcome extra
+unfolding within labels_from cut run runs_before name_at octets_by data_by
+    records_by layout size chain_from chain outcome_at outcome extra
     items required_items reply_with reply octets_of question_at query_read decide
 reply_rows = search []
 
@@ -192,8 +192,8 @@ long_rows = (refl, refl)
 
 -- the replies of a server of the small zone, to at most so many messages
 unfoldable answers : ℕ → Octets → Octets
-unfolding first_frame frames within labels_from cut run runs_before name_at octets_by cost
-    data_by records_by layout data_size records_size size chain_from chain outcome_at
+unfolding first_frame frames within labels_from cut run runs_before name_at octets_by
+    data_by records_by layout size chain_from chain outcome_at
     outcome extra items required_items reply_with reply octets_of question_at query_read decide
 answers k x = replies (tcp small_zone) (frames k x)
 
@@ -223,7 +223,7 @@ stream_rows :
     × (frames 9 (hex (codes "001d") ++ take 28 www_query) ≡ [])
     × (length (after_frames 9 (hex (codes "001d") ++ take 28 www_query)) ≡ 30)
 unfolding first_frame frames after_frames answers within labels_from cut run runs_before name_at
-    octets_by cost data_by records_by layout data_size records_size size chain_from
+    octets_by data_by records_by layout size chain_from
     chain outcome_at outcome extra items required_items reply_with reply octets_of question_at
     query_read decide
 stream_rows = search []
@@ -233,7 +233,7 @@ abbrev asked : Octets → ℕ → MessageQuestion
 asked cs t = record { qname = dotted cs; qtype = t; qclass = 1 }
 
 unfoldable reply_size : ZoneContents → ℕ → MessageQuestion → ℕ
-unfolding labels_from cut data_size records_size size cost chain_from chain outcome_at outcome
+unfolding labels_from cut octets_by data_by records_by size chain_from chain outcome_at outcome
     extra items
 reply_size z limit q = size (Some q) (keep_longest z limit q)
 
@@ -256,7 +256,7 @@ size_rows :
     × (reply_size large_zone 512 (asked (codes "_s._tcp.example") 33) ≡ 33 + 30 + 19)
     -- 64 addresses
     × (reply_size large_zone 16384 (asked (codes "big.example") 1) ≡ 29 + 64 * 16)
-unfolding reply_size labels_from cut data_size records_size size cost chain_from chain outcome_at
+unfolding reply_size labels_from cut octets_by data_by records_by size chain_from chain outcome_at
     outcome extra items
 size_rows = search []
 
@@ -270,14 +270,13 @@ www_alias = entry (under (codes "www")) type_cname (wire (under (codes "ns")))
 
 layout_rows :
     -- its names, and their places: 10 octets stand between owner and data
-    (names_of www_alias ≡ under (codes "www") ∷ under (codes "ns") ∷ [])
-    × ((record_laid [] 12 www_alias).names
+    ((record_laid [] 12 www_alias).names
     ≡ (under (codes "www"), 12) ∷ (under (codes "ns"), 35) ∷ [])
     -- the target of SRV is no name to a writer
-    × (names_of (in_zone (codes "s") type_srv (replicate 6 0 ++ wire (under (codes "ns"))))
-    ≡ under (codes "s") ∷ [])
+    × ((record_laid [] 12 (in_zone (codes "s") type_srv
+    (replicate 6 0 ++ wire (under (codes "ns"))))).names ≡ (under (codes "s"), 12) ∷ [])
 unfolding labels_from cut octets_by data_by
-layout_rows = (refl, refl, refl)
+layout_rows = (refl, refl)
 
 -- one record, whose owner begins at place 12
 abbrev one_alias : List Item
@@ -295,6 +294,5 @@ header_size_rows :
     ≡ hex (codes "000184000000000100000000 03777777076578616d706c6500"
     ++ codes "00050001 00000e10 0005 026e73c010"))
     × (size None one_alias ≡ 12 + 13 + 10 + 5)
-unfolding size records_size labels_from cut octets_by data_by records_by layout cost
-    data_size
+unfolding size labels_from cut octets_by data_by records_by layout
 header_size_rows = (refl, refl, refl)
