@@ -67,7 +67,7 @@ pub use Rattle.dns_spec.specs.Names.{DomainName, Octets, at_or_below, below, fol
 unfoldable pub use Rattle.dns_spec.specs.Names.{labels_from}
 pub use Rattle.dns_spec.specs.Query.{QueryRead, absent, counts_are_one_question, field16, head_of, is_ignored, most_over_udp, opcode, query, query_or_error, question_of, refusal_head, refused_with, reply_head}
 unfoldable pub use Rattle.dns_spec.specs.Query.{query_read, question_at}
-pub use Rattle.dns_spec.specs.Reading.{DataAt, DnsMessage, Header, MessageQuestion, MessageRecord, NameAt, NumberAt, OctetsAt, PiecesAt, QuestionsAt, RecordAt, RecordsAt, RunAt, Spells, format_error, name_error, no_error, not_implemented, pointer_place}
+pub use Rattle.dns_spec.specs.Reading.{data_pieces, DataAt, DnsMessage, Header, MessageQuestion, MessageRecord, NameAt, NumberAt, OctetsAt, PieceAt, PiecesAt, QuestionsAt, RecordAt, RecordsAt, RunAt, Spells, format_error, name_error, no_error, not_implemented, pointer_place}
 pub use Rattle.dns_spec.specs.Reading.RunAt.{ends, goes_on, jumps}
 pub use Rattle.dns_spec.specs.Records.{HoldSameRecords, ResourceRecord, ZoneContents, at, data_order, distinct, first_serial, insert_by, of_type, ordered_zone, owns, record_order, records_equal, rrset, sort_by, with_owner, zone_of, zone_serial}
 pub use Rattle.dns_spec.specs.Reply.{Decision, Reply, answer_with, answered, decide_query, fitting, greatest, header_alone, keep_longest, kept, question_alone, reply_message, reply_octets, reply_of, silence, truncated}

@@ -5,8 +5,8 @@ use Rattle.std.specs.Prelude.{ℕ, zero, suc, ◌+◌, ◌-◌, ◌&&◌, true, 
 use Rattle.std.specs.Prelude.{Option, None, Some}
 use Rattle.std.specs.Option.{option_map, option_and_then}
 use Rattle.dns_spec.specs.Names.{Octets, DomainName, wire, is_name, with_label}
-use Rattle.dns_spec.specs.Data.{class_in, width, Piece, fixed, domain, string, strings, anything, pieces_of, are_strings, number_of}
-use Rattle.dns_spec.specs.Reading.{pointer_place, MessageQuestion, MessageRecord, DnsMessage}
+use Rattle.dns_spec.specs.Data.{width, Piece, fixed, domain, string, strings, anything, are_strings, number_of}
+use Rattle.dns_spec.specs.Reading.{pointer_place, data_pieces, MessageQuestion, MessageRecord, DnsMessage}
 
 -- RFC 1035 4.1.4: how a run of labels goes on at a place: it ends, a label of k octets follows, a
 -- pointer to place p follows, or nothing lawful does.
@@ -95,7 +95,7 @@ pieces_at b (p ∷ ps) i e =
 abbrev pub data_at : Octets → ℕ → ℕ → ℕ → ℕ → Option Octets
 data_at b t c i e =
     if nat_le i e && nat_le e (length b)
-    then pieces_at b (if c == class_in then pieces_of t else anything ∷ []) i e else None
+    then pieces_at b (data_pieces t c) i e else None
 
 -- the question, and the record, at a place, and the place after it
 abbrev pub question_after : Octets → SpelledName → Option (MessageQuestion × ℕ)

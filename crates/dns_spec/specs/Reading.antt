@@ -84,31 +84,28 @@ pub record NumberAt (b : Octets) (i k v : ℕ) : Type 0 where
   pub within : i + k ≤ length b
   pub spelled : v ≡ number_of (take k (drop i b))
 
--- From place i up to place e stands data of these pieces that reads d where it is not compressed. A
--- name in it may go on elsewhere, but its own octets are in the data.
+-- From place i up to place j stands this piece of data that ends before place e. It reads o where
+-- it is not compressed. A name may go on elsewhere, but its own octets are in the data.
+abbrev pub PieceAt : Octets → Piece → ℕ → ℕ → ℕ → Octets → Type 0
+PieceAt b (fixed f) i e j o = OctetsAt b i (i + width f) o × (j ≡ i + width f)
+PieceAt b domain i e j o = (n : DomainName) × NameAt b i n j × (o ≡ wire n)
+PieceAt b string i e j o =
+    (k : ℕ) × (slice_get b i ≡ Some k) × OctetsAt b i (i + 1 + k) o × (j ≡ i + 1 + k)
+PieceAt b strings i e j o = OctetsAt b i j o × (0 < length o) × IsTrue (are_strings 0 o) × (j ≡ e)
+PieceAt b anything i e j o = OctetsAt b i j o × (j ≡ e)
+
+-- pieces one after the other, from place i up to place e
 abbrev pub PiecesAt : Octets → List Piece → ℕ → ℕ → Octets → Type 0
 PiecesAt b [] i e d = (i ≡ e) × (d ≡ [])
-PiecesAt b (fixed f ∷ ps) i e d =
-    (o rest : Octets) × OctetsAt b i (i + width f) o × (d ≡ o ++ rest)
-    × PiecesAt b ps (i + width f) e rest
-PiecesAt b (domain ∷ ps) i e d =
-    (n : DomainName) × (j : ℕ) × (rest : Octets) × NameAt b i n j × (d ≡ wire n ++ rest)
-    × PiecesAt b ps j e rest
-PiecesAt b (string ∷ ps) i e d =
-    (k : ℕ) × (o rest : Octets) × (slice_get b i ≡ Some k) × OctetsAt b i (i + 1 + k) o
-    × (d ≡ o ++ rest) × PiecesAt b ps (i + 1 + k) e rest
-PiecesAt b (strings ∷ ps) i e d =
-    (o rest : Octets) × (j : ℕ) × OctetsAt b i j o × (0 < length o) × IsTrue (are_strings 0 o)
-    × (d ≡ o ++ rest) × (j ≡ e) × PiecesAt b ps j e rest
-PiecesAt b (anything ∷ ps) i e d =
-    (o rest : Octets) × (j : ℕ) × OctetsAt b i j o × (d ≡ o ++ rest) × (j ≡ e)
-    × PiecesAt b ps j e rest
+PiecesAt b (p ∷ ps) i e d =
+    (j : ℕ) × (o rest : Octets) × PieceAt b p i e j o × (d ≡ o ++ rest) × PiecesAt b ps j e rest
 
--- Data of another class than IN is octets.
+-- the pieces of data: the types have their forms in class IN alone, and other data is octets
+abbrev pub data_pieces : ℕ → ℕ → List Piece
+data_pieces t c = if c == class_in then pieces_of t else anything ∷ []
+
 abbrev pub DataAt : Octets → ℕ → ℕ → ℕ → ℕ → Octets → Type 0
-DataAt b t c i e d =
-    (i ≤ e) × (e ≤ length b)
-    × PiecesAt b (if c == class_in then pieces_of t else anything ∷ []) i e d
+DataAt b t c i e d = (i ≤ e) × (e ≤ length b) × PiecesAt b (data_pieces t c) i e d
 
 -- RFC 1035 4.1.2: questions one after the other from place i up to place e
 abbrev pub QuestionsAt : Octets → ℕ → List MessageQuestion → ℕ → Type 0

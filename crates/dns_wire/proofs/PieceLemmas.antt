@@ -1,60 +1,5 @@
 -- A piece of data stands at a place, at most one, and what it is decides of the data.
-use Rattle.dns_wire.proofs.Common.{◌≡◌, ◌≢◌, ℕ, zero, suc, ◌+◌, ◌-◌, ◌<◌, ◌≤◌, true, ◌&&◌, not, ◌==◌, List, [], ◌∷◌, ◌++◌, length, take, drop, get_or, slice_get, Some, refl, sym, ap, ◌∙◌, subst, arith, append_assoc, append-nil, add-zero, and_parts, false≢true, none-some, same_Some, cond_some, slice_get-get_or, Octets, DomainName, wire, width, Piece, fixed, domain, string, strings, anything, Part, octets, part_octets, are_strings, octets_front, string_front, piece_front, RunAt, NameAt, OctetsAt, PiecesAt, ends, goes_on, jumps, length-take-le, length-drop, take-take, get_or-take, get_or-drop, same_names, PieceAt, IsPieceRead, NoPieceAt, NoPiecesAt, ArePiecesRead}
-
--- the first of some pieces, and the others
-pub record FirstAndOthers
-    (b : Octets) (p : Piece) (ps : List Piece) (i e : ℕ) (d : Octets) : Type 0 where
-  pub place : ℕ
-  pub front : Octets
-  pub rest : Octets
-  pub first : PieceAt b p i e place front
-  pub whole : d ≡ front ++ rest
-  pub others : PiecesAt b ps place e rest
-
-pub first_of : (b : Octets) (p : Piece) (ps : List Piece) (i e : ℕ) (d : Octets)
-    → PiecesAt b (p ∷ ps) i e d → FirstAndOthers b p ps i e d
-first_of b (fixed f) ps i e d h = record {
-  place = i + width f;
-  front = h.0;
-  rest = h.1;
-  first = (h.2, refl);
-  whole = h.3;
-  others = h.4;
-}
-first_of b domain ps i e d h = record {
-  place = h.1;
-  front = wire h.0;
-  rest = h.2;
-  first = (h.0, h.3, refl);
-  whole = h.4;
-  others = h.5;
-}
-first_of b string ps i e d h = record {
-  place = i + 1 + h.0;
-  front = h.1;
-  rest = h.2;
-  first = (h.0, h.3, h.4, refl);
-  whole = h.5;
-  others = h.6;
-}
-first_of b strings ps i e d h = record {
-  place = h.2;
-  front = h.0;
-  rest = h.1;
-  first = (h.3, h.4, h.5, h.7);
-  whole = h.6;
-  others = h.8;
-}
-first_of b anything ps i e d h =
-    record { place = h.2; front = h.0; rest = h.1; first = (h.3, h.5); whole = h.4; others = h.6 }
-
-pub from_first : (b : Octets) (p : Piece) (ps : List Piece) (i e j : ℕ) (front rest : Octets)
-    → PieceAt b p i e j front → PiecesAt b ps j e rest → PiecesAt b (p ∷ ps) i e (front ++ rest)
-from_first b (fixed f) ps i e j front rest h more = grind (arith, PiecesAt)
-from_first b domain ps i e j front rest h more = (h.0, j, rest, h.1, ap (λ o. o ++ rest) h.2, more)
-from_first b string ps i e j front rest h more = grind (arith, PiecesAt)
-from_first b strings ps i e j front rest h more = (front, rest, j, h.0, h.1, h.2, refl, h.3, more)
-from_first b anything ps i e j front rest h more = (front, rest, j, h.0, refl, h.1, more)
+use Rattle.dns_wire.proofs.Common.{◌≡◌, ◌≢◌, ℕ, zero, suc, ◌+◌, ◌-◌, ◌<◌, ◌≤◌, true, ◌&&◌, not, ◌==◌, List, [], ◌∷◌, ◌++◌, length, take, drop, get_or, slice_get, Some, refl, sym, ap, ◌∙◌, subst, arith, append_assoc, append-nil, add-zero, and_parts, false≢true, none-some, same_Some, cond_some, slice_get-get_or, Octets, DomainName, Piece, fixed, domain, string, strings, anything, Part, octets, part_octets, are_strings, octets_front, string_front, piece_front, RunAt, NameAt, OctetsAt, PiecesAt, ends, goes_on, jumps, length-take-le, length-drop, take-take, get_or-take, get_or-drop, same_names, PieceAt, IsPieceRead, NoPieceAt, NoPiecesAt, ArePiecesRead}
 
 -- pieces end no earlier than they begin
 pub run_forward : {b : Octets} {s i e : ℕ} {n : DomainName} → RunAt b s i n e → i ≤ e
@@ -80,22 +25,19 @@ pub all_forward : (b : Octets) (ps : List Piece) (i e : ℕ) (d : Octets)
     → PiecesAt b ps i e d → i ≤ e
 all_forward b [] i e d h = omega (arith, h.0)
 all_forward b (p ∷ ps) i e d h =
-    let c = first_of b p ps i e d h in
-    let here = forward b p i e c.place c.front c.first in
-    let later = all_forward b ps c.place e c.rest c.others in
-    omega arith
+    omega (arith, forward b p i e h.0 h.1 h.3, all_forward b ps h.0 e h.2 h.5)
 
 pub piece_more : {b : Octets} {ps : List Piece} {i e j k : ℕ} {p : Piece}
     {left : List Piece} {so_far now : Octets} → ArePiecesRead b ps i e (p ∷ left) j so_far
     → IsPieceRead b p j e so_far now k → ArePiecesRead b ps i e left k now
 piece_more {b} {ps} {i} {e} {j} {k} {p} {left} {so_far} {now} reading read =
-    grind (arith, append_assoc, from_first, same_names, same_Some)
+    grind (arith, append_assoc, same_names, same_Some)
 
 -- no such piece, and so no such pieces
 pub pieces_none :
     {b : Octets} {ps : List Piece} {i e j : ℕ} {p : Piece} {left : List Piece} {so_far : Octets}
     → ArePiecesRead b ps i e (p ∷ left) j so_far → NoPieceAt b p j e → NoPiecesAt b ps i e
-pieces_none {b} {ps} {i} {e} {j} {p} {left} reading none d h = grind (arith, first_of, all_forward)
+pieces_none {b} {ps} {i} {e} {j} {p} {left} reading none d h = grind (arith, all_forward)
 
 pub pieces_end : {b : Octets} {ps : List Piece} {i e j : ℕ} {so_far : Octets}
     → ArePiecesRead b ps i e [] j so_far → j ≡ e → PiecesAt b ps i e so_far

@@ -1,6 +1,6 @@
 -- Data that is read is data of its type, of at most 65,535 octets.
-use Rattle.dns_wire.proofs.Common.{AllByRecursion, ◌≡◌, ℕ, suc, ◌+◌, ◌-◌, ◌≤◌, Bool, true, ◌||◌, nat_le, ◌==◌, List, [], ◌∷◌, ◌++◌, length, slice_get, get_or, Some, is_some, unwrap_or, refl, sym, ap, ◌∙◌, subst, arith, append-nil, add-zero, length-append, if◌then◌else◌, ne_eqb, eqb-true, same_Some, slice_get_within, slice_get-get_or, find, Octets, class_in, width, Piece, fixed, domain, string, strings, anything, TypeRow, other_type, Part, octets, string_front, piece_front, cut, valid, OctetsAt, PiecesAt, DataAt, length-take-le, length-drop, nil_from_length, get_or-take, get_or-drop, IsName-is_name, name_of-wire, more_are_cut}
-use Rattle.dns_wire.proofs.PieceLemmas.{all_forward, run_past}
+use Rattle.dns_wire.proofs.Common.{AllByRecursion, ◌≡◌, ℕ, suc, ◌+◌, ◌-◌, ◌≤◌, Bool, true, ◌||◌, nat_le, ◌==◌, List, [], ◌∷◌, ◌++◌, length, slice_get, get_or, Some, is_some, unwrap_or, refl, sym, ap, ◌∙◌, subst, arith, append-nil, add-zero, length-append, if◌then◌else◌, ne_eqb, eqb-true, same_Some, slice_get_within, slice_get-get_or, find, Octets, class_in, width, Piece, fixed, domain, string, strings, anything, TypeRow, other_type, Part, octets, string_front, piece_front, cut, valid, OctetsAt, PieceAt, PiecesAt, DataAt, length-take-le, length-drop, nil_from_length, get_or-take, get_or-drop, IsName-is_name, name_of-wire, more_are_cut}
+use Rattle.dns_wire.proofs.PieceLemmas.{forward, all_forward, run_past}
 use Rattle.dns_spec.proofs.DataWords.MadeData.{cut-octets}
 
 -- the octets between two places are as many as there are places
@@ -22,19 +22,19 @@ unnamed_length : (b : Octets) (ps : List Piece) (i e : ℕ) (d : Octets)
     → names_among ps ≡ 0 → PiecesAt b ps i e d → length d ≡ e - i
 unfolding names_among
 unnamed_length b [] i e d none h = omega (arith, h.0, ap length h.1)
-unnamed_length b (fixed f ∷ ps) i e d none h =
-    let again = unnamed_length b ps (i + width f) e h.1 none h.4 in
-    grind (arith, all_forward, width, length-append, octets_length, again)
 unnamed_length b (domain ∷ ps) i e d none h = absurd (omega arith)
+unnamed_length b (fixed f ∷ ps) i e d none h =
+    grind
+    (arith, all_forward, length-append, octets_length, (unnamed_length b ps h.0 e h.2 none h.5))
 unnamed_length b (string ∷ ps) i e d none h =
-    let again = unnamed_length b ps (i + 1 + h.0) e h.2 none h.6 in
-    grind (arith, all_forward, length-append, octets_length, again)
+    grind
+    (arith, all_forward, length-append, octets_length, (unnamed_length b ps h.0 e h.2 none h.5))
 unnamed_length b (strings ∷ ps) i e d none h =
     grind
-    (arith, all_forward, length-append, octets_length, (unnamed_length b ps h.2 e h.1 none h.8))
+    (arith, all_forward, length-append, octets_length, (unnamed_length b ps h.0 e h.2 none h.5))
 unnamed_length b (anything ∷ ps) i e d none h =
     grind
-    (arith, all_forward, length-append, octets_length, (unnamed_length b ps h.2 e h.1 none h.6))
+    (arith, all_forward, length-append, octets_length, (unnamed_length b ps h.0 e h.2 none h.5))
 
 -- the octets of names and numbers, at most; of other pieces nothing is said
 most : List Piece → ℕ
@@ -52,13 +52,13 @@ named_length b [] i e d fits h = omega (arith, ap length h.1)
 named_length b (fixed f ∷ ps) i e d fits h =
     omega (
       arith,
-      ap length h.3,
-      length-append h.0 h.1,
-      octets_length h.2,
-      named_length b ps (i + width f) e h.1 (omega arith) h.4,
+      ap length h.4,
+      length-append h.1 h.2,
+      octets_length h.3.0,
+      named_length b ps h.0 e h.2 (omega arith) h.5,
     )
 named_length b (domain ∷ ps) i e d fits h =
-    let again = named_length b ps h.1 e h.2 (omega arith) h.5 in
+    let again = named_length b ps h.0 e h.2 (omega arith) h.5 in
     grind (arith, length-append, IsName-is_name, again)
 named_length b (string ∷ ps) i e d fits h = absurd (omega arith)
 named_length b (strings ∷ ps) i e d fits h = absurd (omega arith)
@@ -78,18 +78,18 @@ by_row t P (row ∷ others) other each = grind (arith, eqb-true, (by_row t P oth
 -- nothing stands between a place and itself
 nothing_between : (b : Octets) (ps : List Piece) (i : ℕ) (d : Octets) → PiecesAt b ps i i d → d ≡ []
 nothing_between b [] i d h = h.1
-nothing_between b (fixed f ∷ ps) i d h =
-    let later = all_forward b ps (i + width f) i h.1 h.4 in
-    let none : i + width f ≡ i = omega arith in
-    let front : h.0 ≡ [] = nil_from_length h.0 (omega (arith, octets_length h.2)) in
-    h.3 ∙ ap (λ o. o ++ h.1) front
-    ∙ nothing_between b ps i h.1 (subst (λ j. PiecesAt b ps j i h.1) none h.4)
-nothing_between b (domain ∷ ps) i d h = grind (arith, all_forward, run_past)
-nothing_between b (string ∷ ps) i d h = grind (arith, all_forward)
-nothing_between b (strings ∷ ps) i d h = absurd (omega (arith, octets_length h.3, h.4, h.7))
-nothing_between b (anything ∷ ps) i d h =
-    let again = nothing_between b ps i h.1 (subst (λ j. PiecesAt b ps j i h.1) h.5 h.6) in
-    grind (arith, nil_from_length, octets_length, again)
+nothing_between b (p ∷ ps) i d h =
+    let none : h.0 ≡ i =
+    omega (arith, forward b p i i h.0 h.1 h.3, all_forward b ps h.0 i h.2 h.5) in
+    h.4 ∙ ap (λ o. o ++ h.2) (no_octets p h.1 (subst (λ j. PieceAt b p i i j h.1) none h.3))
+    ∙ nothing_between b ps i h.2 (subst (λ j. PiecesAt b ps j i h.2) none h.5)
+  where
+    no_octets : (p : Piece) (o : Octets) → PieceAt b p i i i o → o ≡ []
+    no_octets (fixed f) o at = nil_from_length o (omega (arith, octets_length at.0, at.1))
+    no_octets domain o at = absurd (omega (arith, run_past at.1.0))
+    no_octets string o at = absurd (omega (arith, at.3))
+    no_octets strings o at = absurd (omega (arith, octets_length at.0, at.1))
+    no_octets anything o at = nil_from_length o (omega (arith, octets_length at.0))
 
 -- the first of some octets stands where they begin
 first_octet : (b : Octets) (i k : ℕ) (o : Octets)
@@ -110,26 +110,26 @@ pieces_cut : (b : Octets) (ps : List Piece) (i e : ℕ) (d : Octets)
 unfolding cut
 pieces_cut b [] i e d h = grind arith
 pieces_cut b (fixed f ∷ ps) i e d h =
-    grind (arith, octets_length, cut_more, cut-octets, (pieces_cut b ps (i + width f) e h.1 h.4))
+    grind (arith, octets_length, cut_more, cut-octets, (pieces_cut b ps h.0 e h.2 h.5))
 pieces_cut b (domain ∷ ps) i e d h =
-    grind (arith, cut_more, name_of-wire, (pieces_cut b ps h.1 e h.2 h.5))
+    grind (arith, cut_more, name_of-wire, (pieces_cut b ps h.0 e h.2 h.5))
 pieces_cut b (string ∷ ps) i e d h = cut_more string ps d h.2
-    (octets h.1) (ap string_front h.5 ∙ by_first h.1 refl) (pieces_cut b ps (i + 1 + h.0) e h.2 h.6)
+    (octets h.1) (ap string_front h.4 ∙ by_first h.1 refl) (pieces_cut b ps h.0 e h.2 h.5)
   where
     by_first : (o : Octets) → h.1 ≡ o → string_front (h.1 ++ h.2) ≡ Some (octets h.1, h.2)
-    by_first [] p = absurd (omega (arith, octets_length h.4, ap length p))
+    by_first [] p = absurd (omega (arith, octets_length h.3.2, ap length p))
     by_first (k ∷ os) p =
-        let long : length (k ∷ os) ≡ suc h.0 =
-        ap length (sym p) ∙ octets_length h.4 ∙ (omega arith) in
-        let first : k ≡ h.0 =
-        ap (λ (xs : Octets). get_or xs 0 0) (sym p) ∙ first_octet b i h.0 h.1 h.3 h.4 in
+        let long : length (k ∷ os) ≡ suc h.3.0 =
+        ap length (sym p) ∙ octets_length h.3.2 ∙ (omega arith) in
+        let first : k ≡ h.3.0 = ap (λ (xs : Octets). get_or xs 0 0) (sym p)
+        ∙ first_octet b i h.3.0 h.1 h.3.1 h.3.2 in
         ap (λ o. string_front (o ++ h.2)) p
         ∙ cut-octets (suc k) (k ∷ os) h.2 (long ∙ ap suc (sym first))
         ∙ ap (λ o. Some (octets o, h.2)) (sym p)
 pieces_cut b (strings ∷ ps) i e d h =
-    grind (arith, nothing_between, append-nil, ne_eqb, cut_more, (pieces_cut b ps h.2 e h.1 h.8))
+    grind (arith, nothing_between, append-nil, ne_eqb, cut_more, (pieces_cut b ps h.0 e h.2 h.5))
 pieces_cut b (anything ∷ ps) i e d h =
-    grind (arith, nothing_between, cut_more, (pieces_cut b ps h.2 e h.1 h.6))
+    grind (arith, nothing_between, cut_more, (pieces_cut b ps h.0 e h.2 h.5))
 
 -- The data of a record is valid for its type, or, in another class than IN, for a type of which the
 -- data is octets.

@@ -1,18 +1,8 @@
--- What a reader learns here: what one piece of data is at a place of a message.
-use Rattle.std.specs.Prelude.{◌≡◌, ℕ, ◌+◌, ◌<◌, ◌≤◌, List, ◌++◌, length, slice_get, Some, IsTrue, if◌then◌else◌, ◌==◌, [], ◌∷◌}
-use Rattle.dns_spec.specs.Names.{Octets, DomainName, wire}
-use Rattle.dns_spec.specs.Data.{class_in, pieces_of, width, Piece, fixed, domain, string, strings, anything, are_strings}
-use Rattle.dns_spec.specs.Reading.{NameAt, OctetsAt, PiecesAt, DataAt}
-
--- From place i to place j stands this piece, which reads o without compression; the data ends at
--- place e.
-abbrev pub PieceAt : Octets → Piece → ℕ → ℕ → ℕ → Octets → Type 0
-PieceAt b (fixed f) i e j o = OctetsAt b i (i + width f) o × (j ≡ i + width f)
-PieceAt b domain i e j o = (n : DomainName) × NameAt b i n j × (o ≡ wire n)
-PieceAt b string i e j o =
-    (k : ℕ) × (slice_get b i ≡ Some k) × OctetsAt b i (i + 1 + k) o × (j ≡ i + 1 + k)
-PieceAt b strings i e j o = OctetsAt b i j o × (0 < length o) × IsTrue (are_strings 0 o) × (j ≡ e)
-PieceAt b anything i e j o = OctetsAt b i j o × (j ≡ e)
+-- What a reader learns here: what reading one piece of data after another gives.
+use Rattle.std.specs.Prelude.{◌≡◌, ℕ, ◌≤◌, List, ◌++◌}
+use Rattle.dns_spec.specs.Names.{Octets}
+use Rattle.dns_spec.specs.Data.{Piece}
+use Rattle.dns_spec.specs.Reading.{PieceAt, PiecesAt, DataAt}
 
 -- the piece is read: its octets are appended, and it ends inside the data
 pub record IsPieceRead (b : Octets) (p : Piece) (i e : ℕ) (old new : Octets) (j : ℕ) : Type 0 where
@@ -27,10 +17,6 @@ NoPieceAt b p i e = (j : ℕ) (o : Octets) → PieceAt b p i e j o → j ≤ e �
 
 abbrev pub NoPiecesAt : Octets → List Piece → ℕ → ℕ → Type 0
 NoPiecesAt b ps i e = (d : Octets) → PiecesAt b ps i e d → ⊥
-
--- the pieces of data: the types have their forms in class IN alone
-abbrev pub data_pieces : ℕ → ℕ → List Piece
-data_pieces t c = if c == class_in then pieces_of t else anything ∷ []
 
 abbrev pub NoDataAt : Octets → ℕ → ℕ → ℕ → ℕ → Type 0
 NoDataAt b t c i e = (d : Octets) → DataAt b t c i e d → ⊥

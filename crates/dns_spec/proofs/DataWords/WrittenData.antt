@@ -64,7 +64,7 @@ pieces_written (fixed f ∷ ps) os xs i h at =
     let x = take (width f) os in
     let r = octets_written os x c.rest t.0 at ps (i + width f) (ap (λ z. i + z) t.1)
     (λ k. pieces_written ps c.rest c.others k c.more) in
-    (x, c.rest, r.0, t.0, r.1)
+    (i + width f, x, c.rest, (r.0, refl), t.0, r.1)
 pieces_written (domain ∷ ps) os xs i h at =
     let c = cut_into domain ps os xs h in
     let m = name_part os c.rest c.part c.front in
@@ -72,7 +72,7 @@ pieces_written (domain ∷ ps) os xs i h at =
     let r = octets_written os x c.rest m.3 at ps (i + length x) refl
     (λ k. pieces_written ps c.rest c.others k c.more) in
     let spelled = name_written m.0 m.2 (stands_part os x c.rest m.3 at) in
-    (m.0, i + length x, c.rest, spelled, m.3, r.1)
+    (i + length x, x, c.rest, (m.0, spelled, refl), m.3, r.1)
 pieces_written (string ∷ ps) [] xs i h at = absurd (none-some xs h)
 pieces_written (string ∷ ps) (k ∷ os) xs i h at =
     let c = cut_into string ps (k ∷ os) xs h in
@@ -80,14 +80,14 @@ pieces_written (string ∷ ps) (k ∷ os) xs i h at =
     let x = take (suc k) (k ∷ os) in
     let r = octets_written (k ∷ os) x c.rest t.0 at ps (i + 1 + k) (omega (arith, t.1))
     (λ k. pieces_written ps c.rest c.others k c.more) in
-    (k, x, c.rest, stands_get k os at, r.0, t.0, r.1)
+    (i + 1 + k, x, c.rest, (k, stands_get k os at, r.0, refl), t.0, r.1)
 pieces_written (strings ∷ ps) os xs i h at =
     let c = cut_into strings ps os xs h in
     let t = all_strings os c.rest c.part c.front in
     let all = sym (append-nil os) in
     let r = octets_written os os [] all at ps (i + length os) refl
     (λ k. pieces_written ps [] c.others k (ap (cut ps) (sym t.3) ∙ c.more)) in
-    (os, [], i + length os, r.0, t.0, t.1, all, refl, r.1)
+    (i + length os, os, [], (r.0, t.0, t.1, refl), all, r.1)
 pieces_written (anything ∷ ps) os xs i h at =
     let c = cut_into anything ps os xs h in
     let none : c.rest ≡ [] =
@@ -95,7 +95,7 @@ pieces_written (anything ∷ ps) os xs i h at =
     let all = sym (append-nil os) in
     let r = octets_written os os [] all at ps (i + length os) refl
     (λ k. pieces_written ps [] c.others k (ap (cut ps) (sym none) ∙ c.more)) in
-    (os, [], i + length os, r.0, all, refl, r.1)
+    (i + length os, os, [], (r.0, refl), all, r.1)
 
 -- Valid data of class IN, written as it is, is read back.
 pub data_written : {b : Octets} {i : ℕ} (t : ℕ) (d : Octets)

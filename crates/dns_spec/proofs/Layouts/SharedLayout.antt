@@ -113,7 +113,7 @@ module _ (b : Octets) (room : length b < 2 ^ 16) where
       (octets_part (width f) os rest part front) (λ at.
       let r = octets_laid ms i x ys known header at ps rest
       (i + width f) (ap (λ z. i + z) t.1) lays in
-      record { pieces = (x, rest, r.0, t.0, r.1); known = r.2 })
+      record { pieces = (i + width f, x, rest, (r.0, refl), t.0, r.1); known = r.2 })
   piece_lays string ps [] rest part ys front lays more ms i known header =
       grind (arith, none-some)
   piece_lays string ps (k ∷ os) rest part ys front lays more ms i known header =
@@ -125,7 +125,7 @@ module _ (b : Octets) (room : length b < 2 ^ 16) where
       let r = octets_laid ms i x ys known header at ps rest
       (i + 1 + k) (omega (arith, t.1)) lays in
       let first = stands_get k (take k os) (at_octets ms i x ys known header at) in
-      record { pieces = (k, x, rest, first, r.0, t.0, r.1); known = r.2 })
+      record { pieces = (i + 1 + k, x, rest, (k, first, r.0, refl), t.0, r.1); known = r.2 })
   piece_lays strings ps os rest part ys front lays more ms i known header =
       let t = all_strings os rest part front in
       subst (λ x. Stands b i (data_octets ms i (x ∷ ys)) → Laid (strings ∷ ps) os ms i (x ∷ ys)) t.2
@@ -133,7 +133,7 @@ module _ (b : Octets) (room : length b < 2 ^ 16) where
       let r = rest_lays ps os ys ms i known header at
       (subst (λ z. Lays ps z ys) t.3 lays) (ap (cut ps) (sym t.3) ∙ more) in
       record {
-        pieces = (os, [], i + length os, r.0, t.0, t.1, sym (append-nil os), r.1, r.2);
+        pieces = (i + length os, os, [], (r.0, t.0, t.1, r.1), sym (append-nil os), r.2);
         known = r.3;
       })
   piece_lays anything ps os rest part ys front lays more ms i known header =
@@ -143,7 +143,7 @@ module _ (b : Octets) (room : length b < 2 ^ 16) where
       (ap (λ z. z.0) t) (λ at.
       let r = rest_lays ps os ys ms i known header at
       (subst (λ z. Lays ps z ys) none lays) (ap (cut ps) (sym none) ∙ more) in
-      record { pieces = (os, [], i + length os, r.0, sym (append-nil os), r.1, r.2); known = r.3 })
+      record { pieces = (i + length os, os, [], (r.0, r.1), sym (append-nil os), r.2); known = r.3 })
   piece_lays domain ps os rest part ys front lays more ms i known header =
       let m = name_part os rest part front in
       let n = m.0 in
@@ -163,10 +163,10 @@ module _ (b : Octets) (room : length b < 2 ^ 16) where
       omega (arith, length-append w later) in
       record {
         pieces = (
-          n,
           next,
+          wire n,
           rest,
-          name_shared b i ms known n i (omega arith) m.2 here,
+          (n, name_shared b i ms known n i (omega arith) m.2 here, refl),
           m.3,
           subst (λ e. PiecesAt b ps next e rest) end r.pieces,
         );

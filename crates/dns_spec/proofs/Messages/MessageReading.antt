@@ -1,5 +1,5 @@
 -- The computed message is what octets spell.
-use Rattle.dns_spec.proofs.Common.{◌≡◌, ℕ, zero, suc, ◌+◌, ◌<◌, ◌≤◌, Bool, true, false, cond, nat_lt, nat_le, ◌==◌, ◌↔◌, List, [], ◌∷◌, ◌++◌, length, Option, None, Some, slice_get, option_map, option_and_then, refl, sym, ap, ◌∙◌, subst, arith, rules, and_parts, and_from, leb-true, le-leb, ltb-true, lt-ltb, eqb-true, eq-eqb, none-some, cond_some, option_and_then_some, some_pair_parts, Octets, DomainName, wire, width, Piece, fixed, domain, string, strings, anything, are_strings, MessageQuestion, MessageRecord, DnsMessage, NameAt, OctetsAt, NumberAt, PiecesAt, DataAt, QuestionsAt, RecordAt, RecordsAt, Spells, name_at, value_at, octets_upto, strings_only, piece_at, pieces_at, data_at, question_after, message_question_at, record_with, record_after, message_record_at, several, last_section, from_additionals, from_authorities, from_answers, message_at}
+use Rattle.dns_spec.proofs.Common.{◌≡◌, ℕ, zero, suc, ◌+◌, ◌<◌, ◌≤◌, Bool, true, false, cond, nat_lt, nat_le, ◌==◌, ◌↔◌, List, [], ◌∷◌, ◌++◌, length, Option, None, Some, slice_get, option_map, option_and_then, refl, sym, ap, ◌∙◌, subst, arith, and_parts, and_from, leb-true, le-leb, ltb-true, lt-ltb, eqb-true, eq-eqb, none-some, cond_some, option_and_then_some, some_pair_parts, Octets, DomainName, wire, width, Piece, fixed, domain, string, strings, anything, are_strings, MessageQuestion, MessageRecord, DnsMessage, NameAt, OctetsAt, NumberAt, PieceAt, PiecesAt, DataAt, QuestionsAt, RecordAt, RecordsAt, Spells, name_at, value_at, octets_upto, strings_only, piece_at, pieces_at, data_at, question_after, message_question_at, record_with, record_after, message_record_at, several, last_section, from_additionals, from_authorities, from_answers, message_at}
 use Rattle.dns_spec.proofs.Messages.NameReading.{name_at_computes}
 use Rattle.dns_spec.proofs.General.Options.{map_some, then_is}
 
@@ -48,90 +48,61 @@ module _ (b : Octets) where
       → (0 < length o) × (are_strings 0 o ≡ true) × (o ≡ o') × (j ≡ j')
   strings_found o o' j j' h = grind (arith, cond_some, and_parts, ltb-true)
 
-  piece_found : {P : Type 0} (p : Piece) (ps : List Piece) (i e : ℕ) (d : Octets)
-      → pieces_at b (p ∷ ps) i e ≡ Some d
-      → ((r : Octets × ℕ) (rest : Octets) → piece_at b p i e ≡ Some r
-      → pieces_at b ps r.1 e ≡ Some rest → d ≡ r.0 ++ rest → P) → P
-  unfolding pieces_at
-  piece_found p ps i e d h k =
-      option_and_then_some (λ r. option_map (λ x. r.0 ++ x) (pieces_at b ps r.1 e))
-      (piece_at b p i e) d h (λ r q g. map_some (λ x. r.0 ++ x) (pieces_at b ps r.1 e) d g
-      (λ rest s t. k r rest q s (sym t)))
+  piece_found : (p : Piece) (i e j : ℕ) (o : Octets)
+      → piece_at b p i e ≡ Some (o, j) → PieceAt b p i e j o
+  piece_found (fixed f) i e j o h =
+      let x = octets_found i (i + width f) o j h in (x.0, sym x.1)
+  piece_found domain i e j o h =
+      map_some (λ r. (wire r.0, r.1)) (name_at b i) (o, j) h (λ n u v. (
+        n.0,
+        subst (NameAt b i n.0) (ap (λ z. z.1) v) ((name_at_computes b i n.0 n.1).0 u),
+        sym (ap (λ z. z.0) v),
+      ))
+  piece_found string i e j o h =
+      option_and_then_some (λ k. octets_upto b i (i + 1 + k)) (slice_get b i) (o, j) h (λ k u v.
+      let x = octets_found i (i + 1 + k) o j v in (k, u, x.0, sym x.1))
+  piece_found strings i e j o h =
+      option_and_then_some strings_only (octets_upto b i e) (o, j) h (λ x u v.
+      let at = octets_found i e x.0 x.1 u in
+      let y = strings_found x.0 o x.1 j v in
+      let end : e ≡ j = at.1 ∙ y.3 in (
+        subst (λ z. OctetsAt b i z o) end (subst (OctetsAt b i e) y.2 at.0),
+        subst (λ z. 0 < length z) y.2 y.0,
+        subst (λ z. are_strings 0 z ≡ true) y.2 y.1,
+        sym end,
+      ))
+  piece_found anything i e j o h =
+      let x = octets_found i e o j h in (subst (λ z. OctetsAt b i z o) x.1 x.0, sym x.1)
 
   pieces_found : (ps : List Piece) (i e : ℕ) (d : Octets)
       → pieces_at b ps i e ≡ Some d → PiecesAt b ps i e d
   unfolding pieces_at
   pieces_found [] i e d h = let c = cond_some (i == e) [] d h in (eqb-true i e c.0, sym c.1)
-  pieces_found (fixed f ∷ ps) i e d h =
-      piece_found (fixed f) ps i e d h (λ r rest p s t.
-      let o = octets_found i (i + width f) r.0 r.1 p in
-      let after = pieces_found ps r.1 e rest s in
-      (r.0, rest, o.0, t, subst (λ j. PiecesAt b ps j e rest) (sym o.1) after))
-  pieces_found (domain ∷ ps) i e d h =
-      piece_found domain ps i e d h (λ r rest p s t.
-      map_some (λ r. (wire r.0, r.1)) (name_at b i) r p (λ n u v. (
-        n.0,
-        r.1,
-        rest,
-        subst (NameAt b i n.0) (ap (λ z. z.1) v) ((name_at_computes b i n.0 n.1).0 u),
-        t ∙ ap (λ z. z.0 ++ rest) (sym v),
-        pieces_found ps r.1 e rest s,
-      )))
-  pieces_found (string ∷ ps) i e d h =
-      piece_found string ps i e d h (λ r rest p s t.
-      option_and_then_some (λ k. octets_upto b i (i + 1 + k)) (slice_get b i) r p (λ k u v.
-      let o = octets_found i (i + 1 + k) r.0 r.1 v in
-      let after = pieces_found ps r.1 e rest s in
-      (k, r.0, rest, u, o.0, t, subst (λ j. PiecesAt b ps j e rest) (sym o.1) after)))
-  pieces_found (strings ∷ ps) i e d h =
-      piece_found strings ps i e d h (λ r rest p s t.
-      option_and_then_some strings_only (octets_upto b i e) r p (λ x u v.
-      let o = octets_found i e x.0 x.1 u in
-      let y = strings_found x.0 r.0 x.1 r.1 v in
-      let end : e ≡ r.1 = o.1 ∙ y.3 in (
-        r.0,
-        rest,
-        r.1,
-        subst (λ z. OctetsAt b i z r.0) end (subst (OctetsAt b i e) y.2 o.0),
-        subst (λ z. 0 < length z) y.2 y.0,
-        subst (λ z. are_strings 0 z ≡ true) y.2 y.1,
-        t,
-        sym end,
-        pieces_found ps r.1 e rest s,
-      )))
-  pieces_found (anything ∷ ps) i e d h =
-      piece_found anything ps i e d h (λ r rest p s t.
-      let o = octets_found i e r.0 r.1 p in
-      let here = subst (λ z. OctetsAt b i z r.0) o.1 o.0 in
-      (r.0, rest, r.1, here, t, sym o.1, pieces_found ps r.1 e rest s))
+  pieces_found (p ∷ ps) i e d h =
+      option_and_then_some (λ r. option_map (λ x. r.0 ++ x) (pieces_at b ps r.1 e))
+      (piece_at b p i e) d h (λ r q g. map_some (λ x. r.0 ++ x) (pieces_at b ps r.1 e) d g
+      (λ rest s t.
+      (r.1, r.0, rest, piece_found p i e r.1 r.0 q, sym t, pieces_found ps r.1 e rest s)))
 
-  piece_given : (p : Piece) (ps : List Piece) (i e j : ℕ) (o rest d : Octets)
-      → piece_at b p i e ≡ Some (o, j)
-      → pieces_at b ps j e ≡ Some rest → d ≡ o ++ rest → pieces_at b (p ∷ ps) i e ≡ Some d
-  unfolding pieces_at
-  piece_given p ps i e j o rest d h g s = grind arith
+  piece_given : (p : Piece) (i e j : ℕ) (o : Octets)
+      → PieceAt b p i e j o → piece_at b p i e ≡ Some (o, j)
+  piece_given (fixed f) i e j o h = grind (arith, octets_given)
+  piece_given domain i e j o h = ap (option_map (λ r. (wire r.0, r.1)))
+      ((name_at_computes b i h.0 j).1 h.1) ∙ ap (λ z. Some (z, j)) (sym h.2)
+  piece_given string i e j o h = grind (arith, then_is, octets_given)
+  piece_given strings i e j o h =
+      let whole = octets_given i e o (subst (λ z. OctetsAt b i z o) h.3 h.0) in
+      let test = and_from (nat_lt 0 (length o)) (are_strings 0 o) (lt-ltb 0 (length o) h.1) h.2 in
+      then_is strings_only (octets_upto b i e) (o, e) (o, e) whole
+      (ap (λ t. cond t (Some (o, e)) None) test) ∙ ap (λ z. Some (o, z)) (sym h.3)
+  piece_given anything i e j o h = grind (arith, octets_given)
 
   pieces_given : (ps : List Piece) (i e : ℕ) (d : Octets)
       → PiecesAt b ps i e d → pieces_at b ps i e ≡ Some d
   unfolding pieces_at
   pieces_given [] i e d h = grind (arith, eq-eqb)
-  pieces_given (fixed f ∷ ps) i e d h = search (rules, (pieces_given ps (i + width f) e h.1 h.4))
-  pieces_given (domain ∷ ps) i e d h =
-      piece_given domain ps i e h.1 (wire h.0) h.2 d (ap (option_map (λ r. (wire r.0, r.1)))
-      ((name_at_computes b i h.0 h.1).1 h.3)) (pieces_given ps h.1 e h.2 h.5) h.4
-  pieces_given (string ∷ ps) i e d h =
-      search (rules, piece_given, then_is, octets_given, (pieces_given ps (i + 1 + h.0) e h.2 h.6))
-  pieces_given (strings ∷ ps) i e d h =
-      let whole = octets_given i e h.0 (subst (λ z. OctetsAt b i z h.0) h.7 h.3) in
-      let test =
-      and_from (nat_lt 0 (length h.0)) (are_strings 0 h.0) (lt-ltb 0 (length h.0) h.4) h.5 in
-      piece_given strings ps i e e h.0 h.1 d (then_is strings_only
-      (octets_upto b i e) (h.0, e) (h.0, e) whole (ap (λ t. cond t (Some (h.0, e)) None) test))
-      (pieces_given ps e e h.1 (subst (λ z. PiecesAt b ps z e h.1) h.7 h.8)) h.6
-  pieces_given (anything ∷ ps) i e d h =
-      piece_given anything ps i e e h.0 h.1 d
-      (octets_given i e h.0 (subst (λ z. OctetsAt b i z h.0) h.5 h.3))
-      (pieces_given ps e e h.1 (subst (λ z. PiecesAt b ps z e h.1) h.5 h.6)) h.4
+  pieces_given (p ∷ ps) i e d h =
+      grind (arith, piece_given, (pieces_given ps h.0 e h.2 h.5))
 
   data_found : (t c i e : ℕ) (d : Octets) → data_at b t c i e ≡ Some d → DataAt b t c i e d
   data_found t c i e d h = grind (arith, and_parts, leb-true, pieces_found, none-some)
