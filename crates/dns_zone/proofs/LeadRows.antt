@@ -1,5 +1,5 @@
 -- The rows on the way from the origin to a target.
-use Rattle.dns_zone.proofs.Common.{◌≡◌, ◌⊎◌, inl, inr, ℕ, ◌<◌, ◌≤◌, true, false, List, [], ◌∷◌, ◌++◌, map, length, length-append, get_or, None, refl, ap, arith, to_ascii_lowercase, is_some, cases_lt, get_or-map, get_or_append_left, get_or_push, Octets, DomainName, folded, at_or_below, below, type_ns, type_cname, ResourceRecord, ZoneContents, rrset, set_of, cut_of, IsNodeAt, IsZoneTree, IsLeadRow, IsLeadAt, AreLeads, set, length-set, get_or-set_same, get_or-set_other, subst, sym, row_name, row_at, Row, Tree}
+use Rattle.dns_zone.proofs.Common.{◌≡◌, ◌⊎◌, inl, inr, ℕ, ◌<◌, true, false, List, ◌∷◌, map, length, get_or, refl, ap, arith, to_ascii_lowercase, is_some, get_or-map, Octets, DomainName, folded, below, type_ns, type_cname, ResourceRecord, ZoneContents, rrset, set_of, IsNodeAt, IsZoneTree, IsLeadRow, IsLeadAt, AreLeads, set, length-set, get_or-set_same, get_or-set_other, subst, sym, row_name, row_at, Row, Tree}
 use Rattle.std.specs.Prelude.{replicate}
 use Rattle.std.proofs.lemmas.List.{get_or-replicate}
 use Rattle.dns_spec.proofs.Common.{length-replicate}

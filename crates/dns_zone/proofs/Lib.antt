@@ -30,6 +30,7 @@ pub mod NodeRows
 pub mod KeyOrder
 pub mod KeyPrefix
 pub mod CommonEnds
+pub mod CountedRecords
 pub mod TopmostCut
 pub mod CheckedNames
 pub mod GrowingNames

@@ -1,11 +1,13 @@
 -- What a reader learns here: a name of a zone that is under check.
-use Rattle.std.specs.Prelude.{◌≡◌, ◌==◌, ◌&&◌, ◌||◌, Bool, false, List}
+use Rattle.std.specs.Prelude.{◌≡◌, ℕ, ◌==◌, ◌&&◌, ◌||◌, not, Bool, false, List, length}
 use Rattle.std.specs.Option.{option_map_or}
+use Rattle.std.specs.List.{filter}
 use Rattle.std.specs.List.Sorted.{IsNonDecreasingBy}
 use Rattle.dns_spec.specs.Names.{DomainName, folded, at_or_below}
-use Rattle.dns_spec.specs.Data.{type_ns, type_cname, type_mx, type_srv, target}
-use Rattle.dns_spec.specs.Checks.{lacks_address}
+use Rattle.dns_spec.specs.Data.{type_ns, type_cname, type_soa, type_mx, type_srv, target}
+use Rattle.dns_spec.specs.Checks.{is_address_type, lacks_address}
 use Rattle.dns_spec.specs.Records.{ResourceRecord, ZoneContents, at, owns}
+use Rattle.dns_zone.specs.declared.checks.counts.TypeCounts.{TypeCounts}
 
 -- a zone, and a name whose checks are asked for
 pub record NameOfZone : Type 0 where
@@ -32,3 +34,23 @@ is_server_lost z n r = r.rtype == type_ns && option_map_or
 abbrev pub is_exchange_alias : ZoneContents → ResourceRecord → Bool
 is_exchange_alias z r = (r.rtype == type_mx || r.rtype == type_srv) && option_map_or
     (λ m. at_or_below m z.origin && owns z m type_cname) (target r.rtype r.rdata) false
+
+-- how many records are of a type that passes
+abbrev pub number_of : (ℕ → Bool) → List ResourceRecord → ℕ
+number_of test rs = length (filter (λ (r : ResourceRecord). test r.rtype) rs)
+
+-- an MX or SRV record
+abbrev pub is_exchange_type : ℕ → Bool
+is_exchange_type t = t == type_mx || t == type_srv
+
+-- what else than a delegation a name owns: neither NS nor an address
+abbrev pub is_other_type : ℕ → Bool
+is_other_type t = not (t == type_ns || is_address_type t)
+
+-- the counts of a name's records
+pub record AreCounted (own : List ResourceRecord) (c : TypeCounts) : Type 0 where
+  pub soa : c.soa ≡ number_of (λ t. t == type_soa) own
+  pub ns : c.ns ≡ number_of (λ t. t == type_ns) own
+  pub cname : c.cname ≡ number_of (λ t. t == type_cname) own
+  pub exchanges : c.exchanges ≡ number_of is_exchange_type own
+  pub others : c.others ≡ number_of is_other_type own

@@ -1,6 +1,7 @@
 //! The faults of a zone, by the order of owners, then by code.
 
 pub(crate) mod above;
+pub(crate) mod counts;
 pub(crate) mod guess;
 pub(crate) mod names;
 pub(crate) mod owner;
@@ -17,6 +18,7 @@ ghost use Rattle.dns_zone.specs.KeyedForm.{key_in, AreKeyed};
 ghost use Rattle.dns_zone.specs.NamesForm.{IsChecked, name_of};
 ghost use Rattle.dns_zone.specs.ReportedForm.{failed_from, reported_at};
 
+use crate::checks::counts::TypeCounts;
 use crate::checks::guess::shared_octets;
 use crate::checks::names::{CheckedName, checked_names};
 use crate::checks::owner::Owner;
@@ -76,14 +78,19 @@ fn report<'a>(
         ++ reported_at survey.now (name_of survey.now one.now)) }
 {
     let name = survey.name(one);
+    let own = survey.own(one);
     let owner = Owner {
         survey,
         name: &name,
         key: one.key,
-        own: survey.own(one),
+        own,
+        counts: TypeCounts::of(own),
         is_below_cut: 0 < one.cut && one.cut < one.key.len(),
         stands_first: one.key == survey.key(),
     };
+    if owner.is_plain() {
+        return Ok(());
+    }
     add_failed(&name, &owner.judged(last), found)
 }
 

@@ -1,18 +1,20 @@
 //! The fifteen checks of a name of a zone.
-ghost use Rattle.std.specs.Prelude.{◌≡◌, ◌==◌, ◌&&◌, ◌||◌, not, map, drop, nat_lt};
+ghost use Rattle.std.specs.Prelude.{◌≡◌, ◌==◌, ◌&&◌, not, map, drop, nat_lt, []};
+ghost use Rattle.std.specs.Bool.{OnTrue};
 ghost use Rattle.std.specs.List.{list_any, zip};
 ghost use Rattle.dns_spec.specs.Records.{owns};
 ghost use Rattle.dns_spec.specs.Tree.{is_cut};
 ghost use Rattle.dns_spec.specs.Checks.{is_origin, count, owns_such, is_address_type, below_cut, checks, ttls_differ, ns_target_alias, ns_target_lost, mx_target_alias, data_at_cut, large_set, many_sets};
-ghost use Rattle.dns_spec.specs.Data.{type_ns, type_cname};
-ghost use Rattle.dns_zone.specs.OwnerForm.{is_server_alias, is_server_lost, is_exchange_alias};
+ghost use Rattle.dns_spec.specs.Data.{type_soa, type_ns, type_cname};
+ghost use Rattle.dns_zone.specs.OwnerForm.{is_other_type, is_server_alias, is_server_lost, is_exchange_alias};
+ghost use Rattle.dns_zone.specs.ReportedForm.{reported_at};
 ghost use Rattle.dns_zone.specs.SetWalks.{sets_ended};
 
+use crate::checks::counts::TypeCounts;
 use crate::checks::survey::Survey;
 use crate::checks::target::LastTarget;
 use crate::order::key::{is_below, is_under};
 use crate::store::entry::Entry;
-use crate::tree::lookup::has_type;
 use dns_name::NameRef;
 use dns_rdata::RType;
 use std::marker::Model;
@@ -30,6 +32,7 @@ pub(crate) struct Owner<'a> {
     pub(crate) name: &'a NameRef<'a>,
     pub(crate) key: &'a [u8],
     pub(crate) own: &'a [Entry],
+    pub(crate) counts: TypeCounts,
     pub(crate) is_below_cut: bool,
     /// Whether the name is the zone's origin.
     pub(crate) stands_first: bool,
@@ -39,13 +42,14 @@ impl<'a> Model for Owner<'a> {
     ghost use Rattle.std.specs.Prelude.{◌≡◌};
     ghost use Rattle.dns_spec.specs.Checks.{is_origin, below_cut};
     ghost use Rattle.dns_zone.specs.KeyForm.{name_key};
-    ghost use Rattle.dns_zone.specs.OwnerForm.{NameOfZone, IsOwner};
+    ghost use Rattle.dns_zone.specs.OwnerForm.{NameOfZone, IsOwner, AreCounted};
 
     ghost Value = { NameOfZone };
 
     ghost view = { λ o. record { zone = o.survey.now; name = o.name.now } };
 
     ghost invariant = { λ o. IsOwner o.survey.now o.name.now o.own.now
+        × AreCounted o.own.now o.counts
         × (o.key.now ≡ name_key o.name.now)
         × (o.is_below_cut ≡ below_cut o.survey.now o.name.now)
         × (o.stands_first ≡ is_origin o.survey.now o.name.now) };
@@ -59,22 +63,40 @@ impl<'a> Owner<'a> {
     {
         let (is_alias, is_lost, is_exchange_alias) = self.target_faults(last);
         [
-            self.stands_first && !self.owns(RType::SOA),
-            self.stands_first && self.count(RType::SOA) > 1,
-            !self.stands_first && self.owns(RType::SOA),
-            self.stands_first && !self.owns(RType::NS),
+            self.stands_first && !self.owns_soa(),
+            self.stands_first && self.count_soa() > 1,
+            !self.stands_first && self.owns_soa(),
+            self.stands_first && !self.owns_ns(),
             !self.own.is_empty() && !is_under(self.key, self.survey.key()),
-            self.owns(RType::CNAME) && self.owns_other_than_cname(),
-            self.count(RType::CNAME) > 1,
+            self.owns_cname() && self.owns_other_than_cname(),
+            self.count_cname() > 1,
             self.has_other_ttls(),
             is_alias,
             is_lost,
             is_exchange_alias,
             self.has_data_at_cut(),
-            self.name.is_wildcard() && self.owns(RType::NS),
+            self.name.is_wildcard() && self.owns_ns(),
             self.has_large_set(),
             self.has_many_sets(),
         ]
+    }
+
+    /// Whether it passes all checks, as most names do. If not, all of them have to be looked at.
+    pub(crate) fn is_plain(&self) -> bool
+        ensures { OnTrue result (reported_at self.now.zone self.now.name ≡ []) }
+    {
+        let counts = &self.counts;
+        if self.stands_first
+            || counts.soa > 0
+            || counts.ns > 0
+            || counts.exchanges > 0
+            || counts.cname > 0 && self.own.len() > 1
+            || counts.others > 0 && self.is_below_cut
+            || self.own.len() > MOST_SETS
+        {
+            return false;
+        }
+        is_under(self.key, self.survey.key()) && !self.has_other_ttls()
     }
 
     fn has_other_ttls(&self) -> bool
@@ -150,49 +172,61 @@ impl<'a> Owner<'a> {
         have_many_sets(self.own)
     }
 
-    #[tactic(auto, using(crate::proofs::OwnRecords::own_owns))]
-    fn owns(&self, rtype: RType) -> bool
-        ensures { result ≡ owns self.now.zone self.now.name rtype.0 }
+    fn count_soa(&self) -> usize
+        ensures { result ≡ count self.now.zone self.now.name type_soa }
     {
-        has_type(self.own, rtype)
+        self.counts.soa
     }
 
-    fn count(&self, rtype: RType) -> usize
-        ensures { result ≡ count self.now.zone self.now.name rtype.0 }
+    fn count_cname(&self) -> usize
+        ensures { result ≡ count self.now.zone self.now.name type_cname }
     {
-        self.own.iter().filter(|entry| entry.rtype == rtype).count()
+        self.counts.cname
+    }
+
+    fn owns_soa(&self) -> bool
+        ensures { result ≡ owns self.now.zone self.now.name type_soa }
+    {
+        self.counts.soa > 0
+    }
+
+    fn owns_ns(&self) -> bool
+        ensures { result ≡ owns self.now.zone self.now.name type_ns }
+    {
+        self.counts.ns > 0
+    }
+
+    fn owns_cname(&self) -> bool
+        ensures { result ≡ owns self.now.zone self.now.name type_cname }
+    {
+        self.counts.cname > 0
     }
 
     fn is_cut(&self) -> bool
         ensures { result ≡ is_cut self.now.zone self.now.name }
     {
-        self.owns(RType::NS) && is_below(self.key, self.survey.key())
+        self.owns_ns() && is_below(self.key, self.survey.key())
     }
 
+    #[tactic(auto, using(crate::proofs::CountedRecords::counted_rest))]
     fn owns_other_than_cname(&self) -> bool
         ensures { result ≡ owns_such self.now.zone self.now.name (λ t. not (t == type_cname)) }
     {
-        self.own.iter().any(|entry| entry.rtype != RType::CNAME)
+        self.counts.cname < self.own.len()
     }
 
+    #[tactic(auto, using(crate::proofs::CountedRecords::counted_such))]
     fn owns_other_than_delegation(&self) -> bool
-        ensures { result ≡ owns_such self.now.zone self.now.name
-            (λ t. not (t == type_ns || is_address_type t)) }
+        ensures { result ≡ owns_such self.now.zone self.now.name is_other_type }
     {
-        self.own.iter().any(|entry| !(entry.rtype == RType::NS || is_address_type(entry.rtype)))
+        self.counts.others > 0
     }
 
     fn owns_other_than_address(&self) -> bool
         ensures { result ≡ owns_such self.now.zone self.now.name (λ t. not (is_address_type t)) }
     {
-        self.own.iter().any(|entry| !is_address_type(entry.rtype))
+        self.counts.others > 0 || self.counts.ns > 0
     }
-}
-
-fn is_address_type(rtype: RType) -> bool
-    ensures { result ≡ is_address_type rtype.0 }
-{
-    rtype == RType::A || rtype == RType::AAAA
 }
 
 // Whether an RRset has other TTLs: then two neighbours of one type have (RFC 2181 5.2).

@@ -1,4 +1,5 @@
-use Rattle.dns_zone.proofs.Common.{arith, rules, ◌≡◌, sym, ap, ◌∙◌, DomainName, Octets, folded, same, octets_equal, names_equal-decides, octets_equal-decides, same_tests, name_key}
+use Rattle.dns_zone.proofs.Common.{arith, rules, ◌≡◌, sym, ap, ◌∙◌, DomainName, Octets, folded, same, octets_equal, IsOwner, names_equal-decides, octets_equal-decides, same_tests, name_key}
+use Rattle.dns_spec.specs.Checks.{is_origin, below_cut}
 use Rattle.dns_zone.proofs.CheckedNames.{one_key}
 use Rattle.dns_zone.proofs.ReportedNames.{failed_reported}
 use Rattle.dns_zone.proofs.TopmostCut.{below_topmost}
@@ -15,7 +16,13 @@ same_keys n m key other p q e f =
     ∙ ap name_key (sym p ∙ (names_equal-decides (folded n) (folded m)).0 h ∙ q) ∙ sym f))
 
 pub invariant_of-owner : goal.invariant_of-owner
-invariant_of-owner c = grind (arith, below_topmost, same_keys)
+invariant_of-owner c =
+    let n = c.name-name.result in
+    let owner : IsOwner c.args.survey.now n c.own-own.result.now = grind arith in
+    let key : c.args.one.now.key.now ≡ name_key n = grind arith in
+    let cut : c.if-one-gt0.owner ≡ below_cut c.args.survey.now n = grind (arith, below_topmost) in
+    let origin : c.eq.result ≡ is_origin c.args.survey.now n = grind (arith, same_keys) in
+    (owner, c.of.ensures, key, cut, origin)
 
 pub returns : goal.returns
 returns c = search (rules, failed_reported)

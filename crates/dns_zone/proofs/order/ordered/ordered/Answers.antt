@@ -1,4 +1,4 @@
-use Rattle.dns_zone.proofs.Common.{rules, true, is_lt, ◌≡◌, ℕ, ◌++◌, List, All, length, take, drop, sym, subst, ◌∙◌, take-append_seam, IsPermutation, ResourceRecord, record_order, IsReadRecord, length_permutation, ranks_by, IsPermutation-trans, always_returns_same, record_order_total, sort_risen, rises_canonical, all_canonical, AreKeyed, AreOrdered}
+use Rattle.dns_zone.proofs.Common.{rules, true, is_lt, ◌≡◌, ℕ, ◌++◌, List, All, length, take, drop, sym, subst, ◌∙◌, take-append_seam, IsPermutation, ResourceRecord, record_order, IsReadRecord, length_permutation, ranks_by, IsPermutation-trans, always_returns_same, record_order_total, sort_risen, rises_canonical, all_canonical, AreOrdered}
 use Rattle.dns_zone.proofs.order.ordered.ordered.Goals as goal
 use Rattle.dns_zone.proofs.order.ordered.ordered.Goals.{Then-leave_out_duplicates, After-drop-keyed-4}
 use Rattle.dns_zone.proofs.AtName.{canonical}

@@ -1,4 +1,4 @@
-use Rattle.dns_zone.proofs.Common.{rules, ◌≡◌, List, ℕ, ◌++◌, map, take, drop, drop-map, take-append-drop, sym, ap, ap₂, ◌∙◌, length, nat_cmp, slice_cmp, Equal, ordering_then, nat_list_cmp_total, tied_itself, to_ascii_lowercase, label_order}
+use Rattle.dns_zone.proofs.Common.{rules, ◌≡◌, List, ℕ, map, take, drop, drop-map, take-append-drop, sym, ap, ap₂, ◌∙◌, length, nat_cmp, slice_cmp, Equal, ordering_then, nat_list_cmp_total, tied_itself, to_ascii_lowercase, label_order}
 use Rattle.dns_spec.proofs.General.Orderings.{slice_cmp-append}
 use Rattle.std.proofs.lemmas.List.{take-map}
 use Rattle.dns_zone.proofs.tree.label_key.after_same.Goals as goal

@@ -1,4 +1,4 @@
-use Rattle.dns_zone.proofs.Common.{rules, arith, true, false≢true, eq-eqb, ap, subst, sym, ◌∙◌, ◌≡◌, ◌<◌, length, get_or, length-set, type_cname, ResourceRecord, IsLeadAt, Tree}
+use Rattle.dns_zone.proofs.Common.{rules, arith, true, false≢true, eq-eqb, ap, subst, ◌∙◌, ◌≡◌, ◌<◌, length, get_or, length-set, type_cname, ResourceRecord, IsLeadAt, Tree}
 use Rattle.dns_zone.specs.NodeForm.{TargetWay}
 use Rattle.dns_zone.proofs.LeadRows.{leads_set}
 use Rattle.dns_zone.proofs.tree.leads.leads_of.Goals as goal
