@@ -125,6 +125,7 @@ fn seek_one<'z, const N: usize, const SIZE: usize>(
 // The set that an answer shows of the records at a node, and whether it is an alias, which leads
 // on: the alias is shown in place of what is asked for, unless it is itself what is asked for. Of
 // all types the lowest number is shown (RFC 8482 4.1).
+#[inline(always)]
 fn shown_set<'z>(node: &Node<'z>, qtype: u16) -> Option<(RecordSet<'z>, bool)>
     ensures shown { IsShown qtype (at node.now.zone node.now.name) result }
     ensures kept { IfSome result (λ (set, _). IsSetOf node.now set) }

@@ -139,6 +139,7 @@ fn field(datagram: &[u8], at: usize) -> u16
 
 // The question that is all that stands after the header.
 #[tactic(auto, unfolding(dns_spec::specs::Query::question_at))]
+#[inline(always)]
 fn lent_question(datagram: &[u8]) -> Option<QuestionRef<'_>>
     ensures { result ≡ question_at datagram.now }
 {

@@ -34,7 +34,7 @@ pub use Rattle.dns_spec.specs.Tree.{closest_encloser, without_first}
 pub use Rattle.dns_zone.specs.EntryForm.{IsEntry, data_in, owner_in}
 pub use Rattle.dns_zone.specs.KeyForm.{AreAlike, BeginsAs, GoOnAlike, ended, name_key, raised}
 pub use Rattle.dns_zone.specs.KeyedForm.{AreKeyed, key_in}
-pub use Rattle.dns_zone.specs.LabelKey.{IsKey}
+pub use Rattle.dns_zone.specs.LabelKey.{IsEight, IsKey}
 unfoldable pub use Rattle.dns_zone.specs.LabelKey.{key_of}
 pub use Rattle.dns_zone.specs.NameEnd.{ending}
 pub use Rattle.dns_zone.specs.NamesForm.{AreChecked, AreOwners, ComesNext, IsChecked, IsCutAbove, IsLastAt, IsLastUpto, IsSurvey, IsTopmost, first_owner, is_covered, is_upto, name_of, own_in}

@@ -1,6 +1,8 @@
 -- The order of labels is that of their keys, where these differ; where they are the same it is that
 -- of what follows the keys, or of the labels' lengths.
-use Rattle.dns_zone.proofs.Common.{◌≡◌, ℕ, zero, suc, ◌+◌, ◌*◌, ◌^◌, ◌<◌, ◌≤◌, ◌⊎◌, inl, inr, [], ◌∷◌, ◌-◌, ◌/◌, add-one, drop-cons, map, length, drop, get_or, refl, sym, ap, ◌∙◌, arith, Less, Greater, nat_cmp, mul-le-mul_right, one-le-pow, cases_lt, cases_order, nat_list_cmp_total, to_ascii_lowercase, nat_cmp_is, Octets, DomainName, folded, label_order, lowercase_is, IsKey, key_of, first_of}
+use Rattle.dns_zone.proofs.Common.{◌≡◌, ℕ, zero, suc, ◌+◌, ◌*◌, ◌^◌, ◌<◌, ◌≤◌, ◌⊎◌, inl, inr, [], ◌∷◌, ◌-◌, ◌/◌, add-one, drop-cons, map, length, drop, get_or, refl, sym, ap, ap₂, ◌∙◌, arith, Less, Greater, ordering_reverse, nat_cmp, mul-le-mul_right, one-le-pow, cases_lt, cases_order, nat_list_cmp_total, to_ascii_lowercase, nat_cmp_is, Octets, DomainName, folded, label_order, lowercase_is, IsEight, key_of, first_of}
+use Rattle.std.proofs.Math.Nat.{add-mul, mul_assoc}
+use Rattle.std.proofs.lemmas.Nat.{pow-add}
 use Rattle.dns_spec.proofs.General.Numbers.{lesser_parts}
 use Rattle.dns_spec.proofs.Common.{same_from_place}
 
@@ -75,20 +77,71 @@ rests (suc n) (x ∷ a) (y ∷ b) v w h l m =
     rests n a b (rest_low x a v) (rest_low y b w) e.1 (omega arith) (omega arith)
     ∙ sym (same_head x y a b e.0)
 
-pub by_length : {k : ℕ} {a b : Octets} → IsKey k a → IsKey k b
-    → (length a ≤ 8) ⊎ (length b ≤ 8) → nat_cmp (length a) (length b) ≡ label_order a b
-by_length {k} {a} {b} p q s = lengths 8 a b p.low q.low (sym p.value ∙ q.value) s
+lesser_front : {j k : ℕ} {a b : Octets} → IsEight j a → IsEight k b → j < k
+    → label_order a b ≡ Less
+lesser_front {j} {k} {a} {b} p q h = grind (arith, lesser)
 
-pub after_key : {k : ℕ} {a b : Octets} → IsKey k a → IsKey k b → 8 ≤ length a → 8 ≤ length b
-    → label_order (drop 8 a) (drop 8 b) ≡ label_order a b
-after_key {k} {a} {b} p q l m = rests 8 a b p.low q.low (sym p.value ∙ q.value) l m
-
-lesser_key : {j k : ℕ} {a b : Octets} → IsKey j a → IsKey k b → j < k → label_order a b ≡ Less
-lesser_key {j} {k} {a} {b} p q h = grind (arith, lesser)
-
-pub key_order : {j k : ℕ} {a b : Octets} → IsKey j a → IsKey k b → (j ≡ k → ⊥)
+pub front_order : {j k : ℕ} {a b : Octets} → IsEight j a → IsEight k b → (j ≡ k → ⊥)
     → nat_cmp j k ≡ label_order a b
-key_order {j} {k} {a} {b} p q n = grind (arith, cases_order, lesser_key, nat_list_cmp_total)
+front_order {j} {k} {a} {b} p q n = grind (arith, cases_order, lesser_front, nat_list_cmp_total)
+
+-- after the last octet nothing is missing of a key
+key_none : (n : ℕ) → key_of n [] ≡ 0
+unfolding key_of
+key_none n = grind arith
+
+-- a number of more octets is that of the first, and that of the next
+key_more : (n m : ℕ) (a : Octets) → key_of (n + m) a ≡ key_of n a * 256 ^ m + key_of m (drop n a)
+unfolding key_of
+key_more zero m a =
+    let none : 0 + m ≡ m = omega arith in
+    let first : key_of m a ≡ 0 * 256 ^ m + key_of m a = omega arith in
+    ap (λ k. key_of k a) none ∙ first
+key_more (suc n) m [] =
+    let first : key_of m [] ≡ 0 * 256 ^ m + key_of m [] = omega arith in
+    key_none (suc n + m) ∙ sym (key_none m) ∙ first
+key_more (suc n) m (x ∷ a) =
+    let one_more : suc n + m ≡ suc (n + m) = omega arith in
+    let worth = 256 ^ m in
+    let k = key_of n a in
+    let shifted : x * (256 ^ n * worth) ≡ x * 256 ^ n * worth = sym (mul_assoc x (256 ^ n) worth) in
+    ap (λ k. key_of k (x ∷ a)) one_more
+    ∙ ap₂ (λ p r. x * p + r) (pow-add 256 n m) (key_more n m a)
+    ∙ omega (arith, shifted, add-mul (x * 256 ^ n) k worth)
+
+key_both : {j k : ℕ} {a : Octets} → IsEight j a → IsEight k (drop 8 a)
+    → key_of 16 a ≡ j * 256 ^ 8 + k
+key_both {j} {k} {a} p q =
+    key_more 8 8 a ∙ ap₂ (λ x y. x * 256 ^ 8 + y) (sym p.value) (sym q.value)
+
+lesser_next : {k i j : ℕ} {a b : Octets} → IsEight k a → IsEight k b → IsEight i (drop 8 a)
+    → IsEight j (drop 8 b) → i < j → label_order a b ≡ Less
+lesser_next {k} {i} {j} {a} {b} p q v w h =
+    lesser 16 a b p.low q.low (omega (arith, key_both p v, key_both q w))
+
+pub next_order : {k i j : ℕ} {a b : Octets} → IsEight k a → IsEight k b → IsEight i (drop 8 a)
+    → IsEight j (drop 8 b) → (i ≡ j → ⊥) → nat_cmp i j ≡ label_order a b
+next_order {k} {i} {j} {a} {b} p q v w n = elim (cases_order i j) [
+  | inl e ↦ absurd (n e)
+  | inr h ↦ elim h [
+    | inl l ↦ sym (nat_cmp_is i j Less l) ∙ sym (lesser_next p q v w l)
+    | inr m ↦ sym (nat_cmp_is i j Greater m) ∙ sym (nat_list_cmp_total.antisymm a b
+        ∙ ap ordering_reverse (lesser_next q p w v m))
+  ]
+]
+
+module _ {k j : ℕ} {a b : Octets} (p : IsEight k a) (q : IsEight k b)
+    (v : IsEight j (drop 8 a)) (w : IsEight j (drop 8 b)) where
+  same : key_of 16 a ≡ key_of 16 b
+  same = key_both p v ∙ sym (key_both q w)
+
+  pub by_length : (length a ≤ 16) ⊎ (length b ≤ 16)
+      → nat_cmp (length a) (length b) ≡ label_order a b
+  by_length s = lengths 16 a b p.low q.low same s
+
+  pub after_key : 16 ≤ length a → 16 ≤ length b
+      → label_order (drop 16 a) (drop 16 b) ≡ label_order a b
+  after_key l m = rests 16 a b p.low q.low same l m
 
 -- the first label of a name in lower case is in lower case
 pub first_lower : (n : DomainName) → folded n ≡ n → map to_ascii_lowercase (first_of n) ≡ first_of n
@@ -101,11 +154,6 @@ pub label_low : (l : Octets) → Low l → Low (map to_ascii_lowercase l)
 label_low [] low i = low i
 label_low (x ∷ l) low zero = lower_low x (low 0)
 label_low (x ∷ l) low (suc i) = label_low l (rest_low x l low) i
-
--- after the last octet nothing is missing of a key
-key_none : (n : ℕ) → key_of n [] ≡ 0
-unfolding key_of
-key_none n = grind arith
 
 pub key_end : (n : ℕ) (l : Octets) → (n ≡ 0) ⊎ (l ≡ []) → key_of n l ≡ 0
 unfolding key_of

@@ -68,7 +68,7 @@ pub record AreKids (rs : List ResourceRecord) (n : DomainName) (kids : List Row)
   pub few : length kids ≤ length rs
 
 abbrev pub no_row : Row
-no_row = record { first = 0; own_end = 0; end = 0; place = 0; label_octets = 0; key = 0 }
+no_row = record { first = 0; own_end = 0; end = 0; place = 0; label_octets = 0; key = record { front = 0; next = 0 } }
 
 abbrev pub row_at : List Row → ℕ → Row
 row_at rows k = get_or rows k no_row

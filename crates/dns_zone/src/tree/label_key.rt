@@ -2,7 +2,7 @@
 ghost use Rattle.std.specs.Prelude.{◌≡◌, ◌≤◌, map, length};
 ghost use Rattle.std.specs.Char.{to_ascii_lowercase};
 ghost use Rattle.dns_spec.specs.Names.{label_order};
-ghost use Rattle.dns_zone.specs.LabelKey.{IsKey};
+ghost use Rattle.dns_zone.specs.LabelKey.{IsEight, IsKey};
 ghost use Rattle.dns_zone.specs.TreeForm.{first_of};
 
 use crate::tree::lower_case::lower_case;
@@ -10,17 +10,40 @@ use dns_name::{NameRef, are_equal};
 use std::cmp::Ordering;
 
 /// How many octets a key has.
-pub(crate) const KEY_OCTETS: usize = 8;
+pub(crate) const KEY_OCTETS: usize = 16;
 
-/// The first eight octets of a label in lower case as a number, the first highest; an octet that it
-/// does not have is 0. Of two labels with different keys, the one with the lesser key comes first.
-pub(crate) fn label_key(label: &[u8]) -> u64
-    ensures { IsKey result (map to_ascii_lowercase label.now) }
+// How many octets each of its numbers has.
+const EIGHT: usize = 8;
+
+/// The first sixteen octets of a label in lower case, as two numbers, the first octets highest; an
+/// octet that it does not have is 0. Of two labels with different keys, the one with the lesser key
+/// comes first.
+#[derive(Clone, Copy, Drop)]
+pub(crate) struct LabelKey {
+    pub(crate) front: u64,
+    pub(crate) next: u64,
+}
+
+impl LabelKey {
+    pub(crate) fn of(label: &[u8]) -> LabelKey
+        ensures { IsKey result (map to_ascii_lowercase label.now) }
+    {
+        let (_, after) = label.split_at(label.len().min(EIGHT));
+        LabelKey {
+            front: eight_of(label),
+            next: eight_of(after),
+        }
+    }
+}
+
+// The first eight octets in lower case as a number.
+fn eight_of(label: &[u8]) -> u64
+    ensures { IsEight result (map to_ascii_lowercase label.now) }
 {
     let mut key = 0;
     // What the next octet counts for.
     let mut worth = 1 << 56;
-    'octets: for i in 0..label.len().min(KEY_OCTETS) {
+    'octets: for i in 0..label.len().min(EIGHT) {
         key += u64::from(lower_case(label[i])) * worth;
         worth /= 256;
     }

@@ -5,7 +5,7 @@ ghost use Rattle.dns_zone.specs.ZoneForm.{IsCanonical};
 ghost use Rattle.dns_zone.specs.TreeForm.{owners, under, IsRow};
 
 use crate::store::entry::Entry;
-use crate::tree::label_key::{first_octets, label_key};
+use crate::tree::label_key::{LabelKey, first_octets};
 use crate::tree::lookup::{count_in_front, count_under};
 use dns_name::NameRef;
 
@@ -28,7 +28,7 @@ pub(crate) struct Row {
     /// How many octets the name's first label has.
     pub(crate) label_octets: u8,
     /// The key of the name's first label.
-    pub(crate) key: u64,
+    pub(crate) key: LabelKey,
 }
 
 impl Row {
@@ -56,7 +56,7 @@ impl Row {
             end: (first + (known + count_under(after, name))) as u32,
             place: (records[first].owner().octets().len() - name.octets().len()) as u8,
             label_octets: label.len() as u8,
-            key: label_key(label),
+            key: LabelKey::of(label),
         }
     }
 }

@@ -10,7 +10,7 @@ ghost use Rattle.dns_spec.proofs.General.Elements.{Among};
 ghost use Rattle.dns_spec.proofs.General.Sorted.{Rises};
 
 use crate::store::entry::Entry;
-use crate::tree::label_key::{KEY_OCTETS, first_octets, label_key, order_to};
+use crate::tree::label_key::{KEY_OCTETS, LabelKey, first_octets, order_to};
 use crate::tree::octets_of;
 use crate::tree::row::Row;
 use crate::tree::steps::Steps;
@@ -41,11 +41,11 @@ pub(crate) fn find(
     ensures visits { steps.new.visits ≡ steps.old.visits }
     ensures zone { steps.new.zone ≡ steps.old.zone }
 {
-    let key = label_key(label);
+    let key = LabelKey::of(label);
     let (mut low, mut high) = (0, kids.len());
     'halves: while low < high {
         let middle = (low + high) / 2;
-        match order(records, &kids[middle], key, label, steps) {
+        match order(records, &kids[middle], &key, label, steps) {
             Ordering::Less => low = middle + 1,
             Ordering::Equal => return Some(middle),
             Ordering::Greater => high = middle,
@@ -57,17 +57,26 @@ pub(crate) fn find(
 // The order of a row's label and of another, whose key this is: one comparison, which is counted.
 // Mostly their keys differ. Where these are the same, a label that has no octets beyond its key
 // begins the other.
-fn order(records: &[Entry], row: &Row, key: u64, label: &[u8], steps: &mut Steps<'_>) -> Ordering
+fn order(
+    records: &[Entry],
+    row: &Row,
+    key: &LabelKey,
+    label: &[u8],
+    steps: &mut Steps<'_>,
+) -> Ordering
     requires row { IsRow records.now row.now (row_name records.now row.now) }
-    requires key { IsKey key (map to_ascii_lowercase label.now) }
+    requires key { IsKey key.now (map to_ascii_lowercase label.now) }
     requires room { steps.old.comparisons < 4294967295 }
     ensures order { result ≡ label_order (row_label records.now row.now)
         (map to_ascii_lowercase label.now) }
     ensures counted { steps.new ≡ record steps.old { comparisons = steps.old.comparisons + 1 } }
 {
     steps.comparisons += 1;
-    if row.key != key {
-        return row.key.cmp(&key);
+    if row.key.front != key.front {
+        return row.key.front.cmp(&key.front);
+    }
+    if row.key.next != key.next {
+        return row.key.next.cmp(&key.next);
     }
     let count = usize::from(row.label_octets);
     if count <= KEY_OCTETS || label.len() <= KEY_OCTETS {

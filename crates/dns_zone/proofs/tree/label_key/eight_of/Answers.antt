@@ -1,6 +1,6 @@
 use Rattle.dns_zone.proofs.Common.{◌≡◌, ◌+◌, ◌-◌, ◌*◌, ◌/◌, ℕ, ◌<◌, ◌^◌, ◌⊎◌, inl, inr, [], map, length, get_or, drop, subst, sym, ◌∙◌, arith, cases_lt, get_or-map, length-map, to_ascii_lowercase, Octets, drop_of_length-le}
 use Rattle.dns_zone.proofs.LabelKeys.{IsPart, label_low, key_end, key_fits, one_octet}
-use Rattle.dns_zone.proofs.tree.label_key.label_key.Goals as goal
+use Rattle.dns_zone.proofs.tree.label_key.eight_of.Goals as goal
 
 module _ (c : goal.After-from) where
   abbrev lower : Octets
