@@ -51,7 +51,7 @@ unfoldable pub use Rattle.dns_zone.specs.TreeForm.{row_name, row_octets}
 pub use Rattle.dns_zone.specs.TreeSteps.{AddsKids}
 pub use Rattle.dns_zone.specs.ZoneForm.{AreOrdered, IsBuilt, IsCanonical, IsFront, is_chosen}
 pub use Rattle.dns_zone.specs.declared.checks.names.CheckedName.{CheckedName}
-pub use Rattle.dns_zone.specs.declared.order.arranged.Run.{Run}
+pub use Rattle.dns_zone.specs.declared.order.runs.Run.{Run}
 pub use Rattle.dns_zone.specs.declared.tree.Tree.{Tree}
 pub use Rattle.dns_zone.specs.declared.tree.lower_case.TheConstants.{LOWER_CASE}
 pub use Rattle.dns_zone.specs.declared.tree.row.Row.{Row}

@@ -4,6 +4,7 @@ pub(crate) mod arranged;
 pub(crate) mod key;
 pub(crate) mod keyed;
 pub(crate) mod ordered;
+pub(crate) mod runs;
 
 ghost use Rattle.std.specs.Prelude.{◌≡◌};
 ghost use Rattle.std.specs.Ordering.{nat_cmp, ordering_then};

@@ -93,13 +93,16 @@ pub(crate) fn probable_place(
     low.checked_sub(1)
 }
 
-// What follows the octets that both begin with, of which so many are known.
-fn rests<'a>(one: &'a [u8], other: &'a [u8], known: usize) -> (&'a [u8], &'a [u8])
+/// What follows the octets that both begin with, of which so many are known.
+pub(crate) fn rests<'a>(one: &'a [u8], other: &'a [u8], known: usize) -> (&'a [u8], &'a [u8])
     ensures one { length result.0.now ≤ length one.now }
     ensures other { length result.1.now ≤ length other.now }
 {
     let (_, one) = one.split_at(known.min(one.len()));
     let (_, other) = other.split_at(known.min(other.len()));
+    if one.first() != other.first() {
+        return (one, other);
+    }
     let (one, other) = after_alike::<64>(one, other);
     let (one, other) = after_alike::<8>(one, other);
     after_alike::<1>(one, other)

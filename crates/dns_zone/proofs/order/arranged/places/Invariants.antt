@@ -1,10 +1,9 @@
-use Rattle.dns_zone.proofs.Common.{◌<◌, ◌≤◌, All, length, Run}
+use Rattle.dns_zone.proofs.Common.{◌<◌, ◌≤◌, All, length}
 use Rattle.dns_zone.proofs.order.arranged.places.Given as goal
 
 abbrev pub invariant-runs : goal.invariant-runs
 invariant-runs l = record {
   below : All (λ p. p < length l.records) l.places.items;
-  within : All (λ (r : Run). r.end ≤ length l.records) l.rest;
   first : l.first ≤ length l.places.items;
 }
 
