@@ -17,8 +17,9 @@ const MORE: usize = 13;
 
 const LAST: u128 = 255;
 
-// The place of what begins with all octets of another part. Of 16 bits more, what comes before is below it.
-const BESIDE: u32 = 65_536;
+// One more than the octets that two parts may share. What comes before the other part has the number
+// of these as its place, what comes after it has twice as many as this less that number.
+const MOST_SHARED: usize = 65_536;
 
 /// Runs are sorted so many times by what follows: data of 65,535 octets have no more fronts.
 const MOST_FRONTS: usize = 5_500;
@@ -36,15 +37,15 @@ impl Run {
     /// origin.
     pub(crate) fn of_owner(origin: &[u8], key: &[u8], at: u32, end: u32) -> Run {
         let front = match key.strip_prefix(origin) {
-            Some(inside) => front_of(BESIDE, inside),
-            None => front_beside(origin, key),
+            Some(inside) => front_of((2 * MOST_SHARED).saturating_sub(origin.len()), inside),
+            None => front_beside(origin, key, 0),
         };
         Run { front, at, end }
     }
 
     /// One of the records of an owner.
     pub(crate) fn of_data(record: &Entry, at: u32) -> Run {
-        let front = front_of(record.rtype.0 as u32, record.rdata());
+        let front = front_of(2 * MOST_SHARED + record.rtype.0 as usize, record.rdata());
         Run {
             front,
             at,
@@ -118,9 +119,9 @@ impl<'a> Sorted<'a> {
         };
         let end = run.front % 256;
         if end == MORE as u128 {
-            let beside = self.part(run);
+            let (beside, known) = (self.part(run), known_octets(run.front));
             'fronts: for run in runs.iter_mut() {
-                run.front = front_beside(beside, self.part(run));
+                run.front = front_beside(beside, self.part(run), known);
             }
             return true;
         }
@@ -158,21 +159,31 @@ fn count_of_front(runs: &[Run]) -> usize
     1 + alike.count()
 }
 
-// What a part is compared by, beside another one: those that come before it and share more octets with
-// it are after those that share fewer, and of those that come after it the other way round.
-fn front_beside(other: &[u8], part: &[u8]) -> u128 {
-    let (rest, others) = rests(part, other, 0);
-    let shared = (part.len() - rest.len()).min(65_535) as u32;
-    let place = match (rest.first(), others.first()) {
-        (_, None) => BESIDE,
-        (octet, last) if octet < last => shared,
-        _ => 2 * BESIDE - shared,
-    };
-    front_of(place, rest)
+// How many octets parts with this front share.
+fn known_octets(front: u128) -> usize {
+    let place = (front >> 104) as usize;
+    place.min((2 * MOST_SHARED).saturating_sub(place)) + FRONT_OCTETS
+}
+
+// What a part is compared by, beside another one with which it shares so many octets as are known:
+// those that come before that one are in the order of how many they share, those after it the other
+// way round.
+fn front_beside(other: &[u8], part: &[u8], known: usize) -> u128 {
+    let (rest, others) = rests(part, other, known);
+    let shared = (part.len() - rest.len()).min(MOST_SHARED - 1);
+    let is_before = rest.first() < others.first();
+    front_of(
+        if is_before {
+            shared
+        } else {
+            2 * MOST_SHARED - shared
+        },
+        rest,
+    )
 }
 
 // A place and the octets after it as a number, whose last octet says how many these are.
-fn front_of(place: u32, rest: &[u8]) -> u128 {
+fn front_of(place: usize, rest: &[u8]) -> u128 {
     let count = rest.len().min(FRONT_OCTETS);
     let mut front = [0; 16];
     front[..count].copy_from_slice(&rest[..count]);
