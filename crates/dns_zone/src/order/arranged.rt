@@ -10,7 +10,7 @@ ghost use Rattle.dns_zone.specs.KeyedForm.{AreKeyed};
 
 use crate::order::keyed::{key_at, swap_numbers};
 use crate::order::own_order;
-use crate::order::runs::{Owners, Run, Sorted};
+use crate::order::runs::{Run, Sorted};
 use crate::store::entry::Entry;
 use std::alloc::{AllocError, Global};
 use std::cmp::Ordering;
@@ -61,12 +61,8 @@ fn places(
     ensures { IfOk result (λ places. All (λ p. p < length records.now) places.items) }
 {
     let mut runs = runs(alloc, base, keys, records, starts)?;
-    let owners = Owners {
-        keys,
-        records,
-        starts,
-    };
-    Sorted::ByOwner(&owners).sort(runs.as_mut_slice());
+    let owners = Sorted::ByOwner(keys, records, starts);
+    owners.sort(runs.as_mut_slice());
     let mut places = Vec::with_capacity(alloc, records.len())?;
     let mut own = Vec::new(alloc);
     let mut first = 0;
@@ -76,7 +72,10 @@ fn places(
             places.push(at)?;
         }
         rest = others;
-        if others.first().is_some_and(|next| owners.are_one(run, next)) {
+        if others
+            .first()
+            .is_some_and(|next| owners.are_alike(run, next))
+        {
             continue;
         }
         if places.len() > first + 1 {

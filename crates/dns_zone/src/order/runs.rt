@@ -12,16 +12,17 @@ use crate::store::entry::Entry;
 // How many octets are kept beside a run.
 const FRONT_OCTETS: usize = 12;
 
-// What says that more octets follow those, and that nothing does, neither octets nor a TTL.
+// Ends a front if more octets follow.
 const MORE: usize = 13;
 
+// Ends a front that is a TTL.
 const LAST: u128 = 255;
 
-// One more than the octets that two parts may share. What comes before the other part has the number
-// of these as its place, what comes after it has twice as many as this less that number.
+// One more than the octets that two parts may share. Their number is the place of a part that comes
+// before the other; that of one after it is twice this less that number.
 const MOST_SHARED: usize = 65_536;
 
-/// Runs are sorted so many times by what follows: data of 65,535 octets have no more fronts.
+// Runs are sorted so many times by what follows: data of 65,535 octets have no more fronts.
 const MOST_FRONTS: usize = 5_500;
 
 /// Records that stand side by side, from one place up to another, and what they are compared by.
@@ -54,35 +55,12 @@ impl Run {
     }
 }
 
-/// Records, and where the keys of their owners begin.
-#[derive(Drop)]
-pub(crate) struct Owners<'a> {
-    pub(crate) keys: &'a [u8],
-    pub(crate) records: &'a [Entry],
-    pub(crate) starts: &'a [u32],
-}
-
-impl<'a> Owners<'a> {
-    // The key of the owner of a run.
-    fn key(&self, run: &Run) -> &'a [u8] {
-        let at = run.at as usize;
-        match (self.starts.get(at), self.records.get(at)) {
-            (Some(start), Some(record)) => key_at(self.keys, *start, record),
-            _ => &[],
-        }
-    }
-
-    /// Whether two runs, which are sorted, are of one owner.
-    pub(crate) fn are_one(&self, one: &Run, other: &Run) -> bool {
-        one.front == other.front && self.key(one) == self.key(other)
-    }
-}
-
-/// What runs are sorted by.
+/// What runs of records are sorted by.
 #[derive(Drop)]
 pub(crate) enum Sorted<'a> {
-    ByOwner(&'a Owners<'a>),
-    /// By the data of these records, and then by their TTLs. Each is in a run of its own.
+    /// By the keys of their owners, which are among these octets and begin at these places.
+    ByOwner(&'a [u8], &'a [Entry], &'a [u32]),
+    /// By their data and then by their TTLs, each in a run of its own.
     ByData(&'a [Entry]),
 }
 
@@ -90,6 +68,11 @@ impl<'a> Sorted<'a> {
     /// Sorts runs.
     pub(crate) fn sort(&self, runs: &mut [Run]) {
         self.sort_further(runs, MOST_FRONTS);
+    }
+
+    /// Whether two runs, which are sorted, are alike.
+    pub(crate) fn are_alike(&self, one: &Run, other: &Run) -> bool {
+        one.front == other.front && self.part(one) == self.part(other)
     }
 
     // Sorts runs by their fronts, and those whose fronts are alike by what follows.
@@ -137,9 +120,13 @@ impl<'a> Sorted<'a> {
 
     // What runs are compared by, but for types and TTLs.
     fn part(&self, run: &Run) -> &'a [u8] {
+        let at = run.at as usize;
         match self {
-            Sorted::ByOwner(owners) => owners.key(run),
-            Sorted::ByData(records) => match records.get(run.at as usize) {
+            Sorted::ByOwner(keys, records, starts) => match (starts.get(at), records.get(at)) {
+                (Some(start), Some(record)) => key_at(keys, *start, record),
+                _ => &[],
+            },
+            Sorted::ByData(records) => match records.get(at) {
                 Some(record) => record.rdata(),
                 None => &[],
             },
