@@ -86,8 +86,9 @@ fn places(
     Ok(places)
 }
 
-// The runs of records of one owner, in the order of the records: their keys begin at one place and have one length. By
-// the place alone the root, whose key has no octets, would be taken for the owner after it.
+// The runs of records of one owner, in the order of the records: their keys begin at one place and
+// have one length. By the place alone the root, whose key has no octets, would be taken for the
+// owner after it.
 fn runs(
     alloc: Global,
     base: usize,
