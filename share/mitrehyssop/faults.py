@@ -12,16 +12,23 @@ import shutil
 import subprocess
 import sys
 import tempfile
+import warnings
 from pathlib import Path
 
 import bind
-from master import Names, Reader, address, canonical, entry_at, escaped, name, twice, unique, within
-from mending import Mending
+from master import Entry, Names, Reader, address, canonical, escaped, name, twice, unique, within
+from mending import FORMS, Mending
 
 MOST = 100                  # faults that are reported of a file
 LARGEST = 16777216          # octets that zonecheck reads of a file, and one more to see that there are more
-SPREAD = "spread them over several names"
 Fault = collections.namedtuple("Fault", "place code name text")
+
+
+class Report(collections.namedtuple("Report", "file line severity code name message text")):
+    """A fault or a warning as it is written."""
+
+    def said(self):
+        return f"{self.name}: {self.message}" if self.name else self.message
 
 
 class NotChecked(Exception):
@@ -44,100 +51,91 @@ def zonecheck(origin, text, *options):
         file.write(text.encode("latin-1"))
         file.flush()
         try:
-            run = subprocess.run([program, *options, origin, f"/proc/self/fd/{file.fileno()}"], pass_fds=[file.fileno()],
-                                 stdin=subprocess.DEVNULL, capture_output=True)
+            done = subprocess.run([program, *options, origin, f"/proc/self/fd/{file.fileno()}"], pass_fds=[file.fileno()],
+                                  stdin=subprocess.DEVNULL, capture_output=True, check=False)
         except (OSError, ValueError) as error:
             raise NotChecked(f"{program}: {getattr(error, 'strerror', None) or error}") from None
-    if run.returncode not in (0, 1):
-        raise NotChecked(f"zonecheck: {run.stderr.decode('latin-1').strip() or f'status {run.returncode}'}")
-    return run.returncode, run.stdout.decode("latin-1")
+    if done.returncode not in (0, 1):
+        raise NotChecked(f"zonecheck: {done.stderr.decode('latin-1').strip() or f'status {done.returncode}'}")
+    return done.returncode, done.stdout.decode("latin-1")
 
 
 def plain(text):
     """A text that changes no terminal: \\DDD for what is not printable."""
-    return text if text.isprintable() else escaped(os.fsencode(text).decode("latin-1").expandtabs(), "")
+    return text if text.isprintable() else escaped(os.fsencode(text).decode("latin-1").expandtabs())
 
 
 def run(program, main):
-    """Runs a program, and ends with its status; 2 if its output can't be written."""
+    """Runs a program, and ends with its status; 2 if its output can't be written, since 1 says that a zone has faults."""
     gc.disable()  # Nothing here makes cycles worth looking for, and records are many.
+    warnings.simplefilter("ignore")
     sys.stdout.reconfigure(errors="backslashreplace")
+    status = 2
     try:
         status = main()
         sys.stdout.flush()
-    except NotChecked as error:
-        print(f"{program}: {plain(str(error))}", file=sys.stderr)
-        status = 2
     except KeyboardInterrupt:
         status = 130
-    except OSError as error:
+    except Exception as error:
+        status = 2
         if not isinstance(error, BrokenPipeError):
-            print(f"{program}: {error.strerror}", file=sys.stderr)
-        os.dup2(os.open(os.devnull, os.O_WRONLY), 1)
-        status = 2
-    except Exception as error:  # Status 1 says that a zone has faults.
-        print(f"{program}: {type(error).__name__}: {error}", file=sys.stderr)
-        status = 2
+            kind = "" if isinstance(error, (NotChecked, OSError)) else f"{type(error).__name__}: "
+            print(f"{program}: {kind}{plain(str(getattr(error, 'strerror', None) or error))}", file=sys.stderr)
+        if isinstance(error, OSError):
+            os.dup2(os.open(os.devnull, os.O_WRONLY), 1)
     sys.exit(status)
 
 
 def imported(origin, text, path, folder):
     """A zone of a file as BIND has it: its lines as they are converted, with the places that they come from."""
-    if text[:3] == "\0\0\0" or text[:2] in ("\xff\xfe", "\xfe\xff"):
+    if text.startswith(tuple(FORMS)):
         return Zone(origin, text, path)
     near = "" if path.startswith("/dev/") else os.path.dirname(path)
-    importer = bind.Importer(origin, folder or near or ".")
+    importer = bind.Importer(name(origin, ".") or ".", folder or near or ".")
     importer.read(text.removeprefix("\xef\xbb\xbf"), path)
-    return Zone(origin, "\n".join(importer.lines), path, importer.places, importer.notes, importer.sources)
+    return Zone(origin, "\n".join(importer.lines), path, importer)
 
 
 class Zone:
     """A zone file, and all that is found about it.
 
-    `lines` are its lines as far as they are mended, and `places` their files and numbers. `notes` has what an importer says
-    of a line that it could not convert. `guessed` has the lines whose data is not their own, `untimed` those whose TTL is
-    not, and `doubtful` the names that may own more than `records` say.
+    `lines` are its lines as far as they are mended, and `places` their files and numbers, if an importer made them or there
+    are others than those of the file. `notes` has what an importer says of a line that it could not convert. `guessed` has
+    the lines whose data is not their own, `untimed` those whose TTL is not, `doubtful` the names that may own more than
+    `records` say; the file is `partial` if lines that it includes are not known.
     """
 
-    def __init__(self, origin, text, path, places=None, notes=None, sources=None):
-        self.origin, self.path, self.text = origin, path, text
-        self.places, self.notes, self.sources = places, notes or {}, sources
-        self.zone, self.converted = name(origin, ".") or ".", places is not None
-        self.lines, self.faults, self.records, self.passes, self.more, self.partial = None, [], [], False, False, False
+    def __init__(self, origin, text, path, importer=None):
+        self.origin, self.path, self.text, self.zone = origin, path, text, name(origin, ".") or "."
+        self.lines, self.places, self.notes = text.split("\n"), importer and importer.places, importer and importer.notes
+        self.sources = importer.sources if importer else {path: self.lines[:]}
+        self.faults, self.records, self.passes, self.more, self.partial = [], [], False, False, False
         self.guessed, self.untimed, self.doubtful, self.mended = set(), set(), set(), collections.Counter()
 
     def check(self):
         """Asks zonecheck, and fills `passes`, `faults` and `records`."""
         status, said = zonecheck(self.origin, self.text, "--print")
-        self.passes = status == 0
-        if self.passes:
-            self.records = list(canonical(said))
+        if status == 0:
+            self.passes, self.records = True, list(canonical(said))
             return self
-        self.split()
         if "\r" in self.text.rstrip("\r\n") and "\n" not in self.text.rstrip("\n"):
             do = "write LF for each, as `tr '\\r' '\\n'` does"
             self.found(0, said.split()[-1], f"the lines of the file end with CR alone: {do}")
-            self.text, self.places = self.text.replace("\r", "\n"), None
-            self.split()
-            status, said = zonecheck(self.origin, self.text)
-        reader = Reader(self.lines, self.zone)
-        while said.startswith("line "):
-            line, code = re.fullmatch(r"line (\d+): (R\d\d)\n", said).groups()
-            if len(self.faults) >= MOST or self.mended.total() >= 5 * MOST or not self.mend(reader, int(line) - 1, code):
+            self.places, self.lines = None, self.text.replace("\r", "\n").split("\n")
+            self.sources = {self.path: self.lines[:]}
+            said = zonecheck(self.origin, "\n".join(self.lines))[1]
+        reader = Reader(self.zone)
+        while fault := re.fullmatch(r"line (\d+): (R\d\d)\n", said):
+            self.more = len(self.faults) >= MOST or self.mended.total() >= 5 * MOST
+            if self.more or not self.mend(reader, int(fault[1]) - 1, fault[2]):
                 break
-            status, said = zonecheck(self.origin, "\n".join(self.lines))
-        self.records = [] if said.startswith("line ") else self.model()
-        if status and not said.startswith("line "):
+            said = zonecheck(self.origin, "\n".join(self.lines))[1]
+        else:
+            self.records = self.model()
             ZoneFaults(self, self.records).report(said)
         self.faults.sort(key=lambda fault: (fault.place[1], fault.code))
-        self.more, self.faults = len(self.faults) >= MOST or self.mended.total() >= 5 * MOST, self.faults[:MOST]
+        self.more, self.faults = self.more or len(self.faults) >= MOST, self.faults[:MOST]
         return self
-
-    def split(self):
-        """Makes the lines, which are also those of the file if no importer made them."""
-        self.lines = self.text.split("\n")
-        if self.places is None:
-            self.sources = {self.path: self.lines[:]}
 
     def place(self, line):
         """The file and the number of a line."""
@@ -145,94 +143,81 @@ class Zone:
 
     def model(self):
         """The records of the lines as they are now."""
-        if self.lines is None:
-            self.split()
-        return list(Reader(self.lines, self.zone).records())
+        return list(Reader(self.zone).records(self.lines))
 
     def report(self, warned):
         """The faults and warnings with their lines, the same as a text in the form that editors know, and what bounds them."""
         found, text = [], ""
         for severity, faults in (("error", self.faults), ("warning", warned[:MOST])):
             for (file, line), code, owner, message in faults:
-                message = escaped(message[:2000], "")
-                shown = escaped(self.sources[file][line - 1].rstrip("\r").expandtabs()[:300], "")
-                found.append((file.encode("utf-8", "backslashreplace").decode(), line, severity, code, owner, message, shown))
-                text += f"{plain(file)}:{line}: {code}: {owner and owner + ': '}{message}\n    {shown}\n"
+                message = escaped(message[:2000])
+                shown = escaped(self.sources[file][line - 1].rstrip("\r").expandtabs()[:300])
+                file_name = file.encode("utf-8", "backslashreplace").decode()
+                found.append(Report(file_name, line, severity, code, owner, message, shown))
+                text += f"{plain(file)}:{line}: {code}: {found[-1].said()}\n    {shown}\n"
         bounds = f"{plain(self.path)}: {MOST} faults are reported, and there may be more\n" * self.more
         bounds += f"{plain(self.path)}: {MOST} of {len(warned)} warnings are reported\n" * (len(warned) > MOST)
         return found, text + bounds, bounds
 
     def found(self, line, code, text, owner=""):
-        fault = Fault(self.place(line), code, owner, self.notes.get(line, text) if code in ("R05", "R11", "R13") else text)
-        if self.faults and fault == self.faults[-1]:
+        """Adds a fault, and says whether it is another than the last one."""
+        text = self.notes.get(line, text) if self.notes and code in ("R05", "R11", "R13") else text
+        self.faults.append(Fault(self.place(line), code, owner, text))
+        if self.faults[-2:-1] == self.faults[-1:]:
+            self.faults.pop()
             return False
-        self.faults.append(fault)
         return True
 
     def mend(self, reader, line, code):
         """Reports the fault of an entry, and mends it. False if what follows can't be checked."""
-        for _ in reader.records(line):
-            pass
-        entry = entry_at(self.lines, line)
+        collections.deque(reader.records(self.lines, line), 0)
+        entry = Entry(self.lines, line)
         mending = Mending(self, reader, entry)
         text = getattr(mending, code.lower())()
         # An entry that is at fault again as it was mended, or for the octets put into it, has one fault.
         self.mended[line, code] += 1
         again = self.mended[line, code] > (3 if code == "R01" else 1)
-        if text and not again and not (mending.follows and self.mended[line, "silent"]) and not self.found(line, code, text):
+        follows = mending.follows and self.mended[line, "silent"]
+        if not again and not follows and not self.found(line, code, text):
             # More records of one $GENERATE are at fault alike.
-            for at in range(line, len(self.lines)):
-                if self.place(at) != self.place(line):
-                    break
+            for at in itertools.takewhile(lambda at: self.place(at) == self.place(line), range(line, len(self.lines))):
                 self.lines[at] = ""
             return True
-        if mending.silent or again:
-            self.mended[line, "silent"] += 1
-        if mending.ends:
-            return False
-        if again or mending.lines is None:
-            self.blank(entry)
-        else:
-            self.replace(entry, mending.lines)
-        if mending.guess:
-            self.guessed.add(line)
-        if mending.untimed:
-            self.untimed.add(line)
-        return True
+        self.mended[line, "silent"] += mending.silent or again
+        if not mending.ends:
+            self.replace(entry, [] if again or mending.lines is None else mending.lines)
+        self.guessed.update([line] * mending.guess)
+        self.untimed.update([line] * mending.untimed)
+        return not mending.ends
 
     def replace(self, entry, lines):
         """Puts lines in the place of an entry: the first has its number, and so have those that are more than its own."""
-        count = entry.end - entry.begin
-        if len(lines) <= count:
-            self.lines[entry.begin:entry.end] = lines + [""] * (count - len(lines))
-        else:
-            place = self.place(entry.begin)
+        begin, end = entry.begin, entry.end
+        if not lines and entry.owner and entry.owner[0] not in '$#/"':
+            # The entries after it that begin with a blank keep its owner.
+            after = next((at for at in range(end, len(self.lines)) if self.lines[at].split(";")[0].strip()), end)
+            if self.lines[after:] and self.lines[after][:1] in (" ", "\t"):
+                self.lines[after] = entry.owner + self.lines[after]
+        lines += [""] * (end - begin - len(lines))
+        if len(lines) > end - begin:
             self.places = self.places or [(self.path, number) for number in range(1, len(self.lines) + 1)]
-            self.lines[entry.begin:entry.end] = lines
-            self.places[entry.begin:entry.end] = [place] * len(lines)
-
-    def blank(self, entry):
-        """Takes an entry out. The entries after it that begin with a blank keep its owner."""
-        for line in range(entry.begin, entry.end):
-            self.lines[line] = ""
-        if entry.blank or not entry.tokens or entry.tokens[0][0] in "$#/;\"":
-            return
-        for line in range(entry.end, len(self.lines)):
-            following = self.lines[line]
-            if following.strip() and not following.lstrip().startswith(";"):
-                if following[0] in " \t":
-                    self.lines[line] = entry.tokens[0] + following
-                return
+            self.places[begin:end] = [self.places[begin]] * len(lines)
+        self.lines[begin:end] = lines
 
 
 class ZoneFaults(Names):
     """The faults of a zone: for each that zonecheck reports the records that have it, and what to do."""
 
+    ALIKE = {"Z02": ("SOA", "more than one SOA record; see {1}: keep one"),
+             "Z07": ("CNAME", "more than one CNAME at one name; see {1}: keep one"),
+             "Z13": ("NS", "NS at a wildcard: take it out, and delegate each name by itself")}
+
     def report(self, said):
         self.soas = [record for record in self.of.records if record.rtype == "SOA"]
         self.targets = {record.data[-1] for record in self.of.records if record.rtype in ("NS", "MX", "SRV") and record.data}
-        for owner, code in (line.rsplit(" ", 1) for line in said.splitlines()):
-            found = list(self.FOUND[code](self, owner, code))
+        for owner, code in re.findall(r"^(.*) (Z\d\d)$", said, re.M):
+            alike = self.ALIKE.get(code)
+            found = list(self.each(self.at(owner, alike[0]), alike[1]) if alike else getattr(self, code.lower())(owner))
             doubtful = code in ("Z01", "Z04") and owner in self.of.doubtful or \
                 not found and code in ("Z08", "Z09", "Z10", "Z11") and (self.of.guessed or self.of.untimed or self.of.doubtful)
             for record, text in [] if doubtful else found or [(self.first(owner), "the name has this fault")]:
@@ -249,9 +234,9 @@ class ZoneFaults(Names):
         return " and ".join(f"line {line}" + f" of {file}" * (file != self.of.path) for file, line in places) or "the same line"
 
     def each(self, records, text, others=None):
-        """Records that are at fault together: {} in the text is where the others are."""
+        """Records that are at fault together: {0} in the text is the record, and {1} where the others are."""
         for record in records[:MOST]:
-            yield record, text.format(self.lines(other for other in others or records if other.line != record.line))
+            yield record, text.format(record, self.lines(other for other in others or records if other.line != record.line))
 
     def end(self, target):
         """What an alias leads to."""
@@ -261,35 +246,30 @@ class ZoneFaults(Names):
             target = self.at(target, "CNAME")[0].data[0]
         return target
 
-    def no_soa(self, owner, _):
+    def below(self, label):
+        return label + "." + self.zone.lstrip(".")
+
+    def z01(self, owner):
         server = next((record.data[0] for record in self.at(owner, "NS")), self.below("ns1"))
         do = f": add `{owner} 3600 IN SOA {server} {self.below('hostmaster')} 1 7200 900 1209600 300`"
-        if self.soas:
-            other = self.soas[0].owner
-            do = "write @ as its owner, which lacks its final dot" if twice(other, self.zone) else \
-                f"give {other} as ORIGIN, if the file is of that zone"
-            do = f"; {self.lines(self.soas[:1])} has the one of {other}: {do}"
+        for soa in self.soas[:1]:
+            do = "write @ as its owner, which lacks its final dot" if twice(soa.owner, self.zone) else \
+                f"give {soa.owner} as ORIGIN, if the file is of that zone"
+            do = f"; {self.lines([soa])} has the one of {soa.owner}: {do}"
         yield self.first(owner), "the origin has no SOA record" + do
 
-    def no_ns(self, owner, _):
-        server = next((record.data[0] for record in self.at(owner, "SOA")), self.below("ns1"))
-        lost = within(server, self.zone) and not self.at(server, "A", "AAAA")
-        yield self.first(owner), (f"the origin has no NS record: add one for each server, as `{owner} 3600 IN NS {server}`"
-                                  + ", with the address of the server" * lost)
-
-    def below(self, label):
-        return f"{label}." if self.zone == "." else f"{label}.{self.zone}"
-
-    def soa_below(self, owner, _):
-        if twice(owner, self.zone):
-            do = "its owner lacks the final dot: write @"
-        elif self.at(self.zone, "SOA"):
-            do = "take it out"
-        else:
-            do = "write @ as its owner, or " * within(owner, self.zone) + f"give {owner} as ORIGIN, if the file is of that zone"
+    def z03(self, owner):
+        do = "its owner lacks the final dot: write @" if twice(owner, self.zone) else \
+            "take it out" if self.at(self.zone, "SOA") else \
+            "write @ as its owner, or " * within(owner, self.zone) + f"give {owner} as ORIGIN, if the file is of that zone"
         return [(record, f"an SOA record that is not at the origin: {do}") for record in self.at(owner, "SOA")]
 
-    def outside(self, owner, _):
+    def z04(self, owner):
+        server = next((record.data[0] for record in self.at(owner, "SOA")), self.below("ns1"))
+        lost = ", with the address of the server" * (within(server, self.zone) and not self.at(server, "A", "AAAA"))
+        yield self.first(owner), f"the origin has no NS record: add one for each server, as `{owner} 3600 IN NS {server}`{lost}"
+
+    def z05(self, owner):
         soa = next((soa for soa in self.soas if not within(soa.owner, self.zone)), None)
         for record in self.at(owner):
             if soa and not self.at(self.zone, "SOA"):
@@ -302,30 +282,32 @@ class ZoneFaults(Names):
                 do = "take the record out, or put it into the file of its own zone"
             yield record, f"the name is not in the zone {self.zone}; {do}"
 
-    def alias(self, owner, _):
+    def z06(self, owner):
         aliases, says = self.at(owner, "CNAME"), "a CNAME and other records at one name: "
         if owner == self.zone:
             return self.each(aliases, says + "take the CNAME out, and write the A and AAAA records of its target")
         others = [record for record in self.at(owner) if record.rtype != "CNAME"]
-        return [*self.each(aliases, says + "keep it or the other, on {}", others),
-                *self.each(others, "other records at the name of a CNAME: keep it or the CNAME, on {}", aliases)]
+        return [*self.each(aliases, says + "keep it or the other, on {1}", others),
+                *self.each(others, "other records at the name of a CNAME: keep it or the CNAME, on {1}", aliases)]
 
-    def times(self, owner, _):
+    def z08(self, owner):
         for rtype, records in self.sets[owner].items():
-            first = {record.ttl: record for record in reversed(records)}.values()
+            first = list({record.ttl: record for record in reversed(records)}.values())
             if len(first) > 1 and not any(record.line in self.of.untimed for record in records):
-                for record in first:
-                    others = self.lines(other for other in first if other is not record)
-                    yield record, (f"the TTL of this {rtype} record is {record.ttl}, and that of {others} is another: "
-                                   f"give all {rtype} records of the name the TTL {records[0].ttl}")
+                yield from self.each(first, f"the TTL of this {rtype} record is {{0.ttl}}, and that of {{1}} is another: "
+                                     f"give all {rtype} records of the name the TTL {records[0].ttl}")
 
-    def servers(self, owner, _):
+    def z09(self, owner):
         for record in self.at(owner, "NS"):
-            target, cut = record.data[0], self.cut(record.data[0])
+            yield from self.aliased(record, f"the server {record.data[-1]} is an alias")
+
+    def z10(self, owner):
+        for record in self.at(owner, "NS"):
+            target, written, found = record.data[0], record.last, address(record.last)
+            cut = self.cut(target)
             spared = cut and not (owner in self.cuts and within(target, owner)) or self.at(target, "A", "AAAA")
             if spared or record.line in self.of.guessed or target in self.of.doubtful or not within(target, self.zone):
                 continue
-            written, found = record.last, address(record.last)
             do = f"add `{target} 3600 IN A` with its address, or take the NS record out"
             if found:
                 do = f"{found[1]} is an address: write a name, as `NS ns9`, and for that name `ns9 {found[0]} {found[1]}`"
@@ -337,33 +319,28 @@ class ZoneFaults(Names):
                 do = f"write {written}. if it is in another zone; else {do}"
             yield record, f"a server in the zone without an address: {target}: {do}"
 
-    def delegated(self, owner, _):
+    def z11(self, owner):
+        for record in self.at(owner, "MX", "SRV"):
+            yield from self.aliased(record, f"an {record.rtype} host that is an alias: {record.data[-1]}")
+
+    def aliased(self, record, says):
+        target = record.data[-1]
+        if within(target, self.zone) and self.at(target, "CNAME"):
+            yield record, f"{says}: write {self.end(target)}"
+
+    def z12(self, owner):
         cut = self.cut(owner) or owner
         do = f"take it out (it belongs to the zone {cut}), or the NS records of {cut} on {self.lines(self.at(cut, 'NS'))}"
         return [(record, f"data at or below a delegation, where it is never answered: {do}") for record in self.at(owner)
                 if record.rtype not in ("A", "AAAA") and (record.rtype != "NS" or owner != cut)]
 
-    def aliased(self, owner, code):
-        for record in self.at(owner, *["NS"] if code == "Z09" else ["MX", "SRV"]):
-            target = record.data[-1]
-            if within(target, self.zone) and self.at(target, "CNAME"):
-                what = f"the server {target} is an alias" if code == "Z09" else \
-                    f"an {record.rtype} host that is an alias: {target}"
-                yield record, f"{what}: write {self.end(target)}"
-
-    def many(self, owner, code):
-        for rtype, records in self.sets[owner].items() if code == "Z14" else []:
+    def z14(self, owner):
+        for rtype, records in self.sets[owner].items():
             for record in unique(records)[64:65]:
-                yield record, f"{len(unique(records))} {rtype} records at one name: at most 64 are served; {SPREAD}"
-        for records in list(self.sets[owner].values())[32:33] if code == "Z15" else []:
-            yield records[0], f"{len(self.sets[owner])} types at one name: at most 32 are served; {SPREAD}"
+                yield record, (f"{len(unique(records))} {rtype} records at one name: at most 64 are served; "
+                               "spread them over several names")
 
-    def alike(self, owner, code):
-        rtype, text = {"Z02": ("SOA", "more than one SOA record; see {}: keep one"),
-                       "Z07": ("CNAME", "more than one CNAME at one name; see {}: keep one"),
-                       "Z13": ("NS", "NS at a wildcard: take it out, and delegate each name by itself")}[code]
-        return self.each(self.at(owner, rtype), text)
-
-    FOUND = {"Z01": no_soa, "Z02": alike, "Z03": soa_below, "Z04": no_ns, "Z05": outside, "Z06": alias, "Z07": alike,
-             "Z08": times, "Z09": aliased, "Z10": servers, "Z11": aliased, "Z12": delegated, "Z13": alike, "Z14": many,
-             "Z15": many}
+    def z15(self, owner):
+        for records in list(self.sets[owner].values())[32:33]:
+            yield records[0], (f"{len(self.sets[owner])} types at one name: at most 32 are served; "
+                               "spread them over several names")

@@ -8,36 +8,37 @@ import functools
 import ipaddress
 import re
 import socket
+import struct
+import sys
 
-PIECE = re.compile(r'[ \t\r]+|;.*|"(?:[^"\\]+|\\.)*(?:(?P<shut>")|\\?)|[()]|(?:[^ \t\r;"()\\]+|\\.)+|\\', re.S)
-PLAIN = re.compile(r"[^\"();\\\x00-\x08\x0b-\x1f\x7f-\xff]*")
+import dns.name
+import dns.rdatatype
+
+PIECE = re.compile(r'[ \t\r]+|;.*|"(?:[^"\\]+|\\.)*(?:"|\\?)|[()]|(?:[^ \t\r;"()\\]+|\\.)+|\\', re.S)
 SIMPLE = re.compile(r"(?:[!#%&'*+,\-/0-9:<=>?A-Z\[\]^_`a-z{|}~]{1,63}(?:\.|$))+")
-ESCAPE = re.compile(r"\\(\d{3}|.)", re.S)
-LABEL = re.compile(r"((?:[^.\\]|\\\d{3}|\\\D)*)(\.|$)", re.S)
+CLASS = re.compile(r"(?:IN|CH|CS|HS)$|CLASS", re.I)
 
 # Types with a form of their own: numbers of 16 (H) and 32 bits (L), addresses (4, 6), names (n), strings (s).
 KINDS = {"A": "4", "NS": "n", "CNAME": "n", "SOA": "nnLLLLL", "PTR": "n", "HINFO": "ss", "MX": "Hn", "TXT": "s", "AAAA": "6",
          "SRV": "HHHn"}
-NUMBERS = {"A": 1, "NS": 2, "CNAME": 5, "SOA": 6, "PTR": 12, "HINFO": 13, "MX": 15, "TXT": 16, "AAAA": 28, "SRV": 33}
-NAMED = {f"TYPE{number}": name for name, number in NUMBERS.items()}
 # Types that have a name elsewhere and are written by number here (RFC 3597).
-OTHERS = dict(zip("RP AFSDB X25 ISDN RT NSAP PX GPOS LOC NAPTR KX CERT APL SSHFP IPSECKEY DHCID TLSA SMIMEA HIP CDS CDNSKEY "
-                  "OPENPGPKEY CSYNC ZONEMD SVCB HTTPS SPF NID L32 L64 LP EUI48 EUI64 URI CAA AVC AMTRELAY".split(),
-                  (17, 18, 19, 20, 21, 22, 26, 27, 29, 35, 36, 37, 42, 44, 45, 49, 52, 53, 55, 59, 60, 61, 62, 63, 64, 65, 99,
-                   104, 105, 106, 107, 108, 109, 256, 257, 258, 260)))
+OTHERS = ("RP AFSDB X25 ISDN RT NSAP PX GPOS LOC NAPTR KX CERT APL SSHFP IPSECKEY DHCID TLSA SMIMEA HIP CDS CDNSKEY OPENPGPKEY "
+          "CSYNC ZONEMD SVCB HTTPS SPF NID L32 L64 LP EUI48 EUI64 URI CAA AVC AMTRELAY").split()
+NUMBERS = {rtype: f"TYPE{dns.rdatatype.from_text(rtype):d}" for rtype in [*KINDS, *OTHERS]}
+NAMED = {NUMBERS[rtype]: rtype for rtype in KINDS}
 DNSSEC = {"DS", "DNSKEY", "RRSIG", "NSEC", "NSEC3", "NSEC3PARAM", "TYPE43", "TYPE46", "TYPE47", "TYPE48", "TYPE50", "TYPE51"}
 BEGIN = re.compile(r"\$[A-Z]+[ \t]|(?:[^ \t;\"()][^ \t;\"()]*)?[ \t]+(?:(?:\d[\dwdhms]*|IN)[ \t]+){0,2}(?:TYPE\d+|"
                    + "|".join([*KINDS, *OTHERS, "DS"]) + r")[ \t(]", re.I)
-UNITS = {"w": 604800, "d": 86400, "h": 3600, "m": 60, "s": 1}
+UNITS = {"w": 604800, "d": 86400, "h": 3600, "m": 60, "s": 1, "": 1}
+# A record with its data as the canonical text has it, the line on which its entry begins (from 0), and its last token.
+Record = collections.namedtuple("Record", "owner ttl rtype data line last", defaults=(None, ""))
 
 
 def seconds(text):
     """The number that a token with units or leading zeros has, 5400 for 1h30m; None if it is no such token."""
-    if re.fullmatch(r"[0-9]{1,60}", text):
-        return int(text)
-    if not re.fullmatch(r"(?:[0-9]{1,20}[wdhmsWDHMS]){1,12}", text):
+    if not re.fullmatch(r"[0-9]{1,60}|(?:[0-9]{1,20}[wdhms]){1,12}", text, re.I | re.A):
         return None
-    return sum(int(number) * UNITS[unit] for number, unit in re.findall(r"([0-9]+)([a-z])", text.lower()))
+    return sum(int(number) * UNITS[unit] for number, unit in re.findall(r"([0-9]+)([a-z]?)", text.lower()))
 
 
 def groups(token):
@@ -46,14 +47,14 @@ def groups(token):
         packed = socket.inet_pton(socket.AF_INET6, token)
     except (OSError, ValueError):
         return None
-    front, last = token.rpartition(":")[::2]
-    return f"{front}:{int(packed[12:14].hex(), 16):x}:{int(packed[14:].hex(), 16):x}" if "." in last else token
+    last = struct.unpack("!HH", packed[12:])
+    return "{}:{:x}:{:x}".format(token.rpartition(":")[0], *last) if "." in token else token
 
 
 def address(token):
     """The type and the text of the address that a token is meant to be; None if it is none."""
     bare = re.sub(r"/\d+$|%\w+$", "", token.strip('"').rstrip(",.;")).strip("[]")
-    found = re.fullmatch(r"(\d+\.\d+\.\d+\.\d+)(?::\d+)?", bare)
+    found = re.fullmatch(r"((?:\d{1,9}\.){3}\d{1,9})(?::\d+)?", bare)
     if found:
         parts = [int(part) for part in found[1].split(".")]
         return ("A", ".".join(map(str, parts))) if max(parts) < 256 else None
@@ -62,16 +63,12 @@ def address(token):
 
 
 def octets(token):
-    """The octets of a token or string, without its quotation marks and escapes; None if an escape is bad."""
-    if token[:1] == '"':
-        token = token[1:-1] if len(token) > 1 and token[-1] == '"' else token[1:]
-    if "\\" not in token:
-        return token
-    text = ESCAPE.sub(lambda match: chr(int(match[1])) if match[1].isdigit() else match[1], token)
-    return text if not text or max(text) <= "\xff" else None
+    """The octets of a token or string, without its quotation marks and escapes."""
+    bare = token[1:].removesuffix('"') if token[:1] == '"' else token
+    return re.sub(r"\\(\d{3}|.)", lambda part: chr(int(part[1]) & 255) if part[1].isdigit() else part[1], bare, flags=re.S)
 
 
-def escaped(text, also):
+def escaped(text, also=""):
     """A text with backslashes before some characters, and \\DDD for octets that are not printable."""
     return "".join("\\" + c if c in also else c if " " <= c <= "~" else f"\\{ord(c):03}" for c in text)
 
@@ -84,35 +81,20 @@ def string(text):
 @functools.lru_cache(1 << 17)
 def name(text, origin):
     """An absolute name as the canonical text has it, of a name relative to an origin; None if it is invalid."""
-    if text == "@":
-        return origin
-    if text == "." or len(text) > 1020:
-        return text if text == "." else None
     if SIMPLE.fullmatch(text):
-        full, ends = text.lower(), text[-1]
-    else:
-        labels, at = [], 0
-        while at < len(text):
-            match = LABEL.match(text, at)
-            label = octets(match[1]) if match else None
-            if not label or len(label) > 63:
-                return None
-            labels.append(escaped(label.encode("latin-1").lower().decode("latin-1"), '"$().;@\\').replace(" ", "\\032"))
-            at = match.end()
-            ends = match[2]
-        if not labels:
-            return None
-        full = ".".join(labels) + ends
-    if ends != ".":
-        full += "." if origin == "." else "." + origin
-    return full if len(full) < 255 or len(octets(full)) < 255 else None
+        full = text.lower() if text[-1] == "." else f"{text.lower()}.{origin.lstrip('.')}"
+        if len(full) < 255:
+            return full
+    try:
+        return dns.name.from_text(text.encode("latin-1"), dns.name.from_text(origin)).canonicalize().to_text()
+    except Exception:  # Its reader raises many kinds.
+        return None
 
 
 def parent(full):
     """The name above an absolute name; the root has none."""
-    if "\\" not in full:
-        return full.partition(".")[2] or ("." if full != "." else None)
-    return full[LABEL.match(full).end():] or "."
+    above = re.sub(r"(?:[^.\\]|\\.)*\.", "", full, 1) if "\\" in full else full.partition(".")[2]
+    return above or ("." if full != "." else None)
 
 
 def within(full, zone):
@@ -125,82 +107,70 @@ def twice(full, zone):
 
 
 class Entry:
-    """The lines of an entry from `begin` to before `end`, its tokens, and whether a blank begins it.
+    """An entry: its lines from `begin` to before `end`, and their pieces, with a line feed after each line.
 
-    `spans` has the line, the beginning and the end of each token; `depth` the deepest parentheses; `flaw` is an unclosed
-    `string`, `parenthesis`, or none.
+    `tokens` are the pieces that are no blanks, parentheses and comments, and `places` their places among all. `nested`
+    parentheses are an entry's own if BIND reads it. One that is not `closed` ends before the next line that looks like an entry.
     """
-    __slots__ = ("begin", "end", "tokens", "blank", "spans", "depth", "flaw", "note")
 
-    def __init__(self, begin, tokens, blank, spans=None):
-        self.begin, self.end, self.tokens, self.blank, self.spans = begin, begin + 1, tokens, blank, spans
-        self.depth, self.flaw, self.note = 0, None, ""
+    def __init__(self, lines, begin, nested=False):
+        self.begin, self.blank = begin, lines[begin][:1] in (" ", "\t")
+        self.closed = self.read(lines, begin, len(lines), nested) <= 0
+        if not self.closed:
+            most = next((at for at in range(begin + 1, len(lines)) if BEGIN.match(lines[at])), len(lines))
+            self.read(lines, begin, most, True)
+        self.places = [at for at, piece in enumerate(self.pieces) if piece[0] not in " \t\r\n();"]
+        self.tokens = tokens = [self.pieces[at] for at in self.places]
+        self.owner = self.ttl = self.rrclass = None
+        at = 0
+        if tokens and not self.blank:
+            self.owner, at = tokens[0], 1
+        while at < len(tokens):
+            if self.ttl is None and "0" <= tokens[at][0] <= "9":
+                self.ttl = tokens[at]
+            elif self.rrclass is None and CLASS.match(tokens[at]):
+                self.rrclass = tokens[at]
+            else:
+                break
+            at += 1
+        # The place of the type among the tokens, the type, and the data.
+        self.at, self.rtype, self.data = at, "".join(tokens[at:at + 1]).upper(), tokens[at + 1:]
+
+    def read(self, lines, begin, most, nested):
+        """Reads the pieces of lines up to one, and returns how many parentheses are left open."""
+        self.pieces, self.depth, self.end, depth = [], 0, begin, 0
+        while self.end == begin or self.end < most and depth > 0 and (nested or depth < 2):
+            found = PIECE.findall(lines[self.end])
+            for piece in found if "(" in found or ")" in found else ():
+                depth += (piece == "(") - (piece == ")")
+                self.depth = max(self.depth, depth)
+            self.pieces += [*found, "\n"]
+            self.end += 1
+        return depth
+
+    def joined(self, first):
+        """The tokens from one on as a text, with blanks where there are some between them."""
+        places = set(self.places)
+        begin = self.places[first] if first < len(self.places) else len(self.pieces)
+        return "".join(printable(self.pieces[at]) if at in places else " " for at in range(begin, len(self.pieces))).strip()
+
+    def lines(self, changes):
+        """The lines with other tokens at some places, no inner parentheses, and \\DDD in owner and data for other octets."""
+        pieces, depth = self.pieces[:], 0
+        for number, at in enumerate(self.places):
+            pieces[at] = changes.get(number, pieces[at] if 0 < number <= self.at else printable(pieces[at]))
+            if not pieces[at] and not pieces[at - 1].strip(" \t"):
+                pieces[at - 1] = ""
+        for at, piece in enumerate(self.pieces if self.depth > 1 else ()):
+            depth += (piece == "(") - (piece == ")")
+            if piece == "(" and depth > 1 or piece == ")" and depth > 0:
+                pieces[at] = " "
+        return "".join(pieces)[:-1].split("\n")
 
 
-def entry_at(lines, begin, nested=False, most=None):
-    """The entry that begins on a line. `nested` parentheses are an entry's own if BIND reads it."""
-    line = lines[begin]
-    if PLAIN.fullmatch(line):
-        return Entry(begin, line.split(), line[:1] in (" ", "\t"))
-    entry = Entry(begin, [], line[:1] in (" ", "\t"), [])
-    depth, at, shut = 0, begin, True
-    while at < len(lines) and (at == begin or depth > 0) and at != most:
-        shut = True
-        for match in PIECE.finditer(lines[at]):
-            piece = match.group()
-            if piece[0] == ";":
-                entry.note = piece
-            elif piece[0] in "()":
-                depth += 1 if piece == "(" else -1
-                entry.depth = max(entry.depth, depth)
-                if depth < 0:
-                    entry.flaw = "parenthesis"
-            elif piece[0] not in " \t\r":
-                shut = piece[0] != '"' or bool(match["shut"])
-                entry.tokens.append(piece)
-                entry.spans.append((at, *match.span()))
-        if not shut:
-            entry.flaw = entry.flaw or "string"
-        at += 1
-        if depth > 1 and not nested and most is None:
-            break
-    entry.end = at
-    if most is None and (depth > 1 and not nested or depth > 0 and at == len(lines)):
-        # It is not closed: it ends before the next line that looks like an entry.
-        most = next((k for k in range(begin + 1, len(lines)) if BEGIN.match(lines[k])), len(lines))
-        entry = entry_at(lines, begin, nested, most)
-        entry.flaw = "parenthesis"
-    elif not shut and depth <= 0:
-        take_rest(lines, entry)
-    return entry
-
-
-def take_rest(lines, entry):
-    """Adds the lines on which the last string of an entry goes on, if the mark that ends it comes before another entry."""
-    for at in range(entry.end, min(entry.end + 60, len(lines))):
-        if BEGIN.match(lines[at]):
-            return
-        if lines[at].replace('\\"', "").count('"') % 2:
-            entry.tokens += [string(lines[k].strip().strip('"')) for k in range(entry.end, at + 1)]
-            entry.end = at + 1
-            return
-
-
-def head(entry):
-    """The owner (None if none), TTL, class and the place of the type among the tokens of a record."""
-    tokens = entry.tokens
-    owner, at = (None, 0) if entry.blank else (tokens[0], 1)
-    ttl = rrclass = None
-    while at < len(tokens):
-        token = tokens[at]
-        if ttl is None and "0" <= token[0] <= "9":
-            ttl = token
-        elif rrclass is None and (token.upper() in ("IN", "CH", "CS", "HS") or token.upper().startswith("CLASS")):
-            rrclass = token
-        else:
-            break
-        at += 1
-    return owner, ttl, rrclass, at
+def printable(token):
+    """A token with \\DDD for octets that a zone file may not have."""
+    return token if token.isascii() and token.isprintable() else re.sub(r"[^\t -~]", lambda c: f"\\{ord(c[0]):03}", token)
 
 
 def data_of(rtype, tokens, origin):
@@ -209,74 +179,53 @@ def data_of(rtype, tokens, origin):
     if kinds is None or tokens[:1] == ["\\#"]:
         return tokens
     if kinds[0] == "s":
-        return [string(octets(token) or "") for token in tokens]
-    if kinds == "6":
-        try:
-            return [str(ipaddress.IPv6Address("".join(tokens)))]
-        except ValueError:
-            return tokens
-    return [(name(token, origin) or token) if kind == "n" else token for kind, token in zip(kinds, tokens)]
-
-
-class Record:
-    """A record with its data as the canonical text has it, the line on which its entry begins (from 0), and its last token."""
-    __slots__ = ("owner", "ttl", "rtype", "data", "line", "last")
-
-    def __init__(self, owner, ttl, rtype, data, line=None, last=""):
-        self.owner, self.ttl, self.rtype, self.data, self.line, self.last = owner, ttl, rtype, data, line, last
+        return [string(octets(token)) for token in tokens]
+    try:
+        return [str(ipaddress.IPv6Address("".join(tokens)))] if kinds == "6" else [
+            (name(token, origin) or token) if kind == "n" else token for kind, token in zip(kinds, tokens)]
+    except ValueError:
+        return tokens
 
 
 class Reader:
-    """Goes over the entries of lines, and keeps what a later entry takes from those before it."""
+    """Goes over the entries of a zone, and keeps what a later entry takes from those before it."""
 
-    def __init__(self, lines, zone):
-        self.lines, self.zone, self.origin, self.at = lines, zone, zone, 0
-        self.owner = self.default = self.stated = None
+    def __init__(self, zone):
+        self.origin, self.at, self.owner, self.default, self.stated = zone, 0, None, None, None
 
-    def records(self, stop=None):
-        """The records whose entries begin before a line."""
-        lines = self.lines
-        while self.at < (len(lines) if stop is None else stop):
-            if not lines[self.at]:
-                self.at += 1
-                continue
-            entry = entry_at(lines, self.at)
-            record = self.take(entry) if entry.tokens else None
+    def records(self, lines, stop=sys.maxsize):
+        """The records of lines whose entries begin before a line."""
+        while self.at < min(stop, len(lines)):
+            entry = Entry(lines, self.at)
             self.at = entry.end
+            record = self.take(entry)
             if record:
                 yield record
 
     def take(self, entry):
         """The record of an entry, if it is one."""
-        tokens = entry.tokens
-        if not entry.blank and tokens[0][0] == "$":
-            if tokens[0].upper() == "$ORIGIN" and len(tokens) > 1:
+        owner, tokens = entry.owner, entry.tokens
+        if owner and owner[0] == "$":
+            if owner.upper() == "$ORIGIN" and len(tokens) > 1:
                 self.origin = name(tokens[1], self.origin) or self.origin
-            elif tokens[0].upper() == "$TTL" and len(tokens) > 1:
+            elif owner.upper() == "$TTL" and len(tokens) > 1:
                 self.default = tokens[1]
             return None
-        owner, ttl, _, at = head(entry)
-        if owner is not None:
-            self.owner = name(owner, self.origin) or self.owner
-        if ttl is not None:
-            self.stated = ttl
-        if at == len(tokens):
+        self.owner = owner and name(owner.strip('"'), self.origin) or self.owner
+        self.stated = entry.ttl or self.stated
+        if not entry.rtype:
             return None
-        rtype = tokens[at].upper()
-        rtype = NAMED.get(rtype, rtype)
-        data = data_of(rtype, tokens[at + 1:], self.origin)
-        return Record(self.owner, ttl or self.default or self.stated, rtype, data, entry.begin, tokens[-1])
+        rtype = NAMED.get(entry.rtype, entry.rtype)
+        data = data_of(rtype, entry.data, self.origin)
+        return Record(self.owner, entry.ttl or self.default or self.stated, rtype, data, entry.begin, tokens[-1])
 
 
 def canonical(text):
     """The records of a canonical text, which has one on each line."""
     for line in text.splitlines():
         owner, ttl, _, rtype, data = line.split(" ", 4)
-        if rtype in ("TXT", "HINFO"):
-            data = [match.group() for match in PIECE.finditer(data) if match.group() != " "]
-        else:
-            data = data.split(" ")
-        yield Record(owner, ttl, rtype, data)
+        strings = rtype in ("TXT", "HINFO")
+        yield Record(owner, ttl, rtype, re.findall(r'"(?:[^"\\]|\\.)*"', data) if strings else data.split(" "))
 
 
 def unique(records):
