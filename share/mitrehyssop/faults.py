@@ -11,7 +11,6 @@ import re
 import shutil
 import subprocess
 import sys
-import tempfile
 import warnings
 from pathlib import Path
 
@@ -25,10 +24,13 @@ Fault = collections.namedtuple("Fault", "place code name text")
 
 
 class Report(collections.namedtuple("Report", "file line severity code name message text")):
-    """A fault or a warning as it is written."""
+    """A fault or a warning as it is written, as a text in the form that editors know."""
 
     def said(self):
         return f"{self.name}: {self.message}" if self.name else self.message
+
+    def __str__(self):
+        return f"{plain(self.file)}:{self.line}: {self.code}: {self.said()}\n    {self.text}\n"
 
 
 class NotChecked(Exception):
@@ -47,14 +49,11 @@ def read(path):
 def zonecheck(origin, text, *options):
     """The status and the report of zonecheck for a text."""
     program = shutil.which("zonecheck") or str(Path(__file__).resolve().parents[2] / "bin" / "zonecheck")
-    with tempfile.TemporaryFile() as file:
-        file.write(text.encode("latin-1"))
-        file.flush()
-        try:
-            done = subprocess.run([program, *options, origin, f"/proc/self/fd/{file.fileno()}"], pass_fds=[file.fileno()],
-                                  stdin=subprocess.DEVNULL, capture_output=True, check=False)
-        except (OSError, ValueError) as error:
-            raise NotChecked(f"{program}: {getattr(error, 'strerror', None) or error}") from None
+    try:
+        done = subprocess.run([program, *options, origin, "/dev/stdin"], input=text.encode("latin-1"), capture_output=True,
+                              check=False)
+    except (OSError, ValueError) as error:
+        raise NotChecked(f"{program}: {getattr(error, 'strerror', None) or error}") from None
     if done.returncode not in (0, 1):
         raise NotChecked(f"zonecheck: {done.stderr.decode('latin-1').strip() or f'status {done.returncode}'}")
     return done.returncode, done.stdout.decode("latin-1")
@@ -100,9 +99,9 @@ class Zone:
     """A zone file, and all that is found about it.
 
     `lines` are its lines as far as they are mended, and `places` their files and numbers, if an importer made them or there
-    are others than those of the file. `notes` has what an importer says of a line that it could not convert. `guessed` has
-    the lines whose data is not their own, `untimed` those whose TTL is not, `doubtful` the names that may own more than
-    `records` say; the file is `partial` if lines that it includes are not known.
+    are others than those of the file. `notes` has what an importer says of a line that it could not convert, `unknown` what
+    is not known of a mended line, `doubtful` the names that may own more than `records` say; the file is `partial` if lines
+    that it includes are not known.
     """
 
     def __init__(self, origin, text, path, importer=None):
@@ -110,7 +109,7 @@ class Zone:
         self.lines, self.places, self.notes = text.split("\n"), importer and importer.places, importer and importer.notes
         self.sources = importer.sources if importer else {path: self.lines[:]}
         self.faults, self.records, self.passes, self.more, self.partial = [], [], False, False, False
-        self.guessed, self.untimed, self.doubtful, self.mended = set(), set(), set(), collections.Counter()
+        self.unknown, self.doubtful, self.mended = collections.defaultdict(set), set(), collections.Counter()
 
     def check(self):
         """Asks zonecheck, and fills `passes`, `faults` and `records`."""
@@ -141,23 +140,22 @@ class Zone:
         """The file and the number of a line."""
         return self.places[line] if self.places else (self.path, line + 1)
 
+    def lacks(self, record, what):
+        """Whether the data or the TTL of a record is not its own."""
+        return what in self.unknown.get(record.line, ())
+
     def model(self):
         """The records of the lines as they are now."""
         return list(Reader(self.zone).records(self.lines))
 
     def report(self, warned):
-        """The faults and warnings with their lines, the same as a text in the form that editors know, and what bounds them."""
-        found, text = [], ""
-        for severity, faults in (("error", self.faults), ("warning", warned[:MOST])):
-            for (file, line), code, owner, message in faults:
-                message = escaped(message[:2000])
-                shown = escaped(self.sources[file][line - 1].rstrip("\r").expandtabs()[:300])
-                file_name = file.encode("utf-8", "backslashreplace").decode()
-                found.append(Report(file_name, line, severity, code, owner, message, shown))
-                text += f"{plain(file)}:{line}: {code}: {found[-1].said()}\n    {shown}\n"
+        """The faults and warnings with their lines, and what bounds them."""
+        found = [Report(file, line, severity, code, owner, escaped(message[:2000]),
+                        escaped(self.sources[file][line - 1].rstrip("\r").expandtabs()[:300]))
+                 for severity, faults in (("error", self.faults), ("warning", warned[:MOST]))
+                 for (file, line), code, owner, message in faults]
         bounds = f"{plain(self.path)}: {MOST} faults are reported, and there may be more\n" * self.more
-        bounds += f"{plain(self.path)}: {MOST} of {len(warned)} warnings are reported\n" * (len(warned) > MOST)
-        return found, text + bounds, bounds
+        return found, bounds + f"{plain(self.path)}: {MOST} of {len(warned)} warnings are reported\n" * (len(warned) > MOST)
 
     def found(self, line, code, text, owner=""):
         """Adds a fault, and says whether it is another than the last one."""
@@ -172,23 +170,22 @@ class Zone:
         """Reports the fault of an entry, and mends it. False if what follows can't be checked."""
         collections.deque(reader.records(self.lines, line), 0)
         entry = Entry(self.lines, line)
-        mending = Mending(self, reader, entry)
-        text = getattr(mending, code.lower())()
+        mending = Mending(self, reader, entry, code)
         # An entry that is at fault again as it was mended, or for the octets put into it, has one fault.
         self.mended[line, code] += 1
         again = self.mended[line, code] > (3 if code == "R01" else 1)
-        follows = mending.follows and self.mended[line, "silent"]
-        if not again and not follows and not self.found(line, code, text):
+        follows = mending.follows and "string" in self.unknown[line]
+        if not again and not follows and not self.found(line, code, mending.says):
             # More records of one $GENERATE are at fault alike.
             for at in itertools.takewhile(lambda at: self.place(at) == self.place(line), range(line, len(self.lines))):
                 self.lines[at] = ""
             return True
-        self.mended[line, "silent"] += mending.silent or again
-        if not mending.ends:
+        self.unknown[line] |= mending.unknown | {"string"} if again else mending.unknown
+        if "owner" in mending.unknown:
+            self.doubtful.add(name(entry.owner, reader.origin) if entry.owner else reader.owner)
+        if "rest" not in mending.unknown:
             self.replace(entry, [] if again or mending.lines is None else mending.lines)
-        self.guessed.update([line] * mending.guess)
-        self.untimed.update([line] * mending.untimed)
-        return not mending.ends
+        return "rest" not in mending.unknown
 
     def replace(self, entry, lines):
         """Puts lines in the place of an entry: the first has its number, and so have those that are more than its own."""
@@ -219,7 +216,7 @@ class ZoneFaults(Names):
             alike = self.ALIKE.get(code)
             found = list(self.each(self.at(owner, alike[0]), alike[1]) if alike else getattr(self, code.lower())(owner))
             doubtful = code in ("Z01", "Z04") and owner in self.of.doubtful or \
-                not found and code in ("Z08", "Z09", "Z10", "Z11") and (self.of.guessed or self.of.untimed or self.of.doubtful)
+                not found and code in ("Z08", "Z09", "Z10", "Z11") and any(self.of.unknown.values())
             for record, text in [] if doubtful else found or [(self.first(owner), "the name has this fault")]:
                 self.of.found(record.line if record else 0, code, text, owner)
             if len(self.of.faults) > MOST:
@@ -293,20 +290,16 @@ class ZoneFaults(Names):
     def z08(self, owner):
         for rtype, records in self.sets[owner].items():
             first = list({record.ttl: record for record in reversed(records)}.values())
-            if len(first) > 1 and not any(record.line in self.of.untimed for record in records):
+            if len(first) > 1 and not any(self.of.lacks(record, "ttl") for record in records):
                 yield from self.each(first, f"the TTL of this {rtype} record is {{0.ttl}}, and that of {{1}} is another: "
                                      f"give all {rtype} records of the name the TTL {records[0].ttl}")
-
-    def z09(self, owner):
-        for record in self.at(owner, "NS"):
-            yield from self.aliased(record, f"the server {record.data[-1]} is an alias")
 
     def z10(self, owner):
         for record in self.at(owner, "NS"):
             target, written, found = record.data[0], record.last, address(record.last)
             cut = self.cut(target)
             spared = cut and not (owner in self.cuts and within(target, owner)) or self.at(target, "A", "AAAA")
-            if spared or record.line in self.of.guessed or target in self.of.doubtful or not within(target, self.zone):
+            if spared or self.of.lacks(record, "data") or target in self.of.doubtful or not within(target, self.zone):
                 continue
             do = f"add `{target} 3600 IN A` with its address, or take the NS record out"
             if found:
@@ -319,14 +312,17 @@ class ZoneFaults(Names):
                 do = f"write {written}. if it is in another zone; else {do}"
             yield record, f"a server in the zone without an address: {target}: {do}"
 
-    def z11(self, owner):
-        for record in self.at(owner, "MX", "SRV"):
-            yield from self.aliased(record, f"an {record.rtype} host that is an alias: {record.data[-1]}")
+    def aliased(self, records, says):
+        for record in records:
+            target = record.data[-1]
+            if within(target, self.zone) and self.at(target, "CNAME"):
+                yield record, f"{says.format(target, record.rtype)}: write {self.end(target)}"
 
-    def aliased(self, record, says):
-        target = record.data[-1]
-        if within(target, self.zone) and self.at(target, "CNAME"):
-            yield record, f"{says}: write {self.end(target)}"
+    def z09(self, owner):
+        return self.aliased(self.at(owner, "NS"), "the server {0} is an alias")
+
+    def z11(self, owner):
+        return self.aliased(self.at(owner, "MX", "SRV"), "an {1} host that is an alias: {0}")
 
     def z12(self, owner):
         cut = self.cut(owner) or owner
@@ -336,11 +332,12 @@ class ZoneFaults(Names):
 
     def z14(self, owner):
         for rtype, records in self.sets[owner].items():
-            for record in unique(records)[64:65]:
-                yield record, (f"{len(unique(records))} {rtype} records at one name: at most 64 are served; "
-                               "spread them over several names")
+            own = unique(records)
+            yield from self.many(own[64:65], f"{len(own)} {rtype} records at one name: at most 64 are served")
 
     def z15(self, owner):
-        for records in list(self.sets[owner].values())[32:33]:
-            yield records[0], (f"{len(self.sets[owner])} types at one name: at most 32 are served; "
-                               "spread them over several names")
+        own = list(self.sets[owner].values())
+        return self.many([records[0] for records in own[32:33]], f"{len(own)} types at one name: at most 32 are served")
+
+    def many(self, records, says):
+        return [(record, says + "; spread them over several names") for record in records]

@@ -26,7 +26,6 @@ OTHERS = ("RP AFSDB X25 ISDN RT NSAP PX GPOS LOC NAPTR KX CERT APL SSHFP IPSECKE
           "CSYNC ZONEMD SVCB HTTPS SPF NID L32 L64 LP EUI48 EUI64 URI CAA AVC AMTRELAY").split()
 NUMBERS = {rtype: f"TYPE{dns.rdatatype.from_text(rtype):d}" for rtype in [*KINDS, *OTHERS]}
 NAMED = {NUMBERS[rtype]: rtype for rtype in KINDS}
-DNSSEC = {"DS", "DNSKEY", "RRSIG", "NSEC", "NSEC3", "NSEC3PARAM", "TYPE43", "TYPE46", "TYPE47", "TYPE48", "TYPE50", "TYPE51"}
 BEGIN = re.compile(r"\$[A-Z]+[ \t]|(?:[^ \t;\"()][^ \t;\"()]*)?[ \t]+(?:(?:\d[\dwdhms]*|IN)[ \t]+){0,2}(?:TYPE\d+|"
                    + "|".join([*KINDS, *OTHERS, "DS"]) + r")[ \t(]", re.I)
 UNITS = {"w": 604800, "d": 86400, "h": 3600, "m": 60, "s": 1, "": 1}
@@ -148,11 +147,12 @@ class Entry:
             self.end += 1
         return depth
 
-    def joined(self, first):
-        """The tokens from one on as a text, with blanks where there are some between them."""
-        places = set(self.places)
-        begin = self.places[first] if first < len(self.places) else len(self.pieces)
-        return "".join(printable(self.pieces[at]) if at in places else " " for at in range(begin, len(self.pieces))).strip()
+    def joined(self, first, last=None):
+        """The tokens from one on as a text, up to another one if that is given, with a blank where there are some."""
+        places = [*self.places, len(self.pieces)]
+        tokens = set(self.places)
+        return re.sub("\0+", " ", "".join(printable(self.pieces[at]) if at in tokens else "\0"
+                                          for at in range(places[first], places[-1 if last is None else last]))).strip(" ")
 
     def lines(self, changes):
         """The lines with other tokens at some places, no inner parentheses, and \\DDD in owner and data for other octets."""

@@ -5,7 +5,7 @@ import re
 import unicodedata
 
 import bind
-from master import (BEGIN, DNSSEC, KINDS, NAMED, NUMBERS, OTHERS, PIECE, Reader, address, name, octets, printable, seconds,
+from master import (BEGIN, KINDS, NAMED, NUMBERS, OTHERS, PIECE, Reader, address, name, octets, printable, seconds,
                     string)
 
 TAKES = {"A": "an IPv4 address: four numbers from 0 to 255", "NS": "the name of a server", "CNAME": "a name", "PTR": "a name",
@@ -13,7 +13,7 @@ TAKES = {"A": "an IPv4 address: four numbers from 0 to 255", "NS": "the name of 
          "MX": "a number from 0 to 65535 and the name of a host", "TXT": "strings of at most 255 octets each",
          "AAAA": "an IPv6 address in groups of hex digits alone",
          "SRV": "three numbers, priority, weight and port, and the name of a host"}
-LARGEST = {"H": 65535, "L": 4294967295}
+LARGEST = {"H": 65535, "L": 4294967295, "T": 2147483647}
 # Data for an entry whose own can't be known. Its names are outside the zone.
 INSTEAD = {"4": "192.0.2.1", "6": "2001:db8::1", "n": "host.invalid.", "s": '"text"', "H": "10", "L": "3600"}
 # How files begin that are no text of one octet for each character.
@@ -33,21 +33,50 @@ STRAY = [("\ufeff", "", "a byte order mark: take it out"),
 NOT_ASCII = re.compile(f"[^\\0-\x7f{''.join(characters for characters, _, _ in STRAY)}]")
 ESCAPES = re.compile(r"\\[12]\d\d")
 TIME = "a plain number of seconds up to 2147483647"
+# What is done by how an entry looks: the code of its fault, a pattern of its tokens with a blank between two and a line feed
+# before the type, what is written for what matches or None if the entry is taken out, what is said, and what is unknown then.
+UNSIGNED = "{0} is a type of DNSSEC, which is not served here. Serve the zone by another server; or take "
+RULES = [
+    ("R02", r"[ \n]\\$", "",
+     "a backslash does not join two lines: take it out, and write parentheses around data on several lines", ""),
+    ("R02", r"\\(?:([01]\d\d|2[0-4]\d|25[0-5]|[^\d\r])|\d{3}|)", lambda escape: "\\" * (not escape[1]) + escape[0],
+     "a backslash that begins no escape: write \\\\ for a backslash itself; an octet is \\000 to \\255", ""),
+    ("R08", "^", "@", "the line begins with a blank, and no owner is before it: write @ for the origin, or another owner", ""),
+    ("R10", r" (CH|CS|HS|CLASS\w*)(?=[ \n])", " IN", "the class {0}: only IN is known; write IN, or no class", ""),
+    ("R11", r"^ ?(#|//|--|/\*)", None, "a comment begins with ; here, and not with {0}", ""),
+    ("R11", r"\n(IN)( |$)", "\n", "{0}: the class is there twice, or the type is missing: take one out", ""),
+    ("R11", r"\n(\d\S*)( |$)", "\n", "{0}: the TTL is there twice, or the type is missing: take one out", ""),
+    ("R11", r"\n(ALIAS|ANAME)( .*|$)", "\nA 192.0.2.1",
+     "{0} is not a DNS type: write the A and AAAA records of its target", "data"),
+    ("R11", r"\n(DS|TYPE43)( |$)", None, UNSIGNED + "the record out, and after its TTL sign the zone below no more", "owner"),
+    ("R11", r"\n(DNSKEY|RRSIG|NSEC|NSEC3|NSEC3PARAM|TYPE46|TYPE47|TYPE48|TYPE50|TYPE51)( |$)", None, UNSIGNED +
+     "its DS out at the parent, if there is one, wait as long as the TTL of the DS says, and then take this record out", "owner"),
+    ("R11", r"\n(DNAME|TYPE39)( |$)", None, "{0} is not served here: an alias for each name takes its place", "owner"),
+    ("R14", "", None, "more than 100,000 records: split the zone", "rest"),
+    ("R15", "", None, "more than 16,777,216 octets: split the zone", "rest")]
 
 
 class Mending:
-    """What is done about an entry. The method of its code returns the sentence, and sets what follows.
+    """What is done about an entry: `says` is the sentence for its code, `lines` are those for it, or None if it is taken out.
 
-    `lines` are those for the entry, or None if it is taken out; `guess` says that its data is not its own, `untimed` that its
-    TTL is not; `silent` that a fault of it as it is mended may come from the mending, `follows` that this one may; `ends` that
-    what comes after it can't be checked.
+    `unknown` has what is not known of it then: its `data` or `ttl`, what its `owner` owns, the end of a `string`, or the `rest`
+    of the file. `follows` says that its fault may come from a string that was mended.
     """
 
-    def __init__(self, zone, reader, entry):
+    def __init__(self, zone, reader, entry, code):
         self.zone, self.reader, self.entry, self.tokens, self.lines = zone, reader, entry, entry.tokens, None
-        self.guess = self.untimed = self.silent = self.follows = self.ends = False
         self.owner, self.ttl, self.rrclass, self.rtype, self.data = entry.owner, entry.ttl, entry.rrclass, entry.rtype, entry.data
-        self.typed = "".join(self.tokens[entry.at:entry.at + 1])
+        self.typed, self.unknown, self.follows = "".join(self.tokens[entry.at:entry.at + 1]), set(), False
+        text = " " * entry.blank + entry.joined(0, entry.at) + "\n" + entry.joined(entry.at)
+        for rule, pattern, instead, says, unknown in RULES:
+            found = re.search(pattern, text, re.I) if rule == code else None
+            if found:
+                self.says, self.unknown = says.format(*(group and group.upper() for group in found.groups())), {unknown}
+                if instead is not None:
+                    self.lines = [re.sub(pattern, instead, text, not callable(instead), re.I).replace("\n", " ")]
+                return
+        # An entry that is not closed has no other fault yet: zonecheck reads what is after it as a part of it.
+        self.says = getattr(self, code.lower(), self.r04)()
 
     def put(self, **changed):
         """Writes the record anew."""
@@ -73,7 +102,7 @@ class Mending:
 
     def r01(self):
         form = next((form for form in FORMS if self.zone.text.startswith(form)), None)
-        self.ends, notes = form is not None, []
+        self.unknown, notes = {"rest"} if form else set(), []
         self.lines = [self.clean(self.zone.lines[at], at, notes) for at in range(self.entry.begin, self.entry.end)]
         return FORMS.get(form) or "; ".join(dict.fromkeys(notes)) or \
             "an octet that is not allowed: only printable ASCII, spaces and tabs are"
@@ -110,17 +139,8 @@ class Mending:
         full = ".".join(label if label.isascii() else "xn--" + label.encode("punycode").decode() for label in labels)
         return full, f"the name as DNS has it, {full}"
 
-    def r02(self):
-        text = self.entry.joined(0)
-        if text.endswith(" \\"):
-            self.put_tokens(*(token for token in self.tokens if token != "\\"))
-            return "a backslash does not join two lines: take it out, and write parentheses around data on several lines"
-        escape = r"\\(?:([01]\d\d|2[0-4]\d|25[0-5]|[^\d\r])|\d{3}|)"
-        self.put_tokens(re.sub(escape, lambda match: "\\" * (not match[1]) + match.group(), text))
-        return "a backslash that begins no escape: write \\\\ for a backslash itself; an octet is \\000 to \\255"
-
     def r03(self):
-        self.silent, entry, lines = True, self.entry, self.zone.lines
+        self.unknown, entry, lines = {"string"}, self.entry, self.zone.lines
         token = next((token for token in self.tokens if token[0] == '"' and not re.fullmatch(r'"(?:[^"\\]|\\.)*"', token)), '"')
         inner, more = token.endswith('\\"'), []
         closed = token[:-2] + '\\\\"' if inner else token.rstrip("\r) \t" if entry.depth else "\r") + '"'
@@ -137,7 +157,7 @@ class Mending:
             ": close it; long texts are several strings in parentheses")
 
     def r04(self):
-        self.silent, pieces = True, self.entry.pieces
+        self.unknown, pieces = {"string"}, self.entry.pieces
         self.put_tokens(*self.tokens)
         last = self.entry.begin + pieces[:self.entry.places[-1] if self.tokens else 0].count("\n")
         return ("a ) without a ( before it: take it out, or write the ( that is missing" if not self.entry.depth else
@@ -164,11 +184,11 @@ class Mending:
             if good:
                 self.put_tokens(first, good[0])
             return "$ORIGIN takes one name" + (f": write $ORIGIN {good[0]}" if good else "")
-        value = next((seconds(field) for field in fields if seconds(field) is not None), None)
-        self.untimed = value is None or value > 2147483647
-        self.put_tokens(first, str(3600 if self.untimed else value))
+        value, _ = self.as_number(next((field for field in fields if seconds(field) is not None), ""), "T")
+        self.unknown = set() if value else {"ttl"}
+        self.put_tokens(first, value or "3600")
         return f"$TTL takes one{TIME[1:]}: " + (
-            f"write {self.lines[0]}, for example" if self.untimed else f"{' '.join(fields)} is written {value} here")
+            f"{' '.join(fields)} is written {value} here" if value else f"write {self.lines[0]}, for example")
 
     def r07(self):
         good, _ = self.as_name(self.tokens[0], "")
@@ -176,65 +196,39 @@ class Mending:
         do = f"write {good}" if good else "write another"
         return f"{self.tokens[0]} is not a name, which has labels of 1 to 63 octets without quotation marks: {do}"
 
-    def r08(self):
-        self.put(owner="@")
-        return "the line begins with a blank, and no owner is before it: write @ for the origin, or another owner"
-
     def r09(self):
         ttl = self.ttl or self.tokens[0]
-        value = seconds(ttl)
-        if value is not None and value <= 2147483647:
-            self.put(ttl=str(value))
+        value, _ = self.as_number(ttl, "T")
+        if value:
+            self.put(ttl=value)
             return f"the TTL is {TIME}: {ttl} is written {value} here"
         says = self.misplaced(ttl, "TTL")
         if not says:
-            self.put(ttl=self.reader.default or self.reader.stated or "3600", untimed=True)
+            self.put(ttl=self.reader.default or self.reader.stated or "3600", unknown={"ttl"})
         return says or f"the TTL is {TIME}: {ttl} is not; write {self.ttl}, for example"
-
-    def r10(self):
-        wrong = self.rrclass
-        self.put(rrclass="IN")
-        return f"the class {wrong}: only IN is known; write IN, or no class"
 
     def r12(self):
         value = next((record.ttl for record in Reader(self.zone.zone).records(self.zone.lines) if record.ttl), "")
-        self.put(ttl=value if value.isdigit() else "3600", untimed=True)
+        self.put(ttl=value if value.isdigit() else "3600", unknown={"ttl"})
         return f"no TTL: put $TTL {self.ttl} on the first line"
 
     def r11(self):
-        tokens, rtype, typed = self.tokens, self.rtype, self.typed
-        comment = re.match(r"#|//|--|/\*", tokens[0])
-        if comment:
-            return f"a comment begins with ; here, and not with {comment[0]}"
-        says = self.misplaced(typed, "type") if self.entry.blank or not self.data else None
+        says = self.misplaced(self.typed, "type") if self.entry.blank or not self.data else None
         if says:
             return says
-        if rtype == "IN" or rtype[:1].isdigit():
-            self.put_tokens(*tokens[:self.entry.at], *self.data)
-            return f"{rtype}: the {'class' if rtype == 'IN' else 'TTL'} is there twice, or the type is missing: take one out"
-        if rtype in ("ALIAS", "ANAME"):
-            self.put(rtype="A", data=[INSTEAD["4"]], guess=True)
-            return f"{rtype} is not a DNS type: write the A and AAAA records of its target"
-        if rtype in OTHERS:
-            data, why = bind.generic(self.entry, rtype, self.reader.origin)
-            self.put(rtype=NUMBERS[rtype], data=(data or "\\# 0").split(" "))
+        if self.rtype in OTHERS:
+            data, why = bind.generic(self.entry, self.rtype, self.reader.origin)
+            self.put(rtype=NUMBERS[self.rtype], data=(data or "\\# 0").split(" "))
             do = why or f"write {self.rtype} {data[:60]}{'..' * bool(data[60:])}, as `zoneimport` does"
-            return f"{rtype} is not known by name: {do}"
-        bare, known = rtype.strip('":,.'), rtype in DNSSEC or rtype in ("DNAME", "TYPE39")
-        near = [bare] if bare in NUMBERS else [] if known or len(bare) < 3 else difflib.get_close_matches(bare[:20], NUMBERS, 1)
+            return f"{self.entry.rtype} is not known by name: {do}"
+        bare = self.rtype.strip('":,.')
+        near = [bare] if bare in NUMBERS else difflib.get_close_matches(bare[:20], NUMBERS, 1) if bare[2:] else []
         if near:
             self.put(rtype=near[0])
-            return f"{typed} is not a type: write {near[0]}"
-        # The entry is taken out: its owner may own more than is known.
-        self.zone.doubtful.add(name(self.owner, self.reader.origin) if self.owner else self.reader.owner)
-        if rtype in DNSSEC:
-            do = "the record out, and after its TTL sign the zone below no more" if rtype in ("DS", "TYPE43") else \
-                "its DS out at the parent, if there is one, wait as long as the TTL of the DS says, and then take this record out"
-            return f"{rtype} is a type of DNSSEC, which is not served here. Serve the zone by another server; or take {do}"
-        if known:
-            return f"{rtype} is not served here: an alias for each name takes its place"
-        says = f"{typed} is not a type: known are {', '.join(KINDS)}, and others as TYPEn"
-        return says if typed else f"no type after {tokens[-1]}"
+            return f"{self.typed} is not a type: write {near[0]}"
+        self.unknown = {"owner"}
+        says = f"{self.typed} is not a type: known are {', '.join(KINDS)}, and others as TYPEn"
+        return says if self.typed else f"no type after {self.tokens[-1]}"
 
     def r13(self):
         rtype = NAMED.get(self.rtype, self.rtype)
@@ -247,7 +241,7 @@ class Mending:
             good, note = self.READ[kind](self, token, kind)
             notes += [note] if note else []
             fixed.append(good)
-        self.guess = None in fixed or len(fixed) < len(kinds)
+        self.unknown = {"data"} if None in fixed or len(fixed) < len(kinds) else set()
         fixed += [None] * (len(kinds) - len(fixed))
         self.put(data=[good or INSTEAD[kind] for kind, good in zip(kinds.ljust(len(fixed), "s"), fixed)])
         return "; ".join([f"{rtype} takes {TAKES[rtype]}", *dict.fromkeys(notes if data or notes else ["there is none"])])
@@ -259,9 +253,8 @@ class Mending:
             data, _ = bind.generic(self.entry, rtype, self.reader.origin)
             self.put(data=(data or "\\# 0").split(" "))
             return f"{rtype} takes \\#, a length and hex digits" + (f": write {data}" if data else "")
-        self.guess = rtype in KINDS or not re.fullmatch(r"(?:[0-9a-fA-F]{2})*", digits)
-        if self.guess:
-            self.put(data=[INSTEAD[kind] for kind in KINDS[rtype]] if rtype in KINDS else ["\\#", "0"])
+        if rtype in KINDS or not re.fullmatch(r"(?:[0-9a-fA-F]{2})*", digits):
+            self.put(unknown={"data"}, data=[INSTEAD[kind] for kind in KINDS[rtype]] if rtype in KINDS else ["\\#", "0"])
             return says + (f"; these are not valid for {rtype}" if rtype in KINDS else "")
         self.put(data=["\\#", str(len(digits) // 2), *filter(None, [digits])])
         return f"{says}: write {' '.join(self.data)[:60]}"
@@ -348,13 +341,5 @@ class Mending:
             return token, None
         return (" ".join(string(text[at:at + 255]) for at in range(0, len(text), 255)),
                 f"a string has {len(text)} octets, and not more than 255: write several, in parentheses")
-
-    def r14(self):
-        self.ends = True
-        return "more than 100,000 records: split the zone"
-
-    def r15(self):
-        self.ends = True
-        return "more than 16,777,216 octets: split the zone"
 
     READ = {"n": as_name, "s": as_string, "4": as_address, "6": as_address, "H": as_number, "L": as_number}

@@ -40,7 +40,7 @@ class Warnings(Names):
                 continue
             yield from self.owner(full, sets)
             for record in itertools.chain.from_iterable(sets.values()):
-                if record.line in self.of.guessed or record.data[:1] == ["\\#"]:
+                if self.of.lacks(record, "data") or record.data[:1] == ["\\#"]:
                     continue
                 if record.ttl == "0":
                     yield record, "W06", "the TTL is 0: it is asked for again and again"
