@@ -54,6 +54,13 @@ RULES = [
     ("R11", r"\n(DNAME|TYPE39)( |$)", None, "{0} is not served here: an alias for each name takes its place", "owner"),
     ("R14", "", None, "more than 100,000 records: split the zone", "rest"),
     ("R15", "", None, "more than 16,777,216 octets: split the zone", "rest")]
+# What is done about data that lacks a field or has two in the wrong order: a pattern of it, what is written, and what is said.
+FIELDS = [(r"MX (?!\d+ )(\S+) (\d+)", r"MX \2 \1", "the number is first: write MX {1} {0}"),
+          (r"MX (?!\d+$)(\S+)", r"MX 10 \1", "the number is missing: write MX 10 {0}"),
+          (r"SOA (\S+)((?: \d\w*){5})", r"SOA \1 hostmaster\2",
+           "6 fields, and not 7: the second name is missing, the mailbox: write hostmaster after the first"),
+          (r"SOA((?: \S+){6})", r"SOA\1 3600",
+           "6 fields, and not 7: one of the five numbers is missing: write 3600 at the end, if it is the minimum")]
 
 
 class Mending:
@@ -236,7 +243,7 @@ class Mending:
             return self.unknown_form(rtype)
         kinds, notes, fixed = KINDS[rtype], [], []
         self.follows = len(kinds) != len(self.data)
-        data = self.counted(rtype, self.data[:], kinds, notes)
+        data = self.counted(rtype, kinds, notes)
         for kind, token in zip(kinds * len(data) if kinds == "s" else kinds, data):
             good, note = self.READ[kind](self, token, kind)
             notes += [note] if note else []
@@ -259,32 +266,24 @@ class Mending:
         self.put(data=["\\#", str(len(digits) // 2), *filter(None, [digits])])
         return f"{says}: write {' '.join(self.data)[:60]}"
 
-    def counted(self, rtype, data, kinds, notes):
-        """As many fields as a type has, if that can be known."""
-        count, front = len(data), []
+    def counted(self, rtype, kinds, notes):
+        """The data with as many fields as the type has, if that can be known."""
+        data, front, count = self.data[:], [], len(self.data)
         while len(data) > len(kinds) and kinds[0] != "s" and (
                 data[0].upper() == "IN" or seconds(data[0]) is not None is not seconds(data[kinds.count("H")])):
             front.append(data.pop(0))
         if front:
             self.ttl = next((str(seconds(token)) for token in front if token.upper() != "IN"), self.ttl)
             notes.append(f"TTL and class stand before the type: write {' '.join(front)} {rtype}")
+        for pattern, instead, says in FIELDS:
+            found = re.fullmatch(pattern, " ".join([rtype, *data]))
+            if found:
+                notes.append(says.format(*found.groups()))
+                return found.expand(instead).split(" ")[1:]
         fields = f"{count} field{'s' * (count != 1)}, and not {len(kinds)}"
-        plain = [seconds(token) is not None for token in data]
-        if rtype == "MX" and plain == [False, True]:
-            notes.append(f"the number is first: write MX {data[1]} {data[0]}")
-            data.reverse()
-        elif rtype == "MX" and plain == [False]:
-            notes.append(f"the number is missing: write MX 10 {data[0]}")
-            data.insert(0, "10")
-        elif rtype == "SOA" and len(data) < 6 and self.take_lines(data):
+        if rtype == "SOA" and count < 6 and self.take_lines(data):
             begin = self.line(self.entry.begin)
             notes.append(f"its lines are not joined: write ( at the end of {begin}, and ) after the last number")
-        elif rtype == "SOA" and plain[:2] == [False, True] and len(data) == 6:
-            data.insert(1, "hostmaster")
-            notes.append(f"{fields}: the second name is missing, the mailbox: write hostmaster after the first")
-        elif rtype == "SOA" and len(data) == 6:
-            data.append("3600")
-            notes.append(f"{fields}: one of the five numbers is missing: write 3600 at the end, if it is the minimum")
         elif len(data) > len(kinds) and kinds != "s":
             several = all(map(address, data)) and "a record has one address: write a record for each"
             notes.append(f"{fields}: {several or f'a comment begins with ;, write it before {data[len(kinds)]}'}")
@@ -302,8 +301,7 @@ class Mending:
             if len(data) + len(more) == 7 and None not in map(seconds, more):
                 data += more
                 self.entry.end = end
-                return True
-        return False
+        return self.entry.end > begin
 
     def as_number(self, token, kind):
         bare, most = token.strip('"'), LARGEST[kind]
