@@ -17,6 +17,11 @@ class Refused(Exception):
     """An entry can't be converted; the text says why."""
 
 
+def refuse(holds, why):
+    if holds:
+        raise Refused(why)
+
+
 def generic(entry, rtype, origin):
     """The data of an entry as RFC 3597 writes it, by the reader of dnspython, and None; or None and why not."""
     import dns.rdata  # It takes long to load, and most zones don't need it.
@@ -33,14 +38,12 @@ def generated(text, number):
 
     def one(match):
         nonlocal offset
-        if match["bad"]:
-            raise Refused(f"{text}: after ${{ are an offset, a width and one of d, o, x, X, n and N")
+        refuse(match["bad"], f"{text}: after ${{ are an offset, a width and one of d, o, x, X, n and N")
         if match[0][0] == "\\" or match[0] == "$$":
             return match[0].replace("$$", "$")
         offset = int(match[1] or offset)
         width, base, value = int(match[2] or 0), match[3] or "d", number + offset
-        if width > 127 or value > 2147483647:
-            raise Refused(f"{text}: the width or the number is too great")
+        refuse(width > 127 or value > 2147483647, f"{text}: the width or the number is too great")
         if base not in "nN":
             return f"%0{width}{base}" % (value if base == "d" else value & 0xffffffff)
         digits = f"{value & 0xffffffff:{'X' if base == 'N' else 'x'}}"[::-1].ljust((width + 1) // 2, "0")
@@ -132,22 +135,18 @@ class Importer(Reader):
 
     def include(self, tokens, place, stack):
         """Adds the file of $INCLUDE FILE [ORIGIN]; origin and owner are as before after it."""
-        if len(tokens) not in (2, 3):
-            raise Refused("$INCLUDE takes a file and an origin")
+        refuse(len(tokens) not in (2, 3), "$INCLUDE takes a file and an origin")
         real = os.path.realpath(os.path.join(self.folder, os.fsdecode(octets(tokens[1]).replace("\0", "").encode("latin-1"))))
         before, owner, self.files = self.origin, self.owner, self.files + 1
         origin = name(tokens[2], before) if len(tokens) == 3 else before
-        for refused, why in (
-                (os.path.commonpath([real, self.folder]) != self.folder,
-                 f"{tokens[1]} is outside {self.folder}; --include-from names another folder"),
-                (origin is None, f"{tokens[-1]} is not a name"), (real in stack, f"{tokens[1]} includes itself"),
-                (len(stack) >= DEEPEST or self.files > FILES,
-                 f"{tokens[1]} is deeper than {DEEPEST} files that include one another, or more than {FILES} files")):
-            if refused:
-                raise Refused(why)
+        refuse(os.path.commonpath([real, self.folder]) != self.folder,
+               f"{tokens[1]} is outside {self.folder}; --include-from names another folder")
+        refuse(origin is None, f"{tokens[-1]} is not a name")
+        refuse(real in stack, f"{tokens[1]} includes itself")
+        refuse(len(stack) >= DEEPEST or self.files > FILES,
+               f"{tokens[1]} is deeper than {DEEPEST} files that include one another, or more than {FILES} files")
         try:
-            if not stat.S_ISREG(os.stat(real).st_mode):
-                raise Refused(f"{tokens[1]} is not a plain file")
+            refuse(not stat.S_ISREG(os.stat(real).st_mode), f"{tokens[1]} is not a plain file")
             with open(real, "rb") as file:
                 text = file.read(LARGEST + 1).decode("latin-1")
         except OSError as error:
@@ -163,12 +162,11 @@ class Importer(Reader):
         """The records of $GENERATE FIRST-LAST[/STEP] OWNER [TTL] [CLASS] TYPE DATA."""
         found = RANGE.match("".join(tokens[1:2]))
         first, last, step = (int(part or 1) for part in found.groups()) if found else (1, 0, 0)
-        if first > last or last > 2147483647 or not step:
-            raise Refused(f"$GENERATE takes a range, as 1-9 or 1-9/2, and not {''.join(tokens[1:2]) or 'nothing'}")
-        if len(Entry([" ".join(tokens[2:])], 0).data) != 1 or tokens[2][0] == '"':
-            raise Refused("$GENERATE takes a range, an owner, a type and one token of data; data of several has quotation marks")
-        if (last - first) // step >= 100000:
-            raise Refused("$GENERATE makes more than 100,000 records")
+        refuse(first > last or last > 2147483647 or not step,
+               f"$GENERATE takes a range, as 1-9 or 1-9/2, and not {''.join(tokens[1:2]) or 'nothing'}")
+        refuse(len(Entry([" ".join(tokens[2:])], 0).data) != 1 or tokens[2][0] == '"',
+               "$GENERATE takes a range, an owner, a type and one token of data; data of several has quotation marks")
+        refuse((last - first) // step >= 100000, "$GENERATE makes more than 100,000 records")
         data, owner, lines = tokens[-1], self.owner, []
         if data[0] == '"':
             data = re.sub(r"\\(.)", lambda match: match.group().replace('\\"', '"'), data[1:-1], flags=re.S)

@@ -160,11 +160,10 @@ class Zone:
     def found(self, line, code, text, owner=""):
         """Adds a fault, and says whether it is another than the last one."""
         text = self.notes.get(line, text) if self.notes and code in ("R05", "R11", "R13") else text
-        self.faults.append(Fault(self.place(line), code, owner, text))
-        if self.faults[-2:-1] == self.faults[-1:]:
-            self.faults.pop()
-            return False
-        return True
+        fault = Fault(self.place(line), code, owner, text)
+        another = self.faults[-1:] != [fault]
+        self.faults += [fault] * another
+        return another
 
     def mend(self, reader, line, code):
         """Reports the fault of an entry, and mends it. False if what follows can't be checked."""
@@ -192,8 +191,8 @@ class Zone:
         begin, end = entry.begin, entry.end
         if not lines and entry.owner and entry.owner[0] not in '$#/"':
             # The entries after it that begin with a blank keep its owner.
-            after = next((at for at in range(end, len(self.lines)) if self.lines[at].split(";")[0].strip()), end)
-            if self.lines[after:] and self.lines[after][:1] in (" ", "\t"):
+            after = next((at for at in range(end, len(self.lines)) if self.lines[at].split(";")[0].strip()), begin)
+            if self.lines[after][0] in " \t" and after > begin:
                 self.lines[after] = entry.owner + self.lines[after]
         lines += [""] * (end - begin - len(lines))
         if len(lines) > end - begin:
@@ -212,11 +211,12 @@ class ZoneFaults(Names):
     def report(self, said):
         self.soas = [record for record in self.of.records if record.rtype == "SOA"]
         self.targets = {record.data[-1] for record in self.of.records if record.rtype in ("NS", "MX", "SRV") and record.data}
+        lost = {"data", "ttl", "owner"} & set().union(*self.of.unknown.values())
         for owner, code in re.findall(r"^(.*) (Z\d\d)$", said, re.M):
             alike = self.ALIKE.get(code)
             found = list(self.each(self.at(owner, alike[0]), alike[1]) if alike else getattr(self, code.lower())(owner))
-            doubtful = code in ("Z01", "Z04") and owner in self.of.doubtful or \
-                not found and code in ("Z08", "Z09", "Z10", "Z11") and any(self.of.unknown.values())
+            doubtful = owner in self.of.doubtful if code in ("Z01", "Z04") else \
+                lost and not found and code in ("Z08", "Z09", "Z10", "Z11")
             for record, text in [] if doubtful else found or [(self.first(owner), "the name has this fault")]:
                 self.of.found(record.line if record else 0, code, text, owner)
             if len(self.of.faults) > MOST:

@@ -11,8 +11,12 @@ import socket
 import struct
 import sys
 
-import dns.name
-import dns.rdatatype
+try:
+    import dns.name
+    import dns.rdatatype
+except ImportError:
+    sys.stderr.write("python3-dnspython is needed, and is not installed\n")
+    sys.exit(2)
 
 PIECE = re.compile(r'[ \t\r]+|;.*|"(?:[^"\\]+|\\.)*(?:"|\\?)|[()]|(?:[^ \t\r;"()\\]+|\\.)+|\\', re.S)
 SIMPLE = re.compile(r"(?:[!#%&'*+,\-/0-9:<=>?A-Z\[\]^_`a-z{|}~]{1,63}(?:\.|$))+")
@@ -120,15 +124,13 @@ class Entry:
             self.read(lines, begin, most, True)
         self.places = [at for at, piece in enumerate(self.pieces) if piece[0] not in " \t\r\n();"]
         self.tokens = tokens = [self.pieces[at] for at in self.places]
-        self.owner = self.ttl = self.rrclass = None
-        at = 0
-        if tokens and not self.blank:
-            self.owner, at = tokens[0], 1
-        while at < len(tokens):
-            if self.ttl is None and "0" <= tokens[at][0] <= "9":
-                self.ttl = tokens[at]
-            elif self.rrclass is None and CLASS.match(tokens[at]):
-                self.rrclass = tokens[at]
+        at = int(bool(tokens) and not self.blank)
+        self.owner, self.ttl, self.rrclass = tokens[0] if at else None, None, None
+        for token in tokens[at:]:
+            if self.ttl is None and "0" <= token[0] <= "9":
+                self.ttl = token
+            elif self.rrclass is None and CLASS.match(token):
+                self.rrclass = token
             else:
                 break
             at += 1

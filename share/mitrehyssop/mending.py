@@ -78,7 +78,7 @@ class Mending:
         for rule, pattern, instead, says, unknown in RULES:
             found = re.search(pattern, text, re.I) if rule == code else None
             if found:
-                self.says, self.unknown = says.format(*(group and group.upper() for group in found.groups())), {unknown}
+                self.says, self.unknown = says.format(*(group and group.upper() for group in found.groups())), {unknown} - {""}
                 if instead is not None:
                     self.lines = [re.sub(pattern, instead, text, not callable(instead), re.I).replace("\n", " ")]
                 return
