@@ -68,6 +68,10 @@ class Importer(Reader):
             lines.pop()
         at, nested = 0, True
         while at < len(lines) and self.size <= LARGEST:
+            if not lines[at]:
+                at += 1
+                self.add("", (path, at))
+                continue
             entry, begun = Entry(lines, at, nested), len(self.lines)
             # One that is not closed reads to the end: those after it are read without parentheses inside others.
             nested = nested and entry.closed

@@ -87,7 +87,7 @@ def run(program, main):
 
 def imported(origin, text, path, folder):
     """A zone of a file as BIND has it: its lines as they are converted, with the places that they come from."""
-    if text.startswith(tuple(FORMS)):
+    if text.startswith(("\0\0\0", *FORMS)):
         return Zone(origin, text, path)
     near = "" if path.startswith("/dev/") else os.path.dirname(path)
     importer = bind.Importer(name(origin, ".") or ".", folder or near or ".")

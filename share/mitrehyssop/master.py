@@ -84,6 +84,8 @@ def string(text):
 @functools.lru_cache(1 << 17)
 def name(text, origin):
     """An absolute name as the canonical text has it, of a name relative to an origin; None if it is invalid."""
+    if len(text) > 1020:
+        return None
     if SIMPLE.fullmatch(text):
         full = text.lower() if text[-1] == "." else f"{text.lower()}.{origin.lstrip('.')}"
         if len(full) < 255:
@@ -198,6 +200,9 @@ class Reader:
     def records(self, lines, stop=sys.maxsize):
         """The records of lines whose entries begin before a line."""
         while self.at < min(stop, len(lines)):
+            if not lines[self.at]:
+                self.at += 1
+                continue
             entry = Entry(lines, self.at)
             self.at = entry.end
             record = self.take(entry)

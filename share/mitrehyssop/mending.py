@@ -43,7 +43,7 @@ RULES = [
      "a backslash that begins no escape: write \\\\ for a backslash itself; an octet is \\000 to \\255", ""),
     ("R08", "^", "@", "the line begins with a blank, and no owner is before it: write @ for the origin, or another owner", ""),
     ("R10", r" (CH|CS|HS|CLASS\w*)(?=[ \n])", " IN", "the class {0}: only IN is known; write IN, or no class", ""),
-    ("R11", r"^ ?(#|//|--|/\*)", None, "a comment begins with ; here, and not with {0}", ""),
+    ("R11", r"^\s*(#|//|--|/\*)", None, "a comment begins with ; here, and not with {0}", ""),
     ("R11", r"\n(IN)( |$)", "\n", "{0}: the class is there twice, or the type is missing: take one out", ""),
     ("R11", r"\n(\d\S*)( |$)", "\n", "{0}: the TTL is there twice, or the type is missing: take one out", ""),
     ("R11", r"\n(ALIAS|ANAME)( .*|$)", "\nA 192.0.2.1",
