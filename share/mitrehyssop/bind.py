@@ -3,7 +3,6 @@ import os
 import re
 import stat
 
-import dns.name
 from master import KINDS, NUMBERS, OTHERS, Entry, Reader, groups, name, octets, seconds
 
 LARGEST = 16777216          # octets of what is written
@@ -24,7 +23,7 @@ def refuse(holds, why):
 
 def generic(entry, rtype, origin):
     """The data of an entry as RFC 3597 writes it, by the reader of dnspython, and None; or None and why not."""
-    import dns.rdata  # It takes long to load, and most zones don't need it.
+    import dns.rdata  # Loading it takes longer than all else that is loaded, and most zones don't need it.
     try:
         data = dns.rdata.from_text("IN", rtype, entry.joined(entry.at + 1), dns.name.from_text(origin), False).to_generic().data
     except Exception as error:  # Its readers raise many kinds.

@@ -33,16 +33,16 @@ STRAY = [("\ufeff", "", "a byte order mark: take it out"),
 NOT_ASCII = re.compile(f"[^\\0-\x7f{''.join(characters for characters, _, _ in STRAY)}]")
 ESCAPES = re.compile(r"\\[12]\d\d")
 TIME = "a plain number of seconds up to 2147483647"
+UNSIGNED = "{0} is a type of DNSSEC, which is not served here. Serve the zone by another server; or take "
 # What is done by how an entry looks: the code of its fault, a pattern of its tokens with a blank between two and a line feed
 # before the type, what is written for what matches or None if the entry is taken out, what is said, and what is unknown then.
-UNSIGNED = "{0} is a type of DNSSEC, which is not served here. Serve the zone by another server; or take "
 RULES = [
     ("R02", r"[ \n]\\$", "",
      "a backslash does not join two lines: take it out, and write parentheses around data on several lines", ""),
     ("R02", r"\\(?:([01]\d\d|2[0-4]\d|25[0-5]|[^\d\r])|\d{3}|)", lambda escape: "\\" * (not escape[1]) + escape[0],
      "a backslash that begins no escape: write \\\\ for a backslash itself; an octet is \\000 to \\255", ""),
     ("R08", "^", "@", "the line begins with a blank, and no owner is before it: write @ for the origin, or another owner", ""),
-    ("R10", r" (CH|CS|HS|CLASS\w*)(?=[ \n])", " IN", "the class {0}: only IN is known; write IN, or no class", ""),
+    ("R10", r" (CH|CS|HS|CLASS\S*)(?=[ \n])", " IN", "the class {0}: only IN is known; write IN, or no class", ""),
     ("R11", r"^\s*(#|//|--|/\*)", None, "a comment begins with ; here, and not with {0}", ""),
     ("R11", r"\n(IN)( |$)", "\n", "{0}: the class is there twice, or the type is missing: take one out", ""),
     ("R11", r"\n(\d\S*)( |$)", "\n", "{0}: the TTL is there twice, or the type is missing: take one out", ""),
@@ -74,13 +74,13 @@ class Mending:
         self.zone, self.reader, self.entry, self.tokens, self.lines = zone, reader, entry, entry.tokens, None
         self.owner, self.ttl, self.rrclass, self.rtype, self.data = entry.owner, entry.ttl, entry.rrclass, entry.rtype, entry.data
         self.typed, self.unknown, self.follows = "".join(self.tokens[entry.at:entry.at + 1]), set(), False
-        text = " " * entry.blank + entry.joined(0, entry.at) + "\n" + entry.joined(entry.at)
-        for rule, pattern, instead, says, unknown in RULES:
-            found = re.search(pattern, text, re.I) if rule == code else None
+        for pattern, instead, says, unknown in [rule for of, *rule in RULES if of == code]:
+            text = " " * entry.blank + entry.joined(0, entry.at) + "\n" + entry.joined(entry.at)
+            found = re.search(pattern, text, re.I)
             if found:
                 self.says, self.unknown = says.format(*(group and group.upper() for group in found.groups())), {unknown} - {""}
                 if instead is not None:
-                    self.lines = [re.sub(pattern, instead, text, not callable(instead), re.I).replace("\n", " ")]
+                    self.lines = [re.sub(pattern, instead, text, 0 if callable(instead) else 1, re.I).replace("\n", " ")]
                 return
         # An entry that is not closed has no other fault yet: zonecheck reads what is after it as a part of it.
         self.says = getattr(self, code.lower(), self.r04)()
