@@ -153,10 +153,10 @@ class Entry:
 
     def joined(self, first, last=None):
         """The tokens from one on as a text, up to another one if that is given, with a blank where there are some."""
-        places = [*self.places, len(self.pieces)]
-        tokens = set(self.places)
-        return re.sub("\0+", " ", "".join(printable(self.pieces[at]) if at in tokens else "\0"
-                                          for at in range(places[first], places[-1 if last is None else last]))).strip(" ")
+        places, tokens = [*self.places, len(self.pieces)], set(self.places)
+        pieces = range(places[first], places[-1 if last is None else last])
+        text = "".join(printable(self.pieces[at]) if at in tokens else "\0" for at in pieces)
+        return re.sub("\0+", " ", text.strip("\0"))
 
     def lines(self, changes):
         """The lines with other tokens at some places, no inner parentheses, and \\DDD in owner and data for other octets."""

@@ -45,7 +45,7 @@ RULES = [
     ("R10", r" (CH|CS|HS|CLASS\S*)(?=[ \n])", " IN", "the class {0}: only IN is known; write IN, or no class", ""),
     ("R11", r"^\s*(#|//|--|/\*)", None, "a comment begins with ; here, and not with {0}", ""),
     ("R11", r"\n(IN)( |$)", "\n", "{0}: the class is there twice, or the type is missing: take one out", ""),
-    ("R11", r"\n(\d\S*)( |$)", "\n", "{0}: the TTL is there twice, or the type is missing: take one out", ""),
+    ("R11", r"\n(\d\w*)( |$)", "\n", "{0}: the TTL is there twice, or the type is missing: take one out", ""),
     ("R11", r"\n(ALIAS|ANAME)( .*|$)", "\nA 192.0.2.1",
      "{0} is not a DNS type: write the A and AAAA records of its target", "data"),
     ("R11", r"\n(DS|TYPE43)( |$)", None, UNSIGNED + "the record out, and after its TTL sign the zone below no more", "owner"),
@@ -57,7 +57,7 @@ RULES = [
 # What is done about data that lacks a field or has two in the wrong order: a pattern of it, what is written, and what is said.
 FIELDS = [(r"MX (?!\d+ )(\S+) (\d+)", r"MX \2 \1", "the number is first: write MX {1} {0}"),
           (r"MX (?!\d+$)(\S+)", r"MX 10 \1", "the number is missing: write MX 10 {0}"),
-          (r"SOA (\S+)((?: \d\w*){5})", r"SOA \1 hostmaster\2",
+          (r"SOA (\S+)( \d\w*(?: \S+){4})", r"SOA \1 hostmaster\2",
            "6 fields, and not 7: the second name is missing, the mailbox: write hostmaster after the first"),
           (r"SOA((?: \S+){6})", r"SOA\1 3600",
            "6 fields, and not 7: one of the five numbers is missing: write 3600 at the end, if it is the minimum")]
@@ -251,7 +251,7 @@ class Mending:
         self.unknown = {"data"} if None in fixed or len(fixed) < len(kinds) else set()
         fixed += [None] * (len(kinds) - len(fixed))
         self.put(data=[good or INSTEAD[kind] for kind, good in zip(kinds.ljust(len(fixed), "s"), fixed)])
-        return "; ".join([f"{rtype} takes {TAKES[rtype]}", *dict.fromkeys(notes if data or notes else ["there is none"])])
+        return "; ".join([f"{rtype} takes {TAKES[rtype]}", *dict.fromkeys(notes)])
 
     def unknown_form(self, rtype):
         """Data after \\#, and that of a type that has no other form."""
