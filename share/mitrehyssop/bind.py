@@ -110,7 +110,7 @@ class Importer(Reader):
         record, changes, ttl = self.take(entry), {}, seconds(entry.ttl or "")
         rtype, self.restate = NAMED.get(entry.rtype, entry.rtype), False
         if owner and owner[0] == '"':
-            changes[0] = octets(owner).replace(" ", "\\032") or owner
+            changes[0] = (owner.strip('"') or owner).replace(" ", "\\032") + " "
         if ttl is not None:
             changes[tokens.index(entry.ttl, owner is not None)] = str(ttl)
         if record and record.ttl is None and rtype == "SOA" and len(data) == 7:
