@@ -1,5 +1,6 @@
 """What a run of a program takes, for tools that measure."""
 import contextlib
+import glob
 import os
 import re
 import resource
@@ -78,7 +79,7 @@ def seconds_of(server):
 def time_of(server):
     """The processor's time of the processes in a server's session so far, in microseconds, to less than one."""
     taken = 0
-    for task in Path("/proc").glob("[0-9]*/task/*"):
+    for task in glob.iglob("/proc/[0-9]*/task/*"):
         with contextlib.suppress(OSError):
             if int(Path(task, "stat").read_text().rsplit(")", 1)[1].split()[3]) == server.pid:
                 taken += int(Path(task, "schedstat").read_text().split()[0])
