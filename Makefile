@@ -3,17 +3,17 @@
 PREFIX ?= /usr/local
 NAMES = zonecheck zoneserve dnsmsg zonesocket
 PROGRAMS = $(foreach name,$(NAMES),crates/$(name)/out/$(name))
-# Those that are scripts, and the modules of those in Python.
+# The programs that are scripts, and the modules of the Python scripts.
 SCRIPTS = $(wildcard bin/*)
 MODULES = $(wildcard share/mitrehyssop/*.py)
-# Those of the first three that the tools run one after another.
+# The first three programs, which the tools run one after another.
 THREE = $(wordlist 1,3,$(PROGRAMS))
 PAGES = $(wildcard man/*.1)
 DOC = $(DESTDIR)$(PREFIX)/share/doc/mitrehyssop
 SHARE = $(DESTDIR)$(PREFIX)/share/mitrehyssop
 LIBEXEC = $(DESTDIR)$(PREFIX)/libexec/mitrehyssop
 UNITS = $(DESTDIR)$(PREFIX)/lib/systemd/system
-# The documents for operators; the others are for those who work on the source.
+# The documents for operators. The other documents are for people who work on the source.
 DOCUMENTS = $(foreach name,OPERATE SCALE CODES IMPORT ZONEFILE REPLY PROVED PERFORMANCE,docs/$(name).md)
 COMPLETIONS = $(DESTDIR)$(PREFIX)/share/bash-completion/completions
 
@@ -29,12 +29,12 @@ programs:
 	cd crates/dnsmsg && rt run <stdin
 	cd crates/zonesocket && { rt run -- udp 1 example ../../examples/example.zone </dev/null; [ $$? = 2 ]; }
 
-# Builds the programs where one is missing, or older than a source.
+# Builds the programs if one is missing or older than a source.
 built:
 	@tools/is-built $(PROGRAMS) || $(MAKE) programs
 
-# Installs what is built below PREFIX, or below DESTDIR where a package is made. The examples lie beside the documents by a link,
-# since small systems keep no documents, and scripts use them.
+# Installs what is built under PREFIX, or under DESTDIR if a package is made. The folder of the documents has only a link to the
+# examples, since small systems keep no documents, and scripts use the examples.
 install: built
 	install -d "$(DESTDIR)$(PREFIX)/bin" "$(DESTDIR)$(PREFIX)/share/man/man1" "$(DOC)/docs/plots" "$(SHARE)/examples" "$(COMPLETIONS)"
 	install -d "$(LIBEXEC)" "$(UNITS)"
@@ -57,16 +57,16 @@ uninstall:
 	rm -f $(foreach unit,$(wildcard systemd/*),"$(UNITS)/$(notdir $(unit))")
 	rm -rf "$(DOC)" "$(SHARE)" "$(LIBEXEC)"
 
-# Takes away what was built, proofs that are kept too: the next build proves all.
+# Removes what was built, including the proofs that are kept: the next build proves everything.
 clean:
 	rm -rf crates/*/out out
 
-# Makes out/mitrehyssop_VERSION_ARCH.deb of what is built.
+# Makes out/mitrehyssop_VERSION_ARCH.deb from what is built.
 package: built
 	tools/package
 
-# Has lintian judge the package, and runs the commands of docs/OPERATE.md where it is installed: in a container with systemd. It is
-# no part of the gate.
+# Has lintian check the package, installs it in a container with systemd, and runs the commands of docs/OPERATE.md there. It is
+# not in the gate.
 operate: built
 	tools/try-operate "$$(tools/package)"
 
@@ -74,8 +74,8 @@ operate: built
 examples: built
 	tools/examples crates/zonecheck/out/zonecheck
 
-# Runs the commands of the documents and compares what they print, tries the remedies of docs/CODES.md, zonelint, zoneimport and
-# the scripts of examples/, and sees that the pages that are made by scripts are as these make them.
+# Runs the commands of the documents and compares what they print; tries the remedies of docs/CODES.md, zonelint, zoneimport and
+# the scripts of examples/; and checks that the pages that scripts generate are up to date.
 docs-check: built
 	tools/definitions | cmp - docs/DEFINITIONS.md
 	tools/docs-check $(PROGRAMS)
@@ -89,68 +89,68 @@ docs-check: built
 test:
 	RT_JOBS=$$(tools/lanes) rt ci
 
-# Tries the edits that the gate leaves out: the check has to refuse each. It is no part of the gate.
+# Tries the edits that the gate leaves out: the check has to refuse each. It is not in the gate.
 edits:
 	RT_JOBS=$$(tools/lanes) tools/edits
 
-# Runs the programs on wrong words, on files that can't be read, on faulty files, and on outputs that take nothing, and sees
-# that callers which misuse a walk over a zone don't compile. It is no part of the gate.
+# Runs the programs with wrong arguments, with files that can't be read, with faulty files, and with outputs that accept nothing,
+# and checks that callers that misuse a walk over a zone don't compile. It is not in the gate.
 misuse: programs
 	tools/misuse crates/zonecheck/out/zonecheck crates/zoneserve/out/zoneserve crates/zonesocket/out/zonesocket
 	tools/must-not-compile
 
 # Serves real clients on loopback: dig, kdig, dnsperf, a resolver, and peers that behave badly; has NSD, Knot and BIND answer from
-# a canonical text; and runs docs/OPERATE.md. It is no part of the gate.
+# a canonical text; and runs docs/OPERATE.md. It is not in the gate.
 clients: built
 	tools/clients crates/zoneserve/out/zoneserve crates/zonesocket/out/zonesocket
 	tools/elsewhere crates/zonecheck/out/zonecheck
 	$(MAKE) operate
 
-# Measures the servers beside NSD, Knot and BIND where they are installed, what reloads lose, and what several processes at a
-# socket give. It decides nothing, and is no part of the gate.
+# Measures the servers beside NSD, Knot and BIND if they are installed, what reloads lose, and what several processes at a socket
+# gain. It decides nothing, and is not in the gate.
 speed: built
 	tools/speed crates/zoneserve/out/zoneserve
 	tools/gap crates/zonesocket/out/zonesocket
 	tools/sharing crates/zonesocket/out/zonesocket
 
 # Runs the services of docs/SCALE.md in network namespaces: with dnsdist in front, on three hosts with one address, and NSD
-# as a hidden primary. It is no part of the gate, and leaves out what is not installed.
+# as a hidden primary. It is not in the gate, and leaves out what is not installed.
 scale: built
 	tools/test-behind $(PROGRAMS)
 	tools/test-anycast $(PROGRAMS)
 	tools/test-hidden $(PROGRAMS)
 
-# Runs the programs on bad days: refused memory, failing calls of the system, bad streams, signals. It is no part of the
-# gate.
+# Runs the programs under failures: refused memory, failing system calls, bad streams, signals. It is not in the gate.
 faults: built
 	@tools/is-built crates/refused/out/refused || (cd crates/refused && rt run -- data/large.zone >/dev/null)
 	tools/faults $(PROGRAMS) crates/refused/out/refused
 
-# Tries wrong bodies that say they have no memory, which no contract refuses: each has to fail a test. It is no part of the
+# Tries wrong bodies that report that they have no memory, which no contract refuses: each has to fail a test. It is not in the
 # gate.
 caught:
 	tools/caught
 
-# Gives a million datagrams that were changed at random to zoneserve, and 100,000 such files to zonecheck, and compares what
-# they answer with what plain programs in another language do.
+# Gives a million datagrams that were changed at random to zoneserve, and 100,000 such files to zonecheck, and compares their
+# output with the output of plain programs in another language.
 hostile: built
 	tools/hostile crates/zonecheck/out/zonecheck crates/zoneserve/out/zoneserve 1000000
 	tools/hostile-zones crates/zonecheck/out/zonecheck 100000
 
-# Gives broken messages to dnsmsg, and times the worst one. It is no part of the gate.
+# Gives broken messages to dnsmsg, and times the worst one. It is not in the gate.
 messages: built
 	tools/messages crates/dnsmsg/out/dnsmsg
 
-# Measures the programs on the inputs that cost the most. It decides nothing, and is no part of the gate.
+# Measures the programs on the inputs that cost the most. It decides nothing, and is not in the gate.
 worst: built
 	tools/worst $(THREE)
 
-# Refuses each program each of its allocations in turn. It proves nothing, and is no part of the gate.
+# Refuses each allocation of each program in turn. It proves nothing, and is not in the gate.
 memory:
 	tools/refuse-memory zonecheck
 	tools/refuse-memory zoneserve
 
-# Counts how data is read and written and questions answered, and measures the checker. It decides nothing, and is no part of the gate.
+# Counts the instructions that it takes to read and write data and to answer questions, and measures the checker. It decides
+# nothing, and is not in the gate.
 bench:
 	tools/bench
 	tools/bench-checker
