@@ -1,13 +1,14 @@
-"""An order of records that costs the checker's sort most.
+"""The order of records that is most expensive for the checker's sort.
 
-Whoever writes a file knows how the standard library's sort in place chooses pivots, so the order can be made for it: the sort is
-run over elements without values, and each comparison gives one a value, the least that is left, so late that each pivot is among
-the least (McIlroy, "A killer adversary for quicksort", 1999). After 2 log n partitions of nearly all a heap sort takes over.
+The author of a file may know how the standard library's in-place sort chooses pivots, and can choose an order against it. Here
+the sort runs on elements without values. A comparison gives an element a value, the least that is unused, only when it needs
+one, so that each pivot is among the least elements (McIlroy, "A killer adversary for quicksort", 1999). After 2 log n partitions
+of nearly all elements, a heap sort takes over.
 """
 
 
 class Sort:
-    """The sort in place of `count` elements whose values its comparisons decide; the last is the greatest."""
+    """The in-place sort of `count` elements. Its comparisons decide their values; the last element is the greatest."""
 
     def __init__(self, count):
         self.values = [None] * (count - 1) + [count - 1]
@@ -15,7 +16,7 @@ class Sort:
         self.row = list(range(count))
 
     def less(self, one, other):
-        """Whether one element is less than another. Of two without values, one gets the next."""
+        """Whether one element is less than another. If both have no value, one gets the next value."""
         values = self.values
         if values[one] is None and values[other] is None:
             values[one if one == self.asked else other] = self.decided
@@ -27,7 +28,8 @@ class Sort:
         return values[one] is not None and (values[other] is None or values[one] < values[other])
 
     def median(self, a, b, c, size):
-        """The place of a pivot: the median of three, each that of three more if they begin stretches of eight or more."""
+        """The place of a pivot: the median of three places. Each is itself the median of three in its stretch of eight or
+        more."""
         if size >= 8:
             m = size // 8
             a, b, c = (self.median(place, place + m * 4, place + m * 7, m) for place in (a, b, c))
@@ -38,7 +40,7 @@ class Sort:
         return c if self.less(y, z) != below_y else b
 
     def partition(self, low, high, pivot, or_equal):
-        """Puts the element at `pivot` after those of the stretch that go before it, and returns its place."""
+        """Moves the element at `pivot` after all elements of the stretch that go before it, and returns its place."""
         row = self.row
         row[low], row[pivot] = row[pivot], row[low]
         pivot = row[low]
@@ -63,7 +65,7 @@ class Sort:
         return left - 1
 
     def sort(self, low, high, depth):
-        """Sorts as far as the heap sort."""
+        """Sorts until the heap sort would take over."""
         while high - low > 16 and depth:
             depth -= 1
             m = (high - low) // 8
@@ -77,7 +79,7 @@ class Sort:
 
 
 def order_against_sort(count):
-    """The numbers below `count` in such an order, the greatest last."""
+    """The numbers below `count` in the most expensive order, with the greatest last."""
     sort = Sort(count)
     sort.sort(0, count, 2 * (count.bit_length() - 1))
     for one in sort.row:

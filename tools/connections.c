@@ -1,8 +1,8 @@
 /*
- * Asks a server over TCP by connections of one question each: `connections PORT COUNT AT_ONCE`, at 127.0.0.1, COUNT in all and
- * AT_ONCE at once, for the SOA record of example. It prints how many were replied a second. A connection that fails, or ends
- * without a reply, ends it with status 1. Each of them has one of 250 addresses of loopback in turn, since an address has 28,000
- * ports, which are kept for a while.
+ * Asks a server at 127.0.0.1 over TCP for the SOA record of example, with one question on each connection:
+ * `connections PORT COUNT AT_ONCE`, COUNT connections in all and AT_ONCE at once. It prints the replies per second. If a
+ * connection fails, or ends without a reply, the program ends with status 1. The connections come from 250 loopback addresses
+ * in turn, because an address has only 28,000 ports, and each stays in use for a while.
  */
 #include <arpa/inet.h>
 #include <errno.h>

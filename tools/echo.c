@@ -1,6 +1,6 @@
 /*
- * Sends each datagram of the UDP socket that is its standard input back to its sender: what any server at a socket takes of the
- * processor's time at least.
+ * Sends each datagram back to its sender; standard input is the UDP socket. Its processor time is the least that any server at a
+ * socket needs.
  */
 #include <netinet/in.h>
 #include <sys/socket.h>

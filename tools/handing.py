@@ -1,4 +1,4 @@
-"""Sockets of loopback that are handed to libexec/workers, as systemd hands them, for tools that test and measure it."""
+"""Passes loopback sockets to libexec/workers, as systemd does, for tools that test and measure it."""
 import contextlib
 import os
 import shutil
@@ -12,14 +12,14 @@ LIBEXEC = Path(__file__).resolve().parent.parent / "libexec"
 
 
 def linked(words, folder):
-    """A folder with the programs that a command line names, to be put on the path."""
+    """Links the programs that a command line names into a folder for PATH, and returns the folder."""
     for word in words:
         os.symlink(Path(word).resolve(), Path(folder, Path(word).name))
     return folder
 
 
 def bound(kind, address):
-    """A socket that is bound, and listens over TCP. It keeps as many octets as the unit's sockets do."""
+    """A bound socket, which listens if it is of TCP. Its receive buffer is as large as those of the unit's sockets."""
     one = socket.socket(socket.AF_INET, kind)
     one.setsockopt(socket.SOL_SOCKET, socket.SO_REUSEADDR, 1)
     one.setsockopt(socket.SOL_SOCKET, socket.SO_RCVBUF, 1 << 20)
@@ -30,9 +30,9 @@ def bound(kind, address):
 
 
 def begin(given, words, environment, errors=subprocess.DEVNULL):
-    """`workers` with these arguments, and sockets as its descriptors 3, 4, ..
+    """Starts `workers` with these arguments, and with the sockets as its descriptors 3, 4, ..
 
-    The sockets are doubled far up first, so that none of them has the number of another.
+    The sockets are first duplicated to high numbers, so that no number is used twice.
     """
     far = [os.dup2(one.fileno(), one.fileno() + 100) for one in given]
     places = " ".join(f"{3 + place}<&{number}" for place, number in enumerate(far))
@@ -45,12 +45,12 @@ def begin(given, words, environment, errors=subprocess.DEVNULL):
 
 
 def tell(run, environment, *words):
-    """The status of tell-workers."""
+    """Runs tell-workers, and returns its exit status."""
     return subprocess.run([LIBEXEC / "tell-workers", *words], env={**environment, "MAINPID": str(run.pid)}, timeout=60).returncode
 
 
 def until(what, seconds=5):
-    """Whether something holds within so many seconds."""
+    """Waits until `what` returns a true value, for at most `seconds` seconds, and returns its last value."""
     end = time.monotonic() + seconds
     while not (holds := what()) and time.monotonic() < end:
         time.sleep(0.02)
@@ -58,18 +58,18 @@ def until(what, seconds=5):
 
 
 def children(run, words=""):
-    """The processes that `workers` has started, or those of them whose words have these."""
+    """The processes that `workers` has started and whose command lines contain `words`."""
     listed = subprocess.run(["ps", "-o", "pid=,args=", "--ppid", str(run.pid)], capture_output=True, text=True).stdout
     return sorted(int(line.split()[0]) for line in listed.splitlines() if words in line)
 
 
 def processes(run, transport=""):
-    """The workers of a transport, or all."""
+    """The workers of a transport, or all workers."""
     return children(run, f"zonesocket {transport}")
 
 
 def end(run, given):
-    """Ends `workers`, and has the addresses free."""
+    """Ends `workers`, and frees its addresses."""
     left = children(run)
     run.terminate()
     run.wait(timeout=5)
@@ -80,7 +80,8 @@ def end(run, given):
 
 @contextlib.contextmanager
 def serving(programs, address, origin, file, **settings):
-    """`workers` of a zone at a socket of each transport, with the folder of the programs; a way to have it load the file anew."""
+    """Runs `workers` for a zone at one socket of each transport. `programs` is the folder of the programs; `reload` of the result
+    loads the file again."""
     room = tempfile.mkdtemp()
     environment = {**os.environ, "PATH": f"{programs}:{os.environ['PATH']}", "RUNTIME_DIRECTORY": room, **settings}
     given = [bound(kind, address) for kind in [socket.SOCK_DGRAM, socket.SOCK_STREAM]]

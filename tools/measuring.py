@@ -1,4 +1,4 @@
-"""What a run of a program takes, for tools that measure."""
+"""Measures runs of programs: processor time, memory, instructions."""
 import contextlib
 import glob
 import os
@@ -8,24 +8,25 @@ import subprocess
 import tempfile
 from pathlib import Path
 
-# A run that takes longer is ended.
+# A run that takes longer than this is ended.
 SECONDS = 600
-# How many instructions a zone file may take for each octet that is read or written, to be checked and to be loaded by the server.
+# The most instructions for each octet read or written, to check a zone file and to load it in the server.
 MOST_TO_CHECK = 670
 MOST_TO_LOAD = 910
-# How many a reply over TCP may take: in all, and for each octet of the query and the reply.
+# The most instructions for a reply over TCP: in all, and for each octet of the query and the reply.
 MOST_A_REPLY = 100_000_000
 MOST_AN_OCTET = 1_000
-# How many a question over UDP may take, whatever zone of 100,000 records it is asked of, without the digits of its line and of
-# the reply's, which take some 30 an octet. docs/DECISIONS.md says why they are as many.
+# The most instructions for a question over UDP, in any zone of 100,000 records. The hex digits of its line and of the reply's
+# line take about 30 more for each octet. docs/DECISIONS.md gives the reasons for these numbers.
 MOST_OVER_UDP = 200_000
 DIGITS_AN_OCTET = 30
-# What a zone needs.
+# The records that each zone needs.
 HEAD = b"$TTL 60\n@ SOA . . 1 2 3 4 5\n@ NS .\n"
 
 
 def timed(words, given=b""):
-    """How many octets a run writes, its status, and its seconds of the processor in user space, to less than a hundredth."""
+    """The number of octets that a run writes, its status, and its processor time in user space in seconds, more precise than a
+    hundredth."""
     with tempfile.TemporaryFile() as sink:
         before = resource.getrusage(resource.RUSAGE_CHILDREN).ru_utime
         run = subprocess.run(words, input=given, stdout=sink, stderr=subprocess.DEVNULL)
@@ -33,7 +34,8 @@ def timed(words, given=b""):
 
 
 def taken(words, given):
-    """How many octets a run writes, the last of them, its status, its seconds of the processor, the most memory in KB."""
+    """The number of octets that a run writes, the last 100 of them, its status, its processor time in seconds, and its peak
+    memory in KB."""
     with tempfile.TemporaryFile() as source, tempfile.TemporaryFile() as sink, tempfile.NamedTemporaryFile() as told:
         source.write(given)
         source.seek(0)
@@ -45,12 +47,12 @@ def taken(words, given):
         return octets, sink.read(), run.returncode, float(user) + float(system), int(memory)
 
 
-# callgrind counts each octet of `rep movsb` as an instruction: the C library is asked to do without.
+# callgrind counts each octet of `rep movsb` as an instruction, so the C library is set to avoid it.
 NO_REP = "glibc.cpu.x86_rep_movsb_threshold=1000000000:glibc.cpu.x86_rep_stosb_threshold=1000000000"
 
 
 def instructions(words, given, patience=SECONDS):
-    """How many instructions a run takes; nothing where it takes longer than so many seconds."""
+    """The instructions of a run, or None if it takes longer than `patience` seconds."""
     with tempfile.TemporaryFile() as source:
         source.write(given)
         source.seek(0)
@@ -65,7 +67,7 @@ def instructions(words, given, patience=SECONDS):
 
 
 def seconds_of(server):
-    """The processor's time of the processes in a server's session so far, in user space and in all, in seconds."""
+    """The processor time so far of the processes in a server's session, in user space and in all, in seconds."""
     tick = os.sysconf("SC_CLK_TCK")
     user = system = 0
     for stat in Path("/proc").glob("[0-9]*/stat"):
@@ -77,7 +79,7 @@ def seconds_of(server):
 
 
 def time_of(server):
-    """The processor's time of the processes in a server's session so far, in microseconds, to less than one."""
+    """The processor time so far of the processes in a server's session, in microseconds, more precise than one."""
     taken = 0
     for task in glob.iglob("/proc/[0-9]*/task/*"):
         with contextlib.suppress(OSError):
@@ -87,7 +89,8 @@ def time_of(server):
 
 
 def by_dnsperf(address, port, asked, queries, rate=0):
-    """dnsperf's run through a file of names, at most so many a second: how many were answered, and how many a second."""
+    """Runs dnsperf through a file of names, with at most `rate` queries a second, if given. Returns the number of answered
+    queries, and their rate a second."""
     lines = sum(1 for _ in open(asked))
     words = ["dnsperf", "-s", address, "-p", str(port), "-d", asked, "-n", str(max(queries // lines, 1)), "-q", "200", "-l", "60"]
     words += ["-Q", str(rate)] if rate else []

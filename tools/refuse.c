@@ -1,5 +1,5 @@
-/* An allocator that refuses one request, to be preloaded: REFUSE is its number, from 1, and with a plus after it all later
-   ones are refused too. Where it comes to that, the file named by REFUSED is made. */
+/* A preloaded allocator that refuses one request. REFUSE is its number, from 1; with a plus after it, all later requests are
+   refused too. When a request is refused, the file that REFUSED names is created. */
 #define _GNU_SOURCE
 #include <dlfcn.h>
 #include <errno.h>
