@@ -1,11 +1,11 @@
-"""Other servers, without a log, for tools that measure beside them."""
+"""Other servers, without logs, for tools that compare them with ours."""
 import contextlib
 import os
 import subprocess
 import time
 from pathlib import Path
 
-# What is in braces is filled in.
+# `filled` and `serving` fill in the fields in braces.
 NSD = """server:
   ip-address: {here}@{port}
   server-count: {workers}
@@ -56,7 +56,7 @@ logging {{ category default {{ null; }}; }};
 zone "example" {{ type primary; file "{zone}"; check-names ignore; }};
 """
 
-# Each one's name, what has to be installed, its settings, its words, and those that have it load its zone anew.
+# For each server: its name, the program that must be installed, its settings, its command, and the command that reloads its zone.
 SERVERS = [
     ("nsd", "nsd", NSD, ["nsd", "-d", "-c", "{conf}"], ["nsd-control", "-c", "{conf}", "reload", "example"]),
     ("knotd", "knotd", KNOT, ["knotd", "-c", "{conf}"], ["knotc", "-b", "-s", "{folder}/knot.sock", "zone-reload", "example"]),
@@ -70,7 +70,7 @@ def filled(words, **values):
 
 @contextlib.contextmanager
 def serving(row, address, folder, zone, workers):
-    """A server of this list, with so many processes or workers, and a way to have it load its zone anew."""
+    """Runs a server of the list with `workers` processes or workers. Its `reload` makes it reload its zone, or is None."""
     name, _, settings, words, reload = row
     values = {"here": address[0], "port": address[1], "folder": folder, "zone": zone, "workers": workers}
     values["conf"] = Path(folder, f"{name}.conf")
