@@ -1,19 +1,19 @@
-"""Reads a zone file as BIND does, and writes its entries as zonecheck reads them, each on its lines."""
+"""Reads a zone file as BIND does, and writes its entries in zonecheck's form, each on its own lines."""
 import os
 import re
 import stat
 
 from master import KINDS, NUMBERS, OTHERS, Entry, Reader, groups, name, octets, seconds
 
-LARGEST = 16777216          # octets of what is written
-DEEPEST, FILES = 10, 1000   # files that include one another, and all that are included
+LARGEST = 16777216          # the most octets that are written
+DEEPEST, FILES = 10, 1000   # the most files that include one another, and the most included files
 NAMED = {number: rtype for rtype, number in NUMBERS.items()}
 RANGE = re.compile(r"(\d{1,10})-(\d{1,10})(?:/(\d{1,10})|(?!/))")
 SIGN = re.compile(r"\\.|\$\$|\$\{(-?\d{1,9})(?:,(\d{1,3})(?:,([doxXnN]))?)?\}|\$(?P<bad>\{)?", re.S)
 
 
 class Refused(Exception):
-    """An entry can't be converted; the text says why."""
+    """An entry can't be converted. The text is the reason."""
 
 
 def refuse(holds, why):
@@ -22,17 +22,17 @@ def refuse(holds, why):
 
 
 def generic(entry, rtype, origin):
-    """The data of an entry as RFC 3597 writes it, by the reader of dnspython, and None; or None and why not."""
-    import dns.rdata  # Loading it takes longer than all else that is loaded, and most zones don't need it.
+    """The data of an entry in the form of RFC 3597, read by dnspython, and None; or None and the reason why not."""
+    import dns.rdata  # Its import takes longer than all others together, and most zones don't need it.
     try:
         data = dns.rdata.from_text("IN", rtype, entry.joined(entry.at + 1), dns.name.from_text(origin), False).to_generic().data
-    except Exception as error:  # Its readers raise many kinds.
+    except Exception as error:  # Its readers raise many kinds of exceptions.
         return None, f"the data is invalid for {rtype}: {error}"
     return f"\\# {len(data)} {data.hex()}".strip(), None
 
 
 def generated(text, number):
-    """A template of $GENERATE with a number, as BIND has it: an offset also holds for what follows."""
+    """A template of $GENERATE filled with a number, as in BIND: an offset also applies to the rest of the template."""
     offset = 0
 
     def one(match):
@@ -52,12 +52,13 @@ def generated(text, number):
 
 
 class Importer(Reader):
-    """Makes `lines` and their `places` of a file and those that it includes; `notes` says of lines why they are as they were."""
+    """Makes `lines` and their `places` from a file and the files that it includes. `notes` has the reason for each line that was
+    not converted."""
 
     def __init__(self, zone, folder):
         super().__init__(zone)
         self.folder, self.lines, self.places, self.notes, self.sources = os.path.realpath(folder), [], [], {}, {}
-        # Whether the next record has to state its owner, and the TTL of records by the SOA record.
+        # Whether the next record must state its owner, and the TTL that records get from the SOA record.
         self.restate, self.implied, self.size, self.files = False, None, 0, 0
 
     def read(self, text, path, stack=()):
@@ -72,7 +73,7 @@ class Importer(Reader):
                 self.add("", (path, at))
                 continue
             entry, begun = Entry(lines, at, nested), len(self.lines)
-            # One that is not closed reads to the end: those after it are read without parentheses inside others.
+            # An entry that is not closed reads to the end of the file. So later entries are read without nested parentheses.
             nested = nested and entry.closed
             try:
                 new = self.entry(entry, (path, at + 1), stack)
@@ -137,7 +138,7 @@ class Importer(Reader):
         return [front + first, *rest]
 
     def include(self, tokens, place, stack):
-        """Adds the file of $INCLUDE FILE [ORIGIN]; origin and owner are as before after it."""
+        """Adds the file of $INCLUDE FILE [ORIGIN], and then restores origin and owner."""
         refuse(len(tokens) not in (2, 3), "$INCLUDE takes a file and an origin")
         real = os.path.realpath(os.path.join(self.folder, os.fsdecode(octets(tokens[1]).replace("\0", "").encode("latin-1"))))
         before, owner, self.files = self.origin, self.owner, self.files + 1
@@ -182,7 +183,8 @@ class Importer(Reader):
 
 
 def expanded(reader, entry, path):
-    """The lines for $INCLUDE or $GENERATE in a file that is not otherwise as BIND has it, or None."""
+    """The lines for $INCLUDE or $GENERATE in a file that is otherwise not in BIND's form; None if the entry can't be
+    converted."""
     importer = Importer(reader.origin, os.path.dirname(path) or ".")
     vars(importer).update(vars(reader))
     try:

@@ -1,7 +1,7 @@
-"""Finds all faults of a zone by zonecheck, which decides, and says what to do about each.
+"""Finds all faults of a zone with zonecheck, which decides, and says what to do about each.
 
-zonecheck reports the first faulty entry of a file. Here that entry is mended as its sentence says, or by data of its type if
-that can't be known, and the file is checked again. So the rest is judged as it is once the entry is right.
+zonecheck reports the first faulty entry of a file. That entry is corrected here as its message says, or gets other data of its
+type if the right data is unknown, and the file is checked again. So the rest of the file is checked as if the entry were correct.
 """
 import collections
 import gc
@@ -18,13 +18,13 @@ import bind
 from master import Entry, Names, Reader, address, canonical, escaped, name, twice, unique, within
 from mending import FORMS, Mending
 
-MOST = 100                  # faults that are reported of a file
-LARGEST = 16777216          # octets that zonecheck reads of a file, and one more to see that there are more
+MOST = 100                  # the most faults that are reported for a file
+LARGEST = 16777216          # the most octets of a file; zonecheck reads one more, to see whether there are more
 Fault = collections.namedtuple("Fault", "place code name text")
 
 
 class Report(collections.namedtuple("Report", "file line severity code name message text")):
-    """A fault or a warning as it is written, as a text in the form that editors know."""
+    """A fault or a warning as it is reported. Its text is in a form that editors recognize."""
 
     def said(self):
         return f"{self.name}: {self.message}" if self.name else self.message
@@ -34,11 +34,11 @@ class Report(collections.namedtuple("Report", "file line severity code name mess
 
 
 class NotChecked(Exception):
-    """A file could not be checked; the text says why."""
+    """A file could not be checked. The text is the reason."""
 
 
 def read(path):
-    """The octets of a file, or of standard input (`-`), as far as zonecheck reads."""
+    """The octets of a file, or of standard input (`-`): as many as zonecheck reads."""
     try:
         with open(0 if path == "-" else path, "rb", closefd=path != "-") as source:
             return source.read(LARGEST + 1).decode("latin-1")
@@ -60,13 +60,13 @@ def zonecheck(origin, text, *options):
 
 
 def plain(text):
-    """A text that changes no terminal: \\DDD for what is not printable."""
+    """A text that is safe for a terminal: \\DDD replaces octets that are not printable."""
     return text if text.isprintable() else escaped(os.fsencode(text).decode("latin-1").expandtabs())
 
 
 def run(program, main):
-    """Runs a program, and ends with its status; 2 if its output can't be written, since 1 says that a zone has faults."""
-    gc.disable()  # Nothing here makes cycles worth looking for, and records are many.
+    """Runs a program and exits with its status, or with 2 if its output can't be written; 1 means that a zone has faults."""
+    gc.disable()  # There are many records, and no cycles worth collecting.
     warnings.simplefilter("ignore")
     sys.stdout.reconfigure(errors="backslashreplace")
     status = 2
@@ -86,7 +86,7 @@ def run(program, main):
 
 
 def imported(origin, text, path, folder):
-    """A zone of a file as BIND has it: its lines as they are converted, with the places that they come from."""
+    """The zone of a file in BIND's form: its converted lines, with the places that they come from."""
     if text.startswith(("\0\0\0", *FORMS)):
         return Zone(origin, text, path)
     near = "" if path.startswith("/dev/") else os.path.dirname(path)
@@ -98,10 +98,10 @@ def imported(origin, text, path, folder):
 class Zone:
     """A zone file, and all that is found about it.
 
-    `lines` are its lines as far as they are mended, and `places` their files and numbers, if an importer made them or there
-    are others than those of the file. `notes` has what an importer says of a line that it could not convert, `unknown` what
-    is not known of a mended line, `doubtful` the names that may own more than `records` say; the file is `partial` if lines
-    that it includes are not known.
+    `lines` are its lines, corrected so far. `places` are their files and numbers, if an importer made the lines or lines were
+    added to the file's own. `notes` has the importer's message for each line that it could not convert. `unknown` has, for each
+    corrected line, what is unknown about it. `doubtful` has the names that may own more than `records` contain. The file is
+    `partial` if lines that it includes are unknown.
     """
 
     def __init__(self, origin, text, path, importer=None):
@@ -112,7 +112,7 @@ class Zone:
         self.unknown, self.doubtful, self.mended = collections.defaultdict(set), set(), collections.Counter()
 
     def check(self):
-        """Asks zonecheck, and fills `passes`, `faults` and `records`."""
+        """Runs zonecheck, and sets `passes`, `faults` and `records`."""
         status, said = zonecheck(self.origin, self.text, "--print")
         if status == 0:
             self.passes, self.records = True, list(canonical(said))
@@ -141,7 +141,7 @@ class Zone:
         return self.places[line] if self.places else (self.path, line + 1)
 
     def lacks(self, record, what):
-        """Whether the data or the TTL of a record is not its own."""
+        """Whether the data or the TTL of a record was put in because its own is unknown."""
         return what in self.unknown.get(record.line, ())
 
     def model(self):
@@ -149,7 +149,7 @@ class Zone:
         return list(Reader(self.zone).records(self.lines))
 
     def report(self, warned):
-        """The faults and warnings with their lines, and what bounds them."""
+        """The faults and warnings with their lines, and a message for each bound that was reached."""
         found = [Report(file, line, severity, code, owner, escaped(message[:2000]),
                         escaped(self.sources[file][line - 1].rstrip("\r").expandtabs()[:300]))
                  for severity, faults in (("error", self.faults), ("warning", warned[:MOST]))
@@ -158,7 +158,7 @@ class Zone:
         return found, bounds + f"{plain(self.path)}: {MOST} of {len(warned)} warnings are reported\n" * (len(warned) > MOST)
 
     def found(self, line, code, text, owner=""):
-        """Adds a fault, and says whether it is another than the last one."""
+        """Adds a fault, unless it is equal to the last one. Returns whether it was added."""
         text = self.notes.get(line, text) if self.notes and code in ("R05", "R11", "R13") else text
         fault = Fault(self.place(line), code, owner, text)
         another = self.faults[-1:] != [fault]
@@ -166,16 +166,16 @@ class Zone:
         return another
 
     def mend(self, reader, line, code):
-        """Reports the fault of an entry, and mends it. False if what follows can't be checked."""
+        """Reports the fault of an entry, and corrects the entry. Returns False if the rest of the file can't be checked."""
         collections.deque(reader.records(self.lines, line), 0)
         entry = Entry(self.lines, line)
         mending = Mending(self, reader, entry, code)
-        # An entry that is at fault again as it was mended, or for the octets put into it, has one fault.
+        # An entry that is at fault again after its correction, or because of the octets put into it, has only one fault.
         self.mended[line, code] += 1
         again = self.mended[line, code] > (3 if code == "R01" else 1)
         follows = mending.follows and "string" in self.unknown[line]
         if not again and not follows and not self.found(line, code, mending.says):
-            # More records of one $GENERATE are at fault alike.
+            # Other records of the same $GENERATE have the same fault.
             for at in itertools.takewhile(lambda at: self.place(at) == self.place(line), range(line, len(self.lines))):
                 self.lines[at] = ""
             return True
@@ -187,10 +187,10 @@ class Zone:
         return "rest" not in mending.unknown
 
     def replace(self, entry, lines):
-        """Puts lines in the place of an entry: the first has its number, and so have those that are more than its own."""
+        """Replaces an entry by lines. If there are more lines than the entry has, all get the number of its first line."""
         begin, end = entry.begin, entry.end
         if not lines and entry.owner and entry.owner[0] not in '$#/"':
-            # The entries after it that begin with a blank keep its owner.
+            # Entries after it that begin with a blank keep its owner.
             after = next((at for at in range(end, len(self.lines)) if self.lines[at].split(";")[0].strip()), begin)
             if self.lines[after][0] in " \t" and after > begin:
                 self.lines[after] = entry.owner + self.lines[after]
@@ -202,7 +202,7 @@ class Zone:
 
 
 class ZoneFaults(Names):
-    """The faults of a zone: for each that zonecheck reports the records that have it, and what to do."""
+    """The faults of a zone: for each fault that zonecheck reports, the records that have it, and what to do."""
 
     ALIKE = {"Z02": ("SOA", "more than one SOA record; see {1}: keep one"),
              "Z07": ("CNAME", "more than one CNAME at one name; see {1}: keep one"),
@@ -226,17 +226,17 @@ class ZoneFaults(Names):
         return next(iter(self.at(owner)), None)
 
     def lines(self, records):
-        """The lines of the first three of some records, as a part of a sentence."""
+        """The lines of the first three records, as part of a sentence."""
         places = dict.fromkeys(self.of.place(record.line) for record in itertools.islice(records, 3))
         return " and ".join(f"line {line}" + f" of {file}" * (file != self.of.path) for file, line in places) or "the same line"
 
     def each(self, records, text, others=None):
-        """Records that are at fault together: {0} in the text is the record, and {1} where the others are."""
+        """Yields records that are at fault together. In the text, {0} is the record, and {1} is the lines of the others."""
         for record in records[:MOST]:
             yield record, text.format(record, self.lines(other for other in others or records if other.line != record.line))
 
     def end(self, target):
-        """What an alias leads to."""
+        """The end of a chain of aliases."""
         seen = set()
         while target not in seen and self.at(target, "CNAME"):
             seen.add(target)

@@ -1,7 +1,7 @@
-"""Reads zone files by entries, for zonelint and zoneimport: names, tokens, owners, data and their lines.
+"""Reads the entries of zone files for zonelint and zoneimport: names, tokens, owners, data and their lines.
 
-It judges nothing, since zonecheck does. So it also reads faulty entries, and ends each where it most likely ends. Texts have
-one character for each octet (latin-1).
+It checks nothing, because zonecheck does. So it also reads faulty entries, and ends each at its most likely end. Texts have one
+character for each octet (latin-1).
 """
 import collections
 import functools
@@ -22,10 +22,10 @@ PIECE = re.compile(r'[ \t\r]+|;.*|"(?:[^"\\]+|\\.)*(?:"|\\?)|[()]|(?:[^ \t\r;"()
 SIMPLE = re.compile(r"(?:[!#%&'*+,\-/0-9:<=>?A-Z\[\]^_`a-z{|}~]{1,63}(?:\.|$))+")
 CLASS = re.compile(r"(?:IN|CH|CS|HS)$|CLASS", re.I)
 
-# Types with a form of their own: numbers of 16 (H) and 32 bits (L), addresses (4, 6), names (n), strings (s).
+# Types whose data has its own form: numbers of 16 (H) and 32 bits (L), addresses (4, 6), names (n), strings (s).
 KINDS = {"A": "4", "NS": "n", "CNAME": "n", "SOA": "nnLLLLL", "PTR": "n", "HINFO": "ss", "MX": "Hn", "TXT": "s", "AAAA": "6",
          "SRV": "HHHn"}
-# Types that have a name elsewhere and are written by number here (RFC 3597).
+# Types that other programs know by name, and that are written by number here (RFC 3597).
 OTHERS = ("RP AFSDB X25 ISDN RT NSAP PX GPOS LOC NAPTR KX CERT APL SSHFP IPSECKEY DHCID TLSA SMIMEA HIP CDS CDNSKEY OPENPGPKEY "
           "CSYNC ZONEMD SVCB HTTPS SPF NID L32 L64 LP EUI48 EUI64 URI CAA AVC AMTRELAY").split()
 NUMBERS = {rtype: f"TYPE{dns.rdatatype.from_text(rtype):d}" for rtype in [*KINDS, *OTHERS]}
@@ -33,19 +33,19 @@ NAMED = {NUMBERS[rtype]: rtype for rtype in KINDS}
 BEGIN = re.compile(r"\$[A-Z]+[ \t]|(?:[^ \t;\"()][^ \t;\"()]*)?[ \t]+(?:(?:\d[\dwdhms]*|IN)[ \t]+){0,2}(?:TYPE\d+|"
                    + "|".join([*KINDS, *OTHERS, "DS"]) + r")[ \t(]", re.I)
 UNITS = {"w": 604800, "d": 86400, "h": 3600, "m": 60, "s": 1, "": 1}
-# A record with its data as the canonical text has it, the line on which its entry begins (from 0), and its last token.
+# A record: its data is as in the canonical text, `line` is the first line of its entry (from 0), `last` is its last token.
 Record = collections.namedtuple("Record", "owner ttl rtype data line last", defaults=(None, ""))
 
 
 def seconds(text):
-    """The number that a token with units or leading zeros has, 5400 for 1h30m; None if it is no such token."""
+    """The value of a number, with units or leading zeros or without: 5400 for 1h30m. None if the token is not such a number."""
     if not re.fullmatch(r"[0-9]{1,60}|(?:[0-9]{1,20}[wdhms]){1,12}", text, re.I | re.A):
         return None
     return sum(int(number) * UNITS[unit] for number, unit in re.findall(r"([0-9]+)([a-z]?)", text.lower()))
 
 
 def groups(token):
-    """An IPv6 address in groups of hex digits alone, whose end may be dotted; None if it is no such address."""
+    """An IPv6 address, written only in groups of hex digits, also if its end was dotted. None if the token is not an address."""
     try:
         packed = socket.inet_pton(socket.AF_INET6, token)
     except (OSError, ValueError):
@@ -55,7 +55,7 @@ def groups(token):
 
 
 def address(token):
-    """The type and the text of the address that a token is meant to be; None if it is none."""
+    """The type and the text of the address that a token is meant to be, or None if it is not an address."""
     bare = re.sub(r"/\d+$|%\w+$", "", token.strip('"').rstrip(",.;")).strip("[]")
     found = re.fullmatch(r"((?:\d{1,9}\.){3}\d{1,9})(?::\d+)?", bare)
     if found:
@@ -72,18 +72,18 @@ def octets(token):
 
 
 def escaped(text, also=""):
-    """A text with backslashes before some characters, and \\DDD for octets that are not printable."""
+    """A text with a backslash before each character of `also`, and \\DDD for octets that are not printable."""
     return "".join("\\" + c if c in also else c if " " <= c <= "~" else f"\\{ord(c):03}" for c in text)
 
 
 def string(text):
-    """A string as the canonical text has it."""
+    """A string in the form of the canonical text."""
     return '"' + escaped(text, '"\\') + '"'
 
 
 @functools.lru_cache(1 << 17)
 def name(text, origin):
-    """An absolute name as the canonical text has it, of a name relative to an origin; None if it is invalid."""
+    """The absolute name, in the form of the canonical text, of a name relative to an origin. None if it is invalid."""
     if len(text) > 1020:
         return None
     if SIMPLE.fullmatch(text):
@@ -92,12 +92,12 @@ def name(text, origin):
             return full
     try:
         return dns.name.from_text(text.encode("latin-1"), dns.name.from_text(origin)).canonicalize().to_text()
-    except Exception:  # Its reader raises many kinds.
+    except Exception:  # Its reader raises many kinds of exceptions.
         return None
 
 
 def parent(full):
-    """The name above an absolute name; the root has none."""
+    """The name directly above an absolute name, or None for the root."""
     above = re.sub(r"(?:[^.\\]|\\.)*\.", "", full, 1) if "\\" in full else full.partition(".")[2]
     return above or ("." if full != "." else None)
 
@@ -107,15 +107,16 @@ def within(full, zone):
 
 
 def twice(full, zone):
-    """Whether a name ends with a zone's name twice, as one without its final dot does."""
+    """Whether a name ends with the zone's name twice, as it does if a final dot is missing."""
     return zone != "." and within(full, zone + zone)
 
 
 class Entry:
     """An entry: its lines from `begin` to before `end`, and their pieces, with a line feed after each line.
 
-    `tokens` are the pieces that are no blanks, parentheses and comments, and `places` their places among all. `nested`
-    parentheses are an entry's own if BIND reads it. One that is not `closed` ends before the next line that looks like an entry.
+    `tokens` are the pieces except blanks, parentheses and comments. `places` are their places among all pieces. With `nested`,
+    parentheses inside others are part of the entry, as in BIND. An entry that is not `closed` ends before the next line that
+    looks like an entry.
     """
 
     def __init__(self, lines, begin, nested=False):
@@ -136,11 +137,11 @@ class Entry:
             else:
                 break
             at += 1
-        # The place of the type among the tokens, the type, and the data.
+        # The place of the type among the tokens, the type, and the tokens of the data.
         self.at, self.rtype, self.data = at, "".join(tokens[at:at + 1]).upper(), tokens[at + 1:]
 
     def read(self, lines, begin, most, nested):
-        """Reads the pieces of lines up to one, and returns how many parentheses are left open."""
+        """Reads the pieces of lines from `begin` to before `most`, and returns the number of parentheses left open."""
         self.pieces, self.depth, self.end, depth = [], 0, begin, 0
         while self.end == begin or self.end < most and depth > 0 and (nested or depth < 2):
             found = PIECE.findall(lines[self.end])
@@ -152,14 +153,15 @@ class Entry:
         return depth
 
     def joined(self, first, last=None):
-        """The tokens from one on as a text, up to another one if that is given, with a blank where there are some."""
+        """The tokens from `first` to before `last`, if given, as a text. Each run of other pieces between them is one blank."""
         places, tokens = [*self.places, len(self.pieces)], set(self.places)
         pieces = range(places[first], places[-1 if last is None else last])
         text = "".join(printable(self.pieces[at]) if at in tokens else "\0" for at in pieces)
         return re.sub("\0+", " ", text.strip("\0"))
 
     def lines(self, changes):
-        """The lines with other tokens at some places, no inner parentheses, and \\DDD in owner and data for other octets."""
+        """The lines with the tokens of `changes` at their places, without inner parentheses. In the other tokens of owner and
+        data, \\DDD replaces octets that a zone file may not contain."""
         pieces, depth = self.pieces[:], 0
         for number, at in enumerate(self.places):
             pieces[at] = changes.get(number, pieces[at] if 0 < number <= self.at else printable(pieces[at]))
@@ -173,12 +175,12 @@ class Entry:
 
 
 def printable(token):
-    """A token with \\DDD for octets that a zone file may not have."""
+    """A token with \\DDD for octets that a zone file may not contain."""
     return token if token.isascii() and token.isprintable() else re.sub(r"[^\t -~]", lambda c: f"\\{ord(c[0]):03}", token)
 
 
 def data_of(rtype, tokens, origin):
-    """Data as the canonical text has it, as far as it is known by type."""
+    """Data in the form of the canonical text, as far as the type's form is known."""
     kinds = KINDS.get(rtype)
     if kinds is None or tokens[:1] == ["\\#"]:
         return tokens
@@ -192,13 +194,13 @@ def data_of(rtype, tokens, origin):
 
 
 class Reader:
-    """Goes over the entries of a zone, and keeps what a later entry takes from those before it."""
+    """Reads the entries of a zone in order, and keeps what a later entry takes from earlier ones."""
 
     def __init__(self, zone):
         self.origin, self.at, self.owner, self.default, self.stated = zone, 0, None, None, None
 
     def records(self, lines, stop=sys.maxsize):
-        """The records of lines whose entries begin before a line."""
+        """Yields the records of all entries that begin before line `stop`."""
         while self.at < min(stop, len(lines)):
             if not lines[self.at]:
                 self.at += 1
@@ -210,7 +212,7 @@ class Reader:
                 yield record
 
     def take(self, entry):
-        """The record of an entry, if it is one."""
+        """The record of an entry, or None if the entry is not a record."""
         owner, tokens = entry.owner, entry.tokens
         if owner and owner[0] == "$":
             if owner.upper() == "$ORIGIN" and len(tokens) > 1:
@@ -236,7 +238,7 @@ def canonical(text):
 
 
 def unique(records):
-    """Records without duplicates: of each the first."""
+    """Records without duplicates: the first of equal ones is kept."""
     return list({(record.owner, record.ttl, record.rtype, *record.data): record for record in reversed(records)}.values())[::-1]
 
 
@@ -251,12 +253,12 @@ class Names:
                 self.cuts.add(record.owner)
 
     def at(self, owner, *types):
-        """The records of a name, of some types if they are named."""
+        """The records of a name, only of `types` if any are given."""
         sets = self.sets.get(owner, {})
         return [record for rtype in sets if not types or rtype in types for record in sets[rtype]]
 
     def cut(self, full):
-        """The highest cut that a name is at or below, or None."""
+        """The highest cut that is equal to the name or above it, or None."""
         found = None
         while self.cuts and full and full != self.zone:
             found = full if full in self.cuts else found

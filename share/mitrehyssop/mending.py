@@ -1,4 +1,4 @@
-"""Mends a faulty entry of a zone file, and says how: for each code of zonecheck that names a line, R01 to R15."""
+"""Corrects a faulty entry of a zone file, and says how, for each code of zonecheck that names a line, R01 to R15."""
 import difflib
 import itertools
 import re
@@ -14,14 +14,14 @@ TAKES = {"A": "an IPv4 address: four numbers from 0 to 255", "NS": "the name of 
          "AAAA": "an IPv6 address in groups of hex digits alone",
          "SRV": "three numbers, priority, weight and port, and the name of a host"}
 LARGEST = {"H": 65535, "L": 4294967295, "T": 2147483647}
-# Data for an entry whose own can't be known. Its names are outside the zone.
+# Data for an entry whose own data is unknown. The names are outside the zone.
 INSTEAD = {"4": "192.0.2.1", "6": "2001:db8::1", "n": "host.invalid.", "s": '"text"', "H": "10", "L": "3600"}
-# How files begin that are no text of one octet for each character.
+# How files begin that are not text with one octet for each character, and the message for each.
 BIND = "the file is in the {0} format of BIND: `named-compilezone -f {0} -F text -o NEW ORIGIN FILE` writes it as text"
 UTF16 = "the file is UTF-16: `iconv -f UTF-16 -t UTF-8 FILE` writes it in octets"
 FORMS = {"\0\0\0\2": BIND.format("raw"), "\0\0\0\3": BIND.format("map"), "\xff\xfe": UTF16, "\xfe\xff": UTF16}
-# What texts from elsewhere bring along: the characters, what is written for each, and what is said.
-# Octets that are not UTF-8, here \udc80 to \udcff, are those of Windows-1252.
+# Characters in texts that come from other programs: the characters, the replacement for each, and the message.
+# Octets that are not UTF-8, here \udc80 to \udcff, are read as Windows-1252.
 STRAY = [("\ufeff", "", "a byte order mark: take it out"),
          ("\u201c\u201d\u201e\u201f\udc93\udc94\udc84", '"', 'a curly quotation mark: write " for each'),
          ("\u2018\u2019\u201a\udc91\udc92", "'", "a curly apostrophe: write ' for each"),
@@ -34,8 +34,9 @@ NOT_ASCII = re.compile(f"[^\\0-\x7f{''.join(characters for characters, _, _ in S
 ESCAPES = re.compile(r"\\[12]\d\d")
 TIME = "a plain number of seconds up to 2147483647"
 UNSIGNED = "{0} is a type of DNSSEC, which is not served here. Serve the zone by another server; or take "
-# What is done by how an entry looks: the code of its fault, a pattern of its tokens with a blank between two and a line feed
-# before the type, what is written for what matches or None if the entry is taken out, what is said, and what is unknown then.
+# Corrections by a pattern: the code of the fault; a pattern of the entry's tokens, with a blank between two tokens and a line
+# feed before the type; the replacement for the match, or None to take the entry out; the message; and what is unknown after
+# that.
 RULES = [
     ("R02", r"[ \n]\\$", "",
      "a backslash does not join two lines: take it out, and write parentheses around data on several lines", ""),
@@ -54,7 +55,7 @@ RULES = [
     ("R11", r"\n(DNAME|TYPE39)( |$)", None, "{0} is not served here: an alias for each name takes its place", "owner"),
     ("R14", "", None, "more than 100,000 records: split the zone", "rest"),
     ("R15", "", None, "more than 16,777,216 octets: split the zone", "rest")]
-# What is done about data that lacks a field or has two in the wrong order: a pattern of it, what is written, and what is said.
+# Corrections of data that lacks a field or has two in the wrong order: a pattern of the data, the replacement, and the message.
 FIELDS = [(r"MX (?!\d+ )(\S+) (\d+)", r"MX \2 \1", "the number is first: write MX {1} {0}"),
           (r"MX (?!\d+$)(\S+)", r"MX 10 \1", "the number is missing: write MX 10 {0}"),
           (r"SOA (\S+)( \d\w*(?: \S+){4})", r"SOA \1 hostmaster\2",
@@ -64,10 +65,10 @@ FIELDS = [(r"MX (?!\d+ )(\S+) (\d+)", r"MX \2 \1", "the number is first: write M
 
 
 class Mending:
-    """What is done about an entry: `says` is the sentence for its code, `lines` are those for it, or None if it is taken out.
+    """The correction of an entry: `says` is the message for its code, `lines` are its new lines, or None if it is taken out.
 
-    `unknown` has what is not known of it then: its `data` or `ttl`, what its `owner` owns, the end of a `string`, or the `rest`
-    of the file. `follows` says that its fault may come from a string that was mended.
+    `unknown` has what is unknown after that: its `data` or `ttl`, what its `owner` owns, the end of a `string`, or the `rest` of
+    the file. `follows` means that its fault may come from a string that was corrected.
     """
 
     def __init__(self, zone, reader, entry, code):
@@ -82,11 +83,11 @@ class Mending:
                 if instead is not None:
                     self.lines = [re.sub(pattern, instead, text, 0 if callable(instead) else 1, re.I).replace("\n", " ")]
                 return
-        # An entry that is not closed has no other fault yet: zonecheck reads what is after it as a part of it.
+        # An entry that is not closed has no other fault yet, because zonecheck reads the lines after it as part of it.
         self.says = getattr(self, code.lower(), self.r04)()
 
     def put(self, **changed):
-        """Writes the record anew."""
+        """Changes some fields, and writes the record from all fields."""
         vars(self).update(changed)
         self.lines = [f"{self.owner or ''} {' '.join(filter(None, [self.ttl, self.rrclass, self.rtype, *self.data]))}"]
 
@@ -97,7 +98,7 @@ class Mending:
         return f"line {self.zone.place(at)[1]}"
 
     def misplaced(self, token, place):
-        """What is said of an address or an owner that is in the place of a TTL or a type, if it is one."""
+        """The message if the token is an address or an owner in the place of a TTL or a type, else None."""
         found = address(token)
         if found:
             self.put(ttl=self.ttl if place == "type" else None, rtype=found[0], data=[found[1]])
@@ -115,7 +116,7 @@ class Mending:
             "an octet that is not allowed: only printable ASCII, spaces and tabs are"
 
     def clean(self, line, at, notes):
-        """A line without octets that are not allowed, with notes of what was done."""
+        """A line without octets that are not allowed. Adds to `notes` what was done."""
         text = whole = line.removesuffix("\r").encode("latin-1").decode("utf-8", "surrogateescape")
         before = "".join(itertools.takewhile(lambda piece: piece[0] != ";", PIECE.findall(whole)))
 
@@ -137,7 +138,8 @@ class Mending:
         return written + "\r" * line.endswith("\r")
 
     def ascii(self, piece, is_text):
-        """A token with \\DDD for the octets of characters beyond ASCII, or with names as DNS has them; and what to write."""
+        """A token with \\DDD for the octets that are not ASCII if it is text, or else as a name in the form that DNS has; and
+        what to write."""
         if is_text:
             spelled = printable(piece.encode("utf-8", "surrogateescape").decode("latin-1"))
             return spelled, f"\\DDD for each such octet, here {''.join(ESCAPES.findall(spelled))[:80]}"
@@ -151,7 +153,7 @@ class Mending:
         token = next((token for token in self.tokens if token[0] == '"' and not re.fullmatch(r'"(?:[^"\\]|\\.)*"', token)), '"')
         inner, more = token.endswith('\\"'), []
         closed = token[:-2] + '\\\\"' if inner else token.rstrip("\r) \t" if entry.depth else "\r") + '"'
-        # The string goes on up to a line with the other mark, if that comes before another entry.
+        # The string goes on to the line with its closing mark, if that line comes before the next entry.
         near = itertools.takewhile(lambda at: not BEGIN.match(lines[at]), range(entry.end, min(entry.end + 60, len(lines))))
         last = next((at for at in near if lines[at].replace('\\"', "").count('"') % 2), None)
         if last is not None and token is self.tokens[-1] and entry.closed:
@@ -254,7 +256,7 @@ class Mending:
         return "; ".join([f"{rtype} takes {TAKES[rtype]}", *dict.fromkeys(notes)])
 
     def unknown_form(self, rtype):
-        """Data after \\#, and that of a type that has no other form."""
+        """Data after \\#, or of a type that has no other form."""
         digits, says = "".join(self.data[2:]), "after \\# are a length and as many octets in hex digits"
         if self.data[:1] != ["\\#"]:
             data, _ = bind.generic(self.entry, rtype, self.reader.origin)
@@ -267,7 +269,7 @@ class Mending:
         return f"{says}: write {' '.join(self.data)[:60]}"
 
     def counted(self, rtype, kinds, notes):
-        """The data with as many fields as the type has, if that can be known."""
+        """The data with as many fields as its type has, if they can be known."""
         data, front, count = self.data[:], [], len(self.data)
         while len(data) > len(kinds) and kinds[0] != "s" and (
                 data[0].upper() == "IN" or seconds(data[0]) is not None is not seconds(data[kinds.count("H")])):
@@ -294,7 +296,7 @@ class Mending:
         return data
 
     def take_lines(self, data):
-        """Adds the numbers of an SOA record on the lines after it, if they are all of its numbers, and nothing else."""
+        """Adds the numbers on the lines after an SOA record, if they are all its missing numbers and nothing else."""
         begin, lines = self.entry.end, self.zone.lines
         for end in range(begin + 1, min(begin + 9, len(lines)) + 1):
             more = [piece for line in lines[begin:end] for piece in PIECE.findall(line) if piece[0] not in " \t\r;()"]

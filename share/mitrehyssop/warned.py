@@ -1,4 +1,4 @@
-"""Warnings about a zone: what mostly is a mistake, and may be meant. docs/CODES.md has each with its RFC and what to do."""
+"""Warnings about a zone: likely mistakes that may be intended. docs/CODES.md has each with its RFC and what to do."""
 import collections
 import itertools
 import re
@@ -9,7 +9,7 @@ from master import Names, address, octets, parent, twice, unique, within
 HOST = re.compile(r"(?:\*\.)?(?:[a-z0-9](?:[a-z0-9-]*[a-z0-9])?\.)+|(?:.*\.)?gc\._msdcs\..*")
 FOUR = re.compile(r"\d+\.\d+\.\d+\.\d+\.")
 SERVICE = re.compile(r"(?:\*\.)?_[^.]+\._[^.]+\.")
-# How a text begins: at which names it has a meaning, an example of one, and what else it needs.
+# How a text begins: a pattern of the names at which it has a meaning, an example of such a name, and what else it needs.
 TEXTS = {"v=DMARC1": (r"_dmarc\.|.*\._report\._dmarc\.", "_dmarc", "p="),
          "v=DKIM1": (r"(?!_).+\._domainkey\.", "NAME._domainkey", "p="),
          "v=STSv1": (r"_mta-sts\.", "_mta-sts", "id="), "v=TLSRPTv1": (r"_smtp\._tls\.", "_smtp._tls", "rua="),
@@ -18,12 +18,12 @@ LOWER = {kind.lower(): kind for kind in TEXTS}
 
 
 def kind_of(record):
-    """The kind of a text by how it begins, in either case."""
+    """The kind of a text by its beginning, ignoring case."""
     return LOWER.get(re.split("[ ;]", octets(record.data[0]), 1)[0].lower())
 
 
 class Warnings(Names):
-    """Looks at the records of a zone, and finds a record, a code and a sentence each time."""
+    """Looks at the records of a zone. Each warning is a record, a code and a message."""
 
     def __init__(self, zone):
         super().__init__(zone, zone.records if zone.passes else unique(zone.records))
@@ -56,7 +56,7 @@ class Warnings(Names):
             yield record, "W35", "a * that is not the whole first label matches nothing"
         if twice(full, self.zone) or full.endswith(self.ends):
             yield record, "W31", f"the owner is {full}: is a final dot missing?"
-        # Lists of addresses have owners that are addresses too, and addresses that are codes.
+        # In lists of addresses, owners are addresses too, and the addresses in their data are codes.
         elif FOUR.match(full) and not self.zone.endswith("arpa.") and not (hosts and hosts[0].data[0].startswith("127.")):
             yield record, "W32", f"the owner is an address: {full}"
         if "SRV" in sets and not SERVICE.match(full):
@@ -91,7 +91,7 @@ class Warnings(Names):
             yield from self.inside(record, full)
 
     def inside(self, record, full):
-        """What is said of a target in the zone by what the zone has at it."""
+        """The warning about a target in the zone, by the zone's records at that name."""
         cut, types = self.cut(full), self.found(full)
         if cut:
             own = record.owner in self.cuts and within(full, record.owner)
@@ -105,7 +105,7 @@ class Warnings(Names):
             yield record, "W43", f"the target {full} has no address"
 
     def found(self, full):
-        """The types at a name of the zone, by a wildcard too; None if it does not exist."""
+        """The types at a name of the zone, also through a wildcard; None if the name does not exist."""
         if full in self.nodes:
             return set(self.sets.get(full, ()))
         while full not in self.nodes:
@@ -174,7 +174,7 @@ class Warnings(Names):
 
 
 def warnings(zone):
-    """The warnings about a zone that was checked, by their lines."""
+    """The warnings about a checked zone, in the order of their lines."""
     found, index = list(Warnings(zone).look()), collections.defaultdict(list)
     for record in zone.model() if found else ():
         index[record.owner, record.rtype].append(record)
