@@ -19,7 +19,7 @@ def linked(words, folder):
 
 
 def bound(kind, address):
-    """A bound socket, which listens if it is of TCP. Its receive buffer is as large as those of the unit's sockets."""
+    """A bound socket; a TCP socket listens. Its receive buffer has the same size as in the unit."""
     one = socket.socket(socket.AF_INET, kind)
     one.setsockopt(socket.SOL_SOCKET, socket.SO_REUSEADDR, 1)
     one.setsockopt(socket.SOL_SOCKET, socket.SO_RCVBUF, 1 << 20)
