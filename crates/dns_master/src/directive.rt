@@ -10,7 +10,8 @@ use crate::words::read_ttl;
 use dns_name::Name;
 use dns_rdata::{Word, Words};
 
-/// The origin that the words of `$ORIGIN` say, which is relative to the one before.
+/// The new origin from the arguments of `$ORIGIN`; a relative name is relative to the old origin.
+/// `None` unless they are one unquoted name.
 pub(crate) fn read_origin(words: EntryWords<'_, '_>, origin: &Name) -> Option<Name>
     ensures { (n : DomainName) → (result ≡ Some n)
         ↔ OneWord (λ w. SpelledName origin.now w n) (words_left words.entry) }

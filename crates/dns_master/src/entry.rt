@@ -1,5 +1,5 @@
-//! The entries of a text: from the beginning of a line to the first line end outside parentheses
-//! (RFC 1035 5.1).
+//! The entries of a zone file. An entry ends at the first line end outside parentheses (RFC 1035
+//! 5.1).
 ghost use Rattle.std.specs.Prelude.{◌≡◌, ◌≢◌, ◌+◌, ◌≤◌, ◌++◌, [], true, false, Some, None, length, IfOk, IfErr, IfSome};
 ghost use Rattle.std.specs.Option.{option_map, unwrap_or};
 ghost use Rattle.std.specs.Bool.{MatchBool};
@@ -18,28 +18,28 @@ use crate::run::Run;
 use crate::token::{Token, first_token};
 use dns_rdata::Word;
 
-// How many words of an entry are kept as they are found.
+// How many words of an entry are kept while its end is sought; later ones are only counted.
 const MOST_KEPT: usize = 16;
 
-/// Where the entry ends that a text begins with.
+/// The end of the first entry of a text.
 #[derive(Debug, Drop)]
 pub(crate) struct EntryEnd<'a> {
-    /// Its words after those that are kept.
+    /// Its words after the kept ones.
     pub(crate) later: LaterWords<'a>,
-    /// How many line ends it has.
+    /// The number of line ends in it.
     pub(crate) lines: u32,
     /// Whether a line end ends it.
     pub(crate) is_ended: bool,
     /// Whether a parenthesis is open at its end.
     pub(crate) is_open: bool,
-    /// The text after it, or from where no token begins.
+    /// The text after it, or from the place at which no token begins.
     pub(crate) rest: &'a [u8],
 }
 
-/// Reads the entry that a text begins with, up to its end or to where no token begins: keeps its
-/// first words, and counts the later ones.
+/// Reads the first entry of a text, up to its end or to the first place at which no token begins.
+/// Keeps its first words and counts the later ones.
 ///
-/// `Parenthesis` where one is misplaced, `NoMemory` where no memory was found.
+/// Fails with `Parenthesis` if one is misplaced, and with `NoMemory` if allocation fails.
 pub(crate) fn read_entry<'a>(
     text: &'a [u8],
     kept: &mut Vec<Word<'a>>,
@@ -79,7 +79,7 @@ pub(crate) fn read_entry<'a>(
     Ok(end)
 }
 
-// Keeps the word that a token is, before the text that comes then, or counts it.
+// Keeps or counts the word of a token, if the token is one. `text` is what follows the token.
 fn take_word<'a>(
     kept: &mut Vec<Word<'a>>,
     later: LaterWords<'a>,
@@ -104,8 +104,8 @@ fn take_word<'a>(
     Ok(LaterWords { text, count: 0 })
 }
 
-// How reading an entry goes on after a token: not at all, since a parenthesis is misplaced, or
-// since the entry has ended; or inside parentheses or outside them.
+// What follows a token: nothing, because a parenthesis is misplaced or because the entry has
+// ended; or more tokens, inside or outside parentheses.
 #[derive(Clone, Copy)]
 enum Step {
     Misplaced,
@@ -126,10 +126,11 @@ fn step_after(token: Token<'_>, is_open: bool) -> Step
     }
 }
 
-/// Whether an entry is at hand as a whole: ended by its line end, or by the end of a text that does
-/// not go on. `goes_on` is whether the text goes on past its limit, where that is known.
+/// Whether an entry is complete: ended by a line end, or by the end of a text that does not go on.
+/// `goes_on` is whether the text goes on past its limit, if that is known.
 ///
-/// False where more of the text would be needed to tell; else the entry's fault by its place.
+/// False if only more text could decide it. An error is the fault at the place where the entry
+/// stops.
 #[tactic(auto, using(crate::proofs::Refusals::other_than_long))]
 pub(crate) fn is_whole(end: &EntryEnd<'_>, goes_on: Option<bool>) -> Result<bool, ReadCode>
     ensures ok { IfOk result (λ whole. MatchBool whole
@@ -148,7 +149,7 @@ pub(crate) fn is_whole(end: &EntryEnd<'_>, goes_on: Option<bool>) -> Result<bool
     }
 }
 
-// The fault of an entry that no line end ends: `goes_on` is whether the text goes on past its
+// The fault of an entry that no line end ends. `goes_on` is whether the text goes on past its
 // limit.
 fn end_fault(end: &EntryEnd<'_>, goes_on: bool) -> Option<ReadCode>
     ensures value { option_map fault_of result
@@ -169,8 +170,8 @@ fn end_fault(end: &EntryEnd<'_>, goes_on: bool) -> Option<ReadCode>
     Some(unless_cut_short(goes_on, end.rest, token_fault(end.rest)))
 }
 
-// A fault at a place where the text can't go on, unless more octets than are looked at would be
-// needed to tell: it might be the beginning of an escape or of CR LF.
+// The fault at a place where no token continues, or `TooLong` if only octets past the limit could
+// decide it: the place may be the beginning of an escape or of CR LF.
 fn unless_cut_short(goes_on: bool, place: &[u8], fault: ReadCode) -> ReadCode
     ensures value { fault_of result ≡ unless_cut_short (extent_by goes_on) place.now
         (fault_of fault) }

@@ -1,4 +1,4 @@
-//! The words of an entry, taken from it one after another (RFC 1035 5.1).
+//! The words of an entry, taken one after another (RFC 1035 5.1).
 ghost use Rattle.std.specs.Prelude.{◌≡◌, ◌≤◌, ◌+◌, [], ◌∷◌, length, MatchOption};
 ghost use Rattle.dns_spec.specs.ZoneText.{word_of};
 ghost use Rattle.dns_master.specs.TokenForm.{shown_token};
@@ -7,7 +7,7 @@ ghost use Rattle.dns_master.specs.WordsForm.{words_in};
 use crate::token::{Token, first_token};
 use dns_rdata::{Word, Words};
 
-/// So many of the words with which a text begins: those of an entry that are not kept.
+/// The first `count` words of a text: the words of an entry that were not kept.
 #[derive(Clone, Copy, Debug)]
 pub(crate) struct LaterWords<'w> {
     pub(crate) text: &'w [u8],
@@ -27,8 +27,7 @@ impl<'w> LaterWords<'w> {
     }
 }
 
-/// The words of an entry that are still to come: the first ones as they were found, later ones in
-/// the text that they stand in.
+/// The remaining words of an entry: first the kept ones, then the ones that are still in the text.
 #[derive(Clone, Copy, Debug)]
 pub(crate) struct EntryWords<'k, 'w> {
     pub(crate) kept: &'k [Word<'w>],
@@ -69,7 +68,8 @@ pub(crate) fn word_of(token: Token<'_>) -> Option<Word<'_>>
     }
 }
 
-// The first word of a text, and the text after it. Few entries have words that are not kept.
+// The first word of a text, and the text after it. Cold, because few entries have more words than
+// are kept.
 #[cold]
 #[inline(never)]
 fn first_word(text: &[u8]) -> Option<(Word<'_>, &[u8])>

@@ -1,52 +1,52 @@
-//! Why a zone file gives no records.
+//! Why a zone file is rejected.
 ghost use Rattle.std.specs.Prelude.{◌≡◌};
 ghost use Rattle.dns_master.specs.Codes.{IsFaultOn, code_number};
 
 use dns_rdata::RdataFault;
 use std::alloc::{AllocError, AllocFailed};
 
-/// Why a zone file gives no records, by its code.
+/// Why a zone file is rejected, by code.
 #[derive(Clone, Copy, Debug, PartialEq, Eq)]
 pub enum ReadCode {
-    /// An octet is not allowed.
+    /// An invalid octet.
     BadOctet = 1,
-    /// A backslash begins no escape.
+    /// A backslash that begins no escape.
     BadEscape,
-    /// A quoted string is not ended on its line.
+    /// A quoted string that does not end on its line.
     UnendedString,
-    /// A parenthesis in a parenthesis, a close one without an open one, or the end of the text
-    /// inside.
+    /// A parenthesis inside parentheses, a closing one without an opening one, or a text that ends
+    /// inside parentheses.
     Parenthesis,
     /// A directive other than `$ORIGIN` and `$TTL`.
     UnknownDirective,
-    /// The words of a directive.
+    /// Invalid arguments of a directive.
     DirectiveWords,
-    /// The owner is no name.
+    /// An invalid owner name.
     BadOwner,
-    /// No owner is stated, and no record before has one.
+    /// No owner is stated, and there is no earlier record.
     NoOwner,
-    /// The TTL is no number up to 2147483647 (RFC 2181 8).
+    /// A TTL that is not a number up to 2147483647 (RFC 2181 8).
     BadTtl,
     /// A class other than IN.
     OtherClass,
-    /// No type, or a type that no zone has.
+    /// A missing type, or one that is unknown or not allowed in a zone.
     BadType,
-    /// No TTL is stated, and none was before.
+    /// No TTL is stated, and there is no earlier one.
     NoTtl,
-    /// The data.
+    /// Invalid data.
     BadData,
-    /// There are more than 100,000 records.
+    /// More than 100,000 records.
     TooManyRecords,
-    /// The text has more than 16,777,216 octets.
+    /// More than 16,777,216 octets.
     TooLong,
     /// The source failed.
     SourceFailed,
-    /// No memory was found.
+    /// Memory allocation failed.
     NoMemory,
 }
 
 impl ReadCode {
-    /// The number of the code, 1 to 17 in the order of the variants: 7 of `R07`.
+    /// The number of the code, 1 to 17 in the order of the variants: 7 for `R07`.
     pub fn number(self) -> u8
         ensures { result ≡ code_number self }
     {
@@ -64,7 +64,7 @@ impl<T: Drop> From<AllocFailed<T>> for ReadCode {
     }
 }
 
-/// Data that is none is one fault of an entry, whatever is wrong with it.
+/// All invalid data has one code, whatever is wrong with it.
 impl From<RdataFault> for ReadCode {
     ghost use Rattle.std.specs.Prelude.{◌≢◌, ◌⊎◌};
     ghost use Rattle.dns_rdata.specs.declared.fault.RdataFault.{RdataFault};
@@ -94,17 +94,17 @@ impl From<AllocError> for ReadFault {
     }
 }
 
-/// The fault of a zone file.
+/// Why a zone file is rejected, and on which line.
 #[derive(Clone, Copy, Debug, PartialEq, Eq)]
 pub struct ReadFault {
-    /// What it is.
+    /// The code.
     pub code: ReadCode,
-    /// The line on which the faulty entry begins, counted from 1; 0 where the source failed or no
-    /// memory was found.
+    /// The line on which the faulty entry begins, counted from 1; 0 if the source or an allocation
+    /// failed.
     pub line: u32,
 }
 
-/// The fault of a file whose entry on this line is refused by this code.
+/// The fault of a file whose entry on this line is rejected with this code.
 pub(crate) fn entry_fault(code: ReadCode, line: u32) -> ReadFault
     ensures { IsFaultOn line code result }
 {

@@ -1,4 +1,4 @@
-//! What stands between the owner and the data of a record (RFC 1035 5.1).
+//! The fields between the owner and the data of a record (RFC 1035 5.1).
 ghost use Rattle.std.specs.Prelude.{◌≡◌, [], ◌∷◌, drop, codes, MatchOption, MatchResult};
 ghost use Rattle.std.specs.List.{list_any};
 ghost use Rattle.std.specs.Option.{option_copied};
@@ -12,8 +12,8 @@ use crate::words::{is_word, read_ttl};
 use dns_rdata::{RType, Word, Words};
 use std::marker::Model;
 
-/// The words of the TTL and the class, in either order and where they are stated, and the words
-/// after them: the type and the data.
+/// The TTL and the class, in either order and each optional, and the words after them: the type
+/// and the data.
 #[derive(Debug, Drop)]
 pub(crate) struct Fields<'a, 'w> {
     pub(crate) ttl: Option<Word<'w>>,
@@ -72,14 +72,15 @@ impl<'a, 'w> Fields<'a, 'w> {
     }
 }
 
-// An unquoted word that begins with a digit.
+// Whether a word is unquoted and begins with a digit.
 fn is_ttl_word(word: &Word<'_>) -> bool
     ensures { result ≡ is_ttl_word word.now }
 {
     !word.quoted && word.raw.first().is_some_and(|first| first.is_ascii_digit())
 }
 
-// An unquoted word that names a class, or begins as `CLASS1` does (RFC 1035 3.2.4, RFC 3597 5).
+// Whether a word is unquoted and names a class, or begins with `CLASS` as `CLASS1` does (RFC 1035
+// 3.2.4, RFC 3597 5).
 #[inline(always)]
 fn is_class_word(word: &Word<'_>) -> bool
     ensures { result ≡ is_class_word word.now }
@@ -99,7 +100,7 @@ fn is_class_name(raw: &[u8]) -> bool
     is_word(b"in", raw) || is_word(b"ch", raw) || is_word(b"cs", raw) || is_word(b"hs", raw)
 }
 
-/// The TTL that is stated, if one is: `Ttl` where it is none.
+/// The TTL, if one is stated. Fails with `BadTtl` if it is invalid.
 pub(crate) fn stated_ttl(stated: Option<&Word<'_>>) -> Result<Option<u32>, ReadCode>
     ensures { MatchResult result (λ ttl. TtlOf (option_copied stated.entry) ttl)
         (λ fault. (fault ≡ ReadCode.BadTtl) × IsNoTtl (option_copied stated.entry)) }
@@ -127,8 +128,8 @@ pub(crate) fn type_and_words<'a, 'w>(
     Some((read_type(&first)?, others))
 }
 
-// The type that a word names, where zones have it: not 0, none of questions and messages (RFC 6895
-// 3.1), none of DNSSEC and not DNAME.
+// The type that a word names, if zones may have it: not 0, no type of questions or messages (RFC
+// 6895 3.1), no DNSSEC type and not DNAME.
 fn read_type(word: &Word<'_>) -> Option<RType>
     ensures { MatchOption result (Nothing (NamedType word.now)) (λ r. NamedType word.now r.0) }
 {

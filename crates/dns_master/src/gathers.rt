@@ -1,21 +1,21 @@
-//! What the records of a zone file are gathered in.
+//! Collections of the records of a zone file.
 ghost use Rattle.std.specs.Prelude.{◌≡◌, [], ◌∷◌, ◌++◌, List, OnOk};
 ghost use Rattle.dns_spec.specs.Records.{ResourceRecord};
 
 use crate::record::Record;
 use std::alloc::{AllocError, Global};
 
-/// Keeps records, in the form that its caller wants.
+/// A collection of records, in any form that the caller needs.
 pub trait Gathers {
-    /// The records that it has, in the order in which they were added.
+    /// Its records, in the order in which they were added.
     ghost gathered: { Self → List ResourceRecord };
 
-    /// Adds a record after those that it has. An error only where no memory was found.
+    /// Adds a record after the others. Fails only if allocation fails.
     fn add(&mut self, one: &Record) -> Result<(), AllocError>
         ensures { OnOk result (gathered self.new ≡ gathered self.old ++ one.now ∷ []) };
 }
 
-/// Whole records, in a list.
+/// A list of whole records.
 #[derive(Drop)]
 pub(crate) struct WholeRecords {
     pub(crate) alloc: Global,

@@ -1,4 +1,4 @@
-//! Zone files (RFC 1035 section 5): from their text to records.
+//! Reads zone files (RFC 1035 section 5) into records.
 #![tactic(auto)]
 
 mod directive;

@@ -1,4 +1,4 @@
-//! A zone file that is read piece by piece.
+//! Reads a zone file piece by piece.
 ghost use Rattle.std.specs.Prelude.{◌≡◌, ◌≢◌, ◌+◌, ◌-◌, ◌^◌, ◌<◌, ◌≤◌, ◌++◌, ◌⊎◌, [], length, IfOk, IfErr, OnOk, None};
 ghost use Rattle.dns_spec.specs.Meaning.{fault_at, most_records};
 ghost use Rattle.dns_master.specs.Codes.{OfEntry, fault_of, failures_after_read};
@@ -15,18 +15,18 @@ use dns_rdata::{DataRoom, RType, Rdata};
 use std::alloc::Global;
 use std::io::Read;
 
-/// What the entries so far give, and the octets that were read after them: those of the entry at
-/// hand.
+/// The state between pieces: what the entries so far say, and the octets after them, which begin
+/// the current entry.
 #[derive(Drop)]
 pub(crate) struct Begun {
     alloc: Global,
     pub(crate) reader: Reader,
     room: DataRoom,
     pub(crate) held: Vec<u8>,
-    /// How many octets were held when entries were last taken from them. Nothing is taken again
-    /// before twice as many are, so that an entry of many pieces is read in linear time.
+    /// How many octets were held at the last attempt to take entries. The next attempt waits until
+    /// twice as many are held, so that an entry of many pieces is read in linear time.
     tried: usize,
-    /// How many more octets may be looked at.
+    /// How many more octets may be read.
     pub(crate) left: usize,
 }
 
@@ -62,8 +62,8 @@ impl Begun {
         }
     }
 
-    /// Reads a piece, and adds the records of the entries that are ended then. False at the end of
-    /// the source.
+    /// Reads a piece, and adds the records of the entries that are complete now. False at the end
+    /// of the source.
     pub(crate) fn take_piece<R: Read, G: Gathers>(
         &mut self,
         source: &mut Tally<R>,
@@ -105,7 +105,7 @@ impl Begun {
         Ok(more)
     }
 
-    // Adds the records of the entries that are ended in the octets at hand.
+    // Adds the records of the complete entries in the held octets.
     fn take_front<G: Gathers>(&mut self, found: &mut G) -> Result<(), ReadFault>
         requires count { length (G.gathered found.old) ≡ self.old.reader.count }
         requires fits { self.old.reader.line + length self.old.held.items ≤ 16777217 }
@@ -135,7 +135,7 @@ impl Begun {
         Ok(())
     }
 
-    /// Adds the records of what is left of a text, which then is over or goes on past its limit.
+    /// Adds the records of the remaining text, which ends here, or goes on past its limit.
     pub(crate) fn finish<G: Gathers>(self, goes_on: bool, found: &mut G) -> Result<(), ReadFault>
         requires count { length (G.gathered found.old) ≡ self.reader.count }
         requires fits { self.reader.line + length self.held.items ≤ 16777217 }
@@ -161,8 +161,8 @@ impl Begun {
     }
 }
 
-// Adds the records of the entries in front of a text that are at hand as a whole, and gives the
-// text after them. `goes_on` is whether the text goes on past its limit, where that is known.
+// Adds the records of the complete entries at the front of a text, and returns the text after
+// them. `goes_on` is whether the text goes on past its limit, if that is known.
 fn take_entries<'a, G: Gathers>(
     alloc: Global,
     reader: &mut Reader,
@@ -198,7 +198,7 @@ fn take_entries<'a, G: Gathers>(
     Ok(rest)
 }
 
-// Adds the last record, if the entry that was taken is one.
+// Adds the last record, if the entry was a record.
 fn add_taken<G: Gathers>(is_record: bool, reader: &Reader, found: &mut G) -> Result<(), ReadFault>
     ensures ok { OnOk result (G.gathered found.new
         ≡ G.gathered found.old ++ handed is_record reader.now.last) }

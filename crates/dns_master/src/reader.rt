@@ -28,18 +28,17 @@ use std::alloc::Global;
 use std::io::Read;
 use std::mem::replace;
 
-/// The most records that are read: a limit of this product (`R14`).
+/// The most records that a file may have: a limit of this product (`R14`).
 pub const MOST_RECORDS: usize = 100_000;
 
-/// Reads the zone file of a source, relative to the origin of the zone (RFC 1035 section 5).
+/// Reads a zone file, relative to the origin of the zone (RFC 1035 section 5).
 ///
-/// The records come in the order of the file, owners and names in data in lower case. At most
-/// 100,000 records and 16,777,216 octets are read, and never more than one octet past them is asked
-/// for.
+/// The records are in the order of the file; owners, and names in data, are in lower case. A file
+/// may have at most 100,000 records and 16,777,216 octets. At most one octet past that is read.
 ///
-/// A faulty file gives no records: the first faulty entry is reported by its line and code. In it
-/// the first of `R01` to `R04` and `R15` by place goes first, else the lowest code from `R05`.
-/// `R16` is reported where the source failed, and `R17` only where no memory was found.
+/// A faulty file yields no records. The fault is the first faulty entry's: its line, and the first
+/// by place of `R01` to `R04` and `R15` in it, else its lowest code from `R05`. The code is `R16`
+/// if the source failed, and `R17` only if allocation failed.
 pub fn read_zone<R: Read>(
     alloc: Global,
     origin: &Name,
@@ -69,8 +68,8 @@ pub fn read_zone<R: Read>(
     Ok(whole.records)
 }
 
-/// Reads the zone file of a source, as `read_zone` does, and adds each record to what the caller
-/// keeps them in, which has none before. What it has after a fault is not promised.
+/// Reads a zone file as `read_zone` does, and adds each record to the caller's collection, which
+/// must be empty. After a fault its contents are unspecified.
 pub fn read_into<R: Read, G: Gathers>(
     alloc: Global,
     origin: &Name,
@@ -109,10 +108,11 @@ pub fn read_into<R: Read, G: Gathers>(
 }
 
 impl Reader {
-    /// Takes the entry that a text begins with: gives whether it is a record, which is the last one
-    /// then, and the text after it. `goes_on` is whether the text goes on past its limit. Where
-    /// that is not known, more of it may come: `None` where that would be needed to tell, and then
-    /// nothing was taken.
+    /// Takes the first entry of a text. Returns whether it is a record, which is then `last`, and
+    /// the text after it.
+    ///
+    /// `goes_on` is whether the text goes on past its limit; if that is unknown, more text may
+    /// follow. `None`, with nothing taken, if only more text could decide what the entry is.
     pub(crate) fn take_entry<'a>(
         &mut self,
         text: &'a [u8],
@@ -144,8 +144,8 @@ impl Reader {
         Ok(Some((taken, rest)))
     }
 
-    // Takes what the words of an entry say: a directive, or a record, whose owner is that of the
-    // record before where the entry begins with a blank.
+    // Takes the words of an entry, a directive or a record. If the entry begins with a blank, its
+    // owner is the previous record's.
     fn take_words(
         &mut self,
         is_blank_led: bool,
@@ -207,7 +207,7 @@ impl Reader {
         Err(ReadCode::UnknownDirective)
     }
 
-    // Takes the record of the last owner, and of the words after it.
+    // Takes a record whose owner is already in `last`, from the words after the owner.
     fn take_record(
         &mut self,
         words: EntryWords<'_, '_>,

@@ -13,9 +13,9 @@ use std::marker::Model;
 /// and its data is valid for its type.
 #[derive(Drop)]
 pub struct Record {
-    /// The name that it stands at.
+    /// Its owner name.
     pub owner: Name,
-    /// How many seconds it may be kept, at most 2147483647 (RFC 2181 8).
+    /// Its TTL in seconds, at most 2147483647 (RFC 2181 8).
     pub ttl: u32,
     /// Its type.
     pub rtype: RType,
@@ -39,7 +39,7 @@ impl Model for Record {
     ghost invariant = { λ r. IsKept r.owner r.ttl r.rtype.0 r.rdata };
 }
 
-/// What a record says beside its owner.
+/// A record without its owner.
 #[derive(Drop)]
 pub(crate) struct RecordBody {
     pub(crate) ttl: u32,
@@ -48,8 +48,8 @@ pub(crate) struct RecordBody {
 }
 
 impl Record {
-    /// Makes its owner the name in lower case that an unquoted word spells, relative to the origin.
-    /// False where it spells none; then the owner is some name.
+    /// Sets the owner to the name that an unquoted word spells, relative to the origin, in lower
+    /// case. False if the word spells no name; then the owner is unspecified.
     pub(crate) fn spell_owner(&mut self, word: &Word<'_>, origin: &Name) -> bool
         ensures spelled { OnTrue result (SpelledOwner origin.now word.now self.new.owner) }
         ensures none { OnFalse result
@@ -61,7 +61,7 @@ impl Record {
         is_spelled && !word.quoted
     }
 
-    /// A second record with the same values. Memory is taken once, for the data.
+    /// A copy. Memory is allocated once, for the data.
     pub fn copied(&self, alloc: Global) -> Result<Record, AllocError>
         ensures { IfOk result (λ copy. copy ≡ self.now) }
     {

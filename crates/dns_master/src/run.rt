@@ -1,4 +1,4 @@
-//! Runs of octets: how far a word, a string, a blank or a comment goes (RFC 1035 5.1).
+//! Runs of octets: how far a word, a string, a blank or a comment extends (RFC 1035 5.1).
 ghost use Rattle.std.specs.Prelude.{◌≡◌, ◌==◌, ◌≤◌, true, not, length, take, drop};
 ghost use Rattle.std.specs.List.{list_all, prefix_len, position};
 ghost use Rattle.dns_spec.specs.ZoneText.{is_blank, run_length};
@@ -6,7 +6,7 @@ ghost use Rattle.dns_spec.specs.DataText.{is_string_octet};
 ghost use Rattle.dns_spec.proofs.NameTexts.Escapes.{counted_escape};
 ghost use Rattle.dns_master.specs.TokenForm.{by_itself};
 
-/// What a run is made of, beside escapes.
+/// The octets of a run, apart from escapes.
 #[derive(Clone, Copy, Debug, PartialEq, Eq)]
 pub(crate) enum Run {
     /// The printable octets of a word, without `"`, `(`, `)`, `;` and `\`.
@@ -15,10 +15,10 @@ pub(crate) enum Run {
     String,
 }
 
-// How many octets of a string are told at once, since a string may be long.
+// How many octets of a string are checked at once, because a string may be long.
 const GROUP: usize = 16;
 
-// Where each octet stands by itself: 2 in words and in strings, 1 in strings alone, 0 in neither.
+// Where each octet may appear unescaped: 2 in words and strings, 1 only in strings, 0 in neither.
 const PLAIN_IN: [u8; 256] = [
     0, 0, 0, 0, 0, 0, 0, 0, 0, 1, 0, 0, 0, 0, 0, 0, 0, 0, 0, 0, 0, 0, 0, 0, 0, 0, 0, 0, 0, 0, 0, 0,
     1, 2, 0, 2, 2, 2, 2, 2, 1, 1, 2, 2, 2, 2, 2, 2, 2, 2, 2, 2, 2, 2, 2, 2, 2, 2, 2, 1, 2, 2, 2, 2,
@@ -31,8 +31,7 @@ const PLAIN_IN: [u8; 256] = [
 ];
 
 impl Run {
-    /// How many octets the run has that a text begins with, escapes counted with all of their
-    /// octets.
+    /// The length in octets of the run at the beginning of a text. All octets of an escape count.
     pub(crate) fn length(self, text: &[u8]) -> usize
         ensures value { result ≡ run_length (by_itself self) 0 text.now }
         ensures bound { result ≤ length text.now }
@@ -60,7 +59,7 @@ impl Run {
         place
     }
 
-    // Whether an octet stands in the run by itself.
+    // Whether an octet may appear in the run unescaped.
     fn has(self, octet: u8) -> bool
         ensures { result ≡ by_itself self octet }
     {
@@ -71,7 +70,7 @@ impl Run {
     }
 }
 
-// How many octets are in the groups in front whose octets all stand in a string by themselves.
+// The total length of the groups at the front that contain only unescaped string octets.
 fn plain_groups(text: &[u8]) -> usize
     ensures bound { result ≤ length text.now }
     ensures plain { list_all is_string_octet (take result text.now) ≡ true }
@@ -88,8 +87,8 @@ fn plain_groups(text: &[u8]) -> usize
     front
 }
 
-// Whether all octets of a group are printable ones, spaces or tabs, without `"` and `\`. Each is
-// looked at, so that a processor can do it to many at once.
+// Whether a group contains only printable octets, spaces and tabs, without `"` and `\`. It looks
+// at each octet, so that a processor can check many at once.
 fn are_plain(group: &[u8; GROUP]) -> bool
     ensures { result ≡ list_all is_string_octet group.now }
 {
@@ -102,8 +101,8 @@ fn are_plain(group: &[u8; GROUP]) -> bool
     all
 }
 
-// How many octets after a backslash belong to its escape: one that is printable and no digit, or
-// three digits up to 255. 0 where it begins no escape.
+// The number of octets of an escape after its backslash: 1 if the first is printable and no digit,
+// 3 if they are digits up to 255, else 0 because the backslash begins no escape.
 fn escape_length(text: &[u8]) -> usize
     ensures value { result ≡ counted_escape text.now }
     ensures bound { result ≤ length text.now }
@@ -125,8 +124,8 @@ fn escape_length(text: &[u8]) -> usize
     if value < 256 { 3 } else { 0 }
 }
 
-/// The text after its spaces and tabs, where it begins with one, which is rare: most blanks are one
-/// octet. Spaces go by eights after the first one, since a line may be filled up with them.
+/// The text without the spaces and tabs at its front. Rarely called, because most blanks are one
+/// octet. Skips spaces by eights after the first octet, because a line may be padded with them.
 #[inline(never)]
 pub(crate) fn after_run(text: &[u8]) -> &[u8]
     ensures { result.now ≡ drop (prefix_len is_blank text.now) text.now }
@@ -147,7 +146,7 @@ pub(crate) fn is_blank(octet: u8) -> bool
     octet == b' ' || octet == b'\t'
 }
 
-/// The text from its first LF on.
+/// The text from its first LF.
 pub(crate) fn after_comment(text: &[u8]) -> &[u8]
     ensures { result.now ≡ drop (prefix_len (λ x. not (x == 10)) text.now) text.now }
 {

@@ -1,4 +1,4 @@
-//! The text of a source.
+//! Reads text from a source.
 ghost use Rattle.std.specs.Prelude.{◌≡◌, ◌-◌, ◌^◌, ◌<◌, ◌≤◌, ◌⊎◌, length, IfOk, IfErr};
 ghost use Rattle.dns_master.specs.SourceForm.{AppendsPiece};
 ghost use Rattle.dns_master.specs.Codes.{failures_after_read};
@@ -7,13 +7,13 @@ use crate::fault::{ReadCode, ReadFault};
 use dns_name::Tally;
 use std::io::Read;
 
-/// A text has at most so many octets.
+/// The most octets that a text may have.
 pub(crate) const MOST_OCTETS: usize = 16_777_216;
 
-/// How many octets are asked for at once.
+/// How many octets each read asks for.
 pub(crate) const PIECE: usize = 4_096;
 
-/// Reads so many octets at most, once, and appends what came: false at the end of the source.
+/// Reads once, at most `asked` octets, and appends them. False at the end of the source.
 pub(crate) fn append_piece<R: Read>(
     source: &mut Tally<R>,
     asked: usize,

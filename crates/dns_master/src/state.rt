@@ -1,4 +1,4 @@
-//! What the reader of zone files keeps from entry to entry.
+//! What the reader keeps from entry to entry.
 ghost use Rattle.std.specs.Prelude.{◌≡◌, ◌≤◌};
 ghost use Rattle.dns_spec.specs.Names.{folded};
 ghost use Rattle.std.specs.Option.{ForSome};
@@ -7,10 +7,10 @@ ghost use Rattle.dns_spec.specs.Meaning.{most_records};
 use crate::record::Record;
 use dns_name::Name;
 
-/// What the entries so far give to those after them.
+/// What later entries need of the earlier ones.
 #[derive(Drop)]
 pub(crate) struct Reader {
-    /// The origin in force.
+    /// The current origin.
     pub(crate) origin: Name,
     /// The TTL of the last `$TTL`.
     pub(crate) default_ttl: Option<u32>,
@@ -18,9 +18,9 @@ pub(crate) struct Reader {
     pub(crate) stated_ttl: Option<u32>,
     /// The line on which the next entry begins, counted from 1.
     pub(crate) line: u32,
-    /// The last record, where there was one. The next one is read where it stands, its owner first.
+    /// The last record, if there is one. The next one is read in place, owner first.
     pub(crate) last: Record,
-    /// How many records there were so far.
+    /// The number of records so far.
     pub(crate) count: usize,
     ghost default_short: { ForSome default_ttl (λ n. n ≤ 2147483647) },
     ghost stated_short: { ForSome stated_ttl (λ n. n ≤ 2147483647) },

@@ -1,10 +1,10 @@
-//! The tokens that the text of a zone file is made of (RFC 1035 5.1).
+//! The tokens of a zone file (RFC 1035 5.1).
 ghost use Rattle.dns_spec.specs.ZoneText.{token_front};
 ghost use Rattle.dns_master.specs.TokenForm.{Begins};
 
 use crate::run::{Run, after_comment, after_run, is_blank};
 
-/// A token of a text. A word and a quoted string keep their spelling, without the quotation marks.
+/// A token. A word and a quoted string keep their spelling; the quotation marks are left out.
 #[derive(Clone, Copy, Debug, PartialEq, Eq)]
 pub(crate) enum Token<'a> {
     Blank,
@@ -16,8 +16,8 @@ pub(crate) enum Token<'a> {
     LineEnd,
 }
 
-/// The token that a text begins with, and the text after it. `None` at the end of the text, and
-/// where no token begins.
+/// The first token of a text, and the text after it. `None` at the end of the text, or if no token
+/// begins there.
 #[inline(always)]
 pub(crate) fn first_token(text: &[u8]) -> Option<(Token<'_>, &[u8])>
     ensures { Begins result (token_front text.now) }

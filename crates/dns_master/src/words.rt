@@ -8,7 +8,7 @@ use dns_rdata::{Word, read_number};
 // The greatest TTL (RFC 2181 8).
 const MOST_TTL: u32 = 2_147_483_647;
 
-/// The TTL that an unquoted word says: a number of seconds in decimal, without zeros in front.
+/// The TTL of an unquoted word: seconds in decimal, without leading zeros.
 pub(crate) fn read_ttl(word: &Word<'_>) -> Option<u32>
     ensures { (n : ℕ) → (result ≡ Some n) ↔ TtlSays word.now n }
 {
@@ -18,7 +18,7 @@ pub(crate) fn read_ttl(word: &Word<'_>) -> Option<u32>
     read_number(word.raw, MOST_TTL)
 }
 
-/// Whether two texts are the same but for the case of ASCII letters.
+/// Whether two texts are equal, apart from the case of ASCII letters.
 pub(crate) fn is_word(text: &[u8], word: &[u8]) -> bool
     ensures { result ≡ is_word (text_in_lower_case text.now) word.now }
 {
