@@ -1,4 +1,4 @@
--- The names that most proofs cite, passed on from one place. Declares nothing.
+-- Re-exports the names that most proofs use. Declares nothing.
 pub use Rattle.dns_spec.proofs.Common.{Bool, Consumes, DataIs, DomainName, EntriesMean, Entry, EntryGives, EntryKind, EntryMeaning, Extent, Fields, FileFault, IfErr, IfErr-weaker, IfSome, IsAtEnd, IsNoTtl, IsRecord, IsTrue, KindGives, List, Lowest, MatchOption, Meaning, Means, NameIs, NamesType, None, Nothing, Octets, OneWord, Option, OriginIs, OwnerBefore, RecordGives, ResourceRecord, Result, Says, Some, SpellsName, Token, TokensThen, TtlSays, TypeIs, Word, [], after, and_parts, ap, append-nil, append_assoc, ap₂, are_too_many, arith, bad_data, bad_owner, bad_parenthesis, bad_type, before_first, beginning, closed, codes, cond, cons_option, cut_entries, directive, directive_word, directive_words, drop, drop-drop, drop_all, ended, eq-eqb, eqb-true, escape_left, extent_by, false, false≢true, fault_at, fault_code, faulty, fields, filter, fold, folded, get_or, gives, if◌then◌else◌, in_string, in_token, inl, inr, is_blank, is_cut_short, is_line_end, is_none, is_open_at_end, is_other_class, is_record, is_string_octet, is_word_octet, kind_by_words, kind_of, le-ltb, length, length-append, length-drop, line_after, line_end, line_feed_front, list_all, list_all-append, list_any, lower_case, lt-ltb, ltb-false, nat_eq, nat_le, nat_lt, nearest, no_owner, no_ttl, no_words, none-some, not, on_ok_weaker, open_after, option_or, other_class, owned, owner_word, parentheses, parenthesis, position_or_len, prefix_len, prefix_len-le-length, quoted_string, records, refl, rules, same_Some, slice_index_or, stop_at, stop_fault, subst, suc, sym, take, take-add, take_all, take_at, take_turns, text_in_lower_case, token_front, too_long, too_many_records, true, ttl_in_force, ttl_word, unit_left, unowned, unwrap_or, whole_text, with_end, word_of, zero, ℕ, ◌&&◌, ◌++◌, ◌+◌, ◌-◌, ◌<◌, ◌==◌, ◌||◌, ◌∙◌, ◌∷◌, ◌≡◌, ◌≢◌, ◌≤◌, ◌⊎◌}
 unfoldable pub use Rattle.dns_spec.proofs.Common.{cut, run_length}
 pub use Rattle.std.specs.Cmp.Lexicographic.{pointwise, same_text}

@@ -1,5 +1,5 @@
--- The entries of a text one after another: what the rest means, with the records so far before it,
--- the whole means.
+-- The entries of a text one after another: the whole means the records so far, and then what the
+-- rest means.
 use Rattle.dns_master.proofs.Common.{◌≡◌, Bool, List, [], ◌++◌, length, take, nat_lt, append_assoc, arith, Octets, DomainName, ResourceRecord, Meaning, after, Means, TextMeans}
 
 pub after-append : (rs taken : List ResourceRecord) (m : Meaning)
@@ -9,7 +9,7 @@ after-append rs taken m = grind (arith, append_assoc)
 pub after-nil : (m : Meaning) → after [] m ≡ m
 after-nil m = grind arith
 
--- the meaning of what is looked at is that of a text
+-- the meaning of the octets up to the limit is the meaning of the text
 pub looked-means : (o : DomainName) (text front : Octets) (goes_on : Bool) (m : Meaning)
     → front ≡ take 16777216 text
     → goes_on ≡ nat_lt 16777216 (length text) → TextMeans o [] goes_on front m → Means o text m

@@ -1,4 +1,4 @@
--- What reading an entry token by token says of the entries that a text's tokens are cut into.
+-- Reading an entry token by token finds the entries into which a text's tokens are cut.
 use Rattle.dns_master.proofs.Common.{◌≡◌, ℕ, Bool, true, false, ◌&&◌, ◌==◌, not, List, [], ◌∷◌, ◌++◌, refl, sym, ap, ◌∙◌, subst, Some, None, ◌⊎◌, inl, inr, arith, false≢true, eq-eqb, none-some, cons_option, Octets, Token, token_front, TokensThen, parenthesis, parentheses, is_line_end, open_after, before_first, cut_entries, take_turns, is_cut_short, fold, Loose, front_kept, cut_none, Step, misplaced, over, onward, step, Outcome, unended, wrong, Reads}
 use mathlib.Core.Bool.{xor}
 use Rattle.dns_master.specs.EntryForm.{ended}
@@ -47,7 +47,7 @@ ends : (b : Bool) (p : Token) → step b p ≡ over → Ends b p
 unfolding step_code
 ends b p h = grind (arith, differ)
 
--- a parenthesis that is misplaced
+-- a misplaced parenthesis
 record Misses (b : Bool) (p : Token) : Type 0 where
   no_end : (is_line_end p && not b) ≡ false
   turns : (marks : List Bool) → take_turns b (cons_option (parenthesis p) marks) ≡ false
@@ -56,7 +56,7 @@ misses : (b : Bool) (p : Token) → step b p ≡ misplaced → Misses b p
 unfolding step_code xor
 misses b p h = grind (arith, differ)
 
--- there is a first entry, perhaps an empty one
+-- there is a first entry, possibly empty
 pub record HasFirst (es : List (List Token)) : Type 0 where
   pub first : List Token
   pub others : List (List Token)
@@ -83,7 +83,7 @@ pub record EndedCut (b : Bool) (text : Octets) (ps : List Token) (others : Octet
   pub cuts : (qs : List Token) → cut_entries b (ps ++ qs) ≡ ps ∷ cut_entries false qs
   pub turns : take_turns b (parentheses ps) ≡ true
 
--- an entry up to where no token begins
+-- an entry up to the place at which no token begins
 pub record UnendedCut
     (b : Bool) (text : Octets) (ps : List Token) (now : Bool) (rest : Octets) : Type 0 where
   pub spelled : TokensThen text ps rest
@@ -92,7 +92,7 @@ pub record UnendedCut
   pub turns : take_turns b (parentheses ps) ≡ true
   pub opens : fold open_after b ps ≡ now
 
--- the first entry of these tokens and of any after them
+-- the first entry of these tokens, whatever tokens follow them
 pub record WrongFirst (b : Bool) (ps : List Token) : Type 0 where
   pub first : List Token
   pub others : List (List Token)
@@ -213,7 +213,7 @@ reads-wrong b text (p ∷ ps) h = go (step b p) refl h.2 (λ now. reads-wrong no
     go over e k more = absurd (other_outcome wrong (ended h.0) refl k.1)
     go (onward now) e k more = wrong-on b now text h.0 p ps h.1 (goes b p now e) (more now k)
 
--- an entry that is ended stands so in every text that goes on
+-- an ended entry remains the same however the text goes on
 pub reads-more : (more : Octets) (b : Bool) (text : Octets) (ps : List Token) (rest : Octets)
     → Reads b text ps (ended rest) → Reads b (text ++ more) ps (ended (rest ++ more))
 unfolding outcome_code outcome_rest

@@ -1,4 +1,5 @@
--- An entry is read token by token: what the tokens so far and those to come give, all give.
+-- Reading an entry token by token: the tokens so far and the remaining ones together make the
+-- entry.
 use Rattle.dns_master.proofs.Common.{◌≡◌, ℕ, ◌+◌, ◌≤◌, Bool, true, false, cond, List, [], ◌∷◌, ◌++◌, length, refl, sym, ap, ◌∙◌, subst, arith, append_assoc, append-nil, Some, None, Octets, Word, Token, token_front, is_line_end, word_of, filter, cons_option, front-shorter, misplaced, over, onward, step, Outcome, unended, wrong, Reads, token_words, line_ends, EntryRead, IsWrong}
 use Rattle.dns_master.specs.EntryForm.{ended}
 use Rattle.dns_spec.proofs.General.Options.{cons_option-append}
@@ -25,13 +26,13 @@ lines-append (p ∷ ps) qs =
 line_ends-one : (p : Token) → line_ends (p ∷ []) ≤ 1
 line_ends-one p = grind arith
 
--- each line end is an octet or more
+-- a token has at least as many octets as line ends
 pub lines-shorter : (text others : Octets) (p : Token)
     → token_front text ≡ Some (p, others) → line_ends (p ∷ []) + length others ≤ length text
 lines-shorter text others p e = search (arith, front-shorter, line_ends-one)
 
 module _ (text : Octets) where
-  -- the tokens so far, with what their words and line ends are, and what comes of those after them
+  -- the tokens so far, with their words and line ends, and how the remaining ones complete them
   pub record EntrySoFar
       (is_open : Bool) (rest : Octets) (words : List Word) (lines : ℕ) : Type 0 where
     pub tokens : List Token

@@ -1,4 +1,4 @@
--- What an entry changes of what is known of the entries so far.
+-- How an entry changes what is known of the entries so far.
 use Rattle.dns_master.proofs.Common.{◌≡◌, ℕ, ◌+◌, ◌≤◌, Bool, true, false, cond, List, [], ◌∷◌, length, refl, sym, ap, ◌∙◌, subst, arith, inl, inr, ◌⊎◌, codes, Option, Some, None, eqb-true, MatchOption, option_or, DomainName, folded, SpellsName, Word, text_in_lower_case, ResourceRecord, Entry, directive_words, no_owner, FileFault, bad_owner, filter, Nothing, EntryKind, no_words, directive, owned, unowned, kind_of, kind_by_words, is_directive, Fields, fields, EntryMeaning, faulty, gives, OriginIs, NameIs, OneWord, OwnerBefore, TtlSays, nearest, directive_word, owner_word, ttl_word, is_record, IsRecord, RecordGives, KindGives, TtlOf, Inherited, LastOwner, SpelledName, Knows, RecordTaken, EntryTaken, owner_of, Reader}
 
 -- the owner of the last record
@@ -17,7 +17,7 @@ module _ (o : DomainName) (earlier : List Entry) (Owner : DomainName → Type 0)
       → (r : ResourceRecord) × IsRecord o earlier Owner f r × (answer ≡ gives (r ∷ []))
   owned_record answer (r, h, e) = grind (arith, folded)
 
-  -- what is given for the owner in lower case is given for the owner
+  -- what holds for the owner in lower case holds for the owner
   pub given-owner : (code : FileFault) (answer : EntryMeaning) → RecordGives o earlier no_owner
       (λ m. m ≡ owner) f answer → RecordGives o earlier code Owner f answer
   given-owner code answer (inl h) = absurd (h.0 owner refl)
@@ -28,7 +28,7 @@ module _ (o : DomainName) (earlier : List Entry) (Owner : DomainName → Type 0)
             (otherwise (otherwise (otherwise (otherwise (otherwise (owned_record answer)))))) h.1,
       )
 
--- a TTL that is said is within its limit
+-- a stated TTL is within its limit
 pub one-short : (ws : List Word) (n : ℕ) → OneWord (λ w. TtlSays w n) ws → n ≤ 2147483647
 one-short [] n h = absurd h
 one-short (w ∷ []) n h = h.2
@@ -85,7 +85,7 @@ module _ (o : DomainName) (earlier : List Entry) where
     pub nothing-taken : kind_of e ≡ no_words → EntryTaken o earlier e [] old old
     nothing-taken is = grind (arith, known-of_kind)
 
-    -- what after a record is known, where its owner is the one of its kind
+    -- what is known after a record with this owner
     record_after : (s : EntryKind) (owner : DomainName) (f : Fields)
         → directive_word (codes "$origin") s ≡ None → directive_word (codes "$ttl") s ≡ None
         → ttl_word s ≡ f.ttl → counts_as_record s ≡ true → (n : DomainName)
@@ -170,7 +170,7 @@ module _ (o : DomainName) (earlier : List Entry) where
               });
         }
 
-  -- the words of `$ORIGIN` are none
+  -- invalid arguments of `$ORIGIN`
   pub origin-fault : (old : Reader) → Knows o earlier old
       → (ws : List Word) → ((n : DomainName) → OneWord (λ w. SpelledName old.origin w n) ws → ⊥)
       → KindGives o earlier (directive (codes "$origin") ws) (faulty directive_words)

@@ -1,10 +1,10 @@
--- What is read of a beginning of a text holds of every text that goes on from it.
+-- What the beginning of a text decides holds however the text goes on.
 use Rattle.dns_master.proofs.Common.{◌≡◌, ℕ, ◌+◌, ◌-◌, ◌≤◌, ◌⊎◌, inl, inr, Option, None, Some, Bool, true, false, List, [], ◌++◌, length, length-append, append-nil, append_assoc, refl, sym, ap, ◌∙◌, subst, arith, Octets, DomainName, FileFault, too_long, unwrap_or, false≢true, ResourceRecord, Meaning, records, fault_at, after, EntriesMean, Word, Token, Entry, extent_by, with_end, cut_entries, beginning, stop_at, stop_fault, beginning_decides, tokens_cut, TextMeans, EntryRead, IsWhole, Reads, outcome_of, unended, ReaderMeans, MayFollow, FrontTaken, FrontFaulty, FrontGathered, TextGathered, PieceTaken, AppendsPiece, Reader}
 use Rattle.dns_master.proofs.EntryCuts.{reads-more}
 use Rattle.dns_master.proofs.TextSteps.{over-at_end, nothing-means, past-means}
 use Rattle.dns_master.proofs.EntriesLoop.{after-nil, after-append}
 
--- the fault of a beginning, other than that of the limit, is that of a text that goes on
+-- a fault of a beginning, other than TooLong, is a fault of every text that goes on from it
 pub decided-means : (o : DomainName) (earlier : List Entry) (text more : Octets) (goes_on : Bool)
     (fault : FileFault) (line : ℕ) → TextMeans o earlier true text (fault_at fault line)
     → (fault ≡ too_long → ⊥) → TextMeans o earlier goes_on (text ++ more) (fault_at fault line)
@@ -21,7 +21,7 @@ decided-means o earlier text more goes_on fault line h other =
       meant = subst (λ es. EntriesMean o earlier es (fault_at fault line)) found.1.entries found.2;
     }
 
--- an entry that is at hand as a whole, of a text that goes on from it
+-- a complete entry remains the same however the text goes on
 module _ (goes_on : Option Bool)
     (more : Octets) (past : Bool) (text rest : Octets) (words : List Word) (lines : ℕ) where
   pub whole-on : (is_ended is_open : Bool) (ps : List Token) → MayFollow goes_on more past → IsWhole
@@ -58,7 +58,7 @@ module _ (goes_on : Option Bool)
         on.1,
       )
 
--- an entry that ends by a fault other than that of a limit that is not known to be passed
+-- an entry that ends with a fault, other than TooLong if it is unknown whether the text goes on
 pub end-faulty : (goes_on : Option Bool) (o : DomainName) (earlier : List Entry)
     (text more : Octets) (past : Bool) (fault : FileFault) (line : ℕ) → MayFollow goes_on more past
     → TextMeans o earlier (unwrap_or goes_on true) text (fault_at fault line) → (goes_on ≡ None
@@ -80,7 +80,7 @@ nothing-gathered goes_on r text found = record {
 
 module _ (goes_on : Option Bool) (first mid : Reader) (text rest : Octets) (before found :
     List ResourceRecord) (so : FrontGathered goes_on first text mid rest before found) where
-  -- an entry more
+  -- one more entry
   pub more-gathered : (last : Reader) (others : Octets) (rs grown : List ResourceRecord)
       → FrontTaken goes_on mid rest rs last others
       → grown ≡ found ++ rs → FrontGathered goes_on first text last others before grown
@@ -92,19 +92,19 @@ module _ (goes_on : Option Bool) (first mid : Reader) (text rest : Octets) (befo
         (so.taken more past (after rs later) may (step more past later may h));
   }
 
-  -- the fault of what is left
+  -- a fault of the rest
   pub faulty-after : (fault : FileFault) (line : ℕ)
       → FrontFaulty goes_on mid rest fault line → FrontFaulty goes_on first text fault line
   faulty-after fault line h =
       λ more past may. so.taken more past (fault_at fault line) may (h more past may)
 
--- the fault of all of a text
+-- a fault of a whole text
 pub all-faulty : (past : Bool) (r : Reader) (text : Octets) (fault : FileFault) (line : ℕ)
     → FrontFaulty (Some past) r text fault line → ReaderMeans r past text (fault_at fault line)
 all-faulty past r text fault line h = subst
     (λ x. ReaderMeans r past x (fault_at fault line)) (append-nil text) (h [] past (refl, refl))
 
--- all of a text was taken
+-- a whole text was taken
 module _ (past : Bool) (first last : Reader) (held : Octets) (before found : List ResourceRecord)
     (text rest : Octets) (same : text ≡ held) (none : rest ≡ [])
     (so : FrontGathered (Some past) first text last rest before found) where
@@ -115,7 +115,7 @@ module _ (past : Bool) (first last : Reader) (held : Octets) (before found : Lis
       (so.taken [] past later
       (refl, refl) (subst (λ x. ReaderMeans last past (x ++ []) later) (sym none) h))
 
-  -- which is over then
+  -- and it ends there
   pub all-gathered : past ≡ false → TextGathered first past held before found
   all-gathered over = record {
     came = so.came;

@@ -1,7 +1,7 @@
--- Why entries are refused, and faults of their file.
+-- Why entries are rejected, and the faults of their file.
 use Rattle.dns_master.proofs.Common.{◌≡◌, ℕ, ◌≤◌, ap, arith, FileFault, too_long, ForFault, OfEntry, code_number, fault_of, IsFaultOn, ReadFault, ReadCode, TooLong, NoMemory}
 
--- this holds of the fault of a code that is an entry's
+-- a property of the fault of a code that an entry can have
 pub refused : (code : ReadCode) (P : FileFault → Type 0)
     → code_number code ≤ 15 → P (fault_of code) → ForFault code P
 refused code P low h = record { told = λ _. h; source = λ e. omega (arith, low, ap code_number e) }
@@ -9,17 +9,17 @@ refused code P low h = record { told = λ _. h; source = λ e. omega (arith, low
 pub no-memory : (code : ReadCode) (P : FileFault → Type 0) → code ≡ NoMemory → ForFault code P
 no-memory code P is = grind (arith, code_number)
 
--- what holds of the fault of a refused entry, said of another fact
+-- from one property of a rejected entry's fault to another
 pub ForFault-map : (code : ReadCode) {P Q : FileFault → Type 0}
     → ((fault : FileFault) → P fault → Q fault) → ForFault code P → ForFault code Q
 ForFault-map code f h = grind (arith, fault_of)
 
--- what holds of the fault of a refused entry holds of the fault of the file
+-- from the fault of a rejected entry to the fault of the file
 pub entry-told : (code : ReadCode) (line : ℕ) (f : ReadFault) (P : FileFault → ℕ → Type 0)
     → IsFaultOn line code f → ForFault code (λ fault. P fault line) → OfEntry P f
 entry-told code line f P is h = grind arith
 
--- what holds of an entry's fault, said of another fact
+-- from one property of an entry's fault and line to another
 pub OfEntry-map : {P Q : FileFault → ℕ → Type 0} (f : ReadFault)
     → ((fault : FileFault) (line : ℕ) → P fault line → Q fault line) → OfEntry P f → OfEntry Q f
 OfEntry-map f turn h = grind arith

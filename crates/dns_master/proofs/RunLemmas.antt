@@ -3,7 +3,7 @@ use Rattle.dns_master.proofs.Common.{get_or, ◌≡◌, ℕ, zero, suc, sym, con
 use Rattle.dns_master.specs.declared.run.Run.TheVariants.{Word as WordRun, String as StringRun}
 use Rattle.dns_spec.proofs.DataWords.BareWords.{no_backslash}
 
--- where the first octet of a sort stands
+-- the place of the first octet with a property
 pub place-some : (p : ℕ → Bool) (text : Octets) (n : ℕ)
     → position p text ≡ Some n → n ≡ position_or_len p text
 place-some p text n e = grind (arith, same_Some, none-some)
@@ -30,12 +30,12 @@ module _ (by : ℕ → Bool) where
   unfolding run_length
   by_unit o text u e = grind (arith, None, Some, run_length)
 
-  -- an octet that stands in the run by itself
+  -- an octet that may appear in the run unescaped
   pub run-itself : (o : ℕ) (text : Octets)
       → (o == 92) ≡ false → by o ≡ true → run_length by 0 (o ∷ text) ≡ 1 + run_length by 0 text
   run-itself o text e h = by_unit o text (Some 0) (rw e (rw h refl))
 
-  -- an octet that does not
+  -- any other octet
   pub run-end : (o : ℕ) (text : Octets)
       → (o == 92) ≡ false → by o ≡ false → run_length by 0 (o ∷ text) ≡ 0
   run-end o text e h = by_unit o text None (rw e (rw h refl))
@@ -62,7 +62,7 @@ module _ (by : ℕ → Bool) where
 one_more : (i k : ℕ) → i + 1 + k ≡ i + (1 + k)
 one_more i k = omega arith
 
--- a backslash stands in no run by itself
+-- a backslash never appears unescaped
 pub no-backslash : (run : Run) (o : ℕ) → by_itself run o ≡ true → (o == 92) ≡ false
 no-backslash WordRun o h = no_backslash is_word_octet o refl h
 no-backslash StringRun o h = no_backslash is_string_octet o refl h
@@ -81,7 +81,7 @@ module _ (run : Run) (text : Octets) (i : ℕ) (inside : i < length text) where
       → (get_or text i 0 == 92) ≡ false → run_length (by_itself run) 0 (drop i text) ≡ 0
   here-end h e = here ∙ run-end (by_itself run) (get_or text i 0) (drop (i + 1) text) e h
 
-  -- at a backslash, where so many octets after it belong to its escape
+  -- at a backslash whose escape has `k` octets after it
   module _ (others : Octets) (k : ℕ) (backslash : (get_or text i 0 == 92) ≡ true)
       (is : others ≡ drop (i + 1) text) (counted : k ≡ counted_escape others) where
     pub here-escape : (k == 0) ≡ false → k ≤ length others → run_length (by_itself run) 0
@@ -91,7 +91,7 @@ module _ (run : Run) (text : Octets) (i : ℕ) (inside : i < length text) where
     pub here-no_escape : (k == 0) ≡ true → run_length (by_itself run) 0 (drop i text) ≡ 0
     here-no_escape none = grind (arith, here, run-no_escape)
 
--- where octets in front all stand in a run by themselves, the run goes on after them
+-- a run that begins with octets that may appear unescaped goes on after them
 pub run-front : (run : Run) (n : ℕ) (text : Octets)
     → n ≤ length text → list_all (by_itself run) (take n text) ≡ true
     → run_length (by_itself run) 0 text ≡ n + run_length (by_itself run) 0 (drop n text)
@@ -103,7 +103,7 @@ run-front run (suc n) (o ∷ text) h e =
     let more = run-front run n text (omega (arith, h)) parts.1 in
     omega (arith, first, more)
 
--- what comes after the blanks of a text comes after those that follow its first one
+-- skipping the blanks after the first blank skips all blanks
 pub blank-first : (o : ℕ) (text : Octets) → is_blank o ≡ true
     → drop (prefix_len is_blank text) text ≡ drop (prefix_len is_blank (o ∷ text)) (o ∷ text)
 blank-first o text e =
@@ -118,7 +118,7 @@ blanks-passed (suc n) (o ∷ text) e =
     let parts = and_parts (is_blank o) (list_all is_blank (take n text)) e in
     blanks-passed n text parts.1 ∙ blank-first o text parts.0
 
--- spaces in front are passed, where a text begins with so many
+-- skipping a prefix of spaces leaves the same text after all blanks
 pub spaces-passed : {R : Type 0} (now : R → Octets) (spaces : Octets) → list_all is_blank spaces
     ≡ true → (found : Option R) (text : R) → MatchOption found (pointwise nat_eq
     (take (length spaces) (now text)) spaces ≡ false) (λ x. (pointwise nat_eq (take (length spaces)

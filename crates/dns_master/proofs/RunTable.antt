@@ -1,4 +1,4 @@
--- The table of where each octet stands by itself says what the definitions say of it.
+-- The table of unescaped octets agrees with the definitions.
 use Rattle.dns_master.proofs.Common.{◌≡◌, ℕ, ◌<◌, refl, is_word_octet, is_string_octet, slice_index_or, nat_le, PLAIN_IN}
 use Rattle.dns_spec.proofs.Common.{agree_below_at}
 

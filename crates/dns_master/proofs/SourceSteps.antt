@@ -1,4 +1,4 @@
--- The octets of a source, read piece by piece.
+-- A source's octets, read piece by piece.
 use Rattle.dns_master.proofs.Common.{◌≡◌, ℕ, ◌+◌, ◌≤◌, ◌<◌, ◌⊎◌, inl, inr, Bool, true, false, List, [], ◌++◌, length, take, nat_lt, length-append, append-nil, append_assoc, refl, sym, ap, ◌∙◌, subst, arith, Option, Some, None, take_all, take_at, Consumes, IsAtEnd, lt-ltb, le-ltb, Octets, DomainName, ResourceRecord, FileFault, Meaning, Means, records, fault_at, after, TextMeans, ReaderMeans, TextGathered, PieceTaken, PieceFaulty, Reader, AppendsPiece, GivesMeaning, Decides}
 use Rattle.dns_master.proofs.EntriesLoop.{after-append, looked-means}
 use Rattle.dns_spec.proofs.General.Fronts.{looked_at}
@@ -10,7 +10,7 @@ Consumes-more (Some xs) None new text came text' h k e = absurd h
 Consumes-more (Some xs) (Some ys) None text came text' h k e = absurd k
 Consumes-more (Some xs) (Some ys) (Some zs) text came text' h k e = grind (arith, append_assoc)
 
--- what a source gave so far, and what that says of it after the entries that were taken
+-- the octets read so far, and what they say after the entries that were taken
 pub record GivenSoFar (old new : Option Octets) (o : DomainName)
     (r : Reader) (held : Octets) (left : ℕ) (found : List ResourceRecord) : Type 0 where
   pub given : Octets
@@ -45,7 +45,7 @@ module _ (old mid new : Option Octets) (o : DomainName) (r : Reader) (held : Oct
             (after p.gathered.came later))) (sym (append_assoc so.given p.came rest)) all));
       }
 
-  -- a fault that is decided by a piece
+  -- a fault that a piece decides
   pub fault-given : (fault : FileFault) (line : ℕ)
       → PieceFaulty mid new r held left fault line → Decides old new o (fault_at fault line)
   fault-given fault line p =
@@ -68,7 +68,7 @@ module _ (old mid new : Option Octets) (o : DomainName) (r : Reader) (held : Oct
             (so.means (p.came ++ found_rest.0) goes_on (fault_at fault line) step))));
       }
 
-  -- what the octets at hand mean, after which the source is at its end
+  -- the meaning of the held octets when the source is at its end
   pub end-given : (m : Meaning)
       → IsAtEnd mid → ReaderMeans r false held m → Decides old mid o (after found m)
   end-given m over h =
@@ -87,7 +87,7 @@ module _ (old mid new : Option Octets) (o : DomainName) (r : Reader) (held : Oct
         );
       }
 
-  -- the same, where as many octets came as are looked at, and another one was asked for
+  -- the same when the limit is reached, after asking for one more octet
   pub limit-given : {text text' : Octets} (goes_on : Bool) (m : Meaning)
       → left ≡ 0 → AppendsPiece mid new 1 text text' goes_on
       → ReaderMeans r goes_on held m → Decides old new o (after found m)
@@ -129,7 +129,7 @@ module _ (old mid new : Option Octets) (o : DomainName) (r : Reader) (held : Oct
         );
       }
 
--- what is decided is what all that the source gives means
+-- a decided meaning is the meaning of all that the source gives
 pub decided-gives : (old new : Option Octets) (o : DomainName) (m : Meaning)
     → Decides old new o m → GivesMeaning old o m
 decided-gives None new o m d = tt
@@ -144,14 +144,14 @@ decided-gives (Some x) (Some y) o m d = go d.decided
 
 module _ (old mid new : Option Octets) (o : DomainName) (r : Reader) (held : Octets)
     (left : ℕ) (found : List ResourceRecord) (so : GivenSoFar old mid o r held left found) where
-  -- the records of what is left, at the end of the source
+  -- the records of the rest at the end of the source
   pub end-records : (all : List ResourceRecord)
       → IsAtEnd mid → TextGathered r false held found all → Decides old mid o (records all)
   end-records all over t =
       subst (λ rs. Decides old mid o (records rs))
       (sym t.grown) (end-given old mid new o r held left found so (records t.came) over t.means)
 
-  -- and where as many octets came as are looked at
+  -- the same when the limit is reached
   pub limit-records : {text text' : Octets} (goes_on : Bool) (all : List ResourceRecord)
       → left ≡ 0 → AppendsPiece mid new 1 text text' goes_on
       → TextGathered r goes_on held found all → Decides old new o (records all)

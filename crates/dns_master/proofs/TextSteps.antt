@@ -1,4 +1,4 @@
--- What a text means from an entry on: what the entry gives, and what the text after it means.
+-- The meaning of a text from an entry on: what the entry gives, and then what the rest means.
 use Rattle.dns_master.proofs.Common.{◌≡◌, ℕ, ◌+◌, ◌≤◌, ◌<◌, Bool, true, false, ◌||◌, ◌==◌, List, [], ◌∷◌, ◌++◌, length, take, inl, inr, ◌⊎◌, refl, sym, ap, ◌∙◌, subst, arith, Option, Some, None, false≢true, none-some, if◌then◌else◌, MatchOption, list_any, Octets, DomainName, Word, ResourceRecord, bad_parenthesis, too_long, FileFault, EntryMeaning, faulty, gives, Meaning, records, fault_at, after, line_after, KindGives, kind_of, kind_by_words, EntryGives, EntriesMean, Token, quoted_string, line_end, Entry, ended, token_front, TokensThen, is_blank, is_blank_token, begins_blank, closed, line_feed_front, cut_entries, with_end, is_open_at_end, take_turns, parentheses, whole_text, extent_by, stop_fault, stop_at, Extent, beginning, in_string, in_token, has_tokens, front-shorter, Reads, unended, IsWrong, line_ends, EntryRead, outcome_of, TextMeans}
 use Rattle.dns_master.specs.EntryForm as form
 use Rattle.dns_master.proofs.EntryLoop.{lines-append}
@@ -6,7 +6,7 @@ use Rattle.dns_master.proofs.EntryCuts.{EndedCut, HasFirst, has_first, reads-end
 use Rattle.dns_spec.proofs.ZoneTexts.TextTokens.{tokens_then}
 unfoldable use Rattle.dns_spec.proofs.ZoneTexts.SomeMeaning.{is_faulty}
 
--- an entry that nothing is wrong with by its place gives what its kind gives
+-- an entry without a fault of place gives what its kind gives
 by_sort : (o : DomainName) (earlier : List Entry) (e : Entry) (answer : EntryMeaning)
     → take_turns false (parentheses e.tokens) ≡ true
     → e.end_fault ≡ None → KindGives o earlier (kind_of e) answer → EntryGives o earlier e answer
@@ -67,7 +67,7 @@ module _ (o : DomainName) (earlier : List Entry) (goes_on : Bool) (text : Octets
               (faulty code, by_sort o earlier (ended ps) (faulty code) c.turns refl given, refl);
         }
 
-  -- an entry up to where no token begins
+  -- an entry up to the place at which no token begins
   module _ (ps : List Token)
       (is_open : Bool) (rest : Octets) (reads : Reads false text ps (unended is_open rest)) where
     last_entry : Entry
@@ -110,7 +110,7 @@ module _ (o : DomainName) (earlier : List Entry) (goes_on : Bool) (text : Octets
     unended-gives rs e given =
         grind (arith, last_means, after, by_sort, last_entry, reads-unended, same_end)
 
-  -- a parenthesis that is misplaced
+  -- a misplaced parenthesis
   pub wrong-faulty : IsWrong text
       → TextMeans o earlier goes_on text (fault_at bad_parenthesis (line_after earlier))
   wrong-faulty (ps, reads) =
@@ -147,7 +147,7 @@ pub line-more : (ps : List Token) (earlier : List Entry)
     → line_after (ended ps ∷ earlier) ≡ line_after earlier + line_ends ps
 line-more ps earlier = grind (arith, line_ends, lines-append)
 
--- whether the first token is a blank, by the first octet
+-- whether the first token is a blank, given by the first octet
 FirstBlank : Bool → Option (Token × Octets) → Type 0
 FirstBlank b front = MatchOption front (b ≡ false) (λ r. is_blank_token r.0 ≡ b)
 
@@ -193,7 +193,7 @@ none-front (o ∷ text) e =
     any-one true = refl
     any-one false = refl
 
--- the tokens of an entry begin with a blank where the text does
+-- an entry begins with a blank if the text does
 pub begins-blank : (b : Bool) (text : Octets) (ps : List Token) (outcome : form.Outcome)
     → Reads b text ps outcome → begins_blank ps ≡ list_any is_blank (take 1 text)
 begins-blank b text [] outcome h = sym (none-front text h.0)
@@ -203,7 +203,7 @@ answer_records : EntryMeaning → List ResourceRecord
 answer_records (faulty code) = []
 answer_records (gives rs) = rs
 
--- an entry without tokens, the last of a text, gives nothing
+-- an entry without tokens at the end of a text gives nothing
 meant-nothing : (o : DomainName) (earlier : List Entry) (later : Meaning) (answer : EntryMeaning)
     → answer ≡ gives [] → elim answer as
     (λ _. Type 0) [
@@ -236,7 +236,7 @@ pub past-means : (o : DomainName) (earlier : List Entry)
     → TextMeans o earlier true [] (fault_at too_long (line_after earlier))
 past-means o earlier = grind (arith, faulty, too_long)
 
--- a text that can't go on is faulty
+-- a text at a place where no token begins is faulty
 stuck-faulty : (extent : Extent) (is_open in_a_string : Bool) (x y : Octets)
     → stop_fault extent is_open (if in_a_string then in_string x else in_token y) ≡ None → ⊥
 stuck-faulty whole_text is_open true x y e = none-some _ (sym e)
@@ -244,7 +244,7 @@ stuck-faulty whole_text is_open false x y e = none-some _ (sym e)
 stuck-faulty beginning is_open true x y e = none-some _ (sym e)
 stuck-faulty beginning is_open false x y e = none-some _ (sym e)
 
--- where an entry without a line end ends without fault, the text is over
+-- if an entry without a line end has no fault, the text is over
 pub over-at_end : (goes_on is_open : Bool) (rest : Octets)
     → stop_fault (extent_by goes_on) is_open (stop_at rest) ≡ None → (rest ≡ []) × (goes_on ≡ false)
 over-at_end goes_on is_open (o ∷ rest) e =
@@ -252,7 +252,7 @@ over-at_end goes_on is_open (o ∷ rest) e =
 over-at_end true is_open [] e = absurd (none-some too_long (sym e))
 over-at_end false is_open [] e = (refl, refl)
 
--- the sort of an entry, by its first words as they are kept and the later ones
+-- the kind of an entry, by its kept words and its later ones
 pub same_sort : (text : Octets) (kept kept' later : List Word) (lines : ℕ) (outcome : form.Outcome)
     (b : Bool) (read : EntryRead text (kept ++ later) lines outcome) → b ≡ list_any is_blank
     (take 1 text) → kept' ≡ kept → kind_of (ended read.tokens) ≡ kind_by_words b (kept' ++ later)
@@ -261,7 +261,7 @@ same_sort text kept kept' later lines outcome b read is same = grind (arith, beg
 module _ (o : DomainName) (earlier : List Entry)
     (goes_on : Bool) (text rest : Octets) (words : List Word) (lines : ℕ) (is_ended is_open : Bool)
     (read : EntryRead text words lines (outcome_of is_ended is_open rest)) where
-  -- an entry that ends without fault, and what it gives
+  -- an entry that ends without a fault, and what it gives
   pub entry-means : (is_ended ≡ true) ⊎ (stop_fault (extent_by goes_on) is_open (stop_at rest)
       ≡ None) → (rs : List ResourceRecord) → KindGives o earlier (kind_of (ended read.tokens))
       (gives rs) → (later : Meaning) → TextMeans o (ended read.tokens ∷ earlier) goes_on rest later
@@ -280,7 +280,7 @@ module _ (o : DomainName) (earlier : List Entry)
           subst (λ m. TextMeans o earlier goes_on text (after rs m)) (sym empty)
           (unended-gives o earlier goes_on text read.tokens is_open rest reads rs e given)
 
-  -- one whose words are at fault
+  -- an entry whose words have a fault
   pub entry-faulty : (is_ended ≡ true) ⊎ (stop_fault (extent_by goes_on) is_open (stop_at rest)
       ≡ None) → (code : FileFault) → KindGives o earlier (kind_of (ended read.tokens)) (faulty code)
       → TextMeans o earlier goes_on text (fault_at code (line_after earlier))
@@ -293,7 +293,7 @@ module _ (o : DomainName) (earlier : List Entry)
       go false reads =
           unended-faulty o earlier goes_on text read.tokens is_open rest reads code e given
 
-  -- one that ends by a fault
+  -- an entry that ends with a fault
   pub entry-ends_faulty : is_ended ≡ false
       → (code : FileFault) → stop_fault (extent_by goes_on) is_open (stop_at rest) ≡ Some code
       → TextMeans o earlier goes_on text (fault_at code (line_after earlier))
@@ -317,7 +317,7 @@ some-shorter [] rest some e = absurd (some refl)
 some-shorter (o ∷ text) rest some e =
     let none : length rest ≡ 0 = ap length e in omega (arith, none)
 
--- an entry that ends without fault has an octet or more
+-- an entry that ends without a fault has at least one octet
 pub entry-shorter : (goes_on : Bool)
     (text rest : Octets) (words : List Word) (lines : ℕ) (is_ended is_open : Bool) → (text ≡ [] → ⊥)
     → EntryRead text words lines (outcome_of is_ended is_open rest) → (is_ended ≡ true)

@@ -1,4 +1,4 @@
--- The words of a text, by its tokens: each token's word, and those of the text after it.
+-- The words of a text, token by token.
 use Rattle.dns_master.proofs.Common.{◌≡◌, ℕ, zero, suc, ◌+◌, ◌≤◌, ◌<◌, List, [], ◌∷◌, ◌++◌, length, take, refl, sym, ap, ◌∙◌, arith, append_assoc, append-nil, Option, Some, None, cons_option, Octets, Word, Token, token_front, TokensThen, word_of, front-shorter, token_words, words_from, words_of_first, words_in, KeptAndCounted, WordTaken}
 use Rattle.dns_master.proofs.EntryLoop.{words-append}
 use Rattle.dns_spec.proofs.ZoneTexts.TextTokens.{tokens_then}
@@ -11,7 +11,7 @@ same_later : (f g : Octets → List Word) (front : Option (Token × Octets))
 same_later f g None h = refl
 same_later f g (Some (p, others)) h = ap (cons_option (word_of p)) (h p others refl)
 
--- more tokens than the text has octets make no difference
+-- counting more tokens than the text has octets changes nothing
 same_words : (n m : ℕ) (text : Octets)
     → length text ≤ n → length text ≤ m → words_of_first n text ≡ words_of_first m text
 same_words zero zero text h k = refl
@@ -36,7 +36,7 @@ words-front text others p e =
 pub words-none : (text : Octets) → token_front text ≡ None → words_in text ≡ []
 words-none text e = grind (arith, same_words, words_from, words_of_first)
 
--- a token that is a word, and one that is none
+-- a token that is a word, and one that is not
 pub words-word : (text others : Octets) (p : Token) (w : Word)
     → token_front text ≡ Some (p, others) → word_of p ≡ Some w → words_in text ≡ w ∷ words_in others
 words-word text others p w e is =
@@ -58,7 +58,7 @@ length-more : {X : Type 0} (xs ys : List X) → length xs ≤ length (xs ++ ys)
 length-more [] ys = omega arith
 length-more (x ∷ xs) ys = grind (arith, (length-more xs ys))
 
--- the words that were counted stand in the text after those that are kept
+-- the counted words are in the text after the kept ones
 module _ (kept : List Word) (later rest : Octets)
     (count : ℕ) (all : List Word) (h : KeptAndCounted kept later rest count all) where
   pub counted-enough : count ≤ length (words_in later)
@@ -76,11 +76,11 @@ module _ (p : Token) (others : Octets) (kept : List Word) (later : Octets) (coun
       → all ++ token_words (p ∷ []) ≡ kept ++ token_words (ps ++ p ∷ [])
   all-more ps all is = grind (arith, token_words, append_assoc, words-append)
 
-  -- a token that is no word
+  -- a token that is not a word
   pub passed-over : word_of p ≡ None → WordTaken p others kept later count kept later count
   passed-over is rest all e h = grind (arith, one-more, words-append, append-nil, all-more)
 
-  -- a word that is counted
+  -- a counted word
   pub word-counted : (w : Word)
       → word_of p ≡ Some w → WordTaken p others kept later count kept later (count + 1)
   word-counted w is rest all e h = record {

@@ -1,4 +1,4 @@
--- What a reader learns here: which fault each code is, and its number.
+-- The fault that each code stands for, and its number.
 use Rattle.std.specs.Prelude.{◌≡◌, ◌≢◌, ℕ, ◌+◌, ◌==◌, if◌then◌else◌, Result, Ok, Err}
 use Rattle.dns_spec.specs.FileFaults.{FileFault, fault_code, bad_octet, bad_escape, unended_string, bad_parenthesis, unknown_directive, directive_words, bad_owner, no_owner, bad_ttl, other_class, bad_type, no_ttl, bad_data, too_many_records, too_long, unreadable, no_memory}
 use Rattle.dns_master.specs.declared.fault.ReadCode.{ReadCode}
@@ -27,25 +27,25 @@ fault_of NoMemory = no_memory
 abbrev pub code_number : ReadCode → ℕ
 code_number code = fault_code (fault_of code)
 
--- the count of a source's failures: one more exactly where that is the code
+-- a source's failure count: one more if and only if the code is SourceFailed (16)
 abbrev pub failures_after_read : {A : Type 0} → ℕ → Result A ReadFault → ℕ
 failures_after_read count (Ok a) = count
 failures_after_read count (Err f) = if code_number f.code == 16 then count + 1 else count
 
--- An entry was refused by a code, never that of a source that failed: this holds of its fault,
--- where there was memory.
+-- An entry was rejected with this code: the fault has this property, unless allocation failed. The
+-- code is never SourceFailed.
 pub record ForFault (code : ReadCode) (says : FileFault → Type 0) : Type 0 where
   pub told : code ≢ NoMemory → says (fault_of code)
   pub source : code ≢ SourceFailed
 
--- A fault of the file that is an entry's, of which this holds with its line, or no memory: not one
--- of the source.
+-- A fault of the file that comes from an entry: fault and line have this property, unless
+-- allocation failed. The code is never SourceFailed.
 pub record OfEntry (says : FileFault → ℕ → Type 0) (f : ReadFault) : Type 0 where
   pub told : f.code ≢ NoMemory → says (fault_of f.code) f.line
   pub source : f.code ≢ SourceFailed
   pub memory : f.code ≡ NoMemory → f.line ≡ 0
 
--- the fault of the file, where an entry on this line is refused by this code
+-- the fault of a file whose entry on this line is rejected with this code
 pub record IsFaultOn (line : ℕ) (code : ReadCode) (f : ReadFault) : Type 0 where
   pub code_is : f.code ≡ code
   pub line_is : code ≢ NoMemory → f.line ≡ line

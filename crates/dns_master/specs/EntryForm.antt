@@ -1,5 +1,5 @@
--- What a reader learns here: how the tokens of an entry are read from left to right, by the cases
--- of the code, and what a text means from one of its entries on.
+-- How the code reads the tokens of an entry from left to right, and what a text means from one of
+-- its entries on.
 use Rattle.std.specs.Prelude.{◌≡◌, ℕ, ◌⊎◌, Option, Bool, true, false, List, [], ◌∷◌, length, if◌then◌else◌, Some, None}
 use Rattle.std.specs.List.{filter, filter_map}
 use Rattle.std.specs.Option.{unwrap_or}
@@ -8,8 +8,8 @@ use Rattle.dns_spec.specs.DataText.{Word}
 use Rattle.dns_spec.specs.ZoneText.{Token, blank, comment, word, quoted_string, opening, closing, line_end, Entry, token_front, TokensThen, cut_entries, with_end, is_line_end, word_of, extent_by, stop_at, stop_fault}
 use Rattle.dns_spec.specs.Meaning.{Meaning, EntriesMean}
 
--- How reading goes on after a token: not at all, since a parenthesis is misplaced, or since the
--- entry has ended; or inside parentheses or outside them.
+-- What follows a token: nothing, because a parenthesis is misplaced or because the entry has
+-- ended; or more tokens, inside (true) or outside parentheses.
 pub data Step : Type 0 where
   misplaced : Step
   over : Step
@@ -24,15 +24,14 @@ step is_open opening = if is_open then misplaced else onward true
 step is_open closing = if is_open then onward false else misplaced
 step is_open line_end = if is_open then onward true else over
 
--- Where reading an entry ends: after its line end, at the rest of the text, inside parentheses or
--- outside them, where no token begins; or at a parenthesis that is misplaced.
+-- How reading an entry ends: after its line end, with the rest of the text; at a place where no
+-- token begins, inside (true) or outside parentheses; or at a misplaced parenthesis.
 pub data Outcome : Type 0 where
   ended : Octets → Outcome
   unended : Bool → Octets → Outcome
   wrong : Outcome
 
--- the tokens of an entry from here on, inside parentheses or outside them, and where reading it
--- ends
+-- the remaining tokens of an entry, read inside or outside parentheses, and how reading ends
 abbrev pub Reads : Bool → Octets → List Token → Outcome → Type 0
 Reads is_open text [] outcome = (token_front text ≡ None) × (outcome ≡ unended is_open text)
 Reads is_open text (p ∷ ps) outcome =
@@ -49,7 +48,7 @@ token_words = filter_map word_of
 abbrev pub line_ends : List Token → ℕ
 line_ends ps = length (filter is_line_end ps)
 
--- an entry was read: its words are these, and its line ends so many
+-- an entry was read: its words, the number of its line ends, and how it ended
 pub record EntryRead (text : Octets) (words : List Word) (lines : ℕ)
     (outcome : Outcome) : Type 0 where
   pub tokens : List Token
@@ -57,7 +56,7 @@ pub record EntryRead (text : Octets) (words : List Word) (lines : ℕ)
   pub words_are : words ≡ token_words tokens
   pub counted : lines ≡ line_ends tokens
 
--- a parenthesis of the entry is misplaced
+-- the entry has a misplaced parenthesis
 abbrev pub IsWrong : Octets → Type 0
 IsWrong text = (ps : List Token) × Reads false text ps wrong
 
@@ -70,7 +69,7 @@ IsWhole goes_on is_ended is_open rest =
     (is_ended ≡ true)
     ⊎ (stop_fault (extent_by (unwrap_or goes_on true)) is_open (stop_at rest) ≡ None)
 
--- what a text means from an entry on, after the entries before it
+-- what a text means from an entry on, after the earlier entries
 pub record TextMeans (o : DomainName) (earlier : List Entry) (goes_on : Bool) (text : Octets)
     (m : Meaning) : Type 0 where
   pub tokens : List Token

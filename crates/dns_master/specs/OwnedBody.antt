@@ -1,4 +1,4 @@
--- What a reader learns here: the record that an owner and what is said beside it make.
+-- The record that an owner and a body make.
 use Rattle.dns_spec.specs.Names.{DomainName}
 use Rattle.dns_spec.specs.Records.{ResourceRecord}
 use Rattle.dns_master.specs.declared.record.RecordBody.{RecordBody}

@@ -1,5 +1,4 @@
--- What a reader learns here: what entries at the front of a text say of it, whatever comes after
--- it.
+-- What the entries at the front of a text mean, whatever follows the text.
 use Rattle.std.specs.Prelude.{⊤, ◌≡◌, ℕ, ◌+◌, ◌≤◌, ◌<◌, Bool, true, false, List, [], ◌++◌, length, Option, None, MatchOption}
 use Rattle.std.specs.Io.KnownBytes.{Consumes, IsAtEnd}
 use Rattle.dns_spec.specs.Names.{Octets, DomainName}
@@ -11,19 +10,19 @@ use Rattle.dns_master.specs.EntryForm.{TextMeans}
 use Rattle.dns_master.specs.ReaderForm.{Knows}
 use Rattle.dns_master.specs.declared.state.Reader.{Reader}
 
--- a text means this, after the entries that the reader knows
+-- the meaning of a text after the entries that the reader knows
 abbrev pub ReaderMeans : Reader → Bool → Octets → Meaning → Type 0
 ReaderMeans r goes_on text m =
     (o : DomainName) (earlier : List Entry) → Knows o earlier r → r.line ≡ line_after earlier
     → TextMeans o earlier goes_on text m
 
--- What may come after a text, and whether that goes on past its limit, by whether the text does,
--- where this is known.
+-- What may follow a text, and whether the result goes on past its limit: anything if it is unknown
+-- whether the text goes on; otherwise nothing.
 abbrev pub MayFollow : Option Bool → Octets → Bool → Type 0
 MayFollow goes_on more past = MatchOption goes_on ⊤ (λ known. (more ≡ []) × (past ≡ known))
 
--- Entries were taken from the front of a text, which gave these records: whatever comes after the
--- text, what is left of it means, with the records before it the whole means.
+-- Entries were taken from the front of a text and gave the records `rs`: whatever follows, the
+-- whole text means `rs` and then what the rest of the text means.
 abbrev pub FrontTaken : Option Bool
     → Reader → Octets → List ResourceRecord → Reader → Octets → Type 0
 FrontTaken goes_on old text rs new rest =
@@ -31,13 +30,13 @@ FrontTaken goes_on old text rs new rest =
     → ReaderMeans new past (rest ++ more) later
     → ReaderMeans old past (text ++ more) (after rs later)
 
--- a text has this fault, whatever comes after it
+-- a text has this fault, whatever follows it
 abbrev pub FrontFaulty : Option Bool → Reader → Octets → FileFault → ℕ → Type 0
 FrontFaulty goes_on r text fault line =
     (more : Octets) (past : Bool) → MayFollow goes_on more past
     → ReaderMeans r past (text ++ more) (fault_at fault line)
 
--- the entry that a text begins with was taken, which gave these records, and a text is left
+-- the first entry of a text was taken; it gave the records `rs` and left `rest`
 pub record TakesFirst (goes_on : Option Bool) (old : Reader) (text : Octets)
     (rs : List ResourceRecord) (new : Reader) (rest : Octets) : Type 0 where
   pub taken : FrontTaken goes_on old text rs new rest
@@ -45,22 +44,22 @@ pub record TakesFirst (goes_on : Option Bool) (old : Reader) (text : Octets)
   pub shorter : length rest < length text
   pub lines : new.line + length rest ≤ old.line + length text
 
--- all entries of a text were taken, and their records added to what the caller keeps them in
+-- all entries of a text were taken, and their records added to the caller's collection
 pub record TextGathered (r : Reader) (goes_on : Bool) (text : Octets)
     (before after : List ResourceRecord) : Type 0 where
   pub came : List ResourceRecord
   pub grown : after ≡ before ++ came
   pub means : ReaderMeans r goes_on text (records came)
 
--- entries were taken from the front, where the records were added to what the caller keeps them in
+-- entries were taken from the front of a text, and their records added to the caller's collection
 pub record FrontGathered (goes_on : Option Bool) (old : Reader) (text : Octets) (new : Reader)
     (rest : Octets) (before after : List ResourceRecord) : Type 0 where
   pub came : List ResourceRecord
   pub grown : after ≡ before ++ came
   pub taken : FrontTaken goes_on old text came new rest
 
--- A piece was read, and what entries were ended then was taken: `more` is false at the end of the
--- source.
+-- A piece was read, and the entries that were then complete were taken; `more` is false at the end
+-- of the source.
 pub record PieceTaken (old new : Option Octets) (before : Reader) (held : Octets) (left : ℕ)
     (now : Reader) (held' : Octets) (left' : ℕ) (more : Bool)
     (found found' : List ResourceRecord) : Type 0 where
@@ -71,7 +70,7 @@ pub record PieceTaken (old new : Option Octets) (before : Reader) (held : Octets
   pub some : more ≡ true → left' < left
   pub gathered : FrontGathered None before (held ++ came) now held' found found'
 
--- a piece was read, with which the octets at hand have this fault
+-- a piece was read; the held octets and that piece have this fault
 pub record PieceFaulty (old new : Option Octets) (before : Reader) (held : Octets) (left : ℕ)
     (fault : FileFault) (line : ℕ) : Type 0 where
   pub came : Octets

@@ -1,5 +1,4 @@
--- What a reader learns here: what the reader of a zone file knows of the entries so far, and what
--- an entry changes of that.
+-- What the reader of a zone file knows of the entries so far, and how an entry changes it.
 use Rattle.std.specs.Prelude.{◌≡◌, ◌==◌, ◌+◌, Bool, List, [], ◌∷◌, Option, None, Some, if◌then◌else◌}
 use Rattle.std.specs.Option.{option_or}
 use Rattle.dns_spec.specs.Names.{DomainName}
@@ -11,11 +10,11 @@ use Rattle.dns_spec.specs.Meaning.{Fields, EntryKind, EntryMeaning, gives, fault
 use Rattle.dns_master.specs.RecordForm.{Inherited, TtlOf}
 use Rattle.dns_master.specs.declared.state.Reader.{Reader}
 
--- the owner of the last record, where there was one
+-- the owner of the last record, if there is one
 abbrev pub owner_of : Reader → Option DomainName
 owner_of r = if r.count == 0 then None else Some r.last.owner
 
--- what the reader knows, where this owner was stated last
+-- what the reader knows if this owner was stated last
 abbrev pub KnowsOwner : DomainName → List Entry → Option DomainName → Reader → Type 0
 KnowsOwner o earlier owner r =
     Inherited o earlier r.origin owner r.default_ttl r.stated_ttl r.count
@@ -23,11 +22,11 @@ KnowsOwner o earlier owner r =
 abbrev pub Knows : DomainName → List Entry → Reader → Type 0
 Knows o earlier r = KnowsOwner o earlier (owner_of r) r
 
--- the record that an entry is, if it is one: the last then
+-- the record of an entry, if the entry is a record: it is the last one
 abbrev pub handed : Bool → ResourceRecord → List ResourceRecord
 handed is_record last = if is_record then last ∷ [] else []
 
--- a record was taken, whose owner in lower case is this
+-- a record with this owner in lower case was taken
 pub record RecordTaken (o : DomainName) (earlier : List Entry) (owner : DomainName) (f : Fields)
     (old new : Reader) : Type 0 where
   pub taken : ResourceRecord
@@ -40,32 +39,31 @@ pub record RecordTaken (o : DomainName) (earlier : List Entry) (owner : DomainNa
       → TtlOf (option_or f.ttl w) new.stated_ttl
   pub count_is : new.count ≡ old.count + 1
 
--- an entry was taken, which gives these records
+-- an entry was taken and gives these records
 pub record EntryTaken (o : DomainName) (earlier : List Entry) (e : Entry)
     (taken : List ResourceRecord) (old new : Reader) : Type 0 where
   pub given : KindGives o earlier (kind_of e) (gives taken)
   pub known : Knows o (e ∷ earlier) new
 
--- An entry of this sort was taken, whatever the entries are of which the reader knows: it gives
--- these records.
+-- An entry of this kind was taken and gives these records, whatever entries the reader knows.
 abbrev pub TakesEntry : Reader → EntryKind → List ResourceRecord → Reader → Type 0
 TakesEntry old kind taken new =
     (o : DomainName) (earlier : List Entry) (e : Entry) → Knows o earlier old → kind_of e ≡ kind
     → EntryTaken o earlier e taken old new
 
--- an entry of this sort has this fault
+-- an entry of this kind has this fault
 abbrev pub RefusesEntry : Reader → EntryKind → FileFault → Type 0
 RefusesEntry r kind fault =
     (o : DomainName) (earlier : List Entry) → Knows o earlier r
     → KindGives o earlier kind (faulty fault)
 
--- what a record means that has these fields and the last owner, whatever owner was stated before
+-- what a record with these fields and the last owner means, whatever owner was stated before
 abbrev pub RecordMeans : Reader → Fields → EntryMeaning → Type 0
 RecordMeans r f given =
     (o : DomainName) (earlier : List Entry) (stated : Option DomainName)
     → KnowsOwner o earlier stated r → RecordGives o earlier no_owner (λ n. n ≡ r.last.owner) f given
 
--- a record with these fields and that owner was taken
+-- a record with these fields and the last owner was taken
 abbrev pub TakesRecord : Reader → Fields → Reader → Type 0
 TakesRecord old f new =
     (o : DomainName) (earlier : List Entry) (stated : Option DomainName)

@@ -1,5 +1,4 @@
--- What a reader learns here: what the reader of a zone file reads from single words, and what it
--- keeps of the entries so far.
+-- What single words of an entry mean, and what the reader keeps of the entries so far.
 use Rattle.std.specs.Prelude.{⊤, ◌≡◌, ℕ, ◌≤◌, not, List, [], ◌∷◌, length, IsTrue, MatchOption, Option, Some, None, codes}
 use Rattle.std.specs.List.{filter}
 use Rattle.dns_spec.specs.Names.{Octets, DomainName, folded}
@@ -14,34 +13,34 @@ use Rattle.dns_spec.specs.Meaning.{most_ttl, Nothing, OriginIs, OwnerBefore, Ttl
 abbrev pub SpelledName : DomainName → Word → DomainName → Type 0
 SpelledName origin w n = IsTrue (not w.is_quoted) × SpellsName origin w.raw n
 
--- this is that name in lower case
+-- a name that an unquoted word spells, in lower case
 abbrev pub SpelledOwner : DomainName → Word → DomainName → Type 0
 SpelledOwner origin w owner = (n : DomainName) × SpelledName origin w n × (owner ≡ folded n)
 
--- an unquoted word names a type that zones have
+-- an unquoted word names a type that zones may have
 abbrev pub NamedType : Word → ℕ → Type 0
 NamedType w t = IsTrue (not w.is_quoted) × NamesType w.raw t × IsTrue (is_zone_type t)
 
--- a word is the only one, or there is not just one
+-- the only word of a list; None if there is none or more than one
 abbrev pub OneWordIs : Option Word → List Word → Type 0
 OneWordIs None [] = ⊤
 OneWordIs None (w ∷ []) = ⊥
 OneWordIs None (w ∷ v ∷ ws) = ⊤
 OneWordIs (Some x) ws = ws ≡ x ∷ []
 
--- the TTL that a word says, where there is one
+-- the TTL of an optional word
 abbrev pub TtlOf : Option Word → Option ℕ → Type 0
 TtlOf None ttl = ttl ≡ None
 TtlOf (Some w) ttl = (n : ℕ) × (ttl ≡ Some n) × TtlSays w n
 
--- the owner that was stated last, in lower case
+-- the owner that was stated last, in lower case, if there is one
 abbrev pub LastOwner : DomainName → List Entry → Option DomainName → Type 0
 LastOwner o earlier owner =
     MatchOption owner (Nothing (OwnerBefore o earlier))
     (λ f. (n : DomainName) × OwnerBefore o earlier n × (f ≡ folded n))
 
--- What the entries so far give to those after them: the origin, the owner and the TTLs in force,
--- and how many records they are.
+-- What later entries need of the earlier ones: the current origin, owner and TTLs, and the number
+-- of records.
 pub record Inherited (o : DomainName) (earlier : List Entry) (origin : DomainName)
     (owner : Option DomainName) (default_ttl stated_ttl : Option ℕ) (count : ℕ) : Type 0 where
   pub origin_is : OriginIs o earlier origin
@@ -51,8 +50,8 @@ pub record Inherited (o : DomainName) (earlier : List Entry) (origin : DomainNam
   pub stated_is : TtlOf (nearest ttl_word earlier) stated_ttl
   pub count_is : count ≡ length (filter is_record earlier)
 
--- what every record keeps: its owner is in lower case, its TTL within the limit, and its data valid
--- for its type, with its names in lower case
+-- An invariant of records: the owner is in lower case, the TTL within its limit, and the data
+-- valid for its type, with its names in lower case.
 pub record IsKept (owner : DomainName) (ttl t : ℕ) (d : Octets) : Type 0 where
   pub low : folded owner ≡ owner
   pub short : ttl ≤ most_ttl

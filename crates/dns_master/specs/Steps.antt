@@ -1,5 +1,4 @@
--- What a reader learns here: what the code's steps from token to token are in the words of the
--- entry's reading.
+-- The code's steps from token to token, as steps of reading an entry.
 use Rattle.dns_master.specs.EntryForm.{misplaced, over, onward}
 use Rattle.dns_master.specs.EntryForm as form
 use Rattle.dns_master.specs.declared.entry.Step.{Step}

@@ -1,4 +1,4 @@
--- What a reader learns here: what the code's runs and tokens are in the words of the definitions.
+-- The code's runs and tokens as the definitions' runs and tokens.
 use Rattle.std.specs.Prelude.{◌≡◌, ℕ, Bool, Option, Some, None}
 use Rattle.std.specs.Borrow.{Bor}
 use Rattle.dns_spec.specs.Names.{Octets}
@@ -10,7 +10,7 @@ use Rattle.dns_master.specs.declared.run.Run.TheVariants.{Word as WordRun, Strin
 use Rattle.dns_master.specs.declared.token.Token.{Token}
 use Rattle.dns_master.specs.declared.token.Token.TheVariants.{Blank, Comment, Word, Quoted, Opening, Closing, LineEnd}
 
--- what stands in a run by itself
+-- the octets that may appear unescaped in a run
 abbrev pub by_itself : Run → ℕ → Bool
 by_itself WordRun = is_word_octet
 by_itself StringRun = is_string_octet
@@ -24,7 +24,7 @@ shown_token Opening = opening
 shown_token Closing = closing
 shown_token LineEnd = line_end
 
--- what a function returned, a token and the text after it, is what a text begins with
+-- a returned token and the text after it are what the text begins with; or no token begins it
 abbrev pub Begins : Option (Token × Bor Octets) → Option (text.Token × Octets) → Type 0
 Begins None front = front ≡ None
 Begins (Some x) front = front ≡ Some (shown_token x.0, x.1.now)

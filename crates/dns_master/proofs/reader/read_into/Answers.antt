@@ -39,7 +39,7 @@ returns-in-Ok-clause-decided g c =
     limit-given _ _ _ _ _ _ _ _ c.pieces.invariant.so_far _ (fault_at (fault_of f.code) f.line)
     (search rules) c.in-Ok.ensures.ok (h.told memory)) c.finish-in-Ok.ensures.err
 
--- what is decided is what the source gives
+-- a decided fault is the meaning of the source
 faults_given : {A : Type 0} (old new : Option Octets) (o : DomainName) (result : Result A ReadFault)
     → IfErr result (λ f. f.code ≢ SourceFailed → f.code ≢ NoMemory → Decides old new o
     (fault_at (fault_of f.code) f.line)) → IfErr result (λ f. f.code ≢ SourceFailed

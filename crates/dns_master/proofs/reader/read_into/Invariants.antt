@@ -2,7 +2,7 @@ use Rattle.dns_master.proofs.Common.{◌≡◌, ◌+◌, ◌≤◌, length}
 use Rattle.dns_master.proofs.SourceSteps.{GivenSoFar}
 use Rattle.dns_master.proofs.reader.read_into.Given as goal
 
--- what was given so far, and what the entries at its front say of the source
+-- the octets read so far, and what the entries in them say
 abbrev pub invariant-pieces : goal.invariant-pieces
 invariant-pieces g l = record {
   so_far : GivenSoFar (g.R.Read.remaining l.initial.source.device)

@@ -1,7 +1,7 @@
 use Rattle.dns_master.proofs.Common.{◌≡◌, ◌+◌, ◌-◌, ◌≤◌, length, drop, run_length, by_itself}
 use Rattle.dns_master.proofs.run.Run.length.Given as goal
 
--- the octets so far, and those of the run that goes on from there, are those of the whole
+-- the octets so far and the rest of the run make up the whole run
 abbrev pub invariant-units : goal.invariant-units
 invariant-units l = record {
   whole : run_length

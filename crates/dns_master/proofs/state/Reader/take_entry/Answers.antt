@@ -15,7 +15,7 @@ module _ (c : After-is_some_and-is_blank_led) where
       (later_words c.in_ok-end.end.later) _ _ c.is_some_and-is_blank_led.result
       c.in_ok-end.ensures.ok (search rules) c.as_slice.ensures.value
 
-  -- nothing that may follow the text is its
+  -- the entry is complete, whatever follows the text
   whole : IsWhole
       c.args.goes_on c.in_ok-end.end.is_ended c.in_ok-end.end.is_open c.in_ok-end.end.rest.now
   whole =
