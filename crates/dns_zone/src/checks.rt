@@ -1,4 +1,4 @@
-//! The faults of a zone, by the order of owners, then by code.
+//! The faults of a zone, ordered by owner, then by code.
 
 pub(crate) mod above;
 pub(crate) mod counts;
@@ -30,10 +30,10 @@ use crate::store::entry::Entry;
 use dns_name::NameRef;
 use std::alloc::{AllocError, Global};
 
-/// The faults of the zone of these records, by the order of owners, then by code. They are reported
-/// of all owners, and of the origin where it owns nothing too.
+/// The faults of a zone, ordered by owner, then by code. All owners are checked, and the origin
+/// even if it owns nothing.
 ///
-/// An error only where memory for the list of faults, for keys or for names was not found.
+/// Fails only if allocation fails, for the list of faults, for keys or for names.
 #[tactic(auto, using(crate::proofs::Common::wire_some))]
 pub(crate) fn faults<'a>(
     alloc: Global,
@@ -94,7 +94,7 @@ fn report<'a>(
     add_failed(&name, &owner.judged(last), found)
 }
 
-// Adds the faults of a name that fails these of the checks from the first on.
+// Adds a fault for each check that failed. `failed` says which; its first entry is for code 1.
 fn add_failed(
     name: &NameRef<'_>,
     failed: &[bool],

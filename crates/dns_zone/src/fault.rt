@@ -1,4 +1,4 @@
-//! Why records are no zone that may be served.
+//! Why a zone is rejected.
 ghost use Rattle.std.specs.Prelude.{◌≡◌};
 ghost use Rattle.dns_zone.specs.declared.fault.BuildFault.TheVariants.{NoMemory};
 
@@ -6,22 +6,21 @@ use dns_name::Name;
 use std::alloc::AllocError;
 use std::marker::Model;
 
-/// A fault of a zone: the owner that it is reported of, in lower case, and the number of its code:
-/// 1 of `Z01`.
+/// A fault of a zone: the owner for which it is reported, in lower case, and its code.
 #[derive(Drop)]
 pub struct CheckFault {
-    /// The name that it is reported of.
+    /// The name for which it is reported.
     pub owner: Name,
-    /// The number of its code.
+    /// The number of its code: 1 for `Z01`.
     pub code: u8,
 }
 
-/// Why records are no zone.
+/// Why a zone is rejected.
 #[derive(Drop)]
 pub enum BuildFault {
-    /// Their faults, one at least, by the order of owners, then by code.
+    /// Its faults, at least one, ordered by owner, then by code.
     Faults(Vec<CheckFault>),
-    /// No memory was found.
+    /// Memory allocation failed.
     NoMemory,
 }
 

@@ -3,7 +3,7 @@ ghost use Rattle.std.specs.Prelude.{◌≡◌};
 
 use std::marker::Model;
 
-/// A list that is lent, and nothing else: neither its memory nor an allocator is reached from it.
+/// A read-only list. Neither its memory nor its allocator is reachable from it.
 #[derive(Drop)]
 pub(crate) struct Kept<T> {
     items: Vec<T>,

@@ -1,4 +1,4 @@
-//! Zones: the checks that a zone has to pass before it is served, the walk over its names, and its
+//! Zones: the checks that a zone must pass before it is served, the walk over its names, and its
 //! canonical text.
 #![tactic(auto)]
 

@@ -13,7 +13,7 @@ ghost use Rattle.dns_spec.specs.Records.{data_order, record_order};
 use crate::store::entry::Entry;
 use std::cmp::Ordering;
 
-// Which of two records comes first: by owner, type and data, and those that agree in these by TTL.
+// Compares two records by owner, then type, then data, then TTL.
 pub(crate) fn record_order(one: &Entry, other: &Entry) -> Ordering
     ensures { result ≡ record_order one.now other.now }
 {
@@ -22,7 +22,7 @@ pub(crate) fn record_order(one: &Entry, other: &Entry) -> Ordering
         .then_with(|| own_order(one, other))
 }
 
-// The same of two records of one owner.
+// Compares two records of the same owner.
 pub(crate) fn own_order(one: &Entry, other: &Entry) -> Ordering
     ensures { result ≡ ordering_then (nat_cmp one.now.rtype other.now.rtype)
         (ordering_then (data_order one.now other.now) (nat_cmp one.now.ttl other.now.ttl)) }

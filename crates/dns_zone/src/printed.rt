@@ -17,10 +17,10 @@ use dns_rdata::{RType, Rdata};
 use itoa::Buffer;
 use std::io::Write;
 
-// The text of an owner, a TTL and a type, with what stands between: 1,020, 10, 9 and 6 octets.
+// The text of an owner (1,020 octets), a TTL (10) and a type (9), with what is between them (6).
 const FRONT_ROOM: usize = 1045;
 
-/// A zone could not be printed, since the sink failed (`P1`). The failure was counted.
+/// A zone was not fully printed, because the sink failed (`P1`). The failure was counted.
 #[derive(Clone, Copy, Debug, PartialEq, Eq)]
 pub struct PrintFault;
 
@@ -31,13 +31,13 @@ impl From<SinkFailed> for PrintFault {
 }
 
 /// Writes the canonical text of a zone: each record on a line of its own with its owner, TTL,
-/// class, type and data, the SOA first and the others in canonical order (RFC 1035 5.1, 5.2,
-/// RFC 4034 6.1, 6.3).
+/// class, type and data, the SOA first and the others in canonical order (RFC 1035 5.1, 5.2, RFC
+/// 4034 6.1, 6.3).
 ///
-/// Names are written whole, with a dot at their end. The text is a zone file, which means the same
-/// zone again, whatever the origin: it has at most 100,000 records, and where it has at most
-/// 16,777,216 octets and only types that zones have, it is read back. It takes no memory. Where the
-/// sink fails, a beginning of the text was written, and nothing is tried after it.
+/// Names are written in full, with a final dot. The text is a zone file that means the same zone,
+/// whatever the origin: it has at most 100,000 records, and can be read back if it has at most
+/// 16,777,216 octets and only types that zones may have. Printing allocates no memory. If the sink
+/// fails, a prefix of the text was written, and nothing is written after it.
 pub fn print<W: Write>(zone: &Zone, sink: &mut Tally<W>) -> Result<(), PrintFault>
     requires { sink.old.failures < 2 ^ 64 - 1 }
     ensures writes { Writes W.contents sink.old sink.new result (zone_text zone.now) }
@@ -49,7 +49,7 @@ pub fn print<W: Write>(zone: &Zone, sink: &mut Tally<W>) -> Result<(), PrintFaul
 }
 
 impl CheckedZone {
-    /// Writes the canonical text of the zone: all of what `print` says.
+    /// Writes the canonical text of the zone, as `print` does.
     pub fn print<W: Write>(&self, sink: &mut Tally<W>) -> Result<(), PrintFault>
         requires { sink.old.failures < 2 ^ 64 - 1 }
         ensures writes { Writes W.contents sink.old sink.new result (zone_text self.now) }
@@ -63,7 +63,7 @@ impl CheckedZone {
     }
 }
 
-// The SOA first, then the others in order.
+// Writes the SOA, then the other records in order.
 fn write_records<W: Write>(records: &[Entry], sink: &mut Tally<W>) -> Result<(), SinkFailed>
     requires { sink.old.failures < 2 ^ 64 - 1 }
     ensures { Writes W.contents sink.old sink.new result
@@ -75,7 +75,7 @@ fn write_records<W: Write>(records: &[Entry], sink: &mut Tally<W>) -> Result<(),
     text.finish(sink)
 }
 
-// Those of the records that are an SOA, or those that are none, in order.
+// Writes either the SOA records or all others, in order.
 fn put_chosen<W: Write>(
     is_soa: bool,
     records: &[Entry],
@@ -98,7 +98,7 @@ fn put_chosen<W: Write>(
     Ok(())
 }
 
-// A record on a line of its own, whose front is given.
+// Writes a record on a line of its own, after its front (owner, TTL and class).
 fn put_record<W: Write>(
     entry: &Entry,
     front: &[u8],
@@ -122,8 +122,8 @@ fn put_record<W: Write>(
     Ok(())
 }
 
-// Makes the front of the last record that of an entry: owner, TTL and class, with a space after
-// each. A third of records have the same.
+// Changes the front of the last record to an entry's: owner, TTL and class, with a space after
+// each. A third of records have the same front as the last.
 fn turn_front(front: &mut TextBuffer, last: Option<&Entry>, entry: &Entry)
     requires { IfSome last (λ r. (front.old ≡ ((name_text r.now.owner ++ codes " ")
         ++ decimal r.now.ttl) ++ codes " IN ") × (length front.old ≤ 1035)) }

@@ -1,4 +1,4 @@
-//! Records that are gathered one after another, until a zone is made of them.
+//! A growing list of records, from which a zone is made.
 
 pub(crate) mod entry;
 
@@ -24,7 +24,7 @@ use std::marker::Model;
 
 /// Records of a zone, in the order in which they were added.
 ///
-/// Each takes 32 octets, and one piece of memory for its owner and its data.
+/// Each takes 32 octets, and one allocation for its owner and its data.
 #[derive(Drop)]
 pub struct Store {
     alloc: Global,
@@ -41,7 +41,7 @@ impl Model for Store {
 }
 
 impl Store {
-    /// A store without a record.
+    /// An empty store.
     pub fn new(alloc: Global) -> Store
         ensures { result ≡ [] }
     {
@@ -51,10 +51,8 @@ impl Store {
         }
     }
 
-    /// The records of the zone file of a source, relative to the origin of the zone, as `read_zone`
-    /// gives them in a list (RFC 1035 section 5).
-    ///
-    /// Its faults are those of `read_zone`.
+    /// Reads the records of a zone file as `read_zone` does, relative to the origin of the zone,
+    /// and fails as it does (RFC 1035 section 5).
     pub fn read<R: Read>(
         alloc: Global,
         origin: &Name,
@@ -82,14 +80,14 @@ impl Store {
         Ok(store)
     }
 
-    /// How many records it has.
+    /// The number of records.
     pub fn count(&self) -> usize
         ensures { result ≡ length self.now }
     {
         self.entries.len()
     }
 
-    /// Adds a record after those that it has. Where no memory was found, it has those that it had.
+    /// Adds a record after the others. If allocation fails, the store is unchanged.
     pub fn add(&mut self, read: &Record) -> Result<(), AllocError>
         ensures added { OnOk result (self.new ≡ self.old ++ read.now ∷ []) }
         ensures unchanged { OnErr result (self.new ≡ self.old) }
@@ -99,11 +97,12 @@ impl Store {
         Ok(())
     }
 
-    /// The zone of an origin and of its records, each kept once (RFC 2181 5), in canonical order
-    /// (RFC 4034 6.1, 6.3), by the checks of `Zone::build`.
+    /// Checks the records as `Zone::build` does. The zone has them without duplicates (RFC 2181
+    /// 5), in canonical order (RFC 4034 6.1, 6.3).
     ///
-    /// `Faults` tells all faults of the zone, where it has one; `NoMemory` comes only where none
-    /// was found. Either way the records are let go. The limit is that of a zone file.
+    /// Fails with `Faults`, which contains all faults of the zone, or with `NoMemory` only if
+    /// allocation fails; the records are freed in either case. Precondition: at most 100,000
+    /// records, as in a zone file.
     pub fn check(self, alloc: Global, origin: &Name) -> Result<CheckedZone, BuildFault>
         requires { length self ≤ most_records }
         ensures ok { IfOk result (λ zone. zone ≡ ordered_zone origin.now self) }

@@ -1,5 +1,5 @@
-//! The names of a zone as rows, level by level: the children of a row stand side by side, by their
-//! labels.
+//! The names of a zone as a list of rows, level by level. The children of a row are adjacent, in
+//! the order of their labels.
 
 pub(crate) mod label_key;
 pub(crate) mod labels;
@@ -28,18 +28,18 @@ use crate::zone::CheckedZone;
 use dns_name::NameRef;
 use std::alloc::{AllocError, Global};
 
-/// A zone, and its names.
+/// A zone and the tree of its names.
 #[derive(Drop)]
 pub(crate) struct Tree {
     pub(crate) zone: CheckedZone,
     pub(crate) rows: Kept<Row>,
     pub(crate) bounds: Kept<usize>,
-    /// For each record the row of its lead, or 0.
+    /// For each record the row of its lead, or 0 if it has none.
     pub(crate) leads: Kept<usize>,
 }
 
-/// The rows of all names of a zone, and for each row the number of its first child; the children of
-/// the next row follow. Memory is taken for 32 octets for each name.
+/// The rows of all names of a zone, and for each row the number of its first child. A row's
+/// children end where the next row's begin. Takes 40 octets of memory for each name.
 pub(crate) fn rows_of(
     alloc: Global,
     origin: &NameRef<'_>,
@@ -63,7 +63,7 @@ pub(crate) fn rows_of(
     Ok((Kept::new(rows), Kept::new(bounds)))
 }
 
-// Adds the rows of a row's children after all rows.
+// Adds the rows of a row's children after all other rows.
 fn add_kids(records: &[Entry], number: usize, rows: &mut Vec<Row>) -> Result<(), AllocError>
     requires canonical { IsCanonical records.now }
     requires number { number < length rows.old.items }

@@ -1,4 +1,4 @@
-//! Zones without a fault: as they are printed, and as they are served.
+//! Zones without faults: for printing, and for serving.
 ghost use Rattle.std.specs.Prelude.{◌≡◌, ◌≤◌, [], length, IfOk, IfErr};
 ghost use Rattle.std.specs.List.{filter};
 ghost use Rattle.dns_spec.specs.Names.{folded, same};
@@ -20,15 +20,15 @@ use dns_rdata::{RType, Rdata};
 use std::alloc::{AllocError, Global};
 use std::marker::Model;
 
-/// A zone that has no fault: an origin, and records in canonical order, each once. It has at most
-/// 100,000.
+/// A zone without faults: an origin, and at most 100,000 records in canonical order, without
+/// duplicates.
 ///
-/// It may be printed. To be served it is made a `Zone`, whose names can be walked.
+/// It can be printed. To be served, it must become a `Zone`, whose names can be walked.
 #[derive(Drop)]
 pub struct CheckedZone {
     pub(crate) origin: Name,
     pub(crate) records: Kept<Entry>,
-    /// How many records stood before each one in the file. Empty if records are short.
+    /// The number of records before each one in the file. Empty if records are short.
     pub(crate) numbers: Kept<u32>,
 }
 
@@ -44,7 +44,7 @@ impl Model for CheckedZone {
 }
 
 impl CheckedZone {
-    /// The name at and below which the zone speaks, in lower case.
+    /// The origin of the zone, in lower case.
     pub fn origin(&self) -> &Name
         ensures origin { result.now ≡ self.now.origin }
         ensures lower { folded self.now.origin ≡ self.now.origin }
@@ -68,7 +68,7 @@ impl CheckedZone {
     }
 }
 
-/// A zone that has no fault, and whose names can be walked: it may be served.
+/// A zone without faults whose names can be walked, so that it can be served.
 #[derive(Drop)]
 pub struct Zone {
     pub(crate) tree: Tree,
@@ -87,11 +87,12 @@ impl Model for Zone {
 }
 
 impl Zone {
-    /// The zone of an origin and of records, each kept once (RFC 2181 5), in canonical order
-    /// (RFC 4034 6.1, 6.3).
+    /// Builds the zone of an origin and its records, without duplicates (RFC 2181 5), in canonical
+    /// order (RFC 4034 6.1, 6.3).
     ///
-    /// `Faults` tells all faults of the zone, where it has one; `NoMemory` comes only where none
-    /// was found. Either way the records are let go. The limit is that of a zone file.
+    /// Fails with `Faults`, which contains all faults of the zone, or with `NoMemory` only if
+    /// allocation fails; the records are freed in either case. Precondition: at most 100,000
+    /// records, as in a zone file.
     pub fn build(alloc: Global, origin: &Name, records: Vec<Record>) -> Result<Zone, BuildFault>
         requires { length records.items ≤ most_records }
         ensures ok { IfOk result (λ zone. zone ≡ ordered_zone origin.now records.items) }
@@ -108,9 +109,10 @@ impl Zone {
         Ok(Zone::of(alloc, zone)?)
     }
 
-    /// The zone that was checked, to be served: its names are found, and where the way to each
-    /// target begins, so that an alias to a name of many labels costs a question no more than a
-    /// short one. Memory is taken for 32 octets for each name and for 12 for each record.
+    /// Prepares a checked zone for serving: makes a tree of its names, and stores for each target
+    /// the last existing name on the way to it, so that an alias to a name of many labels costs a
+    /// query no more than one to a short name. Takes 40 octets of memory for each name and 12 for
+    /// each record.
     pub fn of(alloc: Global, zone: CheckedZone) -> Result<Zone, AllocError>
         ensures { IfOk result (λ whole. whole ≡ zone) }
     {
@@ -126,7 +128,7 @@ impl Zone {
         Ok(Zone { tree })
     }
 
-    /// The name at and below which the zone speaks, in lower case.
+    /// The origin of the zone, in lower case.
     pub fn origin(&self) -> &Name
         ensures origin { result.now ≡ self.now.origin }
         ensures lower { folded self.now.origin ≡ self.now.origin }
@@ -143,7 +145,7 @@ impl Zone {
     }
 }
 
-// The serial number of the first SOA at the origin, or 0 where there is none.
+// The serial number of the first SOA at the origin, or 0 if there is none.
 fn serial_at(origin: &NameRef<'_>, records: &[Entry]) -> u32
     ensures { result ≡ first_serial
         (filter is_soa (filter (λ (r : ResourceRecord). same r.owner origin.now) records.now)) }

@@ -14,8 +14,8 @@ pub(crate) fn is_at_or_below(name: &NameRef<'_>, other: &NameRef<'_>) -> bool
     shortest_end(name, other.octets().len()) == *other
 }
 
-/// Whether the octets of a name end with those of another, both in lower case. Else it is not at or
-/// below it.
+/// Whether the octets of a name end with the octets of another, both in lower case. If not, the
+/// name is not at or below the other.
 pub(crate) fn ends_alike(name: &NameRef<'_>, other: &NameRef<'_>) -> bool
     requires name { folded name.now ≡ name.now }
     requires other { folded other.now ≡ other.now }
@@ -28,10 +28,10 @@ pub(crate) fn ends_alike(name: &NameRef<'_>, other: &NameRef<'_>) -> bool
     are_equal(octets.split_at(octets.len() - end.len()).1, end)
 }
 
-/// The last labels of a name, as few as have `least` octets or more on the wire; all of them where
-/// it has fewer. Of `www.sub.example.` and 10 octets, `sub.example.`
+/// The shortest suffix of a name that has `least` octets or more on the wire, or the whole name if
+/// it is shorter. For `www.sub.example.` and 10 it is `sub.example.`
 ///
-/// Labels are passed by their lengths alone.
+/// Skips labels by their lengths, without reading them.
 pub(crate) fn shortest_end<'a>(name: &NameRef<'a>, least: usize) -> NameRef<'a>
     requires { 0 < least }
     ensures { result ≡ ending least name.now }

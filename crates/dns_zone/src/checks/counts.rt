@@ -1,10 +1,10 @@
-//! The records of a name, counted by their types.
+//! The records of a name, counted by type.
 ghost use Rattle.dns_zone.specs.OwnerForm.{AreCounted};
 
 use crate::store::entry::Entry;
 use dns_rdata::RType;
 
-/// How many records a name owns of the types that its checks ask for.
+/// How many records a name owns, by the types that the checks need.
 #[derive(Drop)]
 pub(crate) struct TypeCounts {
     pub(crate) soa: usize,
@@ -12,12 +12,12 @@ pub(crate) struct TypeCounts {
     pub(crate) cname: usize,
     /// MX and SRV.
     pub(crate) exchanges: usize,
-    /// All but NS and addresses.
+    /// All types except NS, A and AAAA.
     pub(crate) others: usize,
 }
 
 impl TypeCounts {
-    /// The counts of these records, by one walk over them.
+    /// Counts the records in one pass.
     pub(crate) fn of(records: &[Entry]) -> TypeCounts
         ensures { AreCounted records.now result }
     {

@@ -1,19 +1,19 @@
-//! Where a key probably stands among those of names in order.
+//! The probable place of a key among those of names in order.
 //!
 //! Deep names may share most of their octets, and a binary search by whole keys compares these at
-//! each step. This one compares each of them about once (Manber and Myers, "Suffix arrays", 1993).
-//! Nothing here says that it is right: who needs the place looks.
+//! each step. This search compares each of them about once (Manber and Myers, "Suffix arrays",
+//! 1993). The result is an unverified hint: callers check it.
 ghost use Rattle.std.specs.Prelude.{◌≡◌, ◌<◌, ◌≤◌, length};
 
 use crate::checks::names::CheckedName;
 use std::alloc::{AllocError, Global};
 
-// Where names have no more octets on the average, a search by whole keys costs less than a list.
+// If names have no more octets on average, a search by whole keys is cheaper than a list.
 const FEW_OCTETS: usize = 48;
 
-/// For each name, how many octets its key shares with those of the two names that a binary search
-/// has found it to be between when it comes to it. Nothing where the keys, which have so many
-/// octets together, are short.
+/// For each name, how many octets its key shares with the keys of the two names between which a
+/// binary search has narrowed the place when it reaches that name. An empty list if keys are
+/// short; `octets` is the total length of all keys.
 pub(crate) fn shared_octets(
     alloc: Global,
     names: &[CheckedName<'_>],
@@ -27,8 +27,8 @@ pub(crate) fn shared_octets(
     Ok(shared)
 }
 
-// Puts those of names from one place up to another, which share so many octets with each other and
-// with those before and after them.
+// Fills in the entries from `low` up to `high`. These names share `known` octets with each other
+// and with the names before and after them.
 fn put_shared(names: &[CheckedName<'_>], low: usize, high: usize, known: u8, shared: &mut [[u8; 2]])
     requires order { low ≤ high }
     requires within { high ≤ length names.now }
@@ -46,7 +46,7 @@ fn put_shared(names: &[CheckedName<'_>], low: usize, high: usize, known: u8, sha
     put_shared(names, middle + 1, high, after, shared);
 }
 
-// How many octets the keys of names at two places share, of which so many are known.
+// The number of octets that the keys at two places share, at least `known`.
 fn shared_of(names: &[CheckedName<'_>], one: usize, other: usize, known: u8) -> u8 {
     match (names.get(one), names.get(other)) {
         (Some(one), Some(other)) => {
@@ -57,15 +57,15 @@ fn shared_of(names: &[CheckedName<'_>], one: usize, other: usize, known: u8) -> 
     }
 }
 
-/// The place of the last name that is probably not after the one whose key this is. None without a
-/// list of what names share.
+/// The probable place of the last name that is not after the name with this key. `None` without a
+/// list of shared octets, or if every name is probably after it.
 pub(crate) fn probable_place(
     names: &[CheckedName<'_>],
     shared: &[[u8; 2]],
     key: &[u8],
 ) -> Option<usize> {
     let (mut low, mut high) = (0, shared.len().min(names.len()));
-    // How many octets the key shares with the names before and after those that are left.
+    // How many octets the key shares with the keys just before and just after the remaining names.
     let (mut before, mut after) = (0, 0);
     'halves: while low < high {
         let middle = low + (high - low) / 2;
@@ -93,7 +93,8 @@ pub(crate) fn probable_place(
     low.checked_sub(1)
 }
 
-/// What follows the octets that both begin with, of which so many are known.
+/// What follows the octets with which both begin, of which the first `known` are known to be
+/// equal.
 pub(crate) fn rests<'a>(one: &'a [u8], other: &'a [u8], known: usize) -> (&'a [u8], &'a [u8])
     ensures one { length result.0.now ≤ length one.now }
     ensures other { length result.1.now ≤ length other.now }
@@ -108,7 +109,7 @@ pub(crate) fn rests<'a>(one: &'a [u8], other: &'a [u8], known: usize) -> (&'a [u
     after_alike::<1>(one, other)
 }
 
-// What follows the runs of so many octets that both begin with.
+// What follows the equal chunks of `N` octets with which both begin.
 fn after_alike<'a, const N: usize>(one: &'a [u8], other: &'a [u8]) -> (&'a [u8], &'a [u8])
     requires some { 0 < N }
     requires few { N ≤ 64 }

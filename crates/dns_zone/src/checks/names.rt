@@ -1,4 +1,5 @@
-//! The names of a zone that are checked: its origin and all owners, each once, in canonical order.
+//! The names of a zone to be checked: its origin and all owners, without duplicates, in canonical
+//! order.
 ghost use Rattle.std.specs.Prelude.{◌≡◌, ◌≤◌, length, IfOk, OnOk};
 ghost use Rattle.std.specs.Bool.{OnTrue};
 ghost use Rattle.std.specs.List.Sorted.{IsNonDecreasingBy, IsPartitionedBy};
@@ -19,22 +20,21 @@ use dns_name::NameRef;
 use dns_rdata::RType;
 use std::alloc::{AllocError, Global};
 
-/// A name that is checked.
+/// A name to be checked.
 #[derive(Drop)]
 pub(crate) struct CheckedName<'a> {
     /// Its key.
     pub(crate) key: &'a [u8],
-    /// The first of its records.
+    /// Its first record.
     pub(crate) first: u32,
-    /// The record after its own. The origin may have none.
+    /// The end of its records: one past the last. The origin may have none.
     pub(crate) end: u32,
-    /// How many octets the key has of the topmost cut that the name is at or below; 0 where it is
-    /// at or below none.
+    /// The length of the key of the topmost cut that the name is at or below; 0 if there is none.
     pub(crate) cut: usize,
 }
 
-/// The names that are checked of the zone of records in canonical order, with the key of the origin
-/// and those of the owners.
+/// The names of a zone to be checked. Its records are in canonical order; `key` is the origin's,
+/// and `keyed` has the owners' keys.
 pub(crate) fn checked_names<'a>(
     alloc: Global,
     origin: &NameRef<'_>,
@@ -75,8 +75,8 @@ pub(crate) fn checked_names<'a>(
     Ok(names)
 }
 
-// How many octets the key has of the topmost cut that an owner is at or below, where that of the
-// name before it has so many.
+// The length of the key of the topmost cut that an owner is at or below, or 0, given the same
+// (`cut`) for the name before it (`last`).
 fn cut_of(origin: &[u8], last: &[u8], cut: usize, key: &[u8], own: &[Entry]) -> usize
     requires fits { cut ≤ length last.now }
     requires by_types { IsNonDecreasingBy (λ (r : ResourceRecord). r.rtype) own.now }
@@ -92,7 +92,7 @@ fn cut_of(origin: &[u8], last: &[u8], cut: usize, key: &[u8], own: &[Entry]) -> 
     }
 }
 
-// Whether a name, with its key and its records, is a cut (RFC 1034 4.2).
+// Whether a name, given by its key and its records, is a cut (RFC 1034 4.2).
 #[tactic(auto, using(crate::proofs::OwnRecords::own_owns))]
 fn is_cut(origin: &[u8], key: &[u8], own: &[Entry]) -> bool
     requires { IsNonDecreasingBy (λ (r : ResourceRecord). r.rtype) own.now }
@@ -103,7 +103,7 @@ fn is_cut(origin: &[u8], key: &[u8], own: &[Entry]) -> bool
     has_type(own, RType::NS) && is_below(key, origin)
 }
 
-/// Whether a key begins with so many octets of another, one at least.
+/// Whether a key begins with the first `cut` octets of another. False if `cut` is 0.
 pub(crate) fn is_covered(cut: usize, last: &[u8], key: &[u8]) -> bool
     requires { cut ≤ length last.now }
     ensures { result ≡ is_covered cut last.now key.now }
@@ -111,8 +111,8 @@ pub(crate) fn is_covered(cut: usize, last: &[u8], key: &[u8]) -> bool
     cut > 0 && key.starts_with(&last[..cut])
 }
 
-/// How many of the names are not after the one whose key this is. Whether one at a place that is
-/// `probable` is the last of them is looked at first.
+/// The number of names that are not after the name with this key. Tries first whether the
+/// `probable` place is the last of them.
 pub(crate) fn count_upto(names: &[CheckedName<'_>], probable: Option<usize>, key: &[u8]) -> usize
     requires { IsPartitionedBy (is_upto key.now) names.now }
     ensures { IsFront (is_upto key.now) names.now result }

@@ -19,10 +19,10 @@ use dns_name::NameRef;
 use dns_rdata::RType;
 use std::marker::Model;
 
-// The most records of an RRset that is served.
+// The most records that an RRset may have.
 const MOST_OF_A_SET: usize = 64;
 
-// The most RRsets that are served of one owner.
+// The most RRsets that one owner may have.
 const MOST_SETS: usize = 32;
 
 /// A name of a zone, with its records.
@@ -56,8 +56,8 @@ impl<'a> Model for Owner<'a> {
 }
 
 impl<'a> Owner<'a> {
-    /// Which checks the name fails, by their codes (RFC 1034 3.6.2, 4.2; RFC 1035 5.2; RFC 2181
-    /// 5.2, 10; RFC 4592 4.2).
+    /// Which checks the name fails, in the order of their codes (RFC 1034 3.6.2, 4.2; RFC 1035
+    /// 5.2; RFC 2181 5.2, 10; RFC 4592 4.2).
     pub(crate) fn judged(&self, last: &mut LastTarget<'_>) -> [bool; 15]
         ensures { result ≡ map (λ c. c.1 self.now.zone self.now.name) checks }
     {
@@ -81,7 +81,8 @@ impl<'a> Owner<'a> {
         ]
     }
 
-    /// Whether it passes all checks, as most names do. If not, all of them have to be looked at.
+    /// A fast path: true only if the name passes all checks, as most names do. If false, all
+    /// checks must be made.
     pub(crate) fn is_plain(&self) -> bool
         ensures { OnTrue result (reported_at self.now.zone self.now.name ≡ []) }
     {
@@ -105,8 +106,8 @@ impl<'a> Owner<'a> {
         have_other_ttls(self.own)
     }
 
-    // Whether the target of an NS record is an alias, whether that of one lacks an address, and
-    // whether that of an MX or SRV record is an alias. Each is looked up once.
+    // Whether the target of an NS record is an alias, whether one lacks an address, and whether
+    // the target of an MX or SRV record is an alias. Each target is looked up once.
     fn target_faults(&self, last: &mut LastTarget<'_>) -> (bool, bool, bool)
         ensures alias { result.0 ≡ ns_target_alias self.now.zone self.now.name }
         ensures lost { result.1 ≡ ns_target_lost self.now.zone self.now.name }
@@ -125,7 +126,7 @@ impl<'a> Owner<'a> {
         (has_alias, has_lost, has_exchange)
     }
 
-    // The same of one record, which may be of any type.
+    // The same for one record, of any type.
     fn record_faults(
         &self,
         entry: &Entry,
@@ -151,8 +152,8 @@ impl<'a> Owner<'a> {
         }
     }
 
-    // At a cut stand its NS records and addresses alone, below it glue alone. Cuts mostly own no
-    // more, which costs less to see.
+    // A cut may own only NS records and addresses, and names below it only addresses (glue). Most
+    // cuts own nothing else, so that is tested first.
     fn has_data_at_cut(&self) -> bool
         ensures { result ≡ data_at_cut self.now.zone self.now.name }
     {
@@ -229,7 +230,8 @@ impl<'a> Owner<'a> {
     }
 }
 
-// Whether an RRset has other TTLs: then two neighbours of one type have (RFC 2181 5.2).
+// Whether an RRset has different TTLs (RFC 2181 5.2): if and only if two adjacent records of one
+// type have.
 fn have_other_ttls(own: &[Entry]) -> bool
     ensures { result ≡ list_any (λ p. p.0.rtype == p.1.rtype && not (p.0.ttl == p.1.ttl))
         (zip own.now (drop 1 own.now)) }
@@ -238,7 +240,8 @@ fn have_other_ttls(own: &[Entry]) -> bool
         && one.ttl != next.ttl)
 }
 
-// Whether an RRset has more than 64 records: then the 64th after some record is of its type.
+// Whether an RRset has more than 64 records: if and only if some record and the 64th after it have
+// one type.
 fn have_large_set(own: &[Entry]) -> bool
     ensures { result ≡ list_any (λ p. p.0.rtype == p.1.rtype) (zip own.now (drop 64 own.now)) }
 {
@@ -250,7 +253,7 @@ fn have_large_set(own: &[Entry]) -> bool
         .any(|(one, other)| one.rtype == other.rtype)
 }
 
-// Whether there are more than 32 RRsets.
+// Whether the name owns more than 32 RRsets.
 fn have_many_sets(own: &[Entry]) -> bool
     ensures { result ≡ nat_lt 32 (sets_ended own.now) }
 {

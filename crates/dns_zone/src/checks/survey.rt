@@ -1,4 +1,4 @@
-//! A zone under check: its origin, its records in canonical order, and the names that are checked.
+//! A zone under check: its origin, its records in canonical order, and the names to be checked.
 ghost use Rattle.std.specs.Prelude.{◌≡◌, ◌≤◌, length, ◌&&◌, true, false};
 ghost use Rattle.std.specs.Option.{option_map_or};
 ghost use Rattle.std.specs.List.Sorted.{IsNonDecreasingBy};
@@ -20,7 +20,7 @@ use dns_name::NameRef;
 use dns_rdata::RType;
 use std::marker::Model;
 
-/// The zone of an origin and of records in canonical order, whose checks are asked for.
+/// A zone under check, with its records in canonical order.
 #[derive(Drop)]
 pub(crate) struct Survey<'a> {
     pub(crate) origin: &'a NameRef<'a>,
@@ -59,7 +59,7 @@ impl<'a> Survey<'a> {
         &self.records[one.first as usize..one.end as usize]
     }
 
-    /// A name that is checked: the owner of its records, or the origin where it has none.
+    /// The name that is checked: the owner of its records, or the origin if it has none.
     #[tactic(auto, using(crate::proofs::SearchSteps::wire_steps))]
     pub(crate) fn name(&self, one: &CheckedName<'_>) -> NameRef<'a>
         requires rising { one.now.first ≤ one.now.end }
@@ -72,7 +72,7 @@ impl<'a> Survey<'a> {
         }
     }
 
-    // The last of the names that is not after a target at or below the origin.
+    // The last name that is not after a target at or below the origin.
     fn last_upto(&self, target: &mut LastTarget<'_>) -> &'a CheckedName<'a>
         requires lower { folded target.old ≡ target.old }
         requires inside { at_or_below target.old self.now.origin ≡ true }
@@ -93,8 +93,8 @@ impl<'a> Survey<'a> {
         &names[place]
     }
 
-    // The records at a target at or below the origin, by their types, and whether it is at or below
-    // a cut (RFC 1034 4.2).
+    // The records at a target at or below the origin, ordered by type, and whether it is at or
+    // below a cut (RFC 1034 4.2).
     #[tactic(auto, using(crate::proofs::CheckedNames::found_steps))]
     fn at(&self, target: &mut LastTarget<'_>) -> (&'a [Entry], bool)
         requires lower { folded target.old ≡ target.old }
@@ -111,7 +111,7 @@ impl<'a> Survey<'a> {
         (&[], is_covered(last.cut, last.key, key))
     }
 
-    /// Whether the record's target is a name of the zone that owns a CNAME (RFC 2181 10.3), and
+    /// Whether the record's target is a name in the zone that owns a CNAME (RFC 2181 10.3), and
     /// whether it is one that lacks an address there (RFC 1034 4.2.1). It is looked up once.
     pub(crate) fn target_faults(
         &self,
@@ -150,7 +150,7 @@ impl<'a> Survey<'a> {
         ensures lost { result.1 ≡ (at_or_below target.now self.now.origin
             && lacks_address self.now owner.now target.now) }
     {
-        // A name outside of the zone mostly ends otherwise, and needs no key.
+        // Most names outside the zone have another ending, and then need no key.
         if !ends_alike(target, self.origin) {
             return (false, false);
         }

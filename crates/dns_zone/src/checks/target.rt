@@ -1,4 +1,4 @@
-//! The name that the data of a record points to.
+//! The name to which the data of a record points.
 ghost use Rattle.std.specs.Prelude.{◌≡◌, [], IfSome};
 ghost use Rattle.dns_spec.specs.Names.{folded};
 ghost use Rattle.dns_spec.specs.Data.{target};
@@ -12,7 +12,7 @@ use dns_name::{Name, NameRef};
 use dns_rdata::Rdata;
 use std::marker::Model;
 
-/// The first name in the data: of NS the server, of MX the exchange (RFC 1035 3.3.9, 3.3.11).
+/// The first name in the data: the server of NS, the exchange of MX (RFC 1035 3.3.9, 3.3.11).
 #[tactic(auto, using(crate::proofs::Targets::target_if))]
 pub(crate) fn target(entry: &Entry) -> Option<NameRef<'_>>
     ensures value { result ≡ target entry.now.rtype entry.now.rdata }
@@ -21,9 +21,9 @@ pub(crate) fn target(entry: &Entry) -> Option<NameRef<'_>>
     Rdata::target_lent(entry.rtype, entry.rdata())
 }
 
-/// The target that was looked for last, with its key, and where it was found. The glue of a cut
-/// mostly stands right after it, and one server after another, so the place after the name that is
-/// judged, or after the last target, is kept too.
+/// The last target that was looked up, with its key, and the place where it was found. Glue often
+/// comes right after its cut, and one server's name right after another's, so the place after the
+/// checked name, or after the last target, is tried first.
 #[derive(Drop)]
 pub(crate) struct LastTarget<'a> {
     name: Name,
@@ -32,7 +32,7 @@ pub(crate) struct LastTarget<'a> {
     next: usize,
     // How many names were passed.
     passed: usize,
-    // What a search for it among the names that are checked has to know of them.
+    // How many octets the keys of names share, for the search; may be empty.
     shared: &'a [[u8; 2]],
 }
 
@@ -49,7 +49,7 @@ impl<'a> Model for LastTarget<'a> {
 }
 
 impl<'a> LastTarget<'a> {
-    /// The root, before any target is looked for among names that share so much.
+    /// The root, before any lookup. `shared` is the list that `shared_octets` returned.
     pub(crate) fn new(shared: &'a [[u8; 2]]) -> LastTarget<'a>
         ensures { result ≡ [] }
     {
@@ -80,7 +80,7 @@ impl<'a> LastTarget<'a> {
         self.key.octets()
     }
 
-    /// Goes on to the targets of the next name that is checked.
+    /// Goes on to the targets of the next checked name.
     pub(crate) fn pass_name(&mut self)
         ensures { self.new ≡ self.old }
     {
@@ -88,7 +88,7 @@ impl<'a> LastTarget<'a> {
         self.next = self.passed;
     }
 
-    /// Where it was found, or probably is, among the names that are checked.
+    /// The place where the target was found, or probably is, among the checked names.
     pub(crate) fn probable_place(&self, names: &[CheckedName<'_>]) -> Option<usize> {
         match (self.place, names.get(self.next)) {
             (Some(place), _) => Some(place),

@@ -1,8 +1,7 @@
-//! Records brought into canonical order by few moves.
+//! Brings records into canonical order with few moves.
 //!
-//! A sort compares whole names, which takes time. So runs of records of one owner are sorted in the
-//! records' stead, by so many octets of their keys at a time as are beside them, and each record is
-//! moved once.
+//! A sort that compares whole names is slow. So runs of records of one owner are sorted instead of
+//! the records, by a few octets of their keys at a time, and then each record is moved once.
 ghost use Rattle.std.specs.Prelude.{◌≡◌, ◌<◌, ◌≤◌, All, length, IfOk};
 ghost use Rattle.std.specs.List.Sorted.{IsPermutation};
 ghost use Rattle.dns_spec.specs.Meaning.{most_records};
@@ -15,15 +14,15 @@ use crate::store::entry::Entry;
 use std::alloc::{AllocError, Global};
 use std::cmp::Ordering;
 
-// So many records of one owner are sorted by whole comparisons.
+// The most records of one owner that are sorted by whole comparisons.
 const FEW_RECORDS: usize = 8;
 
-/// Moves records, with where their keys begin and with their numbers, into canonical order.
-/// Duplicates are kept, and nothing here says that it is that order: who needs it looks, and sorts
-/// where it is not. The first `base` octets of the keys are that of the origin.
+/// Moves records, with the places of their keys and with their numbers, into canonical order, and
+/// keeps duplicates. The result is unverified: callers check the order, and sort if it is wrong.
+/// `base` is the length of the origin's key, with which `keys` begins.
 ///
-/// Memory is taken for 32 octets for each run of records of one owner and for each record of one
-/// owner, and for 4 octets for each record.
+/// Takes 32 octets of memory for each run of records of one owner and for each record of the
+/// largest owner, and 4 for each record.
 #[tactic(auto, using(crate::proofs::SearchSteps::swap_steps))]
 pub(crate) fn arrange(
     alloc: Global,
@@ -48,7 +47,7 @@ pub(crate) fn arrange(
     Ok(())
 }
 
-// For each place the one from which its record comes.
+// For each place of the sorted list, the place from which its record comes.
 fn places(
     alloc: Global,
     base: usize,
@@ -87,8 +86,8 @@ fn places(
 }
 
 // The runs of records of one owner, in the order of the records: their keys begin at one place and
-// have one length. By the place alone the root, whose key has no octets, would be taken for the
-// owner after it.
+// have the same length. The place alone is not enough: the root has an empty key, so the next
+// owner's begins at the same place.
 fn runs(
     alloc: Global,
     base: usize,
@@ -114,7 +113,7 @@ fn runs(
     Ok(runs)
 }
 
-// Sorts the records of one owner, whose places are these from the `first` on.
+// Sorts the records of one owner, whose places are in `places` from `first` on.
 fn sort_own(
     records: &[Entry],
     places: &mut [u32],
@@ -140,7 +139,7 @@ fn sort_own(
     Ok(())
 }
 
-// The same of many records, by runs of one record each.
+// The same for many records, as runs of one record each.
 fn sort_many(records: &[Entry], places: &mut [u32], own: &mut Vec<Run>) -> Result<(), AllocError>
     requires below { All (λ p. p < length records.now) places.old }
     ensures below { All (λ p. p < length records.now) places.new }
@@ -161,8 +160,8 @@ fn sort_many(records: &[Entry], places: &mut [u32], own: &mut Vec<Run>) -> Resul
     Ok(())
 }
 
-// Moves to the place `first` the record that comes there, and on to the place which that leaves,
-// until the record of `first` is moved.
+// Moves the record that belongs at `first` there, then fills the gap that it leaves, and so on,
+// until the record that was at `first` has moved.
 fn settle(
     keys: &[u8],
     records: &mut [Entry],

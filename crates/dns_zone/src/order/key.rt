@@ -1,4 +1,4 @@
-//! Keys of names: octets whose plain order is the canonical order of the names.
+//! Keys of names: octets whose lexicographic order is the canonical order of the names.
 ghost use Rattle.std.specs.Prelude.{◌≡◌, ◌+◌, ◌<◌, ◌≤◌, [], length};
 ghost use Rattle.dns_spec.specs.Names.{DomainName, folded, at_or_below, below};
 ghost use Rattle.dns_name.specs.WireForm.{labels_of, IsWireForm};
@@ -10,8 +10,8 @@ use std::marker::Model;
 
 const MAX_OCTETS: usize = 255;
 
-/// The key of a name in lower case. Keys are compared octet by octet, and stand in the canonical
-/// order (RFC 4034 6.1).
+/// The key of a name in lower case. Keys compared octet by octet are in canonical order (RFC 4034
+/// 6.1).
 #[derive(Drop)]
 pub(crate) struct Key {
     octets: ArrayVec<u8, MAX_OCTETS>,
@@ -26,7 +26,7 @@ impl Model for Key {
 }
 
 impl Key {
-    /// The key of the root, of no octets, to be made that of other names.
+    /// The key of the root, which is empty. `move_to` changes it to the key of another name.
     pub(crate) fn new() -> Key
         ensures { result ≡ name_key [] }
     {
@@ -35,8 +35,8 @@ impl Key {
         }
     }
 
-    /// The key of a name: its labels from the right, each ended, so that one which begins another
-    /// comes first.
+    /// The key of a name: its labels from the right, each with an end marker, so that a label
+    /// comes before the longer ones that begin with it.
     pub(crate) fn of(name: &NameRef<'_>) -> Key
         ensures { result ≡ name_key name.now }
     {
@@ -45,8 +45,9 @@ impl Key {
         key
     }
 
-    /// Makes the key of one name that of another. The labels that both end with stay, so that names
-    /// which are alike but for their first labels take little time, however many they have.
+    /// Changes the key of one name to the key of another. The labels at the end that both share
+    /// are kept, so that names which differ only in their first labels take little time, however
+    /// many labels they have.
     pub(crate) fn move_to(&mut self, from: &NameRef<'_>, name: &NameRef<'_>)
         requires { self.old ≡ name_key from.now }
         ensures { self.new ≡ name_key name.now }
@@ -62,7 +63,7 @@ impl Key {
         put_labels(octets, alike, self.octets.as_mut_slice());
     }
 
-    /// Its octets, one fewer than the wire form of the name has.
+    /// Its octets, one fewer than in the wire form of the name.
     pub(crate) fn octets(&self) -> &[u8]
         ensures value { result.now ≡ self.now }
         ensures bound { length result.now ≤ 255 }
@@ -71,8 +72,8 @@ impl Key {
     }
 }
 
-/// Whether a name is at or below another, both in lower case, whose keys these are: whether the key
-/// of the other begins its own.
+/// Whether the name of the first key is at or below the name of the other, both in lower case: if
+/// and only if the other key is a prefix of the first.
 #[tactic(auto, using(crate::proofs::KeyPrefix::starts_under))]
 pub(crate) fn is_under(key: &[u8], other: &[u8]) -> bool
     ensures { (n m : DomainName) → folded n ≡ n → folded m ≡ m → key.now ≡ name_key n
@@ -81,7 +82,7 @@ pub(crate) fn is_under(key: &[u8], other: &[u8]) -> bool
     key.starts_with(other)
 }
 
-/// Whether a name is below another, both in lower case, whose keys these are.
+/// Whether the name of the first key is below the name of the other, both in lower case.
 pub(crate) fn is_below(key: &[u8], other: &[u8]) -> bool
     ensures { (n m : DomainName) → folded n ≡ n → folded m ≡ m → key.now ≡ name_key n
         → other.now ≡ name_key m → result ≡ below n m }
@@ -89,7 +90,7 @@ pub(crate) fn is_below(key: &[u8], other: &[u8]) -> bool
     key.len() > other.len() && is_under(key, other)
 }
 
-/// How many octets at their ends are the same.
+/// The number of equal octets at the ends of both.
 pub(crate) fn count_alike(one: &[u8], other: &[u8]) -> usize
     ensures { AreAlike result one.now other.now }
 {
@@ -97,7 +98,7 @@ pub(crate) fn count_alike(one: &[u8], other: &[u8]) -> usize
     one.len() - before_alike::<1>(left, right).0.len()
 }
 
-// What stands before the runs of so many octets that both end with.
+// What comes before the equal chunks of `N` octets at the ends of both.
 fn before_alike<'a, const N: usize>(one: &'a [u8], other: &'a [u8]) -> (&'a [u8], &'a [u8])
     requires some { 0 < N }
     requires few { N ≤ 8 }
@@ -117,9 +118,9 @@ fn before_alike<'a, const N: usize>(one: &'a [u8], other: &'a [u8]) -> (&'a [u8]
     (one, other)
 }
 
-// Puts the labels of a name in wire form into a key of as many octets as its own, which begins as
-// the key of another name does. As many octets as are said are the same at the ends of both names:
-// of these, the labels that both end with stay in the key.
+// Writes the labels of a name in wire form into a key of the same length, which begins as the key
+// of another name does. The last `alike` octets of both names are equal; the shared labels in them
+// stay in the key.
 fn put_labels(octets: &[u8], alike: usize, key: &mut [u8])
     requires wire { IsWireForm octets.now }
     requires room { length octets.now ≡ length key.old + 1 }
@@ -136,8 +137,8 @@ fn put_labels(octets: &[u8], alike: usize, key: &mut [u8])
     }
 }
 
-// Puts a label in lower case and its end. Octets below 65 are one more, since 65 to 90 do not stand
-// in it, so that 0 is left to end it.
+// Writes a label in lower case, and its end marker 0. Octets below 65 are raised by one, so that 0
+// is free; they stay distinct because 65 to 90 do not occur in lower case.
 fn put_label(label: &[u8], key: &mut [u8])
     requires { length key.old ≡ length label.now + 1 }
     ensures { key.new ≡ ended label.now }

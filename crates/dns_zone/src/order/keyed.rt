@@ -1,4 +1,4 @@
-//! The keys of the owners of records, in octets that all share.
+//! The keys of the owners of records, in one shared list of octets.
 ghost use Rattle.std.specs.Prelude.{◌≡◌, ◌≤◌, All, length, IfOk};
 ghost use Rattle.dns_spec.specs.Names.{folded};
 ghost use Rattle.dns_spec.specs.Meaning.{most_records};
@@ -11,17 +11,18 @@ use crate::store::entry::Entry;
 use dns_name::NameRef;
 use std::alloc::{AllocError, Global};
 
-// If records have no more octets on the average, their order in the file is not kept.
+// If records have no more octets on average, their order in the file is not kept.
 const FEW_OCTETS: usize = 64;
 
-/// The keys of owners, and the order that records had in the file.
+/// The keys of owners, and the order of their records in the file.
 #[derive(Drop)]
 pub(crate) struct Keyed {
-    /// The key of the origin, then those of the owners.
+    /// The key of the origin, then the keys of the owners.
     pub(crate) keys: Vec<u8>,
-    /// Where the key of each record's owner begins. Neighbours of one owner share theirs.
+    /// The place at which each record's owner key begins. Adjacent records of one owner share a
+    /// key.
     pub(crate) starts: Vec<u32>,
-    /// How many records stood before each one in the file. Empty if records are short.
+    /// The number of records before each one in the file. Empty if records are short.
     pub(crate) numbers: Vec<u32>,
 }
 
@@ -73,7 +74,7 @@ fn numbers_of(alloc: Global, records: &[Entry]) -> Result<Vec<u32>, AllocError>
     in_turn(alloc, records.len() as u32)
 }
 
-/// The numbers below this one, in turn.
+/// The numbers below `count`, in order.
 pub(crate) fn in_turn(alloc: Global, count: u32) -> Result<Vec<u32>, AllocError> {
     let mut numbers = Vec::with_capacity(alloc, count as usize)?;
     'numbers: for number in 0..count {
@@ -89,7 +90,7 @@ pub(crate) fn swap_numbers(numbers: &mut [u32], one: usize, other: usize) {
     }
 }
 
-/// The key of a record's owner, which begins at `start`.
+/// The key of a record's owner; it begins at `start`.
 #[tactic(auto, using(crate::proofs::Common::wire_some))]
 pub(crate) fn key_at<'a>(keys: &'a [u8], start: u32, of: &Entry) -> &'a [u8]
     ensures value { result.now ≡ key_in keys.now start of.now.owner }

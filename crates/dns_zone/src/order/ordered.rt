@@ -1,4 +1,4 @@
-//! Records in canonical order, each once.
+//! Records in canonical order, without duplicates.
 ghost use Rattle.std.specs.Prelude.{List, ◌≡◌, ◌≤◌, All, length, take, true, IfOk, IfSome, IsSome};
 ghost use Rattle.std.specs.Bool.{OnTrue, OnFalse};
 ghost use Rattle.std.specs.List.Sorted.{IsPermutation, IsSorted};
@@ -19,8 +19,9 @@ use dns_name::NameRef;
 use std::alloc::{AllocError, Global};
 use std::cmp::Ordering;
 
-/// The records, each once, in canonical order (RFC 4034 6.1, 6.3, RFC 2181 5), with the keys of
-/// their owners. They mostly are once they are arranged, which one walk sees.
+/// Sorts records into canonical order without duplicates (RFC 4034 6.1, 6.3, RFC 2181 5), and
+/// returns them with the keys of their owners. Arranging them is mostly enough; one walk checks
+/// that.
 #[tactic(auto, using(crate::proofs::Common::wire_some))]
 pub(crate) fn ordered(
     alloc: Global,
@@ -56,8 +57,8 @@ pub(crate) fn ordered(
     Ok((records, keyed))
 }
 
-// Leaves out each record that is equal to the one before. None is where one comes after the next,
-// which the answer says.
+// Removes each record that is equal to the one before it. False, with nothing removed, if some
+// record comes after the next one in canonical order.
 fn leave_out_duplicates(records: &mut Vec<Entry>, keyed: &mut Keyed) -> bool
     requires { AreKeyed keyed.old.keys.items records.old.items keyed.old.starts.items }
     ensures sorted { IsSorted record_order records.old.items → result ≡ true }
@@ -84,8 +85,8 @@ fn leave_out_duplicates(records: &mut Vec<Entry>, keyed: &mut Keyed) -> bool
     true
 }
 
-// Moves each record that is not equal to the one before to the front, and says how many these are.
-// None where one comes after the next.
+// Moves each record that differs from the one before it to the front, and returns their number.
+// `None` if some record comes after the next one in canonical order.
 fn once_in_front(
     keys: &[u8],
     records: &mut [Entry],
@@ -128,8 +129,8 @@ fn order(keys: &[u8], one: &Entry, start: u32, next: &Entry, after: u32) -> Orde
     owner_order(keys, one, start, next, after).then_with(|| own_order(one, next))
 }
 
-// The order of the owners of two records, by their keys: mostly they share one. A file of many
-// records of deep names takes a twelfth less.
+// Compares the owners of two records by their keys. Checking first for a shared key saves a
+// twelfth of the time on a file with many records of deep names.
 fn owner_order(keys: &[u8], one: &Entry, start: u32, next: &Entry, after: u32) -> Ordering
     requires one { key_in keys.now start one.now.owner ≡ name_key one.now.owner }
     requires next { key_in keys.now after next.now.owner ≡ name_key next.now.owner }

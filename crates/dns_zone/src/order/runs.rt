@@ -1,31 +1,32 @@
 //! Runs of records, sorted by their owners or by their data.
 //!
-//! A sort compares whole names, which takes time. Here runs are compared by a few octets that are
-//! kept beside them. Of runs that these leave alike one is taken, and each is compared with it once:
-//! how many octets it begins with that the other has too, and which ones follow.
+//! A sort that compares whole names is slow. Here each run keeps a few octets beside it, its
+//! front, by which it is compared. Runs with equal fronts are each compared once with one of them,
+//! and their next fronts are: how many octets they share with it, and the octets that follow.
 ghost use Rattle.std.specs.Prelude.{◌≡◌, ◌<◌, ◌≤◌, length};
 
 use crate::checks::guess::rests;
 use crate::order::keyed::key_at;
 use crate::store::entry::Entry;
 
-// How many octets are kept beside a run.
+// The number of octets of a key or of data in a front.
 const FRONT_OCTETS: usize = 12;
 
-// Ends a front if more octets follow.
+// The last octet of a front that more octets follow.
 const MORE: usize = 13;
 
-// Ends a front that is a TTL.
+// The last octet of a front that is a TTL.
 const LAST: u128 = 255;
 
-// One more than the octets that two parts may share. Their number is the place of a part that comes
-// before the other; that of one after it is twice this less that number.
+// One more than the most octets that two parts can share. The place of a part that comes before
+// the other is the number of shared octets; the place of one after it is twice `MOST_SHARED` minus
+// that number.
 const MOST_SHARED: usize = 65_536;
 
-// Runs are sorted so many times by what follows: data of 65,535 octets have no more fronts.
+// How many times fronts are renewed: data of 65,535 octets has no more of them.
 const MOST_FRONTS: usize = 5_500;
 
-/// Records that stand side by side, from one place up to another, and what they are compared by.
+/// Adjacent records, the ones from `at` up to `end`, and the front by which they are compared.
 #[derive(Drop)]
 pub(crate) struct Run {
     front: u128,
@@ -34,8 +35,8 @@ pub(crate) struct Run {
 }
 
 impl Run {
-    /// The records of an owner from one place up to another. Its key is compared with that of the
-    /// origin.
+    /// The records of one owner, from `at` up to `end`. The owner's key is compared with the
+    /// origin's.
     pub(crate) fn of_owner(origin: &[u8], key: &[u8], at: u32, end: u32) -> Run {
         let front = match key.strip_prefix(origin) {
             Some(inside) => front_of((2 * MOST_SHARED).saturating_sub(origin.len()), inside),
@@ -44,7 +45,7 @@ impl Run {
         Run { front, at, end }
     }
 
-    /// One of the records of an owner.
+    /// A single record of an owner.
     pub(crate) fn of_data(record: &Entry, at: u32) -> Run {
         let front = front_of(2 * MOST_SHARED + record.rtype.0 as usize, record.rdata());
         Run {
@@ -55,12 +56,13 @@ impl Run {
     }
 }
 
-/// What runs of records are sorted by.
+/// The order in which runs are sorted.
 #[derive(Drop)]
 pub(crate) enum Sorted<'a> {
-    /// By the keys of their owners, which are among these octets and begin at these places.
+    /// By the keys of their owners: all keys, the records, and the place at which each record's
+    /// key begins.
     ByOwner(&'a [u8], &'a [Entry], &'a [u32]),
-    /// By their data and then by their TTLs, each in a run of its own.
+    /// By their data, then their TTLs. Each run is one record.
     ByData(&'a [Entry]),
 }
 
@@ -70,12 +72,12 @@ impl<'a> Sorted<'a> {
         self.sort_further(runs, MOST_FRONTS);
     }
 
-    /// Whether two runs, which are sorted, are alike.
+    /// Whether two runs of a sorted list are equal.
     pub(crate) fn are_alike(&self, one: &Run, other: &Run) -> bool {
         one.front == other.front && self.part(one) == self.part(other)
     }
 
-    // Sorts runs by their fronts, and those whose fronts are alike by what follows.
+    // Sorts runs by their fronts, and runs with equal fronts by what follows.
     fn sort_further(&self, runs: &mut [Run], times: usize)
         ensures { length runs.new ≡ length runs.old }
     {
@@ -93,7 +95,7 @@ impl<'a> Sorted<'a> {
         }
     }
 
-    // Puts what follows into the fronts of runs that are alike so far. Whether anything does.
+    // Renews the fronts of runs that are equal so far. False if nothing is left to compare.
     fn put_fronts(&self, runs: &mut [Run]) -> bool
         ensures { length runs.new ≡ length runs.old }
     {
@@ -118,7 +120,7 @@ impl<'a> Sorted<'a> {
         end != LAST
     }
 
-    // What runs are compared by, but for types and TTLs.
+    // The octets by which a run is compared, apart from types and TTLs.
     fn part(&self, run: &Run) -> &'a [u8] {
         let at = run.at as usize;
         match self {
@@ -134,7 +136,7 @@ impl<'a> Sorted<'a> {
     }
 }
 
-// How many of the first runs have the front of the first one.
+// The number of runs at the beginning that have the same front as the first.
 fn count_of_front(runs: &[Run]) -> usize
     ensures some { 0 < length runs.now → 0 < result }
     ensures bound { result ≤ length runs.now }
@@ -146,15 +148,15 @@ fn count_of_front(runs: &[Run]) -> usize
     1 + alike.count()
 }
 
-// How many octets parts with this front share.
+// The number of octets that parts with this front share.
 fn known_octets(front: u128) -> usize {
     let place = (front >> 104) as usize;
     place.min((2 * MOST_SHARED).saturating_sub(place)) + FRONT_OCTETS
 }
 
-// What a part is compared by, beside another one with which it shares so many octets as are known:
-// those that come before that one are in the order of how many they share, those after it the other
-// way round.
+// The front of a part, compared with another part with which it is known to share `known` octets.
+// Parts before the other sort by how many octets they share with it, parts after it in the reverse
+// order.
 fn front_beside(other: &[u8], part: &[u8], known: usize) -> u128 {
     let (rest, others) = rests(part, other, known);
     let shared = (part.len() - rest.len()).min(MOST_SHARED - 1);
@@ -169,7 +171,7 @@ fn front_beside(other: &[u8], part: &[u8], known: usize) -> u128 {
     )
 }
 
-// A place and the octets after it as a number, whose last octet says how many these are.
+// A front: a place, the next octets of the part, and in the last octet how many these are.
 fn front_of(place: usize, rest: &[u8]) -> u128 {
     let count = rest.len().min(FRONT_OCTETS);
     let mut front = [0; 16];

@@ -1,4 +1,4 @@
-//! Records as a zone keeps them: in few octets.
+//! Records in the compact form in which a zone stores them.
 ghost use Rattle.std.specs.Prelude.{◌≡◌, IfOk};
 ghost use Rattle.dns_spec.specs.Names.{folded};
 ghost use Rattle.dns_spec.specs.Data.{Valid, lower_case};
@@ -10,15 +10,15 @@ use dns_rdata::RType;
 use std::alloc::{AllocError, Global};
 use std::marker::Model;
 
-/// A record: 32 octets, and one piece of memory that has its owner and its data.
+/// A record: 32 octets, and one allocation for its owner and its data.
 #[derive(Drop)]
 pub(crate) struct Entry {
-    // The owner's wire form, and the data after it.
+    // The owner in wire form, followed by the data.
     octets: Vec<u8>,
     owner_octets: u8,
     /// Its type.
     pub(crate) rtype: RType,
-    /// How many seconds it may be kept.
+    /// Its TTL in seconds.
     pub(crate) ttl: u32,
 }
 
@@ -39,7 +39,7 @@ impl Model for Entry {
 }
 
 impl Entry {
-    /// The same record as it was read. Memory is taken once, for its octets.
+    /// A copy of a record. Memory is allocated once, for its octets.
     pub(crate) fn of(alloc: Global, read: &Record) -> Result<Entry, AllocError>
         ensures { IfOk result (λ entry. entry ≡ read.now) }
     {
@@ -61,13 +61,13 @@ impl Entry {
         ensures lower { folded result ≡ result }
         ensures read { IsReadRecord self.now }
     {
-        // That its number is below 2 ^ 16 is known where it is read.
+        // Reading the field gives the proof that its number is below 2 ^ 16.
         let _type = self.rtype.0;
         let count = self.owner_octets as usize;
         NameRef::new(self.octets.as_slice().split_at(count).0)
     }
 
-    /// How many octets its owner and its data have together.
+    /// The total length in octets of its owner and its data.
     pub(crate) fn octet_count(&self) -> usize {
         self.octets.len()
     }

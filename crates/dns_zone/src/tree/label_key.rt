@@ -1,4 +1,4 @@
-//! Keys of labels: their first octets as one number, by which most labels are told apart.
+//! Keys of labels: their first octets as numbers, which tell most labels apart.
 ghost use Rattle.std.specs.Prelude.{◌≡◌, ◌≤◌, map, length};
 ghost use Rattle.std.specs.Char.{to_ascii_lowercase};
 ghost use Rattle.dns_spec.specs.Names.{label_order};
@@ -9,15 +9,14 @@ use crate::tree::lower_case::lower_case;
 use dns_name::{NameRef, are_equal};
 use std::cmp::Ordering;
 
-/// How many octets a key has.
+/// The number of octets in a key.
 pub(crate) const KEY_OCTETS: usize = 16;
 
-// How many octets each of its numbers has.
+// The number of octets in each of its numbers.
 const EIGHT: usize = 8;
 
-/// The first sixteen octets of a label in lower case, as two numbers, the first octets highest; an
-/// octet that it does not have is 0. Of two labels with different keys, the one with the lesser key
-/// comes first.
+/// The first sixteen octets of a label in lower case, as two big-endian numbers, padded with 0. Of
+/// two labels with different keys, the one with the lesser key comes first.
 #[derive(Clone, Copy, Drop)]
 pub(crate) struct LabelKey {
     pub(crate) front: u64,
@@ -41,7 +40,7 @@ fn eight_of(label: &[u8]) -> u64
     ensures { IsEight result (map to_ascii_lowercase label.now) }
 {
     let mut key = 0;
-    // What the next octet counts for.
+    // The place value of the next octet.
     let mut worth = 1 << 56;
     'octets: for i in 0..label.len().min(EIGHT) {
         key += u64::from(lower_case(label[i])) * worth;
@@ -50,7 +49,7 @@ fn eight_of(label: &[u8]) -> u64
     key
 }
 
-/// The octets of a name's first label. The root has none.
+/// The octets of a name's first label. For the root, none.
 pub(crate) fn first_octets<'a>(name: &NameRef<'a>) -> &'a [u8]
     ensures value { result.now ≡ first_of name.now }
     ensures bound { length result.now ≤ 63 }
@@ -61,7 +60,7 @@ pub(crate) fn first_octets<'a>(name: &NameRef<'a>) -> &'a [u8]
     }
 }
 
-/// The order of a label in lower case and of another, whose case is ignored.
+/// Compares a label in lower case with another one, ignoring the other's case.
 pub(crate) fn order_to(lower: &[u8], label: &[u8]) -> Ordering
     requires { map to_ascii_lowercase lower.now ≡ lower.now }
     ensures { result ≡ label_order lower.now (map to_ascii_lowercase label.now) }
@@ -85,7 +84,7 @@ pub(crate) fn order_to(lower: &[u8], label: &[u8]) -> Ordering
     }
 }
 
-// What follows the eights of octets that both begin with.
+// What follows the equal chunks of eight octets with which both begin.
 fn after_same<'a>(lower: &'a [u8], label: &'a [u8]) -> (&'a [u8], &'a [u8])
     requires { map to_ascii_lowercase lower.now ≡ lower.now }
     ensures { label_order result.0.now (map to_ascii_lowercase result.1.now)

@@ -11,13 +11,13 @@ use crate::tree::way::Way;
 use dns_rdata::RType;
 use std::alloc::{AllocError, Global};
 
-/// For each record the row of the last name on the way to its target; 0 if it has no target, if
-/// that is outside of the zone, or if the last name is the origin. The way of an alias ends before
-/// a cut. Memory is taken for 12 octets for each record.
+/// For each record, the row of the last existing name on the way to its target; 0 if it has no
+/// target, if the target is outside the zone, or if that name is the origin. The way of an alias
+/// ends before a cut. Takes 12 octets of memory for each record.
 ///
-/// Targets are visited in the order of the file. A file needs few octets for a target of many
-/// labels only if it ends as the one before does, so that each step is paid by a label that is
-/// written.
+/// Targets are visited in the order of the file. There, a target of many labels is short only if
+/// it shares its ending with the target before, so the steps of the walk are bounded by the labels
+/// that are written in the file.
 pub(crate) fn leads_of(alloc: Global, tree: &Tree) -> Result<Vec<usize>, AllocError>
     requires { IsZoneTree tree.now }
     ensures { IfOk result (λ leads. AreLeads tree.now.zone tree.now.rows leads.items) }
@@ -47,8 +47,8 @@ pub(crate) fn leads_of(alloc: Global, tree: &Tree) -> Result<Vec<usize>, AllocEr
     Ok(leads)
 }
 
-// The places of the records in the order of the file, or as they are if that is not known. The
-// number of a record that was there twice may have no place.
+// The places of the records in the order of the file, or in their own order if the file's is
+// unknown. The numbers of removed duplicates have no place.
 fn places_in_file(alloc: Global, numbers: &[u32], records: &[Entry]) -> Result<Vec<u32>, AllocError>
     requires { length records.now ≤ most_records }
 {

@@ -11,18 +11,18 @@ use crate::store::entry::Entry;
 use dns_name::NameRef;
 use dns_rdata::RType;
 
-// So many records are looked at one by one: most owners have no more.
+// How many records are searched one by one: most owners have no more.
 const FEW: usize = 4;
 
-/// How many of the records have owners at or below the name, where these stand in front.
+/// The number of records whose owners are at or below the name; these must come first.
 pub(crate) fn count_under(records: &[Entry], name: &NameRef<'_>) -> usize
     requires in_front { IsPartitionedBy
         (λ (r : ResourceRecord). at_or_below r.owner name.now) records.now }
     requires lower { folded name.now ≡ name.now }
     ensures { IsFront (λ (r : ResourceRecord). at_or_below r.owner name.now) records.now result }
 {
-    // Most names have no name below them. If one has, all of these records may be below it: that
-    // is so for each name with one child.
+    // Most names have no name below them. For a name with a single child, all of these records are
+    // often at or below it.
     let (Some(first), Some(last)) = (records.first(), records.last()) else {
         return 0;
     };
@@ -35,7 +35,7 @@ pub(crate) fn count_under(records: &[Entry], name: &NameRef<'_>) -> usize
     records.partition_point(|entry| is_under(entry, name))
 }
 
-/// How many records stand in front whose owner is the name. They are passed one by one.
+/// The number of records at the front whose owner is the name, counted one by one.
 pub(crate) fn count_in_front(records: &[Entry], name: &NameRef<'_>) -> usize
     requires { folded name.now ≡ name.now }
     ensures value { result ≡ prefix_len
@@ -48,7 +48,7 @@ pub(crate) fn count_in_front(records: &[Entry], name: &NameRef<'_>) -> usize
         .count()
 }
 
-/// Whether one of the records is of the type, where they stand by their types.
+/// Whether one of the records, which are ordered by type, is of the type.
 pub(crate) fn has_type(records: &[Entry], rtype: RType) -> bool
     requires { IsNonDecreasingBy (λ (r : ResourceRecord). r.rtype) records.now }
     ensures { result ≡ list_any (λ (r : ResourceRecord). r.rtype == rtype.0) records.now }
@@ -62,8 +62,8 @@ pub(crate) fn has_type(records: &[Entry], rtype: RType) -> bool
     }
 }
 
-/// The records of a type, where they stand by their types. Most names own records of one type
-/// alone, so that the first and the last one tell.
+/// The records of a type, from records ordered by type. Most names own records of one type only,
+/// so the first and the last record decide.
 pub(crate) fn of_type<'a>(records: &'a [Entry], rtype: RType) -> &'a [Entry]
     requires { IsNonDecreasingBy (λ (r : ResourceRecord). r.rtype) records.now }
     ensures { result.now ≡ filter (λ (r : ResourceRecord). r.rtype == rtype.0) records.now }
@@ -81,7 +81,7 @@ pub(crate) fn of_type<'a>(records: &'a [Entry], rtype: RType) -> &'a [Entry]
     &others[..others.partition_point(|entry| entry.rtype == rtype)]
 }
 
-// How many of the records are of a type below this one.
+// The number of records with a lower type.
 fn count_below(records: &[Entry], rtype: RType) -> usize
     requires { IsNonDecreasingBy (λ (r : ResourceRecord). r.rtype) records.now }
     ensures bound { result ≤ length records.now }

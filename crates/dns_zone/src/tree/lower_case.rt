@@ -23,8 +23,7 @@ static LOWER_CASE: [u8; 256] = [
     240, 241, 242, 243, 244, 245, 246, 247, 248, 249, 250, 251, 252, 253, 254, 255,
 ];
 
-/// The octet in lower case. It is read from a table, in one instruction where a test of the range
-/// takes five.
+/// The octet in lower case. The table takes one instruction, a range test five.
 pub(crate) fn lower_case(octet: u8) -> u8
     ensures { result ≡ to_ascii_lowercase octet }
 {

@@ -23,7 +23,7 @@ use std::marker::Model;
 
 /// A name that exists in a zone: it, or a name below it, owns a record (RFC 4592 2.2).
 ///
-/// It is lent out of the zone, as are its sets. A node is had from a walk alone, which counts it.
+/// It borrows from the zone, as do its sets. Nodes come only from a walk, which counts them.
 #[derive(Drop)]
 pub struct Node<'z> {
     tree: &'z Tree,
@@ -42,7 +42,7 @@ impl<'z> Model for Node<'z> {
     ghost invariant = { λ n. IsNodeAt n.tree.now n.row.0 };
 }
 
-/// A node that is not handed out yet: its name alone is known.
+/// A node that has not been visited: only its name is readable.
 #[derive(Drop)]
 pub struct Lead<'z> {
     node: Node<'z>,
@@ -57,15 +57,15 @@ impl<'z> Model for Lead<'z> {
 }
 
 impl<'z> Lead<'z> {
-    /// The node's name, in lower case, lent out of the zone.
+    /// The node's name, in lower case, borrowed from the zone.
     pub fn name(&self) -> NameRef<'z>
         ensures { result ≡ self.now.name }
     {
         self.node.name()
     }
 
-    /// Hands out the node, which is counted. Conditions: the steps are over the node's zone, and
-    /// `visits` is below 4,294,967,295.
+    /// Visits the node; the visit is counted. Preconditions: the steps are over the node's zone,
+    /// and `visits` is below 4,294,967,295.
     pub fn node(self, steps: &mut Steps<'z>) -> Node<'z>
         requires zone { steps.old.zone ≡ self.zone }
         requires visits { steps.old.visits < 4294967295 }
@@ -86,13 +86,13 @@ impl<'z> Node<'z> {
         Node { tree, row }
     }
 
-    /// The child of this label, if that name exists. Labels are compared without regard to the case
-    /// of ASCII letters (RFC 1035 2.3.3). The node handed out is counted, and each comparison of
-    /// labels.
+    /// Visits the child with this label, if that name exists. Labels are compared without regard
+    /// to the case of ASCII letters (RFC 1035 2.3.3). The visit and each comparison of labels are
+    /// counted.
     ///
-    /// A node has at most 100,000 children, so that 17 comparisons find a label among theirs.
-    /// Conditions: the steps are over the node's zone, `visits` is below 4,294,967,295, and
-    /// `comparisons` at most 4,294,967,278.
+    /// A node has at most 100,000 children, so 17 comparisons find a label. Preconditions: the
+    /// steps are over the node's zone, `visits` is below 4,294,967,295, and `comparisons` is at
+    /// most 4,294,967,278.
     pub fn down(&self, label: Label<'_>, steps: &mut Steps<'z>) -> Option<Node<'z>>
         requires zone { steps.old.zone ≡ self.now.zone }
         requires visits { steps.old.visits < 4294967295 }
@@ -119,7 +119,7 @@ impl<'z> Node<'z> {
         })
     }
 
-    /// The node's name, in lower case, lent out of the zone.
+    /// The node's name, in lower case, borrowed from the zone.
     pub fn name(&self) -> NameRef<'z>
         ensures { result ≡ self.now.name }
     {
@@ -127,9 +127,9 @@ impl<'z> Node<'z> {
         NameRef::new(octets_of(self.tree.zone.records(), row))
     }
 
-    /// A node at which the way to the target of a record may begin, of the record of the type at
-    /// `i`, the first at 0. `None` where none is kept: the way begins at the apex. It is not handed
-    /// out before it is asked for.
+    /// A node at which the way to a target may begin: to the target of record `i`, counted from 0,
+    /// of the type. `None` if none is stored; then the way begins at the apex. The node is not
+    /// visited yet.
     pub fn lead(&self, rtype: RType, i: usize) -> Option<Lead<'z>>
         ensures { IfSome result (λ v. (v.zone ≡ self.now.zone)
             × IsLead self.now.zone rtype.0 v.name) }
@@ -140,8 +140,8 @@ impl<'z> Node<'z> {
         lead_at(self.tree, place, rtype)
     }
 
-    /// The records of a type at the name, by their data octets; `None` where there are none
-    /// (RFC 2181 5).
+    /// The records of a type at the name, ordered by data octets; `None` if there are none (RFC
+    /// 2181 5).
     pub fn set(&self, rtype: RType) -> Option<RecordSet<'z>>
         ensures set { result ≡ set_of (rrset self.now.zone self.now.name rtype.0) }
         ensures rtype { IfSome result (λ s. s.rtype ≡ rtype.0) }
@@ -150,7 +150,7 @@ impl<'z> Node<'z> {
         lent_set(of_type(self.own(), rtype))
     }
 
-    /// The node's name in lower case, lent out of the zone, where it owns a record.
+    /// The node's name in lower case, borrowed from the zone; `None` if it owns no record.
     pub fn owner(&self) -> Option<NameRef<'z>>
         ensures name { MatchOption result (at self.now.zone self.now.name ≡ [])
             (λ n. n ≡ self.now.name) }
@@ -160,7 +160,7 @@ impl<'z> Node<'z> {
         Some(first.owner())
     }
 
-    /// The records of the lowest type at the name; `None` where it owns none.
+    /// The records of the lowest type at the name; `None` if it owns no record.
     #[tactic(auto, using(crate::proofs::Common::first_rest, crate::proofs::NodeSets::lowest))]
     pub fn first_set(&self) -> Option<RecordSet<'z>>
         ensures set { result ≡ set_of (of_lowest_type (at self.now.zone self.now.name)) }
@@ -181,7 +181,7 @@ impl<'z> Node<'z> {
     }
 }
 
-// The lead of the record at a place, where one is kept and the record is of the type.
+// The lead of the record at a place, if one is stored and the record is of the type.
 fn lead_at<'z>(tree: &'z Tree, place: usize, rtype: RType) -> Option<Lead<'z>>
     requires { IsZoneTree tree.now }
     ensures { IfSome result (λ v. (v.zone ≡ tree.now.zone)
@@ -200,7 +200,7 @@ fn lead_at<'z>(tree: &'z Tree, place: usize, rtype: RType) -> Option<Lead<'z>>
     })
 }
 
-// The row of the child of this label, if that name exists. Each comparison of labels is counted.
+// The row of the child with this label, if that name exists. Each comparison of labels is counted.
 pub(crate) fn kid_of(
     tree: &Tree,
     row: RowNumber,

@@ -9,30 +9,32 @@ use crate::tree::label_key::{LabelKey, first_octets};
 use crate::tree::lookup::{count_in_front, count_under};
 use dns_name::NameRef;
 
-/// Which row of its tree a node is. That of the origin is 0.
+/// The number of a node's row in its tree. The origin's is 0.
 #[derive(Clone, Copy, Default)]
 pub(crate) struct RowNumber(pub(crate) usize);
 
-/// A name of a zone: which of the zone's records, in canonical order, are at or below it, and which
-/// of these its own.
+/// A name of a zone: which of the zone's records, in canonical order, are at or below it, and
+/// which are its own.
 #[derive(Drop)]
 pub(crate) struct Row {
     /// The first record at or below the name.
     pub(crate) first: u32,
-    /// The record after the name's own, which stand first.
+    /// The end of the name's own records, which come first.
     pub(crate) own_end: u32,
-    /// The record after those at or below the name.
+    /// The end of the records at or below the name.
     pub(crate) end: u32,
-    /// Where the name begins in the wire form of the first record's owner, which ends in it.
+    /// Where the name begins in the wire form of the first record's owner, of which it is a
+    /// suffix.
     pub(crate) place: u8,
-    /// How many octets the name's first label has.
+    /// The length of the name's first label.
     pub(crate) label_octets: u8,
     /// The key of the name's first label.
     pub(crate) key: LabelKey,
 }
 
 impl Row {
-    /// The row of a name: the record at `first` is at or below it, none before, none from `end` on.
+    /// The row of a name. The record at `first` is at or below it; no earlier record is, and none
+    /// from `end` on.
     pub(crate) fn of(records: &[Entry], name: &NameRef<'_>, first: usize, end: usize) -> Row
         requires canonical { IsCanonical records.now }
         requires lower { folded name.now ≡ name.now }
@@ -46,7 +48,7 @@ impl Row {
     {
         let others = &records[first..end];
         let own = count_in_front(others, name);
-        // The first record is at or below the name.
+        // The first record is at or below the name, even if it is not the name's own.
         let known = own.max(1);
         let (_, after) = others.split_at(known);
         let label = first_octets(name);

@@ -1,4 +1,4 @@
-//! A label, found among those of children by binary search.
+//! Finds a label among the labels of children by binary search.
 ghost use Rattle.std.specs.Prelude.{◌≡◌, ◌+◌, ◌<◌, ◌≤◌, map, length, IfSome, IsNone};
 ghost use Rattle.std.specs.Char.{to_ascii_lowercase};
 ghost use Rattle.dns_spec.specs.Names.{label_order};
@@ -17,8 +17,8 @@ use crate::tree::steps::Steps;
 use dns_name::NameRef;
 use std::cmp::Ordering;
 
-/// Which of the children has the label, in lower case, if one has it. Each comparison is counted:
-/// they are at most 17, since 100,000 children are fewer than 2 ^ 17.
+/// The index of the child with this label, whatever its case, if there is one. Each comparison is
+/// counted; there are at most 17, since 100,000 children are fewer than 2 ^ 17.
 pub(crate) fn find(
     records: &[Entry],
     kids: &[Row],
@@ -54,9 +54,9 @@ pub(crate) fn find(
     None
 }
 
-// The order of a row's label and of another, whose key this is: one comparison, which is counted.
-// Mostly their keys differ. Where these are the same, a label that has no octets beyond its key
-// begins the other.
+// Compares a row's label with another label, whose key is `key`. This counts as one comparison.
+// Mostly the keys differ. If they are equal and one label has no octets beyond its key, it is a
+// prefix of the other.
 fn order(
     records: &[Entry],
     row: &Row,

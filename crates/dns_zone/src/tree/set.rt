@@ -1,4 +1,4 @@
-//! The record sets of a node, lent out of the zone.
+//! The RRsets of a node, borrowed from the zone.
 ghost use Rattle.std.specs.Prelude.{◌≡◌, ◌<◌, [], length, get_or, IfSome};
 ghost use Rattle.dns_spec.specs.Names.{folded};
 ghost use Rattle.dns_spec.specs.Data.{target};
@@ -11,8 +11,8 @@ use dns_name::NameRef;
 use dns_rdata::{RType, SetView};
 use std::marker::Model;
 
-/// The records of one type at a name of a zone, by their data octets, a beginning first
-/// (RFC 2181 5).
+/// The records of one type at a name of a zone (RFC 2181 5), ordered by data octets; data that is
+/// a prefix of other data comes first.
 #[derive(Drop)]
 pub struct RecordSet<'z> {
     rtype: RType,
@@ -32,9 +32,9 @@ impl<'z> Model for RecordSet<'z> {
 }
 
 impl<'z> RecordSet<'z> {
-    /// The first name in the data of the record at `i`, the first at 0, lent out of the zone: of NS
-    /// the server, of CNAME the alias's target, of MX the exchange (RFC 1035 3.3.1, 3.3.9, 3.3.11).
-    /// It is in lower case. Condition: `i` is below `len`.
+    /// The first name in the data of record `i`, counted from 0: the server of NS, the target of
+    /// CNAME, the exchange of MX (RFC 1035 3.3.1, 3.3.9, 3.3.11). It is in lower case, and
+    /// borrowed from the zone. Precondition: `i` is below `len`.
     pub fn target(&self, i: usize) -> Option<NameRef<'z>>
         requires { i < length self.now.rdata }
         ensures value { result ≡ target self.now.rtype (get_or self.now.rdata i []) }
@@ -45,7 +45,7 @@ impl<'z> RecordSet<'z> {
     }
 }
 
-// The set that records of one type and one TTL make; no records make none.
+// The set of records of one type and one TTL; `None` if there are no records.
 pub(crate) fn lent_set<'z>(records: &'z [Entry]) -> Option<RecordSet<'z>>
     requires { AreOfType records.now }
     ensures { result ≡ set_of records.now }

@@ -1,11 +1,11 @@
-//! Names that are sought, each from a name above it.
+//! Names to be looked up from a name above them.
 ghost use Rattle.std.specs.Prelude.{◌≡◌, false, MatchOption};
 ghost use Rattle.dns_spec.specs.Names.{at_or_below};
 ghost use Rattle.dns_zone.specs.Starts.{IsBelow};
 
 use dns_name::{NameRef, first_label};
 
-/// A name, and how many labels it has below the one from which it is sought.
+/// A name to look up, and how many labels it has below the name from which the lookup begins.
 #[derive(Drop)]
 pub struct Sought<'n> {
     pub name: NameRef<'n>,
@@ -13,7 +13,7 @@ pub struct Sought<'n> {
 }
 
 impl Default for Sought<'_> {
-    /// The root, from itself.
+    /// The root, looked up from itself.
     fn default() -> Self {
         Sought {
             name: NameRef::new(&[0]),
@@ -23,7 +23,8 @@ impl Default for Sought<'_> {
 }
 
 impl<'n> Sought<'n> {
-    /// A name that is sought from another one; `None` where it is not at or below it.
+    /// A name to be looked up from an ancestor or from itself; `None` if it is not at or below
+    /// that.
     pub fn below(name: &NameRef<'n>, ancestor: &NameRef<'_>) -> Option<Sought<'n>>
         ensures { MatchOption result (at_or_below name.now ancestor.now ≡ false)
             (λ sought. (sought.name ≡ name.now) × IsBelow sought ancestor.now) }

@@ -1,4 +1,4 @@
-//! A walk over the names of a zone, and the counts of what it took.
+//! A walk over the names of a zone, which counts its steps.
 ghost use Rattle.std.specs.Prelude.{◌≡◌, ◌+◌, ◌<◌};
 ghost use Rattle.dns_spec.specs.Names.{folded};
 ghost use Rattle.dns_zone.specs.Nodes.{IsNode};
@@ -12,10 +12,10 @@ use crate::zone::Zone;
 use dns_name::Name;
 use std::marker::Model;
 
-/// A walk over one zone: how many nodes it was handed, and how many labels were compared for it.
+/// A walk over one zone: how many nodes it visited, and how many labels it compared.
 ///
-/// A node is handed out by a walk alone, which counts it. A walk is not copied, and neither the
-/// zone nor another walk is had from it: who is lent one is counted.
+/// A node comes only from a walk, which counts it. A walk cannot be copied, and neither the zone
+/// nor another walk can be obtained from it, so code that is given one has all its steps counted.
 #[derive(Drop)]
 pub struct Steps<'z> {
     tree: &'z Tree,
@@ -46,7 +46,7 @@ impl<'z> Steps<'z> {
         Steps::over(&zone.tree)
     }
 
-    // The same over the tree of a zone that is being made.
+    // The same for the tree of a zone that is being made.
     pub(crate) fn over(tree: &'z Tree) -> Steps<'z>
         requires { IsZoneTree tree.now }
         ensures { result ≡ record { zone = tree.now.zone; visits = 0; comparisons = 0 } }
@@ -58,7 +58,7 @@ impl<'z> Steps<'z> {
         }
     }
 
-    /// How many nodes were handed out.
+    /// How many nodes were visited.
     pub fn visits(&self) -> u32
         ensures { result ≡ self.now.visits }
     {
@@ -66,7 +66,7 @@ impl<'z> Steps<'z> {
         *visits
     }
 
-    /// How many times the label asked was compared with that of a child.
+    /// How many times a label was compared with a child's label.
     pub fn comparisons(&self) -> u32
         ensures { result ≡ self.now.comparisons }
     {
@@ -74,7 +74,7 @@ impl<'z> Steps<'z> {
         *comparisons
     }
 
-    /// The name at and below which the zone speaks, in lower case.
+    /// The origin of the zone, in lower case.
     pub fn origin(&self) -> &'z Name
         ensures value { result.now ≡ self.now.zone.origin }
         ensures lower { folded self.now.zone.origin ≡ self.now.zone.origin }
@@ -83,9 +83,9 @@ impl<'z> Steps<'z> {
         self.tree.zone.origin()
     }
 
-    /// The node of the origin. It is counted.
+    /// Visits the node of the origin; the visit is counted.
     ///
-    /// Condition: `visits` is below 4,294,967,295.
+    /// Precondition: `visits` is below 4,294,967,295.
     pub fn apex(&mut self) -> Node<'z>
         requires { self.old.visits < 4294967295 }
         ensures node { result ≡ record { zone = self.old.zone; name = self.old.zone.origin } }

@@ -15,22 +15,22 @@ use dns_name::{Label, NameRef, first_label};
 use dns_rdata::RType;
 use std::marker::Model;
 
-// A name below the origin that exists: its row, and how many octets it has on the wire.
+// A name below the origin that exists: its row, and its length on the wire.
 #[derive(Clone, Copy, Default)]
 struct Step {
     row: RowNumber,
     octets: usize,
 }
 
-/// The names that exist on the way from the origin to the last target, one after the other. The way
-/// of an alias ends before a cut. The names that the next target ends with too stay.
+/// The existing names on the way from the origin to the last target, from the top down. The way of
+/// an alias ends before a cut. Names that the next target shares are kept.
 #[derive(Drop)]
 pub(crate) struct Way<'z> {
     tree: &'z Tree,
     is_of_alias: bool,
     target: NameRef<'z>,
     names: ArrayVec<Step, MOST_LABELS>,
-    // How many octets the first name on the way has that does not exist; 0 if that is not known.
+    // The length of the first missing name on the way; 0 if it is unknown.
     missing: usize,
 }
 
@@ -60,8 +60,8 @@ impl<'z> Way<'z> {
         }
     }
 
-    /// The row of the last name that exists on the way to a target; 0 if that is the origin, or if
-    /// the target is outside of the zone.
+    /// The row of the last existing name on the way to a target; 0 if that is the origin, or if
+    /// the target is outside the zone.
     pub(crate) fn lead_to(&mut self, target: &NameRef<'z>) -> usize
         ensures same { self.new ≡ self.old }
         ensures lead { (rtype : ℕ) → (rtype ≡ type_cname → self.old.is_of_alias ≡ true)
@@ -75,7 +75,7 @@ impl<'z> Way<'z> {
         self.last().0
     }
 
-    // Leaves the names that the target does not end with, and goes on to the last that exists.
+    // Drops the names that the target does not share, and goes on to the last one that exists.
     fn turn_to(&mut self, target: &NameRef<'z>)
         ensures { self.new ≡ self.old }
     {
@@ -91,8 +91,8 @@ impl<'z> Way<'z> {
         self.target = NameRef::new(octets);
     }
 
-    // Goes to the last name that exists on the way to this one, and says if it is this one. As many
-    // octets as are `alike` end the target and the last target.
+    // Goes to the last existing name on the way to `name`, and returns whether that is `name`. The
+    // last `alike` octets of the target and of the last target are equal.
     fn go_to(&mut self, name: &[u8], alike: usize) -> bool
         requires { IsWireForm name.now }
         ensures { self.new ≡ self.old }
@@ -113,7 +113,7 @@ impl<'z> Way<'z> {
         self.tree.zone.origin().octets() == name
     }
 
-    // Leaves the names that have more octets.
+    // Drops the names of more than `most` octets.
     fn turn_back(&mut self, most: usize)
         ensures { self.new ≡ self.old }
     {
@@ -134,8 +134,8 @@ impl<'z> Way<'z> {
         }
     }
 
-    // Goes down to the child of this label, a name of so many octets, if it exists and the way does
-    // not end there.
+    // Goes down to the child with this label, whose name has `octets` octets, if it exists and the
+    // way does not end before it.
     fn go_down(&mut self, label: &Label<'_>, octets: usize) -> bool
         ensures { self.new ≡ self.old }
     {
