@@ -1,4 +1,4 @@
--- What passes in a part of a list, where nothing passes past the part.
+-- The elements of a part of a list that pass a test, if none after the part passes.
 use Rattle.dns_zone.proofs.Common.{Bool, DomainName, List, ResourceRecord, [], ap, append-nil, arith, at_or_below, drop, filter, filter-append, length, span, sym, take, take-append-le, true, under, ℕ, ◌++◌, ◌∙◌, ◌≡◌, ◌≤◌}
 use Rattle.dns_zone.proofs.AtName.{is_at}
 use Rattle.dns_zone.proofs.KidRows.{is_under}
@@ -20,7 +20,7 @@ module _ {X : Type 0} (p : X → Bool) (xs : List X) (a b : ℕ) (h : a ≤ b)
   widened k l q =
       ap (take k) (drop_span a b xs h) ∙ take-append-le k (span xs a b) (drop b xs) l ∙ q ∙ passing
 
--- where no record is at or below a name, none is at or below one that is
+-- if no record is at or below a name, none is at or below a name under it
 pub none_under : (m n : DomainName) (xs : List ResourceRecord) → at_or_below m n ≡ true
     → under n xs ≡ [] → under m xs ≡ []
 none_under m n xs h e = grind (arith, filter_within, is_under, under-trans)

@@ -1,10 +1,10 @@
--- What a zone that is built keeps, and the serial number of its SOA.
+-- The invariant of a built zone, and the serial number of its SOA.
 use Rattle.dns_zone.proofs.Common.{◌≡◌, ℕ, ◌≤◌, List, length, sym, ap, ◌∙◌, All, filter, arith, nil_from_length, DomainName, folded, same, ResourceRecord, ZoneContents, zone_of, records_equal, distinct, sort_by, record_order, first_serial, zone_serial, Fault, faults, most_records, IsReadRecord, is_soa, folded_folded, one_soa, ordered_faults, AreOrdered, IsBuilt}
 
 below : (a b c : ℕ) → a ≤ b → b ≤ c → a ≤ c
 below a b c h k = omega arith
 
--- the folded origin and the canonical records of those that were read, and the faults found in them
+-- the origin in lower case, the records in canonical order, and their faults
 module _ (o n : DomainName) (rs xs ys : List ResourceRecord) (fs : List Fault)
     (low : n ≡ folded o) (canonical : xs ≡ sort_by record_order (distinct records_equal rs))
     (lent : ys ≡ xs)

@@ -1,4 +1,4 @@
--- The names that are checked, as a list: what a search among them by keys finds.
+-- Searching the list of checked names by keys.
 use Rattle.dns_zone.proofs.Common.{◌≡◌, ℕ, ◌+◌, suc, ◌<◌, ◌≤◌, Bool, true, false, ◌&&◌, not, cond, ◌==◌, nat_lt, ◌⊎◌, inl, inr, List, get_or, zero, drop, length-take, [], ◌∷◌, map, length, take, refl, sym, ap, ap₂, ◌∙◌, subst, arith, filter, is_gt, nat_cmp, Ordering, Less, Equal, Greater, false≢true, true≢false, not-true, and_parts, false_from_ne_true, cases_lt, nat_list_cmp_total, tied_itself, upto, get_or-take, get_or_default, min-eq_left, slice_cmp, starts_with, IsPartitionedBy, ordering_reverse, Octets, DomainName, folded, same, at_or_below, name_order, ResourceRecord, ZoneContents, at, is_cut, at_or_below_cut, checked_names, octets_equal-decides, name_tie, name_order_total, one_lower, Lower, AllByRecursion, Among, Rises, each_at, each_filter, filter_each, filter_among, name_key, own_in, name_of, IsTopmost, is_covered, is_upto, IsLastAt, IsChecked, IsLastUpto, owners_once, IsFront, CheckedName, each_among}
 use Rattle.dns_zone.proofs.KeyOrder.{key_order}
 use Rattle.dns_zone.proofs.NameOrder.{same-is}
@@ -11,14 +11,14 @@ use Rattle.dns_spec.proofs.General.Pairs.{Pairs, pairs_of, parted}
 use Rattle.dns_spec.proofs.General.Fronts.{halves}
 use Rattle.dns_spec.proofs.General.Tests.{any_among}
 
--- names that rise, each with each after it
+-- if names rise, each is less than all after it
 pub rises_pairs : {X : Type 0} (f : X → DomainName) (xs : List X) → Rises name_order (map f xs)
     → Pairs (λ x y. name_order (f x) (f y) ≡ Less) xs
 rises_pairs f [] h = tt
 rises_pairs f (x ∷ xs) h =
     (map_each f (λ n. name_order (f x) n ≡ Less) xs h.0, rises_pairs f xs h.1)
 
--- those up to place i are the element there, or in order with it
+-- each element up to place i is the one there, or is related to it
 pub last_at : {X : Type 0} (R : X → X → Type 0) (xs : List X) (i : ℕ) (d : X) → Pairs R xs
     → i < length xs
     → AllByRecursion (λ x. (x ≡ get_or xs i d) ⊎ R x (get_or xs i d)) (take (suc i) xs)
@@ -44,7 +44,7 @@ itself_upto n = ap is_gt (tied_itself name_order_total n)
 pub equal_upto : (n m : DomainName) → n ≡ m → is_gt (name_order n m) ≡ false
 equal_upto n m e = subst (λ k. is_gt (name_order n k) ≡ false) e (itself_upto n)
 
--- two names, neither of which is after the other
+-- two names of which neither is after the other are equal
 pub between_both : (n m : DomainName) → Lower n → Lower m → is_gt (name_order n m) ≡ false
     → is_gt (name_order m n) ≡ false → n ≡ m
 between_both n m p q f g = grind (arith, true≢false, name_order_total, one_lower, name_tie)
@@ -94,7 +94,7 @@ module _ (z : ZoneContents) where
         (sym (ap is_gt (key_tells d q)) ∙ not-true _ r)))
         each pairs)
 
-    -- where so many are not after the name
+    -- k is the number of names that are not after the name
     module _ (k : ℕ) (front : IsFront (is_upto key) names k) where
       upto_each : AllByRecursion (λ c. is_gt (name_order (name c) m) ≡ false) (take k names)
       upto_each =
@@ -124,7 +124,7 @@ module _ (z : ZoneContents) where
           after Equal d e f = absurd (false≢true f)
           after Greater d e f = e
 
-      -- a name that is not after it is among the first of them
+      -- each name that is not after it is among the first k
       pub upto_among : (c : CheckedName) → Among c names → is_gt (name_order (name c) m) ≡ false
           → Among c (take k names)
       upto_among c a e = grind (arith, each_at, filter_among, key_tells)
@@ -152,12 +152,12 @@ module _ (z : ZoneContents) where
             (each_get (λ d. is_gt (name_order (name d) m) ≡ false) (take k names) i c upto_each
             (omega (arith, size, next)))
 
-        -- the others of them come before it
+        -- the others of these come before it
         pub upto_last : (d : CheckedName) → Among d names → is_gt (name_order (name d) m) ≡ false
             → is_gt (name_order (name d) (name c)) ≡ false
         upto_last d a e = grind (arith, each_at, in_order, upto_among, equal_upto)
 
-      -- where they are all that are checked
+      -- if these are all checked names
       module _ (all : map (name_of z) names ≡ checked_names z) where
         pub upto_some : Lower z.origin → at_or_below m z.origin ≡ true → 0 < k
         upto_some low_origin under = go (cases_lt 0 k)
@@ -190,7 +190,8 @@ module _ (z : ZoneContents) where
             found_last i next (get_or names i d)
             (get_or_default names i d (get_or names i d) (omega (arith, bound, next)))
 
-  -- what the last name that is not after one tells of that one
+  -- the last name that is not after a name decides which records that name has and whether it is
+  -- at or below a cut
   module _ (m : DomainName) (low : Lower m) where
     at_cuts : (c : DomainName) → Lower c → is_cut z c ≡ true → Among c (checked_names z)
     at_cuts c d is = among_checked z c (inr (cut_among c d is))
@@ -202,7 +203,7 @@ module _ (z : ZoneContents) where
         → at_or_below_cut z m ≡ false
     none_cut b e t = grind (arith, at_cut, IsTopmost, name_key)
 
-    -- the name itself is the last of those
+    -- the name itself, if it is in the list, is the last one
     pub found_itself : (c : CheckedName) → IsChecked z (name c) c → c.key.now ≡ name_key m
         → IsLastUpto z m c
     found_itself c h e =
@@ -256,7 +257,7 @@ module _ (z : ZoneContents) where
       pub found_at : last ≡ m → own_in z.records c ≡ at z m
       found_at e = h.checked.owner.own_is ∙ ap (at z) e
 
--- what is found for a target
+-- the results of looking up a target
 pub ruleset found_steps = (
   octets_equal-decides,
   found_name,

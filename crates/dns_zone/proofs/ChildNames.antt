@@ -4,7 +4,7 @@ use Rattle.dns_zone.proofs.NameOrder.{same-is}
 use Rattle.dns_zone.proofs.NameTree.{Under, under-is, under-from, under-trans, below-cons}
 use Rattle.dns_spec.proofs.General.Orderings.{first_part}
 
--- a name m one label below n, which an owner is at or below
+-- m is one label below n, and an owner is at or below m
 pub record IsChildOf (n owner m : DomainName) : Type 0 where
   pub label : Octets
   pub labels : m ≡ label ∷ n
@@ -14,7 +14,7 @@ pub record IsChildOf (n owner m : DomainName) : Type 0 where
 pub cons_under : (l : Octets) (m : DomainName) → at_or_below (l ∷ m) m ≡ true
 cons_under l m = under-from (l ∷ m) m (map to_ascii_lowercase l ∷ [], refl)
 
--- a name at or below another, and not the same, is below it
+-- a name at or below another and different from it is below it
 below_unless_same : (m n : DomainName) → at_or_below m n ≡ true → (same m n ≡ true → ⊥)
     → below m n ≡ true
 below_unless_same m n h other = grind (arith, and_from, cases_lt, and_parts, lt-ltb)
@@ -23,7 +23,7 @@ longer_below : (m n : DomainName) → at_or_below m n ≡ true → length (wire 
     → below m n ≡ true
 longer_below m n h l = grind (arith, below_unless_same, same-length-wire)
 
--- the shortest end of an owner that has more octets than a name which the owner is below
+-- the shortest suffix of an owner that is longer than a name above it
 pub child_end : (n owner : DomainName) → below owner n ≡ true → folded owner ≡ owner
     → folded n ≡ n → IsChildOf n owner (ending (length (wire n) + 1) owner)
 child_end n [] b low lower = grind arith
@@ -56,12 +56,12 @@ child_end n (l ∷ o) b low lower =
           above = under-trans (l ∷ o) o _ (cons_under l o) h.above;
         }
 
--- an owner has one name of each length above it
+-- at each length an owner has only one name above it
 pub one_above : (r a b : DomainName) → at_or_below r a ≡ true → at_or_below r b ≡ true
     → length a ≡ length b → folded a ≡ a → folded b ≡ b → a ≡ b
 one_above r a b p q e low low' = grind (arith, same-is, and_parts)
 
--- owners below different children stand as those labels do
+-- owners below different children are in the order of the children's labels
 common_front : (zs : List Octets) (xs ys : List Octets)
     → slice_cmp label_order (zs ++ xs) (zs ++ ys) ≡ slice_cmp label_order xs ys
 common_front [] xs ys = refl
@@ -88,7 +88,7 @@ pub labels_in_order : (r s n : DomainName) (k l : Octets) → folded n ≡ n →
     → is_gt (name_order r s) ≡ false → is_gt (label_order k l) ≡ false
 labels_in_order r s n k l low lowk lowl p q h = grind (arith, turned, first_part, ap₂, common_front)
 
--- what is at or below a name and not that name is below it
+-- a name at or below another and different from it is below it
 pub other_below : (m n : DomainName) → at_or_below m n ≡ true → same m n ≡ false → below m n ≡ true
 other_below m n h f = below_unless_same m n h (λ whole. false≢true (sym f ∙ whole))
 

@@ -1,4 +1,4 @@
--- Names that end with the same labels, and the keys that begin alike then.
+-- Names that end with the same labels: their keys begin alike.
 use Rattle.dns_zone.proofs.Common.{◌≡◌, inl, inr, ℕ, zero, suc, ◌+◌, ◌-◌, ◌<◌, ◌≤◌, true, [], ◌∷◌, ◌++◌, length, take, drop, get_or, refl, sym, ap, ap₂, ◌∙◌, subst, arith, append_assoc, append-nil, nil_from_length, length-append, length-map, length-drop, cases_lt, drop_at, drop-drop, drop_of_length-le, take-append-drop, get_or_append_left, is_name-tail, Octets, DomainName, wire, is_name, labels_of_spelled, labels_of, IsWireForm, ended, name_key, GoOnAlike, AreAlike, BeginsAs}
 use Rattle.dns_zone.proofs.KeyOrder.{key_length, raised_some}
 use Rattle.dns_spec.proofs.DomainNames.WireNames.{wire_some, wire_split}
@@ -7,27 +7,27 @@ use Rattle.std.proofs.lemmas.Slice.{take-put_mid_below}
 use Rattle.std.proofs.Math.Seq.{drop-append-add, get_or-append_right}
 use borrow.Rule.Slice.PartMut.{put_mid}
 
--- how many octets a wire form has
+-- the length of a wire form
 pub size : (xs : Octets) → IsWireForm xs → length xs ≡ length (wire (labels_of xs))
 size xs w = ap length (sym w.wire_is)
 
 pub some : (xs : Octets) → IsWireForm xs → 0 < length xs
 some xs w = omega (arith, size xs w, wire_some (labels_of xs))
 
--- only its end is a 0 among the octets of a label
+-- an ended label contains 0 only at its end
 zero_last : (l : Octets) (k : ℕ) → k ≤ length l → get_or (ended l) k 1 ≡ 0 → k ≡ length l
 zero_last [] k h e = omega arith
 zero_last (o ∷ l) zero h e = absurd (omega (arith, raised_some o, e))
 zero_last (o ∷ l) (suc k) h e = ap suc (zero_last l k (omega arith) e)
 
--- the last labels of a name, with their key
+-- a suffix of a name, with its key
 record HasEnd (n : DomainName) (key : Octets) : Type 0 where
   pub front : DomainName
   pub end : DomainName
   pub whole : n ≡ front ++ end
   pub is_key : key ≡ name_key end
 
--- a key up to a 0 is that of an end of the name
+-- a key up to a 0 is the key of a suffix of the name
 zero_ends : (n : DomainName) (k : ℕ) → k < length (name_key n) → get_or (name_key n) k 1 ≡ 0
     → HasEnd n (take (k + 1) (name_key n))
 zero_ends [] k fits e = absurd (omega arith)
@@ -56,7 +56,7 @@ zero_ends (l ∷ n) k fits e =
           }
     ]
 
--- what follows what is left of what is left
+-- equal ends of equal ends
 pub go_on : (one left rest other right others : Octets) → GoOnAlike one left other right
     → GoOnAlike left rest right others → GoOnAlike one rest other others
 go_on one left rest other right others f g = record {
@@ -65,7 +65,7 @@ go_on one left rest other right others f g = record {
   whole_other = f.whole_other ∙ ap (λ x. x ++ f.end) g.whole_other ∙ append_assoc others g.end f.end;
 }
 
--- both end in the last octets of one
+-- if the last octets of two lists are equal, both end with them
 pub last_run : (left rest right others end last : Octets) (i j : ℕ)
     → rest ≡ take i left → end ≡ drop i left → others ≡ take j right → last ≡ drop j right
     → end ≡ last → GoOnAlike left rest right others
@@ -85,7 +85,7 @@ alike_count one left other right g = record {
   size = omega (arith, ap length g.whole_one, length-append left g.end);
 }
 
--- of two runs that end alike, the last octets are the same
+-- if the last `count` octets of two lists are equal, so are fewer
 last_alike : (xs ys : Octets) (count k : ℕ) → AreAlike count xs ys → k ≤ count
     → drop (length xs - k) xs ≡ drop (length ys - k) ys
 last_alike xs ys count k a fits =
@@ -102,7 +102,7 @@ last_alike xs ys count k a fits =
         ap (λ i. drop i zs) place ∙ ap (drop (length left + (count - k))) e
         ∙ drop-append-add left end (count - k)
 
--- what is kept of a key, up to as many octets as another name's has
+-- what remains of a key after it is cut to another name's length
 pub begins_as : (octets other key more kept : Octets) (m : DomainName) (count : ℕ)
     → other ≡ wire m → is_name m ≡ true → key ≡ name_key m → AreAlike count octets other
     → kept ≡ take (length octets - 1) key ++ more → BeginsAs count octets kept
@@ -130,7 +130,7 @@ end_name : (front end : DomainName) → is_name (front ++ end) ≡ true → is_n
 end_name [] end ok = ok
 end_name (l ∷ front) end ok = end_name front end (is_name-tail l (front ++ end) ok)
 
--- what is put while the labels before the rest of a name are put into a key
+-- the key after the labels before the rest of a name were written
 pub record PutAfter (octets old rest key : Octets) : Type 0 where
   pub form : IsWireForm rest
   pub is_rest : rest ≡ drop (length octets - length rest) octets
@@ -138,7 +138,7 @@ pub record PutAfter (octets old rest key : Octets) : Type 0 where
   pub kept : take (length rest - 1) key ≡ take (length rest - 1) old
   pub put : name_key (labels_of octets) ≡ name_key (labels_of rest) ++ drop (length rest - 1) key
 
--- where both names end alike and the label of one ends, its key is that of what follows
+-- if both names end alike and a label ends at the place, the rest of the key is already right
 pub kept_key : (octets old rest key : Octets) (alike : ℕ) → PutAfter octets old rest key
     → BeginsAs alike octets old → 1 < length rest → length rest ≤ alike
     → get_or key (length rest - 2) 1 ≡ 0 → take (length rest - 1) key ≡ name_key (labels_of rest)
@@ -177,7 +177,7 @@ kept_key octets old rest key alike p b some fits zeroed =
     let named = end_name last.front last.end (subst (λ n. is_name n ≡ true) last.whole b.is_name) in
     same ∙ is_key ∙ ap name_key (sym (labels_of_spelled rest last.end octets_are named))
 
--- nothing yet, all labels, and a label more
+-- before any label, after all labels, and after one more label
 pub put_first : (octets key : Octets) → IsWireForm octets → length octets ≡ length key + 1
     → PutAfter octets key octets key
 put_first octets key form room =
@@ -201,7 +201,7 @@ put_all octets old rest key p e =
 
 module _ (octets old rest after label key : Octets) (p : PutAfter octets old rest key)
     (form : IsWireForm after) (first : labels_of rest ≡ label ∷ labels_of after) where
-  -- a name has its first label after its length, and then the others
+  -- a name is its first label's length, that label, and the other labels
   spelled : rest ≡ (length label ∷ label) ++ after
   spelled = sym p.form.wire_is ∙ ap wire first ∙ ap (λ xs. length label ∷ label ++ xs) form.wire_is
 
@@ -242,7 +242,7 @@ module _ (octets old rest after label key : Octets) (p : PutAfter octets old res
             ∙ ap (λ xs. name_key (labels_of after) ++ xs) (sym others);
       }
 
-  -- the key has room for the label and its end
+  -- the key has room for the label and its end marker
   pub room_for : length octets ≡ length key + 1
       → length (take (length rest - 1 - (length after - 1)) (drop (length after - 1) key))
       ≡ length label + 1
@@ -252,7 +252,7 @@ module _ (octets old rest after label key : Octets) (p : PutAfter octets old res
       length-take-le (length rest - 1 - (length after - 1)) (drop (length after - 1) key)
       (omega (arith, long, length-drop (length after - 1) key)) ∙ omega (arith, long)
 
--- the root has no octets in its key
+-- the root's key has no octets
 pub key_of_root : (rest key : Octets) → IsWireForm rest → length rest ≤ 1
     → take (length rest - 1) key ≡ name_key (labels_of rest)
 key_of_root rest key form short =

@@ -1,4 +1,4 @@
--- What the counts of a name's records tell of its checks.
+-- The counts of a name's records decide its checks.
 use Rattle.std.specs.Option.{option_map_or}
 use Rattle.dns_zone.proofs.Common.{◌≡◌, ℕ, ◌≤◌, ◌==◌, ◌&&◌, ◌||◌, not, nat_lt, Bool, true, false, ◌⊎◌, inl, inr, List, [], ◌∷◌, map, length, refl, sym, ap, ap₂, ◌∙◌, arith, filter, list_any, nil_from_length, eqb-true, le-ltb, lt-ltb, DomainName, ResourceRecord, ZoneContents, at, at_or_below, below, owns, target, Check, checks, is_owner, ttls_differ, large_set, many_sets, AllByRecursion, each_weaker, type_soa, type_ns, type_cname, IsOwner, AreCounted, number_of, sets_ended, is_exchange_type, is_other_type, reported_at}
 use Rattle.dns_spec.specs.Sets.{types_of}
@@ -11,7 +11,7 @@ use Rattle.dns_spec.proofs.General.Filters.{filtered_lengths, filter_short, filt
 use Rattle.dns_spec.proofs.General.Pairs.{pairs_rising}
 use Rattle.dns_spec.proofs.General.Tests.{any_counted, any_alike, any_either, none_pass}
 
--- a name owns a record of a type just where the count is not 0
+-- a name owns a record of a type if and only if the count is not 0
 pub counted_owns : (z : ZoneContents) (n : DomainName) (t : ℕ) (own : List ResourceRecord)
     → own ≡ at z n → nat_lt 0 (number_of (λ s. s == t) own) ≡ owns z n t
 counted_owns z n t own e =
@@ -22,14 +22,14 @@ pub counted_such : (test : ℕ → Bool) (own : List ResourceRecord)
     → nat_lt 0 (number_of test own) ≡ list_any (λ (r : ResourceRecord). test r.rtype) own
 counted_such test own = sym (any_counted (λ (r : ResourceRecord). test r.rtype) own)
 
--- a count less than that of all records leaves others
+-- if the count is less than the number of all records, there are others
 pub counted_rest : (test : ℕ → Bool) (own : List ResourceRecord) → nat_lt (number_of test own)
     (length own) ≡ list_any (λ (r : ResourceRecord). not (test r.rtype)) own
 counted_rest test own =
     let all = filtered_lengths (λ (r : ResourceRecord). test r.rtype) own in
     grind (arith, any_counted, lt-ltb, le-ltb)
 
--- what is no address is NS, or neither
+-- a record that is no address is an NS record, or of another type
 pub counted_beside : (own : List ResourceRecord)
     → (nat_lt 0 (number_of is_other_type own) || nat_lt 0 (number_of (λ t. t == type_ns) own))
     ≡ list_any (λ (r : ResourceRecord). not (is_address_type r.rtype)) own
@@ -64,7 +64,7 @@ one_type t (r ∷ []) h = go (r.rtype == t)
     go false = refl
 one_type t (r ∷ s ∷ rs) h = absurd (omega arith)
 
--- the records of a name whose types its checks do not ask for, but as a CNAME of its own
+-- a name whose records need no checks, except a CNAME that is its only record
 module _ (z : ZoneContents) (n : DomainName) (own : List ResourceRecord) (c : TypeCounts)
     (is : IsOwner z n own) (counted : AreCounted own c) where
   abbrev none_of : (ℕ → Bool) → Type 0

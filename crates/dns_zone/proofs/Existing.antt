@@ -1,10 +1,10 @@
--- Which names exist in a built zone.
+-- The names that exist in a built zone.
 use Rattle.dns_zone.proofs.Common.{◌≡◌, ◌<◌, Bool, true, false, ◌&&◌, not, ◌==◌, List, [], ◌∷◌, map, length, refl, sym, ap, ap₂, ◌∙◌, arith, and_parts, false≢true, lt-ltb, length-map, to_ascii_lowercase, Octets, DomainName, folded, same, at_or_below, type_soa, ResourceRecord, ZoneContents, at, owns, is_owner, exists, IsReadRecord, folded_folded, AllByRecursion, Among, each_weaker, filter_among, recursion_from_All, checks_of_origin, passes_check, each_among, IsNode, IsBuilt, inl, inr, outside}
 use Rattle.dns_zone.proofs.NameOrder.{same-from}
 use Rattle.dns_zone.proofs.NameTree.{itself-under}
 use Rattle.dns_spec.proofs.General.Tests.{any_weaker}
 
--- only the lower case of a name counts
+-- the case of a name does not matter
 pub under-lower : (n a b : DomainName) → folded a ≡ folded b → length a ≡ length b
     → at_or_below n a ≡ at_or_below n b
 under-lower n a b e l = grind (arith, ap₂)
@@ -13,7 +13,7 @@ pub exists-lower : (z : ZoneContents) (a b : DomainName) → folded a ≡ folded
     → exists z a ≡ exists z b
 exists-lower z a b e l = grind (arith, ap₂, under-lower)
 
--- the origin owns an SOA, so that it exists
+-- the origin owns an SOA, so it exists
 pub origin-soa : (z : ZoneContents) → IsBuilt z → owns z z.origin type_soa ≡ true
 origin-soa z kept = grind (arith, checks_of_origin, same-from, false≢true)
 
@@ -51,7 +51,7 @@ all-inside z kept =
     inside true e = refl
     inside false e = absurd (false≢true (sym e))
 
--- a child by its label: only the lower case counts
+-- a child by its label, whose case does not matter
 pub child-exists : (z : ZoneContents) (l : Octets) (n : DomainName) → folded n ≡ n
     → exists z (map to_ascii_lowercase l ∷ n) ≡ exists z (l ∷ n)
 child-exists z l n low =

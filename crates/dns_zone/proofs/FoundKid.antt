@@ -1,4 +1,4 @@
--- A label among those of children, which rise.
+-- Finding a label among the labels of children, which rise.
 use Rattle.dns_zone.proofs.Common.{◌≡◌, ℕ, zero, suc, ◌+◌, ◌-◌, ◌/◌, ◌<◌, ◌≤◌, ◌⊎◌, inl, inr, List, [], ◌∷◌, map, length, get_or, sym, ap, ◌∙◌, add-one, arith, subst, Less, Equal, Greater, cases_lt, false≢true, nat_list_cmp_total, tied_itself, get_or-map, length-map, get_or_default, Octets, label_order, ResourceRecord, Among, Rises, among_contains, row_label, row_at, room_after, Row, Walk}
 use Rattle.dns_spec.proofs.General.Elements.{each_get}
 
@@ -10,7 +10,7 @@ rises_at (x ∷ ls) zero (suc j) r h l = grind (arith, each_get)
 rises_at (x ∷ ls) (suc i) zero r h l = absurd (omega arith)
 rises_at (x ∷ ls) (suc i) (suc j) r h l = rises_at ls i j r.1 (omega arith) (omega arith)
 
--- what holds while the children between two places are left to look at
+-- an invariant: the label can only be between the places `low` and `high`
 pub record Searching (rs : List ResourceRecord) (kids : List Row) (label : Octets)
     (low high turn : ℕ) : Type 0 where
   pub order : low ≤ high
@@ -20,7 +20,7 @@ pub record Searching (rs : List ResourceRecord) (kids : List Row) (label : Octet
   pub after : (k : ℕ) → high ≤ k → k < length kids
       → label_order (row_label rs (row_at kids k)) label ≡ Greater
 
--- what is left to look at after so many comparisons, all of which were counted
+-- the state of a search, in which all comparisons were counted
 pub record Sought (rs : List ResourceRecord) (kids : List Row) (label : Octets)
     (low high : ℕ) (before now : Walk) : Type 0 where
   pub count : ℕ
@@ -37,12 +37,12 @@ module _ (rs : List ResourceRecord) (kids : List Row) (label : Octets) where
   pub start : length kids ≤ 100000 → Searching rs kids label 0 (length kids) 0
   start h = grind arith
 
-  -- half of what is left, rounded, is the room after one more comparison
+  -- half of the remaining children fit in the room after one more comparison
   pub half : (low high turn : ℕ) → Searching rs kids label low high turn
       → (high - low) / 2 ≤ room_after (turn + 1)
   half low high turn s = let r = s.room in half_room (high - low) turn (omega arith)
 
-  -- where a child is left to look at, fewer than 17 comparisons were made
+  -- if a child remains, fewer than 17 comparisons were made
   pub one_more : (low high turn : ℕ) → Searching rs kids label low high turn → turn ≤ 17
       → low < high → turn + 1 ≤ 17
   one_more low high turn s h some = grind (arith, cases_lt)
@@ -78,8 +78,7 @@ module _ (rs : List ResourceRecord) (kids : List Row) (label : Octets) where
         (rises_at (map (row_label rs) kids) i j rising h
         (omega (arith, length-map kids (row_label rs)))))
 
-    -- A child between the two places is looked at. The room that is left after it is half of what
-    -- there was.
+    -- One comparison with the child in the middle halves the room.
     module _ (low high turn : ℕ) (s : Searching rs kids label low high turn) (middle : ℕ) where
       pub go_right : label_order (row_label rs (row_at kids middle)) label ≡ Less → middle < high
           → high ≤ middle + 1 + room_after (turn + 1)

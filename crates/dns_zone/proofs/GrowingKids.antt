@@ -17,13 +17,13 @@ pub row_is : (rs : List ResourceRecord) (row : Row) (n : DomainName) → IsRow r
 unfolding row_name
 row_is rs row n h = labels_of_spelled (row_octets rs row) n h.octets h.is_name
 
--- an element that rises above all
+-- adding an element that is greater than all others
 rises_push : (xs : List Octets) (y : Octets) → Rises label_order xs
     → AllByRecursion (λ x. label_order x y ≡ Less) xs → Rises label_order (xs ++ y ∷ [])
 rises_push [] y r e = (tt, tt)
 rises_push (x ∷ xs) y r e = grind (arith, each_push, (rises_push xs y r.1 e.1))
 
--- the children of the records before a place have their rows, after the rows so far
+-- the children of the records before a place have their rows, after the old rows
 pub record Adding (rs : List ResourceRecord) (n : DomainName) (own_end : ℕ) (old new : List Row)
     (next : ℕ) : Type 0 where
   pub kids : List Row
@@ -137,7 +137,7 @@ module _ (rs : List ResourceRecord) (canonical : IsCanonical rs) (n : DomainName
     unfolding m
     label_lower = ap first_of is_kid.lower
 
-    -- the first of the group
+    -- the first record of the group
     first : ResourceRecord
     first = get_or rs k blank
 
@@ -291,7 +291,7 @@ module _ (rs : List ResourceRecord) (canonical : IsCanonical rs) (n : DomainName
       between = between_now;
     }
 
-  -- all children have theirs
+  -- all children have their rows
   pub done : (old new : List Row) (k : ℕ) → Adding rs n row.own_end old new k → row.end ≤ k
       → AddsKids rs n old new
   done old new k a h =

@@ -1,4 +1,4 @@
--- The owners of a zone, as they are added to the names that are checked, and the origin.
+-- Collecting the names to be checked: the owners of a zone, and the origin.
 use Rattle.dns_zone.proofs.Common.{append-nil, ◌≡◌, ℕ, zero, suc, true, false, ◌⊎◌, inl, inr, List, [], ◌∷◌, ◌++◌, map, take, drop, refl, sym, ap, ◌∙◌, subst, arith, get_or, is_gt, Ordering, Less, Equal, Greater, true≢false, tied_itself, Bor, IsPartitionedBy, ordering_reverse, Octets, DomainName, folded, at_or_below, name_order, ResourceRecord, ZoneContents, name_tie, name_order_total, one_lower, append_assoc, map_push, AllByRecursion, Among, Rises, each_at, each_weaker, name_key, name_of, is_upto, IsTopmost, IsChecked, AreChecked, AreOwners, ComesNext, IsOwner, owners_once, AreOrdered, IsFront, CheckedName}
 use Rattle.dns_zone.proofs.AtName.{owners_in_order}
 use Rattle.dns_zone.proofs.CheckedNames.{itself_upto, equal_upto, one_key, cut_among, none_at, upto_parted, upto_among, after_each, in_order, last_checked, last_upto}
@@ -7,7 +7,7 @@ use Rattle.dns_zone.proofs.ReportedNames.{once_rise, IsName, names_checked}
 use Rattle.dns_zone.proofs.TopmostCut.{topmost_none}
 use Rattle.dns_spec.proofs.General.Elements.{each_map, each_push, among_get, map_each, each_put, put_among, among_put, among_either, mapped_among, among_mapped}
 
--- what stands before a name in a list that rises, and after it
+-- the names before and after a name in a rising list
 rises_around : (ns ms : List DomainName) (n : DomainName) → Rises name_order (ns ++ n ∷ ms)
     → AllByRecursion (λ m. name_order m n ≡ Less) ns
     × AllByRecursion (λ m. name_order n m ≡ Less) ms
@@ -20,7 +20,7 @@ rises_around (k ∷ ns) ms n h =
     middle [] e = e.0
     middle (j ∷ ks) e = middle ks e.1
 
--- the name that was added last, with its key and its topmost cut; at first the root
+-- the last name that was added, with its key and its topmost cut; initially the root
 pub record LastName (z : ZoneContents) (before after : List DomainName) (key : Octets) (cut : ℕ)
     : Type 0 where
   pub name : DomainName
@@ -44,7 +44,7 @@ root_first z ns = record {
     all [] = tt
     all (m ∷ ms) = grind (arith, under-order, under-from, folded, append-nil, (all ms))
 
--- one owner more
+-- one more owner
 module _ (z : ZoneContents) (ordered : AreOrdered z.records) (ns ms : List DomainName)
     (n : DomainName) (all : ns ++ n ∷ ms ≡ owners_once z.records) (low : folded n ≡ n) where
   around : AllByRecursion (λ m. name_order m n ≡ Less) ns
@@ -128,7 +128,7 @@ module _ (z : ZoneContents) (low : folded z.origin ≡ z.origin) (ordered : AreO
   owners_parted = upto_parted z names are.each rise o low key key_is
 
   module _ (k : ℕ) (front : IsFront (is_upto key) names k) where
-    -- it is the last that is not after it
+    -- it is the last name that is not after it
     pub origin_owns : (i : ℕ) → k ≡ suc i → (c : CheckedName)
         → c ≡ get_or names i c → c.key.now ≡ key → AreChecked z names
     origin_owns i next c is e =
@@ -152,7 +152,7 @@ module _ (z : ZoneContents) (low : folded z.origin ≡ z.origin) (ordered : AreO
     abbrev origin_name : Bor Octets → CheckedName
     origin_name key = record { key = key; first = 0; end = 0; cut = 0 }
 
-    -- it owns nothing
+    -- it owns no records
     module _ (before : AllByRecursion (λ c. name_order (name_of z c) o ≡ Less) (take k names)) where
       none : Among o (owners_once z.records) → ⊥
       none m =
@@ -192,7 +192,7 @@ module _ (z : ZoneContents) (low : folded z.origin ≡ z.origin) (ordered : AreO
           back a (inl f) = inl (f ∙ low)
           back a (inr m) = inr (subst (Among a) (sym are.all) m)
 
-    -- all before it, where the last of them is another
+    -- all of these are before it, if the last one is another name
     pub others_before : (i : ℕ) → k ≡ suc i → (c : CheckedName) → c ≡ get_or names i c
         → (c.key.now ≡ key → ⊥)
         → AllByRecursion (λ d. name_order (name_of z d) o ≡ Less) (take k names)

@@ -1,10 +1,10 @@
--- The rows of a zone, added level by level.
+-- Adding the rows of a zone, level by level.
 use Rattle.dns_zone.proofs.Common.{◌≡◌, ℕ, ◌+◌, ◌-◌, ◌<◌, ◌≤◌, ◌⊎◌, inl, inr, List, [], ◌∷◌, ◌++◌, length, drop, get_or, sym, ap, ◌∙◌, arith, subst, length-append, length-drop, cases_lt, take-append-drop, get_or-take, get_or-drop, get_or_append_left, get_or_push, take_all, DomainName, ResourceRecord, no_row, row_name, row_at, kids_at, IsRow, IsKid, AreKids, IsTree, AddsKids, Row}
 use Rattle.dns_zone.proofs.Spans.{span_front}
 use Rattle.dns_zone.proofs.GrowingKids.{row_is}
 use Rattle.dns_spec.proofs.General.Elements.{each_get}
 
--- the rows before row i have their children
+-- the children of the rows before row i have their rows
 pub record Growing (o : DomainName) (rs : List ResourceRecord) (rows : List Row) (bounds : List ℕ)
     (i : ℕ) : Type 0 where
   pub origin : IsRow rs (row_at rows 0) o

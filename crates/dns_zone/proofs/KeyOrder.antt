@@ -1,4 +1,4 @@
--- The keys of names in lower case stand in the order of the names.
+-- The keys of names in lower case are in the order of the names.
 use Rattle.dns_zone.proofs.Common.{◌≡◌, ℕ, ◌+◌, ◌<◌, ◌≤◌, ◌⊎◌, inl, inr, [], ◌∷◌, ◌++◌, length, drop, get_or, map, reverse, refl, sym, ap, ap₂, ◌∙◌, Ordering, Less, Equal, Greater, nat_cmp, arith, cases_order, cases_lt, lt-ltb, le-ltb, flat_map-cons, to_ascii_lowercase, nat_cmp_is, slice_cmp, flat_map, ordering_then, Octets, DomainName, folded, label_order, name_order, wire, reverse-append, length-map, length-append, flat_map_more, lowercase_is, raised, ended, name_key}
 use Rattle.dns_spec.proofs.General.Orderings.{then_assoc}
 use Rattle.dns_spec.proofs.General.Elements.{map_reverse}
@@ -10,7 +10,7 @@ IsLow o = (o < 65) ⊎ (90 < o)
 pub low_octet : (o : ℕ) → to_ascii_lowercase o ≡ o → IsLow o
 low_octet o e = grind (arith, cases_lt, lowercase_is)
 
--- where an octet is raised to
+-- the effect of raising an octet
 abbrev IsRaised : ℕ → Type 0
 IsRaised o = ((o < 65) × (raised o ≡ o + 1)) ⊎ ((65 ≤ o) × (raised o ≡ o))
 
@@ -33,7 +33,7 @@ raised_order x y p q = go (cases_order x y)
     go (inr (inr l)) = sym (nat_cmp_is (raised x) (raised y) Greater (raised_less y x q p l))
         ∙ nat_cmp_is x y Greater l
 
--- ended labels are compared as the labels, and what stands after them after that
+-- ended labels compare as the labels do, and then by what follows them
 ended_order : (xs ys us vs : Octets)
     → map to_ascii_lowercase xs ≡ xs → map to_ascii_lowercase ys ≡ ys → slice_cmp nat_cmp
     (ended xs ++ us) (ended ys ++ vs) ≡ ordering_then (label_order xs ys) (slice_cmp nat_cmp us vs)
@@ -96,7 +96,7 @@ pub key_order : (n m : DomainName)
     → folded n ≡ n → folded m ≡ m → slice_cmp nat_cmp (name_key n) (name_key m) ≡ name_order n m
 key_order n m p q = grind (arith, map_reverse, ap₂, key_flat, ended_names)
 
--- a key is an octet shorter than the wire form
+-- a key is one octet shorter than the wire form
 pub key_length : (n : DomainName) → length (name_key n) + 1 ≡ length (wire n)
 key_length [] = refl
 key_length (l ∷ n) = grind (arith, length-append, length-map, (key_length n))

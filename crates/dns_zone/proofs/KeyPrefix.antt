@@ -1,4 +1,5 @@
--- The key of a name begins with that of another just where the name is at or below it.
+-- The key of a name begins with another name's key if and only if the name is at or below the
+-- other.
 use Rattle.dns_zone.proofs.Common.{◌≡◌, ℕ, ◌<◌, ◌≤◌, ◌==◌, Bool, true, [], ◌∷◌, ◌++◌, length, take, drop, get_or, map, reverse, refl, sym, ap, ap₂, ◌∙◌, arith, length-append, append-nil, nat_lt, cases_order, lt-ltb, ltb-true, le-ltb, and_from, and_parts, and_right, flat_map-cons, take-append_seam, to_ascii_lowercase, flat_map, starts_with, Octets, DomainName, folded, at_or_below, below, reverse-append, reverse-reverse, append_assoc, take-append-drop, octets_equal-decides, same_tests, raised, ended, name_key}
 use Rattle.dns_zone.proofs.KeyOrder.{IsLow, low_octet, raised_some, raised_less, key_flat}
 use Rattle.dns_zone.proofs.NameTree.{Under, under-is, under-from}
@@ -11,7 +12,7 @@ key_append (l ∷ n) m = grind (arith, append_assoc, (key_append n m))
 raised_one : (x y : ℕ) → IsLow x → IsLow y → raised x ≡ raised y → x ≡ y
 raised_one x y p q e = grind (arith, cases_order, raised_less)
 
--- what begins with an ended label tells that label, and what follows it
+-- an ended label at the beginning determines the label and what follows it
 ended_first : (xs ys us vs : Octets) → map to_ascii_lowercase xs ≡ xs
     → map to_ascii_lowercase ys ≡ ys → ended xs ++ us ≡ ended ys ++ vs → (xs ≡ ys) × (us ≡ vs)
 ended_first [] [] us vs p q e = (refl, ap (drop 1) e)
@@ -72,12 +73,12 @@ module _ (n m : DomainName) (low_n : folded n ≡ n) (low_m : folded m ≡ m) wh
   pub starts_under : starts_with ◌==◌ (name_key n) (name_key m) ≡ at_or_below n m
   starts_under = same_tests _ _ key_under under_key
 
--- some labels, some octets
+-- the key of a name with labels is not empty
 pub some : (ks : DomainName) → 0 < length ks → length (name_key ks) ≡ 0 → ⊥
 some [] h e = absurd (omega arith)
 some (k ∷ ks) h e = grind (arith, length-append)
 
--- a name at or below another is longer where its key is
+-- a name at or below another has more labels if its key is longer
 module _ (n m : DomainName) (key other : Octets) (p : folded n ≡ n) (q : folded m ≡ m)
     (e : key ≡ name_key n) (f : other ≡ name_key m) where
   longer : at_or_below n m ≡ true → length other < length key → nat_lt (length m) (length n) ≡ true

@@ -9,7 +9,7 @@ use Rattle.dns_spec.proofs.General.Pairs.{Pairs, pairs_of, parted}
 abbrev pub is_under : DomainName → ResourceRecord → Bool
 is_under m r = at_or_below r.owner m
 
--- records from the first that is at or below a name on
+-- the records from the first one at or below a name on
 module _ (m : DomainName) (r : ResourceRecord) (xs : List ResourceRecord)
     (h : Pairs OwnerNotAfter (r ∷ xs)) (here : at_or_below r.owner m ≡ true) where
   not_before : AllByRecursion (λ (s : ResourceRecord). is_gt (name_order m s.owner) ≡ false)
@@ -31,7 +31,7 @@ pub owner_at : (rs : List ResourceRecord) (k : ℕ) (r : ResourceRecord) → k <
     → r ≡ get_or rs k r → get_or (owners rs) k [] ≡ r.owner
 owner_at rs k r h e = grind (arith, get_or-map)
 
--- of each name one label below n, all records stand before a place or none
+-- for each name one label below n, a place is before or after all records at or below that name
 abbrev pub IsBetween : List ResourceRecord → DomainName → ℕ → Type 0
 IsBetween rs n k =
     (m : DomainName) → folded m ≡ m → at_or_below m n ≡ true → length m ≡ suc (length n)
@@ -44,7 +44,7 @@ pub record IsNext (rs : List ResourceRecord) (n : DomainName) (next : ℕ) : Typ
   pub under_it : below (get_or (owners rs) next []) n ≡ true
   pub between : IsBetween rs n next
 
--- the name of its child: the end of its owner with more octets than the name, and fewest of those
+-- the child's name: the shortest suffix of the record's owner that is longer than the name
 module _ (rs : List ResourceRecord) (canonical : IsCanonical rs) (n : DomainName) (next : ℕ)
     (is_next : IsNext rs n next) (r : ResourceRecord) (r_is : r ≡ get_or rs next r) where
   owner_lower : folded r.owner ≡ r.owner
@@ -59,7 +59,7 @@ module _ (rs : List ResourceRecord) (canonical : IsCanonical rs) (n : DomainName
       → m ≡ ending (length parent + 1) owner → IsChildOf n r.owner m
   child_there parent owner m w o e = grind (arith, child_end, owner_below, owner_lower)
 
-  -- its first record is the next one
+  -- the child's first record is the next one
   pub none_before_it : (m : DomainName) → IsChildOf n r.owner m → under m (take next rs) ≡ []
   none_before_it m child = go (is_next.between m child.lower child_under (ap length child.labels))
     where

@@ -1,4 +1,4 @@
--- The octets of a name are small where those of its wire form are.
+-- If the octets of a wire form are small, so are the octets of the name's labels.
 use Rattle.dns_zone.proofs.Common.{ℕ, ◌<◌, All, [], ◌∷◌, ◌++◌, length, get_or, get_or_default_zero, sym, subst, All-nil, All-cons, Octets, DomainName, wire, Small, small_tail, small_front, small_back}
 
 pub small_labels : (n : DomainName) → Small (wire n) → All Small n

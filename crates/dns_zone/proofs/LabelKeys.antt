@@ -1,5 +1,5 @@
--- The order of labels is that of their keys, where these differ; where they are the same it is that
--- of what follows the keys, or of the labels' lengths.
+-- Labels are in the order of their keys. Labels with equal keys are in the order of what follows
+-- the keys, or of the labels' lengths.
 use Rattle.dns_zone.proofs.Common.{◌≡◌, ℕ, zero, suc, ◌+◌, ◌*◌, ◌^◌, ◌<◌, ◌≤◌, ◌⊎◌, inl, inr, [], ◌∷◌, ◌-◌, ◌/◌, add-one, drop-cons, map, length, drop, get_or, refl, sym, ap, ap₂, ◌∙◌, arith, Less, Greater, ordering_reverse, nat_cmp, mul-le-mul_right, one-le-pow, cases_lt, cases_order, nat_list_cmp_total, to_ascii_lowercase, nat_cmp_is, Octets, DomainName, folded, label_order, lowercase_is, IsEight, key_of, first_of}
 use Rattle.std.proofs.Math.Nat.{add-mul, mul_assoc}
 use Rattle.std.proofs.lemmas.Nat.{pow-add}
@@ -20,7 +20,7 @@ key_low (suc n) (x ∷ a) low =
     let first : x ≤ 255 = let h = low 0 in omega arith in
     omega (arith, key_low n a (rest_low x a low), mul-le-mul_right (256 ^ n) first)
 
--- labels that begin alike
+-- labels with an equal first octet
 same_head : (x y : ℕ) (a b : Octets) → x ≡ y → label_order (x ∷ a) (y ∷ b) ≡ label_order a b
 same_head x y a b e = grind arith
 
@@ -49,7 +49,7 @@ alike n x y a b v w h =
 one_more : (j k : ℕ) → nat_cmp (suc j) (suc k) ≡ nat_cmp j k
 one_more j k = grind (arith, cases_order)
 
--- a label with no octets beyond its key begins the other
+-- a label with no octets beyond its key is a prefix of the other
 lengths : (n : ℕ) (a b : Octets) → Low a → Low b → key_of n a ≡ key_of n b
     → (length a ≤ n) ⊎ (length b ≤ n) → nat_cmp (length a) (length b) ≡ label_order a b
 lengths n [] [] v w h s = refl
@@ -85,12 +85,12 @@ pub front_order : {j k : ℕ} {a b : Octets} → IsEight j a → IsEight k b →
     → nat_cmp j k ≡ label_order a b
 front_order {j} {k} {a} {b} p q n = grind (arith, cases_order, lesser_front, nat_list_cmp_total)
 
--- after the last octet nothing is missing of a key
+-- the key of no octets is 0
 key_none : (n : ℕ) → key_of n [] ≡ 0
 unfolding key_of
 key_none n = grind arith
 
--- a number of more octets is that of the first, and that of the next
+-- the key of n + m octets, from the key of the first n and of the next m
 key_more : (n m : ℕ) (a : Octets) → key_of (n + m) a ≡ key_of n a * 256 ^ m + key_of m (drop n a)
 unfolding key_of
 key_more zero m a =
@@ -159,7 +159,7 @@ pub key_end : (n : ℕ) (l : Octets) → (n ≡ 0) ⊎ (l ≡ []) → key_of n l
 unfolding key_of
 key_end n l h = grind (arith, key_none)
 
--- the octets that are still to come have the rest of a key
+-- the remaining octets make up the rest of a key
 pub record IsPart (l : Octets) (i key worth : ℕ) : Type 0 where
   pub value : key_of 8 l ≡ key + key_of (8 - i) (drop i l)
   pub counts : worth ≡ 256 ^ (8 - i) / 256

@@ -29,7 +29,7 @@ begins w kept =
       uncut = λ e. no_cut-at_origin z (name_at t 0) (omega arith);
     }
 
--- a child that is no cut, where the way ends at cuts
+-- a child on the way; it is not a cut if the way ends at cuts
 pub goes_on : (w : TargetWay) (k j : ℕ) (l : Octets) → IsOnWay w k
     → IsNodeAt w.tree j → name_at w.tree j ≡ map to_ascii_lowercase l ∷ name_at w.tree k
     → (w.is_of_alias ≡ true
@@ -64,7 +64,7 @@ leads_begin z rows n j inside =
 same_or_other : (i j : ℕ) → (i ≡ j) ⊎ (i ≡ j → ⊥)
 same_or_other i j = grind arith
 
--- another lead for a record
+-- a lead for one more record
 pub leads_set : (z : ZoneContents) (rows : List Row) (leads : List ℕ) (j k : ℕ)
     (r : ResourceRecord) → AreLeads z rows leads → j < length leads → j < length z.records
     → r ≡ get_or z.records j r → IsLeadAt z rows r.rtype k → AreLeads z rows (set leads j k)
@@ -82,7 +82,7 @@ leads_set z rows leads j k r are fits inside is lead i l = go (same_or_other i j
         subst (λ x. IsLeadAt z rows (type_at z.records i) x) (sym here)
         (are i (omega (arith, l, length-set leads j k)))
 
--- a lead that is kept for a record
+-- the stored lead of a record
 pub kept-lead : (t : Tree) (rs : List ResourceRecord) (leads : List ℕ)
     (place rtype : ℕ) (r : ResourceRecord) → IsZoneTree t → rs ≡ t.zone.records → leads ≡ t.leads
     → place < length rs → place < length leads → r ≡ get_or rs place r → r.rtype ≡ rtype

@@ -1,9 +1,9 @@
--- The shortest end of a name that has so many octets or more.
+-- The shortest suffix of a name that has at least a given number of octets.
 use Rattle.dns_zone.proofs.Common.{◌≡◌, ℕ, suc, ◌+◌, ◌-◌, ◌<◌, ◌≤◌, Bool, true, false, nat_lt, ◌||◌, if◌then◌else◌, [], ◌∷◌, length, drop, get_or, refl, sym, ap, ap₂, ◌∙◌, arith, length-append, length-drop, false_from_ne_true, ltb-true, ltb-false, lt-ltb, or-false, drop_at, drop-drop, get_or-drop, Octets, DomainName, wire, is_name, folded, same, at_or_below, names_equal, at_or_below-cons, at_or_below-short, at_or_below-long, at_or_below-length-wire, is_name-tail, ending}
 use Rattle.dns_spec.proofs.DomainNames.WireNames.{wire_some}
 
--- what holds while the labels of a name n are passed: its octets xs go on at place k with an end of
--- it, whose shortest end is that of n
+-- An invariant of skipping the labels of a name n: from place k on, its octets xs are a suffix of
+-- it, and the shortest suffix is the same.
 pub record GoesOn (least : ℕ) (n : DomainName) (xs : Octets) (k : ℕ) : Type 0 where
   pub rest : DomainName
   pub octets : drop k xs ≡ wire rest
@@ -16,7 +16,7 @@ pub first_end : (least : ℕ) (n : DomainName) (xs : Octets) → xs ≡ wire n �
 first_end least n xs e ok = grind arith
 
 module _ (least : ℕ) (n : DomainName) (xs : Octets) (k : ℕ) (h : GoesOn least n xs k) where
-  -- how many octets the next label has
+  -- the length of the next label
   abbrev x : ℕ
   x = get_or xs k 0
 
@@ -57,7 +57,8 @@ module _ (least : ℕ) (n : DomainName) (xs : Octets) (k : ℕ) (h : GoesOn leas
       go [] s f e = e
       go (l ∷ m) s f e = grind (arith, length-append, lt-ltb)
 
--- a name in lower case is at or below another where its end of as many octets is that name
+-- a name in lower case is at or below another if and only if its suffix of that length is the
+-- other
 pub end_is : (n m : DomainName) → folded n ≡ n → folded m ≡ m
     → names_equal (ending (length (wire m)) n) m ≡ at_or_below n m
 end_is [] m low lower = sym (at_or_below-short [] m (wire_some m) ∙ ap (names_equal []) lower)

@@ -1,5 +1,5 @@
--- The row of a name that a record is at or below, and none before it, among records in canonical
--- order.
+-- The row of a name, among records in canonical order: the first record is at or below it, and
+-- none before.
 use Rattle.dns_zone.proofs.Common.{AreOrdered, DomainName, AllByRecursion, IsCanonical, IsFront, IsPartitionedBy, List, ResourceRecord, [], ap, arith, at_or_below, drop, drop_more, each_weaker, false, filter, filter-append, filter_each, folded, get_or, get_or-map, is_gt, rules, length, length-drop, length-take, owners, prefix_len, prefix_len-le-length, cases_lt, inl, inr, ◌⊎◌, refl, zero, suc, record_order, record_order_total, span, subst, sym, take, take-append-drop, true, under, wire, ℕ, ◌++◌, ◌+◌, ◌-◌, ◌<◌, ◌∙◌, ◌∷◌, ◌≡◌, ◌≤◌}
 use Rattle.std.specs.Prelude.{max}
 use Rattle.dns_zone.proofs.NameTree.{itself-under}
@@ -51,7 +51,7 @@ module _ (rs : List ResourceRecord) (canonical : IsCanonical rs) (m : DomainName
       subst (IsPartitionedBy (is_at m)) (sym rest_is)
       (at_in_front m r (drop (first + 1) rs) in_order above ordered_rest)
 
-  -- the first owner ends in the name's octets
+  -- the first owner ends with the name's octets
   pub ends : folded m ≡ m → (owner : DomainName) → owner ≡ get_or (owners rs) first []
       → (length (wire m) ≤ length (wire owner))
       × (drop (length (wire owner) - length (wire m)) (wire owner) ≡ wire m)
@@ -61,7 +61,7 @@ module _ (rs : List ResourceRecord) (canonical : IsCanonical rs) (m : DomainName
       (canonical.each first _ fits).lower_owner) low
       (subst (λ (o : DomainName). at_or_below o m ≡ true) (sym e) here)
 
-  -- where no record before the first is at or below the name, and none from a place on
+  -- if no record before the first is at or below the name, and none from `end` on
   module _ (before : under m (take first rs) ≡ []) (end : ℕ) (upto : first ≤ end)
       (after : under m (drop end rs) ≡ []) where
     abbrev others : List ResourceRecord
@@ -85,7 +85,7 @@ module _ (rs : List ResourceRecord) (canonical : IsCanonical rs) (m : DomainName
     some_under : 0 < length (under m (drop first rs))
     some_under = grind (arith, rest_is, above)
 
-    -- the first record is known to be at or below the name, where it is not the name's own
+    -- the first record is known to be at or below the name, even if it is not the name's own
     module _ (own known count : ℕ) (own_is : own ≡ prefix_len (is_at m) others)
         (some : first < end) (known_is : known ≡ max own 1)
         (more : IsFront (is_under m) (drop known others) count) where

@@ -1,8 +1,8 @@
--- Names at or below a name stand side by side in canonical order, directly after it.
+-- In canonical order, the names at or below a name are adjacent and follow it directly.
 use Rattle.dns_zone.proofs.Common.{◌≡◌, suc, ◌+◌, ◌-◌, ◌<◌, ◌≤◌, Bool, true, false, nat_lt, nat_le, ◌⊎◌, inl, inr, List, [], ◌∷◌, ◌++◌, map, reverse, length, take, drop, refl, sym, ap, ap₂, ◌∙◌, arith, length-append, is_eq, is_gt, nat_cmp, Ordering, Less, Equal, Greater, false≢true, true≢false, and_parts, and_from, or_cases, or_right, le-leb, leb-true, lt-ltb, false_from_ne_true, ltb-true, end_rest, nat_list_cmp_total, tied_itself, slice_cmp, lists_ties, ordering_then, ordering_reverse, to_ascii_lowercase, Octets, DomainName, folded, same, last_labels, at_or_below, below, label_order, name_order, reverse-reverse, reverse-append, take-append-drop, drop-map, length-map, append_assoc, octets_equal-decides, same_tests, same-length, at_or_below-cons, nat_ties}
 use Rattle.dns_zone.proofs.NameOrder.{same-is, same-from}
 
--- the labels of n end in those of a
+-- n ends with the labels of a
 abbrev pub Under : DomainName → DomainName → Type 0
 Under n a = (p : DomainName) × (folded n ≡ p ++ folded a)
 
@@ -37,14 +37,14 @@ under-trans n m a h k = under-from n a (joined (under-is n m h) (under-is m a k)
     joined : Under n m → Under m a → Under n a
     joined (p, e) (q, f) = (p ++ q, e ∙ ap (λ x. p ++ x) f ∙ sym (append_assoc p q (folded a)))
 
--- only the lower case of a name counts
+-- the case of a name does not matter
 pub same-under : (n m a : DomainName) → same n m ≡ true → at_or_below n a ≡ at_or_below m a
 same-under n m a h = grind (arith, same-is, same_tests, under-from, under-is)
 
 pub itself-under : (n m : DomainName) → same n m ≡ true → at_or_below n m ≡ true
 itself-under n m h = under-from n m ([], same-is n m h)
 
--- a name with a label more at its front is below those that it was at or below
+-- adding a label at the front makes a name below the names that it was at or below
 pub below-cons : (l : Octets) (n a : DomainName) → below (l ∷ n) a ≡ at_or_below n a
 below-cons l n a = go (at_or_below n a) refl
   where
@@ -62,18 +62,18 @@ below-cons l n a = go (at_or_below n a) refl
             let level : suc (length n) ≡ length a = same-length (l ∷ n) a k in omega arith
         by_cases s (inr k) = false≢true (sym e ∙ k)
 
--- labels that tie are one
+-- labels that compare as equal are equal
 pub label-tie : (x y : Octets) → label_order x y ≡ Equal → x ≡ y
 label-tie x y e = (octets_equal-decides x y).0 (lists_ties nat_cmp nat_ties x y ∙ ap is_eq e)
 
--- a list is not after one that begins with it
+-- a list is not after the lists of which it is a prefix
 not_after_longer : (xs zs : List Octets) → is_gt (slice_cmp label_order xs (xs ++ zs)) ≡ false
 not_after_longer [] [] = refl
 not_after_longer [] (z ∷ zs) = refl
 not_after_longer (x ∷ xs) zs =
     grind (arith, tied_itself, nat_list_cmp_total, (not_after_longer xs zs))
 
--- what stands between a list and one that begins with it, begins with it
+-- a list between a prefix and a list with that prefix has it too
 list_between : (xs ys zs : List Octets) → is_gt (slice_cmp label_order xs ys) ≡ false
     → is_gt (slice_cmp label_order ys (xs ++ zs)) ≡ false → (ws : List Octets) × (ys ≡ xs ++ ws)
 list_between [] ys zs p q = (ys, refl)
@@ -104,7 +104,7 @@ turned_end : (n a p : DomainName) → folded n ≡ p ++ folded a
     → reverse (folded n) ≡ reverse (folded a) ++ reverse p
 turned_end n a p e = ap reverse e ∙ reverse-append p (folded a)
 
--- a name comes before those below it
+-- a name is not after the names at or below it
 pub under-order : (n a : DomainName) → at_or_below n a ≡ true → is_gt (name_order a n) ≡ false
 under-order n a h = go (under-is n a h)
   where
@@ -113,7 +113,7 @@ under-order n a h = go (under-is n a h)
         ap (λ ks. is_gt (slice_cmp label_order (reverse (folded a)) ks)) (turned_end n a p e)
         ∙ not_after_longer (reverse (folded a)) (reverse p)
 
--- and what stands between a name and one below it is below it
+-- a name between a name and one at or below it is at or below it
 pub between : (a b m : DomainName) → is_gt (name_order a b) ≡ false → is_gt (name_order b m) ≡ false
     → at_or_below m a ≡ true → at_or_below b a ≡ true
 between a b m p q h = go (under-is m a h)

@@ -57,7 +57,7 @@ module _ (t : Tree) (k : ℕ) (at : IsNodeAt t k) where
       each_weaker (IsKid rs name) (λ c. IsRow rs c (row_name rs c)) kids
       (λ c h. own_name rs c (h.label ∷ name) h.is_row) are_kids.each
 
-  -- a child by its place among the children
+  -- a child by its index among the children
   module _ (i : ℕ) (fits : i < length kids) where
     size : length kids ≤ end - start
     size = omega (arith, length-take (end - start) (drop start t.rows))

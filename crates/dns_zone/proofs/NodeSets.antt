@@ -6,14 +6,14 @@ use Rattle.dns_spec.proofs.General.Elements.{each_both, each_map}
 use Rattle.dns_spec.proofs.General.Pairs.{pairs_of, pairs_filter, pairs_rising, unmoved, first_in}
 use Rattle.dns_spec.proofs.General.Orderings.{first_part, not_above}
 
--- records of one name and one type stand by their data
+-- records of one name and one type are ordered by data
 data_in_order : (n : DomainName) (t : ℕ) (r s : ResourceRecord)
     → (same r.owner n ≡ true) × (r.rtype ≡ t) → (same s.owner n ≡ true) × (s.rtype ≡ t)
     → is_gt (record_order r s) ≡ false → is_gt (data_order r s) ≡ false
 data_in_order n t r s p q h =
     grind (arith, same-tied, same-from, same-is, tied_itself, nat_cmp_total, first_part)
 
--- records of one type, as they are read, are lent as a set
+-- the data of read records of one type is valid for it
 datas : (t : ℕ) (rs : List ResourceRecord)
     → AllByRecursion (λ (r : ResourceRecord). IsReadRecord r × (r.rtype ≡ t)) rs
     → AllByRecursion (Valid t) (data_of rs)
@@ -24,7 +24,7 @@ of_one_type : (t : ℕ) (rs : List ResourceRecord)
     → AllByRecursion (λ (r : ResourceRecord). IsReadRecord r × (r.rtype ≡ t)) rs → AreOfType rs
 of_one_type t rs h = grind (arith, All-from_recursion, datas, each_weaker)
 
--- the lowest type is that of the first record
+-- the lowest type is the first record's
 lowest_first : (r : ResourceRecord) (rs : List ResourceRecord) → IsNonDecreasingBy
     (λ (q : ResourceRecord). q.rtype) (r ∷ rs) → rising_types (r ∷ rs) ≡ r.rtype ∷ sort_by nat_cmp
     (filter (λ u. not (r.rtype == u)) (distinct ◌==◌ (map (λ (q : ResourceRecord). q.rtype) rs)))
@@ -53,7 +53,7 @@ module _ (z : ZoneContents) (kept : IsBuilt z) (n : DomainName) where
     abbrev typed : List ResourceRecord
     typed = filter (λ (r : ResourceRecord). r.rtype == t) (at z n)
 
-    -- they stand in their order already
+    -- they are already in order
     pub of_type_is : typed ≡ rrset z n t
     of_type_is =
         sym (unmoved data_order data_order_total typed
@@ -78,7 +78,7 @@ module _ (z : ZoneContents) (kept : IsBuilt z) (n : DomainName) where
     pub are_of_type : AreOfType (rrset z n t)
     are_of_type = of_one_type t (rrset z n t) read_set
 
-    -- RFC 2181 5.2, and the limit of a set
+    -- RFC 2181 5.2, and the limit on the size of a set
     few : length (rrset z n t) ≤ 64
     few = grind (arith, count_few, lows, length-sort_by, data_order, typed)
 

@@ -1,11 +1,11 @@
--- The records of a name of a zone, by their types, and what is found for a target.
+-- The records of a name of a zone, ordered by type, and the lookup of a target.
 use Rattle.dns_zone.proofs.Common.{◌≡◌, ℕ, ◌≤◌, true, false, ◌==◌, sym, ◌∙◌, arith, is_gt, Equal, cases_lt, le-ltb, ne_eqb, true≢false, list_any, IsNonDecreasingBy, DomainName, same, name_order, ResourceRecord, ZoneContents, at, owns, record_order, filter_each, AreOrdered}
 use Rattle.dns_zone.proofs.NameOrder.{same-is, same-from, same-tied}
 use Rattle.dns_zone.proofs.AtName.{ordered_records}
 use Rattle.dns_spec.proofs.General.Tests.{any_filter}
 use Rattle.dns_spec.proofs.General.Pairs.{pairs_of, pairs_filter, rising}
 
--- the records of one name stand by their types
+-- the records of one name are ordered by type
 type_up_to : (r s : ResourceRecord)
     → name_order r.owner s.owner ≡ Equal → is_gt (record_order r s) ≡ false → r.rtype ≤ s.rtype
 type_up_to r s e h = grind (arith, cases_lt, le-ltb, ne_eqb, true≢false)

@@ -11,12 +11,12 @@ use Rattle.dns_spec.proofs.General.Filters.{filter_all, filter_within}
 use Rattle.dns_spec.proofs.General.Pairs.{Pairs, pairs_filter, unmoved}
 use Rattle.dns_spec.proofs.General.Fronts.{front}
 
--- of records of a name the first one need not be looked at
+-- the first of a name's records is counted without a test
 pub one_more : (n : DomainName) (r : ResourceRecord) (rs : List ResourceRecord) (k : ℕ)
     → n ≡ r.owner → k ≡ prefix_len (is_at n) rs → 1 + k ≡ prefix_len (is_at n) (r ∷ rs)
 one_more n r rs k e f = grind (arith, is_at, same-from)
 
--- a part of ordered records is ordered
+-- the records that pass a test remain ordered
 ordered_filter : (p : ResourceRecord → Bool) (rs : List ResourceRecord)
     → AreOrdered rs → AreOrdered (filter p rs)
 ordered_filter p rs h = unmoved record_order record_order_total (filter p rs)
@@ -29,7 +29,7 @@ module _ (z : ZoneContents) where
   pub all_owners : AreOrdered z.records → HasOwners z z.records
   all_owners h = grind (arith, All-from_recursion, IsAll, each_always)
 
-  -- a test of owners keeps all records of an owner or none
+  -- a test of owners keeps all records of an owner, or none
   pub kept_owners : (p : ResourceRecord → Bool) (rs : List ResourceRecord)
       → ((s r : ResourceRecord) → same s.owner r.owner ≡ true → p r ≡ true → p s ≡ true)
       → HasOwners z rs → HasOwners z (filter p rs)
@@ -66,7 +66,7 @@ module _ (z : ZoneContents) where
     pub first_parted : IsPartitionedBy (is_at r.owner) (r ∷ rs)
     first_parted = search (arith, at_in_front, owners_in_order, itself-under, itself)
 
--- the owners are that of the first record, and those of the records at other names
+-- the owners are the first record's, and the owners of the records at other names
 without_first : (p : ResourceRecord → Bool) (r : ResourceRecord) (rs : List ResourceRecord)
     → p r ≡ true → filter (λ s. not (p s)) (r ∷ rs) ≡ filter (λ s. not (p s)) rs
 without_first p r rs e = grind (arith, filter)
@@ -108,7 +108,7 @@ pub record Step
   pub fewer : length others < length rs
   pub first : (o : DomainName) → first_owner o own ≡ n
 
--- how the walk takes the records of a name from the others
+-- how the walk separates the records of a name from the others
 pub record IsTaken (n : DomainName) (k : ℕ) (rs own others : List ResourceRecord) : Type 0 where
   pub count : k ≡ prefix_len (is_at n) rs
   pub own_is : own ≡ take k rs

@@ -1,7 +1,7 @@
--- A record's line goes out in four parts, and the records of a list one after another.
+-- A record's line is written in four parts, and the records of a list one after another.
 use Rattle.dns_zone.proofs.Common.{◌≡◌, ℕ, ◌+◌, ◌<◌, Bool, true, false, Option, List, ◌∷◌, ◌++◌, length, drop, get_or, sym, ap, ◌∙◌, filter, flat_map, append_assoc, codes, decimal, add-one, arith, drop-cons, Octets, name_text, type_text, data_text, ResourceRecord, ZoneContents, record_line, soa_first, zone_text, AppendsAllBut, held_before, AreOrdered}
 
--- what stands in a line up to the type
+-- a record's line up to its type
 abbrev pub front_text : ResourceRecord → Octets
 front_text r = ((name_text r.owner ++ codes " ") ++ decimal r.ttl) ++ codes " IN "
 
@@ -9,7 +9,7 @@ regroup : (t a b c d e f g h : Octets) → t ++ (a ++ b ++ c ++ d ++ e ++ f ++ g
     ≡ ((((t ++ (((a ++ b) ++ c) ++ d)) ++ e) ++ f) ++ g) ++ h
 regroup t a b c d e f g h = simp append_assoc
 
--- the line of a record is to come after what is held, of which its front and its type are put
+-- a record's line follows the held text, to which its front and its type were added
 pub line_held : (old new : Option (List ℕ)) (whole held start front d : Octets)
     (r s : ResourceRecord) → AppendsAllBut old new whole held → start ≡ front_text r
     → s ≡ r → front ≡ ((held ++ start) ++ type_text s.rtype) ++ codes " " → d ≡ r.rdata
@@ -17,7 +17,7 @@ pub line_held : (old new : Option (List ℕ)) (whole held start front d : Octets
 line_held old new whole held start front d r s so e same f g =
     search (arith, regroup, held_before)
 
--- a record of a list that is chosen, or is not
+-- whether a record of a list is chosen
 module _ (p : ResourceRecord → Bool) (rs : List ResourceRecord)
     (r : ResourceRecord) (i : ℕ) (h : i < length rs) (e : r ≡ get_or rs i r) where
   here : drop i rs ≡ r ∷ drop (i + 1) rs

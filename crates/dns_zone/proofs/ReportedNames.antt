@@ -1,4 +1,4 @@
--- The names that faults are reported of: the origin, and each owner once.
+-- The names for which faults are reported: the origin, and each owner once.
 use Rattle.dns_zone.proofs.Common.{◌≡◌, ℕ, suc, Bool, true, false, cond, ◌⊎◌, inl, inr, List, [], ◌∷◌, ◌++◌, map, refl, sym, ap₂, ◌==◌, ◌&&◌, filter, is_gt, Less, arith, false≢true, true≢false, and_parts, eqb-true, if◌then◌else◌, DomainName, folded, same, name_order, ResourceRecord, ZoneContents, distinct, Check, checks, checked_names, folded_folded, name_tie, name_order_total, one_lower, Lower, tied_back, alike_right, AllByRecursion, Among, Rises, each_weaker, sort_rises, apart_distinct, distinct_among, sort_among, among_sort, among_distinct, same_risen, failed_from, begins_with_owner, owners_once, reported_at}
 use Rattle.dns_zone.proofs.NameOrder.{same-is, same-from, same-tied}
 use Rattle.dns_zone.proofs.AtName.{OwnerNotAfter}
@@ -47,7 +47,7 @@ less_other : (n m : DomainName)
     → is_gt (name_order n m) ≡ false → same m n ≡ false → name_order n m ≡ Less
 less_other n m h s = grind (arith, false≢true, name_tie, tied_back, name_order_total, true≢false)
 
--- after an owner that is not that of the next record, all owners are greater
+-- after the last record of an owner, all owners are greater
 pub greater_after : (r : ResourceRecord) (rs : List ResourceRecord)
     → Pairs OwnerNotAfter (r ∷ rs) → begins_with_owner r.owner rs ≡ false
     → AllByRecursion (λ s. name_order (folded r.owner) (folded s.owner) ≡ Less) rs
@@ -65,7 +65,7 @@ once_rise (r ∷ rs) h = go (begins_with_owner r.owner rs) refl (once_rise rs h.
     go false e f =
         (each_once (λ n. name_order (folded r.owner) n ≡ Less) rs (greater_after r rs h e), f)
 
--- which names there are
+-- the owners of records
 abbrev pub owners : List ResourceRecord → List DomainName
 owners rs = map (λ (r : ResourceRecord). folded r.owner) rs
 
@@ -129,7 +129,7 @@ module _ (z : ZoneContents) where
       go (inl e) = inl e
       go (inr k) = inr (once_among a z.records k)
 
-  -- names that rise, and are the origin and all owners, are those
+  -- rising names that are the origin and all owners are the checked names
   pub names_checked : (ns : List DomainName) → Rises name_order ns → ((a : DomainName)
       → Among a ns → IsName a) → ((a : DomainName) → IsName a → Among a ns) → ns ≡ checked_names z
   names_checked ns rise f g =

@@ -1,4 +1,4 @@
--- What the search is given where several functions ask the same.
+-- Rule sets that several functions use.
 use Rattle.dns_zone.proofs.Common.{IsPermutation-trans, IsWireForm-wire, labels_of_spelled}
 
 pub ruleset wire_steps = (IsWireForm-wire, labels_of_spelled)

@@ -1,4 +1,4 @@
--- What the neighbours among records that stand by their types tell of the RRsets of an owner.
+-- Adjacent records, ordered by type, decide the checks of an owner's RRsets.
 use Rattle.dns_zone.proofs.Common.{◌≡◌, ℕ, zero, suc, ◌+◌, ◌<◌, ◌≤◌, Bool, true, false, ◌&&◌, ◌||◌, not, cond, nat_lt, eqb, ◌==◌, List, [], ◌∷◌, map, length, drop, refl, sym, ap, ap₂, ◌∙◌, arith, filter, add-one, drop-drop, drop_all, ltb-false, eqb-true, ne_eqb, eqb-false, eq-eqb, cases_lt, lt-ltb, le-ltb, or_right, or_parts, list_any, ResourceRecord, distinct, zip, begins_with_type, sets_ended, AllByRecursion, each_weaker, each_distinct}
 use Rattle.dns_spec.proofs.General.Elements.{each_map}
 use Rattle.dns_spec.proofs.General.Filters.{filter_all, filter_again}
@@ -30,7 +30,7 @@ abbrev neighbours_differ : List ResourceRecord → Bool
 neighbours_differ [] = false
 neighbours_differ (r ∷ rs) = next_differs r rs || neighbours_differ rs
 
--- where neighbours do not differ, none does
+-- if no adjacent records differ, none do
 none_differs : (r s : ResourceRecord) (rs : List ResourceRecord) → TypeUpTo r s → Pairs TypeUpTo (s
     ∷ rs) → neighbours_differ (s ∷ rs) ≡ false → differ r s ≡ false → list_any (differ r) rs ≡ false
 none_differs r s [] l h n d = refl
@@ -70,11 +70,11 @@ pub ttls-in_pairs : (rs : List ResourceRecord) → Pairs TypeUpTo rs → list_an
     (λ p. differ p.0 p.1) (zip rs (drop 1 rs)) ≡ list_any (λ r. list_any (differ r) rs) rs
 ttls-in_pairs rs h = in_pairs rs ∙ sym (ttls-walk rs h)
 
--- sizes
+-- the sizes of RRsets
 abbrev of_number : ℕ → List ResourceRecord → List ResourceRecord
 of_number t rs = filter (λ (s : ResourceRecord). s.rtype == t) rs
 
--- k records after the next one of some record stands one of its type
+-- some record and the one k + 1 places after it have one type
 abbrev repeats_after : ℕ → List ResourceRecord → Bool
 repeats_after k [] = false
 repeats_after k (r ∷ rs) = begins_with_type r.rtype (drop k rs) || repeats_after k rs
@@ -103,7 +103,7 @@ above_all : (t : ℕ) (s : ResourceRecord) (rs : List ResourceRecord)
     → AllByRecursion (λ (q : ResourceRecord). t < q.rtype) rs
 above_all t s rs l e = grind (arith, each_weaker, TypeUpTo)
 
--- more than k of them are of the least type exactly where the one k after the first is
+-- more than k records have the least type if and only if the one k places after the first has it
 run_after : (t k : ℕ) (rs : List ResourceRecord)
     → AllByRecursion (λ (s : ResourceRecord). t ≤ s.rtype) rs
     → Pairs TypeUpTo rs → nat_lt k (length (of_number t rs)) ≡ begins_with_type t (drop k rs)
@@ -148,7 +148,7 @@ in_runs k (r ∷ rs) =
     go (q ∷ qs) d h = ap₂ ◌||◌ (eqb_turned r.rtype q.rtype)
         (ap (λ xs. list_any same_type (zip rs xs)) (sym d) ∙ h)
 
--- none where there are no more records
+-- false if there are at most k records
 pub few_in_runs : (k : ℕ) (rs : List ResourceRecord) → length rs ≤ k
     → list_any same_type (zip rs (drop k rs)) ≡ false
 few_in_runs k rs few = ap (λ xs. list_any same_type (zip rs xs)) (drop_all k rs few) ∙ no_pairs rs
@@ -157,7 +157,7 @@ pub large-in_runs : (k : ℕ) (rs : List ResourceRecord) → Pairs TypeUpTo rs
     → list_any same_type (zip rs (drop (suc k) rs)) ≡ list_any (is_large k rs) rs
 large-in_runs k rs h = in_runs k rs ∙ sym (large-walk k rs h)
 
--- how many types
+-- the number of types
 abbrev number_types : List ResourceRecord → ℕ
 number_types rs = length (distinct ◌==◌ (map (λ (r : ResourceRecord). r.rtype) rs))
 
@@ -201,7 +201,7 @@ types-walk (r ∷ s ∷ rs) h = go (eqb s.rtype r.rtype) refl (types-walk (s ∷
         in
         omega (arith, ap length kept)
 
--- no more RRsets than records
+-- there are at most as many RRsets as records
 pub sets_upto : (rs : List ResourceRecord) → sets_ended rs ≤ length rs
 sets_upto [] = omega arith
 sets_upto (r ∷ rs) = grind (arith, (sets_upto rs))

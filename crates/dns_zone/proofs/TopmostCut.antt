@@ -1,4 +1,4 @@
--- The topmost cut that a name is at or below, by the octets of keys.
+-- The topmost cut that a name is at or below, found by comparing keys.
 use Rattle.dns_zone.proofs.Common.{◌≡◌, ℕ, ◌+◌, ◌<◌, ◌≤◌, Bool, true, false, ◌&&◌, cond, ◌==◌, nat_lt, ◌⊎◌, inl, inr, [], ◌∷◌, length, take, drop, map, refl, sym, ap, ◌∙◌, subst, arith, is_gt, length-append, length-take, take-append-le, min-eq_left, take-append_seam, starts_with, DomainName, folded, same, at_or_below, below, name_order, type_ns, ZoneContents, owns, is_cut, false≢true, and_parts, and_from, and_right, or_cases, or_left, or_right, cases_lt, lt-ltb, le-ltb, ltb-true, leb-true, at_or_below_cut, below_cut, octets_equal-decides, same_tests, at_or_below-cons, raised, ended, name_key, IsCutAbove, IsTopmost}
 use Rattle.dns_zone.proofs.KeyPrefix.{under_begins, starts_under, some}
 use Rattle.dns_zone.proofs.NameOrder.{same-is, same-from}
@@ -10,7 +10,7 @@ itself n = itself-under n n (same-from n n refl)
 one_name : (n m : DomainName) → folded n ≡ n → folded m ≡ m → same n m ≡ true → n ≡ m
 one_name n m p q h = sym p ∙ same-is n m h ∙ q
 
--- the key of a name at or below another is as long at least
+-- the key of a name at or below another is at least as long
 no_shorter : (n m : DomainName) → folded n ≡ n → folded m ≡ m → at_or_below n m ≡ true
     → length (name_key m) ≤ length (name_key n)
 no_shorter n m p q h = grind (arith, under_begins, length-append)
@@ -51,7 +51,7 @@ module _ (z : ZoneContents) where
           (ap (is_cut z) (one_name (l ∷ n) c low d e) ∙ is)
       go (inr e) f = or_right (is_cut z (l ∷ n)) (at_or_below_cut z n) (f e)
 
-  -- what the number of octets tells of a name
+  -- the length of the key determines the cut
   module _ (n : DomainName) (low : folded n ≡ n) (k : ℕ) (t : IsTopmost z n k) where
     pub topmost_fits : k ≤ length (name_key n)
     topmost_fits = grind (arith, cases_lt, no_shorter)
@@ -102,7 +102,7 @@ module _ (z : ZoneContents) where
   pub topmost_none : (n : DomainName) → length n ≤ length z.origin → IsTopmost z n 0
   topmost_none n short = grind (arith, some, and_parts, ltb-true, leb-true)
 
-  -- a name whose one cut is itself
+  -- a name that can only be its own cut
   pub alone : (n : DomainName) → folded n ≡ n → ((c : DomainName) → folded c ≡ c → is_cut z c ≡ true
       → at_or_below n c ≡ true → c ≡ n) → IsTopmost z n (cond (is_cut z n) (length (name_key n)) 0)
   alone n low only = go (is_cut z n) refl
@@ -131,7 +131,7 @@ module _ (z : ZoneContents) where
         least = grind arith;
       }
 
-  -- A name after another, whose cuts are not after that one, or the name itself.
+  -- A name after another: each of its cuts is the name itself, or not after the other.
   module _ (o n : DomainName) (low_o : folded o ≡ o) (low_n : folded n ≡ n) (k : ℕ)
       (t : IsTopmost z o k) (upto : is_gt (name_order o n) ≡ false)
       (cuts : (c : DomainName) → folded c ≡ c → is_cut z c ≡ true → at_or_below n c ≡ true
@@ -139,7 +139,7 @@ module _ (z : ZoneContents) where
     abbrev pub covers : Bool
     covers = nat_lt 0 k && starts_with ◌==◌ (name_key n) (take k (name_key o))
 
-    -- the cut above both is the topmost
+    -- the cut above both names is the topmost
     pub covered : covers ≡ true → IsTopmost z n k
     covered h =
         let parts = and_parts (nat_lt 0 k) _ h in
@@ -168,7 +168,7 @@ module _ (z : ZoneContents) where
         go s f c d is u (inl e) = (s, subst (λ m. k ≤ length (name_key m)) (sym e) f)
         go s f c d is u (inr p) = t.least c d is (between c o n p upto u)
 
-    -- where there is none, it is the name itself
+    -- if there is no such cut, only the name itself may be one
     pub uncovered : covers ≡ false → IsTopmost z n (cond (is_cut z n) (length (name_key n)) 0)
     uncovered h = alone n low_n (λ c d is u. go c d is u (cuts c d is u))
       where

@@ -1,10 +1,10 @@
--- Records that stand by their types: the types of one owner.
+-- The records of one owner, ordered by type.
 use Rattle.dns_zone.proofs.Common.{◌≡◌, ◌==◌, ℕ, ◌-◌, ◌<◌, ◌≤◌, length, get_or, Bool, true, not, nat_lt, List, [], sym, ◌∙◌, arith, filter, eqb-true, eq-eqb, ne_eqb, le-ltb, take_all, IsPartitionedBy, IsNonDecreasingBy, ResourceRecord, filter_each}
 use Rattle.dns_spec.proofs.General.Filters.{filter_within}
 use Rattle.dns_spec.proofs.General.Pairs.{pairs_of, pairs_filter, pairs_rising, parted}
 use Rattle.dns_spec.proofs.General.Fronts.{halves}
 
--- records by their types: those of a type stand in front of those that are not below it
+-- the records of a type come first among the records whose type is not lower
 module _ (t : ℕ) where
   abbrev of_t : ResourceRecord → Bool
   of_t r = r.rtype == t
@@ -27,7 +27,7 @@ module _ (t : ℕ) where
   pub type_others : (rs : List ResourceRecord) → filter of_t (filter not_below rs) ≡ filter of_t rs
   type_others rs = grind (arith, filter_within, eqb-true, le-ltb)
 
-  -- where the first and the last one have the type, all have
+  -- if the first and the last record have the type, all have it
   pub all_of_type : (rs : List ResourceRecord) → IsNonDecreasingBy (λ (r : ResourceRecord). r.rtype)
       rs → 0 < length rs → ((d : ResourceRecord) → (get_or rs 0 d).rtype ≡ t)
       → ((d : ResourceRecord) → (get_or rs (length rs - 1) d).rtype ≡ t) → rs ≡ filter of_t rs
@@ -43,7 +43,7 @@ module _ (t : ℕ) where
         λ k d a b. absurd (omega arith),
       )).0
 
-  -- where the first one is of a type above, none has the type
+  -- if the first record's type is greater, none has the type
   pub none_above : (rs : List ResourceRecord) → IsNonDecreasingBy (λ (r : ResourceRecord). r.rtype)
       rs → ((d : ResourceRecord) → t < (get_or rs 0 d).rtype) → [] ≡ filter of_t rs
   none_above rs h first = (halves of_t rs 0 (omega arith) (
@@ -54,7 +54,7 @@ module _ (t : ℕ) where
         ne_eqb (get_or rs k d).rtype t (λ e. absurd (omega (arith, from, first d, e))),
   )).0
 
-  -- where the last one is of a type below, none has the type
+  -- if the last record's type is lower, none has the type
   pub none_below : (rs : List ResourceRecord) → IsNonDecreasingBy (λ (r : ResourceRecord). r.rtype)
       rs → ((d : ResourceRecord) → (get_or rs (length rs - 1) d).rtype < t) → [] ≡ filter of_t rs
   none_below rs h last = (halves of_t rs 0 (omega arith) (

@@ -1,4 +1,4 @@
--- How the way down to a name goes on from the name above it.
+-- The way down to a name, from the way to the name above it.
 use Rattle.dns_zone.proofs.Common.{◌≡◌, ℕ, suc, ◌+◌, ◌≤◌, Bool, true, false, cond, ◌||◌, ◌&&◌, List, [], ◌∷◌, map, reverse, length, None, Some, refl, sym, ap, ◌∙◌, arith, false≢true, and_parts, ltb-true, false_from_ne_true, length-map, reverse-append, to_ascii_lowercase, option_or, is_some, Octets, DomainName, folded, names_equal, same, at_or_below, below, suffixes, type_ns, ResourceRecord, ZoneContents, at, owns, rrset, sort_by, insert_by, data_order, set_of, folded_folded, find-append, find, filter, list_any, exists, is_cut, cut_of, closest_encloser, without_first, at_or_below-cons, same-length}
 use Rattle.dns_zone.proofs.ChildNames.{cons_under}
 use Rattle.dns_zone.proofs.NameTree.{under-trans}
@@ -37,7 +37,7 @@ pub cut-none : (z : ZoneContents) (l : Octets) (n : DomainName)
     → cut_of z n ≡ None → is_cut z (folded (l ∷ n)) ≡ false → cut_of z (l ∷ n) ≡ None
 cut-none z l n e f = grind (arith, cut_from, option_or, is_cut, folded, Some, None)
 
--- records of a type make a set where there is one
+-- an RRset exists if and only if a record of its type does
 insert_some : (r : ResourceRecord) (rs : List ResourceRecord)
     → is_some (set_of (insert_by data_order r rs)) ≡ true
 insert_some r [] = refl
@@ -56,7 +56,7 @@ pub set-owned : (z : ZoneContents) (n : DomainName) (t : ℕ)
     → is_some (set_of (rrset z n t)) ≡ owns z n t
 set-owned z n t = grind (arith, sorted_some, filtered_some, own_owns)
 
--- a name below the origin is a cut where it owns NS
+-- a name below the origin is a cut if and only if it owns NS
 pub cut-by_set : (z : ZoneContents) (n : DomainName)
     → below n z.origin ≡ true → is_cut z n ≡ is_some (set_of (rrset z n type_ns))
 cut-by_set z n h = ap (λ b. b && owns z n type_ns) h ∙ sym (set-owned z n type_ns)
@@ -89,7 +89,7 @@ pub encloser-above : (z : ZoneContents) (l : Octets) (n : DomainName)
 encloser-above z l n e = first_suffix z (folded n) ∙ ap (λ b. cond b (Some (folded n))
     (find (exists z) (without_first (suffixes (folded n))))) (exists-folded z n ∙ e)
 
--- at the origin no cut is on the way
+-- no cut is at the origin or above it
 short_cut : (z : ZoneContents) (n : DomainName) → length n ≤ length z.origin → is_cut z n ≡ false
 short_cut z n h = grind (arith, ltb-true)
 
@@ -99,6 +99,6 @@ no_cut-at_origin z [] h = ap (λ b. cond b (Some []) None) (short_cut z [] h)
 no_cut-at_origin z (l ∷ n) h = cut-none z l n (no_cut-at_origin z n (omega arith))
     (short_cut z (folded (l ∷ n)) (omega (arith, length-map (l ∷ n) (map to_ascii_lowercase))))
 
--- the records at a name, by its lower case
+-- the case of a name does not matter for its records
 pub at-folded : (z : ZoneContents) (n : DomainName) → at z (folded n) ≡ at z n
 at-folded z n = grind (arith, filter, names_equal, folded, folded_folded)

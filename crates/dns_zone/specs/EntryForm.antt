@@ -1,17 +1,17 @@
--- What a reader learns here: how the owner and the data of a record stand in one piece of memory.
+-- The layout of a record's owner and data in one list of octets.
 use Rattle.std.specs.Prelude.{ℕ, ◌<◌, ◌≤◌, All, length, take, drop}
 use Rattle.dns_spec.specs.Names.{Octets, DomainName}
 use Rattle.dns_name.specs.WireForm.{labels_of, IsWireForm}
 use Rattle.dns_master.specs.RecordForm.{IsKept}
 
--- the owner, whose wire form the first k octets are, and the data, which are the others
+-- the owner: the first k octets are its wire form
 abbrev pub owner_in : ℕ → Octets → DomainName
 owner_in k xs = labels_of (take k xs)
 
 abbrev pub data_in : ℕ → Octets → Octets
 data_in k xs = drop k xs
 
--- what is kept of a record in such octets
+-- an invariant of such octets, with the record's TTL and type
 pub record IsEntry (k : ℕ) (xs : Octets) (ttl t : ℕ) : Type 0 where
   pub fits : k ≤ length xs
   pub wire : IsWireForm (take k xs)

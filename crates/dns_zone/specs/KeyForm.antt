@@ -1,37 +1,36 @@
--- What a reader learns here: octets that stand in the order of names, by which names are sorted and
--- found.
+-- Keys: octets in the order of names, by which names are sorted and found.
 use Rattle.std.specs.Prelude.{◌≡◌, ℕ, ◌+◌, ◌<◌, true, [], ◌∷◌, ◌++◌, length, take, map, nat_lt, if◌then◌else◌}
 use Rattle.dns_spec.specs.Names.{Octets, DomainName, wire, is_name}
 
--- An octet of a name in lower case, where 65 to 90 do not stand: those below are one more, so that
--- 0 is left to end a label.
+-- An octet of a name in lower case, in which 65 to 90 do not occur. Octets below 65 are raised by
+-- one, so that 0 is free to end a label.
 abbrev pub raised : ℕ → ℕ
 raised o = if nat_lt o 65 then o + 1 else o
 
--- a label, and its end, which comes before all octets
+-- a label and its end marker 0, which sorts before all octets
 abbrev pub ended : Octets → Octets
 ended l = map raised l ++ 0 ∷ []
 
--- the labels of a name from the right, each ended
+-- the labels of a name from the right, each with its end marker
 abbrev pub name_key : DomainName → Octets
 name_key [] = []
 name_key (l ∷ n) = name_key n ++ ended l
 
--- the same octets follow what is left of two runs
+-- two lists end with the same octets after `left` and `right`
 pub record GoOnAlike (one left other right : Octets) : Type 0 where
   pub end : Octets
   pub whole_one : one ≡ left ++ end
   pub whole_other : other ≡ right ++ end
 
--- so many octets at the ends of two runs are the same
+-- the last `count` octets of two lists are equal
 pub record AreAlike (count : ℕ) (one other : Octets) : Type 0 where
   pub left : Octets
   pub right : Octets
   pub same : GoOnAlike one left other right
   pub size : length same.end ≡ count
 
--- A key begins as that of a name does, whose wire form ends with the same octets as another, so
--- many.
+-- A key begins as some name's key does; the last `count` octets of that name's wire form equal
+-- those of `octets`.
 pub record BeginsAs (count : ℕ) (octets key : Octets) : Type 0 where
   pub name : DomainName
   pub is_name : is_name name ≡ true

@@ -1,14 +1,14 @@
--- What a reader learns here: how the keys of the owners of records stand in octets that all share.
+-- The keys of the owners of records, in one shared list of octets.
 use Rattle.std.specs.Prelude.{◌≡◌, ℕ, ◌-◌, ◌<◌, List, length, take, drop, get_or}
 use Rattle.dns_spec.specs.Names.{Octets, DomainName, wire}
 use Rattle.dns_spec.specs.Records.{ResourceRecord}
 use Rattle.dns_zone.specs.KeyForm.{name_key}
 
--- as many octets from a start on as the key of a name has, one less than its wire form
+-- the octets from a start on, as many as the key of a name has: one less than its wire form
 abbrev pub key_in : Octets → ℕ → DomainName → Octets
 key_in keys start n = take (length (wire n) - 1) (drop start keys)
 
--- the key of each record's owner begins at its start
+-- the key of each record's owner begins at the record's start
 pub record AreKeyed (keys : Octets) (rs : List ResourceRecord) (starts : List ℕ) : Type 0 where
   pub count : length starts ≡ length rs
   pub each : (i : ℕ) (r : ResourceRecord) (s : ℕ) → i < length rs

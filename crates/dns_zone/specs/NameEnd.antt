@@ -1,9 +1,9 @@
--- What a reader learns here: which end of a name is the shortest that has so many octets.
+-- The shortest suffix of a name with at least a given number of octets.
 use Rattle.std.specs.Prelude.{ℕ, [], ◌∷◌, length, nat_lt, if◌then◌else◌}
 use Rattle.dns_spec.specs.Names.{DomainName, wire}
 
--- the last labels of a name, as few as have `least` octets or more on the wire; all of them where
--- it has fewer
+-- The shortest suffix of a name that has `least` octets or more on the wire, or the whole name if
+-- it is shorter.
 abbrev pub ending : ℕ → DomainName → DomainName
 ending least [] = []
 ending least (l ∷ n) = if nat_lt (length (wire n)) least then l ∷ n else ending least n

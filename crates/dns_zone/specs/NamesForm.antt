@@ -1,5 +1,4 @@
--- What a reader learns here: the names of a zone that are checked, as a list, and what is kept of
--- each.
+-- The list of names of a zone to be checked, and an invariant of each.
 use Rattle.std.specs.Prelude.{◌≡◌, ℕ, ◌+◌, get_or, ◌<◌, ◌≤◌, ◌==◌, ◌&&◌, not, ◌⊎◌, nat_lt, Bool, true, false, List, [], ◌∷◌, map, length, take}
 use Rattle.std.specs.List.{AllByRecursion, starts_with}
 use Rattle.std.specs.Ordering.{is_gt, nat_cmp}
@@ -15,7 +14,7 @@ use Rattle.dns_zone.specs.ReportedForm.{owners_once}
 use Rattle.dns_zone.specs.declared.checks.names.CheckedName.{CheckedName}
 use Rattle.dns_spec.proofs.General.Elements.{Among}
 
--- the records of a name, and the name: the origin is the one that may have no records
+-- the records of a name, and the name; only the origin may have no records
 abbrev pub own_in : List ResourceRecord → CheckedName → List ResourceRecord
 own_in rs c = span rs c.first c.end
 
@@ -34,28 +33,28 @@ pub record IsCutAbove (z : ZoneContents) (n : DomainName) (k : ℕ) : Type 0 whe
   pub above : at_or_below n cut ≡ true
   pub octets : k ≡ length (name_key cut)
 
--- The key of the topmost cut that a name is at or below has k octets: no other such cut has fewer.
--- It is 0 where there is none.
+-- The key of the topmost cut that a name is at or below has k octets: no other such cut has a
+-- shorter key. k is 0 if there is no such cut.
 pub record IsTopmost (z : ZoneContents) (n : DomainName) (k : ℕ) : Type 0 where
   pub some : 0 < k → IsCutAbove z n k
   pub least : (c : DomainName) → folded c ≡ c → is_cut z c ≡ true → at_or_below n c ≡ true
       → (0 < k) × (k ≤ length (name_key c))
 
--- a key begins with some octets of another, one at least
+-- a key begins with the first k octets of another, and k is not 0
 abbrev pub is_covered : ℕ → Octets → Octets → Bool
 is_covered k last key = nat_lt 0 k && starts_with ◌==◌ key (take k last)
 
--- the key of a name does not stand after this one
+-- the name is not after the name with this key
 abbrev pub is_upto : Octets → CheckedName → Bool
 is_upto key c = not (is_gt (slice_cmp nat_cmp c.key.now key))
 
--- the element at place i is the last that passes
+-- the element at place i is the last one that passes the test
 pub record IsLastAt {X : Type 0} (p : X → Bool) (xs : List X) (i : ℕ) : Type 0 where
   pub fits : i < length xs
   pub passes : (d : X) → p (get_or xs i d) ≡ true
   pub fails : (d : X) → i + 1 < length xs → p (get_or xs (i + 1) d) ≡ false
 
--- what is kept of a name
+-- an invariant of a checked name
 pub record IsChecked (z : ZoneContents) (n : DomainName) (c : CheckedName) : Type 0 where
   pub owner : IsOwner z n (own_in z.records c)
   pub rising : c.first ≤ c.end
@@ -63,7 +62,7 @@ pub record IsChecked (z : ZoneContents) (n : DomainName) (c : CheckedName) : Typ
   pub key : c.key.now ≡ name_key n
   pub topmost : IsTopmost z n c.cut
 
--- all names that are checked, in canonical order
+-- all checked names, in canonical order
 pub record AreChecked (z : ZoneContents) (names : List CheckedName) : Type 0 where
   pub each : AllByRecursion (λ c. IsChecked z (name_of z c) c) names
   pub all : map (name_of z) names ≡ checked_names z
@@ -73,8 +72,8 @@ pub record AreOwners (z : ZoneContents) (names : List CheckedName) : Type 0 wher
   pub each : AllByRecursion (λ c. IsChecked z (name_of z c) c) names
   pub all : map (name_of z) names ≡ owners_once z.records
 
--- An owner n that comes next in order after a name o, with the keys of both and of the origin: a
--- cut that it is at or below is not after o, or the owner itself.
+-- An owner n that follows a name o in order, with the keys of both and of the origin. Each cut
+-- that n is at or below is either n itself or not after o.
 pub record ComesNext (z : ZoneContents) (o n : DomainName) (cut : ℕ)
     (origin last key : Octets) (own : List ResourceRecord) : Type 0 where
   pub origin_key : origin ≡ name_key z.origin
@@ -88,14 +87,14 @@ pub record ComesNext (z : ZoneContents) (o n : DomainName) (cut : ℕ)
   pub cuts : (c : DomainName) → folded c ≡ c → is_cut z c ≡ true → at_or_below n c ≡ true
       → (c ≡ n) ⊎ (is_gt (name_order c o) ≡ false)
 
--- the last of the names that are checked, of those that are not after a name
+-- the last checked name that is not after a name
 pub record IsLastUpto (z : ZoneContents) (n : DomainName) (c : CheckedName) : Type 0 where
   pub checked : IsChecked z (name_of z c) c
   pub upto : is_gt (name_order (name_of z c) n) ≡ false
   pub last : (m : DomainName) → Among m (checked_names z) → is_gt (name_order m n) ≡ false
       → is_gt (name_order m (name_of z c)) ≡ false
 
--- what a zone under check keeps
+-- an invariant of a zone under check
 pub record IsSurvey (z : ZoneContents) (key : Octets) (names : List CheckedName) : Type 0 where
   pub key_is : key ≡ name_key z.origin
   pub lower : folded z.origin ≡ z.origin

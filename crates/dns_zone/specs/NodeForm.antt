@@ -1,4 +1,4 @@
--- What a reader learns here: what the tree of a zone keeps, and which name a row of it stands for.
+-- Invariants of the tree of a zone, and the node of each row.
 use Rattle.std.specs.Prelude.{◌≡◌, ◌⊎◌, ℕ, ◌<◌, ◌≤◌, Bool, true, List, All, None, map, length, get_or}
 use Rattle.dns_spec.specs.Names.{at_or_below}
 use Rattle.dns_spec.specs.Records.{ResourceRecord, ZoneContents}
@@ -15,7 +15,7 @@ pub record IsLeadRow (z : ZoneContents) (rows : List Row) (rtype k : ℕ) : Type
   pub row : k < length rows
   pub lead : IsLead z rtype (row_name z.records (row_at rows k))
 
--- the row of a record's lead, where one is kept; 0 stands for none
+-- the row of a record's lead, or 0 if it has none
 abbrev pub IsLeadAt : ZoneContents → List Row → ℕ → ℕ → Type 0
 IsLeadAt z rows rtype k = (k ≡ 0) ⊎ IsLeadRow z rows rtype k
 
@@ -28,7 +28,7 @@ abbrev pub AreLeads : ZoneContents → List Row → List ℕ → Type 0
 AreLeads z rows leads =
     (j : ℕ) → j < length leads → IsLeadAt z rows (type_at z.records j) (get_or leads j 0)
 
--- what the tree of a zone keeps
+-- an invariant of a zone's tree
 pub record IsZoneTree (t : Tree) : Type 0 where
   pub built : IsBuilt t.zone
   pub tree : IsTree t.zone.origin t.zone.records t.rows t.bounds
@@ -43,12 +43,12 @@ pub record IsNodeAt (t : Tree) (k : ℕ) : Type 0 where
   pub kept : IsZoneTree t
   pub row : k < length t.rows
 
--- the ways to targets through a tree: to those of aliases, or to those of other records
+-- a way to targets through a tree: targets of aliases, or of other records
 pub record TargetWay : Type 0 where
   pub tree : Tree
   pub is_of_alias : Bool
 
--- the row of the origin, or of a name below it that may be a lead
+-- the row of the origin, or of a name below it that may be a lead on this way
 pub record IsOnWay (w : TargetWay) (k : ℕ) : Type 0 where
   pub at : IsNodeAt w.tree k
   pub inside : at_or_below (node_at w.tree k).name w.tree.zone.origin ≡ true
@@ -56,7 +56,7 @@ pub record IsOnWay (w : TargetWay) (k : ℕ) : Type 0 where
   pub long : length w.tree.zone.origin ≤ length (node_at w.tree k).name
   pub uncut : w.is_of_alias ≡ true → cut_of w.tree.zone (node_at w.tree k).name ≡ None
 
--- the names on a way
+-- an invariant of the names on a way
 pub record IsWay (w : TargetWay) (names : List Step) : Type 0 where
   pub kept : IsZoneTree w.tree
   pub each : All (λ (s : Step). IsOnWay w s.row.0) names

@@ -1,5 +1,4 @@
--- What a reader learns here: what is counted while the names of a zone are walked, what a node of
--- the zone is, and what its sets of records keep.
+-- The counts of a walk over the names of a zone, the nodes of a zone, and their sets of records.
 use Rattle.std.specs.Prelude.{◌≡◌, ℕ, true, ◌<◌, ◌≤◌, length, None}
 use Rattle.dns_spec.specs.Names.{DomainName, folded, at_or_below}
 use Rattle.dns_spec.specs.Data.{type_cname}
@@ -9,7 +8,7 @@ use Rattle.dns_spec.specs.Tree.{exists, cut_of}
 use Rattle.dns_spec.specs.Meaning.{most_ttl}
 use Rattle.dns_zone.specs.ZoneForm.{IsBuilt}
 
--- a zone, how many of its nodes were handed out, and how many labels were compared on the way
+-- a zone, how many of its nodes were visited, and how many labels were compared
 pub record Walk : Type 0 where
   pub zone : ZoneContents
   pub visits : ℕ
@@ -20,23 +19,21 @@ pub record ZoneNode : Type 0 where
   pub zone : ZoneContents
   pub name : DomainName
 
--- RFC 4592 2.2: the name exists in a zone that was built, and is in lower case as the zone's names
--- are
+-- RFC 4592 2.2: the name exists in a built zone, and is in lower case.
 pub record IsNode (z : ZoneContents) (n : DomainName) : Type 0 where
   pub built : IsBuilt z
   pub lower : folded n ≡ n
   pub stands : exists z n ≡ true
 
--- A name below the origin at which the way to a record's target may begin: it exists, and no cut is
--- at or above that of an alias (RFC 1034 4.3.2 step 3b).
+-- A name below the origin at which the way to a record's target may begin: it exists, and if the
+-- record is an alias, the name is not at or below a cut (RFC 1034 4.3.2 step 3b).
 pub record IsLead (z : ZoneContents) (rtype : ℕ) (n : DomainName) : Type 0 where
   pub node : IsNode z n
   pub inside : at_or_below n z.origin ≡ true
   pub longer : length z.origin < length n
   pub uncut : rtype ≡ type_cname → cut_of z n ≡ None
 
--- RFC 2181 5: at the node's name the set stands for the RRset of its type. It has at most 64
--- records.
+-- RFC 2181 5: the set is the RRset of its type at the node's name. It has at most 64 records.
 pub record IsSetOf (node : ZoneNode) (set : RecordSet) : Type 0 where
   pub records : records_at node.name set.ttl set ≡ rrset node.zone node.name set.rtype
   pub few : length set.rdata ≤ 64

@@ -1,4 +1,4 @@
--- What a reader learns here: a name of a zone that is under check.
+-- A name of a zone under check.
 use Rattle.std.specs.Prelude.{◌≡◌, ℕ, ◌==◌, ◌&&◌, ◌||◌, not, Bool, false, List, length}
 use Rattle.std.specs.Option.{option_map_or}
 use Rattle.std.specs.List.{filter}
@@ -9,33 +9,33 @@ use Rattle.dns_spec.specs.Checks.{is_address_type, lacks_address}
 use Rattle.dns_spec.specs.Records.{ResourceRecord, ZoneContents, at, owns}
 use Rattle.dns_zone.specs.declared.checks.counts.TypeCounts.{TypeCounts}
 
--- a zone, and a name whose checks are asked for
+-- a zone, and the name to be checked
 pub record NameOfZone : Type 0 where
   pub zone : ZoneContents
   pub name : DomainName
 
--- What is kept of it: the name is in lower case, and these are its records, by their types.
+-- An invariant: the name is in lower case, and these are its records, ordered by type.
 pub record IsOwner (z : ZoneContents) (n : DomainName) (own : List ResourceRecord) : Type 0 where
   pub lower : folded n ≡ n
   pub own_is : own ≡ at z n
   pub by_types : IsNonDecreasingBy (λ (r : ResourceRecord). r.rtype) own
 
--- an NS record whose target is a name of the zone that owns a CNAME
+-- an NS record whose target is a name in the zone that owns a CNAME
 abbrev pub is_server_alias : ZoneContents → ResourceRecord → Bool
 is_server_alias z r = r.rtype == type_ns && option_map_or
     (λ m. at_or_below m z.origin && owns z m type_cname) (target r.rtype r.rdata) false
 
--- an NS record of a name, whose target is a name of the zone that lacks an address
+-- an NS record of a name, whose target is a name in the zone that lacks an address
 abbrev pub is_server_lost : ZoneContents → DomainName → ResourceRecord → Bool
 is_server_lost z n r = r.rtype == type_ns && option_map_or
     (λ m. at_or_below m z.origin && lacks_address z n m) (target r.rtype r.rdata) false
 
--- an MX or SRV record whose target is a name of the zone that owns a CNAME
+-- an MX or SRV record whose target is a name in the zone that owns a CNAME
 abbrev pub is_exchange_alias : ZoneContents → ResourceRecord → Bool
 is_exchange_alias z r = (r.rtype == type_mx || r.rtype == type_srv) && option_map_or
     (λ m. at_or_below m z.origin && owns z m type_cname) (target r.rtype r.rdata) false
 
--- how many records are of a type that passes
+-- the number of records whose type passes the test
 abbrev pub number_of : (ℕ → Bool) → List ResourceRecord → ℕ
 number_of test rs = length (filter (λ (r : ResourceRecord). test r.rtype) rs)
 
@@ -43,7 +43,7 @@ number_of test rs = length (filter (λ (r : ResourceRecord). test r.rtype) rs)
 abbrev pub is_exchange_type : ℕ → Bool
 is_exchange_type t = t == type_mx || t == type_srv
 
--- what else than a delegation a name owns: neither NS nor an address
+-- a type other than NS, A and AAAA
 abbrev pub is_other_type : ℕ → Bool
 is_other_type t = not (t == type_ns || is_address_type t)
 

@@ -1,23 +1,23 @@
--- What a reader learns here: how records of one type are lent as a set.
+-- Records of one type as a set.
 use Rattle.std.specs.Prelude.{◌≡◌, ℕ, List, [], ◌∷◌, map, All}
 use Rattle.dns_spec.specs.Names.{Octets}
 use Rattle.dns_spec.specs.Data.{Valid}
 use Rattle.dns_spec.specs.Records.{ResourceRecord}
 use Rattle.dns_spec.specs.Sets.{RecordSet}
 
--- the data of records, and the set that they make with a type and a TTL
+-- the data of records, and their set for a type and a TTL
 abbrev pub data_of : List ResourceRecord → List Octets
 data_of = map (λ (r : ResourceRecord). r.rdata)
 
 abbrev pub lent : ℕ → ℕ → List ResourceRecord → RecordSet
 lent t k rs = record { rtype = t; ttl = k; rdata = data_of rs }
 
--- what such a set keeps: all of its records, and all data, are of its type
+-- an invariant of such a set: all records and all data are of its type
 pub record IsLent (t : ℕ) (rs : List ResourceRecord) : Type 0 where
   pub valid : All (Valid t) (data_of rs)
   pub typed : All (λ (r : ResourceRecord). r.rtype ≡ t) rs
 
--- all of the records have data of the type of the first
+-- all records, and their data, are of the first record's type
 abbrev pub AreOfType : List ResourceRecord → Type 0
 AreOfType [] = Unit {0}
 AreOfType (r ∷ rs) = IsLent r.rtype (r ∷ rs)

@@ -1,5 +1,4 @@
--- What a reader learns here: how the names of a zone are kept as rows of numbers, and what such
--- rows keep.
+-- The names of a zone as rows of numbers, and invariants of these.
 use Rattle.std.specs.Prelude.{◌≡◌, ℕ, zero, suc, ◌+◌, ◌-◌, ◌/◌, ◌<◌, ◌≤◌, true, List, [], ◌∷◌, map, length, take, drop, get_or}
 use Rattle.std.specs.List.{AllByRecursion, filter, list_any}
 use Rattle.std.specs.Char.{to_ascii_lowercase}
@@ -18,8 +17,7 @@ span xs a b = take (b - a) (drop a xs)
 abbrev pub owners : List ResourceRecord → List DomainName
 owners = map (λ (r : ResourceRecord). r.owner)
 
--- The wire form of a row's name: it is the end of the owner of the first record at or below the
--- name.
+-- The wire form of a row's name: a suffix of the owner of the first record at or below the name.
 unfoldable pub row_octets : List ResourceRecord → Row → Octets
 row_octets rs row = drop row.place (wire (get_or (owners rs) row.first []))
 
@@ -34,11 +32,11 @@ first_of (l ∷ n) = l
 abbrev pub row_label : List ResourceRecord → Row → Octets
 row_label rs row = first_of (row_name rs row)
 
--- the records at or below a name, and whether there is one
+-- the records at or below a name
 abbrev pub under : DomainName → List ResourceRecord → List ResourceRecord
 under n rs = filter (λ (r : ResourceRecord). at_or_below r.owner n) rs
 
--- a row of a name in lower case: which records are at or below it, and which of them are its own
+-- the row of a name in lower case: which records are at or below it, and which are its own
 pub record IsRow (rs : List ResourceRecord) (row : Row) (n : DomainName) : Type 0 where
   pub octets : row_octets rs row ≡ wire n
   pub is_name : is_name n ≡ true
@@ -54,12 +52,12 @@ pub record IsRow (rs : List ResourceRecord) (row : Row) (n : DomainName) : Type 
   pub key : IsKey row.key (map to_ascii_lowercase (first_of n))
   pub own : span rs row.first row.own_end ≡ filter (λ (r : ResourceRecord). same r.owner n) rs
 
--- a row of a name one label below
+-- the row of a name one label below
 pub record IsKid (rs : List ResourceRecord) (n : DomainName) (row : Row) : Type 0 where
   pub label : Octets
   pub is_row : IsRow rs row (label ∷ n)
 
--- the rows of all names one label below a name, by their labels
+-- the rows of all names one label below a name, ordered by label
 pub record AreKids (rs : List ResourceRecord) (n : DomainName) (kids : List Row) : Type 0 where
   pub each : AllByRecursion (IsKid rs n) kids
   pub rising : Rises label_order (map (row_label rs) kids)
@@ -73,11 +71,11 @@ no_row = record { first = 0; own_end = 0; end = 0; place = 0; label_octets = 0; 
 abbrev pub row_at : List Row → ℕ → Row
 row_at rows k = get_or rows k no_row
 
--- the children of row k are the rows from bound k up to the next bound
+-- the children of row k are the rows from bound k up to bound k + 1
 abbrev pub kids_at : List Row → List ℕ → ℕ → List Row
 kids_at rows bounds k = span rows (get_or bounds k 0) (get_or bounds (k + 1) 0)
 
--- rows for the origin and all names below it that exist, level by level
+-- rows for the origin and all existing names below it, level by level
 pub record IsTree (o : DomainName) (rs : List ResourceRecord) (rows : List Row)
     (bounds : List ℕ) : Type 0 where
   pub some : 0 < length rows
@@ -89,7 +87,7 @@ pub record IsTree (o : DomainName) (rs : List ResourceRecord) (rows : List Row)
   pub kids : (k : ℕ) → k < length rows
       → AreKids rs (row_name rs (row_at rows k)) (kids_at rows bounds k)
 
--- how many children are left to look at after some comparisons, at most: a node has at most 100,000
+-- at most how many children remain to be searched after k comparisons; a node has at most 100,000
 abbrev pub room_after : ℕ → ℕ
 room_after zero = 131071
 room_after (suc k) = room_after k / 2

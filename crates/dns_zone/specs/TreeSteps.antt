@@ -1,11 +1,11 @@
--- What a reader learns here: what holds while the rows of a name's children are added.
+-- An invariant of adding the rows of a name's children.
 use Rattle.std.specs.Prelude.{◌≡◌, ◌≤◌, List, length, take, drop}
 use Rattle.dns_spec.specs.Names.{DomainName}
 use Rattle.dns_spec.specs.Records.{ResourceRecord}
 use Rattle.dns_zone.specs.TreeForm.{AreKids}
 use Rattle.dns_zone.specs.declared.tree.row.Row.{Row}
 
--- the rows of a name's children stand after the rows so far
+-- the rows of a name's children follow the old rows
 pub record AddsKids (rs : List ResourceRecord) (n : DomainName) (old new : List Row) : Type 0 where
   pub longer : length old ≤ length new
   pub kept : take (length old) new ≡ old

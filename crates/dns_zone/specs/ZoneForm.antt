@@ -1,4 +1,4 @@
--- What a reader learns here: how records are kept for a zone, and what every built zone keeps.
+-- Invariants of the records of a zone, and of a built zone.
 use Rattle.std.specs.Prelude.{⊤, ◌≡◌, ◌≢◌, ◌≤◌, ℕ, List, [], All, length, take, drop, Bool, not, if◌then◌else◌}
 use Rattle.std.specs.List.{filter}
 use Rattle.dns_spec.specs.Names.{folded}
@@ -13,14 +13,14 @@ use Rattle.dns_zone.specs.declared.fault.BuildFault.TheVariants.{Faults, NoMemor
 abbrev pub AreOrdered : List ResourceRecord → Type 0
 AreOrdered rs = sort_by record_order rs ≡ rs
 
--- records that were read, in canonical order, no more than a zone may have
+-- records as they were read, in canonical order, and no more than a zone may have
 pub record IsCanonical (rs : List ResourceRecord) : Type 0 where
   pub each : All IsReadRecord rs
   pub ordered : AreOrdered rs
   pub few : length rs ≤ most_records
 
--- what every built zone keeps: an origin in lower case, and records in canonical order, without a
--- fault
+-- An invariant of a built zone: an origin in lower case, and records in canonical order, without
+-- faults.
 pub record IsBuilt (z : ZoneContents) : Type 0 where
   pub low : folded z.origin ≡ z.origin
   pub each : All IsReadRecord z.records
@@ -28,17 +28,17 @@ pub record IsBuilt (z : ZoneContents) : Type 0 where
   pub few : length z.records ≤ most_records
   pub passes : Passes z
 
--- what is reported of a zone that can't be built: its faults, one at least, or nothing where no
--- memory was found
+-- What the error of a zone that can't be built says: its faults, at least one, or nothing if
+-- allocation failed.
 abbrev pub ReportsFaults : BuildFault → ZoneContents → Type 0
 ReportsFaults (Faults found) z = (found.items ≡ faults z) × (faults z ≢ [])
 ReportsFaults NoMemory z = ⊤
 
--- the records that are an SOA, or those that are none
+-- either the SOA records or all others
 abbrev pub is_chosen : Bool → ResourceRecord → Bool
 is_chosen soa r = if soa then is_soa r else not (is_soa r)
 
--- the first k elements are those that pass a test, and the others those that do not
+-- the first k elements are the ones that pass a test, and the others fail it
 pub record IsFront {X : Type 0} (p : X → Bool) (xs : List X) (k : ℕ) : Type 0 where
   pub bound : k ≤ length xs
   pub passing : take k xs ≡ filter p xs

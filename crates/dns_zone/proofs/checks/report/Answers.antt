@@ -5,7 +5,7 @@ use Rattle.dns_zone.proofs.ReportedNames.{failed_reported}
 use Rattle.dns_zone.proofs.TopmostCut.{below_topmost}
 use Rattle.dns_zone.proofs.checks.report.Goals as goal
 
--- names in lower case are the same just where their keys are equal
+-- names in lower case are equal if and only if their keys are
 same_keys : (n m : DomainName) (key other : Octets) → folded n ≡ n → folded m ≡ m
     → key ≡ name_key n → other ≡ name_key m → octets_equal key other ≡ same n m
 same_keys n m key other p q e f =

@@ -5,7 +5,7 @@ use Rattle.dns_zone.proofs.printed.put_record.Goals.{After-rdata}
 use Rattle.dns_zone.proofs.printed.put_record.Given as given
 
 module _ (g : given.Over) (c : After-rdata g) where
-  -- of the line, its front and its type are put
+  -- the front and the type of the line are written
   begun : AppendsAllBut (g.W.Write.contents c.args.sink.now.device)
       (g.W.Write.contents c.make_room.new.sink.device)
       (c.args.text.now ++ record_line c.args.entry.now)

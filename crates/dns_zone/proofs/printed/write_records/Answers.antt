@@ -1,7 +1,7 @@
 use Rattle.dns_zone.proofs.Common.{sym, ◌≡◌, Bool, List, [], ℕ, filter, flat_map, true, false, ◌++◌, ap, rules, subst, ◌∙◌, flat_map-append, record_line, soa_first, ResourceRecord, AppendsBeginning, OnErr-always, Fills-after, Writes-same, Writes-held, held_before, is_chosen}
 use Rattle.dns_zone.proofs.printed.write_records.Goals as goal
 
--- the lines of records that an SOA is, or is not
+-- the lines of either the SOA records or all others
 abbrev lines_of : Bool → List ResourceRecord → List ℕ
 lines_of is_soa rs = flat_map record_line (filter (is_chosen is_soa) rs)
 

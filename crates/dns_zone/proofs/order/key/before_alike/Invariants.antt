@@ -1,7 +1,7 @@
 use Rattle.dns_zone.proofs.Common.{length, GoOnAlike}
 use Rattle.dns_zone.proofs.order.key.before_alike.Given as goal
 
--- what was passed is the same on both sides
+-- the octets after the remaining ones are the same on both sides
 abbrev pub invariant-runs : goal.invariant-runs
 invariant-runs g l = GoOnAlike l.fn.one l.one l.fn.other l.other
 

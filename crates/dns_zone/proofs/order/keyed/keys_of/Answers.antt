@@ -32,7 +32,7 @@ AreFirst keys rs k starts =
     (i : ℕ) (r : ResourceRecord) (s : ℕ) → i < k
     → IsAt keys (get_or starts i s) (get_or rs i r).owner
 
--- the keys of the records so far, and that of one more
+-- the keys of the records so far, and the key of one more
 each_pushed : (keys : Octets) (starts : List ℕ) (rs : List ResourceRecord) (k start : ℕ)
     → length starts ≡ k → AreFirst keys rs k starts → ((r : ResourceRecord)
     → IsAt keys start (get_or rs k r).owner) → AreFirst keys rs (k + 1) (starts ++ start ∷ [])

@@ -1,7 +1,7 @@
 use Rattle.dns_zone.proofs.Common.{◌≡◌, ℕ, ◌+◌, ◌*◌, ◌<◌, ◌≤◌, All, length, take, get_or, ResourceRecord, IsReadRecord, name_key, key_in}
 use Rattle.dns_zone.proofs.order.keyed.keys_of.Given as goal
 
--- the keys so far, and the last one of them
+-- the keys so far, and the last of them
 abbrev pub invariant-records : goal.invariant-records
 invariant-records l = record {
   key : l.key ≡ name_key l.last;

@@ -4,7 +4,7 @@ use Rattle.dns_zone.proofs.order.ordered.ordered.Goals.{Then-leave_out_duplicate
 use Rattle.dns_zone.proofs.AtName.{canonical}
 use Rattle.dns_spec.proofs.Common.{OnTrue_at}
 
--- the records once they are arranged, which is written to all of their list
+-- the records after they were arranged in place
 module _ (rs lent near : List ResourceRecord) (count : ℕ) (is : lent ≡ rs)
     (moves : IsPermutation lent near) (long : length lent ≡ count) where
   abbrev arranged : List ResourceRecord

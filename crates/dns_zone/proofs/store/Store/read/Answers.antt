@@ -1,7 +1,6 @@
 use Rattle.dns_zone.proofs.Common.{fault_handed_on}
 use Rattle.dns_zone.proofs.store.Store.read.Goals as goal
 
--- src/store.rt:75:9
 pub returns-in_err-read_into-clause-decided : goal.returns-in_err-read_into-clause-decided
 returns-in_err-read_into-clause-decided g c =
     fault_handed_on c.from_residual.result

@@ -3,7 +3,7 @@ use Rattle.dns_spec.proofs.General.Orderings.{slice_cmp-append}
 use Rattle.std.proofs.lemmas.List.{take-map}
 use Rattle.dns_zone.proofs.tree.label_key.after_same.Goals as goal
 
--- what both begin with does not matter
+-- a common prefix does not matter
 after_front : (n : ℕ) (xs ys : List ℕ) → take n xs ≡ take n ys
     → slice_cmp nat_cmp (drop n xs) (drop n ys) ≡ slice_cmp nat_cmp xs ys
 after_front n xs ys same =
@@ -14,7 +14,7 @@ after_front n xs ys same =
     (ap length same))
     ∙ ap₂ (slice_cmp nat_cmp) (take-append-drop n xs) (take-append-drop n ys)
 
--- what follows octets of a label in lower case is in lower case, and comes before or after as it does
+-- after a common prefix a label in lower case remains in lower case, and the order is the same
 after_lower : (n : ℕ) (xs ys : List ℕ) → map to_ascii_lowercase xs ≡ xs → take n xs ≡ take n ys
     → (map to_ascii_lowercase (drop n xs) ≡ drop n xs)
     × (label_order (drop n xs) (map to_ascii_lowercase (drop n ys))

@@ -3,7 +3,7 @@ use Rattle.dns_spec.proofs.General.Tests.{first_passes}
 use Rattle.dns_spec.proofs.General.Fronts.{halves}
 use Rattle.dns_zone.proofs.tree.lookup.count_under.Goals as goal
 
--- where the first element does not pass, none does
+-- if the first element does not pass, none does
 none_in_front : {X : Type 0} (p : X → Bool) (xs : List X) → first_passes p xs ≡ false
     → IsPartitionedBy p xs → IsFront p xs 0
 none_in_front p [] fails parts = record { bound = omega arith; passing = refl; others = refl }
@@ -20,7 +20,7 @@ returns-in_default c = none_in_front _ _ (search rules) c.requires.in_front
 pub returns-then-not-is_under : goal.returns-then-not-is_under
 returns-then-not-is_under c = none_in_front _ _ (search rules) c.requires.in_front
 
--- where the last element passes, all do
+-- if the last element passes, all do
 all_in_front : {X : Type 0} (p : X → Bool) (xs : List X) → ((d : X)
     → p (get_or xs (length xs - 1) d) ≡ true) → IsPartitionedBy p xs → IsFront p xs (length xs)
 all_in_front p xs last parts =

@@ -1,7 +1,7 @@
 use Rattle.dns_zone.proofs.Common.{refl, ap, ◌∙◌, true, arith, get_or, nat_eq, eqb-true, agree_below_at, to_ascii_lowercase, LOWER_CASE}
 use Rattle.dns_zone.proofs.tree.lower_case.lower_case.Goals as goal
 
--- the table is held against the definition at each of its octets, by computing
+-- the table agrees with the definition at each octet, by computation
 pub returns : goal.returns
 returns c =
     eqb-true _ _ (agree_below_at

@@ -33,7 +33,7 @@ returns-in_err-found-clause-child c =
     rw c.from_residual.ensures
     (λ h. absurd (false≢true h), λ h. absurd (c.in_err-found.ensures.none refl (absent h)))
 
--- the label of the child that was found is the one that was asked for
+-- the found child has the given label
 found_label : (rs xs : List ResourceRecord) (kids rows : List Row) (i : ℕ) (asked l : Octets)
     → xs ≡ rs → kids ≡ rows → asked ≡ l → row_label xs (row_at kids i)
     ≡ map to_ascii_lowercase asked → row_label rs (row_at rows i) ≡ map to_ascii_lowercase l

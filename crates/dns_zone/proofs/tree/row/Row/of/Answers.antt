@@ -16,7 +16,7 @@ count_under-requires-clause-in_front c =
     (omega (arith, c.requires.some, c.requires.fits)) c.requires.here c.requires.before c.args.end
     (omega (arith, c.requires.some)) c.requires.after))
 
--- the first owner ends in the name's octets
+-- the first owner ends with the name's octets
 place : (c : After-octets-2) → (length (wire c.args.name.now) ≤ length (wire c.owner.result))
     × (drop (length (wire c.owner.result) - length (wire c.args.name.now)) (wire c.owner.result)
     ≡ wire c.args.name.now)

@@ -1,7 +1,7 @@
 use Rattle.dns_zone.proofs.Common.{◌≡◌, ◌+◌, length, at_or_below, labels_of, IsWireForm}
 use Rattle.dns_zone.proofs.tree.sought.Sought.below.Given as goal
 
--- the suffix is at or below the ancestor as the name is, and has so many labels less
+-- the suffix is at or below the ancestor if and only if the name is, and has `depth` labels fewer
 abbrev pub invariant-labels : goal.invariant-labels
 invariant-labels l = record {
   form : IsWireForm l.suffix;
