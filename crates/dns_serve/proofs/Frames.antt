@@ -1,9 +1,8 @@
--- Octets that are not a whole frame, and a message in its frame, by the parts in which they are
--- read.
+-- Incomplete frames, and a message in its frame, by the parts in which it is read.
 use Rattle.dns_spec.proofs.Common.{◌≡◌, ℕ, ◌+◌, ◌-◌, ◌^◌, ◌<◌, ◌≤◌, min, ◌⊎◌, inl, inr, [], ◌∷◌, ◌++◌, length, take, replicate, None, refl, sym, ap, ◌∙◌, arith, append_assoc, append-nil, length-append, cases_lt, leb-true, take_all, take-append-le, Octets, most_over_udp, field16, octets16, first_frame, IsCutFrame, All-cons, All-nil, nil_from_length}
 use Rattle.dns_spec.proofs.Streams.StreamFrames.{two_again, length_zeros, cut_frame}
 
--- the octets begin with no whole frame, since its length says more
+-- the octets do not begin with a complete frame, because they are fewer than its length says
 no_frame : (x : Octets) → length x < 2 + field16 x 0 → first_frame x ≡ None
 unfolding first_frame
 no_frame x h = grind (arith, leb-true)
@@ -36,7 +35,7 @@ cut_first a ha =
     elim (cut_frame (a ∷ []) (All-cons (λ o. o < 256) a [] ha (All-nil (λ o. o < 256)))
     (no_frame_short (a ∷ []) (omega arith))) [ inl e ↦ absurd (cc) | inr cut ↦ cut ]
 
--- of a message that is read in two parts the first 512 octets are kept
+-- the first part of a message that is read in two parts is its first 512 octets
 pub kept_front : (n : ℕ) (front rest : Octets) → length front ≡ min n most_over_udp
     → length rest ≡ n - min n most_over_udp → front ≡ take most_over_udp (front ++ rest)
 kept_front n front rest hf hr = go (cases_lt n most_over_udp)

@@ -1,4 +1,4 @@
--- What a turn does with the datagram that was received.
+-- What a turn does with the received datagram.
 use Rattle.dns_spec.proofs.Common.{take_all, length-take, ◌≡◌, ℕ, ◌≤◌, arith, List, [], ◌∷◌, append-nil, refl, take, Option, Some, None, true, false, sym, ap, ◌∙◌, subst, option_map, is_some, most_over_udp, Octets, ZoneContents}
 use Rattle.dns_spec.proofs.Replies.FirstOctets.{first_octets_answer}
 use Rattle.dns_serve.specs.Turns.{Grows, KeepsAll, IsHanded, reply_over_udp, one_or_none, Turn, IsTurn, IsUnsent}
@@ -15,7 +15,7 @@ then_kept : (a b c : Option (List Octets)) (ds : List Octets)
     → Grows a b ds → KeepsAll b c → Grows a c ds
 then_kept a b c ds h h1 = grind (arith, append-nil)
 
--- the reply to what is kept of a datagram is the reply to the datagram
+-- the reply to the kept octets of a datagram is the reply to the datagram
 reply_is : (z : ZoneContents) (d kept piece : Octets) (reply : Option Octets) → piece ≡ kept
     → kept ≡ take most_over_udp d → reply ≡ reply_over_udp z piece → reply_over_udp z d ≡ reply
 reply_is z d kept piece reply e k r =
@@ -65,7 +65,7 @@ turn_unsent z y zone_is had has has' sent sent'' n buf piece length_of len out h
       due = ap is_some same;
     }
 
--- a device that tells no datagrams has handed out what stands in the buffer
+-- a device whose datagrams are unknown has received what is in the buffer
 pub handed_unknown : (n : ℕ) (buf : Octets) → n ≤ most_over_udp → IsHanded None None n buf
 handed_unknown n buf h = record {
   datagram = take n buf;

@@ -12,7 +12,7 @@ use Rattle.dns_serve.specs.declared.fault.StreamFault.{StreamFault}
 abbrev session : Option Octets → Option Octets → Option Octets → Option Octets → Session
 session a b c d = record { unread = a; left = b; held = c; holds = d }
 
--- the octets that are kept of a message have its reply
+-- the reply to the kept octets of a message is the reply to the message
 reply_of_kept : (z : ZoneContents) (kept m : Octets)
     → kept ≡ take 512 m → reply_over_tcp z kept ≡ reply_over_tcp z m
 reply_of_kept z kept m e = ap (reply_over_tcp z) e ∙ sym (first_octets_answer z m most_over_tcp)
@@ -45,7 +45,7 @@ pub nothing_read : (a b : Option Octets) (buf : Octets) (read : Option ℕ)
     → read ≡ None → MessageRead a b buf (Ok read) → GivesNothing a b
 nothing_read a b buf read e m = subst (λ o. MessageRead a b buf (Ok o)) e m
 
--- So many messages were read, and their replies written.
+-- n messages were read, and their replies were written
 pub record Done (reply : Octets → Option Octets) (s : Session) (n : ℕ) : Type 0 where
   pub messages : List Octets
   pub short : All (λ m. length m < 2 ^ 16) messages
@@ -82,7 +82,7 @@ done_more reply a b c x y z n d h = record {
       (sym (replies_of reply d.messages h.message)) (Appends-trans x y z _ _ d.written h.written);
 }
 
--- frames in front of octets that begin with no frame, or after as many messages as are asked for
+-- the frames at the front of octets, if no frame follows or no more are asked for
 frames_then : (k : ℕ) (ms : List Octets) (rest : Octets) → All (λ m. length m < 2 ^ 16) ms
     → first_frame rest ≡ None → frames (length ms + k) (flat_map frame ms ++ rest) ≡ ms
 unfolding frames
@@ -105,7 +105,7 @@ frames_by most ms rest short (inr (le, none)) =
     sym (ap (λ k. frames k (flat_map frame ms ++ rest)) (omega (arith, le))
     ∙ frames_then (most - length ms) ms rest short none)
 
--- the frames of what a source had, by what it has lost and what is left
+-- the frames of a source, from the octets that were read and whether it is at its end
 frames_of_known : (a b : Option Octets) (most : ℕ) (ms : List Octets) (part : Octets) → All
     (λ m. length m < 2 ^ 16) ms → Consumes a b (flat_map frame ms ++ part) → (length ms ≡ most)
     ⊎ (length ms ≤ most × (first_frame part ≡ None) × IsAtEnd b) → AreFrames a most ms
@@ -118,7 +118,7 @@ nil_has_none = refl
 with_nothing : (a b : Option Octets) (o : Octets) → Consumes a b o → Consumes a b (o ++ [])
 with_nothing a b o c = subst (Consumes a b) (sym (append-nil o)) c
 
--- all were read, as many as were asked for, or up to the end
+-- all frames were read, up to `most` or to the end
 pub served_most : (reply : Octets → Option Octets) (most n : ℕ) (a b x y : Option Octets)
     → Done reply (session a b x y) n → n ≡ most → HasServed reply most (session a b x y) n
 served_most reply most n a b x y d e = grind (arith, frames_of_known, with_nothing)

@@ -1,5 +1,4 @@
--- What a reader learns here: what a source gives to a reader that asks for so many octets, in one
--- call or more.
+-- What one or more calls of a source give to a reader that asks for a number of octets.
 use Rattle.std.specs.Prelude.{◌≡◌, ℕ, ◌≤◌, ◌<◌, [], ◌^◌, length, take}
 use Rattle.std.specs.Prelude.{Option, None, Some, Result, Ok, Err}
 use Rattle.std.specs.Io.KnownBytes.{Consumes, IsAtEnd}
@@ -9,32 +8,32 @@ use Rattle.dns_spec.specs.Stream.{frame, first_frame, IsCutFrame}
 use Rattle.dns_serve.specs.declared.fault.StreamFault.{StreamFault}
 use Rattle.dns_serve.specs.declared.fault.StreamFault.TheVariants.{SourceFailed, SinkFailed, Cut}
 
--- these octets, as many as were asked for, or all up to the end of the source
+-- as many octets as were asked for, or all up to the end of the source
 pub record Gives (old new : Option Octets) (most count : ℕ) (octets : Octets) : Type 0 where
   pub consumed : Consumes old new octets
   pub length_is : length octets ≡ count
   pub within : count ≤ most
   pub over : count < most → IsAtEnd new
 
--- fewer than were asked for, before the source failed
+-- the source failed before it gave as many octets as were asked for
 pub record GivesFewer (old new : Option Octets) (most : ℕ) : Type 0 where
   pub octets : Octets
   pub consumed : Consumes old new octets
   pub fewer : length octets < most
 
--- a message in its frame, of which the first 512 octets are kept
+-- a message after its length; its first 512 octets were kept
 pub record GivesMessage (old new : Option Octets) (kept : Octets) : Type 0 where
   pub message : Octets
   pub consumed : Consumes old new (frame message)
   pub short : length message < 2 ^ 16
   pub kept_is : kept ≡ take most_over_udp message
 
--- nothing, since the source is at its end
+-- nothing, because the source is at its end
 pub record GivesNothing (old new : Option Octets) : Type 0 where
   pub consumed : Consumes old new []
   pub over : IsAtEnd new
 
--- a frame that is not whole, up to the end of the source
+-- an incomplete frame, at which the source ends
 pub record GivesPart (old new : Option Octets) : Type 0 where
   pub part : Octets
   pub consumed : Consumes old new part
@@ -42,14 +41,14 @@ pub record GivesPart (old new : Option Octets) : Type 0 where
   pub no_frame : first_frame part ≡ None
   pub over : IsAtEnd new
 
--- octets that do not begin with a whole frame, before the source failed
+-- octets that do not begin with a complete frame, after which the source failed
 pub record GivesBeginning (old new : Option Octets) : Type 0 where
   pub given : Octets
   pub consumed : Consumes old new given
   pub no_frame : first_frame given ≡ None
 
--- what was read where a message is due: one, of which so many octets are kept; none at the end; or
--- why there is none
+-- The result of reading a message: the number of its octets that were kept, or none at the end of
+-- the source, or why it failed.
 abbrev pub MessageRead : Option Octets → Option Octets → Octets → Result (Option ℕ) StreamFault
     → Type 0
 MessageRead old new buf (Ok None) = GivesNothing old new
@@ -58,14 +57,14 @@ MessageRead old new buf (Err SourceFailed) = GivesBeginning old new
 MessageRead old new buf (Err SinkFailed) = ⊥
 MessageRead old new buf (Err Cut) = GivesPart old new
 
--- a message of so many octets, of which the first 512 are kept
+-- a message of `count` octets, of which the first 512 were kept
 pub record GivesBody (old new : Option Octets) (count : ℕ) (kept : Octets) : Type 0 where
   pub message : Octets
   pub consumed : Consumes old new message
   pub count_is : length message ≡ count
   pub kept_is : kept ≡ take most_over_udp message
 
--- a message of which too little came, up to the end of the source
+-- an incomplete message, at which the source ends
 pub record GivesPartOfBody (old new : Option Octets) (count : ℕ) : Type 0 where
   pub fewer : GivesFewer old new count
   pub over : IsAtEnd new

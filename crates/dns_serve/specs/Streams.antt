@@ -1,5 +1,4 @@
--- What a reader learns here: what a session over a stream has read and written, where it ends and
--- where it fails.
+-- What a session over a stream has read and written when it ends or fails.
 use Rattle.std.specs.Prelude.{⊤, ◌≡◌, ℕ, ◌+◌, ◌≤◌, ◌<◌, ◌^◌, ◌⊎◌, List, [], ◌∷◌, ◌++◌, length, take}
 use Rattle.std.specs.Prelude.{MatchOption, Option, Result, Ok, Err}
 use Rattle.std.specs.List.{flat_map}
@@ -13,19 +12,19 @@ use Rattle.dns_name.specs.Counted.{Counted}
 use Rattle.dns_serve.specs.declared.fault.StreamFault.{StreamFault}
 use Rattle.dns_serve.specs.declared.fault.StreamFault.TheVariants.{SourceFailed, SinkFailed, Cut}
 
--- the reply of a zone over TCP, where a reply has at most 65,535 octets (RFC 1035 4.2.2)
+-- the reply of a zone over TCP, of at most 65,535 octets (RFC 1035 4.2.2)
 abbrev pub reply_over_tcp : ZoneContents → Octets → Option Octets
 reply_over_tcp z m = octets_of z m most_over_tcp
 
--- A session: what its source has still to give and what its sink holds, before and after, where
--- those are known.
+-- A session: the unread octets of its source and the contents of its sink, before and after, if
+-- they are known.
 pub record Session : Type 0 where
   pub unread : Option Octets
   pub left : Option Octets
   pub held : Option Octets
   pub holds : Option Octets
 
--- the session of a source and a sink, by what they tell before and after
+-- the session of a source and a sink, each before and after it
 abbrev pub session : {R W : Type 0} → (R → Option Octets) → (W → Option Octets)
     → Counted R → Counted R → Counted W → Counted W → Session
 session remaining contents source source_then sink sink_then = record {
@@ -35,12 +34,12 @@ session remaining contents source source_then sink sink_then = record {
   holds = contents sink_then.device;
 }
 
--- The messages are those of the frames that the source began with, at most so many.
+-- The messages are the contents of the first frames of the source, at most `most`.
 abbrev pub AreFrames : Option Octets → ℕ → List Octets → Type 0
 AreFrames known most ms = MatchOption known ⊤ (λ x. ms ≡ frames most x)
 
--- RFC 1035 4.2.2: all frames were read, as many as were asked for or to the end of the source, and
--- the replies to their messages were written.
+-- RFC 1035 4.2.2: all frames were read, up to `most` or to the end of the source, and the replies
+-- to their messages were written.
 pub record HasServed (reply : Octets → Option Octets) (most : ℕ) (s : Session) (n : ℕ)
     : Type 0 where
   pub messages : List Octets
@@ -50,8 +49,8 @@ pub record HasServed (reply : Octets → Option Octets) (most : ℕ) (s : Sessio
   pub written : Appends s.held s.holds (replies reply messages)
   pub over : (n ≡ most) ⊎ IsAtEnd s.left
 
--- The source ended inside a frame, when fewer messages were read than asked for. The replies to
--- them were written.
+-- The source ended inside a frame, before `most` messages were read. The replies to these were
+-- written.
 pub record WasCut (reply : Octets → Option Octets) (most : ℕ) (s : Session) : Type 0 where
   pub messages : List Octets
   pub part : Octets
@@ -62,7 +61,7 @@ pub record WasCut (reply : Octets → Option Octets) (most : ℕ) (s : Session) 
   pub over : IsAtEnd s.left
   pub written : Appends s.held s.holds (replies reply messages)
 
--- The source failed. Of the octets that it had given the replies to all messages were written.
+-- The source failed. The replies to all complete messages that it had given were written.
 pub record WasBroken (reply : Octets → Option Octets) (most : ℕ) (s : Session) : Type 0 where
   pub messages : List Octets
   pub given : Octets
@@ -71,8 +70,8 @@ pub record WasBroken (reply : Octets → Option Octets) (most : ℕ) (s : Sessio
   pub read : Consumes s.unread s.left given
   pub written : Appends s.held s.holds (replies reply messages)
 
--- The sink failed. The replies to all messages that were read but the last were written, and a
--- beginning of the reply to that one; nothing after it was read.
+-- The sink failed. The replies to all messages but the last one read were written, and a prefix of
+-- the reply to the last; nothing after it was read.
 pub record WasRefused (reply : Octets → Option Octets) (most : ℕ) (s : Session) : Type 0 where
   pub earlier : List Octets
   pub message : Octets
@@ -83,15 +82,15 @@ pub record WasRefused (reply : Octets → Option Octets) (most : ℕ) (s : Sessi
   pub written : Appends s.held s.holds
       (replies reply earlier ++ take taken (reply_frame (reply message)))
 
--- what a session has done, by its answer
+-- what a session has done, by its result
 abbrev pub SessionOf : (Octets → Option Octets) → ℕ → Session → Result ℕ StreamFault → Type 0
 SessionOf reply most s (Ok n) = HasServed reply most s n
 SessionOf reply most s (Err SourceFailed) = WasBroken reply most s
 SessionOf reply most s (Err SinkFailed) = WasRefused reply most s
 SessionOf reply most s (Err Cut) = WasCut reply most s
 
--- the failures of the source and of the sink after a session: one more exactly where a call of that
--- device failed
+-- The failure counts of the source and of the sink after a session: one more if and only if a call
+-- of that device failed.
 abbrev pub source_failures_after : {A : Type 0} → ℕ → Result A StreamFault → ℕ
 source_failures_after count (Ok a) = count
 source_failures_after count (Err SourceFailed) = count + 1
@@ -104,14 +103,14 @@ sink_failures_after count (Err SourceFailed) = count
 sink_failures_after count (Err SinkFailed) = count + 1
 sink_failures_after count (Err Cut) = count
 
--- One message was read, and its reply written.
+-- One message was read, and its reply was written.
 pub record HasAnswered (reply : Octets → Option Octets) (s : Session) : Type 0 where
   pub message : Octets
   pub short : length message < 2 ^ 16
   pub read : Consumes s.unread s.left (frame message)
   pub written : Appends s.held s.holds (reply_frame (reply message))
 
--- One message was read, and a beginning of its reply written.
+-- One message was read, and a prefix of its reply was written.
 pub record HasBegun (reply : Octets → Option Octets) (s : Session) : Type 0 where
   pub message : Octets
   pub short : length message < 2 ^ 16

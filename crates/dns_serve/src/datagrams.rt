@@ -1,4 +1,4 @@
-//! Devices that hand out datagrams and send replies.
+//! Devices that receive datagrams and send replies.
 ghost use Rattle.std.specs.Prelude.{◌≡◌, ℕ, ◌-◌, ◌^◌, ◌<◌, List, Option, IsOk, IsTrue, Bool};
 ghost use Rattle.dns_spec.specs.Names.{Octets};
 ghost use Rattle.dns_name.specs.Counted.{failures_after};
@@ -8,27 +8,27 @@ ghost use Rattle.dns_serve.specs.Turns.{Hands, Sends, KeepsAll};
 #[derive(Clone, Copy, Debug, PartialEq, Eq)]
 pub struct Failed;
 
-/// A device that hands out one datagram after another, and sends replies to the sender of the last
+/// A device that receives one datagram after another, and sends replies to the sender of the last
 /// one.
 ///
-/// It counts its failures: one more exactly where a call fails. Each call asks that the count is
-/// below the greatest `u64`. A device over memory tells the datagrams that it has handed out and
-/// those that it has sent; one over a socket tells neither.
+/// It counts its failures: the count rises by one if and only if a call fails. Each call requires
+/// that the count be below the greatest `u64`. A device in memory knows the datagrams that it
+/// received and sent; for a socket they are unknown.
 pub trait Datagrams {
-    /// The datagrams handed out so far, where they are reported.
+    /// The datagrams received so far, if they are known.
     ghost received: { Self → Option (List Octets) };
 
-    /// The datagrams sent so far, where they are reported.
+    /// The datagrams sent so far, if they are known.
     ghost sent: { Self → Option (List Octets) };
 
-    /// How many calls have failed.
+    /// The number of failed calls.
     ghost count: { Self → ℕ };
 
-    /// Whether there is somebody to send to.
+    /// Whether there is a sender to reply to.
     ghost has_sender: { Self → Bool };
 
-    /// Receives one datagram, whose first 512 octets go to the front of `buf`, and answers how many
-    /// these are. What a datagram has beyond them is lost.
+    /// Receives one datagram, stores its first 512 octets at the front of `buf`, and returns how
+    /// many were stored. Later octets are lost.
     fn receive(&mut self, buf: &mut [u8; 512]) -> Result<usize, Failed>
         requires { count self.old < 2 ^ 64 - 1 }
         ensures datagram { Hands (received self.old) (received self.new) result buf.new }
@@ -36,7 +36,7 @@ pub trait Datagrams {
         ensures sender { IsOk result → IsTrue (has_sender self.new) }
         ensures counted { count self.new ≡ failures_after (count self.old) result };
 
-    /// Sends one datagram to the sender of the last one received. It fails where there is none.
+    /// Sends one datagram to the sender of the last one received. Fails if there is none.
     fn send(&mut self, reply: &[u8]) -> Result<(), Failed>
         requires { count self.old < 2 ^ 64 - 1 }
         ensures datagram { Sends (sent self.old) (sent self.new) result reply.now }
@@ -44,7 +44,7 @@ pub trait Datagrams {
         ensures sender { IsOk result → IsTrue (has_sender self.old) }
         ensures counted { count self.new ≡ failures_after (count self.old) result };
 
-    /// How many calls have failed.
+    /// The number of failed calls.
     fn failures(&self) -> u64
         ensures { result ≡ count self.now };
 }

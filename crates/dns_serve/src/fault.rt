@@ -1,9 +1,9 @@
-//! Why a turn or a session ended before its time.
+//! Why a turn or a session ended early.
 ghost use Rattle.std.specs.Prelude.{◌≡◌};
 
 use dns_name::{SinkFailed, SourceFailed};
 
-/// Why a turn over UDP ended without a reply being sent.
+/// Why a turn over UDP ended without sending a reply.
 #[derive(Clone, Copy, Debug, PartialEq, Eq)]
 pub enum TurnFault {
     /// No datagram was received, and nothing was sent (`U1`).
@@ -12,16 +12,16 @@ pub enum TurnFault {
     SendFailed,
 }
 
-/// Why a session over a stream ended before its time.
+/// Why a session over a stream ended early.
 #[derive(Clone, Copy, Debug, PartialEq, Eq)]
 pub enum StreamFault {
-    /// The source failed (`S1`). The replies to all messages that it gave whole are written.
+    /// The source failed (`S1`). The replies to all complete messages were written.
     SourceFailed,
-    /// The sink failed (`S2`). The replies to all messages but the last one read are written, and a
-    /// beginning of that one's.
+    /// The sink failed (`S2`). The replies to all messages but the last one were written, and a
+    /// prefix of the reply to the last.
     SinkFailed,
-    /// The source ended inside a length or a message (`S3`). The replies to all messages before are
-    /// written.
+    /// The source ended inside a length or a message (`S3`). The replies to all earlier messages
+    /// were written.
     Cut,
 }
 

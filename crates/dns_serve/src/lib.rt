@@ -1,5 +1,5 @@
-//! What a server does with its transport: one datagram and its reply, and the messages of a stream
-//! with theirs.
+//! A server's transports: datagrams and their replies, and the messages of a stream and their
+//! replies.
 #![tactic(auto)]
 
 mod datagrams;

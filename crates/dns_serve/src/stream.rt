@@ -1,5 +1,5 @@
-//! A session over a stream: messages, each after its length in two octets, and their replies
-//! (RFC 1035 4.2.2).
+//! A session over a stream: messages and their replies, each after its length in two octets (RFC
+//! 1035 4.2.2).
 ghost use Rattle.std.specs.Prelude.{◌≡◌, ◌+◌, ◌-◌, ◌^◌, ◌<◌, ◌≤◌, length, IfOk, IfSome};
 ghost use Rattle.dns_spec.specs.Layout.{octets16};
 ghost use Rattle.dns_spec.specs.Stream.{reply_frame};
@@ -16,25 +16,27 @@ use dns_zone::{Steps, Zone};
 use std::cell::Cell;
 use std::io::{Read, Write};
 
-// What is kept of a message: all that a query can have, since a question ends by octet 271.
+// How many octets of a message are kept. No query needs more: its question ends by octet 271.
 const MOST_KEPT: usize = 512;
 
-// A reply after its length.
+// The longest reply, with its length in front.
 const MOST_FRAME: usize = 65_537;
 
-/// Reads messages, each after its length in two octets, until `most` are read or the source ends
-/// between two, and answers how many. The reply to each is written after its length; a message that
-/// gets no reply has nothing written.
+/// Serves a stream: reads messages, each after its length in two octets, until it has read `most`
+/// or the source ends between two, and returns how many it read. Writes each reply after its
+/// length in two octets, or nothing for a message that gets no reply.
 ///
-/// `SourceFailed` and `Cut`, where the source fails or ends inside a length or a message: the
-/// replies to all messages before are written. `SinkFailed`: the replies before that to the last
-/// message read are written, and a beginning of that one; nothing after that message is read. Of a
-/// message the first 512 octets are kept, the rest is read and let go. Nothing is tried again, and
-/// no memory is taken. The sink is flushed after each message, and one that keeps what it is given
-/// passes it on then.
+/// Fails with `SourceFailed` if the source fails, and with `Cut` if it ends inside a length or a
+/// message; then the replies to all earlier messages were written. Fails with `SinkFailed` if the
+/// sink fails; then the replies to all messages but the last one read were written, and a prefix
+/// of the reply to that one. Nothing is tried again.
 ///
-/// The room of the replies, some 197,000 octets, is filled first. Who serves many streams, or has
-/// little stack, keeps a `StreamRoom`, and calls `serve_stream_in`.
+/// Only the first 512 octets of a message are kept; the rest is read and discarded. No memory is
+/// allocated. The sink is flushed after each message.
+///
+/// Each call first fills room for the replies, about 197,000 octets on the stack. Callers that
+/// serve many streams, or have little stack, should keep a `StreamRoom` and call
+/// `serve_stream_in`.
 pub fn serve_stream<R: Read, W: Write>(
     zone: &Zone,
     source: &mut Tally<R>,
@@ -52,21 +54,20 @@ pub fn serve_stream<R: Read, W: Write>(
     serve_stream_in(zone, source, sink, most, &mut StreamRoom::new(), &ahead)
 }
 
-/// What a session and the reader of its source tell each other of the octets after those that were
-/// read.
+/// What a session and the reader of its source tell each other about the octets to come.
 #[derive(Clone, Copy, PartialEq, Eq)]
 pub enum Ahead {
-    /// A message begins: said by the session, before it reads one.
+    /// A message begins next: set by the session before it reads one.
     Message,
-    /// They have not come, so that the next call may wait: said by the reader, after each call.
+    /// They have not arrived, so the next call may wait: set by the reader after each call.
     Awaited,
-    /// A whole message is at hand, if one begins there: said by the reader.
+    /// If a message begins next, all of it has arrived: set by the reader.
     AtHand,
 }
 
-/// Room for a session: for what is kept of a message, for its reply after its length, and for the
-/// reply while it is made. It is filled once, and lent to `serve_stream_in` for one session after
-/// the other.
+/// Room for a session: for the kept octets of a message, for its reply and length, and for the
+/// draft of the reply. It is filled once, and lent to `serve_stream_in` for one session after
+/// another.
 #[derive(Drop)]
 pub struct StreamRoom {
     message: [u8; MOST_KEPT],
@@ -75,8 +76,7 @@ pub struct StreamRoom {
 }
 
 impl StreamRoom {
-    /// Room in which nothing was served. It has some 197,000 octets, which stand in the value
-    /// itself.
+    /// New room, of about 197,000 octets in the value itself.
     pub fn new() -> StreamRoom {
         StreamRoom {
             message: [0; MOST_KEPT],
@@ -86,12 +86,11 @@ impl StreamRoom {
     }
 }
 
-/// Reads messages and writes their replies, in room that is lent: all of what `serve_stream` says.
+/// Serves a stream as `serve_stream` does, in room that is lent.
 ///
-/// Nothing is left of the sessions that were served in the room before, and nothing is filled in
-/// its size. No memory is taken. The sink is flushed after a message too, unless the reader of the
-/// source says, by `ahead`, that the next is at hand: a sink that keeps replies keeps none while
-/// more is waited for.
+/// Earlier sessions in the room have no effect, and it is not cleared. The sink is not flushed
+/// after a message if the reader of the source reports through `ahead` that the next message has
+/// arrived: so a sink that buffers replies holds none back while the session waits for more.
 pub fn serve_stream_in<R: Read, W: Write>(
     zone: &Zone,
     source: &mut Tally<R>,
@@ -123,8 +122,8 @@ pub fn serve_stream_in<R: Read, W: Write>(
     Ok(served)
 }
 
-// Reads a message after its length, and answers how many of its octets are kept, at the front of
-// `message`; `None` at the end of the source. The others pass through `room`.
+// Reads a message after its length, and returns how many of its octets were kept, at the front of
+// `message`; `None` at the end of the source. The other octets are read into `room`.
 fn read_message<R: Read>(
     source: &mut Tally<R>,
     message: &mut [u8],
@@ -167,8 +166,8 @@ fn message_length(octets: &[u8]) -> usize
     usize::from(BigEndian::read_u16(octets))
 }
 
-// Writes the reply to a message after its length, in one call where the sink takes it, or nothing
-// where it gets none.
+// Writes the reply to a message after its length, with one call of the sink's `write_all`; writes
+// nothing if there is no reply.
 fn write_reply<W: Write>(
     zone: &Zone,
     message: &[u8],

@@ -1,4 +1,4 @@
-//! One turn of a server over UDP: a datagram, and its reply (RFC 1035 4.2.1).
+//! One turn of a server over UDP: a datagram and its reply (RFC 1035 4.2.1).
 ghost use Rattle.std.specs.Prelude.{◌≡◌, ◌-◌, ◌^◌, ◌<◌};
 ghost use Rattle.dns_name.specs.Counted.{failures_after};
 ghost use Rattle.dns_serve.specs.Turns.{TurnOf, turn};
@@ -8,16 +8,17 @@ use crate::fault::TurnFault;
 use dns_answer::{UdpDraft, respond_in};
 use dns_zone::{Steps, Zone};
 
-// The octets that are kept of a datagram, and those that a reply has at most.
+// The most octets that are kept of a datagram, and that a reply has.
 const MOST_OCTETS: usize = 512;
 
-/// Receives one datagram, and sends its reply to its sender: true where one was sent, false where
-/// none is owed.
+/// Receives one datagram, and sends the reply to its sender: true if a reply was sent, false if
+/// the datagram gets none.
 ///
-/// `ReceiveFailed` where the device failed before, with nothing sent; `SendFailed` where it failed
-/// then. Nothing is tried again, and no memory is taken.
+/// Fails with `ReceiveFailed` if receiving fails, with nothing sent, and with `SendFailed` if
+/// sending fails. Nothing is tried again, and no memory is allocated.
 ///
-/// The room of the turn is filled first. Who takes many turns keeps it, and calls `udp_turn_in`.
+/// Each call first fills the room of the turn. Callers that take many turns should keep it and
+/// call `udp_turn_in`.
 pub fn udp_turn<D: Datagrams>(zone: &Zone, device: &mut D) -> Result<bool, TurnFault>
     requires { D.count device.old < 2 ^ 64 - 1 }
     ensures turn { TurnOf zone.now (turn D.received D.sent device.old device.new) result }
@@ -29,10 +30,10 @@ pub fn udp_turn<D: Datagrams>(zone: &Zone, device: &mut D) -> Result<bool, TurnF
     udp_turn_in(zone, device, &mut room, &mut draft, &mut out)
 }
 
-/// Takes a turn in room that is lent, for the datagram, for the reply while it is made, and for
-/// the reply: all of what `udp_turn` says.
+/// Takes a turn as `udp_turn` does, in room that is lent: for the datagram, for the draft of the
+/// reply, and for the reply.
 ///
-/// Nothing is left of the turns that were taken in the room before, and it is not filled.
+/// Earlier turns in the room have no effect, and it is not cleared.
 pub fn udp_turn_in<D: Datagrams>(
     zone: &Zone,
     device: &mut D,

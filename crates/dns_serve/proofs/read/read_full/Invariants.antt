@@ -1,7 +1,7 @@
 use Rattle.dns_spec.proofs.Common.{length, ◌-◌, ◌≡◌, ◌≤◌, ◌<◌, All, take, Consumes}
 use Rattle.dns_serve.proofs.read.read_full.Given as goal
 
--- what came stands at the front of the buffer
+-- the octets so far are at the front of the buffer
 abbrev pub invariant-calls : goal.invariant-calls
 invariant-calls g l = record {
   within : l.count ≤ length l.buf;

@@ -18,7 +18,7 @@ returns-in_err-write_reply-clause-session g c =
     c.in_ok-kept.ensures.read c.split_at.ensures.front c.in_err-write_reply.ensures.err in
     rw (p.1, p.2) (unwritten _ _ _ _ _ _ _ _ _ c.messages.invariant.done c.messages-test.true reply)
 
--- the whole reply was written, and then not passed on
+-- the whole reply was written, but the flush failed
 pub returns-in_err-flush-clause-session : goal.returns-in_err-flush-clause-session
 returns-in_err-flush-clause-session g c =
     let p = err_from_is_err_and

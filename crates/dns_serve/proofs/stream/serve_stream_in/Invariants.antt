@@ -3,7 +3,7 @@ use Rattle.dns_serve.specs.Streams.{reply_over_tcp}
 use Rattle.dns_serve.proofs.Sessions.{Done}
 use Rattle.dns_serve.proofs.stream.serve_stream_in.Given as goal
 
--- so many messages were read and answered, and no device has failed
+-- `served` messages were read, their replies were written, and no device has failed
 abbrev pub invariant-messages : goal.invariant-messages
 invariant-messages g l = record {
   done : Done (reply_over_tcp l.zone) (record {
