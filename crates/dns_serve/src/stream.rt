@@ -88,9 +88,10 @@ impl StreamRoom {
 
 /// Serves a stream as `serve_stream` does, in room that is lent.
 ///
-/// Earlier sessions in the room have no effect, and it is not cleared. The sink is not flushed
-/// after a message if the reader of the source reports through `ahead` that the next message has
-/// arrived: so a sink that buffers replies holds none back while the session waits for more.
+/// Earlier sessions in the room have no effect, and it is not cleared. After a message the sink is
+/// flushed, unless the reader of the source reports through `ahead` that the next message has
+/// arrived: so a sink that buffers replies holds none back while the session waits for more. After
+/// the last of `most` messages it is always flushed.
 pub fn serve_stream_in<R: Read, W: Write>(
     zone: &Zone,
     source: &mut Tally<R>,

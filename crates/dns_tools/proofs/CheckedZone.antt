@@ -1,4 +1,4 @@
--- What was written of a report of the file is what a check has to write.
+-- What was written of the report on a file is what a check must write.
 use Rattle.dns_tools.proofs.Common.{arith, ◌≡◌, ◌≢◌, Bool, List, [], ◌∷◌, Option, Some, None, Result, Ok, Err, IsErrAnd, refl, subst, flat_map, Octets, DomainName, folded, ResourceRecord, ZoneContents, records_equal, distinct, zone_of, Fault, faults, Meaning, records, fault_at, Options, Report, failing, passing, fault_report, report_of_faults, zone_report, report_of_meaning, folded_folded, ordered_passing, AppendsBeginning, fault_of, GivesMeaning, Stop, Memory, Source, Sink, Refusal, File, Zone, LoadFault, Refused, IsRead, LoadedAs, refusal_report, ReportsOn, WrittenAs, ReportedAs, CheckedAs}
 
 -- what was written of such a report
@@ -9,7 +9,7 @@ reported Is report (Err Sink) old new h w = (report, h, w)
 reported Is report (Err Memory) old new h w = absurd w
 reported Is report (Err Source) old new h w = absurd w
 
--- a beginning of such a report
+-- a prefix of such a report
 pub report_begun : (Is : Report → Type 0) (report : Report)
     (result : Result Bool Stop) (old new : Option Octets) → IsErrAnd result (λ stop. stop ≡ Sink)
     → Is report → AppendsBeginning old new report.output → ReportedAs Is result old new
@@ -22,7 +22,7 @@ reports_on : (known : Option Octets) (o : DomainName)
 reports_on None o options m report h e = tt
 reports_on (Some x) o options m report h e = (m, h, e)
 
--- the report of what was read
+-- the report on what was read
 checked : (known left : Option Octets) (o : DomainName) (options : Options)
     (m : Meaning) (report : Report) (result : Result Bool Stop) (old new : Option Octets)
     → IsRead known left o m → report ≡ report_of_meaning options o m
@@ -30,11 +30,11 @@ checked : (known left : Option Octets) (o : DomainName) (options : Options)
 checked known left o options m report result old new read e written =
     grind (arith, reported, reports_on)
 
--- a name that is folded may be folded again
+-- folding a name twice changes nothing
 same_zone : (o : DomainName) (rs : List ResourceRecord) → zone_of (folded o) rs ≡ zone_of o rs
 same_zone o rs = grind (arith, records, distinct, records_equal, folded_folded)
 
--- a zone without fault
+-- a zone without faults
 pub zone_checked : (known left : Option Octets) (o : DomainName)
     (options : Options) (z : ZoneContents) (result : Result Bool Stop) (old new : Option Octets)
     → LoadedAs known left o (Ok z)
@@ -71,7 +71,7 @@ refusal_checked known left o options (Zone found) result old new (rs, read, are,
       records,
     )
 
--- a load that was refused
+-- a load that ended in a refusal
 pub loaded_as : (known left : Option Octets) (o : DomainName)
     (result : Result ZoneContents LoadFault) (refusal : Refusal) → result ≡ Err (Refused refusal)
     → LoadedAs known left o result → LoadedAs known left o (Err (Refused refusal))

@@ -1,11 +1,11 @@
--- What is kept of a line, octet by octet, and which message it says the line is.
+-- What is kept of a line, octet by octet, and which message it decides.
 use Rattle.dns_tools.proofs.Common.{◌≡◌, ◌≢◌, ℕ, ◌+◌, ◌<◌, ◌≤◌, ◌==◌, if◌then◌else◌, nat_lt, Bool, true, false, inl, inr, List, [], ◌∷◌, ◌++◌, length, take, drop, get_or, suc, Option, Some, None, refl, sym, ap, ◌∙◌, subst, arith, append_assoc, append-nil, length-append, filter, cases_lt, le-leb, lt-leb, lt-ltb, le-ltb, ltb-true, ltb-false, ne_eqb, take_all, take-append-le, take-append-drop, length-take-le, drop-cons, filter-append, Consumes, IsAtEnd, Octets, hex_octets, ⊤, ◌-◌, MatchOption, Ok, IfSome, IfNone, IsErr, OnTrue, OnFalse, decode_of, Consumes-trans, begin_line, lines, line_ends, line_message, first_of, KeptLine, kept_line, kept_message, KeepsOctet, IsFront, KeepsFirst, ReadsFirst}
 use Rattle.dns_tools.proofs.LineDigits.{line_read, line_refused}
 
 pub ends_append : (x y : Octets) → line_ends (x ++ y) ≡ line_ends x + line_ends y
 ends_append x y = grind (arith, filter-append, length-append, filter)
 
--- an octet that ends no line
+-- an octet that is not an LF
 pub ends_one : (o : ℕ) → o ≢ 10 → line_ends (o ∷ []) ≡ 0
 ends_one o other = rw (ne_eqb o 10 other) refl
 
@@ -15,13 +15,13 @@ ends_head o x e = grind arith
 ends_tail : (o : ℕ) (x : Octets) → line_ends (o ∷ x) ≡ 0 → line_ends x ≡ 0
 ends_tail o x e = rw (ends_head o x e) at e
 
--- a line, and those after it
+-- a line and the lines after it
 pub line_then : (front y : Octets) → line_ends front ≡ 0 → lines (front ++ 10 ∷ y) ≡ front ∷ lines y
 unfolding lines
 line_then [] y e = refl
 line_then (o ∷ front) y e = rw (ends_head o front e, line_then front y (ends_tail o front e)) refl
 
--- a line that nothing ends
+-- a line without an LF at its end
 pub line_alone : (o : ℕ) (front : Octets)
     → line_ends (o ∷ front) ≡ 0 → lines (o ∷ front) ≡ (o ∷ front) ∷ []
 unfolding lines
@@ -62,7 +62,7 @@ full_front front line e h = elim (cases_lt (length front) 131070) [
   | inr large ↦ large
 ]
 
--- the next octet of a line
+-- one more octet of a line
 pub keeps_kept : (front : Octets) (k n : KeptLine) (o : ℕ)
     → k ≡ kept_line front → KeepsOctet k n o → n ≡ kept_line (front ++ o ∷ [])
 keeps_kept front k n o e keeps = λ i. record { front = front_is i; is_overlong = flag_is i }
@@ -86,7 +86,7 @@ keeps_kept front k n o e keeps = λ i. record { front = front_is i; is_overlong 
           (omega (arith, full_front front k.front kept full, length-append front (o ∷ []))))
     ]
 
--- what is kept of a line says which message it is
+-- what is kept of a line decides its message
 message_says : (front : Octets) → kept_message (kept_line front) ≡ line_message front
 message_says front = elim (cases_lt 131070 (length front)) [
   | inl long ↦ rw (lt-ltb 131070 (length front) long, lt-leb (length front) 131070 long) refl
@@ -98,13 +98,13 @@ pub kept_says : (front : Octets) (k : KeptLine)
     → k ≡ kept_line front → kept_message k ≡ line_message front
 kept_says front k e = ap kept_message e ∙ message_says front
 
--- ---- the first line of an input
+-- The first line of an input.
 
 first_after : (o : ℕ) (ls : List Octets) → first_of (begin_line o ls) ≡ o ∷ first_of ls
 first_after o [] = refl
 first_after o (l ∷ ls) = refl
 
--- where nothing ends it so far, it goes on
+-- without an LF so far, the line goes on
 first_line : (front y : Octets)
     → line_ends front ≡ 0 → first_of (lines (front ++ y)) ≡ front ++ first_of (lines y)
 unfolding lines
@@ -117,13 +117,13 @@ first_ended : (y : Octets) → first_of (lines (10 ∷ y)) ≡ []
 unfolding lines
 first_ended y = refl
 
--- where it goes on, it begins so
+-- if what follows adds nothing to the line, what is kept decides the message
 first_goes_on : (front y : Octets) (l : KeptLine) → line_ends front ≡ 0 → l ≡ kept_line front
     → first_of (lines y) ≡ [] → kept_message l ≡ line_message (first_of (lines (front ++ y)))
 first_goes_on front y l unended kept over =
     grind (arith, kept_says, line_message, first_line, append-nil)
 
--- an octet ends it
+-- an LF ends it
 pub ended_first : (x octets : Octets) (i : ℕ) (l : KeptLine)
     → i < length octets → get_or octets i 0 ≡ 10 → line_ends (x ++ take i octets) ≡ 0
     → l ≡ kept_line (x ++ take i octets) → KeepsFirst (x ++ octets) l
@@ -145,14 +145,14 @@ pub overlong_first : (x : Octets) (l : KeptLine)
 overlong_first x l unended kept over =
     grind (arith, ltb-true, kept, first_line, first_of, lines, length-append, lt-leb)
 
--- it is not, so far
+-- it is not too long, so far
 pub not_overlong : (x : Octets) (l : KeptLine)
     → line_ends x ≡ 0 → l ≡ kept_line x → l.is_overlong ≡ false → IsFront x l
 not_overlong x l unended kept short = grind (arith, ltb-false, kept)
 
--- ---- a source
+-- A source.
 
--- the source has given octets in which the line goes on, and all of them are kept
+-- the source has given octets in which the line goes on, and all of these are kept
 pub record Going (a b : Option Octets) (l : KeptLine) : Type 0 where
   pub given : Octets
   pub read : Consumes a b given
@@ -167,7 +167,7 @@ going_more a b c front octets l n same more step g = record {
   front = subst (λ o. IsFront (g.given ++ o) n) same (step g.given g.front);
 }
 
--- what comes after octets that were read
+-- the octets that follow the ones that were read
 what_comes : (a c : Option Octets) (given : Octets)
     → Consumes a c given → (rest : Octets) × MatchOption a ⊤ (λ all. all ≡ given ++ rest)
 what_comes None c given read = ([], tt)
@@ -222,14 +222,14 @@ going_ended a b c l none end g =
           first_of lines_nil) ∙ ap (λ z. line_message (first_of (lines z))) (append-nil g.given);
     }
 
--- ---- the code's own words
+-- The code's own steps.
 
--- the kept front is all of the line
+-- the kept front is the whole line
 front_length : (x : Octets) (l : KeptLine) → IsFront x l → length l.front ≡ length x
 front_length x l is = ap (λ l. length l.front) is.kept
     ∙ ap length (take_all 131070 x (omega (arith, is.goes_on.short)))
 
--- each piece makes the line longer, as long as it goes on
+-- each piece makes the line longer while it goes on
 pub longer : (a b : Option Octets) (octets : Octets) (is_over : Bool) (l n : KeptLine) → 0 < length
     octets → Going a b l → ((x : Octets) → IsFront x l → OnFalse is_over (IsFront (x ++ octets) n))
     → suc (if is_over then 0 else 131071 - length n.front) ≤ 131071 - length l.front
@@ -241,7 +241,7 @@ pub first_longer : (a b : Option Octets) (l : KeptLine)
     → Going a b l → suc 0 ≤ 131071 - length l.front
 first_longer a b l g = omega (arith, front_length g.given l g.front, g.front.goes_on.short)
 
--- the octets that are spelled are those of the message
+-- the octets in the buffer are the message
 pub message_spelled : (result : Option ℕ) (digits octets : Octets) (l : KeptLine)
     → record { front = digits; is_overlong = false } ≡ l → IfSome result (λ len. decode_of digits
     ≡ Ok (take len octets)) → IfSome result (λ len. kept_message l ≡ Some (take len octets))

@@ -1,5 +1,4 @@
--- The digits of a line, as the library of hexadecimal digits reads and writes them and as the
--- definitions do.
+-- The digits of a line: the hex library reads and writes them as the definitions do.
 use Rattle.dns_tools.proofs.Common.{◌≡◌, ℕ, zero, suc, ◌+◌, ◌*◌, ◌/◌, ◌%◌, ◌<◌, ◌==◌, if◌then◌else◌, Bool, true, false, ◌&&◌, ◌⊎◌, inl, inr, List, [], ◌∷◌, ◌++◌, length, length-append, take, drop, set, slice_index, Option, Some, None, Result, Ok, Err, refl, sym, ap, ap₂, ◌∙◌, arith, IsErr, take_more_set, length-drop, is_ascii_hexdigit, digit_value, digit_char, option_map, agree_below_at, eqb-true, cases_Bool, cases_lt, le-leb, lt-leb, take_all, take-append-le, Octets, octets16, hex_octets, hex_text, IsBytes, hex_digit_value, decode_pairs, decode_of, encode_lower, encode_with, lower_digits, FromHexError, length-encode_with, cons_byte}
 
 abbrev digit : ℕ → Option ℕ
@@ -51,7 +50,7 @@ two_bytes a b h k (suc (suc i)) = omega arith
 pub digits16 : (n : ℕ) → encode_lower (octets16 n) ≡ hex_text (octets16 n)
 digits16 n = grind (arith, digits_written, octets16, two_bytes)
 
--- what is read, without the reason where it is nothing
+-- the octets that were read, without the reason if there are none
 abbrev said : Result (List ℕ) FromHexError → Option Octets
 said (Ok d) = Some d
 said (Err e) = None
@@ -103,7 +102,7 @@ odd_is_none (h ∷ l ∷ text) odd =
 line_said : (text : Octets) → said (decode_of text) ≡ hex_octets text
 line_said text = grind (arith, cases_Bool, odd_is_none, eqb-true, pairs_said)
 
--- a line that is read, and one that is none
+-- a line that the library reads, and one that it rejects
 pub line_read : (text d : Octets) → decode_of text ≡ Ok d → hex_octets text ≡ Some d
 line_read text d e = sym (line_said text) ∙ ap said e
 
@@ -114,7 +113,7 @@ line_refused text h = sym (line_said text) ∙ none_said (decode_of text) h
     none_said (Ok d) h = cc
     none_said (Err e) h = refl
 
--- the digits at the front of a buffer, and the end of their line
+-- the digits at the front of a buffer, followed by LF
 pub line_written : (octets new room : Octets) → new ≡ encode_lower octets
     → IsBytes octets → 2 * length octets < length room → take (2 * length octets + 1)
     (set (new ++ drop (2 * length octets) room) (2 * length octets) 10) ≡ hex_text octets ++ 10 ∷ []

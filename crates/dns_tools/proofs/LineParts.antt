@@ -1,13 +1,13 @@
--- Lines of output go out in parts.
+-- Lines of output are written in parts.
 use Rattle.dns_tools.proofs.Common.{◌≡◌, ℕ, ◌+◌, ◌<◌, List, [], ◌++◌, length, drop, get_or, ap, flat_map, append_assoc, append-nil, add-one, false≢true, codes, decimal, arith, drop-cons, Octets, DomainName, name_text, type_text, hex_text, data_text, FileFault, fault_code, ZoneContents, zone_serial, MessageRecord, DnsMessage, octets16, two_digits, line_report, bare_name_text, loaded_report, class_text, header_line, section_line, data_type, question_line, fault_report, Fault, MessageQuestion, Result, Ok, Err, IsErr, Option, Counted, Writes, Writes-same, Written, Written-more, Written-begun, ◌∙◌}
 use Rattle.dns_spec.specs.Report.{serving_report}
 
--- the text of the next piece, and those of the pieces after it
+-- the text of the next piece, and the texts of the pieces after it
 pub next_piece : {A : Type 0} (f : A → Octets) (xs : List A) (x : A) (i : ℕ) → i < length xs
     → x ≡ get_or xs i x → flat_map f (drop i xs) ≡ f x ++ flat_map f (drop (i + 1) xs)
 next_piece f xs x i h e = grind (arith, flat_map, drop-cons, add-one)
 
--- of a text so much was written, and no failure was counted: the rest is still to come
+-- part of a text was written without a failure, and `rest` is still to come
 pub record IsLeft {V : Type 0} (contents : V → Option Octets) (old now : Counted V)
     (whole rest : Octets) : Type 0 where
   pub written : Written (contents old.device) (contents now.device) whole rest
@@ -25,7 +25,7 @@ piece_written {x = x} {i} f xs within is so text w = record {
   counted = w.counted ∙ so.counted;
 }
 
--- or a beginning of it, and that is the answer
+-- or a prefix of it was written, and the result is the error
 pub piece_begun : {V E A F B T : Type 0} {contents : V → Option Octets} {old mid new : Counted V}
     {e : E} {r : Result B F} {x : T} {i : ℕ} {whole text : Octets} (f : T → Octets) (xs : List T)
     → i < length xs → x ≡ get_or xs i x → IsLeft contents old mid whole (flat_map f (drop i xs))
@@ -39,7 +39,7 @@ piece_begun {r = Err failed} {x} {i} f xs within is so text w err = record {
 }
 piece_begun {r = Ok answer} f xs within is so text w err = absurd (false≢true err)
 
--- nothing comes after the last part
+-- nothing follows the last part
 pub three_parts : (a b c : Octets) → a ++ (b ++ (c ++ [])) ≡ a ++ b ++ c
 three_parts a b c = simp (append_assoc, append-nil)
 
@@ -53,7 +53,7 @@ pub ten_parts : (a b c d e f g h i j : Octets) → a ++ (b ++ (c ++ (d ++ (e
     ++ (f ++ (g ++ (h ++ (i ++ (j ++ []))))))))) ≡ a ++ b ++ c ++ d ++ e ++ f ++ g ++ h ++ i ++ j
 ten_parts a b c d e f g h i j = simp (append_assoc, append-nil)
 
--- the counts of a header stand after spaces
+-- the counts of a header, each after a space
 pub header_parts : (a b s c d e f g n : Octets)
     → a ++ (b ++ (s ++ (c ++ (s ++ (d ++ (s ++ (e ++ (s ++ (f ++ (s ++ (g ++ (n ++ []))))))))))))
     ≡ a ++ b ++ s ++ c ++ (s ++ d) ++ (s ++ e) ++ (s ++ f) ++ (s ++ g) ++ n

@@ -1,10 +1,10 @@
--- What a run over lines has done once its input is read, or once a device has failed.
+-- What a run over lines has done when its input is read, or when a device has failed.
 use Rattle.dns_tools.proofs.Common.{◌≡◌, ◌≢◌, ℕ, ◌+◌, ◌-◌, ◌^◌, ◌<◌, ◌≤◌, Bool, ◌&&◌, ◌⊎◌, inl, inr, [], ◌∷◌, ◌++◌, length, take, Option, Some, None, Result, Ok, Err, IsErrAnd, refl, sym, ap, ◌∙◌, subst, arith, append_assoc, append-nil, length-append, is_some, take_all, take-append-le, length-take-le, cases_lt, take-append-add, Appends, Consumes, IsAtEnd, Keeps, Octets, Appends-nil, Appends-trans, Consumes-trans, Consumes-kept, lines, line_ends, ended_lines, line_message, message_answer, line_answers, are_messages, AppendsBeginning, beginning_of_second, Session, Kept, IsFresh, Progress, Begun, Answered, IsInput, LinesAnswered, HasAnsweredLines, HasAnsweredEnded, HasBegunAnswers, Grows, KeepsUp, kept_message, Stop, Source, Sink}
 use Rattle.dns_tools.proofs.KeptLines.{line_alone, lines_nil, kept_says}
 use Rattle.dns_tools.proofs.LineRuns.{one_answer, one_flag, progress_none}
 use Rattle.dns_spec.proofs.Common.{nil_from_length}
 
--- so much was read, and so many octets more may be
+-- octets were read, and `left` more may be
 pub record Reading (reply : Octets → Option Octets) (a b x y : Option Octets) (left : ℕ) (k : Kept)
     : Type 0 where
   pub given : Octets
@@ -29,7 +29,8 @@ some_front : (front line : Octets) → line ≡ take 131070 front → length lin
 some_front [] line e some = absurd (some (ap length e))
 some_front (o ∷ front) line e some = λ h. omega (arith, h)
 
--- the lines of an input that is read: those that are ended, and the last, where some of it is kept
+-- the lines of an input that was read: those that have ended, and the last one if some of it is
+-- kept
 module _ (reply : Octets → Option Octets) (x y : Option Octets) (input : Octets) (k : Kept)
     (p : Progress reply x y input k) where
   whole_lines : lines input ≡ p.ended ++ lines p.front
@@ -77,11 +78,11 @@ module _ (reply : Octets → Option Octets) (x y : Option Octets) (input : Octet
     finished_begun z begun =
         subst (AppendsBeginning x z) all_answers (beginning_of_second x y z _ _ p.written begun)
 
-  -- all answers to lines that are ended were sent
+  -- the answers to all lines that have ended were written
   all_sent : Appends x y (line_answers reply (ended_lines input))
   all_sent = grind (arith, whole_lines, take-append-le, lines, take_all)
 
--- the input is all that the source gave, or the greatest count of octets
+-- the input is all that the source gave, or the greatest number of octets
 pub input_of : (a b : Option Octets) (input : Octets) (left : ℕ) → length input + left ≡ 2 ^ 64 - 1
     → Consumes a b input → (left ≡ 0) ⊎ IsAtEnd b → IsInput a input
 input_of None b input left count read over = tt
@@ -93,7 +94,7 @@ input_of (Some x) (Some y) input left count read (inr end) =
     sym (ap (take (2 ^ 64 - 1)) (read ∙ ap (λ z. input ++ z) end ∙ append-nil input)
     ∙ take_all (2 ^ 64 - 1) input (omega (arith, count)))
 
--- what comes after so much of an input
+-- the rest of an input
 rest_of : (a b : Option Octets) (given : Octets)
     → Consumes a b given → length given ≤ 2 ^ 64 - 1 → (rest : Octets) × IsInput a (given ++ rest)
 rest_of None b given read within = ([], tt)
@@ -119,7 +120,7 @@ begun_answers reply a b x y given read within begun keeps_up =
       keeps_up = keeps_up;
     }
 
--- answers keep up with pieces that are read
+-- the answers keep up with the pieces
 keeps_up_none : (reply : Octets → Option Octets) (x : Option Octets) → KeepsUp reply x x []
 unfolding lines
 keeps_up_none reply x = record {
@@ -158,13 +159,13 @@ keeps_up_next reply x y z given front k (bs, grown) few p = record {
       (all_sent reply x y given k p) grown;
 }
 
--- ---- what a run says where it starts, goes on, ends, and stops
+-- The state of a run when it begins, goes on, ends and stops.
 
 pub reading_none : (reply : Octets → Option Octets) (a x : Option Octets) (k : Kept) → IsFresh k
     → Reading reply a a x x (2 ^ 64 - 1) k
 reading_none reply a x k fresh = grind (arith, progress_none, keeps_up_none)
 
--- octets that were read are taken, or the sink failed when they were
+-- a piece was read and taken, or the sink failed meanwhile
 module _ (r s : Octets → Option Octets) (a b c x y z : Option Octets) (left count : ℕ)
     (octets front : Octets) (k : Kept) (same : s ≡ r) (is : octets ≡ front)
     (len : length front ≡ count) (within : count ≤ left) (few : count ≤ 65536)
@@ -203,7 +204,7 @@ reading_failed reply a b c x y left k some keeps r = record {
   written = all_sent reply x y r.given k r.progress;
 }
 
--- the input was read, and is still to be answered as far as it is kept
+-- the input was read, and only what is kept of it remains to be answered
 pub record AllRead
     (r s : Octets → Option Octets) (a b x y : Option Octets) (k : Kept) : Type 0 where
   pub task : s ≡ r
@@ -213,7 +214,7 @@ pub record AllRead
   pub progress : Progress s x y input k
   pub keeps_up : KeepsUp r x y input
 
--- so many octets were read that no more may be
+-- the greatest number of octets was read
 pub all_read : (r s : Octets → Option Octets) (a b x y : Option Octets) (left : ℕ) (k : Kept)
     → s ≡ r → left ≡ 0 → Reading r a b x y left k → AllRead r s a b x y k
 all_read r s a b x y left k task none reading = record {
@@ -243,7 +244,7 @@ all_given r s a b c x y left count buf k task more none end reading =
       keeps_up = reading.keeps_up;
     }
 
--- the last line was answered, or a beginning of its answer was written
+-- the last line was answered, or a prefix of its answer was written
 module _ (r s : Octets → Option Octets) (a b x y z : Option Octets) (k : Kept)
     (all : AllRead r s a b x y k) where
   pub all_answered : (passes : Bool)
@@ -272,7 +273,7 @@ module _ (r s : Octets → Option Octets) (a b x y z : Option Octets) (k : Kept)
     keeps_up = keeps_up_grown r x y z all.input grows all.keeps_up;
   }
 
--- a device failed, and the run said so
+-- a device failed, and the run's result says so
 pub sink_stopped : (reply : Octets → Option Octets) (s : Session) (result : Result Bool Stop)
     → IsErrAnd result (λ stop. stop ≡ Sink) → HasBegunAnswers reply s → LinesAnswered reply s result
 sink_stopped reply s (Ok passes) h b = absurd h

@@ -2,7 +2,7 @@
 use Rattle.dns_tools.proofs.Common.{◌≡◌, ◌≢◌, ℕ, ◌+◌, Bool, true, false, ◌&&◌, List, [], ◌∷◌, ◌++◌, take, drop, Option, refl, sym, ap, ◌∙◌, subst, arith, append_assoc, append-nil, length-append, is_some, take-append-drop, list_all-append, flat_map-append, Appends, Octets, Appends-trans, Appends-nil, lines, line_message, message_answer, line_answers, are_messages, AppendsBeginning, beginning_of_first, beginning_of_second, no_line, kept_message, KeepsOctet, Kept, IsFresh, Progress, Begun, Grows}
 use Rattle.dns_tools.proofs.KeptLines.{ends_append, ends_one, line_then, keeps_kept, kept_says}
 
--- nothing was read yet
+-- nothing has been read
 pub progress_none : (reply : Octets → Option Octets) (held : Option Octets) (k : Kept) → IsFresh k
     → Progress reply held held [] k
 progress_none reply held k fresh = record {
@@ -16,7 +16,7 @@ progress_none reply held k fresh = record {
   passes_is = fresh.passes;
 }
 
--- the next octet is of the line that goes on
+-- the next octet belongs to the unfinished line
 pub progress_keep : (reply : Octets → Option Octets) (held holds : Option Octets) (x : Octets)
     (k n : Kept) (o : ℕ) → o ≢ 10 → KeepsOctet k.line n.line o → n.passes ≡ k.passes
     → Progress reply held holds x k → Progress reply held holds (x ++ o ∷ []) n
@@ -28,7 +28,7 @@ and_true true true = refl
 and_true true false = refl
 and_true false c = refl
 
--- a line after those that are ended: what answers them all, and whether all are messages
+-- one more line: the answers to all, and whether all are messages
 module _ (reply : Octets → Option Octets) (ended : List Octets) (front : Octets) (k : Kept)
     (says : kept_message k.line ≡ line_message front) where
   pub one_answer : line_answers reply ended ++ message_answer reply (kept_message k.line)
@@ -39,7 +39,7 @@ module _ (reply : Octets → Option Octets) (ended : List Octets) (front : Octet
       → k.passes ≡ are_messages ended → passes ≡ are_messages (ended ++ front ∷ [])
   one_flag passes now before = grind (arith, says, list_all-append, ended, and_true)
 
--- the octet that ends a line
+-- an octet that ends a line
 module _ (reply : Octets → Option Octets) (held old new : Option Octets) (x : Octets) (k : Kept)
     (p : Progress reply held old x k) where
   abbrev answer : Octets
@@ -66,7 +66,7 @@ module _ (reply : Octets → Option Octets) (held old new : Option Octets) (x : 
     passes_is = one_flag reply p.ended p.front k says n.passes passes p.passes_is;
   }
 
-  -- of its answer only a beginning was written
+  -- only a prefix of its answer was written
   pub begun_end : AppendsBeginning old new answer → Begun reply held new (x ++ 10 ∷ [])
   begun_end begun = λ y.
       let first = line_answers reply p.ended in
@@ -80,7 +80,7 @@ module _ (reply : Octets → Option Octets) (held old new : Option Octets) (x : 
       (beginning_of_first held new (first ++ answer) _
       (beginning_of_second held old new first answer p.written begun))
 
--- ---- octets one after another: `front` of them are taken, and `o` comes next
+-- Octets one after another: the first i were taken, and `o` comes next.
 module _ (r : Octets → Option Octets) (held a : Option Octets) (x octets : Octets) (i o : ℕ)
     (k : Kept) (next : take (i + 1) octets ≡ take i octets ++ o ∷ [])
     (p : Progress r held a (x ++ take i octets) k) where
@@ -115,7 +115,7 @@ pub taken_all : (r : Octets → Option Octets) (held b : Option Octets) (x octet
     → Progress r held b (x ++ octets) k
 taken_all r held b x octets i k all p = subst (λ t. Progress r held b (x ++ t) k) all p
 
--- a sink grows by a text, by what was written of one, and by one text after another
+-- a sink grows by a text, by a prefix of one, and by two texts in turn
 pub grows_written : (a b : Option Octets) (text : Octets) → Appends a b text → Grows a b
 grows_written a b text w = (text, w)
 

@@ -1,4 +1,4 @@
--- What was printed of a message, a fault or a line is what a run has to print.
+-- What was printed for a message, a fault or a line is what a run must print.
 use Rattle.dns_tools.proofs.Common.{◌≡◌, ◌≢◌, ℕ, ◌≤◌, Bool, false, Option, Some, None, Result, Ok, Err, codes, refl, sym, subst, arith, inr, Octets, Report, IfErr, SpellsNone, PrintsOctets, PrintsMessage, UnlessNoMemory, WireFault, Short, ReservedLabel, BadPointer, LongName, BadData, Trailing, NoMemory, Stop, Memory, Source, Sink, source_failures_after, sink_failures_after, ReportedAs, KeptLine, kept_message, HasReadFront, ReadsFirst, IsFaultReport, PrintedAs}
 use Rattle.dns_wire.specs.WireFault.{fault_code}
 
@@ -38,12 +38,12 @@ line_reported m b (Err Sink) old new e (report, is, written) =
 line_reported m b (Err Memory) old new e same = same
 line_reported m b (Err Source) old new e same = same
 
--- a line that is no message
+-- a line that is not a message
 pub bad_hex : (m : Option Octets)
     → m ≡ None → PrintsMessage m (record { output = codes "bad hex\n"; passes = false })
 bad_hex m e = grind (arith, PrintsMessage, codes)
 
--- ---- a run
+-- A run.
 
 pub kept_source : (n m : ℕ) (result : Result Bool Stop)
     → m ≡ n → IfErr result (λ stop. stop ≢ Source) → m ≡ source_failures_after n result

@@ -20,7 +20,7 @@ four_texts text (a ∷ b ∷ c ∷ d ∷ x ∷ ws) t n o f low high e0 e1 e2 e3 
 word : ℕ → List Octets → Octets
 word k ws = get_or ws k []
 
--- what four arguments are that ask it for something
+-- the four arguments if they ask for something
 pub record AreAsked (p q r s : Octets) (a : SocketAsked) (z : ZoneWords) : Type 0 where
   pub transport : p ≡ transport_word a.transport
   pub turns : q ≡ decimal a.turns

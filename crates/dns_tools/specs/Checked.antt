@@ -1,5 +1,4 @@
--- What a reader learns here: what the checker has written of what a source gives, and what it
--- answers.
+-- What the checker writes about a source's file, and what it returns.
 use Rattle.std.specs.Prelude.{⊤, ◌≡◌, Bool, MatchOption, Option, Result, Ok, Err}
 use Rattle.std.specs.Io.KnownBytes.{Appends}
 use Rattle.dns_spec.specs.Names.{Octets, DomainName, folded}
@@ -11,29 +10,28 @@ use Rattle.dns_tools.specs.declared.check.Flags.{Flags}
 use Rattle.dns_tools.specs.declared.fault.Stop.{Stop}
 use Rattle.dns_tools.specs.declared.fault.Stop.TheVariants.{Memory, Source, Sink}
 
--- what is asked for by the flags of the command line
+-- the options of the command line
 abbrev pub options_of : Flags → Options
 options_of flags = record { is_quiet = flags.quiet; is_printing = flags.print }
 
--- the report of the octets that a source has still to give, to its end, as the file of a zone with
--- this origin
+-- the report on the rest of a source, up to its end, as the file of a zone with this origin
 abbrev pub ReportsOn : Option Octets → DomainName → Options → Report → Type 0
 ReportsOn known o options report = MatchOption known ⊤ (λ x. Reports o x options report)
 
--- The octets that a source has given decide the report: it is that of what they mean.
+-- The octets that were read decide the report: it is the report on what they mean.
 abbrev pub DecidesReport : Option Octets → Option Octets → DomainName → Options → Report → Type 0
 DecidesReport known left o options report =
     (m : Meaning) × Decides known left (folded o) m × (report ≡ report_of_meaning options o m)
 
--- what was written of a report after what the sink had, and what was answered
+-- what was written of a report after the sink's earlier contents, and what was returned
 abbrev pub WrittenAs : Report → Result Bool Stop → Option Octets → Option Octets → Type 0
 WrittenAs report (Ok passes) old new = (report.passes ≡ passes) × Appends old new report.output
 WrittenAs report (Err Sink) old new = AppendsBeginning old new report.output
 WrittenAs report (Err Memory) old new = ⊥
 WrittenAs report (Err Source) old new = ⊥
 
--- What a run has written and answered: such a report, or a beginning of it where the sink failed;
--- and nothing where there was no memory or where the source failed.
+-- What a run has written and returned: such a report, or a prefix of it if the sink failed, or
+-- nothing if allocation or the source failed.
 abbrev pub ReportedAs : (Report → Type 0) → Result Bool Stop → Option Octets → Option Octets
     → Type 0
 ReportedAs Is (Ok passes) old new =
@@ -43,7 +41,7 @@ ReportedAs Is (Err Sink) old new =
 ReportedAs Is (Err Memory) old new = new ≡ old
 ReportedAs Is (Err Source) old new = new ≡ old
 
--- The same of a check: the report of the file, which the octets that were read decide.
+-- The same for a check: the report on the file, which the octets that were read decide.
 abbrev pub CheckedAs : Option Octets → Option Octets → DomainName → Options → Result Bool Stop
     → Option Octets → Option Octets → Type 0
 CheckedAs known left o options =

@@ -1,4 +1,4 @@
--- What a reader learns here: what an exchange over lines has kept of its input, and how it replies.
+-- What a run over lines keeps of its input, and the replies that it gives.
 use Rattle.std.specs.Prelude.{Option}
 use Rattle.dns_spec.specs.Names.{Octets}
 use Rattle.dns_tools.specs.Exchanges.{Kept, reply_within}

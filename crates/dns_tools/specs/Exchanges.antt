@@ -1,4 +1,4 @@
--- What a reader learns here: what a run over lines has read and written, at its end and on its way.
+-- What a run over lines has read and written, at its end and before.
 use Rattle.std.specs.Prelude.{⊤, ◌≡◌, ◌^◌, ◌-◌, ◌<◌, ◌≤◌, Bool, true}
 use Rattle.std.specs.Prelude.{List, ◌++◌, length, take}
 use Rattle.std.specs.Prelude.{MatchOption, Option, Result, Ok, Err}
@@ -15,15 +15,15 @@ use Rattle.dns_tools.specs.KeptLine.{KeptLine, no_line, kept_line}
 use Rattle.dns_tools.specs.declared.fault.Stop.{Stop}
 use Rattle.dns_tools.specs.declared.fault.Stop.TheVariants.{Memory, Source, Sink}
 
--- the reply of a zone that has at most so many octets
+-- the reply of a zone, of at most as many octets as the limit allows
 abbrev pub reply_within : Limit → ZoneContents → Octets → Option Octets
 reply_within limit z m = octets_of z m (limit_of limit)
 
--- The input of a run: what its source has still to give, up to the greatest count.
+-- The input of a run: the rest of its source, up to the greatest number of octets.
 abbrev pub IsInput : Option Octets → Octets → Type 0
 IsInput known x = MatchOption known ⊤ (λ all. x ≡ take (2 ^ 64 - 1) all)
 
--- The input was read, and each of its lines answered.
+-- The input was read, and each of its lines was answered.
 pub record HasAnsweredLines (reply : Octets → Option Octets) (s : Session) (passes : Bool)
     : Type 0 where
   pub input : Octets
@@ -32,19 +32,19 @@ pub record HasAnsweredLines (reply : Octets → Option Octets) (s : Session) (pa
   pub written : Appends s.held s.holds (line_answers reply (lines input))
   pub passes_is : passes ≡ are_messages (lines input)
 
--- The source failed. Of what it had given each line that was ended is answered.
+-- The source failed. Each line that had ended by then was answered.
 pub record HasAnsweredEnded (reply : Octets → Option Octets) (s : Session) : Type 0 where
   pub given : Octets
   pub fewer : length given < 2 ^ 64 - 1
   pub read : Consumes s.unread s.left given
   pub written : Appends s.held s.holds (line_answers reply (ended_lines given))
 
--- known octets grew, perhaps by nothing
+-- known octets grew, possibly by nothing
 abbrev pub Grows : Option Octets → Option Octets → Type 0
 Grows old new = (more : Octets) × Appends old new more
 
--- Octets were read piece by piece, and before the last piece all answers were written to the lines
--- that were ended before it.
+-- Octets were read piece by piece, and all lines that had ended before the last piece were
+-- answered before it was read.
 pub record KeepsUp (reply : Octets → Option Octets) (held holds : Option Octets) (given : Octets)
     : Type 0 where
   pub before : Octets
@@ -54,8 +54,8 @@ pub record KeepsUp (reply : Octets → Option Octets) (held holds : Option Octet
   pub more : Octets
   pub written : Appends held holds (line_answers reply (ended_lines before) ++ more)
 
--- The sink failed. A beginning of the answers was written, and at most a piece was read after the
--- lines that are all answered.
+-- The sink failed. A prefix of the answers was written, and at most one piece was read after the
+-- lines that were all answered.
 pub record HasBegunAnswers (reply : Octets → Option Octets) (s : Session) : Type 0 where
   pub input : Octets
   pub is_input : IsInput s.unread input
@@ -64,15 +64,15 @@ pub record HasBegunAnswers (reply : Octets → Option Octets) (s : Session) : Ty
   pub read : Consumes s.unread s.left given
   pub keeps_up : KeepsUp reply s.held s.holds given
 
--- what a run over lines has done, by its answer
+-- what a run over lines has done, by its result
 abbrev pub LinesAnswered : (Octets → Option Octets) → Session → Result Bool Stop → Type 0
 LinesAnswered reply s (Ok passes) = HasAnsweredLines reply s passes
 LinesAnswered reply s (Err Source) = HasAnsweredEnded reply s
 LinesAnswered reply s (Err Sink) = HasBegunAnswers reply s
 LinesAnswered reply s (Err Memory) = (s.left ≡ s.unread) × (s.holds ≡ s.held)
 
--- What was kept of an input so far: a beginning of the line that goes on, and whether all lines
--- that are ended are messages.
+-- What is kept of an input: the front of the unfinished line, and whether all earlier lines are
+-- messages.
 pub record Kept : Type 0 where
   pub line : KeptLine
   pub passes : Bool
@@ -82,7 +82,8 @@ pub record IsFresh (k : Kept) : Type 0 where
   pub line : k.line ≡ no_line
   pub passes : k.passes ≡ true
 
--- The lines that are ended in the input so far are answered, and the front of the next is kept.
+-- The lines that have ended in the input so far were answered, and the front of the next one is
+-- kept.
 pub record Progress (reply : Octets → Option Octets) (held holds : Option Octets) (x : Octets)
     (k : Kept) : Type 0 where
   pub ended : List Octets
@@ -94,12 +95,12 @@ pub record Progress (reply : Octets → Option Octets) (held holds : Option Octe
   pub written : Appends held holds (line_answers reply ended)
   pub passes_is : k.passes ≡ are_messages ended
 
--- Of the answers to an input that begins so, a beginning was written.
+-- A prefix of the answers to any input that begins with these octets was written.
 abbrev pub Begun : (Octets → Option Octets) → Option Octets → Option Octets → Octets → Type 0
 Begun reply held holds x =
     (y : Octets) → AppendsBeginning held holds (line_answers reply (lines (x ++ y)))
 
--- The lines of a whole input are answered.
+-- All lines of an input were answered.
 pub record Answered (reply : Octets → Option Octets) (held holds : Option Octets) (x : Octets)
     (passes : Bool) : Type 0 where
   pub written : Appends held holds (line_answers reply (lines x))

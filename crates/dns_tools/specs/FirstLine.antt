@@ -1,4 +1,4 @@
--- What a reader learns here: what is read of an input for its first line, and what is kept of that.
+-- What is read of an input for its first line, and what is kept of that line.
 use Rattle.std.specs.Prelude.{⊤, ◌≡◌, ◌≤◌, ◌++◌, length, MatchOption, Option}
 use Rattle.std.specs.Io.KnownBytes.{Consumes}
 use Rattle.dns_spec.specs.Names.{Octets}
@@ -6,28 +6,28 @@ use Rattle.dns_spec.specs.Lines.{lines, line_ends, line_message}
 use Rattle.dns_spec.specs.MessageLines.{first_of}
 use Rattle.dns_tools.specs.KeptLine.{KeptLine, kept_line, kept_message}
 
--- The line goes on: no octet of it ends it, and it may be a message.
+-- The line goes on: no octet of it is an LF, and it may still be a message.
 pub record GoesOn (x : Octets) : Type 0 where
   pub unended : line_ends x ≡ 0
   pub short : length x ≤ 131070
 
--- all of that is kept
+-- the line goes on, and all of it is kept
 pub record IsFront (x : Octets) (l : KeptLine) : Type 0 where
   pub goes_on : GoesOn x
   pub kept : l ≡ kept_line x
 
--- what is kept says which message the first line is of every input that begins so
+-- what is kept decides the first line's message for every input that begins with these octets
 abbrev pub KeepsFirst : Octets → KeptLine → Type 0
 KeepsFirst x l = (y : Octets) → kept_message l ≡ line_message (first_of (lines (x ++ y)))
 
--- the source has given octets, in which the line goes on
+-- the source has given octets in which the line goes on
 pub record HasReadFront (unread left : Option Octets) : Type 0 where
   pub given : Octets
   pub read : Consumes unread left given
   pub goes_on : GoesOn given
 
--- The source has given the first line of an input, which is all that it had where that is known.
--- Before the last piece was asked for the line went on.
+-- The source has given the first line of an input; if the source's octets are known, the input is
+-- all of them. Before the last piece the line went on.
 pub record HasReadLine (unread left : Option Octets) (input : Octets) : Type 0 where
   pub before : Octets
   pub piece : Octets
@@ -38,7 +38,7 @@ pub record HasReadLine (unread left : Option Octets) (input : Octets) : Type 0 w
   pub goes_on : GoesOn before
   pub at_once : length piece ≤ 65536
 
--- and so much of it is kept
+-- and what is kept decides the line's message
 pub record ReadsFirst (unread left : Option Octets) (l : KeptLine) : Type 0 where
   pub input : Octets
   pub read : HasReadLine unread left input

@@ -1,4 +1,4 @@
--- What the contracts of the programs' functions cite.
+-- Definitions that the contracts of the programs' functions use.
 pub mod Load
 pub mod Status
 pub mod Stops

@@ -1,4 +1,4 @@
--- What a reader learns here: what is written for the parts of a line.
+-- The text of each part of a line.
 use Rattle.std.specs.Prelude.{List, decimal}
 use Rattle.std.specs.List.{flat_map}
 use Rattle.dns_spec.specs.Names.{Octets}

@@ -1,4 +1,4 @@
--- What a reader learns here: what a printer of a message has read and written, by its answer.
+-- What the printer of a message has read and written, by its result.
 use Rattle.std.specs.Prelude.{◌≡◌, ◌≢◌, ℕ, Bool, false, ◌++◌, codes, decimal, Result, Ok, Err}
 use Rattle.dns_spec.specs.Names.{Octets}
 use Rattle.dns_spec.specs.Report.{Report}
@@ -12,18 +12,18 @@ use Rattle.dns_tools.specs.declared.fault.Stop.TheVariants.{Memory, Source, Sink
 use Rattle.dns_tools.specs.Checked.{ReportedAs}
 use Rattle.dns_tools.specs.FirstLine.{HasReadFront, HasReadLine}
 
--- the line of a fault
+-- the line for a fault
 abbrev pub fault_line : ℕ → Octets
 fault_line n = codes "fault " ++ decimal n ++ codes "\n"
 
--- what is printed of octets that are no message, by their fault
+-- what is printed for octets that are not a message, by their fault
 abbrev pub IsFaultReport : WireFault → Report → Type 0
 IsFaultReport fault report =
     (fault ≢ NoMemory)
     × (report ≡ record { output = fault_line (fault_code fault); passes = false })
 
--- The first line of an input was read, and what is printed of that input was written, or a
--- beginning of it.
+-- The first line of an input was read, and what is printed for that input was written, or a prefix
+-- of it.
 pub record HasPrinted (s : Session) (result : Result Bool Stop) : Type 0 where
   pub input : Octets
   pub read : HasReadLine s.unread s.left input

@@ -1,4 +1,4 @@
--- What a reader learns here: with which status a program ends.
+-- The exit status of a program.
 use Rattle.std.specs.Prelude.{ℕ, Bool, true, false, if◌then◌else◌, Result, Ok, Err}
 use Rattle.dns_tools.specs.declared.fault.Stop.{Stop}
 use Rattle.dns_tools.specs.declared.fault.Stop.TheVariants.{Memory, Source, Sink}
@@ -15,34 +15,33 @@ use Rattle.dns_tools.specs.declared.fault.FaultWord.TheVariants.{NoMemory}
 use Rattle.dns_tools.specs.declared.fault.FaultWord.TheVariants.{SourceFailed as FileFailed}
 use Rattle.dns_tools.specs.declared.fault.FaultWord.TheVariants.{SinkFailed as NotWritten}
 
--- 0 where all was as it should be, 1 where the input was at fault, 2 where the program could not
--- finish
+-- 0 if all was well, 1 if the input has a fault, 2 if the program could not finish
 abbrev pub status_of : {E : Type 0} → Result Bool E → ℕ
 status_of (Ok true) = 0
 status_of (Ok false) = 1
 status_of (Err e) = 2
 
--- what is said where an engine gave up
+-- the diagnostic for a run that stopped
 abbrev pub word_of : Stop → FaultWord
 word_of Memory = NoMemory
 word_of Source = FileFailed
 word_of Sink = NotWritten
 
--- how a program ends: with a status, or with what is said
+-- how a program ends: with a status, or with a diagnostic
 abbrev pub end_of : Result Bool Stop → Result ℕ FaultWord
 end_of (Ok passes) = Ok (status_of {E = Stop} (Ok passes))
 end_of (Err stop) = Err (word_of stop)
 
--- the status of a server whose turns are taken
+-- the status of a server after its last turn
 abbrev pub status_of_turns : Bool → ℕ
 status_of_turns are_said = if are_said then 0 else 2
 
--- what is said of a turn over UDP that failed
+-- the diagnostic for a turn over UDP that failed
 abbrev pub word_of_turn : TurnFault → TurnWord
 word_of_turn ReceiveFailed = NoDatagram
 word_of_turn SendFailed = NotSent
 
--- and of a session over a stream
+-- and for a session over a stream
 abbrev pub word_of_stream : StreamFault → TurnWord
 word_of_stream SourceFailed = StreamNotRead
 word_of_stream SinkFailed = StreamNotWritten

@@ -1,4 +1,4 @@
--- What a reader learns here: for what the words of a command line are taken or refused.
+-- When the arguments of a command line are accepted or refused.
 use Rattle.std.specs.Prelude.{◌≡◌, Bool, true, false, List, []}
 use Rattle.dns_spec.specs.Names.{Octets, DomainName, folded}
 use Rattle.dns_spec.specs.NameText.{SpellsName}
@@ -14,7 +14,7 @@ use Rattle.dns_tools.specs.declared.words.SocketWords.{SocketWords}
 use Rattle.dns_tools.specs.declared.fault.FaultWord.{FaultWord}
 use Rattle.dns_tools.specs.declared.fault.FaultWord.TheVariants.{Usage, BadOrigin, NoMemory}
 
--- what the words of a command line can be refused for
+-- the diagnostics for refused arguments
 abbrev pub is_word_fault : FaultWord → Bool
 is_word_fault Usage = true
 is_word_fault BadOrigin = true
@@ -27,24 +27,25 @@ pub record IsOrigin (word : Octets) (origin : DomainName) : Type 0 where
   pub spelled : SpellsName [] word as_spelled
   pub lower : origin ≡ folded as_spelled
 
--- it spells none
+-- ORIGIN spells no name
 abbrev pub IsNoOrigin : Octets → Type 0
 IsNoOrigin word = (n : DomainName) → SpellsName [] word n → ⊥
 
--- the words ask for this zone, by what they say where ORIGIN and FILE are so
+-- the arguments ask for this zone: they are as `Ask` says for some ORIGIN, which spells the name,
+-- and this FILE
 pub record IsCall (Ask : ZoneWords → Type 0) (name : DomainName) (file : Octets) : Type 0 where
   pub origin : Octets
   pub asked : Ask (record { origin = origin; file = file })
   pub origin_is : IsOrigin origin name
 
--- they ask for something, with an ORIGIN that is no name
+-- the arguments ask for something, but their ORIGIN is not a name
 pub record HasBadOrigin {A : Type 0} (Ask : A → ZoneWords → Type 0) : Type 0 where
   pub meant : A
   pub zone : ZoneWords
   pub asked : Ask meant zone
   pub bad : IsNoOrigin zone.origin
 
--- the words ask the checker for this
+-- the arguments ask the checker for this
 abbrev pub IsCheckCall : List Octets → CheckWords → Type 0
 IsCheckCall words call = IsCall (AskToCheck words (options_of call.flags)) call.origin call.file.now
 
@@ -55,13 +56,13 @@ abbrev pub transport_of : Limit → Transport
 transport_of limits.Udp = udp
 transport_of limits.Tcp = tcp
 
--- the service that is meant
+-- the service that is asked for
 abbrev pub service_of : Service → ServiceAsked
 service_of (Once limit) = by_lines (transport_of limit)
 service_of (Udp address turns) = by_turns udp address.now turns
 service_of (Tcp address turns) = by_turns tcp address.now turns
 
--- the words ask the server for this
+-- the arguments ask the server for this
 abbrev pub IsServeCall : List Octets → ServeWords → Type 0
 IsServeCall words call =
     IsCall (AskToServe words (service_of call.service)) call.origin call.file.now
@@ -69,7 +70,7 @@ IsServeCall words call =
 abbrev pub HasBadServeOrigin : List Octets → Type 0
 HasBadServeOrigin words = HasBadOrigin (AskToServe words)
 
--- the words ask the server of a given socket for this
+-- the arguments ask the server of a given socket for this
 abbrev pub socket_asked : SocketWords → SocketAsked
 socket_asked call = record { transport = transport_of call.transport; turns = call.turns }
 
@@ -80,6 +81,6 @@ IsSocketCall words call =
 abbrev pub HasBadSocketOrigin : List Octets → Type 0
 HasBadSocketOrigin words = HasBadOrigin (AskAtSocket words)
 
--- they ask it for nothing
+-- the arguments ask it for nothing
 abbrev pub AskNoSocket : List Octets → Type 0
 AskNoSocket words = (a : SocketAsked) (z : ZoneWords) → AskAtSocket words a z → ⊥

@@ -15,12 +15,12 @@ use std::alloc::Global;
 use std::io::{Read, Write};
 use std::mem::forget;
 
-/// What the checker is asked to write.
+/// What the checker writes.
 #[derive(Clone, Copy, Debug, PartialEq, Eq)]
 pub struct Flags {
-    /// Nothing but the zone, where that is asked for too.
+    /// Write nothing, unless `print` is set.
     pub quiet: bool,
-    /// The zone in its canonical text, where it passes.
+    /// Write the canonical text of the zone, if the zone passes.
     pub print: bool,
 }
 
@@ -32,16 +32,18 @@ impl From<PrintFault> for Stop {
     }
 }
 
-/// Checks the zone of an origin in the file that the source gives (RFC 1035 section 5), and writes
-/// the report: whether the zone passes is the answer.
+/// Checks a zone from its file (RFC 1035 section 5), writes the report, and returns whether the
+/// zone passes.
 ///
-/// A fault of the file is reported by its line and code, each fault of the zone by its owner and
-/// code on a line of its own, by owner, then by code. A zone that passes is reported by its name
-/// and serial, or printed in its canonical text. With `quiet` alone nothing is written.
+/// A fault of the file is reported by its line and code. The faults of the zone are reported by
+/// owner and code, one on each line, ordered by owner, then by code. A zone that passes is
+/// reported by its name and serial, or printed in its canonical text. With `quiet` alone nothing
+/// is written.
 ///
-/// `Memory` and `Source` come with nothing written, `Sink` with a beginning of the report.
+/// Nothing was written if the run stops with `Memory` or `Source`; if it stops with `Sink`, a
+/// prefix of the report was.
 ///
-/// The memory of a zone that passes is not given back: it is for a program that ends then.
+/// The memory of a zone that passes is leaked, because the program ends afterwards.
 pub fn check_zone<R: Read, W: Write>(
     alloc: Global,
     origin: &Name,
@@ -60,13 +62,13 @@ pub fn check_zone<R: Read, W: Write>(
     match load(alloc, origin, source) {
         Ok(zone) => {
             let outcome = report_zone(flags, &zone, sink);
-            // The program ends after its report: the memory of a zone is not handed back record by
-            // record, which would take a thirtieth of a check.
+            // The program ends after its report. Freeing the zone record by record would take a
+            // thirtieth of the time of a check.
             forget(zone);
             outcome
         }
         Err(LoadFault::Refused(refusal)) => report_refusal(flags, &refusal, sink),
-        // A load writes nothing: else it stopped for want of memory.
+        // Loading writes nothing, so the only other reason is memory.
         Err(LoadFault::Stopped(Stop::Source)) => Err(Stop::Source),
         Err(LoadFault::Stopped(_)) => Err(Stop::Memory),
     }

@@ -1,4 +1,4 @@
-//! Why a program stops, what it says then, and the status that it ends with.
+//! Why a program stops, the diagnostic that it prints, and its exit status.
 ghost use Rattle.std.specs.Prelude.{◌≡◌, ◌⊎◌};
 ghost use Rattle.dns_tools.specs.declared.fault.Stop.TheVariants.{Memory};
 ghost use Rattle.dns_tools.specs.declared.fault.FaultWord.TheVariants.{Usage, BadOrigin, NoMemory};
@@ -11,10 +11,10 @@ use dns_serve::{StreamFault, TurnFault};
 use std::alloc::{AllocError, AllocFailed};
 use thiserror::Error;
 
-/// Why an engine gave up before the end of its input.
+/// Why a run stopped before the end of its input.
 #[derive(Clone, Copy, Debug, PartialEq, Eq)]
 pub enum Stop {
-    /// No memory was found.
+    /// Memory allocation failed.
     Memory,
     /// Reading failed.
     Source,
@@ -31,7 +31,7 @@ impl From<AllocError> for Stop {
 }
 
 impl Stop {
-    /// What a program says of it.
+    /// The program's diagnostic for it.
     fn word(self) -> FaultWord
         ensures { result ≡ word_of self }
     {
@@ -43,11 +43,11 @@ impl Stop {
     }
 }
 
-/// What an engine answers, or why it gave up.
+/// The result of a run, or why it stopped early.
 pub type Outcome = Result<bool, Stop>;
 
-/// The status of a program: 0 where its engine answers true, 1 where it answers false, 2 where it
-/// stopped.
+/// The exit status of a program: 0 if its run returned true, 1 if it returned false, 2 if it
+/// stopped early.
 pub fn exit_status(outcome: &Outcome) -> u8
     ensures { result ≡ status_of outcome.now }
 {
@@ -58,7 +58,7 @@ pub fn exit_status(outcome: &Outcome) -> u8
     }
 }
 
-/// How a program ends: with the status of its engine's answer, or with the word of its stop.
+/// How a program ends: with the exit status of its run, or with the diagnostic for its stop.
 pub fn end_of(outcome: Outcome) -> Result<u8, FaultWord>
     ensures { result ≡ end_of outcome }
 {
@@ -68,25 +68,25 @@ pub fn end_of(outcome: Outcome) -> Result<u8, FaultWord>
     }
 }
 
-/// The status of a server that has taken its turns: 0 where standard error had each word that was
-/// due, else 2.
+/// The exit status of a server after its last turn: 0 if every diagnostic was written to standard
+/// error, else 2.
 pub fn status_of_turns(are_said: bool) -> u8
     ensures { result ≡ status_of_turns are_said }
 {
     if are_said { 0 } else { FAULT_STATUS }
 }
 
-/// What a program says on standard error where it can't do what it was asked for. The texts are
-/// what it prints.
+/// What a program prints on standard error if it can't do its task. The texts are printed
+/// literally.
 #[derive(Clone, Copy, Debug, PartialEq, Eq, Error)]
 pub enum FaultWord {
-    /// The words are not those that the program takes.
+    /// The program does not take these arguments.
     #[error("usage")]
     Usage,
-    /// ORIGIN is no domain name.
+    /// ORIGIN is not a domain name.
     #[error("bad origin")]
     BadOrigin,
-    /// No memory was found.
+    /// Memory allocation failed.
     #[error("no memory")]
     NoMemory,
     /// The zone file can't be opened, or it or standard input can't be read.
@@ -95,12 +95,12 @@ pub enum FaultWord {
     /// Standard output can't be written.
     #[error("P1")]
     SinkFailed,
-    /// The address can't be had.
+    /// The address or the given socket can't be used.
     #[error("bind")]
     NotBound,
 }
 
-/// The status of a program that says such a word.
+/// The exit status of a program that prints such a diagnostic.
 pub const FAULT_STATUS: u8 = 2;
 
 impl From<AllocError> for FaultWord {
@@ -119,7 +119,7 @@ impl From<Stop> for FaultWord {
     }
 }
 
-/// ORIGIN is no name, whatever its fault.
+/// ORIGIN is invalid, whatever its fault.
 impl From<NameFault> for FaultWord {
     ghost from_gives = { λ _ word. word ≡ BadOrigin };
 
@@ -128,7 +128,7 @@ impl From<NameFault> for FaultWord {
     }
 }
 
-/// Words that the command line does not take.
+/// Arguments that the command line does not take.
 impl From<clap::Error> for FaultWord {
     ghost from_gives = { λ _ word. (word ≡ Usage) ⊎ (word ≡ NoMemory) };
 
@@ -148,8 +148,7 @@ impl<T: Drop> From<AllocFailed<T>> for FaultWord {
     }
 }
 
-/// What a server says on standard error of a turn that ended before its time. The texts are what it
-/// prints.
+/// What a server prints on standard error if a turn ends early. The texts are printed literally.
 #[derive(Clone, Copy, Debug, PartialEq, Eq, Error)]
 pub enum TurnWord {
     /// No datagram was received.

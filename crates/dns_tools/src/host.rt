@@ -1,4 +1,4 @@
-//! What the programs' mains do alike: their words, their zone file, and what they say where they
+//! What all programs share: reading their arguments, opening the zone file, and reporting why they
 //! stop.
 ghost use Rattle.std.specs.Prelude.{◌≡◌, ◌⊎◌, Ok, Err, IfOk, IfErr, OnOk};
 ghost use Rattle.std.specs.Io.Buffered.{writer_contents};
@@ -17,8 +17,8 @@ use std::rt::{Env, Files};
 use std::time::Clock;
 use std::{env, fs};
 
-/// The words after the program's own name, which is not looked at. Words that are no text are none
-/// that a program takes: `usage`.
+/// The arguments after the program's own name, which is ignored. Fails with `usage` if an argument
+/// is not text, because no program takes such arguments.
 pub fn given_words<R: Env + AllocGlobal>(rt: &R) -> Result<Vec<String>, FaultWord>
     ensures { IfErr result (λ fault. (fault ≡ FaultWord.Usage) ⊎ (fault ≡ FaultWord.NoMemory)) }
 {
@@ -31,7 +31,7 @@ pub fn given_words<R: Env + AllocGlobal>(rt: &R) -> Result<Vec<String>, FaultWor
     Ok(words)
 }
 
-// The environment without the program's own name, which need not be text.
+// The environment without the program's own name, which may be other than text.
 #[derive(Drop)]
 struct Words<'a, R> {
     rt: &'a R,
@@ -54,7 +54,7 @@ impl<R: Env> Env for Words<'_, R> {
     }
 }
 
-/// The file of a path, to be read: `R16` where it can't be opened.
+/// Opens the file at a path for reading. Fails with `R16` if it can't be opened.
 pub fn open_file<R: Files>(rt: &R, path: &str) -> Result<R::File, FaultWord>
     ensures { IfErr result (λ fault. (fault ≡ FaultWord.SourceFailed)
         ⊎ (fault ≡ FaultWord.NoMemory)) }
@@ -62,10 +62,9 @@ pub fn open_file<R: Files>(rt: &R, path: &str) -> Result<R::File, FaultWord>
     fs::open(rt, path).map_err(|error| word_or_no_memory(&error, FaultWord::SourceFailed))
 }
 
-/// Writes what the buffer still holds of a report, where its engine came to its end, and gives the
-/// device below it.
+/// Flushes the buffer of a report if its run finished, and returns the device under the buffer.
 ///
-/// The buffer is taken apart: dropped as it is, it would write once more after a failure.
+/// The buffer is taken apart, because dropping it would write once more after a failure.
 pub fn finish<W: Write + Drop>(outcome: Outcome, output: BufWriter<W>) -> (Outcome, W)
     ensures stopped { IfErr outcome (λ stop. result.0 ≡ Err stop) }
     ensures ended { IfOk outcome (λ passes.
@@ -85,8 +84,8 @@ pub fn finish<W: Write + Drop>(outcome: Outcome, output: BufWriter<W>) -> (Outco
     }
 }
 
-/// Says on standard error why there is no zone to serve, in the lines of the checker, and returns
-/// the status for it.
+/// Writes to standard error why there is no zone to serve, in the checker's format, and returns
+/// the exit status for that.
 pub fn refuse<R: Clock + AllocGlobal, E: Print>(
     rt: &R,
     errors: &E,
@@ -105,7 +104,8 @@ pub fn refuse<R: Clock + AllocGlobal, E: Print>(
     Ok(exit_status(&outcome))
 }
 
-/// Says on standard output that a zone is served, in one line: `P1` if that can't be written.
+/// Writes the line to standard output that says that a zone is served. Fails with `P1` if that
+/// can't be written.
 pub fn say_serving<R: Clock + Print + AllocGlobal>(rt: &R, zone: &Zone) -> Result<(), FaultWord>
     ensures { IfErr result
         (λ fault. (fault ≡ FaultWord.SinkFailed) ⊎ (fault ≡ FaultWord.NoMemory)) }
@@ -121,7 +121,7 @@ pub fn say_serving<R: Clock + Print + AllocGlobal>(rt: &R, zone: &Zone) -> Resul
     Ok(())
 }
 
-// A standard stream that is waited for, with a buffer.
+// A standard stream with a buffer, whose calls wait even if the stream is non-blocking.
 fn buffered_stream<'a, R: Clock + AllocGlobal, P: Print>(
     rt: &'a R,
     stream: &'a P,
@@ -134,7 +134,7 @@ fn buffered_stream<'a, R: Clock + AllocGlobal, P: Print>(
     }
 }
 
-/// The status that a program ends with: its own, or that of the word that it says before.
+/// The exit status of a program: its own, or the status of the diagnostic that it prints first.
 pub fn end(rt: &impl Eprint, status: Result<u8, FaultWord>) -> u8
     ensures said { IfErr status (λ _. result ≡ 2) }
     ensures status { IfOk status (λ status. result ≡ status) }
@@ -145,8 +145,8 @@ pub fn end(rt: &impl Eprint, status: Result<u8, FaultWord>) -> u8
     }
 }
 
-/// Says on standard error why a program stops, and gives the status for it, 2, also where that
-/// can't be written.
+/// Writes a diagnostic to standard error, and returns the exit status for it, 2, even if it can't
+/// be written.
 pub fn say(rt: &impl Eprint, word: FaultWord) -> u8
     ensures { result ≡ 2 }
 {

@@ -1,5 +1,5 @@
-//! What the programs do, after their `main`s: their words, how a zone is loaded, and how queries
-//! are answered.
+//! What the programs do once `main` calls them: parse their arguments, load a zone, and answer
+//! queries.
 #![tactic(auto)]
 
 mod check;

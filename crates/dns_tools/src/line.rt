@@ -1,4 +1,4 @@
-//! A line of hexadecimal digits, as it comes.
+//! A line of hexadecimal digits, read piece by piece.
 ghost use Rattle.std.specs.Prelude.{◌≡◌, ◌-◌, ◌^◌, ◌<◌, ◌≤◌, ◌==◌, ◌++◌, length, take, vec_len, vec_capacity, ◌*◌, ◌+◌, Some, None, Ok, IfOk, OnOk, OnErr, IfSome, IfNone, IsErr};
 ghost use Rattle.std.specs.Bool.{OnTrue, OnFalse};
 ghost use Rattle.dns_spec.specs.Names.{Octets};
@@ -13,7 +13,7 @@ use std::alloc::{AllocError, Global};
 use std::io::Read;
 use std::marker::Model;
 
-/// The octets of the greatest message, and their digits.
+/// The most octets of a message, and the number of their digits.
 pub(crate) const MOST_OCTETS: usize = 65_535;
 
 pub(crate) const MOST_DIGITS: usize = 131_070;
@@ -29,7 +29,7 @@ impl From<SourceFailed> for Stop {
     }
 }
 
-/// What is kept of a line that goes on: its front, as long as it may be a message.
+/// What is kept of an unfinished line: its front, up to the length of the longest message.
 #[derive(Drop)]
 pub(crate) struct Line {
     digits: Vec<u8>,
@@ -65,7 +65,7 @@ impl Line {
         self.digits.is_empty()
     }
 
-    /// Keeps the next octet, as long as the line may be a message.
+    /// Keeps the next octet of the line, unless the line is already too long to be a message.
     pub(crate) fn keep(&mut self, octet: u8)
         ensures { KeepsOctet self.old self.new octet }
     {
@@ -83,8 +83,8 @@ impl Line {
         self.is_overlong = false;
     }
 
-    /// Reads the first line of a source, by pieces that fill the buffer, and no more once the line
-    /// is ended or too long.
+    /// Reads the first line of a source, a full buffer at a time, and stops once the line has
+    /// ended or is too long.
     pub(crate) fn read<R: Read>(
         &mut self,
         piece: &mut [u8],
@@ -107,7 +107,7 @@ impl Line {
         Ok(())
     }
 
-    // Takes the next octets of the source, and tells whether the line needs no more.
+    // Takes the next octets of the source, and returns whether the line needs no more.
     fn take(&mut self, octets: &[u8]) -> bool
         ensures more { (x : Octets) → IsFront x self.old → OnFalse result
             (IsFront (x ++ octets.now) self.new) }
@@ -123,8 +123,8 @@ impl Line {
         self.is_overlong
     }
 
-    /// Spells the octets of the message that the line is in front of the buffer, and answers how
-    /// many they are. `None` for other lines.
+    /// Writes the octets of the line's message to the front of the buffer, and returns how many
+    /// they are. `None` if the line is not a message.
     pub(crate) fn spell(&self, octets: &mut [u8]) -> Option<usize>
         requires { length octets.old ≡ MOST_OCTETS }
         ensures some { IfSome result (λ len. kept_message self.now ≡ Some (take len octets.new)) }
@@ -138,7 +138,7 @@ impl Line {
     }
 }
 
-// Spells the octets of digits in front of the buffer, and answers how many they are.
+// Writes the octets of digits to the front of the buffer, and returns how many they are.
 fn octets_of(digits: &[u8], octets: &mut [u8]) -> Option<usize>
     requires { length digits.now ≤ 2 * length octets.old + 1 }
     ensures some { IfSome result (λ len. decode_of digits.now ≡ Ok (take len octets.new)) }

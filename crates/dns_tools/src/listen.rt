@@ -17,14 +17,15 @@ use std::os::fd::{AsFd, OwnedFd};
 use std::thread;
 use std::time::{Clock, Duration};
 
-// How many messages of one connection are answered.
+// The most messages that are answered on one connection.
 const MOST_MESSAGES: u32 = 1_000_000;
 
-// How many milliseconds no connection is asked for after one was not accepted: mostly the process
-// may open no more files, and would ask in vain.
+// How many milliseconds pass after a connection could not be accepted: mostly the process has too
+// many open files, and would fail again at once.
 const PAUSE: u64 = 100;
 
-/// A UDP socket at an address, which has received nothing. `bind` where the address can't be had.
+/// A UDP socket at an address, which has received nothing. Fails with `bind` if the address can't
+/// be used.
 pub fn socket_at<'a, R: Net + Clock>(rt: &'a R, address: &str) -> Result<Socket<'a, R>, FaultWord>
     ensures socket { IfOk result (λ socket. socket ≡ record {
       failures = 0;
@@ -38,7 +39,7 @@ pub fn socket_at<'a, R: Net + Clock>(rt: &'a R, address: &str) -> Result<Socket<
     }
 }
 
-/// A listening TCP socket at an address. `bind` where the address can't be had.
+/// A listening TCP socket at an address. Fails with `bind` if the address can't be used.
 pub fn listener_at<R>(rt: &R, address: &str) -> Result<TcpListener, FaultWord>
 where
     R: Net<Listener = TcpListener, Stream = TcpStream>,
@@ -50,10 +51,10 @@ where
     }
 }
 
-/// The UDP socket that a process was given, which has received nothing. `bind` if what it was
-/// given is no UDP socket with an address and a port.
+/// The UDP socket that the process was given, which has received nothing. Fails with `bind` if it
+/// is not a UDP socket with an address and a port.
 ///
-/// No flag of the socket is changed, since other processes may share it.
+/// No flag of the socket is changed, because other processes may share it.
 pub fn given_socket<'a, I: AsFd, C: Clock>(
     given: &I,
     clock: &'a C,
@@ -65,7 +66,7 @@ pub fn given_socket<'a, I: AsFd, C: Clock>(
     ensures fault { IfErr result (λ fault. fault ≡ FaultWord.NotBound) }
 {
     let socket = UdpSocket::from(copy_of(given)?);
-    // An option of TCP is what a socket of UDP does not have.
+    // A UDP socket does not have an option of TCP.
     let is_udp = TcpStream::from(copy_of(given)?).nodelay().is_err();
     if is_udp && has_port(socket.local_addr()) {
         return Ok(Socket::new(socket, clock));
@@ -73,10 +74,10 @@ pub fn given_socket<'a, I: AsFd, C: Clock>(
     Err(FaultWord::NotBound)
 }
 
-/// The listening TCP socket that a process was given. `bind` if what it was given is no TCP socket
-/// with an address and a port, or is a connection.
+/// The listening TCP socket that the process was given. Fails with `bind` if it is not a TCP
+/// socket with an address and a port, or if it is a connection.
 ///
-/// No flag of the socket is changed, since other processes may share it.
+/// No flag of the socket is changed, because other processes may share it.
 pub fn given_listener<I: AsFd>(given: &I) -> Result<TcpListener, FaultWord>
     ensures { IfErr result (λ fault. fault ≡ FaultWord.NotBound) }
 {
@@ -89,7 +90,7 @@ pub fn given_listener<I: AsFd>(given: &I) -> Result<TcpListener, FaultWord>
     Err(FaultWord::NotBound)
 }
 
-// Another descriptor of what a process was given.
+// A duplicate of the given descriptor.
 fn copy_of<I: AsFd>(given: &I) -> Result<OwnedFd, FaultWord>
     ensures { IfErr result (λ fault. fault ≡ FaultWord.NotBound) }
 {
@@ -103,9 +104,9 @@ fn has_port(address: io::Result<SocketAddr>) -> bool {
     address.is_ok_and(|address| address.port() > 0)
 }
 
-/// Takes so many turns at a device, one after another, and tells whether standard error had each
-/// word that was due: `U1` where no datagram was received, `U2` where a reply was not sent. Such a
-/// turn counts.
+/// Takes `turns` turns at a device, one after another. Returns whether every diagnostic was
+/// written to standard error: `U1` if no datagram was received, `U2` if a reply was not sent. Such
+/// a turn counts.
 pub fn serve_datagrams<E: Eprint, D: Datagrams>(
     rt: &E,
     zone: &Zone,
@@ -137,7 +138,7 @@ pub fn serve_datagrams<E: Eprint, D: Datagrams>(
     are_said
 }
 
-// An address and a port: no name is looked up.
+// Parses an address and a port. Host names are not looked up.
 fn socket_address(address: &str) -> Result<SocketAddr, FaultWord>
     ensures { IfErr result (λ fault. fault ≡ FaultWord.NotBound) }
 {
@@ -147,24 +148,25 @@ fn socket_address(address: &str) -> Result<SocketAddr, FaultWord>
     }
 }
 
-// Says a word on standard error, unless that could not be written before: whether it is written.
+// Writes a diagnostic to standard error, unless an earlier one could not be written. Returns
+// whether it was written.
 fn say_of_turn(rt: &impl Eprint, are_said: bool, word: TurnWord) -> bool {
     are_said && rt.eprintln(word).is_ok()
 }
 
-/// Serves so many connections at a listener, one after another, and tells whether standard error
-/// had each word that was due: `accept` where none was accepted, `S1` where a stream could not be
-/// read, or a message did not come in time, `S2` where it could not be written, or a reply was not
-/// taken in time, `S3` where it ended inside a message. Such a turn counts.
+/// Serves `turns` connections, one after another. Returns whether every diagnostic was written to
+/// standard error: `accept` if no connection was accepted; `S1` if a stream could not be read, or
+/// a message did not arrive in time; `S2` if a stream could not be written, or a reply was not
+/// sent in time; `S3` if a stream ended inside a message. Such a turn counts.
 ///
-/// A connection ends if its first octet does not come within two seconds (`S1`), or if its peer
-/// says nothing for 300 milliseconds after a reply. A message has ten seconds, from its first octet
-/// until the last of its reply is taken. Ten seconds after a connection was accepted no further
-/// message of it begins; its peer is then heard for a second at most. So it holds the others for 21
-/// seconds at most. Replies to messages that came together are sent together, before more is waited
-/// for, and have the time of the last of these.
+/// A connection ends if its first octet does not arrive within two seconds (`S1`), or if its peer
+/// is silent for 300 milliseconds after a reply. A message has ten seconds, from its first octet
+/// until all of its reply was sent. Ten seconds after a connection was accepted no new message may
+/// begin on it; then its peer is heard out for at most one second. So a connection holds up the
+/// others for at most 21 seconds. Replies to messages that arrived together are sent together,
+/// before waiting for more, and have the time of the last of these messages.
 ///
-/// The room is lent for one connection after the other.
+/// `room` is used for one connection after another.
 pub fn serve_connections<R>(
     rt: &R,
     zone: &Zone,
@@ -187,7 +189,7 @@ where
     are_said
 }
 
-// A listener, with the count of the connections that it was asked for.
+// A listener, and the number of connections that it was asked for.
 #[derive(Drop)]
 struct Connections {
     listener: TcpListener,
@@ -195,8 +197,7 @@ struct Connections {
 }
 
 impl Connections {
-    // Asks for a connection, answers its messages, and hears what its peer still says if it has not
-    // ended.
+    // Accepts a connection, answers its messages, and hears out its peer if that has not ended.
     fn serve_next<R: Clock + AllocGlobal>(
         &mut self,
         rt: &R,
@@ -215,8 +216,8 @@ impl Connections {
             return Err(TurnWord::from(StreamFault::SourceFailed));
         };
         let ahead = Cell::new(Ahead::Message);
-        // Questions that come together are read together, and so are their replies sent, where
-        // there is memory for that.
+        // Messages that arrive together are read together, and their replies sent together, if
+        // there is memory for buffers.
         let (Ok(source), Ok(sink)) = (
             buffered_source(rt.alloc(), &peer),
             buffered_sink(rt.alloc(), &peer),
@@ -234,7 +235,8 @@ impl Connections {
     }
 }
 
-// The next connection of a listener, which is waited for even if the listener is set not to block.
+// Accepts the next connection of a listener, and waits for it even if the listener is
+// non-blocking.
 fn accepted(clock: &impl Clock, listener: &TcpListener) -> io::Result<TcpStream> {
     'calls: for _ in 0..u64::MAX {
         match listener.accept() {
@@ -246,7 +248,7 @@ fn accepted(clock: &impl Clock, listener: &TcpListener) -> io::Result<TcpStream>
     Err(io::Error::from(ErrorKind::TimedOut))
 }
 
-// A sink that keeps what it is given, or keeps nothing where there is no memory.
+// A sink with a buffer, or without one if allocation fails.
 fn buffered_sink<S: Write + Copy + Drop>(alloc: Global, sink: S) -> io::Result<BufWriter<S>> {
     match BufWriter::new(alloc, sink) {
         Ok(buffered) => Ok(buffered),
@@ -254,7 +256,7 @@ fn buffered_sink<S: Write + Copy + Drop>(alloc: Global, sink: S) -> io::Result<B
     }
 }
 
-// A source that reads ahead, or one without a buffer where there is no memory.
+// A source with a buffer, or without one if allocation fails.
 fn buffered_source<S: Read + Copy + Drop>(alloc: Global, source: S) -> io::Result<BufReader<S>> {
     match BufReader::new(alloc, source) {
         Ok(buffered) => Ok(buffered),

@@ -1,4 +1,4 @@
-//! A zone from its file.
+//! Loads a zone from its file.
 ghost use Rattle.std.specs.Prelude.{◌≡◌, ◌-◌, ◌^◌, ◌<◌};
 ghost use Rattle.dns_name.specs.Counted.{Writes};
 ghost use Rattle.dns_tools.specs.declared.fault.Stop.TheVariants.{Memory};
@@ -14,21 +14,21 @@ use dns_zone::{BuildFault, CheckFault, CheckedZone, Store, Zone};
 use std::alloc::{AllocError, Global};
 use std::io::{Read, Write};
 
-/// Why a file gives no zone that is served.
+/// Why a zone file is refused.
 #[derive(Drop)]
 pub enum Refusal {
-    /// The fault of its first faulty entry, and the line on which that begins.
+    /// The first fault of the file, and the line on which its entry begins.
     File(ReadFault),
-    /// The faults of the zone, by the order of owners, then by code.
+    /// The faults of the zone, ordered by owner, then by code.
     Zone(Vec<CheckFault>),
 }
 
 /// Why no zone was loaded.
 #[derive(Drop)]
 pub enum LoadFault {
-    /// The file or its zone is at fault.
+    /// The file or its zone has a fault.
     Refused(Refusal),
-    /// The source failed, or no memory was found.
+    /// The source or an allocation failed.
     Stopped(Stop),
 }
 
@@ -52,11 +52,10 @@ impl From<AllocError> for LoadFault {
     }
 }
 
-/// Loads the zone of the origin from the source of its file (RFC 1035 section 5), by the checks of
-/// the checker.
+/// Loads the zone of an origin from its file (RFC 1035 section 5), with all checks of the checker.
 ///
-/// The file is read relative to the origin in lower case. Its first faulty entry decides; else all
-/// faults of the zone are its refusal. Nothing is read again after a failure.
+/// The file is read relative to the origin in lower case. If the file has a fault, the first one
+/// is reported; otherwise all faults of the zone are. Nothing is read after a failure.
 pub(crate) fn load<R: Read>(
     alloc: Global,
     origin: &Name,
@@ -76,7 +75,7 @@ pub(crate) fn load<R: Read>(
     }
 }
 
-/// Loads the same zone, to be served.
+/// Loads the same zone for serving.
 pub fn load_zone<R>(alloc: Global, origin: &Name, source: &mut Tally<R>) -> Result<Zone, LoadFault>
 where
     R: Read,
@@ -88,7 +87,7 @@ where
     Ok(Zone::of(alloc, load(alloc, origin, source)?)?)
 }
 
-/// Writes why a file gives no zone, in the lines of the checker's report.
+/// Writes why a file is refused, in the format of the checker's report.
 pub fn write_refusal<W: Write>(refusal: &Refusal, sink: &mut Tally<W>) -> Result<(), SinkFailed>
     requires { sink.old.failures < 2 ^ 64 - 1 }
     ensures { Writes W.contents sink.old sink.new result (refusal_report refusal.now) }

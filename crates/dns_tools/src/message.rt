@@ -1,4 +1,4 @@
-//! A message in hexadecimal digits, printed in lines.
+//! Prints a message that comes in hexadecimal digits.
 ghost use Rattle.std.specs.Prelude.{◌≡◌, ◌≢◌, ◌-◌, ◌^◌, ◌<◌, length, Err, IfOk, IfErr};
 ghost use Rattle.std.specs.List.{flat_map};
 ghost use Rattle.dns_spec.specs.MessageLines.{header_line, question_line, section_line, message_text, PrintsOctets, PrintsMessage};
@@ -21,15 +21,16 @@ use dns_wire::{Message, Question, WireFault, WireRecord, read_message};
 use std::alloc::Global;
 use std::io::{Read, Write};
 
-/// Prints the message that the first line of the source is, in hexadecimal digits of either case,
-/// at most 131,070 of them. Where the source has no line, the empty one is taken.
+/// Prints the message on the first line of the source, which has at most 131,070 hexadecimal
+/// digits of either case. If the source has no line, the line is empty.
 ///
-/// A header, its questions and its records are a line each, and the answer is true. It is false
-/// where the line is no message: `fault 3` tells a message that is broken, with the number of its
-/// fault, and `bad hex` a line that is none.
+/// Writes one line each for the header, the questions and the records, and returns true. Returns
+/// false if there is no valid message: writes `fault 3` for a malformed one, with the number of
+/// its fault, and `bad hex` if the line does not spell octets.
 ///
-/// No more is read once the line is ended or too long, so at most 65,535 octets after it. Where the
-/// run stops, the sink has a beginning of these lines, and no device is used after its failure.
+/// Stops reading once the line has ended or is too long, so that at most 65,535 octets after it
+/// are read. If the run stops early, the sink has a prefix of these lines. No device is used after
+/// its failure.
 pub fn run_message<R, W>(alloc: Global, source: &mut Tally<R>, sink: &mut Tally<W>) -> Outcome
 where
     R: Read,
@@ -107,7 +108,7 @@ fn write_fault<W: Write>(fault: WireFault, sink: &mut Tally<W>) -> Result<(), Si
     write_parts(line.as_slice(), sink)
 }
 
-// The header, its questions and its records, a line each.
+// Writes one line each for the header, the questions and the records.
 fn write_message<W: Write>(message: &Message, sink: &mut Tally<W>) -> Result<(), SinkFailed>
     requires { sink.old.failures < 2 ^ 64 - 1 }
     ensures { Writes W.contents sink.old sink.new result (message_text message.now) }
@@ -119,8 +120,8 @@ fn write_message<W: Write>(message: &Message, sink: &mut Tally<W>) -> Result<(),
     write_records(b"additional", message.additionals.as_slice(), sink)
 }
 
-// ID and flags in hexadecimal digits, and how many questions and records there are: `header 1234
-// 8400 1 1 0 0`.
+// Writes the ID and the flags in hexadecimal, and the numbers of questions and records:
+// `header 1234 8400 1 1 0 0`.
 fn write_header<W: Write>(message: &Message, sink: &mut Tally<W>) -> Result<(), SinkFailed>
     requires { sink.old.failures < 2 ^ 64 - 1 }
     ensures { Writes W.contents sink.old sink.new result (header_line message.now) }

@@ -1,4 +1,4 @@
-//! Messages that come as lines of hexadecimal digits, and the lines that answer them.
+//! Answers messages that come as lines of hexadecimal digits, one line for each.
 ghost use Rattle.std.specs.Prelude.{◌≡◌, ◌≢◌, ◌-◌, ◌*◌, ◌^◌, ◌<◌, ◌≤◌, ◌++◌, ◌&&◌, length, take, vec_len, Option, Some, Err, OnOk, OnErr, IfOk, IfErr, IfSome};
 ghost use Rattle.std.specs.Option.{is_some, option_map};
 ghost use Rattle.dns_spec.specs.Names.{Octets};
@@ -20,21 +20,21 @@ use dns_zone::{Steps, Zone};
 use std::alloc::{AllocError, Global};
 use std::io::{Read, Write};
 
-// The digits of the greatest reply, and the end of their line.
+// The number of digits of the longest reply, and the end of its line.
 const MOST_ANSWER: usize = 131_071;
 
-/// Answers each line of the source by one line of the sink, and tells whether each line was a
-/// message.
+/// Writes one line to the sink for each line of the source, and returns whether all lines were
+/// messages.
 ///
-/// A line is a message in hexadecimal digits of either case, at most 131,070 of them; after the
-/// last LF there is a line only where octets follow. Its answer is the reply in lower case digits,
-/// or `none` where there is no reply. A line that is no such message is answered by `bad hex`. At
-/// most 18,446,744,073,709,551,615 octets are read, and the source counts as ended there. Each line
-/// is answered as soon as it ends.
+/// A message is a line of at most 131,070 hexadecimal digits of either case. Its answer is the
+/// reply in lower case digits, or `none` if it gets no reply. The answer to any other line is
+/// `bad hex`. After the last LF there is one more line only if octets follow it. At most
+/// 18,446,744,073,709,551,615 octets are read; then the source counts as ended. Each line is
+/// answered as soon as it ends.
 ///
-/// Where it stops, the sink has a beginning of the answers: of the lines that were ended before the
-/// last piece of at most 65,536 octets was read, all of them. No device is used after its failure.
-/// Memory is taken before the first octet is read, and none afterwards.
+/// If the run stops early, the sink has a prefix of the answers, with at least the answers to all
+/// lines that ended before the last piece of at most 65,536 octets was read. No device is used
+/// after its failure. Memory is allocated only before the first octet is read.
 pub fn run_once<R: Read, W: Write>(
     alloc: Global,
     zone: &Zone,
@@ -49,7 +49,7 @@ pub fn run_once<R: Read, W: Write>(
     ensures lines { LinesAnswered (reply_within limit zone.now)
         (session R.remaining W.contents source.old source.new sink.old sink.new) result }
 
-    // Without memory nothing was read and nothing was written.
+    // If allocation fails, nothing was read and nothing was written.
     ensures unread { result ≡ Err Stop.Memory → source.new ≡ source.old }
     ensures unwritten { result ≡ Err Stop.Memory → sink.new ≡ sink.old }
 {
@@ -58,14 +58,14 @@ pub fn run_once<R: Read, W: Write>(
     exchange.run(piece.as_mut_slice(), source, sink)
 }
 
-// The lines of one source, as they come.
+// The state of a run over the lines of one source.
 #[derive(Drop)]
 struct Exchange<'z> {
     zone: &'z Zone,
     limit: dns_answer::Limit,
-    // The line that goes on.
+    // The unfinished line.
     line: Line,
-    // Where a line is spelled as octets, and then the digits of its reply.
+    // Room for a line's octets, and then for the digits of its reply.
     room: Vec<u8>,
     reply: Vec<u8>,
     drafts: Drafts,
@@ -121,7 +121,7 @@ impl<'z> Exchange<'z> {
             self.take(&piece[..count], sink)?;
             left -= count as u64;
         }
-        // The line that nothing ends, where there is one.
+        // The last line, if no LF ends it.
         if !self.line.is_empty() {
             self.end_line(sink)?;
         }
@@ -153,7 +153,7 @@ impl<'z> Exchange<'z> {
         Ok(())
     }
 
-    // Answers the line that has ended, and begins the next.
+    // Answers the line that has ended, and begins the next one.
     fn end_line<W: Write>(&mut self, sink: &mut Tally<W>) -> Result<(), SinkFailed>
         requires { sink.old.failures < 2 ^ 64 - 1 }
         ensures answered { Writes W.contents sink.old sink.new result
@@ -173,15 +173,15 @@ impl<'z> Exchange<'z> {
     }
 }
 
-// Room for replies while they are made. That of the longest is not on the stack.
+// Room for the drafts of replies. The larger one is not on the stack.
 #[derive(Drop)]
 struct Drafts {
     udp: UdpDraft,
     tcp: Box<TcpDraft>,
 }
 
-// Answers a line, with room for its octets, for those of the reply and for its digits, and tells
-// whether it is a message.
+// Answers a line, and returns whether it is a message. `room` is for the line's octets and for the
+// digits of the reply, `reply` for the octets of the reply.
 fn answer<W: Write>(
     zone: &Zone,
     limit: dns_answer::Limit,
@@ -214,7 +214,7 @@ fn answer<W: Write>(
     Ok(true)
 }
 
-// Writes a line with the digits of a reply, in room for it.
+// Writes a reply as a line of digits, using `room` for the digits.
 fn write_digits<W: Write>(
     reply: &[u8],
     room: &mut [u8],

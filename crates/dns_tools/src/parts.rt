@@ -1,4 +1,4 @@
-//! Lines of output, put together of texts, numbers, names and data.
+//! Lines of output, assembled from texts, numbers, names and data.
 ghost use Rattle.std.specs.Prelude.{◌≡◌, ◌-◌, ◌^◌, ◌<◌, decimal};
 ghost use Rattle.dns_spec.specs.Layout.{octets16};
 ghost use Rattle.dns_spec.specs.MessageLines.{class_text};
@@ -18,7 +18,7 @@ use std::io::Write;
 /// A part of a line.
 #[derive(Clone, Copy)]
 pub(crate) enum Part<'a> {
-    /// A text as it is.
+    /// A literal text.
     Text(&'a [u8]),
     /// A number in decimal.
     Number(u64),
@@ -26,13 +26,13 @@ pub(crate) enum Part<'a> {
     Hex(u16),
     /// The two decimal digits of a code.
     Code(u8),
-    /// A name, each label with a dot after it.
+    /// A name with a dot after each label.
     Name(&'a Name),
     /// A name without its final dot.
     BareName(&'a Name),
     /// A class between spaces: ` IN `, or ` CLASS3 ` (RFC 3597 5).
     Class(u16),
-    /// A type by its name, or by its number.
+    /// A type, by its name or by its number.
     TypeName(RType),
     /// The data of a record.
     Data(&'a WireRecord),

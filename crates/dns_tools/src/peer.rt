@@ -1,4 +1,4 @@
-//! The peer of a connection: a stream whose calls wait as long as a message may take, and no
+//! The peer of a connection: a stream whose calls wait as long as a message may take, but no
 //! longer.
 
 use dns_serve::Ahead;
@@ -7,38 +7,39 @@ use std::io::{self, BufReader, ErrorKind, Read, Write};
 use std::net::{Shutdown, TcpStream};
 use std::time::{Clock, Duration};
 
-// Times in milliseconds. Connections are served one after another, and no peer may hold the others
-// for ever: these are limits of this project (RFC 7766 6.2.3, 6.2.4).
+// Times in milliseconds. Connections are served one after another, so no peer may hold up the
+// others for ever. The limits are this project's (RFC 7766 6.2.3, 6.2.4).
 
 // How long the first octet of a connection may take.
 const FIRST: u64 = 2_000;
 
-// How long a peer may say nothing after a reply, or while it is only heard.
+// How long a peer may be silent after a reply, or while it is heard out.
 const SILENCE: u64 = 300;
 
-// How long a message may take, from its first octet until the last of its reply is taken.
+// How long a message may take, from its first octet until all of its reply was sent.
 const MESSAGE: u64 = 10_000;
 
-// How long messages of a connection may begin, from when it was accepted.
+// How long after a connection was accepted a new message may begin.
 const CONNECTION: u64 = 10_000;
 
-// How long a peer is only heard.
+// How long a peer is heard out at most.
 const HEARING: u64 = 1_000;
 
-// How long a call waits that was interrupted when its time was over: it takes what has come.
+// How long a call that was interrupted still waits when its time is over, to take what has
+// arrived.
 const LAST_LOOK: u64 = 1;
 
-/// A connection and its clock. As a reader and a writer, shared by both, it makes a call that the
-/// system interrupts again, and its calls end by an error when their time is over.
+/// A connection and its clock. The reader and the writer share it. A call that the system
+/// interrupts is repeated, and a call whose time is over fails.
 #[derive(Drop)]
 pub struct Peer<'a, C> {
     stream: TcpStream,
     clock: &'a C,
-    // From when on no message begins, on the clock.
+    // The time on the clock from which no message may begin.
     ends: Duration,
-    // When octets last came: `None` before the first, and after the end.
+    // When octets last arrived: `None` before the first, and after the end.
     heard: Cell<Option<Duration>>,
-    // When the calls that are made end.
+    // When the current calls time out.
     until: Cell<Duration>,
 }
 
@@ -55,11 +56,12 @@ impl<'a, C: Clock> Peer<'a, C> {
         })
     }
 
-    /// Ends what is written, and hears the peer until it ends too, for 300 milliseconds of silence
-    /// and a second in all at most. A peer that has ended, or was never heard, has no more to say.
+    /// Ends the output, and reads and discards input until the peer ends its own: for at most one
+    /// second, and at most 300 milliseconds of silence. Returns at once if the peer has ended, or
+    /// never sent an octet.
     ///
-    /// A socket that is closed before all of its input is read resets the connection, and the peer
-    /// loses what it has not yet got of the replies (RFC 2525 2.17).
+    /// Closing a socket before all of its input is read resets the connection, and the peer loses
+    /// the replies that have not reached it yet (RFC 2525 2.17).
     pub(crate) fn hear_out(&self) -> io::Result<()> {
         if self.heard.get().is_none() {
             return Ok(());
@@ -77,14 +79,14 @@ impl<'a, C: Clock> Peer<'a, C> {
         Ok(())
     }
 
-    // Gives the next calls the time of a silence, up to that time.
+    // Lets the next calls wait for the time of a silence, but not beyond `ends`.
     fn wait_for_silence(&self, ends: Duration) -> io::Result<()> {
         let silence = after(self.clock.monotonic()?, SILENCE);
         self.until.set(silence.min(ends));
         Ok(())
     }
 
-    // How long a call may wait after so many tries that were interrupted.
+    // How long a call may wait after `tries` interrupted tries.
     fn wait_after(&self, tries: u64) -> io::Result<Duration> {
         let rest = self.until.get().saturating_sub(self.clock.monotonic()?);
         if tries == 0 && rest.is_zero() {
@@ -93,23 +95,23 @@ impl<'a, C: Clock> Peer<'a, C> {
         Ok(rest.max(Duration::from_millis(LAST_LOOK)))
     }
 
-    // Whether the octets that came last begin no message.
+    // Whether the octets that came last are too late to begin a message.
     fn is_over(&self) -> bool {
         self.heard.get().is_some_and(|heard| heard >= self.ends)
     }
 }
 
-// So many milliseconds after a time.
+// The time `millis` milliseconds after another.
 fn after(time: Duration, millis: u64) -> Duration {
     time.saturating_add(Duration::from_millis(millis))
 }
 
-// Whether a call that waits so long is not made again.
+// Whether a call that waited this long is not repeated.
 fn is_last(wait: Duration) -> bool {
     wait <= Duration::from_millis(LAST_LOOK)
 }
 
-// Whether nothing came in the time of a call.
+// Whether a call failed because nothing arrived in time.
 fn is_silence(error: &io::Error) -> bool {
     matches!(
         error.kind(),
@@ -158,8 +160,9 @@ impl<C: Clock> Write for &Peer<'_, C> {
     }
 }
 
-/// What a peer says, by a reader of it that reads ahead: says whether the message after the one
-/// that is read has come, and tells the peer where each message begins for who reads them here.
+/// A reader of a peer's messages that reads ahead. It reports through `ahead` whether the next
+/// message has arrived, and sets the peer's time limit when a message begins, which its caller
+/// marks there.
 #[derive(Drop)]
 pub struct Messages<'a, C: Clock> {
     source: BufReader<&'a Peer<'a, C>>,
@@ -167,7 +170,7 @@ pub struct Messages<'a, C: Clock> {
 }
 
 impl<'a, C: Clock> Messages<'a, C> {
-    /// The messages of a peer, from the first on. Who reads them says by `ahead` where one begins.
+    /// The messages of a peer, from the first on.
     pub(crate) fn new(
         source: BufReader<&'a Peer<'a, C>>,
         ahead: &'a Cell<Ahead>,
@@ -188,7 +191,7 @@ impl<C: Clock> Read for Messages<'_, C> {
             peer.wait_for_silence(peer.ends)?;
         }
         let count = match self.source.read(buf) {
-            // An end of the input, after which more is heard only if it was no whole silence.
+            // Silence ends the input. If it lasted its full time, the peer need not be heard out.
             Err(error) if begins && !is_first && is_silence(&error) => {
                 if peer.until.get() < peer.ends {
                     peer.heard.set(None);
@@ -210,8 +213,8 @@ impl<C: Clock> Read for Messages<'_, C> {
     }
 }
 
-// What octets that were read ahead show: a whole message after its length (RFC 1035 4.2.2), or that
-// the next call may wait.
+// Whether the octets that were read ahead contain a whole message after its length (RFC 1035
+// 4.2.2); if not, the next call may wait.
 fn ahead_of(octets: &[u8]) -> Ahead {
     match octets {
         [high, low, message @ ..]

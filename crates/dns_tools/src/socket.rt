@@ -1,4 +1,4 @@
-//! A UDP socket, as a device that hands out datagrams.
+//! A UDP socket as a device for datagrams.
 ghost use Rattle.std.specs.Prelude.{◌≡◌, false, None};
 
 use crate::peer::is_interrupted;
@@ -9,14 +9,14 @@ use std::marker::Model;
 use std::net::{SocketAddr, UdpSocket};
 use std::time::Clock;
 
-/// A UDP socket that is bound to an address, with the count of its failures. Its calls wait, even
-/// if it is set not to block: another process may share it and set that.
+/// A UDP socket that is bound to an address, with a count of its failures. Its calls wait even if
+/// the socket is non-blocking, which another process that shares it may have set.
 #[derive(Drop)]
 pub struct Socket<'a, C> {
     socket: UdpSocket,
-    // For the pauses of calls that are put off.
+    // For the pauses before calls are repeated.
     clock: &'a C,
-    // Who sent the last datagram.
+    // The sender of the last datagram.
     sender: Option<SocketAddr>,
     failures: u64,
 }
@@ -31,7 +31,7 @@ impl<'a, C> Model for Socket<'a, C> {
 }
 
 impl<'a, C: Clock> Socket<'a, C> {
-    /// The socket with a count of 0, and nobody to send to.
+    /// The socket with a failure count of 0, and no sender yet.
     pub fn new(socket: UdpSocket, clock: &'a C) -> Socket<'a, C>
         ensures { result ≡ record { failures = 0; has_sender = false } }
     {
@@ -44,7 +44,7 @@ impl<'a, C: Clock> Socket<'a, C> {
     }
 }
 
-// A call that the system interrupts or puts off is made again: it took nothing, and sent nothing.
+// A call that was interrupted or would block is repeated: it received nothing, and sent nothing.
 impl<C: Clock> Datagrams for Socket<'_, C> {
     ghost received = { λ _. None };
 
@@ -88,7 +88,7 @@ impl<C: Clock> Datagrams for Socket<'_, C> {
     }
 }
 
-// Whether a call is made again; one that was put off after a pause.
+// Whether a call is repeated: at once if it was interrupted, after a pause if it would block.
 pub(crate) fn is_made_again(error: &Error, clock: &impl Clock) -> bool {
     is_interrupted(error) || is_put_off(error, clock)
 }

@@ -1,17 +1,17 @@
-//! A standard stream that is set not to block, waited for all the same.
+//! Standard streams whose calls wait, even if the streams are non-blocking.
 ghost use Rattle.std.specs.Prelude.{◌≡◌};
 
 use std::io::{self, ErrorKind, Read, Write};
 use std::thread;
 use std::time::{Clock, Duration};
 
-// How many milliseconds pass before a call is made again that the system put off.
+// How many milliseconds pass before a call that would block is repeated.
 const PAUSE: u64 = 10;
 
-/// A device whose calls wait: where it is set not to block (`O_NONBLOCK`, which a stream has from
-/// another process that shares it), a call that the system puts off is made again after a pause.
+/// A device whose calls wait: if it is non-blocking (`O_NONBLOCK`, which another process that
+/// shares the stream may have set), a call that would block is repeated after a pause.
 ///
-/// A call that was put off took nothing, so no octet is lost or comes twice.
+/// Such a call transferred nothing, so no octet is lost or repeated.
 #[derive(Drop)]
 pub struct Waiting<'a, T, C> {
     device: T,
@@ -19,7 +19,7 @@ pub struct Waiting<'a, T, C> {
 }
 
 impl<'a, T, C: Clock> Waiting<'a, T, C> {
-    /// The device, with the clock of its pauses.
+    /// The device, with a clock for its pauses.
     pub fn new(device: T, clock: &'a C) -> Waiting<'a, T, C>
         ensures { result.device ≡ device }
     {
@@ -59,7 +59,7 @@ impl<T: Write, C: Clock> Write for Waiting<'_, T, C> {
     }
 }
 
-// Whether a call was put off: then the pause has passed.
+// Whether a call would have blocked; if so, waits for the pause.
 pub(crate) fn is_put_off(error: &io::Error, clock: &impl Clock) -> bool {
     let put_off = error.kind() == ErrorKind::WouldBlock;
     if put_off {

@@ -30,32 +30,32 @@ const TCP: &str = "tcp";
 
 const TCP_OPTION: &str = "--tcp";
 
-// How many turns a server takes at most.
+// The most turns that a server takes.
 const MOST_TURNS: u32 = 1_000_000;
 
-/// How `zoneserve` is asked to serve.
+/// How `zoneserve` is to serve.
 #[derive(Clone, Copy, Debug, PartialEq, Eq)]
 pub enum Service<'a> {
-    /// Each line of standard input is answered by a line of standard output, with replies up to the
-    /// limit.
+    /// Answer each line of standard input with a line on standard output; replies are as long as
+    /// the transport allows.
     Once(Limit),
-    /// So many datagrams are answered at the address.
+    /// Handle `turns` datagrams at an address.
     Udp {
-        /// The address, not read yet.
+        /// The address, not parsed yet.
         address: &'a str,
-        /// How many turns there are, 1 to 1,000,000.
+        /// The number of turns, 1 to 1,000,000.
         turns: u32,
     },
-    /// So many connections are answered at the address, one after another.
+    /// Handle `turns` connections at an address, one after another.
     Tcp {
-        /// The address, not read yet.
+        /// The address, not parsed yet.
         address: &'a str,
-        /// How many turns there are, 1 to 1,000,000.
+        /// The number of turns, 1 to 1,000,000.
         turns: u32,
     },
 }
 
-/// What `zoneserve` is asked for.
+/// The parsed arguments of `zoneserve`.
 #[derive(Drop)]
 pub struct ServeWords<'a> {
     /// How it serves.
@@ -66,7 +66,7 @@ pub struct ServeWords<'a> {
     pub file: &'a str,
 }
 
-/// What `zonecheck [--quiet] [--print] ORIGIN FILE` is asked for.
+/// The parsed arguments of `zonecheck [--quiet] [--print] ORIGIN FILE`.
 #[derive(Drop)]
 pub struct CheckWords<'a> {
     /// What is written.
@@ -77,12 +77,12 @@ pub struct CheckWords<'a> {
     pub file: &'a str,
 }
 
-/// What `zonesocket udp|tcp TURNS ORIGIN FILE` is asked for.
+/// The parsed arguments of `zonesocket udp|tcp TURNS ORIGIN FILE`.
 #[derive(Drop)]
 pub struct SocketWords<'a> {
-    /// The transport of the given socket, by its limit of replies.
+    /// The transport of the given socket.
     pub transport: Limit,
-    /// How many turns there are, 1 to 1,000,000.
+    /// The number of turns, 1 to 1,000,000.
     pub turns: u32,
     /// The zone's origin, in lower case.
     pub origin: Name,
@@ -90,12 +90,13 @@ pub struct SocketWords<'a> {
     pub file: &'a str,
 }
 
-/// Reads the words after the program's own name: `once [--tcp] ORIGIN FILE`, or `udp` or `tcp` and
-/// `ADDR TURNS ORIGIN FILE`, where ORIGIN is a name relative to the root and TURNS a number from 1
-/// to 1,000,000. ADDR is not read yet.
+/// Parses the arguments after the program's own name: `once [--tcp] ORIGIN FILE`, or `udp` or
+/// `tcp` and `ADDR TURNS ORIGIN FILE`. ORIGIN is a name relative to the root, and TURNS a number
+/// from 1 to 1,000,000. ADDR is not parsed yet.
 ///
-/// `usage` where they are other words, or where ORIGIN or FILE begins with `-`; then `bad origin`
-/// where ORIGIN is no name. No other option is known, and no word asks for help or for the version.
+/// Fails with `usage` for any other arguments, and if ORIGIN or FILE begins with `-`; then with
+/// `bad origin` if ORIGIN is not a name. There are no other options, not even for help or the
+/// version.
 pub fn serve_words<'a, S: AsStr>(alloc: Global, words: &'a [S]) -> Result<ServeWords<'a>, FaultWord>
     ensures fault { IfErr result (λ fault. IsTrue (is_word_fault fault)) }
     ensures asked { IfOk result (IsServeCall (map S.text words.entry.now)) }
@@ -103,7 +104,7 @@ pub fn serve_words<'a, S: AsStr>(alloc: Global, words: &'a [S]) -> Result<ServeW
         → HasBadServeOrigin (map S.text words.entry.now) }
 {
     let matches = serve_command(alloc)?.try_get_matches_from(words)?;
-    // What is found is compared with the words.
+    // The parsed values are checked against the arguments.
     match given_service(&matches) {
         Some((service, origin, file)) if ask_to_serve(words, &service, origin, file) => {
             Ok(ServeWords {
@@ -116,12 +117,12 @@ pub fn serve_words<'a, S: AsStr>(alloc: Global, words: &'a [S]) -> Result<ServeW
     }
 }
 
-/// Reads the words after the program's own name: `--quiet` and `--print`, in either order and each
-/// at most once, then ORIGIN, a name relative to the root, and FILE.
+/// Parses the arguments after the program's own name: `--quiet` and `--print`, in either order and
+/// each at most once, then ORIGIN, a name relative to the root, and FILE.
 ///
-/// `usage` where they are other words, or one of them after these options begins with `-`; then
-/// `bad origin` where ORIGIN is no name. No other option is known, and no word asks for help or for
-/// the version.
+/// Fails with `usage` for any other arguments, and if one after these options begins with `-`;
+/// then with `bad origin` if ORIGIN is not a name. There are no other options, not even for help
+/// or the version.
 pub fn check_words<'a, S: AsStr>(alloc: Global, words: &'a [S]) -> Result<CheckWords<'a>, FaultWord>
     ensures asked { IfOk result (IsCheckCall (map S.text words.entry.now)) }
     ensures origin { result ≡ Err FaultWord.BadOrigin
@@ -133,7 +134,7 @@ pub fn check_words<'a, S: AsStr>(alloc: Global, words: &'a [S]) -> Result<CheckW
         quiet: matches.get_flag(QUIET),
         print: matches.get_flag(PRINT),
     };
-    // What is found is compared with the words.
+    // The parsed values are checked against the arguments.
     match named_values(&matches) {
         Some((origin, file)) if ask_to_check(words, flags, origin, file) => Ok(CheckWords {
             flags,
@@ -144,11 +145,11 @@ pub fn check_words<'a, S: AsStr>(alloc: Global, words: &'a [S]) -> Result<CheckW
     }
 }
 
-/// Reads the arguments after the program's own name: `udp` or `tcp`, TURNS, a number from 1 to
+/// Parses the arguments after the program's own name: `udp` or `tcp`, TURNS, a number from 1 to
 /// 1,000,000, ORIGIN, a name relative to the root, and FILE.
 ///
-/// `usage` if and only if they are other arguments, or ORIGIN or FILE begins with `-`; then
-/// `bad origin` if ORIGIN is no name.
+/// Fails with `usage` if and only if the arguments are not of this form, or ORIGIN or FILE begins
+/// with `-`; then with `bad origin` if ORIGIN is not a name.
 pub fn socket_words<'a, S: AsStr>(words: &'a [S]) -> Result<SocketWords<'a>, FaultWord>
     ensures asked { IfOk result (IsSocketCall (map S.text words.entry.now)) }
     ensures origin { result ≡ Err FaultWord.BadOrigin
@@ -188,7 +189,7 @@ fn said_transport(word: &str) -> Option<Limit>
     }
 }
 
-// The number of turns that TURNS is.
+// Parses TURNS.
 fn said_turns(word: &str) -> Option<u32>
     ensures some { IfSome result
         (λ turns. (word.now ≡ decimal turns) × (1 ≤ turns) × (turns ≤ 1000000)) }
@@ -207,7 +208,7 @@ fn is_dashed(word: &str) -> bool
     matches!(word.as_bytes(), [b'-', ..])
 }
 
-// The name that ORIGIN spells, relative to the root and in lower case.
+// The name that ORIGIN spells, relative to the root, in lower case.
 fn given_origin(word: &str) -> Result<Name, FaultWord>
     ensures ok { IfOk result (IsOrigin word.now) }
     ensures err { IfErr result (λ fault. (fault ≡ FaultWord.BadOrigin) × IsNoOrigin word.now) }
@@ -231,7 +232,7 @@ fn ask_to_serve<S: AsStr>(words: &[S], service: &Service<'_>, origin: &str, file
     }
 }
 
-// Whether the words are a transport, an address and so many turns.
+// Whether the arguments are this transport, address and number of turns.
 fn are_turns<S: AsStr>(words: &[S], transport: &str, address: &str, turns: u32) -> bool
     ensures words { OnTrue result (map S.text words.now
         ≡ transport.now ∷ address.now ∷ decimal turns ∷ []) }
@@ -257,7 +258,7 @@ fn are_words<S: AsStr>(words: &[S], wanted: &[&str]) -> bool
     }
 }
 
-// The words before ORIGIN and FILE; `None` where the last two are others.
+// The arguments before ORIGIN and FILE; `None` if the last two are not these.
 fn before_zone<'a, S: AsStr>(words: &'a [S], origin: &str, file: &str) -> Option<&'a [S]>
     ensures { IfSome result (λ front. EndWords (map S.text words.now) (map S.text front.now)
         (record { origin = origin.now; file = file.now })) }

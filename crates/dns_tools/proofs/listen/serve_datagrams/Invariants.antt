@@ -1,7 +1,7 @@
 use Rattle.dns_tools.proofs.Common.{◌≤◌, ◌+◌, TakesTurns}
 use Rattle.dns_tools.proofs.listen.serve_datagrams.Given as goal
 
--- so many turns were taken, none of which failed more than once
+-- the turns so far were taken, and each failed at most once
 abbrev pub invariant-turns : goal.invariant-turns
 invariant-turns g l = record {
   taken : TakesTurns l.zone l.counter

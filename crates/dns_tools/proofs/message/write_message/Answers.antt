@@ -3,7 +3,7 @@ use Rattle.dns_tools.proofs.message.write_message.Goals as goal
 use Rattle.dns_tools.proofs.message.write_message.Goals.{In_ok-write_questions, In_ok-write_records}
 use Rattle.dns_tools.proofs.message.write_message.Given as given
 
--- the lines of a message
+-- the lines of each part of a message
 abbrev questions : DnsMessage → Octets
 questions m = flat_map question_line m.questions
 
@@ -16,7 +16,7 @@ authorities m = flat_map (section_line (codes "authority")) m.authorities
 abbrev additionals : DnsMessage → Octets
 additionals m = flat_map (section_line (codes "additional")) m.additionals
 
--- those up to a section
+-- the lines up to each section
 abbrev upto_questions : DnsMessage → Octets
 upto_questions m = header_line m ++ questions m
 
@@ -26,7 +26,7 @@ upto_answers m = upto_questions m ++ answers m
 abbrev upto_authorities : DnsMessage → Octets
 upto_authorities m = upto_answers m ++ authorities m
 
--- of these a beginning was written
+-- a prefix of these was written
 begun_authorities : (m : DnsMessage) (a b : Option Octets) → AppendsBeginning a b
     (upto_authorities m) → AppendsBeginning a b (upto_authorities m ++ additionals m)
 begun_authorities m a b h = beginning_of_first a b (upto_authorities m) (additionals m) h

@@ -2,7 +2,7 @@ use Rattle.dns_tools.proofs.Common.{drop, flat_map, question_line}
 use Rattle.dns_tools.proofs.LineParts.{IsLeft}
 use Rattle.dns_tools.proofs.message.write_questions.Given as goal
 
--- the lines that are left are still to be written
+-- the remaining lines are still to be written
 abbrev pub invariant-questions : goal.invariant-questions
 invariant-questions g l =
     IsLeft g.W.Write.contents l.initial.sink l.sink (flat_map question_line l.questions)

@@ -2,7 +2,7 @@ use Rattle.dns_tools.proofs.Common.{drop, flat_map, fault_report}
 use Rattle.dns_tools.proofs.LineParts.{IsLeft}
 use Rattle.dns_tools.proofs.report.write_check_faults.Given as goal
 
--- the lines of the faults that are left are still to be written
+-- the lines of the remaining faults are still to be written
 abbrev pub invariant-faults : goal.invariant-faults
 invariant-faults g l =
     IsLeft g.W.Write.contents l.initial.sink l.sink (flat_map fault_report l.faults)

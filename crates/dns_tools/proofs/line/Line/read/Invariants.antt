@@ -2,7 +2,7 @@ use Rattle.dns_tools.proofs.Common.{◌≡◌, ◌-◌, true, false, length, if�
 use Rattle.dns_tools.proofs.KeptLines.{Going}
 use Rattle.dns_tools.proofs.line.Line.read.Given as goal
 
--- the line is over, or goes on in what was read
+-- the line is over, or goes on in the octets so far
 abbrev pub invariant-pieces : goal.invariant-pieces
 invariant-pieces g l = record {
   source : l.source.failures ≡ l.initial.source.failures;

@@ -45,7 +45,7 @@ pieces-preserved g c =
           c.pieces.invariant.reading _ c.in_ok-take.ensures.taken;
     }
 
--- all that was read is answered or kept, where the source ended and where no more may be read
+-- all that was read was answered or is kept, at the end of the source or of the count of octets
 module _ (g : given.Over) (c : After-is_empty g) where
   all : AllRead (reply_of c.args.self.now) (reply_of c.pieces.self)
       (g.R.Read.remaining c.args.source.now.device) (g.R.Read.remaining c.pieces-test.source.device)

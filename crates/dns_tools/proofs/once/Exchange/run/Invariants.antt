@@ -2,7 +2,7 @@ use Rattle.dns_tools.proofs.Common.{◌≡◌, kept_of, reply_of}
 use Rattle.dns_tools.proofs.LineReads.{Reading}
 use Rattle.dns_tools.proofs.once.Exchange.run.Given as goal
 
--- so much was read, and what it owes is answered or kept
+-- the octets so far were read, and their lines were answered or are kept
 abbrev pub invariant-pieces : goal.invariant-pieces
 invariant-pieces g l = record {
   source : l.source.failures ≡ l.initial.source.failures;

@@ -1,7 +1,7 @@
 use Rattle.dns_tools.proofs.Common.{◌≡◌, ◌++◌, take, Option, Octets, kept_of, reply_of, Grows, Progress}
 use Rattle.dns_tools.proofs.once.Exchange.take.Given as goal
 
--- what was said of the octets before is said of these too, as far as they were taken
+-- what holds of the octets before this piece holds up to the octets that were taken
 abbrev pub invariant-octets : goal.invariant-octets
 invariant-octets g l = record {
   sink : l.sink.failures ≡ l.initial.sink.failures;

@@ -1,7 +1,7 @@
 use Rattle.dns_tools.proofs.Common.{◌≡◌, length, Keeps}
 use Rattle.dns_tools.proofs.waiting.WaitingRead.read.Given as goal
 
--- the calls so far took nothing
+-- the calls so far read nothing
 abbrev pub invariant-calls : goal.invariant-calls
 invariant-calls g l = record {
   room : length l.buf ≡ length l.initial.buf;
