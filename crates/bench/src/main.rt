@@ -1,8 +1,8 @@
-//! Reads data, writes them and answers questions again and again, for a tool that counts
-//! instructions.
+//! Reads data, writes data, and answers queries repeatedly, for a tool that counts instructions.
 //!
-//! `bench ROUNDS` does the work of each line of standard input so often, and prints how many octets
-//! it has. `tools/bench` gives it all that is measured. The files of zones lie where it runs.
+//! `bench ROUNDS` does the work of each line of standard input ROUNDS times, and prints how many
+//! octets it has. `tools/bench` supplies the lines. Zone files are looked up in the current
+//! directory.
 #![tactic(auto)]
 
 mod work;

@@ -1,4 +1,4 @@
-//! What is measured.
+//! The work that is measured.
 ghost use Rattle.std.specs.Prelude.{IfOk};
 ghost use Rattle.dns_spec.specs.Data.{Valid};
 
@@ -11,9 +11,9 @@ use std::alloc::{AllocError, Global};
 use std::fs;
 use std::rt::Files;
 
-/// Does the work of a line so often, and gives how many octets it has: those of the data that
-/// `read TYPE WORDS` reads or `write TYPE WORDS` writes, those of the reply to `udp FILE NAME TYPE`
-/// or `tcp FILE NAME TYPE` over the zone of a file.
+/// Does the work of a line `rounds` times, and returns the number of its octets: of the data that
+/// `read TYPE WORDS` reads or `write TYPE WORDS` writes, or of the reply to `udp FILE NAME TYPE`
+/// or `tcp FILE NAME TYPE` from the zone in a file.
 pub(crate) fn octets_of_work<R: Files + AllocGlobal>(
     rt: &R,
     line: &str,
@@ -35,7 +35,7 @@ fn halves(text: &str) -> (&str, &str) {
     text.split_once(' ').unwrap_or((text, ""))
 }
 
-// The words of data: those of a text are quoted.
+// The words of data. For TXT they are quoted.
 fn words<'a>(alloc: Global, rtype: RType, text: &'a str) -> Result<Vec<Word<'a>>, AllocError> {
     let mut words = Vec::new(alloc);
     for word in text.split(' ') {
@@ -82,7 +82,7 @@ fn write_data(alloc: Global, rtype: &str, text: &str, rounds: u32) -> Result<usi
     Ok(rdata.octets().len())
 }
 
-// The zone `example.` of a file.
+// The zone `example.` in a file.
 fn zone_of<R: Files + AllocGlobal>(rt: &R, path: &str) -> Result<Zone, FaultWord> {
     let origin = Name::read_text(b"example.", &Name::root())?;
     let text = fs::read_to_string(rt, path).map_err(|_| FaultWord::SourceFailed)?;
@@ -101,7 +101,7 @@ fn query(alloc: Global, question: &str) -> Result<Vec<u8>, FaultWord> {
     Ok(query)
 }
 
-// Answers with the room that is made for each reply, as a server over UDP does.
+// Answers in new room for each reply.
 fn answer_udp(zone: &Zone, query: &[u8], rounds: u32) -> Result<usize, FaultWord> {
     let mut out = [0; 512];
     let mut octets = 0;
@@ -112,7 +112,7 @@ fn answer_udp(zone: &Zone, query: &[u8], rounds: u32) -> Result<usize, FaultWord
     looked_at(&out, octets)
 }
 
-// Answers in room that is kept, as a server over TCP does.
+// Answers in room that is reused, as a server over TCP does.
 fn answer_tcp(alloc: Global, zone: &Zone, query: &[u8], rounds: u32) -> Result<usize, FaultWord> {
     let mut draft = Box::new(alloc, TcpDraft::new())?;
     let mut out = [0; 65_535];
@@ -124,8 +124,8 @@ fn answer_tcp(alloc: Global, zone: &Zone, query: &[u8], rounds: u32) -> Result<u
     looked_at(&out, octets)
 }
 
-// What was written last is looked at, so that nothing is left out as useless: no reply is all
-// octets 0.
+// Checks the last output, so that the compiler can't remove the work: no reply consists only of
+// zeros.
 fn looked_at(written: &[u8], octets: usize) -> Result<usize, FaultWord> {
     if written.iter().all(|octet| *octet == 0) {
         return Err(FaultWord::SinkFailed);

@@ -1,5 +1,5 @@
-//! A printer of messages: `dnsmsg` prints the message that the first line of standard input is, in
-//! hexadecimal digits.
+//! A printer of messages: `dnsmsg` prints the message on the first line of standard input, which
+//! is in hexadecimal digits.
 #![tactic(auto)]
 
 use dns_name::Tally;
@@ -13,7 +13,7 @@ fn main(rt: HostRuntime) -> ExitCode {
     ExitCode::from(end(&rt, print(&rt)))
 }
 
-// Prints the message of standard input, and gives the status for it. There are no words.
+// Prints the message on standard input, and returns the exit status. Takes no arguments.
 fn print<R: Env + Input + Print + Clock + AllocGlobal>(rt: &R) -> Result<u8, FaultWord> {
     let alloc = rt.alloc();
     if !given_words(rt)?.is_empty() {

@@ -1,4 +1,4 @@
-//! Calls that take memory, and calls that take none. Each adds what came of it to what is said.
+//! Calls that allocate memory, and calls that don't. Each appends its result to `said`.
 
 use crate::samples::{CUT_STREAM, QUERIES, STREAM};
 use dns_answer::{Limit, respond};
@@ -31,7 +31,7 @@ pub(crate) fn check(alloc: Global, said: &mut String) -> Result<(), FaultWord> {
     Ok(said.push_str(text)?)
 }
 
-// The octets of a room of which so many are left.
+// The written octets of a buffer, of which `left` octets are unused.
 fn written(room: &[u8], left: usize) -> &[u8] {
     room.get(..room.len().saturating_sub(left)).unwrap_or(&[])
 }

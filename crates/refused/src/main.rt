@@ -1,9 +1,9 @@
-//! What calls answer where memory is refused. `refused FILE` calls each function that takes memory,
-//! loads the zone of `example.` from FILE, has it answer questions and a session, and prints what
-//! came of each.
+//! What functions return if memory is refused. `refused FILE` calls each function that allocates
+//! memory, loads the zone of `example.` from FILE, serves queries and a session from it, and
+//! prints the result of each call.
 //!
-//! `make faults` runs it with each of its allocations refused, one run after the other: the line of
-//! a call says so, and all others are as ever. The memory that it needs itself is taken first.
+//! `make faults` runs it once for each of its allocations, with that one refused: the line of the
+//! call reports it, and all other lines stay the same. The program allocates its own memory first.
 #![tactic(auto)]
 
 mod calls;
@@ -28,7 +28,7 @@ fn main(rt: HostRuntime) -> ExitCode {
     })
 }
 
-// Makes the calls, and prints what came of them.
+// Makes the calls, and prints their results.
 fn call<R: Env + Files + Print + AllocGlobal>(rt: &R) -> Result<(), FaultWord> {
     let alloc = rt.alloc();
     let words = given_words(rt)?;

@@ -1,4 +1,4 @@
-//! What a program answers.
+//! The output of a program.
 
 use crate::case::{Answer, Case};
 use dns_name::Tally;
@@ -8,7 +8,7 @@ use dns_tools::{
 };
 use std::alloc::{AllocError, Global};
 
-/// What the program of a case answers: the report and its status, or the line of a word on standard
+/// The output of a case's program: its report and exit status, or its diagnostic on standard
 /// error.
 pub(crate) fn answer(alloc: Global, case: &Case<'_>) -> Result<Answer, AllocError> {
     match report(alloc, case) {
@@ -20,8 +20,8 @@ pub(crate) fn answer(alloc: Global, case: &Case<'_>) -> Result<Answer, AllocErro
     }
 }
 
-// Gives the words, the octets of the file and those of standard input to what the program calls. A
-// server answers lines over a zone that passes.
+// Calls what the program calls, with the arguments, the zone file and the standard input of the
+// case. A server answers lines, for a zone without faults.
 fn report(alloc: Global, case: &Case<'_>) -> Result<Answer, FaultWord> {
     let Some((program, words)) = case.words.as_slice().split_first() else {
         return Err(FaultWord::Usage);

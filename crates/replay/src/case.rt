@@ -1,25 +1,25 @@
-//! A case as it is written.
+//! The format of a case.
 
 use dns_tools::FaultWord;
 use percent_encoding::percent_decode;
 use std::alloc::Global;
 use std::str::Lines;
 
-/// A run of a program, and what it has to answer.
+/// A run of a program, and its expected output.
 #[derive(Drop)]
 pub(crate) struct Case<'a> {
-    /// The program's name, and the words after it.
+    /// The program's name, and its arguments.
     pub words: Vec<&'a str>,
     /// The octets of the zone file.
     pub file: Vec<u8>,
     /// The octets of standard input.
     pub input: Vec<u8>,
-    /// What is recorded.
+    /// The recorded output.
     pub wanted: Answer,
 }
 
-/// The status that a run ends with, and what it writes to standard output, or to standard error
-/// where that is 2.
+/// The exit status of a run, and what it writes to standard output, or to standard error if the
+/// status is 2.
 #[derive(PartialEq, Eq, Drop)]
 pub(crate) struct Answer {
     pub status: u8,
@@ -27,8 +27,8 @@ pub(crate) struct Answer {
 }
 
 impl Case<'_> {
-    /// Reads a case: the line of its words, the lines of its file and of its standard input, the
-    /// line of its status, the lines that are written.
+    /// Parses a case: a line with the program and its arguments, the lines of the file and of
+    /// standard input, the line of the status, and the lines of output.
     pub(crate) fn read(alloc: Global, text: &str) -> Result<Case<'_>, FaultWord> {
         let (asked, answered) = text.split_once("\nstatus ").unwrap_or((text, ""));
         let (asked, input) = asked
@@ -54,7 +54,7 @@ impl Case<'_> {
     }
 }
 
-// The octets that lines spell. LF ends each, but not where `%` does.
+// The octets of lines. LF follows each line, unless the line ends with `%`.
 fn octets_of(alloc: Global, lines: Lines<'_>) -> Result<Vec<u8>, FaultWord> {
     let mut octets = Vec::new(alloc);
     for line in lines {

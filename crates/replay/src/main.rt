@@ -1,8 +1,8 @@
-//! Replays recorded runs of the programs: `replay FILE ..` reads the cases of each FILE, gives the
-//! words, the zone file and the standard input of each to what the program calls, and reports each
-//! case that is answered otherwise than recorded.
+//! Replays recorded runs of the programs: `replay FILE ..` reads the cases in each FILE, calls
+//! what the program calls with the arguments, the zone file and the standard input of each case,
+//! and reports each case whose output differs from the recorded one.
 //!
-//! The heads of the files in `data/` say how a case is written.
+//! The first lines of the files in `data/` describe the format of a case.
 #![tactic(auto)]
 
 mod answer;
@@ -24,7 +24,7 @@ fn main(rt: HostRuntime) -> ExitCode {
     })
 }
 
-// Whether all cases of all files, which empty lines part, are answered as they were recorded.
+// Whether the output of all cases in all files is as recorded. Empty lines separate cases.
 fn replay<R: Env + Files + Print + AllocGlobal>(rt: &R) -> Result<bool, FaultWord> {
     let mut passes = true;
     for file in given_words(rt)?.as_slice() {
@@ -45,7 +45,7 @@ fn replay<R: Env + Files + Print + AllocGlobal>(rt: &R) -> Result<bool, FaultWor
     Ok(passes)
 }
 
-// Whether a case is answered as it was recorded. One that is not is printed, with its answer.
+// Whether the output of a case is as recorded. If not, prints the case and its output.
 fn gives_its_answer<R: Print + AllocGlobal>(rt: &R, part: &str) -> Result<bool, FaultWord> {
     let case = Case::read(rt.alloc(), part)?;
     let given = answer(rt.alloc(), &case)?;

@@ -1,5 +1,5 @@
-//! A checker of zone files: `zonecheck [--quiet] [--print] ORIGIN FILE` says whether the zone of
-//! ORIGIN in FILE may be served, reports all of its faults, or prints it in its canonical text.
+//! A checker of zone files: `zonecheck [--quiet] [--print] ORIGIN FILE` reports whether the zone
+//! of ORIGIN in FILE may be served, with all of its faults, or prints it in its canonical text.
 #![tactic(auto)]
 
 use dns_name::Tally;
@@ -15,7 +15,7 @@ fn main(rt: HostRuntime) -> ExitCode {
     ExitCode::from(end(&rt, check(&rt)))
 }
 
-// Writes the report of the zone that the words name, and gives the status for it.
+// Checks the zone that the arguments name, writes the report, and returns the exit status.
 fn check<R: Env + Files + Print + Clock + AllocGlobal>(rt: &R) -> Result<u8, FaultWord> {
     let alloc = rt.alloc();
     let words = given_words(rt)?;

@@ -1,6 +1,7 @@
 //! A server of one zone. `zoneserve once [--tcp] ORIGIN FILE` loads the zone of ORIGIN from FILE,
-//! and answers each message of standard input, a line of hexadecimal digits, by a line on standard
-//! output; `zoneserve udp|tcp ADDR TURNS ORIGIN FILE` answers at an address.
+//! and answers each message on standard input, a line of hexadecimal digits, with a line on
+//! standard output; `zoneserve udp|tcp ADDR TURNS ORIGIN FILE` serves TURNS datagrams or
+//! connections at an address.
 #![tactic(auto)]
 
 use dns_name::Tally;
@@ -21,7 +22,7 @@ fn main(rt: HostRuntime) -> ExitCode {
     ExitCode::from(end(&rt, run(&rt, &rt.stderr())))
 }
 
-// Serves the zone that the words name, as they ask, and gives the status.
+// Loads the zone that the arguments name, serves it, and returns the exit status.
 fn run<R, E: Print>(rt: &R, errors: &E) -> Result<u8, FaultWord>
 where
     R: Env + Files + Input + Print + Eprint + Clock + AllocGlobal,
@@ -57,7 +58,8 @@ where
             serve_datagrams(rt, zone, &mut socket, *turns)
         }
         Service::Tcp { address, turns } => {
-            // The room of all sessions is taken before the first, and not from the stack.
+            // The room of all sessions is allocated before the first one, because it is too large
+            // for the stack.
             let Ok(mut room) = Box::new(rt.alloc(), StreamRoom::new()) else {
                 return Err(FaultWord::NoMemory);
             };

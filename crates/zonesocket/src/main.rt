@@ -1,7 +1,8 @@
-//! A server of one zone at a socket that it is given as standard input: `zonesocket udp|tcp TURNS
-//! ORIGIN FILE` loads the zone of ORIGIN from FILE, says so on standard output, and serves TURNS
-//! datagrams or connections. The socket outlives it, so that several processes can serve it at
-//! once, and one can follow another with nothing lost.
+//! A server of one zone at a socket that it is given as standard input:
+//! `zonesocket udp|tcp TURNS ORIGIN FILE` loads the zone of ORIGIN from FILE, reports that on
+//! standard output, and serves TURNS datagrams or connections. The socket outlives the process, so
+//! that several processes can serve it at once, and one can follow another without losing
+//! anything.
 #![tactic(auto)]
 
 use dns_answer::Limit;
@@ -23,7 +24,7 @@ fn main(rt: HostRuntime) -> ExitCode {
     ExitCode::from(end(&rt, run(&rt, &rt.stdin(), &rt.stderr())))
 }
 
-// Serves the zone that the arguments name at the given socket, and returns the status.
+// Serves the zone that the arguments name at the given socket, and returns the exit status.
 fn run<R, I: AsFd, E: Print>(rt: &R, given: &I, errors: &E) -> Result<u8, FaultWord>
 where
     R: Env + Files + Print + Eprint + Clock + AllocGlobal,
@@ -58,7 +59,8 @@ where
             serve_datagrams(rt, zone, &mut socket, words.turns)
         }
         Limit::Tcp => {
-            // The room of all sessions is taken before the first, and not from the stack.
+            // The room of all sessions is allocated before the first one, because it is too large
+            // for the stack.
             let Ok(mut room) = Box::new(rt.alloc(), StreamRoom::new()) else {
                 return Err(FaultWord::NoMemory);
             };
