@@ -3,22 +3,23 @@ ghost use Rattle.std.specs.Prelude.{◌≡◌, ◌↔◌, IsTrue};
 use std::alloc::Global;
 use std::io::{self, ErrorKind, Read, Write};
 
-/// The calls of a device, of which some work: then one fails, and later ones would work again.
+/// The calls of a device. After the last one that works, one fails, and later ones would work
+/// again.
 #[derive(Drop)]
 pub struct Calls {
-    /// How many work; `u32::MAX` once one has failed.
+    /// How many more calls work; `u32::MAX` after one has failed.
     pub left: u32,
 }
 
 impl Calls {
-    /// Whether one has failed, and none was made since.
+    /// Whether a call has failed, and no other was made since.
     pub fn has_failed(&self) -> bool
         ensures { IsTrue result ↔ self.now.left ≡ 4294967295 }
     {
         self.left == u32::MAX
     }
 
-    // Counts a call, which may be the one that fails.
+    // Counts a call, which may be the failing one.
     fn count(&mut self) -> io::Result<()> {
         if self.left == 0 {
             self.left = u32::MAX;
@@ -32,7 +33,7 @@ impl Calls {
 /// A reader that gives a text in pieces.
 #[derive(Drop)]
 pub struct Pieces<'a> {
-    /// What is still to be given.
+    /// The rest of the text.
     pub text: &'a [u8],
     /// How many octets a call gives at most.
     pub most: usize,
@@ -41,7 +42,7 @@ pub struct Pieces<'a> {
 }
 
 impl<'a> Pieces<'a> {
-    /// A reader of which so many calls work.
+    /// A reader of which `calls` calls work.
     pub fn new(text: &'a [u8], most: usize, calls: u32) -> Pieces<'a>
         ensures { result.calls.left ≡ calls }
     {
@@ -58,7 +59,7 @@ impl Read for Pieces<'_> {
     }
 }
 
-/// A writer that keeps what it is given. To be flushed is a call too.
+/// A writer that keeps its output. Flushing counts as a call.
 #[derive(Drop)]
 pub struct Kept {
     /// What was written.
@@ -70,7 +71,7 @@ pub struct Kept {
 }
 
 impl Kept {
-    /// A writer of which so many calls work.
+    /// A writer of which `calls` calls work.
     pub fn new(alloc: Global, most: usize, calls: u32) -> Kept
         ensures { result.calls.left ≡ calls }
     {

@@ -1,5 +1,5 @@
-//! What the tests of several crates share: devices of which a call fails, a set of one record, the
-//! texts of zones, and worked replies.
+//! Shared by the tests of several crates: devices whose calls fail, a set of one record, the texts
+//! of zones, and worked replies.
 #![tactic(auto)]
 
 mod devices;

@@ -3,17 +3,17 @@
 /// A question, and its reply: a header, the question again, and records.
 #[derive(Clone, Copy)]
 pub struct Reply<'a> {
-    /// What is replied.
+    /// The name of the case.
     pub name: &'a str,
     /// The question: a name, a type and a class.
     pub question: &'a [u8],
     /// The header of the reply.
     pub head: &'a [u8],
-    /// The records, most of them a piece each.
+    /// The records, mostly one in each piece.
     pub records: &'a [&'a [u8]],
 }
 
-/// The header of a query of one question.
+/// The header of a query with one question.
 pub const QUERY: &[u8] = b"\x12\x34\x00\x00\x00\x01\x00\x00\x00\x00\x00\x00";
 
 // The numbers of the zone's SOA record.
@@ -141,18 +141,18 @@ const REFUSED: &[u8] = b"\x12\x34\x80\x05\x00\x01\x00\x00\x00\x00\x00\x00";
 
 const NOT_IMPLEMENTED: &[u8] = b"\x12\x34\x80\x04\x00\x01\x00\x00\x00\x00\x00\x00";
 
-/// A question, and the header of the reply that repeats it.
+/// A question, and the header of the reply, which repeats the question.
 pub const QUESTIONS: [(&[u8], &[u8]); 6] = [
     (b"\x03www\x05other\x00\x00\x01\x00\x01", REFUSED),
     (b"\x03www\x07example\x00\x00\x01\x00\x03", REFUSED),
     (b"\x07example\x00\x00\xfc\x00\x01", NOT_IMPLEMENTED),
     (b"\x07example\x00\x00\x00\x00\x01", NOT_IMPLEMENTED),
-    // The class is judged before the type, and the type before the name.
+    // The class is checked before the type, and the type before the name.
     (b"\x05other\x00\x00\xfc\x00\x03", REFUSED),
     (b"\x05other\x00\x00\xfc\x00\x01", NOT_IMPLEMENTED),
 ];
 
-/// What is sent in pieces, and the reply: no pieces are none.
+/// A message in pieces, and its reply, which is empty if there is none.
 pub const MESSAGES: [(&[&[u8]], &[&[u8]]); 7] = [
     (
         &[

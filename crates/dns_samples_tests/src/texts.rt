@@ -25,10 +25,10 @@ ns.sub.example. 3600 IN A 192.0.2.53
 www.example. 3600 IN A 192.0.2.10
 ";
 
-/// What is reported of it, as of each zone `example.` whose serial is 1.
+/// The report on it, as on each zone `example.` with serial 1.
 pub const LOADED: &str = "zone example/IN: loaded serial 1\nOK\n";
 
-/// A file with entries over several lines, origins that change, and data of many forms.
+/// A file with entries over several lines, changing origins, and data of many forms.
 pub const MIXED: &str = "$TTL 60
 @ SOA ns h ( 1 2
  3 4 ; c

@@ -3,23 +3,23 @@ ghost use Rattle.std.specs.Prelude.{◌≡◌, None, true};
 use dns_serve::{Datagrams, Failed};
 use std::alloc::Global;
 
-/// A device over memory: one datagram, again and again, and the replies that were sent.
+/// A device in memory: it receives the same datagram again and again, and keeps the replies.
 #[derive(Drop)]
 pub struct Mailbox<'a> {
     datagram: &'a [u8],
     fails_at: u32,
     /// The replies, one after another.
     pub replies: Vec<u8>,
-    /// How many they are.
+    /// The number of replies.
     pub sends: u32,
-    /// How many calls were made.
+    /// The number of calls.
     pub calls: u32,
-    /// How many of them failed.
+    /// The number of failed calls.
     pub failures: u64,
 }
 
 impl<'a> Mailbox<'a> {
-    /// A device whose call `fails_at`, counted from 0, fails; later ones work.
+    /// A device whose call number `fails_at`, counted from 0, fails; later calls work.
     pub fn new(alloc: Global, datagram: &'a [u8], fails_at: u32) -> Mailbox<'a>
         ensures { result.failures ≡ 0 }
     {

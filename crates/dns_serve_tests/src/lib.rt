@@ -1,5 +1,6 @@
-//! The tests of `dns_serve`, through its public calls. In a crate of their own its proofs are made
-//! once, and its wrong bodies are tried meanwhile. Its device serves the tests of `dns_tools`, too.
+//! Tests of `dns_serve`, through its public functions. They are a crate of their own, so that
+//! `dns_serve` is proved only once, and its wrong bodies are tried in the meantime. The device is
+//! also used by the tests of `dns_tools`.
 #![tactic(auto)]
 
 mod devices;

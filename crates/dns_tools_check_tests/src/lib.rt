@@ -1,5 +1,4 @@
-//! The tests of what `zonecheck` does, on small files and on long ones, through the public calls of
-//! `dns_tools`.
+//! Tests of the checker, on small and on long files, through the public functions of `dns_tools`.
 #![tactic(auto)]
 
 #[cfg(test)]

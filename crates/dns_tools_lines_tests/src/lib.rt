@@ -1,5 +1,5 @@
-//! The tests of what is done with lines of digits, by `zoneserve once` and `dnsmsg`, through the
-//! public calls of `dns_tools`.
+//! Tests of `zoneserve once` and `dnsmsg`, which read lines of digits, through the public
+//! functions of `dns_tools`.
 #![tactic(auto)]
 
 #[cfg(test)]

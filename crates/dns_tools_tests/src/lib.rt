@@ -1,5 +1,5 @@
-//! The tests of `dns_tools`, through its public calls, but for those of `zonecheck` and of lines of
-//! digits, which have crates of their own: the three are proved side by side.
+//! Tests of `dns_tools`, through its public functions. The tests of `zonecheck` and of lines of
+//! digits are in crates of their own, so that the three are proved in parallel.
 #![tactic(auto)]
 
 #[cfg(test)]

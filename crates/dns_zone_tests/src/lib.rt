@@ -1,5 +1,5 @@
-//! The tests of `dns_zone`, through its public calls. In a crate of their own its proofs are made
-//! once, and its wrong bodies are tried meanwhile.
+//! Tests of `dns_zone`, through its public functions. They are a crate of their own, so that
+//! `dns_zone` is proved only once, and its wrong bodies are tried in the meantime.
 #![tactic(auto)]
 
 #[cfg(test)]

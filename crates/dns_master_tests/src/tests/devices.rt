@@ -1,4 +1,4 @@
-//! Sources that give what they have in other pieces, that fail, and that have no end.
+//! Sources that give their text in different pieces, that fail, and that never end.
 
 use super::reading::{ONE, Pieces, example};
 use dns_master::{ReadCode, ReadFault, Record, read_zone};
@@ -14,10 +14,10 @@ ns A 192.0.2.1
  TXT \"a b\" \\\"
 ";
 
-// How many octets are given at a call, one call after another.
+// How many octets each call gives, in order.
 const ANY: &[usize] = &[3, 1, 65_536, 2, 7];
 
-// A source that gives so many octets at a call, and never ends.
+// A source that gives up to `most` octets each call, and never ends.
 #[derive(Drop)]
 struct Endless {
     octet: u8,
@@ -34,7 +34,7 @@ impl Read for Endless {
     }
 }
 
-// What comes of the text in pieces, how many calls have failed, and how many were made.
+// What is read of the text in pieces, how many calls failed, and how many were made.
 fn read(
     alloc: Global,
     lengths: &[usize],
@@ -82,7 +82,7 @@ fn a_source_that_fails_at_each_call(rt: HostRuntime) -> Result<(), Fail> {
         let (read, failures, calls) = read(rt.alloc(), ONE, fails_at)?;
         assert_eq!(rt; read.err(), Some(wanted), "after {fails_at} calls");
         assert_eq!(rt; failures, 1, "after {fails_at} calls");
-        // It is not asked again, though it would work.
+        // The source is not called again, though it would work.
         assert_eq!(rt; calls, fails_at + 1);
     }
     let (read, failures, _) = read(rt.alloc(), ONE, TEXT.len() + 1)?;

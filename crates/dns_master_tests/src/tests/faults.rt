@@ -1,9 +1,10 @@
-//! Faults of tokens, by their place, and of whole entries, of which the least is reported.
+//! Faults of tokens, in order of place, and faults of whole entries, of which the lowest is
+//! reported.
 
 use super::reading::{Row, judge};
 use std::test::Fail;
 
-// `R01`: octets that are not allowed.
+// `R01`: invalid octets.
 const OCTETS: [Row<'static>; 14] = [
     (b"\x00", (1, 1)),
     (b"a\x7f", (1, 1)),
@@ -40,7 +41,7 @@ const ESCAPES: [Row<'static>; 15] = [
     (b"\"a\\", (2, 1)),
 ];
 
-// `R03`: strings that are not ended.
+// `R03`: strings that do not end.
 const STRINGS: [Row<'static>; 6] = [
     (b"\"", (3, 1)),
     (b"\"a\nb\"", (3, 1)),
@@ -50,7 +51,7 @@ const STRINGS: [Row<'static>; 6] = [
     (b"(\"", (3, 1)),
 ];
 
-// `R04`: parentheses that are not ended, or not begun.
+// `R04`: parentheses that do not end, or do not begin.
 const PARENTHESES: [Row<'static>; 10] = [
     (b"(", (4, 1)),
     (b")", (4, 1)),
@@ -64,7 +65,7 @@ const PARENTHESES: [Row<'static>; 10] = [
     (b"(;(\n)()\n", (0, 0)),
 ];
 
-// The first of several faults, by its place.
+// The first of several faults, by place.
 const PLACES: [Row<'static>; 16] = [
     (b"\x00 \\256", (1, 1)),
     (b"\\256 \x00", (2, 1)),
@@ -215,7 +216,7 @@ const TYPES: [Row<'static>; 41] = [
     (b"a 1 TYPE65535 \\# 0", (0, 0)),
 ];
 
-// `R12`: TTLs that are not known.
+// `R12`: missing TTLs.
 const NO_TTLS: [Row<'static>; 6] = [
     (b"a A 192.0.2.1", (12, 1)),
     (b"a IN A 192.0.2.1", (12, 1)),

@@ -1,4 +1,4 @@
-//! Files that are written to do harm.
+//! Hostile files.
 
 use super::reading::{fault, repeated};
 use dns_master::read_zone;
@@ -6,7 +6,7 @@ use dns_name::{Name, Tally};
 use std::alloc::Global;
 use std::test::Fail;
 
-// A beginning, and what is repeated after it so often; then the fault.
+// A beginning, a text and how often it is repeated, and the fault.
 type Hostile<'a> = (&'a [u8], &'a [u8], usize, (u8, u32));
 
 const FILES: [Hostile<'static>; 29] = [
@@ -52,7 +52,7 @@ fn files_that_are_written_to_do_harm(rt: HostRuntime) -> Result<(), Fail> {
     Ok(())
 }
 
-// `example.` has 9 octets, each label two more; a name has 255 at most.
+// `example.` has 9 octets, and each label has two more; a name has at most 255.
 #[test]
 fn an_origin_that_grows(rt: HostRuntime) -> Result<(), Fail> {
     let text = repeated(rt.alloc(), b"$ORIGIN a\n", 100_000)?;
@@ -62,7 +62,7 @@ fn an_origin_that_grows(rt: HostRuntime) -> Result<(), Fail> {
     Ok(())
 }
 
-// The fault of a record at an owner of so many labels, below the root.
+// The fault of a record whose owner has `count` labels below the root.
 fn fault_of_labels(alloc: Global, count: usize) -> Result<(u8, u32), Fail> {
     let mut text = repeated(alloc, b"a.", count)?;
     text.extend_from_slice(b" 60 A 192.0.2.1")?;

@@ -1,4 +1,4 @@
-//! Faults of long files: `R14` and `R15`, and what is reported before them.
+//! Faults of long files: `R14` and `R15`, and faults that take precedence over them.
 
 use super::reading::{Row, fault, repeated};
 use std::alloc::{AllocError, Global};
@@ -8,7 +8,7 @@ const MOST_OCTETS: usize = 16_777_216;
 
 const RECORD: &[u8] = b"a A 192.0.2.1\n";
 
-// The last octets up to the limit, on the second line; then those after it, and the fault.
+// The last octets up to the limit, on the second line; the octets after it; and the fault.
 type Limit<'a> = (&'a [u8], &'a [u8], (u8, u32));
 
 const LIMITS: [Limit<'static>; 33] = [
@@ -47,8 +47,7 @@ const LIMITS: [Limit<'static>; 33] = [
     (b"a 1 A 192.0.2.1", b"0", (15, 2)),
 ];
 
-// A text whose first line is a comment, and that has just as many octets as are allowed up to the
-// end of `within`.
+// A text whose first line is a comment, and in which the limit is exactly at the end of `within`.
 fn fill(text: &mut Vec<u8>, within: &[u8], beyond: &[u8]) -> Result<(), AllocError> {
     text.truncate(MOST_OCTETS - 100);
     text.resize((MOST_OCTETS - 1).saturating_sub(within.len()), b';')?;
@@ -85,7 +84,7 @@ fn a_comment_as_long_as_a_file(rt: HostRuntime) -> Result<(), Fail> {
     Ok(())
 }
 
-// `$TTL` and 100,000 records, and a last line.
+// `$TTL`, 100,000 records, and a last line.
 fn records_and(alloc: Global, last: &[u8]) -> Result<(u8, u32), Fail> {
     let mut text = repeated(alloc, b"$TTL 60\n", 1)?;
     text.extend_from_slice(repeated(alloc, RECORD, 100_000)?.as_slice())?;

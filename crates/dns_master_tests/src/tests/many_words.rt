@@ -1,4 +1,4 @@
-//! Entries of many words, of which the reader keeps only the first ones.
+//! Entries of many words, of which the reader keeps only the first.
 
 use super::reading::{ONE, by, fault, judge, read, repeated};
 use std::alloc::{AllocError, Global};
@@ -7,15 +7,15 @@ use std::test::Fail;
 
 const PIECE: usize = 4_096;
 
-// What stands between words, inside parentheses.
+// Separators of words inside parentheses.
 const BETWEEN: [&[u8]; 4] = [b" ", b"\t \n", b" ; c ( \" \\\n ", b"\r\n"];
 
-// What is between the words of this number and the next one.
+// The separator after the word with this number.
 fn between(number: usize) -> &'static [u8] {
     BETWEEN[number % 4]
 }
 
-// A TXT record of so many strings, all of three octets and each another, and its data.
+// A TXT record of `count` different strings of three octets each, and its data.
 fn strings(alloc: Global, count: usize) -> Result<(Vec<u8>, Vec<u8>), AllocError> {
     let mut text = repeated(alloc, b"a 1 TXT (", 1)?;
     let mut data = Vec::new(alloc);
@@ -33,7 +33,7 @@ fn strings(alloc: Global, count: usize) -> Result<(Vec<u8>, Vec<u8>), AllocError
     Ok((text, data))
 }
 
-// A record of an unknown type of 300 octets, a word each, and its data.
+// A record of an unknown type with 300 octets of data, each a word of its own, and the data.
 fn hex_words(alloc: Global) -> Result<(Vec<u8>, Vec<u8>), AllocError> {
     let mut text = repeated(alloc, b"a 1 TYPE65280 ( \\# 300", 1)?;
     let mut data = Vec::new(alloc);
@@ -55,7 +55,7 @@ fn last_hex_digit(number: usize) -> u8 {
     b"0123456789abcdef"[number % 16]
 }
 
-// A file that is one record has these data.
+// Checks that a file is one record with this data.
 fn compare<R: Abort + AllocGlobal>(rt: &R, text: &[u8], data: &[u8]) -> Result<(), Fail> {
     for lengths in [&[usize::MAX], ONE] {
         let records = read(rt.alloc(), by(text, lengths))??;

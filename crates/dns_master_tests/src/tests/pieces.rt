@@ -1,5 +1,5 @@
-//! Files that are read in pieces of 4,096 octets: an entry that crosses the end of a piece, and no
-//! more taken of a source than decides its fault.
+//! Files that are read in pieces of 4,096 octets: entries that cross the end of a piece, and how
+//! little of a source is read once its fault is decided.
 
 use super::reading::{Pieces, Row, by, example, fault, read, repeated};
 use super::records::{MIXED_MEANS, judge_all};
@@ -11,7 +11,7 @@ use std::test::Fail;
 
 const PIECE: usize = 4_096;
 
-// Beginnings of files that have a fault, whatever comes after them.
+// Beginnings of files that have a fault, whatever follows.
 const DECIDED: [Row<'static>; 9] = [
     (b"$INCLUDE x\n", (5, 1)),
     (b"a 1 A 192.0.2.1\n\x00", (1, 2)),
@@ -24,7 +24,7 @@ const DECIDED: [Row<'static>; 9] = [
     (b"a 1 A (\n192.0.2.256 )\n", (13, 1)),
 ];
 
-// A comment line of so many octets, and a text after it.
+// A comment line of `length` octets, and a text after it.
 fn after_comment(alloc: Global, length: usize, text: &[u8]) -> Result<Vec<u8>, AllocError> {
     let mut all = repeated(alloc, b";", length.saturating_sub(1))?;
     all.push(b'\n')?;
@@ -32,7 +32,7 @@ fn after_comment(alloc: Global, length: usize, text: &[u8]) -> Result<Vec<u8>, A
     Ok(all)
 }
 
-// The fault of a text whose source fails at its end, and how many octets were taken.
+// The fault of a text whose source fails at its end, and how many octets were read.
 fn taken(alloc: Global, text: &[u8]) -> Result<((u8, u32), usize), Fail> {
     let origin = example()?;
     let mut source = Tally::new(Pieces {
@@ -57,7 +57,7 @@ fn a_fault_is_reported_in_the_piece_that_decides_it(rt: HostRuntime) -> Result<(
     Ok(())
 }
 
-// The line end of the faulty entry is the last octet of a piece, or the first of the next one.
+// The line end of the faulty entry is the last octet of a piece, or the first of the next.
 #[test]
 fn a_fault_at_the_end_of_a_piece(rt: HostRuntime) -> Result<(), Fail> {
     for (length, wanted) in [
@@ -74,7 +74,7 @@ fn a_fault_at_the_end_of_a_piece(rt: HostRuntime) -> Result<(), Fail> {
     Ok(())
 }
 
-// Once it was looked at, an entry of many pieces is looked at again when twice as many octets are
+// After a failed attempt, an entry of many pieces is read again only when twice as many octets are
 // held.
 #[test]
 fn a_fault_of_an_entry_of_many_pieces(rt: HostRuntime) -> Result<(), Fail> {

@@ -1,8 +1,8 @@
 //! A plain program that computes the meaning of small texts with records of type A, and its
 //! comparison with the reader.
 //!
-//! It goes through a text octet by octet, and keeps of a word its spelling and its octets. Its
-//! names have fewer than 64 octets in a label and 256 in all, since its texts are short.
+//! It reads a text octet by octet, and keeps the spelling and the octets of each word. It does not
+//! check the lengths of labels and names, because its texts are too short to exceed them.
 
 mod judge;
 mod sweep;

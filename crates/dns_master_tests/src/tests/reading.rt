@@ -1,4 +1,4 @@
-//! What the tests of the reader share.
+//! Helpers for the tests of the reader.
 
 use dns_master::{ReadFault, Record, read_zone};
 use dns_name::{Name, Tally};
@@ -7,18 +7,18 @@ use std::io::{self, ErrorKind, Read};
 use std::process::Abort;
 use std::test::Fail;
 
-/// A file, and its fault as code and line; 0 and 0 where it has none.
+/// A file, and its fault as code and line; 0 and 0 if it has none.
 pub(super) type Row<'a> = (&'a [u8], (u8, u32));
 
 pub(super) fn example() -> Result<Name, Fail> {
     Ok(Name::read_text(b"example.", &Name::root())?)
 }
 
-/// One octet at each call.
+/// One octet for each call.
 pub(super) const ONE: &[usize] = &[1];
 
-/// A source that gives at most so many octets of a text at a call, one call after another. The
-/// call `fails_at`, counted from 0, fails, and later ones work.
+/// A source that gives at most `lengths` octets of a text, one length for each call. Call number
+/// `fails_at`, counted from 0, fails, and later calls work.
 #[derive(Drop)]
 pub(super) struct Pieces<'a> {
     pub(super) text: &'a [u8],
@@ -40,7 +40,7 @@ impl Read for Pieces<'_> {
     }
 }
 
-/// A source that gives so many octets of a text at a call, and never fails.
+/// A source that gives a text in pieces of these lengths, and never fails.
 pub(super) fn by<'a>(text: &'a [u8], lengths: &'a [usize]) -> Pieces<'a> {
     Pieces {
         text,
@@ -50,7 +50,7 @@ pub(super) fn by<'a>(text: &'a [u8], lengths: &'a [usize]) -> Pieces<'a> {
     }
 }
 
-/// The records of what a source gives, or their fault.
+/// The records of a source, or its fault.
 pub(super) fn read<R: Read + Drop>(
     alloc: Global,
     source: R,
@@ -60,7 +60,7 @@ pub(super) fn read<R: Read + Drop>(
     Ok(read_zone(alloc, &origin, &mut source))
 }
 
-/// The fault of what a source gives, as its code and line; 0 and 0 where it has none.
+/// The fault of a source, as code and line; 0 and 0 if it has none.
 pub(super) fn fault<R: Read + Drop>(alloc: Global, source: R) -> Result<(u8, u32), Fail> {
     Ok(match read(alloc, source)? {
         Ok(_) => (0, 0),
@@ -68,7 +68,7 @@ pub(super) fn fault<R: Read + Drop>(alloc: Global, source: R) -> Result<(u8, u32
     })
 }
 
-/// Files, each with its fault, which is the same where each octet is a piece.
+/// Checks the fault of each file, also when each octet is a piece of its own.
 pub(super) fn judge<R: Abort + AllocGlobal>(rt: &R, rows: &[Row<'_>]) -> Result<(), Fail> {
     for (text, wanted) in rows {
         assert_eq!(rt; fault(rt.alloc(), *text)?, *wanted, "at {text:?}");
@@ -82,7 +82,7 @@ pub(super) fn judge<R: Abort + AllocGlobal>(rt: &R, rows: &[Row<'_>]) -> Result<
     Ok(())
 }
 
-/// A text so many times, one after another.
+/// A text repeated `times` times.
 pub(super) fn repeated(alloc: Global, text: &[u8], times: usize) -> Result<Vec<u8>, AllocError> {
     let mut all = Vec::new(alloc);
     for _ in 0..times {

@@ -1,4 +1,4 @@
-//! Records that files mean.
+//! The records of files.
 
 use super::reading::{ONE, by, read};
 use dns_master::Record;
@@ -93,7 +93,7 @@ const FILES: [Case<'static>; 16] = [
             (b"\x01a\x07example\x00", 2, 1, HOST),
         ],
     ),
-    // TTLs that are taken over.
+    // TTLs that are taken from earlier entries.
     (
         b"a 5 A 192.0.2.1\nb A 192.0.2.1\nc 6 IN A 192.0.2.1\n\
         d IN A 192.0.2.1\ne IN 7 A 192.0.2.1\n A 192.0.2.1",
@@ -129,7 +129,7 @@ const FILES: [Case<'static>; 16] = [
         b"a 2147483647 A 192.0.2.1",
         &[(b"\x01a\x07example\x00", 2_147_483_647, 1, HOST)],
     ),
-    // Words of data.
+    // The words of data.
     (
         b"v 60 TXT ( \"a)\" ; )\n\"b\" )\n",
         &[(b"\x01v\x07example\x00", 60, 16, b"\x02a)\x01b")],
@@ -180,7 +180,7 @@ fn compare<R: Abort + AllocGlobal>(rt: &R, text: &[u8], meant: &[Meant<'_>]) -> 
     Ok(())
 }
 
-/// Compares the records of a text with what is meant.
+/// Compares the records of a text with the expected ones.
 pub(super) fn judge_all<R: Abort>(
     rt: &R,
     records: &[Record],

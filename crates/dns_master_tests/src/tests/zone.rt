@@ -5,7 +5,7 @@ use dns_samples_tests::SMALL;
 use std::alloc::Global;
 use std::test::Fail;
 
-// Parentheses about words of data, and in them.
+// Parentheses around words of data, and in them.
 const PARENTHESES: [Row<'static>; 5] = [
     (b"v 60 TXT ( \"a)\" ; )\n\"b\" )\n", (0, 0)),
     (b"v 60 TXT (a) b", (0, 0)),
@@ -14,7 +14,7 @@ const PARENTHESES: [Row<'static>; 5] = [
     (b"v 60 TXT (a) (b", (4, 1)),
 ];
 
-// The small zone with a line of it replaced.
+// The small zone with one line replaced.
 fn changed(alloc: Global, place: usize, other: &str) -> Result<String, Fail> {
     let mut text = String::new(alloc);
     for (at, line) in SMALL.lines().enumerate() {

@@ -8,8 +8,8 @@ use std::io::{self, Read};
 use std::process::Abort;
 use std::test::Fail;
 
-/// What a session left: its answer, how often it said that a message begins, what was written, and
-/// how many octets were not read.
+/// The outcome of a session: its result, how often it announced that a message begins, what was
+/// written, and how many octets were not read.
 #[derive(Drop)]
 struct Left {
     answer: Result<u32, StreamFault>,
@@ -19,8 +19,8 @@ struct Left {
     failures: (u64, u64),
 }
 
-// How the devices behave: how many octets a call moves at most, and how many calls of each work
-// before one fails; and whether the peer is waited for after each message.
+// How the devices behave: how many octets a call transfers at most, how many reads and writes work
+// before one fails, and whether the next message has arrived after each message.
 #[derive(Clone, Copy)]
 struct Devices {
     most: usize,
@@ -29,8 +29,8 @@ struct Devices {
     ahead: Ahead,
 }
 
-// A source that says of each octet after those that it gave the same, and counts the messages that
-// begin.
+// A source that reports the same about the octets ahead after each call, and counts the messages
+// that begin.
 #[derive(Drop)]
 struct Telling<'a> {
     source: Pieces<'a>,
@@ -71,7 +71,7 @@ fn session(alloc: Global, input: &[u8], most: u32, devices: Devices) -> Result<L
     let failures = (source.failures(), sink.failures());
     let (telling, sink) = (source.into_inner(), sink.into_inner());
     let (source, begun) = (telling.source, telling.begun);
-    // Both would work again after their failure.
+    // Each device would work again after its failure.
     if source.calls.has_failed() != (answer == Err(StreamFault::SourceFailed)) {
         return Err(Fail::new("a source that is asked after its failure"));
     }
@@ -87,13 +87,13 @@ fn session(alloc: Global, input: &[u8], most: u32, devices: Devices) -> Result<L
     })
 }
 
-// What gets no reply: it is shorter than a header.
+// A message that gets no reply, because it is shorter than a header.
 const ABSENT: &[u8] = b"\x12\x34\x00\x00\x00\x01\x00\x00\x00\x00\x00";
 
-// The header of a reply to what is no query.
+// The header of the reply to a message that is not a query.
 const REFUSED: &[u8] = b"\x12\x34\x80\x01\x00\x00\x00\x00\x00\x00\x00\x00";
 
-// Adds a message after its length in two octets.
+// Appends a message after its length in two octets.
 fn add_frame(octets: &mut Vec<u8>, message: &[u8]) -> Result<(), Fail> {
     let Ok(length) = u16::try_from(message.len()) else {
         return Err(Fail::new("a long message"));
@@ -103,8 +103,9 @@ fn add_frame(octets: &mut Vec<u8>, message: &[u8]) -> Result<(), Fail> {
     Ok(())
 }
 
-// Messages in their frames, a letter for each: `w` the question, `W` its reply, `a` what gets no
-// reply, `e` no octets, `l` the question with zeros up to 600 octets, `R` the reply to that.
+// Messages in their frames, one for each letter: `w` the query, `W` its reply, `a` a message
+// without a reply, `e` no octets, `l` the query with zeros up to 600 octets, `R` the reply to
+// that.
 fn frames(alloc: Global, letters: &str) -> Result<Vec<u8>, Fail> {
     let mut long = Vec::new(alloc);
     long.extend_from_slice(WWW)?;
@@ -126,7 +127,7 @@ fn frames(alloc: Global, letters: &str) -> Result<Vec<u8>, Fail> {
 #[test]
 fn messages_and_their_replies(rt: HostRuntime) -> Result<(), Fail> {
     let alloc = rt.alloc();
-    // The messages, how many are asked for, those that are read, and the replies.
+    // The messages, how many to serve, which are read, and the replies.
     let rows = [
         ("waw", 9, "waw", "WW"),
         ("ww", 1, "w", "W"),
@@ -149,7 +150,7 @@ fn messages_and_their_replies(rt: HostRuntime) -> Result<(), Fail> {
             assert!(rt; left.written == wanted, "of {messages}");
             assert_eq!(rt; left.unread, unread, "of {messages}");
             assert_eq!(rt; left.failures, (0, 0));
-            // The end of the source is found where a message would begin.
+            // The end of the source is found at the beginning of a message.
             assert_eq!(rt; left.begun, read.len().saturating_add(1).min(most as usize));
         }
     }
@@ -197,8 +198,8 @@ fn streams_that_are_cut(rt: HostRuntime) -> Result<(), Fail> {
     Ok(())
 }
 
-// How many octets of three messages are read, and of their replies written, where a device fails;
-// `None` where its calls are enough.
+// How many octets of three messages were read, and how many octets of their replies were written,
+// before a device failed; `None` if no call failed.
 fn cut_short<R: Abort + AllocGlobal>(
     rt: &R,
     devices: Devices,
@@ -250,8 +251,8 @@ fn each_read_and_each_write_fails_in_turn(rt: HostRuntime) -> Result<(), Fail> {
 
 #[test]
 fn each_send_fails_in_turn(rt: HostRuntime) -> Result<(), Fail> {
-    // What was read and what was written: replies are sent after each message, also after the one
-    // that gets no reply.
+    // How many octets were read and written: replies are sent after each message, even after the
+    // one without a reply.
     let rows = [
         (0, 31, 0),
         (1, 31, 47),
@@ -274,7 +275,7 @@ fn each_send_fails_in_turn(rt: HostRuntime) -> Result<(), Fail> {
 #[test]
 fn the_reply_to_the_last_message_asked_for_is_sent(rt: HostRuntime) -> Result<(), Fail> {
     let input = frames(rt.alloc(), "ww")?;
-    // The second call of the sink, which is to send what it keeps, fails.
+    // The sink's second call fails, which sends the buffered replies.
     let devices = Devices {
         writes: 1,
         ..ALL_WORK
@@ -295,7 +296,7 @@ fn a_sink_that_takes_nothing_fails(rt: HostRuntime) -> Result<(), Fail> {
     assert_eq!(rt; answer, Err(StreamFault::SinkFailed));
     assert_eq!(rt; sink.failures(), 1);
     assert_eq!(rt; sink.into_inner().calls.left, 8);
-    // The first message was read, after its length.
+    // The first message was read, with its length.
     assert_eq!(rt; input.len().saturating_sub(source.into_inner().len()), 31);
     Ok(())
 }

@@ -5,7 +5,7 @@ use dns_zone::{BuildFault, Zone};
 use std::alloc::Global;
 use std::test::Fail;
 
-/// A zone of the origin `example.`.
+/// A zone `example.`.
 pub(super) fn sample(alloc: Global) -> Result<Zone, Fail> {
     let origin = Name::read_text(b"example", &Name::root())?;
     let records = match read_zone(alloc, &origin, &mut Tally::new(SMALL.as_bytes())) {
@@ -19,7 +19,7 @@ pub(super) fn sample(alloc: Global) -> Result<Zone, Fail> {
     }
 }
 
-/// The question `www.example. IN A`, of 29 octets.
+/// The query `www.example. IN A`, of 29 octets.
 pub(super) const WWW: &[u8] =
     b"\x12\x34\x00\x00\x00\x01\x00\x00\x00\x00\x00\x00\x03www\x07example\x00\x00\x01\x00\x01";
 

@@ -28,7 +28,8 @@ pub(super) fn example() -> Result<Name, Fail> {
     Ok(Name::read_text(b"example", &Name::root())?)
 }
 
-// What a check of a text answers, and what it writes, by devices that move so many octets a call.
+// The result and the output of checking a text, by devices that transfer at most `most` octets a
+// call.
 fn checked(alloc: Global, text: &[u8], flags: Flags, most: usize) -> Result<(bool, Vec<u8>), Fail> {
     let mut source = Tally::new(Pieces::new(text, most, 100_000));
     let mut sink = Tally::new(Kept::new(alloc, most, 100_000));
@@ -36,7 +37,7 @@ fn checked(alloc: Global, text: &[u8], flags: Flags, most: usize) -> Result<(boo
     Ok((passes, sink.into_inner().text))
 }
 
-// The sample with a line of it replaced, or with lines after it where `line` is past its end.
+// The sample with one line replaced, or with lines appended if `line` is past its end.
 fn changed(alloc: Global, line: usize, others: &str) -> Result<String, Fail> {
     let mut text = String::new(alloc);
     for (place, old) in SMALL.lines().enumerate() {
@@ -158,7 +159,7 @@ fn a_file_as_people_write_it_is_printed(rt: HostRuntime) -> Result<(), Fail> {
     assert!(rt; passes);
     assert_eq!(rt; output.as_slice(), MIXED_PRINTED.as_bytes());
 
-    // What was printed is read back as the same zone.
+    // The printed text is read back as the same zone.
     let (_, again) = checked(rt.alloc(), output.as_slice(), PRINT, 4096)?;
     assert_eq!(rt; again.as_slice(), MIXED_PRINTED.as_bytes());
     Ok(())

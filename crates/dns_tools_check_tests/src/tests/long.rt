@@ -11,10 +11,10 @@ use std::test::Fail;
 
 const MOST_OCTETS: usize = 16_777_216;
 
-// A TTL line and three records: what a zone has at least.
+// A TTL line and the three records that a zone needs at least.
 const LEAST: &str = "$TTL 60\n@ SOA ns h 1 2 3 4 5\n@ NS ns\nns A 192.0.2.1\n";
 
-// What a check of a text answers, and what it writes to a sink that takes 1,000 octets a call.
+// The result and the output of checking a text, with a sink that takes 1,000 octets a call.
 fn checked(
     alloc: Global,
     origin: &Name,
@@ -27,7 +27,7 @@ fn checked(
     Ok((outcome, sink.into_inner().text))
 }
 
-// Compares the report of a text with the one that is wanted.
+// Compares the report on a text with the expected one.
 fn judge<R: Abort + AllocGlobal>(
     rt: &R,
     origin: &Name,
@@ -112,8 +112,8 @@ fn owners_of_127_labels(rt: HostRuntime) -> Result<(), Fail> {
     judge(&rt, &origin, text.as_str(), "line 1005: R07\n")
 }
 
-// A file of so many records, each a wildcard's name server without address, and its report: two
-// lines a record, and two of the origin, which has no record.
+// A file of `records` records, each at a wildcard and with a name server without an address, and
+// its report: two lines for each record, and two for the origin, which has no record.
 fn faulty_zone(alloc: Global, records: u32) -> Result<(String, String), Fail> {
     let mut text = String::from_str(alloc, "$TTL 60\n")?;
     let mut report = String::from_str(alloc, "example. Z01\nexample. Z04\n")?;

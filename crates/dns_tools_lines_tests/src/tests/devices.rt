@@ -3,11 +3,11 @@ use dns_samples_tests::{Kept, Pieces};
 use dns_tools::Stop;
 use std::test::Fail;
 
-/// What a run wrote, and what it answered.
+/// The output and the result of a run.
 pub(super) type Ran = (Vec<u8>, Result<bool, Stop>);
 
-/// What a run wrote, and what it answered: a device that failed is the one of which it says so, and
-/// was not used again, though it would work.
+/// The output and the result of a run. Checks that if a device failed, the result says so, and the
+/// device was not used again, though it would work.
 pub(super) fn finished(
     source: Tally<Pieces<'_>>,
     sink: Tally<Kept>,

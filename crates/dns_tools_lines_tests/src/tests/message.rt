@@ -5,7 +5,7 @@ use dns_tools::{Stop, run_message};
 use std::alloc::Global;
 use std::test::Fail;
 
-// What is printed of an input in pieces, by devices of which a number of calls work.
+// The output and the result for an input in pieces, with numbers of calls that work.
 fn run(alloc: Global, input: &[u8], most: usize, reads: u32, writes: u32) -> Result<Ran, Fail> {
     let mut source = Tally::new(Pieces::new(input, most, reads));
     let mut sink = Tally::new(Kept::new(alloc, most, writes));
@@ -13,7 +13,7 @@ fn run(alloc: Global, input: &[u8], most: usize, reads: u32, writes: u32) -> Res
     finished(source, sink, outcome)
 }
 
-// The header and the question of an answer.
+// The header and the question of a reply.
 const QUESTION: &str = "12348400000100010000000003777777076578616d706c650000010001";
 
 const ANSWER: &str =
@@ -33,7 +33,7 @@ fn the_longest_line(rt: HostRuntime) -> Result<(), Fail> {
     Ok(())
 }
 
-// A message in two pieces, and what is printed of it.
+// Messages, each in two pieces, and what is printed for them.
 #[test]
 fn messages_and_faults(rt: HostRuntime) -> Result<(), Fail> {
     let rows: [(&str, [&str; 2], &str); 13] = [

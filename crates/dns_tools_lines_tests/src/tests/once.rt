@@ -16,8 +16,8 @@ fn sample(alloc: Global) -> Result<Zone, Fail> {
     }
 }
 
-// What a run over the sample zone, over UDP, writes and answers, for an input in pieces and a
-// number of calls that work.
+// The output and the result of a run over UDP with the sample zone, for an input in pieces and
+// numbers of calls that work.
 fn run(alloc: Global, input: &[u8], most: usize, reads: u32, writes: u32) -> Result<Ran, Fail> {
     run_over(alloc, &sample(alloc)?, (input, most), (reads, writes))
 }
@@ -36,7 +36,7 @@ fn run_over(
 
 const WWW: &str = "12340000000100000000000003777777076578616d706c650000010001";
 
-// The same in capital digits.
+// The same in uppercase digits.
 const WWW_IN_CAPITALS: &str = "12340000000100000000000003777777076578616D706C650000010001\n";
 
 const WWW_REPLY: &str =
@@ -59,7 +59,7 @@ fn check_tcp(rt: &impl Abort, alloc: Global, zone: &Zone) -> Result<(), Fail> {
     Ok(())
 }
 
-// The digits of octets in pieces, and of others, and the line end.
+// The digits of octets in two lists of pieces, and the line end.
 fn line_of(alloc: Global, pieces: &[&[u8]], others: &[&[u8]]) -> Result<String, Fail> {
     let mut line = String::new(alloc);
     for piece in pieces.iter().chain(others.iter()) {
@@ -71,7 +71,7 @@ fn line_of(alloc: Global, pieces: &[&[u8]], others: &[&[u8]]) -> Result<String, 
     Ok(line)
 }
 
-// Compares the line that answers a line with the one that is wanted.
+// Compares the answer to a line with the expected one.
 fn judge<R: Abort + AllocGlobal>(rt: &R, line: &str, wanted: &str) -> Result<(), Fail> {
     let (output, outcome) = run(rt.alloc(), line.as_bytes(), 1000, 1000, 1000)?;
     assert_eq!(rt; output.as_slice(), wanted.as_bytes(), "to {line}");

@@ -2,7 +2,7 @@ use dns_tools::{Stop, finish};
 use std::io::{self, BufWriter, ErrorKind, Write};
 use std::test::Fail;
 
-/// A device that fails at each call, and counts them.
+/// A device that fails at each call, and counts the calls.
 #[derive(Drop)]
 struct Counting<'a> {
     calls: &'a mut u32,

@@ -17,8 +17,8 @@ pub(super) fn sample(alloc: Global) -> Result<Zone, Fail> {
     }
 }
 
-// The serial of a text's zone, or why it gives none: no refusal where it can't be read. The text
-// comes in pieces, and is followed by a failure where the calls are used up.
+// The serial of a text's zone, or its refusal, or none if the text can't be read. The text comes
+// in pieces, and once `calls_left` calls have worked one fails.
 fn outcome(
     alloc: Global,
     text: &[u8],
@@ -41,7 +41,7 @@ fn report(alloc: Global, refusal: &Refusal) -> Result<Vec<u8>, Fail> {
     Ok(sink.into_inner().text)
 }
 
-// The serial of a text's zone, or the report of why it gives none: an empty one where it can't be
+// The serial of a text's zone, or the report of its refusal, which is empty if the text can't be
 // read.
 fn loaded(
     alloc: Global,

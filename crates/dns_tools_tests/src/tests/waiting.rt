@@ -24,7 +24,7 @@ impl Clock for Pauses {
     }
 }
 
-/// A device whose first two calls are put off. It fails at the fourth.
+/// A device whose first two calls would block. The fourth fails.
 #[derive(Drop)]
 struct PutOff {
     calls: u32,

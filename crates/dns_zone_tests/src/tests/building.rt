@@ -55,7 +55,7 @@ fn faults_are_reported(rt: HostRuntime) -> Result<(), Fail> {
             ],
         ),
         (b"", &[(b"\x07example\x00", 1), (b"\x07example\x00", 4)]),
-        // A record that differs in its TTL alone is another.
+        // A record that differs only in its TTL is another record.
         (&other_ttl, &[(b"\x03www\x07example\x00", 8)]),
     ];
     for (text, wanted) in rows {

@@ -9,7 +9,7 @@ use std::alloc::Global;
 use std::io::Write;
 use std::test::Fail;
 
-// The names of RFC 4034 6.1, turned about, and records of one name that differ in type and in data.
+// The names of RFC 4034 6.1 in reverse, and records of one name that differ in type and in data.
 const TURNED: &[u8] = b"$TTL 60
 \\200.z TXT \"\"
 *.z TXT \"\"
@@ -53,7 +53,7 @@ const SHORT_PRINTED: &[u8] = b". 1 IN SOA ns. . 1 2 3 4 5
 ns. 1 IN A 192.0.2.1
 ";
 
-// What comes of printing the zone of a file; `None` where there is none.
+// The result of printing the zone of a file; `None` if it has no zone.
 fn printed<W: Write>(
     alloc: Global,
     origin: &[u8],

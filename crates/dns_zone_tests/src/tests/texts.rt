@@ -1,4 +1,4 @@
-//! What the tests share: files of zones, and the zones of files.
+//! Helpers for the tests: zone files, and the zones that they make.
 
 use dns_master::read_zone;
 use dns_name::{Name, Tally};
@@ -7,7 +7,7 @@ use dns_zone::{BuildFault, Zone};
 use std::alloc::Global;
 use std::test::Fail;
 
-/// The file of the small zone, and lines after it.
+/// The file of the small zone, with lines appended.
 pub(super) fn file_with(alloc: Global, others: &[u8]) -> Result<Vec<u8>, Fail> {
     let mut text = Vec::new(alloc);
     text.extend_from_slice(SMALL.as_bytes())?;
@@ -15,7 +15,8 @@ pub(super) fn file_with(alloc: Global, others: &[u8]) -> Result<Vec<u8>, Fail> {
     Ok(text)
 }
 
-/// What is built of a file that can be read and has few records; `None` of one with too many.
+/// What is built from a file without faults of its own and with few records; `None` if it has too
+/// many.
 pub(super) fn built(
     alloc: Global,
     origin: &[u8],
@@ -37,7 +38,7 @@ pub(super) fn zone_of(alloc: Global, origin: &[u8], text: &[u8]) -> Result<Zone,
     }
 }
 
-/// The small zone, with lines after it.
+/// The small zone, with lines appended.
 pub(super) fn zone_with(alloc: Global, others: &[u8]) -> Result<Zone, Fail> {
     zone_of(alloc, b"example.", file_with(alloc, others)?.as_slice())
 }

@@ -9,8 +9,8 @@ use std::alloc::Global;
 use std::process::Abort;
 use std::test::Fail;
 
-// Labels, the nearest to the origin first; how many of them are found; the lowest type at the last
-// name found, or 0 where it owns nothing.
+// Labels, the closest to the origin first; how many of them are found; and the lowest type at the
+// last name found, or 0 if it owns nothing.
 type Walked<'a> = (&'a [&'a [u8]], usize, u16);
 
 #[test]
@@ -37,7 +37,7 @@ fn names_are_found_label_by_label(rt: HostRuntime) -> Result<(), Fail> {
         (&[b"www"], 1, 1),
         // Labels are compared without regard to case.
         (&[b"SUB", b"Ns"], 2, 1),
-        // Names that own nothing exist where a name below them owns something.
+        // A name that owns nothing exists if a name below it owns something.
         (&[b"ent"], 1, 0),
         (&[b"ent", b"b"], 2, 0),
         (&[b"ent", b"b", b"a"], 3, 1),
@@ -114,7 +114,7 @@ fn a_name_has_at_most_100_000_children(rt: HostRuntime) -> Result<(), Fail> {
     check_walks(&rt, &zone, &rows)
 }
 
-// A file of 100,000 records, of which 99,997 are at names of their own.
+// A file of 100,000 records, of which 99,997 have owners of their own.
 fn file_of_children(alloc: Global) -> Result<Vec<u8>, Fail> {
     let mut text = Vec::new(alloc);
     text.extend_from_slice(
@@ -128,7 +128,7 @@ fn file_of_children(alloc: Global) -> Result<Vec<u8>, Fail> {
     Ok(text)
 }
 
-// Walks down from the origin, as far as there are names.
+// Walks down from the origin as far as names exist.
 fn walked<'z>(steps: &mut Steps<'z>, labels: &[&[u8]]) -> Result<(usize, Node<'z>), Fail> {
     if steps.visits() > 1_000_000 {
         return Err(Fail::new("many visits"));
@@ -149,7 +149,7 @@ fn walked<'z>(steps: &mut Steps<'z>, labels: &[&[u8]]) -> Result<(usize, Node<'z
     Ok((found, node))
 }
 
-// The lowest type at a name, 0 where it owns nothing.
+// The lowest type at a name, or 0 if it owns nothing.
 fn lowest_type(node: &Node<'_>) -> u16 {
     match node.first_set() {
         Some(set) => set.rtype().0,
@@ -157,7 +157,7 @@ fn lowest_type(node: &Node<'_>) -> u16 {
     }
 }
 
-// Whether the set of a type has this data, and none where the data is none.
+// Whether the RRset of a type has this data; for empty data, whether there is no RRset.
 fn has_data(node: &Node<'_>, rtype: RType, wanted: &[&[u8]]) -> bool {
     let Some(set) = node.set(rtype) else {
         return wanted.is_empty();
@@ -182,7 +182,7 @@ fn the_way_to_a_target_begins_at_the_last_name_on_it(rt: HostRuntime) -> Result<
     Ok(())
 }
 
-// Whether the way to the target of the MX record at `i` of the name m begins at the name.
+// Whether the way to the target of MX record `i` of the name `m` begins at `name`.
 fn leads_to(zone: &Zone, i: usize, name: &[u8]) -> Result<bool, Fail> {
     let mut steps = Steps::new(zone);
     let (count, node) = walked(&mut steps, &[b"m"])?;

@@ -1,4 +1,4 @@
-//! What the words of an entry say.
+//! The meaning of the words of an entry.
 
 use super::tokens::{PlainWord, Stop};
 use std::alloc::{AllocError, Global};
@@ -11,7 +11,7 @@ pub(super) struct Meant {
     pub address: [u8; 4],
 }
 
-/// What the entries so far say.
+/// What is known from the entries so far.
 #[derive(Drop)]
 pub(super) struct Known {
     alloc: Global,
@@ -22,7 +22,7 @@ pub(super) struct Known {
     pub records: Vec<Meant>,
 }
 
-// What stands between the owner and the data of a record.
+// The fields between the owner and the data of a record.
 #[derive(Drop)]
 struct Middle<'a> {
     ttl: Option<&'a PlainWord>,
@@ -45,7 +45,7 @@ impl Known {
         })
     }
 
-    /// Takes the words of an entry. Within: its least code.
+    /// Takes the words of an entry. The inner error is its lowest code.
     pub(super) fn judge(
         &mut self,
         blank: bool,
@@ -161,7 +161,7 @@ impl Known {
     }
 }
 
-// Puts a label after its length; false where it is empty.
+// Appends a label after its length; false if the label is empty.
 fn end_label(octets: &mut Vec<u8>, label: &mut Vec<u8>) -> Result<bool, Stop> {
     octets.push(u8::try_from(label.len()).unwrap_or(0))?;
     octets.extend_from_slice(label.as_slice())?;
@@ -197,7 +197,7 @@ impl<'a> Middle<'a> {
     }
 }
 
-// An unquoted word that is spelled so, in letters of either case.
+// Whether a word is unquoted and spelled like this, in either case.
 fn is(word: &PlainWord, text: &[u8]) -> bool {
     !word.quoted && word.raw.as_slice().eq_ignore_ascii_case(text)
 }
@@ -216,7 +216,7 @@ fn is_class(word: &PlainWord) -> bool {
         || (!word.quoted && begins_class)
 }
 
-// A decimal number up to a greatest one, without zeros in front.
+// A decimal number of at most `most`, without leading zeros.
 fn decimal(text: &[u8], most: u32) -> Option<u32> {
     if text.is_empty() || (text.len() > 1 && text.first() == Some(&b'0')) {
         return None;
@@ -239,7 +239,7 @@ fn number(word: &PlainWord, most: u32) -> Option<u32> {
     decimal(word.raw.as_slice(), most)
 }
 
-// The address that the words of data say: there is one, with four numbers.
+// The address in words of data: a single word with four numbers.
 fn address(words: &[PlainWord]) -> Option<[u8; 4]> {
     let [word] = words else {
         return None;

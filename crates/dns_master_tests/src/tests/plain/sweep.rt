@@ -9,12 +9,12 @@ use std::alloc::{AllocError, Global};
 use std::process::Abort;
 use std::test::Fail;
 
-// Single octets: what tokens begin and end with.
+// Single octets, with which tokens begin and end.
 const OCTETS: [&[u8]; 10] = [
     b" ", b"\n", b"(", b")", b"\"", b";", b"\\", b"1", b"a", b"\r",
 ];
 
-// What entries are made of.
+// Parts of entries.
 const ENTRIES: [&[u8]; 10] = [
     b" ",
     b"\n",
@@ -28,7 +28,7 @@ const ENTRIES: [&[u8]; 10] = [
     b"(",
 ];
 
-// What lines are made of.
+// Parts of files, mostly whole lines.
 const LINES: [&[u8]; 10] = [
     b"a 1 A 192.0.2.1\n",
     b"b A 192.0.2.1 ; x\n",
@@ -42,7 +42,7 @@ const LINES: [&[u8]; 10] = [
     b"\n",
 ];
 
-// The text that a number means, whose decimal digits are so many pieces.
+// The text of `count` pieces that the decimal digits of a number select.
 fn text_of(
     alloc: Global,
     pieces: &[&[u8]; 10],
@@ -65,7 +65,7 @@ fn is_same(record: &Record, meant: &Meant) -> bool {
         && record.rdata.octets() == meant.address.as_slice()
 }
 
-// Whether the reader gave what is meant.
+// Whether the reader's result is the expected one.
 fn agrees(read: &Result<Vec<Record>, ReadFault>, meant: &Result<Vec<Meant>, Stop>) -> bool {
     match (read, meant) {
         (Ok(records), Ok(meant)) => {
@@ -79,7 +79,7 @@ fn agrees(read: &Result<Vec<Record>, ReadFault>, meant: &Result<Vec<Meant>, Stop
     }
 }
 
-// Compares the two on a text; whether it has records.
+// Compares the two on a text, and returns whether it has records.
 fn compare<R: Abort + AllocGlobal>(rt: &R, text: &[u8], origin: &Name) -> Result<bool, Fail> {
     let meant = plain_meaning(rt.alloc(), text);
     let read = read_zone(rt.alloc(), origin, &mut Tally::new(text));
@@ -87,7 +87,7 @@ fn compare<R: Abort + AllocGlobal>(rt: &R, text: &[u8], origin: &Name) -> Result
     Ok(read.is_ok_and(|records| !records.is_empty()))
 }
 
-// Compares the two on all texts of at most so many pieces, of which at least so many have records.
+// Compares the two on all texts of at most `most` pieces, of which at least `least` have records.
 fn sweep<R: Abort + AllocGlobal>(
     rt: &R,
     pieces: &[&[u8]; 10],

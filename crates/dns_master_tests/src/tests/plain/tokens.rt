@@ -1,10 +1,10 @@
-//! The tokens of a text, octet by octet, and its entries.
+//! The tokens of a text, read octet by octet, and its entries.
 
 use super::judge::{Known, Meant};
 use std::alloc::{AllocError, AllocFailed, Global};
 
-/// A word: its octets as they are spelled, and what they stand for, each with whether it was an
-/// escape.
+/// A word: its octets as they are spelled, and the octets that they stand for, each with whether
+/// it was escaped.
 #[derive(Drop)]
 pub(super) struct PlainWord {
     pub raw: Vec<u8>,
@@ -12,7 +12,7 @@ pub(super) struct PlainWord {
     pub quoted: bool,
 }
 
-/// A text means nothing: the code of the fault, and the line; or memory is wanting.
+/// Why a text has no meaning: the code of its fault, and the line; or allocation failed.
 #[derive(Debug, Drop)]
 pub(super) enum Stop {
     Fault(u8, u32),
@@ -31,7 +31,7 @@ impl From<AllocError> for Stop {
     }
 }
 
-// Where the reading stands.
+// The state of the lexer.
 #[derive(Clone, Copy, PartialEq, Eq)]
 enum Place {
     // Between tokens.
@@ -43,8 +43,8 @@ enum Place {
     Return(bool),
     // After a backslash: whether in a string.
     Backslash(bool),
-    // After one digit or two of an escape, which say this number: whether in a string, and how many
-    // are still to come.
+    // After one or two digits of an escape: whether in a string, the number that they make, and
+    // how many digits are still to come.
     Digits(bool, u32, u32),
 }
 
@@ -95,7 +95,7 @@ impl Lexer {
         })
     }
 
-    // Takes an octet. Within: the code of a fault that it ends or is.
+    // Takes an octet. The inner error is the code of a fault that the octet is or completes.
     fn take(&mut self, octet: u8) -> Result<Result<(), u8>, Stop> {
         if self.is_first {
             self.is_blank_led = octet == b' ' || octet == b'\t';
@@ -115,7 +115,7 @@ impl Lexer {
         }
     }
 
-    // Between tokens each octet begins one.
+    // Between tokens, each octet begins one.
     fn between(&mut self, octet: u8) -> Result<Result<(), u8>, Stop> {
         match octet {
             b' ' | b'\t' => {}
@@ -145,7 +145,7 @@ impl Lexer {
         }
     }
 
-    // An octet that ends no word.
+    // An octet that does not end the word.
     fn word_octet(&mut self, octet: u8) -> Result<Result<(), u8>, Stop> {
         match octet {
             b'\\' => self.backslash(false)?,
@@ -214,7 +214,7 @@ impl Lexer {
         Ok(Ok(()))
     }
 
-    // The octet of the text ends the spelling of an octet of a word.
+    // An octet of the text completes the spelling of an octet of a word.
     fn stands_for(&mut self, octet: u8, meant: u8, is_escaped: bool) -> Result<(), Stop> {
         self.raw.push(octet)?;
         self.units.push((meant, is_escaped))?;
@@ -242,7 +242,7 @@ impl Lexer {
         self.entry_end()
     }
 
-    // The entry is at its end. Its line stays where it is at fault.
+    // The end of an entry. After a fault, `line` remains the entry's.
     fn entry_end(&mut self) -> Result<Result<(), u8>, Stop> {
         if let Err(code) = self.known.judge(self.is_blank_led, self.words.as_slice())? {
             return Ok(Err(code));
@@ -255,7 +255,7 @@ impl Lexer {
         Ok(Ok(()))
     }
 
-    // The text is at its end.
+    // The end of the text.
     fn end(&mut self) -> Result<Result<(), u8>, Stop> {
         match self.place {
             Place::InString => return Ok(Err(3)),
