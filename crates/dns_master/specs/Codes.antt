@@ -1,4 +1,4 @@
--- The fault that each code stands for, and its number.
+-- The fault for each code, and the code's number.
 use Rattle.std.specs.Prelude.{◌≡◌, ◌≢◌, ℕ, ◌+◌, ◌==◌, if◌then◌else◌, Result, Ok, Err}
 use Rattle.dns_spec.specs.FileFaults.{FileFault, fault_code, bad_octet, bad_escape, unended_string, bad_parenthesis, unknown_directive, directive_words, bad_owner, no_owner, bad_ttl, other_class, bad_type, no_ttl, bad_data, too_many_records, too_long, unreadable, no_memory}
 use Rattle.dns_master.specs.declared.fault.ReadCode.{ReadCode}

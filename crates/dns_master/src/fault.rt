@@ -29,7 +29,7 @@ pub enum ReadCode {
     BadTtl,
     /// A class other than IN.
     OtherClass,
-    /// A missing type, or one that is unknown or not allowed in a zone.
+    /// A missing or invalid type, or one that zones may not have.
     BadType,
     /// No TTL is stated, and there is no earlier one.
     NoTtl,

@@ -34,7 +34,7 @@ pub const MOST_RECORDS: usize = 100_000;
 /// Reads a zone file, relative to the origin of the zone (RFC 1035 section 5).
 ///
 /// The records are in the order of the file; owners, and names in data, are in lower case. A file
-/// may have at most 100,000 records and 16,777,216 octets. At most one octet past that is read.
+/// may have at most 100,000 records and 16,777,216 octets; at most one octet more is asked for.
 ///
 /// A faulty file yields no records. The fault is the first faulty entry's: its line, and the first
 /// by place of `R01` to `R04` and `R15` in it, else its lowest code from `R05`. The code is `R16`
@@ -112,7 +112,7 @@ impl Reader {
     /// the text after it.
     ///
     /// `goes_on` is whether the text goes on past its limit; if that is unknown, more text may
-    /// follow. `None`, with nothing taken, if only more text could decide what the entry is.
+    /// follow. `None`, with nothing taken, if only more text could decide where the entry ends.
     pub(crate) fn take_entry<'a>(
         &mut self,
         text: &'a [u8],

@@ -42,7 +42,7 @@ pub struct Pieces<'a> {
 }
 
 impl<'a> Pieces<'a> {
-    /// A reader of which `calls` calls work.
+    /// A reader whose first `calls` calls work.
     pub fn new(text: &'a [u8], most: usize, calls: u32) -> Pieces<'a>
         ensures { result.calls.left ≡ calls }
     {
@@ -71,7 +71,7 @@ pub struct Kept {
 }
 
 impl Kept {
-    /// A writer of which `calls` calls work.
+    /// A writer whose first `calls` calls work.
     pub fn new(alloc: Global, most: usize, calls: u32) -> Kept
         ensures { result.calls.left ≡ calls }
     {

@@ -57,7 +57,7 @@ MessageRead old new buf (Err SourceFailed) = GivesBeginning old new
 MessageRead old new buf (Err SinkFailed) = ⊥
 MessageRead old new buf (Err Cut) = GivesPart old new
 
--- a message of `count` octets, of which the first 512 were kept
+-- a message of `count` octets; its first 512 were kept
 pub record GivesBody (old new : Option Octets) (count : ℕ) (kept : Octets) : Type 0 where
   pub message : Octets
   pub consumed : Consumes old new message

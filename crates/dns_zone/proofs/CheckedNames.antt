@@ -44,7 +44,7 @@ itself_upto n = ap is_gt (tied_itself name_order_total n)
 pub equal_upto : (n m : DomainName) → n ≡ m → is_gt (name_order n m) ≡ false
 equal_upto n m e = subst (λ k. is_gt (name_order n k) ≡ false) e (itself_upto n)
 
--- two names of which neither is after the other are equal
+-- two names are equal if neither is after the other
 pub between_both : (n m : DomainName) → Lower n → Lower m → is_gt (name_order n m) ≡ false
     → is_gt (name_order m n) ≡ false → n ≡ m
 between_both n m p q f g = grind (arith, true≢false, name_order_total, one_lower, name_tie)

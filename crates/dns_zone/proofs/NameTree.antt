@@ -66,7 +66,7 @@ below-cons l n a = go (at_or_below n a) refl
 pub label-tie : (x y : Octets) → label_order x y ≡ Equal → x ≡ y
 label-tie x y e = (octets_equal-decides x y).0 (lists_ties nat_cmp nat_ties x y ∙ ap is_eq e)
 
--- a list is not after the lists of which it is a prefix
+-- a list is not after a list that begins with it
 not_after_longer : (xs zs : List Octets) → is_gt (slice_cmp label_order xs (xs ++ zs)) ≡ false
 not_after_longer [] [] = refl
 not_after_longer [] (z ∷ zs) = refl

@@ -31,7 +31,7 @@ pub(crate) fn check(alloc: Global, said: &mut String) -> Result<(), FaultWord> {
     Ok(said.push_str(text)?)
 }
 
-// The written octets of a buffer, of which `left` octets are unused.
+// The written octets of a buffer that has `left` octets unused.
 fn written(room: &[u8], left: usize) -> &[u8] {
     room.get(..room.len().saturating_sub(left)).unwrap_or(&[])
 }

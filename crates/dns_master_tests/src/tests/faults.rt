@@ -1,4 +1,4 @@
-//! Faults of tokens, in order of place, and faults of whole entries, of which the lowest is
+//! Faults of tokens, in order of place, and faults of whole entries; the lowest of an entry is
 //! reported.
 
 use super::reading::{Row, judge};

@@ -1,4 +1,4 @@
-//! Entries of many words, of which the reader keeps only the first.
+//! Entries of many words. The reader keeps only the first ones.
 
 use super::reading::{ONE, by, fault, judge, read, repeated};
 use std::alloc::{AllocError, Global};

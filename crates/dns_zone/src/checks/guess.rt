@@ -1,4 +1,4 @@
-//! The probable place of a key among those of names in order.
+//! The probable place of a key in an ordered list of names.
 //!
 //! Deep names may share most of their octets, and a binary search by whole keys compares these at
 //! each step. This search compares each of them about once (Manber and Myers, "Suffix arrays",
@@ -93,8 +93,7 @@ pub(crate) fn probable_place(
     low.checked_sub(1)
 }
 
-/// What follows the octets with which both begin, of which the first `known` are known to be
-/// equal.
+/// What follows the common prefix of both, whose first `known` octets are known to be common.
 pub(crate) fn rests<'a>(one: &'a [u8], other: &'a [u8], known: usize) -> (&'a [u8], &'a [u8])
     ensures one { length result.0.now ≤ length one.now }
     ensures other { length result.1.now ≤ length other.now }

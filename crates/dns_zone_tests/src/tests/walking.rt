@@ -114,7 +114,7 @@ fn a_name_has_at_most_100_000_children(rt: HostRuntime) -> Result<(), Fail> {
     check_walks(&rt, &zone, &rows)
 }
 
-// A file of 100,000 records, of which 99,997 have owners of their own.
+// A file of 100,000 records; 99,997 of them have owners of their own.
 fn file_of_children(alloc: Global) -> Result<Vec<u8>, Fail> {
     let mut text = Vec::new(alloc);
     text.extend_from_slice(

@@ -87,7 +87,8 @@ fn compare<R: Abort + AllocGlobal>(rt: &R, text: &[u8], origin: &Name) -> Result
     Ok(read.is_ok_and(|records| !records.is_empty()))
 }
 
-// Compares the two on all texts of at most `most` pieces, of which at least `least` have records.
+// Compares the two on all texts of at most `most` pieces. At least `least` texts must have
+// records.
 fn sweep<R: Abort + AllocGlobal>(
     rt: &R,
     pieces: &[&[u8]; 10],

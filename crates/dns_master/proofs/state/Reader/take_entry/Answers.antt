@@ -7,7 +7,7 @@ use Rattle.dns_master.proofs.state.Reader.take_entry.Goals.{After-is_some_and-is
 use Rattle.dns_spec.proofs.Common.{MatchBool-at_true}
 
 module _ (c : After-is_some_and-is_blank_led) where
-  -- the words found are those of the entry
+  -- the words found are the entry's words
   sort : kind_of (ended c.in_ok-end.ensures.ok.tokens)
       ≡ kind_by_words c.is_some_and-is_blank_led.result
       (c.as_slice.result.now ++ later_words c.in_ok-end.end.later)
