@@ -16,8 +16,8 @@ ReaderMeans r goes_on text m =
     (o : DomainName) (earlier : List Entry) → Knows o earlier r → r.line ≡ line_after earlier
     → TextMeans o earlier goes_on text m
 
--- What may follow a text, and whether the result goes on past its limit: anything if it is unknown
--- whether the text goes on; otherwise nothing.
+-- What may follow a text, and whether the result goes on past its limit (`past`): anything if it
+-- is unknown whether the text goes on; otherwise nothing, and `past` is what is known.
 abbrev pub MayFollow : Option Bool → Octets → Bool → Type 0
 MayFollow goes_on more past = MatchOption goes_on ⊤ (λ known. (more ≡ []) × (past ≡ known))
 

@@ -1,5 +1,5 @@
-//! The entries of a zone file. An entry ends at the first line end outside parentheses (RFC 1035
-//! 5.1).
+//! The entries of a zone file. An entry ends at the first line end outside parentheses
+//! (RFC 1035 5.1).
 ghost use Rattle.std.specs.Prelude.{◌≡◌, ◌≢◌, ◌+◌, ◌≤◌, ◌++◌, [], true, false, Some, None, length, IfOk, IfErr, IfSome};
 ghost use Rattle.std.specs.Option.{option_map, unwrap_or};
 ghost use Rattle.std.specs.Bool.{MatchBool};

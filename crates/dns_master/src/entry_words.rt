@@ -1,5 +1,5 @@
-//! The words of an entry, which are its fields and quoted strings, one after another (RFC 1035
-//! 5.1).
+//! The words of an entry, which are its fields and quoted strings, one after another
+//! (RFC 1035 5.1).
 ghost use Rattle.std.specs.Prelude.{◌≡◌, ◌≤◌, ◌+◌, [], ◌∷◌, length, MatchOption};
 ghost use Rattle.dns_spec.specs.ZoneText.{word_of};
 ghost use Rattle.dns_master.specs.TokenForm.{shown_token};

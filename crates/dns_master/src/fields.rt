@@ -79,8 +79,8 @@ fn is_ttl_word(word: &Word<'_>) -> bool
     !word.quoted && word.raw.first().is_some_and(|first| first.is_ascii_digit())
 }
 
-// Whether a word is unquoted and names a class, or begins with `CLASS` as `CLASS1` does (RFC 1035
-// 3.2.4, RFC 3597 5).
+// Whether a word is unquoted and names a class, or begins with `CLASS` as `CLASS1` does
+// (RFC 1035 3.2.4, RFC 3597 5).
 #[inline(always)]
 fn is_class_word(word: &Word<'_>) -> bool
     ensures { result ≡ is_class_word word.now }
@@ -128,8 +128,8 @@ pub(crate) fn type_and_words<'a, 'w>(
     Some((read_type(&first)?, others))
 }
 
-// The type that a word names, if zones may have it: not 0, no type of questions or messages (RFC
-// 6895 3.1), no DNSSEC type and not DNAME.
+// The type that a word names, if zones may have it: not 0, no type of questions or messages
+// (RFC 6895 3.1), no DNSSEC type and not DNAME.
 fn read_type(word: &Word<'_>) -> Option<RType>
     ensures { MatchOption result (Nothing (NamedType word.now)) (λ r. NamedType word.now r.0) }
 {

@@ -20,7 +20,7 @@ Grows (Some xs) (Some ys) ds = ys ≡ xs ++ ds
 abbrev pub KeepsAll : Option (List Octets) → Option (List Octets) → Type 0
 KeepsAll old new = Grows old new []
 
--- RFC 1035 4.2.1: a datagram was received, and its first n octets, at most 512, are in the buffer;
+-- RFC 1035 4.2.1: a datagram was received, and its first 512 octets are the first n in the buffer;
 -- if the call failed, nothing was received.
 pub record IsHanded (old new : Option (List Octets)) (n : ℕ) (buf : Octets) : Type 0 where
   pub datagram : Octets

@@ -1,5 +1,5 @@
-//! A session over a stream: messages and their replies, each after its length in two octets (RFC
-//! 1035 4.2.2).
+//! A session over a stream: messages and their replies, each after its length in two octets
+//! (RFC 1035 4.2.2).
 ghost use Rattle.std.specs.Prelude.{◌≡◌, ◌+◌, ◌-◌, ◌^◌, ◌<◌, ◌≤◌, length, IfOk, IfSome};
 ghost use Rattle.dns_spec.specs.Layout.{octets16};
 ghost use Rattle.dns_spec.specs.Stream.{reply_frame};
@@ -34,9 +34,8 @@ const MOST_FRAME: usize = 65_537;
 /// Only the first 512 octets of a message are kept; the rest is read and discarded. No memory is
 /// allocated. The sink is flushed after each message.
 ///
-/// Each call first fills room for the replies, about 197,000 octets on the stack. Callers that
-/// serve many streams, or have little stack, should keep a `StreamRoom` and call
-/// `serve_stream_in`.
+/// Each call first clears its buffers, about 197,000 octets on the stack. Callers that serve many
+/// streams, or have little stack, should keep a `StreamRoom` and call `serve_stream_in`.
 pub fn serve_stream<R: Read, W: Write>(
     zone: &Zone,
     source: &mut Tally<R>,
@@ -65,9 +64,9 @@ pub enum Ahead {
     AtHand,
 }
 
-/// Room for a session: for the kept octets of a message, for its reply and length, and for the
-/// draft of the reply. It is filled once, and lent to `serve_stream_in` for one session after
-/// another.
+/// The buffers of a session: for the kept octets of a message, for its reply and length, and for
+/// the draft of the reply. `serve_stream_in` can use them for one session after another, without
+/// clearing them.
 #[derive(Drop)]
 pub struct StreamRoom {
     message: [u8; MOST_KEPT],
@@ -76,7 +75,7 @@ pub struct StreamRoom {
 }
 
 impl StreamRoom {
-    /// New room, of about 197,000 octets in the value itself.
+    /// New buffers, about 197,000 octets in the value itself.
     pub fn new() -> StreamRoom {
         StreamRoom {
             message: [0; MOST_KEPT],
@@ -86,12 +85,12 @@ impl StreamRoom {
     }
 }
 
-/// Serves a stream as `serve_stream` does, in room that is lent.
+/// Serves a stream as `serve_stream` does, in the caller's buffers.
 ///
-/// Earlier sessions in the room have no effect, and it is not cleared. After a message the sink is
-/// flushed, unless the reader of the source reports through `ahead` that the next message has
-/// arrived: so a sink that buffers replies holds none back while the session waits for more. After
-/// the last of `most` messages it is always flushed.
+/// Earlier sessions in the buffers have no effect, and they are not cleared. After a message the
+/// sink is flushed, unless the reader of the source reports through `ahead` that the next message
+/// has arrived: so a sink that buffers replies holds none back while the session waits for more.
+/// After the last of `most` messages it is always flushed.
 pub fn serve_stream_in<R: Read, W: Write>(
     zone: &Zone,
     source: &mut Tally<R>,
@@ -167,8 +166,8 @@ fn message_length(octets: &[u8]) -> usize
     usize::from(BigEndian::read_u16(octets))
 }
 
-// Writes the reply to a message after its length, with one call of the sink's `write_all`; writes
-// nothing if there is no reply.
+// Writes the reply to a message after its length, in a single write if the sink takes all of it;
+// writes nothing if there is no reply.
 fn write_reply<W: Write>(
     zone: &Zone,
     message: &[u8],

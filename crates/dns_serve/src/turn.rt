@@ -17,8 +17,8 @@ const MOST_OCTETS: usize = 512;
 /// Fails with `ReceiveFailed` if receiving fails, with nothing sent, and with `SendFailed` if
 /// sending fails. Nothing is tried again, and no memory is allocated.
 ///
-/// Each call first fills the room of the turn. Callers that take many turns should keep it and
-/// call `udp_turn_in`.
+/// Each call first clears its buffers. Callers that take many turns should keep buffers and call
+/// `udp_turn_in`.
 pub fn udp_turn<D: Datagrams>(zone: &Zone, device: &mut D) -> Result<bool, TurnFault>
     requires { D.count device.old < 2 ^ 64 - 1 }
     ensures turn { TurnOf zone.now (turn D.received D.sent device.old device.new) result }
@@ -30,10 +30,10 @@ pub fn udp_turn<D: Datagrams>(zone: &Zone, device: &mut D) -> Result<bool, TurnF
     udp_turn_in(zone, device, &mut room, &mut draft, &mut out)
 }
 
-/// Takes a turn as `udp_turn` does, in room that is lent: for the datagram, for the draft of the
-/// reply, and for the reply.
+/// Takes a turn as `udp_turn` does, in the caller's buffers: for the datagram, for the draft of
+/// the reply, and for the reply.
 ///
-/// Earlier turns in the room have no effect, and it is not cleared.
+/// Earlier turns in the buffers have no effect, and they are not cleared.
 pub fn udp_turn_in<D: Datagrams>(
     zone: &Zone,
     device: &mut D,

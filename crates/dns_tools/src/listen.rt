@@ -166,7 +166,7 @@ fn say_of_turn(rt: &impl Eprint, are_said: bool, word: TurnWord) -> bool {
 /// others for at most 21 seconds. Replies to messages that arrived together are sent together,
 /// before waiting for more, and have the time of the last of these messages.
 ///
-/// `room` is used for one connection after another.
+/// The buffers in `room` are used for one connection after another.
 pub fn serve_connections<R>(
     rt: &R,
     zone: &Zone,

@@ -65,7 +65,7 @@ struct Exchange<'z> {
     limit: dns_answer::Limit,
     // The unfinished line.
     line: Line,
-    // Room for a line's octets, and then for the digits of its reply.
+    // Holds a line's octets, and then the digits of its reply.
     room: Vec<u8>,
     reply: Vec<u8>,
     drafts: Drafts,
@@ -173,7 +173,7 @@ impl<'z> Exchange<'z> {
     }
 }
 
-// Room for the drafts of replies. The larger one is not on the stack.
+// Buffers for the drafts of replies. The larger one is not on the stack.
 #[derive(Drop)]
 struct Drafts {
     udp: UdpDraft,

@@ -213,8 +213,8 @@ impl<C: Clock> Read for Messages<'_, C> {
     }
 }
 
-// Whether the octets that were read ahead contain a whole message after its length (RFC 1035
-// 4.2.2); if not, the next call may wait.
+// Whether the octets that were read ahead contain a whole message after its length
+// (RFC 1035 4.2.2); if not, the next call may wait.
 fn ahead_of(octets: &[u8]) -> Ahead {
     match octets {
         [high, low, message @ ..]

@@ -31,8 +31,8 @@ impl From<SinkFailed> for PrintFault {
 }
 
 /// Writes the canonical text of a zone: each record on a line of its own with its owner, TTL,
-/// class, type and data, the SOA first and the others in canonical order (RFC 1035 5.1, 5.2, RFC
-/// 4034 6.1, 6.3).
+/// class, type and data, the SOA first and the others in canonical order (RFC 1035 5.1, 5.2,
+/// RFC 4034 6.1, 6.3).
 ///
 /// Names are written in full, with a final dot. The text is a zone file that means the same zone,
 /// whatever the origin: it has at most 100,000 records, and can be read back if it has at most

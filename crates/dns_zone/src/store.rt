@@ -97,8 +97,8 @@ impl Store {
         Ok(())
     }
 
-    /// Checks the records as `Zone::build` does. The zone has them without duplicates (RFC 2181
-    /// 5), in canonical order (RFC 4034 6.1, 6.3).
+    /// Checks the records as `Zone::build` does. The zone has them without duplicates
+    /// (RFC 2181 5), in canonical order (RFC 4034 6.1, 6.3).
     ///
     /// Fails with `Faults`, which contains all faults of the zone, or with `NoMemory` only if
     /// allocation fails; the records are freed in either case. Precondition: at most 100,000

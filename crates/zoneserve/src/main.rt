@@ -58,8 +58,8 @@ where
             serve_datagrams(rt, zone, &mut socket, *turns)
         }
         Service::Tcp { address, turns } => {
-            // The room of all sessions is allocated before the first one, because it is too large
-            // for the stack.
+            // The buffers of all sessions are allocated once, before the first, and not on the
+            // stack.
             let Ok(mut room) = Box::new(rt.alloc(), StreamRoom::new()) else {
                 return Err(FaultWord::NoMemory);
             };

@@ -56,8 +56,8 @@ impl<'a> Model for Owner<'a> {
 }
 
 impl<'a> Owner<'a> {
-    /// Which checks the name fails, in the order of their codes (RFC 1034 3.6.2, 4.2; RFC 1035
-    /// 5.2; RFC 2181 5.2, 10; RFC 4592 4.2).
+    /// Which checks the name fails, in the order of their codes (RFC 1034 3.6.2, 4.2;
+    /// RFC 1035 5.2; RFC 2181 5.2, 10; RFC 4592 4.2).
     pub(crate) fn judged(&self, last: &mut LastTarget<'_>) -> [bool; 15]
         ensures { result ≡ map (λ c. c.1 self.now.zone self.now.name) checks }
     {

@@ -10,8 +10,8 @@ use std::marker::Model;
 
 const MAX_OCTETS: usize = 255;
 
-/// The key of a name in lower case. Keys compared octet by octet are in canonical order (RFC 4034
-/// 6.1).
+/// The key of a name in lower case. Keys compared octet by octet are in canonical order
+/// (RFC 4034 6.1).
 #[derive(Drop)]
 pub(crate) struct Key {
     octets: ArrayVec<u8, MAX_OCTETS>,

@@ -21,8 +21,8 @@ pub(crate) fn count_under(records: &[Entry], name: &NameRef<'_>) -> usize
     requires lower { folded name.now ≡ name.now }
     ensures { IsFront (λ (r : ResourceRecord). at_or_below r.owner name.now) records.now result }
 {
-    // Most names have no name below them. For a name with a single child, all of these records are
-    // often at or below it.
+    // Most names have no name below them. If a name is the only child of its parent, all of these
+    // records are at or below it.
     let (Some(first), Some(last)) = (records.first(), records.last()) else {
         return 0;
     };

@@ -140,8 +140,8 @@ impl<'z> Node<'z> {
         lead_at(self.tree, place, rtype)
     }
 
-    /// The records of a type at the name, ordered by data octets; `None` if there are none (RFC
-    /// 2181 5).
+    /// The records of a type at the name, ordered by data octets; `None` if there are none
+    /// (RFC 2181 5).
     pub fn set(&self, rtype: RType) -> Option<RecordSet<'z>>
         ensures set { result ≡ set_of (rrset self.now.zone self.now.name rtype.0) }
         ensures rtype { IfSome result (λ s. s.rtype ≡ rtype.0) }
