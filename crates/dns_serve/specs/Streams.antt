@@ -34,7 +34,8 @@ session remaining contents source source_then sink sink_then = record {
   holds = contents sink_then.device;
 }
 
--- The messages are the contents of the first frames of the source, at most `most`.
+-- The messages are the contents of the first frames of the source, at most `most`, if its octets
+-- are known.
 abbrev pub AreFrames : Option Octets → ℕ → List Octets → Type 0
 AreFrames known most ms = MatchOption known ⊤ (λ x. ms ≡ frames most x)
 
