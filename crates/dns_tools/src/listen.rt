@@ -66,7 +66,7 @@ pub fn given_socket<'a, I: AsFd, C: Clock>(
     ensures fault { IfErr result (λ fault. fault ≡ FaultWord.NotBound) }
 {
     let socket = UdpSocket::from(copy_of(given)?);
-    // A UDP socket does not have an option of TCP.
+    // Reading a TCP option fails on a UDP socket.
     let is_udp = TcpStream::from(copy_of(given)?).nodelay().is_err();
     if is_udp && has_port(socket.local_addr()) {
         return Ok(Socket::new(socket, clock));
