@@ -133,7 +133,7 @@ pub counted-more : (n m : ℕ) (found rs grown : List ResourceRecord)
     → length found ≡ n → m ≡ n + length rs → grown ≡ found ++ rs → length grown ≡ m
 counted-more n m found rs grown count more e = grind (arith, length-append)
 
--- a piece came, and what it does to the entries at hand
+-- a piece was read, and the entries that it completes were taken
 pub piece-taken : (old new : Option Octets) (before now : Reader)
     (held text held' : Octets) (left asked : ℕ) (more : Bool) (found found' : List ResourceRecord)
     → (p : AppendsPiece old new asked held text more)
