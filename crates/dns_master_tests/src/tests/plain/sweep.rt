@@ -28,7 +28,7 @@ const ENTRIES: [&[u8]; 10] = [
     b"(",
 ];
 
-// Parts of files, mostly whole lines.
+// Whole entries, with their line ends.
 const LINES: [&[u8]; 10] = [
     b"a 1 A 192.0.2.1\n",
     b"b A 192.0.2.1 ; x\n",
