@@ -87,6 +87,7 @@ docs-check: built
 	docs/plots/mistakes | cmp - docs/plots/mistakes.svg
 
 test:
+	tools/files --check
 	RT_JOBS=$$(tools/lanes) rt ci
 
 # Tries the edits that the gate leaves out: the check has to refuse each. It is not in the gate.
@@ -130,11 +131,12 @@ faults: built
 caught:
 	tools/caught
 
-# Gives a million datagrams that were changed at random to zoneserve, and 100,000 such files to zonecheck, and compares their
-# output with the output of plain programs in another language.
+# Gives a million datagrams that were changed at random to zoneserve, and 100,000 such files and all short texts to zonecheck,
+# and compares their output with the output of plain programs in another language.
 hostile: built
 	tools/hostile crates/zonecheck/out/zonecheck crates/zoneserve/out/zoneserve 1000000
 	tools/hostile-zones crates/zonecheck/out/zonecheck 100000
+	tools/hostile-zones crates/zonecheck/out/zonecheck sweep
 
 # Gives broken messages to dnsmsg, and times the worst one. It is not in the gate.
 messages: built
@@ -149,9 +151,10 @@ memory:
 	tools/refuse-memory zonecheck
 	tools/refuse-memory zoneserve
 
-# Counts the instructions that it takes to read and write data and to answer questions, and measures the checker. It decides
-# nothing, and is not in the gate.
-bench:
+# Counts the instructions that it takes to read and write data, to answer questions, and of whole queries beside other servers,
+# and measures the checker. It decides nothing, and is not in the gate.
+bench: built
 	tools/bench
+	tools/queries crates/zoneserve/out/zoneserve
 	tools/bench-checker
 	tools/shapes crates/zonecheck/out/zonecheck

@@ -29,14 +29,14 @@ def bound(kind, address):
     return one
 
 
-def begin(given, words, environment, errors=subprocess.DEVNULL):
-    """Starts `workers` with these arguments, and with the sockets as its descriptors 3, 4, ..
+def begin(given, words, environment, errors=subprocess.DEVNULL, by=()):
+    """Starts `workers` with these arguments, by a command if one is given, and with the sockets as its descriptors 3, 4, ..
 
     The sockets are first duplicated to high numbers, so that no number is used twice.
     """
     far = [os.dup2(one.fileno(), one.fileno() + 100) for one in given]
     places = " ".join(f"{3 + place}<&{number}" for place, number in enumerate(far))
-    shell = ["bash", "-c", f'exec "$@" {places}', "-", LIBEXEC / "workers", *map(str, words)]
+    shell = ["bash", "-c", f'exec "$@" {places}', "-", *by, LIBEXEC / "workers", *map(str, words)]
     more = {**environment, "LISTEN_FDS": str(len(given))}
     run = subprocess.Popen(shell, env=more, stdin=subprocess.DEVNULL, stderr=errors, pass_fds=far, start_new_session=True)
     for number in far:

@@ -4,7 +4,6 @@ mod hostile;
 mod limits;
 mod many_words;
 mod pieces;
-mod plain;
 mod reading;
 mod records;
 mod rows;

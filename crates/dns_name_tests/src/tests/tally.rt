@@ -101,6 +101,21 @@ fn each_failure_is_counted_once(rt: HostRuntime) {
 }
 
 #[test]
+fn a_device_is_asked_again_after_a_failure(rt: HostRuntime) {
+    let mut source = Tally::new(failing_once(0));
+    assert_eq!(rt; source.read(&mut [0; 4]), Err(SourceFailed));
+    assert_eq!(rt; source.read(&mut [0; 4]), Ok(1));
+    assert_eq!(rt; source.failures(), 1);
+
+    let mut sink = Tally::new(failing_once(0));
+    assert_eq!(rt; sink.write(b"a"), Err(SinkFailed));
+    assert_eq!(rt; sink.write(b"a"), Ok(1));
+    assert_eq!(rt; sink.write_all(b"bc"), Ok(()));
+    assert_eq!(rt; sink.failures(), 1);
+    assert_eq!(rt; sink.into_inner().calls, 4);
+}
+
+#[test]
 fn a_device_is_asked_each_time_to_pass_on_what_it_keeps(rt: HostRuntime) {
     let mut sink = Tally::new(failing_once(1));
     assert_eq!(rt; sink.flush(), Ok(()));

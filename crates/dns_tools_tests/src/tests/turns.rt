@@ -5,6 +5,9 @@ use dns_serve::Datagrams;
 use dns_serve_tests::Mailbox;
 use dns_tools::serve_datagrams;
 use dns_zone::Zone;
+use std::cell::Cell;
+use std::fmt::Display;
+use std::io::{self, ErrorKind};
 use std::process::Abort;
 use std::test::Fail;
 
@@ -13,6 +16,36 @@ const QUERY: &[u8] = b"\x12\x34\x00\x00\x00\x01\x00\x00\x00\x00\x00\x00\x02ns\x0
 
 const REPLY: &[u8] = b"\x12\x34\x84\x00\x00\x01\x00\x01\x00\x00\x00\x00\x02ns\x07example\x00\
     \x00\x01\x00\x01\xc0\x0c\x00\x01\x00\x01\x00\x00\x0e\x10\x00\x04\xc0\x00\x02\x01";
+
+/// Standard error that takes nothing, and counts its calls.
+struct Refusing<'a> {
+    calls: &'a Cell<u32>,
+}
+
+impl Eprint for Refusing<'_> {
+    fn eprint<D: Display + Drop>(&self, _value: D) -> io::Result<()> {
+        self.calls.set(self.calls.get().saturating_add(1));
+        Err(io::Error::from(ErrorKind::Other))
+    }
+
+    fn eprintln<D: Display + Drop>(&self, value: D) -> io::Result<()> {
+        self.eprint(value)
+    }
+}
+
+#[test]
+fn turns_go_on_after_a_word_that_is_not_taken(rt: HostRuntime) -> Result<(), Fail> {
+    let zone = sample(rt.alloc())?;
+    for (fails_at, are_said, words) in [(9, true, 0), (0, false, 1), (5, false, 1)] {
+        let calls = Cell::new(0);
+        let errors = Refusing { calls: &calls };
+        let mut mailbox = Mailbox::new(rt.alloc(), QUERY, fails_at);
+        assert_eq!(rt; serve_datagrams(&errors, &zone, &mut mailbox, 3), are_said);
+        assert_eq!(rt; calls.get(), words);
+        assert_eq!(rt; mailbox.failures(), u64::from(fails_at < 9));
+    }
+    Ok(())
+}
 
 #[test]
 fn turns_go_on_after_one_that_fails(rt: HostRuntime) -> Result<(), Fail> {
