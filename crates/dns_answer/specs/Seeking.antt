@@ -106,8 +106,8 @@ unsought origin sought o =
     option_and_then
     (λ m. if at_or_below m origin && not (list_any (same m) sought) then Some m else None) o
 
--- the name to seek after an alias, when `sought` were sought already, and where its path begins;
--- or the reason why there is none
+-- the name to seek after an alias, when the names in `sought` were sought already, and where its
+-- path begins; or the reason why there is none
 abbrev pub NextIs : ZoneContents → RecordSet → List DomainName → Option (Sought × Option ZoneNode)
     → Type 0
 NextIs z set sought None =

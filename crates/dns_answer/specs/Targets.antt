@@ -51,7 +51,8 @@ side_items z p before [] = []
 side_items z p before (m ∷ ms) = target_items z p before (Some m)
     ++ side_items z p (before ++ m ∷ []) ms
 
--- the number of nodes below the apex on the paths to those of the targets that are in the zone
+-- the number of nodes below the apex on the paths to the targets that pass the test and are in the
+-- zone
 abbrev pub side_nodes : ZoneContents → (DomainName → Bool) → List DomainName → ℕ
 side_nodes z p ms = sum (map (λ m. length m - length z.origin) (targets_in_zone z (filter p ms)))
 

@@ -10,7 +10,7 @@ pub Appends-take-add : (a b c : Option (List ℕ)) (text : List ℕ) (n m : ℕ)
 Appends-take-add a b c text n m first second =
     grind (arith, length-drop, take_all, take-add, Appends-trans)
 
--- a text of which a beginning was written, and another that was not begun
+-- a beginning of a text was written, and another text was not begun
 pub beginning_of_first : (a b : Option (List ℕ)) (xs ys : List ℕ)
     → AppendsBeginning a b xs → AppendsBeginning a b (xs ++ ys)
 beginning_of_first a b xs ys (n, h, front) = (

@@ -84,7 +84,7 @@ impl Name {
     }
 }
 
-// Adds to the root the labels that the word spells, and those of the origin if it is relative.
+// Adds to the root the labels that the word spells, and the origin's labels if it is relative.
 fn spell_labels(name: &mut Name, word: &[u8], origin: &Name) -> Result<(), NameFault>
     requires some { word.now ≢ [] }
     requires root { name.old ≡ [] }

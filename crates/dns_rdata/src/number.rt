@@ -2,8 +2,8 @@
 ghost use Rattle.std.specs.Prelude.{◌≡◌, ◌↔◌, ℕ, ◌<◌, ◌≤◌, ◌^◌, Some, decimal, SomeIff};
 ghost use Rattle.std.specs.Str.Parse.{AllDigits, digits_value};
 
-/// The number, at most `most`, that a word spells in decimal: `0`, or digits of which the first is
-/// 1 to 9.
+/// The number, at most `most`, that a word spells in decimal: `0`, or digits without a leading
+/// zero.
 ///
 /// `None` for any other word, such as `010`, and for a greater number.
 pub fn read_number(word: &[u8], most: u32) -> Option<u32>

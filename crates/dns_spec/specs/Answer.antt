@@ -76,8 +76,8 @@ pub record Outcome : Type 0 where
   pub answers : List Item
   pub authorities : List Item
 
--- RFC 2308 sections 3 and 5: the SOA of a negative answer; its TTL is the lesser of its TTL and
--- its MINIMUM
+-- RFC 2308 sections 3 and 5: the SOA of a negative answer, with the lesser of its TTL and its
+-- MINIMUM as TTL
 abbrev pub negative_soa : ZoneContents → List Item
 negative_soa z =
     item authority
@@ -180,8 +180,8 @@ address_set z earlier n t = if stands n t earlier then [] else item additional (
 abbrev pub address_sets : ZoneContents → List Item → DomainName → List Item
 address_sets z earlier n = address_set z earlier n type_a ++ address_set z earlier n type_aaaa
 
--- RFC 1034 4.3.2 step 6: the address sets of the targets, by exact owner, also below a cut, never
--- by a wildcard; no set twice
+-- RFC 1034 4.3.2 step 6: the address sets of the targets that are not in the reply yet, by exact
+-- owner, also below a cut, never by a wildcard
 unfoldable pub extra : ZoneContents → List Item → List DomainName → List Item
 extra z earlier [] = []
 extra z earlier (m ∷ ms) =
@@ -230,9 +230,9 @@ names_looked_up z q t = length (chain z q t) + length (targets (outcome z q t))
 abbrev pub most_of_a_search : ℕ
 most_of_a_search = 17
 
--- The most label comparisons of an answer that visits `visits` nodes: a search for each child that
--- is found, and for each that is not found, of which there are at most two per name of the chain
--- and one per target.
+-- The most label comparisons of an answer that visits `visits` nodes: one search for each child
+-- that is found and for each that is not. At most two are not found for each name of the chain,
+-- and one for each target.
 abbrev pub most_comparisons : ZoneContents → DomainName → ℕ → ℕ → ℕ
 most_comparisons z q t visits =
     most_of_a_search

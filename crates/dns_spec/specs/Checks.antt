@@ -92,9 +92,9 @@ ttls_differ z n =
 abbrev pub ns_target_alias : Check
 ns_target_alias z n = has_target z n (λ t. t == type_ns) (λ m. owns z m type_cname)
 
--- RFC 1034 4.2.1: a name server m in the zone has an address there. A server at or below a cut
--- needs one, as glue, only if the cut is n, which it serves; if not, its address is in the child
--- zone.
+-- RFC 1034 4.2.1: m, a name server of n, lacks an address that the zone must have: m is not at or
+-- below a cut, or n is a cut and m, at or below n, needs glue. A server at or below another cut
+-- has its address there.
 abbrev pub lacks_address : ZoneContents → DomainName → DomainName → Bool
 lacks_address z n m =
     not (has_address z m) && (not (at_or_below_cut z m) || is_cut z n && at_or_below m n)

@@ -35,7 +35,7 @@ is_section authority authority = true
 is_section additional additional = true
 is_section _ _ = false
 
--- the records of all sets, and those of one section
+-- the records of all sets, and the records of one section
 abbrev pub records_of : List Item → List ResourceRecord
 records_of = flat_map (λ (i : Item). i.records)
 

@@ -25,8 +25,8 @@ line_ends x = length (filter (λ o. o == 10) x)
 abbrev pub ended_lines : Octets → List Octets
 ended_lines x = take (line_ends x) (lines x)
 
--- RFC 1035 4.2.2: a message has at most 65,535 octets, so its line has at most 131,070 hex digits,
--- of either case
+-- RFC 1035 4.2.2: the message in a line; it has at most 65,535 octets, so its line has at most
+-- 131,070 hex digits, of either case
 abbrev pub line_message : Octets → Option Octets
 line_message l = if nat_le (length l) 131070 then hex_octets l else None
 

@@ -80,7 +80,8 @@ is_ttl_word w = not w.is_quoted && list_any is_ascii_digit (take 1 w.raw)
 abbrev pub is_word : Octets → Octets → Bool
 is_word text raw = octets_equal (text_in_lower_case raw) text
 
--- RFC 1035 3.2.4, RFC 3597 section 5: an unquoted word that names a class, or begins with `CLASS`
+-- RFC 1035 3.2.4, RFC 3597 section 5: an unquoted word that names a class, or begins with `CLASS`,
+-- in any case
 abbrev pub is_class_word : Word → Bool
 is_class_word w =
     not w.is_quoted
@@ -249,7 +250,7 @@ OneWord P [] = ⊥
 OneWord P (w ∷ []) = P w
 OneWord P (w ∷ v ∷ ws) = ⊥
 
--- `R06`: the arguments of a directive are invalid
+-- `R06`: the arguments of a directive are invalid; valid ones give no record
 abbrev pub DirectiveSays : {A : Type 0} → (A → Word → Type 0) → List Word → EntryMeaning → Type 0
 DirectiveSays {A} P ws =
     Lowest ((directive_words, Nothing (λ (v : A). OneWord (P v) ws)) ∷ [])

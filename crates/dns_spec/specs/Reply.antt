@@ -24,8 +24,8 @@ abbrev pub kept : (List Item → ℕ) → ℕ → List Item → List Item
 kept size_of limit sets =
     take (greatest (λ k. nat_le (size_of (take k sets)) limit) (length sets)) sets
 
--- The same, by adding one set after another to `front`, up to the first set with which the size
--- exceeds the limit.
+-- The same for sets added to `front` one after another: it stops before the first set with which
+-- the size exceeds the limit.
 abbrev pub fitting : (List Item → ℕ) → ℕ → List Item → List Item → List Item
 fitting size_of limit front [] = front
 fitting size_of limit front (i ∷ is) =

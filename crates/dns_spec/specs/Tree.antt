@@ -43,8 +43,8 @@ source_of_synthesis z q =
     option_and_then (λ e. if exists z (asterisk ∷ e) then Some (asterisk ∷ e) else None)
     (closest_encloser z q)
 
--- RFC 1034 4.3.2 step 3: the records found for a name, with that name as owner: its own if it
--- exists (there may be none), else those of the wildcard. `None` is a name error.
+-- RFC 1034 4.3.2 step 3: the records found for a name, with that name as owner: its own records if
+-- it exists (there may be none), else the records of the wildcard. `None` is a name error.
 abbrev pub found : ZoneContents → DomainName → Option (List ResourceRecord)
 found z q =
     if exists z q then Some (with_owner q (at z q))

@@ -34,8 +34,8 @@ is_blank o = o == 32 || o == 9
 abbrev pub escape_left : Octets → Option ℕ
 escape_left text = option_map (λ r. length text - length r.1) (escape_front text)
 
--- If o continues a word or a string: how many octets of its escape follow, 0 if o is no escape.
--- `by_itself` says which octets may appear unescaped.
+-- If o continues a word or a string: how many octets of its escape follow it, 0 if o is not a
+-- backslash. `by_itself` accepts the octets that may appear unescaped.
 abbrev pub unit_left : (ℕ → Bool) → ℕ → Octets → Option ℕ
 unit_left by_itself o text =
     if o == 92 then escape_left text else if by_itself o then Some 0 else None
@@ -96,7 +96,7 @@ TokensThen text [] rest = text ≡ rest
 TokensThen text (p ∷ ps) rest =
     (others : Octets) × (token_front text ≡ Some (p, others)) × TokensThen others ps rest
 
--- whether a token that is a parenthesis opens
+-- true for an opening parenthesis, false for a closing one, and none for another token
 abbrev pub parenthesis : Token → Option Bool
 parenthesis blank = None
 parenthesis comment = None
@@ -189,22 +189,23 @@ stop_at [] = text_over
 stop_at (o ∷ text) =
     if o == 34 then in_string (drop (string_length text) text) else in_token (o ∷ text)
 
--- `R02`: a backslash that begins no escape. `R01`: an octet that is not allowed.
+-- `R02` for a backslash that begins no escape; else `R01`, an octet that is not allowed.
 abbrev pub token_fault : Octets → FileFault
 token_fault place = if begins_with 92 place then bad_escape else bad_octet
 
--- `R03`: the string does not end on its line; or the fault of its next octets.
+-- `R03` if the string does not end on its line; else the fault of its next octets.
 abbrev pub string_fault : Octets → FileFault
 string_fault place =
     if length place == 0 || begins_line_end place then unended_string else token_fault place
 
--- `R15` instead: the text goes on past its limit, and the fault depends on what follows there.
+-- The fault, or `R15` if the text goes on past its limit and more octets might change the fault.
 abbrev pub unless_cut_short : Extent → Octets → FileFault → FileFault
 unless_cut_short whole_text place fault = fault
 unless_cut_short beginning place fault = if is_cut_short place then too_long else fault
 
--- The fault of an entry that no line end ends; `is_open`: inside parentheses. `R15`, the text goes
--- on past its limit; `R04`, the text ends inside parentheses; or the fault of an invalid token.
+-- The fault of an entry that does not end with a line end; `is_open` is whether it ends inside
+-- parentheses. `R15`, the text goes on past its limit; `R04`, the text ends inside parentheses; or
+-- the fault of an invalid token.
 abbrev pub stop_fault : Extent → Bool → EntryStop → Option FileFault
 stop_fault whole_text is_open text_over = if is_open then Some bad_parenthesis else None
 stop_fault beginning is_open text_over = Some too_long
@@ -227,7 +228,7 @@ abbrev pub unended : Extent → Octets → List Token → Entry
 unended extent rest ps =
     record { tokens = ps; end_fault = stop_fault extent (is_open_at_end ps) (stop_at rest) }
 
--- entries, the last of which ends at `rest` and not with a line end
+-- the entries of these lists of tokens; the last one ends at `rest`, not with a line end
 abbrev pub with_end : Extent → Octets → List (List Token) → List Entry
 with_end extent rest [] = []
 with_end extent rest (ps ∷ []) = unended extent rest ps ∷ []

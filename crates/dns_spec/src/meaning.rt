@@ -18,9 +18,9 @@ pub fn no_text_is_without_a_meaning()
     ensures { (o : DomainName) (text : Octets) → Nothing (Means o text) → ⊥ }
 {}
 
-/// A fault of a beginning, other than the limit's, is the fault of every text that continues it:
-/// an entry that a line end ends, or whose fault is decided by octets already there, is faulty
-/// whatever follows. The same holds for the rest of a text after its earlier entries.
+/// A fault that a beginning of a text has, other than the limit's, is the fault of every text that
+/// continues it: an entry that a line end ends, or whose fault is decided by octets already there,
+/// is faulty whatever follows. The same holds for the rest of a text after its earlier entries.
 pub fn beginning_decides()
     ensures { (o : DomainName) (earlier : List Entry) (extent : Extent) (front more : Octets)
         (fault : FileFault) (line : ℕ)

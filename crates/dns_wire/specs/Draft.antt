@@ -134,7 +134,7 @@ pub record IsDraft (head : Octets → ℕ) (q : Option MessageQuestion) (items :
   pub counts : d.counts ≡ counts_of q items
   pub askable : IfSome q IsAskable
 
--- A page with N places and `size` octets, of which the limit may be used. It never has more
+-- A page with N places and `size` octets, and a limit within these octets. It never has more
 -- records than octets.
 pub record IsWellKept (N size : ℕ) (d : Draft) : Type 0 where
   pub within : length d.octets ≤ d.limit

@@ -24,9 +24,9 @@ use std::marker::Model;
 /// The sections of a message after its question (RFC 1035 4.1).
 #[derive(Clone, Copy, Debug, PartialEq, Eq)]
 pub enum Section {
-    /// The answer: records that answer the question.
+    /// The answer section: records that answer the question.
     Answer,
-    /// The authority: records that point to an authority.
+    /// The authority section: records that point to an authority.
     Authority,
     /// The additional section: records that help with using the others.
     Additional,

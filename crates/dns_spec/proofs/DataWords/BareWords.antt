@@ -3,7 +3,7 @@ use Rattle.dns_spec.proofs.Common.{◌≡◌, ℕ, ◌+◌, ◌<◌, ◌^◌, Bo
 use Rattle.dns_spec.proofs.DomainNames.SmallOctets.{Small, small_head, small_tail}
 use Rattle.dns_spec.proofs.General.Truths.{follows}
 
--- octets none of which ends a word
+-- octets that do not end a word
 abbrev pub Bare : Octets → Type 0
 Bare = AllByRecursion (λ o. is_word_octet o ≡ true)
 

@@ -21,7 +21,7 @@ runs_escaped p x digit printable rest = grind (arith, escape-counted, digit)
 digit : (d : ℕ) → d < 10 → is_ascii_digit (48 + d) ≡ true
 digit d small = agree_below_at (λ e. is_ascii_digit (48 + e)) (λ e. true) 10 d refl small
 
--- octets none of which ends a word
+-- octets that do not end a word
 pub runs_bare : (x : Octets) → Bare x → Runs is_word_octet x
 unfolding run_length
 runs_bare [] bare = grind arith

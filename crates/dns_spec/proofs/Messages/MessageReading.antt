@@ -3,7 +3,7 @@ use Rattle.dns_spec.proofs.Common.{◌≡◌, ℕ, zero, suc, ◌+◌, ◌<◌, 
 use Rattle.dns_spec.proofs.Messages.NameReading.{name_at_computes}
 use Rattle.dns_spec.proofs.General.Options.{map_some, then_is}
 
--- Elements in order, by how one of them is read and what it is to be at a place.
+-- Elements in order, by how one of them is read, and by what it means that they are at a place.
 module _ {X : Type 0} (read : ℕ → Option (X × ℕ)) (Stand : ℕ → List X → ℕ → Type 0) where
   several_found : ((i : ℕ) → Stand i [] i)
       → ((i j e : ℕ) (x : X) (xs : List X)

@@ -174,7 +174,7 @@ module _ (z : ZoneContents) (origin : folded z.origin ≡ z.origin) (low : AllBy
       shown [] e = tt
       shown (r ∷ rs) e = (record { owner = refl; ttl = e.0.0 e.0.1; rtype = e.0.1 }, shown rs e.1)
 
-  -- the records found for a name are those of some name, with that name as owner
+  -- the records found for a name are the records at some name, with the other name as owner
   record Shown (q : DomainName) (rs : List ResourceRecord) : Type 0 where
     source : DomainName
     whole : with_owner q (at z source) ≡ rs

@@ -84,7 +84,7 @@ pub(crate) fn offer<H: SuffixHash>(
     }
 }
 
-// Offers sets of one record each, all of which must fit, or none.
+// Offers sets of one record each; either all of them must fit, or none.
 fn offer_all<H: SuffixHash>(
     rt: HostRuntime,
     writer: &mut Writer<'_, H>,
