@@ -41,7 +41,7 @@ impl Side<'_, '_> {
     }
 }
 
-/// Offers the addresses of the selected targets of a set, in order, but of no target twice.
+/// Offers the addresses of the selected targets of a set, in order, and only once for each target.
 /// Returns whether all targets are selected, unless the reply is full: then no further target is
 /// looked up, since none of its addresses would be added.
 pub(crate) fn offer_addresses<'z, const N: usize, const SIZE: usize>(

@@ -36,7 +36,7 @@ impl<const N: usize, const SIZE: usize> Model for Draft<N, SIZE> {
 impl<const N: usize, const SIZE: usize> Draft<N, SIZE> {
     /// Room for replies of at most `SIZE` octets, 512 to 65,535.
     ///
-    /// Condition: `N` is at least half the octets that a pointer reaches.
+    /// Condition: `N` is at least half the number of these octets that a pointer reaches.
     pub fn new() -> Draft<N, SIZE>
         requires from { 512 ≤ SIZE }
         requires upto { SIZE ≤ 65535 }

@@ -40,7 +40,7 @@ impl Limit {
 /// Room for replies over UDP.
 pub type UdpDraft = Draft<256, 512>;
 
-/// Room for replies over TCP: about 131,000 octets.
+/// Room for replies over TCP; a value takes about 131,000 octets.
 pub type TcpDraft = Draft<8192, 65_535>;
 
 /// Writes the reply to a datagram to the front of `out` and returns its length in octets.

@@ -1,5 +1,5 @@
-//! Tests of `dns_answer`, through its public calls. In a crate of their own, their proofs are made
-//! only once, also while changed bodies of `dns_answer` are tried.
+//! Tests of `dns_answer`, through its public calls. In a separate crate their proofs are made only
+//! once, while the edits of `dns_answer` are tried.
 #![tactic(auto)]
 
 #[cfg(test)]

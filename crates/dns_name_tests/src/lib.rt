@@ -1,5 +1,5 @@
-//! Tests of `dns_name`, through its public calls. In a crate of their own, their proofs are made
-//! only once, also while changed bodies of `dns_name` are tried.
+//! Tests of `dns_name`, through its public calls. In a separate crate their proofs are made only
+//! once, while the edits of `dns_name` are tried.
 #![tactic(auto)]
 
 #[cfg(test)]

@@ -10,7 +10,7 @@ use std::alloc::AllocError;
 /// octet, and returns whether it spells any.
 ///
 /// False if the text contains another octet or an odd number of digits; `octets` has then grown by
-/// some octets. Fails only if allocation fails.
+/// some octets. The call fails only if allocation fails.
 pub(crate) fn append_hex(text: &[u8], octets: &mut Vec<u8>) -> Result<bool, AllocError>
     ensures { IfOk result (λ said. AppendsHex text.now said octets.old.items octets.new.items) }
 {

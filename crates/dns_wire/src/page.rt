@@ -62,8 +62,8 @@ impl<const N: usize, const SIZE: usize> Page<N, SIZE> {
     /// An empty message of at most `limit` octets, 512 to 65,535. A question is added later, in
     /// place, so that the page need not be moved.
     ///
-    /// Condition: `SIZE` is at least the limit, and `N` at least half the octets that a pointer
-    /// reaches.
+    /// Condition: `SIZE` is at least the limit, and `N` at least half the number of its octets
+    /// that a pointer reaches.
     pub fn empty(limit: usize) -> Page<N, SIZE>
         requires from { 512 ≤ limit }
         requires upto { limit ≤ 65535 }
