@@ -1,4 +1,4 @@
--- What the header says of a whole answer, and what all of it takes.
+-- What the header states about a whole answer, and the cost of all of it.
 use Rattle.dns_answer.proofs.Common.{◌≡◌, ℕ, ◌+◌, ◌*◌, ◌≤◌, ◌&&◌, not, List, [], ◌∷◌, map, sum, length, is_some, arith, eqb-true, false_from_ne_true, DomainName, ZoneContents, ◌==◌, most_aliases, follows_alias, alias_set, alias_items, chain, chain_from, has_any, outcome, is_authoritative, nodes_to, most_visits, most_comparisons, Walk, Took, labels_below, chain_rest, leads_on, sum_cons}
 use Rattle.dns_answer.proofs.TargetLaws.{depths}
 use Rattle.dns_answer.proofs.AnswerItems.{nodes-are, misses-are, speaks-unless}
@@ -10,7 +10,7 @@ nodes-sum z [] = omega arith
 nodes-sum z (n ∷ ns) = grind (arith, sum_cons, nodes_to, labels_below, (nodes-sum z ns))
 
 module _ (z : ZoneContents) (q : DomainName) (t : ℕ) where
-  -- an alias is shown exactly where one is found for the name asked for
+  -- an answer contains an alias if and only if one is found for the question's name
   aliases-shown :
       (length (alias_items z q t) == 0) ≡ not (follows_alias t && has_any (alias_set z q))
   unfolding chain chain_from
@@ -24,7 +24,7 @@ module _ (z : ZoneContents) (q : DomainName) (t : ℕ) where
   unfolding chain chain_from
   chain-some = grind arith
 
-  -- with the apex, no more nodes than may be
+  -- with the apex, no more nodes than allowed
   pub visits-fit : (s s' : Walk) (misses : ℕ) → s.visits ≤ 1
       → Took s s' (chain_rest z t most_aliases [] q).nodes misses → s'.visits ≤ most_visits z q t
   visits-fit s s' misses first took = grind (arith, nodes-are, nodes-sum, chain-some)

@@ -4,7 +4,7 @@ use Rattle.dns_answer.proofs.EndingSets.{is_target_type}
 use Rattle.dns_answer.proofs.TargetLaws.{depths, depths-append, side_items-append, side_items-none}
 use Rattle.dns_answer.proofs.StandingAddresses.{NotAddress, NoAddresses, extra-side, extra-none}
 
--- a test that names that are the same pass alike
+-- a test that gives the same for names that are the same
 abbrev Respects : (DomainName → Bool) → Type 0
 Respects p = (n m : DomainName) → same n m ≡ true → p n ≡ p m
 
@@ -13,7 +13,7 @@ module _ (p : DomainName → Bool) (alike : Respects p) where
       → list_any (same m) (filter p ms) ≡ (b && list_any (same m) ms)
   any-filter m b ms e = any-filter_same (same m) p b (λ x h. sym (alike m x h) ∙ e) ms
 
-  -- the addresses of targets that pass it
+  -- the addresses of targets that pass the test
   side-filter : (z : ZoneContents) (before ms : List DomainName)
       → side_items z all_names (filter p before) (filter p ms) ≡ side_items z p before ms
   unfolding side_items
@@ -37,7 +37,7 @@ module _ (p : DomainName → Bool) (alike : Respects p) where
       go false e rest = ap (λ xs. side_items z all_names xs (filter p ms))
           (sym (last false e ∙ append-nil (filter p before))) ∙ rest
 
--- names that stood before and are not met again say nothing
+-- names before, which do not appear again, have no effect
 side-apart : (z : ZoneContents) (xs before ms : List DomainName)
     → AllByRecursion (λ m. list_any (same m) xs
     ≡ false) ms → side_items z all_names (xs ++ before) ms ≡ side_items z all_names before ms
@@ -46,7 +46,7 @@ side-apart z xs before [] e = refl
 side-apart z xs before (m ∷ ms) e =
     grind (arith, list_any-append, append_assoc, (side-apart z xs (before ++ m ∷ []) ms e.1))
 
--- the targets of a referral: those inside, and then those outside
+-- the targets of a referral: those inside the cut, and then those outside
 module _ (z : ZoneContents) (c : DomainName) (ts : List DomainName) where
   alike_inside : Respects (inside c)
   alike_inside n m e = same-under n m c e
@@ -94,14 +94,14 @@ no-addresses : (s : Section) (u : ℕ) (rs : List ResourceRecord) → AreOf u rs
     → is_address_type u ≡ false → NoAddresses (item s rs)
 no-addresses s u rs e f = grind (arith, item_records, each_weaker)
 
--- a type with targets is not one of addresses
+-- a type with targets is not an address type
 targets-apart : (u : ℕ) → is_target_type u ≡ true → is_address_type u ≡ false
 targets-apart u e = grind (arith, nat_tests)
 
 NoAddresses-append : (is js : List Item) → NoAddresses is → NoAddresses js → NoAddresses (is ++ js)
 NoAddresses-append is js e f = grind (arith, flat_map-append, each_append, records_of)
 
--- the records of what was asked for have one type
+-- the records that a question asks for have one type
 record OneType (rs : List ResourceRecord) : Type 0 where
   rtype : ℕ
   each : AreOf rtype rs
@@ -133,7 +133,7 @@ all-names : (ms : List DomainName) → filter all_names ms ≡ ms
 all-names [] = refl
 all-names (m ∷ ms) = ap (λ xs. m ∷ xs) (all-names ms)
 
--- what is added after aliases and the sets of an outcome, and what its targets take
+-- what is added after aliases and the sets of an outcome, and the cost of its targets
 record Adds (z : ZoneContents) (front : List Item) (o : Outcome) : Type 0 where
   all : extra z (front ++ main_items o) (targets o)
       ≡ glue_by z o.referral (ending_targets o) ++ others_by z o.referral (ending_targets o)
@@ -221,7 +221,7 @@ module _ (z : ZoneContents) (front : List Item) (clear : NoAddresses front) wher
       go false true = adds-set (asked_records t rs) (asked-one t rs).rtype (asked-one t rs).each
       go false false = adds-denial no_error
 
--- aliases are no addresses
+-- the sets of aliases contain no addresses
 aliases_clear : (z : ZoneContents) (q : DomainName) (t : ℕ) → NoAddresses (alias_items z q t)
 aliases_clear z q t =
     let each = each_flat_map IsAlias (λ (i : Item). AllByRecursion IsAlias i.records)
@@ -229,7 +229,7 @@ aliases_clear z q t =
     each_weaker IsAlias NotAddress (records_of (alias_items z q t))
     (λ r h. ap is_address_type h) each
 
--- the whole answer is what is to come at the question's name
+-- the whole answer is the rest from the question's name on
 module _ (z : ZoneContents) (q : DomainName) (t : ℕ) where
   abbrev last : Outcome
   last = outcome_at z t (last_sought z q t)
@@ -259,7 +259,7 @@ module _ (z : ZoneContents) (q : DomainName) (t : ℕ) where
   unfolding required_items chain chain_rest
   required-are = grind (arith, last, main-front, inside-last, adds-last, append_assoc)
 
-  -- what is required comes first
+  -- the required sets come first
   pub required-first : (chain_rest z t most_aliases [] q).items ≡ (chain_rest z t most_aliases
       [] q).required ++ others_by z last.referral (ending_targets last)
   unfolding chain chain_rest
@@ -269,7 +269,7 @@ module _ (z : ZoneContents) (q : DomainName) (t : ℕ) where
   unfolding outcome chain chain_rest
   rcode-is = refl
 
-  -- what it takes
+  -- its cost
   pub nodes-are : (chain_rest z t most_aliases [] q).nodes
       ≡ depths z (chain z q t) + depths z (targets_in_zone z (targets (outcome z q t)))
   unfolding chain chain_rest
@@ -280,7 +280,7 @@ module _ (z : ZoneContents) (q : DomainName) (t : ℕ) where
   unfolding chain chain_rest
   misses-are = grind (arith, adds-last, targets_last)
 
-  -- a referral without aliases before it does not speak for the zone
+  -- a referral without aliases before it is not authoritative
   pub speaks-unless : (b : Bool) → (length (alias_items z q t) == 0) ≡ not b → is_authoritative
       (outcome z q t) ≡ not (is_some (chain_rest z t most_aliases [] q).outcome.referral && not b)
   unfolding outcome chain chain_rest

@@ -1,4 +1,4 @@
--- The outcome of records that are found, by the set asked for.
+-- The outcome for records that are found, by the set asked for.
 use Rattle.dns_answer.proofs.Common.{arith, ◌≡◌, ℕ, true, false, cond, ◌&&◌, List, [], ◌∷◌, None, Some, refl, ap, ◌∙◌, DomainName, type_cname, ResourceRecord, ZoneContents, at, of_type, with_owner, RecordSet, set_of, records_at, of_first_type, no_error, answer, item, has_any, asked_records, follows_alias, positive, negative, outcome_by, AllByRecursion, each_typed, ZoneNode, IsSetOf}
 use Rattle.dns_answer.proofs.EndingSets.{asked-shown, item-shown}
 
@@ -6,7 +6,7 @@ units : (rs : List ResourceRecord) → AllByRecursion (λ (r : ResourceRecord). 
 units [] = tt
 units (r ∷ rs) = (tt, units rs)
 
--- the type of a set is that of its records
+-- the type of a set is the type of its records
 set_type : (rs : List ResourceRecord) (t : ℕ) (set : RecordSet) → AllByRecursion
     (λ (r : ResourceRecord). Unit {0} × (r.rtype ≡ t)) rs → Some set ≡ set_of rs → set.rtype ≡ t
 set_type [] t set e f = absurd (cc)

@@ -1,7 +1,7 @@
--- What is still to come of an answer, by what is found at a name of the chain.
+-- The rest of an answer, by what is found at a name of the chain.
 use Rattle.dns_answer.proofs.Common.{◌≡◌, ℕ, zero, suc, ◌+◌, true, false, cond, ◌&&◌, ◌⊎◌, inl, inr, List, [], ◌∷◌, ◌++◌, None, Some, refl, sym, ap, ◌∙◌, arith, add-one, append-nil, append_assoc, and-false, DomainName, type_cname, ResourceRecord, ZoneContents, of_type, cut_of, found, name_error, answer, Item, item, follows_alias, alias_set, next_sought, chain_from, last_of, has_any, Outcome, positive, negative, referral_to, outcome_by, outcome_at, labels_below, ending, after_sets, names_from, aliases_of, rest_of, chain_rest, leads_on, sum_cons}
 
--- the names sought where s is the last
+-- the names sought if s is the last
 from-last : (z : ZoneContents) (k : ℕ) (sought : List DomainName) (s : DomainName)
     → next_sought z (s ∷ sought) s ≡ None → chain_from z k sought s ≡ s ∷ []
 unfolding chain_from
@@ -65,7 +65,7 @@ module _ (z : ZoneContents) (t k : ℕ) (sought : List DomainName) (s : DomainNa
   pub ends-plain : (o : Outcome) → leads_on z t s ≡ false → outcome_at z t s ≡ o → ChainEnds [] o
   ends-plain o none is = ends [] o (last-name none) (none-shown none) is
 
-  -- a cut is at or above it
+  -- the name is at or below a cut
   pub ends-cut : (c : DomainName) → cut_of z s ≡ Some c → ChainEnds [] (referral_to z c)
   unfolding outcome_at
   ends-cut c e = ends-plain (referral_to z c) (no-alias_cut z t s c e) (rw e refl)
@@ -76,8 +76,8 @@ module _ (z : ZoneContents) (t k : ℕ) (sought : List DomainName) (s : DomainNa
   ends-nothing e f =
       ends-plain (negative z name_error) (rw (e, f) (and-false (follows_alias t))) (rw (e, f) refl)
 
-  -- its alias leads no further: no more targets are followed, or its own is outside, or was sought
-  -- before, or is none
+  -- its alias leads no further: no more targets are followed, or its own is outside, was sought
+  -- before, or is missing
   pub ends-alias : (is : List Item) → follows_alias t ≡ true → item answer (alias_set z s) ≡ is
       → outcome_at z t s ≡ positive [] → (k ≡ 0) ⊎ (next_sought z (s ∷ sought) s ≡ None)
       → ChainEnds is (positive [])

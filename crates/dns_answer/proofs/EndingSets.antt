@@ -1,7 +1,7 @@
 -- The sets that end an answer, by the sets of nodes.
 use Rattle.dns_answer.proofs.Common.{◌≡◌, ℕ, Bool, true, false, cond, ◌||◌, List, [], ◌∷◌, map, Option, None, Some, refl, ap, ap₂, ◌∙◌, append-nil, arith, Octets, DomainName, target, type_ns, type_mx, type_srv, ResourceRecord, of_type, with_owner, sort_by, insert_by, data_order, distinct, RecordSet, set_of, records_at, rising_types, of_first_type, of_lowest_type, Section, ◌==◌, filter, filter_map, cons_option, nat_cmp, item, has_target_type, targets_of, asked_records, set_targets}
 
--- records of a set shown with another owner
+-- the records of a set with another owner
 shown_again : (n owner : DomainName) (ttl : ℕ) (set : RecordSet)
     → with_owner owner (records_at n ttl set) ≡ records_at owner ttl set
 shown_again n owner ttl set = go set.rdata
@@ -18,7 +18,7 @@ pub item-shown : (s : Section) (n owner : DomainName) (rs : List ResourceRecord)
     (with_owner owner rs) ≡ record { section = s; records = records_at owner set.ttl set } ∷ []
 item-shown s n owner rs set h h1 = grind (arith, shown_again)
 
--- the targets of a set, where its type has any
+-- the types whose sets have targets
 abbrev pub is_target_type : ℕ → Bool
 is_target_type u = u == type_ns || u == type_mx || u == type_srv
 
@@ -43,7 +43,7 @@ targets_of_set s owner ttl set b e =
         ap₂ cons_option (ap (λ b. cond b (target set.rtype d) None) e) (go true e ds)
     go false e (d ∷ ds) = grind (arith, cons_option, target, None, (go false e ds))
 
--- owners say nothing of types and of the order of data
+-- neither the types nor the order of data depend on the owners
 
 insert_shown : (n : DomainName) (r : ResourceRecord) (rs : List ResourceRecord) → insert_by
     data_order (record r { owner = n }) (with_owner n rs) ≡ with_owner n (insert_by data_order r rs)

@@ -28,7 +28,7 @@ pub Ends-positive : (z : ZoneContents) (is : List Item) {w w1 w' : State} {v : V
 Ends-positive z is a b plain =
     says-in_order z (positive is) a (Offers-nothing _) b plain.rcode plain.referral plain.truncated
 
--- where there are no targets
+-- there are no targets
 pub Offers-none : (z : ZoneContents) {w : State} (ms : List DomainName) → ms ≡ []
     → Offers w w (side_items z all_names [] ms)
 Offers-none z ms e = Offers-empty _ (ap (side_items z all_names []) e ∙ side_items-none z all_names)
@@ -81,7 +81,7 @@ pub cut-has_servers : (z : ZoneContents) (n c : DomainName)
 cut-has_servers z n c e = set-owned z c type_ns ∙ (and_parts (below c z.origin)
     (owns z c type_ns) (found_passes (is_cut z) (reverse (suffixes (folded n))) c e)).1
 
--- where all targets are at or below the cut there are no others
+-- if all targets are at or below the cut, there are no others
 none-outside_cut : (z : ZoneContents) (c : DomainName) (before ms : List DomainName)
     → list_all (inside c) ms ≡ true → side_items z (not_inside c) before ms ≡ []
 unfolding side_items
@@ -91,7 +91,7 @@ none-outside_cut z c before (m ∷ ms) all =
     ap₂ (λ x y. x ++ y) (items-untaken z (not_inside c) before m (ap not parts.0))
     (none-outside_cut z c (before ++ m ∷ []) ms parts.1)
 
--- nothing is offered for others where all are at or below it, and to a full reply
+-- nothing is offered for other targets if all are at or below the cut, nor to a full reply
 pub Offers-others : (z : ZoneContents) (c : DomainName) (w : State) (ms : List DomainName)
     (b : Bool) → (w.full ≡ true) ⊎ (b ≡ list_all (inside c) ms) → b ≡ true
     → Offers w w (side_items z (not_inside c) [] ms)
@@ -99,7 +99,7 @@ Offers-others z c w ms b (inl full) e = Offers-full w _ full
 Offers-others z c w ms b (inr all) e =
     Offers-empty _ (none-outside_cut z c [] ms (sym all ∙ e))
 
--- a referral to the servers of a cut, whose set stands at its node
+-- a referral to the servers of a cut, whose NS set is at its node
 module _ (z : ZoneContents) (node : ZoneNode) (set : RecordSet) (zone : node.zone ≡ z)
     (found : Some set ≡ set_of (rrset node.zone node.name type_ns)) (rtype : set.rtype ≡ type_ns)
     (kept : IsSetOf node set) where

@@ -1,8 +1,8 @@
--- The way down to a name that has several labels below the node where it begins.
+-- The path down to a name that is several labels below the node where it begins.
 use Rattle.dns_answer.proofs.Common.{◌≡◌, ℕ, zero, suc, Bool, true, ◌+◌, ◌-◌, ◌≤◌, ◌<◌, [], ◌∷◌, length, drop, length-drop, Option, None, Some, reverse, refl, sym, ap, ◌∙◌, subst, arith, Octets, DomainName, folded, at_or_below, suffixes, ZoneContents, find, is_some, exists, is_cut, cut_of, ZoneNode, Sought, IsBelow, node_of, node_or, labels_below, one_if, IsApex, IsAim, IsThere, IsMissing, IsBelowCut, same-is, same-from, itself-under, under-trans, exists-lower, above_under, under_same, no_cut-at_origin}
 use Rattle.dns_answer.proofs.WaySteps.{cut-further, missing-further}
 
--- what is known of a name above holds of the whole name
+-- what is known about a name above holds for the whole name
 pub cut-whole : (z : ZoneContents) (k : ℕ) (n : DomainName) (node : ZoneNode)
     → IsBelowCut z (drop k n) node → IsBelowCut z n node
 cut-whole z zero n node h = h
@@ -17,7 +17,7 @@ missing-whole z start ends (suc k) [] node h = h
 missing-whole z start ends (suc k) (l ∷ n) node h =
     missing-further z start ends l n node (missing-whole z start ends k n node h)
 
--- a name without its first labels is still at or below another one, where it is as long
+-- a name without its first labels is still at or below another one, if it is as long
 pub under-drop : (k : ℕ) (n a : DomainName)
     → at_or_below n a ≡ true → length a + k ≤ length n → at_or_below (drop k n) a ≡ true
 under-drop zero n a h len = h
@@ -27,7 +27,7 @@ under-drop (suc k) (l ∷ n) a h len =
     under-drop k n a
     (above_under l n a (length n - length a) h (omega (arith, longer))) (omega (arith, len))
 
--- where a way begins
+-- where a path begins
 module _ (z : ZoneContents) (apex : ZoneNode) (ends : Bool) (s : Sought) (top : IsApex z apex) where
   record Start (l : Option ZoneNode) : Type 0 where
     zone : (node_or apex l).zone ≡ z
@@ -81,11 +81,11 @@ module _ (z : ZoneContents) (apex : ZoneNode) (ends : Bool) (s : Sought) (top : 
           at_name = ap (λ y. node_of y top) a.zone ∙ ap (node_of z) (sym (alike ∙ a.lower));
         }
 
-    -- below it no name is above the origin
+    -- no name below it is above the origin
     pub under-origin : (k : ℕ) → k ≤ s.depth → at_or_below (drop k s.name) z.origin ≡ true
     under-origin k few = grind (arith, start, under-trans, under-drop)
 
--- the label before so many others
+-- the label before the last b labels
 pub label-before : (n labels : DomainName) (l : Octets) (b : ℕ) → labels ≡ n
     → 0 < b → drop (b - 1) labels ≡ l ∷ drop (b - 1 + 1) labels → drop (b - 1) n ≡ l ∷ drop b n
 label-before n labels l b e some h = grind arith

@@ -1,4 +1,4 @@
--- Sets offered one after the other: what is kept of them, and when one is missing.
+-- Sets offered one after another: what is kept of them, and when one is missing.
 use Rattle.dns_answer.proofs.Common.{◌≡◌, ℕ, ◌+◌, ◌<◌, ◌≤◌, Bool, true, false, cond, nat_le, nat_lt, List, [], ◌∷◌, ◌++◌, length, Some, refl, sym, ap, ◌∙◌, arith, length-append, ltb-true, lt-ltb, MessageQuestion, Item, kept, fitting, size_grows, kept_is_fitting, Draft, empty_draft, size_with, offer, offered}
 
 pub offered-append : (d : Draft) (is js : List Item)
@@ -37,7 +37,7 @@ pub offered-keeps : (q : MessageQuestion) (limit : ℕ) (is : List Item)
     → (offered (empty_draft q limit) is).kept ≡ kept (size_with q) limit is
 offered-keeps q limit is = grind (arith, offered-kept, kept_is_fitting, size_with, size_grows, Some)
 
--- Sets are missing exactly where the reply is full once they are offered.
+-- Sets are missing if and only if the reply is full after they are offered.
 abbrev open_draft : MessageQuestion → ℕ → List Item → Draft
 open_draft q limit front = record { question = q; limit = limit; kept = front; full = false }
 
@@ -55,7 +55,7 @@ counts q limit front [] = record { whole = λ e. omega arith; missing = λ e. ab
 counts q limit front (i ∷ is) =
     grind (arith, length-append, offered-full, (counts q limit (front ++ i ∷ []) is))
 
--- a reply that is offered more has no fewer sets
+-- a reply that is offered more does not lose sets
 longer : (q : MessageQuestion) (limit : ℕ) (front is : List Item) (b : Bool) → length front ≤ length
     (offered (record { question = q; limit = limit; kept = front; full = b }) is).kept
 unfolding offered
@@ -71,8 +71,8 @@ longer q limit front (i ∷ is) false = go (nat_le (size_with q (front ++ i ∷ 
     go true h k = omega (arith, length-append front (i ∷ []))
     go false h k = k
 
--- What is kept of all sets lacks one of the first of them exactly where the reply is full once
--- those are offered.
+-- The sets kept lack one of the first sets if and only if the reply is full after these are
+-- offered.
 truncated_by : (d : Draft) (rest : List Item) (n : ℕ) (first : List Item) → Counted 0 d first
     → (b : Bool) → d.full ≡ b → nat_lt (length (offered d rest).kept) (length first) ≡ d.full
 truncated_by d rest n first h b h1 = grind (arith, offered-full, lt-ltb, longer, ltb-true)

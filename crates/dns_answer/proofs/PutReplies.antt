@@ -1,4 +1,4 @@
--- What is put at the front of the buffer is the reply that the definitions state.
+-- The octets at the front of the buffer are the reply that the definitions state.
 use Rattle.dns_answer.proofs.Common.{◌≡◌, ℕ, ◌+◌, ◌≤◌, Bool, true, false, cond, not, ◌&&◌, nat_lt, nat_le, List, [], ◌∷◌, ◌++◌, length, take, Option, Some, is_some, refl, sym, ap, ◌∙◌, subst, arith, length-take, Octets, DomainName, is_name, ZoneContents, Header, MessageQuestion, Item, layout, size, most_aliases, outcome, items, is_authoritative, option_map, reply_head, Decision, kept, truncated, answered, keep_longest, reply_of, reply_octets, few_nodes, length-layout, Walk, code_of, empty_draft, offer, offered, size_with, State, Holds, Rest, TookRest, chain_rest, Seeks, Followed, IsReply, Answers, Costs, Verdict}
 use Rattle.dns_answer.specs.Draft as spec
 use Rattle.dns_answer.proofs.Offering.{Offers-is}
@@ -6,7 +6,7 @@ use Rattle.dns_answer.proofs.Offered.{offered-keeps, offered-truncated}
 use Rattle.dns_answer.proofs.AnswerItems.{items-are, required-are, required-first, rcode-is}
 use Rattle.dns_answer.proofs.AnswerCosts.{authority-is, visits-fit, comparisons-fit}
 
--- a layout that stands at the front of the buffer has room there
+-- a layout at the front of the buffer fits there
 laid_within : (h : Header) (q : Option MessageQuestion) (is : List Item) (out : Octets) (len : ℕ)
     → len ≡ size q is → take len out ≡ layout h q is → len ≤ length out
 laid_within h q is out len sized laid =
@@ -52,7 +52,7 @@ module _ (z : ZoneContents) (h : Header) (q : MessageQuestion) where
       → not (v.is_referral && not led) ≡ is_authoritative (outcome z q.qname q.qtype)
   authoritative v led refers followed = grind (arith, authority-is)
 
-  -- the zone and the question may be stated by other names
+  -- the zone and the question may be replaced by equal ones
   pub answers-found : {s1 s' : Walk} {n : DomainName} {t : ℕ} {w w' : State} {v : Verdict}
       {aa : Bool} {head : Header} (led : Bool) → s1.zone ≡ z → n ≡ q.qname → t ≡ q.qtype
       → Seeks w w' s1 s' t [] n v → Followed s1.zone t n v led → aa ≡ not (v.is_referral && not led)
@@ -60,7 +60,7 @@ module _ (z : ZoneContents) (h : Header) (q : MessageQuestion) where
   answers-found {w = w} {w' = w'} {v = v} led zone name type seeks followed authority is_head =
       grind (arith, authoritative, rcode-is, Offers-is, items-are, truncates)
 
-  -- Then they are laid out at the front of the buffer.
+  -- The sets are laid out at the front of the buffer.
   pub answer-put : (limit : ℕ) (w w' : State) (head : Header) (len : ℕ) (out : Octets)
       → Holds w (empty_draft q limit) → Answers z h q w w' head → ((d : spec.Draft) → Holds w' d
       → len ≡ size (Some d.question) d.kept) → ((d : spec.Draft) → Holds w' d → take len out
@@ -79,7 +79,7 @@ module _ (z : ZoneContents) (h : Header) (q : MessageQuestion) where
         within = laid_within _ _ _ out len (sized d held) (laid d held);
       }
 
--- What the search for the question's name took is no more than an answer may take.
+-- The cost of seeking the question's name is no more than an answer may cost.
 pub answer-costs : (h : Header) (q : MessageQuestion) (n : DomainName) (t : ℕ) (s s1 s' : Walk)
     → is_name q.qname ≡ true → n ≡ q.qname → t ≡ q.qtype → s.visits ≡ 0 → s.comparisons ≡ 0
     → s1.visits ≡ s.visits + 1 → s1.comparisons ≡ s.comparisons → s1.zone ≡ s.zone

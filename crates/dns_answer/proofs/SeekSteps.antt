@@ -1,4 +1,4 @@
--- What seeking a name has offered and taken, by what is found for it.
+-- What seeking a name has offered and what it cost, by what is found for it.
 use Rattle.dns_answer.proofs.Common.{◌≡◌, inl, inr, ℕ, ◌+◌, ◌*◌, ◌<◌, ◌≤◌, Bool, true, false, cond, ◌&&◌, ◌||◌, List, [], ◌∷◌, ◌++◌, map, length, Option, None, Some, refl, sym, ap, ap₂, ◌∙◌, arith, subst, list_any, DomainName, folded, names_equal, same, at_or_below, type_cname, ResourceRecord, ZoneContents, at, of_type, with_owner, RecordSet, records_at, no_error, answer, Item, most_aliases, item, follows_alias, alias_set, first_target, has_any, Outcome, outcome_by, positive, negative, and_from, and_right, list_any-append, Walk, ZoneNode, IsSetOf, State, Offers, Rest, ending, after_sets, Says, TookRest, asked_item, AreRecords, Took, IsApex, IsAim, labels_below, target_at, chain_rest, names_of, aliases_left, leads_on, unsought, AreTargets, MaySeek, Seeks, HasNoAlias, IsShown, NextIs, Sought, Verdict, All, drop, All-nil, All-cons, All-head, All-tail, All-append, or_comm, or-false, length-map, length-reverse, map-append, reverse-append}
 use Rattle.dns_answer.proofs.TargetLaws.{same-lower}
 use Rattle.dns_answer.proofs.Taking.{Took-then, HasRoom-after}
@@ -8,12 +8,12 @@ use Rattle.dns_answer.proofs.EndingSets.{item-shown, of_type-shown}
 use Rattle.dns_answer.proofs.AskedSets.{asked-none, asked-some, none_any, some_any}
 use Rattle.dns_answer.proofs.ChainSteps.{alias-found, outcome-found, outcome-alias, ends-plain, ends-alias, goes-on}
 
--- the sets of aliases before what is still to come
+-- the sets of aliases, followed by the rest
 pub says-after : {w w1 w' : State} {r : Rest} {v : Verdict} (is : List Item) (nodes : ℕ)
     → Offers w w1 is → Says w1 w' r v → Says w w' (after_sets is nodes r) v
 says-after {w} {w1} {w'} {r} is nodes a h = grind (arith, Offers-then, offered-append)
 
--- what seeking a name comes to, by what is still to come after its own sets
+-- the result of seeking a name, by the rest after its own sets
 pub sought-on : (a : Walk) (t : ℕ) (before : List DomainName) (s : DomainName) (is : List Item)
     (r : Rest) {w w1 w' : State} {b c : Walk} {v : Verdict} → chain_rest a.zone t (aliases_left
     before) before s ≡ after_sets is (labels_below a.zone s) r → Took a b (labels_below a.zone s) 2
@@ -41,7 +41,7 @@ pub unsought-is : (origin m : DomainName) (sought : List DomainName) (o : Option
     → unsought origin sought o ≡ cond b None (Some m)
 unsought-is origin m sought o b leads inside among = grind arith
 
--- names in lower case are the same where they are equal
+-- names in lower case are the same if they are equal
 any-lower : (n : DomainName) (ss : List Sought)
     → folded n ≡ n → All (λ (s : Sought). folded s.name ≡ s.name) ss → list_any
     (λ (s : Sought). names_equal n s.name) ss ≡ list_any (λ (s : Sought). same n s.name) ss
@@ -57,7 +57,7 @@ names-more ss s = grind (arith, map-append, reverse-append)
 pub names-count : (ss : List Sought) → length (names_of ss) ≡ length ss
 names-count ss = grind (arith, length-reverse, length-map)
 
--- a name in lower case was sought: the last one, or one before it
+-- a name in lower case was sought: it is the last one, or one before it
 pub among-is : (n : DomainName) (l f : Sought) (ts earlier : List Sought) → f ∷ ts ≡ earlier
     → folded n ≡ n → AreTargets earlier l
     → (names_equal n l.name || (list_any (λ (s : Sought). names_equal n s.name) ts
@@ -153,13 +153,13 @@ module _ (z : ZoneContents) (t : ℕ) (before : List DomainName) (s : DomainName
       alias-leads : first_target (alias_set z s) ≡ target_at 0 set
       alias-leads = grind (arith, aliases-at, are_set)
 
-      -- it leads no further
+      -- the alias leads no further
       pub alias-ends : NextIs z set (s ∷ before) None
           → Chain (asked_item s set) (ending z (positive []))
       alias-ends next =
           grind (arith, ends-alias, alias-item, outcome-alias, has-alias, alias-leads)
 
-      -- it leads to another name
+      -- the alias leads to another name
       pub alias-goes_on : (m : Sought) (l : Option ZoneNode)
           → NextIs z set (s ∷ before) (Some (m, l)) → Chain
           (asked_item s set) (chain_rest z t (aliases_left (s ∷ before)) (s ∷ before) m.name)

@@ -1,7 +1,7 @@
--- What is sent is the reply that the definitions state, by the query that a datagram was read as.
+-- What is sent is the reply that the definitions state, by how the datagram was read as a query.
 use Rattle.dns_answer.proofs.Common.{◌≡◌, ◌↔◌, ℕ, ◌<◌, ◌≤◌, Bool, true, false, Option, None, Some, IsTrue, IsNone, IfSome, All, length, take, refl, sym, ap, subst, ◌∙◌, arith, true≢false, All-weaker, option_map, Octets, ResourceRecord, ZoneContents, IsWritable, IsReadRecord, Spells, is_ignored, QueryRead, absent, refused_with, query, query_read, Decision, decide_query, decide, reply_of, keep_longest, reply_with, reply, reply_octets, reply_message, octets_of, reply_spells, Walk, IsBuilt, IsReply, Costs, Responds}
 
--- the datagrams to which no reply is owed
+-- the datagrams that get no reply
 abbrev is_absent : QueryRead → Bool
 is_absent absent = true
 is_absent (refused_with h) = false
@@ -15,7 +15,7 @@ module _ (d : Octets) (y : QueryRead) (read : y ≡ query_read d) where
   ignored-by : is_ignored d ≡ is_absent y
   ignored-by = sym (absent-is d) ∙ ap is_absent (sym read)
 
-  -- nothing is sent exactly where no reply is owed
+  -- nothing is sent if and only if the datagram gets no reply
   pub silent : is_absent y ≡ true
       → (let none : Option ℕ = None in IsNone none) ↔ IsTrue (is_ignored d)
   silent e = (λ h. ignored-by ∙ e, λ h. refl)
@@ -45,13 +45,13 @@ pub spelled : (z : ZoneContents) (d sent : Octets) (limit : ℕ) → IsBuilt z
 unfolding octets_of
 spelled z d sent limit built low from upto e = grind (arith, reply_spells, All-weaker, writable)
 
--- a walk that is left as it was has taken nothing
+-- a walk that stays as it was costs nothing
 pub nothing-taken : (x : Decision) (s : Walk) → s.visits ≡ 0 → s.comparisons ≡ 0 → Costs x s s
 nothing-taken x s visits comparisons = grind arith
 
 module _ (d : Octets) (y : QueryRead) (read : y ≡ query_read d) (s s' : Walk) (limit : ℕ)
     (costs : Costs (decide_query s.zone y) s s') where
-  -- no reply is owed
+  -- the datagram gets no reply
   pub unanswered : (out : Octets) → is_absent y ≡ true → option_map reply_octets
       (reply_of (keep_longest s.zone limit) s.zone (decide_query s.zone y)) ≡ None
       → Responds s s' d limit None out

@@ -1,4 +1,4 @@
--- The additional sets of a reply are the addresses of the targets that did not stand before.
+-- The additional sets of a reply are the addresses of the targets, none of them twice.
 use Rattle.dns_answer.proofs.Common.{arith, ◌≡◌, ℕ, Bool, true, false, cond, ◌||◌, ◌&&◌, ◌⊎◌, inl, inr, not, List, [], ◌∷◌, ◌++◌, refl, sym, ap, ap₂, ◌∙◌, Some, and-false, false≢true, false_from_ne_true, and_right, or_parts, flat_map-append, list_any-append, list_any, DomainName, folded, names_equal, same, type_a, type_aaaa, ResourceRecord, ZoneContents, at, rrset, of_type, additional, Item, records_of, ◌==◌, item, stands, has_any, address_set, address_sets, extra, AllByRecursion, each_weaker, each_typed, each_among, filter_test, item_records, same-is, same-from, addresses_of, target_items, side_items, all_names, at-folded}
 
 abbrev is_at : DomainName → ℕ → ResourceRecord → Bool
@@ -8,7 +8,7 @@ stands-append : (n : DomainName) (t : ℕ) (xs ys : List Item)
     → stands n t (xs ++ ys) ≡ (stands n t xs || stands n t ys)
 stands-append n t xs ys = grind (arith, flat_map-append, list_any-append, records_of)
 
--- a test that gives one answer at all records
+-- a test that gives the same for all records
 any-each : (p : ResourceRecord → Bool) (b : Bool) (rs : List ResourceRecord)
     → AllByRecursion (λ r. p r ≡ b) rs → list_any p rs ≡ (b && has_any rs)
 any-each p b [] e = sym (and-false b)
@@ -44,7 +44,7 @@ set-owners z m t =
 abbrev IsAddress : ℕ → Type 0
 IsAddress t = (t ≡ type_a) ⊎ (t ≡ type_aaaa)
 
--- the addresses of a name stand for the names that are the same
+-- if names are the same, so are their addresses
 module _ (z : ZoneContents) (n m : DomainName) where
   stands-set : (t u : ℕ) → stands n t (item additional (rrset z m u))
       ≡ ((same m n && u == t) && has_any (rrset z m u))
@@ -54,7 +54,7 @@ module _ (z : ZoneContents) (n m : DomainName) where
       → stands n t (addresses_of z m) ≡ (same m n && has_any (rrset z m t))
   stands-addresses t is = grind (arith, stands-append, stands-set)
 
--- a reply has the addresses of the names before, and of no others
+-- the reply contains the addresses of the targets before, and no others
 record Stood (z : ZoneContents) (t : ℕ) (earlier : List Item) (before : List DomainName)
     : Type 0 where
   are : (n : DomainName) → stands n t earlier ≡ (list_any (same n) before && has_any (rrset z n t))
@@ -70,7 +70,7 @@ module _ (z : ZoneContents) where
       → address_sets z earlier m ≡ target_items z all_names before (Some m)
   address-both earlier before m a b = grind (arith, address-one)
 
-  -- one name more
+  -- one more name
   stood-next : (t : ℕ) → IsAddress t → (earlier : List Item) (before : List DomainName)
       (m : DomainName) → Stood z t earlier before
       → Stood z t (earlier ++ target_items z all_names before (Some m)) (before ++ m ∷ [])
@@ -115,7 +115,7 @@ module _ (z : ZoneContents) where
       (stood-next type_a (inl refl) earlier before m a)
       (stood-next type_aaaa (inr refl) earlier before m b))
 
--- no set has an address
+-- no set contains an address
 abbrev pub NotAddress : ResourceRecord → Type 0
 NotAddress r = (r.rtype == type_a || r.rtype == type_aaaa) ≡ false
 

@@ -1,7 +1,7 @@
--- What look-ups take one after the other, and the room that they leave.
+-- The cost of look-ups in sequence, and the room that they leave.
 use Rattle.dns_answer.proofs.Common.{ℕ, ◌+◌, ◌≤◌, arith, Walk, HasRoom, Took}
 
--- a walk that goes on no further took no more than any
+-- a walk that stops costs no more than any
 pub Took-none : {s : Walk} {nodes misses : ℕ} → Took s s nodes misses
 Took-none = grind arith
 
@@ -12,7 +12,7 @@ Took-then a b = grind arith
 pub Took-within : {s s' : Walk} {n m n' m' : ℕ} → n ≤ n' → m ≤ m' → Took s s' n m → Took s s' n' m'
 Took-within nodes misses took = grind arith
 
--- the room that is left
+-- the room left
 pub HasRoom-after : {s s' : Walk} {n m k r : ℕ} → Took s s' n m → n + m + k ≤ r → HasRoom s r
     → HasRoom s' k
 HasRoom-after took less room = record { visits = omega arith; comparisons = omega arith }

@@ -1,4 +1,4 @@
--- The targets of a set, one after the other, and what was offered for those before.
+-- The targets of a set in order, and what was offered for the earlier ones.
 use Rattle.dns_answer.proofs.Common.{◌≡◌, ℕ, zero, suc, ◌+◌, ◌-◌, ◌<◌, ◌≤◌, Bool, true, false, ◌||◌, ◌&&◌, ◌⊎◌, inl, inr, not, List, [], ◌∷◌, ◌++◌, map, sum, length, take, drop, get_or, Option, None, Some, refl, sym, ap, ap₂, ◌∙◌, arith, add-one, append_assoc, append-nil, length-append, subst, take-append-drop, list_all-append, list_any-append, option_to_list, Octets, DomainName, folded, names_equal, same, at_or_below, target, type_a, type_aaaa, ResourceRecord, ZoneContents, at, of_type, RecordSet, set_of, Section, additional, item, targets_in_zone, exists, lt-ltb, IsReadRecord, take-suc, and-true, and-false, false≢true, false_from_ne_true, or_left, or_right, cases_lt, filter-append, filter_map-append, list_all, list_any, filter, filter_map, cons_option, Walk, IsBuilt, nat_lt, is_owner, outside, Among, filter_among, each_weaker, passes_check, recursion_from_All, sum_cons, each_among, filter_none, same-from, same-under, itself-under, at-folded, Took, State, Offers, set_targets, targets_of_first, target_at, takes_target, addresses_of, depth_in, target_items, side_items, side_nodes, target_nodes, target_misses}
 use Rattle.dns_answer.proofs.Taking.{Took-then, Took-within}
 use Rattle.dns_answer.proofs.Offering.{Offers-is, Offers-then, Offers-full}
@@ -6,7 +6,7 @@ use Rattle.dns_answer.proofs.Offering.{Offers-is, Offers-then, Offers-full}
 one_more : (o : Option DomainName) → cons_option o [] ≡ option_to_list o
 one_more o = grind arith
 
--- the targets of one record more
+-- the targets of one more record
 pub first-more : (set : RecordSet) (i : ℕ) → i < length set.rdata
     → targets_of_first (i + 1) set ≡ targets_of_first i set ++ option_to_list (target_at i set)
 first-more set i h =
@@ -16,7 +16,7 @@ first-more set i h =
     ∙ ap (filter_map f) (take-suc set.rdata i [] h) ∙ filter_map-append f (take i set.rdata)
     (d ∷ []) ∙ ap (λ x. targets_of_first i set ++ x) (one_more (target set.rtype d))
 
--- a target more, and whether one stood before
+-- one more target, and whether it appeared before
 pub any-more : (p : DomainName → Bool) (set : RecordSet) (i : ℕ) → i < length set.rdata
     → list_any p (targets_of_first (i + 1) set) ≡ (list_any p (targets_of_first i set)
     || list_any p (option_to_list (target_at i set)))
@@ -39,13 +39,13 @@ stood-some p set (suc k) i m h l e f =
     by_place (inl before) rest = or_left _ (last k) (rest before)
     by_place (inr after) rest = grind arith
 
--- whether all pass a test, with one target more
+-- whether all targets pass a test, with one more target
 pub all-more : (p : DomainName → Bool) (set : RecordSet) (i : ℕ)
     → i < length set.rdata → list_all p (targets_of_first (i + 1) set)
     ≡ (list_all p (targets_of_first i set) && takes_target p (target_at i set))
 all-more p set i h = grind (arith, first-more, list_all-append, and-true)
 
--- what is offered for one target more
+-- what is offered for one more target
 pub side_items-append : (z : ZoneContents) (p : DomainName → Bool) (before ms ns : List DomainName)
     → side_items z p before
     (ms ++ ns) ≡ side_items z p before ms ++ side_items z p (before ++ ms) ns
@@ -68,7 +68,7 @@ pub side_items-none : (z : ZoneContents) (p : DomainName → Bool) → side_item
 unfolding side_items
 side_items-none z p = refl
 
--- the labels of names below the origin
+-- the number of labels of names below the origin
 abbrev pub depths : ZoneContents → List DomainName → ℕ
 depths z ns = sum (map (λ (n : DomainName). length n - length z.origin) ns)
 
@@ -77,7 +77,7 @@ pub depths-append : (z : ZoneContents) (ns ms : List DomainName)
 depths-append z [] ms = omega arith
 depths-append z (n ∷ ns) ms = grind (arith, sum_cons, (depths-append z ns ms))
 
--- what targets take, with others
+-- the cost of targets, with others
 module _ (z : ZoneContents) (p : DomainName → Bool) where
   nodes-append : (ms ns : List DomainName)
       → side_nodes z p (ms ++ ns) ≡ side_nodes z p ms + side_nodes z p ns
@@ -122,7 +122,7 @@ first-rest set i =
     sym (filter_map-append of (take i set.rdata) (drop i set.rdata))
     ∙ ap (filter_map of) (take-append-drop i set.rdata)
 
--- who ends after the first targets took no more than all may take
+-- a loop that ends after the first targets costs no more than all targets may
 pub Took-rest : (z : ZoneContents) (p : DomainName → Bool) (set : RecordSet) (i : ℕ) {s s' : Walk}
     → Took s s' (side_nodes z p (targets_of_first i set)) (length (filter p (targets_of_first
     i set))) → Took s s' (side_nodes z p (set_targets set)) (length (filter p (set_targets set)))
@@ -133,7 +133,7 @@ Took-rest z p set i {s} {s'} took =
     (Took-within (omega (arith, nodes-append z p ms ns))
     (omega (arith, misses-append z p ms ns)) took)
 
--- a full reply has been offered all of them
+-- a full reply was offered all of them
 pub Offers-rest : (z : ZoneContents) (p : DomainName → Bool) (set : RecordSet) (i : ℕ)
     (w w' : State) → w'.full ≡ true → Offers w w' (side_items z p [] (targets_of_first i set))
     → Offers w w' (side_items z p [] (set_targets set))
@@ -171,7 +171,7 @@ owner_inside z kept r m =
     go true e = refl
     go false e = absurd (false≢true (sym e))
 
--- a name that no record has
+-- a name that owns no record
 none-at : (z : ZoneContents) (m : DomainName)
     → ((r : ResourceRecord) → Among r z.records → same r.owner m ≡ true → ⊥) → addresses_of z m ≡ []
 none-at z m none = grind (arith, filter_none, each_among, false_from_ne_true)
@@ -191,12 +191,12 @@ none-missing z m out =
     some (s ∷ rs) r (inl is) e = grind arith
     some (s ∷ rs) r (inr a) e = or_right (at_or_below s.owner m) _ (some rs r a e)
 
--- the addresses of a name are those of its lower case
+-- the addresses of a name are those of the name in lower case
 pub addresses-folded : (z : ZoneContents) (m : DomainName)
     → addresses_of z (folded m) ≡ addresses_of z m
 addresses-folded z m = grind (arith, item, additional, of_type, type_a, type_aaaa, at-folded)
 
--- a target without addresses to offer
+-- a target for which no addresses are offered
 pub items-untaken : (z : ZoneContents) (p : DomainName → Bool) (before : List DomainName)
     (m : DomainName) → p m ≡ false → target_items z p before (Some m) ≡ []
 items-untaken z p before m e = grind (arith, list_any, same, addresses_of)
@@ -205,7 +205,7 @@ pub items-stood : (z : ZoneContents) (p : DomainName → Bool) (before : List Do
     (m : DomainName) → list_any (same m) before ≡ true → target_items z p before (Some m) ≡ []
 items-stood z p before m e = grind (arith, and-false)
 
--- names in lower case are the same where they are equal
+-- names in lower case are the same if they are equal
 pub same-lower : (n m : DomainName) → folded n ≡ n → folded m ≡ m → names_equal n m ≡ same n m
 same-lower n m low kept = sym (ap₂ names_equal low kept)
 

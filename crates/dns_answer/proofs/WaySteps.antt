@@ -1,7 +1,7 @@
--- A label more on the way down to a name.
+-- One more label on the path down to a name.
 use Rattle.dns_answer.proofs.Common.{arith, ◌≡◌, ℕ, Bool, true, false, ◌&&◌, ◌∷◌, map, Option, None, Some, sym, ap, ◌∙◌, false≢true, and_parts, false_from_ne_true, length-map, to_ascii_lowercase, is_some, Octets, DomainName, folded, at_or_below, below, type_ns, type_cname, ZoneContents, owns, rrset, set_of, exists, is_cut, IfSome, ZoneNode, IsLead, folded_folded, same-from, itself-under, below-cons, same-under, any_weaker, exists-lower, node_of, node_or, IsThere, IsMissing, IsBelowCut, IsLeadTo, cut-above, cut-here, cut-none, cut-by_set, exists-folded, exists-up, encloser-here, encloser-above}
 
--- what owns a record exists
+-- a name that owns a record exists
 owns-exists : (z : ZoneContents) (n : DomainName) (t : ℕ) → exists z n ≡ false → owns z n t ≡ false
 owns-exists z n t e =
     grind (arith, false_from_ne_true, false≢true, any_weaker, itself-under, and_parts)
@@ -49,7 +49,7 @@ missing-child z start ends l n node at_node h e absent =
           ∙ folded_folded n ∙ ap (λ (v : ZoneNode). v.name) (sym h.at_name);
     }
 
--- a name below the origin stays so in lower case
+-- a name below the origin is still below it in lower case
 below-lower : (z : ZoneContents) (l : Octets) (n : DomainName)
     → at_or_below n z.origin ≡ true → below (folded (l ∷ n)) z.origin ≡ true
 below-lower z l n under =

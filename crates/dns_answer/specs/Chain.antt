@@ -1,5 +1,4 @@
--- What a reader learns here: what is still to come of an answer at a name of the chain of aliases,
--- and what it takes.
+-- The rest of an answer from a name of the chain of aliases on, and its cost.
 use Rattle.std.specs.Prelude.{ℕ, ◌+◌, ◌-◌, ◌*◌, sum, List, [], ◌∷◌, ◌++◌, map, length, if◌then◌else◌}
 use Rattle.std.specs.List.{flat_map}
 use Rattle.dns_spec.specs.Names.{DomainName}
@@ -8,16 +7,16 @@ use Rattle.dns_spec.specs.Layout.{answer, Item}
 use Rattle.dns_spec.specs.Answer.{item, follows_alias, alias_set, chain_from, last_of, outcome_at}
 use Rattle.dns_answer.specs.Ending.{Rest, ending}
 
--- the names sought from s on, at most k of them targets; `sought` has the names before it
+-- the names sought from s on, with at most k targets; `sought` are the names before s
 abbrev pub names_from : ZoneContents → ℕ → ℕ → List DomainName → DomainName → List DomainName
 names_from z t k sought s = if follows_alias t then chain_from z k sought s else s ∷ []
 
--- the CNAME sets of names
+-- the CNAME sets of the names
 abbrev pub aliases_of : ZoneContents → ℕ → List DomainName → List Item
 aliases_of z t ns = if follows_alias t then flat_map (λ n. item answer (alias_set z n)) ns else []
 
--- RFC 1034 4.3.2 step 3a: what is still to come of an answer after names that are sought from s on:
--- the aliases of all, and the sets that end it. Two names are missing for each, at most.
+-- RFC 1034 4.3.2 step 3a: the rest of an answer for the names sought from s on: the aliases of
+-- all, and the sets that end the answer. At most two labels are missing for each name.
 abbrev pub rest_of : ZoneContents → ℕ → DomainName → List DomainName → Rest
 rest_of z t s ns =
     let r = ending z (outcome_at z t (last_of s ns)) in

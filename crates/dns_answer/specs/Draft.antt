@@ -1,12 +1,12 @@
--- What a reader learns here: what becomes of a reply when set after set is offered to it.
+-- How a reply changes while one set after another is offered to it.
 use Rattle.std.specs.Prelude.{ℕ, Bool, true, false, List, [], ◌∷◌, ◌++◌, nat_le, if◌then◌else◌}
 use Rattle.std.specs.Prelude.{Some}
 use Rattle.dns_spec.specs.Reading.{MessageQuestion}
 use Rattle.dns_spec.specs.Layout.{Item}
 use Rattle.dns_spec.specs.LayoutSize.{size}
 
--- A reply to a question while sets are offered to it: the sets that it has, and whether one did
--- not fit, after which none is tried.
+-- A reply to a question while sets are offered to it: the sets that it contains, and whether one
+-- did not fit, after which none is tried.
 pub record Draft : Type 0 where
   pub question : MessageQuestion
   pub limit : ℕ
@@ -17,11 +17,11 @@ pub record Draft : Type 0 where
 abbrev pub empty_draft : MessageQuestion → ℕ → Draft
 empty_draft q limit = record { question = q; limit = limit; kept = []; full = false }
 
--- the size of a reply with some sets
+-- the size of a reply with these sets
 abbrev pub size_with : MessageQuestion → List Item → ℕ
 size_with q sets = size (Some q) sets
 
--- a set is put where there is room for it, and none is put after one for which there was no room
+-- a set is added if it fits, and none after a set that did not fit
 abbrev pub offer : Draft → Item → Draft
 offer d i =
     let next = d.kept ++ i ∷ [] in

@@ -1,5 +1,4 @@
--- What a reader learns here: when a reply has the sets of a draft, and what offering sets makes of
--- it.
+-- When a reply contains the sets of a draft, and how offering sets changes it.
 use Rattle.std.specs.Prelude.{◌≡◌, ℕ, Bool, false, List}
 use Rattle.std.specs.Prelude.{Some}
 use Rattle.dns_spec.specs.Layout.{Item}
@@ -9,22 +8,22 @@ use Rattle.dns_wire.specs.QuickNumbers.{quick_number}
 use Rattle.dns_answer.specs.Draft as spec
 use Rattle.dns_answer.specs.Draft.{offered}
 
--- a reply while sets are offered to it: what is written of it, and whether a set did not fit
+-- a reply while sets are offered to it: what is written, and whether a set did not fit
 pub record State : Type 0 where
   pub page : wire.Draft
   pub full : Bool
 
--- a reply of at most so many octets that has nothing yet
+-- an empty reply of at most `limit` octets
 abbrev pub blank : ℕ → State
 blank limit = record { page = wire.no_draft limit; full = false }
 
--- the reply is that of the draft
+-- the written reply is the draft's
 pub record Holds (w : State) (d : spec.Draft) : Type 0 where
   pub written : IsDraft quick_number (Some d.question) d.kept w.page
   pub limit : w.page.limit ≡ d.limit
   pub full : w.full ≡ d.full
 
--- These sets are offered, one after the other.
+-- These sets are offered, in order.
 pub record Offers (w w' : State) (is : List Item) : Type 0 where
   pub draft : (d : spec.Draft) → Holds w d → Holds w' (offered d is)
   pub limit : w'.page.limit ≡ w.page.limit

@@ -1,5 +1,4 @@
--- What a reader learns here: which sets end an answer, after the aliases, and what the header says
--- of it.
+-- Which sets end an answer, after the aliases, and what the header states about it.
 use Rattle.std.specs.Prelude.{◌≡◌, ℕ, ◌+◌, Bool, true, false, not, List, [], ◌∷◌, ◌++◌, length}
 use Rattle.std.specs.Prelude.{Option, None, Some}
 use Rattle.std.specs.Option.{is_some}
@@ -27,7 +26,7 @@ inside c m = at_or_below m c
 abbrev pub not_inside : DomainName → DomainName → Bool
 not_inside c m = not (at_or_below m c)
 
--- the addresses that a referral needs, and all others
+-- the addresses that a referral needs, and all other addresses
 abbrev pub glue_by : ZoneContents → Option DomainName → List DomainName → List Item
 glue_by z None ms = []
 glue_by z (Some c) ms = side_items z (inside c) [] ms
@@ -36,18 +35,18 @@ abbrev pub others_by : ZoneContents → Option DomainName → List DomainName �
 others_by z None ms = side_items z all_names [] ms
 others_by z (Some c) ms = side_items z (not_inside c) [] ms
 
--- the targets of an outcome: of a referral those of its servers
+-- the targets of an outcome; for a referral, its servers
 abbrev pub ending_targets : Outcome → List DomainName
 ending_targets o = targets_of (main_items o)
 
--- the sets that may not be left out, and all
+-- the required sets that end an answer, and all sets that end it
 abbrev pub ending_required : ZoneContents → Outcome → List Item
 ending_required z o = main_items o ++ glue_by z o.referral (ending_targets o)
 
 abbrev pub ending_items : ZoneContents → Outcome → List Item
 ending_items z o = ending_required z o ++ others_by z o.referral (ending_targets o)
 
--- the nodes and the missing names on the ways to the targets
+-- the nodes, and the missing children, on the paths to the targets
 abbrev pub nodes_by : ZoneContents → Option DomainName → List DomainName → ℕ
 nodes_by z None ms = side_nodes z all_names ms
 nodes_by z (Some c) ms = side_nodes z (inside c) ms + side_nodes z (not_inside c) ms
@@ -56,8 +55,8 @@ abbrev pub misses_by : Option DomainName → List DomainName → ℕ
 misses_by None ms = length (filter all_names ms)
 misses_by (Some c) ms = length (filter (inside c) ms) + length (filter (not_inside c) ms)
 
--- What is still to come of an answer: its sets, those of them that may not be left out, how it
--- ends, and at most how many nodes and missing names it takes.
+-- The rest of an answer: its sets, the required ones among them, how it ends, and the most nodes
+-- and missing children that it costs.
 pub record Rest : Type 0 where
   pub items : List Item
   pub required : List Item
@@ -65,7 +64,7 @@ pub record Rest : Type 0 where
   pub nodes : ℕ
   pub misses : ℕ
 
--- the sets that end it
+-- the rest that ends an answer
 abbrev pub ending : ZoneContents → Outcome → Rest
 ending z o = record {
   items = ending_items z o;
@@ -75,7 +74,7 @@ ending z o = record {
   misses = misses_by o.referral (ending_targets o);
 }
 
--- what is to come after some sets and one more name that is sought
+-- the rest of an answer with these sets in front and one more name sought
 abbrev pub after_sets : List Item → ℕ → Rest → Rest
 after_sets is nodes r = record {
   items = is ++ r.items;
@@ -85,14 +84,14 @@ after_sets is nodes r = record {
   misses = 2 + r.misses;
 }
 
--- The sets to come are offered, and the header says how the answer ends.
+-- The sets of the rest are offered, and the verdict states how the answer ends.
 pub record Says (w w' : State) (r : Rest) (v : Verdict) : Type 0 where
   pub offers : Offers w w' r.items
   pub rcode : code_of v.rcode ≡ r.outcome.rcode
   pub referral : v.is_referral ≡ is_some r.outcome.referral
   pub truncated : (d : spec.Draft) → Holds w d → v.is_truncated ≡ (offered d r.required).full
 
--- The verdict refers to no other servers, and says whether a set that was offered is missing.
+-- The verdict is not a referral, and states whether a set that was offered is missing.
 pub record IsPlain (w : State) (code : ℕ) (v : Verdict) : Type 0 where
   pub rcode : code_of v.rcode ≡ code
   pub referral : v.is_referral ≡ false
@@ -101,18 +100,18 @@ pub record IsPlain (w : State) (code : ℕ) (v : Verdict) : Type 0 where
 abbrev pub Ends : State → State → ZoneContents → Outcome → Verdict → Type 0
 Ends w w' z o v = Says w w' (ending z o) v
 
--- no more was taken than the rest may take
+-- no more was counted than the rest may cost
 abbrev pub TookRest : Walk → Walk → Rest → Type 0
 TookRest s s' r = Took s s' r.nodes r.misses
 
 abbrev pub TookTargets : Walk → Walk → Outcome → Type 0
 TookTargets s s' o = TookRest s s' (ending s.zone o)
 
--- a set that was asked for, as it is shown
+-- a set that was asked for, as an answer contains it
 abbrev pub asked_item : DomainName → RecordSet → List Item
 asked_item n set = record { section = answer; records = records_at n set.ttl set } ∷ []
 
--- Where a set was offered last, what is offered now ends an answer that shows it.
+-- If this set was the last one offered, what is offered now ends an answer with it.
 abbrev pub EndsWith : State → State → ZoneContents → RecordSet → Verdict → Type 0
 EndsWith w w' z set v =
     (n : DomainName) → (begun : State) → Offers begun w (asked_item n set)

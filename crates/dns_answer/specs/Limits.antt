@@ -1,4 +1,4 @@
--- What a reader learns here: how many octets a reply may have.
+-- The limits of replies in octets.
 use Rattle.std.specs.Prelude.{ℕ}
 use Rattle.dns_spec.specs.Query.{most_over_udp, most_over_tcp}
 use Rattle.dns_answer.specs.declared.reply.Limit.{Limit}

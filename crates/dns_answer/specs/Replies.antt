@@ -1,4 +1,4 @@
--- What a reader learns here: how a question is judged, when a reply was put, and what it may take.
+-- How a question is decided, when a reply was written, and what it may cost.
 use Rattle.std.specs.Prelude.{◌≡◌, ◌↔◌, ℕ, ◌*◌, ◌≤◌, length, take, Option, None, Some, Result, Ok, Err, IsTrue, IsNone, IfSome}
 use Rattle.std.specs.Option.{option_map}
 use Rattle.dns_spec.specs.Names.{Octets}
@@ -21,23 +21,22 @@ JudgedAs z q (Err rcode) = refusal z q ≡ Some (code_of rcode)
 JudgedAs z q (Ok sought) =
     (refusal z q ≡ None) × (sought.name ≡ q.qname) × IsBelow sought z.origin
 
--- The octets at the front of `out` are the reply that a decision makes, with the longest beginning
--- of the sets that fits.
+-- The octets at the front of `out` are the reply of a decision, with the longest beginning of the
+-- sets that fits.
 pub record IsReply (z : ZoneContents) (limit : ℕ) (x : Decision) (len : ℕ) (out : Octets)
     : Type 0 where
   pub octets : Some (take len out)
       ≡ option_map reply_octets (reply_of (keep_longest z limit) z x)
   pub within : len ≤ length out
 
--- All sets of an answer are offered, and this is the header of the reply that keeps what fits of
--- them.
+-- All sets of an answer are offered, and `head` is the header of the reply with those that fit.
 pub record Answers (z : ZoneContents) (h : Header) (q : MessageQuestion) (w w' : State)
     (head : Header) : Type 0 where
   pub offers : Offers w w' (items z q.qname q.qtype)
   pub header : (limit : ℕ) → Holds w (empty_draft q limit)
       → head ≡ (answer_with z h q (keep_longest z limit q)).header
 
--- the most nodes that a decision visits, and the most names that it looks up: none, unless a
+-- the most nodes that a decision visits, and the most names that it looks up; none, unless a
 -- question is answered
 abbrev pub visits_for : ZoneContents → Decision → ℕ
 visits_for z silence = 0
@@ -51,23 +50,23 @@ names_for z (header_alone h) = 0
 names_for z (question_alone h q) = 0
 names_for z (answered h q) = names_looked_up z q.qname q.qtype
 
--- the most labels that it compares, where it visits so many nodes
+-- the most label comparisons of a decision that visits `visits` nodes
 abbrev pub comparisons_for : ZoneContents → Decision → ℕ → ℕ
 comparisons_for z silence visits = 0
 comparisons_for z (header_alone h) visits = 0
 comparisons_for z (question_alone h q) visits = 0
 comparisons_for z (answered h q) visits = most_comparisons z q.qname q.qtype visits
 
--- A walk that had counted nothing took no more than a decision may.
+-- A walk that had counted nothing counted no more than a decision may cost.
 pub record Costs (x : Decision) (s s' : Walk) : Type 0 where
   pub zone : s'.zone ≡ s.zone
   pub visits : s'.visits ≤ visits_for s.zone x
   pub visits_a_name : s'.visits ≤ 128 * names_for s.zone x
   pub comparisons : s'.comparisons ≤ comparisons_for s.zone x s'.visits
 
--- A datagram was answered in at most so many octets: the octets at the front of `out` and the
--- message that they spell, or nothing where no reply is owed; and what was looked up for it by a
--- walk that had counted nothing.
+-- The reply to a datagram within a limit: the octets at the front of `out` and the message that
+-- they spell, or nothing if the datagram gets no reply; and the cost, for a walk that had counted
+-- nothing.
 pub record Responds (s s' : Walk) (datagram : Octets) (limit : ℕ) (sent : Option ℕ) (out : Octets)
     : Type 0 where
   pub absent : IsNone sent ↔ IsTrue (is_ignored datagram)

@@ -1,4 +1,4 @@
--- What a reader learns here: what seeking a name has offered, and what the header says of it.
+-- What seeking a name has offered, and what the header states about it.
 use Rattle.std.specs.Prelude.{◌≡◌, ◌⊎◌, ℕ, ◌+◌, ◌*◌, ◌-◌, ◌≤◌, ◌<◌, Bool, true, false, ◌&&◌, not, List, [], ◌∷◌, ◌++◌, length, map, reverse, drop, All, if◌then◌else◌}
 use Rattle.std.specs.Prelude.{Option, None, Some}
 use Rattle.std.specs.Option.{option_and_then}
@@ -23,17 +23,18 @@ use Rattle.dns_zone.specs.declared.tree.sought.Sought.{Sought}
 abbrev pub names_of : List Sought → List DomainName
 names_of ss = reverse (map (λ (s : Sought). s.name) ss)
 
--- how many aliases may still be followed
+-- the number of aliases that may still be followed
 abbrev pub aliases_left : List DomainName → ℕ
 aliases_left before = most_aliases - length before
 
--- All names sought but the first are targets, in lower case: those before the last one, and it.
+-- All names sought but the first are targets in lower case: the names before the last one, and the
+-- last one.
 pub record AreTargets (earlier : List Sought) (s : Sought) : Type 0 where
   pub last : 0 < length earlier → folded s.name ≡ s.name
   pub others : All (λ (e : Sought). folded e.name ≡ e.name) (drop 1 earlier)
 
--- A name may be sought after others: by a way from a lead or the apex, and for it and each alias
--- that may still be followed 129 nodes may be handed out, as for each of 129 targets.
+-- A name may be sought after others: on a path from a lead or the apex. The walk has room for 129
+-- nodes for the name and each alias that may still be followed, and for each of 129 targets.
 pub record MaySeek (s : Walk) (top : ZoneNode) (earlier : List Sought) (n : Sought)
     (l : Option ZoneNode) : Type 0 where
   pub apex : IsApex s.zone top
@@ -41,28 +42,28 @@ pub record MaySeek (s : Walk) (top : ZoneNode) (earlier : List Sought) (n : Soug
   pub lower : AreTargets earlier n
   pub room : HasRoom s (129 * (aliases_left (names_of earlier) + 129))
 
--- What is still to come of an answer at the name n was offered and taken, and the header says how
--- its last name is answered.
+-- The rest of an answer at the name n was offered and counted, and the verdict states how its last
+-- name is answered.
 pub record Seeks (w w' : State) (s s' : Walk) (t : ℕ) (before : List DomainName) (n : DomainName)
     (v : Verdict) : Type 0 where
   pub says : Says w w' (chain_rest s.zone t (aliases_left before) before n) v
   pub took : TookRest s s' (chain_rest s.zone t (aliases_left before) before n)
 
--- a name has an alias that is followed
+-- the name has an alias that is followed
 abbrev pub leads_on : ZoneContents → ℕ → DomainName → Bool
 leads_on z t n = follows_alias t && has_any (alias_set z n)
 
--- Of a referral it is said whether the name sought has such an alias.
+-- For a referral, `led` is whether the name sought has such an alias.
 abbrev pub Followed : ZoneContents → ℕ → DomainName → Verdict → Bool → Type 0
 Followed z t s v led = v.is_referral ≡ true → led ≡ leads_on z t s
 
--- The name is the last, and a referral is from its own cut.
+-- The name is the last, and a referral is from a cut of its own.
 pub record IsLast (w w' : State) (s s' : Walk) (t : ℕ) (before : List DomainName) (n : DomainName)
     (v : Verdict) : Type 0 where
   pub seeks : Seeks w w' s s' t before n v
   pub own : Followed s.zone t n v false
 
--- what seeking a name m still offers and takes, completes what seeking n has
+-- what seeking the name m still offers and costs completes the seeking of n
 abbrev pub Completes : State → State → Walk → Walk → ℕ → List DomainName → List DomainName
     → DomainName → DomainName → Type 0
 Completes w w' s s' t before before' n m =
@@ -89,8 +90,8 @@ SoughtAs w w' s s' t top earlier n (nexts.Alias m lead) =
 abbrev pub HasNoAlias : ℕ → List ResourceRecord → Type 0
 HasNoAlias t rs = (follows_alias t ≡ false) ⊎ (None ≡ set_of (of_type type_cname rs))
 
--- The set that an answer shows of records, and whether it is an alias that is followed: no other
--- set is shown where there is one.
+-- The set of records that an answer contains, and whether it is an alias that is followed; an
+-- alias that is followed excludes any other set.
 abbrev pub IsShown : ℕ → List ResourceRecord → Option (RecordSet × Bool) → Type 0
 IsShown t rs None = HasNoAlias t rs × (None ≡ set_of (asked_records t rs))
 IsShown t rs (Some (set, true)) =
@@ -99,14 +100,14 @@ IsShown t rs (Some (set, true)) =
 IsShown t rs (Some (set, false)) =
     HasNoAlias t rs × (Some set ≡ set_of (asked_records t rs))
 
--- a target, where it is at or below the origin and was not sought yet
+-- a target, if it is at or below the origin and was not sought yet
 abbrev pub unsought : DomainName → List DomainName → Option DomainName → Option DomainName
 unsought origin sought o =
     option_and_then
     (λ m. if at_or_below m origin && not (list_any (same m) sought) then Some m else None) o
 
--- the next name sought after an alias, where the names so far are these, and where the way to it
--- begins; or why there is none
+-- the name to seek after an alias, when the names in `sought` were sought already, and where its
+-- path begins; or the reason why there is none
 abbrev pub NextIs : ZoneContents → RecordSet → List DomainName → Option (Sought × Option ZoneNode)
     → Type 0
 NextIs z set sought None =

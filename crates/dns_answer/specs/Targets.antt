@@ -1,4 +1,4 @@
--- What a reader learns here: which addresses are offered for targets, one target after the other.
+-- Which addresses are offered for targets, one target after another.
 use Rattle.std.specs.Prelude.{ℕ, ◌-◌, Bool, true, ◌&&◌, not, sum, List, [], ◌∷◌, ◌++◌, map, length, take, get_or, if◌then◌else◌}
 use Rattle.std.specs.Prelude.{Option, None, Some}
 use Rattle.std.specs.List.{list_any, filter, filter_map}
@@ -15,11 +15,11 @@ use Rattle.dns_answer.specs.declared.addresses.Side.TheVariants.{All, Inside, Ou
 abbrev pub set_targets : RecordSet → List DomainName
 set_targets set = filter_map (λ (d : Octets). target set.rtype d) set.rdata
 
--- those of its first records
+-- the targets of its first k records
 abbrev pub targets_of_first : ℕ → RecordSet → List DomainName
 targets_of_first k set = filter_map (λ (d : Octets). target set.rtype d) (take k set.rdata)
 
--- that of one of them
+-- the target of its record at i
 abbrev pub target_at : ℕ → RecordSet → Option DomainName
 target_at i set = target set.rtype (get_or set.rdata i [])
 
@@ -28,7 +28,7 @@ side_takes All m = true
 side_takes (Inside cut) m = at_or_below m cut.now
 side_takes (Outside cut) m = not (at_or_below m cut.now)
 
--- a target, if there is one, passes a test
+-- the target, if there is one, passes the test
 abbrev pub takes_target : (DomainName → Bool) → Option DomainName → Bool
 takes_target p None = true
 takes_target p (Some m) = p m
@@ -37,25 +37,26 @@ takes_target p (Some m) = p m
 abbrev pub addresses_of : ZoneContents → DomainName → List Item
 addresses_of z m = item additional (rrset z m type_a) ++ item additional (rrset z m type_aaaa)
 
--- the addresses of a target that passes a test and did not stand before
+-- the addresses of a target that passes the test and is not among the targets before it
 abbrev pub target_items : ZoneContents → (DomainName → Bool) → List DomainName → Option DomainName
     → List Item
 target_items z p before None = []
 target_items z p before (Some m) = if p m && not (list_any (same m) before) then addresses_of z m
     else []
 
--- those of the targets that pass it, one after the other
+-- the addresses of the targets that pass the test, in order
 unfoldable pub side_items : ZoneContents → (DomainName → Bool) → List DomainName → List DomainName
     → List Item
 side_items z p before [] = []
 side_items z p before (m ∷ ms) = target_items z p before (Some m)
     ++ side_items z p (before ++ m ∷ []) ms
 
--- the nodes below the apex on the ways to those of them that are in the zone
+-- the number of nodes below the apex on the paths to the targets that pass the test and are in the
+-- zone
 abbrev pub side_nodes : ZoneContents → (DomainName → Bool) → List DomainName → ℕ
 side_nodes z p ms = sum (map (λ m. length m - length z.origin) (targets_in_zone z (filter p ms)))
 
--- on the way to a name, and to one of the targets
+-- the number of nodes below the apex on the path to a name, and to a target that passes the test
 abbrev pub depth_in : ZoneContents → DomainName → ℕ
 depth_in z m = if at_or_below m z.origin then length m - length z.origin else 0
 

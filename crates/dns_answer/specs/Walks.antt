@@ -1,5 +1,4 @@
--- What a reader learns here: where the way down to a name ends, what is found for it, and what
--- that took.
+-- Where the path down to a name ends, what is found for the name, and the cost.
 use Rattle.std.specs.Prelude.{◌≡◌, ℕ, ◌+◌, ◌-◌, ◌*◌, ◌<◌, ◌≤◌, Bool, true, false, length, if◌then◌else◌}
 use Rattle.std.specs.Prelude.{Option, None, Some, IfSome}
 use Rattle.std.specs.Option.{unwrap_or}
@@ -20,7 +19,7 @@ use Rattle.dns_zone.specs.declared.tree.sought.Sought.{Sought}
 abbrev pub node_of : ZoneContents → DomainName → ZoneNode
 node_of z n = record { zone = z; name = n }
 
--- a node, or the apex
+-- the node, if there is one, else the apex
 abbrev pub node_or : ZoneNode → Option ZoneNode → ZoneNode
 node_or apex node = unwrap_or node apex
 
@@ -29,7 +28,7 @@ pub record IsApex (z : ZoneContents) (apex : ZoneNode) : Type 0 where
   pub node : apex ≡ node_of z z.origin
   pub exists : IsNode z z.origin
 
--- a node below the origin at which a way may begin, also one that ends at cuts
+-- a node below the origin at which a path may begin; `ends`: a path that ends at cuts
 pub record IsLeadTo (z : ZoneContents) (ends : Bool) (v : ZoneNode) : Type 0 where
   pub zone : v.zone ≡ z
   pub exists : IsNode z v.name
@@ -37,22 +36,22 @@ pub record IsLeadTo (z : ZoneContents) (ends : Bool) (v : ZoneNode) : Type 0 whe
   pub longer : length z.origin < length v.name
   pub uncut : ends ≡ true → cut_of z v.name ≡ None
 
--- the name of the node at which a way begins: that of a lead, or the apex
+-- the name of the node at which a path begins: the lead's, or the apex's
 abbrev pub start_name : ZoneContents → Option ZoneNode → DomainName
 start_name z l = (node_or (node_of z z.origin) l).name
 
--- a name that is sought from a lead, or from the apex
+-- the name is sought from a lead, or from the apex
 pub record IsAim (z : ZoneContents) (ends : Bool) (s : Sought) (l : Option ZoneNode)
     : Type 0 where
   pub lead : IfSome l (IsLeadTo z ends)
   pub below : IsBelow s (start_name z l)
 
--- where the way to a name begins, if it is at or below the origin
+-- where the path to a name begins, if the name is at or below the origin
 abbrev pub IsAimed : ZoneContents → Bool → DomainName → Option (Sought × Option ZoneNode) → Type 0
 IsAimed z ends n None = at_or_below n z.origin ≡ false
 IsAimed z ends n (Some (s, l)) = (at_or_below n z.origin ≡ true) × IsAim z ends s l
 
--- so many labels a name has below the origin
+-- the number of labels of a name below the origin
 abbrev pub labels_below : ZoneContents → DomainName → ℕ
 labels_below z n = length n - length z.origin
 
@@ -60,14 +59,14 @@ abbrev pub ends_at_cuts : Cuts → Bool
 ends_at_cuts End = true
 ends_at_cuts Pass = false
 
--- the name exists, and no cut is on the way, where the way would end at one
+-- the name exists, and there is no cut on the path, if the path would end at one
 pub record IsThere (z : ZoneContents) (start : ZoneNode) (ends : Bool) (n : DomainName)
     (node : Option ZoneNode) : Type 0 where
   pub no_cut : ends ≡ true → cut_of z n ≡ None
   pub stands : exists z n ≡ true
   pub at_name : node_or start node ≡ node_of z (folded n)
 
--- the name does not exist, and no cut is on the way
+-- the name does not exist, and there is no cut on the path, if the path would end at one
 pub record IsMissing (z : ZoneContents) (start : ZoneNode) (ends : Bool) (n : DomainName)
     (node : Option ZoneNode) : Type 0 where
   pub no_cut : ends ≡ true → cut_of z n ≡ None
@@ -101,13 +100,13 @@ FoundAs z apex n (finds.Cut node) = IsBelowCut z n node
 FoundAs z apex n finds.Nothing = IsNothing z n
 FoundAs z apex n (finds.Records node) = AreRecords z n (node_or apex node)
 
--- a walk that may still be handed so many nodes, and make 17 comparisons for each
+-- the walk may still visit this many nodes, with 17 comparisons for each
 pub record HasRoom (s : Walk) (nodes : ℕ) : Type 0 where
   pub visits : s.visits + nodes ≤ 4294967295
   pub comparisons : s.comparisons + 17 * nodes ≤ 4294967295
 
--- What a look-up took: at most so many nodes, and 17 comparisons for each node and for each label
--- without a child.
+-- The cost of a look-up: at most `nodes` nodes, and 17 comparisons for each node and for each
+-- missing child.
 pub record Took (s s' : Walk) (nodes misses : ℕ) : Type 0 where
   pub zone : s'.zone ≡ s.zone
   pub from : s.visits ≤ s'.visits
@@ -119,7 +118,7 @@ missed (ways.Cut c) = 0
 missed (ways.Name n) = 0
 missed (ways.Encloser n) = 1
 
--- what a way took: a node less where a child was missing
+-- the cost of a path: one node fewer if a child was missing
 pub record TookWay (s s' : Walk) (nodes misses : ℕ) : Type 0 where
   pub took : Took s s' nodes misses
   pub fewer : s'.visits + misses ≤ s.visits + nodes

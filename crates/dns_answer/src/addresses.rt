@@ -1,4 +1,4 @@
-//! Addresses of the targets of a set (RFC 1034 4.3.2 step 6).
+//! The addresses of a set's targets (RFC 1034 4.3.2 step 6).
 ghost use Rattle.std.specs.Prelude.{◌≡◌, ◌*◌, ◌≤◌, ◌<◌, ◌⊎◌, [], length, true, false, IfSome};
 ghost use Rattle.std.specs.List.{list_any, list_all, filter};
 ghost use Rattle.dns_spec.specs.Names.{same, folded};
@@ -18,14 +18,14 @@ use dns_rdata::{RType, SetView};
 use dns_wire::Section;
 use dns_zone::{Lead, Node, RecordSet, Steps};
 
-/// Which targets are meant: all, or those at or below a cut, or the others.
+/// Which targets are selected: all, those at or below a cut, or the others.
 #[derive(Clone, Copy)]
 pub(crate) enum Side<'c, 'n> {
-    /// All of them.
+    /// All targets.
     All,
-    /// Those at or below the cut, without whose addresses the asker gets no further.
+    /// The targets at or below the cut, without whose addresses the client can't continue.
     Inside(&'c NameRef<'n>),
-    /// Those that are not.
+    /// The other targets.
     Outside(&'c NameRef<'n>),
 }
 
@@ -41,9 +41,9 @@ impl Side<'_, '_> {
     }
 }
 
-/// Offers the addresses of the targets of a set, of those that are meant, in order. Those of a
-/// target that stood before are not offered again. Answers whether all targets are meant, unless
-/// the reply is full: no target is sought then, since none of its addresses is put.
+/// Offers the addresses of the selected targets of a set, in order, and only once for each target.
+/// Returns whether all targets are selected, unless the reply is full: then no further target is
+/// looked up, since none of its addresses would be added.
 pub(crate) fn offer_addresses<'z, const N: usize, const SIZE: usize>(
     node: &Node<'z>,
     set: &RecordSet<'z>,
@@ -75,8 +75,8 @@ pub(crate) fn offer_addresses<'z, const N: usize, const SIZE: usize>(
     all
 }
 
-// Offers the addresses of the target of a record, if it is meant and did not stand before. False
-// where it is not meant.
+// Offers the addresses of the target of a record, if it is selected and not the target of an
+// earlier record. False if it is not selected.
 fn offer_target<'z, const N: usize, const SIZE: usize>(
     node: &Node<'z>,
     set: &RecordSet<'z>,
@@ -102,7 +102,7 @@ fn offer_target<'z, const N: usize, const SIZE: usize>(
     let Some(target) = set.target(i) else {
         return true;
     };
-    // So that a name is known to have at most 127 labels.
+    // The proof needs this call: it shows that a name has at most 127 labels.
     let _ = target.octets();
     if !side.takes(&target) {
         return false;
@@ -113,7 +113,8 @@ fn offer_target<'z, const N: usize, const SIZE: usize>(
     true
 }
 
-// Whether one of the first records of a set has the same target. Both are in lower case.
+// Whether one of the first `count` records of a set has the same target. Both names are in lower
+// case.
 fn stood_before(set: &RecordSet<'_>, count: usize, target: &NameRef<'_>) -> bool
     requires valid { HasValidData set.now }
     requires lower { folded target.now ≡ target.now }
@@ -130,7 +131,7 @@ fn stood_before(set: &RecordSet<'_>, count: usize, target: &NameRef<'_>) -> bool
     false
 }
 
-// Offers the addresses of one name, in lower case: its A set, then its AAAA set, below a cut too,
+// Offers the addresses of one name, in lower case: its A set, then its AAAA set, also below a cut,
 // never by a wildcard.
 fn offer_address<'z, const N: usize, const SIZE: usize>(
     target: &NameRef<'_>,

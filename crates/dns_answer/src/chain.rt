@@ -1,4 +1,4 @@
-//! The names sought, one after the other (RFC 1034 4.3.2 step 3a).
+//! The names sought, one after another (RFC 1034 4.3.2 step 3a).
 ghost use Rattle.std.specs.Prelude.{◌≡◌, ◌<◌, ◌∷◌, [], length, true, IfSome};
 ghost use Rattle.std.specs.List.{list_any};
 ghost use Rattle.dns_spec.specs.Names.{folded, names_equal, same};
@@ -16,23 +16,23 @@ use dns_rdata::{RType, SetView};
 use dns_wire::{Rcode, Section};
 use dns_zone::{Lead, Node, RecordSet, Sought, Steps};
 
-// A QTYPE that asks for all types (RFC 1035 3.2.3).
+// The QTYPE that asks for all types (RFC 1035 3.2.3).
 const QTYPE_ANY: u16 = 255;
 
-// So many aliases are followed: a limit of this project.
+// The most aliases that are followed, a limit of this project.
 const MOST_ALIASES: usize = 16;
 
-/// What seeking one name comes to.
+/// The result of seeking one name.
 #[derive(Drop)]
 pub(crate) enum Next<'z> {
-    /// It is the last one sought.
+    /// It is the last name sought.
     Last(Verdict),
-    /// Its alias leads to this name, and where the way to it may begin.
+    /// It is an alias of this name, whose path may begin at the lead.
     Alias(Sought<'z>, Option<Lead<'z>>),
 }
 
-/// Seeks the name of a question, and after it the targets of aliases: offers the sets of the
-/// aliases, and those that the last name ends with. Answers also whether the name of the question
+/// Seeks the name of a question and then the targets of aliases: offers the sets of the aliases,
+/// and the sets with which the last name ends the answer. Returns also whether the question's name
 /// has an alias that was followed.
 pub(crate) fn seek<'q, 'z: 'q, const N: usize, const SIZE: usize>(
     first: Sought<'q>,
@@ -55,8 +55,8 @@ pub(crate) fn seek<'q, 'z: 'q, const N: usize, const SIZE: usize>(
     }
 }
 
-// Seeks the target of the first alias, and after it those of the others. Only here room is made for
-// the names that were sought, of which most answers have none.
+// Seeks the target of the first alias, and then the targets of the others. Only this function
+// makes room for the names sought, since most answers have no alias.
 fn seek_targets<'q, 'z: 'q, const N: usize, const SIZE: usize>(
     first: Sought<'q>,
     target: Sought<'z>,
@@ -86,8 +86,8 @@ fn seek_targets<'q, 'z: 'q, const N: usize, const SIZE: usize>(
     }
 }
 
-// Seeks one name: offers the set of its alias, or the sets that it ends an answer with. In line it
-// saves 62 to 190 instructions a reply.
+// Seeks one name: offers the set of its alias, or the sets with which it ends the answer. Inlining
+// saves 62 to 190 instructions per reply.
 #[inline(always)]
 fn seek_one<'z, const N: usize, const SIZE: usize>(
     sought: &Sought<'_>,
@@ -122,9 +122,9 @@ fn seek_one<'z, const N: usize, const SIZE: usize>(
     Next::Alias(target, lead)
 }
 
-// The set that an answer shows of the records at a node, and whether it is an alias, which leads
-// on: the alias is shown in place of what is asked for, unless it is itself what is asked for. Of
-// all types the lowest number is shown (RFC 8482 4.1).
+// The set at a node that an answer contains, and whether it is an alias that is followed: the
+// alias is in the answer in place of the set asked for, unless the question asks for it. For all
+// types, the set with the lowest number (RFC 8482 4.1).
 #[inline(always)]
 fn shown_set<'z>(node: &Node<'z>, qtype: u16) -> Option<(RecordSet<'z>, bool)>
     ensures shown { IsShown qtype (at node.now.zone node.now.name) result }
@@ -141,7 +141,7 @@ fn shown_set<'z>(node: &Node<'z>, qtype: u16) -> Option<(RecordSet<'z>, bool)>
     Some((node.set(RType(qtype))?, false))
 }
 
-// The name that is sought after an alias, and where the way to it begins: its target, where more
+// The name to seek after an alias, and where its path begins: the alias's target, if more names
 // may be sought and it is at or below the origin and was not sought yet.
 fn next_sought<'z>(
     alias: &RecordSet<'z>,
@@ -166,7 +166,7 @@ fn next_sought<'z>(
 }
 
 // Whether a name in lower case is the last one sought, or was sought before. All names but the
-// first are targets, in lower case too, so that those are the same only where they are equal.
+// first are targets and so in lower case too, so these are the same only if they are equal.
 fn is_among(name: &NameRef<'_>, last: &Sought<'_>, earlier: &[Sought<'_>]) -> bool
     requires name { folded name.now ≡ name.now }
     requires lower { AreTargets earlier.now last.now }
@@ -178,7 +178,7 @@ fn is_among(name: &NameRef<'_>, last: &Sought<'_>, earlier: &[Sought<'_>]) -> bo
     *name == last.name || has_equal(targets, name) || name.same(&first.name)
 }
 
-// Whether a name is one of others, octet by octet.
+// Whether a name is equal to one of the others, octet by octet.
 fn has_equal(names: &[Sought<'_>], name: &NameRef<'_>) -> bool
     ensures { result ≡ list_any (λ s. names_equal name.now s.name) names.now }
 {

@@ -1,4 +1,4 @@
-//! A reply while sets are offered to it: after one for which there is no room none is tried.
+//! A reply while sets are offered to it: after a set that does not fit, none is tried.
 ghost use Rattle.std.specs.Prelude.{◌≡◌, ◌*◌, ◌≤◌, List, [], ◌∷◌, false, Option, length, min, take};
 ghost use Rattle.std.specs.Option.{option_copied};
 ghost use Rattle.dns_spec.specs.Reading.{MessageQuestion};
@@ -13,8 +13,8 @@ use dns_rdata::SetView;
 use dns_wire::{Head, Page, QuestionRef, QuickHash, Section};
 use std::marker::Model;
 
-/// A reply that is made, in room for so many places of names and so many octets, which stand in
-/// the value itself. It is lent to `respond_in` for one reply after the other.
+/// A reply being made, with room in the value itself for `N` places of names and `SIZE` octets.
+/// `respond_in` borrows it for one reply after another.
 #[derive(Drop)]
 pub struct Draft<const N: usize, const SIZE: usize> {
     page: Page<N, SIZE>,
@@ -36,7 +36,7 @@ impl<const N: usize, const SIZE: usize> Model for Draft<N, SIZE> {
 impl<const N: usize, const SIZE: usize> Draft<N, SIZE> {
     /// Room for replies of at most `SIZE` octets, 512 to 65,535.
     ///
-    /// Condition: there are places for one in two of the octets that a pointer reaches.
+    /// Condition: `N` is at least half the number of these octets that a pointer reaches.
     pub fn new() -> Draft<N, SIZE>
         requires from { 512 ≤ SIZE }
         requires upto { SIZE ≤ 65535 }
@@ -51,8 +51,7 @@ impl<const N: usize, const SIZE: usize> Draft<N, SIZE> {
         }
     }
 
-    /// Makes the draft that of a reply that has nothing yet. What was written before is written
-    /// over, and the heads of its chains.
+    /// Empties the draft for a new reply, in time that depends only on what it contains.
     pub(crate) fn clear(&mut self)
         ensures { self.new ≡ blank SIZE }
     {
@@ -62,7 +61,7 @@ impl<const N: usize, const SIZE: usize> Draft<N, SIZE> {
 
     /// Begins a reply, with the question that it repeats, if any.
     ///
-    /// Condition: it has nothing yet.
+    /// Condition: the draft is empty.
     pub(crate) fn begin(&mut self, question: Option<&QuestionRef<'_>>)
         requires { self.old ≡ blank SIZE }
         ensures draft { IsDraft quick_number (option_copied question.entry) [] self.new.page }
@@ -78,7 +77,7 @@ impl<const N: usize, const SIZE: usize> Draft<N, SIZE> {
         self.is_full
     }
 
-    /// Offers a set: it is put where there is room for all of it and no set before it was left out.
+    /// Offers a set: it is added if all of it fits and no earlier set was left out.
     pub(crate) fn offer<S: SetView>(
         &mut self,
         section: Section,
@@ -96,7 +95,7 @@ impl<const N: usize, const SIZE: usize> Draft<N, SIZE> {
         }
     }
 
-    /// Puts the reply at the front of `out`, with its header, and answers how many octets it has.
+    /// Copies the reply, with its header, to the front of `out` and returns its length in octets.
     pub(crate) fn finish(&self, head: Head, out: &mut [u8]) -> usize
         requires { self.now.page.limit ≤ length out.old }
         ensures length { (q : Option MessageQuestion) (items : List Item)

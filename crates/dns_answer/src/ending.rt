@@ -13,19 +13,19 @@ use dns_rdata::{RType, Rdata, SetView};
 use dns_wire::{Rcode, Section};
 use dns_zone::{Node, RecordSet, Steps};
 
-/// What the header says of an answer.
+/// What the header states about an answer.
 #[derive(Clone, Copy)]
 pub(crate) struct Verdict {
     pub(crate) rcode: Rcode,
-    /// Whether the last name sought is referred to other servers.
+    /// Whether the answer for the last name sought is a referral.
     pub(crate) is_referral: bool,
-    /// Whether a set that may not be left out is missing.
+    /// Whether a required set is missing.
     pub(crate) is_truncated: bool,
 }
 
-/// Refers the asker to the servers of a cut: their set, the addresses of those at or below the
-/// cut, and those of the others (RFC 1034 4.3.2 step 3b).
-// In line it saves 52 instructions of a referral.
+/// Refers the client to the servers of a cut: offers their NS set, the addresses of the servers at
+/// or below the cut, and the addresses of the others (RFC 1034 4.3.2 step 3b).
+// Inlining saves 52 instructions of a referral.
 #[inline(always)]
 pub(crate) fn refer<'z, const N: usize, const SIZE: usize>(
     cut: &Node<'z>,
@@ -59,9 +59,9 @@ pub(crate) fn refer<'z, const N: usize, const SIZE: usize>(
     }
 }
 
-/// Says that there is nothing: the SOA of the zone, with the lesser of its TTL and its MINIMUM
-/// (RFC 2308 3, 5).
-// In line it saves 36 instructions of a name error.
+/// Gives a negative answer: offers the zone's SOA, with the lesser of its TTL and its MINIMUM as
+/// TTL (RFC 2308 3, 5).
+// Inlining saves 36 instructions of a name error.
 #[inline(always)]
 pub(crate) fn deny<const N: usize, const SIZE: usize>(
     rcode: Rcode,
@@ -82,7 +82,7 @@ pub(crate) fn deny<const N: usize, const SIZE: usize>(
     ended(rcode, draft)
 }
 
-/// Says that the name ends here, without a referral, once all that may not be left out is offered.
+/// The verdict for a name that ends without a referral, once all required sets are offered.
 pub(crate) fn ended<const N: usize, const SIZE: usize>(
     rcode: Rcode,
     draft: &Draft<N, SIZE>,
@@ -96,7 +96,7 @@ pub(crate) fn ended<const N: usize, const SIZE: usize>(
     }
 }
 
-/// Ends an answer with a set that was asked for and is offered: offers the addresses of its
+/// Ends an answer with a set that was asked for and has been offered: offers the addresses of its
 /// targets.
 pub(crate) fn end_with<'z, const N: usize, const SIZE: usize>(
     node: &Node<'z>,
@@ -113,7 +113,7 @@ pub(crate) fn end_with<'z, const N: usize, const SIZE: usize>(
     ensures took { TookWith steps.old steps.new set.now }
 {
     let verdict = ended(Rcode::NoError, draft);
-    // Addresses of the targets of these types are of use to the asker.
+    // The addresses of targets of these types are useful to the client.
     let rtype = set.rtype();
     if rtype == RType::NS || rtype == RType::MX || rtype == RType::SRV {
         offer_addresses(node, set, Side::All, apex, steps, draft);

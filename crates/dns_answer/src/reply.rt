@@ -16,7 +16,7 @@ use dns_name::Name;
 use dns_wire::{CLASS_IN, Head, QueryRef, QuestionRef, Rcode, lent_query};
 use dns_zone::{Sought, Steps};
 
-/// How many octets a reply may have.
+/// The limit of a reply.
 #[derive(Clone, Copy, Debug, PartialEq, Eq)]
 pub enum Limit {
     /// Over UDP: 512 (RFC 1035 4.2.1).
@@ -26,7 +26,7 @@ pub enum Limit {
 }
 
 impl Limit {
-    /// So many octets.
+    /// The limit in octets.
     pub fn octets(self) -> usize
         ensures { result ≡ limit_of self }
     {
@@ -40,21 +40,21 @@ impl Limit {
 /// Room for replies over UDP.
 pub type UdpDraft = Draft<256, 512>;
 
-/// Room for replies over TCP: about 131,000 octets.
+/// Room for replies over TCP; a value takes about 131,000 octets.
 pub type TcpDraft = Draft<8192, 65_535>;
 
-/// Writes the reply to a datagram at the front of `out`, and answers its length in octets.
+/// Writes the reply to a datagram to the front of `out` and returns its length in octets.
 ///
-/// `None`, with nothing promised of `out`, exactly where no reply is owed: the datagram is shorter
-/// than a header, or is a reply itself. Any octets are a datagram. Its reply is that of RFC 1034
-/// 4.3.2 and RFC 2308, with the longest beginning of the RRsets that fits, and is truncated where
-/// one of them is missing that may not be left out.
+/// `None`, with `out` unspecified, if and only if the datagram gets no reply: it is shorter than a
+/// header, or is a response. A datagram may contain any octets. The reply follows RFC 1034 4.3.2
+/// and RFC 2308, contains the longest beginning of the RRsets that fits, and is truncated if a
+/// required RRset is missing.
 ///
-/// Conditions: nothing was counted by the walk, and `out` is as long as the limit. No memory is
-/// taken. Where no question is answered, no name is looked up.
+/// Conditions: the walk has counted nothing yet, and `out` is as long as the limit. Does not
+/// allocate. No name is looked up unless a question is answered.
 ///
-/// The room that a reply is made in is filled first, which over TCP takes far longer than a short
-/// reply. Who answers many messages keeps a draft, and calls `respond_in`.
+/// Each call first fills the room for a reply, which over TCP takes far longer than a short reply.
+/// To answer many messages, keep a draft and call `respond_in`.
 pub fn respond(
     steps: &mut Steps<'_>,
     datagram: &[u8],
@@ -89,14 +89,14 @@ pub fn respond(
     }
 }
 
-/// Writes the reply to a datagram, of as many octets as a draft has room for, at the front of
-/// `out`, and answers its length in octets: all of what `respond` says, at that limit.
+/// Writes the reply to a datagram, within the room of a draft, to the front of `out` and returns
+/// its length in octets: the same as `respond` at that limit.
 ///
-/// Nothing is left of the reply that was made in the draft before, and nothing is filled in the
-/// size of its room.
+/// Nothing of the draft's earlier reply remains, and the time does not depend on the size of its
+/// room.
 ///
-/// Conditions: nothing was counted by the walk, the room has 512 to 65,535 octets, and `out` is as
-/// long. No memory is taken.
+/// Conditions: the walk has counted nothing yet, the room has 512 to 65,535 octets, and `out` is
+/// as long. Does not allocate.
 pub fn respond_in<const N: usize, const SIZE: usize>(
     steps: &mut Steps<'_>,
     datagram: &[u8],
@@ -128,15 +128,15 @@ pub fn respond_in<const N: usize, const SIZE: usize>(
     }
 }
 
-// The name that is sought, or why there is none: a question is judged by its class, then its type,
-// then its name.
+// The name to seek, or the RCODE of a refusal: the question's class is tested first, then its
+// type, then its name.
 fn judge<'q>(question: &QuestionRef<'q>, origin: &Name) -> Result<Sought<'q>, Rcode>
     ensures { (z : ZoneContents) → z.origin ≡ origin.now → JudgedAs z question.now result }
 {
     if question.qclass != CLASS_IN {
         return Err(Rcode::Refused);
     }
-    // A type that no record has: 0, OPT, and 128 to 254 (RFC 6895 3.1).
+    // A QTYPE that is not a type of records: 0, OPT, or 128 to 254 (RFC 6895 3.1).
     if matches!(question.qtype, 0 | 41 | 128..=254) {
         return Err(Rcode::NotImplemented);
     }
@@ -163,7 +163,7 @@ fn put_answer<'q, 'z: 'q, const N: usize, const SIZE: usize>(
     draft.begin(Some(question));
     let apex = steps.apex();
     let (verdict, followed_alias) = seek(sought, question.qtype, &apex, steps, draft);
-    // The server speaks for the zone, unless all that it answers is a referral (RFC 1035 4.1.1).
+    // AA is set, unless the reply is only a referral (RFC 1035 4.1.1).
     let only_refers = verdict.is_referral && !followed_alias;
     let head = head.reply(!only_refers, verdict.is_truncated, verdict.rcode);
     draft.finish(head, out)

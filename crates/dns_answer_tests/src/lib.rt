@@ -1,5 +1,5 @@
-//! The tests of `dns_answer`, through its public calls. In a crate of their own its proofs are made
-//! once, and its wrong bodies are tried meanwhile.
+//! Tests of `dns_answer`, through its public calls. In a separate crate their proofs are made only
+//! once, while the edits of `dns_answer` are tried.
 #![tactic(auto)]
 
 #[cfg(test)]

@@ -1,4 +1,5 @@
--- The order of names, whose labels are compared from the right, goes label by label from the left.
+-- The order of names, whose labels are compared from the right, computed label by label from the
+-- left.
 use Rattle.dns_name.proofs.Common.{◌≡◌, ℕ, zero, suc, ◌+◌, ◌-◌, ◌≤◌, ◌⊎◌, min, inl, inr, [], ◌∷◌, ◌++◌, length, take, drop, reverse, Option, Ordering, Equal, refl, sym, ◌∙◌, ap, arith, cases_order, slice_cmp, Octets, DomainName, last_labels, label_order, reverse-append, length-reverse, length-take, length-drop, take-append-drop, YieldsFirst, ordering_then, nat_cmp}
 use Rattle.dns_spec.proofs.General.Orderings.{then_equal, less_by, cmp_self, slice_cmp-append, slice_cmp-reverse-cons, by_length}
 
@@ -7,12 +8,13 @@ drop-one zero n = refl
 drop-one (suc k) [] = refl
 drop-one (suc k) (l ∷ n) = drop-one k n
 
--- one label more is skipped
+-- one more label is skipped
 pub drop-next : (s t n : DomainName) (r : Option Octets) (k : ℕ)
     → s ≡ drop k n → YieldsFirst (λ x. x) s r t → t ≡ drop (k + 1) n
 drop-next s t n r k e h = grind (arith, drop-one)
 
--- the last k labels of both go before how many labels there are, where one name has no more
+-- the last k labels of both decide before the number of labels does, if one name has no more than
+-- k
 pub order_of_last : (n m : DomainName) (k : ℕ)
     → k ≤ length n → k ≤ length m → (length n ≡ k) ⊎ (length m ≡ k)
     → ordering_then (slice_cmp label_order (reverse (last_labels k n)) (reverse (last_labels k m)))
@@ -45,7 +47,8 @@ order_of_last n m k p q shorter =
     sym (rw (left, right) (slice_cmp-append label_order _ _ _ _ as_long ∙ ap
     (ordering_then (slice_cmp label_order (reverse (drop i n)) (reverse (drop j m)))) front))
 
--- a label more of both names: the labels so far give way to these, which stand further to the right
+-- one more label of both names: the order so far gives way to the order of these labels, which are
+-- further right
 pub order_next : (n n' m m' : DomainName) (l k : Octets) (order next : Ordering)
     → n ≡ l ∷ n' → m ≡ k ∷ m' → length n ≡ length m → next ≡ ordering_then (label_order l k) order
     → (length n' ≡ length m') × (ordering_then (slice_cmp label_order (reverse n') (reverse m'))
@@ -59,12 +62,12 @@ pub order_is : (n m left right : DomainName) (k a b : ℕ) (longer result : Orde
 order_is n m left right k a b longer result p q shared e f g h =
     grind (arith, cases_order, order_of_last)
 
--- where the labels that are left are the same, those so far decide
+-- if the remaining labels are the same, the labels so far decide
 pub order_stays : (n m : DomainName) (order : Ordering)
     → n ≡ m → ordering_then (slice_cmp label_order (reverse n) (reverse m)) order ≡ order
 order_stays n m order e = grind (arith, cmp_self)
 
--- names below one name
+-- names with the same parent
 pub order_of_first : (n n' m m' : DomainName) (l k : Octets) (result : Ordering)
     → n ≡ l ∷ n' → m ≡ k ∷ m'
     → n' ≡ m' → result ≡ label_order l k → result ≡ slice_cmp label_order (reverse n) (reverse m)

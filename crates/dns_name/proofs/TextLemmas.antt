@@ -4,14 +4,14 @@ use Rattle.dns_spec.proofs.General.Options.{and_then_some, if_some, some_parts}
 use Rattle.dns_spec.proofs.DomainNames.WireNames.{wire_some}
 use Rattle.dns_spec.proofs.NameTexts.Escapes.{not-digit}
 
--- a text is the spelling of an octet and others
+-- the text is the spelling of an octet, followed by others
 abbrev pub OctetThen : Octets → ℕ → Octets → Type 0
 OctetThen text x others = (first : Octets) × (text ≡ first ++ others) × SpellsOctet first x
 
 no_digit : (a : ℕ) → IsNotAsciiDigit a → is_ascii_digit a ≡ false
 no_digit a h = grind (arith, and_left, lt-leb, and_right)
 
--- a spelling is read, whatever stands after it
+-- a spelling is read, whatever follows it
 octet_at-spelled : (first : Octets) (x : ℕ) (others : Octets)
     → SpellsOctet first x → octet_at (first ++ others) ≡ Some (x, others)
 unfolding octet_at escaped_at decimal_at
@@ -70,7 +70,7 @@ escaped_read (a ∷ rest) x others e =
           )
     ]
 
--- what is read is spelled so, unless the text stands at a label's end
+-- what is read is spelled that way, unless the text is at a label's end
 pub OctetThen-octet_at : (text : Octets) (x : ℕ) (others : Octets)
     → is_label_end text ≡ false → octet_at text ≡ Some (x, others) → OctetThen text x others
 unfolding octet_at
@@ -92,12 +92,12 @@ pub OctetThen-goes_on : (text : Octets) (x : ℕ) (others : Octets)
     → OctetThen text x others → is_label_end text ≡ false
 OctetThen-goes_on text x others (first, e, h) = grind (arith, ne_eqb)
 
--- a spelling has an octet or more
+-- a spelling has at least one octet
 pub OctetThen-shorter : (text : Octets) (x : ℕ) (others : Octets)
     → OctetThen text x others → length others < length text
 OctetThen-shorter text x others (first, e, h) = grind (arith, length-append)
 
--- one octet more of a label
+-- one more octet of a label
 pub LabelThen-push : (text l : Octets) (rest : Octets) (x : ℕ) (others : Octets)
     → LabelThen text l rest → OctetThen rest x others → LabelThen text (l ++ x ∷ []) others
 LabelThen-push text [] rest x others e (first, f, h) = (first, others, e ∙ f, h, refl)
@@ -129,7 +129,7 @@ LabelThen-at : (text l rest text' : Octets)
 LabelThen-at text l rest text' e h =
     let P : Octets → Type 0 = λ t. LabelThen t l rest in subst P e h
 
--- where a label is read so far, each label that the text spells goes on from there
+-- after a part of a label is read, each label that the text spells continues from there
 pub LabelThen-rest : (text l rest l' rest' : Octets) → LabelThen text l rest → LabelThen text
     l' rest' → is_label_end rest' ≡ true → (m : Octets) × (l' ≡ l ++ m) × LabelThen rest m rest'
 LabelThen-rest text [] rest l' rest' e h end = (l', refl, LabelThen-at text l' rest' rest e h)
@@ -147,7 +147,7 @@ LabelThen-rest text
     let m = others.0 in
     (m, ap (λ w. w ∷ l') (sym octets) ∙ ap (λ w. x ∷ w) others.1, others.2)
 
--- a text begins with one label alone
+-- a text begins with only one label
 pub LabelThen-unique : (text l rest l' rest' : Octets) → LabelThen text l rest → LabelThen
     text l' rest' → is_label_end rest ≡ true → is_label_end rest' ≡ true → (l' ≡ l) × (rest ≡ rest')
 LabelThen-unique text l rest l' rest' h h' end end' =
@@ -157,7 +157,7 @@ LabelThen-unique text l rest l' rest' h h' end end' =
     by_cases ([], e, f) = (e ∙ append-nil l, f)
     by_cases (x ∷ m, e, (first, after, f, p, g)) = grind arith
 
--- the empty text spells the empty label, and nothing follows
+-- the empty text spells the empty label, followed by nothing
 LabelThen-nil : (l rest : Octets) → LabelThen [] l rest → (l ≡ []) × (rest ≡ [])
 LabelThen-nil [] rest h = (refl, sym h)
 LabelThen-nil (x ∷ l) rest (first, after, e, p, h) = grind (arith, true≢false, OctetThen-goes_on)
@@ -165,8 +165,7 @@ LabelThen-nil (x ∷ l) rest (first, after, e, p, h) = grind (arith, true≢fals
 no_empty_label : is_label [] ≡ true → ⊥
 no_empty_label h = false≢true h
 
--- where the labels `read` are read and `rest` is left: what the text spells is `read` and what
--- `rest` spells
+-- the labels `read` are read and `rest` remains: the text spells `read` and what `rest` spells
 pub record ReadSoFar
     (origin : DomainName) (word : Octets) (read : DomainName) (rest : Octets) : Type 0 where
   pub all : (n : DomainName) → TextSpells origin rest n → TextSpells origin word (read ++ n)
@@ -196,7 +195,7 @@ pub ReadSoFar-push : (origin : DomainName)
 ReadSoFar-push origin word read rest l others so_far h =
     grind (arith, append_assoc, spells_after_dot)
 
--- the word is read, and spells the name n alone
+-- the word is read, and spells only the name n
 pub record SpellsOnly (origin : DomainName) (word : Octets) (n : DomainName) : Type 0 where
   pub spelled : TextSpells origin word n
   pub only : (m : DomainName) → is_name m ≡ true → TextSpells origin word m → m ≡ n
@@ -208,7 +207,7 @@ spells_last origin rest l [] h is_l e = grind (arith, LabelThen-nil, LabelThen-a
 spells_last origin rest l (k ∷ m) h is_l (inl (g, e)) = grind (arith, LabelThen-unique)
 spells_last origin rest l (k ∷ m) h is_l (inr (others, g, e)) = grind (arith, LabelThen-unique)
 
--- a label among those of a name
+-- each label of a name is a label
 is_label-inside : (read : DomainName) (l : Octets) (n m : DomainName)
     → m ≡ read ++ l ∷ n → is_name m ≡ true → is_label l ≡ true
 is_label-inside read l n m e ok =
@@ -245,7 +244,7 @@ SpellsOnly-absolute origin word read rest so_far e = record { spelled = spelled;
     only : (m : DomainName) → is_name m ≡ true → TextSpells origin word m → m ≡ read
     only m ok g = let after = so_far.only m g in no_more m after.0 after.1 ok after.2
 
--- no name is spelled where no label stands next
+-- no name is spelled if no label is next
 pub nothing_spelled : (origin : DomainName) (word : Octets) (read : DomainName) (rest : Octets)
     → ReadSoFar origin word read rest
     → (rest ≡ [] → ⊥) → ((l after : Octets) → LabelThen rest l after → is_label_end after ≡ true
@@ -260,7 +259,7 @@ nothing_spelled origin word read rest so_far more none n ok h =
     by_cases (l ∷ m) e (inr (others, g, f)) =
         none l (46 ∷ others) g refl (is_label-inside read l m n e ok)
 
--- an octet more of a label, of which no more than 64 are kept
+-- one more octet of a label, of which at most 64 are kept
 pub ReadsLabel-push : (text octets rest : Octets) (x : ℕ) (others : Octets) → ReadsLabel text octets
     rest → OctetThen rest x others → length octets < 64 → ReadsLabel text (octets ++ x ∷ []) others
 ReadsLabel-push text octets rest x others reads next room =
@@ -285,7 +284,7 @@ ReadsLabel-full text octets rest x others reads next full =
       kept = reads.kept ∙ sym (take-append-le 64 l (x ∷ []) long);
     }
 
--- where no octet is spelled and the label hasn't ended, the text begins with no label
+-- if no octet is spelled and the label hasn't ended, the text begins with no label
 pub no_label_read : (text octets rest : Octets)
     → ReadsLabel text octets rest → is_label_end rest ≡ false
     → octet_at rest ≡ None → (l end : Octets) → LabelThen text l end → is_label_end end ≡ true → ⊥
@@ -308,7 +307,7 @@ label_read_alone text octets end reads at_end no_label l end' h at_end' is_l =
     let whole : octets ≡ l = reads.kept ∙ ap (take 64) (sym one) ∙ take_all 64 l (omega arith) in
     no_label (ap is_label whole ∙ is_l)
 
--- a label of which all octets were kept
+-- a label whose octets were all kept
 pub label_kept : (text octets end : Octets)
     → ReadsLabel text octets end → is_label octets ≡ true → LabelThen text octets end
 label_kept text octets end reads is_l =
@@ -331,7 +330,7 @@ pub label_alone : (text octets end : Octets) → LabelThen text octets end
 label_alone text octets end spelled at_end no_label l end' h at_end' is_l =
     grind (arith, LabelThen-unique)
 
--- while the labels that are read fit, the name holds them
+-- while the labels that are read fit, they are in the name
 abbrev pub Holds : DomainName → Bool → DomainName → Type 0
 Holds read fits name =
     MatchBool fits ((name ≡ read) × (is_name read ≡ true)) (255 < length (wire read))
@@ -411,7 +410,7 @@ pub PushesLabel-shorter : (text : Octets)
     → PushesLabel text old fits end new → end ≡ dot ∷ others → length others < length text
 PushesLabel-shorter text old fits end new dot others pushes e = grind (arith, LabelThen-shorter)
 
--- only the empty label stands at a label's end
+-- only the empty label is at a label's end
 LabelThen-at_end : (text l rest : Octets)
     → is_label_end text ≡ true → LabelThen text l rest → l ≡ []
 LabelThen-at_end text [] rest e h = refl
@@ -427,12 +426,12 @@ dot_spells_none origin word (l ∷ n) e ok (inr (others, h, k)) =
     no_empty_label (ap is_label (sym (LabelThen-at_end word l (46 ∷ others) (ap is_label_end e) h))
     ∙ is_label-head l n ok)
 
--- a dot alone spells the root alone
+-- a dot alone spells only the root
 pub dot_spells_root : (origin : DomainName) (word : Octets) (n : DomainName)
     → word ≡ 46 ∷ [] → SpellsName origin word n → n ≡ []
 dot_spells_root origin word n f h = grind (arith, dot_spells_none)
 
--- what is told of a name in its place, where it fits and where it does not
+-- the result for a name in its place, if it fits and if it does not
 pub spelled_as-fits : {A E : Type 0} (name : DomainName) (fits : Bool)
     (done : A) (fault : E) (r : Result A E) → r ≡ (if fits then Ok done else Err fault)
     → spelled_as r name ≡ (if fits then Ok name else Err fault)

@@ -1,4 +1,4 @@
--- The wire form and the labels that it spells give one another back.
+-- The wire form and the labels in it determine each other.
 use Rattle.dns_name.proofs.Common.{Bool, map, ◌↔◌, ◌≡◌, ℕ, zero, suc, ◌-◌, ◌≤◌, true, [], ◌∷◌, ◌++◌, length, take, drop, refl, sym, ◌∙◌, ap, arith, length-append, and_parts, list_all, to_ascii_lowercase, folded, same, octets_equal, names_equal, Octets, DomainName, wire, is_label, is_name, take_at, drop_at, append_assoc, append-nil, nil_from_length, same_tests, same-wire, wire-injective, octets_equal-decides, names_equal-decides, map-lowercase-wire, IsLabel-is_label, IsName-is_name, is_name-tail, labels_up_to, labels_of, IsWireForm, at_or_below, at_or_below-short}
 use Rattle.dns_spec.proofs.DomainNames.WireNames.{wire_front, label_octets}
 
@@ -17,7 +17,7 @@ labels_up_to-wire ((x ∷ l) ∷ n) (suc most) ok fits =
     )
     (ap (λ m. (x ∷ l) ∷ m) (labels_up_to-wire n most parts.1 shorter))
 
--- octets that are a name's wire form spell its labels
+-- octets that are a name's wire form give its labels
 pub labels_of_spelled : (xs : Octets) (n : DomainName)
     → xs ≡ wire n → is_name n ≡ true → labels_of xs ≡ n
 unfolding labels_of
@@ -28,7 +28,7 @@ pub IsWireForm-wire : (xs : Octets) (n : DomainName)
     → xs ≡ wire n → is_name n ≡ true → IsWireForm xs
 IsWireForm-wire xs n e ok = grind (arith, labels_of_spelled)
 
--- octets xs are a first label's length x and ys: its octets, and the wire form after it
+-- octets xs are a first label's length x, followed by ys: the label's octets and another wire form
 pub record BeginsWithLabel (xs : Octets) (x : ℕ) (ys : Octets) : Type 0 where
   pub fits : x ≤ length ys
   pub label : is_label (take x ys) ≡ true
@@ -76,7 +76,7 @@ empty_by_cases : (n : DomainName) → wire n ≡ [] → ⊥
 empty_by_cases [] e = cc
 empty_by_cases (l ∷ n) e = cc
 
--- a wire form has an octet or more
+-- a wire form has at least one octet
 pub IsWireForm-nil : (xs : Octets) → IsWireForm xs → length xs ≡ 0 → ⊥
 IsWireForm-nil xs form e = empty_by_cases _ (form.wire_is ∙ nil_from_length xs e)
 
@@ -92,12 +92,12 @@ front-push (k ∷ n) l = grind (arith, append_assoc, (front-push n l))
 front_taken : (n : DomainName) → take (length (wire n) - 1) (wire n) ≡ label_octets n
 front_taken n = grind (arith, wire-front, length-append, take_at)
 
--- one label more, next to the root: what stands before the root's length stays
+-- one more label next to the root: what is before the root's length stays
 pub wire-push : (n : DomainName) (l xs : Octets) → xs ≡ take (length (wire n) - 1) (wire n)
     → ((xs ++ length l ∷ []) ++ l) ++ 0 ∷ [] ≡ wire (n ++ l ∷ [])
 wire-push n l xs e = grind (arith, front_taken, append_assoc, front-push, wire-front)
 
--- octets answer whether the names that they spell are the same
+-- octets determine whether the names that they spell are the same
 pub same_from_octets : (b : Bool) (xs ys : Octets) (n m : DomainName)
     → xs ≡ wire n → ys ≡ wire m → is_name n ≡ true → is_name m ≡ true
     → ((b ≡ true) ↔ (map to_ascii_lowercase xs ≡ map to_ascii_lowercase ys)) → b ≡ same n m
@@ -114,12 +114,12 @@ pub map-lowercase-octets : (xs : Octets) (n : DomainName)
     → IsWireForm xs → labels_of xs ≡ n → map to_ascii_lowercase xs ≡ wire (folded n)
 map-lowercase-octets xs n form e = grind (arith, map-lowercase-wire, IsName-is_name)
 
--- the labels of another name next to the root: what stands before the root's length stays
+-- the labels of another name next to the root: what is before the root's length stays
 pub wire-append : (n m : DomainName) (xs : Octets)
     → xs ≡ take (length (wire n) - 1) (wire n) → xs ++ wire m ≡ wire (n ++ m)
 wire-append n m xs e = ap (λ ys. ys ++ wire m) (e ∙ front_taken n) ∙ sym (wire_front n m)
 
--- a suffix that is no longer decides
+-- a suffix that is not longer decides
 pub no_longer_decides : (xs ys : Octets) (a : DomainName) → IsWireForm xs
     → ys ≡ wire a → length xs ≤ length ys → at_or_below (labels_of xs) a ≡ same (labels_of xs) a
 no_longer_decides xs ys a form f short =

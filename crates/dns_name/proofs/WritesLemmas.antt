@@ -1,5 +1,5 @@
--- A text that is written piece by piece: what two pieces, one after the other, have appended, and
--- what is still to come.
+-- A text that is written piece by piece: what two pieces in order have appended, and what is still
+-- to come.
 use Rattle.dns_name.proofs.Common.{◌≡◌, ℕ, suc, ◌+◌, ◌-◌, ◌<◌, List, [], ◌∷◌, ◌++◌, slice_index_or, Result, ap, ◌∙◌, Option, length, take, drop, sym, subst, arith, append_assoc, length-drop, length-append, take-add, take-append-add, take-suc, take_all, take-append-le, take-append-drop, append-nil, flat_map-append, Bor, Appends, Appends-trans, Counted, Writes, Fills, failures_after, joined, AppendsBeginning, AppendsAllBut}
 use Rattle.dns_spec.proofs.Common.{on_ok_weaker, on_err_weaker}
 
@@ -10,7 +10,7 @@ pub Appends-take-add : (a b c : Option (List ℕ)) (text : List ℕ) (n m : ℕ)
 Appends-take-add a b c text n m first second =
     grind (arith, length-drop, take_all, take-add, Appends-trans)
 
--- a text of which a beginning was written, and others that were not begun
+-- a beginning of a text was written, and another text was not begun
 pub beginning_of_first : (a b : Option (List ℕ)) (xs ys : List ℕ)
     → AppendsBeginning a b xs → AppendsBeginning a b (xs ++ ys)
 beginning_of_first a b xs ys (n, h, front) = (
@@ -42,13 +42,13 @@ joined_at parts i d h =
     ∙ flat_map-append (λ (p : Bor (List ℕ)). p.now) (take (suc i) parts) (drop (suc i) parts)
     ∙ ap (λ xs. xs ++ joined (drop (suc i) parts)) front
 
--- what a call writes may be said in other words
+-- what a call writes, by an equal text
 pub Writes-same : {W A E : Type 0}
     {contents : W → Option (List ℕ)} {old new : Counted W} {r : Result A E} {xs ys : List ℕ}
     → xs ≡ ys → Writes contents old new r xs → Writes contents old new r ys
 Writes-same {contents = contents} {old} {new} {r} e w = subst (Writes contents old new r) e w
 
--- a text was written, and then what a call writes
+-- a text was written, followed by what a call writes
 pub Writes-after : {W A E : Type 0}
     {contents : W → Option (List ℕ)} {old mid new : Counted W} {r : Result A E} (xs ys : List ℕ)
     → Appends (contents old.device) (contents mid.device) xs → mid.failures ≡ old.failures
@@ -69,7 +69,7 @@ beginning_of_parts a b c parts i d h before begun =
     subst (AppendsBeginning a c) (sym (joined_at parts i d h))
     (beginning_of_first a c _ _ (beginning_of_second a b c _ _ before begun))
 
--- of the whole text, all but the rest was appended
+-- all of the whole text except the rest was appended
 abbrev pub Written : Option (List ℕ) → Option (List ℕ) → List ℕ → List ℕ → Type 0
 Written = AppendsAllBut
 
@@ -89,13 +89,13 @@ Written-begun old new newer whole rest piece others so e h =
     (beginning_of_second old new newer so.done
     (piece ++ others) so.appended (beginning_of_first new newer piece others h))
 
--- of what was held and is to come, the next piece is held too
+-- the next piece is held too
 pub held_more : (old new : Option (List ℕ)) (whole held rest piece others : List ℕ)
     → AppendsAllBut old new whole (held ++ rest)
     → rest ≡ piece ++ others → AppendsAllBut old new whole ((held ++ piece) ++ others)
 held_more old new whole held rest piece others so e = grind (arith, append_assoc)
 
--- what was held was put into a buffer, which holds less of it now
+-- what was held was put into a buffer, which now holds less of it
 pub held_less : (old new newer : Option (List ℕ)) (whole held less rest : List ℕ)
     → AppendsAllBut old new whole (held ++ rest)
     → AppendsAllBut new newer held less → AppendsAllBut old newer whole (less ++ rest)
@@ -109,12 +109,12 @@ held_begun old new newer whole held rest so begun =
     (beginning_of_second old new newer so.done
     (held ++ rest) so.appended (beginning_of_first new newer held rest begun))
 
--- more is to come after what was put, and it is held
+-- more follows what was put, and it is held
 pub held_before : (old new : Option (List ℕ)) (whole held more : List ℕ)
     → AppendsAllBut old new whole held → AppendsAllBut old new (whole ++ more) (held ++ more)
 held_before old new whole held more so = grind (arith, append_assoc)
 
--- what a call puts may be said in other words
+-- what a call puts, by an equal text
 pub Fills-same : {W A E : Type 0}
     {contents : W → Option (List ℕ)} {old new : Counted W} {r : Result A E} {xs ys held : List ℕ}
     → xs ≡ ys → Fills contents old new r xs held → Fills contents old new r ys held

@@ -1,4 +1,4 @@
--- What is written for an octet, a label and a name, as it is put together, and how long it can get.
+-- What is written for an octet, a label and a name, piece by piece, and how long it can get.
 use Rattle.dns_name.proofs.Common.{◌≡◌, ℕ, ◌+◌, ◌-◌, ◌*◌, ◌<◌, ◌≤◌, true, false, [], ◌∷◌, ◌++◌, length, map, take, refl, ap₂, arith, length-append, join_with_byte, Octets, DomainName, wire, is_special, three_digits, octet_text, label_text, labels_text, name_text, append_assoc, append-nil, take_at, is_ascii_graphic, bare_name_text}
 
 pub special_text : (x : ℕ) → is_special x ≡ true → octet_text x ≡ 92 ∷ x ∷ []
@@ -15,32 +15,32 @@ pub other_text : (x : ℕ)
 unfolding octet_text
 other_text x plain other = rw (plain, other) refl
 
--- at most four octets are written for one of a label
+-- at most four octets are written for each octet of a label
 pub length-label_text : (l : Octets) → length (label_text l) ≤ 4 * length l
 unfolding octet_text
 length-label_text [] = omega arith
 length-label_text (x ∷ l) = grind (arith, (length-label_text l), length-append)
 
--- after `before` the labels `rest` are still to come
+-- after `before`, the labels `rest` are still to come
 pub record NameSoFar
     (before : Octets) (n : DomainName) (text : Octets) (rest : DomainName) : Type 0 where
   pub whole : text ++ labels_text rest ≡ before ++ labels_text n
   pub room : length text + 4 * length (wire rest) ≤ length before + 1020
 
--- a label more, with its dot
+-- one more label, with its dot
 pub NameSoFar-next : (before : Octets) (n : DomainName)
     (text new : Octets) (labels rest : DomainName) (l : Octets) → NameSoFar before n text labels
     → labels ≡ l ∷ rest → new ≡ (text ++ label_text l) ++ 46 ∷ [] → NameSoFar before n new rest
 NameSoFar-next before n text new labels rest l so_far e f =
     grind (arith, append_assoc, length-append, length-label_text)
 
--- it leaves room for the label and the dot
+-- there is still room for the label and the dot
 pub NameSoFar-room : (before : Octets) (n : DomainName)
     (text : Octets) (labels rest : DomainName) (l : Octets) → NameSoFar before n text labels
     → labels ≡ l ∷ rest → length text + 4 * length l + 4 ≤ length before + 1020
 NameSoFar-room before n text labels rest l so_far e = grind (arith, length-append)
 
--- the dot after the last label, left off
+-- without the dot after the last label
 last_dot : (l : Octets) (n : DomainName)
     → labels_text (l ∷ n) ≡ join_with_byte 46 (map label_text (l ∷ n)) ++ 46 ∷ []
 last_dot l [] = append-nil (label_text l ++ 46 ∷ [])

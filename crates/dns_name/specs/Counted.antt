@@ -1,5 +1,4 @@
--- What a reader learns here: a device with the number of its failed calls, and what a call and a
--- whole text do to it.
+-- A device with the number of its failed calls, and what a call and a whole text do to it.
 use Rattle.std.specs.Prelude.{◌≡◌, ℕ, ◌+◌, ◌≤◌, List, ◌++◌, length, take, Result, OnOk, OnErr, is_ok, if◌then◌else◌, Option}
 use Rattle.std.specs.Borrow.{Bor}
 use Rattle.std.specs.List.{flat_map}
@@ -10,20 +9,20 @@ pub record Counted (T : Type 0) : Type 0 where
   pub device : T
   pub failures : ℕ
 
--- the count after a call: one more exactly where the call failed
+-- the count after a call: one more if and only if the call failed
 abbrev pub failures_after : {A E : Type 0} → ℕ → Result A E → ℕ
 failures_after count outcome = if is_ok outcome then count else count + 1
 
--- texts that are lent, one after another
+-- the borrowed texts, joined in order
 abbrev pub joined : List (Bor (List ℕ)) → List ℕ
 joined = flat_map (λ part. part.now)
 
--- known bytes grew by some beginning of the text, perhaps by nothing and perhaps by all of it
+-- the known bytes grew by a beginning of the text, which may be empty or all of it
 abbrev pub AppendsBeginning : Option (List ℕ) → Option (List ℕ) → List ℕ → Type 0
 AppendsBeginning old new text = (n : ℕ) × (n ≤ length text) × Appends old new (take n text)
 
--- What a call that writes a text does to a counted device, whose octets `contents` gives where they
--- are known: the call answers Ok with the whole text written, or an error with a beginning of it
+-- What a call that writes a text does to a counted device, whose octets `contents` gives if they
+-- are known. The call returns Ok with the whole text written, or an error with a beginning of it
 -- written and one more failure counted.
 pub record Writes {W A E : Type 0} (contents : W → Option (List ℕ)) (old new : Counted W)
     (result : Result A E) (text : List ℕ) : Type 0 where
@@ -31,15 +30,15 @@ pub record Writes {W A E : Type 0} (contents : W → Option (List ℕ)) (old new
   pub err : OnErr result (AppendsBeginning (contents old.device) (contents new.device) text)
   pub counted : new.failures ≡ failures_after old.failures result
 
--- of a whole text all but its end, which is still held, was appended to known bytes
+-- known bytes grew by a whole text except its end, which is still held
 pub record AppendsAllBut (old new : Option (List ℕ)) (whole held : List ℕ) : Type 0 where
   pub done : List ℕ
   pub appended : Appends old new done
   pub whole_is : done ++ held ≡ whole
 
--- What a call does that puts a text into a buffer, which is written where it is full: of what was
--- held and the text, the whole, it has written all but what is held now; or it answers an error
--- with a beginning of the whole written and one more failure counted.
+-- What a call does that adds a text to a buffer, which is written when it is full. The whole is
+-- the text that was held and the added text: the call has written all of it except what is held
+-- now; or it returns an error with a beginning of the whole written and one more failure counted.
 pub record Fills {W A E : Type 0} (contents : W → Option (List ℕ)) (old new : Counted W)
     (result : Result A E) (whole held : List ℕ) : Type 0 where
   pub ok : OnOk result (AppendsAllBut (contents old.device) (contents new.device) whole held)

@@ -1,4 +1,4 @@
--- What a reader learns here: the numbers of the faults of a name's text.
+-- The numbers of the faults of a name's text.
 use Rattle.std.specs.Prelude.{ℕ}
 use Rattle.dns_name.specs.declared.text.NameFault.{NameFault}
 use Rattle.dns_name.specs.declared.text.NameFault.TheVariants.{EmptyLabel, LabelTooLong, NameTooLong, BadEscape}

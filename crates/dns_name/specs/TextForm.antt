@@ -1,5 +1,4 @@
--- What a reader learns here: how the text of a name is read from left to right, by the cases of the
--- code.
+-- How the text of a name is read from left to right, by the cases of the code.
 use Rattle.std.specs.Prelude.{◌≡◌, ℕ, ◌+◌, ◌-◌, ◌*◌, ◌<◌, Bool, true, ◌&&◌, ◌||◌, ◌==◌, nat_le, nat_lt, if◌then◌else◌, [], ◌∷◌, ◌++◌, length, take, Option, Some, None, Result, Ok, Err, ◌↔◌}
 use Rattle.std.specs.Option.{option_and_then}
 use Rattle.std.specs.Bool.{MatchBool}
@@ -8,7 +7,7 @@ use Rattle.std.specs.Char.{is_ascii_digit}
 use Rattle.dns_spec.specs.Names.{Octets, DomainName, wire, is_label, is_name}
 use Rattle.dns_spec.specs.NameText.{LabelThen, TextSpells}
 
--- what a function returned, the rest of the text, lent, is what reading gives
+-- the function returned the value and the rest of the text, borrowed, that reading gives
 abbrev pub Gives : Option (ℕ × Bor Octets) → Option (ℕ × Octets) → Type 0
 Gives None read = read ≡ None
 Gives (Some x) read = read ≡ Some (x.0, x.1.now)
@@ -28,42 +27,42 @@ decimal_at text =
     option_and_then (λ c. octet_of (100 * a.0 + 10 * b.0 + c.0) c.1)
     (digit_at b.1)) (digit_at a.1)) (digit_at text)
 
--- the octet that what stands after a backslash spells
+-- the octet that the text after a backslash spells
 unfoldable pub escaped_at : Octets → Option (ℕ × Octets)
 escaped_at [] = None
 escaped_at (a ∷ rest) =
     if is_ascii_digit a then decimal_at (a ∷ rest)
     else (if nat_le 32 a && nat_le a 126 then Some (a, rest) else None)
 
--- the octet that a text begins with
+-- the octet that the text begins with
 unfoldable pub octet_at : Octets → Option (ℕ × Octets)
 octet_at [] = None
 octet_at (a ∷ rest) = if a == 92 then escaped_at rest else Some (a, rest)
 
--- a dot or a backslash, which never spells itself
+-- a dot or a backslash: octets that never spell themselves
 abbrev pub is_mark : ℕ → Bool
 is_mark a = a == 46 || a == 92
 
--- the text of a label ends here: at the text's end or at a dot
+-- the text of a label ends here: the text is empty or begins with a dot
 abbrev pub is_label_end : Octets → Bool
 is_label_end [] = true
 is_label_end (a ∷ rest) = a == 46
 
--- new is old with labels added next to the root, and a name; where they don't fit, they make it too
--- long
+-- new is old with labels added next to the root, and is a valid name; if they don't fit, the name
+-- would be too long
 abbrev pub Appended : DomainName → DomainName → Bool → DomainName → Type 0
 Appended old labels fits new =
     MatchBool fits ((new ≡ old ++ labels) × (is_name new ≡ true))
     (255 < length (wire (old ++ labels)))
 
--- a text begins with the spelling of a label, of which the octets are the first 64, and `end` is
--- what follows
+-- the text begins with the spelling of a label, `octets` are the first 64 octets of the label, and
+-- `end` is the text after it
 pub record ReadsLabel (text octets end : Octets) : Type 0 where
   pub label : Octets
   pub spelled : LabelThen text label end
   pub kept : octets ≡ take 64 label
 
--- a label was read up to its end, and added to the name where it fits
+-- a label was read up to its end, and added to the name if it fits
 pub record PushesLabel (text : Octets) (old : DomainName) (fits : Bool) (end : Octets)
     (new : DomainName) : Type 0 where
   pub label : Octets
@@ -72,17 +71,17 @@ pub record PushesLabel (text : Octets) (old : DomainName) (fits : Bool) (end : O
   pub is_label : is_label label ≡ true
   pub appended : Appended old (label ∷ []) fits new
 
--- no label of 1 to 63 octets stands at the beginning
+-- no label of 1 to 63 octets is at the beginning
 abbrev pub HasNoLabel : Octets → Type 0
 HasNoLabel text =
     (l end : Octets) → LabelThen text l end → is_label_end end ≡ true → is_label l ≡ true → ⊥
 
--- the result is the name that labels and dots spell, if there is one
+-- the result is the name that the word spells, if it spells one
 abbrev pub SpellsIff : {E : Type 0} → DomainName → Octets → Result DomainName E → Type 0
 SpellsIff origin word r =
     (n : DomainName) → (r ≡ Ok n) ↔ ((is_name n ≡ true) × TextSpells origin word n)
 
--- what is told of a name that was to be spelled where another stood
+-- the result of spelling a name in place, with the name
 abbrev pub spelled_as : {A E : Type 0} → Result A E → DomainName → Result DomainName E
 spelled_as (Ok done) name = Ok name
 spelled_as (Err fault) name = Err fault

@@ -8,8 +8,8 @@ use arrayvec::ArrayVec;
 use std::io::Write;
 use std::marker::Model;
 
-/// Text that is gathered in place, up to 4,096 octets, on its way to a writer: so a line of many
-/// parts is written by few calls.
+/// Text on its way to a writer, gathered in place up to 4,096 octets, so that a line of many parts
+/// takes few calls to write.
 #[derive(Drop)]
 pub struct TextBuffer {
     octets: ArrayVec<u8, 4096>,
@@ -24,7 +24,7 @@ impl Model for TextBuffer {
 }
 
 impl TextBuffer {
-    /// A buffer without a text.
+    /// An empty buffer.
     pub fn new() -> TextBuffer
         ensures { result ≡ [] }
     {
@@ -40,7 +40,7 @@ impl TextBuffer {
         self.octets.as_slice()
     }
 
-    /// Adds a text.
+    /// Appends a text.
     #[inline(always)]
     pub fn append(&mut self, text: &[u8])
         requires { length self.old + length text.now ≤ 4096 }
@@ -51,7 +51,7 @@ impl TextBuffer {
         }
     }
 
-    /// Adds an octet.
+    /// Appends an octet.
     #[inline(always)]
     pub fn push(&mut self, octet: u8)
         requires { length self.old + 1 ≤ 4096 }
@@ -60,7 +60,7 @@ impl TextBuffer {
         self.octets.push(octet);
     }
 
-    /// Adds a backslash and the three digits of an octet (RFC 1035 5.1).
+    /// Appends a backslash and the three decimal digits of an octet (RFC 1035 5.1).
     pub fn push_escape(&mut self, octet: u8)
         requires { length self.old + 4 ≤ 4096 }
         ensures { self.new ≡ self.old ++ 92 ∷ three_digits octet }
@@ -73,7 +73,7 @@ impl TextBuffer {
         ]);
     }
 
-    /// Takes the last octet out.
+    /// Removes the last octet.
     pub fn pop(&mut self)
         requires { 0 < length self.old }
         ensures { self.new ≡ take (length self.old - 1) self.old }
@@ -81,16 +81,17 @@ impl TextBuffer {
         self.octets.pop();
     }
 
-    /// Lets the text go.
+    /// Empties the buffer.
     pub fn clear(&mut self)
         ensures { self.new ≡ [] }
     {
         self.octets.clear();
     }
 
-    /// Makes room for `count` octets more: where they may not fit, what is gathered is written.
+    /// Makes room for `count` more octets: if they might not fit, the gathered text is written
+    /// first.
     ///
-    /// Where the writer fails, a beginning of that was written.
+    /// If the writer fails, it has written a beginning of that text.
     #[inline(always)]
     pub fn make_room<W: Write>(
         &mut self,
@@ -109,9 +110,9 @@ impl TextBuffer {
         Ok(())
     }
 
-    /// Writes what is gathered, which is then let go.
+    /// Writes the gathered text.
     ///
-    /// Where the writer fails, a beginning of that was written.
+    /// If the writer fails, it has written a beginning of that text.
     pub fn finish<W: Write>(self, sink: &mut Tally<W>) -> Result<(), SinkFailed>
         requires { sink.old.failures < 2 ^ 64 - 1 }
         ensures { Writes W.contents sink.old sink.new result self }

@@ -4,8 +4,7 @@ ghost use Rattle.dns_spec.specs.Names.{is_label};
 
 use std::marker::Model;
 
-/// A label: 1 to 63 octets of any value, borrowed from where they stand (RFC 1035 2.3.4, RFC 2181
-/// 11).
+/// A label: 1 to 63 octets of any value, borrowed (RFC 1035 2.3.4, RFC 2181 11).
 #[derive(Drop)]
 pub struct Label<'a> {
     octets: &'a [u8],
@@ -23,7 +22,7 @@ impl<'a> Model for Label<'a> {
 }
 
 impl<'a> Label<'a> {
-    /// The label of these octets. `None` where they are none, or more than 63.
+    /// The label with these octets. `None` if there are none, or more than 63.
     pub fn new(octets: &'a [u8]) -> Option<Label<'a>>
         ensures some { IsSome result ↔ IsTrue (is_label octets.now) }
         ensures octets { IfSome result (λ label. label ≡ octets.now) }
@@ -34,7 +33,7 @@ impl<'a> Label<'a> {
         Some(Label { octets })
     }
 
-    /// The label's octets, without a length before them.
+    /// The label's octets, without a length octet.
     pub fn octets(&self) -> &'a [u8]
         ensures value { result.now ≡ self.now }
         ensures is_label { IsTrue (is_label self.now) }

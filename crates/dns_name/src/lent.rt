@@ -1,4 +1,4 @@
-//! Domain names that are lent as their wire form, and their labels.
+//! Borrowed domain names, in wire form, and their labels.
 ghost use Rattle.std.specs.Prelude.{◌≡◌, ◌≤◌, ◌↔◌, [], ◌∷◌, length, map, reverse, drop, IsTrue, MatchOption};
 ghost use Rattle.std.specs.Bool.{OnTrue};
 ghost use Rattle.std.specs.Char.{to_ascii_lowercase};
@@ -16,14 +16,13 @@ use crate::octets::are_equal;
 use std::cmp::Ordering;
 use std::marker::Model;
 
-/// A domain name that is lent: its wire form, from where it stands. The root has no label
-/// (RFC 1034 3.1, RFC 1035 3.1).
+/// A borrowed domain name, in wire form. The root has no labels (RFC 1034 3.1, RFC 1035 3.1).
 #[derive(Drop)]
 pub struct NameRef<'a> {
     octets: &'a [u8],
 }
 
-/// The labels of a name that are still to come.
+/// The remaining labels of a name.
 #[derive(Drop)]
 pub struct Labels<'a> {
     rest: NameRef<'a>,
@@ -41,7 +40,7 @@ impl<'a> Model for NameRef<'a> {
 }
 
 impl<'a> NameRef<'a> {
-    /// The name whose wire form the octets are, as the octets of a name in data.
+    /// The name whose wire form is these octets, such as the octets of a name in data.
     pub fn new(octets: &'a [u8]) -> NameRef<'a>
         requires { IsWireForm octets.now }
         ensures value { result ≡ labels_of octets.now }
@@ -50,7 +49,7 @@ impl<'a> NameRef<'a> {
         NameRef { octets }
     }
 
-    /// A name of its own with the same octets. It takes no memory.
+    /// An owned name with the same octets. Does not allocate.
     pub fn to_name(&self) -> Name
         ensures value { result ≡ self.now }
         ensures is_name { IsTrue (is_name result) }
@@ -58,7 +57,7 @@ impl<'a> NameRef<'a> {
         Name::from_octets(self.octets)
     }
 
-    /// The wire form: each label after its length, and the length 0 of the root (RFC 1035 3.1).
+    /// The wire form: each label after its length, then the root's length 0 (RFC 1035 3.1).
     pub fn octets(&self) -> &'a [u8]
         ensures value { result.now ≡ wire self.now }
         ensures bound { length result.now ≤ 255 }
@@ -73,9 +72,9 @@ impl<'a> NameRef<'a> {
         self.labels().count()
     }
 
-    /// The labels in order, the nearest to the root last.
+    /// The labels in order, the label nearest to the root last.
     ///
-    /// There are at most 127, since each has two octets or more on the wire.
+    /// There are at most 127, since each takes at least two octets on the wire.
     pub fn labels(&self) -> Labels<'a>
         ensures labels { result ≡ self.now }
         ensures is_name { IsTrue (is_name self.now) }
@@ -87,17 +86,17 @@ impl<'a> NameRef<'a> {
     }
 }
 
-/// How names are compared (RFC 1035 2.3.3).
+/// Comparison of names (RFC 1035 2.3.3).
 impl NameRef<'_> {
-    /// Whether the names are the same, without regard to the case of ASCII letters.
+    /// Whether the names are the same, ignoring the case of ASCII letters.
     pub fn same(&self, other: &NameRef<'_>) -> bool
         ensures { result ≡ same self.now other.now }
     {
         same_octets(self.octets(), other.octets())
     }
 
-    /// Whether the name is `ancestor` or a name below it: whether its last labels are those of
-    /// `ancestor`, without regard to the case of ASCII letters (RFC 1034 3.1).
+    /// Whether the name is `ancestor` or a name below it: whether it ends with the labels of
+    /// `ancestor`, ignoring the case of ASCII letters (RFC 1034 3.1).
     pub fn at_or_below(&self, ancestor: &NameRef<'_>) -> bool
         ensures { result ≡ at_or_below self.now ancestor.now }
     {
@@ -112,9 +111,9 @@ impl NameRef<'_> {
         same_octets(suffix, target)
     }
 
-    /// Whether the name is a wildcard: whether its first label is `*` alone (RFC 4592 2.1.1).
+    /// Whether the name is a wildcard: whether its first label is exactly `*` (RFC 4592 2.1.1).
     ///
-    /// `*.example.` is one, and `a.*.example.` and `**.example.` are none.
+    /// `*.example.` is a wildcard; `a.*.example.` and `**.example.` are not.
     pub fn is_wildcard(&self) -> bool
         ensures { result ≡ first_is_asterisk self.now }
     {
@@ -124,11 +123,10 @@ impl NameRef<'_> {
         }
     }
 
-    /// Which of two names in lower case comes first in the canonical order (RFC 4034 6.1): what
-    /// many names are sorted by.
+    /// The canonical order of two names in lower case (RFC 4034 6.1), for sorting many names.
     ///
-    /// Labels are compared from the right. A label comes before one that it begins, and a name
-    /// before all names below it.
+    /// Labels are compared from the right. A label comes before any longer label that begins with
+    /// it, and a name before all names below it.
     pub fn order_in_lower_case(&self, other: &NameRef<'_>) -> Ordering
         requires this { folded self.now ≡ self.now }
         requires other { folded other.now ≡ other.now }
@@ -137,8 +135,8 @@ impl NameRef<'_> {
         self.order_as_spelled(other)
     }
 
-    // Labels are compared from the right, with regard to case. Two names of a zone mostly stand
-    // below one name: their first labels decide, and none need be counted.
+    // Labels are compared from the right, with regard to case. Two names of a zone often have the
+    // same parent: then their first labels decide, and no labels need to be counted.
     pub(crate) fn order_as_spelled(&self, other: &NameRef<'_>) -> Ordering
         ensures { result ≡ slice_cmp label_order (reverse self.now) (reverse other.now) }
     {
@@ -169,7 +167,7 @@ impl NameRef<'_> {
     }
 }
 
-/// Octet by octet, so that names which differ in case are different: `same` has no regard to case.
+/// Octet by octet, so names that differ in case are different; `same` ignores case.
 impl PartialEq for NameRef<'_> {
     ghost eq = { names_equal };
 
@@ -207,7 +205,7 @@ impl<'a> Iterator for Labels<'a> {
 }
 
 impl Labels<'_> {
-    // Whether the labels that are still to come are the same, octet by octet.
+    // Whether the remaining labels are equal, octet by octet.
     fn are_those_of(&self, other: &Labels<'_>) -> bool
         ensures { OnTrue result (self.now ≡ other.now) }
     {
@@ -215,8 +213,8 @@ impl Labels<'_> {
     }
 }
 
-/// The first label of a name in wire form, and the wire form of the rest: of `www.example.`, `www`
-/// and `example.` The root has none.
+/// The first label of a name in wire form, and the wire form of the rest: `www` and `example.` of
+/// `www.example.`. The root gives `None`.
 pub fn first_label(octets: &[u8]) -> Option<(Label<'_>, &[u8])>
     requires { IsWireForm octets.now }
     ensures { MatchOption result (labels_of octets.now ≡ [])
@@ -231,9 +229,9 @@ pub fn first_label(octets: &[u8]) -> Option<(Label<'_>, &[u8])>
     Some((Label::new(label)?, rest))
 }
 
-// The order of as many labels on both sides, compared from the right, and `longer` where they are
-// equal. Names of a zone mostly differ in their first labels alone, and what is equal after a label
-// need not be walked.
+// The order of equally many labels on both sides, compared from the right; `longer` if they are
+// equal. Names of a zone often differ only in their first labels, so the loop stops once the
+// remaining labels are equal.
 fn order_of_labels(left: Labels<'_>, right: Labels<'_>, longer: Ordering) -> Ordering
     requires { length left ≡ length right }
     ensures { result ≡ ordering_then (slice_cmp label_order (reverse left.entry)

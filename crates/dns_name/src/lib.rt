@@ -1,5 +1,5 @@
-//! Domain names: their labels, their octets on the wire, and how they are compared; and devices
-//! that count their failures.
+//! Domain names: their labels, their wire form, and how they are compared; and devices that count
+//! their failures.
 #![tactic(auto)]
 
 mod buffer;

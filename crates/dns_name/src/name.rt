@@ -19,8 +19,8 @@ use std::marker::Model;
 
 const MAX_OCTETS: usize = 255;
 
-/// A domain name: its labels, the nearest to the root last, with at most 255 octets on the wire
-/// (RFC 1034 3.1, RFC 1035 2.3.4). The root has no label.
+/// A domain name: its labels, the label nearest to the root last, with at most 255 octets on the
+/// wire (RFC 1034 3.1, RFC 1035 2.3.4). The root has no labels.
 #[derive(Drop)]
 pub struct Name {
     octets: ArrayVec<u8, MAX_OCTETS>,
@@ -38,7 +38,7 @@ impl Model for Name {
 }
 
 impl Name {
-    /// The root, whose wire form is one octet 0.
+    /// The root, whose wire form is a single octet 0.
     pub fn root() -> Name
         ensures { result ≡ [] }
     {
@@ -47,7 +47,7 @@ impl Name {
         Name { octets }
     }
 
-    /// Makes it the root.
+    /// Sets the name to the root.
     pub fn clear(&mut self)
         ensures { self.new ≡ [] }
     {
@@ -55,7 +55,7 @@ impl Name {
         self.octets.push(0);
     }
 
-    /// Makes it the same name as another, with the same octets. It takes no memory.
+    /// Sets the name to `other`, with the same octets. Does not allocate.
     pub fn copy_from(&mut self, other: &NameRef<'_>)
         ensures value { self.new ≡ other.now }
         ensures is_name { IsTrue (is_name self.new) }
@@ -66,7 +66,7 @@ impl Name {
 
     /// Adds a label next to the root: `www.example.` and `org` give `www.example.org.`
     ///
-    /// False, with the name as it was, where the wire form would pass 255 octets (RFC 1035 2.3.4).
+    /// False, with the name unchanged, if the wire form would exceed 255 octets (RFC 1035 2.3.4).
     pub fn push(&mut self, label: Label<'_>) -> bool
         ensures fits { IsTrue result ↔ (length (wire (self.old ++ label.entry ∷ [])) ≤ 255) }
         ensures pushed { OnTrue result (self.new ≡ self.old ++ label.entry ∷ []) }
@@ -97,7 +97,7 @@ impl Name {
         true
     }
 
-    /// The wire form: each label after its length, and the length 0 of the root (RFC 1035 3.1).
+    /// The wire form: each label after its length, then the root's length 0 (RFC 1035 3.1).
     pub fn octets(&self) -> &[u8]
         ensures value { result.now ≡ wire self.now }
         ensures bound { length result.now ≤ 255 }
@@ -106,7 +106,7 @@ impl Name {
         self.octets.as_slice()
     }
 
-    /// The name, lent.
+    /// The name, borrowed.
     pub fn lent(&self) -> NameRef<'_>
         ensures value { result ≡ self.now }
         ensures is_name { IsTrue (is_name self.now) }
@@ -114,9 +114,9 @@ impl Name {
         NameRef::new(self.octets.as_slice())
     }
 
-    /// The labels in order, the nearest to the root last.
+    /// The labels in order, the label nearest to the root last.
     ///
-    /// There are at most 127, since each has two octets or more on the wire.
+    /// There are at most 127, since each takes at least two octets on the wire.
     pub fn labels(&self) -> Labels<'_>
         ensures labels { result ≡ self.now }
         ensures is_name { IsTrue (is_name self.now) }
@@ -126,7 +126,7 @@ impl Name {
     }
 }
 
-/// How names are compared (RFC 1035 2.3.3).
+/// Comparison of names (RFC 1035 2.3.3).
 impl Name {
     /// The name in lower case: `WWW.Example.` gives `www.example.` Only ASCII letters have a case.
     ///
@@ -139,33 +139,32 @@ impl Name {
         folded
     }
 
-    /// Puts the name itself in lower case, as `fold` gives a second name (RFC 1035 2.3.3). Nothing
-    /// is copied.
+    /// Converts the name itself to lower case (RFC 1035 2.3.3). Nothing is copied.
     pub fn fold_in_place(&mut self)
         ensures { self.new ≡ folded self.old }
     {
         lower_case(&mut self.octets);
     }
 
-    /// Whether the names are the same, without regard to the case of ASCII letters.
+    /// Whether the names are the same, ignoring the case of ASCII letters.
     pub fn same(&self, other: &Name) -> bool
         ensures { result ≡ same self.now other.now }
     {
         self.lent().same(&other.lent())
     }
 
-    /// Whether the name is `ancestor` or a name below it: whether its last labels are those of
-    /// `ancestor`, without regard to the case of ASCII letters (RFC 1034 3.1).
+    /// Whether the name is `ancestor` or a name below it: whether it ends with the labels of
+    /// `ancestor`, ignoring the case of ASCII letters (RFC 1034 3.1).
     pub fn at_or_below(&self, ancestor: &Name) -> bool
         ensures { result ≡ at_or_below self.now ancestor.now }
     {
         self.lent().at_or_below(&ancestor.lent())
     }
 
-    /// Which of two names comes first in the canonical order (RFC 4034 6.1).
+    /// The canonical order of two names (RFC 4034 6.1).
     ///
-    /// Labels are compared from the right, each as octets in lower case. A label comes before one
-    /// that it begins, and a name before all names below it. No memory is taken.
+    /// Labels are compared from the right, each as octets in lower case. A label comes before any
+    /// longer label that begins with it, and a name before all names below it. Does not allocate.
     pub fn order(&self, other: &Name) -> Ordering
         ensures { result ≡ name_order self.now other.now }
     {
@@ -183,7 +182,7 @@ impl Name {
         Name { octets: name }
     }
 
-    /// A second name with the same octets. It takes no memory.
+    /// A copy with the same octets. Does not allocate.
     pub fn copied(&self) -> Name
         ensures value { result ≡ self.now }
         ensures is_name { IsTrue (is_name result) }
@@ -211,7 +210,7 @@ impl Clone for Name {
     }
 }
 
-/// Octet by octet, so that names which differ in case are different: `same` has no regard to case.
+/// Octet by octet, so names that differ in case are different; `same` ignores case.
 impl PartialEq for Name {
     ghost eq = { names_equal };
 
@@ -235,7 +234,7 @@ fn append_octets(octets: &mut ArrayVec<u8, MAX_OCTETS>, part: &[u8])
     }
 }
 
-// Folds wire octets in place. Lengths are at most 63, so none of them is taken for a letter.
+// Folds wire octets in place. Lengths are at most 63, so none is mistaken for a letter.
 #[inline(never)]
 fn lower_case(octets: &mut ArrayVec<u8, MAX_OCTETS>)
     ensures { octets.new.items ≡ map to_ascii_lowercase octets.old.items }

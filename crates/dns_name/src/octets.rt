@@ -1,11 +1,11 @@
-//! Runs of octets, compared.
+//! Comparison of runs of octets.
 ghost use Rattle.std.specs.Prelude.{◌≡◌, ◌↔◌, ◌<◌, ◌≤◌, length, take, IsTrue};
 ghost use Rattle.std.specs.Int.{from_le_bytes, w16, w32, w64};
 
 /// Whether two runs of octets are equal, octet by octet.
 ///
-/// Names mostly have 8 to 16 octets and labels 2 to 7. Such runs are compared as two numbers: of
-/// the first octets and of the last ones, as many as a number holds.
+/// Names mostly have 8 to 16 octets and labels 2 to 7. Such runs are compared as two numbers, made
+/// of their first and of their last octets, which may overlap.
 pub fn are_equal(left: &[u8], right: &[u8]) -> bool
     ensures { IsTrue result ↔ (left.now ≡ right.now) }
 {
@@ -19,7 +19,7 @@ pub fn are_equal(left: &[u8], right: &[u8]) -> bool
     have_same_eights(left, right)
 }
 
-// Whether runs of less than 8 octets, or of more than 16, are equal.
+// Whether runs of fewer than 8 octets, or of more than 16, are equal.
 fn are_others_equal(left: &[u8], right: &[u8]) -> bool
     requires same { length right.now ≡ length left.now }
     requires others { 8 ≤ length left.now → 16 < length left.now }
@@ -68,7 +68,7 @@ fn are_many_equal(left: &[u8], right: &[u8]) -> bool
     have_same_eights(left_rest, right_rest)
 }
 
-// The first eight octets as a number, which tells them.
+// The first eight octets as a number; different octets give different numbers.
 fn first_eight(octets: &[u8]) -> u64
     requires { 8 ≤ length octets.now }
     ensures { result ≡ from_le_bytes w64 (take 8 octets.now) }
@@ -94,7 +94,7 @@ fn first_two(octets: &[u8]) -> u16
     u16::from_le_bytes(*front(octets))
 }
 
-// The first octets, as many as are asked for.
+// The first `N` octets.
 fn front<const N: usize>(octets: &[u8]) -> &[u8; N]
     requires { N ≤ length octets.now }
     ensures { result.now ≡ take N octets.now }

@@ -7,18 +7,18 @@ ghost use Rattle.dns_name.specs.Counted.{Writes, failures_after, joined};
 use std::io::{Read, Write};
 use std::marker::Model;
 
-/// A call of a reader failed, and was counted.
+/// A call of a reader failed and was counted.
 #[derive(Clone, Copy, Debug, PartialEq, Eq)]
 pub struct SourceFailed;
 
-/// A call of a writer failed, and was counted.
+/// A call of a writer failed and was counted.
 #[derive(Clone, Copy, Debug, PartialEq, Eq)]
 pub struct SinkFailed;
 
 /// A reader or a writer with the count of its failures.
 ///
-/// The count rises by one exactly where a call answers an error, and no call is tried again. Each
-/// call over the device asks that the count is below the greatest `u64`.
+/// The count rises by one if and only if a call returns an error. No call is retried. Each call
+/// over the device requires the count to be below the greatest `u64`.
 #[derive(Drop)]
 pub struct Tally<T> {
     device: T,
@@ -45,7 +45,7 @@ impl<T> Tally<T> {
         }
     }
 
-    /// How many calls of the device have failed.
+    /// The number of calls of the device that have failed.
     pub fn failures(&self) -> u64
         ensures { result ≡ self.now.failures }
     {
@@ -66,8 +66,8 @@ impl<T> Tally<T> {
 }
 
 impl<T: Read> Tally<T> {
-    /// Reads once, into the front of `buf`, and answers how many octets came: 0 at the end of the
-    /// input, or where `buf` is empty. Where the device fails, the failure is counted and no octet
+    /// Reads once into the front of `buf` and returns the number of octets read: 0 at the end of
+    /// the input, or if `buf` is empty. If the device fails, the failure is counted and no octet
     /// was taken.
     pub fn read(&mut self, buf: &mut [u8]) -> Result<usize, SourceFailed>
         requires { self.old.failures < 2 ^ 64 - 1 }
@@ -87,9 +87,9 @@ impl<T: Read> Tally<T> {
 }
 
 impl<T: Write> Tally<T> {
-    /// Writes once, from the front of `piece`, and answers how many octets the device took. Where
-    /// it fails, or takes nothing of a piece that isn't empty, the failure is counted and nothing
-    /// was written.
+    /// Writes once from the front of `piece` and returns the number of octets that the device
+    /// took. If it fails, or takes nothing of a non-empty piece, the failure is counted and
+    /// nothing was written.
     pub fn write(&mut self, piece: &[u8]) -> Result<usize, SinkFailed>
         requires { self.old.failures < 2 ^ 64 - 1 }
         ensures bound { WritesAtMost result piece.now }
@@ -107,8 +107,8 @@ impl<T: Write> Tally<T> {
         }
     }
 
-    /// Writes the whole text, call by call. Where one of them fails, a beginning of the text was
-    /// written, and nothing is tried after it.
+    /// Writes the whole text, in as many calls as it takes. After a failed call, a beginning of
+    /// the text was written, and nothing more is tried.
     pub fn write_all(&mut self, text: &[u8]) -> Result<(), SinkFailed>
         requires { self.old.failures < 2 ^ 64 - 1 }
         ensures { Writes T.contents self.old self.new result text.now }
@@ -120,8 +120,8 @@ impl<T: Write> Tally<T> {
         Ok(())
     }
 
-    /// Writes texts, one after another. Where a call fails, a beginning of them all was written,
-    /// and nothing is tried after it.
+    /// Writes the texts in order. After a failed call, a beginning of all of them together was
+    /// written, and nothing more is tried.
     pub fn write_parts(&mut self, parts: &[&[u8]]) -> Result<(), SinkFailed>
         requires { self.old.failures < 2 ^ 64 - 1 }
         ensures { Writes T.contents self.old self.new result (joined parts.now) }
@@ -132,8 +132,8 @@ impl<T: Write> Tally<T> {
         Ok(())
     }
 
-    /// Has the device pass on what it keeps. Where that fails, the failure is counted, and it is
-    /// not tried again.
+    /// Has the device pass on what it has buffered. If that fails, the failure is counted, and
+    /// nothing is retried.
     pub fn flush(&mut self) -> Result<(), SinkFailed>
         requires { self.old.failures < 2 ^ 64 - 1 }
         ensures { Writes T.contents self.old self.new result [] }

@@ -10,24 +10,24 @@ use crate::label::Label;
 use crate::name::Name;
 use arrayvec::ArrayVec;
 
-// A label has at most 63 octets. One more is kept, which shows that it is too long.
+// A label has at most 63 octets. One more is kept to detect a label that is too long.
 const KEPT_OCTETS: usize = 64;
 
-// How many octets of a name are told at once.
+// The number of octets of a name that are tested at once.
 const GROUP: usize = 8;
 
-/// Why a word spells no name.
+/// Why a word does not spell a name.
 #[derive(Clone, Copy, Debug, PartialEq, Eq)]
 pub enum NameFault {
-    /// A label has no octet, as in `a..b`. The empty word is such a label.
+    /// A label is empty, as in `a..b`. The empty word is such a label.
     EmptyLabel = 1,
     /// A label has more than 63 octets (RFC 1035 2.3.4).
     LabelTooLong,
-    /// The name, with the origin where it is relative, has more than 255 octets on the wire (RFC
-    /// 1035 2.3.4).
+    /// The name, with the origin if it is relative, has more than 255 octets on the wire (RFC 1035
+    /// 2.3.4).
     NameTooLong,
-    /// A backslash begins neither `\X`, with X printable and no digit, nor `\DDD`, three digits up
-    /// to 255.
+    /// A backslash begins neither `\X`, with X printable and not a digit, nor `\DDD`, three digits
+    /// up to 255.
     BadEscape,
 }
 
@@ -43,12 +43,13 @@ impl NameFault {
 impl Name {
     /// The name that a word of a zone file spells, relative to `origin` (RFC 1035 5.1).
     ///
-    /// `@` alone is the origin and `.` alone the root. A word without a final dot goes on with the
-    /// labels of the origin: `www` at `example.` is `www.example.` The case of letters is kept. An
-    /// octet is spelled as itself, as `\X` or as `\DDD`.
+    /// `@` alone is the origin and `.` alone the root. A word without a final dot continues with
+    /// the labels of the origin: `www` at `example.` is `www.example.` The case of letters is
+    /// kept. An octet is spelled as itself, as `\X` or as `\DDD`.
     ///
-    /// Labels are judged from the left. In a label a bad escape is reported first, then no octet or
-    /// too many of them. That the whole name is too long is reported only where no label is faulty.
+    /// Labels are checked from the left. Within a label, a bad escape is reported before an empty
+    /// label or one that is too long. A name that is too long is reported only if all its labels
+    /// are valid.
     pub fn read_text(word: &[u8], origin: &Name) -> Result<Name, NameFault>
         ensures { (n : DomainName) → (result ≡ Ok n) ↔ SpellsName origin.now word.now n }
     {
@@ -57,10 +58,10 @@ impl Name {
         Ok(name)
     }
 
-    /// Makes it the name that a word spells, as `read_text` gives one: no second name is made, and
-    /// nothing is moved.
+    /// Sets the name to the one that a word spells, as `read_text` does, without a second name and
+    /// without a copy.
     ///
-    /// After a fault it is some name.
+    /// After a fault the name is unspecified.
     pub fn spell(&mut self, word: &[u8], origin: &Name) -> Result<(), NameFault>
         ensures ok { OnOk result (SpellsName origin.now word.now self.new) }
         ensures only { OnOk result
@@ -83,7 +84,7 @@ impl Name {
     }
 }
 
-// Adds to the root the labels that labels and dots spell.
+// Adds to the root the labels that the word spells, and the origin's labels if it is relative.
 fn spell_labels(name: &mut Name, word: &[u8], origin: &Name) -> Result<(), NameFault>
     requires some { word.now ≢ [] }
     requires root { name.old ≡ [] }
@@ -113,10 +114,10 @@ fn check_fits(fits: bool) -> Result<(), NameFault>
     }
 }
 
-// Reads the label that a text begins with, and adds it to the name where it fits there.
+// Reads the label at the beginning of the text, and adds it to the name if it fits.
 //
-// Gives whether it fits, and the text from the label's end on: empty, or with a dot first. Most
-// labels have no escape: their octets are taken from the text itself.
+// Returns whether it fits, and the text from the label's end on: empty, or beginning with a dot.
+// Most labels have no escapes, so their octets are taken from the text itself.
 fn push_label<'a>(name: &mut Name, text: &'a [u8]) -> Result<(bool, &'a [u8]), NameFault>
     ensures ok { IfOk result (λ x. PushesLabel text.now name.old x.0 x.1.now name.new) }
     ensures err { OnErr result (HasNoLabel text.now) }
@@ -131,7 +132,7 @@ fn push_label<'a>(name: &mut Name, text: &'a [u8]) -> Result<(bool, &'a [u8]), N
     Ok((push_octets(name, octets.as_slice())?, end))
 }
 
-// Adds the label of these octets to the name where it fits there, and gives whether it fits.
+// Adds the label with these octets to the name if it fits, and returns whether it does.
 fn push_octets(name: &mut Name, octets: &[u8]) -> Result<bool, NameFault>
     ensures label { IfOk result (λ _. IsTrue (is_label octets.now)) }
     ensures ok { IfOk result (λ fits. Appended name.old (octets.now ∷ []) fits name.new) }
@@ -146,8 +147,8 @@ fn push_octets(name: &mut Name, octets: &[u8]) -> Result<bool, NameFault>
     Ok(name.push(label))
 }
 
-// How many octets stand before the first dot or backslash. Groups without one are passed, which
-// saves a fortieth of a check.
+// The number of octets before the first dot or backslash. Groups without one are skipped whole,
+// which saves a fortieth of a check.
 fn plain_length(text: &[u8]) -> usize
     ensures value { result ≡ position_or_len is_mark text.now }
     ensures bound { result ≤ length text.now }
@@ -172,8 +173,8 @@ fn mark_place(text: &[u8]) -> usize
     text.iter().take_while(|octet| !is_mark(**octet)).count()
 }
 
-// Whether one of a group is a dot or a backslash. Each is looked at, so that a processor can do it
-// to all at once.
+// Whether a group contains a dot or a backslash. The loop does not stop early, so that a processor
+// can test all octets at once.
 fn has_mark(group: &[u8; GROUP]) -> bool
     ensures { result ≡ list_any is_mark group.now }
 {
@@ -190,8 +191,8 @@ fn is_mark(octet: u8) -> bool
     (octet == b'.') | (octet == b'\\')
 }
 
-// The octets of the label that a text begins with, at most 64 of them, and the text from its end
-// on. `None` where an escape in it is bad.
+// The octets of the label at the beginning of the text, at most 64 of them, and the text from its
+// end on. `None` if it contains a bad escape.
 fn label_text(text: &[u8]) -> Option<(ArrayVec<u8, KEPT_OCTETS>, &[u8])>
     ensures some { IfSome result (λ x. ReadsLabel text.now x.0.items x.1.now) }
     ensures end { IfSome result (λ x. IsTrue (is_label_end x.1.now)) }
@@ -210,11 +211,11 @@ fn label_text(text: &[u8]) -> Option<(ArrayVec<u8, KEPT_OCTETS>, &[u8])>
     Some((octets, rest))
 }
 
-/// The octet that a text begins with, and the text after its spelling: the octet itself, `\X` or
+/// The octet that the text begins with, and the text after its spelling: the octet itself, `\X` or
 /// `\DDD` (RFC 1035 5.1).
 ///
-/// `None` at the end of the text, and where a backslash begins no escape. A dot is an octet as
-/// others are.
+/// `None` at the end of the text, and if a backslash begins no escape. A dot is an octet like any
+/// other.
 #[tactic(auto, unfolding(crate::specs::TextForm::octet_at, crate::specs::TextForm::escaped_at))]
 pub fn first_octet(text: &[u8]) -> Option<(u8, &[u8])>
     ensures { Gives result (octet_at text.now) }
@@ -244,8 +245,8 @@ fn decimal(text: &[u8]) -> Option<(u8, &[u8])>
     Some((value, text))
 }
 
-/// The value of the decimal digit that a text begins with, and the text after it. `None` where it
-/// begins with none.
+/// The value of the decimal digit at the beginning of the text, and the text after it. `None` if
+/// there is no digit.
 pub fn first_digit(text: &[u8]) -> Option<(u16, &[u8])>
     ensures value { Gives result (digit_at text.now) }
     ensures bound { IfSome result (λ x. x.0 < 10) }

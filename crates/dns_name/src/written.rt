@@ -11,14 +11,14 @@ use crate::tally::{SinkFailed, Tally};
 use std::io::Write;
 
 impl Name {
-    /// Writes the name as it stands in a zone file (RFC 1035 5.1): its labels, each with a dot
-    /// after it, and the root as `.`
+    /// Writes the name as it appears in a zone file (RFC 1035 5.1): its labels, each followed by a
+    /// dot, and the root as `.`
     ///
-    /// In a label `"`, `$`, `(`, `)`, `.`, `;`, `@` and `\` have a backslash before them. Other
-    /// octets 33 to 126 are written as they are, and all others as `\DDD`, three decimal digits. No
-    /// memory is taken.
+    /// In a label, `"`, `$`, `(`, `)`, `.`, `;`, `@` and `\` are written with a backslash before
+    /// them. Other octets from 33 to 126 are written as they are, and all others as `\DDD`, three
+    /// decimal digits. Does not allocate.
     ///
-    /// Where the writer fails, a beginning of the text was written, and the failure is counted.
+    /// If the writer fails, a beginning of the text was written, and the failure is counted.
     pub fn write_text<W: Write>(&self, sink: &mut Tally<W>) -> Result<(), SinkFailed>
         requires { sink.old.failures < 2 ^ 64 - 1 }
         ensures { Writes W.contents sink.old sink.new result (name_text self.now) }
@@ -26,11 +26,11 @@ impl Name {
         self.lent().write_text(sink)
     }
 
-    /// Writes the name as most programs print it: its labels with a dot between them, and the root
-    /// as `.`
+    /// Writes the name as most programs print it: its labels, separated by dots, and the root as
+    /// `.`
     ///
-    /// Octets are written as `write_text` writes them. No memory is taken. Where the writer fails,
-    /// a beginning of the text was written, and the failure is counted.
+    /// Octets are written as `write_text` writes them. Does not allocate. If the writer fails, a
+    /// beginning of the text was written, and the failure is counted.
     pub fn write_bare_text<W: Write>(&self, sink: &mut Tally<W>) -> Result<(), SinkFailed>
         requires { sink.old.failures < 2 ^ 64 - 1 }
         ensures { Writes W.contents sink.old sink.new result (bare_name_text self.now) }
@@ -45,9 +45,9 @@ impl Name {
 }
 
 impl NameRef<'_> {
-    /// Writes the name as it stands in a zone file, as `Name::write_text` does (RFC 1035 5.1).
+    /// Writes the name as it appears in a zone file, as `Name::write_text` does (RFC 1035 5.1).
     ///
-    /// Where the writer fails, a beginning of the text was written, and the failure is counted.
+    /// If the writer fails, a beginning of the text was written, and the failure is counted.
     pub fn write_text<W: Write>(&self, sink: &mut Tally<W>) -> Result<(), SinkFailed>
         requires { sink.old.failures < 2 ^ 64 - 1 }
         ensures { Writes W.contents sink.old sink.new result (name_text self.now) }
@@ -57,7 +57,7 @@ impl NameRef<'_> {
         text.finish(sink)
     }
 
-    /// Appends the name as `write_text` writes it: at most 1,020 octets.
+    /// Appends the text that `write_text` writes, at most 1,020 octets.
     pub fn append_text(&self, text: &mut TextBuffer)
         requires { length text.old + 1020 ≤ 4096 }
         ensures text { text.new ≡ text.old ++ name_text self.now }
@@ -97,8 +97,8 @@ fn append_octet(text: &mut TextBuffer, octet: u8)
     }
 }
 
-// Whether an octet means something else in a zone file, where no backslash stands before it. Most
-// octets of names are small letters, which one test tells.
+// Whether an octet has a meaning of its own in a zone file, unless a backslash precedes it. Most
+// octets of names are small letters, for which one test is enough.
 fn is_special(octet: u8) -> bool
     ensures { result ≡ is_special octet }
 {

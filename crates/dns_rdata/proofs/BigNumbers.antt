@@ -1,4 +1,4 @@
--- The number that octets spell, as `byteorder` reads it.
+-- The number that octets encode, as `byteorder` reads it.
 use Rattle.dns_rdata.proofs.Common.{◌≡◌, ℕ, ◌-◌, ◌≤◌, length, take, drop, arith, length-drop, take_all, Octets, number_of, big_number}
 
 pub big_number-four : (xs : Octets) → 4 ≤ length xs → big_number 4 xs ≡ number_of (take 4 xs)

@@ -1,5 +1,5 @@
--- Words are taken from the left, each by its form: what those of one piece say, and then those of
--- the pieces after it, is what all say by all forms.
+-- Words are taken from the left, each by its form: what the words of one piece spell, followed by
+-- what the words of later pieces spell, is what all words spell by all forms.
 use Rattle.dns_rdata.proofs.Common.{◌≡◌, ℕ, suc, ◌+◌, ◌-◌, ◌<◌, ◌≤◌, List, [], ◌∷◌, ◌++◌, length, take, drop, get_or, replicate, refl, sym, ap, ◌∙◌, subst, arith, flat_map-append, flat_map, to_ascii_lowercase, Octets, DomainName, Word, WordForm, number_word, ipv4_word, ipv6_word, name_word, string_word, SaysWord, SaysForms, forms_in, append_assoc, append-nil, length-append, length-replicate, length-map, map-append, replicate-append-replicate, take-append-drop, take_more, piece_of, pieces_in, kept, Appends, SaysKept, AppendsFront, SaysNoFront}
 use Rattle.dns_rdata.specs.declared.table.Piece as code
 
@@ -11,7 +11,7 @@ as_many_words [] origin (w ∷ ws) d h = absurd h
 as_many_words (f ∷ fs) origin [] d h = absurd h
 as_many_words (f ∷ fs) origin (w ∷ ws) d h = ap suc (as_many_words fs origin ws h.1 h.4)
 
--- what is kept of what words say, they say
+-- words whose octets are kept spell data
 pub kept_said : (fs : List WordForm) (origin : DomainName) (ws : List Word) (d e : Octets)
     → SaysKept fs origin ws d e → SaysForms fs origin ws d
 kept_said [] origin [] d e h = h.0
@@ -67,7 +67,7 @@ module _ (origin : DomainName) where
         (q.0, q.1, r.2 ∙ ap (λ x. a.spelled ++ x) q.2 ∙ sym (append_assoc a.spelled b.spelled q.0));
   }
 
-  -- the first word is none of its form
+  -- the first word does not have its form
   pub no-word : (n : ℕ) (f : WordForm) (w : Word) (ws rest : List Word) → ws ≡ w ∷ rest
       → ((d : Octets) → SaysWord f origin w d → ⊥) → SaysNoFront n (f ∷ []) origin ws
   no-word n f w ws rest e none gs d h short = grind arith
@@ -77,29 +77,29 @@ module _ (origin : DomainName) where
       → AppendsFront fs origin ws rest x y → 65535 < length y → SaysNoFront (length x) fs origin ws
   too-long fs ws rest x y a over gs d h short = grind (arith, length-append)
 
-  -- the words after those that were taken say nothing
+  -- the words after those that were taken spell nothing
   pub no-rest : (fs gs : List WordForm) (ws mid : List Word) (x y : Octets)
       → AppendsFront fs origin ws mid x y
       → SaysNoFront (length y) gs origin mid → SaysNoFront (length x) (fs ++ gs) origin ws
   no-rest fs gs ws mid x y a none hs d h short = grind (arith, append_assoc, length-append)
 
-  -- nor do they with further words
+  -- nor do they with more words
   pub no-more : (n : ℕ) (fs gs : List WordForm) (ws : List Word)
       → SaysNoFront n fs origin ws → SaysNoFront n (fs ++ gs) origin ws
   no-more n fs gs ws none hs d h =
       none (gs ++ hs) d (subst (λ v. SaysForms v origin ws d) (append_assoc fs gs hs) h)
 
-  -- so the words, where they are all, say nothing
+  -- so all the words together spell nothing
   no-all : (n : ℕ) (fs : List WordForm) (ws : List Word) → SaysNoFront n fs origin ws
       → (d : Octets) → SaysForms fs origin ws d → n + length d ≤ 65535 → ⊥
   no-all n fs ws none d h = none [] d (subst (λ v. SaysForms v origin ws d) (sym (append-nil fs)) h)
 
--- one of so many of a form
+-- one of n words of one form
 pub one_of : (f : WordForm) (i n : ℕ)
     → i < n → replicate (i + 1) f ++ replicate (n - (i + 1)) f ≡ replicate n f
 one_of f i n h = grind (arith, replicate-append-replicate)
 
--- the forms of the words of pieces, where the record has k words
+-- the forms of the words of pieces, in a record with k words
 abbrev pub forms_for : ℕ → List code.Piece → List WordForm
 forms_for k ps = flat_map (forms_in k) (pieces_in ps)
 
@@ -123,7 +123,7 @@ module _ (k : ℕ) (pieces : List code.Piece) (i : ℕ) (p : code.Piece) (inside
       ap (λ fs. fs ++ forms_for k (drop (i + 1) pieces)) forms-up ∙ sym (forms_for-append k (take (i
       + 1) pieces) (drop (i + 1) pieces)) ∙ ap (forms_for k) (take-append-drop (i + 1) pieces)
 
-  -- so many words are left
+  -- n words are left
   pub run-fits : (origin : DomainName) (ws rest : List Word) (x y : Octets)
       → AppendsFront (forms_for k (take i pieces)) origin ws rest x y
       → length (forms_for k pieces) ≡ length ws → n ≤ length rest
@@ -135,7 +135,7 @@ module _ (k : ℕ) (pieces : List code.Piece) (i : ℕ) (p : code.Piece) (inside
       origin mid rest y z → AppendsFront (forms_for k (take (i + 1) pieces)) origin ws rest x z
   run-taken origin ws mid rest x y z a b = grind (arith, forms-up, front-joined)
 
-  -- where the words left say no run, all say nothing
+  -- if the remaining words spell no run, all words spell nothing
   pub run-refused : (origin : DomainName) (ws rest : List Word) (x y : Octets)
       → AppendsFront (forms_for k (take i pieces)) origin ws rest x y
       → SaysNoFront (length y) (replicate n f) origin rest

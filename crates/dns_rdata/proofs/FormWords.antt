@@ -26,7 +26,8 @@ name_appended origin text before after n spelled grown =
           (λ x. before ++ x) (sym (map-lowercase-wire n (IsName-is_name n spelled.is_name).labels));
     }
 
--- what the text of a word says by a form, the word says, where it may stand as it does
+-- what the text of a word spells by a form is what the word spells, if its quotation marks are
+-- allowed
 pub word_said : {A : Type 0} (f : WordForm) (origin : DomainName) (w : Word) (text x y : Octets)
     (r : Result A RdataFault) → w.raw ≡ text → IsTrue (may_be_quoted f || not w.is_quoted)
     → AppendsSaid (kept f) (SaysForm f origin text) x y r

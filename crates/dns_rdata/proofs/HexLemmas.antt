@@ -1,8 +1,8 @@
--- Hex digits read from left to right, two an octet.
+-- Hex digits, read from left to right, two per octet.
 use Rattle.dns_rdata.proofs.Common.{◌%◌, ◌&&◌, ◌≡◌, ℕ, ◌+◌, ◌*◌, ◌<◌, inl, inr, ◌⊎◌, true, false, [], ◌∷◌, ◌++◌, length, refl, sym, ◌∙◌, ap, arith, option_map, option_and_then, is_ascii_hexdigit, digit_value, cases_Bool, Octets, hex_octets, Option, Some, None, append_assoc, append-nil, hex_front, AppendsHex}
 use Rattle.dns_spec.proofs.Common.{none-some}
 
--- what two digits and what stands after them say
+-- what two digits and the text after them spell
 front_says : (text : Octets) (x : ℕ) (others : Octets) → hex_front text ≡ Some (x, others)
     → hex_octets text ≡ option_map (λ d. x ∷ d) (hex_octets others)
 unfolding hex_front hex_octets
@@ -25,7 +25,7 @@ pub front_shorter : (text : Octets) (x : ℕ) (others : Octets)
 unfolding hex_front
 front_shorter text x others h = grind (arith, none-some)
 
--- what was read and what the rest says are what the text says
+-- what was read, followed by what the rest spells, is what the text spells
 pub record HexSoFar (text old octets rest : Octets) : Type 0 where
   pub read : Octets
   pub appended : octets ≡ old ++ read
@@ -55,7 +55,7 @@ pub HexSoFar-end : (text old octets rest : Octets)
 unfolding hex_octets
 HexSoFar-end text old octets rest so_far empty = grind (arith, append-nil)
 
--- two texts of hex digits, one after the other
+-- the octets of two texts of hex digits in order
 abbrev pub joined_octets : Option Octets → Option Octets → Option Octets
 joined_octets o p = option_and_then (λ d. option_map (λ e. d ++ e) p) o
 
@@ -86,7 +86,7 @@ hex_octets-append (h ∷ l ∷ text) others even =
         ∙ onto (16 * digit_value h + digit_value l) (hex_octets text) (hex_octets others))
     by_cases after (inr none) = rw none refl
 
--- digits that say octets are of an even number
+-- the number of digits that spell octets is even
 pub even_digits : (text d : Octets) → hex_octets text ≡ Some d → length text % 2 ≡ 0
 unfolding hex_octets
 even_digits [] d e = refl

@@ -1,8 +1,8 @@
--- The numbers of an address stand between its dots.
+-- The numbers of an address are between its dots.
 use Rattle.dns_rdata.proofs.Common.{◌≡◌, ◌↔◌, ℕ, [], ◌∷◌, ◌++◌, ◌+◌, ◌/◌, ◌%◌, ◌<◌, ◌≤◌, ◌⊎◌, length, refl, sym, ◌∙◌, ap, subst, arith, decimal, ne_eqb, eqb-false, lt-ltb, ltb-true, leb-true, and_from, and_parts, Octets, SaysIpv4, decimal_digit, decimal_step, decimal_injective, append-nil, Option, Some, None, four_numbers, OctetThen, number_at, none-some}
 use Rattle.dns_name.specs.TextForm.{digit_at}
 
--- a text begins with a digit or with none
+-- a text begins with a digit or does not
 digit_or_none : (text : Octets) → (digit_at text ≡ None) ⊎ ((d : ℕ) × (rest : Octets)
     × (text ≡ (48 + d) ∷ rest) × (d < 10) × (digit_at text ≡ Some (d, rest)))
 digit_or_none text = grind (arith, and_parts, leb-true)
@@ -15,13 +15,13 @@ three_places : (n : ℕ) (rest : Octets) → 100 ≤ n → n < 1000
     → decimal n ++ rest ≡ (48 + n / 10 / 10) ∷ (48 + n / 10 % 10) ∷ (48 + n % 10) ∷ rest
 three_places n rest from upto = grind (arith, decimal_step, decimal_digit)
 
--- the number that a decimal says which no other digit follows
+-- the number that a decimal spells, if no other digit follows
 number_of : (n : ℕ) (rest : Octets) → n ≤ 255 → digit_at rest ≡ None
     → number_at (decimal n ++ rest) ≡ Some (n, rest)
 unfolding number_at
 number_of n rest le none = grind (arith, decimal_digit, two_places, ne_eqb, three_places, lt-ltb)
 
--- a number, and what stands after it
+-- a number, and the text after it
 abbrev pub read_as : ℕ → Octets → Option (ℕ × Octets)
 read_as n rest = Some (n, rest)
 
@@ -41,7 +41,7 @@ unfolding number_at
 number_read text n rest h =
     grind (arith, digit_or_none, decimal_digit, two_places, ltb-true, three_places, eqb-false)
 
--- the number that all of a text says
+-- the number that a whole text spells
 number_alone : (text : Octets) (n : ℕ) → (text ≡ decimal n) × (n ≤ 255)
     → number_at text ≡ read_as n []
 number_alone text n said =
@@ -67,12 +67,12 @@ one_alone text m [] read none n = (
     only e = cc
 one_alone text m (a ∷ end) read none n = absurd (omega (arith, none))
 
--- that which a dot ends
+-- the number before a dot
 pub number_then : (text rest : Octets) (n : ℕ)
     → OctetThen text n rest → number_at text ≡ Some (n, 46 ∷ rest)
 number_then text rest n said = ap number_at said.0 ∙ number_of n (46 ∷ rest) said.1 refl
 
--- no number is read, or none that a dot ends
+-- no number is read, or none with a dot after it
 pub not_read : (text : Octets) (n : ℕ) (rest : Octets) → number_at text ≡ None
     → OctetThen text n rest → ⊥
 not_read text n rest none said = grind (arith, not_none, number_then)
@@ -129,7 +129,7 @@ ipv4_parts text d h =
 pub says_ipv4 : (text d : Octets) → Ipv4Parts text d → SaysIpv4 text d
 says_ipv4 text d p = grind (arith, and_from, lt-ltb)
 
--- the result is the address that the text says, if it says one
+-- the result is the address that the text spells, if it spells one
 abbrev pub Ipv4Iff : Octets → Option Octets → Type 0
 Ipv4Iff text r = (d : Octets) → (r ≡ Some d) ↔ SaysIpv4 text d
 
@@ -149,7 +149,7 @@ Ipv4Iff-some text d r some parts alone = λ e. (
     only : {e : Octets} → Some d ≡ Some e → d ≡ e
     only g = cc
 
--- what is read agrees with what the text says, number by number
+-- what is read agrees with what the text spells, number by number
 second_of : (text d : Octets) (a : ℕ) (r : Octets) → OctetThen text a r
     → (p : Ipv4Parts text d) → (a ≡ p.first) × OctetThen r p.second p.after_second
 second_of text d a r h p =

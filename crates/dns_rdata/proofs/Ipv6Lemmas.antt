@@ -3,7 +3,7 @@ use Rattle.dns_rdata.proofs.Common.{◌≡◌, ℕ, ◌+◌, ◌-◌, ◌*◌, �
 use Rattle.dns_spec.proofs.Common.{none-some, same_Some}
 use Rattle.dns_spec.proofs.DataWords.GroupsAgain.{is_colon, with_front}
 
--- a hex digit, and none
+-- an octet that is a hex digit, and one that is not
 digit_is : (c v : ℕ) → Some v ≡ digit_of c → (is_ascii_hexdigit c ≡ true) × (v ≡ digit_value c)
 digit_is c v e = grind (arith, same_Some, none-some)
 
@@ -53,7 +53,7 @@ pub eight_octets : (gs a b c d f g h k : List ℕ) → length gs ≡ 8 → a ≡
     ≡ option_map (flat_map (bytes_high_first 2)) (eight_groups gs)
 eight_octets gs a b c d f g h k four ea eb ec ed ef eg eh ek = grind (arith, eight)
 
--- what stands before a place has no gap
+-- there is no gap before a place
 pub record GapSoFar (text : Octets) (place : ℕ) : Type 0 where
   pub inside : place ≤ length text
   pub whole : around_gap text
@@ -126,7 +126,7 @@ GroupsSoFar-push text rest first old new end so_far e first_is pushes =
           (arith, ap length pushed.2, length-append old (digits_value 16 first ∷ []), pushed.1);
     }
 
--- no group stands next, or there are too many
+-- no group is next, or there are too many
 refused_groups : (text : Octets) (old : List ℕ) (first : Octets) (after : Option (List ℕ))
     → one_or_more text ≡ option_map (λ gs. old ++ gs) (group_then first after) → false ≡ (is_group
     first && nat_lt (length old) 8) → None ≡ option_and_then few_groups (one_or_more text)
@@ -163,7 +163,7 @@ all_groups text rest old new so_far more e pushes =
     let few : few_groups new ≡ Some new = rw room refl in
     sym (ap (option_and_then few_groups) whole ∙ few)
 
--- zero groups after those in front, as far as there is room for those after
+-- zero groups after the groups in front, as long as there is room for the groups after them
 pub record FilledSoFar (old groups back : List ℕ) : Type 0 where
   pub zeros : groups ≡ old ++ replicate (length groups - length old) 0
   pub grown : length old ≤ length groups
@@ -239,7 +239,7 @@ around word front back gs hs gap e f =
     (filled_groups k) (groups_said back)) o)) (all_said gs (groups_said front) e) ∙ ap
     (λ o. octets_of (option_and_then (filled_groups gs) o)) (all_said hs (groups_said back) f)
 
--- what `fill` answers
+-- what `fill` returns
 abbrev pub Fills : List ℕ → List ℕ → Bool → List ℕ → Type 0
 Fills old back filled new =
     MatchOption (filled_groups old back) (filled ≡ false) (λ gs. (filled ≡ true) × (new ≡ gs))
@@ -267,7 +267,7 @@ pub filled_word : (word front back : Octets) (gs hs new : List ℕ) (r : Option 
 filled_word word front back gs hs new r gap e f fills g =
     grind (arith, around, eq-eqb, eight_filled, ltb-true, true≢false)
 
--- what a text says as an address is 16 octets
+-- the address that a text spells has 16 octets
 pub length-ipv6 : (text d : Octets) → SaysIpv6 text d → length d ≡ 16
 unfolding ipv6_groups
 length-ipv6 text d h =

@@ -1,10 +1,10 @@
--- Octets that begin with labels: what is after a label decides of them.
+-- Octets that begin with labels: the octets after a label decide.
 use Rattle.dns_rdata.proofs.Common.{◌≡◌, ℕ, zero, suc, ◌-◌, ◌<◌, ◌≤◌, true, false, Option, None, Some, [], ◌∷◌, ◌++◌, length, take, drop, get_or, refl, sym, ap, ◌∙◌, arith, append_assoc, length-append, take-append-drop, and_parts, and_from, take_at, drop_at, length-take-le, list_all, Octets, DomainName, wire, is_label, name_of, name, domain, piece_front, are_strings, IsName-is_name, IsLabel-is_label, is_label-IsLabel, is_name-IsName, name_read, name_of-wire, wire_fronts_agree, labels_of, IsWireForm, labels_of_spelled, IsWireForm-wire, StandsAfterLabels, HasNoLabels}
 
 positive : (n : ℕ) → (n ≡ 0 → ⊥) → 0 < n
 positive n h = grind arith
 
--- the rest has the same labels to come as the whole
+-- the rest has the same labels ahead as the whole
 pub record Alike (octets rest : Octets) : Type 0 where
   pub found : (after : Octets) → StandsAfterLabels rest after → StandsAfterLabels octets after
   pub none : HasNoLabels rest → HasNoLabels octets
@@ -17,7 +17,7 @@ nothing_begins rest none after h = by_cases h.labels (ap length (sym h.whole) �
     by_cases [] e = absurd (omega arith)
     by_cases (l ∷ n) e = absurd (omega arith)
 
--- a label's length that is too long, or past the end
+-- a label's length that is too long, or a label that ends past the end
 pub no_label_there : (rest others : Octets) (k : ℕ)
     → rest ≡ k ∷ others → (k ≡ 0 → ⊥) → (k ≤ 63 → k ≤ length others → ⊥) → HasNoLabels rest
 no_label_there rest others k e some bad after h = by_cases h.labels h.are_labels (sym h.whole ∙ e)
@@ -26,7 +26,7 @@ no_label_there rest others k e some bad after h = by_cases h.labels h.are_labels
     by_cases [] ok f = some (sym (ap (λ (xs : Octets). get_or xs 0 0) f))
     by_cases (l ∷ n) ok f = grind (arith, IsLabel-is_label, and_parts, length-append)
 
--- a label: after it stands the rest
+-- a label: the rest follows it
 pub label_passed : (octets rest others : Octets) (k : ℕ) → Alike octets rest
     → rest ≡ k ∷ others → (k ≡ 0 → ⊥) → k ≤ 63 → k ≤ length others → Alike octets (drop k others)
 label_passed octets rest others k alike e some fits there = record {
@@ -70,7 +70,7 @@ no_front_name octets none = go (name_of octets) refl
         absurd (none rest
         (record { labels = n; are_labels = (IsName-is_name n r.0).labels; whole = r.1 }))
 
--- the octets before those after labels
+-- the octets before the octets that follow the labels
 wire_taken : (octets after : Octets) (n : DomainName) (k : ℕ) → octets ≡ wire n ++ after
     → k ≡ length octets - length after → (take k octets ≡ wire n) × (drop k octets ≡ after)
 wire_taken octets after n k e f = grind (arith, length-append, take_at, drop_at)
@@ -91,14 +91,14 @@ long_name octets after front k h e f long = go (name_of octets) refl
         e ∙ (wire_taken octets after h.labels k h.whole f).0 in
         absurd (omega (arith, name.fits, ap length long_wire, ap (λ m. length (wire m)) same))
 
--- labels that are a name
+-- labels that are a valid name
 pub short_name : (octets after front rest : Octets) (k : ℕ) → StandsAfterLabels octets after → front
     ≡ take k octets → rest ≡ drop k octets → k ≡ length octets - length after → length front ≤ 255
     → (piece_front domain octets ≡ Some (name (labels_of front), rest)) × IsWireForm front
 short_name octets after front rest k h e g f short =
     grind (arith, wire_taken, is_name-IsName, name_of-wire, labels_of_spelled, IsWireForm-wire)
 
--- k octets of a string are passed over
+-- k octets of a string are skipped
 pub strings_after : (k : ℕ) (os : Octets)
     → k ≤ length os → are_strings k os ≡ are_strings 0 (drop k os)
 strings_after zero os h = refl

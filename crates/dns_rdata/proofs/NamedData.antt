@@ -1,7 +1,7 @@
 -- Data that is a name, or ends with one after numbers, has that name as its target.
 use Rattle.dns_rdata.proofs.Common.{◌≡◌, ℕ, ◌≤◌, inl, inr, true, List, [], ◌∷◌, ◌++◌, length, take, drop, Option, None, Some, is_some, unwrap_or, refl, sym, ap, ◌∙◌, subst, arith, append-nil, length-append, nat_le, false≢true, and_parts, none-some, drop-append_seam, Octets, DomainName, wire, is_name, Fixed, width, Piece, fixed, domain, Part, octets, pieces_of, cut, valid, first_name, target, cut_into, name_part, octets_part, front_taken, NameStandsAfter}
 
--- after k octets stands a name to the end, which is the one looked for
+-- after k octets a name, the one sought, extends to the end
 pub record EndsWithName (k : ℕ) (d : Octets) (sought : Option DomainName) : Type 0 where
   pub inside : k ≤ length d
   pub own : DomainName

@@ -1,18 +1,18 @@
--- Digits read from left to right say a number, and only a number's own text says it.
+-- Digits read from left to right spell a number, and only a number's own text spells it.
 use Rattle.dns_rdata.proofs.Common.{◌≡◌, ◌↔◌, ℕ, [], ◌∷◌, ◌+◌, ◌-◌, ◌*◌, ◌<◌, ◌≤◌, ◌^◌, List, length, take, get_or, inl, inr, refl, sym, ◌∙◌, ap, subst, arith, decimal, cases_lt, IsAsciiDigit, IsNotAsciiDigit, AllDigits, digits_value, digits, Octets, take_all, Option, Some, None, SomeIff, digits_value_more, digits_more, digit_at, digits_value-take-le, numerals_by_value, tells_digits, decimal_is_IsNumeral, decimal-digits_value, first_decimal, length-decimal-le, same_Some}
 
--- an octet that is no digit
+-- an octet that is not a digit
 pub no_digit : (ds : List ℕ) (i : ℕ)
     → i < length ds → IsNotAsciiDigit (get_or ds i 0) → AllDigits 10 ds → ⊥
 no_digit ds i inside out all = grind (arith, digit_at)
 
--- one digit more
+-- one more digit
 pub digit_more : (ds : List ℕ) (i n : ℕ)
     → i < length ds → IsAsciiDigit (get_or ds i 0) → n ≡ digits_value 10 (take i ds)
     → digits_value 10 (take (i + 1) ds) ≡ n * 10 + (get_or ds i 0 - 48)
 digit_more ds i n inside digit value = grind (arith, digits_value_more)
 
--- too many of them for the bound
+-- the number exceeds the bound
 pub past_bound : (ds : List ℕ) (i n bound : ℕ)
     → i < length ds → IsAsciiDigit (get_or ds i 0) → n ≡ digits_value 10 (take i ds)
     → bound ≤ n * 10 + (get_or ds i 0 - 48) → digits_value 10 ds < bound → ⊥
@@ -27,7 +27,7 @@ pub all_more : (ds : List ℕ) (i : ℕ) → i < length ds
     → IsAsciiDigit (get_or ds i 0) → AllDigits 10 (take i ds) → AllDigits 10 (take (i + 1) ds)
 all_more ds i inside digit all = grind (arith, digits_more)
 
--- nothing is answered
+-- the result is nothing
 pub none_iff : {P : Type 0} (o : Option ℕ) (v : ℕ) → o ≡ None → (P → ⊥) → SomeIff o P v
 none_iff o v h h1 = grind arith
 
@@ -40,7 +40,7 @@ pub all_read : (ds : List ℕ) (i n bound : ℕ)
     → n < bound → (AllDigits 10 ds × (digits_value 10 ds < bound)) × (n ≡ digits_value 10 ds)
 all_read ds i n bound end all value small = grind (arith, take_all)
 
--- the result is the number that the text says, if it says one
+-- the result is the number that the text spells, if it spells one
 abbrev pub SaysIff : Octets → ℕ → Option ℕ → Type 0
 SaysIff text most r = (n : ℕ) → (r ≡ Some n) ↔ ((text ≡ decimal n) × (n ≤ most))
 
@@ -80,7 +80,7 @@ pub greater : (text : Octets) (most : ℕ)
 greater text most small over n e le =
     let said = says_digits text n (omega arith) e in omega (arith, said.1)
 
--- digits with no zero in front of others say their value alone
+-- digits without a leading zero spell only their value
 pub SaysIff-some : (text : Octets) (most k : ℕ) (r : Option ℕ)
     → r ≡ Some k → k ≡ digits_value 10 text → k ≤ most → most < 2 ^ 32 → AllDigits 10 text
     → 0 < length text → (get_or text 0 0 ≡ 48 → length text ≡ 1) → SaysIff text most r

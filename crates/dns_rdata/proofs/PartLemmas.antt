@@ -1,4 +1,4 @@
--- Parts of data, one after another.
+-- The parts of data, in order.
 use Rattle.dns_rdata.proofs.Common.{◌==◌, ◌≡◌, ℕ, suc, ◌≤◌, true, Option, None, Some, All, List, [], ◌∷◌, map, length, refl, sym, ap, ◌∙◌, subst, arith, leb-true, false≢true, false_from_ne_true, eqb-true, nil_from_length, All-nil, All-cons, none-some, same_Some, is_some, unwrap_or, option_map, Octets, cut, piece_front, valid, lower_case, pieces_of, cut_into, name_part, octets_part, all_strings, cut_data, lowered_data, piece_of, pieces_in, part_for, shown_part, with_octets, parts_left, AreCut, IsLent, HasName}
 use Rattle.dns_spec.specs.Data as Data
 use Rattle.dns_rdata.specs.declared.table.Piece.{Piece}
@@ -6,7 +6,7 @@ use Rattle.dns_rdata.specs.declared.parts.Part.{Part}
 use Rattle.dns_spec.proofs.General.Options.{is_some-option_map}
 use Rattle.dns_spec.proofs.General.Tests.{entry_passes}
 
--- what is cut after the first part
+-- the parts after the first
 pub cut_more : (p : Data.Piece) (ps : List Data.Piece)
     (os : Octets) (part : Data.Part) (rest : Octets) → piece_front p os ≡ Some (part, rest)
     → cut (p ∷ ps) os ≡ option_map (λ xs. part ∷ xs) (cut ps rest)
@@ -33,7 +33,7 @@ pub no_parts_left : (ps : List Piece) (os : Octets) → length ps ≡ 0 → part
 unfolding cut
 no_parts_left ps os e = grind (arith, nil_from_length)
 
--- the first part, and those after it
+-- the first part, and the parts after it
 pub parts_left-cons : (p : Piece) (ps : List Piece) (os : Octets) (part : Data.Part) (rest : Octets)
     → piece_front (piece_of p) os ≡ Some (part, rest)
     → AreCut (p ∷ ps) os → parts_left (p ∷ ps) os ≡ part ∷ parts_left ps rest
@@ -47,7 +47,7 @@ parts_left-cons p ps os part rest e are =
     go None f = absurd (false≢true f)
     go (Some xs) f = refl
 
--- names that are cut are names
+-- names that are cut are valid
 front_name : (p : Data.Piece) (os : Octets) (part : Data.Part) (rest : Octets)
     → piece_front p os ≡ Some (part, rest) → HasName part
 front_name p os part rest h =

@@ -3,7 +3,7 @@ use Rattle.dns_rdata.proofs.Common.{◌≡◌, ◌↔◌, ℕ, ◌<◌, ◌≤�
 use Rattle.dns_spec.proofs.General.Options.{some_parts}
 use Rattle.dns_spec.proofs.Common.{none-some}
 
--- a text is the spelling of an octet of a string, and others
+-- the text is the spelling of an octet of a string, followed by others
 abbrev pub StringOctetThen : Octets → ℕ → Octets → Type 0
 StringOctetThen text x others =
     (first : Octets) × (text ≡ first ++ others) × SpellsStringOctet first x
@@ -31,8 +31,8 @@ read_spelled (a ∷ rest) x others e =
           (spelled.0, spelled.1, inl spelled.2)
     ]
 
--- the octets of a string that were read, and the text after them, where the text spells what they
--- and the rest spell
+-- the octets of a string that were read, and the text after them: the text spells these octets and
+-- what the rest spells
 pub record StringSoFar (text read rest : Octets) : Type 0 where
   pub all : (s : Octets) → SpellsString rest s → SpellsString text (read ++ s)
   pub only : (s : Octets)
@@ -61,7 +61,7 @@ StringSoFar-push text read rest x others so_far e = record { all = all; only = o
         → SpellsString text s → (t : Octets) × (s ≡ (read ++ x ∷ []) ++ t) × SpellsString others t
     only s h = grind (arith, append_assoc, after)
 
--- all of the text is read
+-- the whole text is read
 pub StringSoFar-end : (text read rest : Octets)
     → StringSoFar text read rest → rest ≡ [] → SpellsString text read
 StringSoFar-end text read rest so_far empty =
@@ -84,7 +84,7 @@ pub StringSoFar-iff : (text read rest : Octets)
     → StringSoFar text read rest → rest ≡ [] → (s : Octets) → SpellsString text s ↔ (s ≡ read)
 StringSoFar-iff text read rest so_far empty s = grind (arith, StringSoFar-only, StringSoFar-end)
 
--- nothing is spelled where the text does not go on
+-- nothing is spelled if the text can't continue
 pub no_string : (text read rest : Octets) → StringSoFar text read rest
     → (rest ≡ [] → ⊥) → octet_at rest ≡ None → (s : Octets) → SpellsString text s → ⊥
 no_string text read rest so_far more none s h =
@@ -96,7 +96,7 @@ no_string text read rest so_far more none s h =
     by_cases (y ∷ t) (first, others, e, spelled, g) =
         none-some (y, others) (sym none ∙ spelled_read rest y others (first, e, spelled))
 
--- a string of 255 octets has no more
+-- a string of 255 octets can't be longer
 pub string_is_long : (text read rest : Octets) → StringSoFar text read rest
     → (rest ≡ [] → ⊥) → length read ≡ 255 → (s : Octets) → SpellsString text s → length s ≤ 255 → ⊥
 string_is_long text read rest so_far more full s h short =
@@ -107,12 +107,12 @@ string_is_long text read rest so_far more full s h short =
     by_cases [] empty none = more empty
     by_cases (y ∷ t) spelled none = omega (arith, none)
 
--- a spelling has an octet or more
+-- a spelling has at least one octet
 pub octet_at-shorter : (text : Octets) (x : ℕ) (others : Octets)
     → octet_at text ≡ Some (x, others) → length others < length text
 octet_at-shorter text x others e = grind (arith, read_spelled, length-append)
 
--- octets without a backslash are read as they stand
+-- octets without a backslash are read as they are
 plain_read : (text read rest : Octets) → StringSoFar text read rest
     → list_any (λ (o : ℕ). o == 92) rest ≡ false → StringSoFar text (read ++ rest) []
 unfolding octet_at
@@ -129,7 +129,7 @@ plain_read text read (a ∷ rest) so_far none = elim (cases_Bool (a == 92)) [
       (append_assoc read (a ∷ []) rest) (plain_read text (read ++ a ∷ []) rest next left)
 ]
 
--- a text without a backslash spells its own octets alone
+-- a text without a backslash spells only its own octets
 pub plain_string : (text : Octets)
     → list_any (λ (o : ℕ). o == 92) text ≡ false → (s : Octets) → SpellsString text s ↔ (s ≡ text)
 plain_string text none =

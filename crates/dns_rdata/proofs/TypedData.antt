@@ -1,6 +1,5 @@
--- What words say by the forms of a type is data of the type, where it is not too long, and what is
--- kept of it is that data
--- in lower case.
+-- What words spell by the forms of a type is valid data of the type, if it is not too long, and
+-- what is kept of it is that data in lower case.
 use Rattle.dns_rdata.proofs.Common.{◌≡◌, ◌↔◌, ℕ, zero, suc, ◌*◌, ◌≤◌, Bool, true, false, ◌&&◌, nat_le, ◌==◌, List, [], ◌∷◌, ◌++◌, map, max, length, replicate, Option, Some, refl, sym, ap, ◌∙◌, subst, arith, append-nil, append_assoc, length-append, list_all, flat_map, is_some, option_map, unwrap_or, MatchOption, to_ascii_lowercase, and_parts, and_from, le-leb, leb-true, ne_eqb, false≢true, drop_at, flat_map-cons, Octets, DomainName, Fixed, width, numbers, ipv4, ipv6, Piece, fixed, domain, string, strings, anything, Part, octets, name, part_octets, part_folded, joined, octets_front, strings_front, piece_front, are_strings, cut, type_table, other_type, row_of, pieces_of, Valid, Word, WordForm, SaysWord, ipv6_word, ipv4_word, number_word, string_word, SaysForms, SaysTyped, SaysAsSpelled, Says, forms_in, map-lowercase-wire, IsName-is_name, cut-domain, cut-step, cut_whole, length-lowered, lowered_data, length-bytes_high_first, kept, SaysKept, AppendsFront, is_marked}
 use Rattle.dns_spec.proofs.Common.{TypeRow}
 use Rattle.dns_rdata.proofs.NameFronts.{strings_after}
@@ -9,7 +8,7 @@ use Rattle.dns_rdata.proofs.FormFronts.{as_many_words, kept_said}
 use Rattle.dns_spec.proofs.General.Tests.{entry_passes}
 use Rattle.dns_spec.proofs.DataWords.MadeData.{cut-octets}
 
--- of words that say a piece and then more: the part that it is, and what says the rest
+-- words spell a piece and more: the part for the piece, and what spells the rest
 record Front (p : Piece) (gs : List WordForm) (origin : DomainName) (d e : Octets) : Type 0 where
   pub part : Part
   pub rest : Octets
@@ -19,7 +18,7 @@ record Front (p : Piece) (gs : List WordForm) (origin : DomainName) (d e : Octet
   pub lowered : e ≡ part_octets (part_folded part) ++ low
   pub more : SaysKept gs origin others rest low
 
--- the same of a run of so many octets
+-- the same for a run of n octets
 record Run (n : ℕ) (gs : List WordForm) (origin : DomainName) (d e : Octets) : Type 0 where
   pub run : Octets
   pub rest : Octets
@@ -30,8 +29,8 @@ record Run (n : ℕ) (gs : List WordForm) (origin : DomainName) (d e : Octets) :
   pub kept_whole : e ≡ run ++ low
   pub more : SaysKept gs origin others rest low
 
--- the pieces of types with a mnemonic: strings take all words that are left, so no piece stands
--- after them
+-- the pieces of types with a mnemonic: strings take all remaining words, so no piece comes after
+-- them
 stands_before : Piece → List Piece → Bool
 stands_before (fixed f) ps = true
 stands_before domain ps = true
@@ -157,7 +156,7 @@ piece_said k origin strings [] ok ws d e h =
 piece_said k origin strings (p ∷ ps) ok ws d e h = absurd (false≢true ok)
 piece_said k origin anything ps ok ws d e h = absurd (false≢true ok)
 
--- what pieces are cut into, and that in lower case
+-- the parts that pieces are cut into, and these in lower case
 record CutInto (ps : List Piece) (d e : Octets) : Type 0 where
   pub cut_parts : List Part
   pub is_cut : cut ps d ≡ Some cut_parts
@@ -186,24 +185,24 @@ rows_in_order : list_all (λ (row : TypeRow). are_in_order row.pieces) type_tabl
 unfolding stands_before are_in_order
 rows_in_order = refl
 
--- what words say by a row of the table
+-- what words spell by a row of the table
 abbrev TypedBy : Option TypeRow → DomainName → List Word → Octets → Type 0
 TypedBy row origin ws d = MatchOption (option_map (λ
     (r : TypeRow). flat_map (forms_in (length ws)) r.pieces) row) ⊥ (λ fs. SaysForms fs origin ws d)
 
--- where the first word is not `\#`, words say what they say in the form of the type
+-- if the first word is not `\#`, words spell data in the form of the type
 pub spelled_typed : (t : ℕ) (origin : DomainName) (ws : List Word) (d : Octets)
     → is_marked ws ≡ false → SaysAsSpelled t origin ws d ↔ SaysTyped t origin ws d
 spelled_typed t origin [] d plain = (λ h. h, λ h. h)
 spelled_typed t origin (w ∷ ws) d plain = grind arith
 
--- what words say in lower case is valid too
+-- the lower-case data that words spell is valid too
 pub said_valid : (t : ℕ) (ws : List Word) (origin : DomainName) (d : Octets)
     → Says t ws origin d → Valid t d
 said_valid t ws origin d said =
     subst (Valid t) said.lower (lowered_data t said.as_spelled said.is_valid).0
 
--- what words say by the row of the type
+-- what words spell by the row of the type
 module _ (t : ℕ) (row : TypeRow) (origin : DomainName) (ws : List Word) (count : ℕ)
     (plain : is_marked ws ≡ false) (is : Some row ≡ row_of t) (counted : count ≡ length ws) where
   pub nothing_typed : ((d : Octets) → SaysForms (flat_map (forms_in count) row.pieces) origin ws d

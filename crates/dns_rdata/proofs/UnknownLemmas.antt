@@ -1,8 +1,8 @@
--- Words of hex digits read from left to right, each of whole octets.
+-- Words of hex digits, read from left to right, each of whole octets.
 use Rattle.dns_rdata.proofs.Common.{◌≡◌, ◌<◌, ◌≤◌, ℕ, true, false, List, [], ◌∷◌, ◌++◌, length, sym, ◌∙◌, ap, arith, decimal, IsTrue, length-append, list_all, flat_map, option_map, and_parts, eqb-true, decimal_injective, Octets, Some, not, Result, IfErr, IsErrAnd, append_assoc, append-nil, Word, is_hex_word, hex_octets, SaysHex, SaysUnknown, AppendsHex, SaysHexWord, AppendsWord}
 use Rattle.dns_rdata.proofs.HexLemmas.{joined_octets, hex_octets-append, even_digits}
 
--- the digits of words, one after the other
+-- the digits of words, in order
 abbrev pub digits_in : List Word → Octets
 digits_in ws = flat_map (λ (w : Word). w.raw) ws
 
@@ -10,8 +10,8 @@ joined : (ws : List Word) (w : Word) → IsTrue (is_hex_word w)
     → hex_octets (digits_in (w ∷ ws)) ≡ joined_octets (hex_octets w.raw) (hex_octets (digits_in ws))
 joined ws w h = grind (arith, hex_octets-append, eqb-true, and_parts)
 
--- the words are of whole octets where the rest are, and say the octets so far and then what the
--- rest says
+-- the words are of whole octets if the rest are, and spell the octets so far, followed by what the
+-- rest spells
 pub record WordsSoFar (ws rest : List Word) (octets : Octets) : Type 0 where
   pub hex : list_all is_hex_word ws ≡ list_all is_hex_word rest
   pub whole : hex_octets
@@ -27,31 +27,31 @@ pub WordsSoFar-end : (ws : List Word) (octets : Octets)
 unfolding hex_octets
 WordsSoFar-end ws octets so_far = (so_far.hex, so_far.whole ∙ ap (λ d. Some d) (append-nil octets))
 
--- what the rest says stands after the octets so far
+-- what the rest spells follows the octets so far
 pub rest_says : (ws rest : List Word) (octets d : Octets)
     → WordsSoFar ws rest octets → SaysHex ws d → (e : Octets) × SaysHex rest e × (d ≡ octets ++ e)
 rest_says ws rest octets d so_far (all, says) = grind arith
 
--- data as long as a first word says, of the octets of the other words
+-- data whose length the first word spells, of the octets of the other words
 pub says_unknown : (w : Word) (ws : List Word) (count : ℕ) (octets : Octets)
     → IsTrue (not w.is_quoted) → w.raw ≡ decimal count
     → length octets ≡ count → WordsSoFar ws [] octets → SaysUnknown (w ∷ ws) octets
 says_unknown w ws count octets unquoted number long so_far =
     (unquoted, number ∙ ap decimal (sym long), WordsSoFar-end ws octets so_far)
 
--- data that the words say is as long as the first word says
+-- the length of the data that the words spell is what the first word spells
 pub count_is_length : (w : Word) (count : ℕ) (d : Octets) → w.raw ≡ decimal count
     → w.raw ≡ decimal (length d) → count ≤ 65535 → length d ≤ 65535 → length d ≡ count
 count_is_length w count d number says few short = decimal_injective
     (length d) count (omega (arith, short)) (omega (arith, few)) (sym says ∙ number)
 
--- the words say only the octets that were read
+-- the words spell only the octets that were read
 pub only_octets : (w : Word) (ws : List Word) (octets d : Octets)
     → WordsSoFar ws [] octets → SaysUnknown (w ∷ ws) d → d ≡ octets
 unfolding hex_octets
 only_octets w ws octets d so_far said = grind (arith, WordsSoFar-end)
 
--- more octets than the first word says
+-- more octets than the first word states
 pub past_count : (w : Word) (ws rest : List Word) (count : ℕ) (octets d : Octets)
     → WordsSoFar ws rest octets → w.raw ≡ decimal count
     → count < length octets → count ≤ 65535 → SaysUnknown (w ∷ ws) d → length d ≤ 65535 → ⊥
@@ -65,13 +65,13 @@ past_count w ws rest count octets d so_far number over few said short =
       length-append octets e,
     )
 
--- a word that does not say octets
+-- a word that does not spell octets
 pub word_refused : (w : Word) (ws rest : List Word) (octets d : Octets)
     → WordsSoFar ws (w ∷ rest) octets → ((e : Octets) → SaysHexWord w e → ⊥) → SaysHex ws d → ⊥
 word_refused w ws rest octets d so_far none said =
     grind (arith, rest_says, joined, and_parts, joined_octets)
 
--- an error handed on is the same
+-- an error that is passed on stays the same
 pub same_fault : {X E : Type 0} (r : Result X E) (Q : E → Type 0) (f : E)
     → IsErrAnd r (λ e. e ≡ f) → Q f → IfErr r Q
 same_fault r Q f h h1 = grind arith

@@ -1,4 +1,4 @@
--- Pieces that are written one after the other, and the rows of the types that have them.
+-- Pieces that are written in order, and the rows of the types that have them.
 use Rattle.dns_rdata.proofs.Common.{◌≡◌, ℕ, ◌+◌, ◌<◌, Bool, true, ◌&&◌, ◌==◌, List, [], ◌∷◌, ◌++◌, length, drop, slice_index_or, Option, Some, None, refl, sym, ap, ◌∙◌, arith, add-one, drop-cons, and_parts, false≢true, is_some, option_map, list_all, flat_map, Octets, Piece, cut, piece_front, type_table, row_of, forms_in, words_by, unknown_words, string_count, data_text, piece_of, pieces_in, AreCut, spaced, piece_words, piece_rest, pieces_words, has_words, have_words}
 use Rattle.dns_spec.specs.Data as Data
 use Rattle.dns_rdata.specs.declared.table.Piece as code
@@ -19,7 +19,7 @@ spaced-pieces : (before : Octets) (p : Piece) (ps : List Piece) (d : Octets)
     ≡ spaced before (piece_words p d) ++ spaced space (pieces_words ps (piece_rest p d))
 spaced-pieces before p ps d words = grind (arith, spaced-forms, some_forms)
 
--- pieces from place i on: the one there, and those after it
+-- the pieces from place i on: the piece there, and those after it
 module _ (pieces : List code.Piece)
     (i : ℕ) (d : code.Piece) (inside : i < length pieces) (octets : Octets) where
   split : pieces_in
@@ -50,7 +50,7 @@ pub words-after : (pieces : List code.Piece) (i : ℕ) → i < length pieces →
 words-after [] i inside h = absurd (omega (arith, inside))
 words-after (p ∷ ps) i inside h = (words_there (p ∷ ps) i p inside [] h).1
 
--- the pieces of each type have words, and strings stand alone
+-- the pieces of each type have words, and strings are its only piece
 is_written : Data.TypeRow → Bool
 is_written row = have_words row.pieces && list_all is_single (drop 1 row.pieces)
 

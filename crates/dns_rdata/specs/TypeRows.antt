@@ -1,4 +1,4 @@
--- What a reader learns here: how the table of the code stands for that of the definitions.
+-- How the table of the code represents the table of the definitions.
 use Rattle.std.specs.Prelude.{ℕ, Bool, ◌==◌, List, map}
 use Rattle.dns_spec.specs.Names.{Octets, octets_equal}
 use Rattle.dns_spec.specs.TypeText.{text_in_lower_case}

@@ -1,5 +1,4 @@
--- What a reader learns here: what the code's forms of words are in the words of the definitions,
--- and what is appended for a word.
+-- Which forms of the definitions the code's forms of words are, and what is appended for a word.
 use Rattle.std.specs.Prelude.{◌≡◌, ◌≢◌, Result, OnOk, IfErr, ℕ, ◌+◌, ◌≤◌, Bool, false, List, [], ◌∷◌, ◌++◌, length, map}
 use Rattle.std.specs.Char.{to_ascii_lowercase}
 use Rattle.dns_spec.specs.Names.{Octets, DomainName}
@@ -18,7 +17,7 @@ form_of Domain = name_word
 form_of String = string_word
 form_of (Number s) = number_word (size_of s)
 
--- what is kept of the octets that a word spells: a name is in lower case
+-- what is kept of the octets that a word spells; a name is kept in lower case
 abbrev pub as_it_is : Octets → Octets
 as_it_is d = d
 
@@ -26,7 +25,7 @@ abbrev pub kept : text.WordForm → Octets → Octets
 kept name_word = map to_ascii_lowercase
 kept _ = as_it_is
 
--- octets that grew by what is kept of those that are said
+-- exactly one run of octets is spelled, and octets grew by what is kept of it
 pub record Appends (keeps : Octets → Octets) (says : Octets → Type 0) (before after : Octets)
     : Type 0 where
   pub spelled : Octets
@@ -34,15 +33,15 @@ pub record Appends (keeps : Octets → Octets) (says : Octets → Type 0) (befor
   pub only : (d : Octets) → says d → d ≡ spelled
   pub grown : after ≡ before ++ keeps spelled
 
--- octets grew by what is kept of those that are said, or there is a fault, and where memory was
--- found none are said
+-- octets grew by what is kept of the octets spelled; or there is a fault, and unless allocation
+-- failed, no octets are spelled
 pub record AppendsSaid
     {A : Type 0} (keeps : Octets → Octets) (says : Octets → Type 0) (before after : Octets)
     (result : Result A RdataFault) : Type 0 where
   pub ok : OnOk result (Appends keeps says before after)
   pub fault : IfErr result (λ fault. fault ≢ NoMemory → (d : Octets) → says d → ⊥)
 
--- the words spell d one after the other, as many words as forms, and e is what is kept of it
+-- the words spell d in order, one word for each form, and e is what is kept of d
 abbrev pub SaysKept : List text.WordForm → DomainName → List text.Word → Octets → Octets → Type 0
 SaysKept [] origin [] d e = (d ≡ []) × (e ≡ [])
 SaysKept [] origin (w ∷ ws) d e = ⊥
@@ -51,9 +50,9 @@ SaysKept (f ∷ fs) origin (w ∷ ws) d e =
     (front : Octets) × (back : Octets) × (low : Octets) × (d ≡ front ++ back)
     × (e ≡ kept f front ++ low) × SaysWord f origin w front × SaysKept fs origin ws back low
 
--- The words before the rest are those of the forms, and octets grew by what is kept of them: what
--- the rest says by further forms, all words say by these and those after what those words say, and
--- nothing else.
+-- The words before `rest` are spelled by these forms, and octets grew by what is kept of them.
+-- Whatever `rest` spells by further forms, all words spell by these forms and those, after the
+-- octets of the first words; and they spell nothing else.
 pub record AppendsFront (fs : List text.WordForm) (origin : DomainName) (ws rest : List text.Word)
     (before after : Octets) : Type 0 where
   pub spelled : Octets
@@ -66,8 +65,8 @@ pub record AppendsFront (fs : List text.WordForm) (origin : DomainName) (ws rest
   pub back : (gs : List text.WordForm) (d : Octets) → SaysForms (fs ++ gs) origin ws d
       → (e : Octets) × SaysForms gs origin rest e × (d ≡ spelled ++ e)
 
--- the first words, after n octets of the data, say nothing of data of at most 65,535 octets by
--- these forms, whatever stands after them
+-- after n octets of data, the first words spell no data by these forms, whatever words follow, if
+-- all data has at most 65,535 octets
 abbrev pub SaysNoFront : ℕ → List text.WordForm → DomainName → List text.Word → Type 0
 SaysNoFront n fs origin ws =
     (gs : List text.WordForm) (d : Octets) → SaysForms (fs ++ gs) origin ws d

@@ -1,4 +1,4 @@
-//! Why words or octets are no data of a type.
+//! Why words or octets are invalid data for a type.
 ghost use Rattle.std.specs.Prelude.{◌≡◌};
 ghost use Rattle.dns_rdata.specs.RdataFault.{IsNumberOf};
 ghost use Rattle.dns_rdata.specs.declared.fault.RdataFault.TheVariants.{BadName, NoMemory};
@@ -6,24 +6,25 @@ ghost use Rattle.dns_rdata.specs.declared.fault.RdataFault.TheVariants.{BadName,
 use dns_name::NameFault;
 use std::alloc::AllocError;
 
-/// Why words or octets are no data of a type.
+/// Why words or octets are invalid data for a type.
 #[derive(Clone, Copy, Debug, PartialEq, Eq)]
 pub enum RdataFault {
-    /// There are too few words, or too many.
+    /// Too few words, or too many.
     WordCount = 1,
-    /// A word is no number of the size that stands there, or is quoted.
+    /// A word is not a number of the required size, or is quoted.
     BadNumber,
-    /// A word is no address, or is quoted.
+    /// A word is not an address, or is quoted.
     BadAddress,
-    /// A word is no name, or is quoted.
+    /// A word is not a name, or is quoted.
     BadName,
-    /// A string has more than 255 octets or a bad escape, or the data is past 65,535 octets.
+    /// A string has more than 255 octets or a bad escape, or the data exceeds 65,535 octets.
     BadString,
-    /// In the unknown form (RFC 3597 5) the length is none, or the digits are not as many octets.
+    /// In the generic form (RFC 3597 5), the length is invalid, or the digits are not that many
+    /// octets.
     BadHex,
-    /// The octets are no data of the type, or more than 65,535 (RFC 1035 3.2.1).
+    /// The octets are invalid for the type, or more than 65,535 (RFC 1035 3.2.1).
     NotOfType,
-    /// No memory was found.
+    /// Allocation failed.
     NoMemory,
 }
 
@@ -36,7 +37,7 @@ impl RdataFault {
     }
 }
 
-/// A word whose text is none of a name, whatever its fault.
+/// A word whose text is not a name, whatever the fault of the text.
 impl From<NameFault> for RdataFault {
     ghost from_gives = { λ _ fault. fault ≡ BadName };
 

@@ -1,4 +1,4 @@
-//! Octets in hexadecimal digits, as data of any type is written (RFC 3597 section 5).
+//! Octets in hex digits, the generic form of data (RFC 3597 section 5).
 ghost use Rattle.std.specs.Prelude.{◌≡◌, ◌<◌, ◌/◌, ◌%◌, [], ◌∷◌, IfOk, IfSome};
 ghost use Rattle.std.specs.Char.{digit_char};
 ghost use Rattle.dns_name.specs.TextForm.{Gives};
@@ -6,11 +6,11 @@ ghost use Rattle.dns_rdata.specs.HexForm.{hex_front, digit_of, AppendsHex};
 
 use std::alloc::AllocError;
 
-/// Appends to `octets` those that a text says in hex digits of either case, two an octet, and
-/// answers whether it does.
+/// Appends to `octets` the octets that a text spells in hex digits of either case, two digits per
+/// octet, and returns whether it spells any.
 ///
-/// False where the text has another octet or an odd number of digits; `octets` has then grown by
-/// some of them. The error comes where no memory was found.
+/// False if the text contains another octet or an odd number of digits; `octets` has then grown by
+/// some octets. The call fails only if allocation fails.
 pub(crate) fn append_hex(text: &[u8], octets: &mut Vec<u8>) -> Result<bool, AllocError>
     ensures { IfOk result (λ said. AppendsHex text.now said octets.old.items octets.new.items) }
 {
@@ -41,7 +41,7 @@ pub(crate) fn hex_digit(value: u8) -> u8
     b'a' + (value - 10)
 }
 
-// The octet of a text's first two digits, and the text after them.
+// The octet spelled by the text's first two digits, and the text after them.
 #[tactic(auto, unfolding(crate::specs::HexForm::hex_front))]
 fn first_pair(text: &[u8]) -> Option<(u8, &[u8])>
     ensures { Gives result (hex_front text.now) }

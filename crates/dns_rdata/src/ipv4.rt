@@ -13,9 +13,10 @@ use itoa::Buffer;
 /// The text of an IPv4 address has at most 15 octets.
 pub(crate) const MOST_IPV4_OCTETS: usize = 15;
 
-/// The IPv4 address that a word says: four decimals 0 to 255 with dots between (RFC 1035 3.4.1).
+/// The IPv4 address that a word spells: four decimal numbers from 0 to 255, separated by dots (RFC
+/// 1035 3.4.1).
 ///
-/// `None` where the word is anything else, as `192.0.2.01`.
+/// `None` for any other word, such as `192.0.2.01`.
 pub(crate) fn read_ipv4(word: &[u8]) -> Option<[u8; 4]>
     ensures { (d : Octets) → (result ≡ Some d) ↔ SaysIpv4 word.now d }
 {
@@ -45,7 +46,7 @@ pub(crate) fn text_of_ipv4(address: &[u8; 4]) -> ArrayVec<u8, MOST_IPV4_OCTETS>
     text
 }
 
-// Adds the decimal text of an octet, which has at most three.
+// Appends the decimal text of an octet, at most three digits.
 fn push_octet(text: &mut ArrayVec<u8, MOST_IPV4_OCTETS>, octet: u8)
     requires { length text.old.items + 3 ≤ 15 }
     ensures text { text.new.items ≡ text.old.items ++ decimal octet }
@@ -58,7 +59,7 @@ fn push_octet(text: &mut ArrayVec<u8, MOST_IPV4_OCTETS>, octet: u8)
     }
 }
 
-// The number that a text begins with, and the text after the dot that follows it.
+// The number at the beginning of a text, and the text after the dot that follows it.
 fn octet_and_dot(text: &[u8]) -> Option<(u8, &[u8])>
     ensures some { IfSome result (λ x. OctetThen text.now x.0 x.1.now) }
     ensures none { IsNone result → (n : ℕ) (rest : Octets) → OctetThen text.now n rest → ⊥ }
@@ -71,8 +72,8 @@ fn octet_and_dot(text: &[u8]) -> Option<(u8, &[u8])>
     Some((octet, rest))
 }
 
-// The number that a text begins with, without zeros in front, and the text after its digits, three
-// at most.
+// The number at the beginning of a text, without leading zeros, and the text after its digits, of
+// which there are at most three.
 #[tactic(auto, unfolding(crate::specs::AddressForm::number_at))]
 fn first_number(text: &[u8]) -> Option<(u8, &[u8])>
     ensures { Gives result (number_at text.now) }

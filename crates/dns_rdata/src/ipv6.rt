@@ -12,13 +12,13 @@ use crate::hex::digit_value;
 use crate::ipv4::place_of;
 use arrayvec::ArrayVec;
 
-// The groups of an address (RFC 4291 2.2).
+// The number of groups in an address (RFC 4291 2.2).
 const GROUPS: usize = 8;
 
-/// The IPv6 address that a word says: eight groups of 1 to 4 hex digits of either case with colons
-/// between, or fewer with `::` once for one or more zero groups (RFC 4291 2.2).
+/// The IPv6 address that a word spells: eight groups of 1 to 4 hex digits of either case,
+/// separated by colons, or fewer groups with one `::` for at least one zero group (RFC 4291 2.2).
 ///
-/// `None` where the word is anything else, as `::1.2.3.4`.
+/// `None` for any other word, such as `::1.2.3.4`.
 pub(crate) fn read_ipv6(word: &[u8]) -> Option<[u8; 16]>
     ensures { result ≡ ipv6_octets word.now }
 {
@@ -34,7 +34,7 @@ pub(crate) fn read_ipv6(word: &[u8]) -> Option<[u8; 16]>
     octets_of_groups(groups.as_slice())
 }
 
-// What stands before the first `::`, and after it.
+// The text before the first `::`, and the text after it.
 fn split_at_gap(text: &[u8]) -> Option<(&[u8], &[u8])>
     ensures { GivesPair result (around_gap text.now) }
 {
@@ -49,7 +49,7 @@ fn split_at_gap(text: &[u8]) -> Option<(&[u8], &[u8])>
     None
 }
 
-// Groups with colons between, perhaps none.
+// The groups of a text, separated by colons; an empty text has none.
 fn read_groups(text: &[u8]) -> Option<ArrayVec<u16, GROUPS>>
     ensures { option_map (λ groups. groups.items) result ≡ option_and_then few_groups
         (groups_said text.now) }
@@ -71,7 +71,7 @@ fn read_groups(text: &[u8]) -> Option<ArrayVec<u16, GROUPS>>
     Some(groups)
 }
 
-// Adds the group that a text says, where it says one and there is room.
+// Appends the group that a text spells, if it spells one and there is room.
 fn push_group(groups: &mut ArrayVec<u16, GROUPS>, text: &[u8]) -> bool
     ensures pushed { result ≡ is_group text.now && nat_lt (length groups.old.items) 8 }
     ensures value { OnTrue result (groups.new.items ≡ groups.old.items
@@ -91,7 +91,7 @@ fn push_group(groups: &mut ArrayVec<u16, GROUPS>, text: &[u8]) -> bool
     true
 }
 
-// Adds zero groups, one at least, and the groups after them, where there is room.
+// Appends at least one zero group, and the groups after it, if there is room.
 fn fill(groups: &mut ArrayVec<u16, GROUPS>, back: &[u16]) -> bool
     ensures { MatchOption (filled_groups groups.old.items back.now) (IsFalse result)
         (λ filled. IsTrue result × (groups.new.items ≡ filled)) }
@@ -105,7 +105,7 @@ fn fill(groups: &mut ArrayVec<u16, GROUPS>, back: &[u16]) -> bool
     groups.try_extend_from_slice(back).is_ok()
 }
 
-// The octets of eight groups, the high octet of each first.
+// The octets of eight groups, the high octet of each group first.
 fn octets_of_groups(groups: &[u16]) -> Option<[u8; 16]>
     ensures { result ≡ option_map (flat_map (bytes_high_first 2)) (eight_groups groups.now) }
 {

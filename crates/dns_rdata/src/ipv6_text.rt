@@ -11,8 +11,8 @@ use arrayvec::ArrayVec;
 /// colons.
 pub(crate) const MOST_IPV6_OCTETS: usize = 39;
 
-/// The text of an IPv6 address, as in `2001:db8::1:0:0:1`: groups in lower case without zeros in
-/// front, and `::` for the longest run of two zero groups or more, the first of equals (RFC 5952
+/// The text of an IPv6 address, such as `2001:db8::1:0:0:1`: groups in lower case without leading
+/// zeros, and `::` for the longest run of at least two zero groups, the first of equals (RFC 5952
 /// 4).
 pub(crate) fn text_of_ipv6(address: &[u8; 16]) -> ArrayVec<u8, MOST_IPV6_OCTETS>
     ensures { result.items ≡ ipv6_text address.now }
@@ -56,7 +56,8 @@ fn group_of(high: u8, low: u8) -> u16
     256 * u16::from(high) + u16::from(low)
 }
 
-// Where the first of the longest runs of zero groups begins, and how many groups it has.
+// The place where the first of the longest runs of zero groups begins, and the number of its
+// groups.
 fn longest_zero_run(groups: &[u16]) -> (usize, usize)
     ensures place { result.0 ≡ longest_place groups.now }
     ensures run { result.1 ≡ longest_run groups.now }
@@ -111,7 +112,7 @@ fn push_group(text: &mut ArrayVec<u8, MOST_IPV6_OCTETS>, group: u16)
     text.push(hex_digit(low % 16));
 }
 
-// Adds the digits of an octet, without a zero in front.
+// Appends the hex digits of an octet, without a leading zero.
 fn push_octet(text: &mut ArrayVec<u8, MOST_IPV6_OCTETS>, octet: u8)
     requires { length text.old.items + 2 ≤ 39 }
     ensures text { text.new.items ≡ text.old.items ++ digits 16 false octet }

@@ -2,10 +2,10 @@
 ghost use Rattle.std.specs.Prelude.{◌≡◌, ◌↔◌, ℕ, ◌<◌, ◌≤◌, ◌^◌, Some, decimal, SomeIff};
 ghost use Rattle.std.specs.Str.Parse.{AllDigits, digits_value};
 
-/// The number, of at most `most`, that a word says in decimal: `0`, or digits that begin with 1 to
-/// 9.
+/// The number, at most `most`, that a word spells in decimal: `0`, or digits without a leading
+/// zero.
 ///
-/// `None` where the word is anything else, as `010`, or says a greater number.
+/// `None` for any other word, such as `010`, and for a greater number.
 pub fn read_number(word: &[u8], most: u32) -> Option<u32>
     ensures { (n : ℕ) → (result ≡ Some n) ↔ ((word.now ≡ decimal n) × (n ≤ most)) }
 {
@@ -20,7 +20,7 @@ pub fn read_number(word: &[u8], most: u32) -> Option<u32>
     Some(number)
 }
 
-// The number that digits say, zeros in front or not.
+// The value of digits, with or without leading zeros.
 fn number_of_digits(digits: &[u8]) -> Option<u32>
     ensures { SomeIff result (AllDigits 10 digits.now × (digits_value 10 digits.now < 2 ^ 32))
         (digits_value 10 digits.now) }

@@ -16,16 +16,16 @@ const MAX_LABEL: u8 = 63;
 
 const MAX_NAME: usize = 255;
 
-/// A part of data, lent from where it stands.
+/// A borrowed part of data.
 #[derive(Clone, Copy, Debug, PartialEq, Eq)]
 pub enum Part<'a> {
-    /// Octets that hold no name: numbers, an address or strings.
+    /// Octets that contain no name: numbers, an address or strings.
     Octets(&'a [u8]),
     /// A domain name without compression, in its wire form (RFC 1035 3.1).
     Name(&'a [u8]),
 }
 
-/// The parts of data that are still to come, in order.
+/// The remaining parts of data, in order.
 #[derive(Drop)]
 pub struct Parts<'a> {
     pieces: &'static [Piece],
@@ -87,7 +87,7 @@ pub(crate) fn are_cut(pieces: &[Piece], octets: &[u8]) -> bool
     rest.is_empty()
 }
 
-/// The part of this piece that octets begin with, and the octets after it.
+/// The part for the piece at the beginning of the octets, and the octets after it.
 pub fn first_part(piece: Piece, octets: &[u8]) -> Option<(Part<'_>, &[u8])>
     ensures { Cuts result (piece_front (piece_of piece) octets.now) }
 {
@@ -120,7 +120,7 @@ pub(crate) fn first_name(octets: &[u8]) -> Option<(Part<'_>, &[u8])>
     Some((Part::Name(name), rest))
 }
 
-// The octets after labels of 1 to 63 octets and the root's length 0. Pointers are no labels.
+// The octets after labels of 1 to 63 octets and the root's length 0. A pointer is not a label.
 fn after_labels(octets: &[u8]) -> Option<&[u8]>
     ensures some { IfSome result (λ after. StandsAfterLabels octets.now after.now) }
     ensures none { IsNone result → HasNoLabels octets.now }
@@ -139,7 +139,7 @@ fn after_labels(octets: &[u8]) -> Option<&[u8]>
     }
 }
 
-// Whether octets are character-strings, one after the other (RFC 1035 3.3).
+// Whether the octets are character-strings, one after another (RFC 1035 3.3).
 fn are_strings(octets: &[u8]) -> bool
     ensures { result ≡ are_strings 0 octets.now }
 {

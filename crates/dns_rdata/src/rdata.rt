@@ -1,4 +1,4 @@
-//! Data of records (RFC 1035 3.2.1): octets without compression, names in lower case.
+//! Data of records (RFC 1035 3.2.1): octets without compression, with names in lower case.
 ghost use Rattle.std.specs.Prelude.{◌≡◌, ◌≤◌, ◌++◌, [], All, length, IfOk, OnOk, MatchResult, IfSome, if◌then◌else◌};
 ghost use Rattle.dns_spec.specs.Data.{valid, Valid, parts, pieces_of, target, lower_case, part_octets, part_folded};
 ghost use Rattle.dns_rdata.specs.Parts.{HasName, IsLent, NameStandsAfter, part_for};
@@ -14,9 +14,10 @@ use std::marker::Model;
 /// Data has at most 65,535 octets (RFC 1035 3.2.1).
 pub(crate) const MAX_OCTETS: usize = 65_535;
 
-/// Data of a record: its octets without compression, names in lower case.
+/// The data of a record: its octets without compression, with names in lower case.
 ///
-/// It does not keep its type. Whoever keeps both keeps that the data is valid for the type.
+/// It does not contain its type. A type that holds both keeps as its invariant that the data is
+/// valid for the type.
 #[derive(Drop)]
 pub struct Rdata {
     pub(crate) octets: Vec<u8>,
@@ -34,12 +35,12 @@ impl Model for Rdata {
 }
 
 impl Rdata {
-    /// The data that octets are, with the ASCII letters of its names in lower case.
+    /// The data with these octets, and with the ASCII letters of its names in lower case.
     ///
-    /// `NotOfType` where the octets are no data of the type: where they do not fill its pieces
-    /// exactly, hold a compressed or a long name, or are more than 65,535. Data of a type without a
-    /// name is any octets (RFC 3597 3). `NoMemory` only where a growth of memory was refused: there
-    /// is at most one.
+    /// `NotOfType` if the octets are invalid for the type: they do not exactly fill its pieces,
+    /// contain a compressed name or one that is too long, or are more than 65,535. For a type
+    /// without a mnemonic, any octets are valid (RFC 3597 3). `NoMemory` only if an allocation
+    /// fails; there is at most one.
     pub fn from_wire(alloc: Global, rtype: RType, octets: &[u8]) -> Result<Rdata, RdataFault>
         ensures valid { IfOk result (λ d. Valid rtype.0 d) }
         ensures value { MatchResult result (λ d. Valid rtype.0 octets.now
@@ -50,7 +51,7 @@ impl Rdata {
         Rdata::lowered(rtype, octets, Vec::new(alloc))
     }
 
-    /// No octets. It takes no memory.
+    /// Data without octets. Does not allocate.
     pub fn empty(alloc: Global) -> Rdata
         ensures { result ≡ [] }
     {
@@ -59,7 +60,7 @@ impl Rdata {
         }
     }
 
-    /// A second datum of the same octets. Memory is taken once.
+    /// A copy with the same octets. Allocates once.
     pub fn copied(&self, alloc: Global) -> Result<Rdata, AllocError>
         ensures { IfOk result (λ copy. copy ≡ self.now) }
     {
@@ -68,7 +69,8 @@ impl Rdata {
         Ok(Rdata { octets })
     }
 
-    /// The data that octets are, as `from_wire` gives it, in memory in which no octets are yet.
+    /// The data with these octets, as `from_wire` gives it, stored in `memory`, which must be
+    /// empty.
     pub(crate) fn lowered(rtype: RType, octets: &[u8], memory: Vec<u8>) -> Result<Rdata, RdataFault>
         requires { memory.items ≡ [] }
         ensures valid { IfOk result (λ d. Valid rtype.0 d) }
@@ -97,9 +99,8 @@ impl Rdata {
         self.octets.as_slice()
     }
 
-    /// The runs of octets and the names of valid data, in order, lent from where they stand.
-    /// Letters may have either case. Data of a type without a name is one run. There are at most
-    /// three parts.
+    /// The parts of valid data in order, runs of octets and names, borrowed. Letters may be in
+    /// either case. Data of a type without a mnemonic is one run. There are at most three parts.
     pub fn parts(rtype: RType, octets: &[u8]) -> Parts<'_>
         requires { Valid rtype.0 octets.now }
         ensures parts { result ≡ parts rtype.0 octets.now }
@@ -109,8 +110,8 @@ impl Rdata {
         Parts::new(rtype, octets)
     }
 
-    /// The first name in valid data: of NS the server, of CNAME the target of the alias, of MX the
-    /// exchange (RFC 1035 3.3.1, 3.3.9, 3.3.11).
+    /// The first name in valid data: the server of NS, the target of CNAME, the exchange of MX
+    /// (RFC 1035 3.3.1, 3.3.9, 3.3.11).
     pub fn target(rtype: RType, octets: &[u8]) -> Option<Name>
         requires { Valid rtype.0 octets.now }
         ensures { result ≡ target rtype.0 octets.now }
@@ -119,7 +120,7 @@ impl Rdata {
         Some(target.to_name())
     }
 
-    /// The first name in valid data, as `target` gives it, lent from where it stands.
+    /// The first name in valid data, as `target` gives it, borrowed.
     pub fn target_lent(rtype: RType, octets: &[u8]) -> Option<NameRef<'_>>
         requires { Valid rtype.0 octets.now }
         ensures { result ≡ target rtype.0 octets.now }
@@ -138,8 +139,8 @@ impl Rdata {
     }
 }
 
-// How many octets of numbers stand before the name that is the rest of the data, where data of the
-// type is made so (RFC 1035 3.3.1, 3.3.9, 3.3.11 and 3.3.12, RFC 2782).
+// The number of octets before a name that is the rest of the data, if the data of the type has
+// that form (RFC 1035 3.3.1, 3.3.9, 3.3.11 and 3.3.12, RFC 2782).
 fn octets_before_name(rtype: RType) -> Option<usize>
     ensures { IfSome result (λ k. NameStandsAfter k (pieces_of rtype.0)) }
 {

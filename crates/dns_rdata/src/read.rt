@@ -14,13 +14,13 @@ use dns_name::Name;
 use std::alloc::Global;
 use std::mem::replace;
 
-/// Room in which the data of one record after another is read: memory that it asked for is kept.
+/// Room in which the data of one record after another is read: its memory is kept and used again.
 #[derive(Drop)]
 pub struct DataRoom {
     alloc: Global,
     name: Name,
     octets: Vec<u8>,
-    // Octets in the form for any type, before they are judged.
+    // Octets in the generic form, before they are checked.
     spelled: Vec<u8>,
 }
 
@@ -35,22 +35,22 @@ impl DataRoom {
         }
     }
 
-    /// Takes back the memory of data that is no longer wanted.
+    /// Takes back the memory of data that is no longer needed.
     pub fn take_back(&mut self, data: Rdata) {
         self.octets = data.octets;
     }
 }
 
 impl Rdata {
-    /// The data that words say, relative to the origin, with its names in lower case.
+    /// The data that words spell, relative to the origin, with its names in lower case.
     ///
-    /// Where the first word is the unquoted `\#`, they are the length and the octets in hex digits
-    /// (RFC 3597 5): `BadHex` where they are not, and for a type without a mnemonic where they are
-    /// anything else; `NotOfType` where the octets are no data of the type. Else the words are
-    /// those of the type: `WordCount` where there are others than so many, then the fault of the
-    /// first word from the left that is none: `BadNumber`, `BadAddress`, `BadName` or `BadString`,
-    /// which is also reported of data past 65,535 octets. `NoMemory` only where no memory was
-    /// found.
+    /// If the first word is the unquoted `\#`, the others must be the length and the octets in hex
+    /// digits (RFC 3597 5): if they are not, the fault is `BadHex`, as for any other words of a
+    /// type without a mnemonic; if the octets are invalid for the type, it is `NotOfType`.
+    /// Otherwise the words must be in the form of the type: `WordCount` if their number is wrong,
+    /// else the fault of the first invalid word from the left, `BadNumber`, `BadAddress`,
+    /// `BadName` or `BadString`; `BadString` also reports data of more than 65,535 octets.
+    /// `NoMemory` only if allocation fails.
     pub fn read_words(
         alloc: Global,
         rtype: RType,
@@ -67,8 +67,8 @@ impl Rdata {
         Rdata::read_words_in(&mut DataRoom::new(alloc), rtype, words, origin)
     }
 
-    /// The data that words say, read in room that is lent: all of what `read_words` says. Its
-    /// memory is that of the room, which `take_back` gives back.
+    /// The data that words spell, as `read_words` gives it, read in borrowed room. The data uses
+    /// the room's memory; `take_back` returns it.
     #[tactic(auto, using(crate::proofs::TypedData::said_valid))]
     pub fn read_words_in<'w, W: Words<'w>>(
         room: &mut DataRoom,

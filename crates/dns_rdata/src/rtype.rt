@@ -20,13 +20,13 @@ impl RType {
     pub const A: RType = RType(1);
     /// An authoritative name server (RFC 1035 3.3.11).
     pub const NS: RType = RType(2);
-    /// The name that an alias stands for (RFC 1035 3.3.1).
+    /// The canonical name for an alias (RFC 1035 3.3.1).
     pub const CNAME: RType = RType(5);
     /// The start of a zone of authority (RFC 1035 3.3.13).
     pub const SOA: RType = RType(6);
     /// A pointer to another name (RFC 1035 3.3.12).
     pub const PTR: RType = RType(12);
-    /// The kinds of a host's processor and system (RFC 1035 3.3.2).
+    /// A host's processor and operating system (RFC 1035 3.3.2).
     pub const HINFO: RType = RType(13);
     /// A mail exchange (RFC 1035 3.3.9).
     pub const MX: RType = RType(15);
@@ -34,13 +34,12 @@ impl RType {
     pub const TXT: RType = RType(16);
     /// An IPv6 address (RFC 3596 2.1).
     pub const AAAA: RType = RType(28);
-    /// The place of a service (RFC 2782).
+    /// The location of a service (RFC 2782).
     pub const SRV: RType = RType(33);
 }
 
 impl RType {
-    /// Whether names in data of the type take part in compression: only those of types of RFC 1035
-    /// (RFC 3597 4).
+    /// Whether names in data of the type are compressed: only in types of RFC 1035 (RFC 3597 4).
     pub fn compresses(self) -> bool
         ensures { result ≡ compresses self.0 }
     {
@@ -50,8 +49,8 @@ impl RType {
 
 /// Types in the text of zone files (RFC 1035 5.1, RFC 3597 5).
 impl RType {
-    /// The type that a word names: `MX`, or `TYPE15`, in any case. A number begins with 1 to 9, or
-    /// is `0`, and is at most 65535. `None` where the word names no type.
+    /// The type that a word names, such as `MX` or `TYPE15`, in any case. A number is `0` or
+    /// begins with 1 to 9, and is at most 65535. `None` if the word does not name a type.
     pub fn read_text(word: &[u8]) -> Option<RType>
         ensures { MatchOption result ((t : ℕ) → NamesType word.now t → ⊥)
             (λ r. NamesType word.now r.0) }
@@ -67,10 +66,10 @@ impl RType {
         Some(RType(number as u16))
     }
 
-    /// Writes the type by its name, or as `TYPE` and its number where it has none. It takes no
-    /// memory.
+    /// Writes the type as its mnemonic, or as `TYPE` and its number if it has none. Does not
+    /// allocate.
     ///
-    /// Where the device fails, a beginning of that was written.
+    /// If the device fails, a beginning of that text was written.
     pub fn write_text<W: Write>(self, sink: &mut Tally<W>) -> Result<(), SinkFailed>
         requires { sink.old.failures < 2 ^ 64 - 1 }
         ensures { Writes W.contents sink.old sink.new result (type_text self.0) }
@@ -80,7 +79,7 @@ impl RType {
         text.finish(sink)
     }
 
-    /// Appends the type as `write_text` writes it: at most 9 octets.
+    /// Appends the text that `write_text` writes, at most 9 octets.
     pub fn append_text(self, text: &mut TextBuffer)
         requires { length text.old + 9 ≤ 4096 }
         ensures text { text.new ≡ text.old ++ type_text self.0 }

@@ -1,17 +1,17 @@
-//! One record set, lent.
+//! One record set, borrowed.
 ghost use Rattle.std.specs.Prelude.{◌≡◌, ◌<◌, [], length, get_or};
 ghost use Rattle.dns_spec.specs.Data.{Valid};
 
 use crate::rtype::RType;
 
-/// One record set, lent: the type, the TTL and the data of its records, without their owner (RFC
-/// 2181 5).
+/// One borrowed record set: the type, the TTL and the data of its records, without their owner
+/// (RFC 2181 5).
 ///
-/// Whatever implements it keeps that the data is valid for the type.
+/// Each implementation keeps the data valid for the type.
 pub trait SetView {
     ghost use Rattle.dns_spec.specs.Sets.{RecordSet, HasValidData};
 
-    /// The set that is lent.
+    /// The set that is borrowed.
     ghost set: { Self → RecordSet };
 
     /// The type of all records.
@@ -22,13 +22,13 @@ pub trait SetView {
     fn ttl(&self) -> u32
         ensures { result ≡ (set self.now).ttl };
 
-    /// How many records there are.
+    /// The number of records.
     fn len(&self) -> usize
         ensures value { result ≡ length (set self.now).rdata }
         ensures valid { HasValidData (set self.now) };
 
-    /// The data of the record at `i`, the first at 0: octets without compression. Condition: `i` is
-    /// below `len`.
+    /// The data of the record at `i`, counted from 0: octets without compression. Condition: `i`
+    /// is below `len`.
     fn rdata(&self, i: usize) -> &[u8]
         requires { i < length (set self.now).rdata }
         ensures value { result.now ≡ get_or (set self.now).rdata i [] }

@@ -6,7 +6,7 @@ use crate::rdata::Rdata;
 use byteorder::{BigEndian, ByteOrder};
 
 impl Rdata {
-    /// SERIAL of an SOA's data: the first of the five numbers that end it.
+    /// The SERIAL in an SOA's data: the first of the five numbers at its end.
     pub fn soa_serial(octets: &[u8]) -> u32
         requires { Valid type_soa octets.now }
         ensures { result ≡ soa_serial octets.now }
@@ -14,8 +14,8 @@ impl Rdata {
         BigEndian::read_u32(&octets[octets.len() - 20..])
     }
 
-    /// MINIMUM of an SOA's data, in seconds: the last of the five numbers that end it. It bounds
-    /// the time that a negative answer is kept (RFC 2308 4).
+    /// The MINIMUM in an SOA's data, in seconds: the last of the five numbers at its end. It
+    /// bounds the time for which a negative answer is cached (RFC 2308 4).
     pub fn soa_minimum(octets: &[u8]) -> u32
         requires { Valid type_soa octets.now }
         ensures { result ≡ soa_minimum octets.now }

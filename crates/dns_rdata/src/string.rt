@@ -14,14 +14,14 @@ use dns_name::{TextBuffer, first_octet};
 /// A character-string has at most 255 octets (RFC 1035 3.3).
 pub(crate) const MOST_STRING_OCTETS: usize = 255;
 
-/// The text of a character-string has at most 1,022 octets: four for each of its own, and the
-/// quotation marks.
+/// The text of a character-string has at most 1,022 octets: four for each of its own octets, and
+/// two quotation marks.
 pub(crate) const MOST_STRING_TEXT: usize = 1022;
 
-/// The octets of the character-string that a word spells, quoted or not: `word` is the spelling
-/// without quotation marks, and its escapes are undone.
+/// The octets of the character-string that a word spells, quoted or not; `word` is the spelling
+/// without quotation marks.
 ///
-/// `None` where an escape is bad, or the string has more than 255 octets (RFC 1035 3.3).
+/// `None` if an escape is bad, or the string has more than 255 octets (RFC 1035 3.3).
 #[cold]
 #[inline(never)]
 pub(crate) fn read_string(word: &[u8]) -> Option<ArrayVec<u8, MOST_STRING_OCTETS>>
@@ -43,7 +43,8 @@ pub(crate) fn read_string(word: &[u8]) -> Option<ArrayVec<u8, MOST_STRING_OCTETS
     Some(octets)
 }
 
-/// Whether a word spells the string of its own octets: at most 255, without a backslash.
+/// Whether the word's own octets are the string that it spells: at most 255 octets, without a
+/// backslash.
 pub(crate) fn is_plain_string(word: &[u8]) -> bool
     ensures short { OnTrue result (length word.now ≤ 255) }
     ensures itself { OnTrue result ((s : Octets) → SpellsString word.now s ↔ (s ≡ word.now)) }
@@ -51,8 +52,8 @@ pub(crate) fn is_plain_string(word: &[u8]) -> bool
     word.len() <= MOST_STRING_OCTETS && !word.contains(&b'\\')
 }
 
-/// Appends the text of a character-string in quotation marks: `"` and `\` with a backslash before,
-/// octets that are not printable as `\DDD` (RFC 1035 5.1).
+/// Appends the text of a character-string in quotation marks: `"` and `\` with a backslash before
+/// them, octets that are not printable as `\DDD` (RFC 1035 5.1).
 pub(crate) fn append_string_text(string: &[u8], text: &mut TextBuffer)
     requires short { length string.now ≤ 255 }
     requires room { length text.old + 1022 ≤ 4096 }
@@ -83,8 +84,8 @@ fn append_octet(text: &mut TextBuffer, octet: u8)
     }
 }
 
-// Whether each octet is written as it is. All are looked at, so that a processor can do it to many
-// at once.
+// Whether each octet is written as it is. The loop does not stop early, so that a processor can
+// test many octets at once.
 fn are_plain(octets: &[u8]) -> bool
     ensures { result ≡ list_all is_plain octets.now }
 {

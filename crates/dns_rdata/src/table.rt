@@ -1,4 +1,4 @@
-//! The table of the types that have a name: of which pieces the data of each is made.
+//! The table of the types that have a mnemonic, with the pieces of their data.
 ghost use Rattle.std.specs.Prelude.{◌≡◌, ◌^◌, suc, map};
 ghost use Rattle.std.specs.Option.{option_map};
 ghost use Rattle.std.specs.List.{find};
@@ -9,7 +9,7 @@ ghost use Rattle.dns_rdata.specs.TypeRows.{size_of, fixed_of, row_for, pieces_in
 
 use crate::rtype::RType;
 
-/// How many octets a number has.
+/// The number of octets in a number.
 #[derive(Clone, Copy, Debug)]
 pub enum NumberSize {
     /// 16 bits.
@@ -18,10 +18,10 @@ pub enum NumberSize {
     Four,
 }
 
-/// A piece of so many octets.
+/// A piece of fixed length.
 #[derive(Clone, Copy, Debug)]
 pub enum Fixed {
-    /// So many numbers.
+    /// `count` numbers of one size.
     Numbers { count: u8, size: NumberSize },
     /// An IPv4 address (RFC 1035 3.4.1).
     Ipv4,
@@ -38,22 +38,22 @@ pub enum Piece {
     Domain,
     /// A character-string (RFC 1035 3.3).
     String,
-    /// One character-string or more.
+    /// One or more character-strings.
     Strings,
     /// Any octets.
     Anything,
 }
 
-/// A type that has a name.
+/// A type that has a mnemonic.
 pub(crate) struct TypeRow {
     pub(crate) number: u16,
     pub(crate) mnemonic: &'static [u8],
     pub(crate) pieces: &'static [Piece],
-    /// Whether names in the data take part in compression (RFC 3597 4).
+    /// Whether names in the data are compressed (RFC 3597 4).
     pub(crate) compresses: bool,
 }
 
-// So many numbers of a size, as a piece.
+// A piece of `$count` numbers of a size.
 macro_rules! numbers {
     ($count:expr, $size:ident) => {
         Piece::Fixed(Fixed::Numbers {
@@ -89,7 +89,7 @@ const TYPES: [TypeRow; 10] = [
 ];
 
 impl NumberSize {
-    /// How many octets it is.
+    /// The size in octets.
     pub(crate) fn octets(self) -> usize
         ensures { result ≡ size_of self }
     {
@@ -99,7 +99,7 @@ impl NumberSize {
         }
     }
 
-    /// The greatest number that it has room for.
+    /// The greatest number of this size.
     pub(crate) fn most(self) -> u32
         ensures { suc result ≡ 256 ^ size_of self }
     {
@@ -111,7 +111,7 @@ impl NumberSize {
 }
 
 impl Fixed {
-    /// How many octets it has.
+    /// The length in octets.
     pub fn width(self) -> usize
         ensures { result ≡ width (fixed_of self) }
     {
@@ -123,7 +123,7 @@ impl Fixed {
     }
 }
 
-/// The table, by rising number.
+/// The table, by rising type number.
 pub(crate) fn types() -> &'static [TypeRow]
     ensures { map row_for result.now ≡ type_table }
 {
@@ -142,7 +142,7 @@ fn numbered_row(rows: &[TypeRow], number: u16) -> Option<&TypeRow>
     rows.iter().find(|row| row.number == number)
 }
 
-/// The pieces of the data of a type: any octets, where it has no name (RFC 3597 3).
+/// The pieces of the data of a type; any octets, if it has no mnemonic (RFC 3597 3).
 pub fn pieces_of_type(rtype: RType) -> &'static [Piece]
     ensures { pieces_in result.now ≡ pieces_of rtype.0 }
 {
@@ -164,7 +164,7 @@ fn named_row<'a>(rows: &'a [TypeRow], word: &[u8]) -> Option<&'a TypeRow>
     rows.iter().find(|row| same_text(word, row.mnemonic))
 }
 
-/// Whether two texts are equal but for the case of ASCII letters.
+/// Whether two texts are equal, ignoring the case of ASCII letters.
 pub(crate) fn same_text(left: &[u8], right: &[u8]) -> bool
     ensures { result ≡ octets_equal (text_in_lower_case left.now) (text_in_lower_case right.now) }
 {

@@ -1,4 +1,5 @@
-//! Data in the form of its type: a word for each number, address, name and string (RFC 1035 5.1).
+//! Data in the form of its type: one word for each number, address, name and string (RFC 1035
+//! 5.1).
 ghost use Rattle.std.specs.Prelude.{◌≡◌, ◌≢◌, ◌≤◌, ◌==◌, ◌++◌, false, [], length, replicate, OnOk, IfOk, IfErr};
 ghost use Rattle.std.specs.List.{flat_map};
 ghost use Rattle.dns_spec.specs.Names.{Octets};
@@ -17,11 +18,11 @@ use crate::table::{Fixed, NumberSize, Piece, row_of_type};
 use crate::word::{Word, Words};
 use dns_name::Name;
 
-/// Most data has no more octets, so that its memory never grows. An allocator hands out little less
-/// for fewer.
+/// Most data has at most this many octets, so its memory never grows. An allocator returns hardly
+/// less memory for a smaller request.
 pub(crate) const USUAL_OCTETS: usize = 24;
 
-/// What a word of a record's data is.
+/// The form of a word of a record's data.
 #[derive(Clone, Copy, Debug)]
 pub(crate) enum WordForm {
     Number(NumberSize),
@@ -31,19 +32,19 @@ pub(crate) enum WordForm {
     String,
 }
 
-/// Words of one form, side by side.
+/// Consecutive words of one form.
 #[derive(Clone, Copy, Debug)]
 struct FormRun {
     form: WordForm,
     times: usize,
 }
 
-/// Puts the data that words say in the form of the type, names in lower case, where no octets are
-/// yet. `name` is room for those that are names.
+/// Puts the data that words spell in the form of the type into an empty buffer, with names in
+/// lower case. `name` is room for names.
 ///
-/// `BadHex` where the type has no such form, `WordCount` where it has another number of words; else
-/// the fault of the first word from the left that is none of its form, or `BadString` where the
-/// data is past 65,535 octets.
+/// `BadHex` if the type has no such form; `WordCount` if it has another number of words; else the
+/// fault of the first invalid word from the left, or `BadString` if the data exceeds 65,535
+/// octets.
 pub(crate) fn put_typed<'w, W: Words<'w>>(
     rtype: RType,
     words: W,
@@ -71,7 +72,7 @@ pub(crate) fn put_typed<'w, W: Words<'w>>(
     Ok(())
 }
 
-// Whether pieces have so many words, where the record has so many.
+// Whether the pieces have `count` words in a record with `count` words.
 fn is_word_count(pieces: &[Piece], count: usize) -> bool
     ensures { result ≡ (length (flat_map (forms_in count) (pieces_in pieces.now)) == count) }
 {
@@ -86,8 +87,8 @@ fn is_word_count(pieces: &[Piece], count: usize) -> bool
     left == 0
 }
 
-// The words of a piece, where the record has so many words. RFC 1035 3.3.14: strings, which stand
-// alone, take all words, and one at least.
+// The words of a piece, in a record with `count` words. RFC 1035 3.3.14: strings, which are the
+// only piece of their type, take all words, and at least one.
 fn run_of(piece: Piece, count: usize) -> FormRun
     ensures { forms_in count (piece_of piece) ≡ replicate result.times (form_of result.form) }
 {
@@ -105,7 +106,7 @@ fn run_of(piece: Piece, count: usize) -> FormRun
     FormRun { form, times }
 }
 
-// Appends what the first words say, all by one form, and answers the words after them.
+// Appends what the first words spell, all by one form, and returns the words after them.
 fn append_run<'w, W: Words<'w>>(
     run: FormRun,
     words: W,
@@ -136,7 +137,7 @@ fn append_run<'w, W: Words<'w>>(
     Ok(others)
 }
 
-// Appends what a word says by its form. Only a string may be quoted.
+// Appends what a word spells by its form. Only a string may be quoted.
 fn append_word(
     form: WordForm,
     word: &Word<'_>,
@@ -172,7 +173,7 @@ fn fault_of(form: WordForm) -> RdataFault {
     }
 }
 
-// A number, the most significant octet first (RFC 1035 2.3.2).
+// Appends a number, the most significant octet first (RFC 1035 2.3.2).
 fn append_number(size: NumberSize, text: &[u8], octets: &mut Vec<u8>) -> Result<(), RdataFault>
     ensures { AppendsSaid as_it_is (SaysNumber (size_of size) text.now) octets.old.items
         octets.new.items result }
@@ -185,8 +186,8 @@ fn append_number(size: NumberSize, text: &[u8], octets: &mut Vec<u8>) -> Result<
     }
 }
 
-// A string after its length (RFC 1035 3.3). Most have no escape: their octets are taken from the
-// text itself.
+// Appends a string after its length (RFC 1035 3.3). Most strings have no escapes, so their octets
+// are taken from the text itself.
 fn append_string(text: &[u8], octets: &mut Vec<u8>) -> Result<(), RdataFault>
     ensures { AppendsSaid as_it_is (SaysString text.now) octets.old.items octets.new.items
         result }

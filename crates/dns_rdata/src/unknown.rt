@@ -1,4 +1,4 @@
-//! Data in the form that serves any type: its length and its octets in hex digits (RFC 3597 5).
+//! Data in the generic form, for any type: its length and its octets in hex digits (RFC 3597 5).
 ghost use Rattle.std.specs.Prelude.{◌≡◌, ◌≢◌, ◌≤◌, [], length, OnOk, IfOk, IfErr};
 ghost use Rattle.dns_spec.specs.Names.{Octets};
 ghost use Rattle.dns_spec.specs.DataText.{SaysUnknown, is_unknown_mark};
@@ -12,17 +12,17 @@ use crate::word::{Word, Words};
 // Data has at most 65,535 octets (RFC 1035 3.2.1).
 const MOST_OCTETS: u32 = 65_535;
 
-/// Whether the form begins with this word: the unquoted `\#`.
+/// Whether the word is the unquoted `\#`, which begins the generic form.
 pub(crate) fn is_unknown_mark(word: &Word<'_>) -> bool
     ensures { result ≡ is_unknown_mark word.now }
 {
     !word.quoted && word.raw == b"\\#".as_slice()
 }
 
-/// Puts the octets that the words after `\#` say, where none are yet: their number, and then words
-/// of whole octets.
+/// Puts the octets that the words after `\#` spell into an empty buffer: their number, and then
+/// words of whole octets.
 ///
-/// The error is `NoMemory` only where no memory was found, and else `BadHex`.
+/// Fails with `NoMemory` only if allocation fails, and otherwise with `BadHex`.
 pub(crate) fn put_unknown<'w, W: Words<'w>>(
     words: W,
     octets: &mut Vec<u8>,
@@ -54,7 +54,7 @@ pub(crate) fn put_unknown<'w, W: Words<'w>>(
     Ok(())
 }
 
-// Appends the octets that an unquoted word of whole octets says, one at least.
+// Appends the octets that an unquoted word of whole octets spells, at least one.
 fn append_word(word: &Word<'_>, octets: &mut Vec<u8>) -> Result<(), RdataFault>
     ensures ok { IfOk result (λ _. AppendsWord word.now octets.old.items octets.new.items) }
     ensures fault { IfErr result (λ fault. fault ≢ RdataFault.NoMemory → (d : Octets)

@@ -4,13 +4,13 @@ ghost use Rattle.dns_spec.specs.DataText as text;
 
 use std::marker::Model;
 
-/// A word of a record's data as it is spelled in a zone file: without the quotation marks where it
-/// stands in them, and with its escapes (RFC 1035 5.1).
+/// A word of a record's data as it is spelled in a zone file, with its escapes but without its
+/// quotation marks (RFC 1035 5.1).
 #[derive(Debug, Default, Drop)]
 pub struct Word<'a> {
     /// Its octets.
     pub raw: &'a [u8],
-    /// Whether it stands in quotation marks.
+    /// Whether it is in quotation marks.
     pub quoted: bool,
 }
 
@@ -22,21 +22,21 @@ impl<'a> Model for Word<'a> {
     ghost view = { λ w. record { raw = w.raw.now; is_quoted = w.quoted } };
 }
 
-/// Words that are still to come, taken one after another from the left.
+/// The remaining words, taken one after another from the left.
 pub trait Words<'w>: Copy {
-    /// The words that are still to come.
+    /// The remaining words.
     ghost to_come: { Self → List text.Word };
 
-    /// How many words are still to come.
+    /// The number of remaining words.
     fn count(&self) -> usize
         ensures { result ≡ length (to_come self.now) };
 
-    /// The first word, and those after it; or there is none.
+    /// The first word and the words after it, if there are any.
     fn split_first(self) -> Option<(Word<'w>, Self)>
         ensures { MatchOption result (to_come self ≡ []) (λ x. to_come self ≡ x.0 ∷ to_come x.1) };
 }
 
-/// Words in a list.
+/// The words of a list.
 impl<'a, 'w> Words<'w> for &'a [Word<'w>] {
     ghost to_come = { λ words. words.now };
 

@@ -22,27 +22,27 @@ use dns_name::{NameRef, SinkFailed, Tally, TextBuffer};
 use itoa::Buffer;
 use std::io::Write;
 
-// Words have one space between.
+// Words are separated by single spaces.
 const SPACE: &[u8] = b" ";
 
-// So many octets are put together in hex digits before room for more is made.
+// The number of octets that are written as hex digits before more room is made.
 const CHUNK: usize = 128;
 
 const CHUNK_DIGITS: usize = 256;
 
-// The text of a string after a space.
+// The text of a string, with a space before it.
 const STRING_ROOM: usize = MOST_STRING_TEXT + 1;
 
-// What any piece but strings may need: 255 numbers of ten digits, each after a space.
+// The most that a piece other than strings may need: 255 numbers of ten digits, each after a
+// space.
 const PIECE_ROOM: usize = 2805;
 
 impl Rdata {
-    /// Writes valid data as text: its words with one space between (RFC 1035 5.1), or for a type
-    /// without a mnemonic `\#`, the length and the octets in hex digits (RFC 3597 5). Names may
-    /// have either case. It takes no memory, and time in proportion to the length.
+    /// Writes valid data as text: its words, separated by single spaces (RFC 1035 5.1), or for a
+    /// type without a mnemonic `\#`, the length and the octets in hex digits (RFC 3597 5). Names
+    /// may be in either case. Does not allocate; the time is proportional to the length.
     ///
-    /// Strings stand in quotation marks. Where the device fails, a beginning of the text was
-    /// written.
+    /// Strings are in quotation marks. If the device fails, a beginning of the text was written.
     pub fn write_text<W: Write>(
         rtype: RType,
         octets: &[u8],
@@ -58,9 +58,9 @@ impl Rdata {
     }
 
     /// Puts the text of valid data, as `write_text` writes it, into a buffer, which is written
-    /// where it is full.
+    /// when it is full.
     ///
-    /// Where the device fails, a beginning of what was held and of the text was written.
+    /// If the device fails, a beginning of the buffered text and this text was written.
     pub fn put_text<W: Write>(
         rtype: RType,
         octets: &[u8],
@@ -86,8 +86,8 @@ impl Rdata {
     }
 }
 
-// Puts the words of the piece that octets begin with, the first of them after `before`, and answers
-// the octets after the piece.
+// Puts the words of the piece at the beginning of the octets, the first word after `before`, and
+// returns the octets after the piece.
 fn put_piece<'a, W: Write>(
     piece: Piece,
     before: &[u8],
@@ -123,7 +123,7 @@ fn put_piece<'a, W: Write>(
     }
 }
 
-// All strings, of which there is one or more.
+// Puts all strings; there is at least one.
 fn put_strings<'a, W: Write>(
     before: &[u8],
     octets: &'a [u8],
@@ -149,7 +149,7 @@ fn put_strings<'a, W: Write>(
     Ok(rest)
 }
 
-// The form for data of any type (RFC 3597 5).
+// Puts data in the generic form (RFC 3597 5).
 fn put_unknown<W: Write>(
     octets: &[u8],
     text: &mut TextBuffer,
@@ -224,7 +224,7 @@ fn append_numbers<'a>(
     rest
 }
 
-// A number in decimal, whose most significant octet comes first (RFC 1035 2.3.2).
+// Appends in decimal a number whose most significant octet comes first (RFC 1035 2.3.2).
 fn append_number<'a>(
     size: NumberSize,
     before: &[u8],
@@ -262,7 +262,7 @@ fn append_ipv6<'a>(before: &[u8], octets: &'a [u8], text: &mut TextBuffer) -> &'
     rest
 }
 
-// A string in quotation marks, without its length (RFC 1035 3.3).
+// Appends a string in quotation marks, without its length (RFC 1035 3.3).
 fn append_string<'a>(before: &[u8], octets: &'a [u8], text: &mut TextBuffer) -> &'a [u8]
     requires string { IsTrue (is_some (string_front octets.now)) }
     requires short { length before.now ≤ 1 }

@@ -1,5 +1,5 @@
--- The words of a command line say what they ask for: ORIGIN and FILE are the last two, and those
--- before them say the rest.
+-- The arguments of a command line determine what they ask for: ORIGIN and FILE are the last two,
+-- and the arguments before them determine the rest.
 use Rattle.dns_spec.proofs.Common.{◌≡◌, ℕ, Bool, List, [], ◌∷◌, ◌++◌, length, get_or, codes, refl, ap, ap₂, arith, length-append, list_any, decimal_injective, Octets, octets_equal, Options, ZoneWords, AskToCheck, ServiceAsked, AskToServe}
 use Rattle.dns_spec.specs.CommandWords.{SocketAsked, AskAtSocket}
 
@@ -19,7 +19,7 @@ last_two (v ∷ f) (w ∷ g) y z e = grind (arith, ap₂, word, (last_two f g y 
 has : Octets → List Octets → Bool
 has w = list_any (octets_equal w)
 
--- the options that words say
+-- the options that the arguments state
 said : List Octets → Options
 said f = record { is_quiet = has (codes "--quiet") f; is_printing = has (codes "--print") f }
 

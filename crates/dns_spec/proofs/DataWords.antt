@@ -1,4 +1,5 @@
--- Types and data: what data is made of, which words say it, and that what is written says it again.
+-- Types and data: the pieces of data, the words that spell it, and that written data is spelled
+-- again.
 pub mod MadeData
 pub mod LoweredData
 pub mod WrittenData

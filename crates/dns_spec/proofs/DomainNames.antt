@@ -1,4 +1,4 @@
--- Names: their wire forms, their order, and what is at or below what.
+-- Names: their wire forms, their order, and which names are at or below others.
 pub mod NameLaws
 pub mod WireNames
 pub mod SmallOctets

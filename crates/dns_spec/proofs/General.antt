@@ -1,4 +1,4 @@
--- Lists, options, results and sums: what knows nothing of DNS, a file for each word.
+-- Lists, options, results and sums, without anything of DNS; one file for each subject.
 pub mod Elements
 pub mod Filters
 pub mod Fronts

@@ -1,4 +1,4 @@
--- Reading messages: the computed reader is the relation, and what octets spell is one message.
+-- Reading messages: the computed reader equals the relation, and octets spell at most one message.
 pub mod NameReading
 pub mod MessageReading
 pub mod OneMessage

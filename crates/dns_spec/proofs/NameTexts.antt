@@ -1,4 +1,4 @@
--- Names as text: escapes, and that a name that is written is read back.
+-- Names as text: escapes, and that a written name is read back.
 pub mod Escapes
 pub mod OneName
 pub mod WrittenNames

@@ -1,4 +1,4 @@
--- Answers and replies: which sets they have, how many, and what they spell.
+-- Answers and replies: their sets, the number of these, and what they spell.
 pub mod ChainLength
 pub mod FewItems
 pub mod ItemSets

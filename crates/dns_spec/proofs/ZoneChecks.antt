@@ -1,4 +1,4 @@
--- The faults of a zone, and what a zone without a fault has.
+-- The faults of a zone, and what holds for a zone without a fault.
 pub mod FaultLaws
 pub mod FaultOrder
 pub mod PassedChecks

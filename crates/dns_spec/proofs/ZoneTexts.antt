@@ -1,4 +1,4 @@
--- Texts of zone files: their tokens and entries, and that each text means one thing.
+-- Texts of zone files: their tokens and entries, and that each text has one meaning.
 pub mod TextTokens
 pub mod ReadTokens
 pub mod ReadOctets

@@ -1,4 +1,4 @@
--- What a reader learns here: which addresses words spell, and how addresses are written.
+-- Addresses in zone files: which address a text spells, and how an address is written.
 use Rattle.std.specs.Prelude.{◌≡◌, ℕ, ◌+◌, ◌-◌, ◌*◌, Bool, ◌&&◌, List, [], ◌∷◌, ◌++◌, map, length, take, drop, replicate, max, false, nat_lt, nat_le, ◌==◌, IsTrue, if◌then◌else◌, decimal, fold}
 use Rattle.std.specs.Prelude.{Option, None, Some}
 use Rattle.std.specs.Option.{option_map, option_and_then}
@@ -9,11 +9,12 @@ use Rattle.std.specs.Str.Parse.{digits_value}
 use Rattle.std.specs.Fmt.{digits}
 use Rattle.dns_spec.specs.Names.{Octets}
 
--- RFC 1035 3.4.1: numbers in decimal with dots between
+-- RFC 1035 3.4.1: the octets in decimal, separated by dots
 abbrev pub ipv4_text : Octets → Octets
 ipv4_text d = join_with_byte 46 (map decimal d)
 
--- four numbers 0 to 255; without zeros in front (in this product) an address has one spelling
+-- four numbers from 0 to 255, without leading zeros (in this product), so an address has one
+-- spelling
 pub record SaysIpv4 (text d : Octets) : Type 0 where
   pub four : length d ≡ 4
   pub octets : IsTrue (list_all (λ x. nat_lt x 256) d)
@@ -23,19 +24,19 @@ pub record SaysIpv4 (text d : Octets) : Type 0 where
 abbrev pub is_group : Octets → Bool
 is_group text = nat_lt 0 (length text) && nat_le (length text) 4 && list_all is_ascii_hexdigit text
 
--- the numbers of texts that are all groups
+-- the values of the texts, if all of them are groups
 abbrev pub group_values : List Octets → Option (List ℕ)
 group_values [] = Some []
 group_values (text ∷ texts) =
     if is_group text
     then option_map (λ gs. digits_value 16 text ∷ gs) (group_values texts) else None
 
--- groups with colons between, perhaps none at all
+-- the groups of a text, separated by colons; an empty text has none
 abbrev pub groups_said : Octets → Option (List ℕ)
 groups_said [] = Some []
 groups_said (c ∷ text) = group_values (slice_split (λ o. o == 58) (c ∷ text))
 
--- what stands before the first `::` of a text, and what stands after it
+-- the text before the first `::`, and the text after it
 abbrev pub around_gap : Octets → Option (Octets × Octets)
 around_gap [] = None
 around_gap (c ∷ []) = None
@@ -43,18 +44,18 @@ around_gap (c ∷ d ∷ text) =
     if c == 58 && d == 58 then Some ([], text)
     else option_map (λ r. (c ∷ r.0, r.1)) (around_gap (d ∷ text))
 
--- groups, where they are eight
+-- the groups, if there are eight
 abbrev pub eight_groups : List ℕ → Option (List ℕ)
 eight_groups gs = if length gs == 8 then Some gs else None
 
--- zero groups in the place of `::`, one at least
+-- eight groups, with at least one zero group in place of `::`
 abbrev pub filled_groups : List ℕ → List ℕ → Option (List ℕ)
 filled_groups front back =
     if nat_lt (length front + length back) 8
     then Some (front ++ replicate (8 - (length front + length back)) 0 ++ back) else None
 
--- RFC 4291 2.2, forms 1 and 2: eight groups, or fewer with `::` once for the zero groups that are
--- left out. No text of groups has a second `::`, since no group is empty.
+-- RFC 4291 2.2, forms 1 and 2: eight groups, or fewer with one `::` for the zero groups that are
+-- left out. A second `::` is invalid, since it leaves an empty group.
 abbrev pub groups_by : Octets → Option (Octets × Octets) → Option (List ℕ)
 groups_by text None = option_and_then eight_groups (groups_said text)
 groups_by text (Some r) =
@@ -65,7 +66,7 @@ groups_by text (Some r) =
 unfoldable pub ipv6_groups : Octets → Option (List ℕ)
 ipv6_groups text = groups_by text (around_gap text)
 
--- RFC 3596 2.2: each group is two octets, the high one first
+-- RFC 3596 2.2: each group is two octets, the high octet first
 abbrev pub ipv6_octets : Octets → Option Octets
 ipv6_octets text = option_map (flat_map (bytes_high_first 2)) (ipv6_groups text)
 
@@ -79,11 +80,11 @@ groups_of [] = []
 groups_of (h ∷ []) = []
 groups_of (h ∷ l ∷ d) = (256 * h + l) ∷ groups_of d
 
--- RFC 5952 4.1 and 4.3: groups in lower case, without zeros in front, with colons between
+-- RFC 5952 4.1 and 4.3: groups in lower case, without leading zeros, separated by colons
 abbrev pub groups_text : List ℕ → Octets
 groups_text gs = join_with_byte 58 (map (digits 16 false) gs)
 
--- how many zero groups stand together from each place on
+-- for each place, the length of the run of zero groups that begins there; and the longest of these
 abbrev pub zero_runs : List ℕ → List ℕ
 zero_runs [] = []
 zero_runs (g ∷ gs) = prefix_len (λ n. n == 0) (g ∷ gs) ∷ zero_runs gs
@@ -95,7 +96,7 @@ longest_run gs = fold max 0 (zero_runs gs)
 abbrev pub longest_place : List ℕ → ℕ
 longest_place gs = position_or_len (λ k. k == longest_run gs) (zero_runs gs)
 
--- RFC 5952 4.2: `::` stands for the longest run of two zero groups or more, the first of equals
+-- RFC 5952 4.2: `::` replaces the longest run of at least two zero groups, the first of equals
 abbrev pub ipv6_text : Octets → Octets
 ipv6_text d =
     let gs = groups_of d in

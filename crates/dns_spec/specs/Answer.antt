@@ -1,6 +1,5 @@
--- What a reader learns here: which RRsets answer a question: the names sought one after the other,
--- the five cases of the last of them, the additional addresses, and which of all these a reply may
--- not leave out.
+-- Which RRsets answer a question: the names sought one after another, the five cases of the last
+-- one, the additional addresses, and the sets that a reply must not leave out.
 use Rattle.std.specs.Prelude.{ℕ, zero, suc, ◌+◌, ◌-◌, ◌*◌, min, sum, Bool, true, false, ◌&&◌, ◌||◌, not, List, [], ◌∷◌, ◌++◌, map, length, ◌==◌, if◌then◌else◌}
 use Rattle.std.specs.Prelude.{Option, None, Some}
 use Rattle.std.specs.Option.{option_map, option_and_then, is_some, unwrap_or, option_to_list}
@@ -13,48 +12,49 @@ use Rattle.dns_spec.specs.Tree.{cut_of, found}
 use Rattle.dns_spec.specs.Reading.{no_error, name_error}
 use Rattle.dns_spec.specs.Layout.{Section, answer, authority, additional, Item, records_of}
 
--- an RRset of a section, where it has a record
+-- an RRset in a section; none if it has no records
 abbrev pub item : Section → List ResourceRecord → List Item
 item s [] = []
 item s (r ∷ rs) = record { section = s; records = r ∷ rs } ∷ []
 
--- RFC 1034 4.3.2 step 3a: an alias is followed, unless it is itself what is asked for
+-- RFC 1034 4.3.2 step 3a: an alias is followed, unless the question asks for CNAME or for all
+-- types
 abbrev pub follows_alias : ℕ → Bool
 follows_alias t = not (t == type_cname || t == qtype_any)
 
--- the CNAME set found for a name, where no cut is at or above it
+-- the CNAME set found for a name; empty if the name is at or below a cut
 abbrev pub alias_set : ZoneContents → DomainName → List ResourceRecord
 alias_set z s =
     if is_some (cut_of z s) then [] else unwrap_or (option_map (of_type type_cname) (found z s)) []
 
--- where it leads
+-- the target of the first record
 abbrev pub first_target : List ResourceRecord → Option DomainName
 first_target [] = None
 first_target (r ∷ rs) = target r.rtype r.rdata
 
--- RFC 1034 4.3.2 step 3a: what is sought after s, where `sought` has the names so far: the target
--- of its alias, where that is at or below the origin and was not sought yet
+-- RFC 1034 4.3.2 step 3a: the name sought after s: the target of the alias at s, if it is at or
+-- below the origin and not yet in `sought`
 abbrev pub next_sought : ZoneContents → List DomainName → DomainName → Option DomainName
 next_sought z sought s =
     option_and_then
     (λ m. if at_or_below m z.origin && not (list_any (same m) sought) then Some m else None)
     (first_target (alias_set z s))
 
--- the names sought from s on, of which at most k are targets
+-- the names sought from s on: s and at most k targets
 unfoldable pub chain_from : ZoneContents → ℕ → List DomainName → DomainName → List DomainName
 chain_from z zero sought s = s ∷ []
 chain_from z (suc k) sought s =
     s ∷ elim (next_sought z (s ∷ sought) s) [ None ↦ [] | Some m ↦ chain_from z k (s ∷ sought) m ]
 
--- a limit of this project: at most so many aliases are followed
+-- the most aliases that are followed, a limit of this project
 abbrev pub most_aliases : ℕ
 most_aliases = 16
 
--- The names sought, the question's first.
+-- The names sought, beginning with the question's.
 unfoldable pub chain : ZoneContents → DomainName → ℕ → List DomainName
 chain z q t = if follows_alias t then chain_from z most_aliases [] q else q ∷ []
 
--- the last of names, or s where there are none
+-- the last of the names, or s if there are none
 abbrev pub last_of : DomainName → List DomainName → DomainName
 last_of s [] = s
 last_of s (m ∷ ms) = last_of m ms
@@ -68,26 +68,28 @@ abbrev pub alias_items : ZoneContents → DomainName → ℕ → List Item
 alias_items z q t =
     if follows_alias t then flat_map (λ s. item answer (alias_set z s)) (chain z q t) else []
 
--- How a question is answered.
+-- The outcome of a question: the RCODE, the cut of a referral, and the sets of the answer and
+-- authority sections.
 pub record Outcome : Type 0 where
   pub rcode : ℕ
   pub referral : Option DomainName
   pub answers : List Item
   pub authorities : List Item
 
--- RFC 2308 sections 3 and 5: the SOA of a negative answer has the lesser of its TTL and its MINIMUM
+-- RFC 2308 sections 3 and 5: the SOA of a negative answer, with the lesser of its TTL and its
+-- MINIMUM as TTL
 abbrev pub negative_soa : ZoneContents → List Item
 negative_soa z =
     item authority
     (map (λ (r : ResourceRecord). record r { ttl = min r.ttl (soa_minimum r.rdata) })
     (rrset z z.origin type_soa))
 
--- The records of what was asked for. RFC 8482 4.1: where all types are asked for, one RRset is the
--- answer, in this product that of the lowest type number found.
+-- The records that the question asks for. RFC 8482 4.1: a question for all types gets one RRset,
+-- in this product the one with the lowest type number.
 abbrev pub asked_records : ℕ → List ResourceRecord → List ResourceRecord
 asked_records t rs = if t == qtype_any then of_lowest_type rs else of_type t rs
 
--- a referral: the cut that refers the asker elsewhere, with its NS set (RFC 1034 4.3.2 step 3b)
+-- a referral to the cut, with its NS set (RFC 1034 4.3.2 step 3b)
 abbrev pub referral_to : ZoneContents → DomainName → Outcome
 referral_to z c =
     record {
@@ -102,18 +104,18 @@ abbrev pub negative : ZoneContents → ℕ → Outcome
 negative z rcode =
     record { rcode = rcode; referral = None; answers = []; authorities = negative_soa z }
 
--- an answer of these sets
+-- an answer with these sets
 abbrev pub positive : List Item → Outcome
 positive sets = record { rcode = no_error; referral = None; answers = sets; authorities = [] }
 
--- there are some
+-- the list is not empty
 abbrev pub has_any : {X : Type 0} → List X → Bool
 has_any [] = false
 has_any (x ∷ xs) = true
 
--- RFC 1034 4.3.2 step 3, by the cut at or above a name and the records found for it. The first of
--- five cases that holds: a cut; nothing found; the alias ends here; the set asked for; nothing of
--- the type.
+-- RFC 1034 4.3.2 step 3, by the cut of a name and the records found for the name. The first of
+-- five cases that holds: there is a cut; nothing is found; the name is an alias, at which the
+-- chain ends; it has the records asked for; it has none of them.
 abbrev pub outcome_by : ZoneContents → ℕ → Option DomainName → Option (List ResourceRecord)
     → Outcome
 outcome_by z t (Some c) found = referral_to z c
@@ -123,33 +125,34 @@ outcome_by z t None (Some rs) =
     else if has_any (asked_records t rs) then positive (item answer (asked_records t rs))
     else negative z no_error
 
--- the outcome for the last name sought
+-- the outcome for the name s
 unfoldable pub outcome_at : ZoneContents → ℕ → DomainName → Outcome
 outcome_at z t s = outcome_by z t (cut_of z s) (found z s)
 
--- The outcome: that of the last name sought, with its RCODE (RFC 2308 section 2.1), and the aliases
--- in front of its answer.
+-- The outcome: the RCODE (RFC 2308 section 2.1), authority and answer of the last name sought,
+-- with the aliases in front of the answer.
 unfoldable pub outcome : ZoneContents → DomainName → ℕ → Outcome
 outcome z q t =
     let o = outcome_at z t (last_sought z q t) in
     record o { answers = alias_items z q t ++ o.answers }
 
--- RFC 1035 4.1.1: the server speaks for the zone, unless all that it answers is a referral
+-- RFC 1035 4.1.1: AA is set, unless the reply is only a referral
 abbrev pub is_authoritative : Outcome → Bool
 is_authoritative o = not (is_some o.referral && length o.answers == 0)
 
--- RFC 1035 3.3.9 and 3.3.11, RFC 2782: addresses of these targets are of use to the asker
+-- RFC 1035 3.3.9 and 3.3.11, RFC 2782: the addresses of the record's target are useful to the
+-- client
 abbrev pub has_target_type : ResourceRecord → Bool
 has_target_type r = r.rtype == type_ns || r.rtype == type_mx || r.rtype == type_srv
 
--- the targets of the records in sets
+-- the targets of the records in the sets
 abbrev pub targets_of : List Item → List DomainName
 targets_of items =
     filter_map (λ (r : ResourceRecord). if has_target_type r then target r.rtype r.rdata else None)
     (records_of items)
 
--- RFC 9471 section 2: the targets of a referral's NS set that are at or below the cut, whose
--- addresses are its glue, and those that are not
+-- RFC 9471 section 2: the targets of a referral's NS set at or below the cut, whose addresses are
+-- its glue; and its other targets
 abbrev pub targets_inside : Outcome → List DomainName
 targets_inside o =
     flat_map (λ c. filter (λ m. at_or_below m c) (targets_of o.authorities))
@@ -160,25 +163,25 @@ targets_outside o =
     flat_map (λ c. filter (λ m. not (at_or_below m c)) (targets_of o.authorities))
     (option_to_list o.referral)
 
--- The targets, in order. Of a referral those at or below the cut come first: without their
--- addresses the asker gets no further (RFC 1034 4.3.2 step 3b, RFC 9471 section 3.1).
+-- The targets, in order. In a referral, those at or below the cut come first: without their
+-- addresses the client can't continue (RFC 1034 4.3.2 step 3b, RFC 9471 section 3.1).
 abbrev pub targets : Outcome → List DomainName
 targets o = targets_of o.answers ++ targets_inside o ++ targets_outside o
 
--- the same owner and type stand in a set of the list
+-- a set in the list has this owner and type
 abbrev pub stands : DomainName → ℕ → List Item → Bool
 stands n t items =
     list_any (λ (r : ResourceRecord). same r.owner n && r.rtype == t) (records_of items)
 
--- the addresses of a name that do not stand in the reply yet, A and then AAAA
+-- the address sets of a name that are not in the reply yet, A and then AAAA
 abbrev pub address_set : ZoneContents → List Item → DomainName → ℕ → List Item
 address_set z earlier n t = if stands n t earlier then [] else item additional (rrset z n t)
 
 abbrev pub address_sets : ZoneContents → List Item → DomainName → List Item
 address_sets z earlier n = address_set z earlier n type_a ++ address_set z earlier n type_aaaa
 
--- RFC 1034 4.3.2 step 6: the additional sets of the targets, by exact owner, also below a cut,
--- never by a wildcard
+-- RFC 1034 4.3.2 step 6: the address sets of the targets that are not in the reply yet, by exact
+-- owner, also below a cut, never by a wildcard
 unfoldable pub extra : ZoneContents → List Item → List DomainName → List Item
 extra z earlier [] = []
 extra z earlier (m ∷ ms) =
@@ -195,41 +198,41 @@ items z q t =
     let o = outcome z q t in
     main_items o ++ extra z (main_items o) (targets o)
 
--- The sets that a reply may not leave out: answer, authority, and the glue of a referral (RFC 2181
--- section 9, RFC 9471 section 3.1). All sets begin with them, since the aliases before a referral
--- have no targets.
+-- The sets that a reply must not leave out without TC: answer, authority, and the glue of a
+-- referral (RFC 2181 section 9, RFC 9471 section 3.1). They come first of all sets, since the
+-- aliases before a referral have no targets.
 unfoldable pub required_items : ZoneContents → DomainName → ℕ → List Item
 required_items z q t =
     let o = outcome z q t in
     main_items o ++ extra z (main_items o) (targets_inside o)
 
--- the nodes on the way to a name: that of the origin, and one for each label below it
+-- the number of nodes on the path to a name: the origin's, and one for each label below the origin
 abbrev pub nodes_to : ZoneContents → DomainName → ℕ
 nodes_to z n = 1 + (length n - length z.origin)
 
--- the targets whose addresses a zone may have
+-- the targets at or below the origin, whose addresses the zone may have
 abbrev pub targets_in_zone : ZoneContents → List DomainName → List DomainName
 targets_in_zone z ms = filter (λ m. at_or_below m z.origin) ms
 
--- The most nodes that an answer visits: those on the way to the names of the chain and to the
--- targets at or below the origin.
+-- The most nodes that an answer visits: all nodes on the paths to the names of the chain and to
+-- the targets at or below the origin.
 abbrev pub most_visits : ZoneContents → DomainName → ℕ → ℕ
 most_visits z q t =
     sum (map (nodes_to z) (chain z q t))
     + sum (map (nodes_to z) (targets_in_zone z (targets (outcome z q t))))
 
--- The most names that it looks up: those of the chain, and the targets.
+-- The most names that an answer looks up: the names of the chain, and the targets.
 abbrev pub names_looked_up : ZoneContents → DomainName → ℕ → ℕ
 names_looked_up z q t = length (chain z q t) + length (targets (outcome z q t))
 
--- the most labels that a binary search among the children of a node compares with one asked for: a
--- node has at most 100,000 children, fewer than 2 ^ 17
+-- the most labels that a binary search among a node's children compares: a node has at most
+-- 100,000 children, fewer than 2 ^ 17
 abbrev pub most_of_a_search : ℕ
 most_of_a_search = 17
 
--- The most labels that it compares with labels asked for, where it visits so many nodes: those of a
--- search for each child that it finds, and for each that it does not, which are at most two for a
--- name of the chain and one for a target.
+-- The most label comparisons of an answer that visits `visits` nodes: one search for each child
+-- that is found and for each that is not. At most two are not found for each name of the chain,
+-- and one for each target.
 abbrev pub most_comparisons : ZoneContents → DomainName → ℕ → ℕ → ℕ
 most_comparisons z q t visits =
     most_of_a_search

@@ -1,6 +1,6 @@
--- What a reader learns here: the fifteen faults that keep a zone from being served. Each is a
--- condition of its own over the whole list of records, so one record may give several. Which
--- conditions are faults is this project's choice.
+-- The fifteen faults that keep a zone from being served. Each is a separate condition over the
+-- whole list of records, so one record may cause several. Which conditions are faults is this
+-- project's choice.
 use Rattle.std.specs.Prelude.{◌≡◌, ℕ, Bool, false, ◌&&◌, ◌||◌, not, List, [], ◌∷◌, map, length, nat_lt, ◌==◌}
 use Rattle.std.specs.Option.{option_map_or}
 use Rattle.std.specs.List.{list_any, filter, flat_map}
@@ -24,7 +24,7 @@ is_origin z n = same n z.origin
 abbrev pub is_owner : Check
 is_owner z n = nat_lt 0 (length (at z n))
 
--- how many records of a type a name owns
+-- the number of records of a type that a name owns
 abbrev pub count : ZoneContents → DomainName → ℕ → ℕ
 count z n t = length (filter (λ (r : ResourceRecord). r.rtype == t) (at z n))
 
@@ -32,7 +32,8 @@ count z n t = length (filter (λ (r : ResourceRecord). r.rtype == t) (at z n))
 abbrev pub owns_such : ZoneContents → DomainName → (ℕ → Bool) → Bool
 owns_such z n test = list_any (λ (r : ResourceRecord). test r.rtype) (at z n)
 
--- a record of the name, of such a type, has a target at or below the origin that passes the test
+-- a record of the name, of a type that `type` accepts, has a target at or below the origin that
+-- passes the test
 abbrev pub has_target : ZoneContents → DomainName → (ℕ → Bool) → (DomainName → Bool) → Bool
 has_target z n type test =
     list_any
@@ -40,22 +41,22 @@ has_target z n type test =
     && option_map_or (λ m. at_or_below m z.origin && test m) (target r.rtype r.rdata) false)
     (at z n)
 
--- RFC 1034 4.2: what stands at or below a cut is not the zone's own
+-- RFC 1034 4.2: the name is at or below a cut, so its records are not the zone's own
 abbrev pub at_or_below_cut : Check
 at_or_below_cut z n = list_any (is_cut z) (suffixes n)
 
--- the same below a cut
+-- the name is below a cut
 abbrev pub below_cut : Check
 below_cut z n = list_any (is_cut z) (without_first (suffixes n))
 
--- the name owns an address
+-- the name owns an address; the types of addresses
 abbrev pub has_address : Check
 has_address z n = owns z n type_a || owns z n type_aaaa
 
 abbrev pub is_address_type : ℕ → Bool
 is_address_type t = t == type_a || t == type_aaaa
 
--- RFC 1035 5.2: a zone has one SOA, at its origin
+-- RFC 1035 5.2: a zone has exactly one SOA, at its origin
 abbrev pub no_soa : Check
 no_soa z n = is_origin z n && not (owns z n type_soa)
 
@@ -69,7 +70,7 @@ soa_elsewhere z n = not (is_origin z n) && owns z n type_soa
 abbrev pub no_ns : Check
 no_ns z n = is_origin z n && not (owns z n type_ns)
 
--- RFC 1034 4.2: the zone holds names at or below its origin
+-- RFC 1034 4.2: all names of a zone are at or below its origin
 abbrev pub outside : Check
 outside z n = is_owner z n && not (at_or_below n z.origin)
 
@@ -77,7 +78,7 @@ outside z n = is_owner z n && not (at_or_below n z.origin)
 abbrev pub cname_and_other : Check
 cname_and_other z n = owns z n type_cname && owns_such z n (λ t. not (t == type_cname))
 
--- RFC 2181 10.1: and one CNAME alone
+-- RFC 2181 10.1: a name has at most one CNAME
 abbrev pub many_cname : Check
 many_cname z n = nat_lt 1 (count z n type_cname)
 
@@ -87,12 +88,13 @@ ttls_differ z n =
     list_any (λ (r : ResourceRecord). list_any (λ (s : ResourceRecord). r.rtype == s.rtype
     && not (r.ttl == s.ttl)) (at z n)) (at z n)
 
--- RFC 2181 10.3: the target of NS is no alias
+-- RFC 2181 10.3: the target of NS is not an alias
 abbrev pub ns_target_alias : Check
 ns_target_alias z n = has_target z n (λ t. t == type_ns) (λ m. owns z m type_cname)
 
--- RFC 1034 4.2.1: a server of the zone has an address in it, and a server below the cut that it
--- serves has glue. A server below another cut has its address there.
+-- RFC 1034 4.2.1: m, a name server of n, lacks an address that the zone must have: m is not at or
+-- below a cut, or n is a cut and m, at or below n, needs glue. A server at or below another cut
+-- has its address there.
 abbrev pub lacks_address : ZoneContents → DomainName → DomainName → Bool
 lacks_address z n m =
     not (has_address z m) && (not (at_or_below_cut z m) || is_cut z n && at_or_below m n)
@@ -100,17 +102,18 @@ lacks_address z n m =
 abbrev pub ns_target_lost : Check
 ns_target_lost z n = has_target z n (λ t. t == type_ns) (lacks_address z n)
 
--- RFC 2181 10.3, RFC 2782: the target of MX and SRV is no alias
+-- RFC 2181 10.3, RFC 2782: the targets of MX and SRV are not aliases
 abbrev pub mx_target_alias : Check
 mx_target_alias z n = has_target z n (λ t. t == type_mx || t == type_srv) (λ m. owns z m type_cname)
 
--- RFC 1034 4.2.1: at a cut stand its NS records and addresses, and below it only glue
+-- RFC 1034 4.2.1: a cut owns only NS records and addresses, and a name below it only addresses
+-- (glue)
 abbrev pub data_at_cut : Check
 data_at_cut z n =
     is_cut z n && owns_such z n (λ t. not (t == type_ns || is_address_type t))
     || below_cut z n && owns_such z n (λ t. not (is_address_type t))
 
--- RFC 4592 4.2: NS at a wildcard has no settled meaning
+-- RFC 4592 4.2: NS records at a wildcard have no defined meaning
 abbrev pub first_is_asterisk : DomainName → Bool
 first_is_asterisk [] = false
 first_is_asterisk (l ∷ n) = octets_equal l asterisk
@@ -118,22 +121,22 @@ first_is_asterisk (l ∷ n) = octets_equal l asterisk
 abbrev pub wildcard_ns : Check
 wildcard_ns z n = first_is_asterisk n && owns z n type_ns
 
--- limits of this project: how many records an RRset has at most, and how many RRsets a name
+-- limits of this project: the most records of an RRset, and the most RRsets of a name
 abbrev pub most_of_a_set : ℕ
 most_of_a_set = 64
 
 abbrev pub most_sets : ℕ
 most_sets = 32
 
--- an RRset has more records
+-- an RRset of the name has more than `most_of_a_set` records
 abbrev pub large_set : Check
 large_set z n = list_any (λ (r : ResourceRecord). nat_lt most_of_a_set (count z n r.rtype)) (at z n)
 
--- the name has more RRsets
+-- the name has more than `most_sets` RRsets
 abbrev pub many_sets : Check
 many_sets z n = nat_lt most_sets (length (types_of (at z n)))
 
--- the checks by their codes, from 1 on
+-- the checks with their codes, from 1
 abbrev pub checks : List (ℕ × Check)
 checks =
     (1, no_soa) ∷ (2, many_soa) ∷ (3, soa_elsewhere) ∷ (4, no_ns) ∷ (5, outside)
@@ -141,11 +144,11 @@ checks =
     ∷ (10, ns_target_lost) ∷ (11, mx_target_alias) ∷ (12, data_at_cut) ∷ (13, wildcard_ns)
     ∷ (14, large_set) ∷ (15, many_sets) ∷ []
 
--- the name fails the check of this code
+-- the name fails the check with this code
 abbrev pub fails : ZoneContents → DomainName → ℕ → Bool
 fails z n code = list_any (λ c. c.0 == code && c.1 z n) checks
 
--- a name that a fault is reported of, in lower case, and the code of a check
+-- a fault: the owner it is reported for, in lower case, and the code of the failed check
 pub record Fault : Type 0 where
   pub owner : DomainName
   pub code : ℕ
@@ -160,11 +163,11 @@ checked_names z =
     sort_by name_order
     (distinct same (folded z.origin ∷ map (λ (r : ResourceRecord). folded r.owner) z.records))
 
--- each fault once, by the order of owners, then by code
+-- all faults, each once, by owner in canonical order and then by code
 unfoldable pub faults : ZoneContents → List Fault
 faults z = flat_map (faults_at z) (checked_names z)
 
--- the order of faults: by owners, then by codes
+-- the order of faults: by owner, then by code
 abbrev pub fault_order : Fault → Fault → Ordering
 fault_order f g = ordering_then (name_order f.owner g.owner) (nat_cmp f.code g.code)
 

@@ -1,26 +1,26 @@
--- What a reader learns here: which arguments ask the checker and the servers for what. All of it is
--- this project's choice.
+-- The arguments of the checker and of the servers, and what they ask for. All of it is this
+-- project's choice.
 use Rattle.std.specs.Prelude.{⊤, ◌≡◌, ℕ, ◌≤◌, ◌⊎◌, Bool, false, not, List, [], ◌∷◌, ◌++◌, reverse, ◌==◌, if◌then◌else◌, IsTrue, codes, decimal}
 use Rattle.dns_spec.specs.Names.{Octets}
 use Rattle.dns_spec.specs.Report.{Options}
 
--- the word begins with `-`
+-- the argument begins with `-`
 abbrev pub is_dashed : Octets → Bool
 is_dashed [] = false
 is_dashed (o ∷ word) = o == 45
 
--- the zone that a program is asked for: ORIGIN and FILE, not read yet
+-- the zone that a program is given: the arguments ORIGIN and FILE, not read yet
 pub record ZoneWords : Type 0 where
   pub origin : Octets
   pub file : Octets
 
--- ORIGIN and FILE end the words, and neither begins with `-`
+-- ORIGIN and FILE are the last arguments, and neither begins with `-`
 pub record EndWords (words front : List Octets) (zone : ZoneWords) : Type 0 where
   pub words_are : words ≡ front ++ zone.origin ∷ zone.file ∷ []
   pub origin : IsTrue (not (is_dashed zone.origin))
   pub file : IsTrue (not (is_dashed zone.file))
 
--- the words of options, in either order
+-- the arguments for options, in either order
 abbrev pub option_words : Options → List Octets
 option_words options =
     (if options.is_quiet then codes "--quiet" ∷ [] else [])
@@ -36,18 +36,18 @@ pub record AskToCheck (words : List Octets) (options : Options) (zone : ZoneWord
   pub options_are : AreOptions options front
   pub zone_is : EndWords words front zone
 
--- RFC 1035 4.2: UDP and TCP, by which a reply is limited
+-- RFC 1035 4.2: UDP and TCP, which limit the size of a reply
 pub data Transport : Type 0 where
   udp : Transport
   tcp : Transport
 
--- How the server is asked to serve: each line of its input is answered within the limit of a
--- transport, or so many turns are taken over a transport at an address, which is not read yet.
+-- How the server is to serve: reply to each line of its input within the limit of a transport, or
+-- take a number of turns over a transport at an address, which is not read yet.
 pub data ServiceAsked : Type 0 where
   by_lines : Transport → ServiceAsked
   by_turns : Transport → Octets → ℕ → ServiceAsked
 
--- the words for it: `once`, `once --tcp`, `udp ADDR TURNS` or `tcp ADDR TURNS`
+-- the arguments for it: `once`, `once --tcp`, `udp ADDR TURNS` or `tcp ADDR TURNS`
 abbrev pub service_words : ServiceAsked → List Octets
 service_words (by_lines udp) = codes "once" ∷ []
 service_words (by_lines tcp) = codes "once" ∷ codes "--tcp" ∷ []
@@ -65,7 +65,7 @@ pub record AskToServe (words : List Octets) (service : ServiceAsked) (zone : Zon
   pub turns : HasTurns service
   pub zone_is : EndWords words (service_words service) zone
 
--- what the server of a given socket is asked for: so many turns over a transport
+-- what a server that is given its socket is asked for: a transport and a number of turns
 pub record SocketAsked : Type 0 where
   pub transport : Transport
   pub turns : ℕ

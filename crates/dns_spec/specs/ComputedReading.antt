@@ -1,6 +1,5 @@
--- What a reader learns here: how the name at a place of a message, and the message that octets
--- spell, are computed. A reader may skip this: Reading says what they are, and laws say that these
--- are the same.
+-- How the name at a place of a message, and the message that octets spell, are computed. This file
+-- may be skipped: Reading defines both, and laws state that the results are the same.
 use Rattle.std.specs.Prelude.{ℕ, zero, suc, ◌+◌, ◌-◌, ◌&&◌, true, false, List, [], ◌∷◌, ◌++◌, length, take, drop, nat_lt, nat_le, ◌==◌, slice_get, if◌then◌else◌}
 use Rattle.std.specs.Prelude.{Option, None, Some}
 use Rattle.std.specs.Option.{option_map, option_and_then}
@@ -8,8 +7,8 @@ use Rattle.dns_spec.specs.Names.{Octets, DomainName, wire, is_name, with_label}
 use Rattle.dns_spec.specs.Data.{width, Piece, fixed, domain, string, strings, anything, are_strings, number_of}
 use Rattle.dns_spec.specs.Reading.{pointer_place, data_pieces, MessageQuestion, MessageRecord, DnsMessage}
 
--- RFC 1035 4.1.4: how a run of labels goes on at a place: it ends, a label of k octets follows, a
--- pointer to place p follows, or nothing lawful does.
+-- RFC 1035 4.1.4: what is at a place in a run of labels: its end, a label of k octets, a pointer
+-- to place p, or nothing that is allowed.
 pub data RunStep : Type 0 where
   run_end : RunStep
   run_label : ℕ → RunStep
@@ -32,8 +31,8 @@ step_of b i (Some o) =
 abbrev pub SpelledName : Type 0
 SpelledName = DomainName × ℕ
 
--- A pointer is lawful to a place after the header and before its run. `earlier` has what the runs
--- begun before that spell.
+-- A pointer may give a place after the header and before its run. `earlier` gives what the runs
+-- that began before this one spell.
 abbrev pub jump : (ℕ → Option SpelledName) → ℕ → ℕ → ℕ → Option SpelledName
 jump earlier s i p =
     elim (nat_le 12 p && nat_lt p s) [
@@ -41,8 +40,8 @@ jump earlier s i p =
       | false ↦ None
     ]
 
--- What a run begun at place s spells from place i on. It has no more steps than there are octets,
--- since each takes one or more.
+-- What a run that began at place s spells from place i on. The number of octets bounds its steps,
+-- since each step takes at least one.
 unfoldable pub run : (ℕ → Option SpelledName) → Octets → ℕ → ℕ → ℕ → Option SpelledName
 run earlier b s zero i = None
 run earlier b s (suc r) i =
@@ -54,7 +53,7 @@ run earlier b s (suc r) i =
       | unlawful ↦ None
     ]
 
--- what the runs begun before place k spell
+-- what the runs that begin before place k spell
 unfoldable pub runs_before : Octets → ℕ → ℕ → Option SpelledName
 runs_before b zero p = None
 runs_before b (suc k) p = run (runs_before b k) b p (length b) p
@@ -66,7 +65,7 @@ name_if_short (n, e) = if is_name n then Some (n, e) else None
 unfoldable pub name_at : Octets → ℕ → Option SpelledName
 name_at b i = option_and_then name_if_short (runs_before b (suc i) i)
 
--- RFC 1035 2.3.2: the number that k octets from place i spell
+-- RFC 1035 2.3.2: the number that the k octets from place i encode
 abbrev pub value_at : Octets → ℕ → ℕ → ℕ
 value_at b i k = number_of (take k (drop i b))
 
@@ -75,8 +74,8 @@ abbrev pub octets_upto : Octets → ℕ → ℕ → Option (Octets × ℕ)
 octets_upto b i e =
     if nat_le i e && nat_le e (length b) then Some (take (e - i) (drop i b), e) else None
 
--- one piece at place i of data that ends before place e: its octets, not compressed, and the place
--- after it
+-- a piece at place i of data that ends before place e: its octets without compression, and the
+-- place after it
 abbrev pub strings_only : Octets × ℕ → Option (Octets × ℕ)
 strings_only (o, e) = if nat_lt 0 (length o) && are_strings 0 o then Some (o, e) else None
 
@@ -97,7 +96,7 @@ data_at b t c i e =
     if nat_le i e && nat_le e (length b)
     then pieces_at b (data_pieces t c) i e else None
 
--- the question, and the record, at a place, and the place after it
+-- the question and the record at a place, each with the place after it
 abbrev pub question_after : Octets → SpelledName → Option (MessageQuestion × ℕ)
 question_after b (n, j) =
     if nat_le (j + 4) (length b)
@@ -129,13 +128,13 @@ record_after b (n, j) =
 abbrev pub message_record_at : Octets → ℕ → Option (MessageRecord × ℕ)
 message_record_at b i = option_and_then (record_after b) (name_at b i)
 
--- so many questions or records one after the other from a place on
+-- k questions or records in order, from a place on
 unfoldable pub several : {X : Type 0} → (ℕ → Option (X × ℕ)) → ℕ → ℕ → Option (List X × ℕ)
 several read zero i = Some ([], i)
 several read (suc k) i =
     option_and_then (λ r. option_map (λ s. (r.0 ∷ s.0, s.1)) (several read k r.1)) (read i)
 
--- RFC 1035 4.1: the sections after a place, one after the other, up to the end
+-- RFC 1035 4.1: the sections after a place, in order, up to the end
 abbrev pub last_section : Octets → List MessageQuestion → List MessageRecord → List MessageRecord
     → List MessageRecord × ℕ → Option DnsMessage
 last_section b qs ans ns r =

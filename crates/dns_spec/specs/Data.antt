@@ -1,5 +1,5 @@
--- What a reader learns here: of which pieces the data of each type is made, and with that which
--- octets are data of a type, how they read in lower case, and which names stand in them.
+-- Record data: its pieces by type, which octets are valid data of a type, their lower-case form,
+-- and the names in them.
 use Rattle.std.specs.Prelude.{ℕ, ◌+◌, ◌-◌, ◌*◌, ◌^◌, Bool, true, false, ◌&&◌, not, List, [], ◌∷◌, map, length, take, drop, nat_le, ◌==◌, IsTrue, if◌then◌else◌, zero, suc, codes}
 use Rattle.std.specs.Prelude.{Option, None, Some}
 use Rattle.std.specs.Option.{option_map, unwrap_or, is_some}
@@ -37,15 +37,15 @@ type_aaaa = 28
 abbrev pub type_srv : ℕ
 type_srv = 33
 
--- RFC 1035 3.2.3: a QTYPE that asks for all types
+-- RFC 1035 3.2.3: the QTYPE that asks for all types
 abbrev pub qtype_any : ℕ
 qtype_any = 255
 
--- RFC 1035 3.2.4: the class of all that is served
+-- RFC 1035 3.2.4: IN, the only class that is served
 abbrev pub class_in : ℕ
 class_in = 1
 
--- A piece of so many octets: m numbers of k octets each, an IPv4 address, or an IPv6 address.
+-- A piece of fixed length: m numbers of k octets each, an IPv4 address, or an IPv6 address.
 pub data Fixed : Type 0 where
   numbers : ℕ → ℕ → Fixed
   ipv4 : Fixed
@@ -56,8 +56,8 @@ width (numbers m k) = m * k
 width ipv4 = 4
 width ipv6 = 16
 
--- A piece of data: numbers or an address, a domain name, a character-string, one character-string
--- or more, or any octets.
+-- A piece of data: numbers or an address, a domain name, a character-string, one or more
+-- character-strings up to the end of the data, or any octets up to its end.
 pub data Piece : Type 0 where
   fixed : Fixed → Piece
   domain : Piece
@@ -65,23 +65,23 @@ pub data Piece : Type 0 where
   strings : Piece
   anything : Piece
 
--- A type that has a name: its number and name, of which pieces its data is made, and whether names
--- in it take part in compression.
+-- A type that has a mnemonic: its number and mnemonic, the pieces of its data, and whether names
+-- in its data are compressed.
 pub record TypeRow : Type 0 where
   pub number : ℕ
   pub mnemonic : Octets
   pub pieces : List Piece
   pub compresses : Bool
 
--- the row of a type whose names take part in compression, and that of any other type
+-- the row of a type whose names are compressed, and of a type whose names are not
 abbrev pub compressed_row : ℕ → Octets → List Piece → TypeRow
 compressed_row t word ps = record { number = t; mnemonic = word; pieces = ps; compresses = true }
 
 abbrev pub plain_row : ℕ → Octets → List Piece → TypeRow
 plain_row t word ps = record { number = t; mnemonic = word; pieces = ps; compresses = false }
 
--- RFC 1035 3.3 and 3.4, RFC 3596 2.2, RFC 2782: the data of each type. RFC 3597 section 4: only
--- names in data of the types of RFC 1035 are compressed, and RFC 2782 forbids it for the target of
+-- RFC 1035 3.3 and 3.4, RFC 3596 2.2, RFC 2782: the data of each type. RFC 3597 section 4: names
+-- are compressed only in data of the types of RFC 1035; RFC 2782 forbids compressing the target of
 -- SRV.
 abbrev pub type_table : List TypeRow
 type_table =
@@ -97,30 +97,30 @@ type_table =
     ∷ plain_row type_srv (codes "SRV") (fixed (numbers 3 2) ∷ domain ∷ [])
     ∷ []
 
--- RFC 3597 section 3: data of every other type is octets
+-- RFC 3597 section 3: data of any other type is a run of octets
 abbrev pub other_type : TypeRow
 other_type = plain_row 0 [] (anything ∷ [])
 
--- the row of a type in the table, where it has one; else that of other types
+-- the row of a type in the table, if it has one; and the same, or else the row for other types
 abbrev pub row_of : ℕ → Option TypeRow
 row_of t = find (λ (row : TypeRow). row.number == t) type_table
 
 abbrev pub type_row : ℕ → TypeRow
 type_row t = unwrap_or (row_of t) other_type
 
--- the pieces of its data, and whether names in it take part in compression
+-- the pieces of a type's data, and whether names in it are compressed
 abbrev pub pieces_of : ℕ → List Piece
 pieces_of t = (type_row t).pieces
 
 abbrev pub compresses : ℕ → Bool
 compresses t = (type_row t).compresses
 
--- Octets as they stand in the data, or a domain name.
+-- A part of data: a run of octets as they are, or a domain name.
 pub data Part : Type 0 where
   octets : Octets → Part
   name : DomainName → Part
 
--- the octets of a part, and those of parts one after the other
+-- the octets of a part, and of a list of parts, in order
 abbrev pub part_octets : Part → Octets
 part_octets (octets o) = o
 part_octets (name n) = wire n
@@ -128,28 +128,28 @@ part_octets (name n) = wire n
 abbrev pub joined : List Part → Octets
 joined = flat_map part_octets
 
--- RFC 1035 3.3: character-strings one after the other, each after its length in one octet; k octets
--- of the string at hand are still to come
+-- RFC 1035 3.3: character-strings one after another, each after its length in one octet; k octets
+-- of the current string are still to come
 abbrev pub are_strings : ℕ → Octets → Bool
 are_strings zero [] = true
 are_strings (suc k) [] = false
 are_strings zero (o ∷ os) = are_strings o os
 are_strings (suc k) (o ∷ os) = are_strings k os
 
--- the first k octets, and those after them
+-- the first k octets, and the octets after them
 abbrev pub octets_front : ℕ → Octets → Option (Part × Octets)
 octets_front k os = if nat_le k (length os) then Some (octets (take k os), drop k os) else None
 
--- the string that octets begin with, after its length
+-- the character-string that begins the octets, with its length octet, and the octets after it
 abbrev pub string_front : Octets → Option (Part × Octets)
 string_front [] = None
 string_front (k ∷ os) = octets_front (suc k) (k ∷ os)
 
--- all octets, where they are one string or more
+-- all the octets, if they are one or more character-strings
 abbrev pub strings_front : Octets → Option (Part × Octets)
 strings_front os = if not (length os == 0) && are_strings 0 os then Some (octets os, []) else None
 
--- the piece that the octets begin with, and the octets after it
+-- the piece that begins the octets, and the octets after it
 abbrev pub piece_front : Piece → Octets → Option (Part × Octets)
 piece_front (fixed f) os = octets_front (width f) os
 piece_front domain os = option_map (λ r. (name r.0, r.1)) (name_of os)
@@ -157,22 +157,23 @@ piece_front string os = string_front os
 piece_front strings os = strings_front os
 piece_front anything os = Some (octets os, [])
 
--- the octets cut into these pieces, where they are just such
+-- the octets split into one part for each piece, if the pieces take up all of them
 unfoldable pub cut : List Piece → Octets → Option (List Part)
 cut [] [] = Some []
 cut [] (o ∷ os) = None
 cut (p ∷ ps) os =
     elim (piece_front p os) [ None ↦ None | Some r ↦ option_map (λ xs. r.0 ∷ xs) (cut ps r.1) ]
 
--- The octets are data of the type, names in any case. RFC 1035 3.2.1: data has at most 65,535
--- octets.
+-- The octets are valid data of the type; names may be in any case. RFC 1035 3.2.1: data has at
+-- most 65,535 octets.
 abbrev pub valid : ℕ → Octets → Bool
 valid t d = nat_le (length d) 65535 && is_some (cut (pieces_of t) d)
 
 abbrev pub Valid : ℕ → Octets → Type 0
 Valid t d = IsTrue (valid t d)
 
--- the runs of octets and the names of data, in order; joined they are the data
+-- the parts of data in order, runs of octets and names; joined they are the data. Invalid data is
+-- one run.
 abbrev pub parts : ℕ → Octets → List Part
 parts t d = unwrap_or (cut (pieces_of t) d) (octets d ∷ [])
 
@@ -184,7 +185,8 @@ part_folded (name n) = name (folded n)
 abbrev pub lower_case : ℕ → Octets → Octets
 lower_case t d = joined (map part_folded (parts t d))
 
--- the runs and names that a writer sees: only names that take part in compression are names to it
+-- the parts that a writer of messages sees: one run of octets, unless names in the data are
+-- compressed
 abbrev pub laid_parts : ℕ → Octets → List Part
 laid_parts t d = if compresses t then parts t d else octets d ∷ []
 
@@ -197,13 +199,13 @@ first_name (name n ∷ ps) = Some n
 abbrev pub target : ℕ → Octets → Option DomainName
 target t d = first_name (parts t d)
 
--- RFC 1035 2.3.2: the number that octets spell, the most significant first
+-- RFC 1035 2.3.2: the number that the octets encode, most significant octet first
 abbrev pub number_of : Octets → ℕ
 number_of [] = 0
 number_of (o ∷ os) = o * 256 ^ length os + number_of os
 
--- RFC 1035 3.3.13: five numbers of 32 bits end the data of an SOA, SERIAL, REFRESH, RETRY, EXPIRE
--- and MINIMUM; this is number k of them, counted from 0
+-- RFC 1035 3.3.13: the data of an SOA ends with five numbers of 32 bits, SERIAL, REFRESH, RETRY,
+-- EXPIRE and MINIMUM; this is number k of them, counted from 0
 abbrev pub soa_number : ℕ → Octets → ℕ
 soa_number k d = number_of (take 4 (drop (length d - 4 * (5 - k)) d))
 

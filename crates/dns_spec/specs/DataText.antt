@@ -1,5 +1,5 @@
--- What a reader learns here: which data the words of a record spell, type by type, and in the form
--- that serves any type.
+-- Data in zone files: which data the words of a record spell, in the form of its type and in the
+-- generic form for any type.
 use Rattle.std.specs.Prelude.{◌≡◌, ℕ, ◌+◌, ◌*◌, ◌%◌, ◌^◌, ◌<◌, ◌≤◌, ◌⊎◌, max, Bool, true, false, ◌&&◌, ◌||◌, not, List, [], ◌∷◌, ◌++◌, length, replicate, nat_lt, ◌==◌, IsTrue, if◌then◌else◌, codes, decimal, MatchOption}
 use Rattle.std.specs.Prelude.{Option, None, Some}
 use Rattle.std.specs.Bool.{MatchBool}
@@ -12,21 +12,20 @@ use Rattle.dns_spec.specs.NameText.{is_printable, SpellsOctet, SpellsName}
 use Rattle.dns_spec.specs.Data.{numbers, ipv4, ipv6, Piece, fixed, domain, string, strings, anything, TypeRow, row_of, Valid, lower_case}
 use Rattle.dns_spec.specs.AddressText.{SaysIpv4, SaysIpv6}
 
--- RFC 1035 5.1: a word as it is spelled, without the quotation marks where it stands in them; its
--- escapes are not undone
+-- RFC 1035 5.1: a word as it is spelled, with its escapes but without its quotation marks
 pub record Word : Type 0 where
   pub raw : Octets
   pub is_quoted : Bool
 
--- what stands in a word by itself: it neither ends the word nor escapes another octet
+-- an octet that represents itself in a word: it neither ends the word nor begins an escape
 abbrev pub is_word_octet : ℕ → Bool
 is_word_octet o = is_ascii_graphic o && not (list_any (λ s. o == s) (codes "\"();\\"))
 
--- what stands in a quoted string by itself
+-- an octet that represents itself in a quoted string
 abbrev pub is_string_octet : ℕ → Bool
 is_string_octet o = (is_printable o || o == 9) && not (list_any (λ s. o == s) (codes "\"\\"))
 
--- A number of so many octets in decimal, without zeros in front (in this product).
+-- A number of k octets in decimal, without leading zeros (in this product).
 abbrev pub SaysNumber : ℕ → Octets → Octets → Type 0
 SaysNumber k text d = (n : ℕ) × (n < 256 ^ k) × (text ≡ decimal n) × (d ≡ bytes_high_first k n)
 
@@ -34,7 +33,7 @@ SaysNumber k text d = (n : ℕ) × (n < 256 ^ k) × (text ≡ decimal n) × (d �
 abbrev pub SaysName : DomainName → Octets → Octets → Type 0
 SaysName origin text d = (n : DomainName) × SpellsName origin text n × (d ≡ wire n)
 
--- RFC 1035 5.1: an octet of a string is spelled as in a label, and a dot by itself too
+-- RFC 1035 5.1: an octet of a string is spelled as in a label; a dot may also represent itself
 abbrev pub SpellsStringOctet : Octets → ℕ → Type 0
 SpellsStringOctet text x = SpellsOctet text x ⊎ ((text ≡ codes ".") × (x ≡ 46))
 
@@ -45,11 +44,11 @@ SpellsString text (x ∷ s) =
     (first : Octets) × (others : Octets) × (text ≡ first ++ others)
     × SpellsStringOctet first x × SpellsString others s
 
--- RFC 1035 3.3: a character-string has at most 255 octets, and stands after its length
+-- RFC 1035 3.3: a character-string has at most 255 octets, and follows its length octet
 abbrev pub SaysString : Octets → Octets → Type 0
 SaysString text d = (s : Octets) × (length s ≤ 255) × SpellsString text s × (d ≡ length s ∷ s)
 
--- What a word of a record's data is: a number of so many octets, an address, a domain name, or a
+-- The form of a word of a record's data: a number of k octets, an address, a domain name, or a
 -- character-string.
 pub data WordForm : Type 0 where
   number_word : ℕ → WordForm
@@ -58,7 +57,7 @@ pub data WordForm : Type 0 where
   name_word : WordForm
   string_word : WordForm
 
--- the text spells data of the form, a name relative to the origin
+-- the text spells data of the form; a name is relative to the origin
 abbrev pub SaysForm : WordForm → DomainName → Octets → Octets → Type 0
 SaysForm (number_word k) origin text d = SaysNumber k text d
 SaysForm ipv4_word origin text d = SaysIpv4 text d
@@ -66,7 +65,7 @@ SaysForm ipv6_word origin text d = SaysIpv6 text d
 SaysForm name_word origin text d = SaysName origin text d
 SaysForm string_word origin text d = SaysString text d
 
--- only a string may stand in quotation marks
+-- only a string may be in quotation marks
 abbrev pub may_be_quoted : WordForm → Bool
 may_be_quoted (number_word k) = false
 may_be_quoted ipv4_word = false
@@ -74,12 +73,12 @@ may_be_quoted ipv6_word = false
 may_be_quoted name_word = false
 may_be_quoted string_word = true
 
--- the word spells data of the form
+-- the word spells data of the form, and is quoted only if the form allows it
 pub record SaysWord (form : WordForm) (origin : DomainName) (w : Word) (d : Octets) : Type 0 where
   pub quotes : IsTrue (may_be_quoted form || not w.is_quoted)
   pub said : SaysForm form origin w.raw d
 
--- the words spell the data one after the other, as many words as forms
+-- the words spell the data in order, one word for each form
 abbrev pub SaysForms : List WordForm → DomainName → List Word → Octets → Type 0
 SaysForms [] origin [] d = d ≡ []
 SaysForms [] origin (w ∷ ws) d = ⊥
@@ -88,8 +87,8 @@ SaysForms (f ∷ fs) origin (w ∷ ws) d =
     (front : Octets) × (back : Octets) × (d ≡ front ++ back)
     × SaysWord f origin w front × SaysForms fs origin ws back
 
--- The words of a piece of data, where the record has k words of data in all. RFC 1035 3.3.14:
--- strings, which stand alone in TXT, are as many as there are words, and one at least.
+-- The forms of the words of a piece, in a record with k words of data in all. RFC 1035 3.3.14: in
+-- TXT, which has no other piece, every word is a string, and there is at least one.
 abbrev pub forms_in : ℕ → Piece → List WordForm
 forms_in k (fixed (numbers m octets)) = replicate m (number_word octets)
 forms_in k (fixed ipv4) = ipv4_word ∷ []
@@ -99,15 +98,15 @@ forms_in k string = string_word ∷ []
 forms_in k strings = replicate (max 1 k) string_word
 forms_in k anything = []
 
--- the forms of k words of a type with a mnemonic
+-- the forms of the k words of data of a type that has a mnemonic
 abbrev pub forms_of : ℕ → ℕ → Option (List WordForm)
 forms_of t k = option_map (λ (row : TypeRow). flat_map (forms_in k) row.pieces) (row_of t)
 
--- the words spell data in the form of its type
+-- the words spell data in its type's own form
 abbrev pub SaysTyped : ℕ → DomainName → List Word → Octets → Type 0
 SaysTyped t origin ws d = MatchOption (forms_of t (length ws)) ⊥ (λ fs. SaysForms fs origin ws d)
 
--- the octets of hex digits of either case, two digits an octet
+-- the octets that hex digits of either case spell, two digits per octet
 unfoldable pub hex_octets : Octets → Option Octets
 hex_octets [] = Some []
 hex_octets (h ∷ []) = None
@@ -116,17 +115,17 @@ hex_octets (h ∷ l ∷ text) =
     then option_map (λ d. (16 * digit_value h + digit_value l) ∷ d) (hex_octets text)
     else None
 
--- an unquoted word of an even number of octets, two or more
+-- an unquoted word of an even number of octets, at least two
 abbrev pub is_hex_word : Word → Bool
 is_hex_word w = not w.is_quoted && nat_lt 0 (length w.raw) && length w.raw % 2 == 0
 
--- such words spell octets, two digits each
+-- such words spell the octets, two hex digits per octet
 abbrev pub SaysHex : List Word → Octets → Type 0
 SaysHex ws d =
     IsTrue (list_all is_hex_word ws) × (hex_octets (flat_map (λ (w : Word). w.raw) ws) ≡ Some d)
 
--- RFC 3597 section 5: after `\#` come the length of the data, without zeros in front (in this
--- product), and its octets
+-- RFC 3597 section 5: after `\#`, the length of the data, without leading zeros (in this product),
+-- and then its octets in hex
 abbrev pub SaysUnknown : List Word → Octets → Type 0
 SaysUnknown [] d = ⊥
 SaysUnknown (w ∷ ws) d = IsTrue (not w.is_quoted) × (w.raw ≡ decimal (length d)) × SaysHex ws d
@@ -135,15 +134,15 @@ SaysUnknown (w ∷ ws) d = IsTrue (not w.is_quoted) × (w.raw ≡ decimal (lengt
 abbrev pub is_unknown_mark : Word → Bool
 is_unknown_mark w = not w.is_quoted && octets_equal w.raw (92 ∷ codes "#")
 
--- RFC 3597 section 5: where the first word is the unquoted `\#`, the words are that form, for every
--- type
+-- RFC 3597 section 5: if the first word is the unquoted `\#`, the words are in the generic form,
+-- whatever the type
 abbrev pub SaysAsSpelled : ℕ → DomainName → List Word → Octets → Type 0
 SaysAsSpelled t origin [] d = SaysTyped t origin [] d
 SaysAsSpelled t origin (w ∷ ws) d =
     MatchBool (is_unknown_mark w) (SaysUnknown ws d) (SaysTyped t origin (w ∷ ws) d)
 
--- The words spell, relative to the origin, data of the type; d is that data with its names in lower
--- case.
+-- The words spell valid data of the type, with names relative to the origin; d is that data with
+-- its names in lower case.
 pub record Says (t : ℕ) (ws : List Word) (origin : DomainName) (d : Octets) : Type 0 where
   pub as_spelled : Octets
   pub said : SaysAsSpelled t origin ws as_spelled

@@ -1,4 +1,4 @@
--- What a reader learns here: the faults of a zone file, and the code by which each is reported.
+-- The faults of a zone file, and the code of each.
 use Rattle.std.specs.Prelude.{ℕ}
 
 -- Why a zone file gives no records.
@@ -7,27 +7,28 @@ pub data FileFault : Type 0 where
   bad_octet : FileFault
   -- a backslash that begins no escape
   bad_escape : FileFault
-  -- a quoted string that is not ended on its line
+  -- a quoted string that does not end on its line
   unended_string : FileFault
-  -- a parenthesis in a parenthesis, a close one without an open one, or the end of the text inside
+  -- a nested parenthesis, a closing one without an opening one, or one still open at the end of
+  -- the text
   bad_parenthesis : FileFault
   -- a directive other than `$ORIGIN` and `$TTL`
   unknown_directive : FileFault
-  -- the words of a directive
+  -- invalid arguments of a directive
   directive_words : FileFault
-  -- an owner that is no name
+  -- an invalid owner
   bad_owner : FileFault
-  -- no owner is stated, and no record before has one
+  -- a record without an owner, and no earlier record has one
   no_owner : FileFault
-  -- a TTL that is no number up to 2147483647
+  -- a TTL that is not a number up to 2147483647
   bad_ttl : FileFault
   -- a class other than IN
   other_class : FileFault
-  -- no type, or a type that no zone has
+  -- a missing type, or a type that no zone contains
   bad_type : FileFault
-  -- no TTL is stated, and none was before
+  -- a record without a TTL, and none is in force
   no_ttl : FileFault
-  -- data that is not of the type
+  -- data that is invalid for its type
   bad_data : FileFault
   -- more than 100,000 records
   too_many_records : FileFault
@@ -35,10 +36,10 @@ pub data FileFault : Type 0 where
   too_long : FileFault
   -- the file can't be read
   unreadable : FileFault
-  -- no memory was found
+  -- allocation failed
   no_memory : FileFault
 
--- The number of a fault's code: 7 of `R07`.
+-- The number in a fault's code: 7 for `R07`.
 abbrev pub fault_code : FileFault → ℕ
 fault_code bad_octet = 1
 fault_code bad_escape = 2

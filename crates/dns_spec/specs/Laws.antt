@@ -1,4 +1,4 @@
--- What a reader learns here: words that only laws use, of beginnings of a text and of layouts.
+-- Definitions that only the laws use, about beginnings of a text and about layouts.
 use Rattle.std.specs.Prelude.{◌≡◌, ℕ, ◌<◌, ◌^◌, Bool, true, ◌&&◌, List, [], ◌∷◌, nat_le, IsTrue, IfSome}
 use Rattle.std.specs.Prelude.{Option}
 use Rattle.std.specs.List.{list_all}
@@ -11,8 +11,8 @@ use Rattle.dns_spec.specs.Sets.{RecordSet, records_at}
 use Rattle.dns_spec.specs.Reading.{Header, MessageQuestion}
 use Rattle.dns_spec.specs.Layout.{Section, answer, authority, additional, Item}
 
--- What octets mean after the entries before them. They are all that is left of a text, or a
--- beginning of it, which is read as one that goes on.
+-- What octets mean after the entries before them. They are the rest of a text, or a beginning of
+-- the rest.
 abbrev pub OctetsMean : DomainName → List Entry → Extent → Octets → Meaning → Type 0
 OctetsMean o earlier extent octets m =
     (es : List Entry) × EntriesOf extent octets es × EntriesMean o earlier es m
@@ -23,21 +23,21 @@ section_rank answer = 0
 section_rank authority = 1
 section_rank additional = 2
 
--- no set stands after one of a later section
+-- no set comes after a set of a later section
 abbrev pub sections_in_order : List Item → Bool
 sections_in_order [] = true
 sections_in_order (i ∷ is) =
     list_all (λ (j : Item). nat_le (section_rank i.section) (section_rank j.section)) is
     && sections_in_order is
 
--- RFC 1035 3.2.1: the record fits the fields of a message, and its data is of its type
+-- RFC 1035 3.2.1: the record fits the fields of a message, and its data is valid for its type
 pub record IsWritable (r : ResourceRecord) : Type 0 where
   pub owner : IsTrue (is_name r.owner)
   pub rtype : r.rtype < 2 ^ 16
   pub ttl : r.ttl < 2 ^ 32
   pub rdata : Valid r.rtype r.rdata
 
--- RFC 2181 5: the records are those of a set at an owner, with one TTL
+-- RFC 2181 5: the records are those of one set at one owner, with one TTL
 pub record IsSetAt (rs : List ResourceRecord) : Type 0 where
   pub owner : DomainName
   pub ttl : ℕ
@@ -50,7 +50,7 @@ pub record IsAskable (q : MessageQuestion) : Type 0 where
   pub qtype : q.qtype < 2 ^ 16
   pub qclass : q.qclass < 2 ^ 16
 
--- RFC 1035 4.1: header and question fit the fields of a message, and the sets stand in the order of
+-- RFC 1035 4.1: header and question fit the fields of a message, and the sets are in the order of
 -- its sections
 pub record HasRoom (h : Header) (q : Option MessageQuestion) (items : List Item) : Type 0 where
   pub id : h.id < 2 ^ 16

@@ -1,5 +1,5 @@
--- What a reader learns here: how a reply is laid out in octets, and which suffix of a name is
--- shared with an earlier name and by which place.
+-- How a reply is laid out in octets: which suffix of a name is shared with an earlier name, and by
+-- which place.
 use Rattle.std.specs.Prelude.{ℕ, ◌+◌, ◌-◌, ◌*◌, Bool, true, false, ◌&&◌, List, [], ◌∷◌, ◌++◌, map, length, nat_le, if◌then◌else◌}
 use Rattle.std.specs.Prelude.{Option, None, Some}
 use Rattle.std.specs.Option.{option_to_list}
@@ -23,7 +23,7 @@ pub data Section : Type 0 where
   authority : Section
   additional : Section
 
--- An RRset in a section of a reply: it is there whole or not at all.
+-- An RRset in a section of a reply; a reply contains it whole or not at all.
 pub record Item : Type 0 where
   pub section : Section
   pub records : List ResourceRecord
@@ -35,7 +35,7 @@ is_section authority authority = true
 is_section additional additional = true
 is_section _ _ = false
 
--- the records of all sets, and those of one section
+-- the records of all sets, and the records of one section
 abbrev pub records_of : List Item → List ResourceRecord
 records_of = flat_map (λ (i : Item). i.records)
 
@@ -50,16 +50,16 @@ pointer p = octets16 (192 * 256 + p)
 abbrev pub Placed : Type 0
 Placed = DomainName × ℕ
 
--- the name s, octet by octet, is a suffix of n
+-- the name n ends with the name s, octet by octet
 abbrev pub has_suffix : DomainName → DomainName → Bool
 has_suffix n s = nat_le (length s) (length n) && names_equal (last_labels (length s) n) s
 
--- where the first label of the suffix s stands in the name n that begins at place p
+-- the place of the first label of the suffix s, in the name that begins at the given place
 abbrev pub suffix_place : Placed → DomainName → ℕ
 suffix_place m s = m.1 + (length (wire m.0) - length (wire s))
 
--- The place of s in the first earlier name that has it as a suffix. No name before that one has it,
--- so it is written out there.
+-- The place of s in the first earlier name that ends with it. No name before that one ends with s,
+-- so s is written out there.
 abbrev pub place_of : List Placed → DomainName → Option ℕ
 place_of [] s = None
 place_of (m ∷ ms) s = if has_suffix m.0 s then Some (suffix_place m s) else place_of ms s
@@ -68,26 +68,27 @@ place_of (m ∷ ms) s = if has_suffix m.0 s then Some (suffix_place m s) else pl
 abbrev pub last_place : ℕ
 last_place = 16383
 
--- up to so many octets, a pointer reaches every place
+-- a pointer reaches every place in this many octets
 abbrev pub reach : ℕ
 reach = 1 + last_place
 
--- a place, where a pointer reaches it
+-- the place, if a pointer reaches it
 abbrev pub reached : Option ℕ → Option ℕ
 reached None = None
 reached (Some p) = if nat_le p last_place then Some p else None
 
--- the place to which a name that ends in s points: that of s, where a pointer reaches it
+-- the place to which a name that ends with s points: the place of s, if a pointer reaches it
 abbrev pub shared_place : List Placed → DomainName → Option ℕ
 shared_place ms s = reached (place_of ms s)
 
--- How a place is found for a suffix among earlier names, where it is to be shared: the layout finds
--- it by `shared_place`, and by `place_of` where a pointer reached every place.
+-- How the place of a suffix is found among earlier names, if the suffix is shared: by
+-- `shared_place` in the layout, and by `place_of` if a pointer reached every place.
 abbrev pub Lookup : Type 0
 Lookup = List Placed → DomainName → Option ℕ
 
--- RFC 1035 4.1.4: a name is written as its labels before the longest suffix for which a place is
--- found, and a pointer to it; without such a suffix it is written whole. The root is never shared.
+-- RFC 1035 4.1.4: a name is written as its labels before the longest suffix for which `find` gives
+-- a place, and a pointer to that place; without such a suffix it is written whole. The root is
+-- never shared.
 unfoldable pub octets_by : Lookup → List Placed → DomainName → Octets
 octets_by find ms [] = 0 ∷ []
 octets_by find ms (l ∷ n) =
@@ -96,8 +97,8 @@ octets_by find ms (l ∷ n) =
       | Some p ↦ pointer p
     ]
 
--- so the layout writes it: a suffix is shared that an earlier name has at a place which a pointer
--- reaches
+-- the name as the layout writes it: a suffix is shared if an earlier name has it at a place that a
+-- pointer reaches
 abbrev pub shared_octets : List Placed → DomainName → Octets
 shared_octets = octets_by shared_place
 
@@ -106,11 +107,11 @@ pub record Laid : Type 0 where
   pub written : Octets
   pub names : List Placed
 
--- octets, and names in them, in front of what is laid out after them
+-- octets, and the names in them, in front of what is laid out after them
 abbrev pub laid_front : Octets → List Placed → Laid → Laid
 laid_front o ms l = record { written = o ++ l.written; names = ms ++ l.names }
 
--- data laid out from place p on: what is no name, or is none to a writer, stands as it is
+-- data laid out from place p on; runs of octets are copied
 unfoldable pub data_by : Lookup → List Placed → ℕ → List Part → Laid
 data_by find ms p [] = record { written = []; names = [] }
 data_by find ms p (octets o ∷ ps) = laid_front o [] (data_by find ms (p + length o) ps)
@@ -121,7 +122,7 @@ data_by find ms p (name n ∷ ps) =
 abbrev pub data_laid : List Placed → ℕ → List Part → Laid
 data_laid = data_by shared_place
 
--- the runs and names of a record that a writer sees
+-- the parts of a record's data that a writer sees
 abbrev pub parts_of : ResourceRecord → List Part
 parts_of r = laid_parts r.rtype r.rdata
 
@@ -130,7 +131,7 @@ abbrev pub record_tail : ResourceRecord → Octets → Octets
 record_tail r d =
     octets16 r.rtype ++ octets16 class_in ++ octets32 r.ttl ++ octets16 (length d) ++ d
 
--- a record laid out from place p on: its owner is an earlier name of its data
+-- a record laid out from place p on; its owner is an earlier name for its data
 abbrev pub record_by : Lookup → List Placed → ℕ → ResourceRecord → Laid
 record_by find ms p r =
     let owner = octets_by find ms r.owner in
@@ -140,7 +141,7 @@ record_by find ms p r =
 abbrev pub record_laid : List Placed → ℕ → ResourceRecord → Laid
 record_laid = record_by shared_place
 
--- the records laid out from place p on: the names of each are earlier names of those after it
+-- records laid out from place p on; the names of each are earlier names for the records after it
 unfoldable pub records_by : Lookup → List Placed → ℕ → List ResourceRecord → Octets
 records_by find ms p [] = []
 records_by find ms p (r ∷ rs) =
@@ -159,13 +160,13 @@ abbrev pub asked_octets : Option MessageQuestion → Octets
 asked_octets None = []
 asked_octets (Some q) = question_octets q
 
--- the earlier names that it gives to the records: the question's, which begins at place 12
+-- the earlier names that the question gives to the records: its own name, which begins at place 12
 abbrev pub asked_placed : Option MessageQuestion → List Placed
 asked_placed None = []
 asked_placed (Some q) = (q.qname, 12) ∷ []
 
--- RFC 1035 4.1.1: ID and flags, and how many questions, answers, authority and additional records
--- there are
+-- RFC 1035 4.1.1: ID and flags, and the numbers of questions, answers, authority and additional
+-- records
 abbrev pub header_octets : Header → ℕ → ℕ → ℕ → ℕ → Octets
 header_octets h qd an ns ar =
     octets16 h.id ++ octets16 h.flags ++ octets16 qd ++ octets16 an ++ octets16 ns ++ octets16 ar
@@ -177,7 +178,7 @@ reply_header h q items =
     (length (in_section authority items)) (length (in_section additional items))
 
 -- The layout: header, question and records. The question's name is the first of the earlier names.
--- Without a question the records begin at place 12, and no name is earlier than theirs.
+-- Without a question, the records begin at place 12 and have no earlier name.
 unfoldable pub layout : Header → Option MessageQuestion → List Item → Octets
 layout h q items =
     reply_header h q items ++ asked_octets q

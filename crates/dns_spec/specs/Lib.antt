@@ -1,4 +1,4 @@
--- The meaning of the product, to be read from the first file to the last.
+-- The definitions of the product, to be read from the first file to the last.
 pub mod Names
 pub mod NameText
 pub mod Data

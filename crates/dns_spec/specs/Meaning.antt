@@ -1,8 +1,7 @@
--- What a reader learns here: which records the text of a zone file means, or which fault it has,
--- and on which line.
+-- Which records the text of a zone file means, or which fault it has, and on which line.
 --
--- What an entry takes over from those before it is found by looking back: `earlier` are the entries
--- before it, the nearest first.
+-- What an entry inherits from earlier entries is found by looking back: `earlier` is the list of
+-- the entries before it, nearest first.
 use Rattle.std.specs.Prelude.{◌≡◌, ℕ, ◌+◌, ◌≤◌, ◌⊎◌, Bool, true, false, ◌&&◌, ◌||◌, not, List, [], ◌∷◌, ◌++◌, length, take, drop, nat_le, ◌==◌, IsTrue, if◌then◌else◌, codes, decimal, MatchOption}
 use Rattle.std.specs.Prelude.{Option, None, Some}
 use Rattle.std.specs.Bool.{MatchBool}
@@ -21,27 +20,27 @@ use Rattle.dns_spec.specs.ZoneText.{Entry, Entries, begins_with, is_line_end, be
 abbrev pub most_ttl : ℕ
 most_ttl = 2147483647
 
--- A text has at most so many records (in this product).
+-- The most records that a text may have (in this product).
 abbrev pub most_records : ℕ
 most_records = 100000
 
--- What an entry means: a fault, or records, one at most.
+-- What an entry means: a fault, or at most one record.
 pub data EntryMeaning : Type 0 where
   faulty : FileFault → EntryMeaning
   gives : List ResourceRecord → EntryMeaning
 
--- where nothing is such
+-- no value has this property
 abbrev pub Nothing : {A : Type 0} → (A → Type 0) → Type 0
 Nothing {A} P = (v : A) → P v → ⊥
 
--- Faults by rising code, each with its condition: the entry has the lowest whose condition holds;
--- where none does, it means what `Faultless` says.
+-- Faults by rising code, each with its condition. The entry has the first fault whose condition
+-- holds; if none holds, it means what `Faultless` says.
 abbrev pub Lowest : List (FileFault × Type 0) → (EntryMeaning → Type 0) → EntryMeaning → Type 0
 Lowest [] Faultless given = Faultless given
 Lowest ((fault, Condition) ∷ higher) Faultless given =
     (Condition × (given ≡ faulty fault)) ⊎ ((Condition → ⊥) × Lowest higher Faultless given)
 
--- RFC 1035 5.1: what an entry is. Words are compared in lower case.
+-- RFC 1035 5.1: the kinds of entries. The name of a directive is in lower case.
 pub data EntryKind : Type 0 where
   no_words : EntryKind
   directive : Octets → List Word → EntryKind
@@ -52,7 +51,7 @@ pub data EntryKind : Type 0 where
 abbrev pub is_directive : Word → Bool
 is_directive w = not w.is_quoted && begins_with 36 w.raw
 
--- by whether the entry begins with a blank, and by its words
+-- the kind of an entry, by whether it begins with a blank, and by its words
 abbrev pub kind_by_words : Bool → List Word → EntryKind
 kind_by_words blank [] = no_words
 kind_by_words blank (w ∷ ws) =
@@ -60,14 +59,14 @@ kind_by_words blank (w ∷ ws) =
     else if is_directive w then directive (text_in_lower_case w.raw) ws
     else owned w ws
 
--- An entry without words is nothing. One that begins with a blank is a record without an owner of
--- its own; else one whose first word begins with `$` is a directive; else the first word is the
--- owner of a record.
+-- An entry without words means nothing. An entry that begins with a blank is a record without an
+-- owner of its own. Of the others, an entry whose first word begins with `$` is a directive; else
+-- its first word is the owner of a record.
 abbrev pub kind_of : Entry → EntryKind
 kind_of e = kind_by_words (begins_blank e.tokens) (entry_words e)
 
--- RFC 1035 5.1: after the owner come a TTL and a class, in either order, where they are stated;
--- then the type and the data
+-- RFC 1035 5.1: after the owner come a TTL and a class, in either order and both optional; then
+-- the type and the data
 pub record Fields : Type 0 where
   pub ttl : Option Word
   pub class : Option Word
@@ -81,7 +80,8 @@ is_ttl_word w = not w.is_quoted && list_any is_ascii_digit (take 1 w.raw)
 abbrev pub is_word : Octets → Octets → Bool
 is_word text raw = octets_equal (text_in_lower_case raw) text
 
--- RFC 1035 3.2.4, RFC 3597 section 5: an unquoted word that names a class, or begins as such
+-- RFC 1035 3.2.4, RFC 3597 section 5: an unquoted word that names a class, or begins with `CLASS`,
+-- in any case
 abbrev pub is_class_word : Word → Bool
 is_class_word w =
     not w.is_quoted
@@ -92,7 +92,7 @@ is_class_word w =
 abbrev pub is_class_in : Word → Bool
 is_class_in w = is_word (codes "in") w.raw || is_word (codes "class1") w.raw
 
--- the fields among the words after a TTL, among those after a class, and among all
+-- the fields among the words after a TTL, among the words after a class, and among all the words
 abbrev pub class_after : Word → List Word → Fields
 class_after ttl [] = record { ttl = Some ttl; class = None; others = [] }
 class_after ttl (w ∷ ws) =
@@ -112,7 +112,7 @@ fields (w ∷ ws) =
     else if is_class_word w then ttl_after w ws
     else record { ttl = None; class = None; others = w ∷ ws }
 
--- the first word of a directive of this name
+-- the first argument of a directive of this name
 abbrev pub directive_word : Octets → EntryKind → Option Word
 directive_word name no_words = None
 directive_word name (directive n []) = None
@@ -143,37 +143,37 @@ is_record e = elim (kind_of e) [
   | unowned ws ↦ true
 ]
 
--- such a word in the nearest entry that has one
+-- the word that `word_of` finds in the nearest entry that has one
 abbrev pub nearest : (EntryKind → Option Word) → List Entry → Option Word
 nearest word_of [] = None
 nearest word_of (e ∷ earlier) = option_or (word_of (kind_of e)) (nearest word_of earlier)
 
--- RFC 1035 5.1: the origin is that of the last `$ORIGIN` before, which is relative to the origin
--- before it; else that of the file
+-- RFC 1035 5.1: the last `$ORIGIN` sets the origin, relative to the origin before it; without one
+-- it is the origin of the file
 abbrev pub OriginIs : DomainName → List Entry → DomainName → Type 0
 OriginIs o [] n = n ≡ o
 OriginIs o (e ∷ earlier) n =
     MatchOption (directive_word (codes "$origin") (kind_of e)) (OriginIs o earlier n)
     (λ w. (m : DomainName) × OriginIs o earlier m × SpellsName m w.raw n)
 
--- an unquoted word spells a name, relative to the origin in force
+-- the unquoted word spells the name, relative to the origin in force
 abbrev pub NameIs : DomainName → List Entry → Word → DomainName → Type 0
 NameIs o earlier w n =
     IsTrue (not w.is_quoted) × ((m : DomainName) × OriginIs o earlier m × SpellsName m w.raw n)
 
--- RFC 1035 5.1: a record that doesn't state an owner has that of the nearest record before that
+-- RFC 1035 5.1: a record that states no owner has the owner of the nearest earlier record that
 -- states one
 abbrev pub OwnerBefore : DomainName → List Entry → DomainName → Type 0
 OwnerBefore o [] n = ⊥
 OwnerBefore o (e ∷ earlier) n =
     MatchOption (owner_word (kind_of e)) (OwnerBefore o earlier n) (λ w. NameIs o earlier w n)
 
--- a TTL in decimal, without zeros in front (in this product)
+-- a TTL in decimal, without leading zeros (in this product), at most 2^31 - 1
 abbrev pub TtlSays : Word → ℕ → Type 0
 TtlSays w n = IsTrue (not w.is_quoted) × (w.raw ≡ decimal n) × (n ≤ most_ttl)
 
--- RFC 2308 section 4: a record that doesn't state a TTL has that of the last `$TTL` before; without
--- one, RFC 1035 5.1, the last that a record before states
+-- RFC 2308 section 4: a record that states no TTL has the TTL of the last `$TTL` before it;
+-- without one (RFC 1035 5.1), the last TTL that an earlier record states
 abbrev pub ttl_in_force : List Entry → Option Word → Option Word
 ttl_in_force earlier stated =
     option_or stated
@@ -183,8 +183,8 @@ ttl_in_force earlier stated =
 abbrev pub TtlIs : List Entry → Option Word → ℕ → Type 0
 TtlIs earlier stated n = MatchOption (ttl_in_force earlier stated) ⊥ (λ w. TtlSays w n)
 
--- All types but those that no zone has: 0, and those of questions and of what a message says of
--- itself, RFC 6895 3.1; and, in this product, the types of DNSSEC and DNAME.
+-- All types except those that no zone contains: 0, and the query types and meta-types (RFC 6895
+-- 3.1); and, in this product, the types of DNSSEC and DNAME.
 abbrev pub is_zone_type : ℕ → Bool
 is_zone_type t =
     not (t == 0 || (nat_le 128 t && nat_le t 255)
@@ -195,12 +195,12 @@ abbrev pub TypeIs : List Word → ℕ → Type 0
 TypeIs [] t = ⊥
 TypeIs (w ∷ ws) t = IsTrue (not w.is_quoted) × NamesType w.raw t × IsTrue (is_zone_type t)
 
--- the words after the type say the data
+-- the words after the type spell the data
 abbrev pub DataIs : DomainName → List Entry → List Word → Octets → Type 0
 DataIs o earlier ws d =
     (t : ℕ) × TypeIs ws t × ((m : DomainName) × OriginIs o earlier m × Says t (drop 1 ws) m d)
 
--- What a record is: its owner in lower case, its TTL, type and data.
+-- The record of an entry: its owner in lower case, its TTL, its type and its data.
 pub record IsRecord (o : DomainName) (earlier : List Entry) (Owner : DomainName → Type 0)
     (f : Fields) (r : ResourceRecord) : Type 0 where
   pub owner : (n : DomainName) × Owner n × (r.owner ≡ folded n)
@@ -208,22 +208,23 @@ pub record IsRecord (o : DomainName) (earlier : List Entry) (Owner : DomainName 
   pub rtype : TypeIs f.others r.rtype
   pub rdata : DataIs o earlier f.others r.rdata
 
--- a TTL is stated, and is none
+-- a TTL is stated and is invalid
 abbrev pub IsNoTtl : Option Word → Type 0
 IsNoTtl stated = MatchOption stated ⊥ (λ w. Nothing (TtlSays w))
 
--- a class is stated that is not IN
+-- a class other than IN is stated
 abbrev pub is_other_class : Option Word → Bool
 is_other_class None = false
 is_other_class (Some w) = not (is_class_in w)
 
--- as many records as a text may have stand before
+-- the earlier entries already contain as many records as a text may have
 abbrev pub are_too_many : List Entry → Bool
 are_too_many earlier = nat_le most_records (length (filter is_record earlier))
 
--- The faults of a record: `R07`, its owner is no name, or `R08`, no record before has one; `R09`,
--- its TTL; `R10`, its class; `R11`, its type; `R12`, no TTL is known; `R13`, its data; `R14`, there
--- are too many records.
+-- The faults of a record: `R07`, its owner is invalid, or `R08`, no earlier record states an
+-- owner; `R09`, its TTL is invalid; `R10`, its class is not IN; `R11`, its type is missing or
+-- invalid; `R12`, no TTL is in force; `R13`, its data is invalid; `R14`, there are too many
+-- records.
 abbrev pub record_faults : DomainName → List Entry → FileFault → (DomainName → Type 0) → Fields
     → List (FileFault × Type 0)
 record_faults o earlier owner_fault Owner f =
@@ -236,26 +237,27 @@ record_faults o earlier owner_fault Owner f =
     ∷ (too_many_records, IsTrue (are_too_many earlier))
     ∷ []
 
--- what a record gives: its fault, or itself
+-- what a record entry means: its first fault, or its record
 abbrev pub RecordGives : DomainName → List Entry → FileFault → (DomainName → Type 0) → Fields
     → EntryMeaning → Type 0
 RecordGives o earlier owner_fault Owner f =
     Lowest (record_faults o earlier owner_fault Owner f)
     (λ given. (r : ResourceRecord) × IsRecord o earlier Owner f r × (given ≡ gives (r ∷ [])))
 
--- a directive has one word
+-- there is exactly one word, and P holds for it
 abbrev pub OneWord : (Word → Type 0) → List Word → Type 0
 OneWord P [] = ⊥
 OneWord P (w ∷ []) = P w
 OneWord P (w ∷ v ∷ ws) = ⊥
 
--- `R06`: the words of a directive are not its own
+-- `R06`: the arguments of a directive are invalid; valid ones give no record
 abbrev pub DirectiveSays : {A : Type 0} → (A → Word → Type 0) → List Word → EntryMeaning → Type 0
 DirectiveSays {A} P ws =
     Lowest ((directive_words, Nothing (λ (v : A). OneWord (P v) ws)) ∷ [])
     (λ given. given ≡ gives [])
 
--- RFC 1035 5.1, RFC 2308 section 4; `R05`: another directive
+-- RFC 1035 5.1, RFC 2308 section 4: what a directive means; `R05`: it is neither `$ORIGIN` nor
+-- `$TTL`
 abbrev pub DirectiveGives : DomainName → List Entry → Octets → List Word → EntryMeaning → Type 0
 DirectiveGives o earlier name ws given =
     MatchBool (octets_equal name (codes "$origin"))
@@ -264,7 +266,7 @@ DirectiveGives o earlier name ws given =
     (DirectiveSays (λ n w. TtlSays w n) ws given)
     (given ≡ faulty unknown_directive))
 
--- what an entry gives by its kind
+-- what an entry means by its kind
 abbrev pub KindGives : DomainName → List Entry → EntryKind → EntryMeaning → Type 0
 KindGives o earlier no_words given = given ≡ gives []
 KindGives o earlier (directive name ws) given = DirectiveGives o earlier name ws given
@@ -273,7 +275,7 @@ KindGives o earlier (owned w ws) given =
 KindGives o earlier (unowned ws) given =
     RecordGives o earlier no_owner (OwnerBefore o earlier) (fields ws) given
 
--- what an entry gives: its fault by place, else what its words give
+-- what an entry means: its lexical fault if it has one, else what its words mean
 abbrev pub EntryGives : DomainName → List Entry → Entry → EntryMeaning → Type 0
 EntryGives o earlier e given =
     MatchOption (lexical_fault e) (KindGives o earlier (kind_of e) given)
@@ -284,7 +286,7 @@ pub data Meaning : Type 0 where
   records : List ResourceRecord → Meaning
   fault_at : FileFault → ℕ → Meaning
 
--- records before what entries mean that follow
+-- records, and after them what the later entries mean
 abbrev pub after : List ResourceRecord → Meaning → Meaning
 after rs (records more) = records (rs ++ more)
 after rs (fault_at fault line) = fault_at fault line
@@ -293,7 +295,7 @@ after rs (fault_at fault line) = fault_at fault line
 abbrev pub line_after : List Entry → ℕ
 line_after earlier = 1 + length (filter is_line_end (flat_map (λ (e : Entry). e.tokens) earlier))
 
--- the first faulty entry decides
+-- what entries mean: the fault of the first faulty entry and its line, or all their records
 abbrev pub EntriesMean : DomainName → List Entry → List Entry → Meaning → Type 0
 EntriesMean o earlier [] m = m ≡ records []
 EntriesMean o earlier (e ∷ es) m =
@@ -303,7 +305,6 @@ EntriesMean o earlier (e ∷ es) m =
       | gives rs ↦ (later : Meaning) × EntriesMean o (e ∷ earlier) es later × (m ≡ after rs later)
     ]
 
--- What a text means as the file of a zone with this origin (RFC 1035 section 5): what its entries
--- mean.
+-- What a text means as the file of a zone with this origin (RFC 1035 section 5).
 abbrev pub Means : DomainName → Octets → Meaning → Type 0
 Means o text m = (es : List Entry) × Entries text es × EntriesMean o [] es m

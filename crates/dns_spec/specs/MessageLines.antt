@@ -1,4 +1,4 @@
--- What a reader learns here: in which lines a message is printed, and what is printed of an input.
+-- The lines in which a message is printed, and what is printed for an input.
 use Rattle.std.specs.Prelude.{◌≡◌, ℕ, ◌≤◌, ◌⊎◌, true, false, List, [], ◌∷◌, ◌++◌, length, ◌==◌, if◌then◌else◌, codes, decimal}
 use Rattle.std.specs.Prelude.{Option, None, Some}
 use Rattle.std.specs.List.{flat_map}
@@ -12,8 +12,8 @@ use Rattle.dns_spec.specs.Reading.{MessageQuestion, MessageRecord, DnsMessage, S
 use Rattle.dns_spec.specs.Layout.{octets16}
 use Rattle.dns_spec.specs.Lines.{lines, line_message}
 
--- RFC 1035 4.1.1: ID and flags in hex digits, and how many questions, answers, authority and
--- additional records there are
+-- RFC 1035 4.1.1: ID and flags in hex digits, and the numbers of questions, answers, authority and
+-- additional records
 abbrev pub count_text : ℕ → Octets
 count_text n = codes " " ++ decimal n
 
@@ -24,7 +24,7 @@ header_line m =
     ++ count_text (length m.questions) ++ count_text (length m.answers)
     ++ count_text (length m.authorities) ++ count_text (length m.additionals) ++ codes "\n"
 
--- a class between spaces; RFC 3597 5: one without a name by its number
+-- a class between spaces; RFC 3597 5: a class other than IN is written by its number
 abbrev pub class_text : ℕ → Octets
 class_text c = if c == class_in then codes " IN " else codes " CLASS" ++ decimal c ++ codes " "
 
@@ -33,8 +33,8 @@ question_line q =
     codes "question " ++ name_text q.qname ++ class_text q.qclass ++ type_text q.qtype
     ++ codes "\n"
 
--- A record of a section. RFC 3597 5: data of another class than IN is written in the form for data
--- of any type, as that of type 0 is.
+-- A record of a section. RFC 3597 5: data of a class other than IN is written in the generic form,
+-- as data of type 0 is.
 abbrev pub section_line : Octets → MessageRecord → Octets
 section_line section r =
     section ++ codes " " ++ name_text r.owner ++ codes " " ++ decimal r.ttl ++ class_text r.rclass
@@ -53,8 +53,8 @@ message_text m =
 abbrev pub SpellsNone : Octets → Type 0
 SpellsNone b = (m : DnsMessage) → Spells b m → ⊥
 
--- What is printed of octets: the lines of the message that they spell; of those that spell none a
--- line with the number of a fault, 1 to 6.
+-- What is printed for octets: the lines of the message that they spell; if they spell none, a line
+-- with the number of a fault, 1 to 6.
 abbrev pub PrintsOctets : Octets → Report → Type 0
 PrintsOctets b report =
     ((m : DnsMessage) × Spells b m
@@ -62,16 +62,16 @@ PrintsOctets b report =
     ⊎ (SpellsNone b × ((n : ℕ) × (1 ≤ n) × (n ≤ 6)
     × (report ≡ record { output = codes "fault " ++ decimal n ++ codes "\n"; passes = false })))
 
--- what is printed of a line that is a message in hex digits, and of one that is none
+-- what is printed for a line that is a message in hex digits, and for any other line
 abbrev pub PrintsMessage : Option Octets → Report → Type 0
 PrintsMessage None report = report ≡ record { output = codes "bad hex\n"; passes = false }
 PrintsMessage (Some b) report = PrintsOctets b report
 
--- the first of some lines, and the empty line where there is none
+-- the first of the lines, or the empty line if there are none
 abbrev pub first_of : List Octets → Octets
 first_of [] = []
 first_of (l ∷ ls) = l
 
--- What is printed of an input: that of its first line.
+-- What is printed for an input; only its first line matters.
 abbrev pub PrintsInput : Octets → Report → Type 0
 PrintsInput x report = PrintsMessage (line_message (first_of (lines x))) report

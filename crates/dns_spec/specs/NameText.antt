@@ -1,16 +1,17 @@
--- What a reader learns here: which name a word of a zone file spells, and how a name is written.
+-- Names in zone files: which name a word spells, and how a name is written.
 use Rattle.std.specs.Prelude.{◌≡◌, ◌≢◌, ℕ, ◌+◌, ◌-◌, ◌*◌, ◌/◌, ◌%◌, ◌<◌, ◌≤◌, ◌⊎◌, Bool, ◌&&◌, ◌==◌, nat_le, nat_lt, if◌then◌else◌, [], ◌∷◌, ◌++◌, codes, IsTrue}
 use Rattle.std.specs.Prelude.{Option, None, Some}
 use Rattle.std.specs.List.{flat_map, list_any}
 use Rattle.std.specs.Char.{is_ascii_graphic, is_ascii_digit, IsAsciiDigit, IsNotAsciiDigit}
 use Rattle.dns_spec.specs.Names.{Octets, DomainName, is_name}
 
--- the number that three decimal digits spell
+-- the value of three decimal digits
 abbrev pub three_digits_value : ℕ → ℕ → ℕ → ℕ
 three_digits_value a b c = 100 * (a - 48) + 10 * (b - 48) + (c - 48)
 
--- RFC 1035 5.1: an octet is spelled as itself, if it is no dot and no backslash; as `\X`, where X
--- is no digit (and, in this product, printable); or as `\DDD`, three decimal digits.
+-- RFC 1035 5.1: an octet is spelled as itself, unless it is a dot or a backslash; as `\X`, where X
+-- is not a digit (and, in this product, is printable); or as `\DDD`, its value in three decimal
+-- digits.
 abbrev pub SpellsOctet : Octets → ℕ → Type 0
 SpellsOctet (a ∷ []) x = (a ≡ x) × (a ≢ 46) × (a ≢ 92)
 SpellsOctet (e ∷ a ∷ []) x = (e ≡ 92) × (a ≡ x) × (32 ≤ a) × (a ≤ 126) × IsNotAsciiDigit a
@@ -23,7 +24,7 @@ SpellsOctet _ x = ⊥
 abbrev pub is_printable : ℕ → Bool
 is_printable o = nat_le 32 o && nat_le o 126
 
--- three decimal digits up to 255 at the beginning of a text: the octet of that number, and the text
+-- if the text begins with three decimal digits of a value up to 255: that octet, and the text
 -- after them
 abbrev pub digits_front : Octets → Option (ℕ × Octets)
 digits_front [] = None
@@ -34,24 +35,25 @@ digits_front (a ∷ b ∷ c ∷ text) =
     && nat_lt (three_digits_value a b c) 256
     then Some (three_digits_value a b c, text) else None
 
--- RFC 1035 5.1: after a backslash, the octet that its escape stands for, and the text after that.
--- One that is printable and no digit stands for itself, three digits for the octet of their number;
--- else the backslash begins no escape.
+-- RFC 1035 5.1: the octet that an escape spells and the text after the escape; the given text
+-- follows the backslash. Three digits up to 255 spell the octet of that value, and a printable
+-- octet that is not a digit spells itself. Nothing else is an escape.
 abbrev pub escape_front : Octets → Option (ℕ × Octets)
 escape_front [] = None
 escape_front (a ∷ text) =
     if is_ascii_digit a then digits_front (a ∷ text)
     else if is_printable a then Some (a, text) else None
 
--- the text spells the octets of a label, one after another, and then comes `rest`
+-- the text is a spelling of the label's octets, in order, followed by `rest`
 abbrev pub LabelThen : Octets → Octets → Octets → Type 0
 LabelThen text [] rest = text ≡ rest
 LabelThen text (x ∷ l) rest =
     (first : Octets) × (others : Octets) × (text ≡ first ++ others)
     × SpellsOctet first x × LabelThen others l rest
 
--- RFC 1035 5.1: the text spells the first label, and either ends there, so that the labels of the
--- origin follow; or has a dot, and then spells the other labels. Nothing after a dot is the root.
+-- RFC 1035 5.1: the text spells the first label and either ends there, so that the labels of the
+-- origin follow; or continues with a dot, and the text after it spells the other labels. An empty
+-- text after a dot is the root.
 abbrev pub TextSpells : DomainName → Octets → DomainName → Type 0
 TextSpells origin text [] = text ≡ []
 TextSpells origin text (l ∷ n) =
@@ -59,18 +61,18 @@ TextSpells origin text (l ∷ n) =
     ⊎ ((others : Octets) × LabelThen text l (46 ∷ others) × TextSpells origin others n)
 
 -- RFC 1035 5.1: a word spells a name, relative to the origin. `@` alone is the origin, and `.`
--- alone the root.
+-- alone is the root.
 pub record SpellsName (origin : DomainName) (word : Octets) (n : DomainName) : Type 0 where
   pub spelled : ((word ≡ codes "@") × (n ≡ origin))
       ⊎ (((word ≡ codes ".") × (n ≡ []))
       ⊎ ((word ≢ codes "@") × (word ≢ []) × TextSpells origin word n))
   pub is_name : IsTrue (is_name n)
 
--- the octets that mean something else in a zone file, where no backslash stands before them
+-- the octets with a meaning of their own in a zone file, unless a backslash precedes them
 abbrev pub is_special : ℕ → Bool
 is_special x = list_any (λ s. x == s) (codes "\"$().;@\\")
 
--- the three decimal digits of an octet
+-- the value of an octet in three decimal digits
 abbrev pub three_digits : ℕ → Octets
 three_digits x = (48 + x / 100) ∷ (48 + x / 10 % 10) ∷ (48 + x % 10) ∷ []
 
@@ -84,11 +86,11 @@ octet_text x =
 abbrev pub label_text : Octets → Octets
 label_text = flat_map octet_text
 
--- each label with a dot after it
+-- each label followed by a dot
 abbrev pub labels_text : DomainName → Octets
 labels_text = flat_map (λ l. label_text l ++ codes ".")
 
--- RFC 1035 5.1: a name is written as its labels, each with a dot after it, and the root as `.`
+-- RFC 1035 5.1: a name is written as its labels, each followed by a dot, and the root as `.`
 abbrev pub name_text : DomainName → Octets
 name_text [] = codes "."
 name_text (l ∷ n) = labels_text (l ∷ n)

@@ -1,5 +1,5 @@
--- What a reader learns here: what a datagram is as a query, before any zone is asked: no query, a
--- query that is refused with a header alone, or a header and a question.
+-- How a datagram is read as a query, before any zone is consulted: it is ignored, refused with
+-- only a header, or has a header and a question.
 use Rattle.std.specs.Prelude.{ℕ, ◌+◌, ◌*◌, ◌/◌, ◌%◌, ◌^◌, Bool, false, ◌&&◌, ◌||◌, not, length, take, drop, nat_lt, nat_le, ◌==◌, if◌then◌else◌}
 use Rattle.std.specs.Prelude.{Option, None, Some}
 use Rattle.dns_spec.specs.Names.{Octets, DomainName}
@@ -7,18 +7,18 @@ use Rattle.dns_spec.specs.Data.{number_of}
 use Rattle.dns_spec.specs.Reading.{Header, MessageQuestion, format_error, not_implemented}
 use Rattle.dns_spec.specs.ComputedReading.{name_at}
 
--- RFC 1035 4.2.1 and 4.2.2: a message has at most so many octets over UDP, and over TCP
+-- RFC 1035 4.2.1 and 4.2.2: the most octets of a message over UDP, and over TCP
 abbrev pub most_over_udp : ℕ
 most_over_udp = 512
 
 abbrev pub most_over_tcp : ℕ
 most_over_tcp = 65535
 
--- the 16 bits at a place
+-- the number of 16 bits at a place
 abbrev pub field16 : Octets → ℕ → ℕ
 field16 d i = number_of (take 2 (drop i d))
 
--- RFC 1035 4.1.1: the bits of the flags that a server looks at
+-- RFC 1035 4.1.1: the bits of the flags that a server examines
 abbrev pub is_response : ℕ → Bool
 is_response flags = nat_le 1 (flags / 2 ^ 15)
 
@@ -36,8 +36,8 @@ bit b = if b then 1 else 0
 abbrev pub head_of : Octets → Header
 head_of d = record { id = field16 d 0; flags = field16 d 2 }
 
--- The header of a reply to a query with header h: its ID, opcode and RD, QR set, RA and the three
--- zero bits 0.
+-- The header of a reply to a query with header h: the same ID, opcode and RD, QR set, and RA and
+-- the three Z bits 0.
 abbrev pub reply_head : Header → Bool → Bool → ℕ → Header
 reply_head h aa tc rcode = record {
   id = h.id;
@@ -46,43 +46,44 @@ reply_head h aa tc rcode = record {
       + recursion_desired h.flags * 2 ^ 8 + rcode;
 }
 
--- the header of a reply that has no records, with an RCODE
+-- the header of a reply without records: AA and TC 0, and this RCODE
 abbrev pub refusal_head : Header → ℕ → Header
 refusal_head h = reply_head h false false
 
--- RFC 1035 4.1.2: the octets after the header are exactly one question
+-- RFC 1035 4.1.2: the question with name n, which ends before place e, if its QTYPE and QCLASS are
+-- the last octets
 abbrev pub question_of : Octets → DomainName × ℕ → Option MessageQuestion
 question_of d (n, e) =
     if length d == e + 4
     then Some (record { qname = n; qtype = field16 d e; qclass = field16 d (e + 2) }) else None
 
--- the question after the header
+-- the question after the header, if nothing follows it
 unfoldable pub question_at : Octets → Option MessageQuestion
 question_at d = elim (name_at d 12) [ None ↦ None | Some r ↦ question_of d r ]
 
--- one question and no record
+-- the counts in the header are one question and no records
 abbrev pub counts_are_one_question : Octets → Bool
 counts_are_one_question d =
     field16 d 4 == 1 && field16 d 6 == 0 && field16 d 8 == 0 && field16 d 10 == 0
 
--- no reply is owed to what is shorter than a header, or is a reply itself
+-- a datagram that is shorter than a header, or is a response, gets no reply
 abbrev pub is_ignored : Octets → Bool
 is_ignored d = nat_lt (length d) 12 || is_response (field16 d 2)
 
--- A datagram as a query. One that is no query gets no reply; a query of another opcode, or without
--- just one question, gets the header of a reply alone; else there is its header as it came, and its
+-- A datagram as a query: `absent` if it gets no reply; refused with only the header of a reply, if
+-- it has another opcode or not exactly one question; else its header as received, and its
 -- question.
 pub data QueryRead : Type 0 where
   absent : QueryRead
   refused_with : Header → QueryRead
   query : Header → MessageQuestion → QueryRead
 
--- a query by its question; without one it is refused
+-- a query with its question; without one it is refused
 abbrev pub query_or_error : Header → Option MessageQuestion → QueryRead
 query_or_error h None = refused_with (refusal_head h format_error)
 query_or_error h (Some q) = query h q
 
--- These are judged in this order; the order is this project's.
+-- How a datagram is read; the order of these tests is this project's choice.
 unfoldable pub query_read : Octets → QueryRead
 query_read d =
     if is_ignored d then absent

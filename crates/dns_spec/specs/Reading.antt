@@ -1,19 +1,18 @@
--- What a reader learns here: which name a place of a message spells, and which message octets
--- spell.
+-- Which name is at a place of a message, and which message octets spell.
 use Rattle.std.specs.Prelude.{◌≡◌, ℕ, ◌+◌, ◌-◌, ◌*◌, ◌<◌, ◌≤◌, List, [], ◌∷◌, ◌++◌, length, take, drop, ◌==◌, IsTrue, slice_get, if◌then◌else◌}
 use Rattle.std.specs.Prelude.{Some}
 use Rattle.dns_spec.specs.Names.{Octets, DomainName, wire, is_name}
 use Rattle.dns_spec.specs.Data.{class_in, width, Piece, fixed, domain, string, strings, anything, pieces_of, are_strings, number_of}
 
--- RFC 1035 4.1.4: the place to which the two octets of a pointer point, the first from 192 on
+-- RFC 1035 4.1.4: the place that the two octets of a pointer give; the first octet is at least 192
 abbrev pub pointer_place : ℕ → ℕ → ℕ
 pointer_place o o' = (o - 192) * 256 + o'
 
--- RFC 1035 4.1.4: in the octets b a run of labels began at place s. From place i on it spells n,
--- and the octets of this spelling end before place e. An octet 0 ends the run. An octet 1 to 63 has
--- a label of so many octets after it. An octet from 192 on gives, with the one after it, the place
--- where a run begins that spells the rest; this place is after the header, and before the place
--- where the run at hand began. Nothing else spells a name.
+-- RFC 1035 4.1.4: in the octets b, a run of labels began at place s. From place i on it spells n,
+-- and its own octets end before place e. An octet 0 ends the run. An octet k from 1 to 63 is
+-- followed by a label of k octets. An octet of at least 192 gives, with the next octet, the place
+-- of another run, which spells the rest; that place is after the header and before the place where
+-- the current run began. Other octets spell no name.
 pub data RunAt (b : Octets) : ℕ → ℕ → DomainName → ℕ → Type 0 where
   ends : {s : ℕ} (i : ℕ) → slice_get b i ≡ Some 0 → RunAt b s i [] (i + 1)
   goes_on : {s : ℕ} (i k : ℕ) (l : Octets) (n : DomainName) (e : ℕ)
@@ -24,13 +23,13 @@ pub data RunAt (b : Octets) : ℕ → ℕ → DomainName → ℕ → Type 0 wher
       → 12 ≤ p → p < s
       → RunAt b p p n e → RunAt b s i n (i + 2)
 
--- The name n is spelled at place i, by octets that end before place e. RFC 1035 2.3.4: it has at
--- most 255 octets, whatever part of it stands where a pointer points.
+-- The name n is spelled at place i, and its own octets end before place e. RFC 1035 2.3.4: the
+-- whole name, with the part that pointers lead to, has at most 255 octets.
 abbrev pub NameAt : Octets → ℕ → DomainName → ℕ → Type 0
 NameAt b i n e = RunAt b i i n e × IsTrue (is_name n)
 
--- RFC 1035 4.1.1: ID, and QR, opcode, AA, TC, RD, RA, three zero bits and RCODE as one number of 16
--- bits
+-- RFC 1035 4.1.1: the ID, and as one number of 16 bits the flags: QR, opcode, AA, TC, RD, RA,
+-- three zero bits and RCODE
 pub record Header : Type 0 where
   pub id : ℕ
   pub flags : ℕ
@@ -79,13 +78,13 @@ pub record OctetsAt (b : Octets) (i e : ℕ) (d : Octets) : Type 0 where
   pub within : e ≤ length b
   pub are : take (e - i) (drop i b) ≡ d
 
--- RFC 1035 2.3.2: k octets from place i spell the number v
+-- RFC 1035 2.3.2: the k octets from place i encode the number v
 pub record NumberAt (b : Octets) (i k v : ℕ) : Type 0 where
   pub within : i + k ≤ length b
   pub spelled : v ≡ number_of (take k (drop i b))
 
--- From place i up to place j stands this piece of data that ends before place e. It reads o where
--- it is not compressed. A name may go on elsewhere, but its own octets are in the data.
+-- A piece of data is at places i up to j, and the data ends before place e; o is the piece without
+-- compression. A name may continue elsewhere, but its own octets are in the data.
 abbrev pub PieceAt : Octets → Piece → ℕ → ℕ → ℕ → Octets → Type 0
 PieceAt b (fixed f) i e j o = OctetsAt b i (i + width f) o × (j ≡ i + width f)
 PieceAt b domain i e j o = (n : DomainName) × NameAt b i n j × (o ≡ wire n)
@@ -94,27 +93,28 @@ PieceAt b string i e j o =
 PieceAt b strings i e j o = OctetsAt b i j o × (0 < length o) × IsTrue (are_strings 0 o) × (j ≡ e)
 PieceAt b anything i e j o = OctetsAt b i j o × (j ≡ e)
 
--- pieces one after the other, from place i up to place e
+-- pieces in order, from place i up to place e
 abbrev pub PiecesAt : Octets → List Piece → ℕ → ℕ → Octets → Type 0
 PiecesAt b [] i e d = (i ≡ e) × (d ≡ [])
 PiecesAt b (p ∷ ps) i e d =
     (j : ℕ) × (o rest : Octets) × PieceAt b p i e j o × (d ≡ o ++ rest) × PiecesAt b ps j e rest
 
--- the pieces of data: the types have their forms in class IN alone, and other data is octets
+-- the pieces of data: by its type in class IN, any octets in other classes
 abbrev pub data_pieces : ℕ → ℕ → List Piece
 data_pieces t c = if c == class_in then pieces_of t else anything ∷ []
 
 abbrev pub DataAt : Octets → ℕ → ℕ → ℕ → ℕ → Octets → Type 0
 DataAt b t c i e d = (i ≤ e) × (e ≤ length b) × PiecesAt b (data_pieces t c) i e d
 
--- RFC 1035 4.1.2: questions one after the other from place i up to place e
+-- RFC 1035 4.1.2: questions in order, from place i up to place e
 abbrev pub QuestionsAt : Octets → ℕ → List MessageQuestion → ℕ → Type 0
 QuestionsAt b i [] e = i ≡ e
 QuestionsAt b i (q ∷ qs) e =
     (j : ℕ) × NameAt b i q.qname j × NumberAt b j 2 q.qtype × NumberAt b (j + 2) 2 q.qclass
     × QuestionsAt b (j + 4) qs e
 
--- RFC 1035 4.1.3: records one after the other from place i up to place e
+-- RFC 1035 4.1.3: a record at place i, whose owner ends before place j and whose data has len
+-- octets; and records in order, from place i up to place e
 pub record RecordAt (b : Octets) (i : ℕ) (r : MessageRecord) (j len : ℕ) : Type 0 where
   pub owner : NameAt b i r.owner j
   pub rtype : NumberAt b j 2 r.rtype
@@ -127,7 +127,7 @@ abbrev pub RecordsAt : Octets → ℕ → List MessageRecord → ℕ → Type 0
 RecordsAt b i [] e = i ≡ e
 RecordsAt b i (r ∷ rs) e = (j len : ℕ) × RecordAt b i r j len × RecordsAt b (j + 10 + len) rs e
 
--- The octets, to their end, are the message.
+-- The octets spell the message, with nothing left over.
 pub record Spells (b : Octets) (m : DnsMessage) : Type 0 where
   pub id : NumberAt b 0 2 m.header.id
   pub flags : NumberAt b 2 2 m.header.flags

@@ -1,5 +1,4 @@
--- What a reader learns here: what a zone is, which records are at a name, and which of them make an
--- RRset.
+-- Records and zones: the records at a name, RRsets, and the canonical order.
 use Rattle.std.specs.Prelude.{ℕ, Bool, ◌&&◌, not, All, List, [], ◌∷◌, map, ◌==◌, if◌then◌else◌}
 use Rattle.std.specs.List.{Contains, list_any, filter}
 use Rattle.std.specs.Ordering.{nat_cmp, is_gt, ordering_then}
@@ -15,31 +14,31 @@ pub record ResourceRecord : Type 0 where
   pub rtype : ℕ
   pub rdata : Octets
 
--- equal in owner, type, data (RFC 2181 section 5) and, in this product, TTL
+-- equal owner in any case, type and data (RFC 2181 section 5) and, in this product, TTL
 abbrev pub records_equal : ResourceRecord → ResourceRecord → Bool
 records_equal r s =
     same r.owner s.owner && r.rtype == s.rtype && octets_equal r.rdata s.rdata && r.ttl == s.ttl
 
--- each record of one list stands in the other, in whatever order and however often
+-- each record of one list is in the other, in any order and any number of times
 abbrev pub HoldSameRecords : List ResourceRecord → List ResourceRecord → Type 0
 HoldSameRecords rs ss = All (Contains ss) rs × All (Contains rs) ss
 
--- an origin in lower case, and records whose order says nothing
+-- an origin in lower case, and records whose order has no meaning
 pub record ZoneContents : Type 0 where
   pub origin : DomainName
   pub records : List ResourceRecord
 
--- each element once: the first of its equals
+-- the list without duplicates: of equal elements the first is kept
 abbrev pub distinct : {X : Type 0} → (X → X → Bool) → List X → List X
 distinct eq [] = []
 distinct eq (x ∷ xs) = x ∷ filter (λ y. not (eq x y)) (distinct eq xs)
 
--- RFC 2181 section 5: the zone of an origin and of records as they were read
+-- RFC 2181 section 5: the zone with this origin and these records, without duplicates
 abbrev pub zone_of : DomainName → List ResourceRecord → ZoneContents
 zone_of o rs = record { origin = folded o; records = distinct records_equal rs }
 
--- a sort by insertion: an element goes before the first that is not before it, so that equal ones
--- keep their order
+-- insertion sort: an element is inserted before the first that it does not come after, so equal
+-- elements keep their order
 abbrev pub insert_by : {X : Type 0} → (X → X → Ordering) → X → List X → List X
 insert_by cmp x [] = x ∷ []
 insert_by cmp x (y ∷ ys) = if is_gt (cmp x y) then y ∷ insert_by cmp x ys else x ∷ y ∷ ys
@@ -48,18 +47,18 @@ abbrev pub sort_by : {X : Type 0} → (X → X → Ordering) → List X → List
 sort_by cmp [] = []
 sort_by cmp (x ∷ xs) = insert_by cmp x (sort_by cmp xs)
 
--- RFC 4034 6.3: data as unsigned octets, a beginning first
+-- RFC 4034 6.3: data is compared as unsigned octets; data that begins other data comes first
 abbrev pub data_order : ResourceRecord → ResourceRecord → Ordering
 data_order r s = slice_cmp nat_cmp r.rdata s.rdata
 
--- By owner, RFC 4034 6.1; then, in this product, by type; then by data, RFC 4034 6.3; and records
--- that agree in all these by TTL.
+-- By owner (RFC 4034 6.1); then, in this product, by type; then by data (RFC 4034 6.3); and last
+-- by TTL.
 abbrev pub record_order : ResourceRecord → ResourceRecord → Ordering
 record_order r s =
     ordering_then (name_order r.owner s.owner)
     (ordering_then (nat_cmp r.rtype s.rtype) (ordering_then (data_order r s) (nat_cmp r.ttl s.ttl)))
 
--- the zone of an origin and of records as they were read, these in canonical order
+-- the zone with this origin and these records, without duplicates and in canonical order
 abbrev pub ordered_zone : DomainName → List ResourceRecord → ZoneContents
 ordered_zone o rs =
     record { origin = folded o; records = sort_by record_order (distinct records_equal rs) }
@@ -68,11 +67,11 @@ ordered_zone o rs =
 abbrev pub at : ZoneContents → DomainName → List ResourceRecord
 at z n = filter (λ (r : ResourceRecord). same r.owner n) z.records
 
--- those of a type, by data octets
+-- the records of a type, sorted by data
 abbrev pub of_type : ℕ → List ResourceRecord → List ResourceRecord
 of_type t rs = sort_by data_order (filter (λ (r : ResourceRecord). r.rtype == t) rs)
 
--- RFC 2181 section 5: the RRset of a name and a type, by data octets
+-- RFC 2181 section 5: the RRset of a name and a type, sorted by data
 abbrev pub rrset : ZoneContents → DomainName → ℕ → List ResourceRecord
 rrset z n t = of_type t (at z n)
 
@@ -80,15 +79,15 @@ rrset z n t = of_type t (at z n)
 abbrev pub owns : ZoneContents → DomainName → ℕ → Bool
 owns z n t = list_any (λ (r : ResourceRecord). same r.owner n && r.rtype == t) z.records
 
--- records with another owner
+-- the records with another owner
 abbrev pub with_owner : DomainName → List ResourceRecord → List ResourceRecord
 with_owner n = map (λ (r : ResourceRecord). record r { owner = n })
 
--- the SERIAL of the first of SOA records
+-- the SERIAL of the first of the SOA records; 0 if there is none
 abbrev pub first_serial : List ResourceRecord → ℕ
 first_serial [] = 0
 first_serial (r ∷ rs) = soa_serial r.rdata
 
--- RFC 1035 3.3.13: the serial of a zone is that of the SOA at its origin; 0 without one
+-- RFC 1035 3.3.13: the serial of a zone is the SERIAL of the SOA at its origin; 0 without one
 abbrev pub zone_serial : ZoneContents → ℕ
 zone_serial z = first_serial (rrset z z.origin type_soa)

@@ -1,5 +1,4 @@
--- What a reader learns here: what the checker of zone files reports of a file, and whether its zone
--- passes.
+-- What the checker of zone files reports about a file, and whether its zone passes.
 use Rattle.std.specs.Prelude.{◌≡◌, ℕ, ◌+◌, ◌/◌, ◌%◌, Bool, true, false, ◌&&◌, not, List, [], ◌∷◌, ◌++◌, map, if◌then◌else◌, codes, decimal}
 use Rattle.std.specs.List.{flat_map, join_with_byte}
 use Rattle.dns_spec.specs.Names.{Octets, DomainName, folded}
@@ -10,19 +9,19 @@ use Rattle.dns_spec.specs.FileFaults.{FileFault, fault_code}
 use Rattle.dns_spec.specs.Meaning.{Meaning, records, fault_at, Means}
 use Rattle.dns_spec.specs.ZonePrinted.{zone_text}
 
--- what the checker is asked for
+-- the options of the checker
 pub record Options : Type 0 where
-  -- to write nothing but the zone
+  -- write nothing; without effect if `is_printing`
   pub is_quiet : Bool
-  -- to write the zone itself, where it passes
+  -- print the zone, if it passes
   pub is_printing : Bool
 
--- what is written, and whether the zone passes
+-- the output, and whether the zone passes
 pub record Report : Type 0 where
   pub output : Octets
   pub passes : Bool
 
--- the number of a code has two digits
+-- the number of a code in two digits
 abbrev pub two_digits : ℕ → Octets
 two_digits n = (48 + n / 10) ∷ (48 + n % 10) ∷ []
 
@@ -35,24 +34,24 @@ line_report fault line =
 abbrev pub fault_report : Fault → Octets
 fault_report f = name_text f.owner ++ codes " Z" ++ two_digits f.code ++ codes "\n"
 
--- the zone's name as named-checkzone prints it: without the final dot, and the root as `.`
+-- the zone's name as named-checkzone prints it: without the final dot, but the root as `.`
 abbrev pub bare_name_text : DomainName → Octets
 bare_name_text [] = codes "."
 bare_name_text (l ∷ n) = join_with_byte 46 (map label_text (l ∷ n))
 
--- what named-checkzone says of a zone that it loaded
+-- what named-checkzone prints about a zone that it loaded
 abbrev pub loaded_report : ZoneContents → Octets
 loaded_report z =
     codes "zone " ++ bare_name_text z.origin ++ codes "/IN: loaded serial "
     ++ decimal (zone_serial z) ++ codes "\nOK\n"
 
--- what a server of a given socket says once it serves the zone
+-- what a server that is given its socket prints once it serves the zone
 abbrev pub serving_report : ZoneContents → Octets
 serving_report z =
     codes "zone " ++ bare_name_text z.origin ++ codes "/IN: serving serial "
     ++ decimal (zone_serial z) ++ codes "\n"
 
--- with `is_quiet` and without `is_printing` no fault is reported
+-- the report of a failure; it is empty with `is_quiet`, unless `is_printing`
 abbrev pub failing : Options → Octets → Report
 failing options lines =
     record {
@@ -60,8 +59,8 @@ failing options lines =
       passes = false;
     }
 
--- a zone that passes is printed where that is asked for; else it is reported as loaded, or with
--- `is_quiet` nothing
+-- the report of a zone that passes: the zone itself with `is_printing`; else that it is loaded, or
+-- nothing with `is_quiet`
 abbrev pub passing : Options → ZoneContents → Report
 passing options z =
     record {
@@ -75,7 +74,7 @@ abbrev pub report_of_faults : Options → ZoneContents → List Fault → Report
 report_of_faults options z [] = passing options z
 report_of_faults options z (f ∷ fs) = failing options (flat_map fault_report (f ∷ fs))
 
--- all faults of the zone, one on a line; where it has none, what is reported of a zone that passes
+-- all faults of the zone, one per line; without a fault, the report of a zone that passes
 abbrev pub zone_report : Options → ZoneContents → Report
 zone_report options z = report_of_faults options z (faults z)
 
@@ -83,7 +82,7 @@ abbrev pub report_of_meaning : Options → DomainName → Meaning → Report
 report_of_meaning options o (records rs) = zone_report options (zone_of o rs)
 report_of_meaning options o (fault_at fault line) = failing options (line_report fault line)
 
--- What is reported of a text as the file of a zone with this origin.
+-- The report about a text as the file of a zone with this origin.
 abbrev pub Reports : DomainName → Octets → Options → Report → Type 0
 Reports o text options report =
     (m : Meaning) × Means (folded o) text m × (report ≡ report_of_meaning options o m)

@@ -1,5 +1,5 @@
--- What a reader learns here: of which types records are, what a record set is without its owner,
--- and which records it stands for at an owner.
+-- Record sets: the types of records, a set without its owner, and the records of a set at an
+-- owner.
 use Rattle.std.specs.Prelude.{ℕ, List, [], ◌∷◌, map, All, ◌==◌}
 use Rattle.std.specs.Prelude.{Option, None, Some}
 use Rattle.std.specs.Ordering.{nat_cmp}
@@ -7,14 +7,14 @@ use Rattle.dns_spec.specs.Names.{Octets, DomainName}
 use Rattle.dns_spec.specs.Data.{Valid}
 use Rattle.dns_spec.specs.Records.{ResourceRecord, distinct, sort_by, of_type}
 
--- the types of records, each once, and by rising number
+-- the types of records, each once; and the same by rising number
 abbrev pub types_of : List ResourceRecord → List ℕ
 types_of rs = distinct ◌==◌ (map (λ (r : ResourceRecord). r.rtype) rs)
 
 abbrev pub rising_types : List ResourceRecord → List ℕ
 rising_types rs = sort_by nat_cmp (types_of rs)
 
--- the records of the lowest of their types, by data octets
+-- the records of their lowest type, sorted by data
 abbrev pub of_first_type : List ℕ → List ResourceRecord → List ResourceRecord
 of_first_type [] rs = []
 of_first_type (t ∷ ts) rs = of_type t rs
@@ -22,13 +22,14 @@ of_first_type (t ∷ ts) rs = of_type t rs
 abbrev pub of_lowest_type : List ResourceRecord → List ResourceRecord
 of_lowest_type rs = of_first_type (rising_types rs) rs
 
--- RFC 2181 5: a type, a TTL in seconds, and the data of each record
+-- RFC 2181 5: a record set without its owner: a type, a TTL in seconds, and the data of each
+-- record
 pub record RecordSet : Type 0 where
   pub rtype : ℕ
   pub ttl : ℕ
   pub rdata : List Octets
 
--- RFC 1035 3.2.1: all data of the set is of its type
+-- RFC 1035 3.2.1: all data of the set is valid for its type
 abbrev pub HasValidData : RecordSet → Type 0
 HasValidData set = All (Valid set.rtype) set.rdata
 
@@ -38,7 +39,7 @@ records_at owner ttl set =
     map (λ (d : Octets). record { owner = owner; ttl = ttl; rtype = set.rtype; rdata = d })
     set.rdata
 
--- the set that records of one type and one TTL make; no records make none
+-- the set of records that have one type and one TTL; none if there are no records
 abbrev pub set_of : List ResourceRecord → Option RecordSet
 set_of [] = None
 set_of (r ∷ rs) =

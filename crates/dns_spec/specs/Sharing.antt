@@ -1,6 +1,6 @@
--- What a reader learns here: the sizes that a reply may have by RFC 1035 4.1.4, where each name is
--- written whole or shares any of its suffixes. The layout has the least of them, up to 16,384
--- octets: of longer ones some places are past the reach of a pointer.
+-- The sizes that RFC 1035 4.1.4 allows for a reply, if each name is written whole or shares any
+-- one of its suffixes. The layout has the least of them up to 16,384 octets; in longer replies,
+-- some places are beyond the reach of a pointer.
 use Rattle.std.specs.Prelude.{◌≡◌, ℕ, List, IsTrue}
 use Rattle.std.specs.Prelude.{Option, Some}
 use Rattle.std.specs.List.{list_any}
@@ -9,9 +9,9 @@ use Rattle.dns_spec.specs.Reading.{MessageQuestion}
 use Rattle.dns_spec.specs.Layout.{Item, Lookup, Placed, has_suffix}
 use Rattle.dns_spec.specs.LayoutSize.{size_by}
 
--- A choice of what each name shares, if anything: a place is given only for a suffix that an earlier
--- name has, octet by octet. With each name there is one earlier name more, so that the choice is
--- free for each.
+-- A choice of what each name shares, if anything: it gives a place only for a suffix that an
+-- earlier name has, octet by octet. The choice is free for each name, since the list of earlier
+-- names grows with each.
 abbrev pub IsLawful : Lookup → Type 0
 IsLawful find =
     (ms : List Placed) (s : DomainName) (p : ℕ) → find ms s ≡ Some p

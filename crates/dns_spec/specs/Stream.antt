@@ -1,5 +1,4 @@
--- What a reader learns here: which messages a stream holds, each after its length, and what is
--- written in reply to them.
+-- Which messages a stream contains, each after its length, and what is written in reply to them.
 use Rattle.std.specs.Prelude.{◌≡◌, ℕ, zero, suc, ◌+◌, ◌^◌, ◌<◌, Bool, List, [], ◌∷◌, ◌++◌, length, take, drop, nat_le, if◌then◌else◌}
 use Rattle.std.specs.Prelude.{Option, None, Some}
 use Rattle.std.specs.List.{flat_map}
@@ -7,7 +6,7 @@ use Rattle.dns_spec.specs.Names.{Octets}
 use Rattle.dns_spec.specs.Query.{field16}
 use Rattle.dns_spec.specs.Layout.{octets16}
 
--- RFC 1035 4.2.2: over TCP a message stands after its length in two octets
+-- RFC 1035 4.2.2: over TCP a message follows its length in two octets
 abbrev pub frame : Octets → Octets
 frame m = octets16 (length m) ++ m
 
@@ -21,8 +20,8 @@ first_frame x =
     let n = field16 x 0 in
     if has_frame x then Some (take n (drop 2 x), drop n (drop 2 x)) else None
 
--- the messages of the frames that the octets begin with, at most so many, and the octets after
--- these frames
+-- the messages of the first k frames that the octets begin with, or of all if there are fewer; and
+-- the octets after these frames
 unfoldable pub frames : ℕ → Octets → List Octets
 frames zero x = []
 frames (suc k) x = elim (first_frame x) [ None ↦ [] | Some r ↦ r.0 ∷ frames k r.1 ]
@@ -31,8 +30,8 @@ unfoldable pub after_frames : ℕ → Octets → Octets
 after_frames zero x = x
 after_frames (suc k) x = elim (first_frame x) [ None ↦ x | Some r ↦ after_frames k r.1 ]
 
--- The octets are a beginning of a frame, not empty and not whole: a stream that ends with them was
--- cut.
+-- The octets are a beginning of a frame, neither empty nor whole: a stream that ends with them was
+-- cut short.
 pub record IsCutFrame (x : Octets) : Type 0 where
   pub message : Octets
   pub short : length message < 2 ^ 16
@@ -41,11 +40,11 @@ pub record IsCutFrame (x : Octets) : Type 0 where
   pub some : 0 < length x
   pub cut : 0 < length missing
 
--- the reply to a message in its frame, and nothing for a message that gets no reply
+-- the reply to a message in its frame; nothing for a message that gets no reply
 abbrev pub reply_frame : Option Octets → Octets
 reply_frame None = []
 reply_frame (Some r) = frame r
 
--- what is written in reply to messages, where `reply` gives the reply to each
+-- what is written in reply to messages; `reply` gives the reply to each
 abbrev pub replies : (Octets → Option Octets) → List Octets → Octets
 replies reply = flat_map (λ m. reply_frame (reply m))

@@ -1,4 +1,4 @@
--- What a reader learns here: which names exist, where a zone is cut, which name encloses a missing
+-- Which names exist, where the cuts of a zone are, which name is the closest encloser of a missing
 -- one, and which records are found for a name, by a wildcard too.
 use Rattle.std.specs.Prelude.{Bool, ◌&&◌, List, [], ◌∷◌, reverse, if◌then◌else◌}
 use Rattle.std.specs.Prelude.{Option, None, Some}
@@ -8,7 +8,7 @@ use Rattle.dns_spec.specs.Names.{Octets, DomainName, folded, at_or_below, below,
 use Rattle.dns_spec.specs.Data.{type_ns}
 use Rattle.dns_spec.specs.Records.{ResourceRecord, ZoneContents, at, owns, with_owner}
 
--- RFC 4592 2.2: a name exists where it, or a name below it, owns a record
+-- RFC 4592 2.2: a name exists if it or a name below it owns a record
 abbrev pub exists : ZoneContents → DomainName → Bool
 exists z n = list_any (λ (r : ResourceRecord). at_or_below r.owner n) z.records
 
@@ -16,35 +16,35 @@ exists z n = list_any (λ (r : ResourceRecord). at_or_below r.owner n) z.records
 abbrev pub is_cut : ZoneContents → DomainName → Bool
 is_cut z n = below n z.origin && owns z n type_ns
 
--- a list without its first
+-- a list without its first element
 abbrev pub without_first : {X : Type 0} → List X → List X
 without_first [] = []
 without_first (x ∷ xs) = xs
 
--- the names above a name, the nearest first, in lower case as the names of a zone are
+-- the names above a name, nearest first, in lower case as the names of a zone are
 abbrev pub ancestors : DomainName → List DomainName
 ancestors n = without_first (suffixes (folded n))
 
--- RFC 1034 4.3.2 step 3b: the cut with fewest labels that the name is at or below
+-- RFC 1034 4.3.2 step 3b: the cut with the fewest labels that the name is at or below
 abbrev pub cut_of : ZoneContents → DomainName → Option DomainName
 cut_of z q = find (is_cut z) (reverse (suffixes (folded q)))
 
--- RFC 4592 3.3.1: the existing name with most labels that the name is below
+-- RFC 4592 3.3.1: the existing name with the most labels that the name is below
 abbrev pub closest_encloser : ZoneContents → DomainName → Option DomainName
 closest_encloser z q = find (exists z) (ancestors q)
 
--- RFC 4592 2.1.1: the wildcard's label is `*`
+-- RFC 4592 2.1.1: the label of a wildcard is `*`
 abbrev pub asterisk : Octets
 asterisk = 42 ∷ []
 
--- RFC 4592 3.3.1: the wildcard below the closest encloser, where it exists
+-- RFC 4592 3.3.1: the wildcard directly below the closest encloser, if it exists
 abbrev pub source_of_synthesis : ZoneContents → DomainName → Option DomainName
 source_of_synthesis z q =
     option_and_then (λ e. if exists z (asterisk ∷ e) then Some (asterisk ∷ e) else None)
     (closest_encloser z q)
 
--- RFC 1034 4.3.2 step 3: the records found for a name, shown with it as owner: its own where it
--- exists, which may be none, else those of the wildcard. `None` is a name error.
+-- RFC 1034 4.3.2 step 3: the records found for a name, with that name as owner: its own records if
+-- it exists (there may be none), else the records of the wildcard. `None` is a name error.
 abbrev pub found : ZoneContents → DomainName → Option (List ResourceRecord)
 found z q =
     if exists z q then Some (with_owner q (at z q))

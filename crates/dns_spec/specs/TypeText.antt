@@ -1,5 +1,4 @@
--- What a reader learns here: which type a word of a zone file names, and by which word a type is
--- written.
+-- Types in zone files: which type a word names, and how a type is written.
 use Rattle.std.specs.Prelude.{◌≡◌, ℕ, ◌<◌, ◌⊎◌, ◌++◌, map, codes, Option, Some}
 use Rattle.std.specs.Option.{option_map, unwrap_or}
 use Rattle.std.specs.List.{find}
@@ -12,7 +11,7 @@ use Rattle.dns_spec.specs.Data.{TypeRow, type_table, row_of}
 abbrev pub text_in_lower_case : Octets → Octets
 text_in_lower_case = map to_ascii_lowercase
 
--- RFC 1035 3.2.2 and 5.1: the type of the table that has the word as its name, in any case
+-- RFC 1035 3.2.2 and 5.1: the type in the table whose mnemonic is the word, in any case
 abbrev pub row_by_mnemonic : Octets → Option TypeRow
 row_by_mnemonic word =
     find
@@ -22,16 +21,16 @@ row_by_mnemonic word =
 abbrev pub type_by_mnemonic : Octets → Option ℕ
 type_by_mnemonic word = option_map (λ (row : TypeRow). row.number) (row_by_mnemonic word)
 
--- RFC 3597 5: `TYPE` and the number in decimal, without zeros before it (in this product)
+-- RFC 3597 5: `TYPE` and the number in decimal, without leading zeros (in this product)
 abbrev pub numbered_type : ℕ → Octets
 numbered_type t = codes "TYPE" ++ decimal t
 
--- a word names a type of 16 bits: by the name in the table, or by its number, in any case
+-- a word names a type of 16 bits: by its mnemonic in the table, or by its number, in any case
 abbrev pub NamesType : Octets → ℕ → Type 0
 NamesType word t =
     (type_by_mnemonic word ≡ Some t)
     ⊎ ((t < 65536) × (text_in_lower_case word ≡ text_in_lower_case (numbered_type t)))
 
--- RFC 3597 5: a type is written by its name, or by its number where it has none
+-- RFC 3597 5: a type is written as its mnemonic if it has one, else by its number
 abbrev pub type_text : ℕ → Octets
 type_text t = unwrap_or (option_map (λ (row : TypeRow). row.mnemonic) (row_of t)) (numbered_type t)

@@ -1,4 +1,4 @@
--- What a reader learns here: how the data of a record is written, word by word.
+-- How the data of a record is written, word by word.
 use Rattle.std.specs.Prelude.{ℕ, zero, suc, ◌+◌, ◌/◌, ◌%◌, Bool, ◌&&◌, ◌||◌, not, true, false, List, [], ◌∷◌, ◌++◌, map, length, take, drop, nat_lt, nat_le, ◌==◌, if◌then◌else◌, codes, decimal}
 use Rattle.std.specs.Prelude.{Option, None, Some}
 use Rattle.std.specs.List.{flat_map, join_with_byte}
@@ -13,45 +13,45 @@ use Rattle.dns_spec.specs.DataText.{Word, is_word_octet, is_string_octet, WordFo
 abbrev pub plain : Octets → Word
 plain text = record { raw = text; is_quoted = false }
 
--- RFC 1035 5.1: in quotation marks `"` and `\` have a backslash, and octets that are not printable
--- are `\DDD`
+-- RFC 1035 5.1: in quotation marks, `"` and `\` have a backslash before them, and octets that are
+-- not printable are written as `\DDD`
 abbrev pub string_octet_text : ℕ → Octets
 string_octet_text o =
     if o == 34 || o == 92 then 92 ∷ o ∷ []
     else if nat_le 32 o && nat_le o 126 then o ∷ []
     else 92 ∷ three_digits o
 
--- the octets of a string as a word in quotation marks
+-- a string as a word in quotation marks
 abbrev pub quoted : Octets → Word
 quoted s = record { raw = flat_map string_octet_text s; is_quoted = true }
 
--- a word as it stands in the text
+-- a word as it appears in the text
 abbrev pub word_text : Word → Octets
 word_text w = if w.is_quoted then 34 ∷ (w.raw ++ 34 ∷ []) else w.raw
 
--- a string as it stands in the text
+-- a string as it appears in the text
 abbrev pub string_text : Octets → Octets
 string_text s = word_text (quoted s)
 
--- two hex digits an octet, in lower case
+-- two lower-case hex digits per octet
 abbrev pub hex_text : Octets → Octets
 hex_text d = flat_map (λ o. digit_char (o / 16) ∷ digit_char (o % 16) ∷ []) d
 
--- all octets in one word, if there are any
+-- all octets in one word; no word if there are none
 abbrev pub hex_words : Octets → List Word
 hex_words [] = []
 hex_words (o ∷ d) = plain (hex_text (o ∷ d)) ∷ []
 
--- RFC 3597 section 5: the form for data of any type
+-- RFC 3597 section 5: the generic form, for data of any type
 abbrev pub unknown_words : Octets → List Word
 unknown_words d = plain (92 ∷ codes "#") ∷ plain (decimal (length d)) ∷ hex_words d
 
--- The word that data begins with, as it is written, and the data after it.
+-- The name that data begins with, as a word, and the data after it.
 abbrev pub name_front : Option (DomainName × Octets) → Word × Octets
 name_front None = (plain [], [])
 name_front (Some (n, d)) = (plain (name_text n), d)
 
--- the same by the form of the word
+-- the word of a form that data begins with, and the data after it
 abbrev pub word_front : WordForm → Octets → Word × Octets
 word_front (number_word k) d = (plain (decimal (number_of (take k d))), drop k d)
 word_front ipv4_word d = (plain (ipv4_text (take 4 d)), drop 4 d)
@@ -60,34 +60,34 @@ word_front name_word d = name_front (name_of d)
 word_front string_word [] = (quoted [], [])
 word_front string_word (k ∷ d) = (quoted (take k d), drop k d)
 
--- the words of these forms, one after the other
+-- the words of data, one for each form
 abbrev pub form_words : List WordForm → Octets → List Word
 form_words [] d = []
 form_words (f ∷ fs) d = (word_front f d).0 ∷ form_words fs (word_front f d).1
 
--- how many character-strings stand in the data (RFC 1035 3.3), where k octets of the one at hand
--- are still to come
+-- the number of character-strings in data (RFC 1035 3.3); the first k octets belong to the current
+-- one
 abbrev pub string_count : ℕ → Octets → ℕ
 string_count k [] = 0
 string_count zero (k ∷ d) = 1 + string_count k d
 string_count (suc k) (o ∷ d) = string_count k d
 
--- the words of data by its forms, where its type has a mnemonic
+-- the words of data by its forms; in the generic form if its type has no mnemonic
 abbrev pub words_by : Option (List WordForm) → Octets → List Word
 words_by None d = unknown_words d
 words_by (Some fs) d = form_words fs d
 
--- The words of data of a type, which is valid for it: those of its forms, or for a type without a
--- mnemonic those of the form for data of any type.
+-- The words of data that is valid for its type: by the forms of the type, or in the generic form
+-- if the type has no mnemonic.
 abbrev pub written_words : ℕ → Octets → List Word
 written_words t d = words_by (forms_of t (string_count 0 d)) d
 
--- the text of data of a type: its words with one space between
+-- the text of data of a type: its words, separated by single spaces
 unfoldable pub data_text : ℕ → Octets → Octets
 data_text t d = join_with_byte 32 (map word_text (written_words t d))
 
--- RFC 1035 5.1: a text is of octets that p takes, and of escapes: a backslash, which p doesn't
--- take, with a printable octet
+-- RFC 1035 5.1: the text is made of octets that p accepts and of escapes, each a backslash and a
+-- graphic octet; p does not accept the backslash
 abbrev pub is_unbroken : (ℕ → Bool) → Octets → Bool
 is_unbroken p [] = true
 is_unbroken p (c ∷ []) = p c
@@ -97,11 +97,12 @@ is_unbroken p (c ∷ d ∷ text) =
       | false ↦ p c && is_unbroken p (d ∷ text)
     ]
 
--- what is written in a quoted string by itself: no tab
+-- an octet that is written as itself in a quoted string; a tab is not
 abbrev pub is_quotable : ℕ → Bool
 is_quotable c = not (c == 9) && is_string_octet c
 
--- Nothing in the text of a word ends it. Whether its escapes are escapes is not asked here.
+-- Nothing in the text of the word ends it early. Whether its escapes are valid is not checked
+-- here.
 abbrev pub stands_alone : Word → Bool
 stands_alone w =
     if w.is_quoted then is_unbroken is_quotable w.raw

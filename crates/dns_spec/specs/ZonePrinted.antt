@@ -1,4 +1,4 @@
--- What a reader learns here: the one text in which a zone is printed, line by line.
+-- The canonical text in which a zone is printed, line by line.
 use Rattle.std.specs.Prelude.{◌≡◌, ◌<◌, ◌≤◌, Bool, not, All, List, ◌++◌, ◌==◌, IsTrue, codes, decimal}
 use Rattle.std.specs.List.{filter, flat_map}
 use Rattle.dns_spec.specs.Names.{Octets, is_name, folded}
@@ -9,8 +9,8 @@ use Rattle.dns_spec.specs.WrittenText.{data_text}
 use Rattle.dns_spec.specs.Records.{record_order, ResourceRecord, ZoneContents, sort_by}
 use Rattle.dns_spec.specs.Meaning.{most_ttl, is_zone_type}
 
--- what every record keeps that was read: its owner and the names in its data are in lower case, and
--- its data is of its type
+-- what holds for every record that was read: its fields are in range, its data is valid for its
+-- type, and its owner and the names in its data are in lower case
 pub record IsReadRecord (r : ResourceRecord) : Type 0 where
   pub owner_octets : All (All (λ o. o < 256)) r.owner
   pub owner : IsTrue (is_name r.owner)
@@ -21,24 +21,24 @@ pub record IsReadRecord (r : ResourceRecord) : Type 0 where
   pub rdata : Valid r.rtype r.rdata
   pub lower_data : lower_case r.rtype r.rdata ≡ r.rdata
 
--- the record's type is one that zones have
+-- the record's type may appear in a zone
 abbrev pub HasZoneType : ResourceRecord → Type 0
 HasZoneType r = IsTrue (is_zone_type r.rtype)
 
--- RFC 1035 5.1: a record on a line of its own, with nothing left out
+-- RFC 1035 5.1: a record on one line, with all its fields
 abbrev pub record_line : ResourceRecord → Octets
 record_line r =
     name_text r.owner ++ codes " " ++ decimal r.ttl ++ codes " IN " ++ type_text r.rtype
     ++ codes " " ++ data_text r.rtype r.rdata ++ codes "\n"
 
--- (in this product) the lines of SOA records go before all others
+-- SOA records before all others (in this product)
 abbrev pub is_soa : ResourceRecord → Bool
 is_soa r = r.rtype == type_soa
 
 abbrev pub soa_first : List ResourceRecord → List ResourceRecord
 soa_first rs = filter is_soa rs ++ filter (λ r. not (is_soa r)) rs
 
--- the records as they are printed: the SOA, then the others in canonical order
+-- the records in the order in which they are printed: the SOA, then the others in canonical order
 abbrev pub printed_records : ZoneContents → List ResourceRecord
 printed_records z = soa_first (sort_by record_order z.records)
 

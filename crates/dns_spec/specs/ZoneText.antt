@@ -1,5 +1,5 @@
--- What a reader learns here: of which tokens the text of a zone file is made, which entries it has,
--- and where it is at fault before any word of it is read.
+-- The text of a zone file: its tokens, its entries, and the faults that are found before any word
+-- is read.
 use Rattle.std.specs.Prelude.{◌≡◌, ℕ, zero, suc, ◌+◌, ◌-◌, Bool, true, false, ◌&&◌, ◌||◌, not, List, [], ◌∷◌, length, take, drop, nat_lt, ◌==◌, if◌then◌else◌, fold}
 use Rattle.std.specs.Prelude.{Option, None, Some}
 use Rattle.std.specs.Option.{option_map, unwrap_or}
@@ -11,11 +11,11 @@ use Rattle.dns_spec.specs.NameText.{escape_front}
 use Rattle.dns_spec.specs.DataText.{Word, is_word_octet, is_string_octet}
 use Rattle.dns_spec.specs.FileFaults.{FileFault, bad_octet, bad_escape, unended_string, bad_parenthesis, too_long}
 
--- A text has at most so many octets (in this product).
+-- The most octets that a text may have (in this product).
 abbrev pub most_octets : ℕ
 most_octets = 16777216
 
--- RFC 1035 5.1: what a text is made of. A word and a quoted string keep their spelling, without the
+-- RFC 1035 5.1: the tokens of a text. A word and a quoted string keep their spelling, without the
 -- quotation marks.
 pub data Token : Type 0 where
   blank : Token
@@ -30,33 +30,33 @@ pub data Token : Type 0 where
 abbrev pub is_blank : ℕ → Bool
 is_blank o = o == 32 || o == 9
 
--- how many octets after the backslash at hand belong to its escape, where it begins one
+-- how many octets of the text after a backslash belong to its escape, if it begins one
 abbrev pub escape_left : Octets → Option ℕ
 escape_left text = option_map (λ r. length text - length r.1) (escape_front text)
 
--- Whether an octet goes on with a word or a string, which has such octets and escapes, and then how
--- many octets of its escape are still to come.
+-- If o continues a word or a string: how many octets of its escape follow it, 0 if o is not a
+-- backslash. `by_itself` accepts the octets that may appear unescaped.
 abbrev pub unit_left : (ℕ → Bool) → ℕ → Octets → Option ℕ
 unit_left by_itself o text =
     if o == 92 then escape_left text else if by_itself o then Some 0 else None
 
--- how many octets of a word or a string stand at the beginning of a text, where k octets of the
--- escape at hand are still to come
+-- the length of the longest run at the beginning of the text that may be in a word or a string;
+-- the first k octets belong to the current escape
 unfoldable pub run_length : (ℕ → Bool) → ℕ → Octets → ℕ
 run_length by_itself k [] = 0
 run_length by_itself (suc k) (o ∷ text) = 1 + run_length by_itself k text
 run_length by_itself zero (o ∷ text) =
     elim (unit_left by_itself o text) [ None ↦ 0 | Some k ↦ 1 + run_length by_itself k text ]
 
--- the longest run of octets of a word
+-- the length of the word that begins the text, 0 if none does
 abbrev pub word_length : Octets → ℕ
 word_length text = run_length is_word_octet 0 text
 
--- the octets of a string up to its end, or to where it can't go on
+-- the length of the string that begins the text, up to its end or up to what can't continue it
 abbrev pub string_length : Octets → ℕ
 string_length text = run_length is_string_octet 0 text
 
--- after a quotation mark: the string up to the next one, and the text after that
+-- after an opening quotation mark: the string up to the closing mark, and the text after that
 abbrev pub closed : Octets → Octets → Option (Token × Octets)
 closed raw [] = None
 closed raw (o ∷ text) = if o == 34 then Some (quoted_string raw, text) else None
@@ -64,20 +64,20 @@ closed raw (o ∷ text) = if o == 34 then Some (quoted_string raw, text) else No
 abbrev pub quoted_front : Octets → Option (Token × Octets)
 quoted_front text = closed (take (string_length text) text) (drop (string_length text) text)
 
--- the word that a text begins with, and the text after it
+-- the word that begins the text, and the text after it
 abbrev pub unquoted_front : Octets → Option (Token × Octets)
 unquoted_front text =
     if word_length text == 0 then None
     else Some (word (take (word_length text) text), drop (word_length text) text)
 
--- after CR
+-- after CR: the line end, and the text after it
 abbrev pub line_feed_front : Octets → Option (Token × Octets)
 line_feed_front [] = None
 line_feed_front (o ∷ text) = if o == 10 then Some (line_end, text) else None
 
--- RFC 1035 5.1: the token that a text begins with, by its first octet, and the text after it. A
--- blank is the longest run of spaces and tabs, a word the longest run of its octets; a comment goes
--- on to the end of its line, whatever it holds.
+-- RFC 1035 5.1: the token that begins the text, by its first octet, and the text after it. A blank
+-- is the longest run of spaces and tabs, and a word the longest run of its octets; a comment
+-- extends to the end of its line and may contain any octets.
 abbrev pub token_front : Octets → Option (Token × Octets)
 token_front [] = None
 token_front (o ∷ text) =
@@ -90,13 +90,13 @@ token_front (o ∷ text) =
     else if o == 13 then line_feed_front text
     else unquoted_front (o ∷ text)
 
--- The text begins with these tokens, one after the other, and then comes `rest`.
+-- The text begins with these tokens, in order, followed by `rest`.
 abbrev pub TokensThen : Octets → List Token → Octets → Type 0
 TokensThen text [] rest = text ≡ rest
 TokensThen text (p ∷ ps) rest =
     (others : Octets) × (token_front text ≡ Some (p, others)) × TokensThen others ps rest
 
--- an open parenthesis, or a close one
+-- true for an opening parenthesis, false for a closing one, and none for another token
 abbrev pub parenthesis : Token → Option Bool
 parenthesis blank = None
 parenthesis comment = None
@@ -106,22 +106,22 @@ parenthesis opening = Some true
 parenthesis closing = Some false
 parenthesis line_end = None
 
--- LF, or CR LF, which ends an entry outside parentheses
+-- LF or CR LF; outside parentheses it ends an entry
 abbrev pub is_line_end : Token → Bool
 is_line_end line_end = true
 is_line_end _ = false
 
--- whether a parenthesis is open after a token, where one was or was not before it
+-- whether a parenthesis is open after a token, by whether one was open before it
 abbrev pub open_after : Bool → Token → Bool
 open_after was_open p = unwrap_or (parenthesis p) was_open
 
--- a token before the first of the lists
+-- adds a token in front of the first list
 abbrev pub before_first : Token → List (List Token) → List (List Token)
 before_first p [] = []
 before_first p (e ∷ es) = (p ∷ e) ∷ es
 
--- RFC 1035 5.1: parentheses group words over line ends, so an entry goes up to its first line end
--- outside them. What is left after the last such line end is the last of these lists.
+-- RFC 1035 5.1: parentheses continue an entry over line ends, so an entry ends with its first line
+-- end outside them. The tokens after the last such line end are the last of these lists.
 abbrev pub cut_entries : Bool → List Token → List (List Token)
 cut_entries is_open [] = [] ∷ []
 cut_entries is_open (p ∷ ps) =
@@ -130,16 +130,16 @@ cut_entries is_open (p ∷ ps) =
       | false ↦ before_first p (cut_entries (open_after is_open p) ps)
     ]
 
--- parentheses do not nest (in this product), so that open ones and close ones take turns
+-- parentheses do not nest (in this product), so opening and closing ones alternate
 abbrev pub take_turns : Bool → List Bool → Bool
 take_turns is_open [] = true
 take_turns is_open (opens ∷ marks) = xor opens is_open && take_turns opens marks
 
--- the parentheses among tokens
+-- the parentheses among tokens, in order
 abbrev pub parentheses : List Token → List Bool
 parentheses = filter_map parenthesis
 
--- a parenthesis is open after the tokens
+-- a parenthesis is still open after the tokens
 abbrev pub is_open_at_end : List Token → Bool
 is_open_at_end ps = fold open_after false ps
 
@@ -149,7 +149,8 @@ begins_line_end [] = false
 begins_line_end (o ∷ []) = o == 10
 begins_line_end (o ∷ p ∷ text) = o == 10 || (o == 13 && p == 10)
 
--- the beginning of an escape, whatever its digits so far, or of CR LF, that more octets might end
+-- the octets are empty, or the beginning of an escape (with any digits) or of CR LF that more
+-- octets might complete
 abbrev pub is_cut_short : Octets → Bool
 is_cut_short [] = true
 is_cut_short (o ∷ []) = o == 92 || o == 13
@@ -162,48 +163,49 @@ abbrev pub begins_with : ℕ → Octets → Bool
 begins_with x [] = false
 begins_with x (o ∷ text) = o == x
 
--- How much of a text is looked at: all of it, or a beginning, after which it goes on.
+-- How much of a text is examined: all of it, or a beginning that more text follows.
 pub data Extent : Type 0 where
   whole_text : Extent
   beginning : Extent
 
--- by whether the text goes on
+-- the extent, by whether the text goes on
 abbrev pub extent_by : Bool → Extent
 extent_by goes_on = if goes_on then beginning else whole_text
 
--- no more of a text than its limit is looked at
+-- a text is examined only up to its limit
 abbrev pub extent_of : Octets → Extent
 extent_of text = extent_by (nat_lt most_octets (length text))
 
--- Why no token begins: the text is over; or it can't go on, in a string or where a token should
--- begin, with the octets from there on.
+-- Why no token begins at a place: the text is over; an octet can't continue a string; or an octet
+-- can't begin a token. The octets from that place on come with it.
 pub data EntryStop : Type 0 where
   text_over : EntryStop
   in_string : Octets → EntryStop
   in_token : Octets → EntryStop
 
--- what stops at a place where no token begins
+-- why no token begins at these octets
 abbrev pub stop_at : Octets → EntryStop
 stop_at [] = text_over
 stop_at (o ∷ text) =
     if o == 34 then in_string (drop (string_length text) text) else in_token (o ∷ text)
 
--- `R02`: a backslash begins no escape. `R01`: an octet isn't allowed.
+-- `R02` for a backslash that begins no escape; else `R01`, an octet that is not allowed.
 abbrev pub token_fault : Octets → FileFault
 token_fault place = if begins_with 92 place then bad_escape else bad_octet
 
--- `R03`: the string isn't ended on its line; or its next octets are wrong.
+-- `R03` if the string does not end on its line; else the fault of its next octets.
 abbrev pub string_fault : Octets → FileFault
 string_fault place =
     if length place == 0 || begins_line_end place then unended_string else token_fault place
 
--- `R15`: the text goes on past its limit, and more of it would be needed to tell.
+-- The fault, or `R15` if the text goes on past its limit and more octets might change the fault.
 abbrev pub unless_cut_short : Extent → Octets → FileFault → FileFault
 unless_cut_short whole_text place fault = fault
 unless_cut_short beginning place fault = if is_cut_short place then too_long else fault
 
--- The fault of an entry that isn't ended by a line end, inside parentheses or outside them: `R15`,
--- the text goes on past its limit; `R04`, it ends inside parentheses; or a token that is wrong.
+-- The fault of an entry that does not end with a line end; `is_open` is whether it ends inside
+-- parentheses. `R15`, the text goes on past its limit; `R04`, the text ends inside parentheses; or
+-- the fault of an invalid token.
 abbrev pub stop_fault : Extent → Bool → EntryStop → Option FileFault
 stop_fault whole_text is_open text_over = if is_open then Some bad_parenthesis else None
 stop_fault beginning is_open text_over = Some too_long
@@ -212,28 +214,28 @@ stop_fault extent is_open (in_string place) =
 stop_fault extent is_open (in_token place) =
     Some (unless_cut_short extent place (token_fault place))
 
--- An entry: its tokens, and what is wrong with its end, if anything is.
+-- An entry: its tokens, and the fault at its end, if any.
 pub record Entry : Type 0 where
   pub tokens : List Token
   pub end_fault : Option FileFault
 
--- an entry that its line end ends
+-- an entry that ends with its line end
 abbrev pub ended : List Token → Entry
 ended ps = record { tokens = ps; end_fault = None }
 
--- an entry that the rest ends, where no token begins
+-- an entry that ends at `rest`, where no token begins
 abbrev pub unended : Extent → Octets → List Token → Entry
 unended extent rest ps =
     record { tokens = ps; end_fault = stop_fault extent (is_open_at_end ps) (stop_at rest) }
 
--- the last entry is ended by no line end, but by `rest`
+-- the entries of these lists of tokens; the last one ends at `rest`, not with a line end
 abbrev pub with_end : Extent → Octets → List (List Token) → List Entry
 with_end extent rest [] = []
 with_end extent rest (ps ∷ []) = unended extent rest ps ∷ []
 with_end extent rest (ps ∷ qs ∷ es) = ended ps ∷ with_end extent rest (qs ∷ es)
 
--- The entries of octets that are all of a text, or a beginning of one: their tokens up to where
--- none begins, cut into entries.
+-- The entries of octets that are all of a text, or a beginning of one: the tokens up to the place
+-- where none begins, split into entries.
 pub record EntriesOf (extent : Extent) (octets : Octets) (es : List Entry) : Type 0 where
   pub tokens : List Token
   pub rest : Octets
@@ -241,17 +243,17 @@ pub record EntriesOf (extent : Extent) (octets : Octets) (es : List Entry) : Typ
   pub at_end : token_front rest ≡ None
   pub entries : es ≡ with_end extent rest (cut_entries false tokens)
 
--- The entries of a text, of which no more than its limit is looked at.
+-- The entries of a text, examined only up to its limit.
 abbrev pub Entries : Octets → List Entry → Type 0
 Entries text es = EntriesOf (extent_of text) (take most_octets text) es
 
--- The first fault of an entry by its place, before any word of it is read: `R04`, a parenthesis in
--- a parenthesis or a close one without an open one; else what ends it.
+-- The first fault of an entry by its place, before any word is read: `R04`, a nested parenthesis
+-- or a closing one without an opening one; else the fault at its end.
 abbrev pub lexical_fault : Entry → Option FileFault
 lexical_fault e =
     if take_turns false (parentheses e.tokens) then e.end_fault else Some bad_parenthesis
 
--- the word of a token, where it is one
+-- the word of a token that is a word or a quoted string
 abbrev pub word_of : Token → Option Word
 word_of blank = None
 word_of comment = None
@@ -270,7 +272,7 @@ abbrev pub is_blank_token : Token → Bool
 is_blank_token blank = true
 is_blank_token _ = false
 
--- whether the entry begins with a space or a tab
+-- the tokens begin with a blank
 abbrev pub begins_blank : List Token → Bool
 begins_blank [] = false
 begins_blank (p ∷ ps) = is_blank_token p

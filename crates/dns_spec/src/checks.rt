@@ -7,26 +7,27 @@ ghost use Rattle.dns_spec.specs.Names.{DomainName, folded};
 ghost use Rattle.dns_spec.specs.Records.{ResourceRecord, ZoneContents};
 ghost use Rattle.dns_spec.specs.Checks.{is_origin, is_owner, fails, faults, fault_order};
 
-/// A fault of a name, in lower case, stands among the faults of a zone exactly where the name fails
-/// the check of its code.
+/// For a name in lower case, the faults of a zone contain the fault with a given code if and only
+/// if the name fails the check with that code.
 pub fn fault_stands_where_its_check_fails()
     ensures { (z : ZoneContents) (n : DomainName) (code : ℕ) → folded n ≡ n
         → Contains (faults z) (record { owner = n; code = code }) ↔ IsTrue (fails z n code) }
 {}
 
-/// A name that fails a check is the origin or owns a record, so that asking these names finds all
+/// A name that fails a check is the origin or owns a record, so checking these names finds all
 /// faults.
 pub fn what_fails_is_the_origin_or_an_owner()
     ensures { (z : ZoneContents) (n : DomainName) (code : ℕ) → IsTrue (fails z n code)
         → IsTrue (is_origin z n || is_owner z n) }
 {}
 
-/// The faults stand each once, by the canonical order of their names and then by their codes.
+/// Each fault is in the list once; the faults are sorted by the canonical order of their names,
+/// then by code.
 pub fn faults_stand_once_in_order()
     ensures { (z : ZoneContents) → IsStrictlySortedBy fault_order (faults z) }
 {}
 
-/// The faults of a zone do not depend on the order in which its records stand.
+/// The faults of a zone do not depend on the order of its records.
 pub fn faults_do_not_depend_on_order()
     ensures { (o : DomainName) (xs ys : List ResourceRecord) → IsPermutation xs ys
         → faults (record { origin = o; records = xs })

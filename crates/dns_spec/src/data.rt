@@ -1,5 +1,5 @@
 //! Laws of types and of their data: a type is read as it is written, the parts of data are the
-//! data, and data in lower case is data. What is written for data is read as that data again.
+//! data, and data in lower case is valid. What is written for data is read as that data again.
 
 ghost use Rattle.std.specs.Prelude.{◌≡◌, ℕ, ◌<◌, List, All, IsTrue};
 ghost use Rattle.std.specs.List.{list_all};
@@ -9,7 +9,7 @@ ghost use Rattle.dns_spec.specs.TypeText.{NamesType, type_text};
 ghost use Rattle.dns_spec.specs.DataText.{Word, Says};
 ghost use Rattle.dns_spec.specs.WrittenText.{written_words, stands_alone};
 
-/// What is written for a type of 16 bits names it (RFC 3597 5).
+/// The text of a type of 16 bits names that type (RFC 3597 5).
 pub fn type_text_names_its_type()
     ensures { (t : ℕ) → t < 65536 → NamesType (type_text t) t }
 {}
@@ -19,37 +19,37 @@ pub fn word_names_one_type()
     ensures { (word : Octets) (t u : ℕ) → NamesType word t → NamesType word u → t ≡ u }
 {}
 
-/// The runs of octets and the names of data, joined, are the data.
+/// The parts of data, joined, are the data.
 pub fn joined_parts_are_the_data()
     ensures { (t : ℕ) (d : Octets) → joined (parts t d) ≡ d }
 {}
 
-/// Valid data in lower case is valid data of the type too.
+/// Valid data in lower case is still valid for its type.
 pub fn lowered_data_is_valid()
     ensures { (t : ℕ) (d : Octets) → Valid t d → Valid t (lower_case t d) }
 {}
 
-/// Lowering valid data twice is lowering it once.
+/// Lowering valid data twice is the same as lowering it once.
 pub fn lowering_twice_is_lowering_once()
     ensures { (t : ℕ) (d : Octets) → Valid t d → lower_case t (lower_case t d) ≡ lower_case t d }
 {}
 
-/// The words that are written for valid data of octets below 256 say that data again, with its
+/// The words that are written for valid data of octets below 256 spell that data again, with its
 /// names in lower case, whatever the origin (RFC 1035 5.1, RFC 3597 5).
 pub fn written_data_is_said_again()
     ensures { (t : ℕ) (origin : DomainName) (d : Octets) → All (λ o. o < 256) d → Valid t d
         → Says t (written_words t d) origin (lower_case t d) }
 {}
 
-/// Nothing in a word that is written for valid data of octets below 256 ends the word (RFC 1035
-/// 5.1): its octets are printable, a word out of quotation marks has one octet or more, and each
-/// octet that would end the word has a backslash before it.
+/// No word that is written for valid data of octets below 256 ends early (RFC 1035 5.1): its
+/// octets are printable, an unquoted word has at least one octet, and each octet that would end
+/// the word has a backslash before it.
 pub fn written_words_stand_alone()
     ensures { (t : ℕ) (d : Octets) → All (λ o. o < 256) d → Valid t d
         → IsTrue (list_all stands_alone (written_words t d)) }
 {}
 
-/// Words say at most one piece of data of a type, relative to an origin.
+/// Words spell at most one data of a type, relative to an origin.
 pub fn words_say_one_data()
     ensures { (t : ℕ) (ws : List Word) (origin : DomainName) (d e : Octets) → Says t ws origin d
         → Says t ws origin e → d ≡ e }

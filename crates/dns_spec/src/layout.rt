@@ -1,4 +1,4 @@
-//! Laws of layouts: the octets laid out are the message, and as many as their size says.
+//! Laws of layouts: the octets laid out spell the message, and `size` is their number.
 
 ghost use Rattle.std.specs.Prelude.{◌≡◌, ℕ, List, ◌<◌, ◌≤◌, ◌⊎◌, ◌↔◌, All, Option, length};
 ghost use Rattle.dns_spec.specs.Reading.{Header, MessageQuestion, Spells};
@@ -8,24 +8,24 @@ ghost use Rattle.dns_spec.specs.Sharing.{Sharing};
 ghost use Rattle.dns_spec.specs.UnboundedLayout.{unbounded_layout, unbounded_size};
 ghost use Rattle.dns_spec.specs.Laws.{IsWritable, HasRoom};
 
-/// The layout is as long as its size, whatever its header.
+/// The length of the layout is its size, whatever the header.
 pub fn layout_has_its_size()
     ensures { (h : Header) (q : Option MessageQuestion) (items : List Item)
         → length (layout h q items) ≡ size q items }
 {}
 
-/// The layout, in which names share suffixes, spells its message, with a question or without, where
-/// header and question fit their fields and the sets stand in the order of their sections
-/// (`HasRoom`), the records fit theirs (`IsWritable`), and it has at most 65,535 octets (RFC 1035
-/// 4.1.4).
+/// The layout, in which names share suffixes, spells its message, with or without a question, if
+/// header and question fit their fields and the sets are in the order of their sections
+/// (`HasRoom`), the records fit a message (`IsWritable`), and the layout has at most 65,535 octets
+/// (RFC 1035 4.1.4).
 pub fn layout_is_spelled()
     ensures { (h : Header) (q : Option MessageQuestion) (items : List Item) → HasRoom h q items
         → All IsWritable (records_of items) → size q items ≤ 65535
         → Spells (layout h q items) (message_of h q items) }
 {}
 
-/// Where the layout has at most 16,384 octets, or the one without bound has, they are the same.
-/// Else both are longer.
+/// If the layout or the unbounded layout has at most 16,384 octets, they are the same. Otherwise
+/// both are longer.
 pub fn layout_is_without_bound_within_reach()
     ensures { (h : Header) (q : Option MessageQuestion) (items : List Item)
         → (size q items ≤ reach) ⊎ (unbounded_size q items ≤ reach)
@@ -33,28 +33,28 @@ pub fn layout_is_without_bound_within_reach()
         × (size q items ≡ unbounded_size q items) }
 {}
 
-/// The layout without bound is as long as its size.
+/// The length of the unbounded layout is its size.
 pub fn unbounded_layout_has_its_size()
     ensures { (h : Header) (q : Option MessageQuestion) (items : List Item)
         → length (unbounded_layout h q items) ≡ unbounded_size q items }
 {}
 
-/// The size of the layout is one that sharing of suffixes allows (RFC 1035 4.1.4).
+/// The size of the layout is one that sharing suffixes allows (RFC 1035 4.1.4).
 pub fn size_is_possible()
     ensures { (q : Option MessageQuestion) (items : List Item) → Sharing q items (size q items) }
 {}
 
-/// Sharing of suffixes allows no smaller size than that of the layout, up to 16,384 octets (RFC
-/// 1035 4.1.4). Among longer layouts one may be shorter that is not lawful: its pointers have
-/// places that no pointer reaches.
+/// Sharing suffixes allows no size smaller than the layout's, up to 16,384 octets (RFC 1035
+/// 4.1.4). For longer layouts a smaller size may exist, but only with pointers to places that no
+/// pointer reaches.
 pub fn size_is_the_least()
     ensures { (q : Option MessageQuestion) (items : List Item) (z : ℕ)
         → Sharing q items z → z ≤ reach
         → size q items ≤ z }
 {}
 
-/// So the layout is past a limit of at most 16,384 octets exactly where every size that sharing
-/// allows is.
+/// So the layout exceeds a limit of at most 16,384 octets if and only if every size that sharing
+/// allows exceeds it.
 pub fn layout_is_past_a_limit_where_all_sizes_are()
     ensures { (q : Option MessageQuestion) (items : List Item) (limit : ℕ) → limit ≤ reach
         → (limit < size q items) ↔ ((z : ℕ) → Sharing q items z → limit < z) }

@@ -1,4 +1,4 @@
-// The definitions that every contract of the product speaks of, and the laws about them.
+// The definitions that all contracts of the product use, and the laws about them.
 #![tactic(auto)]
 
 pub mod checks;

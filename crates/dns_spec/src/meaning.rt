@@ -7,21 +7,20 @@ ghost use Rattle.dns_spec.specs.ZoneText.{most_octets, Extent, beginning, Entry}
 ghost use Rattle.dns_spec.specs.Meaning.{Meaning, Nothing, fault_at, Means};
 ghost use Rattle.dns_spec.specs.Laws.{OctetsMean};
 
-/// A text means one thing: its records, or one fault (RFC 1035 section 5).
+/// A text has at most one meaning: its records, or one fault (RFC 1035 section 5).
 pub fn text_has_one_meaning()
     ensures { (o : DomainName) (text : Octets) (m n : Meaning)
         → Means o text m → Means o text n → m ≡ n }
 {}
 
-/// No text is without a meaning.
+/// Every text has a meaning.
 pub fn no_text_is_without_a_meaning()
     ensures { (o : DomainName) (text : Octets) → Nothing (Means o text) → ⊥ }
 {}
 
-/// A fault that a beginning has so far, other than the limit's, is the fault of every text that
-/// goes on from it: an entry that is ended by a line end, or whose fault stands there with the
-/// octets that make it one, is faulty whatever comes after. So is what is left of a text, after the
-/// entries before it.
+/// A fault that a beginning of a text has, other than the limit's, is the fault of every text that
+/// continues it: an entry that a line end ends, or whose fault is decided by octets already there,
+/// is faulty whatever follows. The same holds for the rest of a text after its earlier entries.
 pub fn beginning_decides()
     ensures { (o : DomainName) (earlier : List Entry) (extent : Extent) (front more : Octets)
         (fault : FileFault) (line : ℕ)
@@ -29,8 +28,8 @@ pub fn beginning_decides()
         → OctetsMean o earlier extent (front ++ more) (fault_at fault line) }
 {}
 
-/// A text whose beginning, within the limit, has a fault so far other than the limit's has that
-/// fault, on that line.
+/// If a beginning of a text, within the limit, has a fault other than the limit's, the text has
+/// that fault, on the same line.
 pub fn faulty_beginning_makes_a_faulty_text()
     ensures { (o : DomainName) (front more : Octets) (fault : FileFault) (line : ℕ)
         → length front ≤ most_octets

@@ -10,9 +10,9 @@ ghost use Rattle.dns_spec.specs.Meaning.{records, Means, most_records};
 ghost use Rattle.dns_spec.specs.Report.{Options, Report, Reports, zone_report};
 ghost use Rattle.dns_spec.specs.ZonePrinted.{IsReadRecord, HasZoneType, record_line, printed_records, zone_text};
 
-/// The text that is printed for records means these records, in the order in which they stand,
-/// whatever the origin (RFC 1035 section 5). They are such as are read (`IsReadRecord`), of types
-/// that zones have, at most 100,000, and their text has at most 16,777,216 octets.
+/// The text printed for records means these records, in the same order, whatever the origin (RFC
+/// 1035 section 5). The records are as they are read (`IsReadRecord`), of types that zones
+/// contain, at most 100,000, and their text has at most 16,777,216 octets.
 pub fn printed_records_are_read_back()
     ensures { (o : DomainName) (rs : List ResourceRecord) → All IsReadRecord rs
         → All HasZoneType rs → length rs ≤ most_records
@@ -20,7 +20,8 @@ pub fn printed_records_are_read_back()
         → Means o (flat_map record_line rs) (records rs) }
 {}
 
-/// The canonical text of a zone means the zone's records, up to their order, on the same terms.
+/// The canonical text of a zone means the zone's records, up to their order, under the same
+/// conditions.
 pub fn zone_text_means_the_zone()
     ensures { (z : ZoneContents) (o : DomainName) → All IsReadRecord z.records
         → All HasZoneType z.records → length z.records ≤ most_records
@@ -29,16 +30,16 @@ pub fn zone_text_means_the_zone()
         × IsPermutation z.records (printed_records z) }
 {}
 
-/// What is reported of a zone is the same for its records in canonical order.
+/// The report of a zone is the same for its records in canonical order.
 pub fn order_of_records_changes_no_report()
     ensures { (options : Options) (o : DomainName) (rs : List ResourceRecord)
         → zone_report options (ordered_zone o rs) ≡ zone_report options (zone_of o rs) }
 {}
 
-/// Lists that hold the same records, in another order and with duplicates or without, make one
-/// zone: in canonical order they are one list, with one canonical text and one report (RFC 2181
-/// section 5, RFC 4034 section 6). The records are such as are read, of any type and however many;
-/// it is enough that those of one list are.
+/// Lists of the same records, in any order and with or without duplicates, make one zone: in
+/// canonical order they are one list, with one canonical text and one report (RFC 2181 section 5,
+/// RFC 4034 section 6). The records are as they are read, of any type and any number; it is enough
+/// if the records of one list are.
 pub fn one_zone_has_one_text()
     ensures { (options : Options) (o : DomainName) (rs ss : List ResourceRecord)
         → All IsReadRecord rs → HoldSameRecords rs ss
@@ -47,9 +48,9 @@ pub fn one_zone_has_one_text()
         × (zone_report options (zone_of o rs) ≡ zone_report options (zone_of o ss)) }
 {}
 
-/// Two files of one zone that mean the same records, in another order and with duplicates or
-/// without, have one report: the faults, the lines of a zone that passes, and where it is asked for
-/// the canonical text.
+/// Two files of one zone that mean the same records, in any order and with or without duplicates,
+/// have one report: the faults, the lines of a zone that passes, or the canonical text if the
+/// options ask for it.
 pub fn files_of_one_zone_have_one_report()
     ensures { (o : DomainName) (t u : Octets) (rs ss : List ResourceRecord)
         → Means (folded o) t (records rs) → Means (folded o) u (records ss)
@@ -57,18 +58,18 @@ pub fn files_of_one_zone_have_one_report()
         → Reports o t options report ↔ Reports o u options report }
 {}
 
-/// The records that a text means are such as the other laws here speak of: as they are read, of
-/// types that zones have, and at most 100,000. The octets of the origin are below 256, as in every
-/// name of a program.
+/// The records that a text means meet the conditions of the other laws here: they are as they are
+/// read, of types that zones contain, and at most 100,000. The octets of the origin are below 256,
+/// as in every name of a program.
 pub fn records_of_a_text_are_as_read()
     ensures { (o : DomainName) (t : Octets) (rs : List ResourceRecord) → All (All (λ x. x < 256)) o
         → Means o t (records rs)
         → All IsReadRecord rs × All HasZoneType rs × (length rs ≤ most_records) }
 {}
 
-/// The canonical text of the zone that a file means is itself a file of that zone, where it has at
-/// most 16,777,216 octets, and those of the origin are below 256: it has the file's report,
-/// whatever is asked for. So it has the same faults, or it passes as that zone.
+/// The canonical text of the zone that a file means is itself a file of that zone, if it has at
+/// most 16,777,216 octets and the octets of the origin are below 256: it has the file's report,
+/// whatever the options. So it has the same faults, or passes as the same zone.
 pub fn canonical_text_has_the_report_of_its_file()
     ensures { (o : DomainName) (t : Octets) (rs : List ResourceRecord) → All (All (λ x. x < 256)) o
         → Means (folded o) t (records rs)
@@ -76,9 +77,9 @@ pub fn canonical_text_has_the_report_of_its_file()
         → Reports o (zone_text (zone_of o rs)) options report ↔ Reports o t options report }
 {}
 
-/// Printing twice is printing once: what is printed of a file whose zone passes is a file that
-/// passes, of which that same text is printed. It has at most 16,777,216 octets, and those of the
-/// origin are below 256.
+/// Printing twice is printing once: if the zone of a file passes, the text printed for it is a
+/// file that passes, for which the same text is printed. The text has at most 16,777,216 octets,
+/// and the octets of the origin are below 256.
 pub fn printing_twice_is_printing_once()
     ensures { (o : DomainName) (t : Octets) (options : Options) (report : Report)
         → All (All (λ x. x < 256)) o → Reports o t options report
@@ -86,9 +87,9 @@ pub fn printing_twice_is_printing_once()
         → Reports o report.output options report }
 {}
 
-/// Zones with one canonical text hold the same records, each equally often. Their records are such
-/// as are read, of types that zones have, at most 100,000 in each, and the text has at most
-/// 16,777,216 octets. The text names no origin, so it doesn't give that.
+/// Zones with one canonical text contain the same records, each equally often. The records are as
+/// they are read, of types that zones contain, at most 100,000 in each zone, and the text has at
+/// most 16,777,216 octets. The text does not name the origin, so the origins may differ.
 pub fn zones_with_one_text_hold_the_same_records()
     ensures { (y z : ZoneContents) → All IsReadRecord y.records → All HasZoneType y.records
         → length y.records ≤ most_records

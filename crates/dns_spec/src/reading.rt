@@ -1,5 +1,5 @@
-//! Laws of reading: what `name_at` and `message_at` compute, and that a place spells at most one
-//! name, and octets one message.
+//! Laws of reading: what `name_at` and `message_at` compute; at most one name is at a place, and
+//! octets spell at most one message.
 
 ghost use Rattle.std.specs.Prelude.{◌≡◌, ℕ, ◌≤◌, Some, ◌↔◌, length};
 ghost use Rattle.dns_spec.specs.Names.{Octets, DomainName};
@@ -7,21 +7,21 @@ ghost use Rattle.dns_spec.specs.Reading.{MessageQuestion, DnsMessage, NameAt, Sp
 ghost use Rattle.dns_spec.specs.ComputedReading.{name_at, message_at};
 ghost use Rattle.dns_spec.specs.Query.{question_at};
 
-/// The computed reader of names gives a name and the place after it exactly where they are spelled
-/// (RFC 1035 4.1.4).
+/// `name_at` gives a name and the place after it if and only if the name is spelled there (RFC
+/// 1035 4.1.4).
 pub fn name_at_computes_the_relation()
     ensures { (b : Octets) (i : ℕ) (n : DomainName) (e : ℕ)
         → (name_at b i ≡ Some (n, e)) ↔ NameAt b i n e }
 {}
 
-/// A place of a message spells at most one name, with one end.
+/// At most one name is at a place of a message, with one end.
 pub fn place_spells_one_name()
     ensures { (b : Octets) (i : ℕ) (n m : DomainName) (e f : ℕ) → NameAt b i n e → NameAt b i m f
         → (n ≡ m) × (e ≡ f) }
 {}
 
-/// A datagram that has exactly one question after its header has at most 271 octets: 12 of the
-/// header, 255 of the name, 4 of type and class (RFC 1035 4.1.2).
+/// A datagram with exactly one question after its header has at most 271 octets: 12 of the header,
+/// 255 of the name, and 4 of type and class (RFC 1035 4.1.2).
 pub fn question_ends_by_octet_271()
     ensures { (d : Octets) (q : MessageQuestion) → question_at d ≡ Some q → length d ≤ 271 }
 {}
@@ -31,8 +31,8 @@ pub fn octets_spell_one_message()
     ensures { (b : Octets) (m n : DnsMessage) → Spells b m → Spells b n → m ≡ n }
 {}
 
-/// The computed message is the one that the octets spell, and there is one exactly where they spell
-/// one (RFC 1035 4.1).
+/// `message_at` gives the message that the octets spell, and nothing if they spell none (RFC 1035
+/// 4.1).
 pub fn message_at_computes_the_relation()
     ensures { (b : Octets) (m : DnsMessage) → (message_at b ≡ Some m) ↔ Spells b m }
 {}

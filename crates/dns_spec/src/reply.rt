@@ -1,4 +1,4 @@
-//! Laws of replies: their octets are the message that they are, and what is kept is the longest
+//! Laws of replies: their octets spell their message, and the sets that they keep are the longest
 //! beginning that fits.
 
 ghost use Rattle.std.specs.Prelude.{◌≡◌, ℕ, List, [], ◌++◌, ◌+◌, ◌*◌, ◌<◌, ◌≤◌, All, IsTrue, Option, Some, length, take};
@@ -13,9 +13,9 @@ ghost use Rattle.dns_spec.specs.Reply.{Reply, kept, fitting, reply, reply_with, 
 ghost use Rattle.dns_spec.specs.Query.{most_over_udp, query_read};
 ghost use Rattle.dns_spec.specs.Laws.{IsWritable, IsSetAt};
 
-/// The octets of a reply spell the message that the reply is, over every zone whose records fit a
-/// message (`IsWritable`), for every datagram of octets below 256 and every limit from 271 to
-/// 65,535 octets (RFC 1035 4.1).
+/// The octets of a reply spell its message, for every zone whose records fit a message
+/// (`IsWritable`), every datagram of octets below 256 and every limit from 271 to 65,535 octets
+/// (RFC 1035 4.1).
 pub fn reply_is_spelled()
     ensures { (z : ZoneContents) (d : Octets) (limit : ℕ) (r : Reply) → All IsWritable z.records
         → All (λ o. o < 256) d
@@ -23,102 +23,101 @@ pub fn reply_is_spelled()
         → reply z d limit ≡ Some r → Spells (reply_octets r) (reply_message r) }
 {}
 
-/// The octets of a reply are at most its limit, where that is 271 or more, so that it has room for
-/// every question.
+/// The octets of a reply are at most its limit, if the limit is at least 271, so that every
+/// question fits.
 pub fn reply_is_within_its_limit()
     ensures { (z : ZoneContents) (d : Octets) (limit : ℕ) (r : Reply) → 271 ≤ limit
         → reply z d limit ≡ Some r → length (reply_octets r) ≤ limit }
 {}
 
-/// The names sought for a question are at most 17: its own, and those to which at most 16 aliases
-/// lead (a limit of this project).
+/// At most 17 names are sought for a question: its own, and the targets of at most 16 aliases (a
+/// limit of this project).
 pub fn chains_have_few_names()
     ensures { (z : ZoneContents) (q : DomainName) (t : ℕ)
         → length (chain z q t) ≤ 1 + most_aliases }
 {}
 
-/// The sets of a reply begin with those that it may not leave out (RFC 1035 4.1.1).
+/// The sets of a reply begin with the required ones (RFC 1035 4.1.1).
 pub fn items_begin_with_the_required()
     ensures { (z : ZoneContents) (q : DomainName) (t : ℕ)
         → take (length (required_items z q t)) (items z q t) ≡ required_items z q t }
 {}
 
-/// Each set of a reply is the records of a set at an owner, with one TTL, over every zone that
-/// passes and whose names are in lower case, as those that are read (RFC 2181 section 5).
+/// Each set of a reply is the records of one set at one owner, with one TTL, for every zone that
+/// passes and whose names are in lower case, as names that were read are (RFC 2181 section 5).
 pub fn items_are_record_sets()
     ensures { (z : ZoneContents) → folded z.origin ≡ z.origin
         → All (λ (r : ResourceRecord). folded r.owner ≡ r.owner) z.records → Passes z
         → (q : DomainName) (t : ℕ) → All (λ (i : Item). IsSetAt i.records) (items z q t) }
 {}
 
-/// An answer has at most 64 targets, over every zone that passes and whose names are in lower case:
-/// they are those of one set, and a set has at most 64 records (a limit of this project).
+/// An answer has at most 64 targets, for every zone that passes and whose names are in lower case:
+/// all of them are in one set, and a set has at most 64 records (a limit of this project).
 pub fn answers_have_few_targets()
     ensures { (z : ZoneContents) → folded z.origin ≡ z.origin
         → All (λ (r : ResourceRecord). folded r.owner ≡ r.owner) z.records → Passes z
         → (q : DomainName) (t : ℕ) → length (targets (outcome z q t)) ≤ most_of_a_set }
 {}
 
-/// So an answer has at most 146 sets, over such a zone: those of 17 aliases, the one that ends it,
-/// and two for each target.
+/// So an answer has at most 146 sets, for such a zone: the CNAME sets of 17 names, the set that
+/// ends the answer, and two sets for each target.
 pub fn answers_have_few_sets()
     ensures { (z : ZoneContents) → folded z.origin ≡ z.origin
         → All (λ (r : ResourceRecord). folded r.owner ≡ r.owner) z.records → Passes z
         → (q : DomainName) (t : ℕ) → length (items z q t) ≤ 2 + most_aliases + 2 * most_of_a_set }
 {}
 
-/// An answer to a question for a lawful name visits at most 128 nodes for each name that it looks
+/// An answer to a question with a valid name visits at most 128 nodes for each name that it looks
 /// up: a name has at most 127 labels (RFC 1035 2.3.4).
 pub fn answers_visit_few_nodes()
     ensures { (z : ZoneContents) (q : DomainName) (t : ℕ) → IsTrue (is_name q)
         → most_visits z q t ≤ 128 * names_looked_up z q t }
 {}
 
-/// What is kept of a list of sets fits, if a reply without any set does.
+/// What is kept of a list of sets fits, if a reply without sets does.
 pub fn kept_sets_fit()
     ensures { (size_of : List Item → ℕ) (limit : ℕ) (sets : List Item) → size_of [] ≤ limit
         → size_of (kept size_of limit sets) ≤ limit }
 {}
 
-/// No longer beginning of a list of sets fits than what is kept of it.
+/// No beginning of a list of sets that fits is longer than what is kept of it.
 pub fn kept_sets_are_the_most()
     ensures { (size_of : List Item → ℕ) (limit : ℕ) (sets : List Item) (k : ℕ) → k ≤ length sets
         → size_of (take k sets) ≤ limit
         → k ≤ length (kept size_of limit sets) }
 {}
 
-/// The size of the layout grows with each set.
+/// Adding sets never makes the layout smaller.
 pub fn size_grows_with_each_set()
     ensures { (q : Option MessageQuestion) (front more : List Item)
         → size q front ≤ size q (front ++ more) }
 {}
 
-/// So the longest beginning of sets that fits is reached by stopping at the first set that does not
-/// fit.
+/// So stopping at the first set that does not fit gives the longest beginning that fits.
 pub fn kept_sets_stop_at_the_first_that_does_not_fit()
     ensures { (q : Option MessageQuestion) (limit : ℕ) (sets : List Item)
         → kept (size q) limit sets ≡ fitting (size q) limit [] sets }
 {}
 
-/// What a datagram is as a query depends on its first 512 octets alone: a question ends by octet
-/// 271.
+/// How a datagram is read as a query depends only on its first 512 octets: a question ends by
+/// octet 271.
 pub fn first_octets_are_read()
     ensures { (d : Octets) → query_read d ≡ query_read (take most_over_udp d) }
 {}
 
-/// So does the reply.
+/// So does the reply, whatever sets it keeps.
 pub fn first_octets_decide()
     ensures { (z : ZoneContents) (keep : MessageQuestion → List Item) (d : Octets)
         → reply_with keep z d ≡ reply_with keep z (take most_over_udp d) }
 {}
 
-/// So do its header, its question and its sets, whatever the limit: the message that it spells.
+/// So do the header, the question and the sets of the reply, whatever the limit.
 pub fn first_octets_give_the_message()
     ensures { (z : ZoneContents) (d : Octets) (limit : ℕ)
         → reply z d limit ≡ reply z (take most_over_udp d) limit }
 {}
 
-/// And so do its octets, whatever their limit.
+/// And so do the octets of the reply, whatever the limit.
 pub fn first_octets_give_the_octets()
     ensures { (z : ZoneContents) (d : Octets) (limit : ℕ)
         → octets_of z d limit ≡ octets_of z (take most_over_udp d) limit }

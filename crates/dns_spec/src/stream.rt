@@ -1,26 +1,26 @@
-//! Laws of streams: which messages they hold, and what of them is left.
+//! Laws of streams: which messages they contain, and what follows the messages.
 
 ghost use Rattle.std.specs.Prelude.{◌≡◌, ℕ, List, [], ◌++◌, ◌+◌, ◌<◌, ◌^◌, ◌⊎◌, All, length};
 ghost use Rattle.std.specs.List.{flat_map};
 ghost use Rattle.dns_spec.specs.Names.{Octets};
 ghost use Rattle.dns_spec.specs.Stream.{frame, frames, after_frames, IsCutFrame};
 
-/// A stream of octets below 256 is the frames of its messages, however many are taken, and the
-/// octets after them.
+/// A stream of octets below 256 is the frames of its first messages, however many are taken,
+/// followed by the octets after them.
 pub fn stream_is_its_frames_and_the_rest()
     ensures { (k : ℕ) (x : Octets) → All (λ o. o < 256) x
         → flat_map frame (frames k x) ++ after_frames k x ≡ x }
 {}
 
-/// Where such a stream has fewer messages than are asked for, what is left of it is empty, or a
-/// frame that was cut.
+/// If such a stream has fewer than k messages, the octets after them are empty or a frame that was
+/// cut short.
 pub fn rest_is_empty_or_cut()
     ensures { (k : ℕ) (x : Octets) → All (λ o. o < 256) x → length (frames k x) < k
         → (after_frames k x ≡ []) ⊎ IsCutFrame (after_frames k x) }
 {}
 
-/// Frames of messages in front of a stream are read as these messages, each of at most 65,535
-/// octets.
+/// Frames of messages in front of a stream are read as these messages; each message has at most
+/// 65,535 octets.
 pub fn frames_are_read_as_their_messages()
     ensures { (k : ℕ) (ms : List Octets) (x : Octets) → All (λ m. length m < 2 ^ 16) ms
         → frames (length ms + k) (flat_map frame ms ++ x) ≡ ms ++ frames k x }

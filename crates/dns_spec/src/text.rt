@@ -4,8 +4,8 @@ ghost use Rattle.std.specs.Prelude.{◌≡◌, ℕ, ◌<◌, ◌++◌, ◌∷◌
 ghost use Rattle.dns_spec.specs.Names.{Octets, DomainName, is_name};
 ghost use Rattle.dns_spec.specs.NameText.{name_text, SpellsName, SpellsOctet, escape_front};
 
-/// What is written for a name of octets below 256 is read back as that name, whatever the origin
-/// (RFC 1035 5.1).
+/// The text of a name of octets below 256 is read back as that name, whatever the origin (RFC 1035
+/// 5.1).
 pub fn written_name_is_read_back()
     ensures { (origin n : DomainName) → All (All (λ o. o < 256)) n → IsTrue (is_name n)
         → SpellsName origin (name_text n) n }
@@ -17,8 +17,8 @@ pub fn word_spells_one_name()
         → SpellsName origin word n → SpellsName origin word m → n ≡ m }
 {}
 
-/// What the octets after a backslash stand for is the octet that they spell with it in a name, and
-/// nothing else is (RFC 1035 5.1).
+/// The octet that an escape after a backslash represents is the octet that the escape spells in a
+/// name, and there are no other escapes (RFC 1035 5.1).
 pub fn escape_stands_for_what_it_spells()
     ensures { (text : Octets) (x : ℕ) (rest : Octets) → (escape_front text ≡ Some (x, rest))
         ↔ ((e : Octets) × (text ≡ e ++ rest) × SpellsOctet (92 ∷ e) x) }

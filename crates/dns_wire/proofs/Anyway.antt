@@ -1,4 +1,5 @@
--- What is said of the faults of a call: it holds anyway, or as of the faults that are handed on.
+-- A statement about the faults of a call: it holds anyway, or because it holds for the faults that
+-- are passed on.
 use Rattle.dns_wire.proofs.Common.{◌≡◌, Result, IsErrAnd, arith, IfErr, WireFault, UnlessNoMemory}
 
 pub anyway : {T S : Type 0} (r : Result T WireFault) → S → IfErr r (λ fault. UnlessNoMemory fault S)

@@ -1,11 +1,11 @@
--- The name of the question has the places of its suffixes, whatever comes after it; each of them
--- stands so far before its end.
+-- The question's name has the places of its suffixes, whatever follows it; the distance of each
+-- from its end is the suffix's length.
 use Rattle.dns_wire.proofs.Common.{◌≡◌, ℕ, zero, suc, ◌+◌, ◌-◌, ◌<◌, ◌≤◌, true, ◌⊎◌, inl, inr, List, [], ◌∷◌, ◌++◌, length, take, drop, refl, sym, ap, ◌∙◌, subst, arith, append_assoc, length-append, take-append-drop, take_at, replicate, ap₂, Option, None, Some, IfSome, and_parts, list_all, Octets, DomainName, wire, is_name, is_label, drop-drop, drop-take, take-append-le, length-take, length-drop, Stands, run_written, labels_of_spelled, IsWireForm-wire, labels_of, IsWireForm, Kept, IsKept, SpellsName, IsSharedAt, NoneSpelled, AfterLabel, name_before, IsAsked, asked_places, NotAsked, IsLastOf, new_places}
 use Rattle.dns_wire.proofs.SuffixLemmas.{one_run, next_label, kept-root}
 use Rattle.dns_wire.proofs.NameWritten.{kept_left, kept_right, kept_split, kept_sound, kept_complete, NewSuffix, is_name-suffix}
 use Rattle.dns_spec.proofs.DomainNames.WireNames.{wire_split, longer_wire}
 
--- what stands between the header and its end
+-- the octets between the header and the end of the name
 pub before_is : {b : Octets} {a : ℕ} {front name : Octets}
     → IsAsked b a → front ≡ take a b → name ≡ drop 12 front → name ≡ name_before b a
 before_is {b} {a} asked front name =
@@ -13,7 +13,7 @@ before_is {b} {a} asked front name =
     let whole : a ≡ 12 + (a - 12) = omega (arith, after) in
     name ∙ ap (drop 12) front ∙ ap (λ k. drop 12 (take k b)) whole ∙ drop-take 12 (a - 12) b
 
--- what stands before the end of the name decides it
+-- the octets before the end of the name determine it
 pub name_same : (b b' : Octets) (a : ℕ) → take a b' ≡ take a b → name_before b' a ≡ name_before b a
 name_same b b' a e = go (a - 12) refl
   where
@@ -46,13 +46,13 @@ pub kept_same : (head : Octets → ℕ) (b b' : Octets) (a a' : ℕ) (ks ks' : L
 unfolding asked_places
 kept_same head b b' a a' ks ks' e same places = grind (arith, name_same)
 
--- octets after the others leave all places
+-- octets after the others leave all places unchanged
 pub kept_more : (head : Octets → ℕ) (b b' : Octets) (a a' : ℕ) (ks ks' : List Kept) (o : Octets)
     → IsAsked b a
     → b' ≡ b ++ o → a' ≡ a → ks' ≡ ks → asked_places head b' a' ++ ks' ≡ asked_places head b a ++ ks
 kept_more head b b' a a' ks ks' o asked e same places = grind (arith, kept_same, take-append-le)
 
--- before the question there is none
+-- before the question there is no label
 no_labels : labels_of [] ≡ []
 unfolding labels_of
 no_labels = refl
@@ -61,7 +61,7 @@ pub asked_nothing : (head : Octets → ℕ) (b : Octets) → asked_places head b
 unfolding asked_places
 asked_nothing head b = ap (λ n. new_places head [] n 12) no_labels ∙ kept-root head [] 12
 
--- where it stands after room for a header, all its suffixes have their places
+-- after room for a header, all suffixes of the name have their places
 pub name_whole : (n : DomainName) (b o : Octets) (a : ℕ)
     → b ≡ (replicate 12 0 ++ wire n) ++ o → a ≡ 12 + length (wire n) → name_before b a ≡ wire n
 name_whole n b o a e end = grind (arith, ap₂, take_at)
@@ -122,7 +122,7 @@ unfolding asked_places
 asked_kept head b a front t l p whole short at low =
     kept_complete head [] (labels_of (name_before b a)) front l t 12 p whole refl short at low
 
--- octets that end the name from a label on are one of its suffixes, and kept
+-- octets that end the name, from one of its labels on, are a suffix, whose place is kept
 pub asked_found : (head : Octets → ℕ) {b : Octets} {a : ℕ} (o : Octets)
     → IsAsked b a → 2 ≤ length o → length o ≤ length (name_before b a)
     → IsLastOf (name_before b a) o → IsSharedAt (asked_places head b a) b o (a - length o)
@@ -158,7 +158,7 @@ asked_found head {b} {a} o asked two inside last =
           );
         }
 
--- and where no suffix is like them, none of their places spells them
+-- if no suffix is equal to them, none of the places spells them
 pub asked_none : {b : Octets} {a : ℕ} (o : Octets)
     → IsAsked b a → ((n front t : DomainName) (l : Octets) → name_before b a ≡ wire n
     → is_name n ≡ true → n ≡ front ++ l ∷ t → wire (l ∷ t) ≡ o → ⊥) → NotAsked b a o
@@ -188,7 +188,7 @@ asked_none {b} {a} o asked never head p h kept there =
         never n s.front s.labels s.label
         (sym form.wire_is) form.is_name s.whole (ap wire (one_run run there.2) ∙ there.3)
 
--- places of the question's name, and of others
+-- places in the question's name, and in others
 pub none_of_both : (head : Octets → ℕ) (b : Octets) (a h : ℕ) (ks : List Kept) (o : Octets)
     → NotAsked b a o → NoneSpelled ks h b o → NoneSpelled (asked_places head b a ++ ks) h b o
 none_of_both head b a h ks o unasked none p kept there =
@@ -214,7 +214,7 @@ shared_kept asked ks b o h None kept spelled reached = tt
 shared_kept asked ks b o h (Some p) kept spelled reached =
     record { kept = (h, kept_right asked ks p h kept); spelled = spelled; reached = reached }
 
--- What is left of a name from a label on: what ends it so many octets before its end is in it.
+-- The rest of a name from a label on: a suffix of `count` octets is a suffix of the rest.
 pub record LastNow (n : DomainName) (rest : Octets) (count : ℕ) : Type 0 where
   pub front : DomainName
   pub left : DomainName

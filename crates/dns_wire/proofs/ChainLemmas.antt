@@ -1,11 +1,11 @@
--- The chains stay whole where an entry comes at the end, or the last one goes.
+-- The chains stay intact when an entry is added at the end, or the last one is removed.
 use Rattle.dns_wire.proofs.Common.{◌≡◌, ap₂, ◌-◌, ℕ, zero, suc, ◌<◌, ◌≤◌, ◌==◌, Bool, true, false, cond, List, [], ◌∷◌, ◌++◌, map, length, replicate, get_or, slice_get, slice_set, option_map, Some, refl, sym, ap, ◌∙◌, subst, arith, length-append, false≢true, eqb-true, eq-eqb, leb-false, slice_get_within, slice_get-map, slice_get-get_or, get_or-set_same, get_or-set_other, get_or-replicate, get_or_append_left, get_or_push, length-map, length-set, length-replicate, mod_below, Entry, kept_in, chain_of, entry_at, last_with, AreChains}
 
 last_bound : (h : ℕ) (es : List Entry) (k : ℕ) → last_with h es k ≤ k
 last_bound h es zero = omega arith
 last_bound h es (suc k) = grind (arith, (last_bound h es k))
 
--- one entry more
+-- one more entry
 module _ (es : List Entry) (e : Entry) where
   same_before : (k : ℕ) → k < length es → entry_at (es ++ e ∷ []) k ≡ entry_at es k
   same_before k low = get_or_append_left es (e ∷ []) _ k low
@@ -22,7 +22,7 @@ module _ (es : List Entry) (e : Entry) where
       ≡ cond (chain_of e.number == h) (suc (length es)) (last_with h es (length es))
   last_now h = grind (arith, length-append, at_end, last_before)
 
-  -- the head of its chain is set, and the others stay
+  -- the head of its chain is set, and the other heads stay
   set_head : (heads : List ℕ) (to k h : ℕ) → length heads ≡ 128 → (k ≡ cond (chain_of e.number == h)
       to (get_or heads h 0)) → get_or (slice_set heads (chain_of e.number) to) h 0 ≡ k
   set_head heads to k h all is =
@@ -70,7 +70,7 @@ module _ (es : List Entry) (e : Entry) where
               (λ j. last_with j es (length es)) (sym (eqb-true (chain_of e.number) h q)) ∙ sym link
           go false q is = sym is
 
--- no entry at all
+-- without entries
 pub chains_begin : AreChains (replicate 128 0) []
 chains_begin = record {
   all = length-replicate {A = ℕ} 128 0;
@@ -78,15 +78,15 @@ chains_begin = record {
   linked = λ k low. absurd (omega arith);
 }
 
--- A chain goes on at an entry of its own, counted from 1, and P holds of no entry of the chain from
--- there on.
+-- A chain continues at one of its entries, counted from 1, or ends (0); P holds for no later entry
+-- of the chain.
 pub record Chain (P : Entry → Type 0) (h : ℕ) (es : List Entry) (number : ℕ) : Type 0 where
   pub inside : number ≤ length es
   pub here : (k : ℕ) → number ≡ suc k → chain_of (entry_at es k).number ≡ h
   pub after : (k : ℕ)
       → k < length es → number ≤ k → chain_of (entry_at es k).number ≡ h → P (entry_at es k) → ⊥
 
--- the entry that is read at a number counted from 1
+-- the entry at a number counted from 1
 pub read_entry : {es xs : List Entry} {number i : ℕ}
     → 0 < number → xs ≡ es → i ≡ number → (k : ℕ) × (number ≡ suc k)
     × (get_or xs (i - 1) (record { place = 0; number = 0; next = 0 }) ≡ entry_at es k)
@@ -112,7 +112,7 @@ module _ (P : Entry → Type 0) (h : ℕ) (es : List Entry) where
       → (P (entry_at es k) → ⊥) → Chain P h es (entry_at es k).next × ((entry_at es k).next ≤ k)
   chain_next heads k c chain other = grind (arith, last_bound, chain_at)
 
--- the pair that an entry stands for
+-- the pair that an entry represents
 pub entry_kept : (es : List Entry) (k : ℕ)
     → k < length es → slice_get (map kept_in es) k ≡ Some (kept_in (entry_at es k))
 entry_kept es k low = grind (arith, slice_get-map, kept_in, option_map, slice_get-get_or)

@@ -22,11 +22,11 @@ data_last : (x : Part) (ms : List Placed) (p : ℕ) → part_laid x ms p ≡ dat
 unfolding data_by
 data_last x ms p = grind (arith, append-nil, data_more)
 
--- what follows an owner
+-- the ten octets after an owner
 abbrev pub numbers_of : ℕ → ℕ → ℕ → Octets
 numbers_of t ttl k = octets16 t ++ octets16 class_in ++ octets32 ttl ++ octets16 k
 
--- where nothing is shared the numbers and the data come at once
+-- if nothing is shared, these octets and the data are written at once
 pub plain_laid : (t ttl : ℕ) (o x : Octets)
     → x ≡ numbers_of t ttl (length o) → laid_parts t o ≡ octets o ∷ []
     → (ms : List Placed) (p : ℕ) → octets_laid (x ++ o) ms p ≡ tail_laid t ttl o ms p
@@ -36,7 +36,7 @@ plain_laid t ttl o x own whole ms p =
     record { written = numbers_of t ttl (length l.written) ++ l.written; names = l.names })
     (data_last (octets o) ms (p + 10) ∙ ap (data_laid ms (p + 10)) (sym whole))
 
--- the eighth and ninth of ten octets are written over, and those after them stay
+-- the last two of ten octets are overwritten, and the octets after them stay
 patched : (b y z w after now : Octets) → length y ≡ 8 → length z ≡ 2 → after ≡ (b ++ (y ++ z)) ++ w
     → now ≡ take (length b + 8) after ++ (octets16 (length after - length b - 10)
     ++ drop (length b + 10) after) → now ≡ b ++ ((y ++ octets16 (length w)) ++ w)
@@ -57,12 +57,12 @@ patched b y z w after now eight two is set =
     ∙ ap (λ x. (b ++ y) ++ (n ++ x)) back
     ∙ append_assoc b y (n ++ w) ∙ ap (λ x. b ++ x) (sym (append_assoc y n w))
 
--- what stands before those ten octets stays as well
+-- the octets before those ten stay as well
 patched_follows : {b after now : Octets} (x : Octets)
     → Follows b after → now ≡ take (length b + 8) after ++ x → Follows b now
 patched_follows {b} {after} x f set = grind (arith, take-append-add, append_assoc)
 
--- the places of names are those of any octets that spell the names there
+-- the places of names hold for any octets that spell the names there
 holds_again : {head : Octets → ℕ} {ms : List Placed} {b b' : Octets} {ks ks' : List Kept}
     → Holds head ms b ks → Holds head ms b' ks' → Holds head ms b' ks
 holds_again here there = grind arith
@@ -79,7 +79,7 @@ pub writes_last : {head head' : Octets → ℕ} {d d' : Draft} {fits : Bool} (x 
     → Writes head head' d d' (part_laid x) fits → Writes head head' d d' (all_laid (x ∷ [])) fits
 writes_last x w = writes_as (part_laid x) (all_laid (x ∷ [])) (data_last x) w
 
--- where a part does not fit
+-- a part that does not fit
 pub writes_short : {head head' : Octets → ℕ}
     {d d' : Draft} {t fits : Bool} (x : Part) (ps : List Part) → t ≡ false → fits ≡ false
     → Writes head head' d d' (part_laid x) t → Writes head head' d d' (all_laid (x ∷ ps)) fits
@@ -98,7 +98,7 @@ pub writes_parts : {head head' : Octets → ℕ}
 writes_parts {head} {head'} {d} {d'} {fits} t o is w =
     subst (λ ps. Writes head head' d d' (all_laid ps) fits) (sym is) w
 
--- The length of data is written after the data, into octets that no name passes over.
+-- The length of data is written after the data, into octets that are in no name.
 pub tail_written : {head head' : Octets → ℕ} {d d' d'' : Draft} (t ttl : ℕ) (o b : Octets)
     → d.asked_end ≤ length d.octets → Writes head head d d' (octets_laid (numbers_of t ttl 0)) true
     → Writes head head' d' d'' (parts_laid t o) true → b ≡ take (length d.octets + 8) d''.octets

@@ -1,4 +1,4 @@
--- A set more in a draft: its size is that of the layout, and it has one set more.
+-- One more set in a draft: its size is the layout's, and it has one more set.
 use Rattle.dns_wire.proofs.Common.{◌≡◌, ◌↔◌, ℕ, ◌+◌, ◌≤◌, ◌^◌, Bool, true, false, cond, List, [], ◌∷◌, ◌++◌, length, take, drop, replicate, Option, refl, sym, ap, ◌∙◌, subst, subst₂, arith, All, IfSome, Some, append_assoc, append-nil, length-append, ◌<◌, lt_of_not-le, false≢true, take-append-add, Octets, DomainName, wire, RecordSet, records_at, Header, MessageQuestion, Spells, size, Sharing, IsWritable, IsAskable, sections_in_order, length-map, length-drop, flat_map-append, Item, Laid, laid_front, records_of, in_section, is_section, asked_octets, asked_placed, octets16, question_octets, layout, header_octets, message_of, shared_alone, layout_spells, past_limit, length-layout, Section, asked_places, new_places, Holds, records_laid, suffix_number, Draft, draft_of, known_places, HasNames, IsDraft, Writes, with_counted, counts_of, item_of, names_so_far, Counts}
 use Rattle.dns_spec.specs.Layout as Layout
 use Rattle.dns_wire.proofs.AskedLemmas.{asked_whole}
@@ -39,7 +39,7 @@ module _ (head : Octets → ℕ) (q : Option MessageQuestion)
       ∙ ap (λ (x : Laid). length x.written) (whole i) in
       omega (arith, written, next_place, length-append l more, length-append d.octets more)
 
--- A set was put exactly where the layout with it is within the limit.
+-- A set was put if and only if the layout with it is within the limit.
 pub put_fits : {head head' : Octets → ℕ} {t : Bool} {d d' : Draft} (q : Option MessageQuestion)
     (items : List Item) (section : Section) (owner : DomainName) (ttl : ℕ) (set : RecordSet)
     → Writes head head' d d' (records_laid (records_at owner ttl set)) t → IsDraft head q items d
@@ -88,7 +88,7 @@ pub draft_begins : (head : Octets → ℕ) (q : Option MessageQuestion) (d : Dra
     → d.counts ≡ counts_of q [] → IfSome q IsAskable → IsDraft head q [] d
 draft_begins head q d octets holds counts askable = grind (arith, records_none, append-nil)
 
--- a draft of a question alone
+-- a draft with only a question
 abbrev pub asked_draft : ℕ → MessageQuestion → Draft
 asked_draft limit q = draft_of limit (replicate 12 0 ++ question_octets q) (12 + length
     (wire q.qname)) [] (record { questions = 1; answers = 0; authorities = 0; additionals = 0 })
@@ -115,7 +115,7 @@ asked_begins head limit q askable =
 abbrev pub header_of : Header → Counts → Octets
 header_of h n = header_octets h n.questions n.answers n.authorities n.additionals
 
--- the layout is its header, and what is in the draft after room for one
+-- the layout is its header, followed by the draft after room for a header
 pub draft_laid :
     {head : Octets → ℕ} (h : Header) (q : Option MessageQuestion) (items : List Item) (d : Draft)
     → IsDraft head q items d → header_of h d.counts ++ drop 12 d.octets ≡ layout h q items
@@ -131,12 +131,12 @@ draft_length q items d draft =
     let some = draft.holds.after_header in
     omega (arith, long, length-append (header_of h d.counts) w, length-drop 12 d.octets, some)
 
--- the header and what follows it, taken from the front of what was lent
+-- the header and what follows it, taken from the front of the borrowed octets
 pub finished : (front w out body : Octets) (n : ℕ) → out ≡ front ++ w → length front ≡ 12
     → n ≡ 12 + length body → take (length body) w ≡ body → take n out ≡ front ++ body
 finished front w out body n e twelve long is = grind (arith, take-append-add)
 
--- where the layout is refused, each size that sharing allows is past the limit
+-- if the layout is refused, each size that sharing allows exceeds the limit
 pub least_of : (q : Option MessageQuestion) (items : List Item) (limit : ℕ) (t : Bool)
     → ((t ≡ true) ↔ (size q items ≤ limit))
     → limit ≤ 16384 → (t ≡ false) ↔ ((z : ℕ) → Sharing q items z → limit < z)

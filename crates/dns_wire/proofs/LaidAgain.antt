@@ -1,4 +1,4 @@
--- A name that was laid out is laid out again by what is known of it.
+-- A name that was laid out is laid out again by its known form.
 use Rattle.dns_wire.proofs.Common.{◌≡◌, ◌↔◌, ℕ, zero, suc, ◌+◌, ◌<◌, ◌≤◌, Bool, true, false, cond, nat_le, List, [], ◌∷◌, ◌++◌, length, take, Option, None, Some, refl, sym, ap, ap₂, ◌∙◌, subst, arith, append_assoc, append-nil, length-append, le-leb, leb-true, leb-false, lt-leb, ◌⊎◌, inl, inr, false≢true, OnTrue, Octets, DomainName, wire, is_name, Placed, suffix_place, place_of, last_place, shared_place, shared_octets, suffix_to, shared_is, shared_to, shared_none, Kept, IsSharedAt, front_size, pointed_place, end_octets, asked_places, new_places, Holds, Follows, IsAsked, name_laid, Form, IsLaid, form_again, suffix_number, Counts, Draft, draft_of, HasNames, WritesAfter, known_places, with_octets, subst₂}
 use Rattle.std.specs.Bool.{OnFalse}
 use Rattle.dns_wire.proofs.AskedLemmas.{kept_more}
@@ -15,7 +15,7 @@ place_added ms more n p s suffix none =
     ∙ place_left (ms ++ (n, p) ∷ []) more s (suffix_place (n, p) s)
     (place_new ms (n, p) s none (suffix_to n s suffix))
 
--- past the reach of a pointer it is shared as it was
+-- beyond the reach of a pointer it is shared as before
 shared_still : (ms more : List Placed) (n : DomainName) (p : ℕ) (s : DomainName) → Suffix n s
     → last_place < p → shared_place (ms ++ (n, p) ∷ more) s ≡ shared_place ms s
 shared_still ms more n p s suffix high = go (place_of ms s) refl
@@ -25,7 +25,7 @@ shared_still ms more n p s suffix high = go (place_of ms s) refl
     go None e = grind (arith, place_added, shared_none, lt-leb)
     go (Some q) e = grind (arith, place_left)
 
--- how a name is laid out depends on where its suffixes are shared
+-- how a name is laid out depends on the places at which its suffixes are shared
 same_form : (ms ms' : List Placed) (n : DomainName) → ((s : DomainName)
     → Suffix n s → shared_place ms' s ≡ shared_place ms s)
     → IsLaid ms' n (front_size ms n, pointed_place ms n)
@@ -50,7 +50,7 @@ same_form ms ms' (l ∷ n) same =
       pointed-as ms' l n (own ∙ e) ∙ sym (pointed-as ms l n e),
     )
 
--- a name that was laid out so at a place, after names before that
+-- a name that was laid out in this form at a place, after earlier names
 pub laid_again : (ms more : List Placed) (n : DomainName) (p : ℕ) (form : Form)
     → ((l : Octets) (t : DomainName) (q : ℕ) → place_of ms (l ∷ t) ≡ Some q → q < p)
     → IsLaid ms n form → IsLaid (ms ++ (n, p) ∷ more) n (form_again p form)
@@ -101,7 +101,7 @@ laid_again ms more (l ∷ t) p (suc k, x) before laid = go (nat_le p last_place)
         (λ s suffix. shared_still ms more (l ∷ t) p s suffix high) in
         (same.0 ∙ laid.0, same.1 ∙ laid.1)
 
--- of such a name nothing is kept
+-- no places of such a name are kept
 pub none_kept : (head : Octets → ℕ) (ms : List Placed) (n : DomainName) (start at : ℕ) (form : Form)
     → start ≤ at → IsLaid ms n (form_again start form) → new_places head ms n at ≡ []
 none_kept head ms n start at (zero, x) after laid = sym (keep_none head ms n at [] laid.0)
@@ -126,7 +126,7 @@ laid_there {ms = ms} {b} {ks} n p holds e ok shared =
       ap (pointed_place ms) f.whole ∙ pointed-as ms f.label f.labels f.shared,
     )
 
--- the octets of a name that is laid out so
+-- the octets of a name that is laid out in this form
 pub laid_cut : (ms : List Placed) (n : DomainName) (form : Form)
     → IsLaid ms n form → shared_octets ms n ≡ take form.0 (wire n) ++ end_octets form.1
 laid_cut ms n form laid = shared_cut ms n
@@ -145,7 +145,7 @@ form_kept at (suc k, x) (inl none) = absurd (omega (arith, none))
 form_kept at (suc k, x) (inr high) =
     ap (λ b. cond b (zero, Some at) (suc k, x)) (lt-leb at last_place high)
 
--- a name is written by the octets that it is laid out as, and its places are kept
+-- a name is written as the octets of its layout, and its places are kept
 pub name_put : {known : List Placed → Type 0} {head head' : Octets → ℕ} {d d' : Draft}
     {ks : List Kept} (n : DomainName) (o : Octets) → is_name n ≡ true
     → IsAsked d.octets d.asked_end → length d.octets + length o ≤ d.limit → head' ≡ head
@@ -184,7 +184,7 @@ name_put {known} {head} {head'} {d} {ks = ks} n o ok asked room same more is lai
           };
     })
 
--- an owner of which no place is kept is written, or does not fit
+-- an owner none of whose places are kept is written, or does not fit
 pub owner_put : {known : List Placed → Type 0} {head : Octets → ℕ} {d d' : Draft} {t : Bool}
     (n : DomainName) (form : Form) (front : Octets) → is_name n ≡ true
     → IsAsked d.octets d.asked_end → front ≡ take form.0 (wire n)
@@ -225,7 +225,7 @@ owner_put {known} {head} {d} {t = false} n form front ok asked cut fits put not 
           };
     })
 
--- the names of a draft are those of the octets that are looked at
+-- the names of a draft are the names in the octets that are compared
 pub names_there : {number : Octets → ℕ} {ms : List Placed} {limit a : ℕ} {b message : Octets}
     {ks : List Kept} {n : Counts} {d : Draft} → draft_of limit b a ks n ≡ d → message ≡ b
     → Holds number ms d.octets (known_places number d)

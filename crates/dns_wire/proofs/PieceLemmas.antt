@@ -1,14 +1,14 @@
--- A piece of data stands at a place, at most one, and what it is decides of the data.
+-- At most one piece of data is at a place, and it determines the data.
 use Rattle.dns_wire.proofs.Common.{◌≡◌, ◌≢◌, ℕ, zero, suc, ◌+◌, ◌-◌, ◌<◌, ◌≤◌, true, ◌&&◌, not, ◌==◌, List, [], ◌∷◌, ◌++◌, length, take, drop, get_or, slice_get, Some, refl, sym, ap, ◌∙◌, subst, arith, append_assoc, append-nil, add-zero, and_parts, false≢true, none-some, same_Some, cond_some, slice_get-get_or, Octets, DomainName, Piece, fixed, domain, string, strings, anything, Part, octets, part_octets, are_strings, octets_front, string_front, piece_front, RunAt, NameAt, OctetsAt, PiecesAt, ends, goes_on, jumps, length-take-le, length-drop, take-take, get_or-take, get_or-drop, same_names, PieceAt, IsPieceRead, NoPieceAt, NoPiecesAt, ArePiecesRead}
 
--- pieces end no earlier than they begin
+-- pieces do not end before they begin
 pub run_forward : {b : Octets} {s i e : ℕ} {n : DomainName} → RunAt b s i n e → i ≤ e
 run_forward (ends i at) = omega arith
 run_forward (goes_on i k l n e at some short within is rest) =
     let later = run_forward rest in omega arith
 run_forward (jumps i o o' p n e at high at' is from before rest) = omega arith
 
--- a name has an octet
+-- a name has at least one octet
 pub run_past : {b : Octets} {s i e : ℕ} {n : DomainName} → RunAt b s i n e → i < e
 run_past (ends i at) = omega arith
 run_past (goes_on i k l n e at some short within is rest) = let later = run_past rest in omega arith
@@ -33,7 +33,7 @@ pub piece_more : {b : Octets} {ps : List Piece} {i e j k : ℕ} {p : Piece}
 piece_more {b} {ps} {i} {e} {j} {k} {p} {left} {so_far} {now} reading read =
     grind (arith, append_assoc, same_names, same_Some)
 
--- no such piece, and so no such pieces
+-- no such piece, so no such pieces
 pub pieces_none :
     {b : Octets} {ps : List Piece} {i e j : ℕ} {p : Piece} {left : List Piece} {so_far : Octets}
     → ArePiecesRead b ps i e (p ∷ left) j so_far → NoPieceAt b p j e → NoPiecesAt b ps i e
@@ -44,8 +44,8 @@ pub pieces_end : {b : Octets} {ps : List Piece} {i e j : ℕ} {so_far : Octets}
 pieces_end {b} {ps} {i} {e} {j} {so_far} reading end =
     subst (PiecesAt b ps i e) (append-nil so_far) (reading.forth [] (end, refl))
 
--- The octets of the data, from place i to place e, begin with a piece that is no name exactly where
--- it stands there.
+-- The octets of the data, from place i to place e, begin with a piece other than a name if and
+-- only if the piece is at place i.
 abbrev pub own_of : Octets → ℕ → ℕ → Octets
 own_of b i e = take (e - i) (drop i b)
 
@@ -56,7 +56,7 @@ module _ (b : Octets) (i e : ℕ) (ordered : i ≤ e) (within : e ≤ length b) 
   length-own : length own ≡ e - i
   length-own = length-take-le (e - i) (drop i b) (omega (arith, length-drop i b))
 
-  -- its octets stand in the message
+  -- its octets are in the message
   all_there : OctetsAt b i e own
   all_there = record { ordered = ordered; within = within; are = refl }
 
@@ -122,7 +122,7 @@ pub long_name_none : (b : Octets) (i e j : ℕ) (n : DomainName)
 long_name_none b i e j n there past k o h inside =
     let s = same_names refl there h.1 in omega (arith, s.1)
 
--- the piece that octets begin with, appended
+-- the piece that begins the octets, appended
 pub piece_read : (b : Octets) (p : Piece) (i e : ℕ) (part : Part) (rest lent old now : Octets)
     → i ≤ e → e ≤ length b → p ≢ domain → piece_front p (own_of b i e) ≡ Some (part, rest)
     → part_octets part ≡ lent → now ≡ old ++ lent → IsPieceRead b p i e old now (e - length rest)

@@ -1,4 +1,4 @@
--- Questions and records stand one after another, at each place at most one.
+-- Questions and records follow one another, with at most one at each place.
 use Rattle.dns_wire.proofs.Common.{◌≡◌, ℕ, ◌+◌, ◌<◌, ◌≤◌, List, [], ◌∷◌, ◌++◌, length, refl, sym, ap, subst, arith, append_assoc, append-nil, length-append, Octets, DomainName, Header, MessageQuestion, MessageRecord, DnsMessage, NameAt, NumberAt, QuestionsAt, RecordsAt, Spells, one_number, same_names, same_record, same_questions, same_records, NoDataAt, Counts, HeaderAt, AreQuestions, AreRecords, NoMessage, QuestionAt, WholeRecordAt, NoQuestion, NoRecord, NoRecords, AreRead}
 
 -- numbers that are missing
@@ -10,21 +10,21 @@ pub no_qclass : (b : Octets) (i j : ℕ) (n : DomainName)
     → NameAt b i n j → length b < j + 2 + 2 → NoQuestion b i
 no_qclass b i j n name short r e at = grind (arith, same_names)
 
--- of a record with this owner, what isn't there
+-- what is missing from a record with this owner
 module _ (b : Octets) (i j : ℕ) (n : DomainName) (owner : NameAt b i n j) where
   pub too_short : length b < j + 10 → NoRecord b i
   too_short short r e at = grind (arith, same_names)
 
-  -- its data is past the end
+  -- its data ends past the end
   pub no_room : (len : ℕ) → NumberAt b (j + 8) 2 len → length b < j + 10 + len → NoRecord b i
   no_room len there short r e at = grind (arith, same_names, one_number)
 
-  -- its data is none
+  -- its data is invalid
   pub no_data : (t c len : ℕ) → NumberAt b j 2 t → NumberAt b (j + 2) 2 c → NumberAt b (j + 8) 2 len
       → NoDataAt b t c (j + 10) (j + 10 + len) → NoRecord b i
   no_data t c len rtype class there none r e at = grind (arith, same_names, one_number)
 
--- Things stand one after another, each with one end.
+-- Elements follow one another, each with one end.
 pub record InTurn
     {A : Type 0} (At : ℕ → List A → ℕ → Type 0) (One : ℕ → A → ℕ → Type 0) : Type 0 where
   ends : (i : ℕ) → At i [] i
@@ -69,7 +69,7 @@ module _ {A : Type 0} {At : ℕ → List A → ℕ → Type 0} {One : ℕ → A 
   pub read_end : At i so_far j
   read_end = subst (λ ws. At i ws j) (append-nil so_far) (read.forth [] j (turn.ends j))
 
--- What a message has in its sections follows from its header, section by section.
+-- The header determines the sections of a message, one after another.
 module _ (b : Octets) (head : Header) (counts : Counts) (there : HeaderAt b head counts) where
   questions_end_at : (m : DnsMessage) (spells : Spells b m) (qs : List MessageQuestion) (e : ℕ)
       → AreQuestions b 12 counts.questions qs e → spells.after_questions ≡ e

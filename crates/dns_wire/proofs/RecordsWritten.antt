@@ -1,4 +1,4 @@
--- Records are written one after the other.
+-- Records are written one after another.
 use Rattle.dns_wire.proofs.Common.{◌≡◌, ℕ, ◌+◌, ◌*◌, ◌<◌, ◌≤◌, Bool, true, false, List, [], ◌∷◌, ◌++◌, length, take, drop, get_or, refl, sym, ap, ap₂, ◌∙◌, subst, subst₂, arith, add-zero, map, append_assoc, append-nil, length-append, take-append-drop, length-map, get_or-map, take_more, take_all, Octets, DomainName, ResourceRecord, RecordSet, records_at, laid_parts, Placed, Laid, laid_front, shared_octets, data_laid, record_laid, record_tail, records_octets, records_by, length-record_tail, both_laid, shown, records_laid, Draft, HasNames, Writes, WritesAfter, IsLaid, IsLaidAs, Form, form_again, ◌==◌, OnTrue, false≢true, ne_eqb, zero, suc}
 use Rattle.dns_wire.proofs.LaidAgain.{laid_again}
 use Rattle.dns_wire.proofs.Steps.{writes_as, writes_both, writes_past}
@@ -23,7 +23,7 @@ octets_of_records ms p (r ∷ rs) =
     let l = record_laid ms p r in
     ap (λ z. l.written ++ z) (octets_of_records (ms ++ l.names) (p + length l.written) rs)
 
--- records after others
+-- records followed by others
 pub records_split : (rs ss : List ResourceRecord) (ms : List Placed) (p : ℕ)
     → both_laid (records_laid rs) (records_laid ss) ms p ≡ records_laid (rs ++ ss) ms p
 records_split [] ss ms p = grind (arith, records_none, ap₂, append-nil, add-zero)
@@ -47,7 +47,7 @@ record_alone : (r : ResourceRecord) (ms : List Placed) (p : ℕ)
     → record_laid ms p r ≡ records_laid (r ∷ []) ms p
 record_alone r ms p = grind (arith, ap₂, append-nil, records_none, records_more)
 
--- a record has ten octets after its owner
+-- a record has at least ten octets after its owner
 records_long : (ms : List Placed) (p : ℕ) (rs : List ResourceRecord)
     → 10 * length rs ≤ length (records_laid rs ms p).written
 records_long ms p [] = omega arith
@@ -108,7 +108,7 @@ owner_first owner ttl set (suc i) ms p some has = go set.rdata refl
           ap (λ ds. (records_laid (take (suc i) (map show ds)) ms p).names) e ∙ x.1,
         )
 
--- so the owner of the others is known
+-- so the form of the other owners is known
 owner_again : (head : Octets → ℕ) (d : Draft) (owner : DomainName) (ttl : ℕ) (set : RecordSet)
     (i start : ℕ) (form : Form) → i < length set.rdata → start ≡ length d.octets
     → (0 < i → (ms : List Placed) → HasNames d head ms → IsLaid ms owner form)
@@ -135,7 +135,7 @@ form_known head head' d d' owner form form' zero begins same known first others 
 form_known head head' d d' owner form form' (suc i) begins same known first others put ms holds =
     subst (IsLaid ms owner) (sym (others (ne_eqb (suc i) 0 (λ e. omega (arith, e))))) (known (omega arith) ms holds)
 
--- a record more of a set
+-- one more record of a set
 pub record_more : {head head' head'' : Octets → ℕ} {d d' d'' : Draft} {fits : Bool}
     (owner : DomainName) (ttl : ℕ) (set : RecordSet) (i start : ℕ) (form : Form)
     (given : ResourceRecord) → i < length set.rdata
@@ -157,7 +157,7 @@ record_more {head} {head'} {head''} {d} {d'} {d''} {fits}
     (λ ms holds _. owner_again head d owner ttl set i start form inside begins known ms holds) refl
     so_far (writes_as (λ ms p. record_laid ms p given) last (record_alone given) next)))
 
--- where some of the records do not fit
+-- some of the records do not fit
 pub records_past : {head head' : Octets → ℕ} {d d' : Draft} {t : Bool} (rs : List ResourceRecord)
     (i : ℕ) → t ≡ false → Writes head head' d d' (records_laid (take i rs)) t
     → Writes head head' d d' (records_laid rs) false

@@ -1,7 +1,7 @@
--- What a run of labels has at a place decides how it goes on.
+-- What is at a place in a run of labels determines how the run continues.
 use Rattle.dns_wire.proofs.Common.{pointer_place, ◌≡◌, ℕ, ◌+◌, ◌<◌, ◌≤◌, true, IfSome, [], ◌∷◌, ◌++◌, length, take, drop, get_or, slice_get, Option, Some, refl, sym, ap, ◌∙◌, subst, arith, append_assoc, append-nil, length-append, same_Some, slice_get_within, slice_get-get_or, Octets, DomainName, wire, is_name, RunAt, NameAt, ends, goes_on, jumps, length-take-le, length-drop, LabelAt, PointerAt, NoRunAt, NoNameAt, IsReading, end_or}
 
--- how a run goes on from place i: it ends, has a label, or a pointer
+-- how a run continues from place i: with its end, a label, or a pointer
 pub data GoesOn (b : Octets) (s i : ℕ) (n : DomainName) (e : ℕ) : Type 0 where
   at_end : slice_get b i ≡ Some 0 → n ≡ [] → e ≡ i + 1 → GoesOn b s i n e
   at_label : (l : Octets) (m : DomainName)
@@ -37,18 +37,18 @@ goes_on_at (jumps i o o' p n e at high at' is from before rest) =
 there_is : (b : Octets) (i k : ℕ) → i < length b → get_or b i 0 ≡ k → slice_get b i ≡ Some k
 there_is b i k inside e = slice_get-get_or b i 0 inside ∙ ap Some e
 
--- a label stands after its length
+-- a label follows its length
 pub label_stands : (b l : Octets) (i k : ℕ) → i < length b → get_or b i 0 ≡ k
     → 0 < k → k < 64 → k ≤ length (drop (i + 1) b) → l ≡ take k (drop (i + 1) b) → LabelAt b i l
 label_stands b l i k inside e some short within is = (label_there (there_is b i k inside e)
     some short (omega (arith, inside, within, length-drop (i + 1) b)) is).1
 
--- what the octet at a place says of how a run goes on
+-- what the octet at a place determines about the run
 module _ (b : Octets) (s i k : ℕ) (inside : i < length b) (is : get_or b i 0 ≡ k) where
   pub no_label : 0 < k → k < 64 → length (drop (i + 1) b) < k → NoRunAt b s i
   no_label some short past n e run = grind (arith, there_is, length-drop)
 
--- a beginning of a name is no longer than the name
+-- a beginning of a name is not longer than the name
 pub length-wire-front : (n m : DomainName) → length (wire n) ≤ length (wire (n ++ m))
 length-wire-front [] [] = omega arith
 length-wire-front [] (l ∷ m) = omega arith
@@ -63,7 +63,7 @@ reading_ends {b} {at} {s} {i} {n} {end} reading root = (
   reading.is_name,
 )
 
--- a label more
+-- one more label
 pub reading_label : {b : Octets} {at s i : ℕ} {n : DomainName} {end : Option ℕ} (l : Octets)
     → IsReading b at n s i end → LabelAt b i l
     → is_name (n ++ l ∷ []) ≡ true → IsReading b at (n ++ l ∷ []) s (i + (1 + length l)) end

@@ -1,5 +1,5 @@
--- What data is cut into whose names take part in compression: one name, a number and a name, or two
--- names and five numbers.
+-- The parts of data whose names are compressed: one name, a number and a name, or two names and
+-- five numbers.
 use Rattle.dns_wire.proofs.Common.{◌≡◌, ℕ, ◌-◌, ◌≤◌, true, List, [], ◌∷◌, ◌++◌, length, take, drop, Option, None, Some, refl, sym, ap, ap₂, ◌∙◌, subst, arith, append-nil, length-append, take_at, drop_at, false≢true, and_parts, none-some, same_Some, Bor, Octets, DomainName, wire, is_name, length-take, length-drop, take_all, Fixed, width, Piece, domain, fixed, numbers, type_mx, type_soa, Part, octets, name, piece_front, cut, pieces_of, parts, laid_parts, compresses, valid, cut_into, name_part, octets_part, front_taken, labels_of, IsWireForm, Cuts, IsLent, part_for, Name}
 use Rattle.dns_rdata.specs.declared.parts.Part as Lent
 use Rattle.dns_wire.proofs.ValidData.{by_row}
@@ -17,7 +17,7 @@ first_name ps d xs h =
     let n = name_part d c.rest c.part c.front in
     (n.0, c.rest, c.others, n.2, n.3, sym c.whole ∙ ap (λ p. p ∷ c.others) (sym n.1), c.more)
 
--- so many octets first
+-- octets of a fixed length first
 first_run : (f : Fixed) (ps : List Piece) (d : Octets) (xs : List Part)
     → cut (fixed f ∷ ps) d ≡ Some xs → (others : List Part) × (length (take (width f) d) ≡ width f)
     × (xs ≡ octets (take (width f) d) ∷ others) × (cut ps (drop (width f) d) ≡ Some others)
@@ -33,7 +33,7 @@ first_run f ps d xs h =
       ap (cut ps) rest ∙ c.more,
     )
 
--- the parts of valid data of a type whose names take part in compression
+-- the parts of valid data of a type whose names are compressed
 parts_cut : (t : ℕ) (d : Octets)
     → compresses t ≡ true → valid t d ≡ true → cut (pieces_of t) d ≡ Some (laid_parts t d)
 parts_cut t d shared ok = grind (arith, and_parts, false≢true)
@@ -58,7 +58,7 @@ pub server_some : (t : ℕ) (d : Octets)
 server_some t d soa ok e = let c =
     cut_into domain _ d (laid_parts t d) (authority_cut t d soa ok) in none-some _ (sym e ∙ c.front)
 
--- the parts of the data of an SOA, of which the first name was lent, and what follows it
+-- the parts of the data of an SOA whose first name was borrowed, and what follows it
 pub record AuthorityLaid (server rest : Octets) (ps : List Part) : Type 0 where
   pub lent : IsWireForm server
   pub mailbox : DomainName
@@ -100,8 +100,7 @@ authority_laid {r} {part} {rest} {server} t d soa ok some named cuts =
           ∙ ap₂ (λ o ys. octets o ∷ ys) (take_all 20 tail (omega (arith, long)) ∙ sym back) end.1));
     }
 
--- Of the types whose names take part in compression only MX and SOA have more than one name as
--- data.
+-- Of the types whose names are compressed, only MX and SOA have data other than one name.
 pub one_left : (t : ℕ)
     → compresses t ≡ true → (t ≡ type_mx → ⊥) → (t ≡ type_soa → ⊥) → pieces_of t ≡ domain ∷ []
 one_left t = grind (arith, by_row, false≢true)

@@ -1,9 +1,9 @@
--- What is spelled from a place on is decided by what stands there and by what comes after it.
+-- What is at a place, and what follows it, determine what is spelled from there on.
 use Rattle.dns_wire.proofs.Common.{◌≡◌, ℕ, ◌+◌, ◌<◌, true, [], ◌∷◌, ◌++◌, length, take, drop, slice_get, Some, refl, sym, ap, ◌∙◌, subst, arith, drop_at, take-append-drop, length-append, and_parts, length-take-le, same_Some, list_all, Octets, DomainName, wire, is_name, is_label, RunAt, ends, goes_on, jumps, Stands, run_written, LabelAt, PointerAt, SpelledFrom, SpellsName, HasAt}
 use Rattle.dns_wire.proofs.Runs.{GoesOn, at_end, at_label, at_pointer, goes_on_at}
 use Rattle.dns_wire.proofs.SuffixLemmas.{next_label}
 
--- the root alone has a wire form of one octet
+-- only the root has a wire form of one octet
 pub root_alone : (m : DomainName) → length (wire m) ≡ 1 → wire m ≡ 0 ∷ []
 root_alone [] h = refl
 root_alone (l ∷ []) h = absurd (omega (arith, h, length-append l (wire [])))
@@ -87,7 +87,7 @@ stands_at {b} {o} {p} has = record {
   place = length-take-le p b has.0;
 }
 
--- a name that stands in a message octet by octet is spelled there
+-- a name whose octets are in a message is spelled there
 pub spelled_whole : {b o : Octets} {p : ℕ} → HasAt b p o → SpellsName b p o
 spelled_whole {b} {o} {p} has n e ok = (
   n,
@@ -97,7 +97,7 @@ spelled_whole {b} {o} {p} has n e ok = (
   sym e,
 )
 
--- the octets after the first label of a name are those of a name
+-- the octets after the first label of a name are the octets of a name
 pub named_after : {o : Octets} (l after : Octets)
     → 0 < length l → o ≡ length l ∷ (l ++ after) → (n : DomainName)
     → o ≡ wire n → is_name n ≡ true → (m : DomainName) × (after ≡ wire m) × (is_name m ≡ true)
@@ -111,7 +111,7 @@ named_after {o} l after some is n e ok =
     }) in
     (f.labels, f.spelled, f.is_name)
 
--- what is spelled from a label on begins with it
+-- what is spelled from a label on begins with the label
 pub spelled_front : {b : Octets} {s i : ℕ} {o : Octets} (l : Octets)
     → LabelAt b i l → SpelledFrom b s i o → (more : Octets) × (o ≡ length l ∷ (l ++ more))
 spelled_front {b} {s} {i} {o} l there h = go h.0 h.1 h.3 (goes_on_at h.2)

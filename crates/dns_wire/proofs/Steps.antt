@@ -1,4 +1,4 @@
--- Steps of writing: one after the other they write what is laid out one after the other.
+-- Steps of writing: in order, they write what is laid out in order.
 use Rattle.dns_wire.proofs.Common.{◌≡◌, ℕ, ◌+◌, ◌*◌, ◌<◌, ◌≤◌, Bool, true, false, List, [], ◌++◌, length, take, refl, sym, ap₂, subst, subst₂, arith, append_assoc, append-nil, length-append, false≢true, take-append_seam, Octets, Placed, Kept, suffix_number, Holds, IsAsked, Layout, octets_laid, both_laid, Draft, draft_of, with_octets, HasNames, Grows, Writes, WritesAfter, IsWellKept, Counts}
 use Rattle.dns_wire.proofs.AskedLemmas.{is_asked_more, kept_more}
 use Rattle.dns_wire.proofs.NameWritten.{holds_octets}
@@ -27,12 +27,12 @@ grows_not d = grind (arith, follows_none)
 pub grows_again : {d d' d'' : Draft} → Grows d d' → Grows d' d'' → Grows d d''
 grows_again g h = grind (arith, follows_again)
 
--- what was taken back is as it was
+-- what was taken back is as it was before
 pub taken_back : {d d' : Draft} {k j : ℕ} → Grows d d' → k ≡ length d.octets
     → j ≡ length d.kept → record d' { octets = take k d'.octets; kept = take j d'.kept } ≡ d
 taken_back {d} {d'} {k} {j} g octets kept = grind (arith, ap₂, take-append_seam)
 
--- octets that are no name to a writer
+-- octets that are not a name to a writer
 pub octets_written : {d d' : Draft} (head : Octets → ℕ) (o : Octets)
     → IsAsked d.octets d.asked_end → length d.octets + length o ≤ d.limit
     → d' ≡ with_octets d o → Writes head head d d' (octets_laid o) true
@@ -75,7 +75,7 @@ pub writes_both : {known known' : List Placed → Type 0} {head head' head'' : O
 writes_both {known} {known'} {head} {head'} {head''} {d} {d'} {d''} {t} {fits} f g link is first next =
     grind (arith, length-append, append_assoc)
 
--- where a part does not fit, the whole does not
+-- if a part does not fit, the whole does not
 pub writes_past : {known : List Placed → Type 0} {head head' : Octets → ℕ} {d d' : Draft}
     {t fits : Bool} (f g : Layout) → t ≡ false → fits ≡ false
     → ((ms : List Placed) (p : ℕ) → length (f ms p).written ≤ length (g ms p).written)

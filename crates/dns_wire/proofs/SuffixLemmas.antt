@@ -1,9 +1,9 @@
--- What is found for a suffix is where it is shared, and what is kept of a name is just what later
--- names may share of it.
+-- The place found for a suffix is the place at which it is shared, and the places kept of a name
+-- are exactly those that later names may share.
 use Rattle.dns_wire.proofs.Common.{◌≡◌, ℕ, zero, suc, ◌+◌, ◌-◌, ◌*◌, ◌<◌, ◌≤◌, Bool, true, false, cond, nat_le, List, [], ◌∷◌, ◌++◌, length, take, drop, get_or, Option, None, Some, refl, sym, ap, ap₂, ◌∙◌, subst, arith, append_assoc, append-nil, length-append, drop_at, le-leb, leb-true, same_Some, Octets, DomainName, wire, is_name, RunAt, Placed, last_place, shared_place, ends, goes_on, jumps, length-drop, label_parts, is_name-tail, is_label-head, wire-injective, pointer_place, Kept, HasPlace, SpelledAt, SpellsName, NoneSpelled, AfterLabel, front_size, pointed_place, new_places, Holds, Follows}
 use Rattle.dns_wire.proofs.Runs.{GoesOn, at_end, at_label, at_pointer, goes_on_at}
 
--- how a name is laid out, by the place at which its first suffix is shared, if any
+-- how a name is laid out, by the place at which it is shared whole, if any
 module _ (ms : List Placed)
     (l : Octets) (n : DomainName) {x : Option ℕ} (is : shared_place ms (l ∷ n) ≡ x) where
   pub front-as : front_size ms
@@ -57,7 +57,7 @@ pub one_run : {b : Octets} {s i e f : ℕ} {n m : DomainName}
     → RunAt b s i n e → RunAt b s i m f → n ≡ m
 one_run h g = one_from h (goes_on_at g)
 
--- a name that is spelled at a place that is kept is not the root, and shared there
+-- a name that is spelled at a place that is kept is not the root, and is shared there
 pub record FoundAt (ms : List Placed) (n : DomainName) (p : ℕ) : Type 0 where
   pub label : Octets
   pub labels : DomainName
@@ -78,7 +78,7 @@ found {head} {ms} {b} {ks} {p} n holds ok kept there =
       shared = s.2;
     }
 
--- where nothing is found there is none
+-- if nothing is found, there is no such place
 pub not_found : {head : Octets → ℕ} {ms : List Placed}
     {b : Octets} {ks : List Kept} (l : Octets) (n : DomainName) → Holds head ms b ks
     → NoneSpelled ks (head (wire (l ∷ n))) b (wire (l ∷ n)) → shared_place ms (l ∷ n) ≡ None
@@ -90,7 +90,7 @@ not_found {head} {ms} {b} {ks} l n holds none = go (shared_place ms (l ∷ n)) r
         let s = holds.spelled l n p e in
         absurd (none p (holds.answers.complete l n p e) (l ∷ n, s.2, s.3, refl))
 
--- What is left to look at of a name: a name whose layout ends that of the whole.
+-- The part of a name that is left to compare: a suffix whose layout ends the layout of the whole.
 pub record LeftOf (ms : List Placed) (name rest : Octets) (n : DomainName) : Type 0 where
   pub left : DomainName
   pub spelled : rest ≡ wire left
@@ -104,7 +104,7 @@ pub record Left
   pub all : (ms : List Placed) (n : DomainName)
       → Holds head ms b ks → name ≡ wire n → is_name n ≡ true → LeftOf ms name rest n
 
--- the first label of what is left of a name, and what follows it
+-- the first label of that part, and what follows it
 pub record NextLabel (left : DomainName) (rest after : Octets) (k : ℕ) : Type 0 where
   pub label : Octets
   pub labels : DomainName
@@ -148,7 +148,7 @@ left_label {head} {b} {ks} {name} {rest} {after} k left a none = record {
       };
 }
 
--- where nothing is left to look at, the name is written whole; where a suffix is found, its front
+-- if nothing is left to compare, the name is written whole; if a suffix is found, only its front
 -- is
 pub left_root : {head : Octets → ℕ} {b : Octets} {ks : List Kept} {name rest : Octets}
     (ms : List Placed) (n : DomainName) → Left head b ks name rest → ((m : DomainName)
@@ -175,7 +175,7 @@ left_found {b = b} {name = name} {rest} p ms n left kept there holds e ok =
       a.place ∙ ap (pointed_place ms) f.whole ∙ pointed-as ms f.label f.labels f.shared,
     )
 
--- which places are kept of a name, by that place
+-- the places that are kept of a name, by that place
 module _ (head : Octets → ℕ) (ms : List Placed) (l : Octets) (n : DomainName) (p : ℕ) where
   abbrev kept_by : Option ℕ → List Kept
   kept_by None = cond (nat_le p last_place) (record
@@ -192,7 +192,7 @@ module _ (head : Octets → ℕ) (ms : List Placed) (l : Octets) (n : DomainName
   kept-more e low = kept-as e ∙ ap (λ t. cond t (record { place = p; number = head (wire (l ∷ n)) }
       ∷ new_places head ms n (p + 1 + length l)) []) (le-leb p last_place low)
 
-  -- nothing is kept past the reach of a pointer, or of a shared suffix
+  -- nothing is kept beyond the reach of a pointer, or after a shared suffix
   pub kept-high : last_place < p → new_places head ms (l ∷ n) p ≡ []
   kept-high high = go (shared_place ms (l ∷ n)) refl (nat_le p last_place) refl
     where
@@ -215,7 +215,7 @@ pub kept-root : (head : Octets → ℕ) (ms : List Placed) (p : ℕ) → new_pla
 unfolding new_places
 kept-root head ms p = refl
 
--- What is left to keep of a name.
+-- The part of a name whose places are left to keep.
 pub record KeepOf (head : Octets → ℕ) (ms : List Placed)
     (old ks : List Kept) (rest : Octets) (front at place : ℕ) (n : DomainName) : Type 0 where
   pub left : DomainName
@@ -278,7 +278,7 @@ keep_label {head} {old} {ks} {name} {rest} {after} {front} {at} {place} k h keep
               (arith, fit, ap (front_size ms) g.whole, front-as ms g.label g.labels q, g.long);
         }
 
--- where the loop ends nothing is left to keep
+-- when the loop ends, nothing is left to keep
 pub keep_root : {head : Octets → ℕ} {old ks : List Kept} {name rest : Octets} {front at place : ℕ}
     → Keep head old ks name rest front at place → ((m : DomainName) → rest ≡ wire m
     → is_name m ≡ true → m ≡ []) → (ms : List Placed) (n : DomainName) → name ≡ wire n
@@ -311,7 +311,7 @@ keep_past {head} {old} {ks} {place = place} k keep a past ms n e ok f =
     sym (x.kept ∙ ap (λ x. ks ++ new_places head ms x place) g.whole
     ∙ ap (λ x. ks ++ x) none ∙ append-nil ks)
 
--- nothing is kept of a name that is a pointer alone
+-- no place is kept of a name that is only a pointer
 pub keep_none : (head : Octets → ℕ) (ms : List Placed) (n : DomainName) (at : ℕ) (ks : List Kept)
     → front_size ms n ≡ 0 → ks ≡ ks ++ new_places head ms n at
 keep_none head ms [] at ks none =
@@ -324,7 +324,7 @@ pub keep_end : {head : Octets → ℕ} {old ks : List Kept} {name rest : Octets}
     → is_name n ≡ true → front ≡ front_size ms n → ks ≡ old ++ new_places head ms n at
 keep_end {head} {old} {ks} {place = place} keep end ms n e ok f = grind (arith, keep_none)
 
--- octets that have no first label are the wire form of no other name than the root
+-- octets without a first label are only the root's wire form
 pub root_empty : (o : Octets) (n : DomainName) → o ≡ wire n → length o ≡ 0 → n ≡ []
 root_empty o [] e none = refl
 root_empty o (l ∷ n) e none = absurd (omega (arith, ap length e, none))

@@ -1,14 +1,14 @@
--- Data that is read is data of its type, of at most 65,535 octets.
+-- Data that is read is valid for its type and has at most 65,535 octets.
 use Rattle.dns_wire.proofs.Common.{AllByRecursion, ◌≡◌, ℕ, suc, ◌+◌, ◌-◌, ◌≤◌, Bool, true, ◌||◌, nat_le, ◌==◌, List, [], ◌∷◌, ◌++◌, length, slice_get, get_or, Some, is_some, unwrap_or, refl, sym, ap, ◌∙◌, subst, arith, append-nil, add-zero, length-append, if◌then◌else◌, ne_eqb, eqb-true, same_Some, slice_get_within, slice_get-get_or, find, Octets, class_in, width, Piece, fixed, domain, string, strings, anything, TypeRow, other_type, Part, octets, string_front, piece_front, cut, valid, OctetsAt, PieceAt, PiecesAt, DataAt, length-take-le, length-drop, nil_from_length, get_or-take, get_or-drop, IsName-is_name, name_of-wire, more_are_cut}
 use Rattle.dns_wire.proofs.PieceLemmas.{forward, all_forward, run_past}
 use Rattle.dns_spec.proofs.DataWords.MadeData.{cut-octets}
 
--- the octets between two places are as many as there are places
+-- the number of octets between two places is their distance
 octets_length : {b : Octets} {i e : ℕ} {o : Octets} → OctetsAt b i e o → length o ≡ e - i
 octets_length {b} {i} {e} at = grind (arith, length-take-le, length-drop)
 
--- how many domain names are among pieces, and how many octets the other pieces have at most, where
--- they are numbers
+-- the number of domain names among pieces, and the most octets of the other pieces, if they are
+-- numbers
 names_among : List Piece → ℕ
 names_among [] = 0
 names_among (domain ∷ ps) = 1 + names_among ps
@@ -36,7 +36,7 @@ unnamed_length b (anything ∷ ps) i e d none h =
     grind
     (arith, all_forward, length-append, octets_length, (unnamed_length b ps h.0 e h.2 none h.5))
 
--- the octets of names and numbers, at most; of other pieces nothing is said
+-- the most octets of names and numbers; for other pieces more than data may have
 most : List Piece → ℕ
 most [] = 0
 most (fixed f ∷ ps) = width f + most ps
@@ -64,18 +64,18 @@ named_length b (string ∷ ps) i e d fits h = absurd (omega arith)
 named_length b (strings ∷ ps) i e d fits h = absurd (omega arith)
 named_length b (anything ∷ ps) i e d fits h = absurd (omega arith)
 
--- Each type has data of one or the other kind.
+-- The data of each type is of one kind or the other.
 bounded : List Piece → Bool
 bounded ps = (names_among ps == 0) || nat_le (most ps) 65535
 
--- what holds of each row of the table with a number holds of the row of that type
+-- what holds for each row of the table with a number holds for the row of that type
 pub by_row : (t : ℕ) (P : TypeRow → Type 0) (rows : List TypeRow) → P other_type
     → AllByRecursion (λ row. row.number ≡ t → P row) rows
     → P (unwrap_or (find (λ (row : TypeRow). row.number == t) rows) other_type)
 by_row t P [] other each = other
 by_row t P (row ∷ others) other each = grind (arith, eqb-true, (by_row t P others other each.1))
 
--- nothing stands between a place and itself
+-- there is nothing between a place and itself
 nothing_between : (b : Octets) (ps : List Piece) (i : ℕ) (d : Octets) → PiecesAt b ps i i d → d ≡ []
 nothing_between b [] i d h = h.1
 nothing_between b (p ∷ ps) i d h =
@@ -91,13 +91,13 @@ nothing_between b (p ∷ ps) i d h =
     no_octets strings o at = absurd (omega (arith, octets_length at.0, at.1))
     no_octets anything o at = nil_from_length o (omega (arith, octets_length at.0))
 
--- the first of some octets stands where they begin
+-- the first octet is at the place where the octets begin
 first_octet : (b : Octets) (i k : ℕ) (o : Octets)
     → slice_get b i ≡ Some k → OctetsAt b i (i + 1 + k) o → get_or o 0 0 ≡ k
 first_octet b i k o there at =
     grind (arith, slice_get_within, get_or-take, get_or-drop, add-zero, same_Some, slice_get-get_or)
 
--- What is read in pieces is cut into them.
+-- Data that is read in pieces is cut into them.
 abbrev IsCut : List Piece → Octets → Type 0
 IsCut ps d = is_some (cut ps d) ≡ true
 
@@ -131,8 +131,8 @@ pieces_cut b (strings ∷ ps) i e d h =
 pieces_cut b (anything ∷ ps) i e d h =
     grind (arith, nothing_between, cut_more, (pieces_cut b ps h.0 e h.2 h.5))
 
--- The data of a record is valid for its type, or, in another class than IN, for a type of which the
--- data is octets.
+-- The data of a record is valid for its type or, in a class other than IN, for a type whose data
+-- is any octets.
 pub data_valid : (b : Octets) (t c i e : ℕ) (d : Octets)
     → DataAt b t c i e d → e - i ≤ 65535 → valid (if c == class_in then t else 0) d ≡ true
 unfolding bounded names_among most

@@ -1,4 +1,4 @@
--- What a reader learns here: what a writer has written of a message so far.
+-- What a writer has written of a message so far.
 use Rattle.std.specs.Prelude.{⊤, ◌≡◌, ◌↔◌, ℕ, ◌+◌, ◌*◌, ◌<◌, ◌≤◌, ◌^◌, Bool, List, [], ◌∷◌, ◌++◌, length, min, replicate, if◌then◌else◌, Option, IfSome, IsTrue}
 use Rattle.std.specs.Bool.{OnTrue}
 use Rattle.std.specs.Option.{option_to_list}
@@ -20,11 +20,11 @@ section_of Answer = answer
 section_of Authority = authority
 section_of Additional = additional
 
--- how many of so many records of a section come in a section
+-- k if the two sections are the same, else 0
 abbrev pub counted : Messages.Section → Section → ℕ → ℕ
 counted s section k = if is_section s (section_of section) then k else 0
 
--- the counts with so many records more in a section
+-- the counts after adding k records to a section
 abbrev pub with_counted : Counts → Section → ℕ → Counts
 with_counted n section k = record {
   questions = n.questions;
@@ -33,7 +33,7 @@ with_counted n section k = record {
   additionals = n.additionals + counted additional section k;
 }
 
--- those of a message with this question and these sets
+-- the counts of a message with this question and these sets
 abbrev pub counts_of : Option MessageQuestion → List Item → Counts
 counts_of q items = record {
   questions = length (option_to_list q);
@@ -42,17 +42,17 @@ counts_of q items = record {
   additionals = length (in_section additional items);
 }
 
--- the records of a set, in a section of a message
+-- the records of a set at an owner, in a section of a message
 abbrev pub item_of : Section → DomainName → ℕ → RecordSet → Item
 item_of section owner ttl set =
     record { section = section_of section; records = records_at owner ttl set }
 
--- the sets so far, and such a set after them
+-- the sets so far, followed by this set
 abbrev pub with_set : List Item → Section → DomainName → ℕ → RecordSet → List Item
 with_set items section owner ttl set = items ++ item_of section owner ttl set ∷ []
 
--- a message that is being written: its limit, its octets after room for a header, where the name of
--- its question ends, the places kept of the names after it, and the counts of its header
+-- a message being written: its limit, its octets after room for a header, the place where the name
+-- of its question ends, the places kept of later names, and the counts of its header
 pub record Draft : Type 0 where
   pub limit : ℕ
   pub octets : Octets
@@ -64,7 +64,7 @@ abbrev pub draft_of : ℕ → Octets → ℕ → List Kept → Counts → Draft
 draft_of limit octets asked_end kept counts =
     record { limit = limit; octets = octets; asked_end = asked_end; kept = kept; counts = counts }
 
--- nothing but room for a header
+-- the empty message: only room for a header
 abbrev pub no_draft : ℕ → Draft
 no_draft limit = record {
   limit = limit;
@@ -74,20 +74,20 @@ no_draft limit = record {
   counts = record { questions = 0; answers = 0; authorities = 0; additionals = 0 };
 }
 
--- the places of the name of the question, and those kept of the names after it
+-- the places of the question's name, and those kept of later names
 abbrev pub known_places : (Octets → ℕ) → Draft → List Kept
 known_places number d = asked_places number d.octets d.asked_end ++ d.kept
 
--- the draft with octets after those that it has
+-- the draft with more octets at its end
 abbrev pub with_octets : Draft → Octets → Draft
 with_octets d o = record d { octets = d.octets ++ o }
 
--- these are its earlier names, where suffixes have their numbers by this hash
+-- the earlier names of the draft, with numbers of suffixes by this hash
 abbrev pub HasNames : Draft → (Octets → ℕ) → List Placed → Type 0
 HasNames d head ms = Holds (suffix_number head) ms d.octets (known_places (suffix_number head) d)
 
--- What a step of writing keeps: octets and places came after those that were there, and all else is
--- as it was.
+-- What a step of writing preserves: octets and places are only appended, and everything else is as
+-- it was.
 pub record Grows (old new : Draft) : Type 0 where
   pub octets : Follows old.octets new.octets
   pub kept : Follows old.kept new.kept
@@ -95,8 +95,8 @@ pub record Grows (old new : Draft) : Type 0 where
   pub limit : new.limit ≡ old.limit
   pub counts : new.counts ≡ old.counts
 
--- What was laid out after these names is written exactly where it fits the limit. Its names are
--- earlier names then, in whatever octets of that length the earlier ones are.
+-- What was laid out after these names is written if and only if it fits the limit. Its names are
+-- then earlier names too, whatever the earlier octets are, if their number is the same.
 pub record IsWritten (number : Octets → ℕ) (ms : List Placed) (old new : Draft) (laid : Laid)
     (fits : Bool) : Type 0 where
   pub exactly : IsTrue fits ↔ (length (old.octets ++ laid.written) ≤ old.limit)
@@ -105,8 +105,8 @@ pub record IsWritten (number : Octets → ℕ) (ms : List Placed) (old new : Dra
       → Holds number ms x (known_places number old)
       → StandsIn number ms x laid (known_places number new))
 
--- A step that writes what is laid out after names of which this is known. The hash that is lent has
--- the same numbers before it and after it.
+-- A step that writes what is laid out after names for which `known` holds. The borrowed hash gives
+-- the same numbers before and after it.
 pub record WritesAfter (known : List Placed → Type 0) (head head' : Octets → ℕ) (old new : Draft)
     (layout : Layout) (fits : Bool) : Type 0 where
   pub grows : Grows old new
@@ -114,7 +114,7 @@ pub record WritesAfter (known : List Placed → Type 0) (head head' : Octets →
   pub written : (ms : List Placed) → HasNames old head ms → known ms
       → IsWritten (suffix_number head) ms old new (layout ms (length old.octets)) fits
 
--- a step that writes what is laid out after whatever names
+-- a step that writes what is laid out after any names
 abbrev pub Writes : (Octets → ℕ) → (Octets → ℕ) → Draft → Draft → Layout → Bool → Type 0
 Writes = WritesAfter (λ ms. ⊤)
 
@@ -124,7 +124,7 @@ names_so_far q items =
     asked_placed q
     ++ (records_laid (records_of items) (asked_placed q) (12 + length (asked_octets q))).names
 
--- The draft has this question, and these sets, laid out, and the question fits its fields.
+-- The draft contains this question and these sets, laid out, and the question fits its fields.
 pub record IsDraft (head : Octets → ℕ) (q : Option MessageQuestion) (items : List Item)
     (d : Draft) : Type 0 where
   pub written : d.octets
@@ -134,8 +134,8 @@ pub record IsDraft (head : Octets → ℕ) (q : Option MessageQuestion) (items :
   pub counts : d.counts ≡ counts_of q items
   pub askable : IfSome q IsAskable
 
--- A page with N places and so many octets, of which a limit may be used. There are no more records
--- than octets.
+-- A page with N places and `size` octets, and a limit within these octets. It never has more
+-- records than octets.
 pub record IsWellKept (N size : ℕ) (d : Draft) : Type 0 where
   pub within : length d.octets ≤ d.limit
   pub fits : d.limit ≤ size

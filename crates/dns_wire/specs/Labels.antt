@@ -1,4 +1,4 @@
--- What a reader learns here: what one step of reading a name finds at a place of a message.
+-- What one step of reading a name finds at a place of a message.
 use Rattle.std.specs.Prelude.{◌≡◌, ℕ, ◌+◌, ◌<◌, ◌≤◌, ◌++◌, length, take, drop, slice_get, Option, Some, IfSome, IsTrue}
 use Rattle.std.specs.Option.{unwrap_or}
 use Rattle.dns_spec.specs.Names.{Octets, DomainName, is_name}
@@ -6,7 +6,7 @@ use Rattle.dns_spec.specs.Reading.{pointer_place, RunAt, NameAt}
 use Rattle.dns_wire.specs.declared.name.Step.{Step}
 use Rattle.dns_wire.specs.declared.name.Step.TheVariants.{End, Label, Jump}
 
--- the octets k and l at place i are a label and its length
+-- a length and the label l are at place i
 pub record LabelAt (b : Octets) (i : ℕ) (l : Octets) : Type 0 where
   pub length_there : slice_get b i ≡ Some (length l)
   pub some : 0 < length l
@@ -31,19 +31,19 @@ StepAt b s i End = slice_get b i ≡ Some 0
 StepAt b s i (Label l) = LabelAt b i l
 StepAt b s i (Jump p) = PointerAt b s i p
 
--- no name goes on at place i, in a run of labels that began at place s
+-- no name continues at place i, in a run of labels that began at place s
 abbrev pub NoRunAt : Octets → ℕ → ℕ → Type 0
 NoRunAt b s i = (n : DomainName) (e : ℕ) → RunAt b s i n e → ⊥
 
 abbrev pub NoNameAt : Octets → ℕ → Type 0
 NoNameAt b i = (n : DomainName) (e : ℕ) → NameAt b i n e → ⊥
 
--- the place after a name's own octets, where a pointer was followed already or is not yet
+-- the place after a name's own octets: `end` if a pointer was followed already, else e
 abbrev pub end_or : Option ℕ → ℕ → ℕ
 end_or end e = unwrap_or end e
 
--- What reading a name from place `at` keeps: with the labels so far in front, what the run at hand
--- spells from place i on is what place `at` spells, and nothing else is.
+-- The invariant of reading a name from place `at`: the labels so far, followed by what the current
+-- run spells from place i on, are what place `at` spells, and nothing else is.
 pub record IsReading (b : Octets) (at : ℕ) (n : DomainName) (s i : ℕ)
     (end : Option ℕ) : Type 0 where
   pub is_name : IsTrue (is_name n)

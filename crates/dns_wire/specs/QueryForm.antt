@@ -1,5 +1,4 @@
--- What a reader learns here: what a query that was read, and an RCODE, are in the words of the
--- definitions.
+-- Which query and which RCODE of the definitions the program's values represent.
 use Rattle.std.specs.Prelude.{◌≡◌, ℕ, ◌-◌, ◌<◌, ◌≤◌, Some, IsTrue, length, take, drop}
 use Rattle.dns_spec.specs.Names.{Octets, DomainName, wire, is_name}
 use Rattle.dns_spec.specs.ComputedReading.{name_at}
@@ -22,7 +21,7 @@ as_lent lent.Absent = spec.absent
 as_lent (lent.Refused head) = spec.refused_with head
 as_lent (lent.Query head question) = spec.query head question
 
--- a name stands in a datagram at the first place after the header, up to another place
+-- the name after the header ends at this place
 pub record NameEnds (d : Octets) (end : ℕ) : Type 0 where
   pub name : DomainName
   pub read : name_at d 12 ≡ Some (name, end)
@@ -31,7 +30,7 @@ pub record NameEnds (d : Octets) (end : ℕ) : Type 0 where
   pub some : 12 < end
   pub inside : end ≤ length d
 
--- RFC 1035 4.1.1
+-- RFC 1035 4.1.1: the number of an RCODE
 abbrev pub code_of : Rcode → ℕ
 code_of rcodes.NoError = reading.no_error
 code_of rcodes.FormatError = reading.format_error

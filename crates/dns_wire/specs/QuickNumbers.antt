@@ -1,9 +1,9 @@
--- What a reader learns here: the number by which the quick hash chooses the chain of a suffix.
+-- The number by which the quick hash chooses the chain of a suffix.
 use Rattle.std.specs.Prelude.{ℕ, ◌*◌, ◌/◌, ◌%◌, ◌^◌, nat_lt, length, take, get_or, if◌then◌else◌}
 use Rattle.std.specs.Int.{from_le_bytes, w32}
 use Rattle.dns_spec.specs.Names.{Octets}
 
--- the first four octets, multiplied so that each of them counts in the highest ten bits of 32
+-- the first four octets, multiplied so that each of them affects the highest ten of 32 bits
 abbrev pub quick_number : Octets → ℕ
 quick_number s =
     if nat_lt (length s) 4

@@ -1,21 +1,20 @@
--- What a reader learns here: which question, which record and which header stand at a place of a
--- message.
+-- Which question, which record and which header are at a place of a message.
 use Rattle.std.specs.Prelude.{◌≡◌, ℕ, ◌+◌, ◌≤◌, List, ◌++◌, length, ◌==◌, if◌then◌else◌}
 use Rattle.dns_spec.specs.Data.{class_in, Valid}
 use Rattle.dns_spec.specs.Names.{Octets}
 use Rattle.dns_spec.specs.Reading.{Header, MessageQuestion, MessageRecord, DnsMessage, NameAt, NumberAt, QuestionsAt, RecordAt, RecordsAt, Spells}
 use Rattle.dns_wire.specs.declared.message.Counts.{Counts}
 
--- The type whose form data has: in another class than IN none, as type 0, of which the data is any
--- octets (RFC 3597 3).
+-- The type whose form data has. In a class other than IN it is 0, a type without a mnemonic, whose
+-- data is any octets (RFC 3597 3).
 abbrev pub data_type : ℕ → ℕ → ℕ
 data_type rtype rclass = if rclass == class_in then rtype else 0
 
--- data is of that type
+-- data is valid for that type
 abbrev pub IsWireData : ℕ → ℕ → Octets → Type 0
 IsWireData rtype rclass d = Valid (data_type rtype rclass) d
 
--- from place i to place e
+-- a question is at place i up to place e
 pub record QuestionAt (b : Octets) (i : ℕ) (q : MessageQuestion) (e : ℕ) : Type 0 where
   pub after_name : ℕ
   pub name : NameAt b i q.qname after_name
@@ -29,7 +28,7 @@ pub record WholeRecordAt (b : Octets) (i : ℕ) (r : MessageRecord) (e : ℕ) : 
   pub there : RecordAt b i r after_owner data_length
   pub end : e ≡ after_owner + 10 + data_length
 
--- the numbers of a header
+-- the numbers in a header
 pub record HeaderAt (b : Octets) (h : Header) (counts : Counts) : Type 0 where
   pub id : NumberAt b 0 2 h.id
   pub flags : NumberAt b 2 2 h.flags
@@ -38,7 +37,7 @@ pub record HeaderAt (b : Octets) (h : Header) (counts : Counts) : Type 0 where
   pub authorities : NumberAt b 8 2 counts.authorities
   pub additionals : NumberAt b 10 2 counts.additionals
 
--- so many questions from place i to place e, inside the octets; and so many records
+-- `count` questions are at place i up to place e, within the octets; and the same for records
 pub record AreQuestions (b : Octets) (i count : ℕ) (qs : List MessageQuestion)
     (e : ℕ) : Type 0 where
   pub there : QuestionsAt b i qs e
@@ -66,8 +65,8 @@ NoRecords b i count = (rs : List MessageRecord) (e : ℕ) → RecordsAt b i rs e
 abbrev pub NoMessage : Octets → Type 0
 NoMessage b = (m : DnsMessage) → Spells b m → ⊥
 
--- What reading one after another keeps, as far as a last place: those so far stand from place i to
--- place j, and what follows them, all of them are.
+-- The invariant of reading elements in order, up to place `last`: elements are at place j if and
+-- only if they are at place i with the elements so far in front.
 pub record AreRead {A : Type 0} (At : ℕ → List A → ℕ → Type 0) (last i : ℕ) (so_far : List A)
     (j : ℕ) : Type 0 where
   pub within : j ≤ last

@@ -1,4 +1,4 @@
--- What a reader learns here: the numbers of the faults of messages.
+-- The numbers of the faults of messages.
 use Rattle.std.specs.Prelude.{ℕ, ◌≢◌}
 use Rattle.dns_wire.specs.declared.fault.WireFault.{WireFault}
 use Rattle.dns_wire.specs.declared.fault.WireFault.TheVariants.{Short, ReservedLabel, BadPointer, LongName, BadData, Trailing, NoMemory}
@@ -15,6 +15,6 @@ fault_code fault =
       | NoMemory ↦ 7
     ]
 
--- what a fault says, unless it is that no memory was found
+-- what a fault means, unless allocation failed
 abbrev pub UnlessNoMemory : WireFault → Type 0 → Type 0
 UnlessNoMemory fault Said = fault ≢ NoMemory → Said

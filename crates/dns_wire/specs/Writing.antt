@@ -1,6 +1,5 @@
--- What a reader learns here: how a writer lays a name out, which places it keeps for later names,
--- and what must hold of the places kept, and of the octets written so far, that later names share
--- rightly.
+-- How a writer lays out a name, which places it keeps for later names, and what must hold for
+-- these places and for the octets written so far, so that later names share correctly.
 use Rattle.std.specs.Prelude.{◌≡◌, ℕ, zero, suc, Bool, IsFalse, IfSome, ◌+◌, ◌<◌, ◌≤◌, List, [], ◌∷◌, ◌++◌, ◌-◌, length, replicate, take, drop, nat_le, IsTrue, if◌then◌else◌}
 use Rattle.std.specs.Prelude.{Option, None, Some}
 use Rattle.dns_spec.specs.Names.{Octets, DomainName, wire, is_name}
@@ -11,7 +10,7 @@ use Rattle.dns_spec.specs.Layout.{Placed, Laid, laid_front, data_laid, record_la
 use Rattle.dns_name.specs.WireForm.{labels_of, IsWireForm}
 use Rattle.dns_wire.specs.Kept.{Kept, IsKept, SpelledAt}
 
--- octets begin with a length k that is not 0, and after so many octets come these
+-- octets begin with a length k other than 0, and `after` are the octets after k more
 pub record AfterLabel (octets : Octets) (k : ℕ) (after : Octets) : Type 0 where
   pub others : Octets
   pub first : octets ≡ k ∷ others
@@ -19,7 +18,7 @@ pub record AfterLabel (octets : Octets) (k : ℕ) (after : Octets) : Type 0 wher
   pub fits : k ≤ length others
   pub cut : after ≡ drop k others
 
--- the octets of a name's labels before the suffix that it shares
+-- the number of octets of a name's labels before the suffix that it shares
 unfoldable pub front_size : List Placed → DomainName → ℕ
 front_size ms [] = 0
 front_size ms (l ∷ n) =
@@ -31,26 +30,26 @@ pointed_place ms [] = None
 pointed_place ms (l ∷ n) =
     elim (shared_place ms (l ∷ n)) [ None ↦ pointed_place ms n | Some p ↦ Some p ]
 
--- how a name is laid out: how many octets of its labels are before the suffix that it shares, and the
--- place of that suffix
+-- how a name is laid out: the number of octets of its labels before the suffix that it shares, and
+-- the place of that suffix
 abbrev pub Form : Type 0
 Form = ℕ × Option ℕ
 
 abbrev pub IsLaid : List Placed → DomainName → Form → Type 0
 IsLaid ms n form = (front_size ms n ≡ form.0) × (pointed_place ms n ≡ form.1)
 
--- the octets have these, and a pointer reaches the place
+-- the octets are long enough for the form, and a pointer reaches its place
 pub record IsForm (o : Octets) (form : Form) : Type 0 where
   pub inside : form.0 ≤ length o
   pub reached : IfSome form.1 (λ p. p < 16384)
 
--- How a name is laid out after it was laid out so at a place: as a pointer to that, if there are
--- labels and a pointer reaches them; else as it was.
+-- How a name is laid out again, after it was laid out in this form at a place: as a pointer to
+-- that place, if it has labels of its own there and a pointer reaches it; else in the same form.
 abbrev pub form_again : ℕ → Form → Form
 form_again at (zero, p) = (zero, p)
 form_again at (suc k, p) = if nat_le at last_place then (zero, Some at) else (suc k, p)
 
--- what is known of the owner of a record that is not the first of its set
+-- how the owner of a record is laid out, if it is not the first record of its set
 abbrev pub IsLaidAs : DomainName → Bool → Form → List Placed → Type 0
 IsLaidAs n first form ms = IsFalse first → IsLaid ms n form
 
@@ -59,7 +58,7 @@ abbrev pub end_octets : Option ℕ → Octets
 end_octets None = 0 ∷ []
 end_octets (Some p) = pointer p
 
--- the places that are kept of a name that is laid out from place p on: those of the suffixes
+-- the places that are kept of a name laid out from place p on: the places of its suffixes that are
 -- written out, as far as a pointer reaches
 unfoldable pub new_places : (Octets → ℕ) → List Placed → DomainName → ℕ → List Kept
 new_places number ms [] p = []
@@ -71,12 +70,12 @@ new_places number ms (l ∷ n) p = elim (shared_place ms (l ∷ n)) [
   | Some q ↦ []
 ]
 
--- the octets of the name of the question, which ends at place a; none where the header ends there
+-- the octets of the question's name, which ends at place a; none if the header ends there
 abbrev pub name_before : Octets → ℕ → Octets
 name_before b a = take (a - 12) (drop 12 b)
 
--- The name of the question ends at this place, or the header does, of which only the room is kept,
--- and the name is not written yet.
+-- The question's name ends at place a; or the header does, and the name is not written yet. The
+-- header is still blank.
 pub record IsAsked (b : Octets) (a : ℕ) : Type 0 where
   pub blank : take 12 b ≡ replicate 12 0
   pub after : 12 ≤ a
@@ -88,17 +87,17 @@ pub record IsAsked (b : Octets) (a : ℕ) : Type 0 where
 unfoldable pub asked_places : (Octets → ℕ) → Octets → ℕ → List Kept
 asked_places number b a = new_places number [] (labels_of (name_before b a)) 12
 
--- at none of them the message spells these octets
+-- the message spells these octets at none of those places
 abbrev pub NotAsked : Octets → ℕ → Octets → Type 0
 NotAsked b a o =
     (number : Octets → ℕ) (p h : ℕ) → IsKept (asked_places number b a) p h → SpelledAt b p o → ⊥
 
--- octets are the end of a name from one of its labels on
+-- if the octets are the wire form of a name, `last` is the wire form of a suffix of it
 abbrev pub IsLastOf : Octets → Octets → Type 0
 IsLastOf o last = (n : DomainName) → o ≡ wire n → IsTrue (is_name n)
     → (front : DomainName) × (n' : DomainName) × (n ≡ front ++ n') × (last ≡ wire n')
 
--- The places kept are just those of the suffixes that are shared, each with its number.
+-- The places kept are exactly the places of the suffixes that are shared, each with its number.
 pub record Answers (number : Octets → ℕ) (ms : List Placed) (ks : List Kept) : Type 0 where
   pub complete : (l : Octets) (n : DomainName) (p : ℕ) → shared_place ms (l ∷ n) ≡ Some p
       → IsKept ks p (number (wire (l ∷ n)))
@@ -106,7 +105,7 @@ pub record Answers (number : Octets → ℕ) (ms : List Placed) (ks : List Kept)
       → (l : Octets) × (n : DomainName) × (shared_place ms (l ∷ n) ≡ Some p)
       × IsTrue (is_name (l ∷ n))
 
--- The message spells each suffix that is shared, and all places are in it.
+-- The message spells each suffix that is shared at its place, and all places are in the message.
 pub record Holds (number : Octets → ℕ) (ms : List Placed) (b : Octets) (ks : List Kept)
     : Type 0 where
   pub spelled : (l : Octets) (n : DomainName) (p : ℕ) → shared_place ms (l ∷ n) ≡ Some p
@@ -115,16 +114,16 @@ pub record Holds (number : Octets → ℕ) (ms : List Placed) (b : Octets) (ks :
   pub after_header : 12 ≤ length b
   pub answers : Answers number ms ks
 
--- What was laid out after octets b spells its names in them, and these are their places.
+-- What was laid out after the octets b spells its names there, and the places kept are theirs.
 abbrev pub StandsIn : (Octets → ℕ) → List Placed → Octets → Laid → List Kept → Type 0
 StandsIn number ms b laid ks = Holds number (ms ++ laid.names) (b ++ laid.written) ks
 
--- elements come after those that were there
+-- ys is xs with more elements at the end
 pub record Follows {A : Type 0} (xs ys : List A) : Type 0 where
   pub more : List A
   pub whole : ys ≡ xs ++ more
 
--- what is laid out from a place on after earlier names
+-- how something is laid out from a place on, after earlier names
 abbrev pub Layout : Type 0
 Layout = List Placed → ℕ → Laid
 
@@ -134,13 +133,13 @@ octets_laid o ms p = record { written = o; names = [] }
 abbrev pub name_laid : DomainName → Layout
 name_laid n ms p = record { written = shared_octets ms n; names = (n, p) ∷ [] }
 
--- one after the other
+-- one layout after another
 abbrev pub both_laid : Layout → Layout → Layout
 both_laid f g ms p =
     let l = f ms p in
     laid_front l.written l.names (g (ms ++ l.names) (p + length l.written))
 
--- a record, and what is laid out of it after its owner
+-- a record, and its layout after its owner
 abbrev pub shown : DomainName → ℕ → ℕ → Octets → ResourceRecord
 shown owner rtype ttl rdata = record { owner = owner; ttl = ttl; rtype = rtype; rdata = rdata }
 

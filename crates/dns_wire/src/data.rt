@@ -1,4 +1,4 @@
-//! Data of records, in which names may go on elsewhere by a pointer (RFC 1035 3.3 and 4.1.4).
+//! Data of records, in which names may continue elsewhere by a pointer (RFC 1035 3.3 and 4.1.4).
 ghost use Rattle.std.specs.Prelude.{◌+◌, ◌≤◌, length, IfOk, IfErr};
 ghost use Rattle.dns_spec.specs.Reading.{DataAt};
 ghost use Rattle.dns_rdata.specs.TypeRows.{piece_of};
@@ -12,10 +12,10 @@ use crate::name::read_name;
 use dns_rdata::{Part, Piece, RType, first_part, pieces_of_type};
 use std::alloc::Global;
 
-/// The data of a record that stands from one place up to another, without compression.
+/// The data of a record, from place `at` up to `end`, without compression.
 ///
-/// Data of another class than IN is octets. `BadData` where the octets do not fill the pieces of
-/// the type exactly; a name is judged over the whole message first.
+/// Data of a class other than IN is any octets. `BadData` if the octets do not exactly fill the
+/// pieces of the type; a name is read first, over the whole message.
 pub(crate) fn read_data(
     alloc: Global,
     message: &[u8],
@@ -34,7 +34,7 @@ pub(crate) fn read_data(
 {
     let mut data = Vec::new(alloc);
     let mut place = at;
-    // The types have their forms in class IN alone.
+    // Types have their own forms only in class IN.
     let mut pieces = if rclass == CLASS_IN {
         pieces_of_type(rtype)
     } else {
@@ -50,8 +50,8 @@ pub(crate) fn read_data(
     Ok(data)
 }
 
-// Appends the piece at a place, and answers the place after it, which is not past the end of the
-// data. Only a domain name may go on elsewhere.
+// Appends the piece at a place, and returns the place after it, which is at most `end`. Only a
+// domain name may continue elsewhere.
 fn read_piece(
     message: &[u8],
     piece: Piece,

@@ -1,26 +1,26 @@
-//! Why octets are no message.
+//! Why octets are not a message.
 ghost use Rattle.std.specs.Prelude.{◌≡◌};
 ghost use Rattle.dns_wire.specs.WireFault.{fault_code};
 
 use std::alloc::{AllocError, AllocFailed};
 
-/// Why octets are no message (RFC 1035 4.1).
+/// Why octets are not a message (RFC 1035 4.1).
 #[derive(Clone, Copy, Debug, PartialEq, Eq)]
 pub enum WireFault {
     /// The octets end where more are needed.
     Short = 1,
     /// A label begins with the bits 01 or 10, which are reserved (RFC 1035 4.1.4).
     ReservedLabel,
-    /// A pointer goes into the header, or not before the place where the labels at hand began (RFC
-    /// 1035 4.1.4).
+    /// A pointer gives a place in the header, or not before the place where the current labels
+    /// began (RFC 1035 4.1.4).
     BadPointer,
     /// A name has more than 255 octets (RFC 1035 2.3.4).
     LongName,
-    /// Data does not fill its length, or is none of its type (RFC 1035 3.3).
+    /// Data does not fill its length, or is invalid for its type (RFC 1035 3.3).
     BadData,
     /// Octets follow the last record.
     Trailing,
-    /// No memory was found.
+    /// Allocation failed.
     NoMemory,
 }
 

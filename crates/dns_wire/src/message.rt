@@ -10,10 +10,10 @@ use std::marker::Model;
 /// The class of the Internet (RFC 1035 3.2.4).
 pub const CLASS_IN: u16 = 1;
 
-/// The octets of a header (RFC 1035 4.1.1), in which no name stands.
+/// The octets of a header (RFC 1035 4.1.1); no name is in it.
 pub(crate) const HEADER_OCTETS: usize = 12;
 
-/// ID, and QR, opcode, AA, TC, RD, RA, three zero bits and RCODE as 16 bits (RFC 1035 4.1.1).
+/// The ID, and as 16 bits QR, opcode, AA, TC, RD, RA, three zero bits and RCODE (RFC 1035 4.1.1).
 #[derive(Drop)]
 pub struct Head {
     /// The identifier that a reply repeats.
@@ -30,7 +30,7 @@ impl Model for Head {
     ghost view = { λ h. record { id = h.id; flags = h.flags } };
 }
 
-/// How many questions and records a header states, by section (RFC 1035 4.1.1).
+/// The numbers of questions and records in a header, by section (RFC 1035 4.1.1).
 #[derive(Clone, Copy, Default)]
 pub(crate) struct Counts {
     pub(crate) questions: u16,
@@ -60,7 +60,7 @@ impl Model for Question {
 }
 
 impl Question {
-    /// The question, lent.
+    /// The question, borrowed.
     pub fn lent(&self) -> QuestionRef<'_>
         ensures { result ≡ self.now }
     {
@@ -72,7 +72,7 @@ impl Question {
     }
 }
 
-/// A question whose name is lent.
+/// A question whose name is borrowed.
 #[derive(Drop)]
 pub struct QuestionRef<'a> {
     /// The name asked for.
@@ -92,7 +92,7 @@ impl<'a> Model for QuestionRef<'a> {
 }
 
 impl QuestionRef<'_> {
-    /// A question of its own with the same name, type and class. It takes no memory.
+    /// An owned question with the same name, type and class. Does not allocate.
     pub fn to_question(&self) -> Question
         ensures { result ≡ self.now }
     {
@@ -107,15 +107,15 @@ impl QuestionRef<'_> {
 /// A record of a message (RFC 1035 4.1.3).
 #[derive(Drop)]
 pub struct WireRecord {
-    /// The name that the record stands at, as it is spelled.
+    /// The name that owns the record, as it is spelled.
     pub owner: Name,
     /// The type.
     pub rtype: RType,
     /// The class.
     pub rclass: u16,
-    /// The TTL in seconds, as it came.
+    /// The TTL in seconds, as received.
     pub ttl: u32,
-    /// The data: octets without compression, names in the case in which they came.
+    /// The data: octets without compression, with names in the case received.
     pub rdata: Vec<u8>,
 }
 
@@ -137,8 +137,8 @@ impl Model for WireRecord {
 }
 
 impl WireRecord {
-    /// The type whose form the data has, for which it is valid: in another class than IN none, as
-    /// type 0, of which the data is any octets (RFC 3597 3).
+    /// The type that the data is valid for. In a class other than IN it is 0, a type without a
+    /// mnemonic, whose data is any octets (RFC 3597 3).
     pub fn data_type(&self) -> RType
         ensures value { result.0 ≡ data_type self.now.rtype self.now.rclass }
         ensures valid { Valid result.0 self.now.rdata }

@@ -1,4 +1,4 @@
-//! Names in a message, which may go on elsewhere by a pointer (RFC 1035 4.1.4).
+//! Names in a message, which may continue elsewhere by a pointer (RFC 1035 4.1.4).
 ghost use Rattle.std.specs.Prelude.{◌≤◌, ◌<◌, length, get_or, IfOk, IsErr, IfSome, IsNone};
 ghost use Rattle.dns_spec.specs.Reading.{NameAt};
 ghost use Rattle.dns_wire.specs.Labels.{StepAt, PointerAt, NoRunAt, NoNameAt};
@@ -7,7 +7,7 @@ use crate::fault::WireFault;
 use crate::message::HEADER_OCTETS;
 use dns_name::{Label, Name};
 
-// What stands where a name goes on.
+// What is at a place in a name.
 #[derive(Drop)]
 pub(crate) enum Step<'a> {
     // The root's length, which ends the name.
@@ -19,8 +19,8 @@ pub(crate) enum Step<'a> {
 
 /// The name at a place of a message, as it is spelled, and the place after its own octets.
 ///
-/// A pointer goes to a place after the header and before the place where the labels at hand began,
-/// so that reading ends. Faults are judged from the left: a missing octet, the reserved bits, a
+/// A pointer gives a place after the header and before the place where the current labels began,
+/// so reading ends. Faults are found from the left: a missing octet, the reserved bits, a
 /// pointer's second octet and its place, a label's octets, and the length of the name with the
 /// label.
 pub(crate) fn read_name(message: &[u8], at: usize) -> Result<(Name, usize), WireFault>
@@ -52,7 +52,7 @@ pub(crate) fn read_name(message: &[u8], at: usize) -> Result<(Name, usize), Wire
     }
 }
 
-// What stands at a place of a run of labels that began at `run`.
+// What is at a place in a run of labels that began at `run`.
 pub(crate) fn step_at(message: &[u8], run: usize, place: usize) -> Result<Step<'_>, WireFault>
     ensures step { IfOk result (λ step. StepAt message.now run place step) }
     ensures none { IsErr result → NoRunAt message.now run place }
@@ -75,7 +75,7 @@ pub(crate) fn step_at(message: &[u8], run: usize, place: usize) -> Result<Step<'
     }
 }
 
-// Where a pointer of two octets leads, the first from 192 on.
+// The place that a pointer of two octets gives; the first octet is at least 192.
 fn pointer_at(message: &[u8], run: usize, place: usize) -> Result<usize, WireFault>
     requires inside { place < length message.now }
     requires high { 192 ≤ get_or message.now place 0 }

@@ -4,7 +4,7 @@ ghost use Rattle.dns_spec.specs.Reading.{NumberAt};
 
 use crate::fault::WireFault;
 
-/// The 16 bits at a place. `Short` where the octets end before.
+/// The 16 bits at a place. `Short` if the octets end before them.
 pub(crate) fn read_u16(message: &[u8], at: usize) -> Result<u16, WireFault>
     requires { at ≤ length message.now }
     ensures ok { IfOk result (λ number. NumberAt message.now at 2 number) }
@@ -13,7 +13,7 @@ pub(crate) fn read_u16(message: &[u8], at: usize) -> Result<u16, WireFault>
     Ok(u16::from_be_bytes(octets_at(message, at)?))
 }
 
-/// The 32 bits at a place. `Short` where the octets end before.
+/// The 32 bits at a place. `Short` if the octets end before them.
 pub(crate) fn read_u32(message: &[u8], at: usize) -> Result<u32, WireFault>
     requires { at ≤ length message.now }
     ensures ok { IfOk result (λ number. NumberAt message.now at 4 number) }
@@ -22,7 +22,7 @@ pub(crate) fn read_u32(message: &[u8], at: usize) -> Result<u32, WireFault>
     Ok(u32::from_be_bytes(octets_at(message, at)?))
 }
 
-// The first octets from a place on.
+// The `N` octets from a place on.
 fn octets_at<const N: usize>(message: &[u8], at: usize) -> Result<[u8; N], WireFault>
     requires { at ≤ length message.now }
     ensures ok { IfOk result (λ octets. octets ≡ take N (drop at message.now)) }

@@ -1,5 +1,4 @@
-//! A message that is being written: a question, and sets in their sections, within a limit (RFC
-//! 1035 4.1).
+//! A message being written: a question, and sets in their sections, within a limit (RFC 1035 4.1).
 ghost use Rattle.std.specs.Prelude.{◌≡◌, ◌↔◌, ◌+◌, ◌<◌, ◌≤◌, ◌^◌, List, [], ◌++◌, ℕ, ◌*◌, length, take, drop, min, IsTrue, IsFalse, IfSome, Option, All};
 ghost use Rattle.std.specs.Bool.{OnTrue, OnFalse};
 ghost use Rattle.std.specs.Option.{option_copied};
@@ -25,23 +24,23 @@ use std::marker::Model;
 /// The sections of a message after its question (RFC 1035 4.1).
 #[derive(Clone, Copy, Debug, PartialEq, Eq)]
 pub enum Section {
-    /// Records that answer the question.
+    /// The answer section: records that answer the question.
     Answer,
-    /// Records that point to an authority.
+    /// The authority section: records that point to an authority.
     Authority,
-    /// Records that help with those of the others.
+    /// The additional section: records that help with using the others.
     Additional,
 }
 
-/// A message that is being written, in room for so many places and octets.
+/// A message being written, with room for `N` places and `SIZE` octets.
 #[derive(Drop)]
 pub struct Page<const N: usize, const SIZE: usize> {
     octets: ArrayVec<u8, SIZE>,
-    // Those of names after the question's that later names may point to.
+    // The places in names after the question's that later names may point to.
     places: Places<N>,
     limit: usize,
-    // Where the name of the question ends, or the header before it is written. No places of its
-    // suffixes are kept, since this tells where each of them may stand.
+    // The place where the question's name ends; before that is written, the place where the header
+    // ends. The places of its suffixes are not kept, since they follow from this one.
     asked_end: usize,
     counts: Counts,
 }
@@ -60,10 +59,10 @@ impl<const N: usize, const SIZE: usize> Model for Page<N, SIZE> {
 impl<const N: usize, const SIZE: usize> Page<N, SIZE> {
     ghost use Rattle.dns_wire.specs.Draft.{IsDraft, no_draft, with_set};
 
-    /// A message of at most `limit` octets, 512 to 65,535, that has nothing yet. A question is put
-    /// where it stands, so that it need not be moved.
+    /// An empty message of at most `limit` octets, 512 to 65,535. A question is added later, in
+    /// place, so that the page need not be moved.
     ///
-    /// Condition: there are as many octets as the limit, and places for one in two of the octets
+    /// Condition: `SIZE` is at least the limit, and `N` at least half the number of its octets
     /// that a pointer reaches.
     pub fn empty(limit: usize) -> Page<N, SIZE>
         requires from { 512 ≤ limit }
@@ -84,11 +83,10 @@ impl<const N: usize, const SIZE: usize> Page<N, SIZE> {
         }
     }
 
-    /// Makes the page that of a message of at most `limit` octets, 512 to 65,535, that has nothing
-    /// yet, whatever was written before. It takes time for what was written, not for the size of
-    /// the room.
+    /// Empties the page for a message of at most `limit` octets, 512 to 65,535, whatever was
+    /// written before. The time depends on what was written, not on the size of the page.
     ///
-    /// Condition: there are as many octets as the limit.
+    /// Condition: `SIZE` is at least the limit.
     pub fn clear(&mut self, limit: usize)
         requires from { 512 ≤ limit }
         requires upto { limit ≤ 65535 }
@@ -104,7 +102,7 @@ impl<const N: usize, const SIZE: usize> Page<N, SIZE> {
 
     /// Writes the question that a message repeats, if any.
     ///
-    /// Conditions: the message has nothing yet, and its limit is at least 512 octets.
+    /// Conditions: the message is empty, and its limit is at least 512 octets.
     pub fn put_question<H: SuffixHash>(&mut self, hash: &mut H, question: Option<&QuestionRef<'_>>)
         requires nothing { self.old ≡ no_draft self.old.limit }
         requires from { 512 ≤ self.old.limit }
@@ -121,8 +119,8 @@ impl<const N: usize, const SIZE: usize> Page<N, SIZE> {
         }
     }
 
-    /// Writes the records of a set at an owner that is lent, with a TTL in seconds, into a section:
-    /// all of them, or none where with them the message is past its limit.
+    /// Writes the records of a set at a borrowed owner, with a TTL in seconds, into a section: all
+    /// of them, or none if they would make the message exceed its limit.
     pub fn put_set<H: SuffixHash, S: SetView>(
         &mut self,
         hash: &mut H,
@@ -146,7 +144,7 @@ impl<const N: usize, const SIZE: usize> Page<N, SIZE> {
         ensures same { H.numbers hash.new ≡ H.numbers hash.old }
     {
         let (octets, places) = (self.octets.len(), self.places.len());
-        // However short they are, each has 10 octets after its owner.
+        // Each record has at least 10 octets after its owner.
         if (self.limit - octets) / 10 < set.len() {
             return false;
         }
@@ -164,8 +162,8 @@ impl<const N: usize, const SIZE: usize> Page<N, SIZE> {
         true
     }
 
-    /// Puts the message at the front of `out`, with its header and counts, and answers its length
-    /// in octets.
+    /// Copies the message, with its header and counts, to the front of `out` and returns its
+    /// length in octets.
     ///
     /// Condition: `out` is as long as the limit.
     pub fn finish(&self, head: Head, out: &mut [u8]) -> usize
@@ -186,8 +184,8 @@ impl<const N: usize, const SIZE: usize> Page<N, SIZE> {
         octets.len()
     }
 
-    // Writes a record of class IN, of a set that begins at `start`. False if it does not fit; then a
-    // part of it may be written. `form` is how the owner of the first record is laid out.
+    // Writes a record of class IN, in a set that begins at `start`. False if it does not fit; a
+    // part of it may then be written. `form` is how the owner of the first record is laid out.
     fn put_record<H: SuffixHash>(
         &mut self,
         hash: &mut H,
@@ -253,9 +251,9 @@ impl<const N: usize, const SIZE: usize> Page<N, SIZE> {
         true
     }
 
-    // Writes data whose names may be shared as it is laid out, all of it or, where it does not fit,
-    // a part of it: of MX a preference and the name of an exchange (RFC 1035 3.3.9), of SOA the
-    // names of a server and of a mailbox and five numbers of 32 bits (3.3.13), of others one name.
+    // Writes data in which names may be shared, all of it or, if it does not fit, a part of it:
+    // for MX a preference and the name of an exchange (RFC 1035 3.3.9), for SOA the names of a
+    // server and of a mailbox and five numbers of 32 bits (3.3.13), for other types one name.
     fn put_data<H: SuffixHash>(&mut self, hash: &mut H, rtype: RType, rdata: &[u8]) -> bool
         requires valid { Valid rtype.0 rdata.now }
         requires shared { IsTrue (compresses rtype.0) }
@@ -282,9 +280,9 @@ impl<const N: usize, const SIZE: usize> Page<N, SIZE> {
         self.put_name(hash, rdata)
     }
 
-    // Writes the owner of a record. That of the first record of a set is looked up. The others point
-    // to where it begins, or are as it is: a pointer, the root, or a name that begins past the reach
-    // of pointers. In line, it saves some 50 instructions a record.
+    // Writes the owner of a record. The owner of the first record of a set is looked up. The
+    // others are a pointer to it, or the same octets: a pointer, the root, or a name that begins
+    // beyond the reach of pointers. Inlining saves about 50 instructions per record.
     #[inline(always)]
     fn put_owner<H: SuffixHash>(
         &mut self,
@@ -313,7 +311,7 @@ impl<const N: usize, const SIZE: usize> Page<N, SIZE> {
             let (front, _) = name.split_at(before);
             return self.append_end(front, place);
         }
-        // Most owners are the name of the question, or its end.
+        // Most owners are the question's name or a suffix of it.
         let Some(place) = place_before(self.octets.as_slice(), self.asked_end, name) else {
             return self.lay_name(hash, name, form);
         };
@@ -331,8 +329,8 @@ impl<const N: usize, const SIZE: usize> Page<N, SIZE> {
     }
 
     // Writes a name, given in its wire form: its labels before the longest suffix that is shared,
-    // and a pointer to that; or the whole name. False, with nothing written, if it does not fit.
-    // `form` gets how many octets are before that suffix, and the suffix's place.
+    // and a pointer to that suffix; or the whole name. False, with nothing written, if it does not
+    // fit. `form` gets the number of octets before the suffix, and the suffix's place.
     #[inline(never)]
     fn lay_name<H: SuffixHash>(
         &mut self,
@@ -365,7 +363,7 @@ impl<const N: usize, const SIZE: usize> Page<N, SIZE> {
         true
     }
 
-    // Appends the front of a name and what ends it: a pointer to a place (RFC 1035 4.1.4), or the
+    // Appends the front of a name and its end: a pointer to a place (RFC 1035 4.1.4), or the
     // root's length.
     fn append_end(&mut self, front: &[u8], place: Option<u16>) -> bool
         requires { IfSome place (λ p. p < 16384) }
@@ -382,7 +380,7 @@ impl<const N: usize, const SIZE: usize> Page<N, SIZE> {
         }
     }
 
-    // Appends two runs of octets. False, with nothing written, where they do not fit the limit.
+    // Appends two runs of octets. False, with nothing written, if they do not fit the limit.
     fn append(&mut self, front: &[u8], end: &[u8]) -> bool
         ensures fits { IsTrue result ↔ (length self.old.octets
             + (length front.now + length end.now) ≤ self.old.limit) }
@@ -402,8 +400,8 @@ impl<const N: usize, const SIZE: usize> Page<N, SIZE> {
     }
 }
 
-// Appends octets, for which there is room. Where there are none they are not copied: this saves
-// some 34 instructions of a short reply, and 1,216 of one with 64 addresses.
+// Appends octets, for which there is room. Skipping the copy of an empty run saves about 34
+// instructions of a short reply, and 1,216 of a reply with 64 addresses.
 fn extend<const SIZE: usize>(octets: &mut ArrayVec<u8, SIZE>, more: &[u8])
     requires { length octets.old.items + length more.now ≤ SIZE }
     ensures { octets.new.items ≡ octets.old.items ++ more.now }

@@ -8,16 +8,17 @@ use crate::spelled::is_spelled;
 use arrayvec::ArrayVec;
 use std::marker::Model;
 
-// How many chains of places there are: a suffix with number k is in the one of k / 2 modulo this.
+// The number of chains of places: a suffix with number k is in chain k / 2 modulo this.
 //
-// However a hash chooses, a chain has suffixes of four lengths, 64 octets apart, since six of the
-// seven bits that choose it are of the length. So of a name it has one for each 64 octets: at most
-// 256 in the 16,384 octets that a pointer reaches, and one more for each name there. A reply has
-// some 82 names, so a suffix is compared by its octets with some 82 of its length at most.
+// Whatever the hash, a chain contains suffixes of only four lengths, 64 octets apart, since six of
+// the seven bits that choose it are bits of the length. So it contains one suffix for each 64
+// octets of a name: at most 256 in the 16,384 octets that a pointer reaches, plus one for each
+// name there. A reply has about 82 names, so a suffix is compared by its octets with at most about
+// 82 suffixes of its length.
 const HEADS: usize = 128;
 
-// A place, which entry of its chain was kept before it, counted from 1 with 0 for none, and the
-// number of its suffix.
+// A place; the entry of its chain that was kept before it, counted from 1, or 0 if there is none;
+// and the number of its suffix.
 #[derive(Clone, Copy, Default)]
 struct Entry {
     place: u16,
@@ -25,11 +26,11 @@ struct Entry {
     number: u32,
 }
 
-/// The places that are kept, each with the number of its suffix, in the order in which they came.
-/// What a suffix is called stands in the message alone.
+/// The places that are kept, each with the number of its suffix, in the order in which they were
+/// added. The octets of a suffix are only in the message.
 #[derive(Drop)]
 pub(crate) struct Places<const N: usize> {
-    // Which entry of each chain is the newest, counted from 1; 0 is none.
+    // The newest entry of each chain, counted from 1, or 0 if there is none.
     heads: [u16; HEADS],
     entries: ArrayVec<Entry, N>,
 }
@@ -65,7 +66,7 @@ impl<const N: usize> Places<N> {
         self.entries.len()
     }
 
-    /// Keeps a place more, of a suffix with this number.
+    /// Adds the place of a suffix with this number.
     pub(crate) fn insert(&mut self, place: u16, number: u32)
         requires few { N ≤ 8192 }
         requires room { length self.old < N }
@@ -81,7 +82,7 @@ impl<const N: usize> Places<N> {
         self.heads[chain_of(number)] = self.entries.len() as u16;
     }
 
-    /// Keeps only the places that came first, as if the others had never come.
+    /// Keeps only the first `count` places, as if the others had never been added.
     pub(crate) fn take_back(&mut self, count: usize)
         ensures { self.new ≡ take count self.old }
     {
@@ -92,8 +93,8 @@ impl<const N: usize> Places<N> {
         }
     }
 
-    /// A place at which the message spells the suffix, among those that are kept with this number;
-    /// the newest of them.
+    /// A place at which the message spells the suffix, among the places that are kept with this
+    /// number; the newest of them.
     pub(crate) fn find(&self, number: u32, message: &[u8], suffix: &[u8]) -> Option<u16>
         ensures kept { IfSome result (λ place. IsKept self.now place number) }
         ensures spelled { IfSome result (λ place. SpellsName message.now place suffix.now) }
@@ -102,7 +103,7 @@ impl<const N: usize> Places<N> {
     {
         let mut newest = self.heads[chain_of(number)];
         'chain: while newest > 0 {
-            // A reference: a copy of the entry would take half as long again.
+            // A reference: copying the entry would take half as long again.
             let entry = &self.entries.as_slice()[usize::from(newest) - 1];
             if entry.number == number && is_spelled(message, usize::from(entry.place), suffix) {
                 return Some(entry.place);
@@ -113,7 +114,7 @@ impl<const N: usize> Places<N> {
     }
 }
 
-// The chain of the suffixes with a number.
+// The chain of the suffixes with this number.
 fn chain_of(number: u32) -> usize
     ensures chain { result ≡ chain_of number }
     ensures low { result < 128 }
@@ -121,10 +122,10 @@ fn chain_of(number: u32) -> usize
     (number / 2 % HEADS as u32) as usize
 }
 
-/// Chooses the chain in which a suffix is looked for: a number below 1,024, the same at every call
-/// for the same octets.
+/// Chooses the chain in which a suffix is looked for: a number below 1,024, always the same for
+/// the same octets.
 ///
-/// What a writer writes does not depend on which number that is.
+/// The message that is written does not depend on these numbers.
 pub trait SuffixHash {
     ghost use Rattle.std.specs.Prelude.{ℕ};
     ghost use Rattle.dns_spec.specs.Names.{Octets};

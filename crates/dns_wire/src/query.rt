@@ -1,4 +1,4 @@
-//! Queries, read: a header and one question (RFC 1035 4.1).
+//! Reading of queries: a header and one question (RFC 1035 4.1).
 ghost use Rattle.std.specs.Prelude.{◌≡◌, ◌+◌, ◌≤◌, length, IfSome, IsNone, None};
 ghost use Rattle.dns_spec.specs.ComputedReading.{name_at};
 ghost use Rattle.dns_spec.specs.Query.{field16, reply_head, question_at, query_read};
@@ -8,52 +8,52 @@ use crate::message::{HEADER_OCTETS, Head, Question, QuestionRef};
 use byteorder::{BigEndian, ByteOrder};
 use dns_name::NameRef;
 
-/// What a datagram is as a query.
+/// A datagram read as a query.
 #[derive(Drop)]
 pub enum QueryRead {
-    /// It is shorter than a header, or is a reply itself: nothing is sent.
+    /// It is shorter than a header, or is a response: nothing is sent.
     Absent,
-    /// It is refused: this is the header of the reply, which is sent alone.
+    /// It is refused; only this header of a reply is sent.
     Refused(Head),
-    /// It is a query: its header and its question, both as they came.
+    /// It is a query: its header and its question, both as received.
     Query(Head, Question),
 }
 
-/// What a datagram is as a query, whose question is lent out of it.
+/// A datagram read as a query, with the question borrowed from it.
 #[derive(Drop)]
 pub enum QueryRef<'d> {
-    /// It is shorter than a header, or is a reply itself: nothing is sent.
+    /// It is shorter than a header, or is a response: nothing is sent.
     Absent,
-    /// It is refused: this is the header of the reply, which is sent alone.
+    /// It is refused; only this header of a reply is sent.
     Refused(Head),
-    /// It is a query: its header and its question, both as they came.
+    /// It is a query: its header and its question, both as received.
     Query(Head, QuestionRef<'d>),
 }
 
-// A label has at most so many octets (RFC 1035 2.3.4).
+// The most octets of a label (RFC 1035 2.3.4).
 const MOST_LABEL: usize = 63;
 
-// The last place at which the root may end the name of a question, which has at most 255 octets
-// (RFC 1035 2.3.4).
+// The last place of the root that ends the question's name, which has at most 255 octets (RFC 1035
+// 2.3.4).
 const LAST_ROOT: usize = HEADER_OCTETS + 254;
 
-/// How a query is answered (RFC 1035 4.1.1).
+/// The RCODE of a reply (RFC 1035 4.1.1).
 #[derive(Clone, Copy, Debug, PartialEq, Eq)]
 pub enum Rcode {
     /// No error.
     NoError = 0,
-    /// The query can't be read.
+    /// The query can't be parsed.
     FormatError = 1,
     /// The name doesn't exist.
     NameError = 3,
-    /// This kind of query isn't answered.
+    /// This kind of query is not supported.
     NotImplemented = 4,
-    /// This query isn't answered.
+    /// This query is refused.
     Refused = 5,
 }
 
 impl Rcode {
-    /// Its number in a header.
+    /// The number in a header.
     pub fn code(self) -> u16
         ensures { result ≡ code_of self }
     {
@@ -62,8 +62,8 @@ impl Rcode {
 }
 
 impl Head {
-    /// The header of the reply to a query with this header (RFC 1035 4.1.1): its ID, opcode and RD,
-    /// with QR set, and AA and TC as they are given. RA and the three zero bits are 0.
+    /// The header of the reply to a query with this header (RFC 1035 4.1.1): the same ID, opcode
+    /// and RD, with QR set, and AA and TC as given. RA and the three zero bits are 0.
     pub fn reply(&self, authoritative: bool, truncated: bool, rcode: Rcode) -> Head
         ensures { result ≡ reply_head self.now authoritative truncated (code_of rcode) }
     {
@@ -83,11 +83,11 @@ impl Head {
     }
 }
 
-/// Reads a datagram as a query, of any octets (RFC 1035 4.1).
+/// Reads a datagram of any octets as a query (RFC 1035 4.1).
 ///
-/// `Absent` for fewer than 12 octets and for replies. Refused are, in this order: an opcode that
-/// isn't 0, with RCODE 4, and, with RCODE 1, counts that aren't 1, 0, 0, 0, and what isn't exactly
-/// one question after the header.
+/// `Absent` for fewer than 12 octets and for responses. `Refused`, in this order: with RCODE 4 if
+/// the opcode is not 0, and with RCODE 1 if the counts are not 1, 0, 0, 0 or the octets after the
+/// header are not exactly one question.
 pub fn read_query(datagram: &[u8]) -> QueryRead
     ensures { as_read result ≡ query_read datagram.now }
 {
@@ -98,9 +98,9 @@ pub fn read_query(datagram: &[u8]) -> QueryRead
     }
 }
 
-// In line it saves 62 instructions a reply.
-/// Reads a datagram as a query, as `read_query` does. The question is lent out of the datagram, so
-/// that no name is copied.
+// Inlining saves 62 instructions per reply.
+/// Reads a datagram as a query, as `read_query` does. The question is borrowed from the datagram,
+/// so no name is copied.
 #[tactic(auto, unfolding(dns_spec::specs::Query::query_read))]
 #[inline(always)]
 pub fn lent_query(datagram: &[u8]) -> QueryRef<'_>
@@ -137,7 +137,7 @@ fn field(datagram: &[u8], at: usize) -> u16
     BigEndian::read_u16(&datagram[at..])
 }
 
-// The question that is all that stands after the header.
+// The question, if nothing else follows the header.
 #[tactic(auto, unfolding(dns_spec::specs::Query::question_at))]
 #[inline(always)]
 fn lent_question(datagram: &[u8]) -> Option<QuestionRef<'_>>
@@ -154,8 +154,8 @@ fn lent_question(datagram: &[u8]) -> Option<QuestionRef<'_>>
     })
 }
 
-// The place after the name at the first place after the header. No pointer is lawful there, since
-// its place would have to be before that one and after the header (RFC 1035 4.1.4).
+// The place after the name that follows the header. A pointer is never valid there, since its
+// place would have to be before that name and after the header (RFC 1035 4.1.4).
 fn name_end(datagram: &[u8]) -> Option<usize>
     ensures some { IfSome result (λ end. NameEnds datagram.now end) }
     ensures none { IsNone result → name_at datagram.now 12 ≡ None }

@@ -1,11 +1,11 @@
-//! A hash of suffixes that looks at few of their octets.
+//! A hash of suffixes that reads few of their octets.
 use crate::places::SuffixHash;
 
 // 2^32 divided by the golden ratio.
 const SPREAD: u32 = 2_654_435_769;
 
-/// Chooses chains by the first four octets of a suffix, by one multiplication. One of three octets
-/// is told by its letter.
+/// Hashes the first four octets of a suffix by one multiplication. A suffix of three octets is
+/// hashed by its only letter.
 #[derive(Clone, Copy, Default, Debug)]
 pub struct QuickHash;
 
@@ -15,7 +15,7 @@ impl SuffixHash for QuickHash {
     ghost numbers = { λ _ s. quick_number s };
 
     fn head(&mut self, suffix: &[u8]) -> u16 {
-        // An odd number carries each octet into the highest bits.
+        // Multiplying by an odd number carries each octet into the highest bits.
         match suffix.first_chunk::<4>() {
             Some(front) => (u32::from_le_bytes(*front).wrapping_mul(SPREAD) / 4_194_304) as u16,
             None => suffix.get(1).map_or(0, |octet| u16::from(*octet)),

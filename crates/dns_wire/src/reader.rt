@@ -15,10 +15,10 @@ use std::alloc::Global;
 // What is read, and the place after it.
 type Read<T> = Result<(T, usize), WireFault>;
 
-/// The message that octets are, to their end.
+/// The message that the octets spell, with nothing left over.
 ///
-/// A fault says why they are none: the first from the left, by the header, the questions and the
-/// records. `NoMemory` comes only where a growth was refused.
+/// The fault is the first one from the left: in the header, the questions, or the records.
+/// `NoMemory` only if an allocation fails.
 pub fn read_message(alloc: Global, octets: &[u8]) -> Result<Message, WireFault>
     ensures ok { IfOk result (λ message. Spells octets.now message) }
     ensures err { IfErr result (λ fault. UnlessNoMemory fault (NoMessage octets.now)) }

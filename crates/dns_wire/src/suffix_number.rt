@@ -1,4 +1,4 @@
-//! The number by which the places of a suffix are told from those of others, and chosen.
+//! The number of a suffix, which distinguishes its places and chooses their chain.
 ghost use Rattle.std.specs.Prelude.{◌≡◌, ◌<◌, ◌≤◌, ◌^◌, length, take, drop, ◌+◌};
 ghost use Rattle.std.specs.Int.{from_le_bytes, w64};
 ghost use Rattle.dns_wire.specs.SuffixNumbers.{suffix_number, octets_number, mixed};
@@ -9,7 +9,7 @@ use crate::places::SuffixHash;
 const SPREAD: u64 = 11_400_714_819_323_198_485;
 
 /// The number of a suffix: 22 bits of a hash of all its octets, its length, and the two highest
-/// bits of its number by the hash that a writer is lent.
+/// bits of its number by the writer's hash.
 pub(crate) fn number_of<H: SuffixHash>(hash: &mut H, suffix: &[u8]) -> u32
     ensures value { result ≡ suffix_number (H.numbers hash.old) suffix.now }
     ensures same { H.numbers hash.new ≡ H.numbers hash.old }
@@ -19,8 +19,8 @@ pub(crate) fn number_of<H: SuffixHash>(hash: &mut H, suffix: &[u8]) -> u32
     octets_number(suffix) * 1024 + length * 4 + head
 }
 
-// A number of 22 bits for which all octets count, eight at a time: the last ones first, then the
-// others from the left. So each suffix of a name has a number that tells nothing of another's.
+// A hash of 22 bits that depends on all octets, eight at a time: the last ones first, then the
+// others from the left. So the numbers of a name's suffixes do not depend on one another.
 fn octets_number(octets: &[u8]) -> u32
     ensures value { result ≡ octets_number octets.now }
     ensures low { result < 2 ^ 22 }
@@ -38,7 +38,7 @@ fn octets_number(octets: &[u8]) -> u32
     (number >> 42) as u32
 }
 
-// Each bit of a number counts for all bits of what it is mixed to.
+// Each bit of the number affects all bits of the result.
 fn mixed(number: u64) -> u64
     ensures { result ≡ mixed number }
 {

@@ -1,5 +1,4 @@
-//! A message of up to 65,535 octets that is being written, with the hash that it is lent (RFC 1035
-//! 4.1).
+//! A message of up to 65,535 octets being written, with a borrowed hash (RFC 1035 4.1).
 ghost use Rattle.std.specs.Prelude.{◌≡◌, ◌↔◌, ℕ, ◌<◌, ◌≤◌, List, [], length, take, IsTrue, IsFalse, Option, All};
 ghost use Rattle.std.specs.Option.{option_copied};
 ghost use Rattle.std.specs.Bool.{OnTrue, OnFalse};
@@ -17,8 +16,7 @@ use crate::places::SuffixHash;
 use dns_name::Name;
 use dns_rdata::SetView;
 
-/// A message that is being written: a page of the greatest size, and the hash that its places are
-/// found by.
+/// A message being written: a page of the greatest size, and the hash for finding its places.
 #[derive(Drop)]
 pub struct Writer<'h, H: SuffixHash> {
     hash: &'h mut H,
@@ -43,8 +41,8 @@ impl<'h, H: SuffixHash> Writer<'h, H> {
         Writer { hash, page }
     }
 
-    /// Writes the records of a set at an owner, with a TTL in seconds, into a section: all of them,
-    /// or none where with them the message is past its limit.
+    /// Writes the records of a set at an owner, with a TTL in seconds, into a section: all of
+    /// them, or none if they would make the message exceed its limit.
     pub fn put_set<S: SetView>(&mut self, section: Section, owner: &Name, ttl: u32, set: &S) -> bool
         ensures fits { (q : Option MessageQuestion) (items : List Item)
             → IsDraft (H.numbers self.old.hash.now) q items self.old.page → IsTrue result
@@ -66,8 +64,8 @@ impl<'h, H: SuffixHash> Writer<'h, H> {
             .put_set(self.hash, section, &owner.lent(), ttl, set)
     }
 
-    /// Puts the message at the front of `out`, with its header and counts, and answers its length
-    /// in octets.
+    /// Copies the message, with its header and counts, to the front of `out` and returns its
+    /// length in octets.
     ///
     /// Condition: `out` is as long as the limit.
     pub fn finish(self, head: Head, out: &mut [u8]) -> usize

@@ -1,4 +1,4 @@
-//! What answers take: the nodes that are visited, and the labels that are compared.
+//! The cost of answers: the nodes visited, and the labels compared.
 
 use super::replies::replied;
 use super::zones::{deep, many_servers, wide, zone};
@@ -22,7 +22,7 @@ const OF_MANY_SERVERS: Reply<'static> = Reply {
     records: &[],
 };
 
-// How many nodes the reply visits, and how many labels it compares.
+// The number of nodes that the reply visits, and of labels that it compares.
 fn costs(alloc: Global, zone: &Zone, limit: Limit, reply: &Reply<'_>) -> Result<(u32, u32), Fail> {
     let found = replied(alloc, zone, limit, reply)?;
     if !found.is_wanted {
@@ -31,7 +31,7 @@ fn costs(alloc: Global, zone: &Zone, limit: Limit, reply: &Reply<'_>) -> Result<
     Ok((found.visits, found.comparisons))
 }
 
-// The question of a name of 127 labels.
+// The question for a name of 127 labels.
 fn deep_question(alloc: Global) -> Result<Vec<u8>, Fail> {
     let mut question = Vec::new(alloc);
     for _ in 0..127_u8 {

@@ -1,4 +1,4 @@
-//! Replies that are made in one draft, one after the other.
+//! Replies that are made in one draft, one after another.
 
 use super::replies::joined;
 use super::zones::{long, zone};
@@ -9,8 +9,8 @@ use std::alloc::Global;
 use std::process::Abort;
 use std::test::Fail;
 
-// A long answer of each kind, a name that does not exist, and questions that are refused. What one
-// leaves in the room is more, and less, than the next one writes.
+// A long answer of each kind, a name that does not exist, and questions that are refused. Each
+// leaves more, or less, in the room than the next one writes.
 const QUESTIONS: [&[u8]; 6] = [
     b"\x01y\x07example\x00\x00\x21\x00\x01",
     b"\x03none\x07example\x00\x00\x01\x00\x01",
@@ -27,7 +27,7 @@ struct Drafts {
     large: TcpDraft,
 }
 
-// The front of the octets, where a reply is made.
+// The octets of the reply, at the front of the room.
 fn front(mut octets: Vec<u8>, length: Option<usize>) -> Option<Vec<u8>> {
     let length = length?;
     octets.truncate(length);
@@ -63,7 +63,7 @@ fn redrafted(
     Ok(front(out, length))
 }
 
-// Whether the reply that is made in a draft is that of a new one.
+// Whether a draft that was used before makes the same reply as a new one.
 fn is_alike(
     alloc: Global,
     zone: &Zone,

@@ -1,4 +1,4 @@
-//! Replies over TCP that are past the limit of UDP, and one that just meets it.
+//! Replies over TCP that exceed the limit of UDP, and one that just fits it.
 
 use super::replies::{joined, tried};
 use super::zones::{LETTERS, digits, large, long, zone};
@@ -27,8 +27,8 @@ fn sets_about_the_limit_of_udp(rt: HostRuntime) -> Result<(), Fail> {
     check_addresses(&rt, rt.alloc(), &zone)
 }
 
-// A question, the way it comes, the header of its record, whose data ends with the longest string
-// and one of so many octets.
+// A question, its transport, the header of its record, whose data ends with the longest string and
+// a second one, and the length of the second one.
 const STRINGS: [(&[u8], Limit, &[u8], u8); 2] = [
     (
         b"\x01t\x07example\x00\x00\x10\x00\x01",
@@ -44,7 +44,7 @@ const STRINGS: [(&[u8], Limit, &[u8], u8); 2] = [
     ),
 ];
 
-// Whether the data of the record in a reply ends with the longest string and one of so many octets.
+// Whether the data of the record in a reply ends with the longest string and one of this length.
 fn has_strings(
     alloc: Global,
     zone: &Zone,
@@ -83,7 +83,7 @@ fn addresses(alloc: Global, owner: &[u8]) -> Result<Vec<u8>, Fail> {
     Ok(octets)
 }
 
-// A question, the header, the record before the addresses, and their owner.
+// A question, the header, the record before the addresses, and the owner of the addresses.
 const SIXTY_FOUR: [(&[u8], &[u8], &[u8], &[u8]); 3] = [
     (
         b"\x01m\x07example\x00\x00\x0f\x00\x01",
@@ -126,8 +126,8 @@ fn check_addresses(rt: &impl Abort, alloc: Global, zone: &Zone) -> Result<(), Fa
     Ok(())
 }
 
-// Whether a question is answered over TCP by a header, itself and these records, and over UDP by a
-// header that says that they do not fit.
+// Whether the reply over TCP is a header, the question and these records, and over UDP a header
+// that says that they do not fit.
 fn is_cut(
     alloc: Global,
     zone: &Zone,
@@ -142,7 +142,7 @@ fn is_cut(
     Ok(is_cut && is_whole)
 }
 
-// 64 strings that end with their number.
+// 64 strings, each ending with its number.
 fn strings(alloc: Global) -> Result<Vec<u8>, Fail> {
     let mut records = Vec::new(alloc);
     for number in 0..64_u8 {
@@ -153,7 +153,7 @@ fn strings(alloc: Global) -> Result<Vec<u8>, Fail> {
     Ok(records)
 }
 
-// 17 services, at the targets `t10` to `t26`.
+// 17 services, with the targets `t10` to `t26`.
 fn push_services(records: &mut Vec<u8>) -> Result<(), Fail> {
     for number in 10..27_u8 {
         records.extend_from_slice(b"\xc0\x0c\x00\x21\x00\x01\x00\x00\x0e\x10\x00\x13")?;
@@ -164,8 +164,8 @@ fn push_services(records: &mut Vec<u8>) -> Result<(), Fail> {
     Ok(())
 }
 
-// The addresses of a target: the first owner is spelled, and the others point to it. The records
-// begin at place 27.
+// The addresses of a target: the first owner is spelled, and the others are pointers to it. The
+// records begin at place 27.
 fn push_target(alloc: Global, number: u8, records: &mut Vec<u8>) -> Result<(), Fail> {
     let Ok(place) = u16::try_from(records.len() + 27) else {
         return Err(Fail::new("many octets"));
@@ -178,7 +178,7 @@ fn push_target(alloc: Global, number: u8, records: &mut Vec<u8>) -> Result<(), F
     Ok(())
 }
 
-// The addresses of `t26` begin at place 17,002, so that none of their owners is shared whole.
+// The addresses of `t26` begin at place 17,002, so none of their owners is shared whole.
 fn services(alloc: Global) -> Result<Vec<u8>, Fail> {
     let mut records = Vec::new(alloc);
     push_services(&mut records)?;

@@ -1,4 +1,4 @@
-//! Datagrams, and their replies by a zone.
+//! Datagrams, and a zone's replies to them.
 
 use dns_answer::{Limit, respond};
 use dns_samples_tests::{QUERY, Reply};
@@ -6,8 +6,7 @@ use dns_zone::{Steps, Zone};
 use std::alloc::Global;
 use std::test::Fail;
 
-/// Whether a reply is the one that is wanted, and what it took: the nodes that were handed out, and
-/// the labels that were compared.
+/// Whether a reply is the one wanted, and its cost: the nodes visited and the labels compared.
 #[derive(Clone, Copy)]
 pub(super) struct Compared {
     pub(super) is_wanted: bool,
@@ -15,7 +14,7 @@ pub(super) struct Compared {
     pub(super) comparisons: u32,
 }
 
-/// Octets, one piece after the other.
+/// The pieces, joined.
 pub(super) fn joined(alloc: Global, pieces: &[&[u8]]) -> Result<Vec<u8>, Fail> {
     let mut octets = Vec::new(alloc);
     for piece in pieces {
@@ -24,7 +23,7 @@ pub(super) fn joined(alloc: Global, pieces: &[&[u8]]) -> Result<Vec<u8>, Fail> {
     Ok(octets)
 }
 
-/// Compares the reply of a zone to a datagram with the one that is wanted, if any.
+/// Compares a zone's reply to a datagram with the reply wanted, if any.
 fn compare(
     alloc: Global,
     zone: &Zone,
@@ -47,8 +46,8 @@ fn compare(
     })
 }
 
-/// Compares the reply of a zone to a datagram with the one that is wanted, each in pieces: a reply
-/// of no pieces is none.
+/// Compares a zone's reply to a datagram with the reply wanted, both in pieces; no pieces mean no
+/// reply.
 pub(super) fn tried(
     alloc: Global,
     zone: &Zone,
@@ -64,7 +63,7 @@ pub(super) fn tried(
     compare(alloc, zone, limit, sent.as_slice(), Some(wanted.as_slice()))
 }
 
-/// Compares the reply of a zone to a question with the one that is wanted.
+/// Compares a zone's reply to a question with the reply wanted.
 pub(super) fn replied(
     alloc: Global,
     zone: &Zone,

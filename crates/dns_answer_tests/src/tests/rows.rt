@@ -1,4 +1,4 @@
-//! Worked replies, octet for octet.
+//! Worked replies, octet by octet.
 
 use super::replies::replied;
 use super::zones::{large, small, zone};
@@ -56,7 +56,7 @@ const LARGE: &[Reply<'static>] = &[
     },
 ];
 
-// Replies from the large zone over UDP, that have not all sets.
+// Replies from the large zone over UDP, from which some sets are missing.
 const CUT: &[Reply<'static>] = &[
     Reply {
         name: "strings that need 513 octets",

@@ -1,4 +1,4 @@
-//! Zones that tests answer from.
+//! Zones for the tests.
 
 use super::replies::joined;
 use dns_master::read_zone;
@@ -17,7 +17,7 @@ cut NS big.cut
 _s._tcp SRV 1 2 53 ns
 ";
 
-// What a zone has at least.
+// The least that a zone must contain.
 const APEX: &[u8] = b"$TTL 60\n@ SOA ns h 1 2 3 4 5\n@ NS ns\nns A 192.0.2.1\n";
 
 /// The longest string.
@@ -41,8 +41,8 @@ pub(super) fn small(alloc: Global) -> Result<Zone, Fail> {
     zone(alloc, b"example", SMALL.as_bytes())
 }
 
-/// The file of the small zone, chains of aliases, and sets that end near the limit of UDP or far
-/// past it.
+/// The file of the small zone, with chains of aliases, and with sets that end near the limit of
+/// UDP or far beyond it.
 pub(super) fn large(alloc: Global) -> Result<Vec<u8>, Fail> {
     let mut text = joined(alloc, &[SMALL.as_bytes(), MORE.as_bytes()])?;
     for (owner, count) in [(b"t TXT ", 216), (b"u TXT ", 217)] {
@@ -58,7 +58,7 @@ pub(super) fn large(alloc: Global) -> Result<Vec<u8>, Fail> {
     Ok(text)
 }
 
-/// The file of the small zone, and sets that fill a reply over TCP past the reach of pointers.
+/// The file of the small zone, with sets that fill a reply over TCP beyond the reach of pointers.
 pub(super) fn long(alloc: Global) -> Result<Vec<u8>, Fail> {
     let mut text = joined(alloc, &[SMALL.as_bytes()])?;
     for number in 0..64_u8 {
@@ -73,12 +73,13 @@ pub(super) fn long(alloc: Global) -> Result<Vec<u8>, Fail> {
     Ok(text)
 }
 
-/// Two digits of a number below 100.
+/// The two digits of a number below 100.
 pub(super) fn digits(number: u8) -> [u8; 2] {
     [b'0' + number / 10 % 10, b'0' + number % 10]
 }
 
-/// The file of a zone of 100,000 records, most of them at names of their own below the origin.
+/// The file of a zone of 100,000 records, most of them at different names directly below the
+/// origin.
 pub(super) fn wide(alloc: Global) -> Result<Vec<u8>, Fail> {
     let mut text = joined(alloc, &[APEX])?;
     for number in 0..99_997_u32 {
@@ -99,7 +100,7 @@ pub(super) fn deep(alloc: Global) -> Result<Vec<u8>, Fail> {
     Ok(text)
 }
 
-/// The file of a zone with a cut of 64 servers, which have an address each.
+/// The file of a zone with a cut of 64 servers, each with an address.
 pub(super) fn many_servers(alloc: Global) -> Result<Vec<u8>, Fail> {
     let mut text = joined(alloc, &[APEX])?;
     for number in 0..64_u32 {

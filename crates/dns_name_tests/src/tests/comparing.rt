@@ -58,8 +58,8 @@ fn compared_names(rt: HostRuntime) -> Result<(), Fail> {
     assert!(rt; name != lower);
     assert!(rt; name == name.copied());
     assert!(rt; name == name.clone()?);
-    // `@` and `[` stand around A to Z, and differ from ``
-    // ` `` and `{` by the same bit as letters do.
+    // `@` and `[` are next to A to Z, and differ from `` ` `` and `{` by the same bit as letters
+    // of different case.
     assert!(rt; !name_of(&[b"@["])?.same(&name_of(&[b"`{"])?));
     Ok(())
 }
@@ -90,7 +90,7 @@ fn names_above(rt: HostRuntime) -> Result<(), Fail> {
     assert!(rt; name.at_or_below(&name_of(&[b"EXAMPLE"])?));
     assert!(rt; name.at_or_below(&Name::root()));
     assert!(rt; !name_of(&[b"example"])?.at_or_below(&name));
-    // The octets of `a.` end those of this one label, and do not begin at a label.
+    // The octets of `a.` are the last ones of this single label, but do not begin at a label.
     assert!(rt; !name_of(&[b"x\x01a"])?.at_or_below(&name_of(&[b"a"])?));
     Ok(())
 }

@@ -4,8 +4,8 @@ use dns_name::{SinkFailed, SourceFailed, Tally};
 use std::io::{self, ErrorKind, Read, Write};
 use std::test::Fail;
 
-/// A device whose calls from one on, counted from 0, fail up to another, and would work again after
-/// it. Its calls are counted.
+/// A device that counts its calls. Those from `from` up to `to`, counted from 0, fail; those after
+/// them would succeed again.
 #[derive(Drop)]
 struct Failing {
     from: u32,
@@ -43,7 +43,7 @@ impl Write for Failing {
     }
 }
 
-// Its calls fail from one on.
+// All its calls from one on fail.
 fn fading(from: u32) -> Failing {
     Failing {
         from,
@@ -52,7 +52,7 @@ fn fading(from: u32) -> Failing {
     }
 }
 
-// One call of it fails.
+// Only one of its calls fails.
 fn failing_once(at: u32) -> Failing {
     Failing {
         from: at,

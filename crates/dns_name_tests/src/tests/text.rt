@@ -7,7 +7,7 @@ const OCTETS_53: [u8; 53] = [b'y'; 53];
 
 const OCTETS_54: [u8; 54] = [b'y'; 54];
 
-// A name without a final dot goes on with `example.`
+// A name without a final dot continues with `example.`
 fn read(word: &[u8]) -> Result<Name, NameFault> {
     let origin = Name::read_text(b"example.", &Name::root())?;
     Name::read_text(word, &origin)
@@ -20,8 +20,8 @@ fn fault(word: &[u8]) -> u8 {
     }
 }
 
-// Words, and the octets of their names, or the code of their fault. In a label a bad escape goes
-// before an empty or a long label, and a faulty label before a long name.
+// Words, and the octets of their names or the code of their fault. Within a label, a bad escape is
+// reported before an empty or a long label; an invalid label is reported before a long name.
 #[test]
 fn names_read(rt: HostRuntime) {
     let rows: [(&[u8], Result<&[u8], u8>); 27] = [
@@ -61,12 +61,12 @@ fn names_read(rt: HostRuntime) {
     }
 }
 
-// Four labels of 63 octets are faultless, and too long together.
+// Four labels of 63 octets are valid, but too long together.
 #[test]
 fn long_labels_and_names(rt: HostRuntime) -> Result<(), Fail> {
     let label = LABEL.as_slice();
     let three = [label, b".", label, b".", label, b"."];
-    // With `example.` three of them and one of 53 octets fill 255 octets on the wire.
+    // Three labels of 63 octets, one of 53 and `example.` fill 255 octets on the wire.
     let rows: [(&[&[u8]], u8); 10] = [
         (&[&OCTETS_53], 0),
         (&[&OCTETS_54], 3),

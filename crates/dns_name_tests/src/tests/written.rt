@@ -34,7 +34,7 @@ fn canonical_order(rt: HostRuntime) -> Result<(), Fail> {
     Ok(())
 }
 
-// A name as a zone file has it, or without its last dot.
+// A name as it is written in a zone file, or without its final dot.
 fn written(alloc: Global, word: &[u8], is_bare: bool) -> Result<Vec<u8>, Fail> {
     let name = read(word)?;
     let mut sink = Tally::new(Vec::new(alloc));
@@ -48,7 +48,7 @@ fn written(alloc: Global, word: &[u8], is_bare: bool) -> Result<Vec<u8>, Fail> {
 
 #[test]
 fn names_written(rt: HostRuntime) -> Result<(), Fail> {
-    // Whether the last dot is left out, the word that is read, and what is written of its name.
+    // Whether the final dot is left out, the word to read, and what is written for its name.
     let rows: [(bool, &[u8], &[u8]); 10] = [
         (false, b".", b"."),
         (false, b"WwW.Example", b"WwW.Example."),
@@ -71,8 +71,7 @@ fn names_written(rt: HostRuntime) -> Result<(), Fail> {
     Ok(())
 }
 
-// `ns.example.` is written in four calls. Where one of them fails, the octets before it were
-// written.
+// `ns.example.` is written in four calls. If one of them fails, the octets before it were written.
 #[test]
 fn each_write_of_a_name_fails(rt: HostRuntime) -> Result<(), Fail> {
     let text = b"ns.example.";

@@ -22,7 +22,7 @@ fn ipv4_read(rt: HostRuntime) -> Result<(), Fail> {
     judge(&rt, RType::A, false, &rows)
 }
 
-// The octets of the eight groups of an address.
+// The octets of an address, from its eight groups.
 fn octets(groups: [u16; 8]) -> [u8; 16] {
     let mut octets = [0; 16];
     for place in 0..8_usize {
@@ -33,7 +33,7 @@ fn octets(groups: [u16; 8]) -> [u8; 16] {
     octets
 }
 
-// Words, and the groups that they say, if any.
+// Words, and the groups that they spell, if any.
 #[test]
 fn ipv6_read(rt: HostRuntime) -> Result<(), Fail> {
     let rows: [(&[u8], Option<[u16; 8]>); 26] = [

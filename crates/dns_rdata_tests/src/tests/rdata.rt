@@ -13,7 +13,7 @@ const SOA: [u8; 32] =
 const SOA_LOWERED: [u8; 32] =
     *b"\x02ns\x00\x04mail\x01x\x00\x00\x00\x00\x01\x00\x00\x1c\x20\x00\x00\x03\x84\x00\x12\x75\x00\x00\x00\x01\x2c";
 
-// Types with octets, and the data that these are, if any.
+// Types with octets, and the data with these octets, if they are valid.
 #[test]
 fn octets_of_types(rt: HostRuntime) -> Result<(), Fail> {
     let rows: [(RType, &[u8], Option<&[u8]>); 32] = [
@@ -87,7 +87,7 @@ fn longest_data(rt: HostRuntime) -> Result<(), Fail> {
     Ok(())
 }
 
-// The parts of data, joined: the data.
+// The parts of data, joined: the data itself.
 fn joined(alloc: Global, rtype: RType, octets: &[u8]) -> Result<Vec<u8>, AllocError>
     requires { Valid rtype.0 octets.now }
     ensures { IfOk result (λ v. v.items ≡ octets.now) }

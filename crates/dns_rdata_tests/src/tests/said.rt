@@ -7,7 +7,8 @@ use std::io::Write;
 use std::process::Abort;
 use std::test::Fail;
 
-// The data that words say. It is read twice in one room: nothing is left of what was read before.
+// The data that words spell. It is read twice in one room: nothing of the first reading may
+// remain.
 pub(crate) fn read(
     alloc: Global,
     rtype: RType,
@@ -21,10 +22,10 @@ pub(crate) fn read(
     Ok(Rdata::read_words_in(&mut room, rtype, words, &origin))
 }
 
-/// A word, and the data that it says, if any.
+/// A word, and the data that it spells, if any.
 pub(crate) type Row<'a> = (&'a [u8], Option<&'a [u8]>);
 
-// Compares the data that each word says, all of one type, with the data that is wanted.
+// Compares the data that each word spells, all of one type, with the data wanted.
 pub(crate) fn judge<R: Abort + AllocGlobal>(
     rt: &R,
     rtype: RType,
@@ -39,7 +40,7 @@ pub(crate) fn judge<R: Abort + AllocGlobal>(
     Ok(())
 }
 
-// Octets that are no data are written as nothing.
+// Invalid data is written as nothing.
 pub(crate) fn write<W: Write>(
     alloc: Global,
     rtype: RType,

@@ -3,7 +3,7 @@ use dns_rdata::{RType, Rdata, RdataFault, Word};
 use std::alloc::Global;
 use std::test::Fail;
 
-// A type without a layout of its own.
+// A type without a mnemonic.
 const ANY: RType = RType(65280);
 
 const MARK: Word<'static> = Word {
@@ -11,7 +11,7 @@ const MARK: Word<'static> = Word {
     quoted: false,
 };
 
-// What `\#` and the words after it say, which are all quoted, or none.
+// What `\#` and the words after it spell; either all these words are quoted or none.
 fn said(alloc: Global, raws: &[&[u8]], quoted: bool) -> Result<Result<Rdata, RdataFault>, Fail> {
     let mut words = Vec::new(alloc);
     words.push(MARK)?;
@@ -43,7 +43,7 @@ fn marks(rt: HostRuntime) -> Result<(), Fail> {
     Ok(())
 }
 
-// Words, whether they are quoted, and the octets that they say, if any.
+// Words, whether they are quoted, and the octets that they spell, if any.
 #[test]
 fn octets_said(rt: HostRuntime) -> Result<(), Fail> {
     let rows: [(&[&[u8]], bool, Option<&[u8]>); 25] = [

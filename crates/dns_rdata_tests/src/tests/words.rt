@@ -6,8 +6,7 @@ use dns_rdata::{DataRoom, RType, Rdata, RdataFault, Word, Words};
 use std::alloc::Global;
 use std::test::Fail;
 
-// Words as a zone file has them, one space between them: those in quotation marks hold no space
-// here.
+// Words as a zone file has them, separated by single spaces; here, quoted words contain no space.
 fn words<'a>(alloc: Global, text: &'a [u8]) -> Result<Vec<Word<'a>>, Fail> {
     let mut words = Vec::new(alloc);
     if text.is_empty() {
@@ -113,7 +112,7 @@ fn faults_in_their_order(rt: HostRuntime) -> Result<(), Fail> {
     Ok(())
 }
 
-// 256 strings of 255 octets are 65,536, and with one octet less they are the most.
+// 256 strings of 255 octets make 65,536 octets; one octet less is the longest data.
 #[test]
 fn most_data(rt: HostRuntime) -> Result<(), Fail> {
     let full = [b'x'; 255];
@@ -136,7 +135,7 @@ fn most_data(rt: HostRuntime) -> Result<(), Fail> {
     Ok(())
 }
 
-// One word, so many times: no list of them is kept.
+// One word, repeated, without a list of all of them.
 #[derive(Clone, Copy)]
 struct Repeated<'w> {
     raw: &'w [u8],

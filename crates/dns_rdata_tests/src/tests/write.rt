@@ -70,8 +70,8 @@ fn data_written(rt: HostRuntime) -> Result<(), Fail> {
     Ok(())
 }
 
-// No text is longer than 40 octets, so that 40 calls write it, of at most three octets each. Where
-// one before the last fails, a beginning was written.
+// No text is longer than 40 octets, so 40 calls, of at most three octets each, write it. If a call
+// before the last fails, a beginning was written.
 #[test]
 fn each_write_fails(rt: HostRuntime) -> Result<(), Fail> {
     for (rtype, octets, text) in ROWS {
@@ -93,7 +93,7 @@ fn each_write_fails(rt: HostRuntime) -> Result<(), Fail> {
     Ok(())
 }
 
-// 255 strings of 255 octets, and 255 without any, are 65,535 octets (RFC 1035 3.2.1).
+// 255 strings of 255 octets and 255 empty strings make 65,535 octets (RFC 1035 3.2.1).
 #[test]
 fn longest_text_written(rt: HostRuntime) -> Result<(), Fail> {
     let mut data = Vec::new(rt.alloc());
@@ -108,8 +108,8 @@ fn longest_text_written(rt: HostRuntime) -> Result<(), Fail> {
     }
     let mut sink = Tally::new(Vec::new(rt.alloc()));
     assert_eq!(rt; write(rt.alloc(), RType::TXT, &data, &mut sink), Ok(()));
-    // Each quotation mark has a backslash before it, each string two marks around it, and a space
-    // before it or none.
+    // Each quotation mark has a backslash before it, and each string two quotation marks around it
+    // and, except the first, a space before it.
     assert_eq!(rt; sink.into_inner().len(), 2 * 255 * 255 + 3 * 510 - 1);
     let mut sink = Tally::new(Vec::new(rt.alloc()));
     assert_eq!(rt; write(rt.alloc(), RType(65280), &data, &mut sink), Ok(()));

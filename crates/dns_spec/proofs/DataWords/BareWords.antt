@@ -1,9 +1,9 @@
--- What is written for numbers, addresses, names and strings has no octet that ends the word.
+-- What is written for numbers, addresses, names and strings contains no octet that ends the word.
 use Rattle.dns_spec.proofs.Common.{◌≡◌, ℕ, ◌+◌, ◌<◌, ◌^◌, Bool, true, false, List, [], ◌∷◌, ◌++◌, map, refl, arith, append_assoc, decimal, rules, agree_below_at, and_from, decimal_is_IsNumeral, flat_map, join_with_byte, AllDigits, Octets, DomainName, is_special, three_digits, octet_text, label_text, labels_text, ipv4_text, is_word_octet, is_ascii_graphic, digit_char, string_octet_text, is_unbroken, is_quotable, AllByRecursion, ◌==◌, cases_Bool, inl, true≢false, eqb-true, inr}
 use Rattle.dns_spec.proofs.DomainNames.SmallOctets.{Small, small_head, small_tail}
 use Rattle.dns_spec.proofs.General.Truths.{follows}
 
--- octets that end no word by themselves
+-- octets that do not end a word
 abbrev pub Bare : Octets → Type 0
 Bare = AllByRecursion (λ o. is_word_octet o ≡ true)
 
@@ -11,7 +11,7 @@ pub bare_append : (x y : Octets) → Bare x → Bare y → Bare (x ++ y)
 bare_append [] y h k = k
 bare_append (o ∷ x) y h k = (h.0, bare_append x y h.1 k)
 
--- texts with an octet between each two
+-- texts separated by an octet
 pub bare_joined : (c : ℕ) (f : ℕ → Octets) (xs : List ℕ)
     → is_word_octet c ≡ true → AllByRecursion (λ x. Bare (f x)) xs
     → Bare (join_with_byte c (map f xs))
@@ -39,7 +39,7 @@ pub bare_hex : (ds : List ℕ) → AllByRecursion (λ d. d < 16) ds → Bare (ma
 bare_hex [] below = tt
 bare_hex (d ∷ ds) below = grind (arith, agree_below_at, (bare_hex ds below.1))
 
--- an octet of a word or of a quoted string is no backslash
+-- an octet of a word or of a quoted string is not a backslash
 pub no_backslash : (p : ℕ → Bool) (o : ℕ) → p 92 ≡ false → p o ≡ true → (o == 92) ≡ false
 no_backslash p o none h = grind (arith, cases_Bool, inl, true≢false, eqb-true, inr)
 

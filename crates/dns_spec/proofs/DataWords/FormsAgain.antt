@@ -1,4 +1,4 @@
--- The word that is written for the front of data says that front again, form by form.
+-- The word that is written for the front of data spells that front again, form by form.
 use Rattle.dns_spec.proofs.Common.{◌≡◌, ℕ, zero, suc, ◌+◌, ◌*◌, ◌^◌, ◌<◌, ◌≤◌, All, true, Bool, not, Some, List, [], ◌∷◌, ◌++◌, length, take, drop, replicate, refl, sym, ◌∙◌, ap, subst, arith, take-append-drop, length-drop, add_comm, suc-mul, pow-le-pow_right, and_from, and_parts, false≢true, length-take-le, drop-drop, list_all, Octets, DomainName, wire, is_label, is_name, name_of, are_strings, number_of, Word, WordForm, number_word, ipv4_word, ipv6_word, name_word, string_word, SaysWord, SaysForms, SaysString, is_unknown_mark, All-take, All-drop, name_front, word_front, form_words, string_count, quoted, stands_alone, AllByRecursion}
 use Rattle.dns_spec.proofs.DomainNames.SmallOctets.{Small, small_head, small_tail, small_front, small_back, small_test}
 use Rattle.dns_spec.proofs.DomainNames.NameLaws.{IsName-is_name, IsLabel-is_label}
@@ -12,7 +12,7 @@ abbrev pub is_unmarked : List Word → Bool
 is_unmarked [] = true
 is_unmarked (w ∷ ws) = not (is_unknown_mark w)
 
--- the word of a form says the front of data, and leaves the back
+-- the word of a form spells the front of data, and leaves the back
 pub record FormSaid (f : WordForm) (origin : DomainName) (d back : Octets) : Type 0 where
   pub front : Octets
   pub whole : d ≡ front ++ back
@@ -20,8 +20,8 @@ pub record FormSaid (f : WordForm) (origin : DomainName) (d back : Octets) : Typ
   pub after : (word_front f d).1 ≡ back
   pub standing : Standing (word_front f d).0
 
--- the words of forms say all data, they stand alone and are taken in whole, and the first is not
--- the mark of the form for any data
+-- the words of forms spell all data, they do not end early and are read whole, and the first is
+-- not the mark of the generic form
 pub record WordsSaid (fs : List WordForm) (origin : DomainName) (d : Octets) : Type 0 where
   pub said : SaysForms fs origin (form_words fs d) d
   pub alone : list_all stands_alone (form_words fs d) ≡ true
@@ -47,7 +47,7 @@ octets_said f n origin d after said standing = record {
   standing = standing;
 }
 
--- numbers of at most 64 bits, which have all their digits
+-- numbers of at most 64 bits, with all their digits
 number_front_said : (k : ℕ) (origin : DomainName) (d : Octets)
     → k ≤ 8 → k ≤ length d → Small d → FormSaid (number_word k) origin d (drop k d)
 number_front_said k origin d short inside small =
@@ -133,7 +133,7 @@ string_front_said origin k d inside small =
       standing = string_standing (take k d) (All-take (λ o. o < 256) k d (small_tail k d small));
     }
 
--- m numbers of k octets each, and what is after them
+-- m numbers of k octets each, and the octets after them
 pub numbers_said : (m k : ℕ) (fs : List WordForm) (origin : DomainName) (d : Octets)
     → k ≤ 8 → m * k ≤ length d → Small d
     → WordsSaid fs origin (drop (m * k) d) → WordsSaid (replicate m (number_word k) ++ fs) origin d
@@ -147,7 +147,7 @@ numbers_said (suc m) k fs origin d short inside small others =
     (numbers_said m k fs origin (drop k d) short (omega (arith, inside, more, length-drop k d))
     (All-drop (λ o. o < 256) k d small) (subst (WordsSaid fs origin) rest others))
 
--- what stands after the first string
+-- what follows the first string
 record StringsAfter (k : ℕ) (d : Octets) : Type 0 where
   inside : k ≤ length d
   others : are_strings 0 (drop k d) ≡ true

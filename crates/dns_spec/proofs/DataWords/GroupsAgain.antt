@@ -1,5 +1,5 @@
--- Groups that are written with colons between are read as those groups again, and nothing in their
--- text is a gap.
+-- Groups that are written with colons between them are read as those groups again, and their text
+-- contains no gap.
 use Rattle.dns_spec.proofs.Common.{◌≡◌, ℕ, zero, suc, ◌/◌, ◌%◌, ◌<◌, ◌≤◌, inl, inr, Bool, true, false, ◌&&◌, ◌==◌, All, Option, None, Some, List, [], ◌∷◌, ◌++◌, map, length, nat_lt, nat_le, refl, sym, ◌∙◌, ap, subst, arith, append_assoc, append-nil, agree_below_at, and_from, lt-ltb, le-leb, cases_lt, option_map, list_all, slice_split, is_ascii_hexdigit, digit_char, digits, Octets, digits_is_IsNumeral, slice_split_none, slice_split_at, is_group, group_values, groups_said, around_gap, groups_text, AllByRecursion}
 use Rattle.dns_spec.proofs.DataWords.GroupDigits.{one_digit, two_digits, three_of, four_of}
 use Rattle.dns_spec.proofs.DataWords.HexAgain.{hex_digit}

@@ -34,6 +34,6 @@ hex_said (o ∷ d) small = (
   ap hex_octets (append-nil (hex_text (o ∷ d))) ∙ hex_again (o ∷ d) small,
 )
 
--- the form for data of any type says the data
+-- the generic form spells the data
 pub unknown_said : (d : Octets) → Small d → SaysUnknown (plain (decimal (length d)) ∷ hex_words d) d
 unknown_said d small = (refl, refl, hex_said d small)

@@ -33,7 +33,7 @@ length-lowered (x ∷ xs) = grind (arith, length-wire-folded, length-append, (le
 none_after : (rest other : Octets) → rest ≡ [] → length other ≡ length rest → other ≡ []
 none_after rest other e f = nil_from_length other (f ∙ ap length e)
 
--- a piece in lower case is that piece, also where what is after it is spelled otherwise
+-- a piece in lower case is the same piece, even if what follows it is different
 piece_lowered : (p : Piece) (os : Octets) (part : Part) (rest other : Octets)
     → piece_front p os ≡ Some (part, rest) → length other ≡ length rest
     → piece_front p (part_octets (part_folded part) ++ other) ≡ Some (part_folded part, other)

@@ -1,4 +1,4 @@
--- Data that begins with a name, or with a piece of any kind, is cut there.
+-- Data that begins with a name, or with any other piece, is cut there.
 use Rattle.dns_spec.proofs.Common.{◌≡◌, true, List, ◌∷◌, ◌++◌, Some, arith, Octets, DomainName, wire, is_name, Piece, Part, name, piece_front, cut, domain, ℕ, length, octets_front, octets, le-leb, length-append, take_at, drop_at}
 use Rattle.dns_spec.proofs.DomainNames.WireNames.{name_of-wire}
 

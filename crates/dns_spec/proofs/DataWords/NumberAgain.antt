@@ -1,4 +1,4 @@
--- Numbers that are written in decimal are read as the octets that spell them again.
+-- Numbers that are written in decimal are read back as the same octets.
 use Rattle.dns_spec.proofs.Common.{◌≡◌, ℕ, zero, suc, ◌+◌, ◌*◌, ◌^◌, ◌<◌, [], ◌∷◌, length, refl, sym, ◌∙◌, ap, subst, arith, pow-suc, mul_comm, mod-eq_of_lt, same_from_place, mul-add-lt, decimal, bytes_high_first, Octets, number_of, SaysNumber}
 use Rattle.dns_spec.proofs.Messages.Places.{length-bytes_high_first, number_of-bytes}
 use Rattle.dns_spec.proofs.DomainNames.SmallOctets.{Small, small_head, small_tail}
@@ -20,7 +20,7 @@ bytes_below zero n i d inside = absurd (omega (arith, inside))
 bytes_below (suc k) n zero d inside = grind arith
 bytes_below (suc k) n (suc i) d inside = bytes_below k n i d (omega (arith, inside))
 
--- octets are known by their number
+-- the number of octets and their length determine them
 one_spelling : (x y : Octets)
     → length x ≡ length y → Small x → Small y → number_of x ≡ number_of y → x ≡ y
 one_spelling [] [] long small small' e = refl

@@ -1,4 +1,4 @@
--- Words say at most one piece of data of a type.
+-- Words spell at most one data of a type.
 use Rattle.dns_spec.proofs.Common.{◌≡◌, ℕ, zero, suc, ◌<◌, ◌≤◌, Bool, true, false, nat_le, List, [], ◌∷◌, ◌++◌, length, replicate, Option, Some, None, refl, sym, ◌∙◌, ap, ap₂, arith, decimal, MatchBool, list_all, flat_map, find, option_map, AllDigits, pow-le-pow_right, and_parts, and_from, leb-true, ltb-true, same_Some, decimal_is_IsNumeral, decimal_injective, digit_from_value, Octets, DomainName, wire, Piece, fixed, numbers, TypeRow, type_table, row_of, SaysIpv4, Word, WordForm, number_word, ipv4_word, ipv6_word, name_word, string_word, SaysNumber, SaysForm, SaysForms, forms_in, SaysTyped, SaysUnknown, SaysAsSpelled, is_unknown_mark, Says, ⊤, MatchOption, ◌==◌}
 use Rattle.dns_spec.proofs.NameTexts.OneName.{name_once, string_once}
 

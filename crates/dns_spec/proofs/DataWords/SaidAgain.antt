@@ -1,5 +1,5 @@
--- The words that are written for valid data say that data again, each of them stands alone, and a
--- reader takes them in whole.
+-- The words that are written for valid data spell that data again; none of them ends early, and a
+-- reader reads them whole.
 use Rattle.dns_spec.proofs.Common.{length-replicate, ◌≡◌, ℕ, suc, ◌*◌, ◌<◌, ◌≤◌, ◌⊎◌, inl, inr, true, false, Bool, ◌||◌, max, Option, None, Some, List, [], ◌∷◌, ◌++◌, length, drop, replicate, nat_le, refl, sym, ◌∙◌, ap, subst, arith, append-nil, false≢true, and_parts, and_from, leb-true, or_cases, none-some, cond_some, some_pair_parts, option_map, unwrap_or, list_all, flat_map, Octets, DomainName, name_of, numbers, ipv4, ipv6, Piece, fixed, domain, string, strings, anything, TypeRow, row_of, other_type, pieces_of, Part, name, part_octets, octets_front, piece_front, cut, valid, lower_case, Word, WordForm, name_word, string_word, forms_in, forms_of, SaysTyped, SaysAsSpelled, Says, is_word_octet, word_front, form_words, string_count, words_by, written_words, unknown_words, hex_words, stands_alone, AllByRecursion}
 use Rattle.dns_spec.proofs.DomainNames.SmallOctets.{Small, small_back}
 use Rattle.dns_spec.proofs.DataWords.WrittenData.{cut_into, all_strings}
@@ -11,7 +11,7 @@ use Rattle.dns_spec.proofs.DataWords.StandingWords.{TakenWhole, decimal_standing
 use Rattle.dns_spec.proofs.DataWords.FormsAgain.{WordsSaid, is_unmarked, none_said, said_step, ipv4_front_said, ipv6_front_said, name_front_said, string_front_said, numbers_said, strings_said}
 use Rattle.dns_spec.proofs.General.Tests.{entry_passes}
 
--- a piece whose words are as many whatever the record has, with numbers of at most 64 bits
+-- a piece whose number of words does not depend on the record, with numbers of at most 64 bits
 abbrev is_counted : Piece → Bool
 is_counted (fixed (numbers m k)) = nat_le k 8
 is_counted strings = false
@@ -70,7 +70,7 @@ pieces_said c origin (p ∷ ps) d xs counted h small =
     piece_said c origin p (flat_map (forms_in c) ps) d f.part f.rest each.0 f.front small
     (pieces_said c origin ps f.rest f.others each.1 f.more after)
 
--- such pieces have the same forms whatever the count
+-- such pieces have the same forms for any count
 same_forms : (c e : ℕ) (ps : List Piece)
     → list_all is_counted ps ≡ true → flat_map (forms_in c) ps ≡ flat_map (forms_in e) ps
 same_forms c e [] counted = refl
@@ -90,7 +90,7 @@ are_strings_alone _ = false
 only_strings : (ps : List Piece) → are_strings_alone ps ≡ true → ps ≡ strings ∷ []
 only_strings ps h = grind arith
 
--- the forms of data, which are those of as many words, and its words
+-- the forms of data, which are the forms of equally many words, and its words
 record Formed (t : ℕ) (origin : DomainName) (d : Octets) : Type 0 where
   forms : List WordForm
   of_data : forms_of t (string_count 0 d) ≡ Some forms
@@ -165,7 +165,7 @@ formed t origin d made e ok small = by_cases (or_cases
         strings_formed t origin d made c.cut_parts e is
         (ap (λ ps. cut ps d) (sym (pieces ∙ is)) ∙ c.is_cut) small
 
--- the words of a type are read by its forms unless the first is the mark
+-- the words of a type are read by its forms, unless the first is the mark
 as_typed : (t : ℕ) (origin : DomainName) (ws : List Word) (d : Octets)
     → is_unmarked ws ≡ true → SaysTyped t origin ws d → SaysAsSpelled t origin ws d
 as_typed t origin ws d h h1 = grind arith

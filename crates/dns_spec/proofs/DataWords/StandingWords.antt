@@ -1,6 +1,5 @@
--- The words that are written stand alone, a reader takes them in whole, and none of them is the
--- mark of the form for data of
--- any type.
+-- The words that are written do not end early, a reader reads them whole, and none of them is the
+-- mark of the generic form.
 use Rattle.dns_spec.proofs.Common.{common_steps, ◌≡◌, ℕ, ◌<◌, ◌^◌, Bool, true, false, ◌==◌, List, [], ◌∷◌, ◌++◌, length, refl, sym, ◌∙◌, ap, subst, arith, append_assoc, append-nil, length-append, decimal, rules, and_from, and_right, lt-ltb, if◌then◌else◌, digits, Octets, DomainName, octets_equal, label_text, labels_text, name_text, Word, is_unknown_mark, is_word_octet, is_string_octet, decimal_nonempty, SaysIpv6, ipv6_groups, ipv4_text, groups_text, ipv6_text, plain, quoted, hex_text, is_unbroken, stands_alone, AllByRecursion}
 use Rattle.dns_spec.proofs.DomainNames.SmallOctets.{Small, small_head, small_tail}
 use Rattle.dns_spec.proofs.NameTexts.WrittenNames.{labels_text_long}
@@ -9,14 +8,14 @@ use Rattle.dns_spec.proofs.DataWords.GroupsAgain.{Groups, group_digits}
 use Rattle.dns_spec.proofs.DataWords.Ipv6Again.{groups_of-small, groups_taken, groups_dropped, ipv6_said}
 use Rattle.dns_spec.proofs.DataWords.BareWords.{Bare, bare_append, bare_joined, bare_decimal, bare_ipv4, bare_hex, bare_text, labels_unbroken, string_unbroken}
 
--- what a reader goes on over in a word
+-- the octets that continue a word for a reader
 abbrev pub by_itself : Word → ℕ → Bool
 by_itself w = if w.is_quoted then is_string_octet else is_word_octet
 
 abbrev pub TakenWhole : Word → Type 0
 TakenWhole w = Runs (by_itself w) w.raw
 
--- a word that stands alone, is taken in whole, and is not the mark
+-- a word that does not end early, is read whole, and is not the mark
 pub record Standing (w : Word) : Type 0 where
   pub alone : stands_alone w ≡ true
   pub whole : TakenWhole w
@@ -50,7 +49,7 @@ bare_groups gs small = bare_joined 58 (digits 16 false) gs refl (each gs small)
     each [] small = tt
     each (g ∷ gs) small = (bare_group g small.0, each gs small.1)
 
--- a text that says an address has an octet
+-- a text that spells an address has at least one octet
 ipv6_some : (text d : Octets) → SaysIpv6 text d → 0 < length text
 unfolding ipv6_groups
 ipv6_some text d h = grind (arith, common_steps)

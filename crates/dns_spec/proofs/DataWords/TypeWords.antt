@@ -1,4 +1,4 @@
--- Words that name types: a name in the table is no number, and a number is read as it is written.
+-- Words that name types: a mnemonic is not a number, and a number is read as it is written.
 use Rattle.dns_spec.proofs.Common.{◌≡◌, ℕ, ◌^◌, ◌<◌, [], ◌∷◌, map, refl, arith, decimal_is_IsNumeral, decimal_injective, to_ascii_lowercase, AllDigits, Octets, text_in_lower_case, NamesType, decimal}
 
 digits_lowered : (ds : Octets) → AllDigits 10 ds → map to_ascii_lowercase ds ≡ ds

@@ -1,18 +1,18 @@
--- How much of what is written a reader takes into a word or a string: all of it.
+-- A reader reads all that is written for a word or a string.
 use Rattle.dns_spec.proofs.Common.{◌≡◌, ℕ, ◌+◌, ◌<◌, Bool, true, false, [], ◌∷◌, ◌++◌, length, refl, arith, append_assoc, length-append, rules, agree_below_at, lt-ltb, not-true, eqb-true, is_ascii_digit, flat_map, Octets, DomainName, string_octet_text, is_word_octet, is_string_octet, run_length, is_special, octet_text, label_text, labels_text, name_text, is_printable, AllByRecursion}
 use Rattle.dns_spec.proofs.NameTexts.Escapes.{escape-counted}
 use Rattle.dns_spec.proofs.DomainNames.SmallOctets.{Small, small_head, small_tail}
 use Rattle.dns_spec.proofs.DataWords.BareWords.{Bare}
 use Rattle.dns_spec.proofs.General.Truths.{follows}
 
--- a run goes on over all of these octets, whatever stands after them
+-- a run continues over all these octets, whatever follows them
 abbrev pub Runs : (ℕ → Bool) → Octets → Type 0
 Runs p x = (rest : Octets) → run_length p 0 (x ++ rest) ≡ length x + run_length p 0 rest
 
 pub runs_append : (p : ℕ → Bool) (x y : Octets) → Runs p x → Runs p y → Runs p (x ++ y)
 runs_append p x y h k rest = grind (arith, append_assoc, length-append)
 
--- an octet that is no digit, with a backslash before it
+-- an octet that is not a digit, with a backslash before it
 pub runs_escaped : (p : ℕ → Bool) (x : ℕ)
     → is_ascii_digit x ≡ false → is_printable x ≡ true → Runs p (92 ∷ x ∷ [])
 unfolding run_length
@@ -21,7 +21,7 @@ runs_escaped p x digit printable rest = grind (arith, escape-counted, digit)
 digit : (d : ℕ) → d < 10 → is_ascii_digit (48 + d) ≡ true
 digit d small = agree_below_at (λ e. is_ascii_digit (48 + e)) (λ e. true) 10 d refl small
 
--- octets that end no word by themselves
+-- octets that do not end a word
 pub runs_bare : (x : Octets) → Bare x → Runs is_word_octet x
 unfolding run_length
 runs_bare [] bare = grind arith

@@ -26,7 +26,7 @@ pub octets_part : (k : ℕ) (os rest : Octets) (part : Part)
     → octets_front k os ≡ Some (part, rest) → octets (take k os) ≡ part
 octets_part k os rest part h = grind (arith, cond_some)
 
--- the octets of data from place i on, and what is after its first part
+-- the octets of data from place i on, and what follows its first part
 module _
     {b : Octets} {i : ℕ} (os x rest : Octets) (whole : os ≡ x ++ rest) (at : Stands b i os) where
   stands_part : Stands b i x

@@ -1,4 +1,4 @@
--- The longest run of zero groups stands where it is said to stand.
+-- The longest run of zero groups is at the place that the definition gives.
 use Rattle.dns_spec.proofs.Common.{◌≡◌, ℕ, zero, suc, ◌+◌, ◌<◌, ◌≤◌, ◌⊎◌, inl, inr, max, Bool, true, false, ◌==◌, List, [], ◌∷◌, ◌++◌, length, take, drop, get_or, replicate, fold, refl, sym, ◌∙◌, ap, subst, arith, append_assoc, take-append-drop, length-drop, cases_Bool, cases_lt, eqb-true, eq-eqb, true≢false, drop-drop, prefix_len, position_or_len, prefix_len-le-length, fails_before_first, passes_at_first, zero_runs, longest_run, longest_place}
 
 abbrev pub is_zero : ℕ → Bool
@@ -14,7 +14,7 @@ run_at [] i inside = absurd (omega (arith, inside))
 run_at (g ∷ gs) zero inside = refl
 run_at (g ∷ gs) (suc i) inside = run_at gs i (omega (arith, inside))
 
--- the greatest of numbers is one of them, or that which was there before
+-- the greatest of numbers is one of them, or the number before them
 record Reached (xs : List ℕ) (n : ℕ) : Type 0 where
   place : ℕ
   inside : place < length xs
@@ -32,11 +32,11 @@ greatest a (x ∷ xs) = by_cases (greatest (max a x) xs) (cases_lt a x)
         inr (record { place = 0; inside = omega arith; is = omega (arith, e, more) })
     by_cases (inl e) (inr less) = inl (omega (arith, e, less))
 
--- so a place is found
+-- so its place is found
 found : (n : ℕ) (xs : List ℕ) → Reached xs n → position_or_len (λ k. k == n) xs < length xs
 found n xs r = grind (arith, cases_lt, inl, inr, fails_before_first, true≢false, eq-eqb)
 
--- where the longest run begins, and how long it is
+-- where the longest run begins, and its length
 pub record LongestRun (gs : List ℕ) : Type 0 where
   pub inside : longest_place gs < length gs
   pub long : prefix_len is_zero (drop (longest_place gs) gs) ≡ longest_run gs
@@ -68,7 +68,7 @@ zeros_first (g ∷ gs) = by_cases (zeros_first gs) (cases_Bool (is_zero g))
         ∙ ap (λ t. 0 ∷ t) after ∙ ap (λ k. replicate k 0) (sym one))
     by_cases after (inr other) = rw other refl
 
--- groups are those before the run, its zeros, and those after it
+-- groups are the groups before the run, its zeros, and the groups after it
 pub around_run : (gs : List ℕ) (r : LongestRun gs) → (take (longest_place gs) gs
     ++ replicate (longest_run gs) 0) ++ drop (longest_place gs + longest_run gs) gs ≡ gs
 around_run gs r =

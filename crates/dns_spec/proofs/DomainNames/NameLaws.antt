@@ -1,8 +1,8 @@
--- Laws of names: their wire forms tell them apart, folding keeps lengths, and at or below goes
--- label by label.
+-- Laws of names: their wire forms determine them, folding keeps lengths, and `at_or_below` is
+-- decided label by label.
 use Rattle.dns_spec.proofs.Common.{common_steps, ◌≡◌, ℕ, zero, suc, ◌+◌, ◌*◌, ◌-◌, ◌<◌, ◌≤◌, true, false, ◌||◌, ◌⊎◌, [], ◌∷◌, ◌++◌, length, take, drop, map, nat_le, refl, sym, ◌∙◌, ap, arith, inl, inr, length-append, rules, take_at, drop_at, length-map, map-append, list_all, to_ascii_lowercase, Octets, DomainName, wire, is_label, is_name, folded, octets_equal, names_equal, same, at_or_below, and_parts, and_from, and_left, leb-true, le-leb, lt-leb, ltb-true, lt-ltb, eqb-true, eq-eqb, cases_order, false_from_ne_true, pointwise_decides}
 
--- what a label's test says
+-- what the test for a label means
 pub record IsLabel (l : Octets) : Type 0 where
   pub some : 0 < length l
   pub fits : length l ≤ 63
@@ -13,7 +13,7 @@ IsLabel-is_label l ok = grind (arith, and_parts, ltb-true, leb-true)
 pub is_label-IsLabel : (l : Octets) → 0 < length l → length l ≤ 63 → is_label l ≡ true
 is_label-IsLabel l some fits = and_from _ _ (lt-ltb _ _ some) (le-leb _ _ fits)
 
--- what a name's test says
+-- what the test for a name means
 pub record IsName (n : DomainName) : Type 0 where
   pub labels : list_all is_label n ≡ true
   pub fits : length (wire n) ≤ 255
@@ -38,12 +38,12 @@ pub length-wire-push : (n : DomainName) (l : Octets)
 length-wire-push [] l = omega (arith, length-append l (0 ∷ []))
 length-wire-push (k ∷ n) l = grind (arith, length-append, (length-wire-push n l))
 
--- a label more is a name, where there is room
+-- with one more label it is a name, if there is room
 pub is_name-push : (n : DomainName) (l : Octets) → is_name n ≡ true
     → is_label l ≡ true → length (wire (n ++ l ∷ [])) ≤ 255 → is_name (n ++ l ∷ []) ≡ true
 is_name-push n l ok is_l fits = grind (arith, common_steps)
 
--- the wire forms of names tell them apart
+-- the wire form of a name determines it
 pub wire-injective : (n m : DomainName)
     → is_name n ≡ true → is_name m ≡ true → wire n ≡ wire m → n ≡ m
 wire-injective [] [] p q e = refl
@@ -68,7 +68,7 @@ pub names_equal-decides : (n m : DomainName)
     → (names_equal n m ≡ true → n ≡ m) × (n ≡ m → names_equal n m ≡ true)
 names_equal-decides = pointwise_decides octets_equal-decides
 
--- lengths on the wire are no letters, so folding leaves them alone
+-- lengths on the wire are not letters, so folding leaves them unchanged
 pub map-lowercase-wire : (n : DomainName)
     → list_all is_label n ≡ true → map to_ascii_lowercase (wire n) ≡ wire (folded n)
 map-lowercase-wire [] ok = refl
@@ -83,11 +83,11 @@ all_folded : (n : DomainName) → list_all is_label n ≡ true → list_all is_l
 all_folded [] ok = refl
 all_folded (l ∷ n) ok = grind (arith, length-map, (all_folded n (and_parts (is_label l) _ ok).1))
 
--- a name folded is a name
+-- a folded name is a name
 pub is_name-folded : (n : DomainName) → is_name n ≡ true → is_name (folded n) ≡ true
 is_name-folded n ok = grind (arith, IsName-is_name, is_name-IsName, all_folded, length-wire-folded)
 
--- two names are the same where their wire forms are, folded
+-- two names are the same if their folded wire forms are
 pub same-wire : (n m : DomainName) → is_name n ≡ true → is_name m ≡ true
     → (same n m ≡ true → map to_ascii_lowercase (wire n) ≡ map to_ascii_lowercase (wire m))
     × (map to_ascii_lowercase (wire n) ≡ map to_ascii_lowercase (wire m) → same n m ≡ true)
@@ -103,8 +103,8 @@ same-length-wire n m h =
     ap (λ k. length (wire k)) ((names_equal-decides (folded n) (folded m)).0 h) in
     omega (arith, length-wire-folded n, length-wire-folded m)
 
--- a name with a label more at its front is at or below those that it is the same as, and those of
--- the name
+-- a name with one more label in front is at or below any name that it is the same as, and any name
+-- that the rest is at or below
 pub at_or_below-cons : (l : Octets) (n a : DomainName)
     → at_or_below (l ∷ n) a ≡ (same (l ∷ n) a || at_or_below n a)
 at_or_below-cons l n a = by_length (cases_order (length a) (suc (length n)))
@@ -128,12 +128,12 @@ length-wire-drop zero n = omega arith
 length-wire-drop (suc k) [] = omega arith
 length-wire-drop (suc k) (l ∷ n) = omega (arith, length-wire-drop k n, length-append l (wire n))
 
--- a name is as long on the wire as those that it is at or below, or longer
+-- a name is at least as long on the wire as any name that it is at or below
 pub at_or_below-length-wire : (n a : DomainName)
     → at_or_below n a ≡ true → length (wire a) ≤ length (wire n)
 at_or_below-length-wire n a h = grind (arith, same-length-wire, and_parts, length-wire-drop)
 
--- where n is no longer on the wire than a, it is at or below a only if it is the same
+-- if n is not longer on the wire than a, it is at or below a only if it is the same
 pub at_or_below-short : (n a : DomainName)
     → length (wire n) ≤ length (wire a) → at_or_below n a ≡ same n a
 at_or_below-short [] [] h = refl
@@ -141,7 +141,7 @@ at_or_below-short [] (k ∷ a) h = and_left _ _ (lt-leb (suc (length a)) 0 (omeg
 at_or_below-short (l ∷ n) a h =
     grind (arith, at_or_below-length-wire, length-append, at_or_below-cons)
 
--- where n is longer, its first label doesn't matter
+-- if n is longer, its first label doesn't matter
 pub at_or_below-long : (l : Octets) (n a : DomainName)
     → length (wire a) < length (wire (l ∷ n)) → at_or_below (l ∷ n) a ≡ at_or_below n a
 at_or_below-long l n a h = search (rules, false_from_ne_true, same-length-wire, at_or_below-cons)
@@ -160,13 +160,13 @@ length-is_name n ok =
         let is_l = IsLabel-is_label l parts.0 in
         omega (arith, length-wire_long n parts.1, length-append l (wire n))
 
--- the labels of two names, one after another
+-- the labels of two names in order
 pub length-wire-append : (n m : DomainName)
     → length (wire (n ++ m)) + 1 ≡ length (wire n) + length (wire m)
 length-wire-append [] m = omega arith
 length-wire-append (l ∷ n) m = grind (arith, length-append, (length-wire-append n m))
 
--- they are a name, where there is room
+-- they are a name, if there is room
 pub is_name-append : (n m : DomainName)
     → is_name n ≡ true → is_name m ≡ true → length (wire (n ++ m)) ≤ 255 → is_name (n ++ m) ≡ true
 is_name-append n m p q fits = grind (arith, common_steps)

@@ -1,8 +1,8 @@
--- Octets begin with a name's wire form exactly where `name_of` reads that name.
+-- Octets begin with a name's wire form if and only if `name_of` reads that name.
 use Rattle.dns_spec.proofs.Common.{◌≡◌, ℕ, zero, suc, ◌+◌, ◌<◌, ◌↔◌, Bool, true, false, nat_le, [], ◌∷◌, ◌++◌, length, take, drop, Option, None, Some, option_map, refl, sym, ap, ◌∙◌, arith, append_assoc, length-append, take-append-drop, list_all, and_parts, leb-true, none-some, same_Some, cond_some, option_and_then_some, take_at, drop_at, length-take-le, Octets, DomainName, wire, is_label, is_name, with_label, labels_from, name_of, ◌≤◌}
 use Rattle.dns_spec.proofs.DomainNames.NameLaws.{IsLabel-is_label, IsName-is_name}
 
--- fewer than k labels, written as they are on the wire, are read again
+-- fewer than k labels in wire form are read again
 pub labels_taken : (k : ℕ) (n : DomainName) (rest : Octets)
     → list_all is_label n ≡ true → length n < k → labels_from k (wire n ++ rest) ≡ Some (n, rest)
 unfolding labels_from
@@ -12,18 +12,18 @@ labels_taken (suc k) ([] ∷ n) rest ok few = cc
 labels_taken (suc k) ((x ∷ l) ∷ n) rest ok few =
     grind (arith, length-append, append_assoc, take_at, drop_at, (labels_taken k n rest))
 
--- a label takes two octets or more
+-- a label takes at least two octets
 few_labels : (n : DomainName) → list_all is_label n ≡ true → length n + length n < length (wire n)
 few_labels [] ok = omega arith
 few_labels (l ∷ n) ok =
     grind (arith, (few_labels n (and_parts (is_label l) (list_all is_label n) ok).1), length-append)
 
--- a name's wire form is that name, and what follows it
+-- a name's wire form is read as that name, and the octets after it
 pub name_of-wire : (n : DomainName) (rest : Octets)
     → is_name n ≡ true → name_of (wire n ++ rest) ≡ Some (n, rest)
 name_of-wire n rest ok = grind (arith, IsName-is_name, labels_taken, few_labels)
 
--- the labels that octets are read as stand there in wire form, before the rest
+-- the labels that are read from octets are at their beginning in wire form, before the rest
 abbrev LabelsRead : ℕ → Octets → Type 0
 LabelsRead k os =
     (n : DomainName) (rest : Octets) → labels_from k os ≡ Some (n, rest) → os ≡ wire n ++ rest
@@ -65,7 +65,7 @@ pub name_of_reads : (octets : Octets) (n : DomainName) (rest : Octets)
     → (name_of octets ≡ Some (n, rest)) ↔ ((octets ≡ wire n ++ rest) × (is_name n ≡ true))
 name_of_reads octets n rest = grind (arith, name_read, name_of-wire)
 
--- labels of octets and what follows them are told apart by the octets
+-- the octets determine their labels and what follows these
 pub wire_fronts_agree : (n m : DomainName) (rest tail : Octets) → list_all is_label n ≡ true
     → list_all is_label m ≡ true → wire n ++ rest ≡ wire m ++ tail → (n ≡ m) × (rest ≡ tail)
 wire_fronts_agree [] [] rest tail p q e = (refl, ap (drop 1) e)
@@ -83,12 +83,12 @@ wire_fronts_agree (l ∷ n) (k ∷ m) rest tail p q e =
     (and_parts (is_label k) (list_all is_label m) q).1 others in
     (ap (λ z. z ∷ n) first ∙ ap (λ z. k ∷ z) agree.0, agree.1)
 
--- the octet of the root is there
+-- a wire form has at least the root's octet
 pub wire_some : (n : DomainName) → 0 < length (wire n)
 wire_some [] = omega arith
 wire_some (l ∷ n) = omega arith
 
--- a suffix of the name stands so far before its end
+-- the wire form of a suffix ends the wire form of the name
 pub wire_split : (front s : DomainName) → (x : Octets) × (wire (front ++ s) ≡ x ++ wire s)
 wire_split [] s = ([], refl)
 wire_split (l ∷ front) s =

@@ -1,8 +1,8 @@
--- What holds of each element of a list, and what is among its elements.
+-- What holds for each element of a list, and membership in lists.
 use mathlib.Core.List.{reverse_aux}
 use Rattle.dns_spec.proofs.Common.{All, List, [], ap, arith, drop, get_or, inl, inr, length, map, refl, subst, suc, sym, take, zero, ℕ, ◌++◌, ◌<◌, ◌∷◌, ◌≡◌, ◌⊎◌, AllByRecursion, Contains, flat_map, IsPermutation, get_or_default, flat_map-cons, All-contains, Contains-permutation, All-from_recursion, get_or-take, length-take, take-append-drop, ◌≤◌, map_push, reverse, reverse-append, ◌∙◌}
 
--- P of each element by recursion is a list of proofs; x is one of the elements
+-- P for each element, by recursion, is a list of proofs; membership of x
 pub each_any : {X : Type 0} (xs : List X) → AllByRecursion (λ _. Unit {0}) xs
 each_any [] = tt
 each_any (x ∷ xs) = (tt, each_any xs)
@@ -12,7 +12,7 @@ pub each_always : {X : Type 0} (P : X → Type 0) (xs : List X)
 each_always P [] f = tt
 each_always P (x ∷ xs) f = (f x, each_always P xs f)
 
--- a proof for the first element, before those for the others
+-- a proof for the first element in front of the proofs for the others
 infixr 10 ◌⊲◌
 abbrev pub ◌⊲◌ : {P Q : Type 0} → P → Q → P × Q
 p ⊲ q = (p, q)
@@ -22,7 +22,7 @@ pub each_weaker : {X : Type 0} (P Q : X → Type 0) (xs : List X)
 each_weaker P Q [] f e = tt
 each_weaker P Q (x ∷ xs) f e = (f x e.0, each_weaker P Q xs f e.1)
 
--- the same, of elements of which P holds
+-- a third property, from two
 pub each_both : {X : Type 0} (P Q S : X → Type 0) (xs : List X)
     → ((x : X) → P x → Q x → S x) → AllByRecursion P xs → AllByRecursion Q xs → AllByRecursion S xs
 each_both P Q S [] f p q = tt
@@ -33,7 +33,7 @@ pub each_append : {X : Type 0} (P : X → Type 0) (xs ys : List X)
 each_append P [] ys e f = f
 each_append P (x ∷ xs) ys e f = (e.0, each_append P xs ys e.1 f)
 
--- of what stands before, and of what stands after
+-- for the elements before, and for the elements after
 pub each_front : {X : Type 0} (P : X → Type 0) (xs ys : List X)
     → AllByRecursion P (xs ++ ys) → AllByRecursion P xs
 each_front P [] ys e = tt
@@ -61,7 +61,7 @@ each_drop P zero xs e = e
 each_drop P (suc k) [] e = e
 each_drop P (suc k) (x ∷ xs) e = each_drop P k xs e.1
 
--- an element more, at a place
+-- one more element, at a place
 pub each_put : {X : Type 0} (P : X → Type 0) (xs : List X) (i : ℕ) (x : X) → AllByRecursion P xs
     → P x → AllByRecursion P (take i xs ++ x ∷ drop i xs)
 each_put P xs zero x e p = (p, e)
@@ -128,7 +128,7 @@ mapped_among f a [] m = absurd m
 mapped_among f a (y ∷ ys) (inl e) = (y, inl refl, e)
 mapped_among f a (y ∷ ys) (inr m) = let r = mapped_among f a ys m in (r.0, inr r.1, r.2)
 
--- elements of lists that are joined, mapped and filtered
+-- elements of joined, mapped and filtered lists
 pub among_front : {X : Type 0} (a : X) (xs ys : List X) → Among a xs → Among a (xs ++ ys)
 among_front a [] ys m = absurd m
 among_front a (x ∷ xs) ys (inl e) = inl e
@@ -179,7 +179,7 @@ module _ {X Y : Type 0} (f : X → Y) where
   among_put a (y ∷ ys) (suc i) x (inr (inl e)) = inl e
   among_put a (y ∷ ys) (suc i) x (inr (inr m)) = inr (among_put a ys i x (inr m))
 
--- members, by places and by recursion
+-- membership, by places and by recursion
 pub contains_among : {X : Type 0} (a : X) (xs : List X) → Contains xs a → Among a xs
 contains_among a [] c = absurd (omega (arith, c.1))
 contains_among a (x ∷ xs) (zero, h, e) = inl (sym e)

@@ -5,7 +5,7 @@ use Rattle.dns_spec.proofs.Common.{Bool, List, [], ap, ap₂, arith, cond, drop,
 use Rattle.dns_spec.proofs.General.Elements.{each_weaker, each_from_get}
 use Rattle.dns_spec.proofs.General.Filters.{filter_all, filter_none}
 
--- what passes comes first, and what does not follows
+-- elements that pass come first, and the others after them
 pub halves : {X : Type 0} (p : X → Bool) (xs : List X) (i : ℕ)
     → i ≤ length xs → IsPartitionPoint (λ y. p y ≡ true) (λ y. p y ≡ false) xs i
     → (take i xs ≡ filter p xs) × (drop i xs ≡ filter (λ x. not (p x)) xs)
@@ -22,17 +22,17 @@ halves p (x ∷ xs) (suc i) l h =
           (λ t. cond (not t) (x ∷ filter (λ y. not (p y)) xs) (filter (λ y. not (p y)) xs)) here),
     )
 
--- what is first of a list whose passing elements stand in front is such a list too
+-- if the passing elements of a list come first, so they do in its beginnings
 pub parted_take : {X : Type 0} (p : X → Bool) (xs : List X) (n : ℕ) → IsPartitionedBy p xs
     → IsPartitionedBy p (take n xs)
 parted_take p xs n parts i j d a b e = grind (arith, length-take, get_or-take)
 
--- what is left of a list whose passing elements stand in front is such a list too
+-- if the passing elements of a list come first, so they do in its rests
 pub parted_drop : {X : Type 0} (p : X → Bool) (xs : List X) (k : ℕ) → IsPartitionedBy p xs
     → IsPartitionedBy p (drop k xs)
 parted_drop p xs k h i j d a b e = grind (arith, length-drop, get_or-drop)
 
--- elements that pass, and then those of the others that do
+-- elements that pass, and then those of the rest that pass
 pub both_fronts : {X : Type 0} (p : X → Bool) (xs : List X) (a b : ℕ)
     → AllByRecursion (λ x. p x ≡ true)
     (take a xs) → take b (drop a xs) ≡ filter p (drop a xs) → take (a + b) xs ≡ filter p xs
@@ -40,7 +40,7 @@ both_fronts p xs a b e u =
     take-add a b xs ∙ ap₂ ◌++◌ (sym (filter_all p (take a xs) e)) u
     ∙ sym (ap (filter p) (sym (take-append-drop a xs)) ∙ filter-append p (take a xs) (drop a xs))
 
--- what passes a test, counted from the front, is all that passes it where this comes first
+-- if passing elements come first, the passing elements counted from the front are all that pass
 pub front : {X : Type 0} (p : X → Bool) (xs : List X) → IsPartitionedBy p xs → (take
     (prefix_len p xs) xs ≡ filter p xs) × (drop (prefix_len p xs) xs ≡ filter (λ x. not (p x)) xs)
 front p xs h =
@@ -50,7 +50,7 @@ front p xs h =
           (sym (prefix_len_stops p xs d (omega arith)) ∙ h (prefix_len p xs) k d a m t)),
     )
 
--- of a list without elements
+-- the beginning of an empty list
 pub take_none : (k : ℕ) → take {A = ℕ} k [] ≡ []
 take_none k = grind arith
 
@@ -75,14 +75,14 @@ take_last k xs long =
     subst (λ j. take j (drop (length xs - k) xs) ≡ drop (length xs - k) xs) all
     (take-length (drop (length xs - k) xs))
 
--- a beginning that is not longer than what is looked at is a beginning of that
+-- a beginning within the first n elements is a beginning of these
 pub looked_at : {X : Type 0} (n : ℕ) (front more : List X)
     → length front ≤ n → (rest : List X) × (take n (front ++ more) ≡ front ++ rest)
 looked_at n [] more short = (take n more, refl)
 looked_at zero (o ∷ front) more short = absurd (omega (arith, short))
 looked_at (suc n) (o ∷ front) more short = grind (arith, (looked_at n front more))
 
--- octets written over after it leave it
+-- overwriting octets after it leaves a beginning as it is
 pub take_patched : (a k : ℕ) (b x b' : List ℕ)
     → b' ≡ take k b ++ x → a ≤ k → k ≤ length b → take a b' ≡ take a b
 take_patched a k b x b' e low inside =
@@ -97,7 +97,7 @@ take_patched a k b x b' e low inside =
 pub drop_one : (n o : ℕ) (text : List ℕ) → drop (1 + n) (o ∷ text) ≡ drop n text
 drop_one n o text = let next : 1 + n ≡ suc n = omega arith in ap (λ m. drop m (o ∷ text)) next
 
--- what comes first, and what comes after, where more comes after that
+-- beginning and rest of a list stay when more comes at its end
 pub dropped_more : (n : ℕ) (text more : List ℕ) (x : ℕ) (xs : List ℕ)
     → drop n text ≡ x ∷ xs → drop n (text ++ more) ≡ x ∷ (xs ++ more)
 dropped_more zero text more x xs e = ap (λ t. t ++ more) e

@@ -1,8 +1,8 @@
--- Numbers: sums, and what a bound leaves.
+-- Numbers: sums and bounds.
 use Rattle.std.proofs.Math.Nat.{mul-le-mul_right}
 use Rattle.dns_spec.proofs.Common.{List, [], ap, arith, fold, inl, inr, suc, sum, ℕ, ◌*◌, ◌+◌, ◌<◌, ◌∷◌, ◌≡◌, ◌≤◌, ◌⊎◌, cases_order, cases_lt}
 
--- a sum from its first number on
+-- a sum with a first number
 pub fold_from : (k : ℕ) (xs : List ℕ) → fold ◌+◌ k xs ≡ k + sum xs
 fold_from k [] = omega arith
 fold_from k (x ∷ xs) = omega (arith, fold_from (k + x) xs, fold_from (0 + x) xs)
@@ -10,7 +10,7 @@ fold_from k (x ∷ xs) = omega (arith, fold_from (k + x) xs, fold_from (0 + x) x
 pub sum_cons : (x : ℕ) (xs : List ℕ) → sum (x ∷ xs) ≡ x + sum xs
 sum_cons x xs = omega (arith, fold_from (0 + x) xs)
 
--- numbers of a first digit and the rest: the first digits decide, or the rests do
+-- numbers of a first digit and a rest: the first digits decide, or else the rests
 pub lesser_parts : (p x y k l : ℕ) → k < p → l < p → x * p + k < y * p + l
     → (x < y) ⊎ ((x ≡ y) × (k < l))
 lesser_parts p x y k l s t h = go (cases_order x y)

@@ -1,4 +1,4 @@
--- Options, and what is computed of them.
+-- Options, and what is computed from them.
 use Rattle.std.specs.Option.{ok_or}
 use Rattle.dns_spec.proofs.Common.{Bool, None, Ok, Option, Some, ap, arith, refl, true, ◌∙◌, ◌≡◌, is_some, option_and_then, option_map, MatchOption, if◌then◌else◌, none-some, same_Some, List, cons_option, ◌++◌}
 
@@ -11,7 +11,7 @@ pub then_is : {X Y : Type 0} (f : X → Option Y) (o : Option X) (x : X) (y : Y)
     → o ≡ Some x → f x ≡ Some y → option_and_then f o ≡ Some y
 then_is f o x y e h = ap (option_and_then f) e ∙ h
 
--- what is one by either case is one
+-- if both cases give equal values, the values are equal
 pub by_option : {X N : Type 0} {P Q : Type 0} {R S : X → Type 0} (o : Option X) (n m : N) → (P
     → Q → n ≡ m) → ((x : X) → R x → S x → n ≡ m) → MatchOption o P R → MatchOption o Q S → n ≡ m
 by_option o n m h h1 h2 h3 = grind arith

@@ -1,4 +1,4 @@
--- Comparisons, of numbers, of lists and one after another.
+-- Comparisons of numbers, of lists, and in sequence.
 use Rattle.dns_spec.proofs.Common.{Equal, Greater, Less, List, Ordering, [], ap, arith, eqb, false, inl, inr, is_eq, is_gt, is_lt, length, nat_cmp, refl, reverse, sym, true, ℕ, ◌&&◌, ◌++◌, ◌-◌, ◌<◌, ◌∙◌, ◌∷◌, ◌≡◌, ◌≤◌, ◌⊎◌, nat_cmp_is, slice_cmp, ordering_then, cases_lt, eq-eqb, eqb-true, false≢true, le-ltb, lt-ltb, ltb-true, ne_eqb, length-reverse, reverse-append}
 
 pub less_from : (c : Ordering) → is_lt c ≡ true → c ≡ Less
@@ -33,7 +33,7 @@ cmp_self R h [] = refl
 cmp_self R h (x ∷ xs) = rw (h x) (cmp_self R h xs)
 
 module _ {A : Type 0} (R : A → A → Ordering) where
-  -- as long lists go before what stands after them
+  -- beginnings of equal length are compared before what follows them
   pub slice_cmp-append : (xs ys us vs : List A) → length xs ≡ length ys
       → slice_cmp R (xs ++ us) (ys ++ vs) ≡ ordering_then (slice_cmp R xs ys) (slice_cmp R us vs)
   slice_cmp-append [] [] us vs e = refl
@@ -42,7 +42,7 @@ module _ {A : Type 0} (R : A → A → Ordering) where
   slice_cmp-append (x ∷ xs) (y ∷ ys) us vs e =
       grind (arith, (slice_cmp-append xs ys us vs (omega arith)), then_assoc)
 
-  -- the first of both lists is compared last
+  -- the first elements of both lists are compared last
   pub slice_cmp-reverse-cons : (x y : A) (xs ys : List A) (o : Ordering) → length xs ≡ length ys
       → ordering_then (slice_cmp R (reverse xs) (reverse ys)) (ordering_then (R x y) o)
       ≡ ordering_then (slice_cmp R (reverse (x ∷ xs)) (reverse (y ∷ ys))) o
@@ -57,7 +57,7 @@ module _ {A : Type 0} (R : A → A → Ordering) where
       sym (rw (reverse-append (x ∷ []) xs, reverse-append (y ∷ []) ys)
       (ap (λ p. ordering_then p o) last ∙ then_assoc S (R x y) o))
 
-  -- where a list is empty, the lengths decide
+  -- if one list is empty, the lengths decide
   pub by_length : (xs ys : List A)
       → (length xs ≡ 0) ⊎ (length ys ≡ 0) → slice_cmp R xs ys ≡ nat_cmp (length xs) (length ys)
   by_length [] [] e = refl
@@ -75,13 +75,13 @@ nat_ties x y = grind (arith, ne_eqb, ltb-true)
 pub nat_tie : (x y : ℕ) → nat_cmp x y ≡ Equal → eqb x y ≡ true
 nat_tie x y e = nat_ties x y ∙ ap is_eq e
 
--- the three answers of an order
+-- the three results of an order
 pub not_greater : (c : Ordering) → is_gt c ≡ false → is_lt c ≡ false → c ≡ Equal
 not_greater c h h1 = grind (arith, false≢true)
 
 pub first_part : (c d : Ordering) → is_gt (ordering_then c d) ≡ false → is_gt c ≡ false
 first_part c d h = grind arith
 
--- a number is not greater than one that is no less
+-- a number is not greater than one that is at least as great
 pub not_above : (t u : ℕ) → t ≤ u → is_gt (nat_cmp t u) ≡ false
 not_above t u h = grind (arith, cases_lt, lt-ltb, le-ltb, eq-eqb)

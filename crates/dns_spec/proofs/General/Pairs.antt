@@ -5,7 +5,7 @@ use Rattle.dns_spec.proofs.General.Filters.{each_filter}
 use Rattle.dns_spec.proofs.General.Tests.{none_pass, first_passes}
 use Rattle.dns_spec.proofs.General.Sorted.{each_insert}
 
--- R holds of each element and each after it
+-- R holds for each element and each after it
 abbrev pub Pairs : {X : Type 0} → (X → X → Type 0) → List X → Type 0
 Pairs R [] = Unit {0}
 Pairs R (x ∷ xs) = AllByRecursion (R x) xs × Pairs R xs
@@ -25,7 +25,7 @@ pub pairs_filter : {X : Type 0} (R : X → X → Type 0) (p : X → Bool) (xs : 
 pairs_filter R p [] h = tt
 pairs_filter R p (x ∷ xs) h = grind (arith, each_filter, (pairs_filter R p xs h.1))
 
--- what a binary search asks
+-- what a binary search requires
 pub parted : {X : Type 0} (p : X → Bool) (xs : List X)
     → Pairs (λ x y. p y ≡ true → p x ≡ true) xs → IsPartitionedBy p xs
 parted p [] h i j d l m e = absurd (omega arith)
@@ -93,7 +93,7 @@ module _ {X : Type 0} (n : X → ℕ) (t : ℕ) where
   greater x [] l e = tt
   greater x (y ∷ ys) l e = grind (arith, ne_eqb, (greater x ys l e.1))
 
-  -- one has the number exactly where the first that is not below it has
+  -- an element has the number if and only if the first that is not below it has the number
   pub found_first : (xs : List X) → Pairs (λ x y. n x ≤ n y) xs → list_any (λ x. eqb (n x) t) xs
       ≡ first_passes (λ x. eqb (n x) t) (filter (λ x. not (nat_lt (n x) t)) xs)
   found_first [] h = refl

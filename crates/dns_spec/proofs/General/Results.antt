@@ -1,17 +1,17 @@
--- What is known of a result, said of another fact: where a call succeeds, and where it fails.
+-- From one fact about a result to another: for success, and for failure.
 use Rattle.std.proofs.Common.{OnErr}
 use Rattle.dns_spec.proofs.Common.{IfErr, IsErrAnd, Result, arith, ◌≡◌}
 
--- what holds anyway, holds where a call fails
+-- what holds anyway, holds if a call fails
 pub OnErr-always : {A E P : Type 0} (result : Result A E) → P → OnErr result P
 OnErr-always result h = grind arith
 
--- a fault that is handed on, and what holds of it
+-- a fault that is passed on, and what holds for it
 pub fault_handed_on : {A F : Type 0} (result : Result A F) (fault : F) (P : F → Type 0)
     → IsErrAnd result (λ e. e ≡ fault) → P fault → IfErr result P
 fault_handed_on result fault P h h1 = grind arith
 
--- a fault that is turned into another, and what holds of that
+-- a fault that is converted to another, and what holds for that
 pub fault_turned : {A F : Type 0} (result : Result A F) (R P : F → Type 0)
     → IsErrAnd result R → ((f : F) → R f → P f) → IfErr result P
 fault_turned result R P h h1 = grind arith

@@ -1,10 +1,10 @@
--- A list sorted, with each element once, depends only on which elements there are.
+-- A sorted list without duplicates depends only on its set of elements.
 use Rattle.dns_spec.proofs.Common.{Bool, Equal, Greater, Less, List, Ordering, [], ap, ap₂, arith, cond, false, filter, inl, inr, is_gt, is_lt, length, map, not, refl, subst, suc, sym, true, ◌&&◌, ◌++◌, ◌∙◌, ◌∷◌, ◌≡◌, ◌≤◌, ◌⊎◌, IsTotalOrder, AllByRecursion, list_all, IsPermutation, IsStrictlySortedBy, ordering_reverse, and_parts, false≢true, not-true, tied_itself, IsPermutation-cons, IsPermutation-middle, IsPermutation-refl, IsPermutation-sym, IsPermutation-trans, distinct, insert_by, sort_by}
 use Rattle.dns_spec.proofs.General.Elements.{Among, each_at, each_weaker}
 use Rattle.dns_spec.proofs.General.Filters.{each_filter, filter_each, filter_short, among_filter, filter_among}
 use Rattle.dns_spec.proofs.General.Orderings.{less_from}
 
--- each element once
+-- each element only once
 abbrev pub Apart : {X : Type 0} → (X → X → Bool) → List X → Type 0
 Apart eq [] = Unit {0}
 Apart eq (x ∷ xs) = AllByRecursion (λ y. eq x y ≡ false) xs × Apart eq xs
@@ -77,8 +77,8 @@ module _ {X : Type 0} (cmp : X → X → Ordering) where
 turned : (c : Ordering) → ordering_reverse c ≡ Greater → c ≡ Less
 turned c h = grind arith
 
--- An order, and a test that ties pass and that holds of equal elements alone, where D holds of
--- them.
+-- An order, and a test that elements of equal rank pass and that, for elements with the property
+-- D, only equal elements pass.
 module _ {X : Type 0} (cmp : X → X → Ordering) (order : IsTotalOrder cmp)
     (eq : X → X → Bool) (tie : (x y : X) → cmp x y ≡ Equal → eq x y ≡ true)
     (D : X → Type 0) (one : (x y : X) → D x → D y → eq x y ≡ true → x ≡ y) where
@@ -111,7 +111,7 @@ module _ {X : Type 0} (cmp : X → X → Ordering) (order : IsTotalOrder cmp)
   neither : (x y : X) → cmp x y ≡ Less → cmp y x ≡ Less → ⊥
   neither x y p q = apart x (order.trans x y x p q)
 
-  -- two lists that rise and have the same elements are one
+  -- two rising lists with the same elements are equal
   pub same_risen : (xs ys : List X) → Rises cmp xs → Rises cmp ys
       → ((a : X) → Among a xs → Among a ys) → ((a : X) → Among a ys → Among a xs) → xs ≡ ys
   same_risen [] [] r s f g = refl
@@ -186,7 +186,7 @@ permutation_sort cmp (x ∷ xs) =
     (IsPermutation-cons x xs (sort_by cmp xs) (permutation_sort cmp xs))
     (permutation_insert cmp x (sort_by cmp xs))
 
--- A list rises where a test of each with those after it says so.
+-- A list rises if this test of each element with those after it passes.
 unfoldable pub rises_test : {X : Type 0} → (X → X → Ordering) → List X → Bool
 rises_test cmp [] = true
 rises_test cmp (x ∷ xs) = list_all (λ y. is_lt (cmp x y)) xs && rises_test cmp xs

@@ -25,7 +25,7 @@ pub any_of_both : {X : Type 0} (p q : X → Bool) (xs : List X)
     → list_any (λ x. p x && q x) xs ≡ true → list_any p xs ≡ true
 any_of_both p q xs e = grind (arith, any_among, among_any, and_parts)
 
--- two lists of which each test passes as many
+-- two lists in which each test passes equally many elements
 abbrev pub SameCounts : {X : Type 0} → List X → List X → Type 0
 SameCounts {X} xs ys = (p : X → Bool) → length (filter p xs) ≡ length (filter p ys)
 
@@ -66,7 +66,7 @@ pub none_pass : {X : Type 0} (p : X → Bool) (xs : List X)
 none_pass p [] e = refl
 none_pass p (x ∷ xs) e = ap₂ ◌||◌ e.0 (none_pass p xs e.1)
 
--- a test of a first element
+-- the test passes the first element
 abbrev pub first_passes : {X : Type 0} → (X → Bool) → List X → Bool
 first_passes p [] = false
 first_passes p (x ∷ xs) = p x
@@ -76,7 +76,7 @@ pub any_weaker : {X : Type 0} (p q : X → Bool) (xs : List X) → ((x : X) → 
 any_weaker p q [] f e = absurd (false≢true e)
 any_weaker p q (x ∷ xs) f e = grind (arith, or_right, (any_weaker p q xs f))
 
--- tests of one list that agree, and of two in turn
+-- tests that agree on each element, and two tests together
 pub any_alike : {X : Type 0} (p q : X → Bool) (xs : List X)
     → ((x : X) → p x ≡ q x) → list_any p xs ≡ list_any q xs
 any_alike p q [] f = refl
@@ -107,7 +107,7 @@ pub found_passes : {X : Type 0} (p : X → Bool) (xs : List X) (x : X) → find 
 found_passes p [] x e = absurd (none-some x e)
 found_passes p (y ∷ xs) x e = grind (arith, cases_Bool, inl, same_Some, inr, (found_passes p xs x))
 
--- and passes what all pass
+-- and passes any test that all pass
 pub entry_passes : {X : Type 0} (p q : X → Bool) (xs : List X) (x : X)
     → find p xs ≡ Some x → list_all q xs ≡ true → q x ≡ true
 entry_passes p q [] x e all = absurd (none-some x e)
@@ -127,7 +127,7 @@ pub find-map : {A B : Type 0} (f : A → B) (test : B → Bool) (xs : List A)
 find-map f test [] = refl
 find-map f test (x ∷ xs) = grind (arith, (find-map f test xs))
 
--- so where the images are all that another list has
+-- so if the images are exactly the elements of another list
 pub found_row : {R A B : Type 0} (v : R → A) (f : A → B) (test : B → Bool)
     (xs : List A) (table : List B) (r : Option R) → option_map v r ≡ find (λ x. test (f x)) xs
     → map f xs ≡ table → option_map (λ x. f (v x)) r ≡ find test table

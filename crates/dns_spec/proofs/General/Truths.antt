@@ -1,4 +1,4 @@
--- What a test tells, and sums of two cases.
+-- Facts about tests, and sums of two cases.
 use Rattle.dns_spec.proofs.Common.{Bool, arith, false, inl, inr, not, true, ◌&&◌, ◌||◌, ◌≡◌, ◌⊎◌}
 
 pub four_tests : (a b c d : Bool) → (a && b && c && d) ≡ (a && (b && (c && d)))
@@ -7,7 +7,7 @@ four_tests a b c d = grind arith
 pub in_rest : {A B C : Type 0} → A ⊎ B → (B → C) → A ⊎ C
 in_rest h h1 = grind arith
 
--- a test that fails, and one that fails where it does
+-- a test that fails, and one that fails if it does
 pub and_later : (x y z : Bool) → (y ≡ false → z ≡ false) → (x && y) ≡ false → (x && z) ≡ false
 and_later x y z h h1 = grind arith
 
@@ -15,11 +15,11 @@ and_later x y z h h1 = grind arith
 pub follows : (a b : Bool) → (not a || b) ≡ true → a ≡ true → b ≡ true
 follows a b h h1 = grind arith
 
--- a test is another where each implies the other
+-- tests are equal if each implies the other
 pub same_tests : (a b : Bool) → (a ≡ true → b ≡ true) → (b ≡ true → a ≡ true) → a ≡ b
 same_tests a b h h1 = grind arith
 
--- it can't be that there is none
+-- A is not empty
 abbrev pub Sure : Type 0 → Type 0
 Sure A = (A → ⊥) → ⊥
 

@@ -1,6 +1,5 @@
--- The size of a layout grows with each set. So the greatest number of sets that fits is reached by
--- stopping at the first
--- that does not.
+-- The size of a layout grows with each set. So stopping at the first set that does not fit gives
+-- the greatest number of sets that fits.
 use Rattle.dns_spec.proofs.Common.{◌≡◌, ℕ, zero, suc, ◌+◌, ◌≤◌, Bool, true, false, cond, nat_le, List, [], ◌∷◌, ◌++◌, length, take, Option, refl, sym, ap, ◌∙◌, arith, append_assoc, append-nil, le-leb, leb-true, flat_map-append, ResourceRecord, MessageQuestion, Item, Placed, size, kept, fitting, greatest, length-append, record_laid, records_octets, records_by}
 
 records_grow : (ms : List Placed) (p : ℕ) (rs ss : List ResourceRecord)
@@ -21,8 +20,8 @@ pub size_grows : (q : Option MessageQuestion) (is js : List Item) → size q is 
 unfolding size
 size_grows q is js = grind (arith, flat_map-append, records_grow)
 
--- where no later number passes a test that 1 fails, the greatest that passes is one more than that
--- of the test after it
+-- if 1 passes the test whenever a later number does, the greatest number that passes is one more
+-- than the greatest for the test of the next number
 pub greatest-first : (test : ℕ → Bool) (n : ℕ) → ((k : ℕ) → test (suc k) ≡ true → test 1 ≡ true)
     → greatest test (suc n) ≡ cond (test 1) (suc (greatest (λ k. test (suc k)) n)) 0
 greatest-first test zero h = refl

@@ -1,8 +1,8 @@
--- Header, question and sections of a layout, read back where they stand.
+-- Header, question and sections of a layout are read back at their places.
 use Rattle.dns_spec.proofs.Common.{◌≡◌, ℕ, ◌+◌, ◌^◌, ◌<◌, Bool, true, false, cond, nat_le, List, [], ◌∷◌, ◌++◌, length, Option, IfSome, refl, ◌∙◌, subst, arith, append_assoc, length-append, and_parts, leb-true, list_all, option_to_list, Octets, wire, is_name, Header, MessageQuestion, NumberAt, QuestionsAt, octets16, Section, answer, authority, additional, Item, is_section, records_of, in_section, question_octets, asked_octets, header_octets, section_rank, sections_in_order, IsAskable}
 use Rattle.dns_spec.proofs.Messages.Places.{Stands, stands_front, stands_rest, stands_after, number_at, name_written}
 
--- sets in the order of their sections are those of the answer, of authority, and additional
+-- sets in the order of their sections are the answer's, then authority's, then additional ones
 other_section : (s s' : Section) → section_rank s < section_rank s' → is_section s s' ≡ false
 other_section s s' h = grind arith
 

@@ -1,5 +1,4 @@
--- Up to 16,384 octets the layout is the one without bound: all its places are in reach of a
--- pointer.
+-- Up to 16,384 octets the layout is the unbounded one: a pointer reaches all its places.
 use Rattle.dns_spec.proofs.Common.{◌≡◌, ℕ, ◌+◌, ◌-◌, ◌<◌, ◌≤◌, true, ◌⊎◌, inl, inr, List, [], ◌∷◌, ◌++◌, length, drop, Option, None, Some, refl, sym, ap, ◌∙◌, subst, arith, append_assoc, append-nil, length-append, none-some, Octets, DomainName, wire, Part, octets, name, ResourceRecord, Header, MessageQuestion, reach, Item, Placed, Lookup, shared_place, has_suffix, suffix_place, place_of, shared_octets, Laid, laid_front, data_laid, record_laid, parts_of, record_tail, records_octets, asked_octets, asked_placed, layout, size, octets_by, data_by, record_by, records_by, unbounded_layout, unbounded_size}
 use Rattle.dns_spec.proofs.Layouts.LayoutSize.{length-layout, length-record_tail}
 use Rattle.dns_spec.proofs.Layouts.UnboundedSize.{length-unbounded_layout}
@@ -51,7 +50,7 @@ low_more ms low n i room l t p e = go (place_pushed ms (n, i) (l ∷ t) p e)
 abbrev Ends : ℕ → Octets → Octets → Type 0
 Ends p x y = (p + length x ≤ reach) ⊎ (p + length y ≤ reach)
 
--- what ends after octets and others, ends after the octets; what is after both, too
+-- what ends after octets and others also ends after the octets alone; so does what follows both
 ends_front : (p : ℕ) (w x y : Octets) → Ends p (w ++ x) (w ++ y) → p + length w ≤ reach
 ends_front p w x y h = grind (arith, length-append)
 
@@ -62,7 +61,7 @@ record SameData (ms : List Placed) (a b : Laid) : Type 0 where
   same : a ≡ b
   low : Low (ms ++ a.names)
 
--- data after octets, and after a name, from that after it
+-- data after octets, and after a name, if it holds for the data after it
 abbrev Again : List Part → Type 0
 Again ps = (ms : List Placed) (p : ℕ) → Low ms → Ends p (data_laid ms p ps).written
     (data_by place_of ms p ps).written → SameData ms (data_laid ms p ps) (data_by place_of ms p ps)
@@ -106,7 +105,7 @@ same_data (octets o ∷ ps) ms p low ends =
     record { same = ap (laid_front o []) r.same; low = r.low }
 same_data (name n ∷ ps) ms p low ends = same_name ms p n ps low (same_data ps) ends
 
--- so it is for a record
+-- the same for a record
 same_record : (ms : List Placed) (p : ℕ) (r : ResourceRecord)
     → Low ms → Ends p (record_laid ms p r).written (record_by place_of ms p r).written
     → SameData ms (record_laid ms p r) (record_by place_of ms p r)

@@ -7,7 +7,7 @@ use Rattle.dns_spec.proofs.Layouts.LayoutSize.{length-layout, length-record_tail
 use Rattle.dns_spec.proofs.Layouts.SharedNames.{Known, known_later, known_more, name_shared, nothing_known, shared_alone}
 use Rattle.dns_spec.proofs.General.Fronts.{take_none, drop_none}
 
--- what is laid out of data
+-- the octets that are laid out for data
 abbrev data_octets : List Placed → ℕ → List Part → Octets
 data_octets ms p ps = (data_laid ms p ps).written
 
@@ -40,7 +40,7 @@ no_octets (anything ∷ ps) ys h ms i =
     ∙ no_octets ps c.others (ap (λ z. cut ps z.1) p ∙ c.more) ms (i + 0)
 
 module _ (b : Octets) (room : length b < 2 ^ 16) where
-  -- data laid out from place i on is read there, and its names are earlier names from then on
+  -- data laid out from place i on is read there, and its names become earlier names
   record Laid
       (ps : List Piece) (os : Octets) (ms : List Placed) (i : ℕ) (xs : List Part) : Type 0 where
     pieces : PiecesAt b ps i (i + length (data_octets ms i xs)) os
@@ -89,7 +89,7 @@ module _ (b : Octets) (room : length b < 2 ^ 16) where
       })
   nil_lays (o ∷ os) xs e ms i known header at = absurd (none-some xs e)
 
-  -- octets that are all that is left of the data
+  -- octets that are the whole rest of the data
   rest_lays : (ps : List Piece) (os : Octets) (ys : List Part) (ms : List Placed) (i : ℕ)
       (known : Known b i ms) (header : 12 ≤ i) (at : Stands b i (data_octets ms i (octets os ∷ ys)))
       → Lays ps [] ys → cut ps [] ≡ Some ys → (OctetsAt b i (i + length os) os)
@@ -101,7 +101,7 @@ module _ (b : Octets) (room : length b < 2 ^ 16) where
       let end = end_of_octets ms i os ys known header at in
       (r.0, omega (arith, end, no_octets ps ys more ms (i + length os)), r.1, r.2)
 
-  -- a piece in front of others, by the part that it is
+  -- a piece in front of others, by its part
   piece_lays : (p : Piece) (ps : List Piece) (os rest : Octets) (part : Part) (ys : List Part)
       → piece_front p os ≡ Some (part, rest)
       → Lays ps rest ys → cut ps rest ≡ Some ys → Lays (p ∷ ps) os (part ∷ ys)
@@ -182,7 +182,7 @@ module _ (b : Octets) (room : length b < 2 ^ 16) where
       subst (Lays (p ∷ ps) os) c.whole (piece_lays p ps os c.rest c.part c.others c.front
       (data_lays ps c.rest c.others c.more) c.more)
 
-  -- data of a record, whose names are earlier names from then on
+  -- the data of a record, whose names become earlier names
   record DataLaid (t : ℕ) (d : Octets) (ms : List Placed) (i : ℕ) (xs : List Part) : Type 0 where
     data_at : DataAt b t class_in i (i + length (data_octets ms i xs)) d
     known : Known b (i + length (data_octets ms i xs)) (ms ++ data_names ms i xs)
@@ -305,7 +305,7 @@ asked_known b (Some q) ok at =
     known_later b (12 + length (shared_octets [] q.qname)) from ((q.qname, 12) ∷ [])
     (omega (arith, ap length (shared_alone q.qname), length-question_octets q)) first
 
--- The counts of the records fit their fields. Those of a message of at most 65,535 octets always
+-- The counts of the records fit their fields. In a message of at most 65,535 octets they always
 -- do.
 record HasCounts (items : List Item) : Type 0 where
   answers : length (in_section answer items) < 2 ^ 16

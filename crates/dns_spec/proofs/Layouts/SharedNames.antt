@@ -1,4 +1,4 @@
--- A name that shares a suffix with an earlier name is read back, and its own new suffixes stand
+-- A name that shares a suffix with an earlier name is read back, and its own new suffixes are
 -- where later names find them.
 use Rattle.dns_spec.proofs.Common.{◌≡◌, ℕ, ◌+◌, ◌-◌, ◌/◌, ◌%◌, ◌<◌, ◌≤◌, Bool, true, false, cond, nat_le, ◌⊎◌, inl, inr, List, [], ◌∷◌, ◌++◌, length, take, drop, Option, None, Some, refl, sym, ap, ap₂, ◌∙◌, subst, arith, append_assoc, length-append, take-append-drop, drop_at, and_parts, and_from, le-leb, leb-true, false≢true, none-some, same_Some, cond_some, list_all, Octets, DomainName, wire, is_label, is_name, names_equal, last_labels, RunAt, NameAt, ends, goes_on, jumps, reach, pointer, Placed, has_suffix, suffix_place, place_of, reached, shared_place, shared_octets, octets_by}
 use Rattle.dns_spec.proofs.Messages.Places.{Stands, stands_front, stands_rest, stands_after, stands_within, stands_get, stands_take, label_parts}
@@ -28,7 +28,7 @@ suffix_again m n s h g = record {
   whole = h.whole ∙ ap (λ x. h.front ++ x) g.whole ∙ sym (append_assoc h.front g.front s);
 }
 
--- a suffix of an earlier name's suffix is one of an earlier name
+-- if no earlier name has a suffix, none has a name that ends with it
 pub place_again : (ms : List Placed) (n s : DomainName)
     → Suffix n s → place_of ms s ≡ None → place_of ms n ≡ None
 place_again [] n s h e = refl
@@ -46,7 +46,7 @@ place_again (m ∷ ms) n s h e = go (has_suffix m.0 s) refl e (place_again ms n 
     go true p q f = absurd (none-some (suffix_place m s) (sym q))
     go false p q f = other (has_suffix m.0 n) refl p (f q)
 
--- a name after the earlier ones is found where none of them has the suffix
+-- the place of a suffix in one more name is found if no earlier name has the suffix
 pub place_pushed : (ms : List Placed) (m : Placed) (s : DomainName) (p : ℕ)
     → place_of (ms ++ m ∷ []) s ≡ Some p → (place_of ms s ≡ Some p)
     ⊎ ((place_of ms s ≡ None) × (has_suffix m.0 s ≡ true) × (suffix_place m s ≡ p))
@@ -70,7 +70,7 @@ shared_none ms s e = ap reached e
 pub pointer_octets : (p : ℕ) → p < reach → pointer p ≡ (192 + p / 256) ∷ p % 256 ∷ []
 pointer_octets p h = ap₂ (λ x y. x ∷ y ∷ []) (omega arith) (omega arith)
 
--- What is known of earlier names: where a suffix of one has its place, it is spelled there.
+-- What is known about earlier names: each suffix that has a place is spelled there.
 pub record Found (b : Octets) (bound : ℕ) (s : DomainName) (p : ℕ) : Type 0 where
   pub header : 12 ≤ p
   pub earlier : p < bound
@@ -107,7 +107,7 @@ pub shared_root : (ms : List Placed) → shared_octets ms [] ≡ 0 ∷ []
 unfolding octets_by
 shared_root ms = refl
 
--- at least one octet is laid out of a name
+-- at least one octet is laid out for a name
 pub shared_some : (ms : List Placed) (n : DomainName) → 0 < length (shared_octets ms n)
 shared_some ms [] = let e = ap length (shared_root ms) in omega (arith, e)
 shared_some ms (l ∷ n) = go (shared_place ms (l ∷ n)) refl
@@ -161,7 +161,7 @@ module _ (b : Octets) (bound : ℕ) (ms : List Placed) (known : Known b bound ms
           (stands_get (192 + k / 256) (k % 256 ∷ []) here) (omega arith) (stands_get
           (k % 256) [] second) (omega arith) f.header (omega (arith, before)) f.spelled)
 
-  -- a suffix that no earlier name has stands where the name has it
+  -- a suffix that no earlier name has is at its place in the name
   record Standing (n : DomainName) (i : ℕ) (s : DomainName) : Type 0 where
     short : length (wire s) ≤ length (wire n)
     inside : length (wire n) - length (wire s) < length (shared_octets ms n)
@@ -199,7 +199,7 @@ module _ (b : Octets) (bound : ℕ) (ms : List Placed) (known : Known b bound ms
   labels_after (k ∷ front) s h =
       labels_after front s (and_parts (is_label k) (list_all is_label (front ++ s)) h).1
 
-  -- the name laid out is one more earlier name
+  -- the name that is laid out is one more earlier name
   pub known_more : (n : DomainName) (i : ℕ)
       → bound ≤ i → 12 ≤ i → list_all is_label n ≡ true → Stands b i (shared_octets ms n)
       → Known b (i + length (shared_octets ms n)) (ms ++ (n, i) ∷ [])

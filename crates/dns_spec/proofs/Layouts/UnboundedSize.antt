@@ -1,15 +1,14 @@
--- The size of the layout without bound is the length of that layout, and the least that sharing
--- allows.
+-- The size of the unbounded layout is its length, and the least that sharing allows.
 use Rattle.dns_spec.proofs.Common.{◌≡◌, ℕ, ◌+◌, ◌≤◌, true, List, [], ◌∷◌, ◌++◌, map, length, Option, None, Some, is_some, refl, ap, ap₂, sym, ◌∙◌, arith, false≢true, length-append, map-append, list_any, Octets, DomainName, Part, octets, name, ResourceRecord, Header, MessageQuestion, Item, pointer, Placed, Lookup, has_suffix, place_of, parts_of, Laid, Sharing, IsLawful, octets_by, data_by, record_by, records_by, unbounded_layout, unbounded_size}
 use Rattle.dns_spec.proofs.Layouts.LayoutSize.{length-record_tail}
 
--- a suffix has a place exactly where an earlier name has it
+-- a suffix has a place if and only if an earlier name has it
 pub placed : (ms : List Placed) (s : DomainName)
     → is_some (place_of ms s) ≡ list_any (λ (m : Placed). has_suffix m.0 s) ms
 placed [] s = refl
 placed (m ∷ ms) s = grind (arith, (placed ms s))
 
--- which names there are, wherever they begin
+-- the names, wherever they begin
 abbrev unplaced : List Placed → List DomainName
 unplaced = map (λ (m : Placed). m.0)
 
@@ -44,7 +43,7 @@ name_some find ms (l ∷ n) = go (find ms (l ∷ n))
     go (Some p) = omega arith
 
 module _ (find : Lookup) (lawful : IsLawful find) where
-  -- no lawful choice makes a name shorter than the longest suffix does
+  -- no lawful choice makes a name shorter than sharing the longest suffix
   name_least : (ms ks : List Placed) (n : DomainName) → unplaced ms ≡ unplaced ks
       → length (octets_by place_of ms n) ≤ length (octets_by find ks n)
   unfolding octets_by
@@ -70,7 +69,7 @@ module _ (find : Lookup) (lawful : IsLawful find) where
       go None (Some o) f g h = absurd (false≢true
           (sym (ap is_some f) ∙ found_again ms ks (l ∷ n) e (lawful ks (l ∷ n) o g)))
 
-  -- data has the same names, however they share, and is no shorter
+  -- data has the same names, however they share, and is not shorter
   record DataLeast (a b : Laid) : Type 0 where
     same : unplaced a.names ≡ unplaced b.names
     least : length a.written ≤ length b.written

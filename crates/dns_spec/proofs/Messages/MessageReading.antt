@@ -1,9 +1,9 @@
--- The computed message is what octets spell.
+-- The computed message is the one that octets spell.
 use Rattle.dns_spec.proofs.Common.{◌≡◌, ℕ, zero, suc, ◌+◌, ◌<◌, ◌≤◌, Bool, true, false, cond, nat_lt, nat_le, ◌==◌, ◌↔◌, List, [], ◌∷◌, ◌++◌, length, Option, None, Some, slice_get, option_map, option_and_then, refl, sym, ap, ◌∙◌, subst, arith, and_parts, and_from, leb-true, le-leb, ltb-true, lt-ltb, eqb-true, eq-eqb, none-some, cond_some, option_and_then_some, some_pair_parts, Octets, DomainName, wire, width, Piece, fixed, domain, string, strings, anything, are_strings, MessageQuestion, MessageRecord, DnsMessage, NameAt, OctetsAt, NumberAt, PieceAt, PiecesAt, DataAt, QuestionsAt, RecordAt, RecordsAt, Spells, name_at, value_at, octets_upto, strings_only, piece_at, pieces_at, data_at, question_after, message_question_at, record_with, record_after, message_record_at, several, last_section, from_additionals, from_authorities, from_answers, message_at}
 use Rattle.dns_spec.proofs.Messages.NameReading.{name_at_computes}
 use Rattle.dns_spec.proofs.General.Options.{map_some, then_is}
 
--- Things one after the other, given how one of them is read and how they stand.
+-- Elements in order, by how one of them is read, and by what it means that they are at a place.
 module _ {X : Type 0} (read : ℕ → Option (X × ℕ)) (Stand : ℕ → List X → ℕ → Type 0) where
   several_found : ((i : ℕ) → Stand i [] i)
       → ((i j e : ℕ) (x : X) (xs : List X)

@@ -1,8 +1,8 @@
--- The computed reader of names spells what the relation spells, and a place spells at most one
--- name.
+-- The computed reader of names spells what the relation spells, and at most one name is at a
+-- place.
 use Rattle.dns_spec.proofs.Common.{◌≡◌, ℕ, zero, suc, ◌+◌, ◌-◌, ◌<◌, ◌≤◌, ◌↔◌, inl, inr, [], ◌∷◌, length, take, drop, Option, None, Some, slice_get, option_map, option_and_then, refl, sym, ap, ◌∙◌, subst, subst₂, arith, lt-ltb, le-ltb, le-leb, ne_eqb, rules, cases_lt, lt-leb, cond-true, none-some, same_Some, slice_get_past, slice_get_within, some_pair_parts, Octets, DomainName, with_label, ends, goes_on, jumps, pointer_place, RunAt, NameAt, RunStep, run_end, run_label, run_pointer, unlawful, step_of, jump, run, runs_before, name_if_short, name_at}
 
--- What stands at a place, by the step that a run takes there.
+-- What is at a place, by the step that a run takes there.
 abbrev StepAt : Octets → ℕ → RunStep → Type 0
 StepAt b i run_end = slice_get b i ≡ Some 0
 StepAt b i (run_label k) =
@@ -57,7 +57,7 @@ module _ (known : ℕ → Option (DomainName × ℕ)) (b : Octets) (s r i : ℕ)
       grind (arith, ne_eqb, le-ltb) in
       step_is (Some o) e ∙ ap at_step step
 
--- a jump to a place in the range, and to another
+-- a jump to a place in the range, and to any other place
 after : ℕ → Option (DomainName × ℕ) → Option (DomainName × ℕ)
 after i x = option_map (λ r. (r.0, i + 2)) x
 
@@ -66,7 +66,7 @@ jump_lawful : (known : ℕ → Option (DomainName × ℕ)) (s i p : ℕ)
 unfolding after
 jump_lawful known s i p h l = grind arith
 
--- A pointer's place is lawful, or it is not.
+-- A pointer's place is valid, or it is not.
 data PlaceFor (s p : ℕ) : Type 0 where
   lawful : 12 ≤ p → p < s → PlaceFor s p
   too_low : p < 12 → PlaceFor s p
@@ -75,9 +75,9 @@ data PlaceFor (s p : ℕ) : Type 0 where
 place_for : (s p : ℕ) → PlaceFor s p
 place_for s p = grind (arith, cases_lt, inl, inr)
 
--- A run has no more steps than there are octets: with so many it does not depend on their number,
--- nor on what is known
--- of runs that begin in the header, at its own place or after it.
+-- The number of octets bounds the steps of a run: with that many steps the result does not depend
+-- on their number, nor on what is known about runs that begin in the header, at the run's own
+-- place or after it.
 abbrev Alike : ℕ → (ℕ → Option (DomainName × ℕ)) → (ℕ → Option (DomainName × ℕ)) → Type 0
 Alike s known known' = (p : ℕ) → 12 ≤ p → p < s → known p ≡ known' p
 
@@ -140,7 +140,7 @@ complete {b} {s} (jumps i o o' p n e at high at' is from before rest) (suc k) (s
     ∙ ap (after i) (known_is b k p ∙ complete rest k (length b) (omega arith) (omega arith))
     ∙ after_some i n e
 
--- What is computed is the relation.
+-- What is computed satisfies the relation.
 abbrev Truthful : Octets → (ℕ → Option (DomainName × ℕ)) → Type 0
 Truthful b known = (p : ℕ) (n : DomainName) (e : ℕ) → known p ≡ Some (n, e) → RunAt b p p n e
 
@@ -194,7 +194,7 @@ unfolding runs_before
 sound b zero p n e is = grind (arith, none-some)
 sound b (suc k) p n e is = grind (arith, sound_run, (sound b k))
 
--- the name at a place is the run that begins there, if it is a name
+-- the name at a place is the run that begins there, if the run is a valid name
 name_at_is : (b : Octets) (i : ℕ)
     → name_at b i ≡ option_and_then name_if_short (run (runs_before b i) b i (length b) i)
 unfolding name_at
@@ -208,18 +208,18 @@ pub name_at_computes : (b : Octets) (i : ℕ) (n : DomainName) (e : ℕ)
     → (name_at b i ≡ Some (n, e)) ↔ NameAt b i n e
 name_at_computes b i n e = grind (arith, name_at_is, sound_run, sound, related)
 
--- A place spells at most one name, with one end.
+-- At most one name is at a place, with one end.
 pub one_name : (b : Octets) (i : ℕ) (n m : DomainName) (e f : ℕ)
     → NameAt b i n e → NameAt b i m f → (n ≡ m) × (e ≡ f)
 one_name b i n m e f h g = some_pair_parts n m e f (sym (related b i n e h) ∙ related b i m f g)
 
 -- A name at place 12, directly after the header: no place is after the header and before it, so no
--- pointer is lawful and the name is read label by label. the labels from place i on, of a run that
--- began at place 12, and the place after them
+-- pointer is valid and the name is read label by label. This gives the labels from place i on, in
+-- a run that began at place 12, and the place after them.
 unfoldable pub run12 : Octets → ℕ → Option (DomainName × ℕ)
 run12 d i = run (λ p. None) d 12 (length d - i) i
 
--- it is what the reader computes, whatever is known of other runs, if it may take so many steps
+-- the reader computes the same, whatever is known about other runs, with at least that many steps
 pub run12_is : (known : ℕ → Option (DomainName × ℕ)) (d : Octets) (r i : ℕ)
     → length d - i ≤ r → run12 d i ≡ run known d 12 r i
 unfolding run12
@@ -269,6 +269,6 @@ module _ (d : Octets) (i : ℕ) where
       run12_suc ∙ step_is none_before d 12 (length d - i) i (slice_get d i) refl
       ∙ high12 o at from (step_of d i (slice_get d i)) (step_at d i)
 
--- the name at place 12 is read so
+-- so the name at place 12 is read this way
 pub name_at_12 : (d : Octets) → name_at d 12 ≡ option_and_then name_if_short (run12 d 12)
 name_at_12 d = grind (arith, name_at_is, run12_is)

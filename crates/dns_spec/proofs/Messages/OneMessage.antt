@@ -3,8 +3,8 @@ use Rattle.dns_spec.proofs.Common.{◌≡◌, ℕ, ◌+◌, List, length, sym, a
 use Rattle.dns_spec.proofs.Messages.NameReading.{one_name}
 use Rattle.dns_spec.proofs.Messages.MessageReading.{questions_given, record_given, records_given, message_at_computes}
 
--- What is spelled at one place is one thing. The two places are given apart, with a proof that they
--- are one.
+-- At most one element is at a place. The two places are given separately, with a proof that they
+-- are equal.
 pub one_number : {b : Octets} {i j k v w : ℕ} → i ≡ j → NumberAt b i k v → NumberAt b j k w → v ≡ w
 one_number {b} {i} {j} {k} e g h = grind arith
 
@@ -22,7 +22,7 @@ module _ (b : Octets) where
       let after = (same_names p g.owner h.owner).1 in
       (whole.0, after, omega (arith, whole.1, after))
 
-  -- questions and records, as many of them
+  -- questions and records, equally many
   pub same_questions : (qs rs : List MessageQuestion) (i j e f : ℕ) → length qs ≡ length rs → i ≡ j
       → QuestionsAt b i qs e → QuestionsAt b j rs f → (qs ≡ rs) × (e ≡ f)
   same_questions qs rs i j e f n p g h =

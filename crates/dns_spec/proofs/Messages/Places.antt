@@ -1,5 +1,5 @@
--- What stands at a place of a message is read there: numbers, octets, and names that are written
--- whole or by a pointer.
+-- What is at a place of a message is read there: numbers, octets, and names that are written whole
+-- or with a pointer.
 use Rattle.dns_spec.proofs.Common.{common_steps, pow-le-pow_right, and_parts, leb-true, ltb-true, list_all, Octets, DomainName, wire, is_label, is_name, number_of, RunAt, NameAt, OctetsAt, NumberAt, ends, goes_on, ◌≡◌, ℕ, zero, suc, ◌+◌, ◌*◌, ◌%◌, ◌^◌, ◌<◌, ◌≤◌, true, [], ◌∷◌, ◌++◌, length, take, drop, IsTrue, Some, slice_get, refl, sym, ap, ◌∙◌, subst, arith, append_assoc, append-nil, take_at, drop_at, length-append, pow-suc, mul_comm, mod-mul, byte_at, bytes_high_first}
 
 pub length-bytes_high_first : (k n : ℕ) → length (bytes_high_first k n) ≡ k
@@ -14,7 +14,7 @@ pub number_of-bytes : (k n : ℕ) → number_of (bytes_high_first k n) ≡ n % 2
 number_of-bytes zero n = omega arith
 number_of-bytes (suc k) n = grind (arith, length-bytes_high_first, byte_on, (number_of-bytes k n))
 
--- The octets x stand in b from place i on.
+-- The octets x are in b from place i on.
 pub record Stands (b : Octets) (i : ℕ) (x : Octets) : Type 0 where
   pub before : Octets
   pub after : Octets
@@ -42,7 +42,7 @@ stands_after {b} {i} k x y e s = subst (λ z. Stands b (i + z) y) e (stands_rest
 pub stands_all : (b : Octets) → Stands b 0 b
 stands_all b = record { before = []; after = []; whole = sym (append-nil b); place = refl }
 
--- they lie within b, and are read off
+-- they are within b, and are read from it
 pub stands_within : {b : Octets} {i : ℕ} (x : Octets) → Stands b i x → i + length x ≤ length b
 stands_within {b} {i} x s = grind (arith, length-append)
 

@@ -1,7 +1,7 @@
--- Escapes: what one stands for is what it spells in a name, and how long one is.
+-- Escapes: the octet of an escape is the one that it spells in a name; and the length of escapes.
 use Rattle.dns_spec.proofs.Common.{◌≡◌, ℕ, ◌<◌, Bool, true, false, cond, ◌&&◌, nat_le, nat_lt, Option, Some, None, [], ◌∷◌, ◌++◌, refl, ap, subst, arith, and_parts, leb-true, ltb-true, lt-ltb, none-some, some_pair_parts, is_ascii_digit, IsAsciiDigit, IsNotAsciiDigit, Octets, escape_left, ◌↔◌, ◌==◌, if◌then◌else◌, three_digits_value, SpellsOctet, is_printable, digits_front, escape_front}
 
--- how many octets the escape has, case by case
+-- the number of octets of the escape, case by case
 abbrev pub counted_digits : Octets → ℕ
 counted_digits [] = 0
 counted_digits (a ∷ []) = 0
@@ -15,14 +15,14 @@ counted_escape [] = 0
 counted_escape (a ∷ text) =
     cond (is_ascii_digit a) (counted_digits (a ∷ text)) (cond (is_printable a) 1 0)
 
--- how many octets of it are to come, where it has any
+-- the number of its octets that are still to come, if there are any
 abbrev pub left_by : ℕ → Option ℕ
 left_by k = if k == 0 then None else Some k
 
 pub escape-counted : (text : Octets) → escape_left text ≡ left_by (counted_escape text)
 escape-counted text = grind arith
 
--- what an escape stands for is what it spells in a name
+-- the octet of an escape is the one that it spells in a name
 abbrev pub Spelled : Octets → ℕ → Octets → Type 0
 Spelled text x rest = (e : Octets) × (text ≡ e ++ rest) × SpellsOctet (92 ∷ e) x
 

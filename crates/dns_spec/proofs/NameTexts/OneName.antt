@@ -1,7 +1,7 @@
 -- A word spells at most one name, and a text at most one string.
 use Rattle.dns_spec.proofs.Common.{◌≡◌, ℕ, inl, inr, Bool, true, ◌==◌, [], ◌∷◌, ◌++◌, length, Option, Some, None, refl, sym, ◌∙◌, ap, ap₂, subst, arith, codes, if◌then◌else◌, list_all, is_ascii_digit, true≢false, false≢true, and_parts, none-some, Octets, DomainName, is_label, three_digits_value, SpellsOctet, LabelThen, TextSpells, SpellsName, SpellsStringOctet, SpellsString}
 
--- the octet whose spelling a text begins with, where it begins with one, and the text after it
+-- the octet whose spelling a text begins with, if it begins with one, and the text after it
 digits_front : Octets → Option (ℕ × Octets)
 digits_front [] = None
 digits_front (a ∷ []) = None
@@ -42,7 +42,7 @@ not_ended : (text rest first others : Octets) (x : ℕ)
 unfolding ends
 not_ended text rest first others x e end f h = grind (arith, true≢false)
 
--- a text begins with one label
+-- a text begins with at most one label
 label_once : (text l rest l' rest' : Octets) → LabelThen text l rest
     → LabelThen text l' rest' → ends rest ≡ true → ends rest' ≡ true → (l ≡ l') × (rest ≡ rest')
 label_once text [] rest [] rest' h k end end' = (refl, sym h ∙ k)
@@ -57,7 +57,7 @@ label_once text (x ∷ l) rest
 no_empty_label : (l : Octets) → [] ≡ l → is_label l ≡ true → ⊥
 no_empty_label l e h = false≢true (ap is_label e ∙ h)
 
--- where no label is to be had, a text spells no name of labels
+-- if no label is next, a text spells no name with labels
 no_labels : (origin text rest : Octets) (above : DomainName) (l : Octets) (n : DomainName) → text
     ≡ rest → ends rest ≡ true → list_all is_label (l ∷ n) ≡ true → TextSpells above text (l ∷ n) → ⊥
 unfolding ends
@@ -84,7 +84,7 @@ spelled_once origin text (l ∷ n) (l' ∷ m) all all' (inr (others, h, e)) (inl
 spelled_once origin text (l ∷ n) (l' ∷ m) all all' (inr (others, h, e)) (inr (others', k, f)) =
     grind (arith, label_once, and_parts, ap₂, (spelled_once origin others n m))
 
--- `.` spells the root alone
+-- `.` spells only the root
 dot_alone : (origin : DomainName) (word : Octets) (m : DomainName)
     → word ≡ codes "." → list_all is_label m ≡ true → TextSpells origin word m → ⊥
 unfolding ends

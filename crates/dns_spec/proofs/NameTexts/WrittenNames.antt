@@ -30,7 +30,7 @@ labels_spelled origin (l ∷ n) h =
       labels_spelled origin n (λ k d e. h (suc k) d (omega arith)),
     )
 
--- the text of a label and its dot has two octets or more
+-- the text of a label and its dot has at least two octets
 pub labels_text_long : (l : Octets) (n : DomainName)
     → 0 < length l → 2 ≤ length (labels_text (l ∷ n))
 unfolding octet_text

@@ -1,4 +1,4 @@
--- What is reported of a zone does not depend on the order of its records.
+-- The report of a zone does not depend on the order of its records.
 use Rattle.dns_spec.proofs.Common.{◌≡◌, List, [], refl, sym, ap, ◌∙◌, filter, ◌==◌, arith, DomainName, folded, same, type_soa, ResourceRecord, ZoneContents, records_equal, distinct, zone_of, sort_by, record_order, ordered_zone, first_serial, zone_serial, faults, zone_text, Options, passing, zone_report}
 use Rattle.dns_spec.proofs.ZoneChecks.FaultOrder.{folded_folded}
 use Rattle.dns_spec.proofs.Records.RecordOrder.{rises_canonical, ordered_faults}

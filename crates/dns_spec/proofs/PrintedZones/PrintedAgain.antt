@@ -1,5 +1,5 @@
--- The canonical text of a zone is its own canonical text, and zones with one such text hold the
--- same records.
+-- The canonical text of a zone is its own canonical text, and zones with the same canonical text
+-- contain the same records.
 use Rattle.dns_spec.proofs.Common.{◌≡◌, ◌≤◌, ◌↔◌, ◌<◌, IsTrue, All, List, [], ◌∷◌, length, sym, ap, ◌∙◌, subst, arith, is_eq, false≢true, IsPermutation, Octets, DomainName, folded, ResourceRecord, HoldSameRecords, ZoneContents, records_equal, distinct, zone_of, record_order, most_octets, Meaning, records, fault_at, Means, most_records, IsReadRecord, HasZoneType, printed_records, zone_text, Fault, faults, IsPermutation-trans, IsPermutation-sym, Contains-permutation, Options, Report, report_of_faults, Reports, recursion_from_All, All-from_recursion}
 use Rattle.dns_spec.proofs.Records.RecordOrder.{record_order_total, record_ties, LowerOwner, one_record}
 use Rattle.dns_spec.proofs.ZoneTexts.OneMeaning.{meaning_once}
@@ -9,7 +9,7 @@ use Rattle.dns_spec.proofs.Records.SameRecords.{same_reports}
 use Rattle.dns_spec.proofs.General.Elements.{Among, contains_among, among_contains, held_among}
 use Rattle.dns_spec.proofs.General.Sorted.{each_distinct, distinct_among, among_distinct, length_distinct}
 
--- each element once, and what is printed, leave out no record and add none
+-- taking out duplicates and printing drop no record and add none
 all_distinct : (P : ResourceRecord → Type 0) (rs : List ResourceRecord)
     → All P rs → All P (distinct records_equal rs)
 all_distinct P rs all =
@@ -35,7 +35,7 @@ printed_hold_same o rs low =
           (IsPermutation-sym once printed moved) (among_contains a printed m)))),
     )
 
--- the canonical text of the zone of a file, and what is reported of it
+-- the canonical text of a file's zone, and its report
 module _ (o : DomainName) (t : Octets) (rs : List ResourceRecord)
     (from : All (All (λ x. x < 256)) o) (means : Means (folded o) t (records rs)) where
   text_means : length (zone_text (zone_of o rs)) ≤ most_octets

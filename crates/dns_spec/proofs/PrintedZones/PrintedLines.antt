@@ -15,13 +15,13 @@ first_words r = plain (name_text r.owner) ∷ plain
 abbrev pub line_words : ResourceRecord → List Word
 line_words r = first_words r ++ written_words r.rtype r.rdata
 
--- the tokens of words with a space between, and of a line end
+-- the tokens of words with spaces between them, and of a line end
 abbrev pub words_tokens : List Word → List Token
 words_tokens [] = line_end ∷ []
 words_tokens (w ∷ []) = word_token w ∷ line_end ∷ []
 words_tokens (w ∷ v ∷ ws) = word_token w ∷ blank ∷ words_tokens (v ∷ ws)
 
--- words with a space after each, and then these tokens
+-- words with a space after each, followed by these tokens
 abbrev pub led : List Word → List Token → List Token
 led [] ps = ps
 led (w ∷ ws) ps = word_token w ∷ blank ∷ led ws ps
@@ -44,7 +44,7 @@ all_read (w ∷ ws) alone whole =
     let p = and_parts (stands_alone w) (list_all stands_alone ws) alone in
     (record { alone = p.0; whole = whole.0 }, all_read ws p.1 whole.1)
 
--- what is read at a place that is no blank
+-- what is read at a place that is not a blank
 record Reads (text : Octets) (ps : List Token) (rest : Octets) : Type 0 where
   tokens : TokensThen text ps rest
   first : prefix_len is_blank text ≡ 0

@@ -6,7 +6,7 @@ use Rattle.dns_spec.proofs.PrintedZones.PrintedLines.{line_tokens, line_pieces_r
 use Rattle.dns_spec.proofs.ZoneTexts.GivenRecords.{record_given, given_then}
 use Rattle.dns_spec.proofs.ZoneTexts.TextTokens.{tokens_then}
 
--- the tokens of the lines, one line after the other
+-- the tokens of the lines, in order
 lines_tokens : List ResourceRecord → List Token
 lines_tokens [] = []
 lines_tokens (r ∷ rs) = line_tokens r ++ lines_tokens rs
@@ -52,14 +52,14 @@ text_entries rs h short =
       entries = sym (within ∙ ap (with_end whole_text []) (lines_cut rs) ∙ lines_ended rs);
     }
 
--- the text of a name is no directive
+-- the text of a name is not a directive
 name_begins : (n : DomainName) → begins_with 36 (name_text n) ≡ false
 unfolding octet_text
 name_begins [] = refl
 name_begins ([] ∷ n) = refl
 name_begins ((x ∷ l) ∷ n) = grind arith
 
--- what the words of a line are
+-- the parts of a line by its words
 abbrev words_after : ResourceRecord → List Word
 words_after r = plain
     (decimal r.ttl) ∷ plain (codes "IN") ∷ plain (type_text r.rtype) ∷ written_words r.rtype r.rdata
@@ -85,11 +85,11 @@ fields_are r h = grind (arith, digits_begin, decimal_is_IsNumeral)
 line_faultless : (r : ResourceRecord) → lexical_fault (line_entry r) ≡ None
 line_faultless r = grind (arith, line_parentheses)
 
--- a type's word names it
+-- the text of a type names it
 type_named : (t : ℕ) → t < 65536 → NamesType (type_text t) t
 type_named t small = grind arith
 
--- where no entry before is `$ORIGIN`
+-- if no earlier entry is `$ORIGIN`
 abbrev KeepsOrigin : Entry → Type 0
 KeepsOrigin e = directive_word (codes "$origin") (kind_of e) ≡ None
 

@@ -16,7 +16,7 @@ record_order_total =
 name_ties : (n m : DomainName) → same n m ≡ is_eq (name_order n m)
 name_ties n m = grind (arith, names_equal-decides, name_order_total, name_tie)
 
--- records tie just where they are equal
+-- records tie if and only if they are equal
 pub record_ties : (r s : ResourceRecord) → records_equal r s ≡ eq_by_cmp record_order r s
 record_ties r s =
     grind (arith, four_tests, name_ties, nat_ties, lists_ties, then_ties)
@@ -41,7 +41,7 @@ rises_canonical rs =
     (λ r s e. record_ties r s ∙ ap is_eq e) LowerOwner one_record (distinct records_equal rs)
     (apart_distinct records_equal rs)
 
--- what holds of all records holds of those of the canonical list
+-- what holds for all records holds for the records of the canonical list
 pub all_canonical : (P : ResourceRecord → Type 0) (rs : List ResourceRecord)
     → All P rs → All P (sort_by record_order (distinct records_equal rs))
 all_canonical P rs all =

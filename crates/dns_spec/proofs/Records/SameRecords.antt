@@ -1,4 +1,4 @@
--- Lists that hold the same records make one zone, with one canonical text and one report.
+-- Lists of the same records make one zone, with one canonical text and one report.
 use Rattle.dns_spec.proofs.Common.{arith, rules, ◌≡◌, ◌↔◌, All, List, ap, sym, ◌∙◌, is_eq, Contains, Octets, DomainName, folded, ResourceRecord, HoldSameRecords, records_equal, distinct, zone_of, sort_by, record_order, ordered_zone, records, Means, IsReadRecord, zone_text, Options, Report, zone_report, report_of_meaning, Reports, All-contains, All-weaker, recursion_from_All}
 use Rattle.dns_spec.proofs.Records.RecordOrder.{record_order_total, record_ties, LowerOwner, one_record}
 use Rattle.dns_spec.proofs.PrintedZones.OrderedReport.{ordered_text, ordered_report}

@@ -1,4 +1,4 @@
--- A chain of names sought has at most one more than the aliases that are followed.
+-- A chain of names sought has at most one name more than the aliases that are followed.
 use Rattle.dns_spec.proofs.Common.{ℕ, zero, suc, ◌≤◌, ◌+◌, List, [], ◌∷◌, length, Option, None, Some, arith, DomainName, ZoneContents, most_aliases, next_sought, chain_from, chain}
 
 chain_from_short : (z : ZoneContents) (k : ℕ) (sought : List DomainName) (s : DomainName)

@@ -15,7 +15,7 @@ use Rattle.dns_spec.proofs.General.Numbers.{sum_cons}
 pub item_records : (s : Section) (rs : List ResourceRecord) → records_of (item s rs) ≡ rs
 item_records s rs = grind (arith, append-nil)
 
--- the targets of an answer are those of its last outcome: aliases have none
+-- the targets of an answer are the targets of its last outcome: aliases have none
 pub targets_last : (z : ZoneContents) (q : DomainName) (t : ℕ)
     → targets (outcome z q t) ≡ targets (outcome_at z t (last_sought z q t))
 unfolding outcome
@@ -35,7 +35,7 @@ typed_shown o t (r ∷ rs) = grind (arith, (typed_shown o t rs))
 
 module _ (z : ZoneContents) (origin : folded z.origin ≡ z.origin) (low : AllByRecursion
     (λ (r : ResourceRecord). folded r.owner ≡ r.owner) z.records) (passes : Passes z) where
-  -- a limit of this project: a set has at most so many records
+  -- a limit of this project: the most records of a set
   pub count_few : (n : DomainName) (t : ℕ) → count z n t ≤ most_of_a_set
   count_few n t = go (filter (λ (r : ResourceRecord). r.rtype == t) (at z n)) refl
     where

@@ -7,7 +7,7 @@ use Rattle.dns_spec.proofs.General.Filters.{among_filter, filter_test}
 use Rattle.dns_spec.proofs.General.Tests.{any_false}
 use Rattle.dns_spec.proofs.General.Sorted.{each_sort}
 
--- records with one owner, one TTL and one type are those of a set
+-- records with one owner, one TTL and one type make a set
 pub record IsOf (o : DomainName) (k t : ℕ) (r : ResourceRecord) : Type 0 where
   pub owner : r.owner ≡ o
   pub ttl : r.ttl ≡ k
@@ -128,7 +128,7 @@ module _ (z : ZoneContents) (origin : folded z.origin ≡ z.origin) (low : AllBy
           → Among r (at z n) → r.rtype ≡ t → FirstOf t (at z n) → r.ttl ≡ first_ttl t (at z n)
       first_is n t r m e f = same_ttl n r f.first m f.among (e ∙ sym f.typed) ∙ sym f.ttl
 
-  -- the set of a type at a name, shown with an owner
+  -- the set of a type at a name, with another owner
   shown_set : (o n : DomainName) (t : ℕ) → IsSetAt (of_type t (with_owner o (at z n)))
   shown_set o n t =
       one_set o (first_ttl t (at z n)) t (of_type t (with_owner o (at z n)))
@@ -174,7 +174,7 @@ module _ (z : ZoneContents) (origin : folded z.origin ≡ z.origin) (low : AllBy
       shown [] e = tt
       shown (r ∷ rs) e = (record { owner = refl; ttl = e.0.0 e.0.1; rtype = e.0.1 }, shown rs e.1)
 
-  -- what is found for a name is what stands at a name, shown with it
+  -- the records found for a name are the records at some name, with the other name as owner
   record Shown (q : DomainName) (rs : List ResourceRecord) : Type 0 where
     source : DomainName
     whole : with_owner q (at z source) ≡ rs

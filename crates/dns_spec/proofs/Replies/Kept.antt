@@ -26,7 +26,7 @@ module _ (size_of : List Item → ℕ) (limit : ℕ) (sets : List Item) where
   how_many : ℕ
   how_many = greatest (λ k. nat_le (size_of (take k sets)) limit) (length sets)
 
-  -- it fits where nothing does
+  -- it fits if the empty list does
   pub kept_fits : size_of [] ≤ limit → size_of (kept size_of limit sets) ≤ limit
   unfolding how_many
   kept_fits h = grind (arith, greatest_passes)

@@ -1,4 +1,4 @@
--- The octets of a reply spell it, and are no more than its limit.
+-- The octets of a reply spell its message, and are at most its limit.
 use Rattle.dns_spec.proofs.Common.{◌≡◌, ℕ, ◌+◌, ◌^◌, ◌<◌, ◌≤◌, Bool, true, false, nat_le, ◌==◌, List, [], ◌∷◌, length, take, drop, Option, None, Some, IfSome, All, refl, subst, arith, length-take, mod-lt, cond_both, and_parts, leb-true, none-some, same_Some, cond_some, Octets, DomainName, is_name, number_of, ZoneContents, Header, MessageQuestion, Spells, name_at, Item, layout, message_of, size, outcome, items, is_authoritative, All-nil, All-take, All-drop, field16, head_of, reply_head, refusal_head, question_of, question_at, query_read, truncated, Decision, silence, header_alone, question_alone, answered, decide, Reply, answer_with, reply_of, reply_with, reply_octets, reply_message, keep_longest, reply, greatest, sections_in_order, IsWritable, IsAskable, HasRoom, AllByRecursion, recursion_from_All, records_by}
 use Rattle.dns_spec.proofs.Messages.NameReading.{name_at_computes}
 use Rattle.dns_spec.proofs.Layouts.MessageParts.{length-question_octets}
@@ -43,13 +43,13 @@ askable d q low h = go (name_at d 12) refl h
           qclass = field_bound d (e + 2) low;
         })
 
--- a header of a refusal, with the RCODE that it has
+-- the header of a refusal, with its RCODE
 record Refuses (d : Octets) (h : Header) : Type 0 where
   rcode : ℕ
   low : rcode < 16
   head : refusal_head (head_of d) rcode ≡ h
 
--- what a decision says
+-- what holds for a decision
 abbrev Decided : Octets → Decision → Type 0
 Decided d silence = Unit {0}
 Decided d (header_alone h) = Refuses d h
@@ -60,7 +60,7 @@ decided : (z : ZoneContents) (d : Octets) → Decided d (decide z d)
 unfolding decide query_read
 decided z d = grind (arith, cond_both)
 
--- a question with sets that a message has room for
+-- a question with sets that fit a message
 roomy : (h : Header) (q : Option MessageQuestion) (is : List Item) → h.id < 2 ^ 16
     → h.flags < 2 ^ 16 → IfSome q IsAskable → sections_in_order is ≡ true → HasRoom h q is
 roomy h q is id flags ok ordered = grind arith
@@ -73,7 +73,7 @@ empty_size : (q : MessageQuestion) → is_name q.qname ≡ true → size (Some q
 unfolding size records_by
 empty_size q h = grind (arith, leb-true, and_parts, length-question_octets)
 
--- The octets of a reply spell the message that it is.
+-- The octets of a reply spell its message.
 pub reply_spells : (z : ZoneContents) (d : Octets) (limit : ℕ) (r : Reply)
     → All IsWritable z.records → All (λ o. o < 256) d → 271 ≤ limit
     → limit ≤ 65535 → reply z d limit ≡ Some r → Spells (reply_octets r) (reply_message r)
@@ -87,7 +87,7 @@ reply_spells z d limit r writable low from upto e = go (decide z d) (decided z d
         → ◌≡◌ {A = Option Reply} (Some x) (Some r) → Spells (reply_octets r) (reply_message r)
     replied x s e = subst (λ y. Spells (reply_octets y) (reply_message y)) (same_Some x r e) s
 
-    -- the header and perhaps the question alone
+    -- only the header, and perhaps the question
     refusing : (h : Header) (q : Option MessageQuestion) → Refuses d h
         → IfSome q IsAskable → size q [] ≤ 65535 → Spells (layout h q []) (message_of h q [])
     refusing h q ok may small =
@@ -125,7 +125,7 @@ reply_spells z d limit r writable low from upto e = go (decide z d) (decided z d
         replied (answer_with z h q sets)
         (answering head q may (subst (λ (x : Header). x.id < 2 ^ 16) ok.1 id) flags) e
 
--- The octets of a reply are no more than its sets were kept for.
+-- The octets of a reply are at most the limit for which its sets were kept.
 named_question : (d : Octets) (q : MessageQuestion)
     → question_at d ≡ Some q → is_name q.qname ≡ true
 unfolding question_at

@@ -1,4 +1,4 @@
--- The sets of a reply begin with those that it may not leave out.
+-- The sets of a reply begin with the required ones.
 use Rattle.dns_spec.proofs.Common.{arith, rules, eqb-true, take_at, filter_map, DomainName, type_cname, target, ResourceRecord, ZoneContents, data_order, of_type, cut_of, found, Section, answer, Item, ◌≡◌, ℕ, Bool, true, false, cond, ◌==◌, ◌⊎◌, inl, inr, List, [], ◌∷◌, ◌++◌, length, take, Option, None, Some, is_some, option_map, unwrap_or, filter, flat_map, refl, sym, ap, ◌∙◌, append_assoc, append-nil, item, follows_alias, alias_set, chain, last_sought, alias_items, Outcome, outcome_by, outcome_at, outcome, has_target_type, targets_of, targets_inside, targets_outside, targets, address_sets, extra, main_items, items, required_items, AllByRecursion}
 use Rattle.dns_spec.proofs.General.Elements.{each_any, each_flat_map}
 use Rattle.dns_spec.proofs.General.Sorted.{each_sort}
@@ -76,7 +76,7 @@ pub no_targets : (is : List Item)
     → AllByRecursion (λ (i : Item). AllByRecursion IsAlias i.records) is → targets_of is ≡ []
 no_targets is e = search (rules, no_target, each_flat_map)
 
--- a referral adds nothing to the answer, and nothing else refers
+-- a referral adds nothing to the answer, and no other outcome refers
 record Refers (o : Outcome) : Type 0 where
   cases : (o.referral ≡ None) ⊎ (o.answers ≡ [])
 

@@ -1,5 +1,5 @@
--- The sets of an answer stand in the order of their sections, and their records fit a message where
--- those of the zone do.
+-- The sets of an answer are in the order of their sections, and their records fit a message if the
+-- zone's records do.
 use Rattle.dns_spec.proofs.Common.{◌≡◌, ℕ, zero, suc, ◌<◌, ◌≤◌, min, append_assoc, append-nil, Bool, true, false, ◌&&◌, cond, nat_le, List, [], ◌∷◌, ◌++◌, map, take, Option, None, Some, All, flat_map, refl, sym, subst, arith, rules, and_from, le-leb, none-some, same_Some, list_all, Octets, DomainName, is_name, same, suffixes, type_ns, type_cname, Piece, Part, octets, name, piece_front, cut, first_name, target, soa_minimum, ResourceRecord, ZoneContents, at, of_type, rrset, with_owner, cut_of, found, Section, answer, authority, additional, Item, records_of, name_error, no_error, item, follows_alias, alias_set, next_sought, chain_from, chain, last_of, last_sought, alias_items, Outcome, asked_records, negative, positive, has_any, outcome_by, outcome_at, outcome, targets, address_sets, extra, main_items, items, section_rank, sections_in_order, IsWritable, AllByRecursion, recursion_from_All, All-from_recursion}
 use Rattle.dns_spec.proofs.DomainNames.NameLaws.{is_name-tail, is_name-folded}
 use Rattle.dns_spec.proofs.DataWords.WrittenData.{cut_into}
@@ -8,7 +8,7 @@ use Rattle.dns_spec.proofs.General.Filters.{each_filter}
 use Rattle.dns_spec.proofs.General.Tests.{found_each}
 use Rattle.dns_spec.proofs.General.Sorted.{each_sort}
 
--- names above a name, and in lower case
+-- names above a name, and in lower case, are valid
 abbrev pub Named : DomainName → Type 0
 Named n = is_name n ≡ true
 
@@ -19,7 +19,7 @@ each_suffix (l ∷ n) h = (h, each_suffix n (is_name-tail l n h))
 pub named_cut : (z : ZoneContents) (q c : DomainName) → Named q → cut_of z q ≡ Some c → Named c
 named_cut z q c h e = grind (arith, found_each, each_reverse_onto, each_suffix, is_name-folded)
 
--- the names in data are names
+-- the names in data are valid
 abbrev NamedPart : Part → Type 0
 NamedPart (octets o) = Unit {0}
 NamedPart (name n) = Named n
@@ -62,7 +62,7 @@ with_owner_writable : (n : DomainName) (rs : List ResourceRecord)
 with_owner_writable n [] h w = tt
 with_owner_writable n (r ∷ rs) h w = grind (arith, (with_owner_writable n rs h w.1))
 
--- The names sought are names.
+-- The names sought are valid.
 module _ (z : ZoneContents) where
   next_named : (sought : List DomainName) (s m : DomainName)
       → next_sought z sought s ≡ Some m → Named m
@@ -85,7 +85,7 @@ module _ (z : ZoneContents) where
   unfolding chain
   chain_named q t h = grind (arith, chain_from_named, AllByRecursion)
 
--- Over a zone whose records fit a message.
+-- For a zone whose records fit a message.
 module _ (z : ZoneContents) (w : Writable z.records) where
   found_writable : (q : DomainName) (rs : List ResourceRecord)
       → Named q → found z q ≡ Some rs → Writable rs
@@ -207,7 +207,7 @@ not_before : (s s' : Section) (js : List Item)
 not_before s s' [] h g = tt
 not_before s s' (j ∷ js) h g = grind (arith, (not_before s s' js h g.1))
 
--- sets of one section in front of sets of none before it
+-- sets of one section in front of sets of that section or later ones
 ordered_front : (s : Section) (xs ys : List Item)
     → AllByRecursion (Stood s) xs → AllByRecursion (NotBefore s) ys → Ordered ys
     → Ordered (xs ++ ys)
@@ -275,7 +275,7 @@ module _ (z : ZoneContents)
             (stood_records additional more e),
       )
 
-  -- and so it is with a beginning of them.
+  -- and the same holds for a beginning of them.
   pub items_in_order : (k : ℕ) → sections_in_order (take k (items z q t)) ≡ true
   items_in_order k =
       in_order (take k (items z q t)) (ordered_take k (items z q t) items_stood.0)

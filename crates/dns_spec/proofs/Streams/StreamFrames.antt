@@ -1,9 +1,9 @@
 -- A stream is its frames and the rest, and the rest after all frames is empty or a frame that was
--- cut.
+-- cut short.
 use Rattle.dns_spec.proofs.Common.{common_steps, leb-true, le-leb, leb-false, none-some, cond_some, take_at, drop_at, length-take-le, All-head, All-tail, All-drop, flat_map, Octets, field16, octets16, ◌≡◌, ℕ, zero, suc, ◌+◌, ◌-◌, ◌*◌, ◌^◌, ◌<◌, ◌≤◌, Bool, true, false, cond, nat_le, ◌⊎◌, inl, inr, List, [], ◌∷◌, ◌++◌, length, take, drop, replicate, All, Option, None, Some, refl, sym, ap, ap₂, ◌∙◌, subst, arith, append_assoc, zero-add, length-append, length-drop, mod-eq_of_lt, take-append-drop, frame, has_frame, first_frame, frames, after_frames, IsCutFrame, recursion_from_All}
 use Rattle.dns_spec.proofs.Messages.Places.{number_of-bytes}
 
--- two octets and the number that they spell
+-- two octets and the number that they encode
 pub two_octets : (a b : ℕ) → a < 256 → b < 256 → octets16 (a * 256 + b) ≡ a ∷ b ∷ []
 two_octets a b ha hb = ap₂ (λ x y. x ∷ y ∷ []) (omega arith) (omega arith)
 
@@ -49,7 +49,7 @@ framed_whole (suc k) x low = go (first_frame x) refl (framed_whole k)
         append_assoc (frame m) (flat_map frame (frames k y)) (after_frames k y)
         ∙ ap (λ z. frame m ++ z) (more y s.1) ∙ s.0
 
--- what does not begin with a whole frame is empty, or a frame that was cut
+-- octets that do not begin with a whole frame are empty, or a frame that was cut short
 pub length_zeros : (n : ℕ) → length {A = ℕ} (replicate n 0) ≡ n
 length_zeros zero = refl
 length_zeros (suc n) = ap suc (length_zeros n)
@@ -109,7 +109,7 @@ rest_cut (suc k) x low h = go (first_frame x) refl h (rest_cut k)
     go None e l more = cut_frame x low e
     go (Some (m, y)) e l more = more y (first_splits x m y low e).1 (omega arith)
 
--- frames of messages are read as these
+-- frames of messages are read as these messages
 first_again : (m z : Octets) → length m < 2 ^ 16 → first_frame (frame m ++ z) ≡ Some (m, z)
 unfolding first_frame
 first_again m z h = grind (arith, two_again, le-leb, length-append, ap₂, take_at, drop_at)

@@ -1,4 +1,4 @@
--- Which sets answer a question, in the corners of its cases, computed from the definitions.
+-- Which sets answer a question, in unusual cases, computed from the definitions.
 use Rattle.dns_spec.proofs.Common.{◌≡◌, ℕ, Bool, true, false, List, [], ◌∷◌, ◌++◌, map, length, codes, bytes_high_first, Octets, DomainName, wire, labels_from, type_cname, type_mx, cut, ResourceRecord, ZoneContents, faults, Section, answer, authority, additional, Item, chain_from, chain, outcome_at, outcome, extra, items, required_items, is_authoritative}
 use mathlib.Core.Path.{refl}
 use Rattle.dns_spec.proofs.WorkedExamples.Zones.{dotted, under, entry, in_zone, address, alias, server, net_192, small_zone_with}
@@ -6,7 +6,7 @@ use Rattle.dns_spec.proofs.WorkedExamples.Zones.{dotted, under, entry, in_zone, 
 abbrev exchange : ℕ → Octets → Octets
 exchange k to = bytes_high_first 2 k ++ wire (under to)
 
--- aliases to below a cut, to nothing and to outside; wildcards; exchanges; a cut with a server
+-- aliases of names below a cut, missing and outside; wildcards; exchanges; a cut with a server
 -- below it and one elsewhere
 abbrev zone : ZoneContents
 zone =
@@ -33,7 +33,7 @@ zone_passes : faults zone ≡ []
 unfolding faults labels_from cut
 zone_passes = refl
 
--- a set by its section, its owner's text, its type and how many records it has
+-- a set: its section, its owner's text, its type and the number of its records
 abbrev Row : Type 0
 Row = Section × DomainName × ℕ × ℕ
 
@@ -56,8 +56,8 @@ abbrev row_of : Section → List ResourceRecord → Row
 row_of s [] = (s, [], 0, 0)
 row_of s (r ∷ rs) = (s, r.owner, r.rtype, length (r ∷ rs))
 
--- the RCODE, whether the server speaks for the zone, how many sets may not be left out, and the
--- sets, for a name and a type
+-- the RCODE, whether the reply is authoritative, the number of required sets, and the sets, for a
+-- name and a type
 unfoldable summary : Octets → ℕ → ℕ × Bool × ℕ × List Row
 unfolding labels_from cut chain_from chain outcome_at outcome extra items required_items
 summary cs t = (
@@ -68,18 +68,18 @@ summary cs t = (
 )
 
 answer_rows :
-    -- an alias of a name below a cut ends in a referral, which the server still speaks for
+    -- an alias of a name below a cut ends in a referral; the reply is still authoritative
     (summary (codes "far.example") 1
     ≡ (0, true, 3, in_answer (codes "far.example") 5 1 ++ referral))
     -- an alias of a name that does not exist is a name error
     × (summary (codes "gone.example") 1 ≡ (3, true, 2, in_answer (codes "gone.example") 5 1 ++ soa))
     -- an alias of a name of another zone ends there
     × (summary (codes "out.example") 1 ≡ (0, true, 1, in_answer (codes "out.example") 5 1))
-    -- a wildcard that only has names below it answers that there is nothing
+    -- a wildcard that only has names below it gives a negative answer without an error
     × (summary (codes "q.v.example") 1 ≡ (0, true, 1, soa))
-    -- a wildcard does not answer below a name that exists
+    -- a wildcard does not apply below a name that exists
     × (summary (codes "z.c.e.example") 1 ≡ (3, true, 1, soa))
-    -- and does elsewhere
+    -- but it does elsewhere
     × (summary (codes "z.e.example") 1 ≡ (0, true, 1, in_answer (codes "z.e.example") 1 1))
     -- also for a name of several labels
     × (summary (codes "y.z.e.example") 1 ≡ (0, true, 1, in_answer (codes "y.z.e.example") 1 1))
@@ -91,26 +91,26 @@ answer_rows :
     ≡ (0, true, 2, in_answer (codes "*.k.example") 5 1 ++ in_answer (codes "www.example") 1 1))
     -- an alias that is asked for is not followed
     × (summary (codes "alias.example") 5 ≡ (0, true, 1, in_answer (codes "alias.example") 5 1))
-    -- nor where all is asked for
+    -- nor if all types are asked for
     × (summary (codes "alias.example") 255 ≡ (0, true, 1, in_answer (codes "alias.example") 5 1))
-    -- glue is no answer
+    -- glue is not an answer
     × (summary (codes "ns.sub.example") 1 ≡ (0, false, 2, referral))
     -- nor are the servers at a cut
     × (summary (codes "sub.example") 2 ≡ (0, false, 2, referral))
-    -- also where all is asked for
+    -- also if all types are asked for
     × (summary (codes "sub.example") 255 ≡ (0, false, 2, referral))
-    -- where all is asked for, one set is the answer, that of the lowest type number: addresses have
-    -- no targets
+    -- if all types are asked for, the answer is the one set with the lowest type number: addresses
+    -- have no targets
     × (summary (codes "self.example") 255 ≡ (0, true, 1, in_answer (codes "self.example") 1 1))
-    -- an address set of two targets is not repeated
+    -- the address set of a target that appears twice is not repeated
     × (summary (codes "twice.example") 15
     ≡ (0, true, 1, in_answer (codes "twice.example") 15 2 ++ added (codes "www.example") 1 1))
     -- a name without the type asked for
     × (summary (codes "www.example") 16 ≡ (0, true, 1, soa))
-    -- the NS set of the origin stands before its SOA
+    -- the NS set of the origin comes before its SOA
     × (summary (codes "example") 255
     ≡ (0, true, 1, in_answer (codes "example") 2 1 ++ added (codes "ns.example") 1 1))
-    -- nothing is found where only names below own records
+    -- nothing is found at a name if only names below it own records
     × (summary (codes "w.example") 255 ≡ (0, true, 1, soa))
     -- additional addresses in the order of their targets
     × (summary (codes "mm.example") 15
@@ -121,7 +121,7 @@ answer_rows :
       in_answer (codes "mm.example") 15 2 ++ added (codes "www.example") 1 1
           ++ added (codes "ns.example") 1 1,
     ))
-    -- the glue of a referral comes first, and alone may not be left out
+    -- the glue of a referral comes first, and only it is required
     × (summary (codes "x.two.example") 1
     ≡ (
       0,

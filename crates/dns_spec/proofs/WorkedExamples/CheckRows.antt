@@ -1,12 +1,12 @@
--- The faults of zones, computed from the definitions: most checks once, with what they spare.
+-- The faults of zones, computed from the definitions: most checks once, with cases that pass them.
 use Rattle.dns_spec.proofs.Common.{◌≡◌, ℕ, zero, suc, ◌+◌, List, [], ◌∷◌, ◌++◌, codes, bytes_high_first, Octets, DomainName, wire, labels_from, type_txt, type_a, type_soa, type_mx, cut, ResourceRecord, zone_of, Fault, faults}
 use Rattle.dns_spec.proofs.WorkedExamples.Zones.{dotted, example, under, entry, in_zone, address, alias, server, net_192, soa_of, addresses, small_zone_with, small_zone, large_zone}
 
--- a fault reported of a name by its text
+-- a fault of a name, given by its text
 abbrev reported : Octets → ℕ → Fault
 reported cs code = record { owner = dotted cs; code = code }
 
--- so many sets of unknown types at g
+-- n sets of unknown types at g
 abbrev unknown_sets : ℕ → List ResourceRecord
 unknown_sets zero = []
 unknown_sets (suc k) = unknown_sets k ++ in_zone (codes "g") (65280 + k) [] ∷ []
@@ -23,7 +23,7 @@ abbrev exchange : ResourceRecord
 exchange = entry example type_mx (bytes_high_first 2 10 ++ wire (under (codes "alias")))
 
 check_rows :
-    -- a record that stands twice is one record
+    -- a record that appears twice is one record
     With (address (codes "www") (net_192 10) ∷ []) []
     -- one set with two TTLs
     × With (record (address (codes "www") (net_192 10)) { ttl = 60 } ∷ [])
@@ -40,7 +40,7 @@ check_rows :
     (reported (codes "sub.example") 10 ∷ [])
     -- a mail exchange that is an alias
     × With (exchange ∷ []) (reported (codes "example") 11 ∷ [])
-    -- a cut at a wildcard, whose strings are not its own
+    -- a cut at a wildcard, so its strings are not allowed
     × With (server (under (codes "*.w")) (codes "ns") ∷ [])
     (reported (codes "*.w.example") 12 ∷ reported (codes "*.w.example") 13 ∷ [])
     -- a name of another zone
@@ -62,7 +62,7 @@ check_rows :
     -- a zone that passes, and one with sets at the limits
     × (faults small_zone ≡ [])
     × (faults large_zone ≡ [])
-    -- nothing at all
+    -- no records at all
     × (faults (zone_of example [])
     ≡ reported (codes "example") 1 ∷ reported (codes "example") 4 ∷ [])
 unfolding faults labels_from cut

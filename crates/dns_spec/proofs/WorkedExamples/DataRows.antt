@@ -1,10 +1,10 @@
--- Words and data, text and octets, in the worked cases: computed from the definitions, and where
--- these are relations, read or refuted.
+-- Words and data, text and octets, in the worked cases: computed from the definitions or, if these
+-- are relations, read or refuted.
 use Rattle.dns_spec.proofs.Common.{◌≡◌, ℕ, zero, suc, ◌<◌, ◌^◌, List, [], ◌∷◌, ◌++◌, true, false, refl, sym, ◌∙◌, ap, length, codes, decimal, get_or, arith, digits, false≢true, none-some, same_Some, Octets, labels_from, SpellsName, octet_text, type_by_mnemonic, type_text, Word, Says, SpellsString, hex_octets, ipv6_groups, SaysIpv6, data_text, None, Some, first_decimal, cut, type_a, type_hinfo, type_mx, type_txt, type_aaaa, type_srv, Valid, valid, parts, octets, name, lower_case}
 use Rattle.dns_spec.proofs.WorkedExamples.Readings.{Rows, SaysOf, are_found, found_is, said_in, string_in, name_in}
 use Rattle.dns_spec.proofs.WorkedExamples.Zones.{hex, dotted, example, under}
 
--- a word out of quotation marks, the same in them, and `\#`
+-- an unquoted word, a quoted word, and `\#`
 abbrev bare : Octets → Word
 bare cs = record { raw = cs; is_quoted = false }
 
@@ -22,11 +22,11 @@ abbrev single_zero : Octets
 single_zero = codes "0001 0000 0002 0003 0004 0005 0006 0007"
 
 said_rows : Rows SaysOf (
-    -- a single zero group stays
+    -- a single zero group is not replaced
     ((type_aaaa, bare (codes "1:0:2:3:4:5:6:7") ∷ []), hex single_zero)
-    -- an address in the form for any type
+    -- an address in the generic form
     ∷ ((type_a, mark ∷ bare (codes "4") ∷ bare (codes "C0000201") ∷ []), hex (codes "c0000201"))
-    -- no octets of a type without a name
+    -- no octets for a type without a mnemonic
     ∷ ((65280, mark ∷ bare (codes "0") ∷ []), [])
     -- a string with escapes
     ∷ ((type_txt, quoted escaped ∷ []), hex (codes "0461226209"))
@@ -39,14 +39,14 @@ said_rows : Rows SaysOf (
 unfolding ipv6_groups digits cut labels_from hex_octets
 said_rows = are_found _ said_in _ refl
 
--- the string and the name among them
+-- the string and the name in them
 escaped_string : SpellsString escaped (97 ∷ 34 ∷ 98 ∷ 9 ∷ [])
 escaped_string = found_is (string_in 9 escaped) (97 ∷ 34 ∷ 98 ∷ 9 ∷ []) refl
 
 mail_name : SpellsName example (codes "Mail") (under (codes "Mail"))
 mail_name = found_is (name_in example (codes "Mail")) (under (codes "Mail")) refl
 
--- an address read of a text and written as one, and data written
+-- an address read from a text and written as one, and data written
 abbrev Reads : Octets → Octets → Type 0
 Reads text digits = SaysIpv6 text (hex digits)
 
@@ -60,29 +60,29 @@ abbrev capital_exchange : Octets
 capital_exchange = codes "000a 044d61696c 076578616d706c65 00"
 
 data_rows :
-    -- a single zero group stays
+    -- a single zero group is not replaced
     Reads (codes "1:0:2:3:4:5:6:7") single_zero
     × Writes type_aaaa single_zero (codes "1:0:2:3:4:5:6:7")
     -- the first of two equal runs, and capitals
     × Reads (codes "2001:DB8:0:0:1:0:0:1") (codes "2001 0db8 0000 0000 0001 0000 0000 0001")
     × Writes type_aaaa (codes "2001 0db8 0000 0000 0001 0000 0000 0001") (codes "2001:db8::1:0:0:1")
-    -- `::` for one group alone is read, and not written
+    -- `::` for a single group is read, but not written
     × Reads (codes "1:2:3:4:5:6:7::") (codes "0001 0002 0003 0004 0005 0006 0007 0000")
     × Writes type_aaaa (codes "0001 0002 0003 0004 0005 0006 0007 0000") (codes "1:2:3:4:5:6:7:0")
-    -- all groups, and none
+    -- `::` for all groups
     × Reads (codes "::") (codes "0000 0000 0000 0000 0000 0000 0000 0000")
     × Writes type_aaaa (codes "0000 0000 0000 0000 0000 0000 0000 0000") (codes "::")
     -- the longest run, at the end
     × Writes type_aaaa (codes "0001 0000 0000 0002 0003 0000 0000 0000") (codes "1:0:0:2:3::")
     -- eight groups leave nothing for `::`
     × (ipv6_groups (codes "1:2:3:4:5:6:7:8::") ≡ None)
-    -- an IPv4 address is no group
+    -- an IPv4 address is not a group
     × (ipv6_groups (codes "::1.2.3.4") ≡ None)
     × (ipv6_groups (codes "1::2::3") ≡ None)
     × (ipv6_groups (codes ":::") ≡ None)
     × (ipv6_groups (codes "1:2:3:4:5:6:7:00008") ≡ None)
     × (ipv6_groups (codes ":1:2:3:4:5:6:7") ≡ None)
-    -- an address in the form for any type, and in that form no octets, and octets
+    -- an address in the generic form; and in that form no octets, and octets
     × Writes type_a (codes "c0000201") (codes "192.0.2.1")
     × Writes 65280 [] (codes "\\# 0")
     × Writes 65280 (codes "0aFF") (codes "\\# 2 0aff")
@@ -92,20 +92,20 @@ data_rows :
     × Writes type_mx mail_exchange (codes "10 mail.example.")
     × (parts type_mx (hex mail_exchange)
     ≡ octets (hex (codes "000a")) ∷ name (under (codes "mail")) ∷ [])
-    -- the same data as it comes in a message
+    -- the same data as received in a message
     × Valid type_mx (hex capital_exchange)
     × (lower_case type_mx (hex capital_exchange) ≡ hex mail_exchange)
 unfolding ipv6_groups data_text digits labels_from octet_text cut
 data_rows = search []
 
--- the words say no data of the type
+-- the words spell no data of the type
 abbrev SaysNothing : ℕ → List Word → Type 0
 SaysNothing t ws = (d : Octets) → Says t ws example d → ⊥
 
 not_valid : (t : ℕ) (d e : Octets) → Some d ≡ Some e → valid t d ≡ false → Valid t e → ⊥
 not_valid t d e same invalid ok = false≢true (sym invalid ∙ ap (valid t) (same_Some d e same) ∙ ok)
 
--- a zero in front
+-- a leading zero
 no_number_010 : (n : ℕ) → n < 2 ^ 16 → codes "010" ≡ decimal n → ⊥
 unfolding digits
 no_number_010 zero small e = omega (arith, ap length e)
@@ -113,17 +113,17 @@ no_number_010 (suc n) small e =
     omega (arith, first_decimal (suc n) (omega arith) (omega arith), ap (λ w. get_or w 0 0) e)
 
 refuted :
-    -- eight groups leave nothing for `::`, and an IPv4 address is no group
+    -- eight groups leave nothing for `::`, and an IPv4 address is not a group
     SaysNothing type_aaaa (bare (codes "1:2:3:4:5:6:7:8::") ∷ [])
     × SaysNothing type_aaaa (bare (codes "::1.2.3.4") ∷ [])
-    -- octets that are no address
+    -- octets that are not an address
     × SaysNothing type_a (mark ∷ bare (codes "3") ∷ bare (codes "c00002") ∷ [])
     × SaysNothing type_a (mark ∷ bare (codes "0") ∷ [])
     -- a word of three digits
     × SaysNothing 65280 (mark ∷ bare (codes "2") ∷ bare (codes "abc") ∷ bare (codes "d") ∷ [])
-    -- a zero in front
+    -- a leading zero
     × SaysNothing type_mx (bare (codes "010") ∷ bare (codes "mail") ∷ [])
-    -- one string where there are two
+    -- one string instead of two
     × SaysNothing type_hinfo (quoted (codes "a") ∷ [])
 unfolding ipv6_groups hex_octets cut
 refuted = (
@@ -139,7 +139,7 @@ refuted = (
 -- words that name types, and data in lower case and in parts
 type_rows :
     (type_by_mnemonic (codes "aAaA") ≡ Some 28)
-    -- a number is no name of the table
+    -- a number is not a mnemonic in the table
     × (type_by_mnemonic (codes "TYPE1") ≡ None)
     × (type_text 33 ≡ codes "SRV")
     × (type_text 65 ≡ codes "TYPE65")
@@ -148,7 +148,7 @@ type_rows :
     ≡ hex (codes "000a046d61696c076578616d706c6500"))
     × (parts type_mx (hex (codes "000a044d61696c076578616d706c6500"))
     ≡ octets (hex (codes "000a")) ∷ name (dotted (codes "Mail.example")) ∷ [])
-    -- a compressed name, an octet more, and an octet less
+    -- a compressed name, one octet more, and one octet less
     × (valid type_srv (hex (codes "000100020035c00c")) ≡ false)
     × (valid type_a (hex (codes "c000020100")) ≡ false)
     × (valid type_a (hex (codes "c00002")) ≡ false)

@@ -1,5 +1,5 @@
--- A small file and its records; and a whole zone, with the faults of texts that are its but for one
--- line.
+-- A small file and its records; and a whole zone, with the faults of texts that differ from its
+-- text in one line.
 use Rattle.dns_spec.proofs.Common.{ℕ, List, [], ◌∷◌, ◌++◌, refl, codes, digits, Octets, DomainName, wire, labels_from, cut, type_a, type_ns, type_soa, type_txt, type_aaaa, hex_octets, ipv6_groups, ResourceRecord, run_length, records, fault_at, Means, bad_ttl, bad_type, no_ttl}
 use Rattle.dns_spec.proofs.WorkedExamples.Zones.{hex, example, under, net_192, soa_of, strings_data, small_records}
 use Rattle.dns_spec.proofs.WorkedExamples.Readings.{tokens_in, Mean, are_found, text_in, reads}
@@ -21,7 +21,7 @@ small_file =
 abbrev record_of : DomainName → ℕ → ℕ → Octets → ResourceRecord
 record_of n ttl t d = record { owner = n; ttl = ttl; rtype = t; rdata = d }
 
--- below the origin of the last two records
+-- a name below the origin of the last two records
 abbrev dotted_owner : DomainName
 dotted_owner = codes "a.b" ∷ codes "deep" ∷ example
 

@@ -1,12 +1,12 @@
--- Texts past a limit: with an octet too many, and with a record too many.
+-- Texts beyond a limit: with one octet too many, and with one record too many.
 use Rattle.dns_spec.proofs.Common.{◌≡◌, ℕ, zero, suc, ◌+◌, ◌*◌, ◌<◌, ◌≤◌, inl, true, false, List, [], ◌∷◌, ◌++◌, Option, None, Some, refl, sym, ◌∙◌, ap, subst, codes, length, nat_le, nat_lt, take, drop, arith, lit≤, length-append, le-ltb, MatchOption, take-append_seam, drop-append_seam, and_parts, lt-ltb, ltb-true, le-leb, lt-leb, Octets, SpellsName, Token, blank, word, line_end, most_octets, is_blank, token_front, TokensThen, run_length, Entry, ended, cut_entries, with_end, whole_text, beginning, extent_by, stop_fault, stop_at, bad_escape, bad_octet, bad_owner, too_long, too_many_records, FileFault, no_words, KindGives, faulty, gives, fault_at, most_records, OriginIs, NameIs, IsRecord, is_record, line_after, Fields, fields, EntryGives, EntriesMean, Means, cut, type_txt, Word, ResourceRecord, digits, list_all, prefix_len, filter, append_assoc, take_all}
 use mathlib.Core.Bool.{xor}
 use Rattle.dns_spec.proofs.ZoneTexts.GivenRecords.{record_given, record_but_count, given_then}
 use Rattle.dns_spec.proofs.WorkedExamples.Readings.{data_in, found_is}
 use Rattle.dns_spec.proofs.WorkedExamples.Zones.{example}
 
--- Copies of one line, which states a record, up to one too many. The number of lines is a variable,
--- so that nothing computes them all.
+-- Copies of one line, which states a record, up to one too many. The number of lines is a
+-- variable, so nothing computes all of them.
 abbrev line_tokens : List Token
 line_tokens =
     word (codes "@") ∷ blank ∷ word (codes "7") ∷ blank ∷ word (codes "TXT") ∷ blank
@@ -16,7 +16,7 @@ line_tokens =
 abbrev line_entry : Entry
 line_entry = ended line_tokens
 
--- so many lines, their tokens, their entries, and these as they come before another
+-- n lines, their tokens, their entries, and the entries in front of another one
 lines : ℕ → Octets
 lines zero = []
 lines (suc n) = codes "@ 7 TXT a\n" ++ lines n
@@ -53,7 +53,7 @@ lines_ended zero = refl
 lines_ended (suc zero) = refl
 lines_ended (suc (suc n)) = ap (λ es. line_entry ∷ es) (lines_ended (suc n))
 
--- what stands before a line
+-- what precedes a line
 origin_kept : (k : ℕ) → OriginIs example (earlier k) example
 unfolding earlier
 origin_kept zero = refl
@@ -69,7 +69,7 @@ unfolding earlier
 lines_counted zero = refl
 lines_counted (suc k) = omega (arith, lines_counted k)
 
--- what a line gives, which is a fault where it is one too many
+-- what a line means: a record, or a fault if there is one record too many
 abbrev bare : Octets → Word
 bare cs = record { raw = cs; is_quoted = false }
 
@@ -121,7 +121,7 @@ lines_mean (suc n) k e =
     given_then example (earlier k) line_entry (entries_of_lines (suc n)) (line_record ∷ []) _
     (line_given k (omega (arith, e))) (lines_mean n (suc k) (omega (arith, e)))
 
--- so many lines of records, and one more
+-- n lines of records, and one more
 many_lines : (n : ℕ) → n ≡ most_records
     → Means example (lines (suc n)) (fault_at too_many_records (suc most_records))
 unfolding earlier
@@ -148,7 +148,7 @@ many_lines n all =
 one_record_too_many : Means example (lines 100001) (fault_at too_many_records 100001)
 one_record_too_many = many_lines 100000 refl
 
--- blanks, and then a text that begins with none
+-- blanks, and then a text that does not begin with a blank
 blanks_before : (text rest : Octets) → list_all is_blank text ≡ true → prefix_len is_blank rest ≡ 0
     → prefix_len is_blank (text ++ rest) ≡ length text
 blanks_before [] rest h none = none
@@ -165,8 +165,8 @@ blanks_then (o ∷ text) rest some h none =
     (ap (λ k. Some (blank, drop k (text ++ rest))) (blanks_before text rest parts.1 none)
     ∙ ap (λ r. Some (blank, r)) (drop-append_seam text rest))
 
--- Blanks up to the limit and these octets there, and more after them: where no token begins with
--- the octets, they decide the fault.
+-- Blanks up to the limit, with these octets at their end, and more after them: if no token begins
+-- with the octets, they decide the fault.
 AtLimit : Octets → FileFault → Type 0
 AtLimit ends code = (text more : Octets) → length text + length ends ≡ most_octets → 0 < length more
     → list_all is_blank text ≡ true → Means example (text ++ (ends ++ more)) (fault_at code 1)
@@ -211,15 +211,15 @@ at_limit ends code few none at_end reports text more full goes_on blanks =
     reported (Some c) e = cc
 
 limit_rows :
-    -- octet 16,777,217, where nothing else is at fault
+    -- octet 16,777,217, if there is no other fault
     AtLimit [] too_long
-    -- an escape that the next octets might end, and one that they can't
+    -- an escape that the next octets might complete, and one that they can't
     × AtLimit (codes "\\3") too_long
     × AtLimit (codes "\\1x") bad_escape
     × AtLimit (codes "\r") too_long
     -- an octet that isn't allowed, before the limit
     × AtLimit (0 ∷ []) bad_octet
-    -- a string that isn't ended at the limit
+    -- a string that does not end at the limit
     × AtLimit (codes "\"a") too_long
 unfolding run_length
 limit_rows = (

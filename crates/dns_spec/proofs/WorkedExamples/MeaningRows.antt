@@ -15,18 +15,18 @@ abbrev a_at : Octets → ℕ → List ResourceRecord
 a_at cs t = txt cs t (codes "a" ∷ [])
 
 meaning_rows : Mean (
-    -- no text
+    -- the empty text
     ([], records [])
-    -- no token goes on
+    -- lexical faults
     ∷ (codes "www 60 TXT a\\\n", fault_at bad_escape 1)
     ∷ (codes "www 60 A " ++ 0 ∷ [], fault_at bad_octet 1)
     ∷ (codes "www 60 TXT \"a\n", fault_at unended_string 1)
     ∷ (codes " (", fault_at bad_parenthesis 1)
-    -- its line
+    -- the line of a fault
     ∷ (codes "\n\n (", fault_at bad_parenthesis 3)
-    -- a fault by its place goes before one of words
+    -- a lexical fault is reported before a fault of words
     ∷ (codes "$INCLUDE \"x", fault_at unended_string 1)
-    -- directives: another one, one without a word, and a zero in front
+    -- directives: an unknown one, one without arguments, and a leading zero
     ∷ (codes "$INCLUDE x", fault_at unknown_directive 1)
     ∷ (codes "$TTL", fault_at directive_words 1)
     ∷ (codes "$TTL 010", fault_at directive_words 1)
@@ -36,47 +36,47 @@ meaning_rows : Mean (
     -- a TTL of 2^31
     ∷ (codes "www 2147483648 A 192.0.2.1", fault_at bad_ttl 1)
     ∷ (codes "www 60 CH A 192.0.2.1", fault_at other_class 1)
-    -- a second number is no type
+    -- a second number is not a type
     ∷ (codes "www 60 60 A 192.0.2.1", fault_at bad_type 1)
-    -- no TTL is known, whatever the data
+    -- no TTL is in force, whatever the data
     ∷ (codes "www A 1", fault_at no_ttl 1)
-    -- an entry in parentheses doesn't begin with a blank
+    -- an entry in parentheses does not begin with a blank
     ∷ (codes "($TTL 60)", records [])
-    -- after a blank it is the type of a record
+    -- after a blank, it is the type of a record
     ∷ (codes " $TTL 60", fault_at no_owner 1)
-    -- words that begin as the name of a class
+    -- words that begin like the name of a class
     ∷ (codes "www 60 CLASS01 A 192.0.2.1", fault_at other_class 1)
     ∷ (codes "www 60 classy A 192.0.2.1", fault_at other_class 1)
-    -- a quoted class is a type in quotation marks
+    -- a quoted class is read as a type, in quotation marks
     ∷ (codes "www 60 \"IN\" A 192.0.2.1", fault_at bad_type 1)
-    -- CR, without LF after it, in a string too, and with it
+    -- CR without LF after it, also in a string, and CR with LF
     ∷ (codes "www 60 A 192.0.2.1\r", fault_at bad_octet 1)
     ∷ (codes "www 60 TXT \"a\rb\"", fault_at bad_octet 1)
     ∷ (codes "www 60 TXT \"a\r\n", fault_at unended_string 1)
     ∷ (codes "$TTL 60\r\n)", fault_at bad_parenthesis 2)
-    -- the first of faults by their place
+    -- the first of several lexical faults
     ∷ (codes "( \"a", fault_at unended_string 1)
     ∷ (codes ") " ++ 0 ∷ [], fault_at bad_parenthesis 1)
-    -- three digits past 255
+    -- three digits beyond 255
     ∷ (codes "www 60 TXT \"a\\256\"", fault_at bad_escape 1)
-    -- A parenthesis in a string is an octet of it, and one in a comment is nothing; the entry goes
-    -- on after the line end.
+    -- A parenthesis in a string is an octet of it, and one in a comment has no meaning; the entry
+    -- continues after the line end.
     ∷ (
       codes "v 60 TXT ( \"a)\" ; )\n\"b\" )\n",
       records (txt (codes "v") 60 (codes "a)" ∷ codes "b" ∷ [])),
     )
     -- a word ends at a parenthesis, without a blank between
     ∷ (codes "v 60 TXT (a) b", records (txt (codes "v") 60 (codes "a" ∷ codes "b" ∷ [])))
-    -- one that is closed and was not open, and one in another
+    -- a closing parenthesis without an opening one, and a nested one
     ∷ (codes "v 60 TXT a)", fault_at bad_parenthesis 1)
     ∷ (codes "v 60 TXT ((a))", fault_at bad_parenthesis 1)
-    -- An owner that is taken over keeps the origin under which it was stated; a TTL is that of
-    -- `$TTL`, though a record after it states another.
+    -- An inherited owner keeps the origin under which it was stated; a TTL is the one of `$TTL`,
+    -- even if a later record states another.
     ∷ (
       codes "$TTL 5\nw 7 TXT a\n$ORIGIN x\n TXT a\ny TXT a",
       records (a_at (codes "w") 7 ++ a_at (codes "w") 5 ++ a_at (codes "y.x") 5),
     )
-    -- without `$TTL` it is the TTL that a record stated last
+    -- without `$TTL`, it is the last TTL that a record states
     ∷ (
       codes "w 5 TXT a\nw 7 TXT a\nv TXT a",
       records (a_at (codes "w") 5 ++ a_at (codes "w") 7 ++ a_at (codes "v") 7),
@@ -85,7 +85,7 @@ meaning_rows : Mean (
 unfolding tokens_in run_length xor digits cut labels_from
 meaning_rows = are_found _ text_in _ refl
 
--- the last number of the address is past 255
+-- the last number of the address exceeds 255
 no_address : (d : Octets) → SaysIpv4 (codes "192.0.2.256") d → ⊥
 unfolding digits
 no_address d h =

@@ -1,10 +1,10 @@
--- What is printed of inputs, octet for octet, computed from the definitions.
+-- What is printed for inputs, octet by octet, computed from the definitions.
 use Rattle.dns_spec.proofs.Common.{◌≡◌, ℕ, ◌≤◌, true, false, [], ◌∷◌, ◌++◌, codes, decimal, refl, sym, ◌∙◌, lit≤, inl, inr, digits, none-some, octet_text, Octets, labels_from, cut, hex_octets, data_text, DnsMessage, run, runs_before, name_at, pieces_at, several, message_at, Option, None, Some, lines, ended_lines, line_message, line_answers, are_messages, section_line, message_text, PrintsMessage, PrintsInput}
 use Rattle.dns_spec.proofs.Messages.MessageReading.{message_at_computes}
 use Rattle.dns_spec.proofs.WorkedExamples.Zones.{hex, under, net_192}
 use Rattle.dns_spec.proofs.WorkedExamples.MessageRows.{address_digits, address_message, error_digits, error_message}
 
--- the lines of a message, and of none
+-- what is printed for a message, and for an input without one
 abbrev Prints : Octets → Octets → Type 0
 Prints input output = PrintsInput input (record { output = output; passes = true })
 
@@ -29,7 +29,7 @@ prints_fault l b n is_line e least most =
     (inr (λ m h. none-some m (sym e ∙ (message_at_computes b m).1 h), (n, least, most, refl)))
 
 printed_rows :
-    -- a reply with an address, in a line of its own or before other lines
+    -- a reply with an address, on a line of its own and before other lines
     Prints (address_digits ++ codes "\n\nzz")
     (codes "header 1234 8400 1 1 0 0\n" ++ codes "question www.example. IN A\n"
     ++ codes "answer www.example. 3600 IN A 192.0.2.10\n")
@@ -42,11 +42,11 @@ printed_rows :
     × (section_line (codes "additional")
     (record { owner = under (codes "a"); rtype = 1; rclass = 3; ttl = 0; rdata = net_192 10 })
     ≡ codes "additional a.example. 0 CLASS3 A \\# 4 c000020a\n")
-    -- the fault of a pointer to itself, by its number
+    -- the number of the fault of a pointer to itself
     × Refuses pointer_digits (codes "fault 3\n")
-    -- no line at all is the empty message, which ends before its header does
+    -- an input without lines is the empty message, which ends before its header does
     × Refuses [] (codes "fault 1\n")
-    -- a line that is no message
+    -- a line that is not a message
     × Refuses (codes "zz\n00") (codes "bad hex\n")
 unfolding run runs_before name_at pieces_at several message_at lines hex_octets octet_text
     data_text labels_from cut digits
@@ -59,14 +59,15 @@ printed_rows = (
   refl,
 )
 
--- lines of an input and their answers
+-- the lines of an input, and what is written for them
 line_rows :
-    -- after the last LF there is no line, unless octets follow
+    -- no line follows the last LF, unless octets do
     (lines [] ≡ [])
     × (lines (codes "ab\n\n") ≡ codes "ab" ∷ [] ∷ [])
     × (lines (codes "ab\n\nc") ≡ codes "ab" ∷ [] ∷ codes "c" ∷ [])
     × (ended_lines (codes "ab\n\nc") ≡ codes "ab" ∷ [] ∷ [])
-    -- digits are of either case, and of an even number; other octets are none, as CR
+    -- digits are in either case, and their number is even; other octets, such as CR, are not
+    -- allowed
     × (line_message (codes "0aFf") ≡ Some (10 ∷ 255 ∷ []))
     × (line_message [] ≡ Some [])
     × (line_message (codes "0aF") ≡ None)

@@ -1,4 +1,4 @@
--- Names, queries and messages read from octets, whole, changed and cut, computed from the
+-- Names, queries and messages read from octets, complete, changed and cut, computed from the
 -- definitions.
 use Rattle.dns_spec.proofs.Common.{◌≡◌, ℕ, zero, suc, ◌+◌, Bool, true, not, List, [], ◌∷◌, ◌++◌, take, drop, replicate, codes, None, Some, is_some, option_map, list_all, Octets, DomainName, wire, Header, MessageRecord, DnsMessage, run, runs_before, name_at, pieces_at, several, message_at, absent, refused_with, query, question_at, query_read, pointer}
 use Rattle.dns_spec.proofs.WorkedExamples.Zones.{hex, dotted, under, example, net_192, soa_of, letters, www_query}
@@ -26,7 +26,7 @@ error_reply = hex error_digits
 abbrev pointing : Octets → ℕ → ℕ → Octets
 pointing b i p = take i b ++ pointer p ++ drop (i + 2) b
 
--- so many places from one on
+-- n places from one on
 abbrev places : ℕ → ℕ → List ℕ
 places i zero = []
 places i (suc k) = i ∷ places (i + 1) k
@@ -35,7 +35,7 @@ unfoldable spells_nothing : Octets → Bool
 unfolding run runs_before name_at pieces_at several message_at
 spells_nothing b = not (is_some (message_at b))
 
--- what they spell; data is read uncompressed
+-- the message that they spell; data is read without compression
 abbrev message_of : ℕ → Octets → List MessageRecord → List MessageRecord → DnsMessage
 message_of flags cs answers authorities = record {
   header = record { id = 4660; flags = flags };
@@ -65,19 +65,19 @@ message_rows :
     × (spells_nothing (pointing address_reply 29 29) ≡ true)
     -- a reserved label in place of a length
     × (spells_nothing (take 12 address_reply ++ 67 ∷ drop 13 address_reply) ≡ true)
-    -- nothing at all, an octet less, and an octet more
+    -- no octets, one octet less, and one octet more
     × (spells_nothing [] ≡ true)
     × (spells_nothing (take 44 address_reply) ≡ true)
     × (spells_nothing (address_reply ++ 0 ∷ []) ≡ true)
     -- an address of five octets
     × (spells_nothing (take 40 address_reply ++ 5 ∷ drop 41 address_reply ++ 0 ∷ []) ≡ true)
-    -- each beginning of a message that is not all of it
+    -- each proper beginning of a message
     × (list_all (λ k. spells_nothing (take k error_reply)) (places 0 80) ≡ true)
 unfolding spells_nothing run runs_before name_at pieces_at several message_at
 message_rows = search []
 
--- The place before a pointer is lawful, whatever octets stand there: a label of one octet, and one
--- of 29.
+-- A pointer to the place before it is valid, whatever octets are there: a label of one octet, and
+-- one of 29.
 abbrev authority_owners : DnsMessage → List DomainName
 authority_owners m = owners m.authorities
   where
@@ -109,9 +109,9 @@ reading_rows :
     (name_at chained 21 ≡ Some (dotted (codes "x.www"), 23))
     -- a name ends after its own octets
     × (name_at chained 17 ≡ Some (dotted (codes "x.www"), 21))
-    -- a pointer to the run in which it stands
+    -- a pointer to the run that contains it
     × (name_at (message (hex (codes "0161c00c"))) 12 ≡ None)
-    -- also where the run was come to by a pointer, which is lawful itself
+    -- also if the run was reached by a pointer that is itself valid
     × (name_at (message (hex (codes "0161c00cc00c"))) 16 ≡ None)
     -- to itself, forwards, and into the header
     × (name_at (message (hex (codes "00c00d"))) 13 ≡ None)
@@ -125,7 +125,7 @@ reading_rows :
 unfolding run runs_before name_at
 reading_rows = search []
 
--- a name of 255 octets, and one that a label in front of it makes longer
+-- a name of 255 octets, and a label in front that makes it too long
 abbrev longest : DomainName
 longest = letters 63 ∷ letters 63 ∷ letters 63 ∷ letters 61 ∷ []
 
@@ -143,13 +143,13 @@ abbrev head : ℕ → Header
 head flags = record { id = 4660; flags = flags }
 
 query_rows :
-    -- header and question as they came
+    -- header and question as received
     (query_read www_query
     ≡ query (head 0) (record { qname = dotted (codes "www.example"); qtype = 1; qclass = 1 }))
-    -- the root, its capitals or any class and type are no matter here; RD is set
+    -- the root, capitals, and any class or type do not matter here; RD is set
     × (query_read (hex (codes "123401000001000000000000 000041ffff"))
     ≡ query (head 256) (record { qname = []; qtype = 65; qclass = 65535 }))
-    -- less than a header, and a reply
+    -- fewer octets than a header, and a response
     × (query_read (replicate 11 0) ≡ absent)
     × (query_read (hex (codes "123484000001000000000000 0000010001")) ≡ absent)
     -- another opcode gives RCODE 4, and the opcode stays (RFC 1035 4.1.1)

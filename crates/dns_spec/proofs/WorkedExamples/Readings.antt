@@ -1,11 +1,11 @@
--- Readings that compute: what a text or a part of it means, with the proof that it does, or nothing
--- where the reading can't tell.
+-- Readings that compute what a text or a part of it means, with the proof that it does, or nothing
+-- if the reading can't decide.
 use Rattle.dns_spec.proofs.Common.{◌≡◌, ◌≢◌, ℕ, zero, suc, ◌^◌, ◌⊎◌, inl, inr, Bool, true, false, ◌&&◌, ◌||◌, not, ◌==◌, List, [], ◌∷◌, ◌++◌, Option, Some, None, refl, sym, ◌∙◌, ap, subst, codes, decimal, length, map, take, drop, nat_lt, nat_le, arith, MatchOption, MatchBool, bytes_high_first, list_all, slice_split, flat_map, option_map, is_none, digits_value, and_parts, and_from, false≢true, eqb-true, eqb-false, ltb-true, leb-true, le-leb, decimal_is_IsNumeral, none-some, same_Some, Octets, DomainName, wire, folded, is_name, octets_equal, SpellsOctet, TextSpells, SpellsName, escape_front, text_in_lower_case, type_by_mnemonic, numbered_type, NamesType, valid, lower_case, ResourceRecord, Entry, most_octets, token_front, lexical_fault, Token, TokensThen, cut_entries, with_end, whole_text, extent_by, FileFault, unknown_directive, directive_words, bad_owner, no_owner, bad_ttl, other_class, bad_type, no_ttl, bad_data, too_many_records, ipv4_text, ipv6_octets, Word, WordForm, number_word, ipv4_word, ipv6_word, name_word, string_word, SpellsString, SaysForm, may_be_quoted, SaysForms, forms_of, SaysTyped, hex_octets, is_hex_word, SaysUnknown, is_unknown_mark, SaysAsSpelled, Says, EntryMeaning, faulty, gives, Nothing, EntryKind, no_words, directive, owned, unowned, kind_of, directive_word, owner_word, OriginIs, NameIs, OwnerBefore, most_ttl, TtlSays, ttl_in_force, TtlIs, is_zone_type, TypeIs, DataIs, IsRecord, Fields, fields, IsNoTtl, is_other_class, are_too_many, RecordGives, DirectiveSays, DirectiveGives, KindGives, EntryGives, Meaning, records, fault_at, after, line_after, EntriesMean, Means}
 use Rattle.dns_spec.proofs.DomainNames.NameLaws.{octets_equal-decides}
 use Rattle.dns_spec.proofs.NameTexts.Escapes.{escape_spells}
 use Rattle.dns_spec.proofs.WorkedExamples.Zones.{example}
 
--- a value with what holds of it, where one is found
+-- a value for which P holds, if one is found
 abbrev pub Found : {A : Type 0} → (A → Type 0) → Type 0
 Found {A} P = Option ((v : A) × P v)
 
@@ -13,7 +13,7 @@ abbrev and_then : {A B : Type 0} → Option A → (A → Option B) → Option B
 and_then None f = None
 and_then (Some a) f = f a
 
--- what is found by whether there is a value, and by a test
+-- what is found, by whether there is a value, and by a test
 abbrev matched : {A B : Type 0} {P : B → Type 0} {Q : A → B → Type 0} (o : Option A) → Found P
     → ((a : A) → Found (Q a)) → Found (λ v. MatchOption o (P v) (λ a. Q a v))
 matched None first second = first
@@ -24,7 +24,7 @@ abbrev chosen : {B : Type 0} {P Q : B → Type 0} (b : Bool) → Found P → Fou
 chosen true one other = one
 chosen false one other = other
 
--- a test that comes out true
+-- a test that passes
 abbrev holds : (b : Bool) → Option (b ≡ true)
 holds true = Some refl
 holds false = None
@@ -33,7 +33,7 @@ abbrev fails : (b : Bool) → Option (b ≡ false)
 fails true = None
 fails false = Some refl
 
--- a value, or that there is none
+-- a value, or the proof that there is none
 abbrev there : {A : Type 0} (o : Option A) → Found (λ (v : A). o ≡ Some v)
 there None = None
 there (Some v) = Some (v, refl)
@@ -42,7 +42,7 @@ abbrev missing : {A : Type 0} (o : Option A) → Option (o ≡ None)
 missing None = Some refl
 missing (Some v) = None
 
--- what a test tells
+-- one of two cases, by a test
 abbrev by_test : {P Q : Type 0} (b : Bool) → (b ≡ true → P) → (b ≡ false → Q) → P ⊎ Q
 by_test true f g = inl (f refl)
 by_test false f g = inr (g refl)
@@ -58,7 +58,7 @@ same_or_not xs ys =
 abbrev same : (xs ys : Octets) → Option (xs ≡ ys)
 same xs ys = elim (same_or_not xs ys) [ inl e ↦ Some e | inr apart ↦ None ]
 
--- at most n tokens of a text, and what is after them
+-- at most n tokens of a text, and the octets after them
 abbrev pub Spelled : Octets → List Token × Octets → Type 0
 Spelled text r = TokensThen text r.0 r.1
 
@@ -71,13 +71,13 @@ tokens_in (suc n) text = elim (there (token_front text)) [
       ((r.0.0 ∷ more.0.0, more.0.1), (r.0.1, r.1, more.1))
 ]
 
--- A text within its limit that has at most 99 tokens means what its entries mean.
+-- A text within its limit with at most 99 tokens means what its entries mean.
 abbrev pub entries_of : Octets → List Entry
 entries_of text =
     let r = (tokens_in 99 text).0 in
     with_end whole_text r.1 (cut_entries false r.0)
 
--- the octet that a text begins with, by itself or escaped, and the text after it
+-- the octet that a text begins with, as itself or escaped, and the text after it
 abbrev Begins : Octets → ℕ × Octets → Type 0
 Begins text u = (first : Octets) × (text ≡ first ++ u.1) × SpellsOctet first u.0
 
@@ -130,7 +130,7 @@ name_in o text = elim (same_or_not text (codes "@")) [
   ]
 ]
 
--- a word that states a TTL, or none
+-- a word that states a TTL, or states none
 abbrev says_ttl : Word → ℕ → Bool
 says_ttl w n = not w.is_quoted && octets_equal w.raw (decimal n) && nat_le n most_ttl
 
@@ -212,7 +212,7 @@ data_in t ws o = and_then (spelled_in t o ws) (λ d. and_then (holds (valid t d.
       record { as_spelled = d.0; said = d.1; is_valid = valid; lower = refl },
     )))
 
--- What a word of an entry says, after those before it.
+-- What a word of an entry means, after the entries before it.
 abbrev origin_after : (o : DomainName) (earlier : List Entry) → Found (OriginIs o earlier)
 origin_after o [] = Some (o, refl)
 origin_after o (e ∷ earlier) =
@@ -235,7 +235,7 @@ abbrev ttl_after : (earlier : List Entry) (stated : Option Word) → Found (TtlI
 ttl_after earlier stated = matched (ttl_in_force earlier stated) None
     (λ w. elim (ttl_of w) [ inl n ↦ Some n | inr none ↦ None ])
 
--- a type, or that the word names none
+-- a type, or the proof that the word names none
 abbrev names_type : (raw : Octets) → Found (NamesType raw)
 names_type raw = elim (there (type_by_mnemonic raw)) [
   | Some t ↦ Some (t.0, inl t.1)
@@ -272,7 +272,7 @@ abbrev data_after : (o : DomainName) (earlier : List Entry) (ws : List Word)
 data_after o earlier ws = and_then (type_in ws) (λ t. and_then (origin_after o earlier)
     (λ m. and_then (data_in t.0 (drop 1 ws) m.0) (λ d. Some (d.0, (t.0, t.1, (m.0, m.1, d.1))))))
 
--- whether something holds, or which value it has or that it has none, where that is told
+-- A decided, or a value or the proof that there is none, if this is decided
 abbrev Told : Type 0 → Type 0
 Told A = Option (A ⊎ (A → ⊥))
 
@@ -282,7 +282,7 @@ Known {A} P = Option (((v : A) × P v) ⊎ Nothing P)
 abbrev tested : (b : Bool) → Told (b ≡ true)
 tested b = Some (by_test b (λ e. e) (λ e h. false≢true (sym e ∙ h)))
 
--- something is found, so it is not that there is nothing
+-- something is found, so there is something
 abbrev pub some : {A : Type 0} {P : A → Type 0} → (v : A) × P v → Nothing P → ⊥
 some f none = none f.0 f.1
 
@@ -315,7 +315,7 @@ whole_record o earlier Owner f n d =
     record { owner = (n.0, n.1, refl); ttl = k.1; rtype = t.1; rdata = d.1 } in
     Some (gives (r ∷ []), (r, is, refl))))
 
--- What a record gives: its lowest fault, or itself. That its data is at fault isn't told.
+-- What a record means: its lowest fault, or itself. Faults of its data are not decided.
 abbrev record_in : (o : DomainName) (earlier : List Entry) (fault : FileFault) (Owner : DomainName
     → Type 0) (f : Fields) → Known Owner → Found (RecordGives o earlier fault Owner f)
 record_in o earlier fault Owner f None = None
@@ -331,7 +331,7 @@ record_in o earlier fault Owner f (Some (inl n)) =
     (unless too_many_records (tested (are_too_many earlier))
     (whole_record o earlier Owner f n d))))))))
 
--- what a directive gives
+-- what a directive means
 abbrev directive_in : {A : Type 0} (P : A → Word → Type 0)
     → ((w : Word) → Known (λ v. P v w)) → (ws : List Word) → Found (DirectiveSays P ws)
 directive_in P one [] = Some (faulty directive_words, inl (λ v h. h, refl))
@@ -344,7 +344,7 @@ directive_in P one (w ∷ []) = elim (one w) [
   ]
 ]
 
--- a name, or that there is none since the word is quoted
+-- a name, or the proof that there is none since the word is quoted
 abbrev name_told : (o : DomainName) (earlier : List Entry) (w : Word) → Known (NameIs o earlier w)
 name_told o earlier w = elim (by_test w.is_quoted (λ e. e) (λ e. e)) [
   | inl quoted ↦ Some (inr (λ n h. false≢true (sym (ap not quoted) ∙ h.0)))
@@ -364,7 +364,7 @@ directive_by o earlier name ws =
     (directive_in (λ n w. TtlSays w n) (λ w. Some (ttl_of w)) ws)
     (Some (faulty unknown_directive, refl)))
 
--- what an entry gives
+-- what an entry means
 abbrev kind_in : (o : DomainName) (earlier : List Entry) (k : EntryKind)
     → Found (KindGives o earlier k)
 kind_in o earlier no_words = Some (gives [], refl)
@@ -392,7 +392,7 @@ entries_in o earlier [] = Some (records [], refl)
 entries_in o earlier (e ∷ es) = and_then (entry_gives o earlier e)
     (λ g. entry_then o earlier e es (entries_in o (e ∷ earlier) es) g.0 g.1)
 
--- what a text means, where its entries mean something, and what it means
+-- what a text means, if its entries mean something
 abbrev pub text_with : (text : Octets) → Found (EntriesMean example [] (entries_of text))
     → Found (Means example text)
 text_with text entries =
@@ -417,13 +417,13 @@ text_with text entries =
 abbrev pub text_in : (text : Octets) → Found (Means example text)
 text_in text = text_with text (entries_in example [] (entries_of text))
 
--- what is found is v
+-- the value found is v
 pub found_is : {A : Type 0} {P : A → Type 0} (o : Found P) (v : A)
     → option_map (λ (f : (w : A) × P w). f.0) o ≡ Some v → P v
 found_is None v e = absurd (none-some v e)
 found_is {A} {P} (Some f) v e = subst P (same_Some f.0 v e) f.1
 
--- of each row the second holds of the first
+-- P holds for the two parts of each row
 pub Rows : {A B : Type 0} → (A → B → Type 0) → List (A × B) → Type 0
 Rows P [] = Unit {0}
 Rows P (r ∷ rows) = P r.0 r.1 × Rows P rows
@@ -445,14 +445,14 @@ are_found {A} {B} P read (r ∷ rows) e =
         ≡ Some r.1 ∷ map (λ (s : A × B). Some s.1) rows → value_of (read r.0) ≡ Some r.1
     head e = cc
 
--- each text means what stands beside it
+-- each text means what is next to it
 abbrev pub Mean : List (Octets × Meaning) → Type 0
 Mean = Rows (Means example)
 
 pub reads : (text : Octets) (m : Meaning) → value_of (text_in text) ≡ Some m → Means example text m
 reads text m e = found_is (text_in text) m e
 
--- of each type these words say this data, relative to `example.`
+-- for each type these words spell this data, relative to `example.`
 abbrev pub SaysOf : ℕ × List Word → Octets → Type 0
 SaysOf said d = Says said.0 said.1 example d
 

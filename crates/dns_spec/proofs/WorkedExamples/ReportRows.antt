@@ -1,4 +1,4 @@
--- What is reported of worked zones, octet for octet.
+-- The reports about worked zones, octet by octet.
 use Rattle.dns_spec.proofs.Common.{◌≡◌, ℕ, Bool, true, false, List, [], ◌∷◌, ◌++◌, codes, refl, lit<, lit≤, ◌<◌, All, Contains, digits, octet_text, Octets, DomainName, wire, labels_from, type_a, type_ns, type_soa, type_txt, cut, hex_octets, data_text, ResourceRecord, HoldSameRecords, zone_of, faults, bad_ttl, bad_type, records, fault_at, zone_text, IsReadRecord, record_line, Options, Report, Reports, report_of_meaning, zone_report, All-from_recursion}
 use Rattle.dns_spec.proofs.WorkedExamples.FileRows.{small_file, six_records, small_file_means}
 use Rattle.dns_spec.proofs.WorkedExamples.Zones.{dotted, example, entry, in_zone, alias, server, soa_of, strings_data, net_192, small_records, small_zone_with}
@@ -12,7 +12,7 @@ passed output = record { output = output; passes = true }
 abbrev failed : Octets → Report
 failed output = record { output = output; passes = false }
 
--- what is reported without options, with quiet and with print alone, and with both
+-- the reports without options, with only quiet, with only print, and with both
 abbrev no_options : Options
 no_options = options false false
 
@@ -74,15 +74,15 @@ report_rows :
     -- an empty file
     × (report_of_meaning no_options example (records [])
     ≡ failed (codes "example. Z01\nexample. Z04\n"))
-    -- an empty file for the root, whose faults are reported though the zone itself was asked for
+    -- an empty file for the root; its faults are reported although printing was asked for
     × (report_of_meaning printing [] (records []) ≡ failed (codes ". Z01\n. Z04\n"))
     -- a fault of the file
     × (report_of_meaning printing example (fault_at bad_ttl 4) ≡ failed (codes "line 4: R09\n"))
-    -- quiet alone reports no fault of the file either
+    -- with only quiet, a fault of the file is not reported either
     × (report_of_meaning quiet example (fault_at bad_ttl 4) ≡ failed [])
-    -- two digits of a code
+    -- the two digits of a code
     × (report_of_meaning no_options example (fault_at bad_type 7) ≡ failed (codes "line 7: R11\n"))
-    -- asked for the zone and for quiet, the checker reports faults
+    -- with print and quiet, faults are reported
     × (zone_report quiet_printing (small_zone_with (server example (codes "alias") ∷ []))
     ≡ failed (codes "example. Z09\nexample. Z10\n"))
     -- a zone at the root
@@ -91,15 +91,15 @@ report_rows :
     -- an origin with a dot in its label
     × (report_of_meaning no_options dotted_label (records dotted_records)
     ≡ passed (codes "zone a\\.b/IN: loaded serial 8\nOK\n"))
-    -- a record that stands twice is printed once; data comes before data that it begins, and quiet
-    -- keeps nothing back
+    -- a record that appears twice is printed once; data comes before data that it begins, and
+    -- quiet omits nothing
     × (zone_report quiet_printing (zone_of [] (root_records
     ++ entry (dotted (codes "ns")) type_a (net_192 1) ∷ entry [] 65280 (0 ∷ [])
     ∷ entry [] 65280 [] ∷ []))
     ≡ passed (codes ". 3600 IN SOA ns. h. 7 2 3 4 5\n" ++ codes ". 3600 IN NS ns.\n"
     ++ codes ". 3600 IN TYPE65280 \\# 0\n" ++ codes ". 3600 IN TYPE65280 \\# 1 00\n"
     ++ codes "ns. 3600 IN A 192.0.2.1\n"))
-    -- records that differ in nothing but their TTL: the lower goes first
+    -- records that differ only in their TTL: the lower TTL comes first
     × (zone_text (zone_of [] twice_for_7)
     ≡ codes "ns. 5 IN A 192.0.2.1\nns. 7 IN A 192.0.2.1\n")
 unfolding faults labels_from cut zone_text data_text hex_octets octet_text digits
@@ -124,7 +124,7 @@ small_file_printed : Reports example small_file printing (passed (
 unfolding faults labels_from cut zone_text data_text hex_octets octet_text digits
 small_file_printed = (records six_records, small_file_means, refl)
 
--- a record that may be printed, with octets in its owner and data that need a backslash
+-- a printable record whose owner and data contain octets that need a backslash
 odd_record : ResourceRecord
 odd_record = record {
   owner = (36 ∷ 7 ∷ 46 ∷ []) ∷ codes "a" ∷ [];

@@ -1,6 +1,5 @@
--- The worked replies, to datagrams and to streams, computed from the definitions: octet for octet
--- where they stand whole, else their header and length, with a part that tells them apart; and
--- their sizes.
+-- The worked replies, to datagrams and to streams, computed from the definitions: whole replies
+-- octet by octet, of others the header, the length and a distinctive part; and their sizes.
 use Rattle.dns_spec.proofs.Common.{◌≡◌, ℕ, zero, suc, ◌+◌, ◌*◌, List, [], ◌∷◌, ◌++◌, length, take, drop, replicate, codes, Option, None, Some, option_map, Octets, wire, labels_from, cut, type_txt, type_cname, type_srv, ResourceRecord, ZoneContents, run, runs_before, name_at, answer, Item, Placed, octets_by, data_by, record_laid, header_octets, records_octets, records_by, layout, size, chain_from, chain, outcome_at, outcome, extra, items, required_items, keep_longest, reply_with, reply, octets_of, decide, question_at, query_read, Header, MessageQuestion, frame, first_frame, frames, after_frames, replies}
 use mathlib.Core.Path.{refl}
 use Rattle.dns_spec.proofs.WorkedExamples.Zones.{hex, dotted, under, entry, in_zone, addresses, query, asks, www_query, small_zone, small_zone_with, large_zone, deep_zone, deep_name}
@@ -29,7 +28,7 @@ octets digits = Some (hex digits)
 abbrev part : Octets → ℕ → Octets → Option (Octets × ℕ × Octets)
 part head size digits = Some (hex head, size, hex digits)
 
--- 64 strings of 255 octets, each unlike the others
+-- 64 strings of 255 octets, each different from the others
 abbrev strings_at_x : ℕ → List ResourceRecord
 strings_at_x zero = []
 strings_at_x (suc k) = in_zone (codes "x") type_txt (255 ∷ k ∷ replicate 254 97) ∷ strings_at_x k
@@ -40,7 +39,7 @@ www_reply =
     hex (codes "123484000001000100000000"
     ++ codes "03777777076578616d706c650000010001 c00c0001000100000e100004c000020a")
 
--- digits that two replies have: the server of the zone with its address, and an alias of `www`
+-- digits that two replies contain: the server of the zone with its address, and an alias of `www`
 abbrev servers : Octets
 servers = codes "c00c0002000100000e100005026e73c00c c0250001000100000e100004c0000201"
 
@@ -67,7 +66,7 @@ reply_rows :
     × (udp small_zone (query (codes "alias.example") 1)
     ≡ octets (codes "123484000001000200000000 05616c696173076578616d706c650000010001"
     ++ to_www ++ codes "c02b0001000100000e100004c000020a"))
-    -- and the alias itself, where all types are asked for
+    -- and the alias itself, if all types are asked for
     × (udp small_zone (query (codes "alias.example") 255)
     ≡ octets (codes "123484000001000100000000 05616c696173076578616d706c650000ff0001" ++ to_www))
     -- capitals in the question stay
@@ -80,12 +79,12 @@ reply_rows :
     -- all types of the origin asked for: the servers alone
     × (udp small_zone (query (codes "example") 255)
     ≡ octets (codes "123484000001000100000001 076578616d706c650000ff0001" ++ servers))
-    -- no reply to what is shorter than a header
+    -- no reply to fewer octets than a header
     × (udp small_zone (take 11 www_query) ≡ None)
-    -- nor to a reply
+    -- nor to a response
     × (udp small_zone (hex (codes "12348000000100000000000003777777076578616d706c650000010001"))
     ≡ None)
-    -- nor to nothing
+    -- nor to an empty datagram
     × (udp small_zone [] ≡ None)
     -- another opcode
     × (udp small_zone (hex (codes "12341000000100000000000003777777076578616d706c650000010001"))
@@ -106,7 +105,7 @@ reply_rows :
     -- another class
     × (udp small_zone (hex (codes "12340000000100000000000003777777076578616d706c650000010003"))
     ≡ octets (codes "123480050001000000000000 03777777076578616d706c650000010003"))
-    -- a type that is none of a record
+    -- a type that is not a type of records
     × (udp small_zone (query (codes "example") 252)
     ≡ octets (codes "123480040001000000000000 076578616d706c650000fc0001"))
     -- a set of one octet more than fits
@@ -116,7 +115,7 @@ reply_rows :
     × (udp large_zone (query (codes "r1.example") 1)
     ≡ octets (codes "123484000001000200000000 027231076578616d706c650000010001"
     ++ codes "c00c0005000100000e100005027232c00f c0280005000100000e100002c00c"))
-    -- In outline: an empty non-terminal is no name error,
+    -- In outline: an empty non-terminal is not a name error,
     × (outline (udp small_zone (query (codes "b.ent.example") 1)) 31 12
     ≡ part (codes "123484000001000000010000") 81 (codes "c012000600010000012c0026"))
     -- nor is the name above a wildcard,
@@ -128,7 +127,7 @@ reply_rows :
     -- a set that fits exactly
     × (outline (udp large_zone (query (codes "t.example") 16)) 27 14
     ≡ part (codes "123484000001000100000000") 512 (codes "c00c0010000100000e1001d9ff61"))
-    -- the set of one octet more, where there is room
+    -- the set of one octet more, if there is room
     × (outline (tcp large_zone (query (codes "u.example") 16)) 27 14
     ≡ part (codes "123484000001000100000000") 513 (codes "c00c0010000100000e1001daff61"))
     -- a chain of 17 aliases, of which 16 are followed
@@ -137,13 +136,13 @@ reply_rows :
     -- 64 addresses that may be left out
     × (outline (udp large_zone (query (codes "m.example") 15)) 27 20
     ≡ part (codes "123484000001000100000000") 47 (codes "c00c000f000100000e100008000a03626967c00e"))
-    -- and are there where there is room
+    -- and are included if there is room
     × (outline (tcp large_zone (query (codes "m.example") 15)) 47 16
     ≡ part (codes "123484000001000100000040") 1071 (codes "c0290001000100000e100004c6336401"))
     -- 64 addresses that were asked for
     × (outline (udp large_zone (query (codes "big.example") 1)) 12 17
     ≡ part (codes "123486000001000000000000") 29 (codes "03626967076578616d706c650000010001"))
-    -- and are there where there is room
+    -- and are included if there is room
     × (outline (tcp large_zone (query (codes "big.example") 1)) 29 16
     ≡ part (codes "123484000001004000000000") 1053 (codes "c00c0001000100000e100004c6336401"))
     -- a referral without room for its glue
@@ -152,7 +151,8 @@ reply_rows :
     -- and with it
     × (outline (tcp large_zone (query (codes "h.cut.example") 1)) 49 16
     ≡ part (codes "123480000001000000010040") 1073 (codes "c02b0001000100000e100004c6336401"))
-    -- the target of SRV is written whole, and its address owner shares with the question
+    -- the target of SRV is written whole, and the owner of its address shares a suffix with the
+    -- question
     × (outline (udp large_zone (query (codes "_s._tcp.example") 33)) 33 49
     ≡ part (codes "123484000001000100000001") 82 (codes "c00c0021000100000e1000120001000200350"
     ++ codes "26e73076578616d706c6500"
@@ -164,9 +164,9 @@ reply_rows :
     -- a name of 127 labels
     × (outline (udp deep_zone (asks deep_name 1)) 271 16
     ≡ part (codes "123484000001000100000000") 287 (codes "c00c0001000100000e100004c0000202"))
-    -- whose query has 271 octets
+    -- with a query of 271 octets
     × (length (asks deep_name 1) ≡ 271)
-    -- 64 strings of 255 octets each, past 16,384 octets
+    -- 64 strings of 255 octets each, more than 16,384 octets
     × (outline (tcp (small_zone_with (strings_at_x 64)) (query (codes "x.example") 16)) 27 6
     ≡ part (codes "123484000001004000000000") 17179 (codes "c00c00100001"))
 unfolding within labels_from cut run runs_before name_at octets_by data_by
@@ -174,9 +174,9 @@ unfolding within labels_from cut run runs_before name_at octets_by data_by
     items required_items reply_with reply octets_of question_at query_read decide
 reply_rows = search []
 
--- Of a set that begins at the last place but one that a pointer reaches only the first owner is
--- spelled, and the others point to it. Past that place each is spelled up to the suffix that it
--- shares with the question.
+-- In a set that begins at the last place but one that a pointer reaches, only the first owner is
+-- spelled, and the others are pointers to it. Beyond that place, each owner is spelled up to the
+-- suffix that it shares with the question.
 abbrev after_question : List Placed
 after_question = (under (codes "y"), 12) ∷ []
 
@@ -190,7 +190,7 @@ long_rows :
 unfolding labels_from cut octets_by data_by records_by
 long_rows = (refl, refl)
 
--- the replies of a server of the small zone, to at most so many messages
+-- the replies of a server of the small zone, to at most k messages
 unfoldable answers : ℕ → Octets → Octets
 unfolding first_frame frames within labels_from cut run runs_before name_at octets_by
     data_by records_by layout size chain_from chain outcome_at
@@ -207,7 +207,7 @@ stream_rows :
     -- a message without a reply gets no frame either
     × (answers 9 three_messages
     ≡ hex (codes "002d") ++ www_reply ++ hex (codes "002d") ++ www_reply)
-    -- after the last of so many messages nothing is read
+    -- after the last message asked for, nothing is read
     × (after_frames 1 (frame www_query ++ frame www_query) ≡ frame www_query)
     × (answers 1 (frame www_query ++ frame www_query) ≡ hex (codes "002d") ++ www_reply)
     × (after_frames 0 three_messages ≡ three_messages)
@@ -215,7 +215,7 @@ stream_rows :
     -- an empty message is a message
     × (frames 9 (hex (codes "0000")) ≡ [] ∷ [])
     × (answers 9 (hex (codes "0000")) ≡ [])
-    -- a message of 600 octets: they are not one question, so the header is sent alone
+    -- a message of 600 octets: they are not exactly one question, so only the header is sent
     × (answers 9 (hex (codes "0258") ++ www_query ++ replicate 571 0)
     ≡ hex (codes "000c 123480010000000000000000"))
     -- a stream that ends inside a length, or inside a message, has no frame there
@@ -240,15 +240,15 @@ reply_size z limit q = size (Some q) (keep_longest z limit q)
 size_rows :
     -- a set of strings that fits exactly
     (reply_size large_zone 512 (asked (codes "t.example") 16) ≡ 27 + 12 + (256 + 217))
-    -- one octet more, where there is room
+    -- one octet more, if there is room
     × (reply_size large_zone 16384 (asked (codes "u.example") 16) ≡ 27 + 12 + (256 + 218))
     -- 17 aliases
     × (reply_size large_zone 512 (asked (codes "c1.example") 1) ≡ 28 + 17 * 12 + 8 * 5 + 9 * 6)
-    -- an MX without its addresses, and with them
+    -- an MX without its addresses
     × (reply_size large_zone 512 (asked (codes "m.example") 15) ≡ 27 + 20)
     -- with them
     × (reply_size large_zone 16384 (asked (codes "m.example") 15) ≡ 27 + 20 + 64 * 16)
-    -- a referral without its glue, and with it
+    -- a referral without its glue
     × (reply_size large_zone 512 (asked (codes "h.cut.example") 1) ≡ 31 + 18)
     -- with it
     × (reply_size large_zone 16384 (asked (codes "h.cut.example") 1) ≡ 31 + 18 + 64 * 16)
@@ -269,10 +269,10 @@ abbrev www_alias : ResourceRecord
 www_alias = entry (under (codes "www")) type_cname (wire (under (codes "ns")))
 
 layout_rows :
-    -- its names, and their places: 10 octets stand between owner and data
+    -- its names and their places: 10 octets are between owner and data
     ((record_laid [] 12 www_alias).names
     ≡ (under (codes "www"), 12) ∷ (under (codes "ns"), 35) ∷ [])
-    -- the target of SRV is no name to a writer
+    -- the target of SRV is not a name to a writer
     × ((record_laid [] 12 (in_zone (codes "s") type_srv
     (replicate 6 0 ++ wire (under (codes "ns"))))).names ≡ (under (codes "s"), 12) ∷ [])
 unfolding labels_from cut octets_by data_by

@@ -7,18 +7,18 @@ text_rows :
     × (name_text [] ≡ codes ".")
     -- letters keep their case
     × (name_text (codes "WwW" ∷ codes "-_09" ∷ []) ≡ codes "WwW.-_09.")
-    -- a dot inside a label is not one between labels
+    -- a dot inside a label does not separate labels
     × (name_text (codes "a.b" ∷ codes "c" ∷ []) ≡ codes "a\\.b.c.")
     -- `@` as the only label is not the origin
     × (name_text (codes "@" ∷ []) ≡ codes "\\@.")
-    -- all octets that mean something else without a backslash
+    -- all octets that have a meaning of their own without a backslash
     × (name_text (codes "\"$().;@\\" ∷ []) ≡ codes "\\\"\\$\\(\\)\\.\\;\\@\\\\.")
-    -- their neighbours, and the ends of the printed octets
+    -- their neighbours, and the first and last of the printable octets
     × (name_text (codes "!#%'*-/:<?A[]^~" ∷ []) ≡ codes "!#%'*-/:<?A[]^~.")
     × (name_text ((0 ∷ 32 ∷ 127 ∷ 255 ∷ []) ∷ []) ≡ codes "\\000\\032\\127\\255.")
-    -- the digit after an octet's three is an octet of its own
+    -- a digit after an octet's three digits is an octet of its own
     × (name_text ((9 ∷ 49 ∷ []) ∷ []) ≡ codes "\\0091.")
-    -- escapes, after their backslash: one octet, three digits, three past 255, and two digits
+    -- escapes after their backslash: one octet, three digits, three beyond 255, and two digits
     × (escape_front (codes ".b") ≡ Some (46, codes "b"))
     × (escape_front (codes "0461") ≡ Some (46, codes "1"))
     × (escape_front (codes "256") ≡ None)
@@ -27,10 +27,10 @@ text_rows :
     × (name_of (hex (codes "01 61 00 78 79 7a")) ≡ Some (dotted (codes "a"), codes "xyz"))
     -- the root
     × (name_of (hex (codes "00 61")) ≡ Some ([], codes "a"))
-    -- a label that isn't whole, and a name without the root's 0
+    -- an incomplete label, and a name without the root's 0
     × (name_of (hex (codes "02 61")) ≡ None)
     × (name_of (hex (codes "01 61")) ≡ None)
-    -- a pointer is no label, nor are 64 octets
+    -- a pointer is not a label, nor are 64 octets
     × (name_of (hex (codes "c0 0c")) ≡ None)
     × (name_of (64 ∷ (replicate 64 97 ++ 0 ∷ [])) ≡ None)
 unfolding octet_text labels_from

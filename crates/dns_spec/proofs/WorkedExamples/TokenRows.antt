@@ -9,18 +9,18 @@ token_rows :
     × (token_front (codes "\"a b\\\"c\" d") ≡ Some (quoted_string (codes "a b\\\"c"), codes " d"))
     × (token_front (codes "a(b") ≡ Some (word (codes "a"), codes "(b"))
     × (token_front (codes "\r\nb") ≡ Some (line_end, codes "b"))
-    -- none begins
+    -- no token begins
     × (token_front [] ≡ None)
     × (token_front (codes "\rb") ≡ None)
     × (token_front (codes "\"a") ≡ None)
-    -- a line end inside parentheses ends no entry
+    -- a line end inside parentheses does not end an entry
     × (cut_entries false (opening ∷ line_end ∷ word (codes "a") ∷ [])
     ≡ (opening ∷ line_end ∷ word (codes "a") ∷ []) ∷ [])
     × (cut_entries false (line_end ∷ blank ∷ []) ≡ (line_end ∷ []) ∷ (blank ∷ []) ∷ [])
-    -- why none begins
+    -- why no token begins
     × (stop_at (codes "\"a\nb") ≡ in_string (codes "\nb"))
     × (stop_at (codes "\\256") ≡ in_token (codes "\\256"))
-    -- the fault of it, where all of the text is looked at, and where it goes on
+    -- its fault, if the whole text is examined, and if the text goes on
     × (stop_fault whole_text false text_over ≡ None)
     × (stop_fault whole_text true text_over ≡ Some bad_parenthesis)
     × (stop_fault beginning true text_over ≡ Some too_long)

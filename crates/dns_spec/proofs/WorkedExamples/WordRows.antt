@@ -1,14 +1,14 @@
--- Words that stand alone in a text, and words that do not, computed from the definitions.
+-- Words that do not end early in a text, and words that do, computed from the definitions.
 use Rattle.dns_spec.proofs.Common.{◌≡◌, true, false, [], ◌∷◌, codes, plain, stands_alone, Word, Octets}
 
--- a word in quotation marks as it is spelled, its escapes not undone
+-- a quoted word as it is spelled, with its escapes
 abbrev between : Octets → Word
 between raw = record { raw = raw; is_quoted = true }
 
 word_rows :
     (stands_alone (plain (codes "mail.example.")) ≡ true)
     × (stands_alone (plain (codes "\\#")) ≡ true)
-    -- nothing, or nothing in quotation marks
+    -- an empty word, and an empty quoted word
     × (stands_alone (plain []) ≡ false)
     × (stands_alone (between []) ≡ true)
     -- a space ends a word, a semicolon begins a comment, parentheses join lines, a quotation mark
@@ -18,18 +18,18 @@ word_rows :
     × (stands_alone (plain (codes "(a")) ≡ false)
     × (stands_alone (plain (codes "a)")) ≡ false)
     × (stands_alone (plain (codes "a\"b")) ≡ false)
-    -- unless a backslash stands before it
+    -- unless a backslash precedes them
     × (stands_alone (plain (codes "a\\;\\(\\)\\\"b")) ≡ true)
     × (stands_alone (plain (codes "\\009\\0321")) ≡ true)
     -- of two backslashes the second is escaped
     × (stands_alone (plain (codes "a\\\\;b")) ≡ false)
-    -- a backslash escapes what comes after the word
+    -- a backslash escapes whatever follows the word
     × (stands_alone (plain (codes "a\\")) ≡ false)
     -- octets that are not printable
     × (stands_alone (plain (97 ∷ 9 ∷ [])) ≡ false)
     × (stands_alone (plain (97 ∷ 127 ∷ [])) ≡ false)
     × (stands_alone (between (97 ∷ 255 ∷ [])) ≡ false)
-    -- in quotation marks only these end the word
+    -- in quotation marks only these octets end the word
     × (stands_alone (between (codes "a; (b)")) ≡ true)
     × (stands_alone (between (codes "a\"b")) ≡ false)
     × (stands_alone (between (codes "a\\\"b")) ≡ true)

@@ -11,7 +11,7 @@ dotted [] = []
 dotted (c ∷ []) = (c ∷ []) ∷ []
 dotted (c ∷ d ∷ cs) = if c == 46 then [] ∷ dotted (d ∷ cs) else with_letter c (dotted (d ∷ cs))
 
--- octets by their digits, with spaces between as one likes
+-- octets by their hex digits, with any spaces between
 abbrev pub hex_digits : Octets → Octets
 hex_digits [] = []
 hex_digits (c ∷ cs) = if c == 32 then hex_digits cs else digit_value c ∷ hex_digits cs
@@ -83,7 +83,7 @@ small_zone = zone_of example small_records
 abbrev pub small_zone_with : List ResourceRecord → ZoneContents
 small_zone_with rs = zone_of example (small_records ++ rs)
 
--- 198.51.100.1 up to so many
+-- the addresses 198.51.100.1 to 198.51.100.k
 abbrev pub addresses : ℕ → Octets → List ResourceRecord
 addresses zero cs = []
 addresses (suc k) cs = addresses k cs ++ address cs (198 ∷ 51 ∷ 100 ∷ suc k ∷ []) ∷ []

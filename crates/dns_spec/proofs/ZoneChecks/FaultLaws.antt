@@ -1,4 +1,4 @@
--- A fault stands among those of a zone exactly where its condition holds, once, by the order of
+-- A fault is among the faults of a zone if and only if its condition holds, once, by the order of
 -- owners and then of codes.
 use Rattle.dns_spec.proofs.Common.{common_steps, ◌≡◌, ℕ, ◌↔◌, Bool, true, false, ◌&&◌, ◌||◌, ◌⊎◌, inl, inr, List, [], ◌∷◌, map, ◌==◌, filter, refl, sym, ap, ◌∙◌, subst, arith, Ordering, Less, nat_cmp, Contains, flat_map, ordering_then, and_parts, and_from, eqb-true, eq-eqb, tied_itself, flat_map-cons, DomainName, folded, names_equal, same, name_order, ResourceRecord, ZoneContents, owns, distinct, IsStrictlySortedBy, Check, is_origin, is_owner, checks, fails, Fault, faults_at, checked_names, faults, fault_order, AllByRecursion}
 use Rattle.dns_spec.proofs.ZoneChecks.FaultOrder.{Lower, one_lower, each_lower, name_order_total, name_tie, folded_folded}
@@ -8,7 +8,7 @@ use Rattle.dns_spec.proofs.General.Tests.{any_among, among_any, any_of_both, any
 unfoldable use Rattle.dns_spec.proofs.General.Sorted.{rises_test}
 use Rattle.dns_spec.proofs.General.Sorted.{Rises, apart_distinct, sort_rises, among_sort, among_distinct, rises_from, rises_filtered, rises_mapped, rises_joined, strictly_sorted}
 
--- A name is checked where it is the origin or an owner.
+-- A name is checked if it is the origin or an owner.
 abbrev IsChecked : ZoneContents → DomainName → Type 0
 IsChecked z n = (is_origin z n ≡ true) ⊎ (is_owner z n ≡ true)
 
@@ -18,7 +18,7 @@ owner_if_owns z n t e =
     let own : ResourceRecord → Bool = λ r. same r.owner n in
     sym (any_counted own z.records) ∙ any_of_both own (λ r. r.rtype == t) z.records e
 
--- Each check that a name fails is one of the origin or of an owner.
+-- Each name that fails a check is the origin or an owner.
 abbrev OfChecked : ZoneContents → DomainName → ℕ × Check → Type 0
 OfChecked z n c = c.1 z n ≡ true → IsChecked z n
 
@@ -32,7 +32,7 @@ failing_is_checked z n code e =
     each_at (OfChecked z n) r.0 checks
     (each_of_checked z n) r.1 (and_parts (r.0.0 == code) (r.0.1 z n) r.2).1
 
--- a name in lower case that is checked stands among the checked names
+-- a name in lower case that is checked is among the checked names
 checked_among : (z : ZoneContents) (n : DomainName)
     → Lower n → IsChecked z n → Among n (checked_names z)
 checked_among z n low is_checked =
@@ -78,7 +78,7 @@ fails_fault z n code e =
     subst (λ k. Among (record { owner = n; code = k }) (faults_at z n))
     (eqb-true r.0.0 code both.0) there
 
--- A fault stands among the faults exactly where its condition holds.
+-- A fault is among the faults if and only if its condition holds.
 pub fault_stands : (z : ZoneContents) (n : DomainName) (code : ℕ) → folded n ≡ n
     → Contains (faults z) (record { owner = n; code = code }) ↔ (fails z n code ≡ true)
 unfolding faults
@@ -99,7 +99,7 @@ fault_stands z n code low = (forth, back)
         (among_joined (faults_at z) _ n (checked_names z)
         (checked_among z n low (failing_is_checked z n code e)) (fails_fault z n code e))
 
--- the faults of one name rise by codes, and those of a list of names by names and then by codes
+-- the faults of one name rise by code, and the faults of a list of names by name and then by code
 code_order : ℕ × Check → ℕ × Check → Ordering
 code_order c d = nat_cmp c.0 d.0
 
@@ -133,7 +133,7 @@ faults_rise z (n ∷ names) r =
         ∙ each_at (λ y. name_order n y ≡ Less) later.0 names r.0 later.1 in
         ap (λ o. ordering_then o (nat_cmp f.code g.code)) order
 
--- The faults stand each once, by owners and then by codes.
+-- Each fault is in the list once, and the faults are sorted by owner and then by code.
 pub faults_are_sorted : (z : ZoneContents) → IsStrictlySortedBy fault_order (faults z)
 unfolding faults
 faults_are_sorted z =

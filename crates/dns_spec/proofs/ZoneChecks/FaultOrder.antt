@@ -8,7 +8,7 @@ use Rattle.dns_spec.proofs.General.Sorted.{length-sort_by, same_sorted}
 use Rattle.dns_spec.proofs.General.Orderings.{eqb_decides, nat_ties, nat_tie}
 use Rattle.dns_spec.proofs.General.Truths.{in_rest}
 
--- how many types records have
+-- the number of types of records
 same_type_count : (xs ys : List ResourceRecord)
     → SameCounts xs ys → length (distinct ◌==◌ (map (λ (r : ResourceRecord). r.rtype) xs))
     ≡ length (distinct ◌==◌ (map (λ (r : ResourceRecord). r.rtype) ys))
@@ -21,7 +21,7 @@ same_type_count xs ys c =
     (same_values f eqb eqb_decides xs ys c) (same_values f eqb eqb_decides ys xs back))
     ∙ length-sort_by nat_cmp (distinct ◌==◌ (map f ys))
 
--- names in lower case are told apart by their order
+-- the order of names in lower case determines whether they are equal
 abbrev pub Lower : DomainName → Type 0
 Lower n = folded n ≡ n
 

@@ -6,7 +6,7 @@ use Rattle.dns_spec.proofs.General.Elements.{Among, each_at, among_mapped}
 use Rattle.dns_spec.proofs.General.Filters.{filter_nothing, map_nothing, flat_nothing}
 use Rattle.dns_spec.proofs.General.Sorted.{among_sort, among_distinct, sort_short}
 
--- no check holds of the origin of a zone that passes
+-- no check holds for the origin of a zone that passes
 pub checks_of_origin : (z : ZoneContents) → folded z.origin ≡ z.origin
     → Passes z → AllByRecursion (λ (k : ℕ × Check). k.1 z z.origin ≡ false) checks
 unfolding faults
@@ -20,11 +20,11 @@ checks_of_origin z low passes =
     (map_nothing (λ (k : ℕ × Check). record { owner = z.origin; code = k.0 })
     (filter (λ (k : ℕ × Check). k.1 z z.origin) checks) none)
 
--- one of the list
+-- one of the checks
 abbrev pub IsCheck : Check → Type 0
 IsCheck c = Among c (map (λ (k : ℕ × Check). k.1) checks)
 
--- nor does one hold of an owner
+-- nor does one hold for an owner
 pub passes_check : (z : ZoneContents) → folded z.origin ≡ z.origin → AllByRecursion
     (λ (r : ResourceRecord). folded r.owner ≡ r.owner) z.records → Passes z → (r : ResourceRecord)
     → Among r z.records → (c : Check) → IsCheck c → c z r.owner ≡ false
@@ -58,7 +58,7 @@ pub few_soa : (z : ZoneContents) → folded z.origin ≡ z.origin
     → Passes z → length (filter (λ (r : ResourceRecord). r.rtype == type_soa) (at z z.origin)) ≤ 1
 few_soa z low passes = grind (arith, common_steps, checks_of_origin, names_equal-decides, ltb-false)
 
--- so no order is asked of it
+-- so its order does not matter
 pub one_soa : (z : ZoneContents) → folded z.origin ≡ z.origin → Passes z → rrset z z.origin type_soa
     ≡ filter (λ (r : ResourceRecord). r.rtype == type_soa) (at z z.origin)
 one_soa z low passes = grind (arith, sort_short, few_soa)

@@ -1,12 +1,12 @@
--- A text that goes on begins with the tokens of its beginning, but for the last of them, which may
--- go on too.
+-- A text that goes on begins with the tokens of its beginning, except for the last one, which may
+-- continue.
 use Rattle.dns_spec.proofs.Common.{◌≡◌, ℕ, zero, suc, ◌+◌, ◌⊎◌, inl, inr, Bool, true, false, not, ◌==◌, Option, Some, None, [], ◌∷◌, ◌++◌, take, drop, refl, sym, ◌∙◌, ap, subst, arith, if◌then◌else◌, eqb-true, true≢false, false≢true, none-some, prefix_len, Octets, is_word_octet, Token, blank, comment, word, is_blank, unit_left, run_length, word_length, string_length, quoted_front, unquoted_front, line_feed_front, token_front, parenthesis, is_line_end, is_cut_short}
 use Rattle.dns_spec.proofs.ZoneTexts.ReadWords.{front_taken}
 use Rattle.dns_spec.proofs.NameTexts.Escapes.{counted_escape}
 use Rattle.dns_spec.proofs.General.Fronts.{drop_one, dropped_more, taken_more}
 use Rattle.dns_spec.proofs.General.Tests.{prefix_more}
 
--- what is not cut short is not where the text goes on
+-- what is not cut short stays so if the text goes on
 pub uncut : (place more : Octets)
     → is_cut_short place ≡ false → is_cut_short (place ++ more) ≡ false
 uncut place more h = grind arith
@@ -20,7 +20,7 @@ module _ (by : ℕ → Bool) where
       → is_cut_short (o ∷ text) ≡ false) → unit_left by o (text ++ more) ≡ unit_left by o text
   unit_more o text more h = grind arith
 
-  -- a run that ends where the text is not cut short ends there too where the text goes on
+  -- a run that ends where the text is not cut short ends there too if the text goes on
   pub run_more : (k : ℕ) (text more : Octets) → is_cut_short (drop (run_length by k text) text)
       ≡ false → run_length by k (text ++ more) ≡ run_length by k text
   unfolding run_length
@@ -47,18 +47,18 @@ module _ (by : ℕ → Bool) where
       go (Some k) e later h =
           grind (arith, ℕ, None, run_length, unit_more, none-some, is_cut_short, drop_one)
 
--- a token that may go on
+-- a token that may continue
 pub record Loose (t : Token) : Type 0 where
   pub unmarked : parenthesis t ≡ None
   pub inside : is_line_end t ≡ false
 
--- where the text can't go on, if no token begins
+-- where the text can't continue, if no token begins
 abbrev pub stop_place : ℕ → Octets → Octets
 stop_place o text = if o == 34 then drop (string_length text) text else o ∷ text
 
 module _ (more : Octets) where
-  -- what a text and one that goes on begin with: the same token, or one that may go on; or none,
-  -- where it is not cut short
+  -- what a text and a longer one begin with: the same token, or one that may continue; or none, if
+  -- the text is not cut short
   Keeps : Octets → Option (Token × Octets) → Option (Token × Octets) → Type 0
   Keeps place None longer = is_cut_short place ≡ false → longer ≡ None
   Keeps place (Some r) longer =
@@ -69,7 +69,7 @@ module _ (more : Octets) where
       → (b ≡ false → Keeps place y y') → Keeps place (if b then x else y) (if b then x' else y')
   choose place b x y x' y' h h1 = grind arith
 
-  -- a token up to where octets of its kind end
+  -- a token up to the end of the octets of its kind
   up_to : (place : Octets) (t : Token) (p : ℕ → Bool) (text : Octets)
       → Loose t → Keeps place (Some (t, drop (prefix_len p text) text))
       (Some (t, drop (prefix_len p (text ++ more)) (text ++ more)))
@@ -147,7 +147,7 @@ module _ (more : Octets) where
   none_kept o text e = subst
       (λ x. Keeps (stop_place o text) x (token_front (o ∷ (text ++ more)))) e (front_keeps o text)
 
--- where a text is cut short no token begins
+-- if a text is cut short, no token begins
 pub cut_none : (text : Octets) → is_cut_short text ≡ true → token_front text ≡ None
 unfolding run_length
 cut_none text h = grind (arith, eqb-true)

@@ -6,8 +6,8 @@ use Rattle.dns_spec.proofs.ZoneTexts.Beginnings.{Loose, run_more, stop_place, fr
 use Rattle.dns_spec.proofs.General.Truths.{and_later}
 use Rattle.dns_spec.proofs.General.Fronts.{looked_at, dropped_more}
 
--- the tokens that a text begins with, wherever it goes on: all of its beginning, or all but the
--- last
+-- the tokens that a text begins with, however it goes on: all those of its beginning, or all but
+-- the last
 record Settled (more text : Octets) (ts : List Token) (rest : Octets) : Type 0 where
   sure : List Token
   middle : Octets
@@ -66,7 +66,7 @@ before_all-cons : (ts es : List Token) (ess : List (List Token))
 before_all-cons [] es ess = refl
 before_all-cons (t ∷ ts) es ess = ap (before_first t) (before_all-cons ts es ess)
 
--- what tokens are cut into, whatever tokens come after them: whole entries, and a part of one
+-- what tokens are cut into, whatever tokens follow them: whole entries, and a part of one
 record Cuts (is_open : Bool) (ts : List Token) : Type 0 where
   whole : List (List Token)
   part : List Token
@@ -144,7 +144,7 @@ after-fault : (rs : List ResourceRecord) (later : Meaning) (fault : FileFault) (
 unfolding fault_of
 after-fault rs later fault line h = grind arith
 
--- a parenthesis that is misplaced stays so, whatever comes after
+-- a misplaced parenthesis stays misplaced, whatever follows
 turns_fail : (b : Bool) (ts us : List Token)
     → take_turns b (parentheses ts) ≡ false → take_turns b (parentheses (ts ++ us)) ≡ false
 turns_fail b [] us h = absurd (true≢false h)
@@ -164,7 +164,7 @@ unmarked_end (u ∷ ts) t e = ap (cons_option (parenthesis u)) (unmarked_end ts 
 no_end : (ts : List Token) → parentheses (ts ++ []) ≡ parentheses ts
 no_end ts = ap parentheses (append-nil ts)
 
--- why a beginning can't go on, and why the text can't
+-- why a beginning can't continue, and why the text can't
 string_fault_more : (place more : Octets)
     → is_cut_short place ≡ false → string_fault (place ++ more) ≡ string_fault place
 string_fault_more place more h = grind arith
@@ -187,7 +187,7 @@ cut_rest : (is_open : Bool) (rest : Octets)
     → is_cut_short rest ≡ true → stop_fault beginning is_open (stop_at rest) ≡ Some too_long
 cut_rest is_open rest h = grind arith
 
--- the entries that a text is known to begin with give what they give, whatever comes after them
+-- the entries that a text is known to begin with keep their meaning, whatever follows them
 module _ (o : DomainName) (fault : FileFault) (line : ℕ) where
   entries_then : (earlier es xs ys : List Entry) → ((before : List Entry) → EntriesMean o before xs
       (fault_at fault line) → EntriesMean o before ys (fault_at fault line)) → EntriesMean o earlier
@@ -240,7 +240,7 @@ module _ (o : DomainName) (fault : FileFault) (line : ℕ) where
   stopped_last extent rest earlier ts turns stop at =
       (faulty fault, rw turns (rw stop refl), ap (λ l. fault_at fault l) at)
 
--- the entries of tokens and of those after them
+-- the entries of tokens and of the tokens after them
 cut_with : (extent : Extent) (rest : Octets) (ts us : List Token) (c : Cuts false ts)
     → with_end extent rest (cut_entries false (ts ++ us))
     ≡ map ended c.whole ++ with_end extent rest (before_all c.part (cut_entries c.now_open us))
@@ -270,7 +270,7 @@ module _ (o : DomainName) (earlier : List Entry) (fault : FileFault)
         s.sure s.loose c ∙ ap (λ x. map ended c.whole ++ with_end beginning rest x) is_last)
         meant
 
-    -- whatever tokens come after
+    -- whatever tokens follow
     goes_on : (us : List Token) (end : Octets) → TokensThen (s.middle ++ more) us end
         → token_front end ≡ None → ((before : List Entry) → EntriesMean o before
         (unended beginning rest last ∷ []) (fault_at fault line) → EntriesMean o before
@@ -286,7 +286,7 @@ module _ (o : DomainName) (earlier : List Entry) (fault : FileFault)
               (map ended c.whole) (unended beginning rest last ∷ []) _ tail begun),
         )
 
-    -- the misplaced parenthesis of the last entry
+    -- a misplaced parenthesis in the last entry
     wrong : (us : List Token) (end : Octets) (before : List Entry) → take_turns false (parentheses
         last) ≡ false → fault ≡ bad_parenthesis → line ≡ line_after before → EntriesMean o before
         (with_end extent end (before_all c.part (cut_entries c.now_open us))) (fault_at fault line)
@@ -300,7 +300,7 @@ module _ (o : DomainName) (earlier : List Entry) (fault : FileFault)
         (wrong_first o fault line extent end before
         (c.part ++ f.first) f.others (turns_fail false c.part f.first fails) is at)
 
-    -- the last entry has no fault of its end but the limit's
+    -- the last entry has no fault at its end except the limit's
     cut_short : ((is_open : Bool) → stop_fault beginning is_open (stop_at rest) ≡ Some too_long)
         → OctetsMean o earlier extent (front ++ more) (fault_at fault line)
     cut_short limit =
@@ -317,7 +317,7 @@ module _ (o : DomainName) (earlier : List Entry) (fault : FileFault)
               (other (sym (same_Some too_long fault (sym (limit (is_open_at_end last)) ∙ w.1))))
         ]
 
-    -- it has, and its end is not cut short
+    -- it has one, and its end is not cut short
     stuck : (x : ℕ) (xs : Octets) → rest ≡ x ∷ xs → s.middle ≡ rest → is_cut_short (stop_place x xs)
         ≡ false → OctetsMean o earlier extent (front ++ more) (fault_at fault line)
     stuck x xs shape middle whole =

@@ -1,7 +1,7 @@
--- A record that is one is given, where no code of a fault stands before it.
+-- A valid record is given, if no fault with a lower code holds.
 use Rattle.dns_spec.proofs.Common.{◌≡◌, ℕ, inr, false, List, [], ◌∷◌, Option, refl, sym, ◌∙◌, IsTrue, arith, MatchOption, is_none, false≢true, DomainName, Word, ResourceRecord, Entry, FileFault, too_many_records, EntryMeaning, gives, TtlSays, TtlIs, IsRecord, Fields, IsNoTtl, is_other_class, are_too_many, RecordGives, EntryGives, Meaning, after, EntriesMean, Lowest}
 
--- a TTL that is stated, and one that is known
+-- a TTL that is stated, and one that is in force
 ttl_stated : (earlier : List Entry) (stated : Option Word) (n : ℕ) → TtlIs earlier stated n
     → IsNoTtl stated → ⊥
 ttl_stated earlier stated n h h1 = grind arith
@@ -9,7 +9,7 @@ ttl_stated earlier stated n h h1 = grind arith
 ttl_known : (o : Option Word) (n : ℕ) → MatchOption o ⊥ (λ w. TtlSays w n) → IsTrue (is_none o) → ⊥
 ttl_known o n h h1 = grind arith
 
--- a record is one but for how many there are
+-- a record that is valid except for the number of records
 pub record_but_count : (o : DomainName) (earlier : List Entry) (code : FileFault)
     (Owner : DomainName → Type 0) (f : Fields) (r : ResourceRecord) (answer : EntryMeaning)
     → IsRecord o earlier Owner f r → is_other_class f.class ≡ false → Lowest
@@ -38,7 +38,7 @@ record_given o earlier code Owner f r h class few =
     record_but_count o earlier code Owner f r (gives (r ∷ [])) h class
     (inr (λ e. false≢true (sym few ∙ e), (r, h, refl)))
 
--- an entry gives records, and those after it mean what they mean
+-- an entry gives records, and the entries after it keep their meaning
 pub given_then : (o : DomainName) (earlier : List Entry) (e : Entry) (es : List Entry)
     (rs : List ResourceRecord) (later : Meaning) → EntryGives o earlier e (gives rs)
     → EntriesMean o (e ∷ earlier) es later → EntriesMean o earlier (e ∷ es) (after rs later)

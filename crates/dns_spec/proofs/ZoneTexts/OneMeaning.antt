@@ -1,11 +1,11 @@
--- A text means one thing.
+-- A text has at most one meaning.
 use Rattle.dns_spec.proofs.Common.{◌≡◌, ℕ, inl, inr, List, [], ◌∷◌, drop, Option, None, refl, sym, ◌∙◌, ap, ap₂, subst, subst₂, arith, codes, rules, some_pair_parts, decimal_injective, Octets, DomainName, folded, SpellsName, Word, Says, ResourceRecord, Token, token_front, TokensThen, Entry, FileFault, EntryMeaning, faulty, gives, Lowest, EntryKind, no_words, directive, owned, unowned, kind_of, directive_word, owner_word, OriginIs, NameIs, OwnerBefore, TtlIs, TypeIs, DataIs, IsRecord, Fields, record_faults, RecordGives, DirectiveGives, KindGives, EntryGives, Meaning, fault_at, after, line_after, EntriesMean, Means}
 use Rattle.dns_spec.proofs.NameTexts.OneName.{name_once}
 use Rattle.dns_spec.proofs.DataWords.OneData.{data_once}
 use Rattle.dns_spec.proofs.DataWords.TypeWords.{one_type}
 use Rattle.dns_spec.proofs.General.Options.{by_option}
 
--- an answer that holds is the only one
+-- at most one meaning holds
 abbrev Once : (EntryMeaning → Type 0) → Type 0
 Once P = (a b : EntryMeaning) → P a → P b → a ≡ b
 
@@ -18,7 +18,7 @@ lowest_once ((fault, Condition) ∷ higher) P once a b (inr (none, h)) (inl (g, 
 lowest_once ((fault, Condition) ∷ higher) P once a b (inr (none, h)) (inr (none', k)) =
     lowest_once higher P once a b h k
 
--- what an entry takes over
+-- what an entry inherits
 origin_once : (o : DomainName) (earlier : List Entry) (n m : DomainName)
     → OriginIs o earlier n → OriginIs o earlier m → n ≡ m
 origin_once o [] n m h k = h ∙ sym k
@@ -96,7 +96,7 @@ entry_gives_once : (o : DomainName) (earlier : List Entry) (e : Entry)
     → Once (EntryGives o earlier e)
 entry_gives_once o earlier e a b = search (rules, by_option, kind_gives_once, given)
 
--- what the entries mean from here, where this one gives that
+-- what the entries mean from here on, if this one means that
 abbrev pub FromHere : DomainName → List Entry → Entry → List Entry → Meaning → EntryMeaning → Type 0
 FromHere o earlier e es m answer =
     elim answer [

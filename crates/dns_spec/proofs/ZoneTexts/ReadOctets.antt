@@ -1,4 +1,4 @@
--- What the words of a text spell are octets below 256, where the origin's are.
+-- What the words of a text spell are octets below 256, if the origin's octets are.
 use Rattle.dns_spec.proofs.Common.{◌≡◌, ℕ, ◌+◌, ◌*◌, ◌<◌, inl, inr, Bool, true, false, cond, ◌&&◌, nat_lt, Option, Some, None, List, [], ◌∷◌, ◌++◌, map, length, refl, sym, subst, arith, flat_map, agree_below_at, and_parts, ltb-true, length-map, none-some, same_Some, MatchOption, MatchBool, option_map, list_all, is_ascii_hexdigit, digit_value, to_ascii_lowercase, bytes_high_first, Octets, DomainName, wire, is_label, folded, SpellsOctet, LabelThen, TextSpells, SpellsName, Part, part_octets, joined, part_folded, SaysIpv6, ipv6_groups, Word, SpellsString, WordForm, SaysForms, forms_of, SaysTyped, hex_octets, SaysUnknown, is_unknown_mark, SaysAsSpelled, Says, parts, AllByRecursion, recursion_from_All}
 use Rattle.dns_spec.proofs.DataWords.NumberAgain.{bytes_below}
 use Rattle.dns_spec.proofs.DataWords.LoweredData.{joined-parts}

@@ -1,4 +1,5 @@
--- The records that a text means are such as are read, of types that zones have, and few enough.
+-- The records that a text means are as they are read, of types that zones contain, and not too
+-- many.
 use Rattle.dns_spec.proofs.Common.{◌≡◌, ℕ, ◌+◌, ◌<◌, ◌≤◌, ◌⊎◌, Bool, true, false, cond, All, List, [], ◌∷◌, length, drop, filter, Option, Some, None, sym, subst, arith, codes, IsTrue, length-append, rules, All-weaker, ⊤, MatchOption, Octets, DomainName, is_name, folded, SpellsName, valid, lower_case, Word, ResourceRecord, FileFault, IsReadRecord, HasZoneType, Entry, EntryMeaning, faulty, gives, EntryKind, no_words, directive, owned, unowned, kind_of, directive_word, is_record, OriginIs, NameIs, OwnerBefore, most_ttl, TtlIs, TypeIs, DataIs, is_zone_type, Fields, fields, IsRecord, most_records, RecordGives, KindGives, EntryGives, Meaning, records, fault_at, after, EntriesMean, Means, AllByRecursion, All-from_recursion, recursion_from_All}
 use Rattle.dns_spec.proofs.ZoneChecks.FaultOrder.{folded_folded}
 use Rattle.dns_spec.proofs.Records.RecordOrder.{LowerOwner}
@@ -9,21 +10,21 @@ use Rattle.dns_spec.proofs.ZoneTexts.ReadOctets.{Octet, SmallName, SmallWord, na
 use Rattle.dns_spec.proofs.ZoneTexts.ReadTokens.{SmallEntry, entries_small, words_small}
 use Rattle.dns_spec.proofs.General.Elements.{each_any, each_append}
 
--- a record by the words of an entry of this kind
+-- the record of an entry of this kind
 abbrev IsRecordOf : DomainName → List Entry → EntryKind → ResourceRecord → Type 0
 IsRecordOf o earlier no_words r = ⊥
 IsRecordOf o earlier (directive name ws) r = ⊥
 IsRecordOf o earlier (owned w ws) r = IsRecord o earlier (NameIs o earlier w) (fields ws) r
 IsRecordOf o earlier (unowned ws) r = IsRecord o earlier (OwnerBefore o earlier) (fields ws) r
 
--- a fault or what comes after it
+-- a fault, or what comes after it
 unless_holds : (Q : EntryMeaning → Type 0) → ((code : FileFault) → Q (faulty code))
     → {Fault Others : Type 0} (code : FileFault) (answer : EntryMeaning)
     → (Others → Q answer) → (Fault × (answer ≡ faulty code)) ⊎ ((Fault → ⊥) × Others) → Q answer
 unless_holds Q h code answer h1 h2 = grind arith
 
--- What holds of each record by the words of an entry holds of all that a text means. The entries of
--- the text keep what `Kept` says.
+-- What holds for the record of each entry holds for all records that a text means. `Kept` holds
+-- for the entries of the text.
 module _ (o : DomainName) (Kept : Entry → Type 0) (P : ResourceRecord → Type 0)
     (holds : (earlier : List Entry) (e : Entry) → AllByRecursion Kept earlier
     → Kept e → (r : ResourceRecord) → IsRecordOf o earlier (kind_of e) r → P r) where
@@ -142,17 +143,17 @@ module _ (o : DomainName) (from : SmallName o) where
   rdata_small earlier ws d small words (t, type, (m, is, said)) =
       data_small t m (drop 1 ws) d (origin_small earlier m small is) (drop_small ws words) said
 
--- owners are names
+-- owners are valid names
 owner_is_name : (o : DomainName) (earlier : List Entry) (n : DomainName)
     → OwnerBefore o earlier n → is_name n ≡ true
 owner_is_name o [] n h = absurd h
 owner_is_name o (e ∷ earlier) n h = grind (arith, (owner_is_name o earlier n))
 
--- a type that is named is one that zones have, of 16 bits
+-- a type that is named is a type of 16 bits that zones contain
 type_known : (ws : List Word) (t : ℕ) → TypeIs ws t → (t < 65536) × IsTrue (is_zone_type t)
 type_known ws t h = grind arith
 
--- the data is said of the record's own type
+-- the data is spelled for the record's own type
 said_of_type : (o : DomainName) (earlier : List Entry) (ws : List Word) (t : ℕ) (d : Octets)
     → TypeIs ws t → DataIs o earlier ws d → (valid t d ≡ true) × (lower_case t d ≡ d)
 said_of_type o earlier ws t d type (u, type', (m, is, said)) =
@@ -221,7 +222,7 @@ records_read o text rs from (es, cut, h) =
       All-weaker (λ r. IsReadRecord r × HasZoneType r) HasZoneType (λ r is. is.1) rs all,
     )
 
--- a text means no more records than a text may have
+-- a text does not mean more records than a text may have
 abbrev counted : List Entry → ℕ
 counted es = length (filter is_record es)
 
@@ -229,7 +230,7 @@ abbrev states_record : EntryKind → Bool
 states_record s = elim s as (λ _. Bool)
     [ no_words ↦ false | directive n ws ↦ false | owned w ws ↦ true | unowned ws ↦ true ]
 
--- an entry that states a record gives one, if there is room for it, and another none
+-- an entry that states a record gives one, if there is room for it; any other entry gives none
 abbrev Fits : Bool → ℕ → EntryMeaning → Type 0
 Fits is_one count (faulty code) = ⊤
 Fits is_one count (gives rs) = (length rs ≡ cond is_one 1 0) × (length rs + count ≤ most_records)

@@ -1,5 +1,5 @@
--- The words and strings in a text are octets below 256: what stands in them by itself, and their
--- escapes, are printable.
+-- The words and strings in a text are octets below 256: their octets, escaped or not, are
+-- printable.
 use Rattle.dns_spec.proofs.Common.{◌≡◌, ℕ, zero, suc, ◌+◌, Bool, true, false, not, ◌&&◌, Option, Some, None, List, [], ◌∷◌, take, refl, arith, filter_map, eqb-true, leb-true, none-some, same_Some, Octets, Token, blank, comment, word, quoted_string, opening, closing, line_end, escape_left, unit_left, run_length, TokensThen, is_line_end, open_after, before_first, cut_entries, Entry, with_end, Entries, word_of, entry_words, Extent, AllByRecursion}
 use Rattle.dns_spec.proofs.ZoneTexts.ReadOctets.{Octet, SmallWord}
 

@@ -1,9 +1,9 @@
--- A word that is written, and something after it that ends it, begin with that word as a token.
+-- A word that is written, followed by something that ends it, is read as that word.
 use Rattle.dns_spec.proofs.Common.{common_steps, ◌≡◌, ℕ, suc, Bool, true, ◌||◌, ◌==◌, Some, [], ◌∷◌, ◌++◌, length, take, drop, nat_lt, refl, ◌∙◌, ap, arith, append_assoc, take-append_seam, drop-append_seam, false≢true, eqb-true, and_parts, false_from_ne_true, if◌then◌else◌, prefix_len, Octets, Word, is_word_octet, is_string_octet, word_text, is_unbroken, stands_alone, Token, blank, word, quoted_string, is_blank, run_length, word_length, unquoted_front, token_front}
 use Rattle.dns_spec.proofs.DataWords.WordRuns.{Runs}
 use Rattle.dns_spec.proofs.DataWords.StandingWords.{TakenWhole}
 
--- octets that a word out of quotation marks may begin with
+-- octets that an unquoted word may begin with
 abbrev begins_word : ℕ → Bool
 begins_word o = o == 92 || is_word_octet o
 
@@ -46,12 +46,12 @@ pub word_read : (w : Word) (c : ℕ) (rest : Octets)
     → token_front (word_text w ++ c ∷ rest) ≡ Some (word_token w, c ∷ rest)
 word_read w c rest alone whole ends = grind (arith, append_assoc, string_read, and_parts, bare_read)
 
--- a word begins with no blank
+-- a word does not begin with a blank
 pub no_blank : (w : Word) (rest : Octets)
     → stands_alone w ≡ true → prefix_len is_blank (word_text w ++ rest) ≡ 0
 no_blank w rest alone = grind (arith, eqb-true)
 
--- a space, and something after it that is none
+-- a space, followed by something that is not a blank
 pub blank_read : (text : Octets)
     → prefix_len is_blank text ≡ 0 → token_front (32 ∷ text) ≡ Some (blank, text)
 blank_read text none = ap (λ k. Some (blank, drop k text)) none

@@ -1,16 +1,15 @@
--- No text is without a meaning.
+-- Every text has a meaning.
 --
--- What is shown of a question is that it can't be without an answer; so which answer it has need
--- not be found.
+-- The proof shows that it can't be without one, so the meaning need not be found.
 use Rattle.dns_spec.proofs.Common.{arith, rules, ◌≡◌, ℕ, ◌⊎◌, inl, inr, Bool, true, false, List, [], ◌∷◌, Option, Some, None, refl, ap, codes, IsTrue, take, MatchOption, MatchBool, is_none, option_or, false≢true, none-some, Octets, DomainName, folded, octets_equal, Word, ResourceRecord, FileFault, unknown_directive, directive_words, bad_owner, no_owner, most_octets, Extent, extent_of, Entry, with_end, cut_entries, lexical_fault, EntryMeaning, faulty, gives, Nothing, Lowest, EntryKind, no_words, directive, owned, unowned, kind_of, nearest, directive_word, ttl_word, NameIs, OwnerBefore, TtlSays, ttl_in_force, IsRecord, Fields, fields, IsNoTtl, record_faults, RecordGives, OneWord, DirectiveSays, KindGives, EntryGives, Meaning, records, fault_at, after, line_after, EntriesMean, Means, OctetsMean}
 use Rattle.dns_spec.proofs.ZoneTexts.TextTokens.{has_tokens, tokens_cut}
 use Rattle.dns_spec.proofs.General.Truths.{Sure, sure, and_so, either_way}
 
--- what is not nothing is there
+-- what is not nothing exists
 some_there : {A : Type 0} {P : A → Type 0} → (Nothing P → ⊥) → Sure ((v : A) × P v)
 some_there not_none none = not_none (λ v p. none (v, p))
 
--- the conditions of faults, none of which holds
+-- no condition of the faults holds
 abbrev NoneHolds : List (FileFault × Type 0) → Type 0
 NoneHolds [] = Unit {0}
 NoneHolds ((fault, Condition) ∷ higher) = (Condition → ⊥) × NoneHolds higher
@@ -35,11 +34,11 @@ says_sure {A} P ws =
     lowest_sure ((directive_words, Nothing (λ (v : A). OneWord (P v) ws)) ∷ [])
     (λ given. given ≡ gives []) (λ none. sure (gives [], refl))
 
--- a word that says a TTL
+-- a word that states a TTL
 abbrev SaysTtl : Word → Type 0
 SaysTtl w = Sure ((n : ℕ) × TtlSays w n)
 
--- where there is a word, it says a TTL
+-- the word, if there is one, states a TTL
 abbrev EachSays : Option Word → Type 0
 EachSays stated = (w : Word) → stated ≡ Some w → SaysTtl w
 
@@ -49,7 +48,7 @@ either_says x y h h1 = grind arith
 stated_says : (stated : Option Word) → (IsNoTtl stated → ⊥) → EachSays stated
 stated_says stated h = grind arith
 
--- the words of a TTL that entries without fault hand on
+-- the words of TTLs that later entries inherit from entries without a fault
 record Known (earlier : List Entry) : Type 0 where
   default : EachSays (nearest (directive_word (codes "$ttl")) earlier)
   stated : EachSays (nearest ttl_word earlier)
@@ -63,7 +62,7 @@ unfolding is_faulty
 faultless rs fault e = false≢true (ap is_faulty e)
 
 module _ (o : DomainName) (earlier : List Entry) where
-  -- what an entry without fault says of TTLs
+  -- what an entry without a fault states about TTLs
   default_says : (rs : List ResourceRecord) (s : EntryKind)
       → KindGives o earlier s (gives rs) → EachSays (directive_word (codes "$ttl") s)
   default_says rs s h = search rules
@@ -89,7 +88,7 @@ module _ (o : DomainName) (earlier : List Entry) where
       → EntryGives o earlier e (gives rs) → KindGives o earlier (kind_of e) (gives rs)
   sort_given rs e = grind (arith, faultless)
 
-  -- a record has a TTL, since one is known
+  -- a record has a TTL, since one is in force
   ttl_sure : (stated : Option Word) → EachSays stated
       → (IsTrue (is_none stated) → ⊥) → Sure ((n : ℕ) × MatchOption stated ⊥ (λ w. TtlSays w n))
   ttl_sure stated h h1 = grind arith

@@ -1,7 +1,7 @@
--- Every text is made of tokens, up to a place where none begins.
+-- Every text consists of tokens, up to a place where none begins.
 use Rattle.dns_spec.proofs.Common.{◌≡◌, ℕ, zero, suc, ◌<◌, List, [], ◌∷◌, length, drop, take, refl, sym, subst, arith, Option, Some, None, ◌==◌, ⊤, if◌then◌else◌, MatchOption, Octets, Token, word, closed, token_front, TokensThen, length-drop, false, Extent, EntriesOf, with_end, cut_entries, ◌++◌}
 
--- what comes after the token is shorter than so many octets
+-- what follows the token is shorter than n octets
 Shorter : ℕ → Option (Token × Octets) → Type 0
 Shorter n front = MatchOption front ⊤ (λ r. length r.1 < n)
 
@@ -18,7 +18,7 @@ shorter : (text : Octets) → Shorter (length text) (token_front text)
 unfolding Shorter
 shorter text = grind (arith, length-drop, closed-shorter)
 
--- a token has an octet or more
+-- a token has at least one octet
 pub front-shorter : (text : Octets) (p : Token) (others : Octets)
     → token_front text ≡ Some (p, others) → length others < length text
 unfolding Shorter
@@ -52,14 +52,14 @@ tokens-within (suc n) text h =
 pub has_tokens : (text : Octets) → HasTokens text
 has_tokens text = tokens-within (suc (length text)) text (omega arith)
 
--- the entries into which these tokens are cut
+-- the entries that these tokens are cut into
 pub tokens_cut : (extent : Extent) (octets : Octets) (ps : List Token) (rest : Octets)
     → TokensThen octets ps rest → token_front rest ≡ None
     → EntriesOf extent octets (with_end extent rest (cut_entries false ps))
 tokens_cut extent octets ps rest spelled at_end =
     record { tokens = ps; rest = rest; spelled = spelled; at_end = at_end; entries = refl }
 
--- tokens and those after them
+-- tokens followed by others
 pub tokens_then : (text middle rest : Octets) (ts us : List Token)
     → TokensThen text ts middle → TokensThen middle us rest → TokensThen text (ts ++ us) rest
 tokens_then text middle rest [] us h k = subst (λ t. TokensThen t us rest) (sym h) k

@@ -1,4 +1,4 @@
-//! Replies past 16,384 octets, where pointers no longer reach the names that are written.
+//! Replies longer than 16,384 octets, in which pointers can't reach the last names.
 ghost use Rattle.std.specs.Prelude.{◌≡◌, IfOk, length};
 
 use crate::tests::written::{OneChain, Record, asked, offer};
@@ -42,7 +42,7 @@ fn put_services<H: SuffixHash>(rt: HostRuntime, writer: &mut Writer<'_, H>) -> R
     Ok(())
 }
 
-// The addresses 198.51.100.1 to 198.51.100.64 of such a target.
+// The addresses 198.51.100.1 to 198.51.100.64 of a target.
 fn put_addresses<H: SuffixHash>(
     rt: HostRuntime,
     writer: &mut Writer<'_, H>,
@@ -88,7 +88,7 @@ fn sixty_four_strings(rt: HostRuntime) -> Result<(), Fail> {
     Ok(())
 }
 
-// The reply of 17 services with the addresses of their targets: its length, and room that begins
+// The reply with 17 services and the addresses of their targets: its length, and room that begins
 // with its octets.
 fn services<H: SuffixHash>(rt: HostRuntime, hash: &mut H) -> Result<(usize, Vec<u8>), Fail>
     ensures { IfOk result (λ reply. length reply.1.items ≡ 65535) }
@@ -106,7 +106,7 @@ fn services<H: SuffixHash>(rt: HostRuntime, hash: &mut H) -> Result<(usize, Vec<
     Ok((length, out))
 }
 
-// The addresses of `t26` begin at place 17,002, so that none of their owners is shared whole.
+// The addresses of `t26` begin at place 17,002, so none of their owners is shared whole.
 #[test]
 fn names_past_the_reach_of_a_pointer(rt: HostRuntime) -> Result<(), Fail> {
     let (length, out) = services(rt, &mut QuickHash)?;

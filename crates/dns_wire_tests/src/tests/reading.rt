@@ -3,24 +3,24 @@ use dns_wire::{Message, WireFault, read_message};
 use std::alloc::{AllocError, Global};
 use std::test::Fail;
 
-// `www.example` A, answered by 192.0.2.10 at a pointer to the question.
+// `www.example` A, answered with 192.0.2.10; the owner is a pointer to the question.
 const ANSWER: [u8; 45] =
     *b"\x12\x34\x84\x00\x00\x01\x00\x01\x00\x00\x00\x00\x03\x77\x77\x77\x07\x65\x78\x61\
     \x6d\x70\x6c\x65\x00\x00\x01\x00\x01\xc0\x0c\x00\x01\x00\x01\x00\x00\x0e\x10\x00\
     \x04\xc0\x00\x02\x0a";
 
-// `nope.example` A, a name error: the SOA with two names that end in a pointer, at places 45 and
-// 58; its owner is one, at 30.
+// `nope.example` A, a name error: an SOA whose two names end with pointers, at places 45 and 58;
+// its owner is a pointer, at 30.
 const NAME_ERROR: [u8; 80] =
     *b"\x12\x34\x84\x03\x00\x01\x00\x00\x00\x01\x00\x00\x04\x6e\x6f\x70\x65\x07\x65\x78\
     \x61\x6d\x70\x6c\x65\x00\x00\x01\x00\x01\xc0\x11\x00\x06\x00\x01\x00\x00\x01\x2c\
     \x00\x26\x02\x6e\x73\xc0\x11\x0a\x68\x6f\x73\x74\x6d\x61\x73\x74\x65\x72\xc0\x11\
     \x00\x00\x00\x01\x00\x00\x1c\x20\x00\x00\x03\x84\x00\x12\x75\x00\x00\x00\x01\x2c";
 
-// The places of the pointers in it, and where the run of each began.
+// The places of its pointers, and the place where the run of each began.
 const POINTERS: [(usize, usize); 3] = [(30, 30), (45, 42), (58, 47)];
 
-// The fault of octets, or 0 where they are a message.
+// The fault of octets, or 0 if they are a message.
 fn fault(rt: HostRuntime, octets: &[u8]) -> u8 {
     match read_message(rt.alloc(), octets) {
         Ok(_) => 0,
@@ -117,7 +117,7 @@ fn pointers_to_each_place(rt: HostRuntime) -> Result<(), Fail> {
     Ok(())
 }
 
-// A message as octets, with names whole and without the lengths of data.
+// The octets of a message, with names whole and without the lengths of data.
 fn spelled(alloc: Global, message: &Message) -> Result<Vec<u8>, AllocError> {
     let mut octets = Vec::new(alloc);
     for number in [message.head.id, message.head.flags] {
@@ -153,13 +153,13 @@ fn a_label_of_pointer_octets(rt: HostRuntime) -> Result<(), Fail> {
     let Ok(message) = read_message(rt.alloc(), &octets) else {
         return Err("a pointer to the last octet of the question".into());
     };
-    // A label of the one octet c0, one of 29 octets, and the end.
+    // A label of the single octet c0, a label of 29 octets, and the end.
     assert!(rt; octets[29..].starts_with(b"\x01\xc0\x1d"));
     assert_eq!(rt; message.authorities[0].owner.octets(), &octets[29..62]);
     Ok(())
 }
 
-// A message of one question whose name has labels of one octet.
+// A message with one question, whose name has `count` labels of one octet.
 fn question_of_labels(count: u8, octets: &mut [u8; 400]) -> &[u8] {
     let count = usize::from(count).min(150);
     octets[5] = 1;

@@ -107,7 +107,7 @@ const RING: Row<'static> = Row {
 };
 
 // A question whose first label ends with the octets of `www`, after the length of that label:
-// `www.example` does not stand there, and is written but for `example`.
+// `www.example` is not a name there, so of it only `example` is shared.
 const INSIDE_A_LABEL: Row<'static> = Row {
     name: "a name inside a label of the question",
     qname: b"a\\003www.example",
@@ -121,8 +121,8 @@ const INSIDE_A_LABEL: Row<'static> = Row {
         \x00\x0e\x10\x00\x04\xc0\x00\x02\x01",
 };
 
-// Two exchanges alike but for their last label below the question's, and their addresses: as runs
-// of octets the names differ before the pointer that ends them.
+// Two exchanges that differ only in their last label before the question's, and their addresses:
+// as runs of octets, the names differ before the pointer that ends them.
 const MANY_LABELS: Row<'static> = Row {
     name: "names of many labels",
     qname: b"q.example",
@@ -177,7 +177,7 @@ const ROWS: [Row<'static>; 8] = [
     MANY_LABELS,
 ];
 
-// Whether a row's reply is written as it is wanted.
+// Whether the reply of a row is written as wanted.
 fn is_written<H: SuffixHash>(rt: HostRuntime, hash: &mut H, row: &Row<'_>) -> Result<bool, Fail> {
     Ok(written(rt, hash, row, &[])?.as_slice() == row.wanted)
 }
@@ -203,7 +203,7 @@ fn suffixes_of_the_question_are_not_hashed(rt: HostRuntime) -> Result<(), Fail> 
     Ok(())
 }
 
-// Two addresses of a name whose first label stands nowhere before them.
+// Two addresses of a name whose first label does not appear before them.
 const ADDRESSES: Row<'static> = Row {
     name: "two addresses",
     qname: b"u.example",

@@ -1,4 +1,4 @@
-//! Messages that tests write of sets of one record, and hashes to find their names by.
+//! Messages with sets of one record, as tests write them, and hashes to find their names by.
 ghost use Rattle.std.specs.Prelude.{◌≡◌, ◌≤◌};
 
 use dns_name::Name;
@@ -7,7 +7,7 @@ use dns_samples_tests::OneRecord;
 use dns_wire::{CLASS_IN, Head, Question, Section, SuffixHash, Writer};
 use std::test::Fail;
 
-/// Has one number for all suffixes, so that chains are chosen by their lengths alone.
+/// Gives all suffixes one number, so that chains are chosen by length alone.
 #[derive(Drop)]
 pub(crate) struct OneChain;
 
@@ -39,7 +39,7 @@ impl SuffixHash for CountingHash {
 /// A record: its owner as text, its type, and its data as octets.
 pub(crate) type Record<'a> = (&'a [u8], RType, &'a [u8]);
 
-/// A question, the records of its reply by their section, and the octets wanted.
+/// A question, the records of its reply by section, and the octets wanted.
 #[derive(Clone, Copy)]
 pub(crate) struct Row<'a> {
     pub(crate) name: &'a str,
@@ -59,8 +59,8 @@ fn name(text: &[u8]) -> Result<Name, Fail> {
     Ok(name)
 }
 
-/// Offers a set of one record, for which there has to be room, or none. An SOA record has the TTL
-/// of a negative answer.
+/// Offers a set of one record, which must fit, or must not. An SOA record has the TTL of a
+/// negative answer.
 pub(crate) fn offer<H: SuffixHash>(
     rt: HostRuntime,
     writer: &mut Writer<'_, H>,
@@ -84,7 +84,7 @@ pub(crate) fn offer<H: SuffixHash>(
     }
 }
 
-// Offers sets of one record each, for all of which there has to be room, or for none.
+// Offers sets of one record each; either all of them must fit, or none.
 fn offer_all<H: SuffixHash>(
     rt: HostRuntime,
     writer: &mut Writer<'_, H>,
@@ -124,8 +124,8 @@ fn finished<H: SuffixHash>(
     Ok(octets)
 }
 
-/// The octets of a row's reply, within 512 octets, where sets that do not fit are offered before
-/// the others and after them.
+/// The octets of a row's reply, within 512 octets; sets that do not fit are offered before the
+/// others and after them.
 pub(crate) fn written<H: SuffixHash>(
     rt: HostRuntime,
     hash: &mut H,

@@ -1,7 +1,7 @@
 use Rattle.dns_answer.proofs.Common.{◌≡◌, ◌*◌, [], length, filter, list_all, Offers, Took, targets_of_first, side_items, side_nodes, side_takes}
 use Rattle.dns_answer.proofs.addresses.offer_addresses.Given as goal
 
--- what was offered and taken for the first targets, and whether they are meant
+-- what was offered for the first targets, its cost, and whether they are selected
 abbrev pub invariant-targets : goal.invariant-targets
 invariant-targets g l =
     let z = l.fn.steps.zone in

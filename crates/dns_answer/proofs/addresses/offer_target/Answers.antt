@@ -17,7 +17,7 @@ module _ (g : given.Over) (c : In-Some g) where
   abbrev earlier : List DomainName
   earlier = targets_of_first c.args.i c.args.set.now
 
-  -- nothing is offered of a target that gives no items
+  -- nothing is offered for a target that gives no items
   nothing : target_items c.args.steps.now.zone (side_takes c.args.side) earlier
       (Some c.in-Some.target) ≡ [] → {w : State} → Offers w w (target_items c.args.steps.now.zone
       (side_takes c.args.side) earlier (target_at c.args.i c.args.set.now))

@@ -1,7 +1,7 @@
 use Rattle.dns_answer.proofs.Common.{◌≤◌, [], ◌∷◌, length, most_aliases, Completes, MaySeek, names_of, aliases_left}
 use Rattle.dns_answer.proofs.chain.seek_targets.Given as goal
 
--- where the names sought so far have led
+-- the result of seeking the names so far
 abbrev pub invariant-names : goal.invariant-names
 invariant-names g l = record {
   led : Completes l.fn.draft l.draft l.fn.steps l.steps l.fn.qtype (l.fn.first.name ∷ [])

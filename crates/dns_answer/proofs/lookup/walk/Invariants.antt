@@ -1,7 +1,7 @@
 use Rattle.dns_answer.proofs.Common.{◌≡◌, ◌+◌, ◌*◌, ◌≤◌, drop, IsThere, ends_at_cuts, labels_below}
 use Rattle.dns_answer.proofs.lookup.walk.Given as goal
 
--- the node is that of the name without its first labels, of which so many are left
+-- the node's name is the name without its first labels, which are still to be walked
 abbrev pub invariant-labels : goal.invariant-labels
 invariant-labels l =
     let z = l.fn.steps.zone in

@@ -1,7 +1,7 @@
 use Rattle.dns_rdata.proofs.Common.{◌≡◌, ◌<◌, ◌^◌, take, AllDigits, digits_value}
 use Rattle.dns_rdata.proofs.number.number_of_digits.Given as goal
 
--- the digits read so far say the number
+-- the digits read so far spell the number
 abbrev pub invariant-digits : goal.invariant-digits
 invariant-digits l = record {
   digits : AllDigits 10 (take l.digit-index l.digits);

@@ -7,7 +7,7 @@ few : (s : NumberSize) → size_of s ≤ 4
 few Two = omega arith
 few Four = omega arith
 
--- a number that has room in so many octets is appended by them
+-- a number that fits a size is appended in as many octets
 appended : (s : NumberSize) (n most : ℕ) (text before after piece : Octets) → (text ≡ decimal n)
     × (n ≤ most) → suc most ≡ 256 ^ size_of s → piece ≡ bytes_high_first (size_of s) n
     → after ≡ before ++ piece → Appends as_it_is (SaysNumber (size_of s) text) before after

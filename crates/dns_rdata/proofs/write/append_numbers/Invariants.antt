@@ -1,7 +1,7 @@
 use Rattle.dns_rdata.proofs.Common.{◌≡◌, ◌≤◌, ◌+◌, ◌*◌, ◌++◌, length, replicate, number_word, form_words, size_of, spaced, form_rest}
 use Rattle.dns_rdata.proofs.write.append_numbers.Given as goal
 
--- the numbers before those left are appended
+-- the numbers before the remaining ones are appended
 abbrev pub invariant-numbers : goal.invariant-numbers
 invariant-numbers l = record {
   long : l.left * size_of l.size ≤ length l.rest;

@@ -7,6 +7,6 @@ invariant-steps l = record {
   begun : l.run ≤ length l.message;
 }
 
--- a label leaves fewer octets, and a pointer goes to a run that began earlier
+-- a label leaves fewer octets, and a pointer leads to a run that began earlier
 abbrev pub decreases-steps : goal.decreases-steps
 decreases-steps l = l.run * (length l.message + 1) + (length l.message - l.place)

@@ -1,7 +1,7 @@
 use Rattle.dns_wire.proofs.Common.{◌≡◌, true, ◌≤◌, length, ◌+◌, ◌-◌, ◌*◌, DomainName, wire, is_name, SpelledFrom}
 use Rattle.dns_wire.proofs.spelled.is_spelled.Given as goal
 
--- what is left to compare decides as the whole does, and is a name's where the whole is
+-- the part left to compare decides like the whole, and is a name's wire form if the whole is
 abbrev pub invariant-steps : goal.invariant-steps
 invariant-steps l = record {
   forth : SpelledFrom l.message l.run l.place l.rest → SpelledFrom l.message l.at l.at l.suffix;
@@ -11,6 +11,6 @@ invariant-steps l = record {
   begun : l.run ≤ l.place;
 }
 
--- a label leaves fewer octets, and a pointer goes to a run that began earlier
+-- a label leaves fewer octets, and a pointer leads to a run that began earlier
 abbrev pub decreases-steps : goal.decreases-steps
 decreases-steps l = l.run * (length l.message + 1) + (length l.message - l.place)

@@ -2,7 +2,7 @@ use Rattle.dns_wire.proofs.Common.{◌≡◌, length, ◌++◌, asked_places, su
 use Rattle.dns_wire.proofs.SuffixLemmas.{Left}
 use Rattle.dns_wire.proofs.suffixes.shared_suffix.Given as goal
 
--- the rest of the name is laid out as the whole ends
+-- the layout of the rest of the name ends the layout of the whole
 abbrev pub invariant-suffixes : goal.invariant-suffixes
 invariant-suffixes g l =
     let head = suffix_number (g.H.SuffixHash.numbers l.initial.hash) in

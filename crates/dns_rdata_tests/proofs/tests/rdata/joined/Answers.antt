@@ -6,7 +6,7 @@ use Rattle.dns_rdata.specs.declared.parts.Part.{Part}
 use Rattle.dns_rdata.specs.Parts.{part_lends, shown_part, with_octets}
 use Rattle.dns_rdata_tests.proofs.tests.rdata.joined.Goals as goal
 
--- what a walk over the parts of data was lent is the data
+-- the octets that a walk over the parts of data borrowed are the data
 lent_joined : (xs : List Part) (ps : List Data.Part)
     → map shown_part xs ≡ map with_octets ps → flat_map part_lends xs ≡ joined ps
 lent_joined [] [] e = refl

@@ -23,7 +23,7 @@ module _ (g : given.Over) (c : goal.After-take_back g) where
       c.records.invariant.known c.records.invariant.writes c.put_record.ensures.writes)
 
 module _ (g : given.Over) (c : goal.After-count_records g) where
-  -- all of them were
+  -- all of them were written
   done : Writes (g.H.SuffixHash.numbers c.args.hash.now)
       (g.H.SuffixHash.numbers c.records.hash) c.args.self.now c.records.self
       (records_laid (records_at c.args.owner.now c.args.ttl (g.S.SetView.set c.args.set.now))) true

@@ -1,7 +1,7 @@
 use Rattle.dns_wire.proofs.Common.{true, ◌≡◌, ◌<◌, ◌≤◌, ◌+◌, take, length, List, wire, records_at, Placed, IsForm, IsLaid, HasNames, Writes, records_laid}
 use Rattle.dns_wire.proofs.page.Page.put_set.Given as goal
 
--- so many records of the set are written, and it is known how their owner was laid out
+-- the records of the set so far are written, and the form of their owner is known
 abbrev pub invariant-records : goal.invariant-records
 invariant-records g l =
     let numbers = g.H.SuffixHash.numbers in

@@ -40,7 +40,7 @@ module _ (g : given.Over) (c : goal.After-self-3-1 g) where
   abbrev patch : ℕ → Octets → Octets
   patch k b = octets16 (length b - k - 10) ++ drop (k + 10) b
 
-  -- the octets that are written over are two of those after the owner
+  -- the two octets that are overwritten are among those after the owner
   inside : (c.len-at.result + 10 ≤ length before) × (c.self-2.inside.asked_end ≤ c.len-at.result)
   inside = grind (arith, length-append)
 

@@ -44,7 +44,7 @@ module _ (g : given.Over) (c : goal.Joined-else-entry-number g) where
   passed = let positive = c.chain-test.true in
       read_entry (omega (arith, positive)) c.as_slice.ensures.value c.from.ensures
 
-  -- the chain goes on after the entry, which is not the one sought
+  -- the chain continues after the entry, which is not the one sought
   next : Chain (λ (e : Entry). (e.number ≡ c.args.number)
       × SpelledAt c.args.message.now e.place c.args.suffix.now) (chain_of c.args.number)
       c.self.inside.entries.items (entry_at c.self.inside.entries.items passed.0).next
