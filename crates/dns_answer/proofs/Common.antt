@@ -15,7 +15,7 @@ pub use Rattle.dns_answer.specs.Replies.{Answers, Costs, IsReply, Responds}
 pub use Rattle.dns_answer.specs.Seeking.{AreTargets, Completes, Followed, HasNoAlias, IsShown, MaySeek, NextIs, Seeks, aliases_left, leads_on, names_of, unsought}
 pub use Rattle.dns_answer.specs.Targets.{addresses_of, depth_in, set_targets, side_nodes, side_takes, takes_target, target_at, target_items, target_misses, target_nodes, targets_of_first}
 unfoldable pub use Rattle.dns_answer.specs.Targets.{side_items}
-pub use Rattle.dns_answer.specs.Walks.{AreRecords, HasRoom, IsAim, IsApex, IsBelowCut, IsLeadTo, IsMissing, IsThere, Took, ends_at_cuts, labels_below, node_of, node_or, one_if}
+pub use Rattle.dns_answer.specs.Walks.{AreRecords, HasNodesLeft, IsAim, IsApex, IsBelowCut, IsHintTo, IsMissing, IsThere, Took, ends_at_cuts, labels_below, node_of, node_or, one_if}
 pub use Rattle.dns_answer.specs.declared.ending.Verdict.{Verdict}
 pub use Rattle.dns_name.proofs.WireLemmas.{IsWireForm-wire, labels_of_spelled}
 pub use Rattle.dns_spec.proofs.DomainNames.NameLaws.{length-is_name}
@@ -37,7 +37,7 @@ pub use Rattle.dns_zone.proofs.Existing.{exists-lower}
 pub use Rattle.dns_zone.proofs.NameOrder.{same-from, same-is}
 pub use Rattle.dns_zone.proofs.NameTree.{below-cons, itself-under, same-under, under-trans}
 pub use Rattle.dns_zone.proofs.WayLaws.{above_under, any_weaker, at-folded, cut-above, cut-by_set, cut-here, cut-none, encloser-above, encloser-here, exists-folded, exists-up, no_cut-at_origin, set-owned, under_same}
-pub use Rattle.dns_zone.specs.Nodes.{IsLead, IsSetOf, Walk, ZoneNode}
+pub use Rattle.dns_zone.specs.Nodes.{IsHint, IsSetOf, Walk, ZoneNode}
 pub use Rattle.dns_zone.specs.Starts.{IsBelow}
 pub use Rattle.dns_zone.specs.ZoneForm.{IsBuilt}
 pub use Rattle.dns_zone.specs.declared.tree.sought.Sought.{Sought}

@@ -53,13 +53,13 @@ module _ (z : ZoneContents) (apex : ZoneNode) (ends : Bool) (s : Sought) (top : 
         deep = omega (arith, aim.below.labels);
       }
   start (Some v) aim = record {
-    zone = aim.lead.zone;
-    lower = aim.lead.exists.lower;
-    stands = aim.lead.exists.stands;
-    inside = aim.lead.inside;
-    no_cut = aim.lead.uncut;
+    zone = aim.hint.zone;
+    lower = aim.hint.exists.lower;
+    stands = aim.hint.exists.stands;
+    inside = aim.hint.inside;
+    no_cut = aim.hint.uncut;
     below = aim.below;
-    deep = omega (arith, aim.below.labels, aim.lead.longer);
+    deep = omega (arith, aim.below.labels, aim.hint.longer);
   }
 
   module _ (l : Option ZoneNode) (aim : IsAim z ends s l) where

@@ -1,7 +1,7 @@
 -- What seeking a name has offered and what it cost, by what is found for it.
 use Rattle.dns_answer.proofs.Common.{◌≡◌, inl, inr, ℕ, ◌+◌, ◌*◌, ◌<◌, ◌≤◌, Bool, true, false, cond, ◌&&◌, ◌||◌, List, [], ◌∷◌, ◌++◌, map, length, Option, None, Some, refl, sym, ap, ap₂, ◌∙◌, arith, subst, list_any, DomainName, folded, names_equal, same, at_or_below, type_cname, ResourceRecord, ZoneContents, at, of_type, with_owner, RecordSet, records_at, no_error, answer, Item, most_aliases, item, follows_alias, alias_set, first_target, has_any, Outcome, outcome_by, positive, negative, and_from, and_right, list_any-append, Walk, ZoneNode, IsSetOf, State, Offers, Rest, ending, after_sets, Says, TookRest, asked_item, AreRecords, Took, IsApex, IsAim, labels_below, target_at, chain_rest, names_of, aliases_left, leads_on, unsought, AreTargets, MaySeek, Seeks, HasNoAlias, IsShown, NextIs, Sought, Verdict, All, drop, All-nil, All-cons, All-head, All-tail, All-append, or_comm, or-false, length-map, length-reverse, map-append, reverse-append}
 use Rattle.dns_answer.proofs.TargetLaws.{same-lower}
-use Rattle.dns_answer.proofs.Taking.{Took-then, HasRoom-after}
+use Rattle.dns_answer.proofs.Taking.{Took-then, HasNodesLeft-after}
 use Rattle.dns_answer.proofs.Offered.{offered-append}
 use Rattle.dns_answer.proofs.Offering.{Offers-then}
 use Rattle.dns_answer.proofs.EndingSets.{item-shown, of_type-shown}
@@ -86,7 +86,7 @@ may-follow {s} {s'} {top} {earlier} {n} {m} {l} {l'} may took more aim low =
       apex = subst (λ z. IsApex z top) (sym took.zone) may.apex;
       aim = subst (λ z. IsAim z true m l') (sym took.zone) aim;
       lower = record { last = λ _. low; others = others earlier may.lower.last may.lower.others };
-      room = HasRoom-after took less may.room;
+      room = HasNodesLeft-after took less may.room;
     }
   where
     others : (ss : List Sought) → (0 < length ss → folded n.name ≡ n.name)

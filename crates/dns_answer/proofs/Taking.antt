@@ -1,5 +1,5 @@
 -- The cost of look-ups in sequence, and the room that they leave.
-use Rattle.dns_answer.proofs.Common.{ℕ, ◌+◌, ◌≤◌, arith, Walk, HasRoom, Took}
+use Rattle.dns_answer.proofs.Common.{ℕ, ◌+◌, ◌≤◌, arith, Walk, HasNodesLeft, Took}
 
 -- a walk that stops costs no more than any
 pub Took-none : {s : Walk} {nodes misses : ℕ} → Took s s nodes misses
@@ -13,6 +13,6 @@ pub Took-within : {s s' : Walk} {n m n' m' : ℕ} → n ≤ n' → m ≤ m' → 
 Took-within nodes misses took = grind arith
 
 -- the room left
-pub HasRoom-after : {s s' : Walk} {n m k r : ℕ} → Took s s' n m → n + m + k ≤ r → HasRoom s r
-    → HasRoom s' k
-HasRoom-after took less room = record { visits = omega arith; comparisons = omega arith }
+pub HasNodesLeft-after : {s s' : Walk} {n m k r : ℕ} → Took s s' n m → n + m + k ≤ r → HasNodesLeft s r
+    → HasNodesLeft s' k
+HasNodesLeft-after took less room = record { visits = omega arith; comparisons = omega arith }

@@ -10,7 +10,7 @@ use Rattle.dns_spec.specs.Records.{ZoneContents, ResourceRecord, of_type}
 use Rattle.dns_spec.specs.Answer.{most_aliases, follows_alias, alias_set, has_any, asked_records}
 use Rattle.dns_zone.specs.Nodes.{Walk, ZoneNode}
 use Rattle.dns_answer.specs.DraftForm.{State}
-use Rattle.dns_answer.specs.Walks.{IsApex, IsAim, HasRoom}
+use Rattle.dns_answer.specs.Walks.{IsApex, IsAim, HasNodesLeft}
 use Rattle.dns_answer.specs.Ending.{Says, TookRest}
 use Rattle.dns_answer.specs.Targets.{target_at}
 use Rattle.dns_answer.specs.Chain.{chain_rest}
@@ -33,14 +33,14 @@ pub record AreTargets (earlier : List Sought) (s : Sought) : Type 0 where
   pub last : 0 < length earlier → folded s.name ≡ s.name
   pub others : All (λ (e : Sought). folded e.name ≡ e.name) (drop 1 earlier)
 
--- A name may be sought after others: on a path from a lead or the apex. The walk has room for 129
+-- A name may be sought after others: on a path from a hint or the apex. The walk has room for 129
 -- nodes for the name and each alias that may still be followed, and for each of 129 targets.
 pub record MaySeek (s : Walk) (top : ZoneNode) (earlier : List Sought) (n : Sought)
     (l : Option ZoneNode) : Type 0 where
   pub apex : IsApex s.zone top
   pub aim : IsAim s.zone true n l
   pub lower : AreTargets earlier n
-  pub room : HasRoom s (129 * (aliases_left (names_of earlier) + 129))
+  pub room : HasNodesLeft s (129 * (aliases_left (names_of earlier) + 129))
 
 -- The rest of an answer at the name n was offered and counted, and the verdict states how its last
 -- name is answered.
@@ -83,8 +83,8 @@ abbrev pub SoughtAs : State → State → Walk → Walk → ℕ → ZoneNode →
     → Type 0
 SoughtAs w w' s s' t top earlier n (nexts.Last v) =
     IsLast w w' s s' t (names_of earlier) n.name v
-SoughtAs w w' s s' t top earlier n (nexts.Alias m lead) =
-    LeadsTo w w' s s' t top earlier n m lead
+SoughtAs w w' s s' t top earlier n (nexts.Alias m hint) =
+    LeadsTo w w' s s' t top earlier n m hint
 
 -- no alias among the records is followed
 abbrev pub HasNoAlias : ℕ → List ResourceRecord → Type 0

@@ -29,21 +29,21 @@ pub record IsApex (z : ZoneContents) (apex : ZoneNode) : Type 0 where
   pub exists : IsNode z z.origin
 
 -- a node below the origin at which a path may begin; `ends`: a path that ends at cuts
-pub record IsLeadTo (z : ZoneContents) (ends : Bool) (v : ZoneNode) : Type 0 where
+pub record IsHintTo (z : ZoneContents) (ends : Bool) (v : ZoneNode) : Type 0 where
   pub zone : v.zone ≡ z
   pub exists : IsNode z v.name
   pub inside : at_or_below v.name z.origin ≡ true
   pub longer : length z.origin < length v.name
   pub uncut : ends ≡ true → cut_of z v.name ≡ None
 
--- the name of the node at which a path begins: the lead's, or the apex's
+-- the name of the node at which a path begins: the hint's, or the apex's
 abbrev pub start_name : ZoneContents → Option ZoneNode → DomainName
 start_name z l = (node_or (node_of z z.origin) l).name
 
--- the name is sought from a lead, or from the apex
+-- the name is sought from a hint, or from the apex
 pub record IsAim (z : ZoneContents) (ends : Bool) (s : Sought) (l : Option ZoneNode)
     : Type 0 where
-  pub lead : IfSome l (IsLeadTo z ends)
+  pub hint : IfSome l (IsHintTo z ends)
   pub below : IsBelow s (start_name z l)
 
 -- where the path to a name begins, if the name is at or below the origin
@@ -101,7 +101,7 @@ FoundAs z apex n finds.Nothing = IsNothing z n
 FoundAs z apex n (finds.Records node) = AreRecords z n (node_or apex node)
 
 -- the walk may still visit this many nodes, with 17 comparisons for each
-pub record HasRoom (s : Walk) (nodes : ℕ) : Type 0 where
+pub record HasNodesLeft (s : Walk) (nodes : ℕ) : Type 0 where
   pub visits : s.visits + nodes ≤ 4294967295
   pub comparisons : s.comparisons + 17 * nodes ≤ 4294967295
 

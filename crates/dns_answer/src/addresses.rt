@@ -7,7 +7,7 @@ ghost use Rattle.dns_spec.specs.Records.{rrset};
 ghost use Rattle.dns_spec.specs.Layout.{additional};
 ghost use Rattle.dns_spec.specs.Sets.{HasValidData};
 ghost use Rattle.dns_zone.specs.Nodes.{IsSetOf};
-ghost use Rattle.dns_answer.specs.Walks.{IsApex, IsLeadTo, HasRoom, Took};
+ghost use Rattle.dns_answer.specs.Walks.{IsApex, IsHintTo, HasNodesLeft, Took};
 ghost use Rattle.dns_answer.specs.DraftForm.{Offers};
 ghost use Rattle.dns_answer.specs.Targets.{addresses_of, depth_in, side_items, side_nodes, side_takes, takes_target, set_targets, targets_of_first, target_at, target_items, target_nodes, target_misses};
 
@@ -16,7 +16,7 @@ use crate::lookup::{Cuts, Way, aim, or_apex, walk};
 use dns_name::NameRef;
 use dns_rdata::{RType, SetView};
 use dns_wire::Section;
-use dns_zone::{Lead, Node, RecordSet, Steps};
+use dns_zone::{Node, RecordSet, Steps, TargetHint};
 
 /// Which targets are selected: all, those at or below a cut, or the others.
 #[derive(Clone, Copy)]
@@ -55,7 +55,7 @@ pub(crate) fn offer_addresses<'z, const N: usize, const SIZE: usize>(
     requires apex { IsApex steps.old.zone apex.now }
     requires node { node.now.zone ≡ steps.old.zone }
     requires set { IsSetOf node.now set.now }
-    requires room { HasRoom steps.old (64 * 128) }
+    requires room { HasNodesLeft steps.old (64 * 128) }
     ensures offers { Offers draft.old draft.new
         (side_items steps.old.zone (side_takes side.entry) [] (set_targets set.now)) }
     ensures took { Took steps.old steps.new
@@ -90,7 +90,7 @@ fn offer_target<'z, const N: usize, const SIZE: usize>(
     requires inside { i < length set.now.rdata }
     requires apex { IsApex steps.old.zone apex.now }
     requires node { node.now.zone ≡ steps.old.zone }
-    requires room { HasRoom steps.old 128 }
+    requires room { HasNodesLeft steps.old 128 }
     ensures offers { Offers draft.old draft.new (target_items steps.old.zone (side_takes side.entry)
         (targets_of_first i set.now) (target_at i set.now)) }
     ensures took { Took steps.old steps.new
@@ -108,7 +108,7 @@ fn offer_target<'z, const N: usize, const SIZE: usize>(
         return false;
     }
     if !stood_before(set, i, &target) {
-        offer_address(&target, node.lead(set.rtype(), i), apex, steps, draft);
+        offer_address(&target, node.hint(set.rtype(), i), apex, steps, draft);
     }
     true
 }
@@ -135,22 +135,22 @@ fn stood_before(set: &RecordSet<'_>, count: usize, target: &NameRef<'_>) -> bool
 // never by a wildcard.
 fn offer_address<'z, const N: usize, const SIZE: usize>(
     target: &NameRef<'_>,
-    lead: Option<Lead<'z>>,
+    hint: Option<TargetHint<'z>>,
     apex: &Node<'z>,
     steps: &mut Steps<'z>,
     draft: &mut Draft<N, SIZE>,
 )
-    requires lead { IfSome lead (IsLeadTo steps.old.zone false) }
+    requires hint { IfSome hint (IsHintTo steps.old.zone false) }
     requires apex { IsApex steps.old.zone apex.now }
     requires lower { folded target.now ≡ target.now }
-    requires room { HasRoom steps.old 128 }
+    requires room { HasNodesLeft steps.old 128 }
     ensures offers { Offers draft.old draft.new (addresses_of steps.old.zone target.now) }
     ensures took { Took steps.old steps.new (depth_in steps.old.zone target.now) 1 }
 {
-    let Some((sought, lead)) = aim(target, lead, &steps.origin().lent()) else {
+    let Some((sought, hint)) = aim(target, hint, &steps.origin().lent()) else {
         return;
     };
-    let node = match walk(&sought, lead, apex, Cuts::Pass, steps) {
+    let node = match walk(&sought, hint, apex, Cuts::Pass, steps) {
         Way::Cut(_) => return,
         Way::Encloser(_) => return,
         Way::Name(node) => node,

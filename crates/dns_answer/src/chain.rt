@@ -4,7 +4,7 @@ ghost use Rattle.std.specs.List.{list_any};
 ghost use Rattle.dns_spec.specs.Names.{folded, names_equal, same};
 ghost use Rattle.dns_spec.specs.Records.{ZoneContents, at};
 ghost use Rattle.dns_zone.specs.Nodes.{IsSetOf};
-ghost use Rattle.dns_answer.specs.Walks.{IsLeadTo};
+ghost use Rattle.dns_answer.specs.Walks.{IsHintTo};
 ghost use Rattle.dns_answer.specs.Seeking.{MaySeek, Seeks, Followed, AreTargets, SoughtAs, IsShown, NextIs, names_of};
 
 use crate::draft::Draft;
@@ -14,7 +14,7 @@ use arrayvec::ArrayVec;
 use dns_name::{Name, NameRef};
 use dns_rdata::{RType, SetView};
 use dns_wire::{Rcode, Section};
-use dns_zone::{Lead, Node, RecordSet, Sought, Steps};
+use dns_zone::{Node, RecordSet, Sought, Steps, TargetHint};
 
 // The QTYPE that asks for all types (RFC 1035 3.2.3).
 const QTYPE_ANY: u16 = 255;
@@ -27,8 +27,8 @@ const MOST_ALIASES: usize = 16;
 pub(crate) enum Next<'z> {
     /// It is the last name sought.
     Last(Verdict),
-    /// It is an alias of this name, whose path may begin at the lead.
-    Alias(Sought<'z>, Option<Lead<'z>>),
+    /// It is an alias of this name, whose path may begin at the hint.
+    Alias(Sought<'z>, Option<TargetHint<'z>>),
 }
 
 /// Seeks the name of a question and then the targets of aliases: offers the sets of the aliases,
@@ -48,8 +48,8 @@ pub(crate) fn seek<'q, 'z: 'q, const N: usize, const SIZE: usize>(
 {
     match seek_one(&first, None, qtype, &[], apex, steps, draft) {
         Next::Last(verdict) => (verdict, false),
-        Next::Alias(target, lead) => {
-            let verdict = seek_targets(first, target, lead, qtype, apex, steps, draft);
+        Next::Alias(target, hint) => {
+            let verdict = seek_targets(first, target, hint, qtype, apex, steps, draft);
             (verdict, true)
         }
     }
@@ -60,27 +60,27 @@ pub(crate) fn seek<'q, 'z: 'q, const N: usize, const SIZE: usize>(
 fn seek_targets<'q, 'z: 'q, const N: usize, const SIZE: usize>(
     first: Sought<'q>,
     target: Sought<'z>,
-    lead: Option<Lead<'z>>,
+    hint: Option<TargetHint<'z>>,
     qtype: u16,
     apex: &Node<'z>,
     steps: &mut Steps<'z>,
     draft: &mut Draft<N, SIZE>,
 ) -> Verdict
-    requires { MaySeek steps.old apex.now (first ∷ []) target lead }
+    requires { MaySeek steps.old apex.now (first ∷ []) target hint }
     ensures { Seeks draft.old draft.new steps.old steps.new qtype (first.entry.name ∷ [])
         target.entry.name result }
 {
     let mut earlier: ArrayVec<Sought<'q>, MOST_ALIASES> = ArrayVec::new();
     earlier.push(first);
     let mut sought = target;
-    let mut lead = lead;
+    let mut hint = hint;
     'names: loop {
-        match seek_one(&sought, lead, qtype, earlier.as_slice(), apex, steps, draft) {
+        match seek_one(&sought, hint, qtype, earlier.as_slice(), apex, steps, draft) {
             Next::Last(verdict) => return verdict,
             Next::Alias(target, nearer) => {
                 earlier.push(sought);
                 sought = target;
-                lead = nearer;
+                hint = nearer;
             }
         }
     }
@@ -91,18 +91,18 @@ fn seek_targets<'q, 'z: 'q, const N: usize, const SIZE: usize>(
 #[inline(always)]
 fn seek_one<'z, const N: usize, const SIZE: usize>(
     sought: &Sought<'_>,
-    lead: Option<Lead<'z>>,
+    hint: Option<TargetHint<'z>>,
     qtype: u16,
     earlier: &[Sought<'_>],
     apex: &Node<'z>,
     steps: &mut Steps<'z>,
     draft: &mut Draft<N, SIZE>,
 ) -> Next<'z>
-    requires { MaySeek steps.old apex.now earlier.now sought.now lead }
+    requires { MaySeek steps.old apex.now earlier.now sought.now hint }
     ensures { SoughtAs draft.old draft.new steps.old steps.new qtype apex.now earlier.now sought.now
         result }
 {
-    let node = match look_up(sought, lead, apex, steps) {
+    let node = match look_up(sought, hint, apex, steps) {
         Found::Cut(cut) => return Next::Last(refer(&cut, apex, steps, draft)),
         Found::Nothing => return Next::Last(deny(Rcode::NameError, apex, steps, draft)),
         Found::Records(node) => node,
@@ -115,11 +115,11 @@ fn seek_one<'z, const N: usize, const SIZE: usize>(
     if !is_alias {
         return Next::Last(end_with(node, &set, apex, steps, draft));
     }
-    let lead = node.lead(RType::CNAME, 0);
-    let Some((target, lead)) = next_sought(&set, lead, sought, earlier, steps.origin()) else {
+    let hint = node.hint(RType::CNAME, 0);
+    let Some((target, hint)) = next_sought(&set, hint, sought, earlier, steps.origin()) else {
         return Next::Last(ended(Rcode::NoError, draft));
     };
-    Next::Alias(target, lead)
+    Next::Alias(target, hint)
 }
 
 // The set at a node that an answer contains, and whether it is an alias that is followed: the
@@ -145,24 +145,24 @@ fn shown_set<'z>(node: &Node<'z>, qtype: u16) -> Option<(RecordSet<'z>, bool)>
 // may be sought and it is at or below the origin and was not sought yet.
 fn next_sought<'z>(
     alias: &RecordSet<'z>,
-    lead: Option<Lead<'z>>,
+    hint: Option<TargetHint<'z>>,
     sought: &Sought<'_>,
     earlier: &[Sought<'_>],
     origin: &Name,
-) -> Option<(Sought<'z>, Option<Lead<'z>>)>
+) -> Option<(Sought<'z>, Option<TargetHint<'z>>)>
     requires some { 0 < length alias.now.rdata }
     requires lower { AreTargets earlier.now sought.now }
-    ensures { (z : ZoneContents) → z.origin ≡ origin.now → IfSome lead.entry (IsLeadTo z true)
+    ensures { (z : ZoneContents) → z.origin ≡ origin.now → IfSome hint.entry (IsHintTo z true)
         → NextIs z alias.now (sought.now.name ∷ names_of earlier.now) result }
 {
     if earlier.len() >= MOST_ALIASES {
         return None;
     }
-    let (next, lead) = aim(&alias.target(0)?, lead, &origin.lent())?;
+    let (next, hint) = aim(&alias.target(0)?, hint, &origin.lent())?;
     if is_among(&next.name, sought, earlier) {
         return None;
     }
-    Some((next, lead))
+    Some((next, hint))
 }
 
 // Whether a name in lower case is the last one sought, or was sought before. All names but the

@@ -4,7 +4,7 @@ ghost use Rattle.dns_spec.specs.Names.{DomainName};
 ghost use Rattle.dns_spec.specs.Answer.{referral_to, negative};
 ghost use Rattle.dns_zone.specs.Nodes.{IsSetOf};
 ghost use Rattle.dns_wire.specs.QueryForm.{code_of};
-ghost use Rattle.dns_answer.specs.Walks.{IsApex, IsBelowCut, HasRoom};
+ghost use Rattle.dns_answer.specs.Walks.{IsApex, IsBelowCut, HasNodesLeft};
 ghost use Rattle.dns_answer.specs.Ending.{Ends, TookTargets, IsPlain, EndsWith, TookWith};
 
 use crate::addresses::{Side, offer_addresses};
@@ -35,7 +35,7 @@ pub(crate) fn refer<'z, const N: usize, const SIZE: usize>(
 ) -> Verdict
     requires apex { IsApex steps.old.zone apex.now }
     requires cut { (n : DomainName) × IsBelowCut steps.old.zone n cut.now }
-    requires room { HasRoom steps.old (128 * 128) }
+    requires room { HasNodesLeft steps.old (128 * 128) }
     ensures ends { Ends draft.old draft.new steps.old.zone
         (referral_to steps.old.zone cut.now.name) result }
     ensures took { TookTargets steps.old steps.new (referral_to steps.old.zone cut.now.name) }
@@ -108,7 +108,7 @@ pub(crate) fn end_with<'z, const N: usize, const SIZE: usize>(
     requires node { node.now.zone ≡ steps.old.zone }
     requires set { IsSetOf node.now set.now }
     requires apex { IsApex steps.old.zone apex.now }
-    requires room { HasRoom steps.old (64 * 128) }
+    requires room { HasNodesLeft steps.old (64 * 128) }
     ensures ends { EndsWith draft.old draft.new steps.old.zone set.now result }
     ensures took { TookWith steps.old steps.new set.now }
 {

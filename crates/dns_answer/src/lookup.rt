@@ -1,11 +1,11 @@
 //! What a zone has for a name (RFC 1034 4.3.2 step 3).
 ghost use Rattle.std.specs.Prelude.{◌≡◌, Bool, IfSome, true};
 ghost use Rattle.dns_spec.specs.Records.{ZoneContents};
-ghost use Rattle.dns_answer.specs.Walks.{IsApex, IsLeadTo, IsAim, IsAimed, labels_below, node_or, ends_at_cuts, WalkedTo, FoundAs, HasRoom, Took, TookWay, missed};
+ghost use Rattle.dns_answer.specs.Walks.{IsApex, IsHintTo, IsAim, IsAimed, labels_below, node_or, ends_at_cuts, WalkedTo, FoundAs, HasNodesLeft, Took, TookWay, missed};
 
 use dns_name::{Label, NameRef};
 use dns_rdata::RType;
-use dns_zone::{Lead, MOST_LABELS, Node, Sought, Steps, label_after, put_starts};
+use dns_zone::{MOST_LABELS, Node, Sought, Steps, TargetHint, label_after, put_starts};
 
 /// Where the path down to a name ends.
 #[derive(Drop)]
@@ -36,22 +36,22 @@ pub(crate) enum Found<'z> {
     Records(Option<Node<'z>>),
 }
 
-/// What is found for a name at or below the origin; an alias may have a lead to it.
+/// What is found for a name at or below the origin; an alias may have a hint to it.
 // Inlining saves 36 to 89 instructions per reply.
 #[inline(always)]
 pub(crate) fn look_up<'z>(
     sought: &Sought<'_>,
-    lead: Option<Lead<'z>>,
+    hint: Option<TargetHint<'z>>,
     apex: &Node<'z>,
     steps: &mut Steps<'z>,
 ) -> Found<'z>
     requires apex { IsApex steps.old.zone apex.now }
-    requires aim { IsAim steps.old.zone true sought.now lead }
-    requires room { HasRoom steps.old 128 }
+    requires aim { IsAim steps.old.zone true sought.now hint }
+    requires room { HasNodesLeft steps.old 128 }
     ensures found { FoundAs steps.old.zone apex.now sought.now.name result }
     ensures took { Took steps.old steps.new (labels_below steps.old.zone sought.now.name) 2 }
 {
-    let encloser = match walk(sought, lead, apex, Cuts::End, steps) {
+    let encloser = match walk(sought, hint, apex, Cuts::End, steps) {
         Way::Cut(node) => return Found::Cut(node),
         Way::Name(node) => return Found::Records(node),
         Way::Encloser(node) => node,
@@ -75,20 +75,20 @@ pub(crate) fn or_apex<'a, 'z>(node: &'a Option<Node<'z>>, apex: &'a Node<'z>) ->
     }
 }
 
-/// Where the path down to a name begins: at its lead, if it has one and the name is at or below
+/// Where the path down to a name begins: at its hint, if it has one and the name is at or below
 /// that, else at the apex. `None` if the name is not at or below the origin.
 pub(crate) fn aim<'n, 'z>(
     name: &NameRef<'n>,
-    lead: Option<Lead<'z>>,
+    hint: Option<TargetHint<'z>>,
     origin: &NameRef<'_>,
-) -> Option<(Sought<'n>, Option<Lead<'z>>)>
+) -> Option<(Sought<'n>, Option<TargetHint<'z>>)>
     ensures name { IfSome result (λ (sought, _). sought.name ≡ name.now) }
     ensures aimed { (z : ZoneContents) (ends : Bool) → z.origin ≡ origin.now
-        → IfSome lead.entry (IsLeadTo z ends) → IsAimed z ends name.now result }
+        → IfSome hint.entry (IsHintTo z ends) → IsAimed z ends name.now result }
 {
-    if let Some(lead) = lead {
-        if let Some(sought) = Sought::below(name, &lead.name()) {
-            return Some((sought, Some(lead)));
+    if let Some(hint) = hint {
+        if let Some(sought) = Sought::below(name, &hint.name()) {
+            return Some((sought, Some(hint)));
         }
     }
     Some((Sought::below(name, origin)?, None))
@@ -100,14 +100,14 @@ pub(crate) fn aim<'n, 'z>(
 #[inline(always)]
 pub(crate) fn walk<'z>(
     sought: &Sought<'_>,
-    lead: Option<Lead<'z>>,
+    hint: Option<TargetHint<'z>>,
     apex: &Node<'z>,
     cuts: Cuts,
     steps: &mut Steps<'z>,
 ) -> Way<'z>
     requires apex { IsApex steps.old.zone apex.now }
-    requires aim { IsAim steps.old.zone (ends_at_cuts cuts) sought.now lead }
-    requires room { HasRoom steps.old 127 }
+    requires aim { IsAim steps.old.zone (ends_at_cuts cuts) sought.now hint }
+    requires room { HasNodesLeft steps.old 127 }
     ensures way { WalkedTo steps.old.zone apex.now (ends_at_cuts cuts) sought.now.name result }
     ensures took { TookWay steps.old steps.new (labels_below steps.old.zone sought.now.name)
         (missed result) }
@@ -115,8 +115,8 @@ pub(crate) fn walk<'z>(
     let octets = sought.name.octets();
     let mut starts = [0; MOST_LABELS];
     put_starts(octets, sought.depth, &mut starts);
-    let mut node = match lead {
-        Some(lead) => Some(lead.node(steps)),
+    let mut node = match hint {
+        Some(hint) => Some(hint.node(steps)),
         None => None,
     };
     let mut before = sought.depth;

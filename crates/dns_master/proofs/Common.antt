@@ -18,7 +18,7 @@ pub use Rattle.dns_master.specs.WordsLeft.{later_words, words_left}
 pub use Rattle.dns_master.specs.declared.fault.ReadCode.{ReadCode}
 pub use Rattle.dns_master.specs.declared.fault.ReadCode.TheVariants.{BadData, BadType, DirectiveWords, NoMemory, NoTtl, OtherClass, Parenthesis, SourceFailed, TooLong, TooManyRecords}
 pub use Rattle.dns_master.specs.declared.fault.ReadFault.{ReadFault}
-pub use Rattle.dns_master.specs.declared.run.Run.{Run}
+pub use Rattle.dns_master.specs.declared.run.RunKind.{RunKind}
 pub use Rattle.dns_master.specs.declared.run.TheConstants.{PLAIN_IN}
 pub use Rattle.dns_master.specs.declared.state.Reader.{Reader}
 pub use Rattle.dns_spec.proofs.DataWords.LoweredData.{folded_folded, lowered-twice}

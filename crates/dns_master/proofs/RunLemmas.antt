@@ -1,6 +1,6 @@
 -- How far a run goes, octet by octet and escape by escape.
-use Rattle.dns_master.proofs.Common.{get_or, ◌≡◌, ℕ, zero, suc, sym, cond, ◌+◌, ◌≤◌, ◌<◌, Bool, true, false, [], ◌∷◌, length, take, drop, refl, ◌∙◌, ap, arith, Option, None, Some, ◌==◌, nat_eq, MatchOption, list_all, position, position_or_len, prefix_len, unwrap_or, and_parts, ltb-false, none-some, same_Some, prefix_len-le-length, Octets, is_blank, escape_left, unit_left, run_length, is_word_octet, is_string_octet, pointwise, same_text, drop_all, drop-drop, at_drop_more, counted_escape, escape-counted, by_itself, Run}
-use Rattle.dns_master.specs.declared.run.Run.TheVariants.{Word as WordRun, String as StringRun}
+use Rattle.dns_master.proofs.Common.{get_or, ◌≡◌, ℕ, zero, suc, sym, cond, ◌+◌, ◌≤◌, ◌<◌, Bool, true, false, [], ◌∷◌, length, take, drop, refl, ◌∙◌, ap, arith, Option, None, Some, ◌==◌, nat_eq, MatchOption, list_all, position, position_or_len, prefix_len, unwrap_or, and_parts, ltb-false, none-some, same_Some, prefix_len-le-length, Octets, is_blank, escape_left, unit_left, run_length, is_word_octet, is_string_octet, pointwise, same_text, drop_all, drop-drop, at_drop_more, counted_escape, escape-counted, by_itself, RunKind}
+use Rattle.dns_master.specs.declared.run.RunKind.TheVariants.{Word as WordRun, String as StringRun}
 use Rattle.dns_spec.proofs.DataWords.BareWords.{no_backslash}
 
 -- the place of the first octet with a property

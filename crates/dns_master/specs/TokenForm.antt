@@ -5,8 +5,8 @@ use Rattle.dns_spec.specs.Names.{Octets}
 use Rattle.dns_spec.specs.ZoneText.{blank, comment, word, quoted_string, opening, closing, line_end}
 use Rattle.dns_spec.specs.DataText.{is_word_octet, is_string_octet}
 use Rattle.dns_spec.specs.ZoneText as text
-use Rattle.dns_master.specs.declared.run.Run.{Run}
-use Rattle.dns_master.specs.declared.run.Run.TheVariants.{Word as WordRun, String as StringRun}
+use Rattle.dns_master.specs.declared.run.RunKind.{RunKind}
+use Rattle.dns_master.specs.declared.run.RunKind.TheVariants.{Word as WordRun, String as StringRun}
 use Rattle.dns_master.specs.declared.token.Token.{Token}
 use Rattle.dns_master.specs.declared.token.Token.TheVariants.{Blank, Comment, Word, Quoted, Opening, Closing, LineEnd}
 

@@ -68,12 +68,12 @@ pub(crate) fn read_entry<'a>(
         end.lines += u32::from(matches!(token, Token::LineEnd));
         end.rest = others;
         match step_after(token, end.is_open) {
-            Step::Misplaced => return Err(ReadCode::Parenthesis),
-            Step::Over => {
+            Progress::Misplaced => return Err(ReadCode::Parenthesis),
+            Progress::Over => {
                 end.is_ended = true;
                 return Ok(end);
             }
-            Step::Onward(now_open) => end.is_open = now_open,
+            Progress::Onward(now_open) => end.is_open = now_open,
         }
     }
     Ok(end)
@@ -107,22 +107,22 @@ fn take_word<'a>(
 // What follows a token: nothing, because a parenthesis is misplaced or because the entry has
 // ended; or more tokens, inside or outside parentheses.
 #[derive(Clone, Copy)]
-enum Step {
+enum Progress {
     Misplaced,
     Over,
     Onward(bool),
 }
 
-fn step_after(token: Token<'_>, is_open: bool) -> Step
+fn step_after(token: Token<'_>, is_open: bool) -> Progress
     ensures { shown_step result ≡ step is_open (shown_token token.entry) }
 {
     match token {
-        Token::Opening if is_open => Step::Misplaced,
-        Token::Opening => Step::Onward(true),
-        Token::Closing if is_open => Step::Onward(false),
-        Token::Closing => Step::Misplaced,
-        Token::LineEnd if !is_open => Step::Over,
-        _ => Step::Onward(is_open),
+        Token::Opening if is_open => Progress::Misplaced,
+        Token::Opening => Progress::Onward(true),
+        Token::Closing if is_open => Progress::Onward(false),
+        Token::Closing => Progress::Misplaced,
+        Token::LineEnd if !is_open => Progress::Over,
+        _ => Progress::Onward(is_open),
     }
 }
 
@@ -164,7 +164,7 @@ fn end_fault(end: &EntryEnd<'_>, goes_on: bool) -> Option<ReadCode>
         };
     };
     if *first == b'"' {
-        let (_, place) = others.split_at(Run::String.length(others));
+        let (_, place) = others.split_at(RunKind::String.length(others));
         return Some(unless_cut_short(goes_on, place, string_fault(place)));
     }
     Some(unless_cut_short(goes_on, end.rest, token_fault(end.rest)))

@@ -8,7 +8,7 @@ ghost use Rattle.dns_master.specs.PieceForm.{FrontFaulty, FrontGathered, PieceTa
 use crate::fault::{ReadCode, ReadFault, entry_fault};
 use crate::gathers::Gathers;
 use crate::record::Record;
-use crate::source::{MOST_OCTETS, PIECE, append_piece};
+use crate::source::{MOST_FILE_OCTETS, PIECE, append_piece};
 use crate::state::Reader;
 use dns_name::{Name, Tally};
 use dns_rdata::{DataRoom, RType, Rdata};
@@ -57,7 +57,7 @@ impl Begun {
             reader,
             room: DataRoom::new(alloc),
             held: Vec::new(alloc),
-            left: MOST_OCTETS,
+            left: MOST_FILE_OCTETS,
             tried: 0,
         }
     }

@@ -8,7 +8,7 @@ ghost use Rattle.dns_master.specs.TokenForm.{by_itself};
 
 /// The octets of a run, apart from escapes.
 #[derive(Clone, Copy, Debug, PartialEq, Eq)]
-pub(crate) enum Run {
+pub(crate) enum RunKind {
     /// The printable octets of a word, without `"`, `(`, `)`, `;` and `\`.
     Word,
     /// The printable octets, spaces and tabs of a quoted string, without `"` and `\`.
@@ -30,7 +30,7 @@ const PLAIN_IN: [u8; 256] = [
     0, 0, 0, 0, 0, 0, 0, 0, 0, 0, 0, 0, 0, 0, 0, 0, 0, 0, 0, 0, 0, 0, 0, 0, 0, 0, 0, 0, 0, 0, 0, 0,
 ];
 
-impl Run {
+impl RunKind {
     /// The length in octets of the run at the beginning of a text. All octets of an escape count.
     pub(crate) fn length(self, text: &[u8]) -> usize
         ensures value { result ≡ run_length (by_itself self) 0 text.now }
@@ -38,8 +38,8 @@ impl Run {
     {
         // Only a string may be long.
         let mut place = match self {
-            Run::Word => 0,
-            Run::String => plain_groups(text),
+            RunKind::Word => 0,
+            RunKind::String => plain_groups(text),
         };
         'units: while place < text.len() {
             let octet = text[place];
@@ -64,8 +64,8 @@ impl Run {
         ensures { result ≡ by_itself self octet }
     {
         match self {
-            Run::Word => PLAIN_IN[octet as usize] >= 2,
-            Run::String => PLAIN_IN[octet as usize] >= 1,
+            RunKind::Word => PLAIN_IN[octet as usize] >= 2,
+            RunKind::String => PLAIN_IN[octet as usize] >= 1,
         }
     }
 }

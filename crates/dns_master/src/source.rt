@@ -8,7 +8,7 @@ use dns_name::Tally;
 use std::io::Read;
 
 /// The most octets that a text may have.
-pub(crate) const MOST_OCTETS: usize = 16_777_216;
+pub(crate) const MOST_FILE_OCTETS: usize = 16_777_216;
 
 /// How many octets each read asks for.
 pub(crate) const PIECE: usize = 4_096;

@@ -2,7 +2,7 @@
 ghost use Rattle.dns_spec.specs.ZoneText.{token_front};
 ghost use Rattle.dns_master.specs.TokenForm.{Begins};
 
-use crate::run::{Run, after_comment, after_run, is_blank};
+use crate::run::{RunKind, after_comment, after_run, is_blank};
 
 /// A token. A word and a quoted string keep their spelling; the quotation marks are left out.
 #[derive(Clone, Copy, Debug, PartialEq, Eq)]
@@ -30,7 +30,7 @@ pub(crate) fn first_token(text: &[u8]) -> Option<(Token<'_>, &[u8])>
         b' ' | b'\t' => Some((Token::Blank, others)),
         b';' => Some((Token::Comment, after_comment(others))),
         b'"' => {
-            let (raw, end) = others.split_at(Run::String.length(others));
+            let (raw, end) = others.split_at(RunKind::String.length(others));
             match end {
                 [b'"', after @ ..] => Some((Token::Quoted(raw), after)),
                 _ => None,
@@ -44,7 +44,7 @@ pub(crate) fn first_token(text: &[u8]) -> Option<(Token<'_>, &[u8])>
             _ => None,
         },
         _ => {
-            let length = Run::Word.length(text);
+            let length = RunKind::Word.length(text);
             if length == 0 {
                 return None;
             }

@@ -10,7 +10,7 @@ use crate::number::read_number;
 use crate::word::{Word, Words};
 
 // Data has at most 65,535 octets (RFC 1035 3.2.1).
-const MOST_OCTETS: u32 = 65_535;
+const MOST_DATA_OCTETS: u32 = 65_535;
 
 /// Whether the word is the unquoted `\#`, which begins the generic form.
 pub(crate) fn is_unknown_mark(word: &Word<'_>) -> bool
@@ -39,7 +39,7 @@ pub(crate) fn put_unknown<'w, W: Words<'w>>(
     if first.quoted {
         return Err(RdataFault::BadHex);
     }
-    let count = read_number(first.raw, MOST_OCTETS).ok_or(RdataFault::BadHex)?;
+    let count = read_number(first.raw, MOST_DATA_OCTETS).ok_or(RdataFault::BadHex)?;
     let mut others = others;
     'words: while let Some((word, after)) = others.split_first() {
         append_word(&word, octets)?;

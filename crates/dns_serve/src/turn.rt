@@ -9,7 +9,7 @@ use dns_answer::{UdpDraft, respond_in};
 use dns_zone::{Steps, Zone};
 
 // The most octets that are kept of a datagram, and that a reply has.
-const MOST_OCTETS: usize = 512;
+const MOST_OVER_UDP: usize = 512;
 
 /// Receives one datagram, and sends the reply to its sender: true if a reply was sent, false if
 /// the datagram gets none.
@@ -24,9 +24,9 @@ pub fn udp_turn<D: Datagrams>(zone: &Zone, device: &mut D) -> Result<bool, TurnF
     ensures turn { TurnOf zone.now (turn D.received D.sent device.old device.new) result }
     ensures counted { D.count device.new ≡ failures_after (D.count device.old) result }
 {
-    let mut room = [0; MOST_OCTETS];
+    let mut room = [0; MOST_OVER_UDP];
     let mut draft = UdpDraft::new();
-    let mut out = [0; MOST_OCTETS];
+    let mut out = [0; MOST_OVER_UDP];
     udp_turn_in(zone, device, &mut room, &mut draft, &mut out)
 }
 
@@ -37,9 +37,9 @@ pub fn udp_turn<D: Datagrams>(zone: &Zone, device: &mut D) -> Result<bool, TurnF
 pub fn udp_turn_in<D: Datagrams>(
     zone: &Zone,
     device: &mut D,
-    room: &mut [u8; MOST_OCTETS],
+    room: &mut [u8; MOST_OVER_UDP],
     draft: &mut UdpDraft,
-    out: &mut [u8; MOST_OCTETS],
+    out: &mut [u8; MOST_OVER_UDP],
 ) -> Result<bool, TurnFault>
     requires { D.count device.old < 2 ^ 64 - 1 }
     ensures turn { TurnOf zone.now (turn D.received D.sent device.old device.new) result }

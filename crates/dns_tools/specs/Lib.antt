@@ -2,7 +2,7 @@
 pub mod Load
 pub mod Status
 pub mod Stops
-pub mod Words
+pub mod Arguments
 pub mod Checked
 pub mod Sockets
 pub mod Turns

@@ -9,10 +9,10 @@ use Rattle.dns_spec.specs.Report.{two_digits, bare_name_text}
 use Rattle.dns_spec.specs.Layout.{octets16}
 use Rattle.dns_spec.specs.MessageLines.{class_text}
 use Rattle.dns_wire.specs.Read.{data_type}
-use Rattle.dns_tools.specs.declared.parts.Part.{Part}
-use Rattle.dns_tools.specs.declared.parts.Part.TheVariants.{Text, Number, Hex, Code, Name, BareName, Class, TypeName, Data}
+use Rattle.dns_tools.specs.declared.parts.LinePart.{LinePart}
+use Rattle.dns_tools.specs.declared.parts.LinePart.TheVariants.{Text, Number, Hex, Code, Name, BareName, Class, TypeName, Data}
 
-abbrev pub part_text : Part → Octets
+abbrev pub part_text : LinePart → Octets
 part_text (Text text) = text.now
 part_text (Number number) = decimal number
 part_text (Hex number) = hex_text (octets16 number)
@@ -24,5 +24,5 @@ part_text (TypeName rtype) = type_text rtype.0
 part_text (Data r) = data_text (data_type r.now.rtype r.now.rclass) r.now.rdata
 
 -- one after another
-abbrev pub parts_text : List Part → Octets
+abbrev pub parts_text : List LinePart → Octets
 parts_text = flat_map part_text

@@ -2,34 +2,34 @@
 //! queries.
 #![tactic(auto)]
 
+mod arguments;
 mod check;
 mod fault;
-mod host;
 mod line;
 mod listen;
 mod load;
 mod message;
+mod nonblocking;
 mod once;
 mod parts;
 mod peer;
 mod report;
 mod socket;
-mod waiting;
-mod words;
+mod startup;
 
+pub use arguments::{
+    CheckWords, ServeWords, Service, SocketWords, check_words, serve_words, socket_words,
+};
 pub use check::{Flags, check_zone};
 pub use fault::{
     FAULT_STATUS, FaultWord, Outcome, Stop, TurnWord, end_of, exit_status, status_of_turns,
 };
-pub use host::{end, finish, given_words, open_file, refuse, say, say_serving};
 pub use listen::{
     given_listener, given_socket, listener_at, serve_connections, serve_datagrams, socket_at,
 };
 pub use load::{LoadFault, Refusal, load_zone, write_refusal};
 pub use message::run_message;
+pub use nonblocking::Nonblocking;
 pub use once::run_once;
 pub use socket::Socket;
-pub use waiting::Waiting;
-pub use words::{
-    CheckWords, ServeWords, Service, SocketWords, check_words, serve_words, socket_words,
-};
+pub use startup::{end, finish, given_words, open_file, refuse, say, say_serving};

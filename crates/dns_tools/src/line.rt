@@ -5,7 +5,7 @@ ghost use Rattle.dns_spec.specs.Names.{Octets};
 ghost use Rattle.hex.specs.Hex.{decode_of};
 ghost use Rattle.dns_name.specs.Counted.{failures_after};
 ghost use Rattle.dns_tools.specs.declared.fault.Stop.TheVariants.{Source};
-ghost use Rattle.dns_tools.specs.declared.line.TheConstants.{MOST_DIGITS, MOST_OCTETS, PIECE};
+ghost use Rattle.dns_tools.specs.declared.line.TheConstants.{MOST_DIGITS, MOST_LINE_OCTETS, PIECE};
 
 use crate::fault::Stop;
 use dns_name::{SourceFailed, Tally};
@@ -14,7 +14,7 @@ use std::io::Read;
 use std::marker::Model;
 
 /// The most octets of a message, and the number of their digits.
-pub(crate) const MOST_OCTETS: usize = 65_535;
+pub(crate) const MOST_LINE_OCTETS: usize = 65_535;
 
 pub(crate) const MOST_DIGITS: usize = 131_070;
 
@@ -126,7 +126,7 @@ impl Line {
     /// Writes the octets of the line's message to the front of the buffer, and returns how many
     /// they are. `None` if the line is not a message.
     pub(crate) fn spell(&self, octets: &mut [u8]) -> Option<usize>
-        requires { length octets.old ≡ MOST_OCTETS }
+        requires { length octets.old ≡ MOST_LINE_OCTETS }
         ensures some { IfSome result (λ len. kept_message self.now ≡ Some (take len octets.new)) }
         ensures within { IfSome result (λ len. len ≤ length octets.new) }
         ensures none { IfNone result (kept_message self.now ≡ None) }

@@ -6,7 +6,7 @@ ghost use Rattle.dns_tools.specs.declared.load.LoadFault.TheVariants.{Stopped};
 ghost use Rattle.dns_tools.specs.Load.{LoadedAs, failures_after_load, fault_of_read, refusal_report};
 
 use crate::fault::Stop;
-use crate::parts::{Part, write_parts};
+use crate::parts::{LinePart, write_parts};
 use crate::report::write_check_faults;
 use dns_master::{ReadCode, ReadFault};
 use dns_name::{Name, SinkFailed, Tally};
@@ -96,11 +96,11 @@ pub fn write_refusal<W: Write>(refusal: &Refusal, sink: &mut Tally<W>) -> Result
         // `line 7: R11`
         Refusal::File(fault) => {
             let line = [
-                Part::Text(b"line "),
-                Part::Number(u64::from(fault.line)),
-                Part::Text(b": R"),
-                Part::Code(fault.code.number()),
-                Part::Text(b"\n"),
+                LinePart::Text(b"line "),
+                LinePart::Number(u64::from(fault.line)),
+                LinePart::Text(b": R"),
+                LinePart::Code(fault.code.number()),
+                LinePart::Text(b"\n"),
             ];
             write_parts(line.as_slice(), sink)
         }

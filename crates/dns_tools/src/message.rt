@@ -9,12 +9,12 @@ ghost use Rattle.dns_tools.specs.Checked.{ReportedAs};
 ghost use Rattle.dns_tools.specs.FirstLine.{HasReadFront, ReadsFirst};
 ghost use Rattle.dns_tools.specs.Printed.{fault_line, IsFaultReport, PrintedAs};
 ghost use Rattle.dns_tools.specs.KeptLine.{kept_message};
-ghost use Rattle.dns_tools.specs.declared.line.TheConstants.{MOST_OCTETS};
+ghost use Rattle.dns_tools.specs.declared.line.TheConstants.{MOST_LINE_OCTETS};
 ghost use Rattle.dns_tools.specs.Stops.{source_failures_after, sink_failures_after};
 
 use crate::fault::{Outcome, Stop};
-use crate::line::{Line, MOST_OCTETS, PIECE};
-use crate::parts::{Part, write_parts};
+use crate::line::{Line, MOST_LINE_OCTETS, PIECE};
+use crate::parts::{LinePart, write_parts};
 use dns_name::{SinkFailed, Tally};
 use dns_rdata::RType;
 use dns_wire::{Message, Question, WireFault, WireRecord, read_message};
@@ -43,7 +43,7 @@ where
     ensures printed { PrintedAs
         (session R.remaining W.contents source.old source.new sink.old sink.new) result }
 {
-    let mut octets = vec![in alloc; 0; MOST_OCTETS]?;
+    let mut octets = vec![in alloc; 0; MOST_LINE_OCTETS]?;
     let line = match first_line(alloc, source) {
         Ok(line) => line,
         Err(stop) => return Err(stop),
@@ -101,9 +101,9 @@ fn write_fault<W: Write>(fault: WireFault, sink: &mut Tally<W>) -> Result<(), Si
 {
     let number = u64::from(fault.code());
     let line = [
-        Part::Text(b"fault "),
-        Part::Number(number),
-        Part::Text(b"\n"),
+        LinePart::Text(b"fault "),
+        LinePart::Number(number),
+        LinePart::Text(b"\n"),
     ];
     write_parts(line.as_slice(), sink)
 }
@@ -126,21 +126,21 @@ fn write_header<W: Write>(message: &Message, sink: &mut Tally<W>) -> Result<(), 
     requires { sink.old.failures < 2 ^ 64 - 1 }
     ensures { Writes W.contents sink.old sink.new result (header_line message.now) }
 {
-    let space = Part::Text(b" ");
+    let space = LinePart::Text(b" ");
     let line = [
-        Part::Text(b"header "),
-        Part::Hex(message.head.id),
+        LinePart::Text(b"header "),
+        LinePart::Hex(message.head.id),
         space,
-        Part::Hex(message.head.flags),
+        LinePart::Hex(message.head.flags),
         space,
-        Part::Number(message.questions.len() as u64),
+        LinePart::Number(message.questions.len() as u64),
         space,
-        Part::Number(message.answers.len() as u64),
+        LinePart::Number(message.answers.len() as u64),
         space,
-        Part::Number(message.authorities.len() as u64),
+        LinePart::Number(message.authorities.len() as u64),
         space,
-        Part::Number(message.additionals.len() as u64),
-        Part::Text(b"\n"),
+        LinePart::Number(message.additionals.len() as u64),
+        LinePart::Text(b"\n"),
     ];
     write_parts(line.as_slice(), sink)
 }
@@ -152,11 +152,11 @@ fn write_questions<W: Write>(questions: &[Question], sink: &mut Tally<W>) -> Res
 {
     'questions: for question in questions {
         let line = [
-            Part::Text(b"question "),
-            Part::Name(&question.name),
-            Part::Class(question.qclass),
-            Part::TypeName(RType(question.qtype)),
-            Part::Text(b"\n"),
+            LinePart::Text(b"question "),
+            LinePart::Name(&question.name),
+            LinePart::Class(question.qclass),
+            LinePart::TypeName(RType(question.qtype)),
+            LinePart::Text(b"\n"),
         ];
         write_parts(line.as_slice(), sink)?;
     }
@@ -173,19 +173,19 @@ fn write_records<'a, W: Write>(
     ensures { Writes W.contents sink.old sink.new result
         (flat_map (section_line section.now) records.now) }
 {
-    let space = Part::Text(b" ");
+    let space = LinePart::Text(b" ");
     'records: for record in records {
         let line = [
-            Part::Text(section),
+            LinePart::Text(section),
             space,
-            Part::Name(&record.owner),
+            LinePart::Name(&record.owner),
             space,
-            Part::Number(u64::from(record.ttl)),
-            Part::Class(record.rclass),
-            Part::TypeName(record.rtype),
+            LinePart::Number(u64::from(record.ttl)),
+            LinePart::Class(record.rclass),
+            LinePart::TypeName(record.rtype),
             space,
-            Part::Data(record),
-            Part::Text(b"\n"),
+            LinePart::Data(record),
+            LinePart::Text(b"\n"),
         ];
         write_parts(line.as_slice(), sink)?;
     }

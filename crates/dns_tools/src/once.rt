@@ -9,11 +9,11 @@ ghost use Rattle.dns_name.specs.Counted.{AppendsBeginning, Writes, failures_afte
 ghost use Rattle.dns_serve.specs.Streams.{session};
 ghost use Rattle.dns_tools.specs.Stops.{source_failures_after, sink_failures_after};
 ghost use Rattle.dns_answer.specs.Limits.{limit_of};
-ghost use Rattle.dns_tools.specs.declared.line.TheConstants.{MOST_OCTETS, PIECE};
+ghost use Rattle.dns_tools.specs.declared.line.TheConstants.{MOST_LINE_OCTETS, PIECE};
 ghost use Rattle.dns_tools.specs.declared.once.TheConstants.{MOST_ANSWER};
 
 use crate::fault::{Outcome, Stop};
-use crate::line::{Line, MOST_OCTETS, PIECE};
+use crate::line::{Line, MOST_LINE_OCTETS, PIECE};
 use dns_answer::{TcpDraft, UdpDraft, respond_in};
 use dns_name::{SinkFailed, Tally};
 use dns_zone::{Steps, Zone};
@@ -198,7 +198,7 @@ fn answer<W: Write>(
         (message_answer (reply_within limit zone.now) (kept_message line.now)) }
     ensures message { IfOk result (λ message. message ≡ is_some (kept_message line.now)) }
 {
-    let Some(len) = line.spell(&mut room[..MOST_OCTETS]) else {
+    let Some(len) = line.spell(&mut room[..MOST_LINE_OCTETS]) else {
         sink.write_all(b"bad hex\n")?;
         return Ok(false);
     };

@@ -17,7 +17,7 @@ use std::io::Write;
 
 /// A part of a line.
 #[derive(Clone, Copy)]
-pub(crate) enum Part<'a> {
+pub(crate) enum LinePart<'a> {
     /// A literal text.
     Text(&'a [u8]),
     /// A number in decimal.
@@ -48,7 +48,7 @@ impl From<SinkFailed> for Stop {
 
 /// Writes parts, one after another.
 pub(crate) fn write_parts<W: Write>(
-    parts: &[Part<'_>],
+    parts: &[LinePart<'_>],
     sink: &mut Tally<W>,
 ) -> Result<(), SinkFailed>
     requires { sink.old.failures < 2 ^ 64 - 1 }
@@ -60,21 +60,21 @@ pub(crate) fn write_parts<W: Write>(
     Ok(())
 }
 
-impl Part<'_> {
+impl LinePart<'_> {
     fn write<W: Write>(&self, sink: &mut Tally<W>) -> Result<(), SinkFailed>
         requires { sink.old.failures < 2 ^ 64 - 1 }
         ensures { Writes W.contents sink.old sink.new result (part_text self.now) }
     {
         match self {
-            Part::Text(text) => sink.write_all(text),
-            Part::Number(number) => write_number(*number, sink),
-            Part::Hex(number) => sink.write_all(hex_of(*number).as_slice()),
-            Part::Code(code) => sink.write_all(&[b'0' + *code / 10, b'0' + *code % 10]),
-            Part::Name(name) => name.write_text(sink),
-            Part::BareName(name) => name.write_bare_text(sink),
-            Part::Class(class) => write_class(*class, sink),
-            Part::TypeName(rtype) => rtype.write_text(sink),
-            Part::Data(record) => {
+            LinePart::Text(text) => sink.write_all(text),
+            LinePart::Number(number) => write_number(*number, sink),
+            LinePart::Hex(number) => sink.write_all(hex_of(*number).as_slice()),
+            LinePart::Code(code) => sink.write_all(&[b'0' + *code / 10, b'0' + *code % 10]),
+            LinePart::Name(name) => name.write_text(sink),
+            LinePart::BareName(name) => name.write_bare_text(sink),
+            LinePart::Class(class) => write_class(*class, sink),
+            LinePart::TypeName(rtype) => rtype.write_text(sink),
+            LinePart::Data(record) => {
                 Rdata::write_text(record.data_type(), record.rdata.as_slice(), sink)
             }
         }

@@ -4,7 +4,7 @@ ghost use Rattle.std.specs.List.{flat_map};
 ghost use Rattle.dns_spec.specs.Report.{fault_report, loaded_report, serving_report};
 ghost use Rattle.dns_name.specs.Counted.{Writes};
 
-use crate::parts::{Part, write_parts};
+use crate::parts::{LinePart, write_parts};
 use dns_name::{SinkFailed, Tally};
 use dns_zone::{CheckFault, CheckedZone, Zone};
 use std::io::Write;
@@ -19,10 +19,10 @@ pub(crate) fn write_check_faults<W: Write>(
 {
     'faults: for fault in faults {
         let line = [
-            Part::Name(&fault.owner),
-            Part::Text(b" Z"),
-            Part::Code(fault.code),
-            Part::Text(b"\n"),
+            LinePart::Name(&fault.owner),
+            LinePart::Text(b" Z"),
+            LinePart::Code(fault.code),
+            LinePart::Text(b"\n"),
         ];
         write_parts(line.as_slice(), sink)?;
     }
@@ -38,11 +38,11 @@ pub(crate) fn write_loaded<W: Write>(
     ensures { Writes W.contents sink.old sink.new result (loaded_report zone.now) }
 {
     let lines = [
-        Part::Text(b"zone "),
-        Part::BareName(zone.origin()),
-        Part::Text(b"/IN: loaded serial "),
-        Part::Number(u64::from(zone.serial())),
-        Part::Text(b"\nOK\n"),
+        LinePart::Text(b"zone "),
+        LinePart::BareName(zone.origin()),
+        LinePart::Text(b"/IN: loaded serial "),
+        LinePart::Number(u64::from(zone.serial())),
+        LinePart::Text(b"\nOK\n"),
     ];
     write_parts(lines.as_slice(), sink)
 }
@@ -53,11 +53,11 @@ pub(crate) fn write_serving<W: Write>(zone: &Zone, sink: &mut Tally<W>) -> Resul
     ensures { Writes W.contents sink.old sink.new result (serving_report zone.now) }
 {
     let line = [
-        Part::Text(b"zone "),
-        Part::BareName(zone.origin()),
-        Part::Text(b"/IN: serving serial "),
-        Part::Number(u64::from(zone.serial())),
-        Part::Text(b"\n"),
+        LinePart::Text(b"zone "),
+        LinePart::BareName(zone.origin()),
+        LinePart::Text(b"/IN: serving serial "),
+        LinePart::Number(u64::from(zone.serial())),
+        LinePart::Text(b"\n"),
     ];
     write_parts(line.as_slice(), sink)
 }

@@ -1,8 +1,8 @@
 //! A UDP socket as a device for datagrams.
 ghost use Rattle.std.specs.Prelude.{◌≡◌, false, None};
 
+use crate::nonblocking::is_put_off;
 use crate::peer::is_interrupted;
-use crate::waiting::is_put_off;
 use dns_serve::{Datagrams, Failed};
 use std::io::Error;
 use std::marker::Model;

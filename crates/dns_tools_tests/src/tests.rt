@@ -1,6 +1,6 @@
+mod arguments;
 mod fault;
-mod host;
 mod load;
+mod nonblocking;
+mod startup;
 mod turns;
-mod waiting;
-mod words;

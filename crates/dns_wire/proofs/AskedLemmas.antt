@@ -1,6 +1,6 @@
 -- The question's name has the places of its suffixes, whatever follows it; the distance of each
 -- from its end is the suffix's length.
-use Rattle.dns_wire.proofs.Common.{◌≡◌, ℕ, zero, suc, ◌+◌, ◌-◌, ◌<◌, ◌≤◌, true, ◌⊎◌, inl, inr, List, [], ◌∷◌, ◌++◌, length, take, drop, refl, sym, ap, ◌∙◌, subst, arith, append_assoc, length-append, take-append-drop, take_at, replicate, ap₂, Option, None, Some, IfSome, and_parts, list_all, Octets, DomainName, wire, is_name, is_label, drop-drop, drop-take, take-append-le, length-take, length-drop, Stands, run_written, labels_of_spelled, IsWireForm-wire, labels_of, IsWireForm, Kept, IsKept, SpellsName, IsSharedAt, NoneSpelled, AfterLabel, name_before, IsAsked, asked_places, NotAsked, IsLastOf, new_places}
+use Rattle.dns_wire.proofs.Common.{◌≡◌, ℕ, zero, suc, ◌+◌, ◌-◌, ◌<◌, ◌≤◌, true, ◌⊎◌, inl, inr, List, [], ◌∷◌, ◌++◌, length, take, drop, refl, sym, ap, ◌∙◌, subst, arith, append_assoc, length-append, take-append-drop, take_at, replicate, ap₂, Option, None, Some, IfSome, and_parts, list_all, Octets, DomainName, wire, is_name, is_label, drop-drop, drop-take, take-append-le, length-take, length-drop, Stands, run_written, labels_of_spelled, IsWireForm-wire, labels_of, IsWireForm, Kept, IsKept, SpellsSuffix, IsSharedAt, NoneSpelled, AfterLabel, name_before, IsAsked, asked_places, NotAsked, IsLastOf, new_places}
 use Rattle.dns_wire.proofs.SuffixLemmas.{one_run, next_label, kept-root}
 use Rattle.dns_wire.proofs.NameWritten.{kept_left, kept_right, kept_split, kept_sound, kept_complete, NewSuffix, is_name-suffix}
 use Rattle.dns_spec.proofs.DomainNames.WireNames.{wire_split, longer_wire}
@@ -208,7 +208,7 @@ shared_asked asked ks {p = p} s = record {
 }
 
 pub shared_kept : (asked ks : List Kept) (b o : Octets) (h : ℕ) (r : Option ℕ)
-    → IfSome r (λ p. IsKept ks p h) → IfSome r (λ p. SpellsName b p o)
+    → IfSome r (λ p. IsKept ks p h) → IfSome r (λ p. SpellsSuffix b p o)
     → IfSome r (λ p. p < 16384) → IfSome r (λ p. IsSharedAt (asked ++ ks) b o p)
 shared_kept asked ks b o h None kept spelled reached = tt
 shared_kept asked ks b o h (Some p) kept spelled reached =

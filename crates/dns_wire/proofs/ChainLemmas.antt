@@ -1,12 +1,12 @@
 -- The chains stay intact when an entry is added at the end, or the last one is removed.
-use Rattle.dns_wire.proofs.Common.{◌≡◌, ap₂, ◌-◌, ℕ, zero, suc, ◌<◌, ◌≤◌, ◌==◌, Bool, true, false, cond, List, [], ◌∷◌, ◌++◌, map, length, replicate, get_or, slice_get, slice_set, option_map, Some, refl, sym, ap, ◌∙◌, subst, arith, length-append, false≢true, eqb-true, eq-eqb, leb-false, slice_get_within, slice_get-map, slice_get-get_or, get_or-set_same, get_or-set_other, get_or-replicate, get_or_append_left, get_or_push, length-map, length-set, length-replicate, mod_below, Entry, kept_in, chain_of, entry_at, last_with, AreChains}
+use Rattle.dns_wire.proofs.Common.{◌≡◌, ap₂, ◌-◌, ℕ, zero, suc, ◌<◌, ◌≤◌, ◌==◌, Bool, true, false, cond, List, [], ◌∷◌, ◌++◌, map, length, replicate, get_or, slice_get, slice_set, option_map, Some, refl, sym, ap, ◌∙◌, subst, arith, length-append, false≢true, eqb-true, eq-eqb, leb-false, slice_get_within, slice_get-map, slice_get-get_or, get_or-set_same, get_or-set_other, get_or-replicate, get_or_append_left, get_or_push, length-map, length-set, length-replicate, mod_below, KeptPlace, kept_in, chain_of, entry_at, last_with, AreChains}
 
-last_bound : (h : ℕ) (es : List Entry) (k : ℕ) → last_with h es k ≤ k
+last_bound : (h : ℕ) (es : List KeptPlace) (k : ℕ) → last_with h es k ≤ k
 last_bound h es zero = omega arith
 last_bound h es (suc k) = grind (arith, (last_bound h es k))
 
 -- one more entry
-module _ (es : List Entry) (e : Entry) where
+module _ (es : List KeptPlace) (e : KeptPlace) where
   same_before : (k : ℕ) → k < length es → entry_at (es ++ e ∷ []) k ≡ entry_at es k
   same_before k low = get_or_append_left es (e ∷ []) _ k low
 
@@ -15,7 +15,7 @@ module _ (es : List Entry) (e : Entry) where
 
   last_before : (h k : ℕ) → k ≤ length es → last_with h (es ++ e ∷ []) k ≡ last_with h es k
   last_before h zero low = refl
-  last_before h (suc k) low = ap₂ (λ (x : Entry) m. cond (chain_of x.number == h) (suc k) m)
+  last_before h (suc k) low = ap₂ (λ (x : KeptPlace) m. cond (chain_of x.number == h) (suc k) m)
       (same_before k (omega (arith, low))) (last_before h k (omega (arith, low)))
 
   last_now : (h : ℕ) → last_with h (es ++ e ∷ []) (length (es ++ e ∷ []))
@@ -50,7 +50,7 @@ module _ (es : List Entry) (e : Entry) where
     all = length-set heads (chain_of e.number) e.next ∙ c.all;
     newest = λ h low. set_head heads e.next _ h c.all (newest h low);
     linked = λ k low.
-        let l = subst (λ (x : Entry). (x.place < 16384)
+        let l = subst (λ (x : KeptPlace). (x.place < 16384)
         × (x.next ≡ last_with (chain_of x.number) (es ++ e ∷ []) k))
         (same_before k low) (c.linked k (omega (arith, low, length-append es (e ∷ [])))) in
         (l.0, l.1 ∙ last_before (chain_of (entry_at es k).number) k (omega (arith, low)));
@@ -80,14 +80,14 @@ chains_begin = record {
 
 -- A chain continues at one of its entries, counted from 1, or ends (0); P holds for no later entry
 -- of the chain.
-pub record Chain (P : Entry → Type 0) (h : ℕ) (es : List Entry) (number : ℕ) : Type 0 where
+pub record Chain (P : KeptPlace → Type 0) (h : ℕ) (es : List KeptPlace) (number : ℕ) : Type 0 where
   pub inside : number ≤ length es
   pub here : (k : ℕ) → number ≡ suc k → chain_of (entry_at es k).number ≡ h
   pub after : (k : ℕ)
       → k < length es → number ≤ k → chain_of (entry_at es k).number ≡ h → P (entry_at es k) → ⊥
 
 -- the entry at a number counted from 1
-pub read_entry : {es xs : List Entry} {number i : ℕ}
+pub read_entry : {es xs : List KeptPlace} {number i : ℕ}
     → 0 < number → xs ≡ es → i ≡ number → (k : ℕ) × (number ≡ suc k)
     × (get_or xs (i - 1) (record { place = 0; number = 0; next = 0 }) ≡ entry_at es k)
 read_entry {number = number} positive same at = (
@@ -96,7 +96,7 @@ read_entry {number = number} positive same at = (
   ap₂ (λ ys n. get_or ys (n - 1) (record { place = 0; number = 0; next = 0 })) same at,
 )
 
-module _ (P : Entry → Type 0) (h : ℕ) (es : List Entry) where
+module _ (P : KeptPlace → Type 0) (h : ℕ) (es : List KeptPlace) where
   chain_at : (m : ℕ) → m ≤ length es → ((k : ℕ) → k < length es → m ≤ k → chain_of
       (entry_at es k).number ≡ h → P (entry_at es k) → ⊥) → Chain P h es (last_with h es m)
   chain_at zero inside none =
@@ -113,11 +113,11 @@ module _ (P : Entry → Type 0) (h : ℕ) (es : List Entry) where
   chain_next heads k c chain other = grind (arith, last_bound, chain_at)
 
 -- the pair that an entry represents
-pub entry_kept : (es : List Entry) (k : ℕ)
+pub entry_kept : (es : List KeptPlace) (k : ℕ)
     → k < length es → slice_get (map kept_in es) k ≡ Some (kept_in (entry_at es k))
 entry_kept es k low = grind (arith, slice_get-map, kept_in, option_map, slice_get-get_or)
 
-pub kept_entry : (es : List Entry) (k p h : ℕ)
+pub kept_entry : (es : List KeptPlace) (k p h : ℕ)
     → slice_get (map kept_in es) k ≡ Some (record { place = p; number = h })
     → (k < length es) × ((entry_at es k).number ≡ h) × ((entry_at es k).place ≡ p)
 kept_entry es k p h at = grind (arith, slice_get_within, length-map, entry_kept)

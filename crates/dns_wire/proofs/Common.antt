@@ -29,7 +29,7 @@ pub use Rattle.dns_spec.proofs.Messages.OneMessage.{one_number, same_names, same
 pub use Rattle.dns_spec.proofs.Messages.Places.{Stands, label_parts, run_written}
 pub use Rattle.dns_wire.specs.Chains.{AreChains, chain_of, entry_at, kept_in, last_with}
 pub use Rattle.dns_wire.specs.Draft.{Draft, Grows, HasNames, IsDraft, IsWellKept, Writes, WritesAfter, counts_of, draft_of, item_of, known_places, names_so_far, no_draft, with_counted, with_octets, with_set}
-pub use Rattle.dns_wire.specs.Kept.{HasAt, HasPlace, IsKept, IsSharedAt, Kept, NoneSpelled, SpelledAt, SpelledFrom, SpellsName}
+pub use Rattle.dns_wire.specs.Kept.{HasAt, HasPlace, IsKept, IsSharedAt, Kept, NoneSpelled, SpelledAt, SpelledFrom, SpellsSuffix}
 pub use Rattle.dns_wire.specs.Labels.{IsReading, LabelAt, NoNameAt, NoRunAt, PointerAt, end_or}
 pub use Rattle.dns_wire.specs.Pieces.{ArePiecesRead, IsPieceRead, NoDataAt, NoPieceAt, NoPiecesAt}
 pub use Rattle.dns_wire.specs.QueryForm.{NameEnds}
@@ -42,4 +42,4 @@ unfoldable pub use Rattle.dns_wire.specs.Writing.{asked_places, front_size, new_
 pub use Rattle.dns_wire.specs.declared.fault.WireFault.{WireFault}
 pub use Rattle.dns_wire.specs.declared.message.Counts.{Counts}
 pub use Rattle.dns_wire.specs.declared.page.Section.{Section}
-pub use Rattle.dns_wire.specs.declared.places.Entry.{Entry}
+pub use Rattle.dns_wire.specs.declared.places.KeptPlace.{KeptPlace}

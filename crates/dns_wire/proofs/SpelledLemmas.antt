@@ -1,5 +1,5 @@
 -- What is at a place, and what follows it, determine what is spelled from there on.
-use Rattle.dns_wire.proofs.Common.{◌≡◌, ℕ, ◌+◌, ◌<◌, true, [], ◌∷◌, ◌++◌, length, take, drop, slice_get, Some, refl, sym, ap, ◌∙◌, subst, arith, drop_at, take-append-drop, length-append, and_parts, length-take-le, same_Some, list_all, Octets, DomainName, wire, is_name, is_label, RunAt, ends, goes_on, jumps, Stands, run_written, LabelAt, PointerAt, SpelledFrom, SpellsName, HasAt}
+use Rattle.dns_wire.proofs.Common.{◌≡◌, ℕ, ◌+◌, ◌<◌, true, [], ◌∷◌, ◌++◌, length, take, drop, slice_get, Some, refl, sym, ap, ◌∙◌, subst, arith, drop_at, take-append-drop, length-append, and_parts, length-take-le, same_Some, list_all, Octets, DomainName, wire, is_name, is_label, RunAt, ends, goes_on, jumps, Stands, run_written, LabelAt, PointerAt, SpelledFrom, SpellsSuffix, HasAt}
 use Rattle.dns_wire.proofs.Runs.{GoesOn, at_end, at_label, at_pointer, goes_on_at}
 use Rattle.dns_wire.proofs.SuffixLemmas.{next_label}
 
@@ -88,7 +88,7 @@ stands_at {b} {o} {p} has = record {
 }
 
 -- a name whose octets are in a message is spelled there
-pub spelled_whole : {b o : Octets} {p : ℕ} → HasAt b p o → SpellsName b p o
+pub spelled_whole : {b o : Octets} {p : ℕ} → HasAt b p o → SpellsSuffix b p o
 spelled_whole {b} {o} {p} has n e ok = (
   n,
   p + length (wire n),

@@ -1,6 +1,6 @@
 -- The place found for a suffix is the place at which it is shared, and the places kept of a name
 -- are exactly those that later names may share.
-use Rattle.dns_wire.proofs.Common.{◌≡◌, ℕ, zero, suc, ◌+◌, ◌-◌, ◌*◌, ◌<◌, ◌≤◌, Bool, true, false, cond, nat_le, List, [], ◌∷◌, ◌++◌, length, take, drop, get_or, Option, None, Some, refl, sym, ap, ap₂, ◌∙◌, subst, arith, append_assoc, append-nil, length-append, drop_at, le-leb, leb-true, same_Some, Octets, DomainName, wire, is_name, RunAt, Placed, last_place, shared_place, ends, goes_on, jumps, length-drop, label_parts, is_name-tail, is_label-head, wire-injective, pointer_place, Kept, HasPlace, SpelledAt, SpellsName, NoneSpelled, AfterLabel, front_size, pointed_place, new_places, Holds, Follows}
+use Rattle.dns_wire.proofs.Common.{◌≡◌, ℕ, zero, suc, ◌+◌, ◌-◌, ◌*◌, ◌<◌, ◌≤◌, Bool, true, false, cond, nat_le, List, [], ◌∷◌, ◌++◌, length, take, drop, get_or, Option, None, Some, refl, sym, ap, ap₂, ◌∙◌, subst, arith, append_assoc, append-nil, length-append, drop_at, le-leb, leb-true, same_Some, Octets, DomainName, wire, is_name, RunAt, Placed, last_place, shared_place, ends, goes_on, jumps, length-drop, label_parts, is_name-tail, is_label-head, wire-injective, pointer_place, Kept, HasPlace, SpelledAt, SpellsSuffix, NoneSpelled, AfterLabel, front_size, pointed_place, new_places, Holds, Follows}
 use Rattle.dns_wire.proofs.Runs.{GoesOn, at_end, at_label, at_pointer, goes_on_at}
 
 -- how a name is laid out, by the place at which it is shared whole, if any
@@ -164,7 +164,7 @@ left_root {name = name} {rest} ms n left root holds e ok =
 
 pub left_found : {head : Octets → ℕ} {b : Octets} {ks : List Kept}
     {name rest : Octets} (p : ℕ) (ms : List Placed) (n : DomainName) → Left head b ks name rest
-    → HasPlace ks p → SpellsName b p rest → Holds head ms b ks → name ≡ wire n → is_name n ≡ true
+    → HasPlace ks p → SpellsSuffix b p rest → Holds head ms b ks → name ≡ wire n → is_name n ≡ true
     → (front_size ms n ≡ length name - length rest) × (pointed_place ms n ≡ Some p)
 left_found {b = b} {name = name} {rest} p ms n left kept there holds e ok =
     let a = left.all ms n holds e ok in

@@ -25,14 +25,14 @@ abbrev pub SpelledAt : Octets → ℕ → Octets → Type 0
 SpelledAt b p o = SpelledFrom b p p o
 
 -- if octets are the wire form of a name, the name is spelled at this place
-abbrev pub SpellsName : Octets → ℕ → Octets → Type 0
-SpellsName b p o = (n : DomainName) → o ≡ wire n → IsTrue (is_name n) → SpelledAt b p o
+abbrev pub SpellsSuffix : Octets → ℕ → Octets → Type 0
+SpellsSuffix b p o = (n : DomainName) → o ≡ wire n → IsTrue (is_name n) → SpelledAt b p o
 
 -- a pointer to a place may replace a suffix: the place is kept, and the message spells the suffix
 -- there
 pub record IsSharedAt (ks : List Kept) (b o : Octets) (p : ℕ) : Type 0 where
   pub kept : HasPlace ks p
-  pub spelled : SpellsName b p o
+  pub spelled : SpellsSuffix b p o
   pub reached : p < 16384
 
 -- these octets are in the message from this place on

@@ -3,8 +3,8 @@ use Rattle.std.specs.Prelude.{◌≡◌, ℕ, ◌+◌, ◌<◌, ◌≤◌, ◌++
 use Rattle.std.specs.Option.{unwrap_or}
 use Rattle.dns_spec.specs.Names.{Octets, DomainName, is_name}
 use Rattle.dns_spec.specs.Reading.{pointer_place, RunAt, NameAt}
-use Rattle.dns_wire.specs.declared.name.Step.{Step}
-use Rattle.dns_wire.specs.declared.name.Step.TheVariants.{End, Label, Jump}
+use Rattle.dns_wire.specs.declared.name.NameStep.{NameStep}
+use Rattle.dns_wire.specs.declared.name.NameStep.TheVariants.{End, Label, Jump}
 
 -- a length and the label l are at place i
 pub record LabelAt (b : Octets) (i : ℕ) (l : Octets) : Type 0 where
@@ -26,7 +26,7 @@ pub record PointerAt (b : Octets) (s i p : ℕ) : Type 0 where
   pub before_run : p < s
 
 -- the root's length 0, a label, or a pointer
-abbrev pub StepAt : Octets → ℕ → ℕ → Step → Type 0
+abbrev pub StepAt : Octets → ℕ → ℕ → NameStep → Type 0
 StepAt b s i End = slice_get b i ≡ Some 0
 StepAt b s i (Label l) = LabelAt b i l
 StepAt b s i (Jump p) = PointerAt b s i p

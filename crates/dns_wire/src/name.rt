@@ -9,7 +9,7 @@ use dns_name::{Label, Name};
 
 // What is at a place in a name.
 #[derive(Drop)]
-pub(crate) enum Step<'a> {
+pub(crate) enum NameStep<'a> {
     // The root's length, which ends the name.
     End,
     Label(Label<'a>),
@@ -35,15 +35,15 @@ pub(crate) fn read_name(message: &[u8], at: usize) -> Result<(Name, usize), Wire
     let mut end = None;
     'steps: loop {
         match step_at(message, run, place)? {
-            Step::End => return Ok((name, end.unwrap_or(place + 1))),
-            Step::Label(label) => {
+            NameStep::End => return Ok((name, end.unwrap_or(place + 1))),
+            NameStep::Label(label) => {
                 let length = label.octets().len();
                 if !name.push(label) {
                     return Err(WireFault::LongName);
                 }
                 place += 1 + length;
             }
-            Step::Jump(target) => {
+            NameStep::Jump(target) => {
                 end = Some(end.unwrap_or(place + 2));
                 run = target;
                 place = target;
@@ -53,25 +53,25 @@ pub(crate) fn read_name(message: &[u8], at: usize) -> Result<(Name, usize), Wire
 }
 
 // What is at a place in a run of labels that began at `run`.
-pub(crate) fn step_at(message: &[u8], run: usize, place: usize) -> Result<Step<'_>, WireFault>
+pub(crate) fn step_at(message: &[u8], run: usize, place: usize) -> Result<NameStep<'_>, WireFault>
     ensures step { IfOk result (λ step. StepAt message.now run place step) }
     ensures none { IsErr result → NoRunAt message.now run place }
 {
     let octet = message.get(place).ok_or(WireFault::Short)?;
     match *octet {
-        0 => Ok(Step::End),
+        0 => Ok(NameStep::End),
         1..=63 => {
             let (_, rest) = message.split_at(place + 1);
             let Some((octets, _)) = rest.split_at_checked(usize::from(*octet)) else {
                 return Err(WireFault::Short);
             };
             match Label::new(octets) {
-                Some(label) => Ok(Step::Label(label)),
+                Some(label) => Ok(NameStep::Label(label)),
                 None => unreachable!(),
             }
         }
         64..=191 => Err(WireFault::ReservedLabel),
-        192..=255 => Ok(Step::Jump(pointer_at(message, run, place)?)),
+        192..=255 => Ok(NameStep::Jump(pointer_at(message, run, place)?)),
     }
 }
 

@@ -2,7 +2,7 @@
 //! 4.1.4).
 ghost use Rattle.std.specs.Prelude.{◌≡◌, ◌-◌, ◌<◌, ◌≤◌, [], ◌∷◌, ◌++◌, length, take, IfSome, IsNone};
 ghost use Rattle.dns_wire.specs.Chains.{chain_of};
-ghost use Rattle.dns_wire.specs.Kept.{IsKept, SpellsName, NoneSpelled};
+ghost use Rattle.dns_wire.specs.Kept.{IsKept, SpellsSuffix, NoneSpelled};
 
 use crate::spelled::is_spelled;
 use arrayvec::ArrayVec;
@@ -20,7 +20,7 @@ const HEADS: usize = 128;
 // A place; the entry of its chain that was kept before it, counted from 1, or 0 if there is none;
 // and the number of its suffix.
 #[derive(Clone, Copy, Default)]
-struct Entry {
+struct KeptPlace {
     place: u16,
     next: u16,
     number: u32,
@@ -32,7 +32,7 @@ struct Entry {
 pub(crate) struct Places<const N: usize> {
     // The newest entry of each chain, counted from 1, or 0 if there is none.
     heads: [u16; HEADS],
-    entries: ArrayVec<Entry, N>,
+    entries: ArrayVec<KeptPlace, N>,
 }
 
 impl<const N: usize> Model for Places<N> {
@@ -74,7 +74,7 @@ impl<const N: usize> Places<N> {
         ensures { self.new ≡ self.old ++ record { place = place; number = number } ∷ [] }
     {
         let next = self.heads[chain_of(number)];
-        self.entries.push(Entry {
+        self.entries.push(KeptPlace {
             place,
             next,
             number,
@@ -97,7 +97,7 @@ impl<const N: usize> Places<N> {
     /// number; the newest of them.
     pub(crate) fn find(&self, number: u32, message: &[u8], suffix: &[u8]) -> Option<u16>
         ensures kept { IfSome result (λ place. IsKept self.now place number) }
-        ensures spelled { IfSome result (λ place. SpellsName message.now place suffix.now) }
+        ensures spelled { IfSome result (λ place. SpellsSuffix message.now place suffix.now) }
         ensures reached { IfSome result (λ place. place < 16384) }
         ensures none { IsNone result → NoneSpelled self.now number message.now suffix.now }
     {

@@ -1,14 +1,14 @@
 //! Whether a message spells a suffix at a place, following pointers (RFC 1035 4.1.4).
 ghost use Rattle.std.specs.Prelude.{◌≡◌, ◌≤◌, ◌∷◌, ◌++◌, length, take, drop, IsTrue, IfSome, IsNone};
 ghost use Rattle.dns_spec.specs.Names.{Octets};
-ghost use Rattle.dns_wire.specs.Kept.{SpelledAt, SpellsName, HasAt};
+ghost use Rattle.dns_wire.specs.Kept.{SpelledAt, SpellsSuffix, HasAt};
 
-use crate::name::{Step, step_at};
+use crate::name::{NameStep, step_at};
 use dns_name::are_equal;
 
 /// Whether the name that a message spells at a place has these octets as its wire form.
 pub(crate) fn is_spelled(message: &[u8], at: usize, suffix: &[u8]) -> bool
-    ensures yes { IsTrue result → SpellsName message.now at suffix.now }
+    ensures yes { IsTrue result → SpellsSuffix message.now at suffix.now }
     ensures no { SpelledAt message.now at suffix.now → IsTrue result }
 {
     let mut run = at;
@@ -20,15 +20,15 @@ pub(crate) fn is_spelled(message: &[u8], at: usize, suffix: &[u8]) -> bool
         };
         match step {
             // Only the root has a wire form of one octet.
-            Step::End => return rest.len() == 1,
-            Step::Label(label) => {
+            NameStep::End => return rest.len() == 1,
+            NameStep::Label(label) => {
                 let Some(after) = after_label(rest, label.octets()) else {
                     return false;
                 };
                 rest = after;
                 place += 1 + label.octets().len();
             }
-            Step::Jump(target) => {
+            NameStep::Jump(target) => {
                 if has_at(message, target, rest) {
                     return true;
                 }

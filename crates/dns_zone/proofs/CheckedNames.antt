@@ -1,5 +1,5 @@
 -- Searching the list of checked names by keys.
-use Rattle.dns_zone.proofs.Common.{◌≡◌, ℕ, ◌+◌, suc, ◌<◌, ◌≤◌, Bool, true, false, ◌&&◌, not, cond, ◌==◌, nat_lt, ◌⊎◌, inl, inr, List, get_or, zero, drop, length-take, [], ◌∷◌, map, length, take, refl, sym, ap, ap₂, ◌∙◌, subst, arith, filter, is_gt, nat_cmp, Ordering, Less, Equal, Greater, false≢true, true≢false, not-true, and_parts, false_from_ne_true, cases_lt, nat_list_cmp_total, tied_itself, upto, get_or-take, get_or_default, min-eq_left, slice_cmp, starts_with, IsPartitionedBy, ordering_reverse, Octets, DomainName, folded, same, at_or_below, name_order, ResourceRecord, ZoneContents, at, is_cut, at_or_below_cut, checked_names, octets_equal-decides, name_tie, name_order_total, one_lower, Lower, AllByRecursion, Among, Rises, each_at, each_filter, filter_each, filter_among, name_key, own_in, name_of, IsTopmost, is_covered, is_upto, IsLastAt, IsChecked, IsLastUpto, owners_once, IsFront, CheckedName, each_among}
+use Rattle.dns_zone.proofs.Common.{◌≡◌, ℕ, ◌+◌, suc, ◌<◌, ◌≤◌, Bool, true, false, ◌&&◌, not, cond, ◌==◌, nat_lt, ◌⊎◌, inl, inr, List, get_or, zero, drop, length-take, [], ◌∷◌, map, length, take, refl, sym, ap, ap₂, ◌∙◌, subst, arith, filter, is_gt, nat_cmp, Ordering, Less, Equal, Greater, false≢true, true≢false, not-true, and_parts, false_from_ne_true, cases_lt, nat_list_cmp_total, tied_itself, upto, get_or-take, get_or_default, min-eq_left, slice_cmp, starts_with, IsPartitionedBy, ordering_reverse, Octets, DomainName, folded, same, at_or_below, name_order, ResourceRecord, ZoneContents, at, is_cut, at_or_below_cut, checked_names, octets_equal-decides, name_tie, name_order_total, one_lower, Lower, AllByRecursion, Among, Rises, each_at, each_filter, filter_each, filter_among, name_key, own_in, owner_of, IsTopmost, is_covered, is_upto, IsLastAt, IsChecked, IsLastUpto, owners_once, IsFront, CheckedName, each_among}
 use Rattle.dns_zone.proofs.KeyOrder.{key_order}
 use Rattle.dns_zone.proofs.NameOrder.{same-is}
 use Rattle.dns_zone.proofs.NameTree.{under-order}
@@ -67,12 +67,12 @@ module _ (z : ZoneContents) where
   none_at m low f = grind (arith, filter_none, each_among, false_from_ne_true, owner_among)
 
   abbrev name : CheckedName → DomainName
-  name = name_of z
+  name = owner_of z
 
   -- a search among names in order
   module _ (names : List CheckedName)
-      (each : AllByRecursion (λ c. IsChecked z (name_of z c) c) names)
-      (rise : Rises name_order (map (name_of z) names)) (m : DomainName) (low : Lower m)
+      (each : AllByRecursion (λ c. IsChecked z (owner_of z c) c) names)
+      (rise : Rises name_order (map (owner_of z) names)) (m : DomainName) (low : Lower m)
       (key : Octets) (key_is : key ≡ name_key m) where
     key_tells : (c : CheckedName) → IsChecked z (name c) c
         → slice_cmp nat_cmp c.key.now key ≡ name_order (name c) m
@@ -158,7 +158,7 @@ module _ (z : ZoneContents) where
         upto_last d a e = grind (arith, each_at, in_order, upto_among, equal_upto)
 
       -- if these are all checked names
-      module _ (all : map (name_of z) names ≡ checked_names z) where
+      module _ (all : map (owner_of z) names ≡ checked_names z) where
         pub upto_some : Lower z.origin → at_or_below m z.origin ≡ true → 0 < k
         upto_some low_origin under = go (cases_lt 0 k)
           where
@@ -215,7 +215,7 @@ module _ (z : ZoneContents) where
 
     module _ (c : CheckedName) (h : IsLastUpto z m c) where
       abbrev last : DomainName
-      last = name_of z c
+      last = owner_of z c
 
       pub found_name : c.key.now ≡ name_key m → last ≡ m
       found_name e = one_key last m h.checked.owner.lower low (sym h.checked.key ∙ e)

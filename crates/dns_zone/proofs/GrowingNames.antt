@@ -1,5 +1,5 @@
 -- Collecting the names to be checked: the owners of a zone, and the origin.
-use Rattle.dns_zone.proofs.Common.{append-nil, ◌≡◌, ℕ, zero, suc, true, false, ◌⊎◌, inl, inr, List, [], ◌∷◌, ◌++◌, map, take, drop, refl, sym, ap, ◌∙◌, subst, arith, get_or, is_gt, Ordering, Less, Equal, Greater, true≢false, tied_itself, Bor, IsPartitionedBy, ordering_reverse, Octets, DomainName, folded, at_or_below, name_order, ResourceRecord, ZoneContents, name_tie, name_order_total, one_lower, append_assoc, map_push, AllByRecursion, Among, Rises, each_at, each_weaker, name_key, name_of, is_upto, IsTopmost, IsChecked, AreChecked, AreOwners, ComesNext, IsOwner, owners_once, AreOrdered, IsFront, CheckedName}
+use Rattle.dns_zone.proofs.Common.{append-nil, ◌≡◌, ℕ, zero, suc, true, false, ◌⊎◌, inl, inr, List, [], ◌∷◌, ◌++◌, map, take, drop, refl, sym, ap, ◌∙◌, subst, arith, get_or, is_gt, Ordering, Less, Equal, Greater, true≢false, tied_itself, Bor, IsPartitionedBy, ordering_reverse, Octets, DomainName, folded, at_or_below, name_order, ResourceRecord, ZoneContents, name_tie, name_order_total, one_lower, append_assoc, map_push, AllByRecursion, Among, Rises, each_at, each_weaker, name_key, owner_of, is_upto, IsTopmost, IsChecked, AreChecked, AreOwners, ComesNext, IsOwner, owners_once, AreOrdered, IsFront, CheckedName}
 use Rattle.dns_zone.proofs.AtName.{owners_in_order}
 use Rattle.dns_zone.proofs.CheckedNames.{itself_upto, equal_upto, one_key, cut_among, none_at, upto_parted, upto_among, after_each, in_order, last_checked, last_upto}
 use Rattle.dns_zone.proofs.NameTree.{under-from, under-order}
@@ -92,13 +92,13 @@ module _ (z : ZoneContents) (ordered : AreOrdered z.records) (ns ms : List Domai
   }
 
 pub each_added : (z : ZoneContents) (names : List CheckedName) (c : CheckedName) (n : DomainName)
-    → AllByRecursion (λ d. IsChecked z (name_of z d) d) names → name_of z c ≡ n → IsChecked z n c
-    → AllByRecursion (λ d. IsChecked z (name_of z d) d) (names ++ c ∷ [])
+    → AllByRecursion (λ d. IsChecked z (owner_of z d) d) names → owner_of z c ≡ n → IsChecked z n c
+    → AllByRecursion (λ d. IsChecked z (owner_of z d) d) (names ++ c ∷ [])
 each_added z names c n e f h = grind (arith, each_push)
 
 pub all_added : (z : ZoneContents) (names : List CheckedName) (c : CheckedName) (n : DomainName)
-    (ms : List DomainName) → name_of z c ≡ n
-    → map (name_of z) (names ++ c ∷ []) ++ ms ≡ map (name_of z) names ++ n ∷ ms
+    (ms : List DomainName) → owner_of z c ≡ n
+    → map (owner_of z) (names ++ c ∷ []) ++ ms ≡ map (owner_of z) names ++ n ∷ ms
 all_added z names c n ms f = grind (arith, map_push, append_assoc)
 
 insert_rises : {X : Type 0} (f : X → DomainName) (xs : List X) (i : ℕ) (x : X) → Rises name_order
@@ -121,7 +121,7 @@ module _ (z : ZoneContents) (low : folded z.origin ≡ z.origin) (ordered : AreO
   abbrev o : DomainName
   o = z.origin
 
-  rise : Rises name_order (map (name_of z) names)
+  rise : Rises name_order (map (owner_of z) names)
   rise = grind (arith, once_rise, owners_in_order)
 
   pub owners_parted : IsPartitionedBy (is_upto key) names
@@ -133,19 +133,19 @@ module _ (z : ZoneContents) (low : folded z.origin ≡ z.origin) (ordered : AreO
         → c ≡ get_or names i c → c.key.now ≡ key → AreChecked z names
     origin_owns i next c is e =
         let h = last_checked z names are.each rise o low key key_is k front i next c is in
-        let name = one_key (name_of z c) o h.owner.lower low (sym h.key ∙ e ∙ key_is) in
+        let name = one_key (owner_of z c) o h.owner.lower low (sym h.key ∙ e ∙ key_is) in
         let bound = front.bound in
         let in_names =
         subst (λ x. Among x names) (sym is) (among_get names i c (omega (arith, bound, next))) in
         record {
           each = are.each;
-          all = names_checked z (map (name_of z) names) rise
+          all = names_checked z (map (owner_of z) names) rise
               (λ a m. inr (subst (Among a) are.all m))
               (λ a m. go c name in_names a m);
         }
       where
-        go : (c : CheckedName) → name_of z c ≡ o → Among c names → (a : DomainName) → IsName z a
-            → Among a (map (name_of z) names)
+        go : (c : CheckedName) → owner_of z c ≡ o → Among c names → (a : DomainName) → IsName z a
+            → Among a (map (owner_of z) names)
         go c e m a (inl f) = grind (arith, among_mapped)
         go c e m a (inr k) = subst (Among a) (sym are.all) k
 
@@ -153,7 +153,7 @@ module _ (z : ZoneContents) (low : folded z.origin ≡ z.origin) (ordered : AreO
     origin_name key = record { key = key; first = 0; end = 0; cut = 0 }
 
     -- it owns no records
-    module _ (before : AllByRecursion (λ c. name_order (name_of z c) o ≡ Less) (take k names)) where
+    module _ (before : AllByRecursion (λ c. name_order (owner_of z c) o ≡ Less) (take k names)) where
       none : Among o (owners_once z.records) → ⊥
       none m =
           grind (
@@ -176,46 +176,46 @@ module _ (z : ZoneContents) (low : folded z.origin ≡ z.origin) (ordered : AreO
           let c = origin_name b in
           let checked : IsChecked z o c = grind (arith, none_at, none, topmost_none) in
           record {
-            each = each_put (λ d. IsChecked z (name_of z d) d) names k c are.each checked;
-            all = names_checked z (map (name_of z) (take k names ++ c ∷ drop k names))
-                (insert_rises (name_of z) names k c rise before
+            each = each_put (λ d. IsChecked z (owner_of z d) d) names k c are.each checked;
+            all = names_checked z (map (owner_of z) (take k names ++ c ∷ drop k names))
+                (insert_rises (owner_of z) names k c rise before
                 (after_each z names are.each rise o low key key_is k front))
-                (λ a m. from a (put_among (name_of z) a names k c m))
-                (λ a m. among_put (name_of z) a names k c (back a m));
+                (λ a m. from a (put_among (owner_of z) a names k c m))
+                (λ a m. among_put (owner_of z) a names k c (back a m));
           }
         where
-          from : (a : DomainName) → (a ≡ o) ⊎ Among a (map (name_of z) names) → IsName z a
+          from : (a : DomainName) → (a ≡ o) ⊎ Among a (map (owner_of z) names) → IsName z a
           from a (inl f) = inl (f ∙ sym low)
           from a (inr m) = inr (subst (Among a) are.all m)
 
-          back : (a : DomainName) → IsName z a → (a ≡ o) ⊎ Among a (map (name_of z) names)
+          back : (a : DomainName) → IsName z a → (a ≡ o) ⊎ Among a (map (owner_of z) names)
           back a (inl f) = inl (f ∙ low)
           back a (inr m) = inr (subst (Among a) (sym are.all) m)
 
     -- all of these are before it, if the last one is another name
     pub others_before : (i : ℕ) → k ≡ suc i → (c : CheckedName) → c ≡ get_or names i c
         → (c.key.now ≡ key → ⊥)
-        → AllByRecursion (λ d. name_order (name_of z d) o ≡ Less) (take k names)
+        → AllByRecursion (λ d. name_order (owner_of z d) o ≡ Less) (take k names)
     others_before i next c is f =
-        each_weaker (λ d. (d ≡ c) ⊎ (name_order (name_of z d) (name_of z c) ≡ Less))
-        (λ d. name_order (name_of z d) o ≡ Less) (take k names) go
+        each_weaker (λ d. (d ≡ c) ⊎ (name_order (owner_of z d) (owner_of z c) ≡ Less))
+        (λ d. name_order (owner_of z d) o ≡ Less) (take k names) go
         (in_order z names are.each rise o low key key_is k front i next c is)
       where
-        less : name_order (name_of z c) o ≡ Less
+        less : name_order (owner_of z c) o ≡ Less
         less =
             let h = last_checked z names are.each rise o low key key_is k front i next c is in
             let u = last_upto z names are.each rise o low key key_is k front i next c is in
-            by_order (name_order (name_of z c) o) refl h u
+            by_order (name_order (owner_of z c) o) refl h u
           where
-            by_order : (x : Ordering) → name_order (name_of z c) o ≡ x → IsChecked z (name_of z c) c
-                → is_gt (name_order (name_of z c) o) ≡ false → x ≡ Less
+            by_order : (x : Ordering) → name_order (owner_of z c) o ≡ x → IsChecked z (owner_of z c) c
+                → is_gt (name_order (owner_of z c) o) ≡ false → x ≡ Less
             by_order Less e h u = refl
             by_order Equal e h u =
-                absurd (f (h.key ∙ ap name_key (one_lower (name_of z c) o h.owner.lower low
-                (name_tie (name_of z c) o e)) ∙ sym key_is))
+                absurd (f (h.key ∙ ap name_key (one_lower (owner_of z c) o h.owner.lower low
+                (name_tie (owner_of z c) o e)) ∙ sym key_is))
             by_order Greater e h u = absurd (true≢false (sym (ap is_gt e) ∙ u))
 
-        go : (d : CheckedName) → (d ≡ c) ⊎ (name_order (name_of z d) (name_of z c) ≡ Less)
-            → name_order (name_of z d) o ≡ Less
-        go d (inl e) = ap (λ x. name_order (name_of z x) o) e ∙ less
-        go d (inr e) = name_order_total.trans (name_of z d) (name_of z c) o e less
+        go : (d : CheckedName) → (d ≡ c) ⊎ (name_order (owner_of z d) (owner_of z c) ≡ Less)
+            → name_order (owner_of z d) o ≡ Less
+        go d (inl e) = ap (λ x. name_order (owner_of z x) o) e ∙ less
+        go d (inr e) = name_order_total.trans (owner_of z d) (owner_of z c) o e less

@@ -1,7 +1,7 @@
 pub mod Common
 pub mod EndingNames
 pub mod Entries
-pub mod KeyedNames
+pub mod OwnerKeys
 pub mod Targets
 pub mod KnownRecords
 pub mod RisenRecords
@@ -37,5 +37,5 @@ pub mod GrowingNames
 pub mod LabelKeys
 pub mod LabelStarts
 pub mod WayLaws
-pub mod LeadRows
+pub mod HintRows
 pub mod SearchSteps

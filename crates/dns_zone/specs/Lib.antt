@@ -10,7 +10,7 @@ pub mod NamesForm
 pub mod OwnerForm
 pub mod ReportedForm
 pub mod KeyForm
-pub mod KeyedForm
+pub mod OwnerKeysForm
 pub mod LabelKey
 pub mod Starts
 pub mod NameEnd

@@ -22,8 +22,8 @@ abbrev pub first_owner : DomainName → List ResourceRecord → DomainName
 first_owner n [] = n
 first_owner n (r ∷ rs) = r.owner
 
-abbrev pub name_of : ZoneContents → CheckedName → DomainName
-name_of z c = first_owner z.origin (own_in z.records c)
+abbrev pub owner_of : ZoneContents → CheckedName → DomainName
+owner_of z c = first_owner z.origin (own_in z.records c)
 
 -- a cut that a name is at or below, whose key has k octets
 pub record IsCutAbove (z : ZoneContents) (n : DomainName) (k : ℕ) : Type 0 where
@@ -64,13 +64,13 @@ pub record IsChecked (z : ZoneContents) (n : DomainName) (c : CheckedName) : Typ
 
 -- all checked names, in canonical order
 pub record AreChecked (z : ZoneContents) (names : List CheckedName) : Type 0 where
-  pub each : AllByRecursion (λ c. IsChecked z (name_of z c) c) names
-  pub all : map (name_of z) names ≡ checked_names z
+  pub each : AllByRecursion (λ c. IsChecked z (owner_of z c) c) names
+  pub all : map (owner_of z) names ≡ checked_names z
 
 -- the owners among them
 pub record AreOwners (z : ZoneContents) (names : List CheckedName) : Type 0 where
-  pub each : AllByRecursion (λ c. IsChecked z (name_of z c) c) names
-  pub all : map (name_of z) names ≡ owners_once z.records
+  pub each : AllByRecursion (λ c. IsChecked z (owner_of z c) c) names
+  pub all : map (owner_of z) names ≡ owners_once z.records
 
 -- An owner n that follows a name o in order, with the keys of both and of the origin. Each cut
 -- that n is at or below is either n itself or not after o.
@@ -89,10 +89,10 @@ pub record ComesNext (z : ZoneContents) (o n : DomainName) (cut : ℕ)
 
 -- the last checked name that is not after a name
 pub record IsLastUpto (z : ZoneContents) (n : DomainName) (c : CheckedName) : Type 0 where
-  pub checked : IsChecked z (name_of z c) c
-  pub upto : is_gt (name_order (name_of z c) n) ≡ false
+  pub checked : IsChecked z (owner_of z c) c
+  pub upto : is_gt (name_order (owner_of z c) n) ≡ false
   pub last : (m : DomainName) → Among m (checked_names z) → is_gt (name_order m n) ≡ false
-      → is_gt (name_order m (name_of z c)) ≡ false
+      → is_gt (name_order m (owner_of z c)) ≡ false
 
 -- an invariant of a zone under check
 pub record IsSurvey (z : ZoneContents) (key : Octets) (names : List CheckedName) : Type 0 where

@@ -27,7 +27,7 @@ pub record IsNode (z : ZoneContents) (n : DomainName) : Type 0 where
 
 -- A name below the origin at which the way to a record's target may begin: it exists, and if the
 -- record is an alias, the name is not at or below a cut (RFC 1034 4.3.2 step 3b).
-pub record IsLead (z : ZoneContents) (rtype : ℕ) (n : DomainName) : Type 0 where
+pub record IsHint (z : ZoneContents) (rtype : ℕ) (n : DomainName) : Type 0 where
   pub node : IsNode z n
   pub inside : at_or_below n z.origin ≡ true
   pub longer : length z.origin < length n

@@ -2,7 +2,7 @@
 
 pub(crate) mod above;
 pub(crate) mod counts;
-pub(crate) mod guess;
+pub(crate) mod lcp_search;
 pub(crate) mod names;
 pub(crate) mod owner;
 pub(crate) mod survey;
@@ -14,19 +14,19 @@ ghost use Rattle.dns_spec.specs.Checks.{faults};
 ghost use Rattle.dns_spec.specs.Meaning.{most_records};
 ghost use Rattle.dns_zone.specs.ZoneForm.{AreOrdered};
 ghost use Rattle.dns_zone.specs.KeyForm.{name_key};
-ghost use Rattle.dns_zone.specs.KeyedForm.{key_in, AreKeyed};
-ghost use Rattle.dns_zone.specs.NamesForm.{IsChecked, name_of};
+ghost use Rattle.dns_zone.specs.OwnerKeysForm.{key_in, AreKeyed};
+ghost use Rattle.dns_zone.specs.NamesForm.{IsChecked, owner_of};
 ghost use Rattle.dns_zone.specs.ReportedForm.{failed_from, reported_at};
 
 use crate::checks::counts::TypeCounts;
-use crate::checks::guess::shared_octets;
+use crate::checks::lcp_search::shared_octets;
 use crate::checks::names::{CheckedName, checked_names};
 use crate::checks::owner::Owner;
 use crate::checks::survey::Survey;
 use crate::checks::target::LastTarget;
 use crate::fault::CheckFault;
-use crate::order::keyed::Keyed;
-use crate::store::entry::Entry;
+use crate::order::owner_keys::OwnerKeys;
+use crate::store::stored::StoredRecord;
 use dns_name::NameRef;
 use std::alloc::{AllocError, Global};
 
@@ -38,8 +38,8 @@ use std::alloc::{AllocError, Global};
 pub(crate) fn faults<'a>(
     alloc: Global,
     origin: &'a NameRef<'a>,
-    records: &'a [Entry],
-    keyed: &'a Keyed,
+    records: &'a [StoredRecord],
+    keyed: &'a OwnerKeys,
 ) -> Result<Vec<CheckFault>, AllocError>
     requires ordered { AreOrdered records.now }
     requires few { length records.now ≤ most_records }
@@ -73,9 +73,9 @@ fn report<'a>(
     last: &mut LastTarget<'_>,
     found: &mut Vec<CheckFault>,
 ) -> Result<(), AllocError>
-    requires { IsChecked survey.now (name_of survey.now one.now) one.now }
+    requires { IsChecked survey.now (owner_of survey.now one.now) one.now }
     ensures { OnOk result (found.new.items ≡ found.old.items
-        ++ reported_at survey.now (name_of survey.now one.now)) }
+        ++ reported_at survey.now (owner_of survey.now one.now)) }
 {
     let name = survey.name(one);
     let own = survey.own(one);

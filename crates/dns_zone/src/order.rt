@@ -1,20 +1,20 @@
 //! The canonical order of records (RFC 4034 6.1, 6.3).
 
-pub(crate) mod arranged;
 pub(crate) mod key;
-pub(crate) mod keyed;
-pub(crate) mod ordered;
+pub(crate) mod owner_keys;
+pub(crate) mod presort;
 pub(crate) mod runs;
+pub(crate) mod sort;
 
 ghost use Rattle.std.specs.Prelude.{◌≡◌};
 ghost use Rattle.std.specs.Ordering.{nat_cmp, ordering_then};
 ghost use Rattle.dns_spec.specs.Records.{data_order, record_order};
 
-use crate::store::entry::Entry;
+use crate::store::stored::StoredRecord;
 use std::cmp::Ordering;
 
 // Compares two records by owner, then type, then data, then TTL.
-pub(crate) fn record_order(one: &Entry, other: &Entry) -> Ordering
+pub(crate) fn record_order(one: &StoredRecord, other: &StoredRecord) -> Ordering
     ensures { result ≡ record_order one.now other.now }
 {
     one.owner()
@@ -23,7 +23,7 @@ pub(crate) fn record_order(one: &Entry, other: &Entry) -> Ordering
 }
 
 // Compares two records of the same owner.
-pub(crate) fn own_order(one: &Entry, other: &Entry) -> Ordering
+pub(crate) fn own_order(one: &StoredRecord, other: &StoredRecord) -> Ordering
     ensures { result ≡ ordering_then (nat_cmp one.now.rtype other.now.rtype)
         (ordering_then (data_order one.now other.now) (nat_cmp one.now.ttl other.now.ttl)) }
 {

@@ -10,7 +10,7 @@ ghost use Rattle.dns_spec.specs.ZonePrinted.{HasZoneType, record_line, soa_first
 ghost use Rattle.dns_name.specs.Counted.{Writes, Fills};
 ghost use Rattle.dns_zone.specs.ZoneForm.{is_chosen};
 
-use crate::store::entry::Entry;
+use crate::store::stored::StoredRecord;
 use crate::zone::{CheckedZone, Zone};
 use dns_name::{SinkFailed, Tally, TextBuffer};
 use dns_rdata::{RType, Rdata};
@@ -64,7 +64,7 @@ impl CheckedZone {
 }
 
 // Writes the SOA, then the other records in order.
-fn write_records<W: Write>(records: &[Entry], sink: &mut Tally<W>) -> Result<(), SinkFailed>
+fn write_records<W: Write>(records: &[StoredRecord], sink: &mut Tally<W>) -> Result<(), SinkFailed>
     requires { sink.old.failures < 2 ^ 64 - 1 }
     ensures { Writes W.contents sink.old sink.new result
         (flat_map record_line (soa_first records.now)) }
@@ -78,7 +78,7 @@ fn write_records<W: Write>(records: &[Entry], sink: &mut Tally<W>) -> Result<(),
 // Writes either the SOA records or all others, in order.
 fn put_chosen<W: Write>(
     is_soa: bool,
-    records: &[Entry],
+    records: &[StoredRecord],
     text: &mut TextBuffer,
     sink: &mut Tally<W>,
 ) -> Result<(), SinkFailed>
@@ -100,7 +100,7 @@ fn put_chosen<W: Write>(
 
 // Writes a record on a line of its own, after its front (owner, TTL and class).
 fn put_record<W: Write>(
-    entry: &Entry,
+    entry: &StoredRecord,
     front: &[u8],
     text: &mut TextBuffer,
     sink: &mut Tally<W>,
@@ -124,7 +124,7 @@ fn put_record<W: Write>(
 
 // Changes the front of the last record to an entry's: owner, TTL and class, with a space after
 // each. A third of records have the same front as the last.
-fn turn_front(front: &mut TextBuffer, last: Option<&Entry>, entry: &Entry)
+fn turn_front(front: &mut TextBuffer, last: Option<&StoredRecord>, entry: &StoredRecord)
     requires { IfSome last (λ r. (front.old ≡ ((name_text r.now.owner ++ codes " ")
         ++ decimal r.now.ttl) ++ codes " IN ") × (length front.old ≤ 1035)) }
     ensures text { front.new ≡ ((name_text entry.now.owner ++ codes " ")

@@ -1,6 +1,6 @@
 //! A growing list of records, from which a zone is made.
 
-pub(crate) mod entry;
+pub(crate) mod stored;
 
 ghost use Rattle.std.specs.Prelude.{◌≡◌, ◌≢◌, ◌⊎◌, ◌-◌, ◌^◌, ◌<◌, ◌≤◌, [], ◌∷◌, ◌++◌, length, IfOk, IfErr, OnOk, OnErr};
 ghost use Rattle.dns_spec.specs.Records.{zone_of, ordered_zone};
@@ -12,9 +12,9 @@ ghost use Rattle.dns_zone.specs.ZoneForm.{ReportsFaults};
 
 use crate::checks::faults;
 use crate::fault::BuildFault;
-use crate::kept::Kept;
-use crate::order::ordered::ordered;
-use crate::store::entry::Entry;
+use crate::order::sort::sorted;
+use crate::shared_slice::SharedSlice;
+use crate::store::stored::StoredRecord;
 use crate::zone::CheckedZone;
 use dns_master::{Gathers, ReadCode, ReadFault, Record, read_into};
 use dns_name::{Name, Tally};
@@ -28,7 +28,7 @@ use std::marker::Model;
 #[derive(Drop)]
 pub struct Store {
     alloc: Global,
-    entries: Vec<Entry>,
+    entries: Vec<StoredRecord>,
 }
 
 impl Model for Store {
@@ -92,7 +92,7 @@ impl Store {
         ensures added { OnOk result (self.new ≡ self.old ++ read.now ∷ []) }
         ensures unchanged { OnErr result (self.new ≡ self.old) }
     {
-        let entry = Entry::of(self.alloc, read)?;
+        let entry = StoredRecord::of(self.alloc, read)?;
         self.entries.push(entry)?;
         Ok(())
     }
@@ -111,13 +111,13 @@ impl Store {
     {
         let Store { entries, .. } = self;
         let origin = origin.fold();
-        let (records, keyed) = ordered(alloc, &origin.lent(), entries)?;
+        let (records, keyed) = sorted(alloc, &origin.lent(), entries)?;
         let found = faults(alloc, &origin.lent(), records.as_slice(), &keyed)?;
-        let numbers = Kept::new(keyed.numbers);
+        let numbers = SharedSlice::new(keyed.numbers);
         if !found.is_empty() {
             return Err(BuildFault::Faults(found));
         }
-        let records = Kept::new(records);
+        let records = SharedSlice::new(records);
         Ok(CheckedZone {
             origin,
             records,

@@ -1,9 +1,9 @@
 //! The names of a zone as a list of rows, level by level. The children of a row are adjacent, in
 //! the order of their labels.
 
+pub(crate) mod hints;
 pub(crate) mod label_key;
 pub(crate) mod labels;
-pub(crate) mod leads;
 pub(crate) mod lookup;
 pub(crate) mod lower_case;
 pub(crate) mod node;
@@ -21,8 +21,8 @@ ghost use Rattle.dns_zone.specs.TreeForm.{row_octets, row_name, row_at, IsRow, I
 ghost use Rattle.dns_zone.specs.TreeSteps.{AddsKids};
 
 use crate::checks::above::shortest_end;
-use crate::kept::Kept;
-use crate::store::entry::Entry;
+use crate::shared_slice::SharedSlice;
+use crate::store::stored::StoredRecord;
 use crate::tree::row::Row;
 use crate::zone::CheckedZone;
 use dns_name::NameRef;
@@ -32,10 +32,10 @@ use std::alloc::{AllocError, Global};
 #[derive(Drop)]
 pub(crate) struct Tree {
     pub(crate) zone: CheckedZone,
-    pub(crate) rows: Kept<Row>,
-    pub(crate) bounds: Kept<usize>,
-    /// For each record the row of its lead, or 0 if it has none.
-    pub(crate) leads: Kept<usize>,
+    pub(crate) rows: SharedSlice<Row>,
+    pub(crate) bounds: SharedSlice<usize>,
+    /// For each record the row of its hint, or 0 if it has none.
+    pub(crate) hints: SharedSlice<usize>,
 }
 
 /// The rows of all names of a zone, and for each row the number of its first child. A row's
@@ -43,8 +43,8 @@ pub(crate) struct Tree {
 pub(crate) fn rows_of(
     alloc: Global,
     origin: &NameRef<'_>,
-    records: &[Entry],
-) -> Result<(Kept<Row>, Kept<usize>), AllocError>
+    records: &[StoredRecord],
+) -> Result<(SharedSlice<Row>, SharedSlice<usize>), AllocError>
     requires { IsBuilt (record { origin = origin.now; records = records.now }) }
     ensures { IfOk result (λ (rows, bounds). IsTree origin.now records.now rows bounds) }
 {
@@ -60,11 +60,11 @@ pub(crate) fn rows_of(
         add_kids(records, number, &mut rows)?;
         bounds.push(rows.len())?;
     }
-    Ok((Kept::new(rows), Kept::new(bounds)))
+    Ok((SharedSlice::new(rows), SharedSlice::new(bounds)))
 }
 
 // Adds the rows of a row's children after all other rows.
-fn add_kids(records: &[Entry], number: usize, rows: &mut Vec<Row>) -> Result<(), AllocError>
+fn add_kids(records: &[StoredRecord], number: usize, rows: &mut Vec<Row>) -> Result<(), AllocError>
     requires canonical { IsCanonical records.now }
     requires number { number < length rows.old.items }
     requires row { IsRow records.now (row_at rows.old.items number)
@@ -86,7 +86,7 @@ fn add_kids(records: &[Entry], number: usize, rows: &mut Vec<Row>) -> Result<(),
 }
 
 // The wire form of a row's name.
-pub(crate) fn octets_of<'a>(records: &'a [Entry], row: &Row) -> &'a [u8]
+pub(crate) fn octets_of<'a>(records: &'a [StoredRecord], row: &Row) -> &'a [u8]
     requires { IsRow records.now row.now (row_name records.now row.now) }
     ensures octets { result.now ≡ row_octets records.now row.now }
     ensures wire { IsWireForm result.now }

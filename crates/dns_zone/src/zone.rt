@@ -9,10 +9,10 @@ ghost use Rattle.dns_spec.specs.ZonePrinted.{is_soa};
 ghost use Rattle.dns_zone.specs.ZoneForm.{IsBuilt, ReportsFaults};
 
 use crate::fault::BuildFault;
-use crate::kept::Kept;
+use crate::shared_slice::SharedSlice;
 use crate::store::Store;
-use crate::store::entry::Entry;
-use crate::tree::leads::leads_of;
+use crate::store::stored::StoredRecord;
+use crate::tree::hints::hints_of;
 use crate::tree::{Tree, rows_of};
 use dns_master::Record;
 use dns_name::{Name, NameRef};
@@ -27,9 +27,9 @@ use std::marker::Model;
 #[derive(Drop)]
 pub struct CheckedZone {
     pub(crate) origin: Name,
-    pub(crate) records: Kept<Entry>,
+    pub(crate) records: SharedSlice<StoredRecord>,
     /// The number of records before each one in the file. Empty if records are short.
-    pub(crate) numbers: Kept<u32>,
+    pub(crate) numbers: SharedSlice<u32>,
 }
 
 impl Model for CheckedZone {
@@ -60,7 +60,7 @@ impl CheckedZone {
         serial_at(&self.origin.lent(), self.records.lent())
     }
 
-    pub(crate) fn records(&self) -> &[Entry]
+    pub(crate) fn records(&self) -> &[StoredRecord]
         ensures records { result.now ≡ self.now.records }
         ensures built { IsBuilt self.now }
     {
@@ -117,14 +117,14 @@ impl Zone {
         ensures { IfOk result (λ whole. whole ≡ zone) }
     {
         let (rows, bounds) = rows_of(alloc, &zone.origin().lent(), zone.records())?;
-        let leads = Kept::new(Vec::new(alloc));
+        let hints = SharedSlice::new(Vec::new(alloc));
         let mut tree = Tree {
             zone,
             rows,
             bounds,
-            leads,
+            hints,
         };
-        tree.leads = Kept::new(leads_of(alloc, &tree)?);
+        tree.hints = SharedSlice::new(hints_of(alloc, &tree)?);
         Ok(Zone { tree })
     }
 
@@ -146,7 +146,7 @@ impl Zone {
 }
 
 // The serial number of the first SOA at the origin, or 0 if there is none.
-fn serial_at(origin: &NameRef<'_>, records: &[Entry]) -> u32
+fn serial_at(origin: &NameRef<'_>, records: &[StoredRecord]) -> u32
     ensures { result ≡ first_serial
         (filter is_soa (filter (λ (r : ResourceRecord). same r.owner origin.now) records.now)) }
 {

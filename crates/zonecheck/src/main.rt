@@ -4,7 +4,7 @@
 
 use dns_name::Tally;
 use dns_tools::{
-    FaultWord, Waiting, check_words, check_zone, end, end_of, finish, given_words, open_file,
+    FaultWord, Nonblocking, check_words, check_zone, end, end_of, finish, given_words, open_file,
 };
 use std::io::{self, BufWriter};
 use std::process::ExitCode;
@@ -21,7 +21,7 @@ fn check<R: Env + Files + Print + Clock + AllocGlobal>(rt: &R) -> Result<u8, Fau
     let words = given_words(rt)?;
     let words = check_words(alloc, words.as_slice())?;
     let mut source = Tally::new(open_file(rt, words.file)?);
-    let output = BufWriter::new(alloc, Waiting::new(io::writer(rt), rt));
+    let output = BufWriter::new(alloc, Nonblocking::new(io::writer(rt), rt));
     let output = output.map_err(|_| FaultWord::NoMemory)?;
     let mut sink = Tally::new(output);
     let outcome = check_zone(alloc, &words.origin, words.flags, &mut source, &mut sink);

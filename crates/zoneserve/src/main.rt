@@ -7,7 +7,7 @@
 use dns_name::Tally;
 use dns_serve::StreamRoom;
 use dns_tools::{
-    FaultWord, LoadFault, Service, Waiting, end, end_of, given_words, listener_at, load_zone,
+    FaultWord, LoadFault, Nonblocking, Service, end, end_of, given_words, listener_at, load_zone,
     open_file, refuse, run_once, serve_connections, serve_datagrams, serve_words, socket_at,
     status_of_turns,
 };
@@ -48,8 +48,8 @@ where
 {
     let are_said = match service {
         Service::Once(limit) => {
-            let mut source = Tally::new(Waiting::new(rt.reader(), rt));
-            let mut sink = Tally::new(Waiting::new(io::writer(rt), rt));
+            let mut source = Tally::new(Nonblocking::new(rt.reader(), rt));
+            let mut sink = Tally::new(Nonblocking::new(io::writer(rt), rt));
             let outcome = run_once(rt.alloc(), zone, *limit, &mut source, &mut sink);
             return end_of(outcome);
         }

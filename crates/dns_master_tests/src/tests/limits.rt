@@ -4,7 +4,7 @@ use super::reading::{Row, fault, repeated};
 use std::alloc::{AllocError, Global};
 use std::test::Fail;
 
-const MOST_OCTETS: usize = 16_777_216;
+const MOST_FILE_OCTETS: usize = 16_777_216;
 
 const RECORD: &[u8] = b"a A 192.0.2.1\n";
 
@@ -49,8 +49,8 @@ const LIMITS: [Limit<'static>; 33] = [
 
 // A text whose first line is a comment, and in which the limit is exactly at the end of `within`.
 fn fill(text: &mut Vec<u8>, within: &[u8], beyond: &[u8]) -> Result<(), AllocError> {
-    text.truncate(MOST_OCTETS - 100);
-    text.resize((MOST_OCTETS - 1).saturating_sub(within.len()), b';')?;
+    text.truncate(MOST_FILE_OCTETS - 100);
+    text.resize((MOST_FILE_OCTETS - 1).saturating_sub(within.len()), b';')?;
     text.push(b'\n')?;
     text.extend_from_slice(within)?;
     text.extend_from_slice(beyond)
@@ -61,7 +61,7 @@ fn what_stands_at_the_limit(rt: HostRuntime) -> Result<(), Fail> {
     let mut text = Vec::new(rt.alloc());
     for (within, beyond, wanted) in LIMITS {
         fill(&mut text, within, beyond)?;
-        assert_eq!(rt; text.len(), MOST_OCTETS.saturating_add(beyond.len()));
+        assert_eq!(rt; text.len(), MOST_FILE_OCTETS.saturating_add(beyond.len()));
         let reported = fault(rt.alloc(), text.as_slice())?;
         assert_eq!(rt; reported, wanted, "at {within:?} and {beyond:?}");
     }
@@ -72,12 +72,12 @@ fn what_stands_at_the_limit(rt: HostRuntime) -> Result<(), Fail> {
 fn a_comment_as_long_as_a_file(rt: HostRuntime) -> Result<(), Fail> {
     let mut text = Vec::new(rt.alloc());
     text.push(b';')?;
-    text.resize(MOST_OCTETS, b'x')?;
+    text.resize(MOST_FILE_OCTETS, b'x')?;
     assert_eq!(rt; fault(rt.alloc(), text.as_slice())?, (0, 0));
     text.push(b'x')?;
     assert_eq!(rt; fault(rt.alloc(), text.as_slice())?, (15, 1));
     text.truncate(0);
-    text.resize(MOST_OCTETS, b'\n')?;
+    text.resize(MOST_FILE_OCTETS, b'\n')?;
     assert_eq!(rt; fault(rt.alloc(), text.as_slice())?, (0, 0));
     text.push(b'\n')?;
     assert_eq!(rt; fault(rt.alloc(), text.as_slice())?, (15, 16_777_217));

@@ -9,7 +9,7 @@ use std::alloc::Global;
 use std::process::Abort;
 use std::test::Fail;
 
-const MOST_OCTETS: usize = 16_777_216;
+const MOST_FILE_OCTETS: usize = 16_777_216;
 
 // A TTL line and the three records that a zone needs at least.
 const LEAST: &str = "$TTL 60\n@ SOA ns h 1 2 3 4 5\n@ NS ns\nns A 192.0.2.1\n";
@@ -151,13 +151,15 @@ fn a_sink_that_fails_amid_a_long_report(rt: HostRuntime) -> Result<(), Fail> {
 #[test]
 fn a_file_up_to_its_limit(rt: HostRuntime) -> Result<(), Fail> {
     let alloc = rt.alloc();
-    let comment = MOST_OCTETS.saturating_sub(LEAST.len()).saturating_sub(1);
+    let comment = MOST_FILE_OCTETS
+        .saturating_sub(LEAST.len())
+        .saturating_sub(1);
     let mut octets = Vec::new(alloc);
     octets.resize(comment, b';')?;
     let mut text = String::from_utf8(octets)?;
     text.push_str("\n")?;
     text.push_str(LEAST)?;
-    assert_eq!(rt; text.len(), MOST_OCTETS);
+    assert_eq!(rt; text.len(), MOST_FILE_OCTETS);
     judge(&rt, &example()?, text.as_str(), LOADED)?;
     text.push_str(";")?;
     judge(&rt, &example()?, text.as_str(), "line 6: R15\n")

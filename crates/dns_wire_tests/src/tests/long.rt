@@ -6,12 +6,12 @@ use dns_rdata::RType;
 use dns_wire::{Head, QuickHash, Section, SuffixHash, Writer};
 use std::test::Fail;
 
-const MOST_OCTETS: usize = 65_535;
+const MOST_MESSAGE_OCTETS: usize = 65_535;
 
 fn most_octets(rt: HostRuntime) -> Result<Vec<u8>, Fail>
     ensures { IfOk result (λ octets. length octets.items ≡ 65535) }
 {
-    Ok(vec![in rt.alloc(); 0; MOST_OCTETS]?)
+    Ok(vec![in rt.alloc(); 0; MOST_MESSAGE_OCTETS]?)
 }
 
 // 64 strings of 255 octets at `x.example`.
@@ -73,7 +73,7 @@ fn put_targets<H: SuffixHash>(rt: HostRuntime, writer: &mut Writer<'_, H>) -> Re
 fn sixty_four_strings(rt: HostRuntime) -> Result<(), Fail> {
     let question = asked(b"x.example", 16)?;
     let mut hash = QuickHash;
-    let mut writer = Writer::new(MOST_OCTETS, Some(&question), &mut hash);
+    let mut writer = Writer::new(MOST_MESSAGE_OCTETS, Some(&question), &mut hash);
     put_strings(rt, &mut writer)?;
     let mut out = most_octets(rt)?;
     let head = Head {
@@ -94,7 +94,7 @@ fn services<H: SuffixHash>(rt: HostRuntime, hash: &mut H) -> Result<(usize, Vec<
     ensures { IfOk result (λ reply. length reply.1.items ≡ 65535) }
 {
     let question = asked(b"y.example", 33)?;
-    let mut writer = Writer::new(MOST_OCTETS, Some(&question), hash);
+    let mut writer = Writer::new(MOST_MESSAGE_OCTETS, Some(&question), hash);
     put_services(rt, &mut writer)?;
     put_targets(rt, &mut writer)?;
     let mut out = most_octets(rt)?;

@@ -1,7 +1,7 @@
 //! The records of a name, counted by type.
 ghost use Rattle.dns_zone.specs.OwnerForm.{AreCounted};
 
-use crate::store::entry::Entry;
+use crate::store::stored::StoredRecord;
 use dns_rdata::RType;
 
 /// How many records a name owns, by the types that the checks need.
@@ -18,7 +18,7 @@ pub(crate) struct TypeCounts {
 
 impl TypeCounts {
     /// Counts the records in one pass.
-    pub(crate) fn of(records: &[Entry]) -> TypeCounts
+    pub(crate) fn of(records: &[StoredRecord]) -> TypeCounts
         ensures { AreCounted records.now result }
     {
         let mut counts = TypeCounts {

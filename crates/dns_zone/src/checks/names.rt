@@ -9,12 +9,12 @@ ghost use Rattle.dns_spec.specs.Meaning.{most_records};
 ghost use Rattle.dns_spec.specs.Records.{ResourceRecord, ZoneContents, at};
 ghost use Rattle.dns_zone.specs.ZoneForm.{AreOrdered, IsFront};
 ghost use Rattle.dns_zone.specs.KeyForm.{name_key};
-ghost use Rattle.dns_zone.specs.KeyedForm.{AreKeyed};
+ghost use Rattle.dns_zone.specs.OwnerKeysForm.{AreKeyed};
 ghost use Rattle.dns_zone.specs.NamesForm.{is_covered, is_upto, IsLastAt, AreChecked, AreOwners, ComesNext, IsTopmost};
 
 use crate::order::key::is_below;
-use crate::order::keyed::{Keyed, key_at};
-use crate::store::entry::Entry;
+use crate::order::owner_keys::{OwnerKeys, key_at};
+use crate::store::stored::StoredRecord;
 use crate::tree::lookup::{count_in_front, has_type};
 use dns_name::NameRef;
 use dns_rdata::RType;
@@ -39,8 +39,8 @@ pub(crate) fn checked_names<'a>(
     alloc: Global,
     origin: &NameRef<'_>,
     key: &'a [u8],
-    records: &[Entry],
-    keyed: &'a Keyed,
+    records: &[StoredRecord],
+    keyed: &'a OwnerKeys,
 ) -> Result<Vec<CheckedName<'a>>, AllocError>
     requires lower { folded origin.now ≡ origin.now }
     requires key { key.now ≡ name_key origin.now }
@@ -77,7 +77,7 @@ pub(crate) fn checked_names<'a>(
 
 // The length of the key of the topmost cut that an owner is at or below, or 0, given the same
 // (`cut`) for the name before it (`last`).
-fn cut_of(origin: &[u8], last: &[u8], cut: usize, key: &[u8], own: &[Entry]) -> usize
+fn cut_of(origin: &[u8], last: &[u8], cut: usize, key: &[u8], own: &[StoredRecord]) -> usize
     requires fits { cut ≤ length last.now }
     requires by_types { IsNonDecreasingBy (λ (r : ResourceRecord). r.rtype) own.now }
     ensures { (z : ZoneContents) (o n : DomainName)
@@ -94,7 +94,7 @@ fn cut_of(origin: &[u8], last: &[u8], cut: usize, key: &[u8], own: &[Entry]) -> 
 
 // Whether a name, given by its key and its records, is a cut (RFC 1034 4.2).
 #[tactic(auto, using(crate::proofs::OwnRecords::own_owns))]
-fn is_cut(origin: &[u8], key: &[u8], own: &[Entry]) -> bool
+fn is_cut(origin: &[u8], key: &[u8], own: &[StoredRecord]) -> bool
     requires { IsNonDecreasingBy (λ (r : ResourceRecord). r.rtype) own.now }
     ensures { (z : ZoneContents) (n : DomainName) → folded z.origin ≡ z.origin → folded n ≡ n
         → origin.now ≡ name_key z.origin → key.now ≡ name_key n → own.now ≡ at z n
@@ -144,7 +144,7 @@ fn is_upto(one: &CheckedName<'_>, key: &[u8]) -> bool
 fn add_origin<'a>(
     origin: &NameRef<'_>,
     key: &'a [u8],
-    records: &[Entry],
+    records: &[StoredRecord],
     names: &mut Vec<CheckedName<'a>>,
 ) -> Result<(), AllocError>
     requires lower { folded origin.now ≡ origin.now }

@@ -14,7 +14,7 @@ use crate::checks::counts::TypeCounts;
 use crate::checks::survey::Survey;
 use crate::checks::target::LastTarget;
 use crate::order::key::{is_below, is_under};
-use crate::store::entry::Entry;
+use crate::store::stored::StoredRecord;
 use dns_name::NameRef;
 use dns_rdata::RType;
 use std::marker::Model;
@@ -31,7 +31,7 @@ pub(crate) struct Owner<'a> {
     pub(crate) survey: &'a Survey<'a>,
     pub(crate) name: &'a NameRef<'a>,
     pub(crate) key: &'a [u8],
-    pub(crate) own: &'a [Entry],
+    pub(crate) own: &'a [StoredRecord],
     pub(crate) counts: TypeCounts,
     pub(crate) is_below_cut: bool,
     /// Whether the name is the zone's origin.
@@ -129,7 +129,7 @@ impl<'a> Owner<'a> {
     // The same for one record, of any type.
     fn record_faults(
         &self,
-        entry: &Entry,
+        entry: &StoredRecord,
         owner_is_cut: bool,
         last: &mut LastTarget<'_>,
     ) -> (bool, bool, bool)
@@ -232,7 +232,7 @@ impl<'a> Owner<'a> {
 
 // Whether an RRset has different TTLs (RFC 2181 5.2): if and only if two adjacent records of one
 // type have.
-fn have_other_ttls(own: &[Entry]) -> bool
+fn have_other_ttls(own: &[StoredRecord]) -> bool
     ensures { result ≡ list_any (λ p. p.0.rtype == p.1.rtype && not (p.0.ttl == p.1.ttl))
         (zip own.now (drop 1 own.now)) }
 {
@@ -242,7 +242,7 @@ fn have_other_ttls(own: &[Entry]) -> bool
 
 // Whether an RRset has more than 64 records: if and only if some record and the 64th after it have
 // one type.
-fn have_large_set(own: &[Entry]) -> bool
+fn have_large_set(own: &[StoredRecord]) -> bool
     ensures { result ≡ list_any (λ p. p.0.rtype == p.1.rtype) (zip own.now (drop 64 own.now)) }
 {
     if own.len() <= MOST_OF_A_SET {
@@ -254,7 +254,7 @@ fn have_large_set(own: &[Entry]) -> bool
 }
 
 // Whether the name owns more than 32 RRsets.
-fn have_many_sets(own: &[Entry]) -> bool
+fn have_many_sets(own: &[StoredRecord]) -> bool
     ensures { result ≡ nat_lt 32 (sets_ended own.now) }
 {
     if own.len() <= MOST_SETS {

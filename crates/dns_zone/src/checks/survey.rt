@@ -8,13 +8,13 @@ ghost use Rattle.dns_spec.specs.Data.{type_cname, target};
 ghost use Rattle.dns_spec.specs.Tree.{is_cut};
 ghost use Rattle.dns_spec.specs.Checks.{at_or_below_cut, lacks_address, has_address};
 ghost use Rattle.dns_zone.specs.KeyForm.{name_key};
-ghost use Rattle.dns_zone.specs.NamesForm.{own_in, name_of, IsLastUpto};
+ghost use Rattle.dns_zone.specs.NamesForm.{own_in, owner_of, IsLastUpto};
 
 use crate::checks::above::{ends_alike, is_at_or_below};
 use crate::checks::names::{CheckedName, count_upto, is_covered};
 use crate::checks::target::{LastTarget, target};
 use crate::order::key::is_under;
-use crate::store::entry::Entry;
+use crate::store::stored::StoredRecord;
 use crate::tree::lookup::has_type;
 use dns_name::NameRef;
 use dns_rdata::RType;
@@ -26,7 +26,7 @@ pub(crate) struct Survey<'a> {
     pub(crate) origin: &'a NameRef<'a>,
     /// The key of the origin.
     pub(crate) key: &'a [u8],
-    pub(crate) records: &'a [Entry],
+    pub(crate) records: &'a [StoredRecord],
     pub(crate) names: &'a [CheckedName<'a>],
 }
 
@@ -51,7 +51,7 @@ impl<'a> Survey<'a> {
         self.key
     }
 
-    pub(crate) fn own(&self, one: &CheckedName<'_>) -> &'a [Entry]
+    pub(crate) fn own(&self, one: &CheckedName<'_>) -> &'a [StoredRecord]
         requires rising { one.now.first ≤ one.now.end }
         requires within { one.now.end ≤ length self.now.records }
         ensures { result.now ≡ own_in self.now.records one.now }
@@ -64,7 +64,7 @@ impl<'a> Survey<'a> {
     pub(crate) fn name(&self, one: &CheckedName<'_>) -> NameRef<'a>
         requires rising { one.now.first ≤ one.now.end }
         requires within { one.now.end ≤ length self.now.records }
-        ensures { result ≡ name_of self.now one.now }
+        ensures { result ≡ owner_of self.now one.now }
     {
         match self.own(one).first() {
             Some(first) => first.owner(),
@@ -96,7 +96,7 @@ impl<'a> Survey<'a> {
     // The records at a target at or below the origin, ordered by type, and whether it is at or
     // below a cut (RFC 1034 4.2).
     #[tactic(auto, using(crate::proofs::CheckedNames::found_steps))]
-    fn at(&self, target: &mut LastTarget<'_>) -> (&'a [Entry], bool)
+    fn at(&self, target: &mut LastTarget<'_>) -> (&'a [StoredRecord], bool)
         requires lower { folded target.old ≡ target.old }
         requires inside { at_or_below target.old self.now.origin ≡ true }
         ensures own { result.0.now ≡ at self.now target.old }
@@ -115,7 +115,7 @@ impl<'a> Survey<'a> {
     /// whether it is one that lacks an address there (RFC 1034 4.2.1). It is looked up once.
     pub(crate) fn target_faults(
         &self,
-        entry: &Entry,
+        entry: &StoredRecord,
         owner: &NameRef<'_>,
         owner_is_cut: bool,
         last: &mut LastTarget<'_>,
@@ -166,7 +166,7 @@ impl<'a> Survey<'a> {
     }
 
     #[tactic(auto, using(crate::proofs::OwnRecords::own_owns))]
-    fn has_address(&self, name: &NameRef<'_>, own: &[Entry]) -> bool
+    fn has_address(&self, name: &NameRef<'_>, own: &[StoredRecord]) -> bool
         requires own { own.now ≡ at self.now name.now }
         requires by_types { IsNonDecreasingBy (λ (r : ResourceRecord). r.rtype) own.now }
         ensures { result ≡ has_address self.now name.now }

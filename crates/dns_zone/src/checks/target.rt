@@ -4,17 +4,17 @@ ghost use Rattle.dns_spec.specs.Names.{folded};
 ghost use Rattle.dns_spec.specs.Data.{target};
 ghost use Rattle.dns_zone.specs.KeyForm.{name_key};
 
-use crate::checks::guess::probable_place;
+use crate::checks::lcp_search::probable_place;
 use crate::checks::names::CheckedName;
 use crate::order::key::Key;
-use crate::store::entry::Entry;
+use crate::store::stored::StoredRecord;
 use dns_name::{Name, NameRef};
 use dns_rdata::Rdata;
 use std::marker::Model;
 
 /// The first name in the data: the server of NS, the exchange of MX (RFC 1035 3.3.9, 3.3.11).
 #[tactic(auto, using(crate::proofs::Targets::target_if))]
-pub(crate) fn target(entry: &Entry) -> Option<NameRef<'_>>
+pub(crate) fn target(entry: &StoredRecord) -> Option<NameRef<'_>>
     ensures value { result ≡ target entry.now.rtype entry.now.rdata }
     ensures lower { IfSome result (λ m. folded m ≡ m) }
 {

@@ -5,9 +5,9 @@
 //! and their next fronts are: how many octets they share with it, and the octets that follow.
 ghost use Rattle.std.specs.Prelude.{◌≡◌, ◌<◌, ◌≤◌, length};
 
-use crate::checks::guess::rests;
-use crate::order::keyed::key_at;
-use crate::store::entry::Entry;
+use crate::checks::lcp_search::rests;
+use crate::order::owner_keys::key_at;
+use crate::store::stored::StoredRecord;
 
 // The number of octets of a key or of data in a front.
 const FRONT_OCTETS: usize = 12;
@@ -46,7 +46,7 @@ impl Run {
     }
 
     /// A single record of an owner.
-    pub(crate) fn of_data(record: &Entry, at: u32) -> Run {
+    pub(crate) fn of_data(record: &StoredRecord, at: u32) -> Run {
         let front = front_of(2 * MOST_SHARED + record.rtype.0 as usize, record.rdata());
         Run {
             front,
@@ -61,9 +61,9 @@ impl Run {
 pub(crate) enum Sorted<'a> {
     /// By the keys of their owners: all keys, the records, and the place at which each record's
     /// key begins.
-    ByOwner(&'a [u8], &'a [Entry], &'a [u32]),
+    ByOwner(&'a [u8], &'a [StoredRecord], &'a [u32]),
     /// By their data, then their TTLs. Each run is one record.
-    ByData(&'a [Entry]),
+    ByData(&'a [StoredRecord]),
 }
 
 impl<'a> Sorted<'a> {

@@ -7,7 +7,7 @@ ghost use Rattle.dns_spec.specs.Records.{ResourceRecord};
 ghost use Rattle.dns_zone.specs.ZoneForm.{IsFront};
 
 use crate::checks::above::is_at_or_below;
-use crate::store::entry::Entry;
+use crate::store::stored::StoredRecord;
 use dns_name::NameRef;
 use dns_rdata::RType;
 
@@ -15,7 +15,7 @@ use dns_rdata::RType;
 const FEW: usize = 4;
 
 /// The number of records whose owners are at or below the name; these must come first.
-pub(crate) fn count_under(records: &[Entry], name: &NameRef<'_>) -> usize
+pub(crate) fn count_under(records: &[StoredRecord], name: &NameRef<'_>) -> usize
     requires in_front { IsPartitionedBy
         (λ (r : ResourceRecord). at_or_below r.owner name.now) records.now }
     requires lower { folded name.now ≡ name.now }
@@ -36,7 +36,7 @@ pub(crate) fn count_under(records: &[Entry], name: &NameRef<'_>) -> usize
 }
 
 /// The number of records at the front whose owner is the name, counted one by one.
-pub(crate) fn count_in_front(records: &[Entry], name: &NameRef<'_>) -> usize
+pub(crate) fn count_in_front(records: &[StoredRecord], name: &NameRef<'_>) -> usize
     requires { folded name.now ≡ name.now }
     ensures value { result ≡ prefix_len
         (λ (r : ResourceRecord). same r.owner name.now) records.now }
@@ -49,7 +49,7 @@ pub(crate) fn count_in_front(records: &[Entry], name: &NameRef<'_>) -> usize
 }
 
 /// Whether one of the records, which are ordered by type, is of the type.
-pub(crate) fn has_type(records: &[Entry], rtype: RType) -> bool
+pub(crate) fn has_type(records: &[StoredRecord], rtype: RType) -> bool
     requires { IsNonDecreasingBy (λ (r : ResourceRecord). r.rtype) records.now }
     ensures { result ≡ list_any (λ (r : ResourceRecord). r.rtype == rtype.0) records.now }
 {
@@ -64,7 +64,7 @@ pub(crate) fn has_type(records: &[Entry], rtype: RType) -> bool
 
 /// The records of a type, from records ordered by type. Most names own records of one type only,
 /// so the first and the last record decide.
-pub(crate) fn of_type<'a>(records: &'a [Entry], rtype: RType) -> &'a [Entry]
+pub(crate) fn of_type<'a>(records: &'a [StoredRecord], rtype: RType) -> &'a [StoredRecord]
     requires { IsNonDecreasingBy (λ (r : ResourceRecord). r.rtype) records.now }
     ensures { result.now ≡ filter (λ (r : ResourceRecord). r.rtype == rtype.0) records.now }
 {
@@ -82,7 +82,7 @@ pub(crate) fn of_type<'a>(records: &'a [Entry], rtype: RType) -> &'a [Entry]
 }
 
 // The number of records with a lower type.
-fn count_below(records: &[Entry], rtype: RType) -> usize
+fn count_below(records: &[StoredRecord], rtype: RType) -> usize
     requires { IsNonDecreasingBy (λ (r : ResourceRecord). r.rtype) records.now }
     ensures bound { result ≤ length records.now }
     ensures others { drop result records.now
@@ -91,7 +91,7 @@ fn count_below(records: &[Entry], rtype: RType) -> usize
     records.partition_point(|entry| entry.rtype.0 < rtype.0)
 }
 
-fn is_under(entry: &Entry, name: &NameRef<'_>) -> bool
+fn is_under(entry: &StoredRecord, name: &NameRef<'_>) -> bool
     requires { folded name.now ≡ name.now }
     ensures { result ≡ at_or_below entry.now.owner name.now }
 {

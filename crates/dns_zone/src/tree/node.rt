@@ -6,11 +6,11 @@ ghost use Rattle.std.specs.List.Sorted.{IsNonDecreasingBy};
 ghost use Rattle.dns_spec.specs.Records.{ResourceRecord, at, rrset};
 ghost use Rattle.dns_spec.specs.Sets.{set_of, of_lowest_type};
 ghost use Rattle.dns_spec.specs.Tree.{exists};
-ghost use Rattle.dns_zone.specs.Nodes.{IsNode, IsLead, IsSetOf};
+ghost use Rattle.dns_zone.specs.Nodes.{IsNode, IsHint, IsSetOf};
 ghost use Rattle.dns_zone.specs.NodeForm.{IsZoneTree, node_at, IsNodeAt};
 ghost use Rattle.dns_zone.specs.TreeForm.{kids_at};
 
-use crate::store::entry::Entry;
+use crate::store::stored::StoredRecord;
 use crate::tree::lookup::of_type;
 use crate::tree::row::{Row, RowNumber};
 use crate::tree::search::find;
@@ -44,11 +44,11 @@ impl<'z> Model for Node<'z> {
 
 /// A node that has not been visited: only its name is readable.
 #[derive(Drop)]
-pub struct Lead<'z> {
+pub struct TargetHint<'z> {
     node: Node<'z>,
 }
 
-impl<'z> Model for Lead<'z> {
+impl<'z> Model for TargetHint<'z> {
     ghost use Rattle.dns_zone.specs.Nodes.{ZoneNode};
 
     ghost Value = { ZoneNode };
@@ -56,7 +56,7 @@ impl<'z> Model for Lead<'z> {
     ghost view = { λ l. l.node };
 }
 
-impl<'z> Lead<'z> {
+impl<'z> TargetHint<'z> {
     /// The node's name, in lower case, borrowed from the zone.
     pub fn name(&self) -> NameRef<'z>
         ensures { result ≡ self.now.name }
@@ -72,7 +72,7 @@ impl<'z> Lead<'z> {
         ensures node { result ≡ self.entry }
         ensures visits { steps.new ≡ record steps.old { visits = steps.old.visits + 1 } }
     {
-        let Lead { node } = self;
+        let TargetHint { node } = self;
         steps.count_visit();
         node
     }
@@ -130,14 +130,14 @@ impl<'z> Node<'z> {
     /// A node at which the way to a target may begin: to the target of record `i`, counted from 0,
     /// of the type. `None` if none is stored; then the way begins at the apex. The node is not
     /// visited yet.
-    pub fn lead(&self, rtype: RType, i: usize) -> Option<Lead<'z>>
+    pub fn hint(&self, rtype: RType, i: usize) -> Option<TargetHint<'z>>
         ensures { IfSome result (λ v. (v.zone ≡ self.now.zone)
-            × IsLead self.now.zone rtype.0 v.name) }
+            × IsHint self.now.zone rtype.0 v.name) }
     {
         let row = &self.tree.rows.lent()[self.row.0];
         let before = self.own().iter().position(|entry| entry.rtype == rtype)?;
         let place = (row.first as usize).checked_add(before)?.checked_add(i)?;
-        lead_at(self.tree, place, rtype)
+        hint_at(self.tree, place, rtype)
     }
 
     /// The records of a type at the name, ordered by data octets; `None` if there are none
@@ -171,7 +171,7 @@ impl<'z> Node<'z> {
         self.set(first.rtype)
     }
 
-    fn own(&self) -> &'z [Entry]
+    fn own(&self) -> &'z [StoredRecord]
         ensures own { result.now ≡ at self.now.zone self.now.name }
         ensures by_types { IsNonDecreasingBy (λ (r : ResourceRecord). r.rtype) result.now }
         ensures node { IsNode self.now.zone self.now.name }
@@ -181,22 +181,22 @@ impl<'z> Node<'z> {
     }
 }
 
-// The lead of the record at a place, if one is stored and the record is of the type.
-fn lead_at<'z>(tree: &'z Tree, place: usize, rtype: RType) -> Option<Lead<'z>>
+// The hint of the record at a place, if one is stored and the record is of the type.
+fn hint_at<'z>(tree: &'z Tree, place: usize, rtype: RType) -> Option<TargetHint<'z>>
     requires { IsZoneTree tree.now }
     ensures { IfSome result (λ v. (v.zone ≡ tree.now.zone)
-        × IsLead tree.now.zone rtype.0 v.name) }
+        × IsHint tree.now.zone rtype.0 v.name) }
 {
-    let (records, leads) = (tree.zone.records(), tree.leads.lent());
-    if place >= records.len() || place >= leads.len() {
+    let (records, hints) = (tree.zone.records(), tree.hints.lent());
+    if place >= records.len() || place >= hints.len() {
         return None;
     }
-    let (record, lead) = (&records[place], leads[place]);
-    if lead == 0 || record.rtype.0 != rtype.0 {
+    let (record, hint) = (&records[place], hints[place]);
+    if hint == 0 || record.rtype.0 != rtype.0 {
         return None;
     }
-    Some(Lead {
-        node: Node::at(tree, RowNumber(lead)),
+    Some(TargetHint {
+        node: Node::at(tree, RowNumber(hint)),
     })
 }
 

@@ -4,7 +4,7 @@ ghost use Rattle.dns_spec.specs.Names.{folded, at_or_below};
 ghost use Rattle.dns_zone.specs.ZoneForm.{IsCanonical};
 ghost use Rattle.dns_zone.specs.TreeForm.{owners, under, IsRow};
 
-use crate::store::entry::Entry;
+use crate::store::stored::StoredRecord;
 use crate::tree::label_key::{LabelKey, first_octets};
 use crate::tree::lookup::{count_in_front, count_under};
 use dns_name::NameRef;
@@ -35,7 +35,7 @@ pub(crate) struct Row {
 impl Row {
     /// The row of a name. The record at `first` is at or below it; no earlier record is, and none
     /// from `end` on.
-    pub(crate) fn of(records: &[Entry], name: &NameRef<'_>, first: usize, end: usize) -> Row
+    pub(crate) fn of(records: &[StoredRecord], name: &NameRef<'_>, first: usize, end: usize) -> Row
         requires canonical { IsCanonical records.now }
         requires lower { folded name.now ≡ name.now }
         requires some { first < end }

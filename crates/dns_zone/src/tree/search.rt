@@ -9,7 +9,7 @@ ghost use Rattle.dns_zone.specs.TreeForm.{row_label, row_name, row_at, IsRow};
 ghost use Rattle.dns_spec.proofs.General.Elements.{Among};
 ghost use Rattle.dns_spec.proofs.General.Sorted.{Rises};
 
-use crate::store::entry::Entry;
+use crate::store::stored::StoredRecord;
 use crate::tree::label_key::{KEY_OCTETS, LabelKey, first_octets, order_to};
 use crate::tree::octets_of;
 use crate::tree::row::Row;
@@ -20,7 +20,7 @@ use std::cmp::Ordering;
 /// The index of the child with this label, whatever its case, if there is one. Each comparison is
 /// counted; there are at most 17, since 100,000 children are fewer than 2 ^ 17.
 pub(crate) fn find(
-    records: &[Entry],
+    records: &[StoredRecord],
     kids: &[Row],
     label: &[u8],
     steps: &mut Steps<'_>,
@@ -58,7 +58,7 @@ pub(crate) fn find(
 // Mostly the keys differ. If they are equal and one label has no octets beyond its key, it is a
 // prefix of the other.
 fn order(
-    records: &[Entry],
+    records: &[StoredRecord],
     row: &Row,
     key: &LabelKey,
     label: &[u8],

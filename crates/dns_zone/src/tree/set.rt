@@ -6,7 +6,7 @@ ghost use Rattle.dns_spec.specs.Sets.{set_of};
 ghost use Rattle.dns_zone.specs.SetForm.{AreOfType};
 
 use crate::checks::target::target;
-use crate::store::entry::Entry;
+use crate::store::stored::StoredRecord;
 use dns_name::NameRef;
 use dns_rdata::{RType, SetView};
 use std::marker::Model;
@@ -17,7 +17,7 @@ use std::marker::Model;
 pub struct RecordSet<'z> {
     rtype: RType,
     ttl: u32,
-    records: &'z [Entry],
+    records: &'z [StoredRecord],
 }
 
 impl<'z> Model for RecordSet<'z> {
@@ -46,7 +46,7 @@ impl<'z> RecordSet<'z> {
 }
 
 // The set of records of one type and one TTL; `None` if there are no records.
-pub(crate) fn lent_set<'z>(records: &'z [Entry]) -> Option<RecordSet<'z>>
+pub(crate) fn lent_set<'z>(records: &'z [StoredRecord]) -> Option<RecordSet<'z>>
     requires { AreOfType records.now }
     ensures { result ≡ set_of records.now }
 {

@@ -2,7 +2,7 @@
 ghost use Rattle.std.specs.Prelude.{ℕ, ◌≡◌, true};
 ghost use Rattle.dns_name.specs.WireForm.{IsWireForm};
 ghost use Rattle.dns_spec.specs.Data.{type_cname};
-ghost use Rattle.dns_zone.specs.NodeForm.{IsZoneTree, IsLeadAt, IsOnWay};
+ghost use Rattle.dns_zone.specs.NodeForm.{IsZoneTree, IsHintAt, IsOnWay};
 
 use crate::order::key::count_alike;
 use crate::tree::Tree;
@@ -17,7 +17,7 @@ use std::marker::Model;
 
 // A name below the origin that exists: its row, and its length on the wire.
 #[derive(Clone, Copy, Default)]
-struct Step {
+struct WayName {
     row: RowNumber,
     octets: usize,
 }
@@ -29,7 +29,7 @@ pub(crate) struct Way<'z> {
     tree: &'z Tree,
     is_of_alias: bool,
     target: NameRef<'z>,
-    names: ArrayVec<Step, MOST_LABELS>,
+    names: ArrayVec<WayName, MOST_LABELS>,
     // The length of the first missing name on the way; 0 if it is unknown.
     missing: usize,
 }
@@ -62,10 +62,10 @@ impl<'z> Way<'z> {
 
     /// The row of the last existing name on the way to a target; 0 if that is the origin, or if
     /// the target is outside the zone.
-    pub(crate) fn lead_to(&mut self, target: &NameRef<'z>) -> usize
+    pub(crate) fn hint_to(&mut self, target: &NameRef<'z>) -> usize
         ensures same { self.new ≡ self.old }
-        ensures lead { (rtype : ℕ) → (rtype ≡ type_cname → self.old.is_of_alias ≡ true)
-            → IsLeadAt self.old.tree.zone self.old.tree.rows rtype result }
+        ensures hint { (rtype : ℕ) → (rtype ≡ type_cname → self.old.is_of_alias ≡ true)
+            → IsHintAt self.old.tree.zone self.old.tree.rows rtype result }
     {
         let octets = target.octets();
         if !octets.ends_with(self.tree.zone.origin().octets()) {
@@ -151,7 +151,7 @@ impl<'z> Way<'z> {
         if self.names.is_full() {
             return false;
         }
-        self.names.push(Step { row, octets });
+        self.names.push(WayName { row, octets });
         true
     }
 }

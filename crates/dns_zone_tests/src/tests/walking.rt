@@ -186,8 +186,8 @@ fn the_way_to_a_target_begins_at_the_last_name_on_it(rt: HostRuntime) -> Result<
 fn leads_to(zone: &Zone, i: usize, name: &[u8]) -> Result<bool, Fail> {
     let mut steps = Steps::new(zone);
     let (count, node) = walked(&mut steps, &[b"m"])?;
-    Ok(match node.lead(RType::MX, i) {
-        Some(lead) => count == 1 && lead.name().octets() == name,
+    Ok(match node.hint(RType::MX, i) {
+        Some(hint) => count == 1 && hint.name().octets() == name,
         None => false,
     })
 }

@@ -7,7 +7,7 @@ pub returns-in_default-clause-offers : goal.returns-in_default-clause-offers
 returns-in_default-clause-offers g c =
     Offers-empty _ (none-outside c.args.steps.now.zone c.args.target.now
     c.requires.apex.exists.built (c.in_default.ensures.aimed c.args.steps.now.zone false
-    (sym (c.lent.ensures.value ∙ c.origin.ensures.value)) c.requires.lead))
+    (sym (c.lent.ensures.value ∙ c.origin.ensures.value)) c.requires.hint))
 
 pub returns-in-Encloser-clause-offers : goal.returns-in-Encloser-clause-offers
 returns-in-Encloser-clause-offers g c =

@@ -70,9 +70,9 @@ returns-in_default-next_sought g c =
     let shown = rw c.if-not-is_alias.false at c.in-Some.ensures.shown in
     let origin : c.origin.result.now ≡ z.origin = c.origin.ensures.value
     ∙ ap (λ (y : ZoneContents). y.origin) c.look_up.ensures.took.zone in
-    let lead = leads-to z c.or_apex-node.result.now.zone type_cname true c.lead-lead.result
-    records.zone (λ _. refl) c.lead-lead.ensures in
-    let next = c.in_default-next_sought.ensures z (sym origin) lead in
+    let hint = leads-to z c.or_apex-node.result.now.zone type_cname true c.hint-hint.result
+    records.zone (λ _. refl) c.hint-hint.ensures in
+    let next = c.in_default-next_sought.ensures z (sym origin) hint in
     let ended = c.ended.ensures in
     record {
       seeks = sought-on _ _ _ _ _ _
@@ -96,9 +96,9 @@ returns g c =
     let first = c.in-Records.ensures.took in
     let origin : c.origin.result.now ≡ z.origin = c.origin.ensures.value
     ∙ ap (λ (y : ZoneContents). y.origin) first.zone in
-    let lead = leads-to z c.or_apex-node.result.now.zone type_cname true c.lead-lead.result
-    records.zone (λ _. refl) c.lead-lead.ensures in
-    let next = c.in-Some-next_sought.ensures z (sym origin) lead in
+    let hint = leads-to z c.or_apex-node.result.now.zone type_cname true c.hint-hint.result
+    records.zone (λ _. refl) c.hint-hint.ensures in
+    let next = c.in-Some-next_sought.ensures z (sym origin) hint in
     let rest = λ (y : ZoneContents). chain_rest y c.args.qtype (aliases_left (s ∷ before))
     (s ∷ before) m.name in
     let more : length earlier < most_aliases = omega (arith, next.0, names-count earlier) in
@@ -109,7 +109,7 @@ returns g c =
       completes = λ last end v after.
           let after = rw (names-more earlier c.args.sought.now) at after in
           sought-on _ _ _ _ (asked_item s set) (rest z)
-          (alias-goes_on _ _ _ _ _ records set kept shown m c.in-Some-next_sought.lead next) first
+          (alias-goes_on _ _ _ _ _ records set kept shown m c.in-Some-next_sought.hint next) first
           (subst (λ y. TookRest c.look_up.new.steps end (rest y)) first.zone after.took)
           (rw c.ttl.ensures at c.offer.ensures)
           (subst (λ y. Says c.offer.new.self last (rest y) v) first.zone after.says);

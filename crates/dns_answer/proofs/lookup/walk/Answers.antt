@@ -12,12 +12,12 @@ put_starts-requires-clause-labels c = search (rules, labels_of_spelled)
 pub labels-init : goal.labels-init
 labels-init c =
     let aim = c.requires.aim in
-    let deep = aim-deep _ _ _ c.args.sought.now c.requires.apex c.args.lead aim in
-    let node : c.match-lead.node ≡ c.args.lead = search rules in
-    let visits : c.match-lead.steps.visits
-    ≡ c.args.steps.now.visits + one_if (is_some c.args.lead) = search rules in
+    let deep = aim-deep _ _ _ c.args.sought.now c.requires.apex c.args.hint aim in
+    let node : c.match-hint.node ≡ c.args.hint = search rules in
+    let visits : c.match-hint.steps.visits
+    ≡ c.args.steps.now.visits + one_if (is_some c.args.hint) = search rules in
     record {
-      there = rw node (there-above _ _ _ _ c.requires.apex c.args.lead aim);
+      there = rw node (there-above _ _ _ _ c.requires.apex c.args.hint aim);
       fewer = omega arith;
       zone = search rules;
       from = omega (arith, visits);
@@ -48,7 +48,7 @@ returns-then-is_some-clause-way c =
     let ends : ends_at_cuts c.args.cuts ≡ true = search rules in (
       ends,
       cut-whole _ (c.labels.before - 1) _ _ (rw label (cut-at_child _ _ _ _ _ _ _ _ inv.there
-          (λ _. under-origin _ _ _ _ c.requires.apex c.args.lead c.requires.aim _ inv.fewer)
+          (λ _. under-origin _ _ _ _ c.requires.apex c.args.hint c.requires.aim _ inv.fewer)
           c.or_apex.ensures c.in-Some-down.ensures.node ends (search rules))),
     )
 
@@ -62,7 +62,7 @@ labels-preserved c =
     c.labels-test.true c.label_after-label.ensures in
     record {
       there = rw label (there-at_child _ _ _ _ _ _ _ _ inv.there
-          (λ _. under-origin _ _ _ _ c.requires.apex c.args.lead c.requires.aim _ inv.fewer)
+          (λ _. under-origin _ _ _ _ c.requires.apex c.args.hint c.requires.aim _ inv.fewer)
           c.or_apex.ensures down.node (down.child.0 refl) (search rules));
       fewer = omega (arith, inv.fewer);
       zone = down.same_zone ∙ inv.zone;

@@ -10,7 +10,7 @@ seek-followed_alias-requires g c =
         apex = subst (λ z. IsApex z c.apex-apex.result) (sym apex.zone)
             (record { node = apex.node; exists = apex.exists });
         aim = record {
-          lead = tt;
+          hint = tt;
           below = subst (λ (z : ZoneContents). IsBelow c.args.sought z.origin) (sym apex.zone)
               c.requires.below;
         };

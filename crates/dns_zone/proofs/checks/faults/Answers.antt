@@ -1,10 +1,10 @@
-use Rattle.dns_zone.proofs.Common.{rules, ◌≡◌, ◌-◌, List, length, map, ap, arith, length-take, take_all, flat_map, ZoneContents, wire, Fault, faults, name_of, reported_at, CheckedName}
+use Rattle.dns_zone.proofs.Common.{rules, ◌≡◌, ◌-◌, List, length, map, ap, arith, length-take, take_all, flat_map, ZoneContents, wire, Fault, faults, owner_of, reported_at, CheckedName}
 use Rattle.dns_zone.proofs.KeyOrder.{key_length}
 use Rattle.dns_zone.proofs.checks.faults.Goals as goal
 
 -- the faults of names, one after another
 abbrev reported : ZoneContents → List CheckedName → List Fault
-reported z names = flat_map (reported_at z) (map (name_of z) names)
+reported z names = flat_map (reported_at z) (map (owner_of z) names)
 
 pub split_at-requires : goal.split_at-requires
 split_at-requires c =

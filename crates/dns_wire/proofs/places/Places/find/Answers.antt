@@ -1,4 +1,4 @@
-use Rattle.dns_wire.proofs.Common.{◌≡◌, ◌-◌, ◌<◌, ◌≤◌, ◌∙◌, ℕ, suc, length, sym, ap, subst, arith, get_or, slice_get, Some, false≢true, Entry, chain_of, entry_at, kept_in, SpelledAt}
+use Rattle.dns_wire.proofs.Common.{◌≡◌, ◌-◌, ◌<◌, ◌≤◌, ◌∙◌, ℕ, suc, length, sym, ap, subst, arith, get_or, slice_get, Some, false≢true, KeptPlace, chain_of, entry_at, kept_in, SpelledAt}
 use Rattle.dns_wire.proofs.ChainLemmas.{Chain, read_entry, chain_begins, chain_next, entry_kept, kept_entry}
 use Rattle.dns_wire.proofs.places.Places.find.Goals.{else-entry-number-via-then-entry-number+else-is_spelled, else-entry-number-via-else-entry-number}
 use Rattle.dns_wire.proofs.places.Places.find.Goals as goal
@@ -7,7 +7,7 @@ use Rattle.dns_wire.proofs.places.Places.find.Given as given
 pub chain-init : goal.chain-init
 chain-init g c =
     let es = c.self.inside.entries.items in
-    let P = λ (e : Entry). (e.number ≡ c.args.number)
+    let P = λ (e : KeptPlace). (e.number ≡ c.args.number)
     × SpelledAt c.args.message.now e.place c.args.suffix.now in
     let low = c.chain_of.ensures.low in
     let begun = chain_begins P (chain_of c.args.number) es c.self.inside.heads c.self.invariant
@@ -31,7 +31,7 @@ returns-then-is_spelled-clause-kept g c =
     (c.from.result - 1) (record { place = 0; number = 0; next = 0 }) in (
       r.0,
       ap (λ x. slice_get x r.0) (sym c.self.view_is) ∙ entry_kept
-          c.self.inside.entries.items r.0 (low g c) ∙ ap (λ (x : Entry). Some (kept_in x)) (sym r.2)
+          c.self.inside.entries.items r.0 (low g c) ∙ ap (λ (x : KeptPlace). Some (kept_in x)) (sym r.2)
           ∙ ap (λ n. Some (record { place = e.place; number = n })) c.if-entry-number.true,
     )
 
@@ -45,12 +45,12 @@ module _ (g : given.Over) (c : goal.Joined-else-entry-number g) where
       read_entry (omega (arith, positive)) c.as_slice.ensures.value c.from.ensures
 
   -- the chain continues after the entry, which is not the one sought
-  next : Chain (λ (e : Entry). (e.number ≡ c.args.number)
+  next : Chain (λ (e : KeptPlace). (e.number ≡ c.args.number)
       × SpelledAt c.args.message.now e.place c.args.suffix.now) (chain_of c.args.number)
       c.self.inside.entries.items (entry_at c.self.inside.entries.items passed.0).next
       × ((entry_at c.self.inside.entries.items passed.0).next ≤ passed.0)
   next =
-      let P = λ (e : Entry). (e.number ≡ c.args.number)
+      let P = λ (e : KeptPlace). (e.number ≡ c.args.number)
       × SpelledAt c.args.message.now e.place c.args.suffix.now in
       let es = c.self.inside.entries.items in
       let other : P (entry_at es passed.0) → ⊥ =
@@ -69,11 +69,11 @@ chain-smaller g c =
     let r = passed g c in
     let low = (next g c).1 in
     let is = r.1 in
-    omega (arith, low, is, ap (λ (e : Entry). e.next) r.2)
+    omega (arith, low, is, ap (λ (e : KeptPlace). e.next) r.2)
 
 pub chain-preserved : goal.chain-preserved
 chain-preserved g c =
-    subst (λ (e : Entry). Chain (λ (e : Entry). (e.number ≡ c.args.number)
+    subst (λ (e : KeptPlace). Chain (λ (e : KeptPlace). (e.number ≡ c.args.number)
     × SpelledAt c.args.message.now e.place c.args.suffix.now) (chain_of c.args.number)
     c.self.inside.entries.items e.next) (sym (passed g c).2) (next g c).0
 

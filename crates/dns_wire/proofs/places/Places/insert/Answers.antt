@@ -1,4 +1,4 @@
-use Rattle.dns_wire.proofs.Common.{◌≡◌, ap, subst, arith, length, suc, ◌∷◌, [], ◌++◌, slice_set, get_or, length-append, Entry, chain_of, AreChains}
+use Rattle.dns_wire.proofs.Common.{◌≡◌, ap, subst, arith, length, suc, ◌∷◌, [], ◌++◌, slice_set, get_or, length-append, KeptPlace, chain_of, AreChains}
 use Rattle.dns_wire.proofs.ChainLemmas.{chains_grow}
 use Rattle.dns_wire.proofs.places.Places.insert.Goals as goal
 
@@ -7,7 +7,7 @@ invariant_of-self g c =
     let h = c.args.number in
     let heads = c.self.inside.heads in
     let es = c.self.inside.entries.items in
-    let e : Entry =
+    let e : KeptPlace =
     record { place = c.args.place; number = h; next = get_or heads c.chain_of.result 0 } in
     let grown = chains_grow es e heads c.self.invariant c.requires.reached
     (ap (λ k. get_or heads k 0) c.chain_of.ensures.chain) in

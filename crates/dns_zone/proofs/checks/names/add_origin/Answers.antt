@@ -1,4 +1,4 @@
-use Rattle.dns_zone.proofs.Common.{rules, ◌≡◌, ◌-◌, suc, take, sym, ◌∙◌, subst, arith, refl, false≢true, IsPartitionedBy, name_order, ZoneContents, Less, AllByRecursion, octets_equal-decides, is_upto, name_of, AreChecked, IsFront}
+use Rattle.dns_zone.proofs.Common.{rules, ◌≡◌, ◌-◌, suc, take, sym, ◌∙◌, subst, arith, refl, false≢true, IsPartitionedBy, name_order, ZoneContents, Less, AllByRecursion, octets_equal-decides, is_upto, owner_of, AreChecked, IsFront}
 use Rattle.dns_zone.proofs.GrowingNames.{owners_parted, origin_owns, origin_added, others_before}
 use Rattle.dns_zone.proofs.checks.names.add_origin.Goals as goal
 use Rattle.dns_zone.proofs.checks.names.add_origin.Goals.{else-place-gt0-via-then-place-gt0+else-eq, else-place-gt0-via-else-place-gt0}
@@ -20,7 +20,7 @@ returns c =
     let names = c.args.names.now.items in
     let front = subst (λ xs. IsFront (is_upto c.args.key.now) xs k) c.as_slice.ensures.value
     c.count_upto-place.ensures in
-    let before : AllByRecursion (λ d. name_order (name_of z d) z.origin ≡ Less) (take k names) =
+    let before : AllByRecursion (λ d. name_order (owner_of z d) z.origin ≡ Less) (take k names) =
     elim c.else-place-gt0.branch [
       | else-place-gt0-via-then-place-gt0+else-eq w ↦
           let next : k ≡ suc (k - 1) = omega arith in
@@ -30,7 +30,7 @@ returns c =
           ∙ (octets_equal-decides w.index.result.now.key.now c.args.key.now).1 e))
       | else-place-gt0-via-else-place-gt0 w ↦
           let none : 0 ≡ k = omega arith in
-          subst (λ j. AllByRecursion (λ d. name_order (name_of z d) z.origin ≡ Less)
+          subst (λ j. AllByRecursion (λ d. name_order (owner_of z d) z.origin ≡ Less)
           (take j names)) none tt
     ] in
     subst (AreChecked z) (sym c.in_ok-insert.ensures.items)

@@ -1,7 +1,7 @@
-use Rattle.dns_zone.proofs.Common.{rules, ◌≡◌, ◌+◌, ◌-◌, ◌∷◌, ◌++◌, List, [], length, map, take, drop, sym, ap, ap₂, ◌∙◌, subst, arith, drop-drop, map_push, prefix_len, DomainName, ResourceRecord, ZoneContents, AllByRecursion, name_key, key_in, own_in, first_owner, name_of, IsTopmost, IsChecked, IsOwner, owners_once, CheckedName}
+use Rattle.dns_zone.proofs.Common.{rules, ◌≡◌, ◌+◌, ◌-◌, ◌∷◌, ◌++◌, List, [], length, map, take, drop, sym, ap, ap₂, ◌∙◌, subst, arith, drop-drop, map_push, prefix_len, DomainName, ResourceRecord, ZoneContents, AllByRecursion, name_key, key_in, own_in, first_owner, owner_of, IsTopmost, IsChecked, IsOwner, owners_once, CheckedName}
 use Rattle.dns_zone.proofs.AtName.{is_at}
 use Rattle.dns_zone.proofs.GrowingNames.{LastName, root_first, comes_next, added_last, each_added, all_added}
-use Rattle.dns_zone.proofs.KeyedNames.{first_keyed}
+use Rattle.dns_zone.proofs.OwnerKeys.{first_keyed}
 use Rattle.dns_zone.proofs.OwnersWalk.{Step, step, all_owners, one_more}
 use Rattle.dns_zone.proofs.TopmostCut.{topmost_fits}
 use Rattle.dns_zone.proofs.checks.names.checked_names.Goals as goal
@@ -82,7 +82,7 @@ module _ (c : In_ok-push) where
       ap₂ (λ k (rs : List ResourceRecord). take k rs) (size ∙ count) (sym c.owners.invariant.part)
       ∙ sym c.split_at.ensures.front
 
-  name_there : name_of z added ≡ n
+  name_there : owner_of z added ≡ n
   name_there = ap (first_owner c.args.origin.now) own_there ∙ stepped.first c.args.origin.now
 
   key : c.key_at-next.result.now ≡ name_key n
@@ -98,24 +98,24 @@ module _ (c : In_ok-push) where
       (omega (arith, count, ap length rest_is)) (sym c.owners.invariant.part ∙ rest_is)
       ∙ ap name_key name_is
 
-  whole : map (name_of z) c.owners.names.items ++ n ∷ owners_once others
+  whole : map (owner_of z) c.owners.names.items ++ n ∷ owners_once others
       ≡ owners_once c.args.records.now
   whole =
-      ap (λ (ns : List DomainName). map (name_of z) c.owners.names.items ++ ns)
+      ap (λ (ns : List DomainName). map (owner_of z) c.owners.names.items ++ ns)
       (sym stepped.names) ∙ c.owners.invariant.all
 
-  names : map (name_of z) (c.owners.names.items ++ added ∷ [])
-      ≡ map (name_of z) c.owners.names.items ++ n ∷ []
+  names : map (owner_of z) (c.owners.names.items ++ added ∷ [])
+      ≡ map (owner_of z) c.owners.names.items ++ n ∷ []
   names =
-      map_push (name_of z) c.owners.names.items added
-      ∙ ap (λ (m : DomainName). map (name_of z) c.owners.names.items ++ m ∷ []) name_there
+      map_push (owner_of z) c.owners.names.items added
+      ∙ ap (λ (m : DomainName). map (owner_of z) c.owners.names.items ++ m ∷ []) name_there
 
   topmost : IsTopmost z n c.cut_of-cut.result
   topmost =
       let last = c.owners.invariant.last in
       c.cut_of-cut.ensures z _ n
       (comes_next z c.requires.ordered _ _ n whole c.owner-owner.ensures.lower
-      _ _ _ _ own (subst (λ ns. LastName z (map (name_of z) c.owners.names.items) ns
+      _ _ _ _ own (subst (λ ns. LastName z (map (owner_of z) c.owners.names.items) ns
       c.owners.last.now c.owners.cut) stepped.names last)
       c.requires.key c.requires.lower key stepped.is_owner)
 
@@ -141,10 +141,10 @@ owners-preserved c =
     let size = both c in
     let old = c.owners.names.items in
     record {
-      all = subst (λ ns. map (name_of (z c)) ns ++ owners_once (others c)
+      all = subst (λ ns. map (owner_of (z c)) ns ++ owners_once (others c)
           ≡ owners_once c.args.records.now) items
           (all_added (z c) old (added c) (n c) (owners_once (others c)) (name_there c) ∙ whole c);
-      each = subst (AllByRecursion (λ d. IsChecked (z c) (name_of (z c) d) d)) items
+      each = subst (AllByRecursion (λ d. IsChecked (z c) (owner_of (z c) d) d)) items
           (each_added (z c) old (added c) (n c) c.owners.invariant.each (name_there c) (checked c));
       whole = (stepped c).has_owners;
       part = c.split_at.ensures.back ∙ ap (drop (1 + c.count_in_front.result))
@@ -152,10 +152,10 @@ owners-preserved c =
           c.owners.first c.args.records.now ∙ ap (λ k. drop (c.owners.first + k) c.args.records.now)
           (sym c.split_at.ensures.front_len);
       count = omega (arith, count, size);
-      last = subst (λ ns. LastName (z c) (map (name_of (z c)) ns) (owners_once (others c))
+      last = subst (λ ns. LastName (z c) (map (owner_of (z c)) ns) (owners_once (others c))
           c.key_at-next.result.now c.cut_of-cut.result) items
           (subst (λ ms. LastName (z c) ms (owners_once (others c))
           c.key_at-next.result.now c.cut_of-cut.result) (sym (names c))
-          (added_last (z c) c.requires.ordered (map (name_of (z c)) old) (owners_once (others c))
+          (added_last (z c) c.requires.ordered (map (owner_of (z c)) old) (owners_once (others c))
           (n c) (whole c) c.owner-owner.ensures.lower _ _ (key c) (topmost c)));
     }

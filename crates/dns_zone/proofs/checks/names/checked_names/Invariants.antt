@@ -1,4 +1,4 @@
-use Rattle.dns_zone.proofs.Common.{◌≡◌, ◌+◌, ◌++◌, length, map, drop, ZoneContents, AllByRecursion, name_of, IsChecked, HasOwners, owners_once}
+use Rattle.dns_zone.proofs.Common.{◌≡◌, ◌+◌, ◌++◌, length, map, drop, ZoneContents, AllByRecursion, owner_of, IsChecked, HasOwners, owners_once}
 use Rattle.dns_zone.proofs.GrowingNames.{LastName}
 use Rattle.dns_zone.proofs.checks.names.checked_names.Given as goal
 
@@ -6,12 +6,12 @@ use Rattle.dns_zone.proofs.checks.names.checked_names.Given as goal
 abbrev pub invariant-owners : goal.invariant-owners
 invariant-owners l =
     let z : ZoneContents = record { origin = l.origin; records = l.records } in record {
-      all : map (name_of z) l.names.items ++ owners_once l.rest ≡ owners_once l.records;
-      each : AllByRecursion (λ c. IsChecked z (name_of z c) c) l.names.items;
+      all : map (owner_of z) l.names.items ++ owners_once l.rest ≡ owners_once l.records;
+      each : AllByRecursion (λ c. IsChecked z (owner_of z c) c) l.names.items;
       whole : HasOwners z l.rest;
       part : l.rest ≡ drop l.first l.records;
       count : l.first + length l.rest ≡ length l.records;
-      last : LastName z (map (name_of z) l.names.items) (owners_once l.rest) l.last l.cut;
+      last : LastName z (map (owner_of z) l.names.items) (owners_once l.rest) l.last l.cut;
     }
 
 abbrev pub decreases-owners : goal.decreases-owners

@@ -1,4 +1,4 @@
-use Rattle.dns_zone.proofs.Common.{◌≡◌, ◌-◌, ◌<◌, ℕ, suc, map, true, List, sym, ap, ◌∙◌, subst, arith, Octets, DomainName, folded, at_or_below, name_order, ZoneContents, octets_equal-decides, Rises, IsFront, name_key, name_of, is_upto, IsChecked, IsLastUpto, IsSurvey, CheckedName}
+use Rattle.dns_zone.proofs.Common.{◌≡◌, ◌-◌, ◌<◌, ℕ, suc, map, true, List, sym, ap, ◌∙◌, subst, arith, Octets, DomainName, folded, at_or_below, name_order, ZoneContents, octets_equal-decides, Rises, IsFront, name_key, owner_of, is_upto, IsChecked, IsLastUpto, IsSurvey, CheckedName}
 use Rattle.dns_zone.proofs.CheckedNames.{upto_parted, upto_some, found_there, found_itself}
 use Rattle.dns_zone.proofs.ReportedNames.{checked_rise}
 use Rattle.dns_spec.proofs.General.Elements.{each_get}
@@ -6,7 +6,7 @@ use Rattle.dns_zone.proofs.checks.survey.Survey.last_upto.Goals as goal
 
 module _ (y z : ZoneContents)
     (own : Octets) (names : List CheckedName) (survey : IsSurvey y own names) where
-  rises : Rises name_order (map (name_of y) names)
+  rises : Rises name_order (map (owner_of y) names)
   rises = subst (Rises name_order) (sym survey.names_are.all) (checked_rise y)
 
   -- the origin is not after a name of the zone
@@ -46,7 +46,7 @@ pub returns-clause-last : goal.returns-clause-last
 returns-clause-last c =
     in_zone _ _ _ _ c.self.view_is
     (found_itself _ c.args.target.now c.requires.lower _
-    (each_get (λ d. IsChecked _ (name_of _ d) d) c.self.inside.names.now c.in-Some.place _
+    (each_get (λ d. IsChecked _ (owner_of _ d) d) c.self.inside.names.now c.in-Some.place _
     c.self.invariant.names_are.each c.if-place-names.true)
     ((octets_equal-decides _ c.key.result.now).0 (sym c.eq.ensures ∙ c.if-eq.true) ∙ c.key.ensures))
 

@@ -1,7 +1,7 @@
 use Rattle.dns_zone.proofs.Common.{rules, All, All-push, ZoneNode, ap, sym, subst}
 use Rattle.dns_zone.specs.NodeForm.{TargetWay, IsOnWay}
-use Rattle.dns_zone.specs.declared.tree.way.Step.{Step}
-use Rattle.dns_zone.proofs.LeadRows.{goes_on}
+use Rattle.dns_zone.specs.declared.tree.way.WayName.{WayName}
+use Rattle.dns_zone.proofs.HintRows.{goes_on}
 use Rattle.dns_zone.proofs.tree.way.Way.go_down.Goals as goal
 use Rattle.dns_zone.proofs.tree.way.Way.go_down.Goals.{else-self-via-then-self+else-is_some, else-self-via-else-self}
 
@@ -23,6 +23,6 @@ invariant_of-self-2 c =
     ]) in
     record {
       kept = c.self.invariant.kept;
-      each = subst (All (λ (s : Step). IsOnWay w s.row.0)) (sym c.push.ensures.items)
-          (All-push (λ (s : Step). IsOnWay w s.row.0) _ _ c.self.invariant.each here);
+      each = subst (All (λ (s : WayName). IsOnWay w s.row.0)) (sym c.push.ensures.items)
+          (All-push (λ (s : WayName). IsOnWay w s.row.0) _ _ c.self.invariant.each here);
     }

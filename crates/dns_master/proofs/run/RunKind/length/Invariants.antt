@@ -1,0 +1,13 @@
+use Rattle.dns_master.proofs.Common.{◌≡◌, ◌+◌, ◌-◌, ◌≤◌, length, drop, run_length, by_itself}
+use Rattle.dns_master.proofs.run.RunKind.length.Given as goal
+
+-- the octets so far and the rest of the run make up the whole run
+abbrev pub invariant-units : goal.invariant-units
+invariant-units l = record {
+  whole : run_length
+      (by_itself l.self) 0 l.text ≡ l.place + run_length (by_itself l.self) 0 (drop l.place l.text);
+  bound : l.place ≤ length l.text;
+}
+
+abbrev pub decreases-units : goal.decreases-units
+decreases-units l = length l.text - l.place

@@ -1,0 +1,165 @@
+//! What all programs share: reading their arguments, opening the zone file, and reporting why they
+//! stop.
+ghost use Rattle.std.specs.Prelude.{◌≡◌, ◌⊎◌, Ok, Err, IfOk, IfErr, OnOk};
+ghost use Rattle.std.specs.Io.Buffered.{writer_contents};
+ghost use Rattle.std.specs.Io.KnownBytes.{Keeps};
+
+use crate::fault::{FAULT_STATUS, FaultWord, Outcome, Stop, end_of, exit_status};
+use crate::load::{Refusal, write_refusal};
+use crate::nonblocking::Nonblocking;
+use crate::report::write_serving;
+use dns_name::Tally;
+use dns_zone::Zone;
+use std::alloc::Global;
+use std::env::FillError;
+use std::io::{self, BufWriter, Error, ErrorKind, Write};
+use std::rt::{Env, Files};
+use std::time::Clock;
+use std::{env, fs};
+
+/// The arguments after the program's own name, which is ignored. Fails with `usage` if an argument
+/// is not text, because no program takes such arguments.
+pub fn given_words<R: Env + AllocGlobal>(rt: &R) -> Result<Vec<String>, FaultWord>
+    ensures { IfErr result (λ fault. (fault ≡ FaultWord.Usage) ⊎ (fault ≡ FaultWord.NoMemory)) }
+{
+    let given = env::args(&(Arguments { rt }, rt.alloc()));
+    let given = given.map_err(|error| word_or_no_memory(&error, FaultWord::Usage))?;
+    let mut words = Vec::new(rt.alloc());
+    for word in given {
+        words.push(word)?;
+    }
+    Ok(words)
+}
+
+// The environment without the program's own name, which may be other than text.
+#[derive(Drop)]
+struct Arguments<'a, R> {
+    rt: &'a R,
+}
+
+impl<R: Env> Env for Arguments<'_, R> {
+    fn arg(&self, i: usize, buf: &mut [u8]) -> Result<usize, FillError> {
+        match i.checked_add(1) {
+            Some(next) => self.rt.arg(next, buf),
+            None => Err(FillError::NotPresent),
+        }
+    }
+
+    fn var(&self, name: &str, buf: &mut [u8]) -> Result<usize, FillError> {
+        self.rt.var(name, buf)
+    }
+
+    fn var_at(&self, i: usize, buf: &mut [u8]) -> Result<usize, FillError> {
+        self.rt.var_at(i, buf)
+    }
+}
+
+/// Opens the file at a path for reading. Fails with `R16` if it can't be opened.
+pub fn open_file<R: Files>(rt: &R, path: &str) -> Result<R::File, FaultWord>
+    ensures { IfErr result (λ fault. (fault ≡ FaultWord.SourceFailed)
+        ⊎ (fault ≡ FaultWord.NoMemory)) }
+{
+    fs::open(rt, path).map_err(|error| word_or_no_memory(&error, FaultWord::SourceFailed))
+}
+
+/// Flushes the buffer of a report if its run finished, and returns the device under the buffer.
+///
+/// The buffer is taken apart, because dropping it would write once more after a failure.
+pub fn finish<W: Write + Drop>(outcome: Outcome, output: BufWriter<W>) -> (Outcome, W)
+    ensures stopped { IfErr outcome (λ stop. result.0 ≡ Err stop) }
+    ensures ended { IfOk outcome (λ passes.
+        (result.0 ≡ Ok passes) ⊎ (result.0 ≡ Err Stop.Sink)) }
+    ensures written { OnOk result.0
+        (Keeps (writer_contents W.contents output) (W.contents result.1)) }
+{
+    let mut output = output;
+    let flushed = match outcome {
+        Ok(_) => output.flush(),
+        Err(_) => Ok(()),
+    };
+    let (device, _unwritten) = output.into_parts();
+    match flushed {
+        Ok(()) => (outcome, device),
+        Err(_) => (Err(Stop::Sink), device),
+    }
+}
+
+/// Writes to standard error why there is no zone to serve, in the checker's format, and returns
+/// the exit status for that.
+pub fn refuse<R: Clock + AllocGlobal, E: Print>(
+    rt: &R,
+    errors: &E,
+    refusal: &Refusal,
+) -> Result<u8, FaultWord>
+    ensures status { IfOk result (λ status. (status ≡ 1) ⊎ (status ≡ 2)) }
+    ensures fault { IfErr result (λ fault. fault ≡ FaultWord.NoMemory) }
+{
+    let mut sink = Tally::new(buffered_stream(rt, errors)?);
+    let written = write_refusal(refusal, &mut sink);
+    let outcome = match written {
+        Ok(()) => Ok(false),
+        Err(failed) => Err(failed.into()),
+    };
+    let (outcome, _device) = finish(outcome, sink.into_inner());
+    Ok(exit_status(&outcome))
+}
+
+/// Writes the line to standard output that says that a zone is served. Fails with `P1` if that
+/// can't be written.
+pub fn say_serving<R: Clock + Print + AllocGlobal>(rt: &R, zone: &Zone) -> Result<(), FaultWord>
+    ensures { IfErr result
+        (λ fault. (fault ≡ FaultWord.SinkFailed) ⊎ (fault ≡ FaultWord.NoMemory)) }
+{
+    let mut sink = Tally::new(buffered_stream(rt, rt)?);
+    let written = write_serving(zone, &mut sink);
+    let outcome = match written {
+        Ok(()) => Ok(true),
+        Err(failed) => Err(failed.into()),
+    };
+    let (outcome, _device) = finish(outcome, sink.into_inner());
+    end_of(outcome)?;
+    Ok(())
+}
+
+// A standard stream with a buffer, whose calls wait even if the stream is non-blocking.
+fn buffered_stream<'a, R: Clock + AllocGlobal, P: Print>(
+    rt: &'a R,
+    stream: &'a P,
+) -> Result<BufWriter<Nonblocking<'a, io::Printer<'a, P>, R>>, FaultWord>
+    ensures { IfErr result (λ fault. fault ≡ FaultWord.NoMemory) }
+{
+    match BufWriter::new(rt.alloc(), Nonblocking::new(io::writer(stream), rt)) {
+        Ok(buffered) => Ok(buffered),
+        Err(_) => Err(FaultWord::NoMemory),
+    }
+}
+
+/// The exit status of a program: its own, or the status of the diagnostic that it prints first.
+pub fn end(rt: &impl Eprint, status: Result<u8, FaultWord>) -> u8
+    ensures said { IfErr status (λ _. result ≡ 2) }
+    ensures status { IfOk status (λ status. result ≡ status) }
+{
+    match status {
+        Ok(status) => status,
+        Err(word) => say(rt, word),
+    }
+}
+
+/// Writes a diagnostic to standard error, and returns the exit status for it, 2, even if it can't
+/// be written.
+pub fn say(rt: &impl Eprint, word: FaultWord) -> u8
+    ensures { result ≡ 2 }
+{
+    let _written = rt.eprintln(word);
+    FAULT_STATUS
+}
+
+fn word_or_no_memory(error: &Error, word: FaultWord) -> FaultWord
+    ensures { (result ≡ word) ⊎ (result ≡ FaultWord.NoMemory) }
+{
+    if error.kind() == ErrorKind::OutOfMemory {
+        FaultWord::NoMemory
+    } else {
+        word
+    }
+}

@@ -1,5 +1,0 @@
-use Rattle.dns_zone.proofs.Common.{rules}
-use Rattle.dns_zone.proofs.tree.node.Node.lead.Goals as goal
-
-pub returns : goal.returns
-returns c = search rules

@@ -1,0 +1,103 @@
+//! The keys of the owners of records, in one shared list of octets.
+ghost use Rattle.std.specs.Prelude.{◌≡◌, ◌≤◌, All, length, IfOk};
+ghost use Rattle.dns_spec.specs.Names.{folded};
+ghost use Rattle.dns_spec.specs.Meaning.{most_records};
+ghost use Rattle.dns_spec.specs.ZonePrinted.{IsReadRecord};
+ghost use Rattle.dns_zone.specs.KeyForm.{name_key};
+ghost use Rattle.dns_zone.specs.OwnerKeysForm.{key_in, AreKeyed};
+
+use crate::order::key::Key;
+use crate::store::stored::StoredRecord;
+use dns_name::NameRef;
+use std::alloc::{AllocError, Global};
+
+// If records have no more octets on average, their order in the file is not kept.
+const FEW_OCTETS: usize = 64;
+
+/// The keys of owners, and the order of their records in the file.
+#[derive(Drop)]
+pub(crate) struct OwnerKeys {
+    /// The key of the origin, then the keys of the owners.
+    pub(crate) keys: Vec<u8>,
+    /// The place at which each record's owner key begins. Adjacent records of one owner share a
+    /// key.
+    pub(crate) starts: Vec<u32>,
+    /// The number of records before each one in the file. Empty if records are short.
+    pub(crate) numbers: Vec<u32>,
+}
+
+#[tactic(auto, using(crate::proofs::SearchSteps::wire_steps))]
+pub(crate) fn keys_of<'a>(
+    alloc: Global,
+    origin: &'a NameRef<'a>,
+    records: &'a [StoredRecord],
+) -> Result<OwnerKeys, AllocError>
+    requires { length records.now ≤ most_records }
+    ensures origin { IfOk result (λ k.
+        key_in k.keys.items 0 origin.now ≡ name_key origin.now) }
+    ensures records { IfOk result (λ k. AreKeyed k.keys.items records.now k.starts.items) }
+    ensures read { IfOk result (λ _. All IsReadRecord records.now) }
+{
+    let mut keys = Vec::new(alloc);
+    let mut starts = Vec::with_capacity(alloc, records.len())?;
+    let numbers = numbers_of(alloc, records)?;
+    let mut key = Key::of(origin);
+    keys.extend_from_slice(key.octets())?;
+    let mut last = NameRef::new(origin.octets());
+    let mut start = 0;
+    'records: for each in records {
+        let owner = each.owner();
+        if owner != last {
+            start = keys.len() as u32;
+            key.move_to(&last, &owner);
+            keys.extend_from_slice(key.octets())?;
+            last = owner;
+        }
+        starts.push(start)?;
+    }
+    Ok(OwnerKeys {
+        keys,
+        starts,
+        numbers,
+    })
+}
+
+fn numbers_of(alloc: Global, records: &[StoredRecord]) -> Result<Vec<u32>, AllocError>
+    requires { length records.now ≤ most_records }
+{
+    let octets = records
+        .iter()
+        .fold(0_usize, |sum, each| sum.wrapping_add(each.octet_count()));
+    if octets / FEW_OCTETS <= records.len() {
+        return Ok(Vec::new(alloc));
+    }
+    in_turn(alloc, records.len() as u32)
+}
+
+/// The numbers below `count`, in order.
+pub(crate) fn in_turn(alloc: Global, count: u32) -> Result<Vec<u32>, AllocError> {
+    let mut numbers = Vec::with_capacity(alloc, count as usize)?;
+    'numbers: for number in 0..count {
+        numbers.push(number)?;
+    }
+    Ok(numbers)
+}
+
+/// Swaps the numbers of two records, if they are kept.
+pub(crate) fn swap_numbers(numbers: &mut [u32], one: usize, other: usize) {
+    if one < numbers.len() && other < numbers.len() {
+        numbers.swap(one, other);
+    }
+}
+
+/// The key of a record's owner; it begins at `start`.
+#[tactic(auto, using(crate::proofs::Common::wire_some))]
+pub(crate) fn key_at<'a>(keys: &'a [u8], start: u32, of: &StoredRecord) -> &'a [u8]
+    ensures value { result.now ≡ key_in keys.now start of.now.owner }
+    ensures lower { folded of.now.owner ≡ of.now.owner }
+{
+    let (_, after) = keys.split_at((start as usize).min(keys.len()));
+    after
+        .split_at((of.owner().octets().len() - 1).min(after.len()))
+        .0
+}

@@ -1,0 +1,198 @@
+//! Brings records into canonical order with few moves.
+//!
+//! A sort that compares whole names is slow. So runs of records of one owner are sorted instead of
+//! the records, by a few octets of their keys at a time, and then each record is moved once.
+ghost use Rattle.std.specs.Prelude.{◌≡◌, ◌<◌, ◌≤◌, All, length, IfOk};
+ghost use Rattle.std.specs.List.Sorted.{IsPermutation};
+ghost use Rattle.dns_spec.specs.Meaning.{most_records};
+ghost use Rattle.dns_zone.specs.OwnerKeysForm.{AreKeyed};
+
+use crate::order::own_order;
+use crate::order::owner_keys::{key_at, swap_numbers};
+use crate::order::runs::{Run, Sorted};
+use crate::store::stored::StoredRecord;
+use std::alloc::{AllocError, Global};
+use std::cmp::Ordering;
+
+// The most records of one owner that are sorted by whole comparisons.
+const FEW_RECORDS: usize = 8;
+
+/// Moves records, with the places of their keys and with their numbers, into canonical order, and
+/// keeps duplicates. The result is unverified: callers check the order, and sort if it is wrong.
+/// `base` is the length of the origin's key, with which `keys` begins.
+///
+/// Takes 32 octets of memory for each run of records of one owner and for each record of the
+/// largest owner, and 4 for each record.
+#[tactic(auto, using(crate::proofs::SearchSteps::swap_steps))]
+pub(crate) fn presort(
+    alloc: Global,
+    base: usize,
+    keys: &[u8],
+    records: &mut [StoredRecord],
+    starts: &mut [u32],
+    numbers: &mut [u32],
+) -> Result<(), AllocError>
+    requires keyed { AreKeyed keys.now records.old starts.old }
+    requires few { length records.old ≤ most_records }
+    ensures permutation { IsPermutation records.old records.new }
+    ensures keyed { AreKeyed keys.now records.new starts.new }
+{
+    let mut places = places(alloc, base, keys, records, starts)?;
+    let sources = places.as_mut_slice();
+    if sources.len() == records.len() {
+        'places: for at in 0..records.len() {
+            settle(keys, records, starts, numbers, sources, at);
+        }
+    }
+    Ok(())
+}
+
+// For each place of the sorted list, the place from which its record comes.
+fn places(
+    alloc: Global,
+    base: usize,
+    keys: &[u8],
+    records: &[StoredRecord],
+    starts: &[u32],
+) -> Result<Vec<u32>, AllocError>
+    requires count { length starts.now ≡ length records.now }
+    requires few { length records.now ≤ most_records }
+    ensures { IfOk result (λ places. All (λ p. p < length records.now) places.items) }
+{
+    let mut runs = runs(alloc, base, keys, records, starts)?;
+    let owners = Sorted::ByOwner(keys, records, starts);
+    owners.sort(runs.as_mut_slice());
+    let mut places = Vec::with_capacity(alloc, records.len())?;
+    let mut own = Vec::new(alloc);
+    let mut first = 0;
+    let mut rest = runs.as_slice();
+    'runs: while let Some((run, others)) = rest.split_first() {
+        'places: for at in run.at..run.end.min(records.len() as u32) {
+            places.push(at)?;
+        }
+        rest = others;
+        if others
+            .first()
+            .is_some_and(|next| owners.are_alike(run, next))
+        {
+            continue;
+        }
+        if places.len() > first + 1 {
+            sort_own(records, places.as_mut_slice(), first, &mut own)?;
+        }
+        first = places.len();
+    }
+    Ok(places)
+}
+
+// The runs of records of one owner, in the order of the records: their keys begin at one place and
+// have the same length. The place alone is not enough: the root has an empty key, so the next
+// owner's begins at the same place.
+fn runs(
+    alloc: Global,
+    base: usize,
+    keys: &[u8],
+    records: &[StoredRecord],
+    starts: &[u32],
+) -> Result<Vec<Run>, AllocError>
+    requires count { length starts.now ≡ length records.now }
+    requires few { length records.now ≤ most_records }
+{
+    let mut runs = Vec::with_capacity(alloc, records.len())?;
+    let (origin, _) = keys.split_at(base.min(keys.len()));
+    let mut at = 0;
+    'runs: while at < records.len() {
+        let key = key_at(keys, starts[at], &records[at]);
+        let others = starts[at + 1..].iter().zip(records[at + 1..].iter());
+        let own = others.take_while(|(start, one)| **start == starts[at]
+            && one.owner().octets().len() == key.len() + 1);
+        let end = at + 1 + own.count();
+        runs.push(Run::of_owner(origin, key, at as u32, end as u32))?;
+        at = end;
+    }
+    Ok(runs)
+}
+
+// Sorts the records of one owner, whose places are in `places` from `first` on.
+fn sort_own(
+    records: &[StoredRecord],
+    places: &mut [u32],
+    first: usize,
+    own: &mut Vec<Run>,
+) -> Result<(), AllocError>
+    requires first { first ≤ length places.old }
+    requires below { All (λ p. p < length records.now) places.old }
+    ensures below { All (λ p. p < length records.now) places.new }
+    ensures count { length places.new ≡ length places.old }
+{
+    let places = &mut places[first..];
+    if places.len() > FEW_RECORDS {
+        return sort_many(records, places, own);
+    }
+    places.sort_unstable_by(|one, other| match (
+        records.get(*one as usize),
+        records.get(*other as usize),
+    ) {
+        (Some(one), Some(other)) => own_order(one, other),
+        _ => Ordering::Equal,
+    });
+    Ok(())
+}
+
+// The same for many records, as runs of one record each.
+fn sort_many(
+    records: &[StoredRecord],
+    places: &mut [u32],
+    own: &mut Vec<Run>,
+) -> Result<(), AllocError>
+    requires below { All (λ p. p < length records.now) places.old }
+    ensures below { All (λ p. p < length records.now) places.new }
+    ensures count { length places.new ≡ length places.old }
+{
+    own.clear();
+    'records: for at in places.iter() {
+        own.push(Run::of_data(&records[*at as usize], *at))?;
+    }
+    let runs = own.as_mut_slice();
+    Sorted::ByData(records).sort(runs);
+    'places: for at in 0..runs.len().min(places.len()) {
+        let from = runs[at].at;
+        if (from as usize) < records.len() {
+            places[at] = from;
+        }
+    }
+    Ok(())
+}
+
+// Moves the record that belongs at `first` there, then fills the gap that it leaves, and so on,
+// until the record that was at `first` has moved.
+fn settle(
+    keys: &[u8],
+    records: &mut [StoredRecord],
+    starts: &mut [u32],
+    numbers: &mut [u32],
+    places: &mut [u32],
+    first: usize,
+)
+    requires first { first < length records.old }
+    requires keyed { AreKeyed keys.now records.old starts.old }
+    requires few { length records.old ≤ most_records }
+    requires count { length places.old ≡ length records.old }
+    requires below { All (λ p. p < length records.old) places.old }
+    ensures permutation { IsPermutation records.old records.new }
+    ensures keyed { AreKeyed keys.now records.new starts.new }
+    ensures below { All (λ p. p < length records.old) places.new }
+{
+    let mut at = first;
+    'moves: for _ in 0..records.len() {
+        let from = places[at] as usize;
+        places[at] = at as u32;
+        if from == first {
+            return;
+        }
+        records.swap(at, from);
+        starts.swap(at, from);
+        swap_numbers(numbers, at, from);
+        at = from;
+    }
+}

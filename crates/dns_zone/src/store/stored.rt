@@ -1,0 +1,81 @@
+//! Records in the compact form in which a zone stores them.
+ghost use Rattle.std.specs.Prelude.{◌≡◌, IfOk};
+ghost use Rattle.dns_spec.specs.Names.{folded};
+ghost use Rattle.dns_spec.specs.Data.{Valid, lower_case};
+ghost use Rattle.dns_spec.specs.ZonePrinted.{IsReadRecord};
+
+use dns_master::Record;
+use dns_name::NameRef;
+use dns_rdata::RType;
+use std::alloc::{AllocError, Global};
+use std::marker::Model;
+
+/// A record: 32 octets, and one allocation for its owner and its data.
+#[derive(Drop)]
+pub(crate) struct StoredRecord {
+    // The owner in wire form, followed by the data.
+    octets: Vec<u8>,
+    owner_octets: u8,
+    /// Its type.
+    pub(crate) rtype: RType,
+    /// Its TTL in seconds.
+    pub(crate) ttl: u32,
+}
+
+impl Model for StoredRecord {
+    ghost use Rattle.dns_spec.specs.Records.{ResourceRecord};
+    ghost use Rattle.dns_zone.specs.EntryForm.{owner_in, data_in, IsEntry};
+
+    ghost Value = { ResourceRecord };
+
+    ghost view = { λ e. record {
+      owner = owner_in e.owner_octets e.octets.items;
+      ttl = e.ttl;
+      rtype = e.rtype.0;
+      rdata = data_in e.owner_octets e.octets.items;
+    } };
+
+    ghost invariant = { λ e. IsEntry e.owner_octets e.octets.items e.ttl e.rtype.0 };
+}
+
+impl StoredRecord {
+    /// A copy of a record. Memory is allocated once, for its octets.
+    pub(crate) fn of(alloc: Global, read: &Record) -> Result<StoredRecord, AllocError>
+        ensures { IfOk result (λ entry. entry ≡ read.now) }
+    {
+        let owner = read.owner.octets();
+        let data = read.rdata.octets();
+        let mut octets = Vec::with_capacity(alloc, owner.len() + data.len())?;
+        octets.extend_from_slice(owner)?;
+        octets.extend_from_slice(data)?;
+        Ok(StoredRecord {
+            octets,
+            owner_octets: owner.len() as u8,
+            rtype: read.rtype,
+            ttl: read.ttl,
+        })
+    }
+
+    pub(crate) fn owner(&self) -> NameRef<'_>
+        ensures value { result ≡ self.now.owner }
+        ensures lower { folded result ≡ result }
+        ensures read { IsReadRecord self.now }
+    {
+        let count = self.owner_octets as usize;
+        NameRef::new(self.octets.as_slice().split_at(count).0)
+    }
+
+    /// The total length in octets of its owner and its data.
+    pub(crate) fn octet_count(&self) -> usize {
+        self.octets.len()
+    }
+
+    pub(crate) fn rdata(&self) -> &[u8]
+        ensures value { result.now ≡ self.now.rdata }
+        ensures valid { Valid self.now.rtype self.now.rdata }
+        ensures lower { lower_case self.now.rtype self.now.rdata ≡ self.now.rdata }
+    {
+        let count = self.owner_octets as usize;
+        self.octets.as_slice().split_at(count).1
+    }
+}
