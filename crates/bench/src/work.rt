@@ -101,7 +101,7 @@ fn query(alloc: Global, question: &str) -> Result<Vec<u8>, FaultWord> {
     Ok(query)
 }
 
-// Answers with a new draft for each reply.
+// Answers over UDP with `respond`, which makes a new draft for each reply.
 fn answer_udp(zone: &Zone, query: &[u8], rounds: u32) -> Result<usize, FaultWord> {
     let mut out = [0; 512];
     let mut octets = 0;
@@ -112,7 +112,7 @@ fn answer_udp(zone: &Zone, query: &[u8], rounds: u32) -> Result<usize, FaultWord
     looked_at(&out, octets)
 }
 
-// Answers with a draft that is reused, as a server over TCP does.
+// Answers over TCP with one draft for all replies, as a server does.
 fn answer_tcp(alloc: Global, zone: &Zone, query: &[u8], rounds: u32) -> Result<usize, FaultWord> {
     let mut draft = Box::new(alloc, TcpDraft::new())?;
     let mut out = [0; 65_535];

@@ -26,16 +26,18 @@ asked_typed : (t : ℕ) (rs : List ResourceRecord) (set : RecordSet)
     → Some set ≡ set_of (asked_records t rs) → of_type set.rtype rs ≡ asked_records t rs
 asked_typed t rs set = grind (arith, lowest, typed)
 
-pub some_any : (n : DomainName) (rs : List ResourceRecord) (set : RecordSet)
+pub set_of-some : (n : DomainName) (rs : List ResourceRecord) (set : RecordSet)
     → Some set ≡ set_of rs → has_any (with_owner n rs) ≡ true
-some_any n [] set e = absurd (cc)
-some_any n (r ∷ rs) set e = refl
+set_of-some n [] set e = absurd (cc)
+set_of-some n (r ∷ rs) set e = refl
 
-pub none_any : (n : DomainName) (rs : List ResourceRecord)
+pub set_of-none : (n : DomainName) (rs : List ResourceRecord)
     → None ≡ set_of rs → has_any (with_owner n rs) ≡ false
-none_any n [] e = refl
-none_any n (r ∷ rs) e = absurd (cc)
+set_of-none n [] e = refl
+set_of-none n (r ∷ rs) e = absurd (cc)
 
+-- the outcome for a name that is below no cut, owns the records rs, and is not followed as an alias:
+-- the set asked for if there is one, else a negative answer
 module _ (z : ZoneContents) (t : ℕ) (n : DomainName) (rs : List ResourceRecord)
     (no_alias : (follows_alias t && has_any (of_type type_cname (with_owner n rs))) ≡ false) where
   outcome_is : outcome_by z t None
@@ -46,11 +48,11 @@ module _ (z : ZoneContents) (t : ℕ) (n : DomainName) (rs : List ResourceRecord
   pub asked-none : None ≡ set_of (asked_records t rs)
       → outcome_by z t None (Some (with_owner n rs)) ≡ negative z no_error
   asked-none e = outcome_is ∙ ap (λ b. cond b (positive (item answer (with_owner n
-      (asked_records t rs)))) (negative z no_error)) (none_any n (asked_records t rs) e)
+      (asked_records t rs)))) (negative z no_error)) (set_of-none n (asked_records t rs) e)
 
   pub asked-some : (node : ZoneNode) (ttl : ℕ) (set : RecordSet)
       → rs ≡ at node.zone node.name → IsSetOf node set → ttl ≡ set.ttl
       → Some set ≡ set_of (asked_records t rs) → outcome_by z t None (Some (with_owner n rs))
       ≡ positive (record { section = answer; records = records_at n ttl set } ∷ [])
   asked-some node ttl set here k timed e =
-      grind (arith, outcome_is, positive, some_any, item-shown, asked_typed)
+      grind (arith, outcome_is, positive, set_of-some, item-shown, asked_typed)

@@ -5,7 +5,7 @@ use Rattle.dns_answer.proofs.Taking.{Took-then, HasNodesLeft-after}
 use Rattle.dns_answer.proofs.Offered.{offered-append}
 use Rattle.dns_answer.proofs.Offering.{Offers-then}
 use Rattle.dns_answer.proofs.EndingSets.{item-shown, of_type-shown}
-use Rattle.dns_answer.proofs.AskedSets.{asked-none, asked-some, none_any, some_any}
+use Rattle.dns_answer.proofs.AskedSets.{asked-none, asked-some, set_of-none, set_of-some}
 use Rattle.dns_answer.proofs.ChainSteps.{alias-found, outcome-found, outcome-alias, ends-plain, ends-alias, goes-on}
 
 -- the sets of aliases, followed by the rest
@@ -116,7 +116,7 @@ module _ (z : ZoneContents) (t : ℕ) (before : List DomainName) (s : DomainName
   -- no alias among them is followed
   pub no-alias : HasNoAlias t rs → leads_on z t s ≡ false
   no-alias (inl e) = ap (λ b. b && has_any (alias_set z s)) e
-  no-alias (inr e) = and_right (follows_alias t) _ (ap has_any aliases-at ∙ none_any s cnames e)
+  no-alias (inr e) = and_right (follows_alias t) _ (ap has_any aliases-at ∙ set_of-none s cnames e)
 
   unaliased : HasNoAlias t rs → (o : Outcome) → outcome_by z t None (Some (with_owner s rs)) ≡ o
       → Chain [] (ending z o)
@@ -145,7 +145,7 @@ module _ (z : ZoneContents) (t : ℕ) (before : List DomainName) (s : DomainName
       alias-item = grind (arith, aliases-at, item-shown, are_set)
 
       some-alias : has_any (alias_set z s) ≡ true
-      some-alias = ap has_any aliases-at ∙ some_any s cnames set shown.1
+      some-alias = ap has_any aliases-at ∙ set_of-some s cnames set shown.1
 
       pub has-alias : leads_on z t s ≡ true
       has-alias = and_from (follows_alias t) (has_any (alias_set z s)) shown.0 some-alias

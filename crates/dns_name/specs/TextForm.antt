@@ -1,4 +1,4 @@
--- How the text of a name is read from left to right, by the cases of the code.
+-- How the text of a name is read from left to right, case by case as in the code.
 use Rattle.std.specs.Prelude.{◌≡◌, ℕ, ◌+◌, ◌-◌, ◌*◌, ◌<◌, Bool, true, ◌&&◌, ◌||◌, ◌==◌, nat_le, nat_lt, if◌then◌else◌, [], ◌∷◌, ◌++◌, length, take, Option, Some, None, Result, Ok, Err, ◌↔◌}
 use Rattle.std.specs.Option.{option_and_then}
 use Rattle.std.specs.Bool.{MatchBool}

@@ -1,4 +1,4 @@
--- How the text of an address is read from left to right, by the cases of the code.
+-- How the text of an address is read from left to right, case by case as in the code.
 use Rattle.std.specs.Prelude.{◌≡◌, ℕ, ◌≤◌, ◌+◌, ◌*◌, ◌==◌, List, ◌∷◌, ◌++◌, decimal, length, nat_le, if◌then◌else◌, Option, Some, None}
 use Rattle.std.specs.Borrow.{Bor}
 use Rattle.std.specs.Option.{option_and_then}

@@ -1,4 +1,4 @@
--- How octets in hex digits are read from left to right, by the cases of the code.
+-- How octets in hex digits are read from left to right, case by case as in the code.
 use Rattle.std.specs.Prelude.{◌≡◌, ℕ, ◌+◌, ◌*◌, Bool, true, false, [], ◌∷◌, ◌++◌, Option, Some, None, if◌then◌else◌}
 use Rattle.std.specs.Option.{option_and_then}
 use Rattle.std.specs.Char.{is_ascii_hexdigit, digit_value}

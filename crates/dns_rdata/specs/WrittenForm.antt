@@ -1,4 +1,4 @@
--- How the words of data are written from left to right, by the cases of the code.
+-- How the words of data are written from left to right, case by case as in the code.
 use Rattle.std.specs.Prelude.{◌≡◌, ℕ, Bool, ◌&&◌, ◌==◌, not, List, [], ◌∷◌, ◌++◌, length, nat_lt}
 use Rattle.std.specs.List.{list_all}
 use Rattle.dns_spec.specs.Names.{Octets}
@@ -12,7 +12,7 @@ abbrev pub spaced : Octets → List Word → Octets
 spaced before [] = []
 spaced before (w ∷ ws) = before ++ (word_text w ++ spaced (32 ∷ []) ws)
 
--- the data after the words of these forms
+-- the octets left over when words of these forms have been written from the front of the data
 abbrev pub form_rest : List WordForm → Octets → Octets
 form_rest [] d = d
 form_rest (f ∷ fs) d = form_rest fs (word_front f d).1

@@ -39,7 +39,8 @@ records_at owner ttl set =
     map (λ (d : Octets). record { owner = owner; ttl = ttl; rtype = set.rtype; rdata = d })
     set.rdata
 
--- the set of records that have one type and one TTL; none if there are no records
+-- the set of these records, which have one type, with the TTL of the first; none if there are no
+-- records
 abbrev pub set_of : List ResourceRecord → Option RecordSet
 set_of [] = None
 set_of (r ∷ rs) =

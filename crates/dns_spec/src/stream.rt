@@ -12,8 +12,8 @@ pub fn stream_is_its_frames_and_the_rest()
         → flat_map frame (frames k x) ++ after_frames k x ≡ x }
 {}
 
-/// If such a stream has fewer than k messages, the octets after them are empty or a frame that was
-/// cut short.
+/// If a stream of octets below 256 has fewer than `k` messages, nothing follows them, or only a
+/// frame that was cut short.
 pub fn rest_is_empty_or_cut()
     ensures { (k : ℕ) (x : Octets) → All (λ o. o < 256) x → length (frames k x) < k
         → (after_frames k x ≡ []) ⊎ IsCutFrame (after_frames k x) }

@@ -3,7 +3,9 @@ use Rattle.std.specs.Prelude.{ℕ, ◌*◌, ◌/◌, ◌%◌, ◌^◌, nat_lt, l
 use Rattle.std.specs.Int.{from_le_bytes, w32}
 use Rattle.dns_spec.specs.Names.{Octets}
 
--- the first four octets, multiplied so that each of them affects the highest ten of 32 bits
+-- The highest ten bits of a product of 32 bits: the first four octets, as a little-endian number,
+-- times 2^32 over the golden ratio, an odd number, so that each octet affects these bits. Of a suffix
+-- with fewer than four octets, the second octet, its only letter; or 0.
 abbrev pub quick_number : Octets → ℕ
 quick_number s =
     if nat_lt (length s) 4

@@ -20,7 +20,7 @@ module _ {X : Type 0} (p : X → Bool) (xs : List X) (a b : ℕ) (h : a ≤ b)
   widened k l q =
       ap (take k) (drop_span a b xs h) ∙ take-append-le k (span xs a b) (drop b xs) l ∙ q ∙ passing
 
--- if no record is at or below a name, none is at or below a name under it
+-- if no record is at or below n, none is at or below a name m that is itself at or below n
 pub none_under : (m n : DomainName) (xs : List ResourceRecord) → at_or_below m n ≡ true
     → under n xs ≡ [] → under m xs ≡ []
 none_under m n xs h e = grind (arith, filter_within, is_under, under-trans)

@@ -1,5 +1,5 @@
 -- Searching the list of checked names by keys.
-use Rattle.dns_zone.proofs.Common.{◌≡◌, ℕ, ◌+◌, suc, ◌<◌, ◌≤◌, Bool, true, false, ◌&&◌, not, cond, ◌==◌, nat_lt, ◌⊎◌, inl, inr, List, get_or, zero, drop, length-take, [], ◌∷◌, map, length, take, refl, sym, ap, ap₂, ◌∙◌, subst, arith, filter, is_gt, nat_cmp, Ordering, Less, Equal, Greater, false≢true, true≢false, not-true, and_parts, false_from_ne_true, cases_lt, nat_list_cmp_total, tied_itself, upto, get_or-take, get_or_default, min-eq_left, slice_cmp, starts_with, IsPartitionedBy, ordering_reverse, Octets, DomainName, folded, same, at_or_below, name_order, ResourceRecord, ZoneContents, at, is_cut, at_or_below_cut, checked_names, octets_equal-decides, name_tie, name_order_total, one_lower, Lower, AllByRecursion, Among, Rises, each_at, each_filter, filter_each, filter_among, name_key, own_in, owner_of, IsTopmost, is_covered, is_upto, IsLastAt, IsChecked, IsLastUpto, owners_once, IsFront, CheckedName, each_among}
+use Rattle.dns_zone.proofs.Common.{◌≡◌, ℕ, ◌+◌, suc, ◌<◌, ◌≤◌, Bool, true, false, ◌&&◌, not, cond, ◌==◌, nat_lt, ◌⊎◌, inl, inr, List, get_or, zero, drop, length-take, [], ◌∷◌, map, length, take, refl, sym, ap, ap₂, ◌∙◌, subst, arith, filter, is_gt, nat_cmp, Ordering, Less, Equal, Greater, false≢true, true≢false, not-true, and_parts, false_from_ne_true, cases_lt, nat_list_cmp_total, tied_itself, upto, get_or-take, get_or_default, min-eq_left, slice_cmp, starts_with, IsPartitionedBy, ordering_reverse, Octets, DomainName, folded, same, at_or_below, name_order, ResourceRecord, ZoneContents, at, is_cut, at_or_below_cut, checked_names, octets_equal-decides, name_tie, name_order_total, lower_equal, Lower, AllByRecursion, Among, Rises, each_at, each_filter, filter_each, filter_among, name_key, own_in, owner_of, IsTopmost, is_covered, is_upto, IsLastAt, IsChecked, IsLastUpto, owners_once, IsFront, CheckedName, each_among}
 use Rattle.dns_zone.proofs.KeyOrder.{key_order}
 use Rattle.dns_zone.proofs.NameOrder.{same-is}
 use Rattle.dns_zone.proofs.NameTree.{under-order}
@@ -47,10 +47,10 @@ equal_upto n m e = subst (λ k. is_gt (name_order n k) ≡ false) e (itself_upto
 -- two names are equal if neither is after the other
 pub between_both : (n m : DomainName) → Lower n → Lower m → is_gt (name_order n m) ≡ false
     → is_gt (name_order m n) ≡ false → n ≡ m
-between_both n m p q f g = grind (arith, true≢false, name_order_total, one_lower, name_tie)
+between_both n m p q f g = grind (arith, true≢false, name_order_total, lower_equal, name_tie)
 
-pub one_key : (n m : DomainName) → Lower n → Lower m → name_key n ≡ name_key m → n ≡ m
-one_key n m p q e = grind (arith, one_lower, name_tie, key_order, tied_itself, nat_list_cmp_total)
+pub key_equal : (n m : DomainName) → Lower n → Lower m → name_key n ≡ name_key m → n ≡ m
+key_equal n m p q e = grind (arith, lower_equal, name_tie, key_order, tied_itself, nat_list_cmp_total)
 
 module _ (z : ZoneContents) where
   owner_among : (m : DomainName) → Lower m → (r : ResourceRecord) → Among r z.records
@@ -207,7 +207,7 @@ module _ (z : ZoneContents) where
     pub found_itself : (c : CheckedName) → IsChecked z (name c) c → c.key.now ≡ name_key m
         → IsLastUpto z m c
     found_itself c h e =
-        let is = one_key (name c) m h.owner.lower low (sym h.key ∙ e) in record {
+        let is = key_equal (name c) m h.owner.lower low (sym h.key ∙ e) in record {
           checked = h;
           upto = equal_upto (name c) m is;
           last = λ n a g. subst (λ k. is_gt (name_order n k) ≡ false) (sym is) g;
@@ -218,7 +218,7 @@ module _ (z : ZoneContents) where
       last = owner_of z c
 
       pub found_name : c.key.now ≡ name_key m → last ≡ m
-      found_name e = one_key last m h.checked.owner.lower low (sym h.checked.key ∙ e)
+      found_name e = key_equal last m h.checked.owner.lower low (sym h.checked.key ∙ e)
 
       no_owner : (c.key.now ≡ name_key m → ⊥) → Among m (checked_names z) → ⊥
       no_owner f a =

@@ -27,7 +27,7 @@ pub use Rattle.dns_spec.proofs.PrintedZones.PrintedZone.{printed_moves, zone_mea
 pub use Rattle.dns_spec.proofs.Records.RecordOrder.{LowerOwner, all_canonical, one_record, ordered_faults, record_order_total, record_ties, rises_canonical}
 pub use Rattle.dns_spec.proofs.Replies.FewItems.{count_few}
 pub use Rattle.dns_spec.proofs.Replies.ItemSets.{IsOf, as_set, each_typed, first_ttl, own_records}
-pub use Rattle.dns_spec.proofs.ZoneChecks.FaultOrder.{Lower, folded_folded, name_order_total, name_tie, one_lower}
+pub use Rattle.dns_spec.proofs.ZoneChecks.FaultOrder.{Lower, folded_folded, name_order_total, name_tie, lower_equal}
 pub use Rattle.dns_spec.proofs.ZoneChecks.PassedChecks.{checks_of_origin, one_soa, passes_check}
 pub use Rattle.dns_spec.specs.Checks.{below_cut, outside}
 pub use Rattle.dns_spec.specs.Tree.{closest_encloser, without_first}

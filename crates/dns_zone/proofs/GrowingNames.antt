@@ -1,7 +1,7 @@
 -- Collecting the names to be checked: the owners of a zone, and the origin.
-use Rattle.dns_zone.proofs.Common.{append-nil, ◌≡◌, ℕ, zero, suc, true, false, ◌⊎◌, inl, inr, List, [], ◌∷◌, ◌++◌, map, take, drop, refl, sym, ap, ◌∙◌, subst, arith, get_or, is_gt, Ordering, Less, Equal, Greater, true≢false, tied_itself, Bor, IsPartitionedBy, ordering_reverse, Octets, DomainName, folded, at_or_below, name_order, ResourceRecord, ZoneContents, name_tie, name_order_total, one_lower, append_assoc, map_push, AllByRecursion, Among, Rises, each_at, each_weaker, name_key, owner_of, is_upto, IsTopmost, IsChecked, AreChecked, AreOwners, ComesNext, IsOwner, owners_once, AreOrdered, IsFront, CheckedName}
+use Rattle.dns_zone.proofs.Common.{append-nil, ◌≡◌, ℕ, zero, suc, true, false, ◌⊎◌, inl, inr, List, [], ◌∷◌, ◌++◌, map, take, drop, refl, sym, ap, ◌∙◌, subst, arith, get_or, is_gt, Ordering, Less, Equal, Greater, true≢false, tied_itself, Bor, IsPartitionedBy, ordering_reverse, Octets, DomainName, folded, at_or_below, name_order, ResourceRecord, ZoneContents, name_tie, name_order_total, lower_equal, append_assoc, map_push, AllByRecursion, Among, Rises, each_at, each_weaker, name_key, owner_of, is_upto, IsTopmost, IsChecked, AreChecked, AreOwners, ComesNext, IsOwner, owners_once, AreOrdered, IsFront, CheckedName}
 use Rattle.dns_zone.proofs.AtName.{owners_in_order}
-use Rattle.dns_zone.proofs.CheckedNames.{itself_upto, equal_upto, one_key, cut_among, none_at, upto_parted, upto_among, after_each, in_order, last_checked, last_upto}
+use Rattle.dns_zone.proofs.CheckedNames.{itself_upto, equal_upto, key_equal, cut_among, none_at, upto_parted, upto_among, after_each, in_order, last_checked, last_upto}
 use Rattle.dns_zone.proofs.NameTree.{under-from, under-order}
 use Rattle.dns_zone.proofs.ReportedNames.{once_rise, IsName, names_checked}
 use Rattle.dns_zone.proofs.TopmostCut.{topmost_none}
@@ -133,7 +133,7 @@ module _ (z : ZoneContents) (low : folded z.origin ≡ z.origin) (ordered : AreO
         → c ≡ get_or names i c → c.key.now ≡ key → AreChecked z names
     origin_owns i next c is e =
         let h = last_checked z names are.each rise o low key key_is k front i next c is in
-        let name = one_key (owner_of z c) o h.owner.lower low (sym h.key ∙ e ∙ key_is) in
+        let name = key_equal (owner_of z c) o h.owner.lower low (sym h.key ∙ e ∙ key_is) in
         let bound = front.bound in
         let in_names =
         subst (λ x. Among x names) (sym is) (among_get names i c (omega (arith, bound, next))) in
@@ -211,7 +211,7 @@ module _ (z : ZoneContents) (low : folded z.origin ≡ z.origin) (ordered : AreO
                 → is_gt (name_order (owner_of z c) o) ≡ false → x ≡ Less
             by_order Less e h u = refl
             by_order Equal e h u =
-                absurd (f (h.key ∙ ap name_key (one_lower (owner_of z c) o h.owner.lower low
+                absurd (f (h.key ∙ ap name_key (lower_equal (owner_of z c) o h.owner.lower low
                 (name_tie (owner_of z c) o e)) ∙ sym key_is))
             by_order Greater e h u = absurd (true≢false (sym (ap is_gt e) ∙ u))
 

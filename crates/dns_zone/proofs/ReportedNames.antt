@@ -1,5 +1,5 @@
 -- The names for which faults are reported: the origin, and each owner once.
-use Rattle.dns_zone.proofs.Common.{◌≡◌, ℕ, suc, Bool, true, false, cond, ◌⊎◌, inl, inr, List, [], ◌∷◌, ◌++◌, map, refl, sym, ap₂, ◌==◌, ◌&&◌, filter, is_gt, Less, arith, false≢true, true≢false, and_parts, eqb-true, if◌then◌else◌, DomainName, folded, same, name_order, ResourceRecord, ZoneContents, distinct, Check, checks, checked_names, folded_folded, name_tie, name_order_total, one_lower, Lower, tied_back, alike_right, AllByRecursion, Among, Rises, each_weaker, sort_rises, apart_distinct, distinct_among, sort_among, among_sort, among_distinct, same_risen, failed_from, begins_with_owner, owners_once, reported_at}
+use Rattle.dns_zone.proofs.Common.{◌≡◌, ℕ, suc, Bool, true, false, cond, ◌⊎◌, inl, inr, List, [], ◌∷◌, ◌++◌, map, refl, sym, ap₂, ◌==◌, ◌&&◌, filter, is_gt, Less, arith, false≢true, true≢false, and_parts, eqb-true, if◌then◌else◌, DomainName, folded, same, name_order, ResourceRecord, ZoneContents, distinct, Check, checks, checked_names, folded_folded, name_tie, name_order_total, lower_equal, Lower, tied_back, alike_right, AllByRecursion, Among, Rises, each_weaker, sort_rises, apart_distinct, distinct_among, sort_among, among_sort, among_distinct, same_risen, failed_from, begins_with_owner, owners_once, reported_at}
 use Rattle.dns_zone.proofs.NameOrder.{same-is, same-from, same-tied}
 use Rattle.dns_zone.proofs.AtName.{OwnerNotAfter}
 use Rattle.dns_spec.proofs.General.Pairs.{Pairs}
@@ -108,7 +108,7 @@ module _ (z : ZoneContents) where
 
   pub checked_rise : Rises name_order (checked_names z)
   checked_rise =
-      sort_rises name_order name_order_total same name_tie Lower one_lower
+      sort_rises name_order name_order_total same name_tie Lower lower_equal
       (distinct same names) (apart_distinct same names)
 
   pub checked_among : (a : DomainName) → Among a (checked_names z) → IsName a
@@ -122,7 +122,7 @@ module _ (z : ZoneContents) where
   pub among_checked : (a : DomainName) → IsName a → Among a (checked_names z)
   among_checked a m =
       among_sort name_order a (distinct same names)
-      (among_distinct name_order name_order_total same name_tie Lower one_lower a names
+      (among_distinct name_order name_order_total same name_tie Lower lower_equal a names
       names_lower (go m))
     where
       go : IsName a → (a ≡ folded z.origin) ⊎ Among a (owners z.records)
@@ -133,5 +133,5 @@ module _ (z : ZoneContents) where
   pub names_checked : (ns : List DomainName) → Rises name_order ns → ((a : DomainName)
       → Among a ns → IsName a) → ((a : DomainName) → IsName a → Among a ns) → ns ≡ checked_names z
   names_checked ns rise f g =
-      same_risen name_order name_order_total same name_tie Lower one_lower ns (checked_names z)
+      same_risen name_order name_order_total same name_tie Lower lower_equal ns (checked_names z)
       rise checked_rise (λ a m. among_checked a (f a m)) (λ a m. g a (checked_among a m))

@@ -1,4 +1,4 @@
-//! The canonical order of records (RFC 4034 6.1, 6.3).
+//! The canonical order of records: by owner (RFC 4034 6.1), type, data (RFC 4034 6.3) and TTL.
 
 pub(crate) mod key;
 pub(crate) mod owner_keys;
@@ -22,7 +22,7 @@ pub(crate) fn record_order(one: &StoredRecord, other: &StoredRecord) -> Ordering
         .then_with(|| own_order(one, other))
 }
 
-// Compares two records of the same owner.
+// Compares two records of one owner: by type, then by data, then by TTL.
 pub(crate) fn own_order(one: &StoredRecord, other: &StoredRecord) -> Ordering
     ensures { result ≡ ordering_then (nat_cmp one.now.rtype other.now.rtype)
         (ordering_then (data_order one.now other.now) (nat_cmp one.now.ttl other.now.ttl)) }

@@ -147,7 +147,8 @@ numbers_said (suc m) k fs origin d short inside small others =
     (numbers_said m k fs origin (drop k d) short (omega (arith, inside, more, length-drop k d))
     (All-drop (λ o. o < 256) k d small) (subst (WordsSaid fs origin) rest others))
 
--- what follows the first string
+-- d begins with the last k octets of a string: all k are there, and whole strings follow, as many as
+-- are counted in d
 record StringsAfter (k : ℕ) (d : Octets) : Type 0 where
   inside : k ≤ length d
   others : are_strings 0 (drop k d) ≡ true

@@ -1,7 +1,7 @@
 -- The canonical order of records, and lists of records in it.
 use Rattle.dns_spec.proofs.Common.{◌≡◌, true, List, ap, ◌∙◌, arith, All, is_eq, rules, and_parts, eqb-true, IsTotalOrder, lists_ties, DomainName, same, name_order, ResourceRecord, zone_of, records_equal, distinct, sort_by, record_order, ordered_zone, faults, nat_cmp_total, nat_list_cmp_total, on_total, then_total, eq_by_cmp, All-from_recursion, recursion_from_All}
 use Rattle.dns_spec.proofs.DomainNames.NameLaws.{octets_equal-decides, names_equal-decides}
-use Rattle.dns_spec.proofs.ZoneChecks.FaultOrder.{faults_in_any_order, name_order_total, name_tie, Lower, one_lower}
+use Rattle.dns_spec.proofs.ZoneChecks.FaultOrder.{faults_in_any_order, name_order_total, name_tie, Lower, lower_equal}
 use Rattle.dns_spec.proofs.General.Sorted.{each_sort, each_distinct, apart_distinct, Rises, sort_rises, permutation_sort}
 use Rattle.dns_spec.proofs.General.Orderings.{then_ties, nat_ties}
 use Rattle.dns_spec.proofs.General.Truths.{four_tests}
@@ -32,7 +32,7 @@ one_of_parts r s a b c d = grind arith
 pub one_record : (r s : ResourceRecord)
     → LowerOwner r → LowerOwner s → records_equal r s ≡ true → r ≡ s
 one_record r s low low' t =
-    grind (arith, and_parts, one_of_parts, one_lower, eqb-true, octets_equal-decides)
+    grind (arith, and_parts, one_of_parts, lower_equal, eqb-true, octets_equal-decides)
 
 pub rises_canonical : (rs : List ResourceRecord)
     → Rises record_order (sort_by record_order (distinct records_equal rs))

@@ -1,7 +1,7 @@
 -- Texts beyond a limit: with one octet too many, and with one record too many.
 use Rattle.dns_spec.proofs.Common.{◌≡◌, ℕ, zero, suc, ◌+◌, ◌*◌, ◌<◌, ◌≤◌, inl, true, false, List, [], ◌∷◌, ◌++◌, Option, None, Some, refl, sym, ◌∙◌, ap, subst, codes, length, nat_le, nat_lt, take, drop, arith, lit≤, length-append, le-ltb, MatchOption, take-append_seam, drop-append_seam, and_parts, lt-ltb, ltb-true, le-leb, lt-leb, Octets, SpellsName, Token, blank, word, line_end, most_octets, is_blank, token_front, TokensThen, run_length, Entry, ended, cut_entries, with_end, whole_text, beginning, extent_by, stop_fault, stop_at, bad_escape, bad_octet, bad_owner, too_long, too_many_records, FileFault, no_words, KindGives, faulty, gives, fault_at, most_records, OriginIs, NameIs, IsRecord, is_record, line_after, Fields, fields, EntryGives, EntriesMean, Means, cut, type_txt, Word, ResourceRecord, digits, list_all, prefix_len, filter, append_assoc, take_all}
 use mathlib.Core.Bool.{xor}
-use Rattle.dns_spec.proofs.ZoneTexts.GivenRecords.{record_given, record_but_count, given_then}
+use Rattle.dns_spec.proofs.ZoneTexts.GivenRecords.{record_given, record_by_count, given_then}
 use Rattle.dns_spec.proofs.WorkedExamples.Readings.{data_in, found_is}
 use Rattle.dns_spec.proofs.WorkedExamples.Zones.{example}
 
@@ -106,7 +106,7 @@ line_refused : (k : ℕ) → k ≡ most_records
 unfolding xor
 line_refused k all =
     let few = ap (nat_le most_records) (records_counted k) in
-    record_but_count example (earlier k) bad_owner _ line_fields line_record
+    record_by_count example (earlier k) bad_owner _ line_fields line_record
     (faulty too_many_records) (is_line_record k) refl
     (inl (few ∙ le-leb most_records k (omega (arith, all)), refl))
 

@@ -1,7 +1,7 @@
 -- A fault is among the faults of a zone if and only if its condition holds, once, by the order of
 -- owners and then of codes.
 use Rattle.dns_spec.proofs.Common.{common_steps, ◌≡◌, ℕ, ◌↔◌, Bool, true, false, ◌&&◌, ◌||◌, ◌⊎◌, inl, inr, List, [], ◌∷◌, map, ◌==◌, filter, refl, sym, ap, ◌∙◌, subst, arith, Ordering, Less, nat_cmp, Contains, flat_map, ordering_then, and_parts, and_from, eqb-true, eq-eqb, tied_itself, flat_map-cons, DomainName, folded, names_equal, same, name_order, ResourceRecord, ZoneContents, owns, distinct, IsStrictlySortedBy, Check, is_origin, is_owner, checks, fails, Fault, faults_at, checked_names, faults, fault_order, AllByRecursion}
-use Rattle.dns_spec.proofs.ZoneChecks.FaultOrder.{Lower, one_lower, each_lower, name_order_total, name_tie, folded_folded}
+use Rattle.dns_spec.proofs.ZoneChecks.FaultOrder.{Lower, lower_equal, each_lower, name_order_total, name_tie, folded_folded}
 use Rattle.dns_spec.proofs.General.Elements.{Among, each_at, among_mapped, among_joined, joined_among, mapped_among, contains_among, among_contains}
 use Rattle.dns_spec.proofs.General.Filters.{among_filter, filter_among, filter_each}
 use Rattle.dns_spec.proofs.General.Tests.{any_among, among_any, any_of_both, any_counted}
@@ -37,19 +37,19 @@ checked_among : (z : ZoneContents) (n : DomainName)
     → Lower n → IsChecked z n → Among n (checked_names z)
 checked_among z n low is_checked =
     among_sort name_order n (distinct same names)
-    (among_distinct name_order name_order_total same name_tie Lower one_lower n names
+    (among_distinct name_order name_order_total same name_tie Lower lower_equal n names
     (folded_folded z.origin, each_lower z.records) (stands is_checked))
   where
     names : List DomainName
     names = folded z.origin ∷ map (λ (r : ResourceRecord). folded r.owner) z.records
 
     stands : IsChecked z n → Among n names
-    stands (inl e) = grind (arith, one_lower, folded, folded_folded, names_equal)
+    stands (inl e) = grind (arith, lower_equal, folded, folded_folded, names_equal)
     stands (inr e) =
         let own : ResourceRecord → Bool = λ r. same r.owner n in
         let r = any_among own z.records (any_counted own z.records ∙ e) in
         inr (subst (λ m. Among m (map (λ (s : ResourceRecord). folded s.owner) z.records))
-        (one_lower (folded r.0.owner) n (folded_folded r.0.owner) low
+        (lower_equal (folded r.0.owner) n (folded_folded r.0.owner) low
         (ap (λ m. names_equal m (folded n)) (folded_folded r.0.owner) ∙ r.2))
         (among_mapped (λ (s : ResourceRecord). folded s.owner) r.0 z.records r.1))
 
@@ -141,7 +141,7 @@ faults_are_sorted z =
     folded z.origin ∷ map (λ (r : ResourceRecord). folded r.owner) z.records in
     strictly_sorted fault_order (flat_map (faults_at z) (checked_names z))
     (faults_rise z (checked_names z)
-    (sort_rises name_order name_order_total same name_tie Lower one_lower
+    (sort_rises name_order name_order_total same name_tie Lower lower_equal
     (distinct same names) (apart_distinct same names)))
 
 pub origin_or_owner : (z : ZoneContents) (n : DomainName) (code : ℕ)

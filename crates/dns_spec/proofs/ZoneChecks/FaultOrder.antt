@@ -21,7 +21,8 @@ same_type_count xs ys c =
     (same_values f eqb eqb_decides xs ys c) (same_values f eqb eqb_decides ys xs back))
     ∙ length-sort_by nat_cmp (distinct ◌==◌ (map f ys))
 
--- the order of names in lower case determines whether they are equal
+-- A name in lower case. Two such names are equal if they are the same but for case (`lower_equal`);
+-- names that tie in the order are the same but for case (`name_tie`).
 abbrev pub Lower : DomainName → Type 0
 Lower n = folded n ≡ n
 
@@ -30,8 +31,8 @@ pub each_lower : (xs : List ResourceRecord)
 each_lower [] = tt
 each_lower (r ∷ xs) = (folded_folded r.owner, each_lower xs)
 
-pub one_lower : (n m : DomainName) → Lower n → Lower m → same n m ≡ true → n ≡ m
-one_lower n m d e t = sym d ∙ (names_equal-decides (folded n) (folded m)).0 t ∙ e
+pub lower_equal : (n m : DomainName) → Lower n → Lower m → same n m ≡ true → n ≡ m
+lower_equal n m d e t = sym d ∙ (names_equal-decides (folded n) (folded m)).0 t ∙ e
 
 pub name_order_total : IsTotalOrder name_order
 name_order_total = on_total (λ n. reverse (folded n)) (lists_total nat_list_cmp_total)
@@ -124,7 +125,7 @@ module _ (o : DomainName) (xs ys : List ResourceRecord) (c : SameCounts xs ys) w
   checked_names_kept =
       let f : ResourceRecord → DomainName = λ (r : ResourceRecord). folded r.owner in
       let back : SameCounts ys xs = λ p. sym (c p) in
-      same_sorted name_order name_order_total same name_tie Lower one_lower
+      same_sorted name_order name_order_total same name_tie Lower lower_equal
       (folded o ∷ map f xs) (folded o ∷ map f ys)
       (folded_folded o, each_lower xs) (folded_folded o, each_lower ys)
       (λ a m. in_rest m (same_values f names_equal names_equal-decides xs ys c a))

@@ -1,7 +1,7 @@
 -- A zone that passes has no fault at its origin.
 use Rattle.dns_spec.proofs.Common.{common_steps, ltb-false, folded, same, name_order, type_soa, ResourceRecord, ZoneContents, distinct, rrset, at, Check, checks, faults_at, checked_names, faults, Passes, ◌≡◌, ℕ, ◌≤◌, false, inl, inr, List, [], ◌∷◌, map, length, sym, ap, subst, filter, ◌==◌, arith, AllByRecursion}
 use Rattle.dns_spec.proofs.DomainNames.NameLaws.{names_equal-decides}
-use Rattle.dns_spec.proofs.ZoneChecks.FaultOrder.{name_order_total, name_tie, Lower, one_lower}
+use Rattle.dns_spec.proofs.ZoneChecks.FaultOrder.{name_order_total, name_tie, Lower, lower_equal}
 use Rattle.dns_spec.proofs.General.Elements.{Among, each_at, among_mapped}
 use Rattle.dns_spec.proofs.General.Filters.{filter_nothing, map_nothing, flat_nothing}
 use Rattle.dns_spec.proofs.General.Sorted.{among_sort, among_distinct, sort_short}
@@ -39,7 +39,7 @@ passes_check z low lows passes r m c is_check =
     let lower : AllByRecursion Lower names = (ap folded low, all_low z.records lows) in
     let checked : Among r.owner (checked_names z) =
     among_sort name_order r.owner (distinct same names) (among_distinct
-    name_order name_order_total same name_tie Lower one_lower r.owner names lower named) in
+    name_order name_order_total same name_tie Lower lower_equal r.owner names lower named) in
     let none : faults_at z r.owner ≡ [] =
     flat_nothing (faults_at z) (checked_names z) r.owner passes checked in
     let all = filter_nothing (λ (k : ℕ × Check). k.1 z r.owner) checks

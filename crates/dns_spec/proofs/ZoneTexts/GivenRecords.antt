@@ -1,4 +1,4 @@
--- A valid record is given, if no fault with a lower code holds.
+-- An entry with a valid record of class IN gives that record, unless there are too many records.
 use Rattle.dns_spec.proofs.Common.{◌≡◌, ℕ, inr, false, List, [], ◌∷◌, Option, refl, sym, ◌∙◌, IsTrue, arith, MatchOption, is_none, false≢true, DomainName, Word, ResourceRecord, Entry, FileFault, too_many_records, EntryMeaning, gives, TtlSays, TtlIs, IsRecord, Fields, IsNoTtl, is_other_class, are_too_many, RecordGives, EntryGives, Meaning, after, EntriesMean, Lowest}
 
 -- a TTL that is stated, and one that is in force
@@ -9,13 +9,14 @@ ttl_stated earlier stated n h h1 = grind arith
 ttl_known : (o : Option Word) (n : ℕ) → MatchOption o ⊥ (λ w. TtlSays w n) → IsTrue (is_none o) → ⊥
 ttl_known o n h h1 = grind arith
 
--- a record that is valid except for the number of records
-pub record_but_count : (o : DomainName) (earlier : List Entry) (code : FileFault)
+-- the record is valid and of class IN: what its entry means is decided by whether there are too many
+-- records
+pub record_by_count : (o : DomainName) (earlier : List Entry) (code : FileFault)
     (Owner : DomainName → Type 0) (f : Fields) (r : ResourceRecord) (answer : EntryMeaning)
     → IsRecord o earlier Owner f r → is_other_class f.class ≡ false → Lowest
     ((too_many_records, IsTrue (are_too_many earlier)) ∷ []) (λ a. (s : ResourceRecord) × IsRecord
     o earlier Owner f s × (a ≡ gives (s ∷ []))) answer → RecordGives o earlier code Owner f answer
-record_but_count o earlier code Owner f r answer h class rest =
+record_by_count o earlier code Owner f r answer h class rest =
     inr (
       λ none. none h.owner.0 h.owner.1,
       inr (
@@ -35,7 +36,7 @@ pub record_given : (o : DomainName) (earlier : List Entry) (code : FileFault)
     → IsRecord o earlier Owner f r → is_other_class f.class ≡ false
     → are_too_many earlier ≡ false → RecordGives o earlier code Owner f (gives (r ∷ []))
 record_given o earlier code Owner f r h class few =
-    record_but_count o earlier code Owner f r (gives (r ∷ [])) h class
+    record_by_count o earlier code Owner f r (gives (r ∷ [])) h class
     (inr (λ e. false≢true (sym few ∙ e), (r, h, refl)))
 
 -- an entry gives records, and the entries after it keep their meaning

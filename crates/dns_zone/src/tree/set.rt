@@ -45,7 +45,8 @@ impl<'z> RecordSet<'z> {
     }
 }
 
-// The set of records of one type and one TTL; `None` if there are no records.
+// The set of records that have one type, with the TTL of the first; in a checked zone all have it
+// (RFC 2181 5.2). `None` if there are no records.
 pub(crate) fn lent_set<'z>(records: &'z [StoredRecord]) -> Option<RecordSet<'z>>
     requires { AreOfType records.now }
     ensures { result ≡ set_of records.now }

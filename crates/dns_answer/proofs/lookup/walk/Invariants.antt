@@ -1,7 +1,8 @@
 use Rattle.dns_answer.proofs.Common.{◌≡◌, ◌+◌, ◌*◌, ◌≤◌, drop, IsThere, ends_at_cuts, labels_below}
 use Rattle.dns_answer.proofs.lookup.walk.Given as goal
 
--- the node's name is the name without its first labels, which are still to be walked
+-- The node reached is the node of the sought name without its first `before` labels, which are still
+-- to be walked. A visit costs at most 17 comparisons.
 abbrev pub invariant-labels : goal.invariant-labels
 invariant-labels l =
     let z = l.fn.steps.zone in

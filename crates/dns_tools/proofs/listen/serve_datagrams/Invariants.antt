@@ -1,7 +1,8 @@
 use Rattle.dns_tools.proofs.Common.{◌≤◌, ◌+◌, TakesTurns}
 use Rattle.dns_tools.proofs.listen.serve_datagrams.Given as goal
 
--- the turns so far were taken, and each failed at most once
+-- the device is as `counter` turns leave it, and its count of failures has grown by at most one for
+-- each turn
 abbrev pub invariant-turns : goal.invariant-turns
 invariant-turns g l = record {
   taken : TakesTurns l.zone l.counter

@@ -1,6 +1,6 @@
 use Rattle.dns_zone.proofs.Common.{arith, rules, ◌≡◌, sym, ap, ◌∙◌, DomainName, Octets, folded, same, octets_equal, IsOwner, names_equal-decides, octets_equal-decides, same_tests, name_key}
 use Rattle.dns_spec.specs.Checks.{is_origin, below_cut}
-use Rattle.dns_zone.proofs.CheckedNames.{one_key}
+use Rattle.dns_zone.proofs.CheckedNames.{key_equal}
 use Rattle.dns_zone.proofs.ReportedNames.{failed_reported}
 use Rattle.dns_zone.proofs.TopmostCut.{below_topmost}
 use Rattle.dns_zone.proofs.checks.report.Goals as goal
@@ -11,7 +11,7 @@ same_keys : (n m : DomainName) (key other : Octets) → folded n ≡ n → folde
 same_keys n m key other p q e f =
     same_tests _ _
     (λ h. (names_equal-decides (folded n) (folded m)).1
-    (ap folded (one_key n m p q (sym e ∙ (octets_equal-decides key other).0 h ∙ f))))
+    (ap folded (key_equal n m p q (sym e ∙ (octets_equal-decides key other).0 h ∙ f))))
     (λ h. (octets_equal-decides key other).1 (e
     ∙ ap name_key (sym p ∙ (names_equal-decides (folded n) (folded m)).0 h ∙ q) ∙ sym f))
 
