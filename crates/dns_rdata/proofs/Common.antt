@@ -25,7 +25,7 @@ pub use Rattle.dns_rdata.specs.NameFront.{HasNoLabels, StandsAfterLabels}
 pub use Rattle.dns_rdata.specs.Parts.{AreCut, HasName, IsLent, NameStandsAfter, part_for, part_lends, parts_left, shown_part, with_octets}
 pub use Rattle.dns_rdata.specs.TypeRows.{piece_of, pieces_in, row_for, size_of}
 pub use Rattle.dns_rdata.specs.UnknownForm.{AppendsWord, SaysHexWord}
-pub use Rattle.dns_rdata.specs.WordForms.{Appends, AppendsFront, AppendsSaid, SaysKept, SaysNoFront, as_it_is, form_of, is_marked, lowered}
+pub use Rattle.dns_rdata.specs.WordForms.{Appends, AppendsFront, AppendsSaid, SaysKept, SaysNoFront, as_it_is, form_of, is_marked, canonical_octets}
 pub use Rattle.dns_rdata.specs.WrittenForm.{form_rest, has_words, have_words, is_plain, piece_forms, piece_rest, piece_words, pieces_words, spaced}
 pub use Rattle.dns_rdata.specs.declared.fault.RdataFault.{RdataFault}
 pub use Rattle.dns_rdata.specs.declared.table.NumberSize.{NumberSize}

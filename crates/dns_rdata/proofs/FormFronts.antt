@@ -1,6 +1,6 @@
 -- Words are taken from the left, each by its form: what the words of one piece spell, followed by
 -- what the words of later pieces spell, is what all words spell by all forms.
-use Rattle.dns_rdata.proofs.Common.{◌≡◌, ℕ, suc, ◌+◌, ◌-◌, ◌<◌, ◌≤◌, List, [], ◌∷◌, ◌++◌, length, take, drop, get_or, replicate, refl, sym, ap, ◌∙◌, subst, arith, flat_map-append, flat_map, to_ascii_lowercase, Octets, DomainName, Word, WordForm, number_word, ipv4_word, ipv6_word, name_word, string_word, SaysWord, SaysForms, forms_in, append_assoc, append-nil, length-append, length-replicate, length-map, map-append, replicate-append-replicate, take-append-drop, take_more, piece_of, pieces_in, lowered, Appends, SaysKept, AppendsFront, SaysNoFront}
+use Rattle.dns_rdata.proofs.Common.{◌≡◌, ℕ, suc, ◌+◌, ◌-◌, ◌<◌, ◌≤◌, List, [], ◌∷◌, ◌++◌, length, take, drop, get_or, replicate, refl, sym, ap, ◌∙◌, subst, arith, flat_map-append, flat_map, to_ascii_lowercase, Octets, DomainName, Word, WordForm, number_word, ipv4_word, ipv6_word, name_word, string_word, SaysWord, SaysForms, forms_in, append_assoc, append-nil, length-append, length-replicate, length-map, map-append, replicate-append-replicate, take-append-drop, take_more, piece_of, pieces_in, canonical_octets, Appends, SaysKept, AppendsFront, SaysNoFront}
 use Rattle.dns_rdata.specs.declared.table.Piece as code
 
 -- as many words as forms
@@ -20,12 +20,12 @@ kept_said (f ∷ fs) origin [] d e h = absurd h
 kept_said (f ∷ fs) origin (w ∷ ws) d e (front, back, low, is, kept_is, said, h) =
     (front, back, is, said, kept_said fs origin ws back low h)
 
-length-lowered : (f : WordForm) (d : Octets) → length (lowered f d) ≡ length d
-length-lowered (number_word k) d = refl
-length-lowered ipv4_word d = refl
-length-lowered ipv6_word d = refl
-length-lowered name_word d = length-map d to_ascii_lowercase
-length-lowered string_word d = refl
+length-canonical_octets : (f : WordForm) (d : Octets) → length (canonical_octets f d) ≡ length d
+length-canonical_octets (number_word k) d = refl
+length-canonical_octets ipv4_word d = refl
+length-canonical_octets ipv6_word d = refl
+length-canonical_octets name_word d = length-map d to_ascii_lowercase
+length-canonical_octets string_word d = refl
 
 module _ (origin : DomainName) where
   -- no word was taken yet
@@ -43,9 +43,9 @@ module _ (origin : DomainName) where
 
   -- the first word was taken
   pub front-word : (f : WordForm) (w : Word) (ws rest : List Word) (octets octets' : Octets)
-      → ws ≡ w ∷ rest → Appends (lowered f) (SaysWord f origin w) octets octets'
+      → ws ≡ w ∷ rest → Appends (canonical_octets f) (SaysWord f origin w) octets octets'
       → AppendsFront (f ∷ []) origin ws rest octets octets'
-  front-word f w ws rest octets octets' e a = grind (arith, length-lowered)
+  front-word f w ws rest octets octets' e a = grind (arith, length-canonical_octets)
 
   -- further words were taken
   pub front-joined : (fs gs : List WordForm) (ws mid rest : List Word) (x y z : Octets)

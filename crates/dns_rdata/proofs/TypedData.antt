@@ -1,6 +1,6 @@
 -- What words spell by the forms of a type is valid data of the type, if it is not too long, and
 -- what is kept of it is that data in lower case.
-use Rattle.dns_rdata.proofs.Common.{◌≡◌, ◌↔◌, ℕ, zero, suc, ◌*◌, ◌≤◌, Bool, true, false, ◌&&◌, nat_le, ◌==◌, List, [], ◌∷◌, ◌++◌, map, max, length, replicate, Option, Some, refl, sym, ap, ◌∙◌, subst, arith, append-nil, append_assoc, length-append, list_all, flat_map, is_some, option_map, unwrap_or, MatchOption, to_ascii_lowercase, and_parts, and_from, le-leb, leb-true, ne_eqb, false≢true, drop_at, flat_map-cons, Octets, DomainName, Fixed, width, numbers, ipv4, ipv6, Piece, fixed, domain, string, strings, anything, Part, octets, name, part_octets, part_folded, joined, octets_front, strings_front, piece_front, are_strings, cut, type_table, other_type, row_of, pieces_of, Valid, Word, WordForm, SaysWord, ipv6_word, ipv4_word, number_word, string_word, SaysForms, SaysTyped, SaysAsSpelled, Says, forms_in, map-lowercase-wire, IsName-is_name, cut-domain, cut-step, cut_whole, length-lowered, lowered_data, length-bytes_high_first, lowered, SaysKept, AppendsFront, is_marked}
+use Rattle.dns_rdata.proofs.Common.{◌≡◌, ◌↔◌, ℕ, zero, suc, ◌*◌, ◌≤◌, Bool, true, false, ◌&&◌, nat_le, ◌==◌, List, [], ◌∷◌, ◌++◌, map, max, length, replicate, Option, Some, refl, sym, ap, ◌∙◌, subst, arith, append-nil, append_assoc, length-append, list_all, flat_map, is_some, option_map, unwrap_or, MatchOption, to_ascii_lowercase, and_parts, and_from, le-leb, leb-true, ne_eqb, false≢true, drop_at, flat_map-cons, Octets, DomainName, Fixed, width, numbers, ipv4, ipv6, Piece, fixed, domain, string, strings, anything, Part, octets, name, part_octets, part_folded, joined, octets_front, strings_front, piece_front, are_strings, cut, type_table, other_type, row_of, pieces_of, Valid, Word, WordForm, SaysWord, ipv6_word, ipv4_word, number_word, string_word, SaysForms, SaysTyped, SaysAsSpelled, Says, forms_in, map-lowercase-wire, IsName-is_name, cut-domain, cut-step, cut_whole, length-lowered, lowered_data, length-bytes_high_first, canonical_octets, SaysKept, AppendsFront, is_marked}
 use Rattle.dns_spec.proofs.Common.{TypeRow}
 use Rattle.dns_rdata.proofs.NameFronts.{strings_after}
 use Rattle.dns_rdata.proofs.Ipv6Lemmas.{length-ipv6}
@@ -58,7 +58,7 @@ all_strings_front d ok some =
     rw (ne_eqb (length d) 0 (λ none. absurd (omega (arith, some, none))), ok) refl
 
 module _ (gs : List WordForm) (origin : DomainName) where
-  words_run : (m k : ℕ) (f : WordForm) → ((x : Octets) → lowered f x ≡ x)
+  words_run : (m k : ℕ) (f : WordForm) → ((x : Octets) → canonical_octets f x ≡ x)
       → ((w : Word) (x : Octets) → SaysWord f origin w x → length x ≡ k) → (ws : List Word)
       (d e : Octets) → SaysKept (replicate m f ++ gs) origin ws d e → Run (m * k) gs origin d e
   words_run zero k f same sized ws d e h = record {

@@ -21,9 +21,9 @@ form_of (Number s) = number_word (size_of s)
 abbrev pub as_it_is : Octets → Octets
 as_it_is d = d
 
-abbrev pub lowered : text.WordForm → Octets → Octets
-lowered name_word = map to_ascii_lowercase
-lowered _ = as_it_is
+abbrev pub canonical_octets : text.WordForm → Octets → Octets
+canonical_octets name_word = map to_ascii_lowercase
+canonical_octets _ = as_it_is
 
 -- exactly one run of octets is spelled, and octets grew by what is kept of it
 pub record Appends (keeps : Octets → Octets) (says : Octets → Type 0) (before after : Octets)
@@ -48,7 +48,7 @@ SaysKept [] origin (w ∷ ws) d e = ⊥
 SaysKept (f ∷ fs) origin [] d e = ⊥
 SaysKept (f ∷ fs) origin (w ∷ ws) d e =
     (front : Octets) × (back : Octets) × (low : Octets) × (d ≡ front ++ back)
-    × (e ≡ lowered f front ++ low) × SaysWord f origin w front × SaysKept fs origin ws back low
+    × (e ≡ canonical_octets f front ++ low) × SaysWord f origin w front × SaysKept fs origin ws back low
 
 -- The words before `rest` are spelled by these forms, and octets grew by what is kept of them.
 -- Whatever `rest` spells by further forms, all words spell by these forms and those, after the

@@ -5,7 +5,7 @@ ghost use Rattle.std.specs.List.{flat_map};
 ghost use Rattle.dns_spec.specs.Names.{Octets};
 ghost use Rattle.dns_spec.specs.DataText.{SaysNumber, SaysString, SaysWord, Says, forms_in};
 ghost use Rattle.dns_rdata.specs.TypeRows.{size_of, piece_of, pieces_in};
-ghost use Rattle.dns_rdata.specs.WordForms.{form_of, as_it_is, lowered, AppendsSaid, AppendsFront, SaysNoFront, is_marked};
+ghost use Rattle.dns_rdata.specs.WordForms.{form_of, as_it_is, canonical_octets, AppendsSaid, AppendsFront, SaysNoFront, is_marked};
 
 use crate::fault::RdataFault;
 use crate::ipv4::read_ipv4;
@@ -145,7 +145,7 @@ fn append_word(
     name: &mut Name,
     octets: &mut Vec<u8>,
 ) -> Result<(), RdataFault>
-    ensures { AppendsSaid (lowered (form_of form)) (SaysWord (form_of form) origin.now word.now)
+    ensures { AppendsSaid (canonical_octets (form_of form)) (SaysWord (form_of form) origin.now word.now)
         octets.old.items octets.new.items result }
 {
     if word.quoted && !matches!(form, WordForm::String) {

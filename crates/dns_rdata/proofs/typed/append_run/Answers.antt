@@ -1,4 +1,4 @@
-use Rattle.dns_rdata.proofs.Common.{◌≡◌, ℕ, List, ◌+◌, [], ◌∷◌, arith, sym, length, replicate, subst, length-replicate, Octets, DomainName, Word, WordForm, SaysWord, form_of, lowered, Appends, AppendsFront, fault_handed_on}
+use Rattle.dns_rdata.proofs.Common.{◌≡◌, ℕ, List, ◌+◌, [], ◌∷◌, arith, sym, length, replicate, subst, length-replicate, Octets, DomainName, Word, WordForm, SaysWord, form_of, canonical_octets, Appends, AppendsFront, fault_handed_on}
 use Rattle.dns_rdata.proofs.FormFronts.{front-none, front-word, front-joined, no-word, too-long, no-rest, no-more, one_of}
 use Rattle.dns_spec.proofs.Common.{replicate_more}
 use Rattle.dns_rdata.proofs.typed.append_run.Goals as goal
@@ -22,7 +22,7 @@ returns-in_err-append_word-clause-fault g c =
 
 taken : (n : ℕ) (f : WordForm) (origin : DomainName) (w : Word) (ws rest after : List Word)
     (x y z : Octets) → AppendsFront (replicate n f) origin ws rest x y → rest ≡ w ∷ after → Appends
-    (lowered f) (SaysWord f origin w) y z → AppendsFront (replicate (n + 1) f) origin ws after x z
+    (canonical_octets f) (SaysWord f origin w) y z → AppendsFront (replicate (n + 1) f) origin ws after x z
 taken n f origin w ws rest after x y z front e word =
     subst (λ fs. AppendsFront fs origin ws after x z) (replicate_more n f)
     (front-joined origin (replicate n f)
