@@ -14,7 +14,7 @@ ghost use Rattle.dns_master.specs.Codes.{ForFault, fault_of};
 
 use crate::entry_words::{LaterWords, word_of};
 use crate::fault::ReadCode;
-use crate::run::Run;
+use crate::run::RunKind;
 use crate::token::{Token, first_token};
 use dns_rdata::Word;
 
