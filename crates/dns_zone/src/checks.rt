@@ -23,7 +23,7 @@ use crate::checks::lcp_search::shared_octets;
 use crate::checks::names::{CheckedName, checked_names};
 use crate::checks::owner::Owner;
 use crate::checks::survey::Survey;
-use crate::checks::target::LastTarget;
+use crate::checks::target::{LastTarget, found_places};
 use crate::fault::CheckFault;
 use crate::order::owner_keys::OwnerKeys;
 use crate::store::stored::StoredRecord;
@@ -59,7 +59,7 @@ pub(crate) fn faults<'a>(
         names: names.as_slice(),
     };
     let mut found = Vec::new(alloc);
-    let mut last = LastTarget::new(shared.as_slice());
+    let mut last = LastTarget::new(shared.as_slice(), found_places(alloc, shared.len())?);
     'names: for one in names.as_slice() {
         last.pass_name();
         report(&survey, one, &mut last, &mut found)?;

@@ -10,7 +10,14 @@ use crate::order::key::Key;
 use crate::store::stored::StoredRecord;
 use dns_name::{Name, NameRef};
 use dns_rdata::Rdata;
+use std::alloc::{AllocError, Global};
 use std::marker::Model;
+
+// The number of slots for places where targets were found: as many as there are numbers of 13 bits.
+const SLOTS: usize = 8_192;
+
+// 2^32 divided by the golden ratio.
+const SPREAD: u32 = 2_654_435_769;
 
 /// The first name in the data: the server of NS, the exchange of MX (RFC 1035 3.3.9, 3.3.11).
 #[tactic(auto, using(crate::proofs::Targets::target_if))]
@@ -34,6 +41,9 @@ pub(crate) struct LastTarget<'a> {
     passed: usize,
     // How many octets the keys of names share, for the search; may be empty.
     shared: &'a [[u8; 2]],
+    // The places where targets were found, each in the slot of its name; may be empty. A slot may
+    // have the place of another name.
+    found: Vec<u32>,
 }
 
 impl<'a> Model for LastTarget<'a> {
@@ -49,8 +59,9 @@ impl<'a> Model for LastTarget<'a> {
 }
 
 impl<'a> LastTarget<'a> {
-    /// The root, before any lookup. `shared` is the list that `shared_octets` returned.
-    pub(crate) fn new(shared: &'a [[u8; 2]]) -> LastTarget<'a>
+    /// The root, before any lookup. `shared` is the list that `shared_octets` returned, and `found`
+    /// the list of `found_places`.
+    pub(crate) fn new(shared: &'a [[u8; 2]], found: Vec<u32>) -> LastTarget<'a>
         ensures { result ≡ [] }
     {
         LastTarget {
@@ -60,6 +71,7 @@ impl<'a> LastTarget<'a> {
             next: 0,
             passed: 0,
             shared,
+            found,
         }
     }
 
@@ -93,8 +105,20 @@ impl<'a> LastTarget<'a> {
         match (self.place, names.get(self.next)) {
             (Some(place), _) => Some(place),
             (None, Some(next)) if next.key == self.key() => Some(self.next),
-            _ => probable_place(names, self.shared, self.key()),
+            _ => match self.found_before(names) {
+                Some(place) => Some(place),
+                None => probable_place(names, self.shared, self.key()),
+            },
         }
+    }
+
+    // The place in the target's slot, if the target is there.
+    fn found_before(&self, names: &[CheckedName<'_>]) -> Option<usize> {
+        let place = *self.found.get(slot_of(&self.name))? as usize;
+        if names.get(place)?.key == self.key() {
+            return Some(place);
+        }
+        None
     }
 
     pub(crate) fn keep_place(&mut self, place: usize)
@@ -102,5 +126,26 @@ impl<'a> LastTarget<'a> {
     {
         self.place = Some(place);
         self.next = place.saturating_add(1);
+        if let Some(found) = self.found.get_mut(slot_of(&self.name)) {
+            *found = place as u32;
+        }
+    }
+}
+
+/// Room for the places where targets were found, if keys share octets; else none.
+pub(crate) fn found_places(alloc: Global, shared: usize) -> Result<Vec<u32>, AllocError> {
+    let mut found = Vec::new(alloc);
+    if shared > 0 {
+        found.resize(SLOTS, 0)?;
+    }
+    Ok(found)
+}
+
+// The slot of a name, by its first four octets: the highest bits of a product by which each octet
+// affects them.
+fn slot_of(name: &Name) -> usize {
+    match name.octets().first_chunk::<4>() {
+        Some(front) => (u32::from_le_bytes(*front).wrapping_mul(SPREAD) / 524_288) as usize,
+        None => 0,
     }
 }

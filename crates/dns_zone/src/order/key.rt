@@ -94,14 +94,15 @@ pub(crate) fn is_below(key: &[u8], other: &[u8]) -> bool
 pub(crate) fn count_alike(one: &[u8], other: &[u8]) -> usize
     ensures { AreAlike result one.now other.now }
 {
-    let (left, right) = before_alike::<8>(one, other);
+    let (left, right) = before_alike::<64>(one, other);
+    let (left, right) = before_alike::<8>(left, right);
     one.len() - before_alike::<1>(left, right).0.len()
 }
 
 // What comes before the equal chunks of `N` octets at the ends of both.
 fn before_alike<'a, const N: usize>(one: &'a [u8], other: &'a [u8]) -> (&'a [u8], &'a [u8])
     requires some { 0 < N }
-    requires few { N ≤ 8 }
+    requires few { N ≤ 64 }
     ensures { GoOnAlike one.now result.0.now other.now result.1.now }
 {
     let (mut one, mut other) = (one, other);
