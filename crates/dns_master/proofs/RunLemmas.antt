@@ -63,12 +63,12 @@ one_more : (i k : ℕ) → i + 1 + k ≡ i + (1 + k)
 one_more i k = omega arith
 
 -- a backslash never appears unescaped
-pub no-backslash : (run : Run) (o : ℕ) → by_itself run o ≡ true → (o == 92) ≡ false
+pub no-backslash : (run : RunKind) (o : ℕ) → by_itself run o ≡ true → (o == 92) ≡ false
 no-backslash WordRun o h = no_backslash is_word_octet o refl h
 no-backslash StringRun o h = no_backslash is_string_octet o refl h
 
 -- how the run goes on at a place
-module _ (run : Run) (text : Octets) (i : ℕ) (inside : i < length text) where
+module _ (run : RunKind) (text : Octets) (i : ℕ) (inside : i < length text) where
   here : run_length (by_itself run) 0
       (drop i text) ≡ run_length (by_itself run) 0 (get_or text i 0 ∷ drop (i + 1) text)
   here = at_drop_more (run_length (by_itself run) 0) text i 0 inside
@@ -92,7 +92,7 @@ module _ (run : Run) (text : Octets) (i : ℕ) (inside : i < length text) where
     here-no_escape none = grind (arith, here, run-no_escape)
 
 -- a run that begins with octets that may appear unescaped goes on after them
-pub run-front : (run : Run) (n : ℕ) (text : Octets)
+pub run-front : (run : RunKind) (n : ℕ) (text : Octets)
     → n ≤ length text → list_all (by_itself run) (take n text) ≡ true
     → run_length (by_itself run) 0 text ≡ n + run_length (by_itself run) 0 (drop n text)
 run-front run zero text h e = omega arith

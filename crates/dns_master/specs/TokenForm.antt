@@ -11,7 +11,7 @@ use Rattle.dns_master.specs.declared.token.Token.{Token}
 use Rattle.dns_master.specs.declared.token.Token.TheVariants.{Blank, Comment, Word, Quoted, Opening, Closing, LineEnd}
 
 -- the octets that may appear unescaped in a run
-abbrev pub by_itself : Run → ℕ → Bool
+abbrev pub by_itself : RunKind → ℕ → Bool
 by_itself WordRun = is_word_octet
 by_itself StringRun = is_string_octet
 
