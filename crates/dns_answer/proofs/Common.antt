@@ -11,7 +11,7 @@ pub use Rattle.dns_answer.specs.Draft.{Draft, empty_draft, offer, size_with}
 unfoldable pub use Rattle.dns_answer.specs.Draft.{offered}
 pub use Rattle.dns_answer.specs.DraftForm.{Holds, Offers, State}
 pub use Rattle.dns_answer.specs.Ending.{Ends, IsPlain, Rest, Says, TookRest, after_sets, all_names, asked_item, ending, ending_required, ending_targets, glue_by, inside, misses_by, nodes_by, not_inside, others_by}
-pub use Rattle.dns_answer.specs.Replies.{Answers, Costs, IsReply, Responds}
+pub use Rattle.dns_answer.specs.Replies.{Answers, Costs, IsPut, IsReply, Responds}
 pub use Rattle.dns_answer.specs.Seeking.{AreTargets, Completes, Followed, HasNoAlias, IsShown, MaySeek, NextIs, Seeks, aliases_left, leads_on, names_of, unsought}
 pub use Rattle.dns_answer.specs.Targets.{addresses_of, depth_in, set_targets, side_nodes, side_takes, takes_target, target_at, target_items, target_misses, target_nodes, targets_of_first}
 unfoldable pub use Rattle.dns_answer.specs.Targets.{side_items}
@@ -29,7 +29,7 @@ pub use Rattle.dns_spec.proofs.ZoneChecks.FaultOrder.{folded_folded}
 pub use Rattle.dns_spec.proofs.ZoneChecks.PassedChecks.{few_soa, one_soa, passes_check}
 pub use Rattle.dns_spec.specs.Answer.{most_comparisons, stands}
 pub use Rattle.dns_spec.specs.Checks.{outside}
-pub use Rattle.dns_spec.specs.Reply.{decide_question}
+pub use Rattle.dns_spec.specs.Reply.{Reply, decide_question}
 pub use Rattle.dns_wire.specs.Draft.{IsDraft}
 pub use Rattle.dns_wire.specs.QueryForm.{code_of}
 pub use Rattle.dns_wire.specs.QuickNumbers.{quick_number}

@@ -6,20 +6,15 @@ use Rattle.dns_answer.proofs.Offered.{offered-keeps, offered-truncated}
 use Rattle.dns_answer.proofs.AnswerItems.{items-are, required-are, required-first, rcode-is}
 use Rattle.dns_answer.proofs.AnswerCosts.{authority-is, visits-fit, comparisons-fit}
 
--- a layout at the front of the buffer fits there
-laid_within : (h : Header) (q : Option MessageQuestion) (is : List Item) (out : Octets) (len : ℕ)
-    → len ≡ size q is → take len out ≡ layout h q is → len ≤ length out
-laid_within h q is out len sized laid =
-    let a = length-take len out in
-    let b = ap length laid ∙ length-layout h q is ∙ sym sized in
-    omega (arith, a, b)
-
 -- a header, and the question if it is repeated, are the reply of a refusal
 pub refusal-put : (z : ZoneContents) (limit : ℕ) (x : Decision) (h : Header)
-    (q : Option MessageQuestion) (len : ℕ) (out : Octets)
+    (q : Option MessageQuestion) (sent : Octets)
     → Some (layout h q []) ≡ option_map reply_octets (reply_of (keep_longest z limit) z x)
-    → len ≡ size q [] → take len out ≡ layout h q [] → IsReply z limit x len out
-refusal-put z limit x h q len out is sized laid = grind (arith, laid_within)
+    → sent ≡ layout h q [] → length sent ≤ limit → IsReply z limit x sent
+refusal-put z limit x h q sent is laid fits = record {
+  octets = ap (λ o. Some o) laid ∙ is;
+  within = fits;
+}
 
 -- offering sets does not change the question
 offered-question : (d : spec.Draft) (is : List Item) → (offered d is).question ≡ d.question
@@ -60,12 +55,12 @@ module _ (z : ZoneContents) (h : Header) (q : MessageQuestion) where
   answers-found {w = w} {w' = w'} {v = v} led zone name type seeks followed authority is_head =
       grind (arith, authoritative, rcode-is, Offers-is, items-are, truncates)
 
-  -- The sets are laid out at the front of the buffer.
-  pub answer-put : (limit : ℕ) (w w' : State) (head : Header) (len : ℕ) (out : Octets)
+  -- The sets are laid out.
+  pub answer-put : (limit : ℕ) (w w' : State) (head : Header) (sent : Octets)
       → Holds w (empty_draft q limit) → Answers z h q w w' head → ((d : spec.Draft) → Holds w' d
-      → len ≡ size (Some d.question) d.kept) → ((d : spec.Draft) → Holds w' d → take len out
-      ≡ layout head (Some d.question) d.kept) → IsReply z limit (answered h q) len out
-  answer-put limit w w' head len out begun stated sized laid =
+      → sent ≡ layout head (Some d.question) d.kept) → length sent ≤ w'.page.limit
+      → IsReply z limit (answered h q) sent
+  answer-put limit w w' head sent begun stated laid fits =
       let all = items z q.qname q.qtype in
       let d = offered (empty_draft q limit) all in
       let held : Holds w' d = stated.offers.draft (empty_draft q limit) begun in
@@ -76,7 +71,7 @@ module _ (z : ZoneContents) (h : Header) (q : MessageQuestion) where
             (offered-question (empty_draft q limit) all)
             ∙ ap (λ js. layout head (Some q) js) (offered-keeps q limit all)
             ∙ ap (λ x. layout x (Some q) (keep_longest z limit q)) (stated.header limit begun));
-        within = laid_within _ _ _ out len (sized d held) (laid d held);
+        within = omega (arith, fits, stated.offers.limit, begun.limit);
       }
 
 -- The cost of seeking the question's name is no more than an answer may cost.

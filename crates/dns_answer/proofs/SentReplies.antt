@@ -1,5 +1,7 @@
 -- What is sent is the reply that the definitions state, by how the datagram was read as a query.
-use Rattle.dns_answer.proofs.Common.{◌≡◌, ◌↔◌, ℕ, ◌<◌, ◌≤◌, Bool, true, false, Option, None, Some, IsTrue, IsNone, IfSome, All, length, take, refl, sym, ap, subst, ◌∙◌, arith, true≢false, All-weaker, option_map, Octets, ResourceRecord, ZoneContents, IsWritable, IsReadRecord, Spells, is_ignored, QueryRead, absent, refused_with, query, query_read, Decision, decide_query, decide, reply_of, keep_longest, reply_with, reply, reply_octets, reply_message, octets_of, reply_spells, Walk, IsBuilt, IsReply, Costs, Responds}
+use Rattle.std.specs.Borrow.{Bor}
+use Rattle.std.specs.Option.{option_copied}
+use Rattle.dns_answer.proofs.Common.{◌≡◌, ◌↔◌, ℕ, ◌<◌, ◌≤◌, Bool, true, false, Option, None, Some, IsTrue, IsNone, IfSome, All, length, take, refl, sym, ap, subst, ◌∙◌, arith, true≢false, All-weaker, option_map, Octets, ResourceRecord, ZoneContents, IsWritable, IsReadRecord, Spells, is_ignored, QueryRead, absent, refused_with, query, query_read, Decision, decide_query, decide, reply_of, keep_longest, Reply, reply_with, reply, reply_octets, reply_message, octets_of, reply_spells, Walk, IsBuilt, IsPut, IsReply, Costs, Responds}
 
 -- the datagrams that get no reply
 abbrev is_absent : QueryRead → Bool
@@ -17,11 +19,11 @@ module _ (d : Octets) (y : QueryRead) (read : y ≡ query_read d) where
 
   -- nothing is sent if and only if the datagram gets no reply
   pub silent : is_absent y ≡ true
-      → (let none : Option ℕ = None in IsNone none) ↔ IsTrue (is_ignored d)
+      → (let none : Option Octets = None in IsNone none) ↔ IsTrue (is_ignored d)
   silent e = (λ h. ignored-by ∙ e, λ h. refl)
 
-  pub stated : is_absent y ≡ false → (len : ℕ) → IsNone (Some len) ↔ IsTrue (is_ignored d)
-  stated e len = (λ h. absurd (true≢false h), λ h. sym h ∙ ignored-by ∙ e)
+  pub stated : is_absent y ≡ false → (sent : Octets) → IsNone (Some sent) ↔ IsTrue (is_ignored d)
+  stated e sent = (λ h. absurd (true≢false h), λ h. sym h ∙ ignored-by ∙ e)
 
   -- the octets and the decision
   pub octets-by : (z : ZoneContents) (limit : ℕ) → option_map reply_octets
@@ -52,21 +54,60 @@ nothing-taken x s visits comparisons = grind arith
 module _ (d : Octets) (y : QueryRead) (read : y ≡ query_read d) (s s' : Walk) (limit : ℕ)
     (costs : Costs (decide_query s.zone y) s s') where
   -- the datagram gets no reply
-  pub unanswered : (out : Octets) → is_absent y ≡ true → option_map reply_octets
+  pub unanswered : is_absent y ≡ true → option_map reply_octets
       (reply_of (keep_longest s.zone limit) s.zone (decide_query s.zone y)) ≡ None
-      → Responds s s' d limit None out
-  unanswered out missing none = grind (arith, silent, octets-by, costs-by)
+      → Responds s s' d limit None
+  unanswered missing none = grind (arith, silent, octets-by, costs-by)
 
   -- the octets of a reply are sent
-  pub responded : (len : ℕ) (out : Octets) → is_absent y ≡ false → IsBuilt s.zone
-      → All (λ o. o < 256) d → 512 ≤ limit → limit ≤ 65535 → length out ≡ limit
-      → IsReply s.zone limit (decide_query s.zone y) len out → Responds s s' d limit (Some len) out
-  responded len out owed built low from upto long sent =
-      let octets = sent.octets ∙ octets-by d y read s.zone limit in
+  pub responded : (sent : Octets) → is_absent y ≡ false → IsBuilt s.zone
+      → All (λ o. o < 256) d → 512 ≤ limit → limit ≤ 65535
+      → IsReply s.zone limit (decide_query s.zone y) sent → Responds s s' d limit (Some sent)
+  responded sent owed built low from upto reply =
+      let octets = reply.octets ∙ octets-by d y read s.zone limit in
       record {
-        absent = stated d y read owed len;
+        absent = stated d y read owed sent;
         octets = octets;
-        spells = spelled s.zone d (take len out) limit built low (omega (arith, from)) upto octets;
-        fits = omega (arith, sent.within, long);
+        spells = spelled s.zone d sent limit built low (omega (arith, from)) upto octets;
+        fits = reply.within;
         costs = costs-by d y read s.zone s s' costs;
       }
+
+-- a reply has room in as many octets as its limit
+pub put_room : (lent : Option (Bor Octets)) (limit room : ℕ)
+    → IfSome (option_copied lent) (λ o. length o ≤ limit)
+    → room ≡ limit → IfSome lent (λ o. length o.now ≤ room)
+put_room None limit room h e = tt
+put_room (Some o) limit room h e = omega (arith, h, e)
+
+-- A reply that is put at the front of `out` is there, and is none if none is owed.
+pub put_absent : (sent : Option Octets) (len : Option ℕ) (out d : Octets) → IsPut sent len out
+    → (IsNone sent ↔ IsTrue (is_ignored d)) → IsNone len ↔ IsTrue (is_ignored d)
+put_absent None None out d put h = (λ _. h.0 refl, λ _. refl)
+put_absent (Some o) (Some n) out d put h =
+    (λ e. absurd (true≢false e), λ e. absurd (true≢false (h.1 e)))
+put_absent None (Some n) out d put h = absurd put
+put_absent (Some o) None out d put h = absurd put
+
+pub put_octets : (sent : Option Octets) (len : Option ℕ) (out : Octets)
+    → IsPut sent len out → option_map (λ n. take n out) len ≡ sent
+put_octets None None out put = refl
+put_octets (Some o) (Some n) out put = ap (λ x. Some x) put.0
+put_octets None (Some n) out put = absurd put
+put_octets (Some o) None out put = absurd put
+
+pub put_spells : (r : Option Reply) (sent : Option Octets) (len : Option ℕ) (out : Octets)
+    → IsPut sent len out → IfSome sent (λ o. IfSome r (λ x. Spells o (reply_message x)))
+    → IfSome len (λ n. IfSome r (λ x. Spells (take n out) (reply_message x)))
+put_spells r None None out put h = tt
+put_spells r (Some o) (Some n) out put h =
+    subst (λ s. IfSome r (λ x. Spells s (reply_message x))) (sym put.0) h
+put_spells r None (Some n) out put h = absurd put
+put_spells r (Some o) None out put h = absurd put
+
+pub put_fits : (limit : ℕ) (sent : Option Octets) (len : Option ℕ) (out : Octets)
+    → IsPut sent len out → IfSome sent (λ o. length o ≤ limit) → IfSome len (λ n. n ≤ limit)
+put_fits limit None None out put h = tt
+put_fits limit (Some o) (Some n) out put h = omega (arith, h, put.1)
+put_fits limit None (Some n) out put h = absurd put
+put_fits limit (Some o) None out put h = absurd put

@@ -1,5 +1,5 @@
 -- How a question is decided, when a reply was written, and what it may cost.
-use Rattle.std.specs.Prelude.{◌≡◌, ◌↔◌, ℕ, ◌*◌, ◌≤◌, length, take, Option, None, Some, Result, Ok, Err, IsTrue, IsNone, IfSome}
+use Rattle.std.specs.Prelude.{⊤, ◌≡◌, ◌↔◌, ℕ, ◌*◌, ◌≤◌, length, take, Option, None, Some, Result, Ok, Err, IsTrue, IsNone, IfSome}
 use Rattle.std.specs.Option.{option_map}
 use Rattle.dns_spec.specs.Names.{Octets}
 use Rattle.dns_spec.specs.Records.{ZoneContents}
@@ -21,13 +21,10 @@ JudgedAs z q (Err rcode) = refusal z q ≡ Some (code_of rcode)
 JudgedAs z q (Ok sought) =
     (refusal z q ≡ None) × (sought.name ≡ q.qname) × IsBelow sought z.origin
 
--- The octets at the front of `out` are the reply of a decision, with the longest beginning of the
--- sets that fits.
-pub record IsReply (z : ZoneContents) (limit : ℕ) (x : Decision) (len : ℕ) (out : Octets)
-    : Type 0 where
-  pub octets : Some (take len out)
-      ≡ option_map reply_octets (reply_of (keep_longest z limit) z x)
-  pub within : len ≤ length out
+-- The octets are the reply of a decision, with the longest beginning of the sets that fits.
+pub record IsReply (z : ZoneContents) (limit : ℕ) (x : Decision) (sent : Octets) : Type 0 where
+  pub octets : Some sent ≡ option_map reply_octets (reply_of (keep_longest z limit) z x)
+  pub within : length sent ≤ limit
 
 -- All sets of an answer are offered, and `head` is the header of the reply with those that fit.
 pub record Answers (z : ZoneContents) (h : Header) (q : MessageQuestion) (w w' : State)
@@ -64,14 +61,20 @@ pub record Costs (x : Decision) (s s' : Walk) : Type 0 where
   pub visits_a_name : s'.visits ≤ 128 * names_for s.zone x
   pub comparisons : s'.comparisons ≤ comparisons_for s.zone x s'.visits
 
--- The reply to a datagram within a limit: the octets at the front of `out` and the message that
--- they spell, or nothing if the datagram gets no reply; and the cost, for a walk that had counted
--- nothing.
-pub record Responds (s s' : Walk) (datagram : Octets) (limit : ℕ) (sent : Option ℕ) (out : Octets)
+-- The reply to a datagram within a limit and the message that it spells, or nothing if the datagram
+-- gets no reply; and the cost, for a walk that had counted nothing.
+pub record Responds (s s' : Walk) (datagram : Octets) (limit : ℕ) (sent : Option Octets)
     : Type 0 where
   pub absent : IsNone sent ↔ IsTrue (is_ignored datagram)
-  pub octets : option_map (λ len. take len out) sent ≡ octets_of s.zone datagram limit
-  pub spells : IfSome sent (λ len. IfSome (reply s.zone datagram limit)
-      (λ r. Spells (take len out) (reply_message r)))
-  pub fits : IfSome sent (λ len. len ≤ limit)
+  pub octets : sent ≡ octets_of s.zone datagram limit
+  pub spells : IfSome sent (λ o. IfSome (reply s.zone datagram limit)
+      (λ r. Spells o (reply_message r)))
+  pub fits : IfSome sent (λ o. length o ≤ limit)
   pub costs : Costs (decide s.zone datagram) s s'
+
+-- These octets are at the front of `out`, if there are any.
+abbrev pub IsPut : Option Octets → Option ℕ → Octets → Type 0
+IsPut None None out = ⊤
+IsPut None (Some len) out = ⊥
+IsPut (Some o) None out = ⊥
+IsPut (Some o) (Some len) out = (take len out ≡ o) × (len ≡ length o)

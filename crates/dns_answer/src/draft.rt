@@ -1,9 +1,8 @@
 //! A reply while sets are offered to it: after a set that does not fit, none is tried.
-ghost use Rattle.std.specs.Prelude.{◌≡◌, ◌*◌, ◌≤◌, List, [], ◌∷◌, false, Option, length, min, take};
+ghost use Rattle.std.specs.Prelude.{◌≡◌, ◌*◌, ◌≤◌, List, [], ◌∷◌, false, Option, length, min};
 ghost use Rattle.std.specs.Option.{option_copied};
 ghost use Rattle.dns_spec.specs.Reading.{MessageQuestion};
 ghost use Rattle.dns_spec.specs.Layout.{Item, layout};
-ghost use Rattle.dns_spec.specs.LayoutSize.{size};
 ghost use Rattle.dns_wire.specs.Draft.{IsDraft, item_of};
 ghost use Rattle.dns_wire.specs.QuickNumbers.{quick_number};
 ghost use Rattle.dns_answer.specs.DraftForm.{Offers, blank};
@@ -95,15 +94,12 @@ impl<const N: usize, const SIZE: usize> Draft<N, SIZE> {
         }
     }
 
-    /// Copies the reply, with its header, to the front of `out` and returns its length in octets.
-    pub(crate) fn finish(&self, head: Head, out: &mut [u8]) -> usize
-        requires { self.now.page.limit ≤ length out.old }
-        ensures length { (q : Option MessageQuestion) (items : List Item)
-            → IsDraft quick_number q items self.now.page → result ≡ size q items }
+    /// Completes the reply with its header, and lends it.
+    pub(crate) fn finish(&mut self, head: Head) -> &[u8]
         ensures octets { (q : Option MessageQuestion) (items : List Item)
-            → IsDraft quick_number q items self.now.page
-            → take result out.new ≡ layout head q items }
+            → IsDraft quick_number q items self.old.page → result.now ≡ layout head q items }
+        ensures fits { length result.now ≤ self.old.page.limit }
     {
-        self.page.finish(head, out)
+        self.page.finish(head)
     }
 }

@@ -1,6 +1,6 @@
 //! The reply to a datagram (RFC 1034 4.3.2).
 ghost use Rattle.std.specs.Prelude.{◌≡◌, ◌↔◌, ◌*◌, ◌≤◌, length, take, IsTrue, IsNone, IfSome};
-ghost use Rattle.std.specs.Option.{option_map};
+ghost use Rattle.std.specs.Option.{option_copied, option_map};
 ghost use Rattle.dns_spec.specs.Records.{ZoneContents};
 ghost use Rattle.dns_spec.specs.Reading.{Spells};
 ghost use Rattle.dns_spec.specs.Query.{is_ignored};
@@ -8,7 +8,7 @@ ghost use Rattle.dns_spec.specs.Reply.{answered, decide, reply, reply_message, o
 ghost use Rattle.dns_answer.specs.DraftForm.{blank};
 ghost use Rattle.dns_answer.specs.Limits.{limit_of};
 ghost use Rattle.dns_zone.specs.Starts.{IsBelow};
-ghost use Rattle.dns_answer.specs.Replies.{JudgedAs, IsReply, Costs, Responds, visits_for, names_for, comparisons_for};
+ghost use Rattle.dns_answer.specs.Replies.{JudgedAs, IsPut, IsReply, Costs, Responds, visits_for, names_for, comparisons_for};
 
 use crate::chain::seek;
 use crate::draft::Draft;
@@ -55,6 +55,7 @@ pub type TcpDraft = Draft<8192, 65_535>;
 ///
 /// Each call first fills the room for a reply, which over TCP takes far longer than a short reply.
 /// To answer many messages, keep a draft and call `respond_in`.
+#[tactic(auto, using(crate::proofs::SentReplies::put_room, crate::proofs::SentReplies::put_absent, crate::proofs::SentReplies::put_octets, crate::proofs::SentReplies::put_spells, crate::proofs::SentReplies::put_fits))]
 pub fn respond(
     steps: &mut Steps<'_>,
     datagram: &[u8],
@@ -84,31 +85,40 @@ pub fn respond(
         ≤ comparisons_for steps.old.zone (decide steps.old.zone datagram.now) steps.new.visits }
 {
     match limit {
-        Limit::Udp => respond_in(steps, datagram, &mut UdpDraft::new(), out),
-        Limit::Tcp => respond_in(steps, datagram, &mut TcpDraft::new(), out),
+        Limit::Udp => put_reply(respond_in(steps, datagram, &mut UdpDraft::new()), out),
+        Limit::Tcp => put_reply(respond_in(steps, datagram, &mut TcpDraft::new()), out),
     }
 }
 
-/// Writes the reply to a datagram, within the room of a draft, to the front of `out` and returns
-/// its length in octets: the same as `respond` at that limit.
+// Copies a reply to the front of `out`, and returns its length.
+fn put_reply(reply: Option<&[u8]>, out: &mut [u8]) -> Option<usize>
+    requires { IfSome reply (λ o. length o.now ≤ length out.old) }
+    ensures { IsPut (option_copied reply.entry) result out.new }
+{
+    let reply = reply?;
+    let (front, _) = out.split_at_mut(reply.len());
+    front.copy_from_slice(reply);
+    Some(reply.len())
+}
+
+/// Makes the reply to a datagram in a draft, within the draft's room, and lends it: the same as
+/// `respond` at that limit.
 ///
 /// Nothing of the draft's earlier reply remains, and the time does not depend on the size of its
 /// room.
 ///
-/// Conditions: the walk has counted nothing yet, the room has 512 to 65,535 octets, and `out` is
-/// as long. Does not allocate.
-pub fn respond_in<const N: usize, const SIZE: usize>(
+/// Conditions: the walk has counted nothing yet, and the room has 512 to 65,535 octets. Does not
+/// allocate.
+pub fn respond_in<'d, const N: usize, const SIZE: usize>(
     steps: &mut Steps<'_>,
     datagram: &[u8],
-    draft: &mut Draft<N, SIZE>,
-    out: &mut [u8],
-) -> Option<usize>
+    draft: &'d mut Draft<N, SIZE>,
+) -> Option<&'d [u8]>
     requires visits { steps.old.visits ≡ 0 }
     requires comparisons { steps.old.comparisons ≡ 0 }
     requires from { 512 ≤ SIZE }
     requires upto { SIZE ≤ 65535 }
-    requires out { length out.old ≡ SIZE }
-    ensures { Responds steps.old steps.new datagram.now SIZE result out.new }
+    ensures { Responds steps.old steps.new datagram.now SIZE (option_copied result) }
 {
     draft.clear();
     let origin = steps.origin();
@@ -116,14 +126,14 @@ pub fn respond_in<const N: usize, const SIZE: usize>(
         QueryRef::Absent => None,
         QueryRef::Refused(head) => {
             draft.begin(None);
-            Some(draft.finish(head, out))
+            Some(draft.finish(head))
         }
         QueryRef::Query(head, question) => match judge(&question, origin) {
             Err(rcode) => {
                 draft.begin(Some(&question));
-                Some(draft.finish(head.reply(false, false, rcode), out))
+                Some(draft.finish(head.reply(false, false, rcode)))
             }
-            Ok(sought) => Some(put_answer(steps, &head, &question, sought, draft, out)),
+            Ok(sought) => Some(put_answer(steps, &head, &question, sought, draft)),
         },
     }
 }
@@ -143,21 +153,20 @@ fn judge<'q>(question: &QuestionRef<'q>, origin: &Name) -> Result<Sought<'q>, Rc
     Sought::below(&question.name, &origin.lent()).ok_or(Rcode::Refused)
 }
 
-fn put_answer<'q, 'z: 'q, const N: usize, const SIZE: usize>(
+// Offers the sets of an answer to a draft, and lends the reply.
+fn put_answer<'d, 'q, 'z: 'q, const N: usize, const SIZE: usize>(
     steps: &mut Steps<'z>,
     head: &Head,
     question: &QuestionRef<'q>,
     sought: Sought<'q>,
-    draft: &mut Draft<N, SIZE>,
-    out: &mut [u8],
-) -> usize
+    draft: &'d mut Draft<N, SIZE>,
+) -> &'d [u8]
     requires blank { draft.old ≡ blank SIZE }
     requires visits { steps.old.visits ≡ 0 }
     requires comparisons { steps.old.comparisons ≡ 0 }
     requires asked { sought.name ≡ question.now.qname }
     requires below { IsBelow sought steps.old.zone.origin }
-    requires out { length out.old ≡ SIZE }
-    ensures reply { IsReply steps.old.zone SIZE (answered head.now question.now) result out.new }
+    ensures reply { IsReply steps.old.zone SIZE (answered head.now question.now) result.now }
     ensures costs { Costs (answered head.now question.now) steps.old steps.new }
 {
     draft.begin(Some(question));
@@ -166,5 +175,5 @@ fn put_answer<'q, 'z: 'q, const N: usize, const SIZE: usize>(
     // AA is set, unless the reply is only a referral (RFC 1035 4.1.1).
     let only_refers = verdict.is_referral && !followed_alias;
     let head = head.reply(!only_refers, verdict.is_truncated, verdict.rcode);
-    draft.finish(head, out)
+    draft.finish(head)
 }

@@ -1,6 +1,8 @@
 -- What a turn does with the received datagram.
-use Rattle.dns_spec.proofs.Common.{take_all, length-take, ◌≡◌, ℕ, ◌≤◌, arith, List, [], ◌∷◌, append-nil, refl, take, Option, Some, None, true, false, sym, ap, ◌∙◌, subst, option_map, is_some, most_over_udp, Octets, ZoneContents}
+use Rattle.dns_spec.proofs.Common.{take_all, length-take, ◌≡◌, ℕ, ◌≤◌, arith, List, [], ◌∷◌, append-nil, refl, take, Option, Some, None, true, false, sym, ap, ◌∙◌, subst, is_some, most_over_udp, Octets, ZoneContents}
 use Rattle.dns_spec.proofs.Replies.FirstOctets.{first_octets_answer}
+use Rattle.std.specs.Borrow.{Bor}
+use Rattle.std.specs.Option.{option_copied}
 use Rattle.dns_serve.specs.Turns.{Grows, KeepsAll, IsHanded, reply_over_udp, one_or_none, Turn, IsTurn, IsUnsent}
 
 abbrev turn : Option (List Octets)
@@ -22,12 +24,12 @@ reply_is z d kept piece reply e k r =
     first_octets_answer z d most_over_udp ∙ ap (reply_over_udp z) (sym (e ∙ k)) ∙ sym r
 
 pub turn_without : (z y : ZoneContents) → y ≡ z → (had has sent sent' : Option (List Octets))
-    (n : ℕ) (buf piece : Octets) (length_of : Option ℕ) (out : Octets) → IsHanded had has n buf
-    → piece ≡ take n buf → length_of ≡ None → option_map (λ len. take len out) length_of
+    (n : ℕ) (buf piece : Octets) (lent : Option (Bor Octets)) → IsHanded had has n buf
+    → piece ≡ take n buf → lent ≡ None → option_copied lent
     ≡ reply_over_udp y piece → KeepsAll sent sent' → IsTurn z (turn had has sent sent') false
-turn_without z y zone_is had has sent sent' n buf piece length_of out h e none r keeps =
-    let same = reply_is z h.datagram (take n buf) piece None e h.kept (sym (ap (option_map
-    (λ len. take len out)) none) ∙ r ∙ ap (λ z. reply_over_udp z piece) zone_is) in record {
+turn_without z y zone_is had has sent sent' n buf piece lent h e none r keeps =
+    let same = reply_is z h.datagram (take n buf) piece None e h.kept (sym (ap option_copied none)
+    ∙ r ∙ ap (λ z. reply_over_udp z piece) zone_is) in record {
       datagram = h.datagram;
       received = h.handed;
       answered = subst (λ o. Grows sent sent' (one_or_none o)) (sym same) keeps;
@@ -36,30 +38,28 @@ turn_without z y zone_is had has sent sent' n buf piece length_of out h e none r
 
 pub turn_with : (z y : ZoneContents)
     → y ≡ z → (had has has' sent sent' sent'' : Option (List Octets)) (n : ℕ) (buf piece : Octets)
-    (length_of : Option ℕ) (len : ℕ) (out reply : Octets) → IsHanded had has n buf
-    → piece ≡ take n buf → length_of ≡ Some len → option_map (λ len. take len out) length_of
-    ≡ reply_over_udp y piece → reply ≡ take len out → KeepsAll sent sent' → KeepsAll has has'
-    → Grows sent' sent'' (reply ∷ []) → IsTurn z (turn had has' sent sent'') true
+    (lent : Option (Bor Octets)) (reply : Bor Octets) → IsHanded had has n buf
+    → piece ≡ take n buf → lent ≡ Some reply → option_copied lent
+    ≡ reply_over_udp y piece → KeepsAll sent sent' → KeepsAll has has'
+    → Grows sent' sent'' (reply.now ∷ []) → IsTurn z (turn had has' sent sent'') true
 turn_with z y zone_is had has
-    has' sent sent' sent'' n buf piece length_of len out reply h e some r is keeps same_has sends =
-    let same = reply_is z h.datagram (take n buf) piece
-    (Some reply) e h.kept (ap Some is ∙ sym (ap (option_map (λ len. take len out)) some)
-    ∙ r ∙ ap (λ z. reply_over_udp z piece) zone_is) in record {
+    has' sent sent' sent'' n buf piece lent reply h e some r keeps same_has sends =
+    let same = reply_is z h.datagram (take n buf) piece (Some reply.now) e h.kept
+    (sym (ap option_copied some) ∙ r ∙ ap (λ z. reply_over_udp z piece) zone_is) in record {
       datagram = h.datagram;
       received = then_kept had has has' _ h.handed same_has;
       answered = subst (λ o. Grows sent sent'' (one_or_none o))
-          (sym same) (kept_twice sent sent' sent'' [] (reply ∷ []) refl keeps sends);
+          (sym same) (kept_twice sent sent' sent'' [] (reply.now ∷ []) refl keeps sends);
       replied_is = sym (ap is_some same);
     }
 
 pub turn_unsent : (z y : ZoneContents) → y ≡ z → (had has has' sent sent'' : Option (List Octets))
-    (n : ℕ) (buf piece : Octets) (length_of : Option ℕ) (len : ℕ) (out : Octets) → IsHanded had has
-    n buf → piece ≡ take n buf → length_of ≡ Some len → option_map (λ len. take len out) length_of
+    (n : ℕ) (buf piece : Octets) (lent : Option (Bor Octets)) (reply : Bor Octets) → IsHanded had
+    has n buf → piece ≡ take n buf → lent ≡ Some reply → option_copied lent
     ≡ reply_over_udp y piece → KeepsAll has has' → IsUnsent z (turn had has' sent sent'')
-turn_unsent z y zone_is had has has' sent sent'' n buf piece length_of len out h e some r same_has =
-    let same = reply_is z h.datagram (take n buf) piece
-    (Some (take len out)) e h.kept (sym (ap (option_map (λ len. take len out)) some)
-    ∙ r ∙ ap (λ z. reply_over_udp z piece) zone_is) in record {
+turn_unsent z y zone_is had has has' sent sent'' n buf piece lent reply h e some r same_has =
+    let same = reply_is z h.datagram (take n buf) piece (Some reply.now) e h.kept
+    (sym (ap option_copied some) ∙ r ∙ ap (λ z. reply_over_udp z piece) zone_is) in record {
       datagram = h.datagram;
       received = then_kept had has has' _ h.handed same_has;
       due = ap is_some same;

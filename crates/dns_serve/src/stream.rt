@@ -180,11 +180,13 @@ fn write_reply<W: Write>(
     ensures { Writes W.contents sink.old sink.new result
         (reply_frame (reply_over_tcp zone.now message.now)) }
 {
-    let (length, reply) = room.split_at_mut(2);
     let mut steps = Steps::new(zone);
-    let Some(count) = respond_in(&mut steps, message, draft, reply) else {
+    let Some(reply) = respond_in(&mut steps, message, draft) else {
         return Ok(());
     };
-    BigEndian::write_u16(length, count as u16);
-    sink.write_all(&room[..count + 2])
+    let (length, rest) = room.split_at_mut(2);
+    BigEndian::write_u16(length, reply.len() as u16);
+    let (front, _) = rest.split_at_mut(reply.len());
+    front.copy_from_slice(reply);
+    sink.write_all(&room[..reply.len() + 2])
 }

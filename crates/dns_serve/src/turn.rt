@@ -8,8 +8,8 @@ use crate::fault::TurnFault;
 use dns_answer::{UdpDraft, respond_in};
 use dns_zone::{Steps, Zone};
 
-// The most octets that are kept of a datagram, and that a reply has.
-const MOST_OVER_UDP: usize = 512;
+// The most octets that are kept of a datagram.
+const MOST_KEPT: usize = 512;
 
 /// Receives one datagram, and sends the reply to its sender: true if a reply was sent, false if
 /// the datagram gets none.
@@ -24,22 +24,19 @@ pub fn udp_turn<D: Datagrams>(zone: &Zone, device: &mut D) -> Result<bool, TurnF
     ensures turn { TurnOf zone.now (turn D.received D.sent device.old device.new) result }
     ensures counted { D.count device.new ≡ failures_after (D.count device.old) result }
 {
-    let mut room = [0; MOST_OVER_UDP];
+    let mut room = [0; MOST_KEPT];
     let mut draft = UdpDraft::new();
-    let mut out = [0; MOST_OVER_UDP];
-    udp_turn_in(zone, device, &mut room, &mut draft, &mut out)
+    udp_turn_in(zone, device, &mut room, &mut draft)
 }
 
-/// Takes a turn as `udp_turn` does, in the caller's buffers: for the datagram, for the draft of
-/// the reply, and for the reply.
+/// Takes a turn as `udp_turn` does, in the caller's buffers: for the datagram and for the reply.
 ///
 /// Earlier turns in the buffers have no effect, and they are not cleared.
 pub fn udp_turn_in<D: Datagrams>(
     zone: &Zone,
     device: &mut D,
-    room: &mut [u8; MOST_OVER_UDP],
+    room: &mut [u8; MOST_KEPT],
     draft: &mut UdpDraft,
-    out: &mut [u8; MOST_OVER_UDP],
 ) -> Result<bool, TurnFault>
     requires { D.count device.old < 2 ^ 64 - 1 }
     ensures turn { TurnOf zone.now (turn D.received D.sent device.old device.new) result }
@@ -50,10 +47,9 @@ pub fn udp_turn_in<D: Datagrams>(
     };
     let (datagram, _) = room.split_at(count);
     let mut steps = Steps::new(zone);
-    let Some(len) = respond_in(&mut steps, datagram, draft, out) else {
+    let Some(reply) = respond_in(&mut steps, datagram, draft) else {
         return Ok(false);
     };
-    let (reply, _) = out.split_at(len);
     match device.send(reply) {
         Ok(()) => Ok(true),
         Err(_) => Err(TurnFault::SendFailed),

@@ -128,10 +128,9 @@ pub fn serve_datagrams<E: Eprint, D: Datagrams>(
 {
     let mut room = [0; 512];
     let mut draft = UdpDraft::new();
-    let mut out = [0; 512];
     let mut are_said = true;
     'turns: for _ in 0..turns {
-        if let Err(fault) = udp_turn_in(zone, device, &mut room, &mut draft, &mut out) {
+        if let Err(fault) = udp_turn_in(zone, device, &mut room, &mut draft) {
             are_said = say_of_turn(rt, are_said, TurnWord::from(fault));
         }
     }

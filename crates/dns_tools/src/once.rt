@@ -8,7 +8,6 @@ ghost use Rattle.dns_tools.specs.KeptLine.{kept_message, no_line};
 ghost use Rattle.dns_name.specs.Counted.{AppendsBeginning, Writes, failures_after};
 ghost use Rattle.dns_serve.specs.Streams.{session};
 ghost use Rattle.dns_tools.specs.Stops.{source_failures_after, sink_failures_after};
-ghost use Rattle.dns_answer.specs.Limits.{limit_of};
 ghost use Rattle.dns_tools.specs.declared.line.TheConstants.{MOST_LINE_OCTETS, PIECE};
 ghost use Rattle.dns_tools.specs.declared.once.TheConstants.{MOST_ANSWER};
 
@@ -67,11 +66,9 @@ struct Exchange<'z> {
     line: Line,
     // Holds a line's octets, and then the digits of its reply.
     room: Vec<u8>,
-    reply: Vec<u8>,
     drafts: Drafts,
     are_all_messages: bool,
     ghost room_octets: { vec_len room ≡ MOST_ANSWER },
-    ghost reply_octets: { vec_len reply ≡ limit_of limit },
 }
 
 impl<'z> Exchange<'z> {
@@ -86,7 +83,6 @@ impl<'z> Exchange<'z> {
             limit,
             line: Line::new(alloc)?,
             room: vec![in alloc; 0; MOST_ANSWER]?,
-            reply: vec![in alloc; 0; limit.octets()]?,
             drafts: Drafts {
                 udp: UdpDraft::new(),
                 tcp: Box::new(alloc, TcpDraft::new())?,
@@ -163,10 +159,8 @@ impl<'z> Exchange<'z> {
             && is_some (kept_message self.old.line))) }
         ensures task { OnOk result (reply_of self.new ≡ reply_of self.old) }
     {
-        let room = self.room.as_mut_slice();
-        let reply = self.reply.as_mut_slice();
-        let drafts = &mut self.drafts;
-        let is_message = answer(self.zone, self.limit, drafts, &self.line, room, reply, sink)?;
+        let (room, drafts) = (self.room.as_mut_slice(), &mut self.drafts);
+        let is_message = answer(self.zone, self.limit, drafts, &self.line, room, sink)?;
         self.are_all_messages = self.are_all_messages && is_message;
         self.line.clear();
         Ok(())
@@ -181,18 +175,16 @@ struct Drafts {
 }
 
 // Answers a line, and returns whether it is a message. `room` is for the line's octets and for the
-// digits of the reply, `reply` for the octets of the reply.
+// digits of the reply.
 fn answer<W: Write>(
     zone: &Zone,
     limit: dns_answer::Limit,
     drafts: &mut Drafts,
     line: &Line,
     room: &mut [u8],
-    reply: &mut [u8],
     sink: &mut Tally<W>,
 ) -> Result<bool, SinkFailed>
     requires room { length room.old ≡ MOST_ANSWER }
-    requires reply { length reply.old ≡ limit_of limit }
     requires few { sink.old.failures < 2 ^ 64 - 1 }
     ensures answered { Writes W.contents sink.old sink.new result
         (message_answer (reply_within limit zone.now) (kept_message line.now)) }
@@ -203,12 +195,12 @@ fn answer<W: Write>(
         return Ok(false);
     };
     let (mut steps, datagram) = (Steps::new(zone), &room[..len]);
-    let written = match limit {
-        dns_answer::Limit::Udp => respond_in(&mut steps, datagram, &mut drafts.udp, reply),
-        dns_answer::Limit::Tcp => respond_in(&mut steps, datagram, &mut drafts.tcp, reply),
+    let reply = match limit {
+        dns_answer::Limit::Udp => respond_in(&mut steps, datagram, &mut drafts.udp),
+        dns_answer::Limit::Tcp => respond_in(&mut steps, datagram, &mut drafts.tcp),
     };
-    match written {
-        Some(len) => write_digits(&reply[..len], room, sink)?,
+    match reply {
+        Some(reply) => write_digits(reply, room, sink)?,
         None => sink.write_all(b"none\n")?,
     }
     Ok(true)

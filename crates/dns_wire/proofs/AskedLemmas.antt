@@ -24,17 +24,21 @@ name_same b b' a e = go (a - 12) refl
         sym (drop-take 12 (a - 12) b') ∙ ap (λ k. drop 12 (take k b')) at
         ∙ ap (drop 12) e ∙ sym (ap (λ k. drop 12 (take k b)) at) ∙ drop-take 12 (a - 12) b
 
-front_same : (b b' : Octets) (a : ℕ)
-    → 12 ≤ a → a ≤ length b → a ≤ length b' → take a b' ≡ take a b → take 12 b' ≡ take 12 b
-front_same b b' a after inside inside' e = sym (one b' inside') ∙ ap (take 12) e ∙ one b inside
-  where
-    one : (x : Octets) → a ≤ length x → take 12 (take a x) ≡ take 12 x
-    one x h = sym (take-append-le 12 (take a x)
-        (drop a x) (omega (arith, after, h, length-take a x))) ∙ ap (take 12) (take-append-drop a x)
-
 pub is_asked_same : {b b' : Octets} {a a' : ℕ}
     → IsAsked b a → take a b' ≡ take a b → a' ≡ a → a ≤ length b' → IsAsked b' a'
-is_asked_same {b} {b'} {a} asked e same inside = grind (arith, front_same, name_same)
+is_asked_same {b} {b'} {a} asked e same inside = grind (arith, name_same)
+
+-- another header before the question
+pub is_asked_after : {b b' : Octets} {a : ℕ}
+    → IsAsked b a → drop 12 b' ≡ drop 12 b → length b' ≡ length b → IsAsked b' a
+is_asked_after {b} {b'} {a} asked e long =
+    let inside = asked.inside in
+    record {
+      after = asked.after;
+      inside = omega (arith, inside, long);
+      near = asked.near;
+      name = λ some. subst IsWireForm (ap (take (a - 12)) (sym e)) (asked.name some);
+    }
 
 pub is_asked_more : {b b' : Octets} {a a' : ℕ} (o : Octets)
     → IsAsked b a → b' ≡ b ++ o → a' ≡ a → IsAsked b' a'
@@ -77,7 +81,6 @@ pub is_asked_whole : {b : Octets} {a : ℕ} (n : DomainName) (o : Octets)
     → b ≡ (replicate 12 0 ++ wire n) ++ o
     → is_name n ≡ true → length (wire n) ≤ 255 → a ≡ 12 + length (wire n) → IsAsked b a
 is_asked_whole {b} {a} n o e ok short end = record {
-  blank = ap (take 12) e;
   after = omega (arith, end);
   inside = grind (arith, end, length-append, replicate, wire);
   near = omega (arith, short, end);

@@ -131,11 +131,6 @@ draft_length q items d draft =
     let some = draft.holds.after_header in
     omega (arith, long, length-append (header_of h d.counts) w, length-drop 12 d.octets, some)
 
--- the header and what follows it, taken from the front of the borrowed octets
-pub finished : (front w out body : Octets) (n : ℕ) → out ≡ front ++ w → length front ≡ 12
-    → n ≡ 12 + length body → take (length body) w ≡ body → take n out ≡ front ++ body
-finished front w out body n e twelve long is = grind (arith, take-append-add)
-
 -- if the layout is refused, each size that sharing allows exceeds the limit
 pub least_of : (q : Option MessageQuestion) (items : List Item) (limit : ℕ) (t : Bool)
     → ((t ≡ true) ↔ (size q items ≤ limit))

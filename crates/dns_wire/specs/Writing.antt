@@ -74,10 +74,8 @@ new_places number ms (l ∷ n) p = elim (shared_place ms (l ∷ n)) [
 abbrev pub name_before : Octets → ℕ → Octets
 name_before b a = take (a - 12) (drop 12 b)
 
--- The question's name ends at place a; or the header does, and the name is not written yet. The
--- header is still blank.
+-- The question's name ends at place a; or the header does, and the name is not written yet.
 pub record IsAsked (b : Octets) (a : ℕ) : Type 0 where
-  pub blank : take 12 b ≡ replicate 12 0
   pub after : 12 ≤ a
   pub inside : a ≤ length b
   pub near : a ≤ 267

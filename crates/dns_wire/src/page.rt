@@ -93,7 +93,8 @@ impl<const N: usize, const SIZE: usize> Page<N, SIZE> {
         requires octets { limit ≤ SIZE }
         ensures { self.new ≡ no_draft limit }
     {
-        self.octets.truncate(HEADER_OCTETS);
+        self.octets.truncate(0);
+        extend(&mut self.octets, &[0; HEADER_OCTETS]);
         self.places.take_back(0);
         self.limit = limit;
         self.asked_end = HEADER_OCTETS;
@@ -162,26 +163,18 @@ impl<const N: usize, const SIZE: usize> Page<N, SIZE> {
         true
     }
 
-    /// Copies the message, with its header and counts, to the front of `out` and returns its
-    /// length in octets.
-    ///
-    /// Condition: `out` is as long as the limit.
-    pub fn finish(&self, head: Head, out: &mut [u8]) -> usize
-        requires { self.now.limit ≤ length out.old }
-        ensures length { (h : Octets → ℕ) (q : Option MessageQuestion) (items : List Item)
-            → IsDraft h q items self.now → result ≡ size q items }
+    /// Completes the message with its header and counts, and lends it.
+    pub fn finish(&mut self, head: Head) -> &[u8]
         ensures layout { (h : Octets → ℕ) (q : Option MessageQuestion) (items : List Item)
-            → IsDraft h q items self.now → take result out.new ≡ layout head q items }
+            → IsDraft h q items self.old → result.now ≡ layout head q items }
         ensures spelled { (h : Octets → ℕ) (q : Option MessageQuestion) (items : List Item)
-            → IsDraft h q items self.now
+            → IsDraft h q items self.old
             → IsTrue (sections_in_order items) → All IsWritable (records_of items)
-            → Spells (take result out.new) (message_of head q items) }
+            → Spells result.now (message_of head q items) }
+        ensures fits { length result.now ≤ self.old.limit }
     {
-        let octets = self.octets.as_slice();
-        let (front, _) = out.split_at_mut(octets.len());
-        front.copy_from_slice(octets);
-        put_header(out, &head, &self.counts);
-        octets.len()
+        put_header(self.octets.as_mut_slice(), &head, &self.counts);
+        self.octets.as_slice()
     }
 
     // Writes a record of class IN, in a set that begins at `start`. False if it does not fit; a

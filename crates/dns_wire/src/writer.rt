@@ -79,6 +79,10 @@ impl<'h, H: SuffixHash> Writer<'h, H> {
             → All IsWritable (records_of items)
             → Spells (take result out.new) (message_of head q items) }
     {
-        self.page.finish(head, out)
+        let mut page = self.page;
+        let message = page.finish(head);
+        let (front, _) = out.split_at_mut(message.len());
+        front.copy_from_slice(message);
+        message.len()
     }
 }

@@ -54,13 +54,17 @@ fn redrafted(
     limit: Limit,
     asked: &[u8],
 ) -> Result<Option<Vec<u8>>, Fail> {
-    let mut out = vec![in alloc; 0; limit.octets()]?;
     let mut steps = Steps::new(zone);
-    let length = match limit {
-        Limit::Udp => respond_in(&mut steps, asked, &mut drafts.short, &mut out),
-        Limit::Tcp => respond_in(&mut steps, asked, &mut drafts.large, &mut out),
+    let reply = match limit {
+        Limit::Udp => respond_in(&mut steps, asked, &mut drafts.short),
+        Limit::Tcp => respond_in(&mut steps, asked, &mut drafts.large),
     };
-    Ok(front(out, length))
+    let Some(reply) = reply else {
+        return Ok(None);
+    };
+    let mut out = Vec::new(alloc);
+    out.extend_from_slice(reply)?;
+    Ok(Some(out))
 }
 
 // Whether a draft that was used before makes the same reply as a new one.

@@ -20,10 +20,10 @@ fn a_datagram_and_its_reply(rt: HostRuntime) -> Result<(), Fail> {
             b"\x12\x34\x80\x01\x00\x00\x00\x00\x00\x00\x00\x00",
         ),
     ];
-    let (mut room, mut draft, mut out) = ([0; 512], UdpDraft::new(), [0; 512]);
+    let (mut room, mut draft) = ([0; 512], UdpDraft::new());
     for (datagram, replied, reply) in rows {
         let mut mailbox = Mailbox::new(rt.alloc(), datagram, 9);
-        let turn = udp_turn_in(&zone, &mut mailbox, &mut room, &mut draft, &mut out);
+        let turn = udp_turn_in(&zone, &mut mailbox, &mut room, &mut draft);
         assert_eq!(rt; turn, Ok(replied));
         assert_eq!(rt; mailbox.replies.as_slice(), reply);
         assert_eq!(rt; mailbox.sends, u32::from(replied));

@@ -37,8 +37,8 @@ returns-clause-reply g c =
     c.seek-followed_alias.ensures.seeks c.seek-followed_alias.ensures.followed
     (search rules)
     c.reply-head.ensures in
-    answer-put _ _ _ g.row.SIZE _ _ c.reply-head.result _ _ begun answers
-    (λ d h. c.finish.ensures.length _ _ h.written) (λ d h. c.finish.ensures.octets _ _ h.written)
+    answer-put _ _ _ g.row.SIZE _ _ c.reply-head.result _ begun answers
+    (λ d h. c.finish.ensures.octets _ _ h.written) c.finish.ensures.fits
 
 pub returns-clause-costs : goal.returns-clause-costs
 returns-clause-costs g c =

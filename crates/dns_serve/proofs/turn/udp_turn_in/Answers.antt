@@ -12,5 +12,5 @@ pub returns-in-Err-clause-turn : goal.returns-in-Err-clause-turn
 returns-in-Err-clause-turn g c =
     turn_unsent _ _
     (ap (λ s. s.zone) c.new-steps.ensures) _ _ _ _ _ _ c.receive.new.buf _ c.respond_in.result
-    _ c.respond_in.new.out c.in-Ok.ensures.datagram c.split_at.ensures.front c.in-Some.is
+    _ c.in-Ok.ensures.datagram c.split_at.ensures.front c.in-Some.is
     c.respond_in.ensures.octets c.in-Err.ensures.received
