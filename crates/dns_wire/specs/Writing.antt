@@ -1,6 +1,6 @@
 -- How a writer lays out a name, which places it keeps for later names, and what must hold for
 -- these places and for the octets written so far, so that later names share correctly.
-use Rattle.std.specs.Prelude.{◌≡◌, ℕ, zero, suc, Bool, IsFalse, IfSome, ◌+◌, ◌<◌, ◌≤◌, List, [], ◌∷◌, ◌++◌, ◌-◌, length, replicate, take, drop, nat_le, IsTrue, if◌then◌else◌}
+use Rattle.std.specs.Prelude.{◌≡◌, ℕ, zero, suc, Bool, IsFalse, IfSome, ◌+◌, ◌<◌, ◌≤◌, List, [], ◌∷◌, ◌++◌, ◌-◌, length, take, drop, nat_le, IsTrue, if◌then◌else◌}
 use Rattle.std.specs.Prelude.{Option, None, Some}
 use Rattle.dns_spec.specs.Names.{Octets, DomainName, wire, is_name}
 use Rattle.dns_spec.specs.Data.{laid_parts}
