@@ -1,5 +1,5 @@
 -- The owner and the data of a record in its octets, one after the other.
-use Rattle.dns_zone.proofs.Common.{◌≡◌, ℕ, ◌^◌, ◌<◌, true, All, [], ◌++◌, length, take, drop, refl, ap, ◌∙◌, arith, length-append, take-append_seam, drop-append_seam, Octets, DomainName, wire, is_name, ResourceRecord, Small, labels_of_spelled, IsWireForm-wire, IsKept, owner_in, data_in, IsEntry}
+use Rattle.dns_zone.proofs.Common.{◌≡◌, ℕ, true, All, [], ◌++◌, length, take, drop, refl, ap, ◌∙◌, arith, length-append, take-append_seam, drop-append_seam, Octets, DomainName, wire, is_name, ResourceRecord, Small, labels_of_spelled, IsWireForm-wire, IsKept, owner_in, data_in, IsEntry}
 
 -- the octets zs of a record with owner n, whose wire form is own, and data d
 pub record IsLaid (n : DomainName) (d own zs : Octets) : Type 0 where
@@ -21,9 +21,9 @@ module _ (n : DomainName) (d own zs : Octets) (laid : IsLaid n d own zs) where
   pub data_is : data_in (length own) zs ≡ d
   data_is = ap (drop (length own)) laid.whole ∙ drop-append_seam own d
 
-  pub entry_kept : (ttl t : ℕ) → IsKept n ttl t d → All Small n → Small d → t < 2 ^ 16
+  pub entry_kept : (ttl t : ℕ) → IsKept n ttl t d → All Small n → Small d
       → IsEntry (length own) zs ttl t
-  entry_kept ttl t kept small small_data fits =
+  entry_kept ttl t kept small small_data =
       grind (arith, length-append, IsWireForm-wire, owner_octets, is_name, owner_is, data_is)
 
   pub entry_is : (ttl t : ℕ) → ◌≡◌ {A = ResourceRecord} (record

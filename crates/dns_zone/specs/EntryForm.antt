@@ -1,5 +1,5 @@
 -- The layout of a record's owner and data in one list of octets.
-use Rattle.std.specs.Prelude.{ℕ, ◌^◌, ◌<◌, ◌≤◌, All, length, take, drop}
+use Rattle.std.specs.Prelude.{ℕ, ◌<◌, ◌≤◌, All, length, take, drop}
 use Rattle.dns_spec.specs.Names.{Octets, DomainName}
 use Rattle.dns_name.specs.WireForm.{labels_of, IsWireForm}
 use Rattle.dns_master.specs.RecordForm.{IsKept}
@@ -18,4 +18,3 @@ pub record IsEntry (k : ℕ) (xs : Octets) (ttl t : ℕ) : Type 0 where
   pub kept : IsKept (owner_in k xs) ttl t (data_in k xs)
   pub owner_octets : All (All (λ o. o < 256)) (owner_in k xs)
   pub data_octets : All (λ o. o < 256) (data_in k xs)
-  pub type_fits : t < 2 ^ 16

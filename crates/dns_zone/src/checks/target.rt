@@ -43,7 +43,7 @@ pub(crate) struct LastTarget<'a> {
     shared: &'a [[u8; 2]],
     // The places where targets were found, each in the slot of its name; may be empty. A slot may
     // have the place of another name.
-    found: Vec<u32>,
+    found: Vec<usize>,
 }
 
 impl<'a> Model for LastTarget<'a> {
@@ -61,7 +61,7 @@ impl<'a> Model for LastTarget<'a> {
 impl<'a> LastTarget<'a> {
     /// The root, before any lookup. `shared` is the list that `shared_octets` returned, and `found`
     /// the list of `found_places`.
-    pub(crate) fn new(shared: &'a [[u8; 2]], found: Vec<u32>) -> LastTarget<'a>
+    pub(crate) fn new(shared: &'a [[u8; 2]], found: Vec<usize>) -> LastTarget<'a>
         ensures { result ≡ [] }
     {
         LastTarget {
@@ -114,7 +114,7 @@ impl<'a> LastTarget<'a> {
 
     // The place in the target's slot, if the target is there.
     fn found_before(&self, names: &[CheckedName<'_>]) -> Option<usize> {
-        let place = *self.found.get(slot_of(&self.name))? as usize;
+        let place = *self.found.get(slot_of(&self.name))?;
         if names.get(place)?.key == self.key() {
             return Some(place);
         }
@@ -127,13 +127,13 @@ impl<'a> LastTarget<'a> {
         self.place = Some(place);
         self.next = place.saturating_add(1);
         if let Some(found) = self.found.get_mut(slot_of(&self.name)) {
-            *found = place as u32;
+            *found = place;
         }
     }
 }
 
 /// Room for the places where targets were found, if keys share octets; else none.
-pub(crate) fn found_places(alloc: Global, shared: usize) -> Result<Vec<u32>, AllocError> {
+pub(crate) fn found_places(alloc: Global, shared: usize) -> Result<Vec<usize>, AllocError> {
     let mut found = Vec::new(alloc);
     if shared > 0 {
         found.resize(SLOTS, 0)?;

@@ -17,7 +17,7 @@ invariant_of-result c =
     (small_labels _ (subst Small c.octets-owner.ensures.value
     (small_octets c.octets-owner.result.now (λ k. search rules))))
     (subst Small c.octets-data.ensures.value
-    (small_octets c.octets-data.result.now (λ k. search rules))) (search rules)
+    (small_octets c.octets-data.result.now (λ k. search rules)))
 
 pub returns : goal.returns
 returns c = entry_is _ _ _ _ (laid c) c.read.inside.ttl c.read.inside.rtype.0 ∙ c.read.view_is
