@@ -129,6 +129,12 @@ class Zone:
         """The file and the number of a line."""
         return self.places[line] if self.places else (self.path, line + 1)
 
+    def where(self, lines):
+        """The first three lines, as part of a sentence."""
+        places = dict.fromkeys(self.place(line) for line in itertools.islice(lines, 3))
+        where = [f"line {line}" + f" of {file}" * (file != self.path) for file, line in places]
+        return " and ".join(where) or "the same line"
+
     def lacks(self, record, what):
         """Whether the data or the TTL of a record was put in because its own is unknown."""
         return what in self.unknown.get(record.line, ())
@@ -209,16 +215,11 @@ class ZoneFaults(Names):
             if len(self.of.faults) > MOST:
                 return
 
-    def lines(self, records):
-        """The lines of the first three records, as part of a sentence."""
-        places = dict.fromkeys(self.of.place(record.line) for record in itertools.islice(records, 3))
-        lines = [f"line {line}" + f" of {file}" * (file != self.of.path) for file, line in places]
-        return " and ".join(lines) or "the same line"
-
     def each(self, records, text, others=None):
         """Yields records that are at fault together. In the text, {0} is the record, {1} the lines of the others."""
         for record in records[:MOST]:
-            yield record, text.format(record, self.lines(one for one in others or records if one.line != record.line))
+            lines = [other.line for other in others or records if other.line != record.line]
+            yield record, text.format(record, self.of.where(lines))
 
     def origin(self, code, owner, records):
         """The faults of an origin: a record is missing there, or an SOA record makes one of another name."""
@@ -233,7 +234,7 @@ class ZoneFaults(Names):
         says = f"SOA record: add `{owner} 3600 IN SOA {server} hostmaster.{below} 1 7200 900 1209600 300`"
         for soa in self.soas[:1]:
             do = "write @ as its owner, which lacks its final dot" if twice(soa.owner, self.zone) else give(soa.owner)
-            says = f"SOA record; {self.lines([soa])} has the one of {soa.owner}: {do}"
+            says = f"SOA record; {self.of.where([soa.line])} has the one of {soa.owner}: {do}"
         if code == "Z04":
             says = f"NS record: add one for each server, as `{owner} 3600 IN NS {server}`{lost}"
         return [(next(iter(records), None), f"the origin has no {says}")]
@@ -270,8 +271,8 @@ class ZoneFaults(Names):
             case "Z07":
                 yield from self.each(aliases, "more than one CNAME at one name; see {1}: keep one")
             case "Z12":
-                do = f"take it out (it belongs to the zone {cut}), or the NS records of {cut} on "
-                do += self.lines(self.at(cut, "NS"))
+                lines = self.of.where(server.line for server in self.at(cut, "NS"))
+                do = f"take it out (it belongs to the zone {cut}), or the NS records of {cut} on {lines}"
                 for record in records:
                     if record.rtype not in ("A", "AAAA") and (record.rtype != "NS" or owner != cut):
                         yield record, f"data at or below a delegation, where it is never answered: {do}"
@@ -298,8 +299,8 @@ class ZoneFaults(Names):
             if rtype not in (("MX", "SRV") if code == "Z11" else ("NS",)) or not within(target, self.zone):
                 continue
             if code != "Z10":
-                says = f"an {rtype} host that is an alias: {target}" if code == "Z11" else f"the server {target} is an alias"
-                yield from [(record, f"{says}: write {end}")] if aliases else ()
+                says = "the server {1} is an alias" if code == "Z09" else "an {0} host that is an alias: {1}"
+                yield from [(record, f"{says.format(rtype, target)}: write {end}")] if aliases else ()
                 continue
             spared = self.cut(target) and not (owner in self.cuts and within(target, owner))
             if spared or self.at(target, "A", "AAAA") or self.of.lacks(record, "data") or target in self.of.doubtful:

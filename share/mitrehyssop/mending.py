@@ -52,8 +52,8 @@ RULES = [
     ("R11", r"\n(DS|TYPE43)( |$)", None,
      UNSIGNED + "the record out, and after its TTL sign the zone below no more", "owner"),
     ("R11", r"\n(DNSKEY|RRSIG|NSEC|NSEC3|NSEC3PARAM|TYPE46|TYPE47|TYPE48|TYPE50|TYPE51)( |$)", None,
-     UNSIGNED + "its DS out at the parent, if there is one, wait as long as the TTL of the DS says, and then take this" +
-     " record out", "owner"),
+     UNSIGNED + "its DS out at the parent, if there is one, wait as long as the TTL of the DS says, "
+     "and then take this record out", "owner"),
     ("R11", r"\n(DNAME|TYPE39)( |$)", None,
      "{0} is not served here: an alias for each name takes its place", "owner"),
     ("R14", "", None, "more than 100,000 records: split the zone", "rest"),
@@ -111,9 +111,6 @@ class Mending(Entry):
         vars(self).update(changed)
         self.tokens = list(filter(None, [self.owner, self.ttl, self.rrclass, self.rtype, *self.data]))
 
-    def line(self, at):
-        return f"line {self.zone.place(at)[1]}"
-
     def misplaced(self, token, place):
         """The message if the token is an address or an owner in the place of a TTL or a type, else None."""
         if found := address(token):
@@ -139,7 +136,7 @@ class Mending(Entry):
 
         def note(match, says):
             place = len(whole[:match.start() if match else 0].encode("utf-8", "surrogateescape"))
-            notes.append(f"the octet {ord(line[place]):02X} at place {place + 1} of {self.line(at)} is {says}")
+            notes.append(f"the octet {ord(line[place]):02X} at place {place + 1} of {self.zone.where([at])} is {says}")
         for characters, instead, says in STRAY:
             if found := re.search(f"[{characters}]", before):
                 note(found, says)
@@ -176,7 +173,7 @@ class Mending(Entry):
         last = self.begin + pieces[:self.places[-1] if self.tokens else 0].count("\n")
         return ("a ) without a ( before it: take it out, or write the ( that is missing" if not self.depth else
                 "a parenthesis inside another: take the inner ones out" if pieces.count("(") == pieces.count(")") else
-                f"a parenthesis is not closed: write ) at the end of {self.line(last)}")
+                f"a parenthesis is not closed: write ) at the end of {self.zone.where([last])}")
 
     def r05(self):
         first, near = self.tokens[0], difflib.get_close_matches(self.tokens[0][:20].upper(), ["$ORIGIN", "$TTL"], 1)
@@ -285,7 +282,7 @@ class Mending(Entry):
                 return found.expand(instead).split(" ")[1:]
         fields = f"{count} field{'s' * (count != 1)}, and not {len(kinds)}"
         if rtype == "SOA" and count < 6 and self.take_lines(data):
-            begin = self.line(self.begin)
+            begin = self.zone.where([self.begin])
             notes.append(f"its lines are not joined: write ( at the end of {begin}, and ) after the last number")
         elif len(data) > len(kinds) and kinds != "s":
             several = all(map(address, data)) and "a record has one address: write a record for each"
