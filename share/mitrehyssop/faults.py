@@ -198,121 +198,104 @@ class Zone:
 
 
 class ZoneFaults(Names):
-    """The faults of a zone: for each fault that zonecheck reports, the records that have it, and what to do."""
+    """The faults of a zone: for each fault that zonecheck reports, the records that have it, and what to do.
+
+    Rows are a record, a code, whether the record has that fault if its name has it, and a sentence.
+    """
 
     def report(self, said):
         self.soas = [record for record in self.of.records if record.rtype == "SOA"]
+        targets = ("NS", "MX", "SRV")
+        self.hosts = {record.data[-1] for record in self.of.records if record.rtype in targets and record.data}
         lost = {"data", "ttl", "owner"} & set().union(*self.of.unknown.values())
         for owner, code in re.findall(r"^(.*) (Z\d\d)$", said, re.M):
-            look = {"Z01": self.origin, "Z03": self.origin, "Z04": self.origin, "Z05": self.outside,
-                    "Z09": self.server, "Z10": self.server, "Z11": self.server}.get(code, self.owner)
             here = self.at(owner)
-            found = list(look(code, owner, here))
+            rows = self.origin(owner, here) if code in ("Z01", "Z04") else self.rows(owner, here)
+            found = [(record, says) for record, its, holds, says in rows if its == code and holds]
             doubtful = owner in self.of.doubtful if code in ("Z01", "Z04") else \
                 lost and not found and code in ("Z08", "Z09", "Z10", "Z11")
-            for record, text in [] if doubtful else found or [(next(iter(here), None), "the name has this fault")]:
-                self.of.found(record.line if record else 0, code, text, owner)
+            for record, says in [] if doubtful else found or [(next(iter(here), None), "the name has this fault")]:
+                self.of.found(record.line if record else 0, code, says, owner)
             if len(self.of.faults) > MOST:
                 return
 
-    def each(self, records, text, others=None):
-        """Yields records that are at fault together. In the text, {0} is the record, {1} the lines of the others."""
-        for record in records[:MOST]:
-            lines = [other.line for other in others or records if other.line != record.line]
-            yield record, text.format(record, self.of.where(lines))
-
-    def origin(self, code, owner, records):
-        """The faults of an origin: a record is missing there, or an SOA record makes one of another name."""
-        below, give = self.zone.lstrip("."), "give {} as ORIGIN, if the file is of that zone".format
-        server = next((record.data[0] for record in records if record.rtype in ("NS", "SOA")), "ns1." + below)
+    def origin(self, owner, here):
+        below, first = self.zone.lstrip("."), next(iter(here), None)
+        server = next((record.data[0] for record in here if record.rtype in ("NS", "SOA")), "ns1." + below)
         lost = ", with the address of the server" * (within(server, self.zone) and not self.at(server, "A", "AAAA"))
-        if code == "Z03":
-            do = "its owner lacks the final dot: write @" if twice(owner, self.zone) else \
-                "take it out" if self.at(self.zone, "SOA") else \
-                "write @ as its owner, or " * within(owner, self.zone) + give(owner)
-            return [(soa, f"an SOA record that is not at the origin: {do}") for soa in self.at(owner, "SOA")]
-        says = f"SOA record: add `{owner} 3600 IN SOA {server} hostmaster.{below} 1 7200 900 1209600 300`"
+        do = f": add `{owner} 3600 IN SOA {server} hostmaster.{below} 1 7200 900 1209600 300`"
         for soa in self.soas[:1]:
-            do = "write @ as its owner, which lacks its final dot" if twice(soa.owner, self.zone) else give(soa.owner)
-            says = f"SOA record; {self.of.where([soa.line])} has the one of {soa.owner}: {do}"
-        if code == "Z04":
-            says = f"NS record: add one for each server, as `{owner} 3600 IN NS {server}`{lost}"
-        return [(next(iter(records), None), f"the origin has no {says}")]
+            do = "write @ as its owner, which lacks its final dot" if twice(soa.owner, self.zone) else \
+                f"give {soa.owner} as ORIGIN, if the file is of that zone"
+            do = f"; {self.of.where([soa.line])} has the one of {soa.owner}: {do}"
+        yield first, "Z01", True, "the origin has no SOA record" + do
+        do = f"add one for each server, as `{owner} 3600 IN NS {server}`{lost}"
+        yield first, "Z04", True, f"the origin has no NS record: {do}"
 
-    def outside(self, _, owner, records):
-        """The faults of a name outside the zone."""
-        hosts = {record.data[-1] for record in self.of.records if record.rtype in ("NS", "MX", "SRV") and record.data}
+    def rows(self, owner, here):
+        aliases, others = self.at(owner, "CNAME"), [record for record in here if record.rtype != "CNAME"]
+        cut, spread = self.cut(owner) or owner, "are served; spread them over several names"
+        servers = self.of.where(server.line for server in self.at(cut, "NS"))
+        own_zone = f"take it out (it belongs to the zone {cut}), or the NS records of {cut} on {servers}"
+        both = "a CNAME and other records at one name: " + (
+            "take the CNAME out, and write the A and AAAA records of its target" if owner == self.zone else
+            "keep it or the other, on ")
+        for number, (rtype, own) in enumerate(self.sets[owner].items()):
+            first, alone = {record.ttl: record for record in reversed(own)}, unique(own)
+            known = len(first) > 1 and not any(self.of.lacks(record, "ttl") for record in own)
+            for record in own:
+                def but(records):
+                    return self.of.where(other.line for other in records if other.line != record.line)
+                yield record, "Z02", rtype == "SOA", f"more than one SOA record; see {but(own)}: keep one"
+                yield record, "Z03", rtype == "SOA", f"an SOA record that is not at the origin: {self.moved(owner)}"
+                yield record, "Z05", True, f"the name is not in the zone {self.zone}; {self.outside(owner, rtype)}"
+                yield record, "Z06", rtype == "CNAME", both + but(others) * (owner != self.zone)
+                yield record, "Z06", rtype != "CNAME" and owner != self.zone, \
+                    f"other records at the name of a CNAME: keep it or the CNAME, on {but(aliases)}"
+                yield record, "Z07", rtype == "CNAME", f"more than one CNAME at one name; see {but(own)}: keep one"
+                yield record, "Z08", known and record is first[record.ttl], \
+                    f"the TTL of this {rtype} record is {record.ttl}, and that of {but(first.values())} is another: " \
+                    f"give all {rtype} records of the name the TTL {own[0].ttl}"
+                yield record, "Z12", rtype not in ("A", "AAAA") and (rtype != "NS" or owner != cut), \
+                    f"data at or below a delegation, where it is never answered: {own_zone}"
+                yield record, "Z13", rtype == "NS", "NS at a wildcard: take it out, and delegate each name by itself"
+                yield record, "Z14", record in alone[64:65], \
+                    f"{len(alone)} {rtype} records at one name: at most 64 {spread}"
+                yield record, "Z15", (number, record) == (32, own[0]), \
+                    f"{len(self.sets[owner])} types at one name: at most 32 {spread}"
+                yield from self.target(owner, record) if rtype in ("NS", "MX", "SRV") else ()
+
+    def moved(self, owner):
+        give = "write @ as its owner, or give" if within(owner, self.zone) else "give"
+        return "its owner lacks the final dot: write @" if twice(owner, self.zone) else \
+            "take it out" if self.at(self.zone, "SOA") else f"{give} {owner} as ORIGIN, if the file is of that zone"
+
+    def outside(self, owner, rtype):
         soa = next((soa.owner for soa in self.soas if not within(soa.owner, self.zone)), None)
-        for record in records:
-            do = "take the record out, or put it into the file of its own zone"
-            if soa and not self.at(self.zone, "SOA"):
-                do = f"the SOA of the file is that of {soa}: give that as ORIGIN"
-            elif record.rtype in ("A", "AAAA") and owner in hosts:
-                do = "the address of a host outside the zone is in the zone of that host: take the record out"
-            elif owner.count(".") == 1 and owner != ".":
-                do = f"write {owner[:-1]} without the final dot, or take the record out"
-            yield record, f"the name is not in the zone {self.zone}; {do}"
+        if soa and not self.at(self.zone, "SOA"):
+            return f"the SOA of the file is that of {soa}: give that as ORIGIN"
+        if rtype in ("A", "AAAA") and owner in self.hosts:
+            return "the address of a host outside the zone is in the zone of that host: take the record out"
+        if owner.count(".") == 1 and owner != ".":
+            return f"write {owner[:-1]} without the final dot, or take the record out"
+        return "take the record out, or put it into the file of its own zone"
 
-    def owner(self, code, owner, records):
-        """The faults of the records of a name."""
-        aliases, others = self.at(owner, "CNAME"), [record for record in records if record.rtype != "CNAME"]
-        cut, sets, spread = self.cut(owner) or owner, self.sets[owner], "are served; spread them over several names"
-        both = "a CNAME and other records at one name: "
-        match code:
-            case "Z02":
-                yield from self.each(self.at(owner, "SOA"), "more than one SOA record; see {1}: keep one")
-            case "Z06" if owner == self.zone:
-                do = "take the CNAME out, and write the A and AAAA records of its target"
-                yield from self.each(aliases, both + do)
-            case "Z06":
-                yield from self.each(aliases, both + "keep it or the other, on {1}", others)
-                says = "other records at the name of a CNAME: keep it or the CNAME, on {1}"
-                yield from self.each(others, says, aliases)
-            case "Z07":
-                yield from self.each(aliases, "more than one CNAME at one name; see {1}: keep one")
-            case "Z12":
-                lines = self.of.where(server.line for server in self.at(cut, "NS"))
-                do = f"take it out (it belongs to the zone {cut}), or the NS records of {cut} on {lines}"
-                for record in records:
-                    if record.rtype not in ("A", "AAAA") and (record.rtype != "NS" or owner != cut):
-                        yield record, f"data at or below a delegation, where it is never answered: {do}"
-            case "Z13":
-                says = "NS at a wildcard: take it out, and delegate each name by itself"
-                yield from self.each(self.at(owner, "NS"), says)
-            case "Z15":
-                own = [own[0] for own in sets.values()]
-                yield from self.each(own[32:33], f"{len(own)} types at one name: at most 32 {spread}")
-        for rtype, own in sets.items() if code in ("Z08", "Z14") else ():
-            first, alone = list({record.ttl: record for record in reversed(own)}.values()), unique(own)
-            if code == "Z14":
-                yield from self.each(alone[64:65], f"{len(alone)} {rtype} records at one name: at most 64 {spread}")
-            elif len(first) > 1 and not any(self.of.lacks(record, "ttl") for record in own):
-                do = f"give all {rtype} records of the name the TTL {own[0].ttl}"
-                says = f"the TTL of this {rtype} record is {{0.ttl}}, and that of {{1}} is another: {do}"
-                yield from self.each(first, says)
-
-    def server(self, code, owner, records):
-        """The faults of the targets in the zone: aliases, and servers without an address."""
-        for record in records:
-            target, written, rtype, found = record.data[-1], record.last, record.rtype, address(record.last)
-            end, aliases = self.aliased(target)
-            if rtype not in (("MX", "SRV") if code == "Z11" else ("NS",)) or not within(target, self.zone):
-                continue
-            if code != "Z10":
-                says = "the server {1} is an alias" if code == "Z09" else "an {0} host that is an alias: {1}"
-                yield from [(record, f"{says.format(rtype, target)}: write {end}")] if aliases else ()
-                continue
-            spared = self.cut(target) and not (owner in self.cuts and within(target, owner))
-            if spared or self.at(target, "A", "AAAA") or self.of.lacks(record, "data") or target in self.of.doubtful:
-                continue
-            do = f"add `{target} 3600 IN A` with its address, or take the NS record out"
-            if found:
-                do = "is an address: write a name, as `NS ns9`, and for that name"
-                do = f"{found[1]} {do} `ns9 {found[0]} {found[1]}`"
-            elif twice(target, self.zone):
-                do = f"the final dot is missing: write {written}."
-            elif aliases:
-                do = f"write {end}, to which it is an alias"
-            elif "." in written and written[-1] != "." and (owner == self.zone or not within(target, owner)):
-                do = f"write {written}. if it is in another zone; else {do}"
-            yield record, f"a server in the zone without an address: {target}: {do}"
+    def target(self, owner, record):
+        target, rtype, written, found = record.data[-1], record.rtype, record.last, address(record.last)
+        end, aliases = self.aliased(target) if within(target, self.zone) else (target, [])
+        yield record, "Z09", rtype == "NS" and aliases, f"the server {target} is an alias: write {end}"
+        yield record, "Z11", rtype != "NS" and aliases, f"an {rtype} host that is an alias: {target}: write {end}"
+        do = f"add `{target} 3600 IN A` with its address, or take the NS record out"
+        if found:
+            do = f"{found[1]} is an address: write a name, as `NS ns9`, and for that name `ns9 {found[0]} {found[1]}`"
+        elif twice(target, self.zone):
+            do = f"the final dot is missing: write {written}."
+        elif aliases:
+            do = f"write {end}, to which it is an alias"
+        elif "." in written and written[-1] != "." and (owner == self.zone or not within(target, owner)):
+            do = f"write {written}. if it is in another zone; else {do}"
+        below = self.cut(target) and not (owner in self.cuts and within(target, owner))
+        known = not self.of.lacks(record, "data") and target not in self.of.doubtful
+        lost = within(target, self.zone) and not below and not self.at(target, "A", "AAAA")
+        yield record, "Z10", rtype == "NS" and known and lost, \
+            f"a server in the zone without an address: {target}: {do}"

@@ -188,16 +188,6 @@ class Entry:
         return "".join(pieces)[:-1].split("\n")
 
 
-def data_of(rtype, tokens, origin):
-    """Data in the form of the canonical text, as far as the type's form is known."""
-    kinds = KINDS.get(rtype)
-    if kinds is None or tokens[:1] == ["\\#"]:
-        return tokens
-    return [string(octets(token)) if kind == "s" else name(token, origin) or token if kind == "n" else
-            str(ipaddress.IPv6Address(token)) if kind == "6" and groups(token) else token
-            for kind, token in zip(kinds * len(tokens) if kinds == "s" else kinds, tokens)]
-
-
 class Reader:
     """Reads the entries of a zone in order, and keeps what a later entry takes from earlier ones."""
 
@@ -224,9 +214,12 @@ class Reader:
             return None
         self.owner = entry.owner and name(entry.owner.strip('"'), self.origin) or self.owner
         self.stated = entry.ttl or self.stated
-        rtype = NAMED.get(entry.rtype, entry.rtype)
-        data = data_of(rtype, entry.data, self.origin)
-        ttl = entry.ttl or self.default or self.stated
+        ttl, rtype, data = entry.ttl or self.default or self.stated, NAMED.get(entry.rtype, entry.rtype), entry.data
+        # Data has the form of the canonical text as far as the form of its type is known.
+        kinds = KINDS.get(rtype, "") if data[:1] != ["\\#"] else ""
+        data = [string(octets(token)) if kind == "s" else name(token, self.origin) or token if kind == "n" else
+                str(ipaddress.IPv6Address(token)) if kind == "6" and groups(token) else token
+                for kind, token in zip(kinds * len(data) if kinds == "s" else kinds, data)] if kinds else data
         return Record(self.owner, ttl, rtype, data, entry.begin, tokens[-1]) if rtype else None
 
 

@@ -67,10 +67,6 @@ FIELDS = [(r"MX (?!\d+ )(\S+) (\d+)", r"MX \2 \1", "the number is first: write M
            "6 fields, and not 7: one of the five numbers is missing: write 3600 at the end, if it is the minimum")]
 
 
-def uncommented(line):
-    return itertools.takewhile(lambda piece: piece[0] != ";", PIECE.findall(line))
-
-
 def in_ascii(piece, is_text):
     """A token with \\DDD for the octets that are not ASCII if it is text, or else as a name in the form that DNS has;
     and what to write."""
@@ -132,16 +128,18 @@ class Mending(Entry):
         """A line without octets that are not allowed. Adds to `notes` what was done."""
         line, is_text, written = self.zone.lines[at], False, ""
         text = whole = line.removesuffix("\r").encode("latin-1").decode("utf-8", "surrogateescape")
-        before = "".join(uncommented(whole))
+
+        def pieces(text):
+            return itertools.takewhile(lambda piece: piece[0] != ";", PIECE.findall(text))
 
         def note(match, says):
             place = len(whole[:match.start() if match else 0].encode("utf-8", "surrogateescape"))
             notes.append(f"the octet {ord(line[place]):02X} at place {place + 1} of {self.zone.where([at])} is {says}")
         for characters, instead, says in STRAY:
-            if found := re.search(f"[{characters}]", before):
+            if found := re.search(f"[{characters}]", "".join(pieces(whole))):
                 note(found, says)
                 text = re.sub(f"[{characters}]", instead, text)
-        for piece in uncommented(text):
+        for piece in pieces(text):
             is_text = is_text or piece.upper() in ("TXT", "HINFO")
             if not piece.isascii():
                 piece, do = in_ascii(piece, is_text or piece[0] == '"')
@@ -202,9 +200,8 @@ class Mending(Entry):
 
     def r07(self):
         token, (good, _) = self.tokens[0], self.as_name(self.tokens[0], "")
-        self.tokens[0] = good or f"name{self.begin}"
-        do = f"write {good or 'another'}"
-        return f"{token} is not a name, which has labels of 1 to 63 octets without quotation marks: {do}"
+        self.tokens[0], has = good or f"name{self.begin}", "which has labels of 1 to 63 octets without quotation marks"
+        return f"{token} is not a name, {has}: write {good or 'another'}"
 
     def r09(self):
         ttl = self.ttl or self.tokens[0]
