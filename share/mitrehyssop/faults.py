@@ -175,12 +175,12 @@ class Zone:
             for at in itertools.takewhile(lambda at: self.place(at) == self.place(line), rest):
                 self.lines[at] = ""
             return True
-        self.unknown[line] |= mending.unknown | {"string"} if again else mending.unknown
-        if "owner" in mending.unknown:
+        self.unknown[line] |= {mending.unknown, "string"} if again else {mending.unknown}
+        if mending.unknown == "owner":
             self.doubtful.add(name(mending.owner, reader.origin) if mending.owner else reader.owner)
-        if "rest" not in mending.unknown:
+        if mending.unknown != "rest":
             self.replace(mending, [] if again else mending.fixed)
-        return "rest" not in mending.unknown
+        return mending.unknown != "rest"
 
     def replace(self, entry, lines):
         """Replaces an entry by lines. If these are more than it has, all get the number of its first line."""

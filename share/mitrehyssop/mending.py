@@ -82,47 +82,45 @@ def in_ascii(piece, is_text):
 class Mending(Entry):
     """The correction of an entry: `says` is the message for its code, `fixed` its new lines, none if it is taken out.
 
-    `unknown` has what is unknown after that: its `data` or `ttl`, what its `owner` owns, the end of a `string`, or the
-    `rest` of the file. `follows` means that its fault may come from a string that was corrected.
+    `unknown` is what is unknown after that: its `data` or `ttl`, what its `owner` owns, the end of a `string`, or the
+    `rest` of the file. `follows` means that its fault may come from a string that was corrected. Most methods yield
+    rows, the first that holds is used: whether it holds, the right tokens, what is unknown, and the message.
     """
 
     def __init__(self, zone, reader, line, code):
         super().__init__(zone.lines, line)
-        self.zone, self.reader, self.unknown, self.follows, self.fixed = zone, reader, set(), False, None
+        self.zone, self.reader, self.follows = zone, reader, False
+        # An entry that is not closed has no other fault yet, because zonecheck reads the lines after it as part of it.
+        rows = itertools.chain(self.rules(code), getattr(self, code.lower(), self.r04)())
+        _, tokens, self.unknown, self.says = next(row for row in rows if row[0])
+        self.fixed = " ".join(tokens).split("\n") if tokens else []
+
+    def record(self, **changed):
+        """The tokens of the record with some fields changed. The first is empty if it has no owner."""
+        its = {**vars(self), **changed}
+        return [its["owner"] or "", *filter(None, [its["ttl"], its["rrclass"], its["rtype"], *its["data"]])]
+
+    def rules(self, code):
         text = " " * self.blank + self.joined(0, self.at) + "\n" + self.joined(self.at)
         for pattern, instead, says, unknown in [rule for of, *rule in RULES if of == code]:
             if found := re.search(pattern, text, re.I):
-                self.says = says.format(*(part and part.upper() for part in found.groups()))
-                self.unknown = {unknown} - {""}
-                text = "" if instead is None else re.sub(pattern, instead, text, 0 if callable(instead) else 1, re.I)
-                self.fixed = [text.replace("\n", " ")] if text else []
-                return
-        # An entry that is not closed has no other fault yet, because zonecheck reads the lines after it as part of it.
-        self.says = getattr(self, code.lower(), self.r04)()
-        if self.fixed is None:
-            self.fixed = [" " * self.blank + " ".join(self.tokens)] if self.tokens else []
-
-    def put(self, **changed):
-        """Changes some fields, and makes the tokens of the record from all fields."""
-        vars(self).update(changed)
-        self.tokens = list(filter(None, [self.owner, self.ttl, self.rrclass, self.rtype, *self.data]))
+                new = instead is not None and re.sub(pattern, instead, text, 0 if callable(instead) else 1, re.I)
+                says = says.format(*(part and part.upper() for part in found.groups()))
+                yield True, [new.replace("\n", " ")] if new else [], unknown, says
 
     def misplaced(self, token, place):
-        """The message if the token is an address or an owner in the place of a TTL or a type, else None."""
-        if found := address(token):
-            self.put(ttl=self.ttl if place == "type" else None, rtype=found[0], data=[found[1]])
-            return f"no type before {token}: write {found[0]} {found[1]}"
-        if self.blank and token == self.tokens[0] and BEGIN.match(" ".join(self.tokens)):
-            self.blank = False
-            return f"{token} is in the place of the {place}: an owner begins in the first column"
-        return None
+        """An address or an owner in the place of a TTL or a type."""
+        rtype, text = address(token) or ("", "")
+        new = self.record(ttl=self.ttl if place == "type" else None, rtype=rtype, data=[text])
+        yield text, new, "", f"no type before {token}: write {rtype} {text}"
+        owner = self.blank and token == self.tokens[0] and BEGIN.match(" ".join(self.tokens))
+        yield owner, self.tokens, "", f"{token} is in the place of the {place}: an owner begins in the first column"
 
     def r01(self):
         says, notes = next((says for begin, says in FORMS.items() if self.zone.text.startswith(begin)), None), []
-        self.unknown = {"rest"} if says else set()
-        self.fixed = [self.clean(at, notes) for at in range(self.begin, self.end)]
-        return says or "; ".join(dict.fromkeys(notes)) or \
-            "an octet that is not allowed: only printable ASCII, spaces and tabs are"
+        lines = [self.clean(at, notes) for at in range(self.begin, self.end)]
+        notes = dict.fromkeys(notes or ["an octet that is not allowed: only printable ASCII, spaces and tabs are"])
+        yield True, ["\n".join(lines)], "rest" if says else "", says or "; ".join(notes)
 
     def clean(self, at, notes):
         """A line without octets that are not allowed. Adds to `notes` what was done."""
@@ -148,9 +146,9 @@ class Mending(Entry):
         return written + "\r" * line.endswith("\r")
 
     def r03(self):
-        self.unknown, lines, tokens, more = {"string"}, self.zone.lines, self.tokens, []
+        lines, tokens, more = self.zone.lines, [""] * self.blank + self.tokens, []
         number = next((number for number, token in enumerate(tokens)
-                       if token[0] == '"' and not re.fullmatch(r'"(?:[^"\\]|\\.)*"', token)), -1)
+                       if token[:1] == '"' and not re.fullmatch(r'"(?:[^"\\]|\\.)*"', token)), -1)
         inner, bare = tokens[number].endswith('\\"'), tokens[number].rstrip("\r) \t" if self.depth else "\r")
         tokens[number] = tokens[number][:-2] + '\\\\"' if inner else bare + '"'
         # The string goes on to the line with its closing mark, if that line comes before the next entry.
@@ -160,109 +158,100 @@ class Mending(Entry):
         if last is not None and number == len(tokens) - 1 and self.closed:
             more = [string(line.strip().strip('"')) for line in lines[self.end:last + 1]]
             self.end = last + 1
-        tokens += more
-        return "a quotation mark is not closed on its line" + (
+        yield True, tokens + more, "string", "a quotation mark is not closed on its line" + (
             ', since \\" is a mark inside the string: write \\\\" for a backslash at its end' if inner else
             ": write a string on each line, and parentheses around all of them" if more else
             ": close it; long texts are several strings in parentheses")
 
     def r04(self):
-        self.unknown, pieces = {"string"}, self.pieces
+        pieces, tokens = self.pieces, [""] * self.blank + self.tokens
         last = self.begin + pieces[:self.places[-1] if self.tokens else 0].count("\n")
-        return ("a ) without a ( before it: take it out, or write the ( that is missing" if not self.depth else
-                "a parenthesis inside another: take the inner ones out" if pieces.count("(") == pieces.count(")") else
-                f"a parenthesis is not closed: write ) at the end of {self.zone.where([last])}")
+        even, end = pieces.count("(") == pieces.count(")"), self.zone.where([last])
+        yield not self.depth, tokens, "string", \
+            "a ) without a ( before it: take it out, or write the ( that is missing"
+        yield even, tokens, "string", "a parenthesis inside another: take the inner ones out"
+        yield True, tokens, "string", f"a parenthesis is not closed: write ) at the end of {end}"
 
     def r05(self):
-        first, near = self.tokens[0], difflib.get_close_matches(self.tokens[0][:20].upper(), ["$ORIGIN", "$TTL"], 1)
-        owner = not near and self.rtype in KINDS and self.data
+        first, *rest = self.tokens
         if first.upper() in ("$INCLUDE", "$GENERATE"):
             text = "\n".join(self.zone.lines[self.begin:self.end])
-            self.fixed = bind.expanded(self.reader, text, self.zone.path) if self.zone.notes is None else []
-            self.zone.partial = self.zone.partial or not any(self.fixed)
-            return f"{first} is not known here: `zoneimport` writes its records, and `zonelint --bind` reads it"
-        self.tokens[0] = near[0] if near else "\\" + first
-        self.fixed = None if near or owner else []
-        do = f": write {near[0]}" if near else ""
-        return f"an owner that begins with $ is written \\{first}" if owner else \
-            f"{first} is not known: the only directives here are $ORIGIN and $TTL{do}"
+            lines = bind.expanded(self.reader, text, self.zone.path) if self.zone.notes is None else []
+            self.zone.partial = self.zone.partial or not any(lines)
+            says = f"{first} is not known here: `zoneimport` writes its records, and `zonelint --bind` reads it"
+            yield True, ["\n".join(lines)], "", says
+        near, says = difflib.get_close_matches(first[:20].upper(), ["$ORIGIN", "$TTL"], 1), f"{first} is not known: "
+        owner, says = self.rtype in KINDS and self.data, says + "the only directives here are $ORIGIN and $TTL"
+        yield near, [*near, *rest], "", f"{says}: write {''.join(near)}"
+        yield owner, ["\\" + first, *rest], "", f"an owner that begins with $ is written \\{first}"
+        yield True, [], "", says
 
     def r06(self):
         first, fields = self.tokens[0], [token.strip('"') for token in self.tokens[1:]]
-        if first.upper() == "$ORIGIN":
-            good = [field for field in fields if name(field, self.reader.origin)][:1]
-            self.tokens = [first, *good] if good else []
-            return "$ORIGIN takes one name" + "".join(f": write $ORIGIN {do}" for do in good)
+        good = next((field for field in fields if name(field, self.reader.origin)), "")
         value, _ = self.as_number(next((field for field in fields if seconds(field) is not None), ""), "T")
-        self.unknown, self.tokens = set() if value else {"ttl"}, [first, value or "3600"]
-        do = f"{' '.join(fields)} is written {value} here" if value else f"write {first} 3600, for example"
-        return f"$TTL takes one{TIME[1:]}: {do}"
+        if first.upper() == "$ORIGIN":
+            yield good, [first, good], "", f"$ORIGIN takes one name: write $ORIGIN {good}"
+            yield True, [], "", "$ORIGIN takes one name"
+        yield value, [first, value], "", f"$TTL takes one{TIME[1:]}: {' '.join(fields)} is written {value} here"
+        yield True, [first, "3600"], "ttl", f"$TTL takes one{TIME[1:]}: write {first} 3600, for example"
 
     def r07(self):
-        token, (good, _) = self.tokens[0], self.as_name(self.tokens[0], "")
-        self.tokens[0], has = good or f"name{self.begin}", "which has labels of 1 to 63 octets without quotation marks"
-        return f"{token} is not a name, {has}: write {good or 'another'}"
+        (first, *rest), (good, _) = self.tokens, self.as_name(self.tokens[0], "")
+        says = f"{first} is not a name, which has labels of 1 to 63 octets without quotation marks"
+        yield True, [good or f"name{self.begin}", *rest], "", f"{says}: write {good or 'another'}"
 
     def r09(self):
-        ttl = self.ttl or self.tokens[0]
+        ttl, instead = self.ttl or self.tokens[0], self.reader.default or self.reader.stated or "3600"
         value, _ = self.as_number(ttl, "T")
-        says = None if value else self.misplaced(ttl, "TTL")
-        if says:
-            return says
-        instead = value or self.reader.default or self.reader.stated or "3600"
-        self.put(ttl=instead, unknown=set() if value else {"ttl"})
-        do = f"written {value} here" if value else f"not; write {instead}, for example"
-        return f"the TTL is {TIME}: {ttl} is {do}"
+        yield value, self.record(ttl=value), "", f"the TTL is {TIME}: {ttl} is written {value} here"
+        yield from self.misplaced(ttl, "TTL")
+        yield True, self.record(ttl=instead), "ttl", f"the TTL is {TIME}: {ttl} is not; write {instead}, for example"
 
     def r12(self):
         value = next((record.ttl for record in Reader(self.zone.zone).records(self.zone.lines) if record.ttl), "")
-        self.put(ttl=value if value.isdigit() else "3600", unknown={"ttl"})
-        return f"no TTL: put $TTL {self.ttl} on the first line"
+        value = value if value.isdigit() else "3600"
+        yield True, self.record(ttl=value), "ttl", f"no TTL: put $TTL {value} on the first line"
 
     def r11(self):
         typed, bare = "".join(self.tokens[self.at:self.at + 1]), self.rtype.strip('":,.')
-        says = self.misplaced(typed, "type") if self.blank or not self.data else None
-        if says:
-            return says
+        yield from self.misplaced(typed, "type") if self.blank or not self.data else ()
         if self.rtype in OTHERS:
-            data, why = bind.generic(self, self.rtype, self.reader.origin)
-            do = why or f"write {NUMBERS[self.rtype]} {data[:60]}{'..' * bool(data[60:])}, as `zoneimport` does"
-            self.put(rtype=NUMBERS[self.rtype], data=(data or "\\# 0").split(" "))
-            return f"{typed.upper()} is not known by name: {do}"
+            (data, why), number = bind.generic(self, self.rtype, self.reader.origin), NUMBERS[self.rtype]
+            do = why or f"write {number} {data[:60]}{'..' * bool(data[60:])}, as `zoneimport` does"
+            new = self.record(rtype=number, data=(data or "\\# 0").split(" "))
+            yield True, new, "", f"{typed.upper()} is not known by name: {do}"
         near = [bare] if bare in NUMBERS else difflib.get_close_matches(bare[:20], NUMBERS, 1) if bare[2:] else []
-        if near:
-            self.put(rtype=near[0])
-            return f"{typed} is not a type: write {near[0]}"
-        self.unknown, self.fixed = {"owner"}, []
-        return f"{typed} is not a type: known are {', '.join(KINDS)}, and others as TYPEn" if typed else \
-            f"no type after {self.tokens[-1]}"
+        yield near, self.record(rtype="".join(near)), "", f"{typed} is not a type: write {''.join(near)}"
+        yield typed, [], "owner", f"{typed} is not a type: known are {', '.join(KINDS)}, and others as TYPEn"
+        yield True, [], "owner", f"no type after {self.tokens[-1]}"
 
     def r13(self):
         rtype, notes = NAMED.get(self.rtype, self.rtype), []
         if self.data[:1] == ["\\#"] or rtype not in KINDS:
-            return self.unknown_form(rtype)
+            yield from self.unknown_form(rtype)
         kinds = KINDS[rtype]
         self.follows = len(kinds) != len(self.data)
         data = self.counted(rtype, kinds, notes)
         pairs = zip(kinds * len(data) if kinds == "s" else kinds, data)
         read = [self.READ[kind](self, token, kind) for kind, token in pairs]
         fixed = [good for good, _ in read] + [None] * (len(kinds) - len(read))
-        self.unknown = {"data"} if None in fixed else set()
-        self.put(data=[good or INSTEAD[kind] for kind, good in zip(kinds.ljust(len(fixed), "s"), fixed)])
-        return "; ".join([f"{rtype} takes {TAKES[rtype]}", *dict.fromkeys(notes + [note for _, note in read if note])])
+        new = self.record(data=[good or INSTEAD[kind] for kind, good in zip(kinds.ljust(len(fixed), "s"), fixed)])
+        notes = dict.fromkeys([f"{rtype} takes {TAKES[rtype]}", *notes, *filter(None, (note for _, note in read))])
+        yield True, new, "data" if None in fixed else "", "; ".join(notes)
 
     def unknown_form(self, rtype):
         """Data after \\#, or of a type that has no other form."""
         octets, says = "".join(self.data[2:]), "after \\# are a length and as many octets in hex digits"
         if self.data[:1] != ["\\#"]:
             data, _ = bind.generic(self, rtype, self.reader.origin)
-            self.put(data=(data or "\\# 0").split(" "))
-            return f"{rtype} takes \\#, a length and hex digits" + (f": write {data}" if data else "")
-        if rtype in KINDS or not re.fullmatch(r"(?:[0-9a-fA-F]{2})*", octets):
-            self.put(unknown={"data"}, data=[INSTEAD[kind] for kind in KINDS.get(rtype, "")] or ["\\#", "0"])
-            return says + (f"; these are not valid for {rtype}" if rtype in KINDS else "")
-        self.put(data=["\\#", str(len(octets) // 2), octets])
-        return f"{says}: write {' '.join(self.data).strip()[:60]}"
+            do = f": write {data}" if data else ""
+            yield True, self.record(data=(data or "\\# 0").split(" ")), "", \
+                f"{rtype} takes \\#, a length and hex digits{do}"
+        instead, data = [INSTEAD[kind] for kind in KINDS.get(rtype, "")], ["\\#", str(len(octets) // 2), octets]
+        yield instead, self.record(data=instead), "data", f"{says}; these are not valid for {rtype}"
+        yield not re.fullmatch(r"(?:[0-9a-fA-F]{2})*", octets), self.record(data=["\\#", "0"]), "data", says
+        yield True, self.record(data=data), "", f"{says}: write {' '.join(data).strip()[:60]}"
 
     def counted(self, rtype, kinds, notes):
         """The data with as many fields as its type has, if they can be known."""
