@@ -70,14 +70,14 @@ class Importer(Reader):
                 new = self.entry(entry, (path, at + 1), stack)
             except Refused as error:
                 self.notes[begun], new = str(error), lines[at:entry.end]
-            for number, line in enumerate(new, at + 1):
-                self.add(line, (path, min(number, entry.end)))
+            self.add(new, path, at + 1, entry.end)
             at = entry.end
 
-    def add(self, line, place):
-        self.lines.append(line)
-        self.places.append(place)
-        self.size += len(line) + 1
+    def add(self, lines, path, first, last):
+        for number, line in enumerate(lines, first):
+            self.lines.append(line)
+            self.places.append((path, min(number, last)))
+            self.size += len(line) + 1
 
     def entry(self, entry, place, stack):
         """The new lines of an entry."""
@@ -141,7 +141,7 @@ class Importer(Reader):
         refuse(os.path.exists(real) and not os.path.isfile(real), f"{tokens[1]} is not a plain file")
         text = read(real, tokens[1])
         if origin != before:
-            self.add(f"$ORIGIN {origin}", place)
+            self.add([f"$ORIGIN {origin}"], *place, place[1])
         self.origin = origin
         self.read(text, real if os.path.isabs(place[0]) else os.path.relpath(real), (*stack, real))
         changed, self.origin, self.owner, self.restate = self.origin != before, before, owner, True

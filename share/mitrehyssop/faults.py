@@ -178,23 +178,19 @@ class Zone:
         self.unknown[line] |= {mending.unknown, "string"} if again else {mending.unknown}
         if mending.unknown == "owner":
             self.doubtful.add(name(mending.owner, reader.origin) if mending.owner else reader.owner)
-        if mending.unknown != "rest":
-            self.replace(mending, [] if again else mending.fixed)
-        return mending.unknown != "rest"
-
-    def replace(self, entry, lines):
-        """Replaces an entry by lines. If these are more than it has, all get the number of its first line."""
-        begin, end = entry.begin, entry.end
-        if not lines and entry.owner and entry.owner[0] not in '$#/"':
+        end, lines = mending.end, [] if again else mending.fixed
+        if not lines and mending.owner and mending.owner[0] not in '$#/"':
             # Entries after it that begin with a blank keep its owner.
-            after = next((at for at in range(end, len(self.lines)) if self.lines[at].split(";")[0].strip()), begin)
-            if self.lines[after][0] in " \t" and after > begin:
-                self.lines[after] = entry.owner + self.lines[after]
-        lines += [""] * (end - begin - len(lines))
-        if len(lines) > end - begin:
+            after = next((at for at in range(end, len(self.lines)) if self.lines[at].split(";")[0].strip()), line)
+            if self.lines[after][0] in " \t" and after > line:
+                self.lines[after] = mending.owner + self.lines[after]
+        lines += [""] * (end - line - len(lines))
+        if len(lines) > end - line:
+            # All lines of an entry that gets more than it has are at its first line.
             self.places = self.places or [(self.path, number) for number in range(1, len(self.lines) + 1)]
-            self.places[begin:end] = [self.places[begin]] * len(lines)
-        self.lines[begin:end] = lines
+            self.places[line:end] = [self.places[line]] * len(lines)
+        self.lines[line:end] = lines
+        return mending.unknown != "rest"
 
 
 class ZoneFaults(Names):

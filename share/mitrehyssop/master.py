@@ -166,10 +166,9 @@ class Entry:
             self.end += 1
         return depth
 
-    def joined(self, first, last=None):
-        """The tokens from `first` to before `last`, if given, as a text with a blank for each run of other pieces."""
-        places = [*self.places, len(self.pieces)]
-        pieces = self.pieces[places[first]:places[-1 if last is None else last]]
+    def joined(self, first):
+        """The tokens from `first` on as a text, with a blank for each run of other pieces between them."""
+        pieces = self.pieces[[*self.places, len(self.pieces)][first]:]
         text = "".join("\0" if piece[0] in " \t\r\n();" else escaped(piece, "\t -~") for piece in pieces)
         return re.sub("\0+", " ", text.strip("\0"))
 

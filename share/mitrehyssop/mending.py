@@ -67,18 +67,6 @@ FIELDS = [(r"MX (?!\d+ )(\S+) (\d+)", r"MX \2 \1", "the number is first: write M
            "6 fields, and not 7: one of the five numbers is missing: write 3600 at the end, if it is the minimum")]
 
 
-def in_ascii(piece, is_text):
-    """A token with \\DDD for the octets that are not ASCII if it is text, or else as a name in the form that DNS has;
-    and what to write."""
-    if is_text:
-        spelled = escaped(piece.encode("utf-8", "surrogateescape").decode("latin-1"), "\t -~")
-        return spelled, "\\DDD for each such octet, here " + "".join(re.findall(r"\\[12]\d\d", spelled))[:80]
-    characters = re.sub("[\udc80-\udcff]", lambda c: chr(ord(c[0]) - 0xdc00), piece)
-    labels = unicodedata.normalize("NFC", characters.lower()).split(".")
-    full = ".".join(label if label.isascii() else "xn--" + label.encode("punycode").decode() for label in labels)
-    return full, f"the name as DNS has it, {full}"
-
-
 class Mending(Entry):
     """The correction of an entry: `says` is the message for its code, `fixed` its new lines, none if it is taken out.
 
@@ -101,7 +89,7 @@ class Mending(Entry):
         return [its["owner"] or "", *filter(None, [its["ttl"], its["rrclass"], its["rtype"], *its["data"]])]
 
     def rules(self, code):
-        text = " " * self.blank + self.joined(0, self.at) + "\n" + self.joined(self.at)
+        text = " ".join([""] * self.blank + self.tokens[:self.at]) + "\n" + self.joined(self.at)
         for pattern, instead, says, unknown in [rule for of, *rule in RULES if of == code]:
             if found := re.search(pattern, text, re.I):
                 new = instead is not None and re.sub(pattern, instead, text, 0 if callable(instead) else 1, re.I)
@@ -139,9 +127,15 @@ class Mending(Entry):
                 text = re.sub(f"[{characters}]", instead, text)
         for piece in pieces(text):
             is_text = is_text or piece.upper() in ("TXT", "HINFO")
-            if not piece.isascii():
-                piece, do = in_ascii(piece, is_text or piece[0] == '"')
+            if not piece.isascii() and (is_text or piece[0] == '"'):
+                piece = escaped(piece.encode("utf-8", "surrogateescape").decode("latin-1"), "\t -~")
+                do = "\\DDD for each such octet, here " + "".join(re.findall(r"\\[12]\d\d", piece))[:80]
                 note(NOT_ASCII.search(whole), f"not ASCII: write {do}")
+            elif not piece.isascii():
+                piece = re.sub("[\udc80-\udcff]", lambda c: chr(ord(c[0]) - 0xdc00), piece).lower()
+                labels = unicodedata.normalize("NFC", piece).split(".")
+                piece = ".".join(one if one.isascii() else "xn--" + one.encode("punycode").decode() for one in labels)
+                note(NOT_ASCII.search(whole), f"not ASCII: write the name as DNS has it, {piece}")
             written += piece
         return written + "\r" * line.endswith("\r")
 
