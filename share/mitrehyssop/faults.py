@@ -239,7 +239,8 @@ class ZoneFaults(Names):
         for number, (rtype, own) in enumerate(self.sets[owner].items()):
             first, alone = {record.ttl: record for record in reversed(own)}, unique(own)
             known = len(first) > 1 and not any(self.of.lacks(record, "ttl") for record in own)
-            for record in own:
+            more = [record for record in own[MOST:] if record in (first[record.ttl], *alone[64:65])]
+            for record in own[:MOST] + more:
                 def but(records):
                     return self.of.where(other.line for other in records if other.line != record.line)
                 yield record, "Z02", rtype == "SOA", f"more than one SOA record; see {but(own)}: keep one"

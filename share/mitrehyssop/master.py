@@ -234,8 +234,7 @@ class Names:
         self.of, self.zone, self.sets = zone, zone.zone, collections.defaultdict(dict)
         for record in records:
             self.sets[record.owner].setdefault(record.rtype, []).append(record)
-        owners = [full for full, sets in self.sets.items() if "NS" in sets and full != self.zone]
-        self.cuts = {full for full in owners if within(full, self.zone)}
+        self.cuts = {cut for cut, sets in self.sets.items() if "NS" in sets and within(cut, self.zone)} - {self.zone}
 
     def at(self, owner, *types):
         """The records of a name, only of `types` if any are given."""

@@ -54,8 +54,7 @@ RULES = [
     ("R11", r"\n(DNSKEY|RRSIG|NSEC|NSEC3|NSEC3PARAM|TYPE46|TYPE47|TYPE48|TYPE50|TYPE51)( |$)", None,
      UNSIGNED + "its DS out at the parent, if there is one, wait as long as the TTL of the DS says, "
      "and then take this record out", "owner"),
-    ("R11", r"\n(DNAME|TYPE39)( |$)", None,
-     "{0} is not served here: an alias for each name takes its place", "owner"),
+    ("R11", r"\n(DNAME|TYPE39)( |$)", None, "{0} is not served here: an alias for each name takes its place", "owner"),
     ("R14", "", None, "more than 100,000 records: split the zone", "rest"),
     ("R15", "", None, "more than 16,777,216 octets: split the zone", "rest")]
 # Corrections of data that lacks a field or has two in the wrong order: a pattern, the replacement, and the message.
