@@ -139,19 +139,19 @@ class Mending(Entry):
         return written + "\r" * line.endswith("\r")
 
     def r03(self):
-        lines, tokens, more = self.zone.lines, [""] * self.blank + self.tokens, []
-        number = next((number for number, token in enumerate(tokens)
-                       if token[:1] == '"' and not re.fullmatch(r'"(?:[^"\\]|\\.)*"', token)), -1)
-        inner, bare = tokens[number].endswith('\\"'), tokens[number].rstrip("\r) \t" if self.depth else "\r")
-        tokens[number] = tokens[number][:-2] + '\\\\"' if inner else bare + '"'
+        lines, tokens, more, quoted = self.zone.lines, self.tokens, [], re.compile(r'"(?:[^"\\]|\\.)*"')
+        token = next((token for token in tokens if token[0] == '"' and not quoted.fullmatch(token)), '"')
+        inner = token.endswith('\\"')
+        closed = token[:-2] + '\\\\"' if inner else token.rstrip("\r) \t" if self.depth else "\r") + '"'
         # The string goes on to the line with its closing mark, if that line comes before the next entry.
         after = range(self.end, min(self.end + 60, len(lines)))
         near = itertools.takewhile(lambda at: not BEGIN.match(lines[at]), after)
         last = next((at for at in near if lines[at].replace('\\"', "").count('"') % 2), None)
-        if last is not None and number == len(tokens) - 1 and self.closed:
+        if last is not None and token is tokens[-1] and self.closed:
             more = [string(line.strip().strip('"')) for line in lines[self.end:last + 1]]
             self.end = last + 1
-        yield True, tokens + more, "string", "a quotation mark is not closed on its line" + (
+        new = [""] * self.blank + [closed if other is token else other for other in tokens] + more
+        yield True, new, "string", "a quotation mark is not closed on its line" + (
             ', since \\" is a mark inside the string: write \\\\" for a backslash at its end' if inner else
             ": write a string on each line, and parentheses around all of them" if more else
             ": close it; long texts are several strings in parentheses")
