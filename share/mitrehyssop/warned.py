@@ -76,13 +76,17 @@ class Warnings(Names):
             yield "W45", end not in chain and chain[1:], f"the target {full} is an alias too: write {end}"
         null = rtype == "MX" and full == "." and len(self.at(record.owner, "MX")) > 1
         yield "W46", null, "a null MX, which says that there is no mail, beside others"
+        cut, closest = self.cut(full), next(node for node in above(full) if node in self.nodes)
         # A server in the zone without an address is a fault.
-        if full == "." or rtype == "NS" and inside and not self.cut(full) and not self.at(full, "A", "AAAA"):
+        if full == "." or rtype == "NS" and inside and not cut and not self.at(full, "A", "AAAA"):
             return
-        own = full[:-len(self.zone) - 1] if inside else full
+        own = full[:-len(self.zone)] if inside else full
+        do = f"; write {own} if it is in another zone" if own.count(".") > 1 else ""
         four = FOUR.fullmatch(full) or inside and FOUR.match(full) and not self.arpa or ":" in own and address(own)
         host = rtype in ("NS", "MX", "SRV") or rtype == "PTR" and self.arpa
+        server = rtype == "NS" and not self.at(full) and not (record.owner in self.cuts and within(full, record.owner))
         known = inside and not self.of.partial and full not in self.of.doubtful
+        types = self.sets.get(full if full == closest else "*." + closest.lstrip("."), {})
         yield from [row for row in (
             ("W32", four, f"the target is an address: {full}; write the name of a host"),
             ("W41", re.search("[/:]", full) and rtype != "PTR" and not self.arpa,
@@ -90,21 +94,11 @@ class Warnings(Names):
             ("W31", twice(full, self.zone), f"the target is {full}: is a final dot missing?"),
             ("W34", "\\@" in full, f"@ inside the target {full}; it means the origin only if it is the whole name"),
             ("W33", host and not HOST.fullmatch(full), f"the host {full} has an octet that host names do not have"),
-            *([self.inside(record, full)] if known else [])) if row[1]][:1]
-
-    def inside(self, record, full):
-        """The warning about a target in the zone, by the zone's records at that name or at its wildcard."""
-        cut, closest = self.cut(full), next(node for node in above(full) if node in self.nodes)
-        types, own = self.sets.get(full if full == closest else "*." + closest.lstrip("."), {}), full[:-len(self.zone)]
-        if cut:
-            glue = record.owner in self.cuts and within(full, record.owner)
-            says = f"the server {full} is in the zone of {cut}, and has no address here: is it there?"
-            return "W43", record.rtype == "NS" and not glue and not self.at(full), says
-        if full != closest and not types:
-            do = f"; write {own} if it is in another zone" if own.count(".") > 1 else ""
-            return "W42", True, f"the target {full} does not exist{do}"
-        needed = record.rtype in ("MX", "SRV") or "_" not in record.owner + full
-        return "W43", needed and types.keys().isdisjoint(("A", "AAAA", "CNAME")), f"the target {full} has no address"
+            ("W43", known and cut and server,
+             f"the server {full} is in the zone of {cut}, and has no address here: is it there?"),
+            ("W42", known and not cut and full != closest and not types, f"the target {full} does not exist{do}"),
+            ("W43", known and not cut and (rtype in ("MX", "SRV") or "_" not in record.owner + full)
+             and types.keys().isdisjoint(("A", "AAAA", "CNAME")), f"the target {full} has no address")) if row[1]][:1]
 
     def soa(self, record):
         (mname, rname), servers = record.data[:2], self.at(self.zone, "NS")
