@@ -7,7 +7,8 @@ from master import KINDS, LARGEST, NUMBERS, OTHERS, Entry, Reader, Refused, digi
 DEEPEST, FILES = 10, 1000   # the most files that include one another, and the most included files
 NAMED = {number: rtype for rtype, number in NUMBERS.items()}
 RANGE = re.compile(r"(\d{1,10})-(\d{1,10})(?:/(\d{1,10})|(?!/))")
-SIGN = re.compile(r"\\.|\$\$|\$\{(-?\d{1,9})(?:,(\d{1,3})(?:,([doxXnN]))?)?\}|\$(?P<bad>\{)?", re.S)
+# A part of a template of $GENERATE: other text, or the number with an offset, a width and a base.
+PART = re.compile(r"([^\\$]+|\\.?)|\$(?:(\$)|\{(-?\d{1,9})(?:,(\d{1,3})(?:,([doxXnN]))?)?\}|(\{)?)", re.S)
 
 
 def refuse(holds, why):
@@ -28,22 +29,17 @@ def generic(entry, rtype, origin):
 
 def generated(text, number):
     """A template of $GENERATE filled with a number, as in BIND: an offset also applies to the rest of the template."""
-    offset = 0
-
-    def one(match):
-        nonlocal offset
-        refuse(match["bad"], f"{text}: after ${{ are an offset, a width and one of d, o, x, X, n and N")
-        if match[0][0] == "\\" or match[0] == "$$":
-            return match[0].replace("$$", "$")
-        offset = int(match[1] or offset)
-        width, base, value = int(match[2] or 0), match[3] or "d", number + offset
+    offset, filled = 0, ""
+    for other, sign, given, width, base, bad in PART.findall(text):
+        refuse(bad, f"{text}: after ${{ are an offset, a width and one of d, o, x, X, n and N")
+        offset, width, base = int(given or offset), int(width or 0), base or "d"
+        value = number + offset
         refuse(width > 127 or value > 2147483647, f"{text}: the width or the number is too great")
-        if base not in "nN":
-            return f"%0{width}{base}" % (value if base == "d" else value & 0xffffffff)
         nibbles = f"{value & 0xffffffff:{'X' if base == 'N' else 'x'}}"[::-1].ljust((width + 1) // 2, "0")
-        return ".".join(nibbles) + "." * (len(nibbles) * 2 == width)
-
-    return SIGN.sub(one, text)
+        filled += other or sign or (
+            ".".join(nibbles) + "." * (len(nibbles) * 2 == width) if base in "nN" else
+            f"%0{width}{base}" % (value if base == "d" else value & 0xffffffff))
+    return filled
 
 
 class Importer(Reader):
@@ -64,7 +60,7 @@ class Importer(Reader):
         at, nested = 0, True
         while at < len(lines) and self.size <= LARGEST:
             entry, begun = Entry(lines, at, nested), len(self.lines)
-            # An entry that is not closed reads to the end of the file. So later ones may not nest parentheses.
+            # An entry that is not closed reads to the end of the file, so later ones are read without nested ones.
             nested = nested and entry.closed
             try:
                 new = self.entry(entry, (path, at + 1), stack)
