@@ -161,11 +161,3 @@ class Importer(Reader):
             lines += self.record(Entry([line], 0, nested=True))
         self.owner, self.restate = owner, True
         return lines
-
-
-def expanded(reader, text, path):
-    """The lines for $INCLUDE or $GENERATE in a file that is not in BIND's form, empty for what is refused."""
-    importer = Importer(reader.origin, os.path.dirname(path) or ".")
-    vars(importer).update(vars(reader))
-    importer.read(text, path)
-    return ["" if line in importer.notes else text for line, text in enumerate(importer.lines)]

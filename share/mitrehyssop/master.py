@@ -173,8 +173,7 @@ class Entry:
         return re.sub("\0+", " ", text.strip("\0"))
 
     def lines(self):
-        """The lines with `tokens` at their places, and without inner parentheses. In owner and data, \\DDD replaces
-        octets that a zone file may not contain."""
+        """The lines with `tokens` at their places, \\DDD for octets that are not allowed, and no inner parentheses."""
         pieces, depth = self.pieces[:], 0
         for number, (at, token) in enumerate(zip(self.places, self.tokens)):
             pieces[at] = token if 0 < number <= self.at else escaped(token, "\t -~")

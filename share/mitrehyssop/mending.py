@@ -1,6 +1,7 @@
 """Corrects a faulty entry of a zone file, and says how, for each code of zonecheck that names a line, R01 to R15."""
 import difflib
 import itertools
+import os
 import re
 import unicodedata
 
@@ -168,8 +169,11 @@ class Mending(Entry):
     def r05(self):
         first, *rest = self.tokens
         if first.upper() in ("$INCLUDE", "$GENERATE"):
-            text = "\n".join(self.zone.lines[self.begin:self.end])
-            lines = bind.expanded(self.reader, text, self.zone.path) if self.zone.notes is None else []
+            importer = bind.Importer(self.reader.origin, os.path.dirname(self.zone.path) or ".")
+            vars(importer).update(vars(self.reader))
+            if self.zone.notes is None:
+                importer.read("\n".join(self.zone.lines[self.begin:self.end]), self.zone.path)
+            lines = ["" if at in importer.notes else line for at, line in enumerate(importer.lines)]
             self.zone.partial = self.zone.partial or not any(lines)
             says = f"{first} is not known here: `zoneimport` writes its records, and `zonelint --bind` reads it"
             yield True, ["\n".join(lines)], "", says
@@ -294,8 +298,7 @@ class Mending(Entry):
         return str(value), None if str(value) == token else f"{token} {why}: it is written {value} here"
 
     def as_name(self, token, _):
-        bare = re.sub(r"\.\.+", ".", token.strip('"'))
-        bare = bare if token == "." else bare.lstrip(".")
+        bare = token if token == "." else re.sub(r"\.\.+", ".", token.strip('"')).lstrip(".")
         if not bare or not name(bare, self.reader.origin):
             return None, f"{token} is not a name, which has labels of 1 to 63 octets"
         return bare, None if bare == token else f"{token} is not a name: write {bare}"
@@ -312,9 +315,8 @@ class Mending(Entry):
 
     def as_string(self, token, _):
         text = octets(token)
-        if len(text) <= 255:
-            return token, None
-        return (" ".join(string(text[at:at + 255]) for at in range(0, len(text), 255)),
-                f"a string has {len(text)} octets, and not more than 255: write several, in parentheses")
+        several = " ".join(string(text[at:at + 255]) for at in range(0, len(text), 255))
+        says = f"a string has {len(text)} octets, and not more than 255: write several, in parentheses"
+        return (several, says) if len(text) > 255 else (token, None)
 
     READ = {"n": as_name, "s": as_string, "4": as_address, "6": as_address, "H": as_number, "L": as_number}
