@@ -264,9 +264,15 @@ class Mending(Entry):
                 notes.append(says.format(*found.groups()))
                 return found.expand(instead).split(" ")[1:]
         fields = f"{count} field{'s' * (count != 1)}, and not {len(kinds)}"
-        if rtype == "SOA" and count < 6 and self.take_lines(data):
-            begin = self.zone.where([self.begin])
-            notes.append(f"its lines are not joined: write ( at the end of {begin}, and ) after the last number")
+        # The lines after an SOA record belong to it if they are all its missing numbers and nothing else.
+        begin, lines = self.end, self.zone.lines
+        for end in range(begin + 1, min(begin + 9, len(lines)) + 1) if rtype == "SOA" and count < 6 else ():
+            more = [piece for line in lines[begin:end] for piece in PIECE.findall(line) if piece[0] not in " \t\r;()"]
+            if len(data) + len(more) == 7 and None not in map(seconds, more):
+                data, self.end = data + more, end
+        if self.end > begin:
+            first = self.zone.where([self.begin])
+            notes.append(f"its lines are not joined: write ( at the end of {first}, and ) after the last number")
         elif len(data) > len(kinds) and kinds != "s":
             several = all(map(address, data)) and "a record has one address: write a record for each"
             notes.append(f"{fields}: {several or f'a comment begins with ;, write it before {data[len(kinds)]}'}")
@@ -275,16 +281,6 @@ class Mending(Entry):
             notes.append(fields)
             data = data if kinds == "ss" else []
         return data
-
-    def take_lines(self, data):
-        """Adds the numbers on the lines after an SOA record, if they are all its missing numbers and nothing else."""
-        begin, lines = self.end, self.zone.lines
-        for end in range(begin + 1, min(begin + 9, len(lines)) + 1):
-            more = [piece for line in lines[begin:end] for piece in PIECE.findall(line) if piece[0] not in " \t\r;()"]
-            if len(data) + len(more) == 7 and None not in map(seconds, more):
-                data += more
-                self.end = end
-        return self.end > begin
 
     def as_number(self, token, kind):
         bare, most = token.strip('"'), LARGEST[kind]
