@@ -62,8 +62,19 @@ class Importer(Reader):
             entry, begun = Entry(lines, at, nested), len(self.lines)
             # An entry that is not closed reads to the end of the file, so later ones are read without nested ones.
             nested = nested and entry.closed
+            directive, tokens = (entry.owner or "").upper(), entry.tokens
             try:
-                new = self.entry(entry, (path, at + 1), stack)
+                if directive == "$INCLUDE":
+                    new = self.include(tokens, (path, at + 1), stack)
+                elif directive == "$GENERATE":
+                    new = self.generate(tokens)
+                elif directive[:1] != "$":
+                    new = self.record(entry) if tokens else entry.lines()
+                else:
+                    self.take(entry)
+                    if directive == "$TTL" and len(tokens) == 2:
+                        tokens[1], self.implied = digits(tokens[1]), None
+                    new = [";" * (directive == "$DATE") + line for line in entry.lines()]
             except Refused as error:
                 self.notes[begun], new = str(error), lines[at:entry.end]
             self.add(new, path, at + 1, entry.end)
@@ -74,20 +85,6 @@ class Importer(Reader):
             self.lines.append(line)
             self.places.append((path, min(number, last)))
             self.size += len(line) + 1
-
-    def entry(self, entry, place, stack):
-        """The new lines of an entry."""
-        directive, tokens = (entry.owner or "").upper(), entry.tokens
-        if directive == "$INCLUDE":
-            return self.include(tokens, place, stack)
-        if directive == "$GENERATE":
-            return self.generate(tokens)
-        if directive[:1] != "$":
-            return self.record(entry) if tokens else entry.lines()
-        self.take(entry)
-        if directive == "$TTL" and len(tokens) == 2:
-            tokens[1], self.implied = digits(tokens[1]), None
-        return [";" * (directive == "$DATE") + line for line in entry.lines()]
 
     def record(self, entry):
         """The lines of a record."""

@@ -224,10 +224,17 @@ class Mending(Entry):
         yield True, [], "owner", f"no type after {self.tokens[-1]}"
 
     def r13(self):
-        rtype, notes = NAMED.get(self.rtype, self.rtype), []
-        if self.data[:1] == ["\\#"] or rtype not in KINDS:
-            yield from self.unknown_form(rtype)
-        kinds = KINDS[rtype]
+        rtype, hexes = NAMED.get(self.rtype, self.rtype), "".join(self.data[2:])
+        kinds, notes, says = KINDS.get(rtype, ""), [], "after \\# are a length and as many octets in hex digits"
+        if self.data[:1] == ["\\#"]:
+            data, new = ["\\#", str(len(hexes) // 2), hexes], self.record(data=[INSTEAD[kind] for kind in kinds])
+            yield kinds, new, "data", f"{says}; these are not valid for {rtype}"
+            yield not re.fullmatch(r"(?:[0-9a-fA-F]{2})*", hexes), self.record(data=["\\#", "0"]), "data", says
+            yield True, self.record(data=data), "", f"{says}: write {' '.join(data).strip()[:60]}"
+        if not kinds:
+            data, _ = bind.generic(self, rtype, self.reader.origin)
+            new, do = self.record(data=(data or "\\# 0").split(" ")), f": write {data}" if data else ""
+            yield True, new, "", f"{rtype} takes \\#, a length and hex digits{do}"
         self.follows = len(kinds) != len(self.data)
         data = self.counted(rtype, kinds, notes)
         pairs = zip(kinds * len(data) if kinds == "s" else kinds, data)
@@ -236,19 +243,6 @@ class Mending(Entry):
         new = self.record(data=[good or INSTEAD[kind] for kind, good in zip(kinds.ljust(len(fixed), "s"), fixed)])
         notes = dict.fromkeys([f"{rtype} takes {TAKES[rtype]}", *notes, *filter(None, (note for _, note in read))])
         yield True, new, "data" if None in fixed else "", "; ".join(notes)
-
-    def unknown_form(self, rtype):
-        """Data after \\#, or of a type that has no other form."""
-        octets, says = "".join(self.data[2:]), "after \\# are a length and as many octets in hex digits"
-        if self.data[:1] != ["\\#"]:
-            data, _ = bind.generic(self, rtype, self.reader.origin)
-            do = f": write {data}" if data else ""
-            yield True, self.record(data=(data or "\\# 0").split(" ")), "", \
-                f"{rtype} takes \\#, a length and hex digits{do}"
-        instead, data = [INSTEAD[kind] for kind in KINDS.get(rtype, "")], ["\\#", str(len(octets) // 2), octets]
-        yield instead, self.record(data=instead), "data", f"{says}; these are not valid for {rtype}"
-        yield not re.fullmatch(r"(?:[0-9a-fA-F]{2})*", octets), self.record(data=["\\#", "0"]), "data", says
-        yield True, self.record(data=data), "", f"{says}: write {' '.join(data).strip()[:60]}"
 
     def counted(self, rtype, kinds, notes):
         """The data with as many fields as its type has, if they can be known."""
