@@ -236,6 +236,9 @@ class ZoneFaults(Names):
         both = "a CNAME and other records at one name: " + (
             "take the CNAME out, and write the A and AAAA records of its target" if owner == self.zone else
             "keep it or the other, on ")
+        give = f"give {owner} as ORIGIN, if the file is of that zone"
+        moved = "its owner lacks the final dot: write @" if twice(owner, self.zone) else \
+            "take it out" if self.at(self.zone, "SOA") else "write @ as its owner, or " * within(owner, self.zone) + give
         for number, (rtype, own) in enumerate(self.sets[owner].items()):
             first, alone = {record.ttl: record for record in reversed(own)}, unique(own)
             known = len(first) > 1 and not any(self.of.lacks(record, "ttl") for record in own)
@@ -244,7 +247,7 @@ class ZoneFaults(Names):
                 def but(records):
                     return self.of.where(other.line for other in records if other.line != record.line)
                 yield record, "Z02", rtype == "SOA", f"more than one SOA record; see {but(own)}: keep one"
-                yield record, "Z03", rtype == "SOA", f"an SOA record that is not at the origin: {self.moved(owner)}"
+                yield record, "Z03", rtype == "SOA", f"an SOA record that is not at the origin: {moved}"
                 yield record, "Z05", True, f"the name is not in the zone {self.zone}; {self.outside(owner, rtype)}"
                 yield record, "Z06", rtype == "CNAME", both + but(others) * (owner != self.zone)
                 yield record, "Z06", rtype != "CNAME" and owner != self.zone, \
@@ -261,11 +264,6 @@ class ZoneFaults(Names):
                 yield record, "Z15", (number, record) == (32, own[0]), \
                     f"{len(self.sets[owner])} types at one name: at most 32 {spread}"
                 yield from self.target(owner, record) if rtype in ("NS", "MX", "SRV") else ()
-
-    def moved(self, owner):
-        give = "write @ as its owner, or give" if within(owner, self.zone) else "give"
-        return "its owner lacks the final dot: write @" if twice(owner, self.zone) else \
-            "take it out" if self.at(self.zone, "SOA") else f"{give} {owner} as ORIGIN, if the file is of that zone"
 
     def outside(self, owner, rtype):
         soa = next((soa.owner for soa in self.soas if not within(soa.owner, self.zone)), None)
