@@ -238,7 +238,8 @@ class ZoneFaults(Names):
             "keep it or the other, on ")
         give = f"give {owner} as ORIGIN, if the file is of that zone"
         moved = "its owner lacks the final dot: write @" if twice(owner, self.zone) else \
-            "take it out" if self.at(self.zone, "SOA") else "write @ as its owner, or " * within(owner, self.zone) + give
+            "take it out" if self.at(self.zone, "SOA") else \
+            "write @ as its owner, or " * within(owner, self.zone) + give
         for number, (rtype, own) in enumerate(self.sets[owner].items()):
             first, alone = {record.ttl: record for record in reversed(own)}, unique(own)
             known = len(first) > 1 and not any(self.of.lacks(record, "ttl") for record in own)
