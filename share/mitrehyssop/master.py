@@ -40,14 +40,15 @@ Record = collections.namedtuple("Record", "owner ttl rtype data line last", defa
 
 def seconds(text):
     """The value of a number, also with units or leading zeros: 5400 for 1h30m. None if the token is not a number."""
-    if not re.fullmatch(r"[0-9]{1,60}|(?:[0-9]{1,20}[wdhms]){1,12}", text, re.I | re.A):
+    if not re.fullmatch(r"(?ai)[0-9]{1,60}|(?:[0-9]{1,20}[wdhms]){1,12}", text):
         return None
     return sum(int(number) * UNITS[unit] for number, unit in re.findall(r"([0-9]+)([a-z]?)", text.lower()))
 
 
 def digits(token):
     """A number with units or leading zeros in plain digits, and any other token as it is."""
-    return token if seconds(token) is None else str(seconds(token))
+    value = seconds(token)
+    return token if value is None else str(value)
 
 
 def groups(token):
@@ -76,7 +77,8 @@ def octets(token):
 
 def escaped(text, spared=" -~"):
     """A text with \\DDD for octets that are not printable, or not `spared`."""
-    return re.sub(f"[^{spared}]", lambda c: f"\\{ord(c[0]):03}", text)
+    sound = text.isascii() and text.isprintable()
+    return text if sound else re.sub(f"[^{spared}]", lambda c: f"\\{ord(c[0]):03}", text)
 
 
 def string(text):
