@@ -205,14 +205,14 @@ class Reader:
 
     def take(self, entry):
         """The record of an entry, or None if the entry is not a record."""
-        directive, tokens = (entry.owner or "").upper(), entry.tokens
+        owner, directive, tokens = entry.owner or "", (entry.owner or "").upper(), entry.tokens
         if directive[:1] == "$":
             if directive == "$ORIGIN" and len(tokens) > 1:
                 self.origin = name(tokens[1], self.origin) or self.origin
             elif directive == "$TTL" and len(tokens) > 1:
                 self.default = tokens[1]
             return None
-        self.owner = entry.owner and name(entry.owner.strip('"'), self.origin) or self.owner
+        self.owner = owner and name(owner.strip('"') if owner[0] == '"' else owner, self.origin) or self.owner
         self.stated = entry.ttl or self.stated
         ttl, rtype, data = entry.ttl or self.default or self.stated, NAMED.get(entry.rtype, entry.rtype), entry.data
         # Data has the form of the canonical text as far as the form of its type is known.

@@ -171,9 +171,11 @@ class Mending(Entry):
         if first.upper() in ("$INCLUDE", "$GENERATE"):
             importer = bind.Importer(self.reader.origin, os.path.dirname(self.zone.path) or ".")
             vars(importer).update(vars(self.reader))
-            if self.zone.notes is None:
-                importer.read("\n".join(self.zone.lines[self.begin:self.end]), self.zone.path)
-            lines = ["" if at in importer.notes else line for at, line in enumerate(importer.lines)]
+            own = self.zone.lines[self.begin:self.end]
+            importer.read("\n".join(own) if self.zone.notes is None else "", self.zone.path)
+            # If the importer refuses the entry, it has the entry's own lines.
+            lines = ["" if at in importer.notes or importer.lines[0] == own[0] else line
+                     for at, line in enumerate(importer.lines)]
             self.zone.partial = self.zone.partial or not any(lines)
             says = f"{first} is not known here: `zoneimport` writes its records, and `zonelint --bind` reads it"
             yield True, ["\n".join(lines)], "", says
