@@ -59,6 +59,10 @@ class Importer(Reader):
             lines.pop()
         at, nested = 0, True
         while at < len(lines) and self.size <= LARGEST:
+            if not lines[at]:
+                at += 1
+                self.add([""], path, at, at)
+                continue
             entry, begun = Entry(lines, at, nested), len(self.lines)
             # An entry that is not closed reads to the end of the file, so later ones are read without nested ones.
             nested = nested and entry.closed
