@@ -64,7 +64,7 @@ class Importer(Reader):
                 self.add([""], path, at, at)
                 continue
             entry, begun = Entry(lines, at, nested), len(self.lines)
-            # An entry that is not closed reads to the end of the file, so later ones are read without nested ones.
+            # An entry that is not closed reads to the end of the file. So later ones are read without nesting.
             nested = nested and entry.closed
             directive, tokens = (entry.owner or "").upper(), entry.tokens
             try:
