@@ -2,7 +2,7 @@
 import os
 import re
 
-from master import KINDS, LARGEST, NUMBERS, OTHERS, Entry, Reader, Refused, digits, groups, name, octets, read, seconds
+from master import KINDS, LARGEST, NUMBERS, OTHERS, Entry, Reader, Refused, digits, groups, name, octets, read
 
 DEEPEST, FILES = 10, 1000   # the most files that include one another, and the most included files
 NAMED = {number: rtype for rtype, number in NUMBERS.items()}
@@ -77,7 +77,7 @@ class Importer(Reader):
                 else:
                     self.take(entry)
                     if directive == "$TTL" and len(tokens) == 2:
-                        tokens[1], self.implied = digits(tokens[1]), None
+                        tokens[1], self.implied = digits(tokens[1]) or tokens[1], None
                     new = [";" * (directive == "$DATE") + line for line in entry.lines()]
             except Refused as error:
                 self.notes[begun], new = str(error), lines[at:entry.end]
@@ -98,9 +98,9 @@ class Importer(Reader):
         if owner and owner[0] == '"':
             tokens[0] = (owner.strip('"') or owner).replace(" ", "\\032") + " "
         if entry.ttl:
-            tokens[tokens.index(entry.ttl, begin)] = digits(entry.ttl)
+            tokens[tokens.index(entry.ttl, begin)] = digits(entry.ttl) or entry.ttl
         if record and record.ttl is None and rtype == "SOA" and len(data) == 7:
-            self.implied = seconds(data[6])
+            self.implied = digits(data[6])
         if data[:1] == ["\\#"]:
             if any(len(token) % 2 for token in data[2:]):
                 tokens[at + 3:] = ["".join(data[2:]), *[""] * (len(data) - 3)]
@@ -116,8 +116,8 @@ class Importer(Reader):
                 if kind == "6":
                     tokens[place] = groups(token) or token
                 elif kind in "HL" and (token.isdigit() or rtype == "SOA" and place > at + 3):
-                    tokens[place] = digits(token)
-        if self.implied is not None and entry.ttl is None and record:
+                    tokens[place] = digits(token) or token
+        if self.implied and entry.ttl is None and record:
             tokens[begin] = f"{self.implied} {tokens[begin]}"
         first, *rest = entry.lines()
         return [front + first, *rest]

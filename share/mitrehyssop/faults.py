@@ -201,8 +201,7 @@ class ZoneFaults(Names):
 
     def report(self, said):
         self.soas = [record for record in self.of.records if record.rtype == "SOA"]
-        targets = ("NS", "MX", "SRV")
-        self.hosts = {record.data[-1] for record in self.of.records if record.rtype in targets and record.data}
+        self.hosts = {one.data[-1] for one in self.of.records if one.rtype in ("NS", "MX", "SRV") and one.data}
         lost = {"data", "ttl", "owner"} & set().union(*self.of.unknown.values())
         for owner, code in re.findall(r"^(.*) (Z\d\d)$", said, re.M):
             here = self.at(owner)

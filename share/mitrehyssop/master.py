@@ -38,17 +38,11 @@ UNITS = {"w": 604800, "d": 86400, "h": 3600, "m": 60, "s": 1, "": 1}
 Record = collections.namedtuple("Record", "owner ttl rtype data line last", defaults=(None, ""))
 
 
-def seconds(text):
-    """The value of a number, also with units or leading zeros: 5400 for 1h30m. None if the token is not a number."""
-    if not re.fullmatch(r"(?ai)[0-9]{1,60}|(?:[0-9]{1,20}[wdhms]){1,12}", text):
-        return None
-    return sum(int(number) * UNITS[unit] for number, unit in re.findall(r"([0-9]+)([a-z]?)", text.lower()))
-
-
 def digits(token):
-    """A number with units or leading zeros in plain digits, and any other token as it is."""
-    value = seconds(token)
-    return token if value is None else str(value)
+    """A number in plain digits, also if it has units or leading zeros: 5400 for 1h30m. None if it is not a number."""
+    if not re.fullmatch(r"(?ai)[0-9]{1,60}|(?:[0-9]{1,20}[wdhms]){1,12}", token):
+        return None
+    return str(sum(int(count) * UNITS[unit] for count, unit in re.findall(r"([0-9]+)([a-z]?)", token.lower())))
 
 
 def groups(token):

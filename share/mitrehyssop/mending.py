@@ -7,7 +7,7 @@ import unicodedata
 
 import bind
 from master import (BEGIN, KINDS, NAMED, NUMBERS, OTHERS, PIECE, Entry, Reader, address, digits, escaped, name, octets,
-                    seconds, string)
+                    string)
 
 TAKES = {"A": "an IPv4 address: four numbers from 0 to 255", "NS": "the name of a server", "CNAME": "a name",
          "SOA": "two names and five plain numbers: serial, refresh, retry, expire, minimum", "HINFO": "two strings",
@@ -188,7 +188,7 @@ class Mending(Entry):
     def r06(self):
         first, fields = self.tokens[0], [token.strip('"') for token in self.tokens[1:]]
         good = next((field for field in fields if name(field, self.reader.origin)), "")
-        value, _ = self.as_number(next((field for field in fields if seconds(field) is not None), ""), "T")
+        value, _ = self.as_number(next(filter(digits, fields), ""), "T")
         if first.upper() == "$ORIGIN":
             yield good, [first, good], "", f"$ORIGIN takes one name: write $ORIGIN {good}"
             yield True, [], "", "$ORIGIN takes one name"
@@ -250,7 +250,7 @@ class Mending(Entry):
         """The data with as many fields as its type has, if they can be known."""
         data, front, count = self.data[:], [], len(self.data)
         while len(data) > len(kinds) and kinds[0] != "s" and (
-                data[0].upper() == "IN" or None not in (seconds(data[0]), seconds(data[kinds.count("H")]))):
+                data[0].upper() == "IN" or digits(data[0]) and digits(data[kinds.count("H")])):
             front.append(data.pop(0))
         if front:
             self.ttl = next((digits(token) for token in front if token.upper() != "IN"), self.ttl)
@@ -264,7 +264,7 @@ class Mending(Entry):
         begin, lines = self.end, self.zone.lines
         for end in range(begin + 1, min(begin + 9, len(lines)) + 1) if rtype == "SOA" and count < 6 else ():
             more = [piece for line in lines[begin:end] for piece in PIECE.findall(line) if piece[0] not in " \t\r;()"]
-            if len(data) + len(more) == 7 and None not in map(seconds, more):
+            if len(data) + len(more) == 7 and all(map(digits, more)):
                 data, self.end = data + more, end
         if self.end > begin:
             first = self.zone.where([self.begin])
@@ -280,14 +280,14 @@ class Mending(Entry):
 
     def as_number(self, token, kind):
         bare, most = token.strip('"'), LARGEST[kind]
-        value = seconds(bare)
-        if value is None:
+        value = digits(bare)
+        if not value:
             return None, f"{token} is not a plain number"
-        if value > most:
+        if int(value) > most:
             short = bare[:10] if re.match(r"(?:19|20)\d{9}", bare) and int(bare[:10]) <= most else None
             return short, f"{token} is greater than {most}" + (f": write {short}" if short else "")
         why = "has units" if not bare.isdigit() else "has a leading zero" if bare == token else "has quotation marks"
-        return str(value), None if str(value) == token else f"{token} {why}: it is written {value} here"
+        return value, None if value == token else f"{token} {why}: it is written {value} here"
 
     def as_name(self, token, _):
         bare = token if token == "." else re.sub(r"\.\.+", ".", token.strip('"')).lstrip(".")
