@@ -15,7 +15,7 @@ import sys
 from pathlib import Path
 
 import bind
-from master import Names, Reader, Record, Refused, address, escaped, name, read, twice, unique, within
+from master import Names, Reader, Record, Refused, address, escaped, name, twice, unique, within
 from mending import FORMS, Mending
 
 MOST = 100                  # the most faults that are reported for a file
