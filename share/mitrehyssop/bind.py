@@ -1,19 +1,14 @@
 """Reads a zone file as BIND does, and writes its entries in zonecheck's form, each on its own lines."""
 import os
 import re
-import stat
 
-from master import KINDS, NUMBERS, OTHERS, Entry, Reader, groups, name, octets, seconds
+from master import KINDS, LARGEST, NUMBERS, OTHERS, Entry, Reader, Refused, digits, groups, name, octets, read
 
-LARGEST = 16777216          # the most octets that are written
 DEEPEST, FILES = 10, 1000   # the most files that include one another, and the most included files
 NAMED = {number: rtype for rtype, number in NUMBERS.items()}
 RANGE = re.compile(r"(\d{1,10})-(\d{1,10})(?:/(\d{1,10})|(?!/))")
-SIGN = re.compile(r"\\.|\$\$|\$\{(-?\d{1,9})(?:,(\d{1,3})(?:,([doxXnN]))?)?\}|\$(?P<bad>\{)?", re.S)
-
-
-class Refused(Exception):
-    """An entry can't be converted. The text is the reason."""
+# A part of a template of $GENERATE: other text, or the number with an offset, a width and a base.
+PART = re.compile(r"([^\\$]+|\\.?)|\$(?:(\$)|\{(-?\d{1,9})(?:,(\d{1,3})(?:,([doxXnN]))?)?\}|(\{)?)", re.S)
 
 
 def refuse(holds, why):
@@ -25,7 +20,8 @@ def generic(entry, rtype, origin):
     """The data of an entry in the form of RFC 3597, read by dnspython, and None; or None and the reason why not."""
     import dns.rdata  # Its import takes longer than all others together, and most zones don't need it.
     try:
-        data = dns.rdata.from_text("IN", rtype, entry.joined(entry.at + 1), dns.name.from_text(origin), False).to_generic().data
+        rdata = dns.rdata.from_text("IN", rtype, entry.joined(entry.at + 1), dns.name.from_text(origin), False)
+        data = rdata.to_generic().data
     except Exception as error:  # Its readers raise many kinds of exceptions.
         return None, f"the data is invalid for {rtype}: {error}"
     return f"\\# {len(data)} {data.hex()}".strip(), None
@@ -33,27 +29,22 @@ def generic(entry, rtype, origin):
 
 def generated(text, number):
     """A template of $GENERATE filled with a number, as in BIND: an offset also applies to the rest of the template."""
-    offset = 0
-
-    def one(match):
-        nonlocal offset
-        refuse(match["bad"], f"{text}: after ${{ are an offset, a width and one of d, o, x, X, n and N")
-        if match[0][0] == "\\" or match[0] == "$$":
-            return match[0].replace("$$", "$")
-        offset = int(match[1] or offset)
-        width, base, value = int(match[2] or 0), match[3] or "d", number + offset
+    offset, filled = 0, ""
+    for other, sign, given, width, base, bad in PART.findall(text):
+        refuse(bad, f"{text}: after ${{ are an offset, a width and one of d, o, x, X, n and N")
+        offset, width, base = int(given or offset), int(width or 0), base or "d"
+        value = number + offset
         refuse(width > 127 or value > 2147483647, f"{text}: the width or the number is too great")
-        if base not in "nN":
-            return f"%0{width}{base}" % (value if base == "d" else value & 0xffffffff)
-        digits = f"{value & 0xffffffff:{'X' if base == 'N' else 'x'}}"[::-1].ljust((width + 1) // 2, "0")
-        return ".".join(digits) + "." * (len(digits) * 2 == width)
-
-    return SIGN.sub(one, text)
+        nibbles = f"{value & 0xffffffff:{'X' if base == 'N' else 'x'}}"[::-1].ljust((width + 1) // 2, "0")
+        filled += other or sign or (
+            ".".join(nibbles) + "." * (len(nibbles) * 2 == width) if base in "nN" else
+            f"%0{width}{base}" % (value if base == "d" else value & 0xffffffff))
+    return filled
 
 
 class Importer(Reader):
-    """Makes `lines` and their `places` from a file and the files that it includes. `notes` has the reason for each line that was
-    not converted."""
+    """Makes `lines` and their `places` from a file and the files that it includes. `notes` has the reason for each
+    line that was not converted."""
 
     def __init__(self, zone, folder):
         super().__init__(zone)
@@ -70,77 +61,72 @@ class Importer(Reader):
         while at < len(lines) and self.size <= LARGEST:
             if not lines[at]:
                 at += 1
-                self.add("", (path, at))
+                self.add([""], path, at, at)
                 continue
             entry, begun = Entry(lines, at, nested), len(self.lines)
-            # An entry that is not closed reads to the end of the file. So later entries are read without nested parentheses.
+            # An entry that is not closed reads to the end of the file. So later ones are read without nesting.
             nested = nested and entry.closed
+            directive, tokens = (entry.owner or "").upper(), entry.tokens
             try:
-                new = self.entry(entry, (path, at + 1), stack)
+                if directive == "$INCLUDE":
+                    new = self.include(tokens, (path, at + 1), stack)
+                elif directive == "$GENERATE":
+                    new = self.generate(tokens)
+                elif directive[:1] != "$":
+                    new = self.record(entry) if tokens else entry.lines()
+                else:
+                    self.take(entry)
+                    if directive == "$TTL" and len(tokens) == 2:
+                        tokens[1], self.implied = digits(tokens[1]) or tokens[1], None
+                    new = [";" * (directive == "$DATE") + line for line in entry.lines()]
             except Refused as error:
                 self.notes[begun], new = str(error), lines[at:entry.end]
-            for number, line in enumerate(new, at + 1):
-                self.add(line, (path, min(number, entry.end)))
+            self.add(new, path, at + 1, entry.end)
             at = entry.end
 
-    def add(self, line, place):
-        self.lines.append(line)
-        self.places.append(place)
-        self.size += len(line) + 1
-
-    def entry(self, entry, place, stack):
-        """The new lines of an entry."""
-        directive, tokens, value = (entry.owner or "").upper(), entry.tokens, None
-        if directive == "$INCLUDE":
-            return self.include(tokens, place, stack)
-        if directive == "$GENERATE":
-            return self.generate(tokens)
-        if directive == "$DATE":
-            return [";" + line for line in entry.lines({})]
-        if directive[:1] != "$":
-            return self.record(entry) if tokens else entry.lines({})
-        self.take(entry)
-        if directive == "$TTL" and len(tokens) == 2:
-            value, self.implied = seconds(tokens[1]), None
-        return entry.lines({} if value is None else {1: str(value)})
+    def add(self, lines, path, first, last):
+        for number, line in enumerate(lines, first):
+            self.lines.append(line)
+            self.places.append((path, min(number, last)))
+            self.size += len(line) + 1
 
     def record(self, entry):
         """The lines of a record."""
-        owner, tokens, at, data = entry.owner, entry.tokens, entry.at, entry.data
+        owner, tokens, at, data, begin = entry.owner, entry.tokens, entry.at, entry.data, int(not entry.blank)
         front = f"{self.owner} " if owner is None and self.restate and self.owner else ""
-        record, changes, ttl = self.take(entry), {}, seconds(entry.ttl or "")
-        rtype, self.restate = NAMED.get(entry.rtype, entry.rtype), False
+        record, rtype, self.restate = self.take(entry), NAMED.get(entry.rtype, entry.rtype), False
         if owner and owner[0] == '"':
-            changes[0] = (owner.strip('"') or owner).replace(" ", "\\032") + " "
-        if ttl is not None:
-            changes[tokens.index(entry.ttl, owner is not None)] = str(ttl)
+            tokens[0] = (owner.strip('"') or owner).replace(" ", "\\032") + " "
+        if entry.ttl:
+            tokens[tokens.index(entry.ttl, begin)] = digits(entry.ttl) or entry.ttl
         if record and record.ttl is None and rtype == "SOA" and len(data) == 7:
-            self.implied = seconds(data[6])
+            self.implied = digits(data[6])
         if data[:1] == ["\\#"]:
-            digits = {at + 3: "".join(data[2:]), **dict.fromkeys(range(at + 4, len(tokens)), "")}
-            changes.update(digits if any(len(token) % 2 for token in data[2:]) else {})
+            if any(len(token) % 2 for token in data[2:]):
+                tokens[at + 3:] = ["".join(data[2:]), *[""] * (len(data) - 3)]
         elif rtype in OTHERS:
             text, why = generic(entry, rtype, self.origin)
             if why:
                 self.notes[len(self.lines)] = why
             else:
-                changes.update({at: f"{NUMBERS[rtype]} {text}", **dict.fromkeys(range(at + 1, len(tokens)), "")})
-        else:
-            changes.update({at: rtype} if rtype != entry.rtype else {})
-            for place, (kind, token) in enumerate(zip(KINDS.get(rtype, ""), data), at + 1):
-                value = seconds(token) if kind in "HL" and (token.isdigit() or rtype == "SOA" and place > at + 3) else None
-                if value is not None or kind == "6":
-                    changes[place] = groups(token) or token if kind == "6" else str(value)
-        if self.implied is not None and entry.ttl is None and record:
-            place = int(owner is not None)
-            changes[place] = f"{self.implied} {changes.get(place, tokens[place])}"
-        first, *rest = entry.lines(changes)
+                tokens[at:] = [f"{NUMBERS[rtype]} {text}", *[""] * len(data)]
+        elif rtype in KINDS:
+            tokens[at] = tokens[at] if rtype == entry.rtype else rtype
+            for place, (kind, token) in enumerate(zip(KINDS[rtype], data), at + 1):
+                if kind == "6":
+                    tokens[place] = groups(token) or token
+                elif kind in "HL" and (token.isdigit() or rtype == "SOA" and place > at + 3):
+                    tokens[place] = digits(token) or token
+        if self.implied and entry.ttl is None and record:
+            tokens[begin] = f"{self.implied} {tokens[begin]}"
+        first, *rest = entry.lines()
         return [front + first, *rest]
 
     def include(self, tokens, place, stack):
         """Adds the file of $INCLUDE FILE [ORIGIN], and then restores origin and owner."""
         refuse(len(tokens) not in (2, 3), "$INCLUDE takes a file and an origin")
-        real = os.path.realpath(os.path.join(self.folder, os.fsdecode(octets(tokens[1]).replace("\0", "").encode("latin-1"))))
+        path = os.fsdecode(octets(tokens[1]).replace("\0", "").encode("latin-1"))
+        real = os.path.realpath(os.path.join(self.folder, path))
         before, owner, self.files = self.origin, self.owner, self.files + 1
         origin = name(tokens[2], before) if len(tokens) == 3 else before
         refuse(os.path.commonpath([real, self.folder]) != self.folder,
@@ -149,14 +135,10 @@ class Importer(Reader):
         refuse(real in stack, f"{tokens[1]} includes itself")
         refuse(len(stack) >= DEEPEST or self.files > FILES,
                f"{tokens[1]} is deeper than {DEEPEST} files that include one another, or more than {FILES} files")
-        try:
-            refuse(not stat.S_ISREG(os.stat(real).st_mode), f"{tokens[1]} is not a plain file")
-            with open(real, "rb") as file:
-                text = file.read(LARGEST + 1).decode("latin-1")
-        except OSError as error:
-            raise Refused(f"{tokens[1]}: {error.strerror}") from None
+        refuse(os.path.exists(real) and not os.path.isfile(real), f"{tokens[1]} is not a plain file")
+        text = read(real, tokens[1])
         if origin != before:
-            self.add(f"$ORIGIN {origin}", place)
+            self.add([f"$ORIGIN {origin}"], *place, place[1])
         self.origin = origin
         self.read(text, real if os.path.isabs(place[0]) else os.path.relpath(real), (*stack, real))
         changed, self.origin, self.owner, self.restate = self.origin != before, before, owner, True
@@ -173,22 +155,10 @@ class Importer(Reader):
         refuse((last - first) // step >= 100000, "$GENERATE makes more than 100,000 records")
         data, owner, lines = tokens[-1], self.owner, []
         if data[0] == '"':
-            data = re.sub(r"\\(.)", lambda match: match.group().replace('\\"', '"'), data[1:-1], flags=re.S)
+            data = re.sub(r"\\(.)", lambda match: match[0].replace('\\"', '"'), data[1:-1], flags=re.S)
         for number in range(first, last + 1, step):
             front = generated(tokens[2], number)
             line = " ".join(["\\" * front.startswith("$") + front, *tokens[3:-1], generated(data, number)])
             lines += self.record(Entry([line], 0, nested=True))
         self.owner, self.restate = owner, True
         return lines
-
-
-def expanded(reader, entry, path):
-    """The lines for $INCLUDE or $GENERATE in a file that is otherwise not in BIND's form; None if the entry can't be
-    converted."""
-    importer = Importer(reader.origin, os.path.dirname(path) or ".")
-    vars(importer).update(vars(reader))
-    try:
-        lines = importer.entry(entry, (path, entry.begin + 1), ())
-    except Refused:
-        return None
-    return ["" if line in importer.notes else text for line, text in enumerate(importer.lines)] + lines

@@ -1,7 +1,8 @@
 """Finds all faults of a zone with zonecheck, which decides, and says what to do about each.
 
-zonecheck reports the first faulty entry of a file. That entry is corrected here as its message says, or gets other data of its
-type if the right data is unknown, and the file is checked again. So the rest of the file is checked as if the entry were correct.
+zonecheck reports the first faulty entry of a file. That entry is corrected here as its message says, or gets other
+data of its type if the right data is unknown, and the file is checked again. So the rest of the file is checked as if
+the entry were correct.
 """
 import collections
 import gc
@@ -11,15 +12,14 @@ import re
 import shutil
 import subprocess
 import sys
-import warnings
 from pathlib import Path
 
 import bind
-from master import Entry, Names, Reader, address, canonical, escaped, name, twice, unique, within
+from master import Names, Reader, Record, Refused, address, escaped, name, twice, unique, within
 from mending import FORMS, Mending
 
 MOST = 100                  # the most faults that are reported for a file
-LARGEST = 16777216          # the most octets of a file; zonecheck reads one more, to see whether there are more
+FIELD = re.compile(r'"(?:[^"\\]|\\.)*"|(?:[^ "\\]|\\.)+')
 Fault = collections.namedtuple("Fault", "place code name text")
 
 
@@ -33,29 +33,16 @@ class Report(collections.namedtuple("Report", "file line severity code name mess
         return f"{plain(self.file)}:{self.line}: {self.code}: {self.said()}\n    {self.text}\n"
 
 
-class NotChecked(Exception):
-    """A file could not be checked. The text is the reason."""
-
-
-def read(path):
-    """The octets of a file, or of standard input (`-`): as many as zonecheck reads."""
-    try:
-        with open(0 if path == "-" else path, "rb", closefd=path != "-") as source:
-            return source.read(LARGEST + 1).decode("latin-1")
-    except (OSError, ValueError) as error:
-        raise NotChecked(f"{path}: {getattr(error, 'strerror', None) or error}") from None
-
-
 def zonecheck(origin, text, *options):
     """The status and the report of zonecheck for a text."""
     program = shutil.which("zonecheck") or str(Path(__file__).resolve().parents[2] / "bin" / "zonecheck")
     try:
-        done = subprocess.run([program, *options, origin, "/dev/stdin"], input=text.encode("latin-1"), capture_output=True,
-                              check=False)
+        done = subprocess.run([program, *options, origin, "/dev/stdin"], input=text.encode("latin-1"),
+                              capture_output=True, check=False)
     except (OSError, ValueError) as error:
-        raise NotChecked(f"{program}: {getattr(error, 'strerror', None) or error}") from None
+        raise Refused(f"{program}: {getattr(error, 'strerror', None) or error}") from None
     if done.returncode not in (0, 1):
-        raise NotChecked(f"zonecheck: {done.stderr.decode('latin-1').strip() or f'status {done.returncode}'}")
+        raise Refused(f"zonecheck: {done.stderr.decode('latin-1').strip() or f'status {done.returncode}'}")
     return done.returncode, done.stdout.decode("latin-1")
 
 
@@ -65,11 +52,9 @@ def plain(text):
 
 
 def run(program, main):
-    """Runs a program and exits with its status, or with 2 if its output can't be written; 1 means that a zone has faults."""
+    """Runs a program and exits with its status, or with 2 if it fails; 1 means that a zone has faults."""
     gc.disable()  # There are many records, and no cycles worth collecting.
-    warnings.simplefilter("ignore")
     sys.stdout.reconfigure(errors="backslashreplace")
-    status = 2
     try:
         status = main()
         sys.stdout.flush()
@@ -78,7 +63,7 @@ def run(program, main):
     except Exception as error:
         status = 2
         if not isinstance(error, BrokenPipeError):
-            kind = "" if isinstance(error, (NotChecked, OSError)) else f"{type(error).__name__}: "
+            kind = "" if isinstance(error, (Refused, OSError)) else f"{type(error).__name__}: "
             print(f"{program}: {kind}{plain(str(getattr(error, 'strerror', None) or error))}", file=sys.stderr)
         if isinstance(error, OSError):
             os.dup2(os.open(os.devnull, os.O_WRONLY), 1)
@@ -98,16 +83,17 @@ def imported(origin, text, path, folder):
 class Zone:
     """A zone file, and all that is found about it.
 
-    `lines` are its lines, corrected so far. `places` are their files and numbers, if an importer made the lines or lines were
-    added to the file's own. `notes` has the importer's message for each line that it could not convert. `unknown` has, for each
-    corrected line, what is unknown about it. `doubtful` has the names that may own more than `records` contain. The file is
-    `partial` if lines that it includes are unknown.
+    `lines` are its lines, corrected so far. `places` are their files and numbers, if an importer made the lines or
+    lines were added to the file's own. `notes` has the importer's message for each line that it could not convert.
+    `unknown` has, for each corrected line, what is unknown about it. `doubtful` has the names that may own more than
+    `records` contain. The file is `partial` if lines that it includes are unknown.
     """
 
     def __init__(self, origin, text, path, importer=None):
         self.origin, self.path, self.text, self.zone = origin, path, text, name(origin, ".") or "."
-        self.lines, self.places, self.notes = text.split("\n"), importer and importer.places, importer and importer.notes
-        self.sources = importer.sources if importer else {path: self.lines[:]}
+        self.lines, self.places, self.notes, self.sources = text.split("\n"), None, None, {path: text.split("\n")}
+        if importer:
+            self.places, self.notes, self.sources = importer.places, importer.notes, importer.sources
         self.faults, self.records, self.passes, self.more, self.partial = [], [], False, False, False
         self.unknown, self.doubtful, self.mended = collections.defaultdict(set), set(), collections.Counter()
 
@@ -115,7 +101,10 @@ class Zone:
         """Runs zonecheck, and sets `passes`, `faults` and `records`."""
         status, said = zonecheck(self.origin, self.text, "--print")
         if status == 0:
-            self.passes, self.records = True, list(canonical(said))
+            # The canonical text has a record on each line.
+            rows = (line.split(" ", 4) for line in said.splitlines())
+            self.records = [Record(owner, ttl, rtype, FIELD.findall(data)) for owner, ttl, _, rtype, data in rows]
+            self.passes = True
             return self
         if "\r" in self.text.rstrip("\r\n") and "\n" not in self.text.rstrip("\n"):
             do = "write LF for each, as `tr '\\r' '\\n'` does"
@@ -140,6 +129,12 @@ class Zone:
         """The file and the number of a line."""
         return self.places[line] if self.places else (self.path, line + 1)
 
+    def where(self, lines):
+        """The first three lines, as part of a sentence."""
+        places = dict.fromkeys(self.place(line) for line in itertools.islice(lines, 3))
+        where = [f"line {line}" + f" of {file}" * (file != self.path) for file, line in places]
+        return " and ".join(where) or "the same line"
+
     def lacks(self, record, what):
         """Whether the data or the TTL of a record was put in because its own is unknown."""
         return what in self.unknown.get(record.line, ())
@@ -154,8 +149,9 @@ class Zone:
                         escaped(self.sources[file][line - 1].rstrip("\r").expandtabs()[:300]))
                  for severity, faults in (("error", self.faults), ("warning", warned[:MOST]))
                  for (file, line), code, owner, message in faults]
-        bounds = f"{plain(self.path)}: {MOST} faults are reported, and there may be more\n" * self.more
-        return found, bounds + f"{plain(self.path)}: {MOST} of {len(warned)} warnings are reported\n" * (len(warned) > MOST)
+        path, many = plain(self.path), f"{MOST} of {len(warned)} warnings are reported\n"
+        return found, (f"{path}: {MOST} faults are reported, and there may be more\n" * self.more
+                       + f"{path}: {many}" * (len(warned) > MOST))
 
     def found(self, line, code, text, owner=""):
         """Adds a fault, unless it is equal to the last one. Returns whether it was added."""
@@ -166,178 +162,135 @@ class Zone:
         return another
 
     def mend(self, reader, line, code):
-        """Reports the fault of an entry, and corrects the entry. Returns False if the rest of the file can't be checked."""
+        """Reports and corrects the fault of an entry. Returns False if the rest of the file can't be checked."""
         collections.deque(reader.records(self.lines, line), 0)
-        entry = Entry(self.lines, line)
-        mending = Mending(self, reader, entry, code)
-        # An entry that is at fault again after its correction, or because of the octets put into it, has only one fault.
+        mending = Mending(self, reader, line, code)
+        # An entry that is at fault again after its correction, or by the octets put into it, has only one fault.
         self.mended[line, code] += 1
         again = self.mended[line, code] > (3 if code == "R01" else 1)
         follows = mending.follows and "string" in self.unknown[line]
         if not again and not follows and not self.found(line, code, mending.says):
             # Other records of the same $GENERATE have the same fault.
-            for at in itertools.takewhile(lambda at: self.place(at) == self.place(line), range(line, len(self.lines))):
+            rest = range(line, len(self.lines))
+            for at in itertools.takewhile(lambda at: self.place(at) == self.place(line), rest):
                 self.lines[at] = ""
             return True
-        self.unknown[line] |= mending.unknown | {"string"} if again else mending.unknown
-        if "owner" in mending.unknown:
-            self.doubtful.add(name(entry.owner, reader.origin) if entry.owner else reader.owner)
-        if "rest" not in mending.unknown:
-            self.replace(entry, [] if again or mending.lines is None else mending.lines)
-        return "rest" not in mending.unknown
-
-    def replace(self, entry, lines):
-        """Replaces an entry by lines. If there are more lines than the entry has, all get the number of its first line."""
-        begin, end = entry.begin, entry.end
-        if not lines and entry.owner and entry.owner[0] not in '$#/"':
+        self.unknown[line] |= {mending.unknown, "string"} if again else {mending.unknown}
+        if mending.unknown == "owner":
+            self.doubtful.add(name(mending.owner, reader.origin) if mending.owner else reader.owner)
+        end, lines = mending.end, [] if again else mending.fixed
+        if not lines and mending.owner and mending.owner[0] not in '$#/"':
             # Entries after it that begin with a blank keep its owner.
-            after = next((at for at in range(end, len(self.lines)) if self.lines[at].split(";")[0].strip()), begin)
-            if self.lines[after][0] in " \t" and after > begin:
-                self.lines[after] = entry.owner + self.lines[after]
-        lines += [""] * (end - begin - len(lines))
-        if len(lines) > end - begin:
+            after = next((at for at in range(end, len(self.lines)) if self.lines[at].split(";")[0].strip()), line)
+            if self.lines[after][0] in " \t" and after > line:
+                self.lines[after] = mending.owner + self.lines[after]
+        lines += [""] * (end - line - len(lines))
+        if len(lines) > end - line:
+            # All lines of an entry that gets more than it has are at its first line.
             self.places = self.places or [(self.path, number) for number in range(1, len(self.lines) + 1)]
-            self.places[begin:end] = [self.places[begin]] * len(lines)
-        self.lines[begin:end] = lines
+            self.places[line:end] = [self.places[line]] * len(lines)
+        self.lines[line:end] = lines
+        return mending.unknown != "rest"
 
 
 class ZoneFaults(Names):
-    """The faults of a zone: for each fault that zonecheck reports, the records that have it, and what to do."""
+    """The faults of a zone: for each fault that zonecheck reports, the records that have it, and what to do.
 
-    ALIKE = {"Z02": ("SOA", "more than one SOA record; see {1}: keep one"),
-             "Z07": ("CNAME", "more than one CNAME at one name; see {1}: keep one"),
-             "Z13": ("NS", "NS at a wildcard: take it out, and delegate each name by itself")}
+    Rows are a record, a code, whether the record has that fault if its name has it, and a sentence.
+    """
 
     def report(self, said):
         self.soas = [record for record in self.of.records if record.rtype == "SOA"]
-        self.targets = {record.data[-1] for record in self.of.records if record.rtype in ("NS", "MX", "SRV") and record.data}
+        self.hosts = {one.data[-1] for one in self.of.records if one.rtype in ("NS", "MX", "SRV") and one.data}
         lost = {"data", "ttl", "owner"} & set().union(*self.of.unknown.values())
         for owner, code in re.findall(r"^(.*) (Z\d\d)$", said, re.M):
-            alike = self.ALIKE.get(code)
-            found = list(self.each(self.at(owner, alike[0]), alike[1]) if alike else getattr(self, code.lower())(owner))
+            here = self.at(owner)
+            rows = self.origin(owner, here) if code in ("Z01", "Z04") else self.rows(owner, here)
+            found = [(record, says) for record, its, holds, says in rows if its == code and holds]
             doubtful = owner in self.of.doubtful if code in ("Z01", "Z04") else \
                 lost and not found and code in ("Z08", "Z09", "Z10", "Z11")
-            for record, text in [] if doubtful else found or [(self.first(owner), "the name has this fault")]:
-                self.of.found(record.line if record else 0, code, text, owner)
+            for record, says in [] if doubtful else found or [(next(iter(here), None), "the name has this fault")]:
+                self.of.found(record.line if record else 0, code, says, owner)
             if len(self.of.faults) > MOST:
                 return
 
-    def first(self, owner):
-        return next(iter(self.at(owner)), None)
-
-    def lines(self, records):
-        """The lines of the first three records, as part of a sentence."""
-        places = dict.fromkeys(self.of.place(record.line) for record in itertools.islice(records, 3))
-        return " and ".join(f"line {line}" + f" of {file}" * (file != self.of.path) for file, line in places) or "the same line"
-
-    def each(self, records, text, others=None):
-        """Yields records that are at fault together. In the text, {0} is the record, and {1} is the lines of the others."""
-        for record in records[:MOST]:
-            yield record, text.format(record, self.lines(other for other in others or records if other.line != record.line))
-
-    def end(self, target):
-        """The end of a chain of aliases."""
-        seen = set()
-        while target not in seen and self.at(target, "CNAME"):
-            seen.add(target)
-            target = self.at(target, "CNAME")[0].data[0]
-        return target
-
-    def below(self, label):
-        return label + "." + self.zone.lstrip(".")
-
-    def z01(self, owner):
-        server = next((record.data[0] for record in self.at(owner, "NS")), self.below("ns1"))
-        do = f": add `{owner} 3600 IN SOA {server} {self.below('hostmaster')} 1 7200 900 1209600 300`"
+    def origin(self, owner, here):
+        below, first = self.zone.lstrip("."), next(iter(here), None)
+        server = next((record.data[0] for record in here if record.rtype in ("NS", "SOA")), "ns1." + below)
+        lost = ", with the address of the server" * (within(server, self.zone) and not self.at(server, "A", "AAAA"))
+        do = f": add `{owner} 3600 IN SOA {server} hostmaster.{below} 1 7200 900 1209600 300`"
         for soa in self.soas[:1]:
             do = "write @ as its owner, which lacks its final dot" if twice(soa.owner, self.zone) else \
                 f"give {soa.owner} as ORIGIN, if the file is of that zone"
-            do = f"; {self.lines([soa])} has the one of {soa.owner}: {do}"
-        yield self.first(owner), "the origin has no SOA record" + do
+            do = f"; {self.of.where([soa.line])} has the one of {soa.owner}: {do}"
+        yield first, "Z01", True, "the origin has no SOA record" + do
+        do = f"add one for each server, as `{owner} 3600 IN NS {server}`{lost}"
+        yield first, "Z04", True, f"the origin has no NS record: {do}"
 
-    def z03(self, owner):
-        do = "its owner lacks the final dot: write @" if twice(owner, self.zone) else \
+    def rows(self, owner, here):
+        aliases, others = self.at(owner, "CNAME"), [record for record in here if record.rtype != "CNAME"]
+        cut, spread = self.cut(owner) or owner, "are served; spread them over several names"
+        servers = self.of.where(server.line for server in self.at(cut, "NS"))
+        own_zone = f"take it out (it belongs to the zone {cut}), or the NS records of {cut} on {servers}"
+        both = "a CNAME and other records at one name: " + (
+            "take the CNAME out, and write the A and AAAA records of its target" if owner == self.zone else
+            "keep it or the other, on ")
+        give = f"give {owner} as ORIGIN, if the file is of that zone"
+        moved = "its owner lacks the final dot: write @" if twice(owner, self.zone) else \
             "take it out" if self.at(self.zone, "SOA") else \
-            "write @ as its owner, or " * within(owner, self.zone) + f"give {owner} as ORIGIN, if the file is of that zone"
-        return [(record, f"an SOA record that is not at the origin: {do}") for record in self.at(owner, "SOA")]
+            "write @ as its owner, or " * within(owner, self.zone) + give
+        for number, (rtype, own) in enumerate(self.sets[owner].items()):
+            first, alone = {record.ttl: record for record in reversed(own)}, unique(own)
+            known = len(first) > 1 and not any(self.of.lacks(record, "ttl") for record in own)
+            more = [record for record in own[MOST:] if record in (first[record.ttl], *alone[64:65])]
+            for record in own[:MOST] + more:
+                def but(records):
+                    return self.of.where(other.line for other in records if other.line != record.line)
+                yield record, "Z02", rtype == "SOA", f"more than one SOA record; see {but(own)}: keep one"
+                yield record, "Z03", rtype == "SOA", f"an SOA record that is not at the origin: {moved}"
+                yield record, "Z05", True, f"the name is not in the zone {self.zone}; {self.outside(owner, rtype)}"
+                yield record, "Z06", rtype == "CNAME", both + but(others) * (owner != self.zone)
+                yield record, "Z06", rtype != "CNAME" and owner != self.zone, \
+                    f"other records at the name of a CNAME: keep it or the CNAME, on {but(aliases)}"
+                yield record, "Z07", rtype == "CNAME", f"more than one CNAME at one name; see {but(own)}: keep one"
+                yield record, "Z08", known and record is first[record.ttl], \
+                    f"the TTL of this {rtype} record is {record.ttl}, and that of {but(first.values())} is another: " \
+                    f"give all {rtype} records of the name the TTL {own[0].ttl}"
+                yield record, "Z12", rtype not in ("A", "AAAA") and (rtype != "NS" or owner != cut), \
+                    f"data at or below a delegation, where it is never answered: {own_zone}"
+                yield record, "Z13", rtype == "NS", "NS at a wildcard: take it out, and delegate each name by itself"
+                yield record, "Z14", record in alone[64:65], \
+                    f"{len(alone)} {rtype} records at one name: at most 64 {spread}"
+                yield record, "Z15", (number, record) == (32, own[0]), \
+                    f"{len(self.sets[owner])} types at one name: at most 32 {spread}"
+                yield from self.target(owner, record) if rtype in ("NS", "MX", "SRV") else ()
 
-    def z04(self, owner):
-        server = next((record.data[0] for record in self.at(owner, "SOA")), self.below("ns1"))
-        lost = ", with the address of the server" * (within(server, self.zone) and not self.at(server, "A", "AAAA"))
-        yield self.first(owner), f"the origin has no NS record: add one for each server, as `{owner} 3600 IN NS {server}`{lost}"
+    def outside(self, owner, rtype):
+        soa = next((soa.owner for soa in self.soas if not within(soa.owner, self.zone)), None)
+        if soa and not self.at(self.zone, "SOA"):
+            return f"the SOA of the file is that of {soa}: give that as ORIGIN"
+        if rtype in ("A", "AAAA") and owner in self.hosts:
+            return "the address of a host outside the zone is in the zone of that host: take the record out"
+        if owner.count(".") == 1 and owner != ".":
+            return f"write {owner[:-1]} without the final dot, or take the record out"
+        return "take the record out, or put it into the file of its own zone"
 
-    def z05(self, owner):
-        soa = next((soa for soa in self.soas if not within(soa.owner, self.zone)), None)
-        for record in self.at(owner):
-            if soa and not self.at(self.zone, "SOA"):
-                do = f"the SOA of the file is that of {soa.owner}: give that as ORIGIN"
-            elif record.rtype in ("A", "AAAA") and owner in self.targets:
-                do = "the address of a host outside the zone is in the zone of that host: take the record out"
-            elif owner.count(".") == 1 and owner != ".":
-                do = f"write {owner[:-1]} without the final dot, or take the record out"
-            else:
-                do = "take the record out, or put it into the file of its own zone"
-            yield record, f"the name is not in the zone {self.zone}; {do}"
-
-    def z06(self, owner):
-        aliases, says = self.at(owner, "CNAME"), "a CNAME and other records at one name: "
-        if owner == self.zone:
-            return self.each(aliases, says + "take the CNAME out, and write the A and AAAA records of its target")
-        others = [record for record in self.at(owner) if record.rtype != "CNAME"]
-        return [*self.each(aliases, says + "keep it or the other, on {1}", others),
-                *self.each(others, "other records at the name of a CNAME: keep it or the CNAME, on {1}", aliases)]
-
-    def z08(self, owner):
-        for rtype, records in self.sets[owner].items():
-            first = list({record.ttl: record for record in reversed(records)}.values())
-            if len(first) > 1 and not any(self.of.lacks(record, "ttl") for record in records):
-                yield from self.each(first, f"the TTL of this {rtype} record is {{0.ttl}}, and that of {{1}} is another: "
-                                     f"give all {rtype} records of the name the TTL {records[0].ttl}")
-
-    def z10(self, owner):
-        for record in self.at(owner, "NS"):
-            target, written, found = record.data[0], record.last, address(record.last)
-            cut = self.cut(target)
-            spared = cut and not (owner in self.cuts and within(target, owner)) or self.at(target, "A", "AAAA")
-            if spared or self.of.lacks(record, "data") or target in self.of.doubtful or not within(target, self.zone):
-                continue
-            do = f"add `{target} 3600 IN A` with its address, or take the NS record out"
-            if found:
-                do = f"{found[1]} is an address: write a name, as `NS ns9`, and for that name `ns9 {found[0]} {found[1]}`"
-            elif twice(target, self.zone):
-                do = f"the final dot is missing: write {written}."
-            elif self.at(target, "CNAME"):
-                do = f"write {self.end(target)}, to which it is an alias"
-            elif "." in written and written[-1] != "." and (owner == self.zone or not within(target, owner)):
-                do = f"write {written}. if it is in another zone; else {do}"
-            yield record, f"a server in the zone without an address: {target}: {do}"
-
-    def aliased(self, records, says):
-        for record in records:
-            target = record.data[-1]
-            if within(target, self.zone) and self.at(target, "CNAME"):
-                yield record, f"{says.format(target, record.rtype)}: write {self.end(target)}"
-
-    def z09(self, owner):
-        return self.aliased(self.at(owner, "NS"), "the server {0} is an alias")
-
-    def z11(self, owner):
-        return self.aliased(self.at(owner, "MX", "SRV"), "an {1} host that is an alias: {0}")
-
-    def z12(self, owner):
-        cut = self.cut(owner) or owner
-        do = f"take it out (it belongs to the zone {cut}), or the NS records of {cut} on {self.lines(self.at(cut, 'NS'))}"
-        return [(record, f"data at or below a delegation, where it is never answered: {do}") for record in self.at(owner)
-                if record.rtype not in ("A", "AAAA") and (record.rtype != "NS" or owner != cut)]
-
-    def z14(self, owner):
-        for rtype, records in self.sets[owner].items():
-            own = unique(records)
-            yield from self.many(own[64:65], f"{len(own)} {rtype} records at one name: at most 64 are served")
-
-    def z15(self, owner):
-        own = list(self.sets[owner].values())
-        return self.many([records[0] for records in own[32:33]], f"{len(own)} types at one name: at most 32 are served")
-
-    def many(self, records, says):
-        return [(record, says + "; spread them over several names") for record in records]
+    def target(self, owner, record):
+        target, rtype, written, found = record.data[-1], record.rtype, record.last, address(record.last)
+        end, aliases = self.aliased(target) if within(target, self.zone) else (target, [])
+        yield record, "Z09", rtype == "NS" and aliases, f"the server {target} is an alias: write {end}"
+        yield record, "Z11", rtype != "NS" and aliases, f"an {rtype} host that is an alias: {target}: write {end}"
+        do = f"add `{target} 3600 IN A` with its address, or take the NS record out"
+        if found:
+            do = f"{found[1]} is an address: write a name, as `NS ns9`, and for that name `ns9 {found[0]} {found[1]}`"
+        elif twice(target, self.zone):
+            do = f"the final dot is missing: write {written}."
+        elif aliases:
+            do = f"write {end}, to which it is an alias"
+        elif "." in written and written[-1] != "." and (owner == self.zone or not within(target, owner)):
+            do = f"write {written}. if it is in another zone; else {do}"
+        below = self.cut(target) and not (owner in self.cuts and within(target, owner))
+        known = not self.of.lacks(record, "data") and target not in self.of.doubtful
+        lost = within(target, self.zone) and not below and not self.at(target, "A", "AAAA")
+        yield record, "Z10", rtype == "NS" and known and lost, \
+            f"a server in the zone without an address: {target}: {do}"

@@ -1,14 +1,13 @@
 """Reads the entries of zone files for zonelint and zoneimport: names, tokens, owners, data and their lines.
 
-It checks nothing, because zonecheck does. So it also reads faulty entries, and ends each at its most likely end. Texts have one
-character for each octet (latin-1).
+It checks nothing, because zonecheck does. So it also reads faulty entries, and ends each at its most likely end.
+Texts have one character for each octet (latin-1).
 """
 import collections
 import functools
 import ipaddress
 import re
 import socket
-import struct
 import sys
 
 try:
@@ -23,83 +22,82 @@ SIMPLE = re.compile(r"(?:[!#%&'*+,\-/0-9:<=>?A-Z\[\]^_`a-z{|}~]{1,63}(?:\.|$))+"
 CLASS = re.compile(r"(?:IN|CH|CS|HS)$|CLASS", re.I)
 
 # Types whose data has its own form: numbers of 16 (H) and 32 bits (L), addresses (4, 6), names (n), strings (s).
-KINDS = {"A": "4", "NS": "n", "CNAME": "n", "SOA": "nnLLLLL", "PTR": "n", "HINFO": "ss", "MX": "Hn", "TXT": "s", "AAAA": "6",
-         "SRV": "HHHn"}
+KINDS = {"A": "4", "NS": "n", "CNAME": "n", "SOA": "nnLLLLL", "PTR": "n", "HINFO": "ss", "MX": "Hn", "TXT": "s",
+         "AAAA": "6", "SRV": "HHHn"}
 # Types that other programs know by name, and that are written by number here (RFC 3597).
-OTHERS = ("RP AFSDB X25 ISDN RT NSAP PX GPOS LOC NAPTR KX CERT APL SSHFP IPSECKEY DHCID TLSA SMIMEA HIP CDS CDNSKEY OPENPGPKEY "
-          "CSYNC ZONEMD SVCB HTTPS SPF NID L32 L64 LP EUI48 EUI64 URI CAA AVC AMTRELAY").split()
+OTHERS = ("RP AFSDB X25 ISDN RT NSAP PX GPOS LOC NAPTR KX CERT APL SSHFP IPSECKEY DHCID TLSA SMIMEA HIP CDS CDNSKEY "
+          "OPENPGPKEY CSYNC ZONEMD SVCB HTTPS SPF NID L32 L64 LP EUI48 EUI64 URI CAA AVC AMTRELAY").split()
 NUMBERS = {rtype: f"TYPE{dns.rdatatype.from_text(rtype):d}" for rtype in [*KINDS, *OTHERS]}
 NAMED = {NUMBERS[rtype]: rtype for rtype in KINDS}
+# The beginning of a line that looks like an entry.
 BEGIN = re.compile(r"\$[A-Z]+[ \t]|(?:[^ \t;\"()][^ \t;\"()]*)?[ \t]+(?:(?:\d[\dwdhms]*|IN)[ \t]+){0,2}(?:TYPE\d+|"
                    + "|".join([*KINDS, *OTHERS, "DS"]) + r")[ \t(]", re.I)
+LARGEST = 16777216  # the most octets of a file; one more is read, to see whether there are more
 UNITS = {"w": 604800, "d": 86400, "h": 3600, "m": 60, "s": 1, "": 1}
-# A record: its data is as in the canonical text, `line` is the first line of its entry (from 0), `last` is its last token.
+# A record: its data is as in the canonical text, `line` its entry's first line (from 0), and `last` its last token.
 Record = collections.namedtuple("Record", "owner ttl rtype data line last", defaults=(None, ""))
 
 
-def seconds(text):
-    """The value of a number, with units or leading zeros or without: 5400 for 1h30m. None if the token is not such a number."""
-    if not re.fullmatch(r"[0-9]{1,60}|(?:[0-9]{1,20}[wdhms]){1,12}", text, re.I | re.A):
+def digits(token):
+    """A number in plain digits, also if it has units or leading zeros: 5400 for 1h30m. None if it is not a number."""
+    if not re.fullmatch(r"(?ai)[0-9]{1,60}|(?:[0-9]{1,20}[wdhms]){1,12}", token):
         return None
-    return sum(int(number) * UNITS[unit] for number, unit in re.findall(r"([0-9]+)([a-z]?)", text.lower()))
+    return str(sum(int(count) * UNITS[unit] for count, unit in re.findall(r"([0-9]+)([a-z]?)", token.lower())))
 
 
 def groups(token):
-    """An IPv6 address, written only in groups of hex digits, also if its end was dotted. None if the token is not an address."""
+    """An IPv6 address, written only in groups of hex digits, also if its end was dotted. None if it is not one."""
     try:
-        packed = socket.inet_pton(socket.AF_INET6, token)
+        last = socket.inet_pton(socket.AF_INET6, token)[12:].hex()
     except (OSError, ValueError):
         return None
-    last = struct.unpack("!HH", packed[12:])
-    return "{}:{:x}:{:x}".format(token.rpartition(":")[0], *last) if "." in token else token
+    return f"{token.rpartition(':')[0]}:{int(last[:4], 16):x}:{int(last[4:], 16):x}" if "." in token else token
 
 
 def address(token):
     """The type and the text of the address that a token is meant to be, or None if it is not an address."""
     bare = re.sub(r"/\d+$|%\w+$", "", token.strip('"').rstrip(",.;")).strip("[]")
-    found = re.fullmatch(r"((?:\d{1,9}\.){3}\d{1,9})(?::\d+)?", bare)
-    if found:
+    if found := re.fullmatch(r"((?:\d{1,9}\.){3}\d{1,9})(?::\d+)?", bare):
         parts = [int(part) for part in found[1].split(".")]
         return ("A", ".".join(map(str, parts))) if max(parts) < 256 else None
-    text = groups(bare)
-    return ("AAAA", text) if text else None
+    return ("AAAA", groups(bare)) if groups(bare) else None
 
 
 def octets(token):
     """The octets of a token or string, without its quotation marks and escapes."""
     bare = token[1:].removesuffix('"') if token[:1] == '"' else token
-    return re.sub(r"\\(\d{3}|.)", lambda part: chr(int(part[1]) & 255) if part[1].isdigit() else part[1], bare, flags=re.S)
+    return re.sub(r"\\(\d{3}|.)", lambda c: chr(int(c[1]) & 255) if c[1].isdigit() else c[1], bare, flags=re.S)
 
 
-def escaped(text, also=""):
-    """A text with a backslash before each character of `also`, and \\DDD for octets that are not printable."""
-    return "".join("\\" + c if c in also else c if " " <= c <= "~" else f"\\{ord(c):03}" for c in text)
+def escaped(text, spared=" -~"):
+    """A text with \\DDD for octets that are not printable, or not `spared`."""
+    sound = text.isascii() and text.isprintable()
+    return text if sound else re.sub(f"[^{spared}]", lambda c: f"\\{ord(c[0]):03}", text)
 
 
 def string(text):
     """A string in the form of the canonical text."""
-    return '"' + escaped(text, '"\\') + '"'
+    return '"' + escaped(re.sub(r'(["\\])', r"\\\1", text)) + '"'
 
 
 @functools.lru_cache(1 << 17)
 def name(text, origin):
     """The absolute name, in the form of the canonical text, of a name relative to an origin. None if it is invalid."""
-    if len(text) > 1020:
-        return None
-    if SIMPLE.fullmatch(text):
-        full = text.lower() if text[-1] == "." else f"{text.lower()}.{origin.lstrip('.')}"
-        if len(full) < 255:
-            return full
+    if SIMPLE.fullmatch(text) and len(text) + len(origin) < 254:
+        return text.lower() if text[-1] == "." else f"{text.lower()}.{origin.lstrip('.')}"
     try:
-        return dns.name.from_text(text.encode("latin-1"), dns.name.from_text(origin)).canonicalize().to_text()
+        full = dns.name.from_text(text[:1021].encode("latin-1"), dns.name.from_text(origin))
     except Exception:  # Its reader raises many kinds of exceptions.
         return None
+    return full.canonicalize().to_text()
 
 
-def parent(full):
-    """The name directly above an absolute name, or None for the root."""
-    above = re.sub(r"(?:[^.\\]|\\.)*\.", "", full, 1) if "\\" in full else full.partition(".")[2]
-    return above or ("." if full != "." else None)
+def above(full):
+    """Yields an absolute name, and the names above it up to the root."""
+    while full:
+        yield full
+        rest = re.sub(r"(?:[^.\\]|\\.)*\.", "", full, 1) if "\\" in full else full.partition(".")[2]
+        full = rest or "." * (full != ".")
 
 
 def within(full, zone):
@@ -111,20 +109,33 @@ def twice(full, zone):
     return zone != "." and within(full, zone + zone)
 
 
+class Refused(Exception):
+    """A file can't be read or checked, or an entry can't be converted. The text is the reason."""
+
+
+def read(path, shown=None):
+    """The octets of a file, or of standard input (`-`): as many as zonecheck reads."""
+    try:
+        with open(0 if path == "-" else path, "rb", closefd=path != "-") as source:
+            return source.read(LARGEST + 1).decode("latin-1")
+    except (OSError, ValueError) as error:
+        raise Refused(f"{shown or path}: {getattr(error, 'strerror', None) or error}") from None
+
+
 class Entry:
     """An entry: its lines from `begin` to before `end`, and their pieces, with a line feed after each line.
 
-    `tokens` are the pieces except blanks, parentheses and comments. `places` are their places among all pieces. With `nested`,
-    parentheses inside others are part of the entry, as in BIND. An entry that is not `closed` ends before the next line that
-    looks like an entry.
+    `tokens` are the pieces except blanks, parentheses and comments, and `places` are their places among all pieces.
+    With `nested`, parentheses inside others are part of the entry, as in BIND. An entry that is not `closed` ends
+    before the next line that looks like an entry. `at` is the place of the type among the tokens.
     """
 
     def __init__(self, lines, begin, nested=False):
         self.begin, self.blank = begin, lines[begin][:1] in (" ", "\t")
-        self.closed = self.read(lines, begin, len(lines), nested) <= 0
+        self.closed = self.read(lines, len(lines), nested) <= 0
         if not self.closed:
-            most = next((at for at in range(begin + 1, len(lines)) if BEGIN.match(lines[at])), len(lines))
-            self.read(lines, begin, most, True)
+            later = range(begin + 1, len(lines))
+            self.read(lines, next((at for at in later if BEGIN.match(lines[at])), len(lines)), True)
         self.places = [at for at, piece in enumerate(self.pieces) if piece[0] not in " \t\r\n();"]
         self.tokens = tokens = [self.pieces[at] for at in self.places]
         at = int(bool(tokens) and not self.blank)
@@ -137,13 +148,12 @@ class Entry:
             else:
                 break
             at += 1
-        # The place of the type among the tokens, the type, and the tokens of the data.
         self.at, self.rtype, self.data = at, "".join(tokens[at:at + 1]).upper(), tokens[at + 1:]
 
-    def read(self, lines, begin, most, nested):
-        """Reads the pieces of lines from `begin` to before `most`, and returns the number of parentheses left open."""
-        self.pieces, self.depth, self.end, depth = [], 0, begin, 0
-        while self.end == begin or self.end < most and depth > 0 and (nested or depth < 2):
+    def read(self, lines, most, nested):
+        """Reads the pieces of the lines to before `most`, and returns the number of parentheses left open."""
+        self.pieces, self.depth, self.end, depth = [], 0, self.begin, 0
+        while self.end == self.begin or self.end < most and depth > 0 and (nested or depth < 2):
             found = PIECE.findall(lines[self.end])
             for piece in found if "(" in found or ")" in found else ():
                 depth += (piece == "(") - (piece == ")")
@@ -152,45 +162,24 @@ class Entry:
             self.end += 1
         return depth
 
-    def joined(self, first, last=None):
-        """The tokens from `first` to before `last`, if given, as a text. Each run of other pieces between them is one blank."""
-        places, tokens = [*self.places, len(self.pieces)], set(self.places)
-        pieces = range(places[first], places[-1 if last is None else last])
-        text = "".join(printable(self.pieces[at]) if at in tokens else "\0" for at in pieces)
+    def joined(self, first):
+        """The tokens from `first` on as a text, with a blank for each run of other pieces between them."""
+        pieces = self.pieces[[*self.places, len(self.pieces)][first]:]
+        text = "".join("\0" if piece[0] in " \t\r\n();" else escaped(piece, "\t -~") for piece in pieces)
         return re.sub("\0+", " ", text.strip("\0"))
 
-    def lines(self, changes):
-        """The lines with the tokens of `changes` at their places, without inner parentheses. In the other tokens of owner and
-        data, \\DDD replaces octets that a zone file may not contain."""
+    def lines(self):
+        """The lines with `tokens` at their places, \\DDD for octets that are not allowed, and no inner parentheses."""
         pieces, depth = self.pieces[:], 0
-        for number, at in enumerate(self.places):
-            pieces[at] = changes.get(number, pieces[at] if 0 < number <= self.at else printable(pieces[at]))
-            if not pieces[at] and not pieces[at - 1].strip(" \t"):
+        for number, (at, token) in enumerate(zip(self.places, self.tokens)):
+            pieces[at] = token if 0 < number <= self.at else escaped(token, "\t -~")
+            if not token and not pieces[at - 1].strip(" \t"):
                 pieces[at - 1] = ""
         for at, piece in enumerate(self.pieces if self.depth > 1 else ()):
             depth += (piece == "(") - (piece == ")")
             if piece == "(" and depth > 1 or piece == ")" and depth > 0:
                 pieces[at] = " "
         return "".join(pieces)[:-1].split("\n")
-
-
-def printable(token):
-    """A token with \\DDD for octets that a zone file may not contain."""
-    return token if token.isascii() and token.isprintable() else re.sub(r"[^\t -~]", lambda c: f"\\{ord(c[0]):03}", token)
-
-
-def data_of(rtype, tokens, origin):
-    """Data in the form of the canonical text, as far as the type's form is known."""
-    kinds = KINDS.get(rtype)
-    if kinds is None or tokens[:1] == ["\\#"]:
-        return tokens
-    if kinds[0] == "s":
-        return [string(octets(token)) for token in tokens]
-    try:
-        return [str(ipaddress.IPv6Address("".join(tokens)))] if kinds == "6" else [
-            (name(token, origin) or token) if kind == "n" else token for kind, token in zip(kinds, tokens)]
-    except ValueError:
-        return tokens
 
 
 class Reader:
@@ -202,55 +191,45 @@ class Reader:
     def records(self, lines, stop=sys.maxsize):
         """Yields the records of all entries that begin before line `stop`."""
         while self.at < min(stop, len(lines)):
-            if not lines[self.at]:
-                self.at += 1
-                continue
-            entry = Entry(lines, self.at)
-            self.at = entry.end
-            record = self.take(entry)
+            entry = Entry(lines, self.at) if lines[self.at] else None
+            self.at = entry.end if entry else self.at + 1
+            record = entry and self.take(entry)
             if record:
                 yield record
 
     def take(self, entry):
         """The record of an entry, or None if the entry is not a record."""
-        owner, tokens = entry.owner, entry.tokens
-        if owner and owner[0] == "$":
-            if owner.upper() == "$ORIGIN" and len(tokens) > 1:
+        owner, directive, tokens = entry.owner or "", (entry.owner or "").upper(), entry.tokens
+        if directive[:1] == "$":
+            if directive == "$ORIGIN" and len(tokens) > 1:
                 self.origin = name(tokens[1], self.origin) or self.origin
-            elif owner.upper() == "$TTL" and len(tokens) > 1:
+            elif directive == "$TTL" and len(tokens) > 1:
                 self.default = tokens[1]
             return None
-        self.owner = owner and name(owner.strip('"'), self.origin) or self.owner
+        self.owner = owner and name(owner.strip('"') if owner[0] == '"' else owner, self.origin) or self.owner
         self.stated = entry.ttl or self.stated
-        if not entry.rtype:
-            return None
-        rtype = NAMED.get(entry.rtype, entry.rtype)
-        data = data_of(rtype, entry.data, self.origin)
-        return Record(self.owner, entry.ttl or self.default or self.stated, rtype, data, entry.begin, tokens[-1])
-
-
-def canonical(text):
-    """The records of a canonical text, which has one on each line."""
-    for line in text.splitlines():
-        owner, ttl, _, rtype, data = line.split(" ", 4)
-        strings = rtype in ("TXT", "HINFO")
-        yield Record(owner, ttl, rtype, re.findall(r'"(?:[^"\\]|\\.)*"', data) if strings else data.split(" "))
+        ttl, rtype, data = entry.ttl or self.default or self.stated, NAMED.get(entry.rtype, entry.rtype), entry.data
+        # Data has the form of the canonical text as far as the form of its type is known.
+        kinds = KINDS.get(rtype, "") if data[:1] != ["\\#"] else ""
+        data = [string(octets(token)) if kind == "s" else name(token, self.origin) or token if kind == "n" else
+                str(ipaddress.IPv6Address(token)) if kind == "6" and groups(token) else token
+                for kind, token in zip(kinds * len(data) if kinds == "s" else kinds, data)] if kinds else data
+        return Record(self.owner, ttl, rtype, data, entry.begin, tokens[-1]) if rtype else None
 
 
 def unique(records):
     """Records without duplicates: the first of equal ones is kept."""
-    return list({(record.owner, record.ttl, record.rtype, *record.data): record for record in reversed(records)}.values())[::-1]
+    return list({(*record[:3], *record.data): record for record in reversed(records)}.values())[::-1]
 
 
 class Names:
     """The records of a zone by owner and type, and its cuts."""
 
     def __init__(self, zone, records):
-        self.of, self.zone, self.sets, self.cuts = zone, zone.zone, collections.defaultdict(dict), set()
+        self.of, self.zone, self.sets = zone, zone.zone, collections.defaultdict(dict)
         for record in records:
             self.sets[record.owner].setdefault(record.rtype, []).append(record)
-            if record.rtype == "NS" and record.owner != self.zone and within(record.owner, self.zone):
-                self.cuts.add(record.owner)
+        self.cuts = {cut for cut, sets in self.sets.items() if "NS" in sets and within(cut, self.zone)} - {self.zone}
 
     def at(self, owner, *types):
         """The records of a name, only of `types` if any are given."""
@@ -259,8 +238,13 @@ class Names:
 
     def cut(self, full):
         """The highest cut that is equal to the name or above it, or None."""
-        found = None
-        while self.cuts and full and full != self.zone:
-            found = full if full in self.cuts else found
-            full = parent(full)
-        return found
+        found = [cut for cut in above(full) if cut in self.cuts] if self.cuts else []
+        return found[-1] if found else None
+
+    def aliased(self, full, before=(), most=None):
+        """The name to which a chain of aliases leads, and the names before it, beginning with those given."""
+        names = list(before)
+        while full not in names and len(names) != most and self.at(full, "CNAME"):
+            names.append(full)
+            full = self.at(full, "CNAME")[0].data[0]
+        return full, names
