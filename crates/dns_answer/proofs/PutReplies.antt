@@ -1,5 +1,5 @@
 -- The octets at the front of the buffer are the reply that the definitions state.
-use Rattle.dns_answer.proofs.Common.{◌≡◌, ℕ, ◌+◌, ◌≤◌, Bool, true, false, cond, not, ◌&&◌, nat_lt, nat_le, List, [], ◌∷◌, ◌++◌, length, take, Option, Some, is_some, refl, sym, ap, ◌∙◌, subst, arith, length-take, Octets, DomainName, is_name, ZoneContents, Header, MessageQuestion, Item, layout, size, most_aliases, outcome, items, is_authoritative, option_map, reply_head, Decision, kept, truncated, answered, keep_longest, reply_of, reply_octets, few_nodes, length-layout, Walk, code_of, empty_draft, offer, offered, size_with, State, Holds, Rest, TookRest, chain_rest, Seeks, Followed, IsReply, Answers, Costs, Verdict}
+use Rattle.dns_answer.proofs.Common.{◌≡◌, ℕ, ◌+◌, ◌≤◌, Bool, true, false, cond, not, ◌&&◌, nat_lt, nat_le, List, [], ◌∷◌, ◌++◌, length, Option, Some, is_some, refl, ap, ◌∙◌, subst, arith, Octets, DomainName, is_name, ZoneContents, Header, MessageQuestion, Item, layout, size, most_aliases, outcome, items, is_authoritative, option_map, reply_head, Decision, kept, truncated, answered, keep_longest, reply_of, reply_octets, few_nodes, Walk, code_of, empty_draft, offer, offered, size_with, State, Holds, Rest, TookRest, chain_rest, Seeks, Followed, IsReply, Answers, Costs, Verdict}
 use Rattle.dns_answer.specs.Draft as spec
 use Rattle.dns_answer.proofs.Offering.{Offers-is}
 use Rattle.dns_answer.proofs.Offered.{offered-keeps, offered-truncated}

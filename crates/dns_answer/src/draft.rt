@@ -100,6 +100,7 @@ impl<const N: usize, const SIZE: usize> Draft<N, SIZE> {
             → IsDraft quick_number q items self.old.page → result.now ≡ layout head q items }
         ensures fits { length result.now ≤ self.old.page.limit }
     {
-        self.page.finish(head)
+        self.page.finish(head);
+        self.page.octets()
     }
 }

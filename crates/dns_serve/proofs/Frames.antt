@@ -1,5 +1,5 @@
 -- Incomplete frames, and a message in its frame, by the parts in which it is read.
-use Rattle.dns_spec.proofs.Common.{◌≡◌, ℕ, ◌+◌, ◌-◌, ◌^◌, ◌<◌, ◌≤◌, min, ◌⊎◌, inl, inr, [], ◌∷◌, ◌++◌, length, take, replicate, None, refl, sym, ap, ◌∙◌, arith, append_assoc, append-nil, length-append, cases_lt, leb-true, take_all, take-append-le, Octets, most_over_udp, field16, octets16, first_frame, IsCutFrame, All-cons, All-nil, nil_from_length}
+use Rattle.dns_spec.proofs.Common.{◌/◌, ◌%◌, ap₂, drop, drop_all, take_at, frame, ◌≡◌, ℕ, ◌+◌, ◌-◌, ◌^◌, ◌<◌, ◌≤◌, min, ◌⊎◌, inl, inr, [], ◌∷◌, ◌++◌, length, take, replicate, None, sym, ap, ◌∙◌, arith, append_assoc, append-nil, length-append, cases_lt, leb-true, take_all, take-append-le, Octets, most_over_udp, field16, octets16, first_frame, IsCutFrame, All-cons, All-nil, nil_from_length}
 use Rattle.dns_spec.proofs.Streams.StreamFrames.{two_again, length_zeros, cut_frame}
 
 -- the octets do not begin with a complete frame, because they are fewer than its length says
@@ -51,3 +51,14 @@ kept_front n front rest hf hr = go (cases_lt n most_over_udp)
         let len : length front ≡ most_over_udp = omega (arith, hf, more) in
         sym (take-append-le most_over_udp front rest (omega (arith, len))
         ∙ take_all most_over_udp front (omega (arith, len)))
+
+-- a reply and its length, in the front of a buffer
+pub frame_written : (r length_of front copied rest : Octets) → length_of
+    ≡ length r / 256 % 256 ∷ length r % 256 ∷ drop 2 front → length front ≡ 2 → copied ≡ r
+    → take (length r + 2) (length_of ++ (copied ++ rest)) ≡ frame r
+frame_written r length_of front copied rest laid two same =
+    let head = laid ∙ ap (λ d. length r / 256 % 256 ∷ length r % 256 ∷ d)
+    (drop_all 2 front (omega (arith, two))) in
+    ap₂ (λ x y. take (length r + 2) (x ++ (y ++ rest))) head same
+    ∙ ap (take (length r + 2)) (sym (append_assoc (octets16 (length r)) r rest))
+    ∙ take_at (frame r) rest (length r + 2) (omega (arith, length-append (octets16 (length r)) r))

@@ -163,17 +163,23 @@ impl<const N: usize, const SIZE: usize> Page<N, SIZE> {
         true
     }
 
-    /// Completes the message with its header and counts, and lends it.
-    pub fn finish(&mut self, head: Head) -> &[u8]
+    /// Completes the message with its header and counts.
+    pub fn finish(&mut self, head: Head)
         ensures layout { (h : Octets → ℕ) (q : Option MessageQuestion) (items : List Item)
-            → IsDraft h q items self.old → result.now ≡ layout head q items }
+            → IsDraft h q items self.old → self.new.octets ≡ layout head q items }
         ensures spelled { (h : Octets → ℕ) (q : Option MessageQuestion) (items : List Item)
             → IsDraft h q items self.old
             → IsTrue (sections_in_order items) → All IsWritable (records_of items)
-            → Spells result.now (message_of head q items) }
-        ensures fits { length result.now ≤ self.old.limit }
+            → Spells self.new.octets (message_of head q items) }
+        ensures fits { length self.new.octets ≤ self.old.limit }
     {
         put_header(self.octets.as_mut_slice(), &head, &self.counts);
+    }
+
+    /// What is written.
+    pub fn octets(&self) -> &[u8]
+        ensures { result.now ≡ self.now.octets }
+    {
         self.octets.as_slice()
     }
 

@@ -80,7 +80,8 @@ impl<'h, H: SuffixHash> Writer<'h, H> {
             → Spells (take result out.new) (message_of head q items) }
     {
         let mut page = self.page;
-        let message = page.finish(head);
+        page.finish(head);
+        let message = page.octets();
         let (front, _) = out.split_at_mut(message.len());
         front.copy_from_slice(message);
         message.len()

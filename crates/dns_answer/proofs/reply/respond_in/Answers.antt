@@ -1,4 +1,4 @@
-use Rattle.dns_answer.proofs.Common.{rules, ℕ, List, [], ◌<◌, get_or, All, Some, refl, sym, ap, ◌∙◌, subst, arith, get_or_default_zero, layout, Header, decide_question, IsReply, Costs}
+use Rattle.dns_answer.proofs.Common.{rules, ℕ, List, [], ◌<◌, get_or, All, Some, refl, sym, ap, subst, arith, get_or_default_zero, layout, Header, decide_question, IsReply, Costs}
 use Rattle.dns_answer.proofs.PutReplies.{refusal-put}
 use Rattle.dns_answer.proofs.SentReplies.{nothing-taken, unanswered, responded}
 use Rattle.dns_answer.proofs.reply.respond_in.Goals as goal

@@ -6,7 +6,11 @@ pub returns-in_default-respond_in-clause-turn : goal.returns-in_default-respond_
 returns-in_default-respond_in-clause-turn g c = search (rules, turn_without)
 
 pub returns-in-Ok-send-clause-turn : goal.returns-in-Ok-send-clause-turn
-returns-in-Ok-send-clause-turn g c = search (rules, turn_with)
+returns-in-Ok-send-clause-turn g c =
+    turn_with _ _
+    (ap (λ s. s.zone) c.new-steps.ensures) _ _ _ _ _ _ _ c.receive.new.buf _ c.respond_in.result
+    _ c.in-Ok.ensures.datagram c.split_at.ensures.front c.in-Some.is c.respond_in.ensures.octets
+    c.in-Ok.ensures.sent c.in-Ok-send.ensures.received c.in-Ok-send.ensures.datagram
 
 pub returns-in-Err-clause-turn : goal.returns-in-Err-clause-turn
 returns-in-Err-clause-turn g c =
