@@ -55,10 +55,13 @@ fn redrafted(
     asked: &[u8],
 ) -> Result<Option<Vec<u8>>, Fail> {
     let mut steps = Steps::new(zone);
-    let reply = match limit {
-        Limit::Udp => respond_in(&mut steps, asked, &mut drafts.short),
-        Limit::Tcp => respond_in(&mut steps, asked, &mut drafts.large),
-    };
+    match limit {
+        Limit::Udp => copied(alloc, respond_in(&mut steps, asked, &mut drafts.short)),
+        Limit::Tcp => copied(alloc, respond_in(&mut steps, asked, &mut drafts.large)),
+    }
+}
+
+fn copied(alloc: Global, reply: Option<&[u8]>) -> Result<Option<Vec<u8>>, Fail> {
     let Some(reply) = reply else {
         return Ok(None);
     };
