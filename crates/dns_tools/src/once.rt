@@ -1,6 +1,6 @@
 //! Answers messages that come as lines of hexadecimal digits, one line for each.
 ghost use Rattle.std.specs.Prelude.{◌≡◌, ◌≢◌, ◌-◌, ◌*◌, ◌^◌, ◌<◌, ◌≤◌, ◌++◌, ◌&&◌, length, take, vec_len, Option, Some, Err, OnOk, OnErr, IfOk, IfErr, IfSome};
-ghost use Rattle.std.specs.Option.{is_some, option_map};
+ghost use Rattle.std.specs.Option.{is_some, option_copied};
 ghost use Rattle.dns_spec.specs.Names.{Octets};
 ghost use Rattle.dns_spec.specs.Lines.{line_answers, lines, message_answer, reply_line};
 ghost use Rattle.dns_tools.specs.Exchanges.{Answered, Begun, Grows, IsFresh, LinesAnswered, Progress, reply_within};
@@ -195,15 +195,33 @@ fn answer<W: Write>(
         return Ok(false);
     };
     let (mut steps, datagram) = (Steps::new(zone), &room[..len]);
-    let reply = match limit {
-        dns_answer::Limit::Udp => respond_in(&mut steps, datagram, &mut drafts.udp),
-        dns_answer::Limit::Tcp => respond_in(&mut steps, datagram, &mut drafts.tcp),
-    };
-    match reply {
-        Some(reply) => write_digits(reply, room, sink)?,
-        None => sink.write_all(b"none\n")?,
+    match limit {
+        dns_answer::Limit::Udp => {
+            let reply = respond_in(&mut steps, datagram, &mut drafts.udp);
+            write_reply(reply, room, sink)?;
+        }
+        dns_answer::Limit::Tcp => {
+            let reply = respond_in(&mut steps, datagram, &mut drafts.tcp);
+            write_reply(reply, room, sink)?;
+        }
     }
     Ok(true)
+}
+
+// Writes the line for a reply, or for none, using `room` for the digits.
+fn write_reply<W: Write>(
+    reply: Option<&[u8]>,
+    room: &mut [u8],
+    sink: &mut Tally<W>,
+) -> Result<(), SinkFailed>
+    requires room { IfSome reply (λ o. 2 * length o.now < length room.old) }
+    requires few { sink.old.failures < 2 ^ 64 - 1 }
+    ensures { Writes W.contents sink.old sink.new result (reply_line (option_copied reply.entry)) }
+{
+    match reply {
+        Some(reply) => write_digits(reply, room, sink),
+        None => sink.write_all(b"none\n"),
+    }
 }
 
 // Writes a reply as a line of digits, using `room` for the digits.
