@@ -17,4 +17,4 @@ pub mod BigNumbers
 pub mod PartsLoop
 pub mod NamedData
 pub mod SoaData
-pub mod WrittenPieces
+pub mod WrittenFields

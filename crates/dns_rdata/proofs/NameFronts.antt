@@ -1,5 +1,5 @@
 -- Octets that begin with labels: the octets after a label decide.
-use Rattle.dns_rdata.proofs.Common.{◌≡◌, ℕ, zero, suc, ◌-◌, ◌<◌, ◌≤◌, true, false, Option, None, Some, [], ◌∷◌, ◌++◌, length, take, drop, get_or, refl, sym, ap, ◌∙◌, arith, append_assoc, length-append, take-append-drop, and_parts, and_from, take_at, drop_at, length-take-le, list_all, Octets, DomainName, wire, is_label, name_of, name, domain, piece_front, are_strings, IsName-is_name, IsLabel-is_label, is_label-IsLabel, is_name-IsName, name_read, name_of-wire, wire_fronts_agree, labels_of, IsWireForm, labels_of_spelled, IsWireForm-wire, StandsAfterLabels, HasNoLabels}
+use Rattle.dns_rdata.proofs.Common.{◌≡◌, ℕ, zero, suc, ◌-◌, ◌<◌, ◌≤◌, true, false, Option, None, Some, [], ◌∷◌, ◌++◌, length, take, drop, get_or, refl, sym, ap, ◌∙◌, arith, append_assoc, length-append, take-append-drop, and_parts, and_from, take_at, drop_at, length-take-le, list_all, Octets, DomainName, wire, is_label, name_of, name, domain, field_front, are_strings, IsName-is_name, IsLabel-is_label, is_label-IsLabel, is_name-IsName, name_read, name_of-wire, wire_fronts_agree, labels_of, IsWireForm, labels_of_spelled, IsWireForm-wire, StandsAfterLabels, HasNoLabels}
 
 positive : (n : ℕ) → (n ≡ 0 → ⊥) → 0 < n
 positive n h = grind arith
@@ -94,7 +94,7 @@ long_name octets after front k h e f long = go (name_of octets) refl
 -- labels that are a valid name
 pub short_name : (octets after front rest : Octets) (k : ℕ) → StandsAfterLabels octets after → front
     ≡ take k octets → rest ≡ drop k octets → k ≡ length octets - length after → length front ≤ 255
-    → (piece_front domain octets ≡ Some (name (labels_of front), rest)) × IsWireForm front
+    → (field_front domain octets ≡ Some (name (labels_of front), rest)) × IsWireForm front
 short_name octets after front rest k h e g f short =
     grind (arith, wire_taken, is_name-IsName, name_of-wire, labels_of_spelled, IsWireForm-wire)
 

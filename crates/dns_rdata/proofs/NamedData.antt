@@ -1,5 +1,6 @@
 -- Data that is a name, or ends with one after numbers, has that name as its target.
-use Rattle.dns_rdata.proofs.Common.{◌≡◌, ℕ, ◌≤◌, inl, inr, true, List, [], ◌∷◌, ◌++◌, length, take, drop, Option, None, Some, is_some, unwrap_or, refl, sym, ap, ◌∙◌, subst, arith, append-nil, length-append, nat_le, false≢true, and_parts, none-some, drop-append_seam, Octets, DomainName, wire, is_name, Fixed, width, Piece, fixed, domain, Part, octets, pieces_of, cut, valid, first_name, target, cut_into, name_part, octets_part, front_taken, NameStandsAfter}
+use Rattle.dns_rdata.proofs.Common.{◌≡◌, ℕ, ◌+◌, ◌≤◌, true, List, [], ◌∷◌, length, take, drop, Option, Some, sym, ap, ◌∙◌, subst, arith, append-nil, length-append, drop_at, drop-drop, none-some, Octets, DomainName, wire, is_name, Field, number, ipv4, ipv6, domain, string, strings, anything, Part, fields_of, cut, valid, first_name, target, cut_into, cut_data, name_part, octets_part, front_taken, before_name}
+use Rattle.dns_spec.proofs.General.Options.{map_some}
 
 -- after k octets a name, the one sought, extends to the end
 pub record EndsWithName (k : ℕ) (d : Octets) (sought : Option DomainName) : Type 0 where
@@ -14,37 +15,41 @@ one_name : (d : Octets) (xs : List Part)
 unfolding cut
 one_name d xs e = grind (arith, cut_into, name_part, none-some, append-nil)
 
-after_numbers : (f : Fixed) (d : Octets) (xs : List Part)
-    → cut (fixed f ∷ domain ∷ []) d ≡ Some xs → EndsWithName (width f) d (first_name xs)
-after_numbers f d xs e =
-    let k = width f in
-    let c = cut_into (fixed f) (domain ∷ []) d xs e in
-    let t = front_taken k d c.part c.rest c.front in
-    let one = one_name c.rest c.others c.more in
-    let rest : drop k d ≡ c.rest = ap (drop k) t.0 ∙ subst
-    (λ j. drop j (take k d ++ c.rest) ≡ c.rest) t.1 (drop-append_seam (take k d) c.rest) in
+after_number : (j k : ℕ) (fs : List Field) (d : Octets) (xs : List Part)
+    → cut (number j ∷ fs) d ≡ Some xs → ((d : Octets) (xs : List Part)
+    → cut fs d ≡ Some xs → EndsWithName k d (first_name xs)) → EndsWithName (j + k) d (first_name xs)
+after_number j k fs d xs e ends =
+    let c = cut_into (number j) fs d xs e in
+    let t = front_taken j d c.part c.rest c.front in
+    let n = ends c.rest c.others c.more in
+    let rest : drop j d ≡ c.rest = ap (drop j) t.0 ∙ drop_at (take j d) c.rest j t.1 in
     record {
-      inside = omega (arith, ap length t.0, length-append (take k d) c.rest, t.1);
-      own = one.own;
-      is_name = one.is_name;
-      whole = rest ∙ one.whole;
+      inside = omega (arith, ap length t.0, length-append (take j d) c.rest, t.1, n.inside);
+      own = n.own;
+      is_name = n.is_name;
+      whole = sym (drop-drop k j d) ∙ ap (drop k) rest ∙ n.whole;
       found = ap first_name (sym c.whole) ∙ ap (λ p. first_name (p ∷ c.others))
-          (sym (octets_part k d c.rest c.part c.front)) ∙ one.found;
+          (sym (octets_part j d c.rest c.part c.front)) ∙ n.found;
     }
 
-by_pieces : (k : ℕ) (d : Octets) (ps : List Piece) → NameStandsAfter k ps → is_some
-    (cut ps d) ≡ true → EndsWithName k d (first_name (unwrap_or (cut ps d) (octets d ∷ [])))
-by_pieces k d ps after some = go (cut ps d) refl some after
-  where
-    go : (x : Option (List Part)) → cut ps d ≡ x → is_some x ≡ true
-        → NameStandsAfter k ps → EndsWithName k d (first_name (unwrap_or x (octets d ∷ [])))
-    go None e s after = absurd (false≢true s)
-    go (Some xs) e s (inl (none, whole)) = grind (arith, one_name)
-    go (Some xs) e s (inr (f, wide, whole)) =
-        subst (λ j. EndsWithName j d (first_name xs)) wide
-        (after_numbers f d xs (ap (λ q. cut q d) (sym whole) ∙ e))
+by_fields : (fs : List Field) (k : ℕ) (d : Octets) (xs : List Part)
+    → before_name fs ≡ Some k → cut fs d ≡ Some xs → EndsWithName k d (first_name xs)
+by_fields (number j ∷ fs) k d xs is e =
+    map_some (λ i. j + i) (before_name fs) k is (λ i was sum.
+    subst (λ z. EndsWithName z d (first_name xs)) sum
+    (after_number j i fs d xs e (λ d xs. by_fields fs i d xs was)))
+by_fields (domain ∷ []) k d xs is e = grind (arith, one_name)
+by_fields [] k d xs is e = absurd (none-some k is)
+by_fields (domain ∷ f ∷ fs) k d xs is e = absurd (none-some k is)
+by_fields (ipv4 ∷ fs) k d xs is e = absurd (none-some k is)
+by_fields (ipv6 ∷ fs) k d xs is e = absurd (none-some k is)
+by_fields (string ∷ fs) k d xs is e = absurd (none-some k is)
+by_fields (strings ∷ fs) k d xs is e = absurd (none-some k is)
+by_fields (anything ∷ fs) k d xs is e = absurd (none-some k is)
 
 pub ends_with_name : (t k : ℕ) (d : Octets)
-    → NameStandsAfter k (pieces_of t) → valid t d ≡ true → EndsWithName k d (target t d)
-ends_with_name t k d after ok = by_pieces k d
-    (pieces_of t) after (and_parts (nat_le (length d) 65535) (is_some (cut (pieces_of t) d)) ok).1
+    → before_name (fields_of t) ≡ Some k → valid t d ≡ true → EndsWithName k d (target t d)
+ends_with_name t k d is ok =
+    let c = cut_data t d ok in
+    subst (λ xs. EndsWithName k d (first_name xs)) (sym c.parts_are)
+    (by_fields (fields_of t) k d c.cut_parts is c.is_cut)

@@ -1,13 +1,13 @@
 -- Which part of the definitions a borrowed part of data represents.
-use Rattle.std.specs.Prelude.{◌≡◌, ⊤, ℕ, ◌⊎◌, List, [], ◌∷◌, Option, Some, None, IsTrue}
+use Rattle.std.specs.Prelude.{◌≡◌, ⊤, ℕ, ◌+◌, List, [], ◌∷◌, Option, Some, None, IsTrue}
 use Rattle.std.specs.Borrow.{Bor}
-use Rattle.std.specs.Option.{unwrap_or, is_some}
+use Rattle.std.specs.Option.{unwrap_or, is_some, option_map}
 use Rattle.dns_spec.specs.Names.{Octets, is_name}
-use Rattle.dns_spec.specs.Data.{Fixed, width, fixed, domain, octets, name, part_octets, part_folded, cut}
+use Rattle.dns_spec.specs.Data.{number, domain, octets, name, part_octets, part_folded, cut}
 use Rattle.dns_spec.specs.Data as Data
 use Rattle.dns_name.specs.WireForm.{labels_of, IsWireForm}
-use Rattle.dns_rdata.specs.declared.table.Piece.{Piece}
-use Rattle.dns_rdata.specs.TypeRows.{pieces_in}
+use Rattle.dns_rdata.specs.declared.table.Field.{Field}
+use Rattle.dns_rdata.specs.TypeRows.{fields_in}
 use Rattle.dns_rdata.specs.declared.parts.Part.{Part}
 use Rattle.dns_rdata.specs.declared.parts.Part.TheVariants.{Octets as Run, Name}
 
@@ -39,12 +39,12 @@ shown_part x = (part_for x, part_lends x)
 abbrev pub with_octets : Data.Part → Data.Part × Octets
 with_octets p = (p, part_octets p)
 
--- the parts that the remaining pieces cut from the octets
-abbrev pub parts_left : List Piece → Octets → List Data.Part
-parts_left ps os = unwrap_or (cut (pieces_in ps) os) []
+-- the parts that the remaining fields cut from the octets
+abbrev pub parts_left : List Field → Octets → List Data.Part
+parts_left fs os = unwrap_or (cut (fields_in fs) os) []
 
-abbrev pub AreCut : List Piece → Octets → Type 0
-AreCut ps os = IsTrue (is_some (cut (pieces_in ps) os))
+abbrev pub AreCut : List Field → Octets → Type 0
+AreCut fs os = IsTrue (is_some (cut (fields_in fs) os))
 
 abbrev pub PartList : Type 0
 PartList = List Data.Part
@@ -54,8 +54,8 @@ abbrev pub HasName : Data.Part → Type 0
 HasName (octets o) = ⊤
 HasName (name n) = IsTrue (is_name n)
 
--- the pieces are numbers or an address, k octets in all, and a name
-abbrev pub NameStandsAfter : ℕ → List Data.Piece → Type 0
-NameStandsAfter k ps =
-    ((k ≡ 0) × (ps ≡ domain ∷ []))
-    ⊎ ((f : Fixed) × (width f ≡ k) × (ps ≡ fixed f ∷ domain ∷ []))
+-- the number of octets before a name that is the last field, if all fields before it are numbers
+abbrev pub before_name : List Data.Field → Option ℕ
+before_name (number k ∷ fs) = option_map (λ j. k + j) (before_name fs)
+before_name (domain ∷ []) = Some 0
+before_name _ = None

@@ -3,40 +3,30 @@ use Rattle.std.specs.Prelude.{ℕ, Bool, ◌==◌, List, map}
 use Rattle.dns_spec.specs.Names.{Octets, octets_equal}
 use Rattle.dns_spec.specs.TypeText.{text_in_lower_case}
 use Rattle.dns_spec.specs.Data as Data
-use Rattle.dns_spec.specs.Data.{numbers, ipv4, ipv6, fixed, domain, string, strings, anything}
-use Rattle.dns_rdata.specs.declared.table.NumberSize.{NumberSize}
-use Rattle.dns_rdata.specs.declared.table.NumberSize.TheVariants.{Two, Four}
-use Rattle.dns_rdata.specs.declared.table.Fixed.{Fixed}
-use Rattle.dns_rdata.specs.declared.table.Fixed.TheVariants.{Numbers, Ipv4, Ipv6}
-use Rattle.dns_rdata.specs.declared.table.Piece.{Piece}
-use Rattle.dns_rdata.specs.declared.table.Piece.TheVariants.{Fixed as FixedPiece, Domain, String, Strings, Anything}
+use Rattle.dns_spec.specs.Data.{number, ipv4, ipv6, domain, string, strings, anything}
+use Rattle.dns_rdata.specs.declared.table.Field.{Field}
+use Rattle.dns_rdata.specs.declared.table.Field.TheVariants.{U16, U32, Ipv4, Ipv6, Domain, String, Strings, Anything}
 use Rattle.dns_rdata.specs.declared.table.TypeRow.{TypeRow}
 
-abbrev pub size_of : NumberSize → ℕ
-size_of Two = 2
-size_of Four = 4
+abbrev pub field_of : Field → Data.Field
+field_of U16 = number 2
+field_of U32 = number 4
+field_of Ipv4 = ipv4
+field_of Ipv6 = ipv6
+field_of Domain = domain
+field_of String = string
+field_of Strings = strings
+field_of Anything = anything
 
-abbrev pub fixed_of : Fixed → Data.Fixed
-fixed_of (Numbers m s) = numbers m (size_of s)
-fixed_of Ipv4 = ipv4
-fixed_of Ipv6 = ipv6
-
-abbrev pub piece_of : Piece → Data.Piece
-piece_of (FixedPiece f) = fixed (fixed_of f)
-piece_of Domain = domain
-piece_of String = string
-piece_of Strings = strings
-piece_of Anything = anything
-
-abbrev pub pieces_in : List Piece → List Data.Piece
-pieces_in = map piece_of
+abbrev pub fields_in : List Field → List Data.Field
+fields_in = map field_of
 
 abbrev pub row_for : TypeRow → Data.TypeRow
 row_for r =
     record {
       number = r.number;
       mnemonic = r.mnemonic.now;
-      pieces = pieces_in r.pieces.now;
+      fields = fields_in r.fields.now;
       compresses = r.compresses;
     }
 

@@ -27,5 +27,5 @@ pub use rdata::Rdata;
 pub use read::DataRoom;
 pub use rtype::RType;
 pub use set::SetView;
-pub use table::{Fixed, NumberSize, Piece, pieces_of_type};
+pub use table::{Field, fields_of_type};
 pub use word::{Word, Words};

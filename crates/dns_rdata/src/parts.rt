@@ -2,13 +2,13 @@
 ghost use Rattle.std.specs.Prelude.{◌≡◌, ◌≤◌, map, length, All, IfSome, IsNone};
 ghost use Rattle.std.specs.Option.{is_some};
 ghost use Rattle.std.specs.Iterator.{YieldsFirstBy, item_count};
-ghost use Rattle.dns_spec.specs.Data.{Valid, parts, cut, piece_front, octets_front, domain, are_strings};
-ghost use Rattle.dns_rdata.specs.TypeRows.{piece_of, pieces_in};
+ghost use Rattle.dns_spec.specs.Data.{Valid, parts, cut, field_front, octets_front, domain, are_strings};
+ghost use Rattle.dns_rdata.specs.TypeRows.{field_of, fields_in};
 ghost use Rattle.dns_rdata.specs.NameFront.{StandsAfterLabels, HasNoLabels};
 ghost use Rattle.dns_rdata.specs.Parts.{Cuts, shown_part, with_octets, HasName};
 
 use crate::rtype::RType;
-use crate::table::{Piece, pieces_of_type};
+use crate::table::{Field, fields_of_type};
 use std::marker::Model;
 
 // RFC 1035 2.3.4
@@ -28,7 +28,7 @@ pub enum Part<'a> {
 /// The remaining parts of data, in order.
 #[derive(Drop)]
 pub struct Parts<'a> {
-    pieces: &'static [Piece],
+    fields: &'static [Field],
     octets: &'a [u8],
 }
 
@@ -37,9 +37,9 @@ impl<'a> Model for Parts<'a> {
 
     ghost Value = { PartList };
 
-    ghost view = { λ p. parts_left p.pieces.now p.octets.now };
+    ghost view = { λ p. parts_left p.fields.now p.octets.now };
 
-    ghost invariant = { λ p. AreCut p.pieces.now p.octets.now };
+    ghost invariant = { λ p. AreCut p.fields.now p.octets.now };
 }
 
 impl<'a> Parts<'a> {
@@ -47,10 +47,10 @@ impl<'a> Parts<'a> {
         requires { Valid rtype.0 octets.now }
         ensures parts { result ≡ parts rtype.0 octets.now }
         ensures names { All HasName result }
-        ensures count { length result ≤ 3 }
+        ensures count { length result ≤ 7 }
     {
         Parts {
-            pieces: pieces_of_type(rtype),
+            fields: fields_of_type(rtype),
             octets,
         }
     }
@@ -64,40 +64,42 @@ impl<'a> Iterator for Parts<'a> {
     ghost remaining = { item_count (λ s. map with_octets s) };
 
     fn next(&mut self) -> Option<Part<'a>> {
-        let (piece, pieces) = self.pieces.split_first()?;
-        let (part, rest) = first_part(*piece, self.octets)?;
-        self.pieces = pieces;
+        let (field, fields) = self.fields.split_first()?;
+        let (part, rest) = first_part(*field, self.octets)?;
+        self.fields = fields;
         self.octets = rest;
         Some(part)
     }
 }
 
-pub(crate) fn are_cut(pieces: &[Piece], octets: &[u8]) -> bool
-    ensures { result ≡ is_some (cut (pieces_in pieces.now) octets.now) }
+pub(crate) fn are_cut(fields: &[Field], octets: &[u8]) -> bool
+    ensures { result ≡ is_some (cut (fields_in fields.now) octets.now) }
 {
-    let mut pieces = pieces;
+    let mut fields = fields;
     let mut rest = octets;
-    'pieces: while let Some((piece, others)) = pieces.split_first() {
-        let Some((_, after)) = first_part(*piece, rest) else {
+    'fields: while let Some((field, others)) = fields.split_first() {
+        let Some((_, after)) = first_part(*field, rest) else {
             return false;
         };
-        pieces = others;
+        fields = others;
         rest = after;
     }
     rest.is_empty()
 }
 
-/// The part for the piece at the beginning of the octets, and the octets after it.
-pub fn first_part(piece: Piece, octets: &[u8]) -> Option<(Part<'_>, &[u8])>
-    ensures { Cuts result (piece_front (piece_of piece) octets.now) }
+/// The part for the field at the beginning of the octets, and the octets after it.
+pub fn first_part(field: Field, octets: &[u8]) -> Option<(Part<'_>, &[u8])>
+    ensures { Cuts result (field_front (field_of field) octets.now) }
 {
-    match piece {
-        Piece::Fixed(fixed) => first_run(octets, fixed.width()),
-        Piece::Domain => first_name(octets),
-        Piece::String => first_run(octets, 1 + usize::from(*octets.first()?)),
+    match field {
+        Field::U16 => first_run(octets, 2),
+        Field::U32 | Field::Ipv4 => first_run(octets, 4),
+        Field::Ipv6 => first_run(octets, 16),
+        Field::Domain => first_name(octets),
+        Field::String => first_run(octets, 1 + usize::from(*octets.first()?)),
         // RFC 1035 3.3.14
-        Piece::Strings if octets.is_empty() || !are_strings(octets) => None,
-        Piece::Strings | Piece::Anything => Some((Part::Octets(octets), &[])),
+        Field::Strings if octets.is_empty() || !are_strings(octets) => None,
+        Field::Strings | Field::Anything => Some((Part::Octets(octets), &[])),
     }
 }
 
@@ -110,7 +112,7 @@ fn first_run(octets: &[u8], count: usize) -> Option<(Part<'_>, &[u8])>
 
 // RFC 1035 3.1
 pub(crate) fn first_name(octets: &[u8]) -> Option<(Part<'_>, &[u8])>
-    ensures { Cuts result (piece_front domain octets.now) }
+    ensures { Cuts result (field_front domain octets.now) }
 {
     let after = after_labels(octets)?;
     let (name, rest) = octets.split_at(octets.len() - after.len());

@@ -1,12 +1,12 @@
 //! Data of records (RFC 1035 3.2.1): octets without compression, with names in lower case.
-ghost use Rattle.std.specs.Prelude.{◌≡◌, ◌≤◌, ◌++◌, [], All, length, IfOk, OnOk, MatchResult, IfSome, if◌then◌else◌};
-ghost use Rattle.dns_spec.specs.Data.{valid, Valid, parts, pieces_of, target, lower_case, part_octets, part_folded};
-ghost use Rattle.dns_rdata.specs.Parts.{HasName, IsLent, NameStandsAfter, part_for};
+ghost use Rattle.std.specs.Prelude.{◌≡◌, ◌≤◌, ◌++◌, [], All, length, IfOk, OnOk, MatchResult, Some, IfSome, if◌then◌else◌};
+ghost use Rattle.dns_spec.specs.Data.{valid, Valid, parts, fields_of, target, lower_case, part_octets, part_folded};
+ghost use Rattle.dns_rdata.specs.Parts.{HasName, IsLent, before_name, part_for};
 
 use crate::fault::RdataFault;
 use crate::parts::{Part, Parts, are_cut};
 use crate::rtype::RType;
-use crate::table::pieces_of_type;
+use crate::table::fields_of_type;
 use dns_name::{Name, NameRef};
 use std::alloc::{AllocError, Global};
 use std::marker::Model;
@@ -37,7 +37,7 @@ impl Model for Rdata {
 impl Rdata {
     /// The data with these octets, and with the ASCII letters of its names in lower case.
     ///
-    /// `NotOfType` if the octets are invalid for the type: they do not exactly fill its pieces,
+    /// `NotOfType` if the octets are invalid for the type: they do not exactly fill its fields,
     /// contain a compressed name or one that is too long, or are more than 65,535. For a type
     /// without a mnemonic, any octets are valid (RFC 3597 3). `NoMemory` only if an allocation
     /// fails; there is at most one.
@@ -79,7 +79,7 @@ impl Rdata {
             (λ fault. fault ≡
             (if valid rtype.0 octets.now then RdataFault.NoMemory else RdataFault.NotOfType)) }
     {
-        if octets.len() > MAX_OCTETS || !are_cut(pieces_of_type(rtype), octets) {
+        if octets.len() > MAX_OCTETS || !are_cut(fields_of_type(rtype), octets) {
             return Err(RdataFault::NotOfType);
         }
         let mut lowered = memory;
@@ -100,12 +100,12 @@ impl Rdata {
     }
 
     /// The parts of valid data in order, runs of octets and names, borrowed. Letters may be in
-    /// either case. Data of a type without a mnemonic is one run. There are at most three parts.
+    /// either case. Data of a type without a mnemonic is one run. There are at most seven parts.
     pub fn parts(rtype: RType, octets: &[u8]) -> Parts<'_>
         requires { Valid rtype.0 octets.now }
         ensures parts { result ≡ parts rtype.0 octets.now }
         ensures names { All HasName result }
-        ensures count { length result ≤ 3 }
+        ensures count { length result ≤ 7 }
     {
         Parts::new(rtype, octets)
     }
@@ -142,7 +142,7 @@ impl Rdata {
 // The number of octets before a name that is the rest of the data, if the data of the type has
 // that form (RFC 1035 3.3.1, 3.3.9, 3.3.11 and 3.3.12, RFC 2782).
 fn octets_before_name(rtype: RType) -> Option<usize>
-    ensures { IfSome result (λ k. NameStandsAfter k (pieces_of rtype.0)) }
+    ensures { IfSome result (λ k. before_name (fields_of rtype.0) ≡ Some k) }
 {
     match rtype {
         RType::NS | RType::CNAME | RType::PTR => Some(0),

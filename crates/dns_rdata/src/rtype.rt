@@ -14,7 +14,7 @@ use std::io::Write;
 #[derive(Clone, Copy, Debug, PartialEq, Eq)]
 pub struct RType(pub u16);
 
-/// The types whose data has pieces.
+/// The types that have a mnemonic.
 impl RType {
     /// An IPv4 address (RFC 1035 3.4.1).
     pub const A: RType = RType(1);

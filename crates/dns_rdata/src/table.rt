@@ -1,46 +1,34 @@
-//! The table of the types that have a mnemonic, with the pieces of their data.
-ghost use Rattle.std.specs.Prelude.{◌≡◌, ◌^◌, suc, map};
+//! The table of the types that have a mnemonic, with the fields of their data.
+ghost use Rattle.std.specs.Prelude.{◌≡◌, map};
 ghost use Rattle.std.specs.Option.{option_map};
 ghost use Rattle.std.specs.List.{find};
-ghost use Rattle.dns_spec.specs.Data.{width, type_table, row_of, pieces_of};
+ghost use Rattle.dns_spec.specs.Data.{type_table, row_of, fields_of};
+ghost use Rattle.dns_spec.specs.DataText.{are_strings_alone};
 ghost use Rattle.dns_spec.specs.Names.{octets_equal};
 ghost use Rattle.dns_spec.specs.TypeText.{row_by_mnemonic, text_in_lower_case};
-ghost use Rattle.dns_rdata.specs.TypeRows.{size_of, fixed_of, row_for, pieces_in, has_number, has_mnemonic};
+ghost use Rattle.dns_rdata.specs.TypeRows.{row_for, fields_in, has_number, has_mnemonic};
 
 use crate::rtype::RType;
 
-/// The number of octets in a number.
+/// A field of data: one word of its text, except strings.
 #[derive(Clone, Copy, Debug)]
-pub enum NumberSize {
-    /// 16 bits.
-    Two,
-    /// 32 bits.
-    Four,
-}
-
-/// A piece of fixed length.
-#[derive(Clone, Copy, Debug)]
-pub enum Fixed {
-    /// `count` numbers of one size.
-    Numbers { count: u8, size: NumberSize },
+pub enum Field {
+    /// A number of 16 bits.
+    U16,
+    /// A number of 32 bits.
+    U32,
     /// An IPv4 address (RFC 1035 3.4.1).
     Ipv4,
     /// An IPv6 address (RFC 3596 2.2).
     Ipv6,
-}
-
-/// A piece of data.
-#[derive(Clone, Copy, Debug)]
-pub enum Piece {
-    /// Numbers or an address.
-    Fixed(Fixed),
     /// A domain name.
     Domain,
     /// A character-string (RFC 1035 3.3).
     String,
-    /// One or more character-strings.
+    /// One or more character-strings, a word each, up to the end of the data. They are the only
+    /// field of their type.
     Strings,
-    /// Any octets.
+    /// Any octets, up to the end of the data, of a type without a mnemonic.
     Anything,
 }
 
@@ -48,27 +36,17 @@ pub enum Piece {
 pub(crate) struct TypeRow {
     pub(crate) number: u16,
     pub(crate) mnemonic: &'static [u8],
-    pub(crate) pieces: &'static [Piece],
+    pub(crate) fields: &'static [Field],
     /// Whether names in the data are compressed (RFC 3597 4).
     pub(crate) compresses: bool,
 }
 
-// A piece of `$count` numbers of a size.
-macro_rules! numbers {
-    ($count:expr, $size:ident) => {
-        Piece::Fixed(Fixed::Numbers {
-            count: $count,
-            size: NumberSize::$size,
-        })
-    };
-}
-
 macro_rules! type_row {
-    ($rtype:ident, $mnemonic:expr, $pieces:expr, compresses: $compresses:expr) => {
+    ($rtype:ident, $mnemonic:expr, [$($field:ident)*], compresses: $compresses:expr) => {
         TypeRow {
             number: RType::$rtype.0,
             mnemonic: $mnemonic,
-            pieces: $pieces,
+            fields: &[$(Field::$field),*],
             compresses: $compresses,
         }
     };
@@ -76,52 +54,17 @@ macro_rules! type_row {
 
 // RFC 1035 3.3 and 3.4, RFC 3596 2.2, RFC 2782
 const TYPES: [TypeRow; 10] = [
-    type_row!(A, b"A", &[Piece::Fixed(Fixed::Ipv4)], compresses: false),
-    type_row!(NS, b"NS", &[Piece::Domain], compresses: true),
-    type_row!(CNAME, b"CNAME", &[Piece::Domain], compresses: true),
-    type_row!(SOA, b"SOA", &[Piece::Domain, Piece::Domain, numbers!(5, Four)], compresses: true),
-    type_row!(PTR, b"PTR", &[Piece::Domain], compresses: true),
-    type_row!(HINFO, b"HINFO", &[Piece::String, Piece::String], compresses: false),
-    type_row!(MX, b"MX", &[numbers!(1, Two), Piece::Domain], compresses: true),
-    type_row!(TXT, b"TXT", &[Piece::Strings], compresses: false),
-    type_row!(AAAA, b"AAAA", &[Piece::Fixed(Fixed::Ipv6)], compresses: false),
-    type_row!(SRV, b"SRV", &[numbers!(3, Two), Piece::Domain], compresses: false),
+    type_row!(A, b"A", [Ipv4], compresses: false),
+    type_row!(NS, b"NS", [Domain], compresses: true),
+    type_row!(CNAME, b"CNAME", [Domain], compresses: true),
+    type_row!(SOA, b"SOA", [Domain Domain U32 U32 U32 U32 U32], compresses: true),
+    type_row!(PTR, b"PTR", [Domain], compresses: true),
+    type_row!(HINFO, b"HINFO", [String String], compresses: false),
+    type_row!(MX, b"MX", [U16 Domain], compresses: true),
+    type_row!(TXT, b"TXT", [Strings], compresses: false),
+    type_row!(AAAA, b"AAAA", [Ipv6], compresses: false),
+    type_row!(SRV, b"SRV", [U16 U16 U16 Domain], compresses: false),
 ];
-
-impl NumberSize {
-    /// The size in octets.
-    pub(crate) fn octets(self) -> usize
-        ensures { result ≡ size_of self }
-    {
-        match self {
-            NumberSize::Two => 2,
-            NumberSize::Four => 4,
-        }
-    }
-
-    /// The greatest number of this size.
-    pub(crate) fn most(self) -> u32
-        ensures { suc result ≡ 256 ^ size_of self }
-    {
-        match self {
-            NumberSize::Two => 0xffff,
-            NumberSize::Four => 0xffff_ffff,
-        }
-    }
-}
-
-impl Fixed {
-    /// The length in octets.
-    pub fn width(self) -> usize
-        ensures { result ≡ width (fixed_of self) }
-    {
-        match self {
-            Fixed::Numbers { count, size } => usize::from(count) * size.octets(),
-            Fixed::Ipv4 => 4,
-            Fixed::Ipv6 => 16,
-        }
-    }
-}
 
 /// The table, by rising type number.
 pub(crate) fn types() -> &'static [TypeRow]
@@ -142,14 +85,21 @@ fn numbered_row(rows: &[TypeRow], number: u16) -> Option<&TypeRow>
     rows.iter().find(|row| row.number == number)
 }
 
-/// The pieces of the data of a type; any octets, if it has no mnemonic (RFC 3597 3).
-pub fn pieces_of_type(rtype: RType) -> &'static [Piece]
-    ensures { pieces_in result.now ≡ pieces_of rtype.0 }
+/// The fields of the data of a type; any octets, if it has no mnemonic (RFC 3597 3).
+pub fn fields_of_type(rtype: RType) -> &'static [Field]
+    ensures { fields_in result.now ≡ fields_of rtype.0 }
 {
     match row_of_type(rtype) {
-        Some(row) => row.pieces,
-        None => &[Piece::Anything],
+        Some(row) => row.fields,
+        None => &[Field::Anything],
     }
+}
+
+/// Whether the fields are strings alone (RFC 1035 3.3.14).
+pub(crate) fn is_strings(fields: &[Field]) -> bool
+    ensures { result ≡ are_strings_alone (fields_in fields.now) }
+{
+    matches!(fields, [Field::Strings])
 }
 
 pub(crate) fn row_of_mnemonic(word: &[u8]) -> Option<&'static TypeRow>

@@ -1,11 +1,10 @@
 //! Data in the form of its type: one word for each number, address, name and string (RFC 1035
 //! 5.1).
-ghost use Rattle.std.specs.Prelude.{◌≡◌, ◌≢◌, ◌≤◌, ◌==◌, ◌++◌, false, [], length, replicate, OnOk, IfOk, IfErr};
-ghost use Rattle.std.specs.List.{flat_map};
+ghost use Rattle.std.specs.Prelude.{◌≡◌, ◌≢◌, ◌≤◌, ◌==◌, ◌<◌, ℕ, ◌++◌, false, [], length, slice_get, Some, OnOk, IfErr};
 ghost use Rattle.dns_spec.specs.Names.{Octets};
-ghost use Rattle.dns_spec.specs.DataText.{SaysNumber, SaysString, SaysWord, Says, forms_in};
-ghost use Rattle.dns_rdata.specs.TypeRows.{size_of, piece_of, pieces_in};
-ghost use Rattle.dns_rdata.specs.WordForms.{form_of, as_it_is, canonical_octets, AppendsSaid, AppendsFront, SaysNoFront, is_marked};
+ghost use Rattle.dns_spec.specs.DataText.{SaysNumber, SaysString, SaysWord, Says, word_fields};
+ghost use Rattle.dns_rdata.specs.TypeRows.{field_of, fields_in};
+ghost use Rattle.dns_rdata.specs.WordForms.{as_it_is, canonical_octets, AppendsSaid, is_marked};
 
 use crate::fault::RdataFault;
 use crate::ipv4::read_ipv4;
@@ -14,30 +13,13 @@ use crate::number::read_number;
 use crate::rdata::MAX_OCTETS;
 use crate::rtype::RType;
 use crate::string::{is_plain_string, read_string};
-use crate::table::{Fixed, NumberSize, Piece, row_of_type};
+use crate::table::{Field, is_strings, row_of_type};
 use crate::word::{Word, Words};
 use dns_name::Name;
 
 /// Most data has at most this many octets, so its memory never grows. An allocator returns hardly
 /// less memory for a smaller request.
 pub(crate) const USUAL_OCTETS: usize = 24;
-
-/// The form of a word of a record's data.
-#[derive(Clone, Copy, Debug)]
-pub(crate) enum WordForm {
-    Number(NumberSize),
-    Ipv4,
-    Ipv6,
-    Domain,
-    String,
-}
-
-/// Consecutive words of one form.
-#[derive(Clone, Copy, Debug)]
-struct FormRun {
-    form: WordForm,
-    times: usize,
-}
 
 /// Puts the data that words spell in the form of the type into an empty buffer, with names in
 /// lower case. `name` is room for names.
@@ -62,128 +44,101 @@ pub(crate) fn put_typed<'w, W: Words<'w>>(
         return Err(RdataFault::BadHex);
     };
     let count = words.count();
-    if !is_word_count(row.pieces, count) {
+    if !is_word_count(row.fields, count) {
         return Err(RdataFault::WordCount);
     }
-    let mut words = words;
-    'pieces: for piece in row.pieces {
-        words = append_run(run_of(*piece, count), words, origin, name, octets)?;
-    }
-    Ok(())
-}
-
-// Whether the pieces have `count` words in a record with `count` words.
-fn is_word_count(pieces: &[Piece], count: usize) -> bool
-    ensures { result ≡ (length (flat_map (forms_in count) (pieces_in pieces.now)) == count) }
-{
-    let mut left = count;
-    'pieces: for piece in pieces {
-        let run = run_of(*piece, count);
-        if run.times > left {
-            return false;
-        }
-        left -= run.times;
-    }
-    left == 0
-}
-
-// The words of a piece, in a record with `count` words. RFC 1035 3.3.14: strings, which are the
-// only piece of their type, take all words, and at least one.
-fn run_of(piece: Piece, count: usize) -> FormRun
-    ensures { forms_in count (piece_of piece) ≡ replicate result.times (form_of result.form) }
-{
-    let (form, times) = match piece {
-        Piece::Fixed(Fixed::Numbers { count, size }) => {
-            (WordForm::Number(size), usize::from(count))
-        }
-        Piece::Fixed(Fixed::Ipv4) => (WordForm::Ipv4, 1),
-        Piece::Fixed(Fixed::Ipv6) => (WordForm::Ipv6, 1),
-        Piece::Domain => (WordForm::Domain, 1),
-        Piece::String => (WordForm::String, 1),
-        Piece::Strings => (WordForm::String, count.max(1)),
-        Piece::Anything => (WordForm::String, 0),
-    };
-    FormRun { form, times }
-}
-
-// Appends what the first words spell, all by one form, and returns the words after them.
-fn append_run<'w, W: Words<'w>>(
-    run: FormRun,
-    words: W,
-    origin: &Name,
-    name: &mut Name,
-    octets: &mut Vec<u8>,
-) -> Result<W, RdataFault>
-    requires words { run.times ≤ length (W.to_come words) }
-    requires bound { length octets.old.items ≤ 65535 }
-    ensures ok { IfOk result (λ others. AppendsFront (replicate run.times (form_of run.form))
-        origin.now (W.to_come words) (W.to_come others) octets.old.items octets.new.items) }
-    ensures bound { IfOk result (λ _. length octets.new.items ≤ 65535) }
-    ensures fault { IfErr result (λ fault. fault ≢ RdataFault.NoMemory
-        → SaysNoFront (length octets.old.items) (replicate run.times (form_of run.form))
-        origin.now (W.to_come words)) }
-{
     let mut others = words;
-    'run: for _ in 0..run.times {
+    'words: for place in 0..count {
         let Some((word, after)) = others.split_first() else {
             unreachable!();
         };
-        append_word(run.form, &word, origin, name, octets)?;
+        append_word(field_at(row.fields, place), &word, origin, name, octets)?;
         if octets.len() > MAX_OCTETS {
             return Err(RdataFault::BadString);
         }
         others = after;
     }
-    Ok(others)
+    Ok(())
 }
 
-// Appends what a word spells by its form. Only a string may be quoted.
+// Whether the fields have `count` words.
+fn is_word_count(fields: &[Field], count: usize) -> bool
+    ensures { result ≡ (length (word_fields count (fields_in fields.now)) == count) }
+{
+    if is_strings(fields) {
+        count > 0
+    } else {
+        fields.len() == count
+    }
+}
+
+// The field of the word at a place.
+fn field_at(fields: &[Field], place: usize) -> Field
+    requires { (k : ℕ) × (place < k) × (length (word_fields k (fields_in fields.now)) ≡ k) }
+    ensures { (k : ℕ) → place < k
+        → slice_get (word_fields k (fields_in fields.now)) place ≡ Some (field_of result) }
+{
+    if is_strings(fields) {
+        Field::Strings
+    } else {
+        fields[place]
+    }
+}
+
+// Appends what a word spells as a field. Only a string may be quoted.
 fn append_word(
-    form: WordForm,
+    field: Field,
     word: &Word<'_>,
     origin: &Name,
     name: &mut Name,
     octets: &mut Vec<u8>,
 ) -> Result<(), RdataFault>
-    ensures { AppendsSaid (canonical_octets (form_of form)) (SaysWord (form_of form) origin.now word.now)
-        octets.old.items octets.new.items result }
+    ensures { AppendsSaid (canonical_octets (field_of field))
+        (SaysWord (field_of field) origin.now word.now) octets.old.items octets.new.items result }
 {
-    if word.quoted && !matches!(form, WordForm::String) {
-        return Err(fault_of(form));
+    if word.quoted && !matches!(field, Field::String | Field::Strings) {
+        return Err(fault_of(field));
     }
-    match form {
-        WordForm::Number(size) => append_number(size, word.raw, octets),
-        WordForm::Ipv4 => append(octets, &read_ipv4(word.raw).ok_or(RdataFault::BadAddress)?),
-        WordForm::Ipv6 => append(octets, &read_ipv6(word.raw).ok_or(RdataFault::BadAddress)?),
-        WordForm::Domain => {
+    match field {
+        Field::U16 => append_u16(word.raw, octets),
+        Field::U32 => append_u32(word.raw, octets),
+        Field::Ipv4 => append(octets, &read_ipv4(word.raw).ok_or(RdataFault::BadAddress)?),
+        Field::Ipv6 => append(octets, &read_ipv6(word.raw).ok_or(RdataFault::BadAddress)?),
+        Field::Domain => {
             name.spell(word.raw, origin)?;
             name.fold_in_place();
             append(octets, name.octets())
         }
-        WordForm::String => append_string(word.raw, octets),
+        Field::String | Field::Strings => append_string(word.raw, octets),
+        Field::Anything => Err(fault_of(field)),
     }
 }
 
-fn fault_of(form: WordForm) -> RdataFault {
-    match form {
-        WordForm::Number(_) => RdataFault::BadNumber,
-        WordForm::Ipv4 | WordForm::Ipv6 => RdataFault::BadAddress,
-        WordForm::Domain => RdataFault::BadName,
-        WordForm::String => RdataFault::BadString,
+fn fault_of(field: Field) -> RdataFault {
+    match field {
+        Field::U16 | Field::U32 => RdataFault::BadNumber,
+        Field::Ipv4 | Field::Ipv6 => RdataFault::BadAddress,
+        Field::Domain => RdataFault::BadName,
+        Field::String | Field::Strings | Field::Anything => RdataFault::BadString,
     }
 }
 
 // Appends a number, the most significant octet first (RFC 1035 2.3.2).
-fn append_number(size: NumberSize, text: &[u8], octets: &mut Vec<u8>) -> Result<(), RdataFault>
-    ensures { AppendsSaid as_it_is (SaysNumber (size_of size) text.now) octets.old.items
-        octets.new.items result }
+fn append_u16(text: &[u8], octets: &mut Vec<u8>) -> Result<(), RdataFault>
+    ensures { AppendsSaid as_it_is (SaysNumber 2 text.now) octets.old.items octets.new.items
+        result }
 {
-    let number = read_number(text, size.most()).ok_or(RdataFault::BadNumber)?;
-    let [a, b, c, d] = number.to_be_bytes();
-    match size {
-        NumberSize::Two => append(octets, &[c, d]),
-        NumberSize::Four => append(octets, &[a, b, c, d]),
-    }
+    let number = read_number(text, 0xffff).ok_or(RdataFault::BadNumber)?;
+    let [_, _, a, b] = number.to_be_bytes();
+    append(octets, &[a, b])
+}
+
+fn append_u32(text: &[u8], octets: &mut Vec<u8>) -> Result<(), RdataFault>
+    ensures { AppendsSaid as_it_is (SaysNumber 4 text.now) octets.old.items octets.new.items
+        result }
+{
+    let number = read_number(text, 0xffff_ffff).ok_or(RdataFault::BadNumber)?;
+    append(octets, &number.to_be_bytes())
 }
 
 // Appends a string after its length (RFC 1035 3.3). Most strings have no escapes, so their octets

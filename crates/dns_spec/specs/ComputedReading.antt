@@ -4,8 +4,8 @@ use Rattle.std.specs.Prelude.{ℕ, zero, suc, ◌+◌, ◌-◌, ◌&&◌, true, 
 use Rattle.std.specs.Prelude.{Option, None, Some}
 use Rattle.std.specs.Option.{option_map, option_and_then}
 use Rattle.dns_spec.specs.Names.{Octets, DomainName, wire, is_name, with_label}
-use Rattle.dns_spec.specs.Data.{width, Piece, fixed, domain, string, strings, anything, are_strings, number_of}
-use Rattle.dns_spec.specs.Reading.{pointer_place, data_pieces, MessageQuestion, MessageRecord, DnsMessage}
+use Rattle.dns_spec.specs.Data.{Field, number, ipv4, ipv6, domain, string, strings, anything, are_strings, number_of}
+use Rattle.dns_spec.specs.Reading.{pointer_place, data_fields, MessageQuestion, MessageRecord, DnsMessage}
 
 -- RFC 1035 4.1.4: what is at a place in a run of labels: its end, a label of k octets, a pointer
 -- to place p, or nothing that is allowed.
@@ -74,27 +74,29 @@ abbrev pub octets_upto : Octets → ℕ → ℕ → Option (Octets × ℕ)
 octets_upto b i e =
     if nat_le i e && nat_le e (length b) then Some (take (e - i) (drop i b), e) else None
 
--- a piece at place i of data that ends before place e: its octets without compression, and the
+-- a field at place i of data that ends before place e: its octets without compression, and the
 -- place after it
 abbrev pub strings_only : Octets × ℕ → Option (Octets × ℕ)
 strings_only (o, e) = if nat_lt 0 (length o) && are_strings 0 o then Some (o, e) else None
 
-abbrev pub piece_at : Octets → Piece → ℕ → ℕ → Option (Octets × ℕ)
-piece_at b (fixed f) i e = octets_upto b i (i + width f)
-piece_at b domain i e = option_map (λ r. (wire r.0, r.1)) (name_at b i)
-piece_at b string i e = option_and_then (λ k. octets_upto b i (i + 1 + k)) (slice_get b i)
-piece_at b strings i e = option_and_then strings_only (octets_upto b i e)
-piece_at b anything i e = octets_upto b i e
+abbrev pub field_at : Octets → Field → ℕ → ℕ → Option (Octets × ℕ)
+field_at b (number k) i e = octets_upto b i (i + k)
+field_at b ipv4 i e = octets_upto b i (i + 4)
+field_at b ipv6 i e = octets_upto b i (i + 16)
+field_at b domain i e = option_map (λ r. (wire r.0, r.1)) (name_at b i)
+field_at b string i e = option_and_then (λ k. octets_upto b i (i + 1 + k)) (slice_get b i)
+field_at b strings i e = option_and_then strings_only (octets_upto b i e)
+field_at b anything i e = octets_upto b i e
 
-unfoldable pub pieces_at : Octets → List Piece → ℕ → ℕ → Option Octets
-pieces_at b [] i e = if i == e then Some [] else None
-pieces_at b (p ∷ ps) i e =
-    option_and_then (λ r. option_map (λ d. r.0 ++ d) (pieces_at b ps r.1 e)) (piece_at b p i e)
+unfoldable pub fields_at : Octets → List Field → ℕ → ℕ → Option Octets
+fields_at b [] i e = if i == e then Some [] else None
+fields_at b (f ∷ fs) i e =
+    option_and_then (λ r. option_map (λ d. r.0 ++ d) (fields_at b fs r.1 e)) (field_at b f i e)
 
 abbrev pub data_at : Octets → ℕ → ℕ → ℕ → ℕ → Option Octets
 data_at b t c i e =
     if nat_le i e && nat_le e (length b)
-    then pieces_at b (data_pieces t c) i e else None
+    then fields_at b (data_fields t c) i e else None
 
 -- the question and the record at a place, each with the place after it
 abbrev pub question_after : Octets → SpelledName → Option (MessageQuestion × ℕ)

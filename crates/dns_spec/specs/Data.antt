@@ -1,6 +1,6 @@
--- Record data: its pieces by type, which octets are valid data of a type, their lower-case form,
+-- Record data: its fields by type, which octets are valid data of a type, their lower-case form,
 -- and the names in them.
-use Rattle.std.specs.Prelude.{ℕ, ◌+◌, ◌-◌, ◌*◌, ◌^◌, Bool, true, false, ◌&&◌, not, List, [], ◌∷◌, map, length, take, drop, nat_le, ◌==◌, IsTrue, if◌then◌else◌, zero, suc, codes}
+use Rattle.std.specs.Prelude.{ℕ, ◌+◌, ◌-◌, ◌*◌, ◌^◌, Bool, true, false, ◌&&◌, not, List, [], ◌∷◌, map, length, take, drop, replicate, nat_le, ◌==◌, IsTrue, if◌then◌else◌, zero, suc, codes}
 use Rattle.std.specs.Prelude.{Option, None, Some}
 use Rattle.std.specs.Option.{option_map, unwrap_or, is_some}
 use Rattle.std.specs.List.{find, flat_map}
@@ -45,56 +45,48 @@ qtype_any = 255
 abbrev pub class_in : ℕ
 class_in = 1
 
--- A piece of fixed length: m numbers of k octets each, an IPv4 address, or an IPv6 address.
-pub data Fixed : Type 0 where
-  numbers : ℕ → ℕ → Fixed
-  ipv4 : Fixed
-  ipv6 : Fixed
+-- A field of data: a number of k octets, an IPv4 address, an IPv6 address, a domain name, a
+-- character-string, one or more character-strings up to the end of the data, or any octets up to
+-- its end.
+pub data Field : Type 0 where
+  number : ℕ → Field
+  ipv4 : Field
+  ipv6 : Field
+  domain : Field
+  string : Field
+  strings : Field
+  anything : Field
 
-abbrev pub width : Fixed → ℕ
-width (numbers m k) = m * k
-width ipv4 = 4
-width ipv6 = 16
-
--- A piece of data: numbers or an address, a domain name, a character-string, one or more
--- character-strings up to the end of the data, or any octets up to its end.
-pub data Piece : Type 0 where
-  fixed : Fixed → Piece
-  domain : Piece
-  string : Piece
-  strings : Piece
-  anything : Piece
-
--- A type that has a mnemonic: its number and mnemonic, the pieces of its data, and whether names
+-- A type that has a mnemonic: its number and mnemonic, the fields of its data, and whether names
 -- in its data are compressed.
 pub record TypeRow : Type 0 where
   pub number : ℕ
   pub mnemonic : Octets
-  pub pieces : List Piece
+  pub fields : List Field
   pub compresses : Bool
 
 -- the row of a type whose names are compressed, and of a type whose names are not
-abbrev pub compressed_row : ℕ → Octets → List Piece → TypeRow
-compressed_row t word ps = record { number = t; mnemonic = word; pieces = ps; compresses = true }
+abbrev pub compressed_row : ℕ → Octets → List Field → TypeRow
+compressed_row t word fs = record { number = t; mnemonic = word; fields = fs; compresses = true }
 
-abbrev pub plain_row : ℕ → Octets → List Piece → TypeRow
-plain_row t word ps = record { number = t; mnemonic = word; pieces = ps; compresses = false }
+abbrev pub plain_row : ℕ → Octets → List Field → TypeRow
+plain_row t word fs = record { number = t; mnemonic = word; fields = fs; compresses = false }
 
 -- RFC 1035 3.3 and 3.4, RFC 3596 2.2, RFC 2782: the data of each type. RFC 3597 section 4: names
 -- are compressed only in data of the types of RFC 1035; RFC 2782 forbids compressing the target of
 -- SRV.
 abbrev pub type_table : List TypeRow
 type_table =
-    plain_row type_a (codes "A") (fixed ipv4 ∷ [])
+    plain_row type_a (codes "A") (ipv4 ∷ [])
     ∷ compressed_row type_ns (codes "NS") (domain ∷ [])
     ∷ compressed_row type_cname (codes "CNAME") (domain ∷ [])
-    ∷ compressed_row type_soa (codes "SOA") (domain ∷ domain ∷ fixed (numbers 5 4) ∷ [])
+    ∷ compressed_row type_soa (codes "SOA") (domain ∷ domain ∷ replicate 5 (number 4))
     ∷ compressed_row type_ptr (codes "PTR") (domain ∷ [])
     ∷ plain_row type_hinfo (codes "HINFO") (string ∷ string ∷ [])
-    ∷ compressed_row type_mx (codes "MX") (fixed (numbers 1 2) ∷ domain ∷ [])
+    ∷ compressed_row type_mx (codes "MX") (number 2 ∷ domain ∷ [])
     ∷ plain_row type_txt (codes "TXT") (strings ∷ [])
-    ∷ plain_row type_aaaa (codes "AAAA") (fixed ipv6 ∷ [])
-    ∷ plain_row type_srv (codes "SRV") (fixed (numbers 3 2) ∷ domain ∷ [])
+    ∷ plain_row type_aaaa (codes "AAAA") (ipv6 ∷ [])
+    ∷ plain_row type_srv (codes "SRV") (number 2 ∷ number 2 ∷ number 2 ∷ domain ∷ [])
     ∷ []
 
 -- RFC 3597 section 3: data of any other type is a run of octets
@@ -108,9 +100,9 @@ row_of t = find (λ (row : TypeRow). row.number == t) type_table
 abbrev pub type_row : ℕ → TypeRow
 type_row t = unwrap_or (row_of t) other_type
 
--- the pieces of a type's data, and whether names in it are compressed
-abbrev pub pieces_of : ℕ → List Piece
-pieces_of t = (type_row t).pieces
+-- the fields of a type's data, and whether names in it are compressed
+abbrev pub fields_of : ℕ → List Field
+fields_of t = (type_row t).fields
 
 abbrev pub compresses : ℕ → Bool
 compresses t = (type_row t).compresses
@@ -149,25 +141,27 @@ string_front (k ∷ os) = octets_front (suc k) (k ∷ os)
 abbrev pub strings_front : Octets → Option (Part × Octets)
 strings_front os = if not (length os == 0) && are_strings 0 os then Some (octets os, []) else None
 
--- the piece that begins the octets, and the octets after it
-abbrev pub piece_front : Piece → Octets → Option (Part × Octets)
-piece_front (fixed f) os = octets_front (width f) os
-piece_front domain os = option_map (λ r. (name r.0, r.1)) (name_of os)
-piece_front string os = string_front os
-piece_front strings os = strings_front os
-piece_front anything os = Some (octets os, [])
+-- the field that begins the octets, and the octets after it
+abbrev pub field_front : Field → Octets → Option (Part × Octets)
+field_front (number k) os = octets_front k os
+field_front ipv4 os = octets_front 4 os
+field_front ipv6 os = octets_front 16 os
+field_front domain os = option_map (λ r. (name r.0, r.1)) (name_of os)
+field_front string os = string_front os
+field_front strings os = strings_front os
+field_front anything os = Some (octets os, [])
 
--- the octets split into one part for each piece, if the pieces take up all of them
-unfoldable pub cut : List Piece → Octets → Option (List Part)
+-- the octets split into one part for each field, if the fields take up all of them
+unfoldable pub cut : List Field → Octets → Option (List Part)
 cut [] [] = Some []
 cut [] (o ∷ os) = None
-cut (p ∷ ps) os =
-    elim (piece_front p os) [ None ↦ None | Some r ↦ option_map (λ xs. r.0 ∷ xs) (cut ps r.1) ]
+cut (f ∷ fs) os =
+    elim (field_front f os) [ None ↦ None | Some r ↦ option_map (λ xs. r.0 ∷ xs) (cut fs r.1) ]
 
 -- The octets are valid data of the type; names may be in any case. RFC 1035 3.2.1: data has at
 -- most 65,535 octets.
 abbrev pub valid : ℕ → Octets → Bool
-valid t d = nat_le (length d) 65535 && is_some (cut (pieces_of t) d)
+valid t d = nat_le (length d) 65535 && is_some (cut (fields_of t) d)
 
 abbrev pub Valid : ℕ → Octets → Type 0
 Valid t d = IsTrue (valid t d)
@@ -175,7 +169,7 @@ Valid t d = IsTrue (valid t d)
 -- the parts of data in order, runs of octets and names; joined they are the data. Invalid data is
 -- one run.
 abbrev pub parts : ℕ → Octets → List Part
-parts t d = unwrap_or (cut (pieces_of t) d) (octets d ∷ [])
+parts t d = unwrap_or (cut (fields_of t) d) (octets d ∷ [])
 
 -- the data with the ASCII letters of its names in lower case
 abbrev pub part_folded : Part → Part

@@ -9,7 +9,7 @@ use Rattle.std.specs.Int.{bytes_high_first}
 use Rattle.std.specs.Char.{is_ascii_hexdigit, is_ascii_graphic, digit_value}
 use Rattle.dns_spec.specs.Names.{Octets, DomainName, wire, octets_equal}
 use Rattle.dns_spec.specs.NameText.{is_printable, SpellsOctet, SpellsName}
-use Rattle.dns_spec.specs.Data.{numbers, ipv4, ipv6, Piece, fixed, domain, string, strings, anything, TypeRow, row_of, Valid, lower_case}
+use Rattle.dns_spec.specs.Data.{Field, number, ipv4, ipv6, domain, string, strings, anything, TypeRow, row_of, Valid, lower_case}
 use Rattle.dns_spec.specs.AddressText.{SaysIpv4, SaysIpv6}
 
 -- RFC 1035 5.1: a word as it is spelled, with its escapes but without its quotation marks
@@ -48,63 +48,53 @@ SpellsString text (x ∷ s) =
 abbrev pub SaysString : Octets → Octets → Type 0
 SaysString text d = (s : Octets) × (length s ≤ 255) × SpellsString text s × (d ≡ length s ∷ s)
 
--- The form of a word of a record's data: a number of k octets, an address, a domain name, or a
--- character-string.
-pub data WordForm : Type 0 where
-  number_word : ℕ → WordForm
-  ipv4_word : WordForm
-  ipv6_word : WordForm
-  name_word : WordForm
-  string_word : WordForm
-
--- the text spells data of the form; a name is relative to the origin
-abbrev pub SaysForm : WordForm → DomainName → Octets → Octets → Type 0
-SaysForm (number_word k) origin text d = SaysNumber k text d
-SaysForm ipv4_word origin text d = SaysIpv4 text d
-SaysForm ipv6_word origin text d = SaysIpv6 text d
-SaysForm name_word origin text d = SaysName origin text d
-SaysForm string_word origin text d = SaysString text d
+-- The text spells the field, or one string of strings; a name is relative to the origin. No type
+-- with a mnemonic has a field of any octets.
+abbrev pub SaysField : Field → DomainName → Octets → Octets → Type 0
+SaysField (number k) origin text d = SaysNumber k text d
+SaysField ipv4 origin text d = SaysIpv4 text d
+SaysField ipv6 origin text d = SaysIpv6 text d
+SaysField domain origin text d = SaysName origin text d
+SaysField string origin text d = SaysString text d
+SaysField strings origin text d = SaysString text d
+SaysField anything origin text d = ⊥
 
 -- only a string may be in quotation marks
-abbrev pub may_be_quoted : WordForm → Bool
-may_be_quoted (number_word k) = false
-may_be_quoted ipv4_word = false
-may_be_quoted ipv6_word = false
-may_be_quoted name_word = false
-may_be_quoted string_word = true
+abbrev pub may_be_quoted : Field → Bool
+may_be_quoted string = true
+may_be_quoted strings = true
+may_be_quoted _ = false
 
--- the word spells data of the form, and is quoted only if the form allows it
-pub record SaysWord (form : WordForm) (origin : DomainName) (w : Word) (d : Octets) : Type 0 where
-  pub quotes : IsTrue (may_be_quoted form || not w.is_quoted)
-  pub said : SaysForm form origin w.raw d
+-- the word spells the field, and is quoted only if the field allows it
+pub record SaysWord (f : Field) (origin : DomainName) (w : Word) (d : Octets) : Type 0 where
+  pub quotes : IsTrue (may_be_quoted f || not w.is_quoted)
+  pub said : SaysField f origin w.raw d
 
--- the words spell the data in order, one word for each form
-abbrev pub SaysForms : List WordForm → DomainName → List Word → Octets → Type 0
-SaysForms [] origin [] d = d ≡ []
-SaysForms [] origin (w ∷ ws) d = ⊥
-SaysForms (f ∷ fs) origin [] d = ⊥
-SaysForms (f ∷ fs) origin (w ∷ ws) d =
+-- the words spell the data in order, one word for each field
+abbrev pub SaysFields : List Field → DomainName → List Word → Octets → Type 0
+SaysFields [] origin [] d = d ≡ []
+SaysFields [] origin (w ∷ ws) d = ⊥
+SaysFields (f ∷ fs) origin [] d = ⊥
+SaysFields (f ∷ fs) origin (w ∷ ws) d =
     (front : Octets) × (back : Octets) × (d ≡ front ++ back)
-    × SaysWord f origin w front × SaysForms fs origin ws back
+    × SaysWord f origin w front × SaysFields fs origin ws back
 
--- The forms of the words of a piece, in a record with k words of data in all. RFC 1035 3.3.14: in
--- TXT, which has no other piece, every word is a string, and there is at least one.
-abbrev pub forms_in : ℕ → Piece → List WordForm
-forms_in k (fixed (numbers m octets)) = replicate m (number_word octets)
-forms_in k (fixed ipv4) = ipv4_word ∷ []
-forms_in k (fixed ipv6) = ipv6_word ∷ []
-forms_in k domain = name_word ∷ []
-forms_in k string = string_word ∷ []
-forms_in k strings = replicate (max 1 k) string_word
-forms_in k anything = []
+-- RFC 1035 3.3.14: strings are the only field of TXT
+abbrev pub are_strings_alone : List Field → Bool
+are_strings_alone (strings ∷ []) = true
+are_strings_alone _ = false
 
--- the forms of the k words of data of a type that has a mnemonic
-abbrev pub forms_of : ℕ → ℕ → Option (List WordForm)
-forms_of t k = option_map (λ (row : TypeRow). flat_map (forms_in k) row.pieces) (row_of t)
+-- The fields of k words of data, one field for each word; there is at least one of strings.
+abbrev pub word_fields : ℕ → List Field → List Field
+word_fields k fs = if are_strings_alone fs then replicate (max 1 k) strings else fs
+
+-- the fields of k words of data of a type that has a mnemonic
+abbrev pub word_fields_of : ℕ → ℕ → Option (List Field)
+word_fields_of t k = option_map (λ (row : TypeRow). word_fields k row.fields) (row_of t)
 
 -- the words spell data in its type's own form
 abbrev pub SaysTyped : ℕ → DomainName → List Word → Octets → Type 0
-SaysTyped t origin ws d = MatchOption (forms_of t (length ws)) ⊥ (λ fs. SaysForms fs origin ws d)
+SaysTyped t origin ws d = MatchOption (word_fields_of t (length ws)) ⊥ (λ fs. SaysFields fs origin ws d)
 
 -- the octets that hex digits of either case spell, two digits per octet
 unfoldable pub hex_octets : Octets → Option Octets

@@ -2,7 +2,7 @@
 use Rattle.std.specs.Prelude.{◌≡◌, ℕ, ◌+◌, ◌-◌, ◌*◌, ◌<◌, ◌≤◌, List, [], ◌∷◌, ◌++◌, length, take, drop, ◌==◌, IsTrue, slice_get, if◌then◌else◌}
 use Rattle.std.specs.Prelude.{Some}
 use Rattle.dns_spec.specs.Names.{Octets, DomainName, wire, is_name}
-use Rattle.dns_spec.specs.Data.{class_in, width, Piece, fixed, domain, string, strings, anything, pieces_of, are_strings, number_of}
+use Rattle.dns_spec.specs.Data.{class_in, Field, number, ipv4, ipv6, domain, string, strings, anything, fields_of, are_strings, number_of}
 
 -- RFC 1035 4.1.4: the place that the two octets of a pointer give; the first octet is at least 192
 abbrev pub pointer_place : ℕ → ℕ → ℕ
@@ -83,28 +83,30 @@ pub record NumberAt (b : Octets) (i k v : ℕ) : Type 0 where
   pub within : i + k ≤ length b
   pub spelled : v ≡ number_of (take k (drop i b))
 
--- A piece of data is at places i up to j, and the data ends before place e; o is the piece without
+-- A field of data is at places i up to j, and the data ends before place e; o is the field without
 -- compression. A name may continue elsewhere, but its own octets are in the data.
-abbrev pub PieceAt : Octets → Piece → ℕ → ℕ → ℕ → Octets → Type 0
-PieceAt b (fixed f) i e j o = OctetsAt b i (i + width f) o × (j ≡ i + width f)
-PieceAt b domain i e j o = (n : DomainName) × NameAt b i n j × (o ≡ wire n)
-PieceAt b string i e j o =
+abbrev pub FieldAt : Octets → Field → ℕ → ℕ → ℕ → Octets → Type 0
+FieldAt b (number k) i e j o = OctetsAt b i (i + k) o × (j ≡ i + k)
+FieldAt b ipv4 i e j o = OctetsAt b i (i + 4) o × (j ≡ i + 4)
+FieldAt b ipv6 i e j o = OctetsAt b i (i + 16) o × (j ≡ i + 16)
+FieldAt b domain i e j o = (n : DomainName) × NameAt b i n j × (o ≡ wire n)
+FieldAt b string i e j o =
     (k : ℕ) × (slice_get b i ≡ Some k) × OctetsAt b i (i + 1 + k) o × (j ≡ i + 1 + k)
-PieceAt b strings i e j o = OctetsAt b i j o × (0 < length o) × IsTrue (are_strings 0 o) × (j ≡ e)
-PieceAt b anything i e j o = OctetsAt b i j o × (j ≡ e)
+FieldAt b strings i e j o = OctetsAt b i j o × (0 < length o) × IsTrue (are_strings 0 o) × (j ≡ e)
+FieldAt b anything i e j o = OctetsAt b i j o × (j ≡ e)
 
--- pieces in order, from place i up to place e
-abbrev pub PiecesAt : Octets → List Piece → ℕ → ℕ → Octets → Type 0
-PiecesAt b [] i e d = (i ≡ e) × (d ≡ [])
-PiecesAt b (p ∷ ps) i e d =
-    (j : ℕ) × (o rest : Octets) × PieceAt b p i e j o × (d ≡ o ++ rest) × PiecesAt b ps j e rest
+-- fields in order, from place i up to place e
+abbrev pub FieldsAt : Octets → List Field → ℕ → ℕ → Octets → Type 0
+FieldsAt b [] i e d = (i ≡ e) × (d ≡ [])
+FieldsAt b (f ∷ fs) i e d =
+    (j : ℕ) × (o rest : Octets) × FieldAt b f i e j o × (d ≡ o ++ rest) × FieldsAt b fs j e rest
 
--- the pieces of data: by its type in class IN, any octets in other classes
-abbrev pub data_pieces : ℕ → ℕ → List Piece
-data_pieces t c = if c == class_in then pieces_of t else anything ∷ []
+-- the fields of data: by its type in class IN, any octets in other classes
+abbrev pub data_fields : ℕ → ℕ → List Field
+data_fields t c = if c == class_in then fields_of t else anything ∷ []
 
 abbrev pub DataAt : Octets → ℕ → ℕ → ℕ → ℕ → Octets → Type 0
-DataAt b t c i e d = (i ≤ e) × (e ≤ length b) × PiecesAt b (data_pieces t c) i e d
+DataAt b t c i e d = (i ≤ e) × (e ≤ length b) × FieldsAt b (data_fields t c) i e d
 
 -- RFC 1035 4.1.2: questions in order, from place i up to place e
 abbrev pub QuestionsAt : Octets → ℕ → List MessageQuestion → ℕ → Type 0

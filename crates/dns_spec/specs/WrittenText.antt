@@ -4,10 +4,10 @@ use Rattle.std.specs.Prelude.{Option, None, Some}
 use Rattle.std.specs.List.{flat_map, join_with_byte}
 use Rattle.std.specs.Char.{digit_char, is_ascii_graphic}
 use Rattle.dns_spec.specs.Names.{Octets, DomainName, name_of}
-use Rattle.dns_spec.specs.Data.{number_of}
+use Rattle.dns_spec.specs.Data.{number_of, Field, number, ipv4, ipv6, domain, string, strings, anything}
 use Rattle.dns_spec.specs.NameText.{three_digits, name_text}
 use Rattle.dns_spec.specs.AddressText.{ipv4_text, ipv6_text}
-use Rattle.dns_spec.specs.DataText.{Word, is_word_octet, is_string_octet, WordForm, number_word, ipv4_word, ipv6_word, name_word, string_word, forms_of}
+use Rattle.dns_spec.specs.DataText.{Word, is_word_octet, is_string_octet, word_fields_of}
 
 -- a word without quotation marks
 abbrev pub plain : Octets → Word
@@ -51,19 +51,25 @@ abbrev pub name_front : Option (DomainName × Octets) → Word × Octets
 name_front None = (plain [], [])
 name_front (Some (n, d)) = (plain (name_text n), d)
 
--- the word of a form that data begins with, and the data after it
-abbrev pub word_front : WordForm → Octets → Word × Octets
-word_front (number_word k) d = (plain (decimal (number_of (take k d))), drop k d)
-word_front ipv4_word d = (plain (ipv4_text (take 4 d)), drop 4 d)
-word_front ipv6_word d = (plain (ipv6_text (take 16 d)), drop 16 d)
-word_front name_word d = name_front (name_of d)
-word_front string_word [] = (quoted [], [])
-word_front string_word (k ∷ d) = (quoted (take k d), drop k d)
+-- the string that data begins with, as a word, and the data after it
+abbrev pub string_word : Octets → Word × Octets
+string_word [] = (quoted [], [])
+string_word (k ∷ d) = (quoted (take k d), drop k d)
 
--- the words of data, one for each form
-abbrev pub form_words : List WordForm → Octets → List Word
-form_words [] d = []
-form_words (f ∷ fs) d = (word_front f d).0 ∷ form_words fs (word_front f d).1
+-- the word of a field that data begins with, or of one string of strings, and the data after it
+abbrev pub word_front : Field → Octets → Word × Octets
+word_front (number k) d = (plain (decimal (number_of (take k d))), drop k d)
+word_front ipv4 d = (plain (ipv4_text (take 4 d)), drop 4 d)
+word_front ipv6 d = (plain (ipv6_text (take 16 d)), drop 16 d)
+word_front domain d = name_front (name_of d)
+word_front string d = string_word d
+word_front strings d = string_word d
+word_front anything d = (plain [], d)
+
+-- the words of data, one for each field
+abbrev pub field_words : List Field → Octets → List Word
+field_words [] d = []
+field_words (f ∷ fs) d = (word_front f d).0 ∷ field_words fs (word_front f d).1
 
 -- the number of character-strings in data (RFC 1035 3.3); the first k octets belong to the current
 -- one
@@ -72,15 +78,15 @@ string_count k [] = 0
 string_count zero (k ∷ d) = 1 + string_count k d
 string_count (suc k) (o ∷ d) = string_count k d
 
--- the words of data by its forms; in the generic form if its type has no mnemonic
-abbrev pub words_by : Option (List WordForm) → Octets → List Word
+-- the words of data by its fields; in the generic form if its type has no mnemonic
+abbrev pub words_by : Option (List Field) → Octets → List Word
 words_by None d = unknown_words d
-words_by (Some fs) d = form_words fs d
+words_by (Some fs) d = field_words fs d
 
--- The words of data that is valid for its type: by the forms of the type, or in the generic form
+-- The words of data that is valid for its type: by the fields of the type, or in the generic form
 -- if the type has no mnemonic.
 abbrev pub written_words : ℕ → Octets → List Word
-written_words t d = words_by (forms_of t (string_count 0 d)) d
+written_words t d = words_by (word_fields_of t (string_count 0 d)) d
 
 -- the text of data of a type: its words, separated by single spaces
 unfoldable pub data_text : ℕ → Octets → Octets

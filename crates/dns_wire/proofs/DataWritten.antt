@@ -1,5 +1,5 @@
 -- Data and records are written part by part.
-use Rattle.dns_wire.proofs.Common.{◌≡◌, ◌+◌, ◌-◌, ◌≤◌, ◌∙◌, ℕ, Bool, true, false, List, [], ◌∷◌, ◌++◌, length, take, drop, refl, sym, ap, ap₂, subst, subst₂, arith, append_assoc, append-nil, length-append, take_at, drop_at, take-append-add, Octets, class_in, Part, octets, name, laid_parts, Placed, Laid, octets16, octets32, data_laid, data_by, Kept, suffix_number, Follows, Holds, Layout, octets_laid, name_laid, both_laid, parts_laid, tail_laid, Draft, known_places, Writes}
+use Rattle.dns_wire.proofs.Common.{◌≡◌, ◌*◌, ◌+◌, ◌-◌, ◌≤◌, ◌∙◌, ℕ, Bool, true, false, List, [], ◌∷◌, ◌++◌, length, take, drop, refl, sym, ap, ap₂, subst, subst₂, arith, append_assoc, append-nil, length-append, take_at, drop_at, take-append-add, Octets, class_in, Part, octets, name, laid_parts, Placed, Laid, octets16, octets32, data_laid, data_by, Kept, suffix_number, Follows, Holds, Layout, octets_laid, name_laid, both_laid, parts_laid, tail_laid, Draft, known_places, Writes, zero, suc, length-drop, suc-mul, laid_front, nil_from_length, take-append-drop}
 use Rattle.dns_wire.proofs.AskedLemmas.{kept_same}
 use Rattle.dns_wire.proofs.NameWritten.{holds_octets}
 use Rattle.dns_wire.proofs.Steps.{grows_again, writes_as, writes_both, writes_past}
@@ -21,6 +21,28 @@ data_more x ps ms p = grind (arith, append-nil)
 data_last : (x : Part) (ms : List Placed) (p : ℕ) → part_laid x ms p ≡ data_laid ms p (x ∷ [])
 unfolding data_by
 data_last x ms p = grind (arith, append-nil, data_more)
+
+-- octets in m runs of k octets
+abbrev pub runs : ℕ → ℕ → Octets → List Part
+runs k zero d = []
+runs k (suc m) d = octets (take k d) ∷ runs k m (drop k d)
+
+-- they are laid out as the octets are
+runs_laid : (k m : ℕ) (d : Octets) → length d ≡ m * k
+    → (ms : List Placed) (p : ℕ) → octets_laid d ms p ≡ data_laid ms p (runs k m d)
+unfolding data_by
+runs_laid k zero d long ms p = grind (arith, nil_from_length)
+runs_laid k (suc m) d long ms p =
+    let more : length (drop k d) ≡ m * k =
+    omega (arith, long, length-drop k d, suc-mul m k) in
+    ap (λ x. octets_laid x ms p) (sym (take-append-drop k d))
+    ∙ ap (laid_front (take k d) []) (runs_laid k m (drop k d) more ms (p + length (take k d)))
+
+pub writes_runs : {head head' : Octets → ℕ} {d d' : Draft} {fits : Bool} (k m : ℕ) (o : Octets)
+    → length o ≡ m * k → Writes head head' d d' (octets_laid o) fits
+    → Writes head head' d d' (all_laid (runs k m o)) fits
+writes_runs k m o long =
+    writes_as (octets_laid o) (all_laid (runs k m o)) (runs_laid k m o long)
 
 -- the ten octets after an owner
 abbrev pub numbers_of : ℕ → ℕ → ℕ → Octets

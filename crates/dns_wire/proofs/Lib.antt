@@ -1,6 +1,6 @@
 pub mod Common
 mod Runs
-mod PieceLemmas
+mod FieldLemmas
 mod ReadLemmas
 mod ValidData
 mod Anyway

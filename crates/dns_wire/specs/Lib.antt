@@ -1,6 +1,6 @@
 pub mod WireFault
 pub mod Labels
-pub mod Pieces
+pub mod FieldReads
 pub mod Read
 pub mod QueryForm
 pub mod Kept

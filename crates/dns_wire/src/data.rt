@@ -1,21 +1,21 @@
 //! Data of records, in which names may continue elsewhere by a pointer (RFC 1035 3.3 and 4.1.4).
 ghost use Rattle.std.specs.Prelude.{◌+◌, ◌≤◌, length, IfOk, IfErr};
 ghost use Rattle.dns_spec.specs.Reading.{DataAt};
-ghost use Rattle.dns_rdata.specs.TypeRows.{piece_of};
-ghost use Rattle.dns_wire.specs.Pieces.{IsPieceRead, NoPieceAt, NoDataAt};
+ghost use Rattle.dns_rdata.specs.TypeRows.{field_of};
+ghost use Rattle.dns_wire.specs.FieldReads.{IsFieldRead, NoFieldAt, NoDataAt};
 ghost use Rattle.dns_wire.specs.Read.{IsWireData};
 ghost use Rattle.dns_wire.specs.WireFault.{UnlessNoMemory};
 
 use crate::fault::WireFault;
 use crate::message::CLASS_IN;
 use crate::name::read_name;
-use dns_rdata::{Part, Piece, RType, first_part, pieces_of_type};
+use dns_rdata::{Field, Part, RType, fields_of_type, first_part};
 use std::alloc::Global;
 
 /// The data of a record, from place `at` up to `end`, without compression.
 ///
 /// Data of a class other than IN is any octets. `BadData` if the octets do not exactly fill the
-/// pieces of the type; a name is read first, over the whole message.
+/// fields of the type; a name is read first, over the whole message.
 pub(crate) fn read_data(
     alloc: Global,
     message: &[u8],
@@ -35,14 +35,14 @@ pub(crate) fn read_data(
     let mut data = Vec::new(alloc);
     let mut place = at;
     // Types have their own forms only in class IN.
-    let mut pieces = if rclass == CLASS_IN {
-        pieces_of_type(rtype)
+    let mut fields = if rclass == CLASS_IN {
+        fields_of_type(rtype)
     } else {
-        &[Piece::Anything]
+        &[Field::Anything]
     };
-    'pieces: while let Some((piece, others)) = pieces.split_first() {
-        place = read_piece(message, *piece, place, end, &mut data)?;
-        pieces = others;
+    'fields: while let Some((field, others)) = fields.split_first() {
+        place = read_field(message, *field, place, end, &mut data)?;
+        fields = others;
     }
     if place != end {
         return Err(WireFault::BadData);
@@ -50,11 +50,11 @@ pub(crate) fn read_data(
     Ok(data)
 }
 
-// Appends the piece at a place, and returns the place after it, which is at most `end`. Only a
+// Appends the field at a place, and returns the place after it, which is at most `end`. Only a
 // domain name may continue elsewhere.
-fn read_piece(
+fn read_field(
     message: &[u8],
-    piece: Piece,
+    field: Field,
     at: usize,
     end: usize,
     written: &mut Vec<u8>,
@@ -62,12 +62,12 @@ fn read_piece(
     requires ordered { at ≤ end }
     requires within { end ≤ length message.now }
     ensures ok { IfOk result
-        (λ place. IsPieceRead message.now (piece_of piece) at end
+        (λ place. IsFieldRead message.now (field_of field) at end
         written.old.items written.new.items place) }
     ensures err { IfErr result
-        (λ fault. UnlessNoMemory fault (NoPieceAt message.now (piece_of piece) at end)) }
+        (λ fault. UnlessNoMemory fault (NoFieldAt message.now (field_of field) at end)) }
 {
-    if let Piece::Domain = piece {
+    if let Field::Domain = field {
         let (name, place) = read_name(message, at)?;
         if place > end {
             return Err(WireFault::BadData);
@@ -77,7 +77,7 @@ fn read_piece(
     }
     let (_, rest) = message.split_at(at);
     let (own, _) = rest.split_at(end - at);
-    let Some((part, after)) = first_part(piece, own) else {
+    let Some((part, after)) = first_part(field, own) else {
         return Err(WireFault::BadData);
     };
     let (Part::Octets(octets) | Part::Name(octets)) = part;

@@ -18,7 +18,7 @@ use crate::suffixes::{LAST_PLACE, keep_suffixes, place_before, shared_suffix};
 use arrayvec::ArrayVec;
 use byteorder::{BigEndian, ByteOrder};
 use dns_name::NameRef;
-use dns_rdata::{Part, Piece, RType, SetView, first_part};
+use dns_rdata::{Field, Part, RType, SetView, first_part};
 use std::marker::Model;
 
 /// The sections of a message after its question (RFC 1035 4.1).
@@ -264,7 +264,7 @@ impl<const N: usize, const SIZE: usize> Page<N, SIZE> {
             return self.append(&[], preference) && self.put_name(hash, exchange);
         }
         if rtype == RType::SOA {
-            let Some((part, rest)) = first_part(Piece::Domain, rdata) else {
+            let Some((part, rest)) = first_part(Field::Domain, rdata) else {
                 unreachable!();
             };
             let Part::Name(server) = part else {

@@ -151,9 +151,11 @@ fn parts_in_order(rt: HostRuntime) -> Result<(), Fail> {
             &[
                 Part::Name(b"\x02ns\x00"),
                 Part::Name(b"\x04mAIL\x01x\x00"),
-                Part::Octets(
-                    b"\x00\x00\x00\x01\x00\x00\x1c\x20\x00\x00\x03\x84\x00\x12\x75\x00\x00\x00\x01\x2c",
-                ),
+                Part::Octets(b"\x00\x00\x00\x01"),
+                Part::Octets(b"\x00\x00\x1c\x20"),
+                Part::Octets(b"\x00\x00\x03\x84"),
+                Part::Octets(b"\x00\x12\x75\x00"),
+                Part::Octets(b"\x00\x00\x01\x2c"),
             ],
         ),
         (

@@ -1,20 +1,26 @@
--- The parts of data joined are the data, and data in lower case is cut into the same pieces.
-use Rattle.dns_spec.proofs.Common.{common_steps, ◌≡◌, ℕ, ◌≤◌, true, Some, List, [], ◌∷◌, ◌++◌, map, length, refl, sym, ap, ◌∙◌, subst, arith, append-nil, length-append, and_parts, and_from, leb-true, le-leb, false≢true, none-some, same_Some, take_at, drop_at, nil_from_length, flat_map-cons, to_ascii_lowercase, Octets, DomainName, folded, Piece, fixed, domain, string, strings, anything, pieces_of, Part, octets, name, part_octets, joined, part_folded, piece_front, cut, valid, parts, lower_case, lowercase-lowercase}
+-- The parts of data joined are the data, and data in lower case is cut into the same fields.
+use Rattle.dns_spec.proofs.Common.{common_steps, ◌≡◌, ℕ, ◌≤◌, true, Some, List, [], ◌∷◌, ◌++◌, map, length, refl, sym, ap, ◌∙◌, subst, arith, append-nil, length-append, and_parts, and_from, leb-true, le-leb, false≢true, none-some, same_Some, take_at, drop_at, nil_from_length, flat_map-cons, to_ascii_lowercase, Octets, DomainName, folded, Field, number, ipv4, ipv6, domain, string, strings, anything, fields_of, Part, octets, name, part_octets, joined, part_folded, octets_front, field_front, cut, valid, parts, lower_case, lowercase-lowercase}
 use Rattle.dns_spec.proofs.DomainNames.NameLaws.{is_name-folded, length-wire-folded}
 use Rattle.dns_spec.proofs.DataWords.WrittenData.{cut_into, name_part, octets_part, front_taken, all_strings}
 use Rattle.dns_spec.proofs.DataWords.MadeData.{cut-domain, cut-step}
 
 -- a part, and the octets after it, are the whole
-pub piece_whole : (p : Piece) (os : Octets) (part : Part) (rest : Octets)
-    → piece_front p os ≡ Some (part, rest) → os ≡ part_octets part ++ rest
-piece_whole (fixed f) os part rest h = grind (arith, front_taken, octets_part)
-piece_whole domain os part rest h = grind (arith, name_part)
-piece_whole string [] part rest h = absurd (none-some (part, rest) h)
-piece_whole string (k ∷ os) part rest h = grind (arith, common_steps, front_taken, octets_part)
-piece_whole strings os part rest h = grind (arith, all_strings, append-nil)
-piece_whole anything os part rest h = grind (arith, same_Some, append-nil)
+run_whole : (k : ℕ) (os : Octets) (part : Part) (rest : Octets)
+    → octets_front k os ≡ Some (part, rest) → os ≡ part_octets part ++ rest
+run_whole k os part rest h = grind (arith, front_taken, octets_part)
 
-pub cut_whole : (ps : List Piece) (os : Octets) (xs : List Part)
+pub field_whole : (p : Field) (os : Octets) (part : Part) (rest : Octets)
+    → field_front p os ≡ Some (part, rest) → os ≡ part_octets part ++ rest
+field_whole (number k) os part rest h = run_whole k os part rest h
+field_whole ipv4 os part rest h = run_whole 4 os part rest h
+field_whole ipv6 os part rest h = run_whole 16 os part rest h
+field_whole domain os part rest h = grind (arith, name_part)
+field_whole string [] part rest h = absurd (none-some (part, rest) h)
+field_whole string (k ∷ os) part rest h = grind (arith, common_steps, front_taken, octets_part)
+field_whole strings os part rest h = grind (arith, all_strings, append-nil)
+field_whole anything os part rest h = grind (arith, same_Some, append-nil)
+
+pub cut_whole : (ps : List Field) (os : Octets) (xs : List Part)
     → cut ps os ≡ Some xs → joined xs ≡ os
 unfolding cut
 cut_whole [] [] xs h = ap joined (sym (same_Some [] xs h))
@@ -24,7 +30,7 @@ cut_whole (p ∷ ps) os xs h =
     ap joined (sym c.whole)
     ∙ flat_map-cons part_octets c.part c.others
     ∙ ap (λ x. part_octets c.part ++ x) (cut_whole ps c.rest c.others c.more)
-    ∙ sym (piece_whole p os c.part c.rest c.front)
+    ∙ sym (field_whole p os c.part c.rest c.front)
 
 pub length-lowered : (xs : List Part) → length (joined (map part_folded xs)) ≡ length (joined xs)
 length-lowered [] = refl
@@ -33,20 +39,26 @@ length-lowered (x ∷ xs) = grind (arith, length-wire-folded, length-append, (le
 none_after : (rest other : Octets) → rest ≡ [] → length other ≡ length rest → other ≡ []
 none_after rest other e f = nil_from_length other (f ∙ ap length e)
 
--- a piece in lower case is the same piece, even if what follows it is different
-piece_lowered : (p : Piece) (os : Octets) (part : Part) (rest other : Octets)
-    → piece_front p os ≡ Some (part, rest) → length other ≡ length rest
-    → piece_front p (part_octets (part_folded part) ++ other) ≡ Some (part_folded part, other)
-piece_lowered (fixed f) os part rest other h same =
-    grind (arith, length-append, take_at, drop_at, front_taken)
-piece_lowered domain os part rest other h same =
-    grind (arith, name_part, cut-domain, is_name-folded)
-piece_lowered string [] part rest other h same = absurd (none-some (part, rest) h)
-piece_lowered string (k ∷ os) part rest other h same = grind (arith, common_steps)
-piece_lowered strings os part rest other h same = grind (arith, all_strings, none_after, append-nil)
-piece_lowered anything os part rest other h same = grind (arith, same_Some, none_after, append-nil)
+-- a field in lower case is the same field, even if what follows it is different
+run_lowered : (k : ℕ) (os : Octets) (part : Part) (rest other : Octets)
+    → octets_front k os ≡ Some (part, rest)
+    → octets_front k (part_octets (part_folded part) ++ other) ≡ Some (part_folded part, other)
+run_lowered k os part rest other h = grind (arith, length-append, take_at, drop_at, front_taken)
 
-pub cut_lowered : (ps : List Piece) (os : Octets) (xs : List Part)
+field_lowered : (p : Field) (os : Octets) (part : Part) (rest other : Octets)
+    → field_front p os ≡ Some (part, rest) → length other ≡ length rest
+    → field_front p (part_octets (part_folded part) ++ other) ≡ Some (part_folded part, other)
+field_lowered (number k) os part rest other h same = run_lowered k os part rest other h
+field_lowered ipv4 os part rest other h same = run_lowered 4 os part rest other h
+field_lowered ipv6 os part rest other h same = run_lowered 16 os part rest other h
+field_lowered domain os part rest other h same =
+    grind (arith, name_part, cut-domain, is_name-folded)
+field_lowered string [] part rest other h same = absurd (none-some (part, rest) h)
+field_lowered string (k ∷ os) part rest other h same = grind (arith, common_steps)
+field_lowered strings os part rest other h same = grind (arith, all_strings, none_after, append-nil)
+field_lowered anything os part rest other h same = grind (arith, same_Some, none_after, append-nil)
+
+pub cut_lowered : (ps : List Field) (os : Octets) (xs : List Part)
     → cut ps os ≡ Some xs → cut ps (joined (map part_folded xs)) ≡ Some (map part_folded xs)
 unfolding cut
 cut_lowered [] [] xs h = grind (arith, same_Some)
@@ -60,7 +72,7 @@ cut_lowered (p ∷ ps) os xs h =
     (ap (cut (p ∷ ps)) (flat_map-cons part_octets (part_folded c.part) (map part_folded c.others))
     ∙ cut-step p ps (part_octets (part_folded c.part) ++ other)
     (part_folded c.part) other (map part_folded c.others)
-    (piece_lowered p os c.part c.rest other c.front same) (cut_lowered ps c.rest c.others c.more))
+    (field_lowered p os c.part c.rest other c.front same) (cut_lowered ps c.rest c.others c.more))
 
 label_lowered : (l : Octets)
     → map to_ascii_lowercase (map to_ascii_lowercase l) ≡ map to_ascii_lowercase l
@@ -83,7 +95,7 @@ parts_folded-twice (x ∷ xs) = grind (arith, part_folded-twice, (parts_folded-t
 pub record CutData (t : ℕ) (d : Octets) : Type 0 where
   pub short : length d ≤ 65535
   pub cut_parts : List Part
-  pub is_cut : cut (pieces_of t) d ≡ Some cut_parts
+  pub is_cut : cut (fields_of t) d ≡ Some cut_parts
   pub parts_are : parts t d ≡ cut_parts
 
 pub cut_data : (t : ℕ) (d : Octets) → valid t d ≡ true → CutData t d

@@ -1,15 +1,15 @@
--- Data that begins with a name, or with any other piece, is cut there.
-use Rattle.dns_spec.proofs.Common.{◌≡◌, true, List, ◌∷◌, ◌++◌, Some, arith, Octets, DomainName, wire, is_name, Piece, Part, name, piece_front, cut, domain, ℕ, length, octets_front, octets, le-leb, length-append, take_at, drop_at}
+-- Data that begins with a name, or with any other field, is cut there.
+use Rattle.dns_spec.proofs.Common.{◌≡◌, true, List, ◌∷◌, ◌++◌, Some, arith, Octets, DomainName, wire, is_name, Field, Part, name, field_front, cut, domain, ℕ, length, octets_front, octets, le-leb, length-append, take_at, drop_at}
 use Rattle.dns_spec.proofs.DomainNames.WireNames.{name_of-wire}
 
 -- a name
 pub cut-domain : (n : DomainName) (rest : Octets)
-    → is_name n ≡ true → piece_front domain (wire n ++ rest) ≡ Some (name n, rest)
+    → is_name n ≡ true → field_front domain (wire n ++ rest) ≡ Some (name n, rest)
 cut-domain n rest ok = grind (arith, name_of-wire)
 
--- a piece, and the pieces after it
-pub cut-step : (p : Piece) (ps : List Piece) (os : Octets)
-    (part : Part) (rest : Octets) (xs : List Part) → piece_front p os ≡ Some (part, rest)
+-- a field, and the fields after it
+pub cut-step : (p : Field) (ps : List Field) (os : Octets)
+    (part : Part) (rest : Octets) (xs : List Part) → field_front p os ≡ Some (part, rest)
     → cut ps rest ≡ Some xs → cut (p ∷ ps) os ≡ Some (part ∷ xs)
 unfolding cut
 cut-step p ps os part rest xs front after = grind arith

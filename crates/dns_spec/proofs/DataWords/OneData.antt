@@ -1,6 +1,7 @@
 -- Words spell at most one data of a type.
-use Rattle.dns_spec.proofs.Common.{◌≡◌, ℕ, zero, suc, ◌<◌, ◌≤◌, Bool, true, false, nat_le, List, [], ◌∷◌, ◌++◌, length, replicate, Option, Some, None, refl, sym, ◌∙◌, ap, ap₂, arith, decimal, MatchBool, list_all, flat_map, find, option_map, AllDigits, pow-le-pow_right, and_parts, and_from, leb-true, ltb-true, same_Some, decimal_is_IsNumeral, decimal_injective, digit_from_value, Octets, DomainName, wire, Piece, fixed, numbers, TypeRow, type_table, row_of, SaysIpv4, Word, WordForm, number_word, ipv4_word, ipv6_word, name_word, string_word, SaysNumber, SaysForm, SaysForms, forms_in, SaysTyped, SaysUnknown, SaysAsSpelled, is_unknown_mark, Says, ⊤, MatchOption, ◌==◌}
+use Rattle.dns_spec.proofs.Common.{◌≡◌, ℕ, zero, suc, ◌<◌, ◌≤◌, Bool, true, false, nat_le, List, [], ◌∷◌, ◌++◌, length, replicate, Option, Some, None, refl, sym, ◌∙◌, ap, ap₂, arith, decimal, MatchBool, list_all, option_map, AllDigits, pow-le-pow_right, and_parts, and_from, leb-true, ltb-true, same_Some, decimal_is_IsNumeral, decimal_injective, digit_from_value, Octets, DomainName, wire, Field, TypeRow, type_table, row_of, SaysIpv4, Word, number, ipv4, ipv6, domain, string, SaysNumber, SaysField, SaysFields, word_fields, SaysTyped, SaysUnknown, SaysAsSpelled, is_unknown_mark, Says, MatchOption, ◌==◌, strings, anything}
 use Rattle.dns_spec.proofs.NameTexts.OneName.{name_once, string_once}
+use Rattle.dns_spec.proofs.General.Tests.{entry_passes}
 
 -- numbers of at most 32 bits
 pub number_once : (k : ℕ) (text d e : Octets)
@@ -63,27 +64,26 @@ ipv4_once text d e h k =
     p.is ∙ ap₂ (λ x xs. x ∷ xs) one.0
     (ap₂ (λ x xs. x ∷ xs) two.0 (ap₂ (λ x y. x ∷ y ∷ []) three.0 four)) ∙ sym q.is
 
--- the forms of the table: numbers have at most 32 bits
-is_narrow : WordForm → Bool
-is_narrow (number_word k) = nat_le k 4
-is_narrow ipv4_word = true
-is_narrow ipv6_word = true
-is_narrow name_word = true
-is_narrow string_word = true
+-- the fields of the table: numbers have at most 32 bits
+is_narrow : Field → Bool
+is_narrow (number k) = nat_le k 4
+is_narrow _ = true
 
-form_once : (f : WordForm) (origin : DomainName) (text d e : Octets)
-    → is_narrow f ≡ true → SaysForm f origin text d → SaysForm f origin text e → d ≡ e
+form_once : (f : Field) (origin : DomainName) (text d e : Octets)
+    → is_narrow f ≡ true → SaysField f origin text d → SaysField f origin text e → d ≡ e
 unfolding is_narrow
-form_once (number_word k) origin text d e narrow h h' =
+form_once (number k) origin text d e narrow h h' =
     number_once k text d e (leb-true k 4 narrow) h h'
-form_once ipv4_word origin text d e narrow h h' = ipv4_once text d e h h'
-form_once ipv6_word origin text d e narrow h h' = grind (arith, same_Some)
-form_once name_word origin text d e narrow (n, spelled, is) (m, spelled', is') =
+form_once ipv4 origin text d e narrow h h' = ipv4_once text d e h h'
+form_once ipv6 origin text d e narrow h h' = grind (arith, same_Some)
+form_once domain origin text d e narrow (n, spelled, is) (m, spelled', is') =
     is ∙ ap wire (name_once origin text n m spelled spelled') ∙ sym is'
-form_once string_word origin text d e narrow h h' = grind (arith, string_once)
+form_once string origin text d e narrow h h' = grind (arith, string_once)
+form_once strings origin text d e narrow h h' = grind (arith, string_once)
+form_once anything origin text d e narrow h h' = absurd h
 
-forms_once : (fs : List WordForm) (origin : DomainName) (ws : List Word) (d e : Octets)
-    → list_all is_narrow fs ≡ true → SaysForms fs origin ws d → SaysForms fs origin ws e → d ≡ e
+forms_once : (fs : List Field) (origin : DomainName) (ws : List Word) (d e : Octets)
+    → list_all is_narrow fs ≡ true → SaysFields fs origin ws d → SaysFields fs origin ws e → d ≡ e
 forms_once [] origin [] d e narrow h k = h ∙ sym k
 forms_once [] origin (w ∷ ws) d e narrow h k = absurd h
 forms_once (f ∷ fs) origin [] d e narrow h k = absurd h
@@ -93,52 +93,30 @@ forms_once
     is ∙ ap₂ ◌++◌ (form_once f origin w.raw front front' parts.0 said.said said'.said)
     (forms_once fs origin ws back back' parts.1 h k) ∙ sym is'
 
-all_alike : (p : WordForm → Bool) (k : ℕ) (f : WordForm)
+all_alike : (p : Field → Bool) (k : ℕ) (f : Field)
     → p f ≡ true → list_all p (replicate k f) ≡ true
 all_alike p zero f h = refl
 all_alike p (suc k) f h = and_from _ _ h (all_alike p k f h)
 
-all_joined : (p : WordForm → Bool) (fs gs : List WordForm)
-    → list_all p fs ≡ true → list_all p gs ≡ true → list_all p (fs ++ gs) ≡ true
-all_joined p [] gs h k = k
-all_joined p (f ∷ fs) gs h k =
-    let parts = and_parts (p f) _ h in and_from _ _ parts.0 (all_joined p fs gs parts.1 k)
-
-is_narrow_piece : Piece → Bool
-is_narrow_piece (fixed (numbers m k)) = nat_le k 4
-is_narrow_piece p = true
-
-narrow_forms : (k : ℕ) (ps : List Piece)
-    → list_all is_narrow_piece ps ≡ true → list_all is_narrow (flat_map (forms_in k) ps) ≡ true
-unfolding is_narrow is_narrow_piece
-narrow_forms k [] h = refl
-narrow_forms k (p ∷ ps) h =
-    grind (arith, all_joined, all_alike, (narrow_forms k ps (and_parts (is_narrow_piece p) _ h).1))
-
-has_narrow_pieces : TypeRow → Bool
-has_narrow_pieces row = list_all is_narrow_piece row.pieces
-
-found_row : (p : TypeRow → Bool) (rows : List TypeRow) → list_all has_narrow_pieces rows ≡ true
-    → MatchOption (find p rows) ⊤ (λ row. has_narrow_pieces row ≡ true)
-found_row p [] h = tt
-found_row p (row ∷ rows) h =
-    grind (arith, and_parts, (found_row p rows (and_parts (has_narrow_pieces row) _ h).1))
+narrow_words : (k : ℕ) (fs : List Field)
+    → list_all is_narrow fs ≡ true → list_all is_narrow (word_fields k fs) ≡ true
+unfolding is_narrow
+narrow_words k fs h = grind (arith, all_alike)
 
 typed_once : (t : ℕ) (origin : DomainName) (ws : List Word) (d e : Octets)
     → SaysTyped t origin ws d → SaysTyped t origin ws e → d ≡ e
-unfolding has_narrow_pieces is_narrow_piece
-typed_once t origin ws d e h k =
-    by_row (row_of t) (found_row (λ (row : TypeRow). row.number == t) type_table refl) h k
+unfolding is_narrow
+typed_once t origin ws d e h k = by_row (row_of t) refl h k
   where
     Typed : Option TypeRow → Octets → Type 0
-    Typed o x = MatchOption (option_map (λ (row : TypeRow). flat_map
-        (forms_in (length ws)) row.pieces) o) ⊥ (λ fs. SaysForms fs origin ws x)
+    Typed o x = MatchOption (option_map (λ (row : TypeRow). word_fields (length ws) row.fields) o)
+        ⊥ (λ fs. SaysFields fs origin ws x)
 
-    by_row : (o : Option TypeRow)
-        → MatchOption o ⊤ (λ row. has_narrow_pieces row ≡ true) → Typed o d → Typed o e → d ≡ e
-    by_row None narrow h k = absurd h
-    by_row (Some row) narrow h k = forms_once (flat_map (forms_in (length ws)) row.pieces)
-        origin ws d e (narrow_forms (length ws) row.pieces narrow) h k
+    by_row : (o : Option TypeRow) → row_of t ≡ o → Typed o d → Typed o e → d ≡ e
+    by_row None is h k = absurd h
+    by_row (Some row) is h k = forms_once (word_fields (length ws) row.fields) origin ws d e
+        (narrow_words (length ws) row.fields (entry_passes (λ (row : TypeRow). row.number == t)
+        (λ (row : TypeRow). list_all is_narrow row.fields) type_table row is refl)) h k
 
 unknown_once : (ws : List Word) (d e : Octets) → SaysUnknown ws d → SaysUnknown ws e → d ≡ e
 unknown_once ws d e h h1 = grind arith

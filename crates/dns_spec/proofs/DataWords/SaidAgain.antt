@@ -1,169 +1,158 @@
 -- The words that are written for valid data spell that data again; none of them ends early, and a
 -- reader reads them whole.
-use Rattle.dns_spec.proofs.Common.{length-replicate, ◌≡◌, ℕ, suc, ◌*◌, ◌<◌, ◌≤◌, ◌⊎◌, inl, inr, true, false, Bool, ◌||◌, max, Option, None, Some, List, [], ◌∷◌, ◌++◌, length, drop, replicate, nat_le, refl, sym, ◌∙◌, ap, subst, arith, append-nil, false≢true, and_parts, and_from, leb-true, or_cases, none-some, cond_some, some_pair_parts, option_map, unwrap_or, list_all, flat_map, Octets, DomainName, name_of, numbers, ipv4, ipv6, Piece, fixed, domain, string, strings, anything, TypeRow, row_of, other_type, pieces_of, Part, name, part_octets, octets_front, piece_front, cut, valid, lower_case, Word, WordForm, name_word, string_word, forms_in, forms_of, SaysTyped, SaysAsSpelled, Says, is_word_octet, word_front, form_words, string_count, words_by, written_words, unknown_words, hex_words, stands_alone, AllByRecursion}
+use Rattle.dns_spec.proofs.Common.{length-replicate, ◌≡◌, ℕ, suc, ◌<◌, ◌≤◌, ◌⊎◌, inl, inr, true, false, Bool, ◌||◌, max, Option, None, Some, List, [], ◌∷◌, length, drop, replicate, nat_le, refl, sym, ◌∙◌, ap, subst, arith, false≢true, and_parts, and_from, leb-true, or_cases, none-some, cond_some, some_pair_parts, option_map, unwrap_or, list_all, Octets, DomainName, name_of, ipv4, ipv6, Field, domain, string, strings, anything, TypeRow, row_of, other_type, fields_of, Part, name, part_octets, octets_front, field_front, cut, valid, lower_case, Word, word_fields, word_fields_of, SaysTyped, SaysAsSpelled, Says, are_strings_alone, is_word_octet, word_front, field_words, string_count, words_by, written_words, unknown_words, hex_words, stands_alone, AllByRecursion, number}
 use Rattle.dns_spec.proofs.DomainNames.SmallOctets.{Small, small_back}
 use Rattle.dns_spec.proofs.DataWords.WrittenData.{cut_into, all_strings}
 use Rattle.dns_spec.proofs.DomainNames.WireNames.{name_read}
-use Rattle.dns_spec.proofs.DataWords.LoweredData.{piece_whole, cut_data}
+use Rattle.dns_spec.proofs.DataWords.LoweredData.{field_whole, cut_data}
 use Rattle.dns_spec.proofs.DataWords.HexAgain.{unknown_said}
 use Rattle.dns_spec.proofs.DataWords.WordRuns.{runs_escaped}
 use Rattle.dns_spec.proofs.DataWords.StandingWords.{TakenWhole, decimal_standing, hex_alone, hex_runs}
-use Rattle.dns_spec.proofs.DataWords.FormsAgain.{WordsSaid, is_unmarked, none_said, said_step, ipv4_front_said, ipv6_front_said, name_front_said, string_front_said, numbers_said, strings_said}
+use Rattle.dns_spec.proofs.DataWords.FormsAgain.{WordsSaid, is_unmarked, none_said, said_step, ipv4_front_said, ipv6_front_said, name_front_said, string_front_said, number_front_said, strings_said}
 use Rattle.dns_spec.proofs.General.Tests.{entry_passes}
 
--- a piece whose number of words does not depend on the record, with numbers of at most 64 bits
-abbrev is_counted : Piece → Bool
-is_counted (fixed (numbers m k)) = nat_le k 8
+-- a field that is one word, with numbers of at most 64 bits
+abbrev pub is_counted : Field → Bool
+is_counted (number k) = nat_le k 8
 is_counted strings = false
 is_counted anything = false
-is_counted p = true
+is_counted f = true
 
-front_dropped : (k : ℕ) (os : Octets) (part : Part) (rest : Octets)
+pub front_dropped : (k : ℕ) (os : Octets) (part : Part) (rest : Octets)
     → octets_front k os ≡ Some (part, rest) → (k ≤ length os) × (drop k os ≡ rest)
 front_dropped k os part rest h = grind (arith, cond_some, leb-true)
 
-piece_said : (c : ℕ) (origin : DomainName) (p : Piece) (fs : List WordForm) (d : Octets)
-    (part : Part) (rest : Octets) → is_counted p ≡ true → piece_front p d ≡ Some (part, rest)
-    → Small d → WordsSaid fs origin rest → WordsSaid (forms_in c p ++ fs) origin d
-piece_said c origin (fixed (numbers m k)) fs d part rest counted h small others =
-    let f = front_dropped (m * k) d part rest h in
-    numbers_said m k fs origin d
-    (leb-true k 8 counted) f.0 small (subst (WordsSaid fs origin) (sym f.1) others)
-piece_said c origin (fixed ipv4) fs d part rest counted h small others =
+field_said : (origin : DomainName) (f : Field) (fs : List Field) (d : Octets)
+    (part : Part) (rest : Octets) → is_counted f ≡ true → field_front f d ≡ Some (part, rest)
+    → Small d → WordsSaid fs origin rest → WordsSaid (f ∷ fs) origin d
+field_said origin (number k) fs d part rest counted h small others =
+    let f = front_dropped k d part rest h in
+    said_step _ fs origin d (drop k d) (number_front_said k origin d (leb-true k 8 counted)
+    f.0 small) (subst (WordsSaid fs origin) (sym f.1) others)
+field_said origin ipv4 fs d part rest counted h small others =
     let f = front_dropped 4 d part rest h in
     said_step _ fs origin d (drop 4 d)
     (ipv4_front_said origin d f.0 small) (subst (WordsSaid fs origin) (sym f.1) others)
-piece_said c origin (fixed ipv6) fs d part rest counted h small others =
+field_said origin ipv6 fs d part rest counted h small others =
     let f = front_dropped 16 d part rest h in
     said_step _ fs origin d (drop 16 d)
     (ipv6_front_said origin d f.0 small) (subst (WordsSaid fs origin) (sym f.1) others)
-piece_said c origin domain fs d part rest counted h small others = go (name_of d) refl h
+field_said origin domain fs d part rest counted h small others = go (name_of d) refl h
   where
     go : (y : Option (DomainName × Octets))
         → name_of d ≡ y → option_map {T = DomainName × Octets} {U = Part × Octets}
-        (λ r. (name r.0, r.1)) y ≡ Some (part, rest) → WordsSaid (name_word ∷ fs) origin d
+        (λ r. (name r.0, r.1)) y ≡ Some (part, rest) → WordsSaid (domain ∷ fs) origin d
     go None e f = absurd (none-some (part, rest) f)
     go (Some (n, tail)) e f =
         let p = some_pair_parts (name n) part tail rest f in
         let r = name_read d n tail e in
-        said_step name_word fs origin d tail (name_front_said origin d n tail e r.0 r.1 small)
+        said_step domain fs origin d tail (name_front_said origin d n tail e r.0 r.1 small)
         (subst (WordsSaid fs origin) (sym p.1) others)
-piece_said c origin string fs [] part rest counted h small others = grind (arith, none-some)
-piece_said c origin string fs (k ∷ d) part rest counted h small others =
+field_said origin string fs [] part rest counted h small others = grind (arith, none-some)
+field_said origin string fs (k ∷ d) part rest counted h small others =
     let f = front_dropped (suc k) (k ∷ d) part rest h in
-    said_step string_word fs origin (k ∷ d) (drop k d) (string_front_said origin k d
+    said_step string fs origin (k ∷ d) (drop k d) (string_front_said origin k d
     (omega (arith, f.0)) small) (subst (WordsSaid fs origin) (sym f.1) others)
-piece_said c origin strings fs d part rest counted h small others = absurd (false≢true counted)
-piece_said c origin anything fs d part rest counted h small others = absurd (false≢true counted)
+field_said origin strings fs d part rest counted h small others = absurd (false≢true counted)
+field_said origin anything fs d part rest counted h small others = absurd (false≢true counted)
 
-pieces_said : (c : ℕ) (origin : DomainName) (ps : List Piece) (d : Octets) (xs : List Part)
-    → list_all is_counted ps ≡ true
-    → cut ps d ≡ Some xs → Small d → WordsSaid (flat_map (forms_in c) ps) origin d
+fields_said : (origin : DomainName) (fs : List Field) (d : Octets) (xs : List Part)
+    → list_all is_counted fs ≡ true → cut fs d ≡ Some xs → Small d → WordsSaid fs origin d
 unfolding cut
-pieces_said c origin [] [] xs counted h small = none_said origin
-pieces_said c origin [] (o ∷ d) xs counted h small = absurd (none-some xs h)
-pieces_said c origin (p ∷ ps) d xs counted h small =
-    let f = cut_into p ps d xs h in
-    let each = and_parts (is_counted p) (list_all is_counted ps) counted in
+fields_said origin [] [] xs counted h small = none_said origin
+fields_said origin [] (o ∷ d) xs counted h small = absurd (none-some xs h)
+fields_said origin (f ∷ fs) d xs counted h small =
+    let c = cut_into f fs d xs h in
+    let each = and_parts (is_counted f) (list_all is_counted fs) counted in
     let after = small_back
-    (part_octets f.part) f.rest (subst Small (piece_whole p d f.part f.rest f.front) small) in
-    piece_said c origin p (flat_map (forms_in c) ps) d f.part f.rest each.0 f.front small
-    (pieces_said c origin ps f.rest f.others each.1 f.more after)
+    (part_octets c.part) c.rest (subst Small (field_whole f d c.part c.rest c.front) small) in
+    field_said origin f fs d c.part c.rest each.0 c.front small
+    (fields_said origin fs c.rest c.others each.1 c.more after)
 
--- such pieces have the same forms for any count
-same_forms : (c e : ℕ) (ps : List Piece)
-    → list_all is_counted ps ≡ true → flat_map (forms_in c) ps ≡ flat_map (forms_in e) ps
-same_forms c e [] counted = refl
-same_forms c e (p ∷ ps) counted =
-    let rest = same_forms c e ps (and_parts (is_counted p) (list_all is_counted ps) counted).1 in
-    grind (arith, and_parts, rest)
+-- such fields are those of any number of words
+pub words_counted : (k : ℕ) (fs : List Field) → list_all is_counted fs ≡ true → word_fields k fs ≡ fs
+words_counted k fs counted = grind arith
 
-length-form_words : (fs : List WordForm) (d : Octets) → length (form_words fs d) ≡ length fs
-length-form_words [] d = refl
-length-form_words (f ∷ fs) d = ap suc (length-form_words fs (word_front f d).1)
+length-field_words : (fs : List Field) (d : Octets) → length (field_words fs d) ≡ length fs
+length-field_words [] d = refl
+length-field_words (f ∷ fs) d = ap suc (length-field_words fs (word_front f d).1)
 
--- strings to the end
-abbrev are_strings_alone : List Piece → Bool
-are_strings_alone (strings ∷ []) = true
-are_strings_alone _ = false
-
-only_strings : (ps : List Piece) → are_strings_alone ps ≡ true → ps ≡ strings ∷ []
+pub only_strings : (ps : List Field) → are_strings_alone ps ≡ true → ps ≡ strings ∷ []
 only_strings ps h = grind arith
 
 -- the forms of data, which are the forms of equally many words, and its words
 record Formed (t : ℕ) (origin : DomainName) (d : Octets) : Type 0 where
-  forms : List WordForm
-  of_data : forms_of t (string_count 0 d) ≡ Some forms
-  of_words : forms_of t (length forms) ≡ Some forms
+  forms : List Field
+  of_data : word_fields_of t (string_count 0 d) ≡ Some forms
+  of_words : word_fields_of t (length forms) ≡ Some forms
   words : WordsSaid forms origin d
 
-abbrev forms_by : ℕ → TypeRow → List WordForm
-forms_by k made = flat_map (forms_in k) made.pieces
+abbrev forms_by : ℕ → TypeRow → List Field
+forms_by k made = word_fields k made.fields
 
 -- forms of a type in the table
 forms_are : (t k : ℕ) (made : TypeRow)
-    → row_of t ≡ Some made → forms_of t k ≡ Some (forms_by k made)
+    → row_of t ≡ Some made → word_fields_of t k ≡ Some (forms_by k made)
 forms_are t k made e = ap (option_map (forms_by k)) e
 
 counted_formed : (t : ℕ) (origin : DomainName) (d : Octets) (made : TypeRow) (xs : List Part)
-    → row_of t ≡ Some made → list_all is_counted made.pieces ≡ true
-    → cut made.pieces d ≡ Some xs → Small d → Formed t origin d
+    → row_of t ≡ Some made → list_all is_counted made.fields ≡ true
+    → cut made.fields d ≡ Some xs → Small d → Formed t origin d
 counted_formed t origin d made xs e counted h small =
-    let k = string_count 0 d in
-    let fs = forms_by k made in
+    let is : (k : ℕ) → word_fields_of t k ≡ Some made.fields =
+    λ k. forms_are t k made e ∙ ap (λ x. Some x) (words_counted k made.fields counted) in
     record {
-      forms = fs;
-      of_data = forms_are t k made e;
-      of_words = forms_are t (length fs) made e
-          ∙ ap (λ x. Some x) (same_forms (length fs) k made.pieces counted);
-      words = pieces_said k origin made.pieces d xs counted h small;
+      forms = made.fields;
+      of_data = is (string_count 0 d);
+      of_words = is (length made.fields);
+      words = fields_said origin made.fields d xs counted h small;
     }
 
-some_string : (d : Octets) → 0 < length d → 0 < string_count 0 d
+pub some_string : (d : Octets) → 0 < length d → 0 < string_count 0 d
 some_string [] some = absurd (omega (arith, some))
 some_string (k ∷ d) some = omega arith
 
 strings_formed : (t : ℕ) (origin : DomainName) (d : Octets) (made : TypeRow) (xs : List Part)
     → row_of t ≡ Some made
-    → made.pieces ≡ strings ∷ [] → cut (strings ∷ []) d ≡ Some xs → Small d → Formed t origin d
+    → made.fields ≡ strings ∷ [] → cut (strings ∷ []) d ≡ Some xs → Small d → Formed t origin d
 strings_formed t origin d made xs e alone h small =
     let c = cut_into strings [] d xs h in
     let all = all_strings d c.rest c.part c.front in
     let k = string_count 0 d in
-    let fs = replicate k string_word in
+    let fs = replicate k strings in
     let count : max 1 k ≡ k = omega (arith, some_string d all.0) in
-    let forms : forms_by k made ≡ fs = ap (flat_map (forms_in k)) alone
-    ∙ append-nil (replicate (max 1 k) string_word) ∙ ap (λ j. replicate j string_word) count in
-    let long : length fs ≡ k = length-replicate k string_word in
+    let forms : forms_by k made ≡ fs = ap (word_fields k) alone
+    ∙ ap (λ j. replicate j strings) count in
+    let long : length fs ≡ k = length-replicate k strings in
     record {
       forms = fs;
       of_data = forms_are t k made e ∙ ap (λ x. Some x) forms;
-      of_words = ap (forms_of t) long ∙ forms_are t k made e ∙ ap (λ x. Some x) forms;
+      of_words = ap (word_fields_of t) long ∙ forms_are t k made e ∙ ap (λ x. Some x) forms;
       words = strings_said k origin d refl all.1 small;
     }
 
-abbrev has_forms : TypeRow → Bool
-has_forms made = list_all is_counted made.pieces || are_strings_alone made.pieces
+abbrev pub has_forms : TypeRow → Bool
+has_forms made = list_all is_counted made.fields || are_strings_alone made.fields
 
-row_has_forms : (t : ℕ) (made : TypeRow) → row_of t ≡ Some made → has_forms made ≡ true
+pub row_has_forms : (t : ℕ) (made : TypeRow) → row_of t ≡ Some made → has_forms made ≡ true
 row_has_forms t made e = grind (arith, entry_passes)
 
 formed : (t : ℕ) (origin : DomainName) (d : Octets) (made : TypeRow)
     → row_of t ≡ Some made → valid t d ≡ true → Small d → Formed t origin d
 formed t origin d made e ok small = by_cases (or_cases
-    (list_all is_counted made.pieces) (are_strings_alone made.pieces) (row_has_forms t made e))
+    (list_all is_counted made.fields) (are_strings_alone made.fields) (row_has_forms t made e))
   where
-    pieces : pieces_of t ≡ made.pieces
-    pieces = ap (λ r. (unwrap_or r other_type).pieces) e
+    fields : fields_of t ≡ made.fields
+    fields = ap (λ r. (unwrap_or r other_type).fields) e
 
-    by_cases : (list_all is_counted made.pieces ≡ true) ⊎ (are_strings_alone made.pieces ≡ true)
+    by_cases : (list_all is_counted made.fields ≡ true) ⊎ (are_strings_alone made.fields ≡ true)
         → Formed t origin d
-    by_cases (inl counted) = grind (arith, cut_data, counted_formed, pieces)
+    by_cases (inl counted) = grind (arith, cut_data, counted_formed, fields)
     by_cases (inr alone) =
         let c = cut_data t d ok in
-        let is = only_strings made.pieces alone in
+        let is = only_strings made.fields alone in
         strings_formed t origin d made c.cut_parts e is
-        (ap (λ ps. cut ps d) (sym (pieces ∙ is)) ∙ c.is_cut) small
+        (ap (λ ps. cut ps d) (sym (fields ∙ is)) ∙ c.is_cut) small
 
 -- the words of a type are read by its forms, unless the first is the mark
 as_typed : (t : ℕ) (origin : DomainName) (ws : List Word) (d : Octets)
@@ -172,7 +161,7 @@ as_typed t origin ws d h h1 = grind arith
 
 typed_said : (t : ℕ) (origin : DomainName) (d : Octets)
     → Formed t origin d → SaysAsSpelled t origin (written_words t d) d
-typed_said t origin d f = grind (arith, length-form_words, as_typed)
+typed_said t origin d f = grind (arith, length-field_words, as_typed)
 
 -- words of a type without a mnemonic
 unnamed_words : (t : ℕ) (d : Octets) → row_of t ≡ None → written_words t d ≡ unknown_words d

@@ -1,5 +1,5 @@
 -- The layout, in which names share suffixes, spells its message.
-use Rattle.dns_spec.proofs.Common.{◌≡◌, ℕ, suc, ◌+◌, ◌^◌, ◌<◌, ◌≤◌, Bool, true, false, cond, nat_le, List, [], ◌∷◌, ◌++◌, map, length, take, drop, Option, None, Some, All, IfSome, is_some, unwrap_or, refl, sym, ap, ◌∙◌, subst, arith, append_assoc, append-nil, length-append, add-zero, zero-add, and_parts, false≢true, none-some, same_Some, cond_some, length-map, map-append, list_all, option_to_list, Octets, wire, is_label, labels_from, ResourceRecord, Header, MessageQuestion, MessageRecord, OctetsAt, NumberAt, PiecesAt, DataAt, RecordsAt, Spells, size, class_in, width, Piece, fixed, domain, string, strings, anything, pieces_of, compresses, Part, octets, piece_front, cut, valid, parts, laid_parts, octets16, octets32, answer, authority, additional, Item, records_of, in_section, Placed, shared_octets, data_laid, data_by, parts_of, record_tail, records_octets, records_by, question_octets, asked_octets, asked_placed, reply_header, layout, Section, message_record, message_of, IsWritable, IsAskable, HasRoom, AllByRecursion, recursion_from_All, record_laid}
+use Rattle.dns_spec.proofs.Common.{◌≡◌, ℕ, suc, ◌+◌, ◌^◌, ◌<◌, ◌≤◌, Bool, true, false, cond, nat_le, List, [], ◌∷◌, ◌++◌, map, length, take, drop, Option, None, Some, All, IfSome, is_some, unwrap_or, refl, sym, ap, ◌∙◌, subst, arith, append_assoc, append-nil, length-append, add-zero, zero-add, and_parts, false≢true, none-some, same_Some, cond_some, length-map, map-append, list_all, option_to_list, Octets, wire, is_label, labels_from, ResourceRecord, Header, MessageQuestion, MessageRecord, OctetsAt, NumberAt, FieldsAt, DataAt, FieldAt, RecordsAt, Spells, size, class_in, Field, number, ipv4, ipv6, domain, string, strings, anything, fields_of, compresses, Part, octets, octets_front, field_front, cut, valid, parts, laid_parts, octets16, octets32, answer, authority, additional, Item, records_of, in_section, Placed, shared_octets, data_laid, data_by, parts_of, record_tail, records_octets, records_by, question_octets, asked_octets, asked_placed, reply_header, layout, Section, message_record, message_of, IsWritable, IsAskable, HasRoom, AllByRecursion, recursion_from_All, record_laid}
 use Rattle.dns_spec.proofs.Messages.Places.{Stands, stands_front, stands_rest, stands_after, stands_all, stands_within, stands_get, number_at, octets_at}
 use Rattle.dns_spec.proofs.DataWords.WrittenData.{cut_into, name_part, octets_part, all_strings, front_taken, data_written}
 use Rattle.dns_spec.proofs.Layouts.MessageParts.{records_by_section, section_with, header_at, one_question, asked_at_12, length-question_octets}
@@ -15,13 +15,12 @@ abbrev data_names : List Placed → ℕ → List Part → List Placed
 data_names ms p ps = (data_laid ms p ps).names
 
 -- after the last octet there are only parts without octets
-no_octets : (ps : List Piece) (ys : List Part)
+no_octets : (ps : List Field) (ys : List Part)
     → cut ps [] ≡ Some ys → (ms : List Placed) (i : ℕ) → length (data_octets ms i ys) ≡ 0
 unfolding cut data_by labels_from
 no_octets [] ys h ms i = ap (λ z. length (data_octets ms i z)) (sym (same_Some [] ys h))
-no_octets (fixed f ∷ ps) ys h ms i =
-    let k = width f in
-    let c = cut_into (fixed f) ps [] ys h in
+no_octets (number k ∷ ps) ys h ms i =
+    let c = cut_into (number k) ps [] ys h in
     let p = octets_part k [] c.rest c.part c.front in
     let none : c.rest ≡ [] = sym (ap (λ z. z.1) (cond_some
     (nat_le k 0) (octets (take k []), drop k []) (c.part, c.rest) c.front).1) ∙ drop_none k in
@@ -29,6 +28,8 @@ no_octets (fixed f ∷ ps) ys h ms i =
     ap (λ z. octets z ∷ c.others) (sym (take_none k)) ∙ ap (λ z. z ∷ c.others) p ∙ c.whole in
     ap (λ z. length (data_octets ms i z)) (sym whole)
     ∙ no_octets ps c.others (ap (cut ps) (sym none) ∙ c.more) ms (i + 0)
+no_octets (ipv4 ∷ ps) ys h ms i = grind (arith, cut_into, none-some)
+no_octets (ipv6 ∷ ps) ys h ms i = grind (arith, cut_into, none-some)
 no_octets (domain ∷ ps) ys h ms i = grind (arith, cut_into, none-some)
 no_octets (string ∷ ps) ys h ms i = grind (arith, cut_into, none-some)
 no_octets (strings ∷ ps) ys h ms i = grind (arith, cut_into, none-some)
@@ -42,11 +43,11 @@ no_octets (anything ∷ ps) ys h ms i =
 module _ (b : Octets) (room : length b < 2 ^ 16) where
   -- data laid out from place i on is read there, and its names become earlier names
   record Laid
-      (ps : List Piece) (os : Octets) (ms : List Placed) (i : ℕ) (xs : List Part) : Type 0 where
-    pieces : PiecesAt b ps i (i + length (data_octets ms i xs)) os
+      (ps : List Field) (os : Octets) (ms : List Placed) (i : ℕ) (xs : List Part) : Type 0 where
+    fields : FieldsAt b ps i (i + length (data_octets ms i xs)) os
     known : Known b (i + length (data_octets ms i xs)) (ms ++ data_names ms i xs)
 
-  abbrev Lays : List Piece → Octets → List Part → Type 0
+  abbrev Lays : List Field → Octets → List Part → Type 0
   Lays ps os xs = (ms : List Placed) (i : ℕ)
       → Known b i ms → 12 ≤ i → Stands b i (data_octets ms i xs) → Laid ps os ms i xs
 
@@ -62,8 +63,8 @@ module _ (b : Octets) (room : length b < 2 ^ 16) where
     unfolding data_by
     end_of_octets = omega (arith, length-append o (data_octets ms (i + length o) ys))
 
-    octets_laid : (ps : List Piece) (rest : Octets) (j : ℕ) → i + length o ≡ j → Lays ps rest ys
-        → OctetsAt b i j o × PiecesAt b ps j (i + length (data_octets ms i (octets o ∷ ys))) rest
+    octets_laid : (ps : List Field) (rest : Octets) (j : ℕ) → i + length o ≡ j → Lays ps rest ys
+        → OctetsAt b i j o × FieldsAt b ps j (i + length (data_octets ms i (octets o ∷ ys))) rest
         × Known b (i + length (data_octets ms i (octets o ∷ ys)))
         (ms ++ data_names ms i (octets o ∷ ys))
     unfolding data_by
@@ -71,10 +72,10 @@ module _ (b : Octets) (room : length b < 2 ^ 16) where
         let next = i + length o in
         let r = lays ms next (known_later b i next ms (omega arith) known)
         (omega arith) (stands_rest o (data_octets ms next ys) at) in
-        let pieces = subst (λ z. PiecesAt b ps next z rest) end_of_octets r.pieces in (
+        let fields = subst (λ z. FieldsAt b ps next z rest) end_of_octets r.fields in (
           subst (λ z. OctetsAt b i z o) place (octets_at o at_octets),
-          subst (λ z. PiecesAt b ps z (i + length (data_octets ms i (octets o ∷ ys))) rest)
-              place pieces,
+          subst (λ z. FieldsAt b ps z (i + length (data_octets ms i (octets o ∷ ys))) rest)
+              place fields,
           subst (λ z. Known b z (ms ++ data_names ms next ys)) end_of_octets r.known,
         )
 
@@ -83,40 +84,52 @@ module _ (b : Octets) (room : length b < 2 ^ 16) where
   nil_lays [] xs e ms i known header at =
       subst (Laid [] [] ms i) (same_Some [] xs e)
       (record {
-        pieces = (sym (add-zero i), refl);
+        fields = (sym (add-zero i), refl);
         known = subst (λ z. Known b z (ms ++ []))
             (sym (add-zero i)) (subst (Known b i) (sym (append-nil ms)) known);
       })
   nil_lays (o ∷ os) xs e ms i known header at = absurd (none-some xs e)
 
   -- octets that are the whole rest of the data
-  rest_lays : (ps : List Piece) (os : Octets) (ys : List Part) (ms : List Placed) (i : ℕ)
+  rest_lays : (ps : List Field) (os : Octets) (ys : List Part) (ms : List Placed) (i : ℕ)
       (known : Known b i ms) (header : 12 ≤ i) (at : Stands b i (data_octets ms i (octets os ∷ ys)))
       → Lays ps [] ys → cut ps [] ≡ Some ys → (OctetsAt b i (i + length os) os)
       × (i + length os ≡ i + length (data_octets ms i (octets os ∷ ys)))
-      × PiecesAt b ps (i + length os) (i + length (data_octets ms i (octets os ∷ ys))) [] × Known b
+      × FieldsAt b ps (i + length os) (i + length (data_octets ms i (octets os ∷ ys))) [] × Known b
       (i + length (data_octets ms i (octets os ∷ ys))) (ms ++ data_names ms i (octets os ∷ ys))
   rest_lays ps os ys ms i known header at lays more =
       let r = octets_laid ms i os ys known header at ps [] (i + length os) refl lays in
       let end = end_of_octets ms i os ys known header at in
       (r.0, omega (arith, end, no_octets ps ys more ms (i + length os)), r.1, r.2)
 
-  -- a piece in front of others, by its part
-  piece_lays : (p : Piece) (ps : List Piece) (os rest : Octets) (part : Part) (ys : List Part)
-      → piece_front p os ≡ Some (part, rest)
+  -- the first k octets in front of other fields, for a field that is any such octets
+  run_lays : (f : Field) (k : ℕ) (ps : List Field) (os rest : Octets) (part : Part) (ys : List Part)
+      → ((i e : ℕ) (o : Octets) → OctetsAt b i (i + k) o → FieldAt b f i e (i + k) o)
+      → octets_front k os ≡ Some (part, rest) → Lays ps rest ys → Lays (f ∷ ps) os (part ∷ ys)
+  unfolding data_by
+  run_lays f k ps os rest part ys is front lays ms i known header =
+      let x = take k os in
+      let t = front_taken k os part rest front in
+      subst (λ x. Stands b i (data_octets ms i (x ∷ ys)) → Laid (f ∷ ps) os ms i (x ∷ ys))
+      (octets_part k os rest part front) (λ at.
+      let r =
+      octets_laid ms i x ys known header at ps rest (i + k) (ap (λ z. i + z) t.1) lays in
+      record { fields = (i + k, x, rest, is i _ x r.0, t.0, r.1); known = r.2 })
+
+  -- a field in front of others, by its part
+  field_lays : (p : Field) (ps : List Field) (os rest : Octets) (part : Part) (ys : List Part)
+      → field_front p os ≡ Some (part, rest)
       → Lays ps rest ys → cut ps rest ≡ Some ys → Lays (p ∷ ps) os (part ∷ ys)
   unfolding data_by
-  piece_lays (fixed f) ps os rest part ys front lays more ms i known header =
-      let x = take (width f) os in
-      let t = front_taken (width f) os part rest front in
-      subst (λ x. Stands b i (data_octets ms i (x ∷ ys)) → Laid (fixed f ∷ ps) os ms i (x ∷ ys))
-      (octets_part (width f) os rest part front) (λ at.
-      let r = octets_laid ms i x ys known header at ps rest
-      (i + width f) (ap (λ z. i + z) t.1) lays in
-      record { pieces = (i + width f, x, rest, (r.0, refl), t.0, r.1); known = r.2 })
-  piece_lays string ps [] rest part ys front lays more ms i known header =
+  field_lays (number k) ps os rest part ys front lays more ms i known header =
+      run_lays (number k) k ps os rest part ys (λ i e o h. (h, refl)) front lays ms i known header
+  field_lays ipv4 ps os rest part ys front lays more ms i known header =
+      run_lays ipv4 4 ps os rest part ys (λ i e o h. (h, refl)) front lays ms i known header
+  field_lays ipv6 ps os rest part ys front lays more ms i known header =
+      run_lays ipv6 16 ps os rest part ys (λ i e o h. (h, refl)) front lays ms i known header
+  field_lays string ps [] rest part ys front lays more ms i known header =
       grind (arith, none-some)
-  piece_lays string ps (k ∷ os) rest part ys front lays more ms i known header =
+  field_lays string ps (k ∷ os) rest part ys front lays more ms i known header =
       let x = k ∷ take k os in
       let t = front_taken (suc k) (k ∷ os) part rest front in
       subst (λ x. Stands b i (data_octets ms i (x ∷ ys))
@@ -125,26 +138,26 @@ module _ (b : Octets) (room : length b < 2 ^ 16) where
       let r = octets_laid ms i x ys known header at ps rest
       (i + 1 + k) (omega (arith, t.1)) lays in
       let first = stands_get k (take k os) (at_octets ms i x ys known header at) in
-      record { pieces = (i + 1 + k, x, rest, (k, first, r.0, refl), t.0, r.1); known = r.2 })
-  piece_lays strings ps os rest part ys front lays more ms i known header =
+      record { fields = (i + 1 + k, x, rest, (k, first, r.0, refl), t.0, r.1); known = r.2 })
+  field_lays strings ps os rest part ys front lays more ms i known header =
       let t = all_strings os rest part front in
       subst (λ x. Stands b i (data_octets ms i (x ∷ ys)) → Laid (strings ∷ ps) os ms i (x ∷ ys)) t.2
       (λ at.
       let r = rest_lays ps os ys ms i known header at
       (subst (λ z. Lays ps z ys) t.3 lays) (ap (cut ps) (sym t.3) ∙ more) in
       record {
-        pieces = (i + length os, os, [], (r.0, t.0, t.1, r.1), sym (append-nil os), r.2);
+        fields = (i + length os, os, [], (r.0, t.0, t.1, r.1), sym (append-nil os), r.2);
         known = r.3;
       })
-  piece_lays anything ps os rest part ys front lays more ms i known header =
+  field_lays anything ps os rest part ys front lays more ms i known header =
       let t = same_Some (octets os, []) (part, rest) front in
       let none : rest ≡ [] = sym (ap (λ z. z.1) t) in
       subst (λ x. Stands b i (data_octets ms i (x ∷ ys)) → Laid (anything ∷ ps) os ms i (x ∷ ys))
       (ap (λ z. z.0) t) (λ at.
       let r = rest_lays ps os ys ms i known header at
       (subst (λ z. Lays ps z ys) none lays) (ap (cut ps) (sym none) ∙ more) in
-      record { pieces = (i + length os, os, [], (r.0, r.1), sym (append-nil os), r.2); known = r.3 })
-  piece_lays domain ps os rest part ys front lays more ms i known header =
+      record { fields = (i + length os, os, [], (r.0, r.1), sym (append-nil os), r.2); known = r.3 })
+  field_lays domain ps os rest part ys front lays more ms i known header =
       let m = name_part os rest part front in
       let n = m.0 in
       let w = shared_octets ms n in
@@ -162,24 +175,24 @@ module _ (b : Octets) (room : length b < 2 ^ 16) where
       let end : next + length later ≡ i + length (w ++ later) =
       omega (arith, length-append w later) in
       record {
-        pieces = (
+        fields = (
           next,
           wire n,
           rest,
           (n, name_shared b i ms known n i (omega arith) m.2 here, refl),
           m.3,
-          subst (λ e. PiecesAt b ps next e rest) end r.pieces,
+          subst (λ e. FieldsAt b ps next e rest) end r.fields,
         );
         known = subst (Known b (i + length (w ++ later)))
             (append_assoc ms ((n, i) ∷ []) (data_names earlier next ys))
             (subst (λ e. Known b e (earlier ++ data_names earlier next ys)) end r.known);
       })
 
-  data_lays : (ps : List Piece) (os : Octets) (xs : List Part) → cut ps os ≡ Some xs → Lays ps os xs
+  data_lays : (ps : List Field) (os : Octets) (xs : List Part) → cut ps os ≡ Some xs → Lays ps os xs
   data_lays [] os xs h = nil_lays os xs h
   data_lays (p ∷ ps) os xs h =
       let c = cut_into p ps os xs h in
-      subst (Lays (p ∷ ps) os) c.whole (piece_lays p ps os c.rest c.part c.others c.front
+      subst (Lays (p ∷ ps) os) c.whole (field_lays p ps os c.rest c.part c.others c.front
       (data_lays ps c.rest c.others c.more) c.more)
 
   -- the data of a record, whose names become earlier names
@@ -202,19 +215,19 @@ module _ (b : Octets) (room : length b < 2 ^ 16) where
   data_laid_at : (t : ℕ) (d : Octets) (ms : List Placed) (i : ℕ) → valid t d ≡ true → Known b i ms
       → 12 ≤ i → Stands b i (data_octets ms i (laid_parts t d)) → DataLaid t d ms i (laid_parts t d)
   data_laid_at t d ms i ok known header =
-      by_type (compresses t) (by_cut (cut (pieces_of t) d) refl some)
+      by_type (compresses t) (by_cut (cut (fields_of t) d) refl some)
     where
-      some : is_some (cut (pieces_of t) d) ≡ true
-      some = (and_parts (nat_le (length d) 65535) (is_some (cut (pieces_of t) d)) ok).1
+      some : is_some (cut (fields_of t) d) ≡ true
+      some = (and_parts (nat_le (length d) 65535) (is_some (cut (fields_of t) d)) ok).1
 
-      by_cut : (y : Option (List Part)) → cut (pieces_of t) d ≡ y
+      by_cut : (y : Option (List Part)) → cut (fields_of t) d ≡ y
           → is_some y ≡ true → Stands b i (data_octets ms i (unwrap_or y (octets d ∷ [])))
           → DataLaid t d ms i (unwrap_or y (octets d ∷ []))
       by_cut None e s at = absurd (false≢true s)
       by_cut (Some xs) e s at =
-          let r = data_lays (pieces_of t) d xs e ms i known header at in
+          let r = data_lays (fields_of t) d xs e ms i known header at in
           record {
-            data_at = (omega arith, stands_within (data_octets ms i xs) at, r.pieces);
+            data_at = (omega arith, stands_within (data_octets ms i xs) at, r.fields);
             known = r.known;
           }
 

@@ -1,5 +1,5 @@
 -- The computed message is the one that octets spell.
-use Rattle.dns_spec.proofs.Common.{◌≡◌, ℕ, zero, suc, ◌+◌, ◌<◌, ◌≤◌, Bool, true, false, cond, nat_lt, nat_le, ◌==◌, ◌↔◌, List, [], ◌∷◌, ◌++◌, length, Option, None, Some, slice_get, option_map, option_and_then, refl, sym, ap, ◌∙◌, subst, arith, and_parts, and_from, leb-true, le-leb, ltb-true, lt-ltb, eqb-true, eq-eqb, none-some, cond_some, option_and_then_some, some_pair_parts, Octets, DomainName, wire, width, Piece, fixed, domain, string, strings, anything, are_strings, MessageQuestion, MessageRecord, DnsMessage, NameAt, OctetsAt, NumberAt, PieceAt, PiecesAt, DataAt, QuestionsAt, RecordAt, RecordsAt, Spells, name_at, value_at, octets_upto, strings_only, piece_at, pieces_at, data_at, question_after, message_question_at, record_with, record_after, message_record_at, several, last_section, from_additionals, from_authorities, from_answers, message_at}
+use Rattle.dns_spec.proofs.Common.{◌≡◌, ℕ, zero, suc, ◌+◌, ◌<◌, ◌≤◌, Bool, true, false, cond, nat_lt, nat_le, ◌==◌, ◌↔◌, List, [], ◌∷◌, ◌++◌, length, Option, None, Some, slice_get, option_map, option_and_then, refl, sym, ap, ◌∙◌, subst, arith, and_parts, and_from, leb-true, le-leb, ltb-true, lt-ltb, eqb-true, eq-eqb, none-some, cond_some, option_and_then_some, some_pair_parts, Octets, DomainName, wire, Field, number, ipv4, ipv6, domain, string, strings, anything, are_strings, MessageQuestion, MessageRecord, DnsMessage, NameAt, OctetsAt, NumberAt, FieldAt, FieldsAt, DataAt, QuestionsAt, RecordAt, RecordsAt, Spells, name_at, value_at, octets_upto, strings_only, field_at, fields_at, data_at, question_after, message_question_at, record_with, record_after, message_record_at, several, last_section, from_additionals, from_authorities, from_answers, message_at}
 use Rattle.dns_spec.proofs.Messages.NameReading.{name_at_computes}
 use Rattle.dns_spec.proofs.General.Options.{map_some, then_is}
 
@@ -43,25 +43,27 @@ module _ (b : Octets) where
   octets_given : (i e : ℕ) (o : Octets) → OctetsAt b i e o → octets_upto b i e ≡ Some (o, e)
   octets_given i e o h = grind (arith, and_from, le-leb)
 
-  -- pieces of data
+  -- fields of data
   strings_found : (o o' : Octets) (j j' : ℕ) → strings_only (o, j) ≡ Some (o', j')
       → (0 < length o) × (are_strings 0 o ≡ true) × (o ≡ o') × (j ≡ j')
   strings_found o o' j j' h = grind (arith, cond_some, and_parts, ltb-true)
 
-  piece_found : (p : Piece) (i e j : ℕ) (o : Octets)
-      → piece_at b p i e ≡ Some (o, j) → PieceAt b p i e j o
-  piece_found (fixed f) i e j o h =
-      let x = octets_found i (i + width f) o j h in (x.0, sym x.1)
-  piece_found domain i e j o h =
+  field_found : (p : Field) (i e j : ℕ) (o : Octets)
+      → field_at b p i e ≡ Some (o, j) → FieldAt b p i e j o
+  field_found (number k) i e j o h =
+      let x = octets_found i (i + k) o j h in (x.0, sym x.1)
+  field_found ipv4 i e j o h = let x = octets_found i (i + 4) o j h in (x.0, sym x.1)
+  field_found ipv6 i e j o h = let x = octets_found i (i + 16) o j h in (x.0, sym x.1)
+  field_found domain i e j o h =
       map_some (λ r. (wire r.0, r.1)) (name_at b i) (o, j) h (λ n u v. (
         n.0,
         subst (NameAt b i n.0) (ap (λ z. z.1) v) ((name_at_computes b i n.0 n.1).0 u),
         sym (ap (λ z. z.0) v),
       ))
-  piece_found string i e j o h =
+  field_found string i e j o h =
       option_and_then_some (λ k. octets_upto b i (i + 1 + k)) (slice_get b i) (o, j) h (λ k u v.
       let x = octets_found i (i + 1 + k) o j v in (k, u, x.0, sym x.1))
-  piece_found strings i e j o h =
+  field_found strings i e j o h =
       option_and_then_some strings_only (octets_upto b i e) (o, j) h (λ x u v.
       let at = octets_found i e x.0 x.1 u in
       let y = strings_found x.0 o x.1 j v in
@@ -71,41 +73,43 @@ module _ (b : Octets) where
         subst (λ z. are_strings 0 z ≡ true) y.2 y.1,
         sym end,
       ))
-  piece_found anything i e j o h =
+  field_found anything i e j o h =
       let x = octets_found i e o j h in (subst (λ z. OctetsAt b i z o) x.1 x.0, sym x.1)
 
-  pieces_found : (ps : List Piece) (i e : ℕ) (d : Octets)
-      → pieces_at b ps i e ≡ Some d → PiecesAt b ps i e d
-  unfolding pieces_at
-  pieces_found [] i e d h = let c = cond_some (i == e) [] d h in (eqb-true i e c.0, sym c.1)
-  pieces_found (p ∷ ps) i e d h =
-      option_and_then_some (λ r. option_map (λ x. r.0 ++ x) (pieces_at b ps r.1 e))
-      (piece_at b p i e) d h (λ r q g. map_some (λ x. r.0 ++ x) (pieces_at b ps r.1 e) d g
+  fields_found : (ps : List Field) (i e : ℕ) (d : Octets)
+      → fields_at b ps i e ≡ Some d → FieldsAt b ps i e d
+  unfolding fields_at
+  fields_found [] i e d h = let c = cond_some (i == e) [] d h in (eqb-true i e c.0, sym c.1)
+  fields_found (p ∷ ps) i e d h =
+      option_and_then_some (λ r. option_map (λ x. r.0 ++ x) (fields_at b ps r.1 e))
+      (field_at b p i e) d h (λ r q g. map_some (λ x. r.0 ++ x) (fields_at b ps r.1 e) d g
       (λ rest s t.
-      (r.1, r.0, rest, piece_found p i e r.1 r.0 q, sym t, pieces_found ps r.1 e rest s)))
+      (r.1, r.0, rest, field_found p i e r.1 r.0 q, sym t, fields_found ps r.1 e rest s)))
 
-  piece_given : (p : Piece) (i e j : ℕ) (o : Octets)
-      → PieceAt b p i e j o → piece_at b p i e ≡ Some (o, j)
-  piece_given (fixed f) i e j o h = grind (arith, octets_given)
-  piece_given domain i e j o h = ap (option_map (λ r. (wire r.0, r.1)))
+  field_given : (p : Field) (i e j : ℕ) (o : Octets)
+      → FieldAt b p i e j o → field_at b p i e ≡ Some (o, j)
+  field_given (number k) i e j o h = grind (arith, octets_given)
+  field_given ipv4 i e j o h = grind (arith, octets_given)
+  field_given ipv6 i e j o h = grind (arith, octets_given)
+  field_given domain i e j o h = ap (option_map (λ r. (wire r.0, r.1)))
       ((name_at_computes b i h.0 j).1 h.1) ∙ ap (λ z. Some (z, j)) (sym h.2)
-  piece_given string i e j o h = grind (arith, then_is, octets_given)
-  piece_given strings i e j o h =
+  field_given string i e j o h = grind (arith, then_is, octets_given)
+  field_given strings i e j o h =
       let whole = octets_given i e o (subst (λ z. OctetsAt b i z o) h.3 h.0) in
       let test = and_from (nat_lt 0 (length o)) (are_strings 0 o) (lt-ltb 0 (length o) h.1) h.2 in
       then_is strings_only (octets_upto b i e) (o, e) (o, e) whole
       (ap (λ t. cond t (Some (o, e)) None) test) ∙ ap (λ z. Some (o, z)) (sym h.3)
-  piece_given anything i e j o h = grind (arith, octets_given)
+  field_given anything i e j o h = grind (arith, octets_given)
 
-  pieces_given : (ps : List Piece) (i e : ℕ) (d : Octets)
-      → PiecesAt b ps i e d → pieces_at b ps i e ≡ Some d
-  unfolding pieces_at
-  pieces_given [] i e d h = grind (arith, eq-eqb)
-  pieces_given (p ∷ ps) i e d h =
-      grind (arith, piece_given, (pieces_given ps h.0 e h.2 h.5))
+  fields_given : (ps : List Field) (i e : ℕ) (d : Octets)
+      → FieldsAt b ps i e d → fields_at b ps i e ≡ Some d
+  unfolding fields_at
+  fields_given [] i e d h = grind (arith, eq-eqb)
+  fields_given (p ∷ ps) i e d h =
+      grind (arith, field_given, (fields_given ps h.0 e h.2 h.5))
 
   data_found : (t c i e : ℕ) (d : Octets) → data_at b t c i e ≡ Some d → DataAt b t c i e d
-  data_found t c i e d h = grind (arith, and_parts, leb-true, pieces_found, none-some)
+  data_found t c i e d h = grind (arith, and_parts, leb-true, fields_found, none-some)
 
   -- questions
   question_found : (i j e : ℕ) (q : MessageQuestion) (qs : List MessageQuestion)
@@ -167,7 +171,7 @@ module _ (b : Octets) where
 
   pub record_given : (i j len : ℕ) (r : MessageRecord)
       → RecordAt b i r j len → message_record_at b i ≡ Some (r, j + 10 + len)
-  record_given i j len r h = grind (arith, name_at_computes, pieces_given)
+  record_given i j len r h = grind (arith, name_at_computes, fields_given)
 
   records_found : (k i : ℕ) (rs : List MessageRecord) (e : ℕ)
       → several (message_record_at b) k i ≡ Some (rs, e) → RecordsAt b i rs e × (length rs ≡ k)

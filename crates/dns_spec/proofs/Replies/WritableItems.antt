@@ -1,6 +1,6 @@
 -- The sets of an answer are in the order of their sections, and their records fit a message if the
 -- zone's records do.
-use Rattle.dns_spec.proofs.Common.{◌≡◌, ℕ, zero, suc, ◌<◌, ◌≤◌, min, append_assoc, append-nil, Bool, true, false, ◌&&◌, cond, nat_le, List, [], ◌∷◌, ◌++◌, map, take, Option, None, Some, All, flat_map, refl, sym, subst, arith, rules, and_from, le-leb, none-some, same_Some, list_all, Octets, DomainName, is_name, same, suffixes, type_ns, type_cname, Piece, Part, octets, name, piece_front, cut, first_name, target, soa_minimum, ResourceRecord, ZoneContents, at, of_type, rrset, with_owner, cut_of, found, Section, answer, authority, additional, Item, records_of, name_error, no_error, item, follows_alias, alias_set, next_sought, chain_from, chain, last_of, last_sought, alias_items, Outcome, asked_records, negative, positive, has_any, outcome_by, outcome_at, outcome, targets, address_sets, extra, main_items, items, section_rank, sections_in_order, IsWritable, AllByRecursion, recursion_from_All, All-from_recursion}
+use Rattle.dns_spec.proofs.Common.{◌≡◌, ℕ, zero, suc, ◌<◌, ◌≤◌, min, append_assoc, append-nil, Bool, true, false, ◌&&◌, cond, nat_le, List, [], ◌∷◌, ◌++◌, map, take, Option, None, Some, All, flat_map, refl, sym, subst, arith, rules, and_from, le-leb, none-some, same_Some, list_all, Octets, DomainName, is_name, same, suffixes, type_ns, type_cname, Field, Part, octets, name, field_front, cut, first_name, target, soa_minimum, ResourceRecord, ZoneContents, at, of_type, rrset, with_owner, cut_of, found, Section, answer, authority, additional, Item, records_of, name_error, no_error, item, follows_alias, alias_set, next_sought, chain_from, chain, last_of, last_sought, alias_items, Outcome, asked_records, negative, positive, has_any, outcome_by, outcome_at, outcome, targets, address_sets, extra, main_items, items, section_rank, sections_in_order, IsWritable, AllByRecursion, recursion_from_All, All-from_recursion}
 use Rattle.dns_spec.proofs.DomainNames.NameLaws.{is_name-tail, is_name-folded}
 use Rattle.dns_spec.proofs.DataWords.WrittenData.{cut_into}
 use Rattle.dns_spec.proofs.General.Elements.{each_append, each_take, each_flat_map, each_reverse_onto}
@@ -24,11 +24,11 @@ abbrev NamedPart : Part → Type 0
 NamedPart (octets o) = Unit {0}
 NamedPart (name n) = Named n
 
-named_front : (p : Piece) (os rest : Octets) (part : Part)
-    → piece_front p os ≡ Some (part, rest) → NamedPart part
+named_front : (p : Field) (os rest : Octets) (part : Part)
+    → field_front p os ≡ Some (part, rest) → NamedPart part
 named_front p os rest part h = grind arith
 
-named_parts : (ps : List Piece) (os : Octets) (xs : List Part)
+named_parts : (ps : List Field) (os : Octets) (xs : List Part)
     → cut ps os ≡ Some xs → AllByRecursion NamedPart xs
 unfolding cut
 named_parts [] [] xs h = subst (AllByRecursion NamedPart) (same_Some [] xs h) tt

@@ -1,5 +1,5 @@
 -- What is printed for inputs, octet by octet, computed from the definitions.
-use Rattle.dns_spec.proofs.Common.{◌≡◌, ℕ, ◌≤◌, true, false, [], ◌∷◌, ◌++◌, codes, decimal, refl, sym, ◌∙◌, lit≤, inl, inr, digits, none-some, octet_text, Octets, labels_from, cut, hex_octets, data_text, DnsMessage, run, runs_before, name_at, pieces_at, several, message_at, Option, None, Some, lines, ended_lines, line_message, line_answers, are_messages, section_line, message_text, PrintsMessage, PrintsInput}
+use Rattle.dns_spec.proofs.Common.{◌≡◌, ℕ, ◌≤◌, true, false, [], ◌∷◌, ◌++◌, codes, decimal, refl, sym, ◌∙◌, lit≤, inl, inr, digits, none-some, octet_text, Octets, labels_from, cut, hex_octets, data_text, DnsMessage, run, runs_before, name_at, fields_at, several, message_at, Option, None, Some, lines, ended_lines, line_message, line_answers, are_messages, section_line, message_text, PrintsMessage, PrintsInput}
 use Rattle.dns_spec.proofs.Messages.MessageReading.{message_at_computes}
 use Rattle.dns_spec.proofs.WorkedExamples.Zones.{hex, under, net_192}
 use Rattle.dns_spec.proofs.WorkedExamples.MessageRows.{address_digits, address_message, error_digits, error_message}
@@ -48,7 +48,7 @@ printed_rows :
     × Refuses [] (codes "fault 1\n")
     -- a line that is not a message
     × Refuses (codes "zz\n00") (codes "bad hex\n")
-unfolding run runs_before name_at pieces_at several message_at lines hex_octets octet_text
+unfolding run runs_before name_at fields_at several message_at lines hex_octets octet_text
     data_text labels_from cut digits
 printed_rows = (
   prints_message (line_message address_digits) (hex address_digits) address_message refl refl,

@@ -1,6 +1,6 @@
 -- Names, queries and messages read from octets, complete, changed and cut, computed from the
 -- definitions.
-use Rattle.dns_spec.proofs.Common.{◌≡◌, ℕ, zero, suc, ◌+◌, Bool, true, not, List, [], ◌∷◌, ◌++◌, take, drop, replicate, codes, None, Some, is_some, option_map, list_all, Octets, DomainName, wire, Header, MessageRecord, DnsMessage, run, runs_before, name_at, pieces_at, several, message_at, absent, refused_with, query, question_at, query_read, pointer}
+use Rattle.dns_spec.proofs.Common.{◌≡◌, ℕ, zero, suc, ◌+◌, Bool, true, not, List, [], ◌∷◌, ◌++◌, take, drop, replicate, codes, None, Some, is_some, option_map, list_all, Octets, DomainName, wire, Header, MessageRecord, DnsMessage, run, runs_before, name_at, fields_at, several, message_at, absent, refused_with, query, question_at, query_read, pointer}
 use Rattle.dns_spec.proofs.WorkedExamples.Zones.{hex, dotted, under, example, net_192, soa_of, letters, www_query}
 
 -- a reply with an address, whose owner is a pointer at place 29
@@ -32,7 +32,7 @@ places i zero = []
 places i (suc k) = i ∷ places (i + 1) k
 
 unfoldable spells_nothing : Octets → Bool
-unfolding run runs_before name_at pieces_at several message_at
+unfolding run runs_before name_at fields_at several message_at
 spells_nothing b = not (is_some (message_at b))
 
 -- the message that they spell; data is read without compression
@@ -73,7 +73,7 @@ message_rows :
     × (spells_nothing (take 40 address_reply ++ 5 ∷ drop 41 address_reply ++ 0 ∷ []) ≡ true)
     -- each proper beginning of a message
     × (list_all (λ k. spells_nothing (take k error_reply)) (places 0 80) ≡ true)
-unfolding spells_nothing run runs_before name_at pieces_at several message_at
+unfolding spells_nothing run runs_before name_at fields_at several message_at
 message_rows = search []
 
 -- A pointer to the place before it is valid, whatever octets are there: a label of one octet, and
@@ -94,7 +94,7 @@ one_place_before_rows :
     × (list_all (λ p. spells_nothing (pointing error_reply 30 p)) (places 30 50) ≡ true)
     × (list_all (λ p. spells_nothing (pointing error_reply 45 p)) (places 42 38) ≡ true)
     × (list_all (λ p. spells_nothing (pointing error_reply 58 p)) (places 47 33) ≡ true)
-unfolding run runs_before name_at pieces_at several message_at spells_nothing
+unfolding run runs_before name_at fields_at several message_at spells_nothing
 one_place_before_rows = search []
 
 -- octets after a header

@@ -1,6 +1,6 @@
 -- Readings that compute what a text or a part of it means, with the proof that it does, or nothing
 -- if the reading can't decide.
-use Rattle.dns_spec.proofs.Common.{◌≡◌, ◌≢◌, ℕ, zero, suc, ◌^◌, ◌⊎◌, inl, inr, Bool, true, false, ◌&&◌, ◌||◌, not, ◌==◌, List, [], ◌∷◌, ◌++◌, Option, Some, None, refl, sym, ◌∙◌, ap, subst, codes, decimal, length, map, take, drop, nat_lt, nat_le, arith, MatchOption, MatchBool, bytes_high_first, list_all, slice_split, flat_map, option_map, is_none, digits_value, and_parts, and_from, false≢true, eqb-true, eqb-false, ltb-true, leb-true, le-leb, decimal_is_IsNumeral, none-some, same_Some, Octets, DomainName, wire, folded, is_name, octets_equal, SpellsOctet, TextSpells, SpellsName, escape_front, text_in_lower_case, type_by_mnemonic, numbered_type, NamesType, valid, lower_case, ResourceRecord, Entry, most_octets, token_front, lexical_fault, Token, TokensThen, cut_entries, with_end, whole_text, extent_by, FileFault, unknown_directive, directive_words, bad_owner, no_owner, bad_ttl, other_class, bad_type, no_ttl, bad_data, too_many_records, ipv4_text, ipv6_octets, Word, WordForm, number_word, ipv4_word, ipv6_word, name_word, string_word, SpellsString, SaysForm, may_be_quoted, SaysForms, forms_of, SaysTyped, hex_octets, is_hex_word, SaysUnknown, is_unknown_mark, SaysAsSpelled, Says, EntryMeaning, faulty, gives, Nothing, EntryKind, no_words, directive, owned, unowned, kind_of, directive_word, owner_word, OriginIs, NameIs, OwnerBefore, most_ttl, TtlSays, ttl_in_force, TtlIs, is_zone_type, TypeIs, DataIs, IsRecord, Fields, fields, IsNoTtl, is_other_class, are_too_many, RecordGives, DirectiveSays, DirectiveGives, KindGives, EntryGives, Meaning, records, fault_at, after, line_after, EntriesMean, Means}
+use Rattle.dns_spec.proofs.Common.{◌≡◌, ◌≢◌, ℕ, zero, suc, ◌^◌, ◌⊎◌, inl, inr, Bool, true, false, ◌&&◌, ◌||◌, not, ◌==◌, List, [], ◌∷◌, ◌++◌, Option, Some, None, refl, sym, ◌∙◌, ap, subst, codes, decimal, length, map, take, drop, nat_lt, nat_le, arith, MatchOption, MatchBool, bytes_high_first, list_all, slice_split, flat_map, option_map, is_none, digits_value, and_parts, and_from, false≢true, eqb-true, eqb-false, ltb-true, leb-true, le-leb, decimal_is_IsNumeral, none-some, same_Some, Octets, DomainName, wire, folded, is_name, octets_equal, SpellsOctet, TextSpells, SpellsName, escape_front, text_in_lower_case, type_by_mnemonic, numbered_type, NamesType, valid, lower_case, ResourceRecord, Entry, most_octets, token_front, lexical_fault, Token, TokensThen, cut_entries, with_end, whole_text, extent_by, FileFault, unknown_directive, directive_words, bad_owner, no_owner, bad_ttl, other_class, bad_type, no_ttl, bad_data, too_many_records, ipv4_text, ipv6_octets, Word, Field, number, ipv4, ipv6, domain, string, strings, anything, SaysString, SpellsString, SaysField, may_be_quoted, SaysFields, word_fields_of, SaysTyped, hex_octets, is_hex_word, SaysUnknown, is_unknown_mark, SaysAsSpelled, Says, EntryMeaning, faulty, gives, Nothing, EntryKind, no_words, directive, owned, unowned, kind_of, directive_word, owner_word, OriginIs, NameIs, OwnerBefore, most_ttl, TtlSays, ttl_in_force, TtlIs, is_zone_type, TypeIs, DataIs, IsRecord, Fields, fields, IsNoTtl, is_other_class, are_too_many, RecordGives, DirectiveSays, DirectiveGives, KindGives, EntryGives, Meaning, records, fault_at, after, line_after, EntriesMean, Means}
 use Rattle.dns_spec.proofs.DomainNames.NameLaws.{octets_equal-decides}
 use Rattle.dns_spec.proofs.NameTexts.Escapes.{escape_spells}
 use Rattle.dns_spec.proofs.WorkedExamples.Zones.{example}
@@ -164,25 +164,30 @@ string_in (suc k) (c ∷ cs) = elim (is_or_not c 46) [
       (λ s. Some (u.0.0 ∷ s.0, (u.1.0, u.0.1, u.1.1, inl u.1.2, s.1))))
 ]
 
+abbrev said_string : (text : Octets) → Found (SaysString text)
+said_string text = and_then (string_in (length text) text)
+    (λ s. and_then (holds (nat_le (length s.0) 255))
+    (λ h. Some (length s.0 ∷ s.0, (s.0, leb-true (length s.0) 255 h, s.1, refl))))
+
 -- a word of data, and the words of data
-abbrev form_in : (f : WordForm) (o : DomainName) (text : Octets) → Found (SaysForm f o text)
-form_in (number_word k) o text =
+abbrev form_in : (f : Field) (o : DomainName) (text : Octets) → Found (SaysField f o text)
+form_in (number k) o text =
     let n = digits_value 10 text in
     and_then (holds (nat_lt n (256 ^ k))) (λ small. and_then (same text (decimal n))
     (λ e. Some (bytes_high_first k n, (n, ltb-true n (256 ^ k) small, e, refl))))
-form_in ipv4_word o text =
+form_in ipv4 o text =
     let d = map (digits_value 10) (slice_split (λ o. o == 46) text) in
     and_then (holds (length d == 4)) (λ four.
     and_then (holds (list_all (λ x. nat_lt x 256) d)) (λ small. and_then (same text (ipv4_text d))
     (λ e. Some (d, record { four = eqb-true (length d) 4 four; octets = small; spelled = e }))))
-form_in ipv6_word o text = there (ipv6_octets text)
-form_in name_word o text = and_then (name_in o text) (λ n. Some (wire n.0, (n.0, n.1, refl)))
-form_in string_word o text = and_then (string_in (length text) text)
-    (λ s. and_then (holds (nat_le (length s.0) 255))
-    (λ h. Some (length s.0 ∷ s.0, (s.0, leb-true (length s.0) 255 h, s.1, refl))))
+form_in ipv6 o text = there (ipv6_octets text)
+form_in domain o text = and_then (name_in o text) (λ n. Some (wire n.0, (n.0, n.1, refl)))
+form_in string o text = said_string text
+form_in strings o text = said_string text
+form_in anything o text = None
 
-abbrev forms_in_words : (fs : List WordForm) (o : DomainName) (ws : List Word)
-    → Found (SaysForms fs o ws)
+abbrev forms_in_words : (fs : List Field) (o : DomainName) (ws : List Word)
+    → Found (SaysFields fs o ws)
 forms_in_words [] o [] = Some ([], refl)
 forms_in_words [] o (w ∷ ws) = None
 forms_in_words (f ∷ fs) o [] = None
@@ -192,7 +197,7 @@ forms_in_words (f ∷ fs) o (w ∷ ws) =
     (λ e. Some (d.0 ++ e.0, (d.0, e.0, refl, record { quotes = q; said = d.1 }, e.1)))))
 
 abbrev typed_in : (t : ℕ) (o : DomainName) (ws : List Word) → Found (SaysTyped t o ws)
-typed_in t o ws = matched (forms_of t (length ws)) None (λ fs. forms_in_words fs o ws)
+typed_in t o ws = matched (word_fields_of t (length ws)) None (λ fs. forms_in_words fs o ws)
 
 abbrev unknown_in : (ws : List Word) → Found (SaysUnknown ws)
 unknown_in [] = None

@@ -1,5 +1,5 @@
 -- What the words of a text spell are octets below 256, if the origin's octets are.
-use Rattle.dns_spec.proofs.Common.{◌≡◌, ℕ, ◌+◌, ◌*◌, ◌<◌, inl, inr, Bool, true, false, cond, ◌&&◌, nat_lt, Option, Some, None, List, [], ◌∷◌, ◌++◌, map, length, refl, sym, subst, arith, flat_map, agree_below_at, and_parts, ltb-true, length-map, none-some, same_Some, MatchOption, MatchBool, option_map, list_all, is_ascii_hexdigit, digit_value, to_ascii_lowercase, bytes_high_first, Octets, DomainName, wire, is_label, folded, SpellsOctet, LabelThen, TextSpells, SpellsName, Part, part_octets, joined, part_folded, SaysIpv6, ipv6_groups, Word, SpellsString, WordForm, SaysForms, forms_of, SaysTyped, hex_octets, SaysUnknown, is_unknown_mark, SaysAsSpelled, Says, parts, AllByRecursion, recursion_from_All}
+use Rattle.dns_spec.proofs.Common.{◌≡◌, ℕ, ◌+◌, ◌*◌, ◌<◌, inl, inr, Bool, true, false, cond, ◌&&◌, nat_lt, Option, Some, None, List, [], ◌∷◌, ◌++◌, map, length, refl, sym, subst, arith, flat_map, agree_below_at, and_parts, ltb-true, length-map, none-some, same_Some, MatchOption, MatchBool, option_map, list_all, is_ascii_hexdigit, digit_value, to_ascii_lowercase, bytes_high_first, Octets, DomainName, wire, is_label, folded, SpellsOctet, LabelThen, TextSpells, SpellsName, Part, part_octets, joined, part_folded, SaysIpv6, ipv6_groups, Word, SpellsString, Field, SaysFields, word_fields_of, SaysTyped, hex_octets, SaysUnknown, is_unknown_mark, SaysAsSpelled, Says, parts, AllByRecursion, recursion_from_All}
 use Rattle.dns_spec.proofs.DataWords.NumberAgain.{bytes_below}
 use Rattle.dns_spec.proofs.DataWords.LoweredData.{joined-parts}
 use Rattle.dns_spec.proofs.General.Truths.{follows}
@@ -85,8 +85,8 @@ ipv6_small text d said = go (ipv6_groups text) said
         subst (AllByRecursion Octet) (same_Some (flat_map (bytes_high_first 2) gs) d e)
         (groups_small gs)
 
-forms_small : (fs : List WordForm) (origin : DomainName) (ws : List Word) (d : Octets)
-    → SmallName origin → AllByRecursion SmallWord ws → SaysForms fs origin ws d
+forms_small : (fs : List Field) (origin : DomainName) (ws : List Word) (d : Octets)
+    → SmallName origin → AllByRecursion SmallWord ws → SaysFields fs origin ws d
     → AllByRecursion Octet d
 forms_small [] origin [] d from small h = subst (AllByRecursion Octet) (sym h) tt
 forms_small [] origin (w ∷ ws) d from small h = absurd h
@@ -108,10 +108,10 @@ forms_small (f ∷ fs) origin (w ∷ ws) d from small (front, back, is, said, h)
 typed_small : (t : ℕ) (origin : DomainName) (ws : List Word) (d : Octets)
     → SmallName origin → AllByRecursion SmallWord ws → SaysTyped t origin ws d
     → AllByRecursion Octet d
-typed_small t origin ws d from small said = go (forms_of t (length ws)) said
+typed_small t origin ws d from small said = go (word_fields_of t (length ws)) said
   where
-    go : (forms : Option (List WordForm))
-        → MatchOption forms ⊥ (λ fs. SaysForms fs origin ws d) → AllByRecursion Octet d
+    go : (forms : Option (List Field))
+        → MatchOption forms ⊥ (λ fs. SaysFields fs origin ws d) → AllByRecursion Octet d
     go None none = absurd none
     go (Some fs) h = forms_small fs origin ws d from small h
 

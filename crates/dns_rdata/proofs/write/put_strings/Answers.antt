@@ -1,12 +1,12 @@
-use Rattle.dns_rdata.proofs.Common.{rules, ap, sym, ◌∙◌, arith, eqb-true, eqb-false, nil_from_length, are_strings, OnErr-always, held_more, held_less, held_begun}
-use Rattle.dns_rdata.proofs.SpacedWords.{string_begins, more_strings, spaced-strings, after_strings}
+use Rattle.dns_rdata.proofs.Common.{rules, ap, sym, ◌∙◌, arith, eqb-false, are_strings, OnErr-always, held_more, held_less, held_begun}
+use Rattle.dns_rdata.proofs.SpacedWords.{string_begins, more_strings, spaced-strings}
 use Rattle.dns_rdata.proofs.write.put_strings.Goals as goal
 
 pub append_string-rest-requires-clause-string : goal.append_string-rest-requires-clause-string
 append_string-rest-requires-clause-string g c = grind (arith, string_begins, eqb-false)
 
-pub returns-in_err-make_room-clause-fills : goal.returns-in_err-make_room-clause-fills
-returns-in_err-make_room-clause-fills g c = record {
+pub returns-in_err-make_room : goal.returns-in_err-make_room
+returns-in_err-make_room g c = record {
   ok = search rules;
   err = OnErr-always c.from_residual.result
       (held_begun _ _ _ _ _ _ c.strings.invariant.fills c.in_err-make_room.ensures.fills.err);
@@ -19,12 +19,9 @@ strings-preserved g c =
     let held =
     held_less _ _ _ _ _ _ _ c.strings.invariant.fills c.in_ok-make_room.ensures.fills.ok in
     record {
-      strings = ap (are_strings 0) c.append_string-rest.ensures.rest
-          ∙ more_strings _ c.strings.invariant.strings some;
+      all = ap (are_strings 0) c.append_string-rest.ensures.rest
+          ∙ more_strings _ c.strings.invariant.all some;
       short = search rules;
       fills = grind (arith, held_more, spaced-strings);
       counted = search rules;
     }
-
-pub returns-clause-rest : goal.returns-clause-rest
-returns-clause-rest g c = grind (arith, nil_from_length, eqb-true, after_strings)

@@ -1,15 +1,15 @@
-use Rattle.dns_rdata.proofs.Common.{◌≡◌, ◌≤◌, ◌++◌, IsTrue, length, replicate, are_strings, string_word, form_words, string_count, AppendsAllBut, spaced}
+use Rattle.dns_rdata.proofs.Common.{◌≡◌, ◌≤◌, ◌++◌, [], IsTrue, length, replicate, are_strings, strings, field_words, string_count, AppendsAllBut, spaced}
 use Rattle.dns_rdata.proofs.write.put_strings.Given as goal
 
 -- the strings before the rest are put
 abbrev pub invariant-strings : goal.invariant-strings
 invariant-strings g l = record {
-  strings : IsTrue (are_strings 0 l.rest);
+  all : IsTrue (are_strings 0 l.rest);
   short : length l.before ≤ 1;
   fills : AppendsAllBut (g.W.Write.contents l.initial.sink.device)
-      (g.W.Write.contents l.sink.device) (l.initial.text ++ spaced l.fn.before
-      (form_words (replicate (string_count 0 l.octets) string_word) l.octets)) (l.text
-      ++ spaced l.before (form_words (replicate (string_count 0 l.rest) string_word) l.rest));
+      (g.W.Write.contents l.sink.device) (l.initial.text ++ spaced []
+      (field_words (replicate (string_count 0 l.octets) strings) l.octets)) (l.text
+      ++ spaced l.before (field_words (replicate (string_count 0 l.rest) strings) l.rest));
   counted : l.sink.failures ≡ l.initial.sink.failures;
 }
 

@@ -1,10 +1,10 @@
-use Rattle.dns_wire.proofs.Common.{length, pieces_in, ArePiecesRead, data_pieces}
+use Rattle.dns_wire.proofs.Common.{length, fields_in, AreFieldsRead, data_fields}
 use Rattle.dns_wire.proofs.data.read_data.Given as goal
 
-abbrev pub invariant-pieces : goal.invariant-pieces
-invariant-pieces l =
-    ArePiecesRead l.message (data_pieces l.fn.rtype.0 l.fn.rclass) l.at l.end
-    (pieces_in l.pieces) l.place l.data.items
+abbrev pub invariant-fields : goal.invariant-fields
+invariant-fields l =
+    AreFieldsRead l.message (data_fields l.fn.rtype.0 l.fn.rclass) l.at l.end
+    (fields_in l.fields) l.place l.data.items
 
-abbrev pub decreases-pieces : goal.decreases-pieces
-decreases-pieces l = length l.pieces
+abbrev pub decreases-fields : goal.decreases-fields
+decreases-fields l = length l.fields

@@ -1,6 +1,6 @@
-use Rattle.dns_wire.proofs.Common.{◌∷◌, [], ◌∙◌, refl, sym, ap, eq-eqb, eqb-true, true≢false, octets, name, type_mx, type_soa, labels_of}
+use Rattle.dns_wire.proofs.Common.{◌∷◌, [], ◌∙◌, refl, sym, ap, length, eq-eqb, eqb-true, true≢false, octets, name, type_mx, type_soa, labels_of}
 use Rattle.dns_wire.proofs.SharedData.{one_name_laid, one_left, exchange_laid, server_some, authority_laid}
-use Rattle.dns_wire.proofs.DataWritten.{writes_more, writes_last, writes_short, writes_parts}
+use Rattle.dns_wire.proofs.DataWritten.{runs, writes_runs, writes_more, writes_last, writes_short, writes_parts}
 use Rattle.dns_wire.proofs.page.Page.put_data.Goals as goal
 
 pub split_at-requires : goal.split_at-requires
@@ -46,12 +46,12 @@ returns-then-put_name g c =
     let at = c.split_at-then-eq-2.ensures in
     writes_parts c.args.rtype.0 c.args.rdata.now (s.parts
     ∙ ap
-    (λ x. name (labels_of c.in-Name.server.now) ∷ name s.mailbox ∷ octets x ∷ []) (sym at.back))
+    (λ x. name (labels_of c.in-Name.server.now) ∷ name s.mailbox ∷ runs 4 5 x) (sym at.back))
     (writes_more (name _) _ c.if-not-put_name.false
     (c.put_name-then-eq-2.ensures _ (sym s.lent.wire_is) s.lent.is_name)
     (writes_more (name s.mailbox) _ c.if-put_name.true
     (c.put_name-then-eq-2-2.ensures _ (at.front ∙ s.whole) s.is_name)
-    (writes_last (octets _) (c.append-then-put_name.ensures.writes _))))
+    (writes_runs 4 5 _ (ap length at.back ∙ s.long) (c.append-then-put_name.ensures.writes _))))
 
 pub returns-else-put_name : goal.returns-else-put_name
 returns-else-put_name g c =
