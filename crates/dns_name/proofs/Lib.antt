@@ -1,4 +1,5 @@
 pub mod Common
+pub mod FaultLemmas
 pub mod OctetRuns
 pub mod OrderLemmas
 pub mod TextLemmas

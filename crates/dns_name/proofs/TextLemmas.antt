@@ -1,8 +1,12 @@
 -- Reading a text from left to right finds what it spells, and nothing else.
-use Rattle.dns_name.proofs.Common.{Result, Ok, Err, ◌≡◌, ℕ, suc, ◌+◌, ◌-◌, ◌*◌, ◌<◌, ◌≤◌, inl, inr, Bool, true, false, ◌&&◌, ◌==◌, nat_le, [], ◌∷◌, ◌++◌, length, take, drop, Some, None, refl, sym, ◌∙◌, ap, subst, arith, length-append, MatchBool, if◌then◌else◌, is_ascii_digit, IsAsciiDigit, IsNotAsciiDigit, list_all, position_or_len, Octets, DomainName, wire, is_label, is_name, three_digits_value, SpellsOctet, LabelThen, TextSpells, SpellsName, append_assoc, append-nil, length-take, take_all, take-append-le, true≢false, false≢true, and_parts, and_from, and_left, and_right, lt-leb, eqb-true, eqb-false, or_parts, eq-eqb, ne_eqb, lt-ltb, ltb-true, le-leb, leb-true, cases_Bool, IsErr, is_label-head, length-wire-append, IsName-is_name, IsLabel-is_label, digit_at, decimal_at, escaped_at, octet_at, is_mark, is_label_end, ReadsLabel, PushesLabel, HasNoLabel, Appended, SpellsIff, spelled_as}
-use Rattle.dns_spec.proofs.General.Options.{and_then_some, if_some, some_parts}
+use Rattle.dns_name.proofs.Common.{Result, Ok, Err, IfErr, ◌≡◌, ◌≢◌, ℕ, suc, ◌<◌, ◌≤◌, inl, inr, Bool, true, false, ◌&&◌, ◌==◌, [], ◌∷◌, ◌++◌, length, take, drop, Some, None, refl, sym, ◌∙◌, ap, subst, arith, length-append, MatchBool, if◌then◌else◌, is_ascii_digit, IsNotAsciiDigit, list_all, position_or_len, Octets, DomainName, wire, is_label, is_name, SpellsOctet, LabelThen, TextSpells, SpellsName, append_assoc, append-nil, length-take, take_all, take-append-le, true≢false, false≢true, and_parts, and_from, and_left, and_right, lt-leb, eqb-true, eqb-false, or_parts, eq-eqb, ne_eqb, lt-ltb, le-leb, cases_Bool, IsErr, is_label-head, length-wire-append, IsName-is_name, IsLabel-is_label, octet_at, escape_front, labels_fault, name_fault, is_mark, is_label_end, ReadsLabel, PushesLabel, HasFault, IsNoLength, Appended, SpellsIff, spelled_as}
+use Rattle.dns_spec.proofs.General.Options.{some_parts}
 use Rattle.dns_spec.proofs.DomainNames.WireNames.{wire_some}
-use Rattle.dns_spec.proofs.NameTexts.Escapes.{not-digit}
+use Rattle.dns_spec.proofs.NameTexts.Escapes.{escape_spells}
+use Rattle.dns_name.proofs.FaultLemmas.{named_fault, valid_over, valid_last, escape_fault, length_fault}
+use Rattle.dns_name.specs.NameFault.{fault_code}
+use Rattle.dns_name.specs.declared.text.NameFault.{NameFault}
+use Rattle.dns_name.specs.declared.text.NameFault.TheVariants.{NameTooLong}
 
 -- the text is the spelling of an octet, followed by others
 abbrev pub OctetThen : Octets → ℕ → Octets → Type 0
@@ -14,61 +18,13 @@ no_digit a h = grind (arith, and_left, lt-leb, and_right)
 -- a spelling is read, whatever follows it
 octet_at-spelled : (first : Octets) (x : ℕ) (others : Octets)
     → SpellsOctet first x → octet_at (first ++ others) ≡ Some (x, others)
-unfolding octet_at escaped_at decimal_at
+unfolding octet_at
 octet_at-spelled first x others h =
     grind (arith, ne_eqb, and_from, le-leb, eq-eqb, no_digit, lt-ltb)
 
 pub octet_at-OctetThen : (text : Octets) (x : ℕ) (others : Octets)
     → OctetThen text x others → octet_at text ≡ Some (x, others)
 octet_at-OctetThen text x others (first, e, h) = ap octet_at e ∙ octet_at-spelled first x others h
-
-digit_read : (text : Octets) (v : ℕ × Octets)
-    → digit_at text ≡ Some v → (a : ℕ) × (text ≡ a ∷ v.1) × IsAsciiDigit a × (v.0 ≡ a - 48)
-digit_read [] v e = cc
-digit_read (a ∷ rest) v e = grind (arith, if_some, and_parts, leb-true)
-
-decimal_read : (text : Octets) (x : ℕ) (others : Octets)
-    → decimal_at text ≡ Some (x, others) → OctetThen (92 ∷ text) x others
-unfolding decimal_at
-decimal_read text x others e =
-    let one = and_then_some _ (digit_at text) (x, others) e in
-    let two = and_then_some _ (digit_at one.0.1) (x, others) one.2 in
-    let three = and_then_some _ (digit_at two.0.1) (x, others) two.2 in
-    let fits = if_some _ _ _ three.2 in
-    let a = digit_read text one.0 one.1 in
-    let b = digit_read one.0.1 two.0 two.1 in
-    let c = digit_read two.0.1 three.0 three.1 in
-    let value : three_digits_value a.0 b.0 c.0 ≡ x =
-    ap (λ v. 100 * v + 10 * (b.0 - 48) + (c.0 - 48)) (sym a.3)
-    ∙ ap (λ v. 100 * one.0.0 + 10 * v + (c.0 - 48)) (sym b.3)
-    ∙ ap (λ v. 100 * one.0.0 + 10 * two.0.0 + v) (sym c.3)
-    ∙ ap (λ w. w.0) fits.1
-    in
-    let small : 100 * one.0.0 + 10 * two.0.0 + three.0.0 < 256 = ltb-true _ _ fits.0 in
-    let after : three.0.1 ≡ others = ap (λ w. w.1) fits.1 in
-    let whole : 92 ∷ text ≡ (92 ∷ a.0 ∷ b.0 ∷ c.0 ∷ []) ++ others = cc (a.1, b.1, c.1, after) in
-    let below : x < 256 = omega (arith, ap (λ w. w.0) fits.1) in
-    (92 ∷ a.0 ∷ b.0 ∷ c.0 ∷ [], whole, (refl, a.2, b.2, c.2, value, below))
-
-escaped_read : (text : Octets) (x : ℕ) (others : Octets)
-    → escaped_at text ≡ Some (x, others) → OctetThen (92 ∷ text) x others
-unfolding escaped_at
-escaped_read [] x others e = cc
-escaped_read (a ∷ rest) x others e =
-    elim (cases_Bool (is_ascii_digit a)) [
-      | inl digit ↦ decimal_read (a ∷ rest) x others (rw digit at e)
-      | inr none ↦
-          let f : (if nat_le 32 a && nat_le a 126 then Some (a, rest) else None)
-          ≡ Some (x, others) = rw none at e in
-          let printable = if_some (nat_le 32 a && nat_le a 126) (a, rest) (x, others) f in
-          let parts = and_parts (nat_le 32 a) _ printable.0 in
-          let same_octet : a ≡ x = ap (λ w. w.0) printable.1 in
-          let after : rest ≡ others = ap (λ w. w.1) printable.1 in (
-            92 ∷ a ∷ [],
-            ap (λ w. 92 ∷ a ∷ w) after,
-            (refl, same_octet, leb-true _ _ parts.0, leb-true _ _ parts.1, not-digit a none),
-          )
-    ]
 
 -- what is read is spelled that way, unless the text is at a label's end
 pub OctetThen-octet_at : (text : Octets) (x : ℕ) (others : Octets)
@@ -78,9 +34,10 @@ OctetThen-octet_at [] x others h e = cc
 OctetThen-octet_at (a ∷ rest) x others h e =
     elim (cases_Bool (a == 92)) [
       | inl backslash ↦
-          let f : escaped_at rest ≡ Some (x, others) = rw backslash at e in
+          let f : escape_front rest ≡ Some (x, others) = rw backslash at e in
           let is_92 : 92 ≡ a = sym (eqb-true a 92 backslash) in
-          subst (λ b. OctetThen (b ∷ rest) x others) is_92 (escaped_read rest x others f)
+          let spelled = (escape_spells rest x others).0 f in
+          (92 ∷ spelled.0, cc (is_92, spelled.1), spelled.2)
       | inr plain ↦
           let f : Some (a, rest) ≡ Some (x, others) = rw plain at e in
           let parts = some_parts (a, rest) (x, others) f in
@@ -285,27 +242,21 @@ ReadsLabel-full text octets rest x others reads next full =
     }
 
 -- if no octet is spelled and the label hasn't ended, the text begins with no label
-pub no_label_read : (text octets rest : Octets)
-    → ReadsLabel text octets rest → is_label_end rest ≡ false
-    → octet_at rest ≡ None → (l end : Octets) → LabelThen text l end → is_label_end end ≡ true → ⊥
-no_label_read text octets rest reads goes_on none l end h at_end =
-    by_cases (LabelThen-rest text reads.label rest l end reads.spelled h at_end)
+pub no_label_read : (text octets rest : Octets) → ReadsLabel text octets rest
+    → is_label_end rest ≡ false → octet_at rest ≡ None → HasFault text 4
+no_label_read text octets rest reads goes_on none = record {
+  none = λ l end h at_end _. by_cases l end at_end
+      (LabelThen-rest text reads.label rest l end reads.spelled h at_end);
+  fault_is = escape_fault text reads.label rest reads.spelled goes_on none;
+}
   where
-    by_cases : (m : Octets) × (l ≡ reads.label ++ m) × LabelThen rest m end → ⊥
-    by_cases ([], e, f) = true≢false (sym at_end ∙ ap is_label_end (sym f) ∙ goes_on)
-    by_cases (x ∷ m, e, (first, after, f, p, g)) =
+    by_cases : (l end : Octets) → is_label_end end ≡ true
+        → (m : Octets) × (l ≡ reads.label ++ m) × LabelThen rest m end → ⊥
+    by_cases l end at_end ([], e, f) =
+        true≢false (sym at_end ∙ ap is_label_end (sym f) ∙ goes_on)
+    by_cases l end at_end (x ∷ m, e, (first, after, f, p, g)) =
         let read = octet_at-OctetThen rest x after (first, f, p) in
         cc
-
--- a label that was read is the only one that the text begins with
-pub label_read_alone : (text octets end : Octets) → ReadsLabel text octets end
-    → is_label_end end ≡ true → (is_label octets ≡ true → ⊥) → HasNoLabel text
-label_read_alone text octets end reads at_end no_label l end' h at_end' is_l =
-    let one : l ≡ reads.label =
-    (LabelThen-unique text reads.label end l end' reads.spelled h at_end at_end').0 in
-    let fits = (IsLabel-is_label l is_l).fits in
-    let whole : octets ≡ l = reads.kept ∙ ap (take 64) (sym one) ∙ take_all 64 l (omega arith) in
-    no_label (ap is_label whole ∙ is_l)
 
 -- a label whose octets were all kept
 pub label_kept : (text octets end : Octets)
@@ -325,10 +276,27 @@ PushesLabel-label text octets end l old fits new reads at_end is_l e appended =
     grind (arith, label_kept)
 
 -- a label that is spelled is the only one that the text begins with
-pub label_alone : (text octets end : Octets) → LabelThen text octets end
-    → is_label_end end ≡ true → (is_label octets ≡ true → ⊥) → HasNoLabel text
-label_alone text octets end spelled at_end no_label l end' h at_end' is_l =
-    grind (arith, LabelThen-unique)
+pub label_alone : (text octets end : Octets) (fault : ℕ) → LabelThen text octets end
+    → is_label_end end ≡ true → IsNoLength octets fault → HasFault text fault
+label_alone text octets end fault spelled at_end none =
+    let other : is_label octets ≡ true → ⊥ = λ is_l. grind (arith, IsLabel-is_label) in
+    record {
+      none = λ l end' h at_end' is_l. grind (arith, LabelThen-unique, other);
+      fault_is = length_fault text octets end fault spelled at_end none;
+    }
+
+kept_none : (octets l : Octets) (fault : ℕ)
+    → octets ≡ take 64 l → IsNoLength octets fault → IsNoLength l fault
+kept_none octets [] fault kept none = grind arith
+kept_none octets (x ∷ l) fault kept none = grind (arith, length-take 64 (x ∷ l))
+
+-- the octets that were kept decide
+pub label_read_alone : (text octets end kept : Octets) (fault : ℕ)
+    → ReadsLabel text octets end → is_label_end end ≡ true → kept ≡ octets
+    → IsNoLength kept fault → HasFault text fault
+label_read_alone text octets end kept fault reads at_end e none =
+    label_alone text reads.label end fault reads.spelled at_end
+    (kept_none kept reads.label fault (e ∙ reads.kept) none)
 
 -- while the labels that are read fit, they are in the name
 abbrev pub Holds : DomainName → Bool → DomainName → Type 0
@@ -348,6 +316,7 @@ pub record Reads (origin : DomainName)
     (word : Octets) (name : DomainName) (fits : Bool) (rest : Octets) : Type 0 where
   pub read : DomainName
   pub so_far : ReadSoFar origin word read rest
+  pub fault_is : labels_fault 0 0 word ≡ labels_fault 0 0 rest
   pub holds : Holds read fits name
 
 pub Reads-push : (origin : DomainName) (word : Octets) (name : DomainName) (fits : Bool)
@@ -362,6 +331,7 @@ Reads-push origin word name fits rest more end new dot others reads pushes e =
     record {
       read = reads.read ++ pushes.label ∷ [];
       so_far = ReadSoFar-push origin word reads.read rest pushes.label others reads.so_far spelled;
+      fault_is = reads.fault_is ∙ valid_over rest pushes.label others spelled pushes.is_label;
       holds = Holds-append reads.read fits name
           (pushes.label ∷ []) more new reads.holds pushes.appended;
     }
@@ -395,10 +365,32 @@ SpellsIff-relative
     (subst P f pushes.spelled) pushes.is_label)
     (Holds-append (reads.read ++ l ∷ []) (fits && more) new origin more' whole one appended) g
 
+-- a name whose labels are read without a fault can only be too long
+pub absolute_fault : (origin : DomainName) (word : Octets) (name : DomainName) (fits : Bool)
+    (rest : Octets) → Reads origin word name fits rest → word ≢ [] → rest ≡ []
+    → name_fault word ≡ 3
+unfolding labels_fault
+absolute_fault origin word name fits rest reads some empty =
+    named_fault word some ∙ reads.fault_is ∙ ap (labels_fault 0 0) empty
+
+pub relative_fault : (origin : DomainName) (word : Octets) (name : DomainName) (fits : Bool)
+    (rest : Octets) (more : Bool) (end : Octets) (new : DomainName) → Reads origin word name fits
+    rest → PushesLabel rest name more end new → word ≢ [] → end ≡ [] → name_fault word ≡ 3
+relative_fault origin word name fits rest more end new reads pushes some empty =
+    let P : Octets → Type 0 = LabelThen rest pushes.label in
+    named_fault word some ∙ reads.fault_is
+    ∙ valid_last rest pushes.label (subst P empty pushes.spelled) pushes.is_label
+
+pub too_long : {A : Type 0} (done : A) (fits : Bool) (r : Result A NameFault) (fault : ℕ)
+    → r ≡ (if fits then Ok done else Err NameTooLong) → fault ≡ 3
+    → IfErr r (λ f. fault_code f ≡ fault)
+too_long done fits r fault h is_3 = grind arith
+
 pub SpellsIff-none : {E : Type 0} (origin : DomainName) (word : Octets) (name : DomainName)
     (fits : Bool) (rest : Octets) (r : Result DomainName E) → Reads origin word name fits rest
-    → (rest ≡ [] → ⊥) → HasNoLabel rest → IsErr r → SpellsIff origin word r
-SpellsIff-none origin word name fits rest r h h1 h2 h3 = grind (arith, false≢true, nothing_spelled)
+    → (rest ≡ [] → ⊥) → (fault : ℕ) → HasFault rest fault → IsErr r → SpellsIff origin word r
+SpellsIff-none origin word name fits rest r h h1 fault h2 h3 =
+    grind (arith, false≢true, nothing_spelled)
 
 LabelThen-shorter : (text l rest : Octets) → LabelThen text l rest → length rest ≤ length text
 LabelThen-shorter text [] rest h = omega (arith, ap length h)

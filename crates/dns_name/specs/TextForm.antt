@@ -1,11 +1,10 @@
 -- How the text of a name is read from left to right, case by case as in the code.
-use Rattle.std.specs.Prelude.{◌≡◌, ℕ, ◌+◌, ◌-◌, ◌*◌, ◌<◌, Bool, true, ◌&&◌, ◌||◌, ◌==◌, nat_le, nat_lt, if◌then◌else◌, [], ◌∷◌, ◌++◌, length, take, Option, Some, None, Result, Ok, Err, ◌↔◌}
-use Rattle.std.specs.Option.{option_and_then}
+use Rattle.std.specs.Prelude.{◌≡◌, ℕ, ◌-◌, ◌<◌, Bool, true, ◌⊎◌, ◌||◌, ◌==◌, nat_lt, if◌then◌else◌, [], ◌∷◌, ◌++◌, length, take, Option, Some, None, Result, Ok, Err, ◌↔◌}
 use Rattle.std.specs.Bool.{MatchBool}
 use Rattle.std.specs.Borrow.{Bor}
 use Rattle.std.specs.Char.{is_ascii_digit}
 use Rattle.dns_spec.specs.Names.{Octets, DomainName, wire, is_label, is_name}
-use Rattle.dns_spec.specs.NameText.{LabelThen, TextSpells}
+use Rattle.dns_spec.specs.NameText.{LabelThen, TextSpells, escape_front, name_fault}
 
 -- the function returned the value and the rest of the text, borrowed, that reading gives
 abbrev pub Gives : Option (ℕ × Bor Octets) → Option (ℕ × Octets) → Type 0
@@ -20,24 +19,10 @@ digit_at (a ∷ rest) = if is_ascii_digit a then Some (a - 48, rest) else None
 abbrev pub octet_of : ℕ → Octets → Option (ℕ × Octets)
 octet_of value rest = if nat_lt value 256 then Some (value, rest) else None
 
--- the octet that three digits spell
-unfoldable pub decimal_at : Octets → Option (ℕ × Octets)
-decimal_at text =
-    option_and_then (λ a. option_and_then (λ b.
-    option_and_then (λ c. octet_of (100 * a.0 + 10 * b.0 + c.0) c.1)
-    (digit_at b.1)) (digit_at a.1)) (digit_at text)
-
--- the octet that the text after a backslash spells
-unfoldable pub escaped_at : Octets → Option (ℕ × Octets)
-escaped_at [] = None
-escaped_at (a ∷ rest) =
-    if is_ascii_digit a then decimal_at (a ∷ rest)
-    else (if nat_le 32 a && nat_le a 126 then Some (a, rest) else None)
-
 -- the octet that the text begins with
 unfoldable pub octet_at : Octets → Option (ℕ × Octets)
 octet_at [] = None
-octet_at (a ∷ rest) = if a == 92 then escaped_at rest else Some (a, rest)
+octet_at (a ∷ rest) = if a == 92 then escape_front rest else Some (a, rest)
 
 -- a dot or a backslash: octets that never spell themselves
 abbrev pub is_mark : ℕ → Bool
@@ -71,10 +56,16 @@ pub record PushesLabel (text : Octets) (old : DomainName) (fits : Bool) (end : O
   pub is_label : is_label label ≡ true
   pub appended : Appended old (label ∷ []) fits new
 
--- no label of 1 to 63 octets is at the beginning
-abbrev pub HasNoLabel : Octets → Type 0
-HasNoLabel text =
-    (l end : Octets) → LabelThen text l end → is_label_end end ≡ true → is_label l ≡ true → ⊥
+-- a label has 1 to 63 octets, and not these: the fault is 1 if there are none, and 2 if there are more
+abbrev pub IsNoLength : Octets → ℕ → Type 0
+IsNoLength octets fault =
+    ((octets ≡ []) × (fault ≡ 1)) ⊎ ((63 < length octets) × (fault ≡ 2))
+
+-- no label of 1 to 63 octets is at the beginning, and this is the fault
+pub record HasFault (text : Octets) (fault : ℕ) : Type 0 where
+  pub none : (l end : Octets)
+      → LabelThen text l end → is_label_end end ≡ true → is_label l ≡ true → ⊥
+  pub fault_is : name_fault text ≡ fault
 
 -- the result is the name that the word spells, if it spells one
 abbrev pub SpellsIff : {E : Type 0} → DomainName → Octets → Result DomainName E → Type 0

@@ -1,10 +1,10 @@
 //! Names in the text of zone files (RFC 1035 5.1).
-ghost use Rattle.std.specs.Prelude.{◌≡◌, ◌≢◌, true, if◌then◌else◌, IsNone, ◌↔◌, [], ◌∷◌, ◌≤◌, length, IsTrue, IfOk, OnOk, OnErr, Ok, IfSome, ◌<◌};
+ghost use Rattle.std.specs.Prelude.{◌≡◌, ◌≢◌, true, if◌then◌else◌, IsNone, ◌↔◌, [], ◌∷◌, ◌≤◌, length, IsTrue, IfOk, IfErr, OnOk, OnErr, Ok, IfSome, ◌<◌};
 ghost use Rattle.dns_spec.specs.Names.{Octets, DomainName, is_label};
-ghost use Rattle.dns_spec.specs.NameText.{LabelThen, SpellsName};
+ghost use Rattle.dns_spec.specs.NameText.{SpellsName, digits_front, name_fault};
 ghost use Rattle.std.specs.List.{list_any, position_or_len};
 ghost use Rattle.dns_name.specs.NameFault.{fault_code};
-ghost use Rattle.dns_name.specs.TextForm.{is_mark, ReadsLabel, PushesLabel, HasNoLabel, SpellsIff, spelled_as, Gives, digit_at, decimal_at, escaped_at, octet_at, is_label_end, Appended};
+ghost use Rattle.dns_name.specs.TextForm.{is_mark, ReadsLabel, PushesLabel, HasFault, IsNoLength, SpellsIff, spelled_as, Gives, digit_at, octet_at, is_label_end, Appended};
 
 use crate::label::Label;
 use crate::name::Name;
@@ -51,7 +51,8 @@ impl Name {
     /// label or one that is too long. A name that is too long is reported only if all its labels
     /// are valid.
     pub fn read_text(word: &[u8], origin: &Name) -> Result<Name, NameFault>
-        ensures { (n : DomainName) → (result ≡ Ok n) ↔ SpellsName origin.now word.now n }
+        ensures name { (n : DomainName) → (result ≡ Ok n) ↔ SpellsName origin.now word.now n }
+        ensures which { IfErr result (λ fault. fault_code fault ≡ name_fault word.now) }
     {
         let mut name = Name::root();
         name.spell(word, origin)?;
@@ -68,6 +69,7 @@ impl Name {
             ((n : DomainName) → SpellsName origin.now word.now n → n ≡ self.new) }
         ensures fault { OnErr result
             ((n : DomainName) → SpellsName origin.now word.now n → ⊥) }
+        ensures which { IfErr result (λ fault. fault_code fault ≡ name_fault word.now) }
     {
         if word.is_empty() {
             return Err(NameFault::EmptyLabel);
@@ -88,7 +90,8 @@ impl Name {
 fn spell_labels(name: &mut Name, word: &[u8], origin: &Name) -> Result<(), NameFault>
     requires some { word.now ≢ [] }
     requires root { name.old ≡ [] }
-    ensures { SpellsIff origin.now word.now (spelled_as result name.new) }
+    ensures iff { SpellsIff origin.now word.now (spelled_as result name.new) }
+    ensures which { IfErr result (λ fault. fault_code fault ≡ name_fault word.now) }
 {
     let mut fits = true;
     let mut rest = word;
@@ -120,7 +123,7 @@ fn check_fits(fits: bool) -> Result<(), NameFault>
 // Most labels have no escapes, so their octets are taken from the text itself.
 fn push_label<'a>(name: &mut Name, text: &'a [u8]) -> Result<(bool, &'a [u8]), NameFault>
     ensures ok { IfOk result (λ x. PushesLabel text.now name.old x.0 x.1.now name.new) }
-    ensures err { OnErr result (HasNoLabel text.now) }
+    ensures err { IfErr result (λ fault. HasFault text.now (fault_code fault)) }
 {
     let (octets, end) = text.split_at(plain_length(text));
     if at_label_end(end) {
@@ -136,7 +139,7 @@ fn push_label<'a>(name: &mut Name, text: &'a [u8]) -> Result<(bool, &'a [u8]), N
 fn push_octets(name: &mut Name, octets: &[u8]) -> Result<bool, NameFault>
     ensures label { IfOk result (λ _. IsTrue (is_label octets.now)) }
     ensures ok { IfOk result (λ fits. Appended name.old (octets.now ∷ []) fits name.new) }
-    ensures err { OnErr result (is_label octets.now ≡ true → ⊥) }
+    ensures err { IfErr result (λ fault. IsNoLength octets.now (fault_code fault)) }
 {
     if octets.is_empty() {
         return Err(NameFault::EmptyLabel);
@@ -196,8 +199,7 @@ fn is_mark(octet: u8) -> bool
 fn label_text(text: &[u8]) -> Option<(ArrayVec<u8, KEPT_OCTETS>, &[u8])>
     ensures some { IfSome result (λ x. ReadsLabel text.now x.0.items x.1.now) }
     ensures end { IfSome result (λ x. IsTrue (is_label_end x.1.now)) }
-    ensures none { IsNone result → (l end : Octets) → LabelThen text.now l end
-        → is_label_end end ≡ true → ⊥ }
+    ensures none { IsNone result → HasFault text.now 4 }
 {
     let mut octets = ArrayVec::new();
     let mut rest = text;
@@ -216,7 +218,7 @@ fn label_text(text: &[u8]) -> Option<(ArrayVec<u8, KEPT_OCTETS>, &[u8])>
 ///
 /// `None` at the end of the text, and if a backslash begins no escape. A dot is an octet like any
 /// other.
-#[tactic(auto, unfolding(crate::specs::TextForm::octet_at, crate::specs::TextForm::escaped_at))]
+#[tactic(auto, unfolding(crate::specs::TextForm::octet_at))]
 pub fn first_octet(text: &[u8]) -> Option<(u8, &[u8])>
     ensures { Gives result (octet_at text.now) }
 {
@@ -234,9 +236,8 @@ pub fn first_octet(text: &[u8]) -> Option<(u8, &[u8])>
     Some((*escaped, end))
 }
 
-#[tactic(auto, unfolding(crate::specs::TextForm::decimal_at))]
 fn decimal(text: &[u8]) -> Option<(u8, &[u8])>
-    ensures { Gives result (decimal_at text.now) }
+    ensures { Gives result (digits_front text.now) }
 {
     let (hundreds, text) = first_digit(text)?;
     let (tens, text) = first_digit(text)?;

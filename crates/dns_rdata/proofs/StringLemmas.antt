@@ -1,5 +1,5 @@
 -- Reading a string from left to right finds what it spells, and nothing else.
-use Rattle.dns_rdata.proofs.Common.{◌≡◌, ◌↔◌, ℕ, ◌<◌, ◌≤◌, true, false, inl, inr, ◌==◌, ◌||◌, if◌then◌else◌, [], ◌∷◌, ◌++◌, length, refl, sym, ◌∙◌, ap, subst, arith, length-append, Some, None, append_assoc, append-nil, cases_Bool, and_parts, not-true, eqb-true, false≢true, list_any, list_all, flat_map, Octets, SpellsString, SpellsStringOctet, string_octet_text, is_plain, octet_at, escaped_at, octet_at-OctetThen, OctetThen-octet_at}
+use Rattle.dns_rdata.proofs.Common.{◌≡◌, ◌↔◌, ℕ, ◌<◌, ◌≤◌, true, false, inl, inr, ◌==◌, ◌||◌, if◌then◌else◌, [], ◌∷◌, ◌++◌, length, refl, sym, ◌∙◌, ap, subst, arith, length-append, Some, None, append_assoc, append-nil, cases_Bool, and_parts, not-true, eqb-true, false≢true, list_any, list_all, flat_map, Octets, SpellsString, SpellsStringOctet, string_octet_text, is_plain, octet_at, escape_front, octet_at-OctetThen, OctetThen-octet_at}
 use Rattle.dns_spec.proofs.General.Options.{some_parts}
 use Rattle.dns_spec.proofs.Common.{none-some}
 
@@ -41,16 +41,19 @@ pub record StringSoFar (text read rest : Octets) : Type 0 where
 pub StringSoFar-none : (text : Octets) → StringSoFar text [] text
 StringSoFar-none text = record { all = λ s h. h; only = λ s h. (s, refl, h) }
 
+no_octet : (v : ℕ × Octets) → octet_at [] ≡ Some v → ⊥
+unfolding octet_at
+no_octet v e = none-some v e
+
 pub StringSoFar-push : (text read rest : Octets) (x : ℕ) (others : Octets) → StringSoFar
     text read rest → octet_at rest ≡ Some (x, others) → StringSoFar text (read ++ x ∷ []) others
-unfolding octet_at
 StringSoFar-push text read rest x others so_far e = record { all = all; only = only }
   where
     all : (s : Octets) → SpellsString others s → SpellsString text ((read ++ x ∷ []) ++ s)
     all s h = grind (arith, read_spelled, append_assoc)
 
     after : (t : Octets) → SpellsString rest t → (u : Octets) × (t ≡ x ∷ u) × SpellsString others u
-    after [] empty = absurd (none-some (x, others) (ap octet_at (sym empty) ∙ e))
+    after [] empty = absurd (no_octet (x, others) (ap octet_at (sym empty) ∙ e))
     after (y ∷ u) (first, more, f, spelled, h) =
         let one = some_parts
         (y, more) (x, others) (sym (spelled_read rest y more (first, f, spelled)) ∙ e) in
@@ -122,7 +125,7 @@ plain_read text read (a ∷ rest) so_far none = elim (cases_Bool (a == 92)) [
   | inl is ↦ absurd (false≢true (sym none ∙ ap (λ b. b || list_any (λ (o : ℕ). o == 92) rest) is))
   | inr other ↦
       let next = StringSoFar-push text read (a ∷ rest) a rest so_far
-      (ap (λ b. if b then escaped_at rest else Some (a, rest)) other) in
+      (ap (λ b. if b then escape_front rest else Some (a, rest)) other) in
       let left : list_any (λ (o : ℕ). o == 92) rest ≡ false =
       sym (ap (λ b. b || list_any (λ (o : ℕ). o == 92) rest) other) ∙ none in
       subst (λ r. StringSoFar text r [])

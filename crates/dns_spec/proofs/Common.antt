@@ -61,8 +61,8 @@ pub use Rattle.dns_spec.specs.Lines.{are_messages, ended_lines, line_answers, li
 unfoldable pub use Rattle.dns_spec.specs.Lines.{lines}
 pub use Rattle.dns_spec.specs.Meaning.{DataIs, DirectiveGives, DirectiveSays, EntriesMean, EntryGives, EntryKind, EntryMeaning, Fields, IsNoTtl, IsRecord, KindGives, Lowest, Meaning, Means, NameIs, Nothing, OneWord, OriginIs, OwnerBefore, RecordGives, TtlIs, TtlSays, TypeIs, after, are_too_many, directive, directive_word, fault_at, faulty, fields, gives, is_other_class, is_record, is_zone_type, kind_by_words, kind_of, line_after, most_records, most_ttl, nearest, no_words, owned, owner_word, record_faults, records, ttl_in_force, ttl_word, unowned}
 pub use Rattle.dns_spec.specs.MessageLines.{PrintsInput, PrintsMessage, message_text, question_line, section_line}
-pub use Rattle.dns_spec.specs.NameText.{LabelThen, SpellsName, SpellsOctet, TextSpells, digits_front, escape_front, is_printable, is_special, label_text, labels_text, name_text, three_digits, three_digits_value}
-unfoldable pub use Rattle.dns_spec.specs.NameText.{octet_text}
+pub use Rattle.dns_spec.specs.NameText.{LabelThen, SpellsName, SpellsOctet, TextSpells, digits_front, escape_front, escape_left, is_printable, is_special, label_text, labels_text, name_fault, name_text, three_digits, three_digits_value}
+unfoldable pub use Rattle.dns_spec.specs.NameText.{labels_fault, octet_text}
 pub use Rattle.dns_spec.specs.Names.{DomainName, Octets, at_or_below, below, folded, is_label, is_name, label_order, last_labels, name_of, name_order, names_equal, octets_equal, same, suffixes, wire, with_label}
 unfoldable pub use Rattle.dns_spec.specs.Names.{labels_from}
 pub use Rattle.dns_spec.specs.Query.{QueryRead, absent, counts_are_one_question, field16, head_of, is_ignored, most_over_udp, opcode, query, query_or_error, question_of, refusal_head, refused_with, reply_head}
@@ -84,5 +84,5 @@ pub use Rattle.dns_spec.specs.WrittenText.{field_words, hex_text, hex_words, is_
 unfoldable pub use Rattle.dns_spec.specs.WrittenText.{data_text}
 pub use Rattle.dns_spec.specs.ZonePrinted.{HasZoneType, IsReadRecord, is_soa, printed_records, record_line, soa_first}
 unfoldable pub use Rattle.dns_spec.specs.ZonePrinted.{zone_text}
-pub use Rattle.dns_spec.specs.ZoneText.{Entries, EntriesOf, Entry, Extent, Token, TokensThen, before_first, beginning, begins_with, blank, closed, closing, comment, cut_entries, ended, entry_words, escape_left, extent_by, extent_of, in_string, in_token, is_blank, is_cut_short, is_line_end, is_open_at_end, lexical_fault, line_end, line_feed_front, most_octets, open_after, opening, parentheses, parenthesis, quoted_front, quoted_string, stop_at, stop_fault, string_fault, string_length, take_turns, text_over, token_front, unended, unit_left, unquoted_front, whole_text, with_end, word, word_length, word_of}
+pub use Rattle.dns_spec.specs.ZoneText.{Entries, EntriesOf, Entry, Extent, Token, TokensThen, before_first, beginning, begins_with, blank, closed, closing, comment, cut_entries, ended, entry_words, extent_by, extent_of, in_string, in_token, is_blank, is_cut_short, is_line_end, is_open_at_end, lexical_fault, line_end, line_feed_front, most_octets, open_after, opening, parentheses, parenthesis, quoted_front, quoted_string, stop_at, stop_fault, string_fault, string_length, take_turns, text_over, token_front, unended, unit_left, unquoted_front, whole_text, with_end, word, word_length, word_of}
 unfoldable pub use Rattle.dns_spec.specs.ZoneText.{run_length}

@@ -1,6 +1,7 @@
 -- Names in zone files: which name a word spells, and how a name is written.
-use Rattle.std.specs.Prelude.{◌≡◌, ◌≢◌, ℕ, ◌+◌, ◌-◌, ◌*◌, ◌/◌, ◌%◌, ◌<◌, ◌≤◌, ◌⊎◌, Bool, ◌&&◌, ◌==◌, nat_le, nat_lt, if◌then◌else◌, [], ◌∷◌, ◌++◌, codes, IsTrue}
+use Rattle.std.specs.Prelude.{◌≡◌, ◌≢◌, ℕ, zero, suc, ◌+◌, ◌-◌, ◌*◌, ◌/◌, ◌%◌, ◌<◌, ◌≤◌, ◌⊎◌, Bool, true, false, ◌&&◌, ◌==◌, nat_le, nat_lt, if◌then◌else◌, [], ◌∷◌, ◌++◌, codes, length, IsTrue}
 use Rattle.std.specs.Prelude.{Option, None, Some}
+use Rattle.std.specs.Option.{option_map}
 use Rattle.std.specs.List.{flat_map, list_any}
 use Rattle.std.specs.Char.{is_ascii_graphic, is_ascii_digit, IsAsciiDigit, IsNotAsciiDigit}
 use Rattle.dns_spec.specs.Names.{Octets, DomainName, is_name}
@@ -44,6 +45,10 @@ escape_front (a ∷ text) =
     if is_ascii_digit a then digits_front (a ∷ text)
     else if is_printable a then Some (a, text) else None
 
+-- how many octets of the text after a backslash belong to its escape, if it begins one
+abbrev pub escape_left : Octets → Option ℕ
+escape_left text = option_map (λ r. length text - length r.1) (escape_front text)
+
 -- the text is a spelling of the label's octets, in order, followed by `rest`
 abbrev pub LabelThen : Octets → Octets → Octets → Type 0
 LabelThen text [] rest = text ≡ rest
@@ -67,6 +72,28 @@ pub record SpellsName (origin : DomainName) (word : Octets) (n : DomainName) : T
       ⊎ (((word ≡ codes ".") × (n ≡ []))
       ⊎ ((word ≢ codes "@") × (word ≢ []) × TextSpells origin word n))
   pub is_name : IsTrue (is_name n)
+
+-- RFC 1035 5.1 and 2.3.4: what is wrong with the first faulty label of a text. 4: a backslash in it
+-- begins no escape; else 1: it is empty; or 2: it has more than 63 octets. 3 if no label is faulty.
+-- An empty text is no label. The label has i octets before the text, and the first k octets of the
+-- text belong to the current escape.
+unfoldable pub labels_fault : ℕ → ℕ → Octets → ℕ
+labels_fault k i [] = if nat_lt 63 i then 2 else 3
+labels_fault (suc k) i (o ∷ text) = labels_fault k i text
+labels_fault zero i (o ∷ text) =
+    elim (o == 46) [
+      | true ↦ if i == 0 then 1 else (if nat_lt 63 i then 2 else labels_fault 0 0 text)
+      | false ↦ elim (if o == 92 then escape_left text else Some 0) [
+        | None ↦ 4
+        | Some left ↦ labels_fault left (suc i) text
+      ]
+    ]
+
+-- The fault of a word that spells no name, 1 to 4: that of its first faulty label, from the left; 3
+-- if no label is faulty, so that the name is too long. The empty word is an empty label.
+abbrev pub name_fault : Octets → ℕ
+name_fault [] = 1
+name_fault (o ∷ word) = labels_fault 0 0 (o ∷ word)
 
 -- the octets with a meaning of their own in a zone file, unless a backslash precedes them
 abbrev pub is_special : ℕ → Bool

@@ -1,13 +1,13 @@
 -- The text of a zone file: its tokens, its entries, and the faults that are found before any word
 -- is read.
-use Rattle.std.specs.Prelude.{◌≡◌, ℕ, zero, suc, ◌+◌, ◌-◌, Bool, true, false, ◌&&◌, ◌||◌, not, List, [], ◌∷◌, length, take, drop, nat_lt, ◌==◌, if◌then◌else◌, fold}
+use Rattle.std.specs.Prelude.{◌≡◌, ℕ, zero, suc, ◌+◌, Bool, true, false, ◌&&◌, ◌||◌, not, List, [], ◌∷◌, length, take, drop, nat_lt, ◌==◌, if◌then◌else◌, fold}
 use Rattle.std.specs.Prelude.{Option, None, Some}
-use Rattle.std.specs.Option.{option_map, unwrap_or}
+use Rattle.std.specs.Option.{unwrap_or}
 use Rattle.std.specs.Bool.{xor}
 use Rattle.std.specs.List.{prefix_len, filter_map}
 use Rattle.std.specs.Char.{is_ascii_digit}
 use Rattle.dns_spec.specs.Names.{Octets}
-use Rattle.dns_spec.specs.NameText.{escape_front}
+use Rattle.dns_spec.specs.NameText.{escape_left}
 use Rattle.dns_spec.specs.DataText.{Word, is_word_octet, is_string_octet}
 use Rattle.dns_spec.specs.FileFaults.{FileFault, bad_octet, bad_escape, unended_string, bad_parenthesis, too_long}
 
@@ -29,10 +29,6 @@ pub data Token : Type 0 where
 -- a space or a tab
 abbrev pub is_blank : ℕ → Bool
 is_blank o = o == 32 || o == 9
-
--- how many octets of the text after a backslash belong to its escape, if it begins one
-abbrev pub escape_left : Octets → Option ℕ
-escape_left text = option_map (λ r. length text - length r.1) (escape_front text)
 
 -- If o continues a word or a string: how many octets of its escape follow it, 0 if o is not a
 -- backslash. `by_itself` accepts the octets that may appear unescaped.

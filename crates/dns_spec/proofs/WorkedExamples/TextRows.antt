@@ -1,5 +1,5 @@
 -- Names on the wire and as they are written, computed from the definitions.
-use Rattle.dns_spec.proofs.Common.{◌≡◌, [], ◌∷◌, ◌++◌, replicate, codes, Some, None, labels_from, name_of, escape_front, octet_text, name_text}
+use Rattle.dns_spec.proofs.Common.{◌≡◌, [], ◌∷◌, ◌++◌, replicate, codes, Some, None, labels_from, name_of, escape_front, labels_fault, name_fault, octet_text, name_text}
 use Rattle.dns_spec.proofs.WorkedExamples.Zones.{dotted, hex}
 
 text_rows :
@@ -23,6 +23,21 @@ text_rows :
     × (escape_front (codes "0461") ≡ Some (46, codes "1"))
     × (escape_front (codes "256") ≡ None)
     × (escape_front (codes "04b") ≡ None)
+    -- the first faulty label decides, whatever follows it
+    × (name_fault [] ≡ 1)
+    × (name_fault (codes "..") ≡ 1)
+    × (name_fault (codes "a..\\x\\") ≡ 1)
+    × (name_fault (replicate 64 97 ++ codes "..") ≡ 2)
+    -- in a label, a bad escape before the length
+    × (name_fault (codes "\\256") ≡ 4)
+    × (name_fault (codes "a.\\") ≡ 4)
+    × (name_fault (replicate 64 97 ++ codes "\\1x") ≡ 4)
+    -- an escape is one octet, and an escaped dot ends no label
+    × (name_fault (replicate 63 97 ++ codes "\\065..") ≡ 2)
+    × (name_fault (codes "\\.." ++ replicate 64 97) ≡ 2)
+    -- a name that is too long only if all its labels are valid
+    × (name_fault (replicate 63 97 ++ codes ".b.") ≡ 3)
+    × (name_fault (replicate 63 97 ++ codes ".b..") ≡ 1)
     -- `a.` and what follows it
     × (name_of (hex (codes "01 61 00 78 79 7a")) ≡ Some (dotted (codes "a"), codes "xyz"))
     -- the root
@@ -33,5 +48,5 @@ text_rows :
     -- a pointer is not a label, nor are 64 octets
     × (name_of (hex (codes "c0 0c")) ≡ None)
     × (name_of (64 ∷ (replicate 64 97 ++ 0 ∷ [])) ≡ None)
-unfolding octet_text labels_from
+unfolding labels_fault octet_text labels_from
 text_rows = search []
