@@ -1,5 +1,6 @@
 -- Finding a label among the labels of children, which rise.
-use Rattle.dns_zone.proofs.Common.{◌≡◌, ℕ, zero, suc, ◌+◌, ◌-◌, ◌/◌, ◌<◌, ◌≤◌, ◌⊎◌, inl, inr, List, [], ◌∷◌, map, length, get_or, sym, ap, ◌∙◌, add-one, arith, subst, Less, Equal, Greater, cases_lt, false≢true, nat_list_cmp_total, tied_itself, get_or-map, length-map, get_or_default, Octets, label_order, ResourceRecord, Among, Rises, among_contains, row_label, row_at, room_after, Row, Walk}
+use Rattle.dns_zone.proofs.Common.{◌≡◌, ℕ, zero, suc, ◌+◌, ◌-◌, ◌/◌, ◌<◌, ◌≤◌, ◌⊎◌, inl, inr, List, [], ◌∷◌, map, length, get_or, sym, ap, ◌∙◌, add-one, arith, subst, Less, Equal, Greater, cases_lt, false≢true, nat_list_cmp_total, tied_itself, get_or-map, length-map, get_or_default, Octets, label_order, ResourceRecord, Among, Rises, among_contains, row_label, row_at, room_after, Row}
+use Rattle.dns_zone.specs.declared.tree.counts.Counts.{Counts}
 use Rattle.dns_spec.proofs.General.Elements.{each_get}
 
 rises_at : (ls : List Octets) (i j : ℕ) → Rises label_order ls → i < j → j < length ls
@@ -22,13 +23,12 @@ pub record Searching (rs : List ResourceRecord) (kids : List Row) (label : Octet
 
 -- the state of a search, in which all comparisons were counted
 pub record Sought (rs : List ResourceRecord) (kids : List Row) (label : Octets)
-    (low high : ℕ) (before now : Walk) : Type 0 where
+    (low high : ℕ) (before now : Counts) : Type 0 where
   pub count : ℕ
   pub searching : Searching rs kids label low high count
   pub bound : count ≤ 17
   pub counted : now.comparisons ≡ before.comparisons + count
   pub visits : now.visits ≡ before.visits
-  pub zone : now.zone ≡ before.zone
 
 half_room : (left turn : ℕ) → left ≤ room_after turn → left / 2 ≤ room_after (turn + 1)
 half_room left turn h = grind (arith, add-one)
@@ -47,20 +47,19 @@ module _ (rs : List ResourceRecord) (kids : List Row) (label : Octets) where
       → low < high → turn + 1 ≤ 17
   one_more low high turn s h some = grind (arith, cases_lt)
 
-  pub compared : {low high low' high' : ℕ} {before now next : Walk}
+  pub compared : {low high low' high' : ℕ} {before now next : Counts}
       (so_far : Sought rs kids label low high before now) → low < high
       → next ≡ record now { comparisons = now.comparisons + 1 }
       → Searching rs kids label low' high' (so_far.count + 1)
       → Sought rs kids label low' high' before next
   compared so_far some counted left =
-      let more = ap (λ (w : Walk). w.comparisons) counted in
+      let more = ap (λ (w : Counts). w.comparisons) counted in
       record {
         count = so_far.count + 1;
         searching = left;
         bound = one_more _ _ _ so_far.searching so_far.bound some;
         counted = omega (arith, so_far.counted);
-        visits = ap (λ (w : Walk). w.visits) counted ∙ so_far.visits;
-        zone = ap (λ (w : Walk). w.zone) counted ∙ so_far.zone;
+        visits = ap (λ (w : Counts). w.visits) counted ∙ so_far.visits;
       }
 
   module _ (rising : Rises label_order (map (row_label rs) kids)) where

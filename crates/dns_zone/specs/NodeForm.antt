@@ -1,11 +1,11 @@
 -- Invariants of the tree of a zone, and the node of each row.
-use Rattle.std.specs.Prelude.{◌≡◌, ◌⊎◌, ℕ, ◌<◌, ◌≤◌, Bool, true, List, All, None, map, length, get_or}
-use Rattle.dns_spec.specs.Names.{at_or_below}
+use Rattle.std.specs.Prelude.{◌≡◌, ◌⊎◌, ℕ, ◌+◌, ◌<◌, ◌≤◌, Bool, true, List, All, None, map, length, get_or}
+use Rattle.dns_spec.specs.Names.{Octets, at_or_below}
 use Rattle.dns_spec.specs.Records.{ResourceRecord, ZoneContents}
 use Rattle.dns_spec.specs.Tree.{cut_of}
 use Rattle.dns_zone.specs.Nodes.{ZoneNode, IsHint}
 use Rattle.dns_zone.specs.ZoneForm.{IsBuilt}
-use Rattle.dns_zone.specs.TreeForm.{IsTree, row_name, row_at}
+use Rattle.dns_zone.specs.TreeForm.{IsTree, kids_at, row_name, row_label, row_at}
 use Rattle.dns_zone.specs.declared.tree.row.Row.{Row}
 use Rattle.dns_zone.specs.declared.tree.Tree.{Tree}
 use Rattle.dns_zone.specs.declared.tree.way.WayName.{WayName}
@@ -60,3 +60,21 @@ pub record IsOnWay (w : TargetWay) (k : ℕ) : Type 0 where
 pub record IsWay (w : TargetWay) (names : List WayName) : Type 0 where
   pub kept : IsZoneTree w.tree
   pub each : All (λ (s : WayName). IsOnWay w s.row.0) names
+
+-- a row of a tree, whose children are compared with a label
+pub record TreeRow : Type 0 where
+  pub tree : Tree
+  pub row : ℕ
+
+abbrev pub kid_rows : TreeRow → List Row
+kid_rows v = kids_at v.tree.rows v.tree.bounds v.row
+
+abbrev pub kid_label : TreeRow → ℕ → Octets
+kid_label v i = row_label v.tree.zone.records (row_at (kid_rows v) i)
+
+-- the rows of a node's children, and the number of the first
+pub record AreKidsAt (v : TreeRow) (start : ℕ) (rows : List Row) : Type 0 where
+  pub at : IsNodeAt v.tree v.row
+  pub start_is : start ≡ get_or v.tree.bounds v.row 0
+  pub rows_are : rows ≡ kid_rows v
+  pub fits : start + length rows ≤ 18446744073709551615

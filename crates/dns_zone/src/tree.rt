@@ -1,7 +1,9 @@
 //! The names of a zone as a list of rows, level by level. The children of a row are adjacent, in
 //! the order of their labels.
 
+pub(crate) mod counts;
 pub(crate) mod hints;
+pub(crate) mod kids;
 pub(crate) mod label_key;
 pub(crate) mod labels;
 pub(crate) mod lookup;

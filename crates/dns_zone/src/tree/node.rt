@@ -11,13 +11,13 @@ ghost use Rattle.dns_zone.specs.NodeForm.{IsZoneTree, node_at, IsNodeAt};
 ghost use Rattle.dns_zone.specs.TreeForm.{kids_at};
 
 use crate::store::stored::StoredRecord;
+use crate::tree::kids::Kids;
 use crate::tree::lookup::of_type;
 use crate::tree::row::{Row, RowNumber};
-use crate::tree::search::find;
 use crate::tree::set::{RecordSet, lent_set};
 use crate::tree::steps::Steps;
 use crate::tree::{Tree, octets_of};
-use dns_name::{Label, NameRef};
+use dns_name::NameRef;
 use dns_rdata::RType;
 use std::marker::Model;
 
@@ -73,7 +73,7 @@ impl<'z> TargetHint<'z> {
         ensures visits { steps.new ≡ record steps.old { visits = steps.old.visits + 1 } }
     {
         let TargetHint { node } = self;
-        steps.count_visit();
+        steps.counts.count_visit();
         node
     }
 }
@@ -86,37 +86,12 @@ impl<'z> Node<'z> {
         Node { tree, row }
     }
 
-    /// Visits the child with this label, if that name exists. Labels are compared without regard
-    /// to the case of ASCII letters (RFC 1035 2.3.3). The visit and each comparison of labels are
-    /// counted.
-    ///
-    /// A node has at most 100,000 children, so 17 comparisons find a label. Preconditions: the
-    /// steps are over the node's zone, `visits` is below 4,294,967,295, and `comparisons` is at
-    /// most 4,294,967,278.
-    pub fn down(&self, label: Label<'_>, steps: &mut Steps<'z>) -> Option<Node<'z>>
-        requires zone { steps.old.zone ≡ self.now.zone }
-        requires visits { steps.old.visits < 4294967295 }
-        requires comparisons { steps.old.comparisons ≤ 4294967278 }
-
-        ensures child { IsSome result ↔ IsTrue
-            (exists self.now.zone (label.entry ∷ self.now.name)) }
-        ensures node { IfSome result (λ n. n ≡ record {
-          zone = self.now.zone;
-          name = map to_ascii_lowercase label.entry ∷ self.now.name;
-        }) }
-
-        ensures visits { steps.new.visits ≡ steps.old.visits + (if is_some result then 1 else 0) }
-        ensures rise { steps.old.comparisons ≤ steps.new.comparisons }
-        ensures bound { steps.new.comparisons ≤ steps.old.comparisons + 17 }
-        ensures compared { IfSome result (λ _. steps.old.comparisons < steps.new.comparisons) }
-        ensures same_zone { steps.new.zone ≡ steps.old.zone }
+    /// The node's children.
+    pub(crate) fn kids(&self) -> Kids<'z>
+        ensures at { IsNodeAt result.tree result.row }
+        ensures node { node_at result.tree result.row ≡ self.now }
     {
-        let row = kid_of(self.tree, self.row, &label, steps)?;
-        steps.count_visit();
-        Some(Node {
-            tree: self.tree,
-            row,
-        })
+        Kids::of(self.tree, self.row)
     }
 
     /// The node's name, in lower case, borrowed from the zone.
@@ -198,44 +173,4 @@ fn hint_at<'z>(tree: &'z Tree, place: usize, rtype: RType) -> Option<TargetHint<
     Some(TargetHint {
         node: Node::at(tree, RowNumber(hint)),
     })
-}
-
-// The row of the child with this label, if that name exists. Each comparison of labels is counted.
-pub(crate) fn kid_of(
-    tree: &Tree,
-    row: RowNumber,
-    label: &Label<'_>,
-    steps: &mut Steps<'_>,
-) -> Option<RowNumber>
-    requires at { IsNodeAt tree.now row.0 }
-    requires comparisons { steps.old.comparisons ≤ 4294967278 }
-
-    ensures child { IsSome result ↔ IsTrue
-        (exists tree.now.zone (label.now ∷ (node_at tree.now row.0).name)) }
-    ensures at { IfSome result (λ k. IsNodeAt tree.now k.0) }
-    ensures node { IfSome result (λ k. node_at tree.now k.0 ≡ record {
-      zone = tree.now.zone;
-      name = map to_ascii_lowercase label.now ∷ (node_at tree.now row.0).name;
-    }) }
-
-    ensures rise { steps.old.comparisons ≤ steps.new.comparisons }
-    ensures bound { steps.new.comparisons ≤ steps.old.comparisons + 17 }
-    ensures compared { IfSome result (λ _. steps.old.comparisons < steps.new.comparisons) }
-    ensures visits { steps.new.visits ≡ steps.old.visits }
-    ensures same_zone { steps.new.zone ≡ steps.old.zone }
-{
-    let (start, kids) = kids_of(tree, row);
-    let found = find(tree.zone.records(), kids, label.octets(), steps)?;
-    Some(RowNumber(start + found))
-}
-
-fn kids_of<'z>(tree: &'z Tree, row: RowNumber) -> (usize, &'z [Row])
-    requires { IsNodeAt tree.now row.0 }
-    ensures start { result.0 ≡ get_or tree.now.bounds row.0 0 }
-    ensures fits { result.0 + length result.1.now ≤ 18446744073709551615 }
-    ensures kids { result.1.now ≡ kids_at tree.now.rows tree.now.bounds row.0 }
-{
-    let bounds = tree.bounds.lent();
-    let start = bounds[row.0];
-    (start, &tree.rows.lent()[start..bounds[row.0 + 1]])
 }

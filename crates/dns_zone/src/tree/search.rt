@@ -1,87 +1,102 @@
-//! Finds a label among the labels of children by binary search.
-ghost use Rattle.std.specs.Prelude.{◌≡◌, ◌+◌, ◌<◌, ◌≤◌, map, length, IfSome, IsNone};
+//! Finds a child by its label, by binary search. Labels of children are compared by `Kids` alone,
+//! which counts.
+ghost use Rattle.std.specs.Prelude.{◌≡◌, ◌+◌, ◌<◌, ◌≤◌, ◌↔◌, ◌∷◌, map, length, if◌then◌else◌, IsTrue, IsSome, IfSome, IsNone};
+ghost use Rattle.std.specs.Option.{is_some};
 ghost use Rattle.std.specs.Char.{to_ascii_lowercase};
-ghost use Rattle.dns_spec.specs.Names.{label_order};
-ghost use Rattle.dns_spec.specs.Meaning.{most_records};
-ghost use Rattle.std.specs.List.{AllByRecursion};
-ghost use Rattle.dns_zone.specs.LabelKey.{IsKey};
-ghost use Rattle.dns_zone.specs.TreeForm.{row_label, row_name, row_at, IsRow};
+ghost use Rattle.dns_spec.specs.Tree.{exists};
+ghost use Rattle.dns_zone.specs.TreeForm.{row_label};
+ghost use Rattle.dns_zone.specs.NodeForm.{IsNodeAt, node_at, kid_rows, kid_label};
 ghost use Rattle.dns_spec.proofs.General.Elements.{Among};
-ghost use Rattle.dns_spec.proofs.General.Sorted.{Rises};
 
-use crate::store::stored::StoredRecord;
-use crate::tree::label_key::{KEY_OCTETS, LabelKey, first_octets, order_to};
-use crate::tree::octets_of;
-use crate::tree::row::Row;
+use crate::tree::counts::Counts;
+use crate::tree::kids::Kids;
+use crate::tree::label_key::LabelKey;
+use crate::tree::node::Node;
+use crate::tree::row::RowNumber;
 use crate::tree::steps::Steps;
-use dns_name::NameRef;
+use dns_name::Label;
 use std::cmp::Ordering;
 
-/// The index of the child with this label, whatever its case, if there is one. Each comparison is
-/// counted; there are at most 17, since 100,000 children are fewer than 2 ^ 17.
-pub(crate) fn find(
-    records: &[StoredRecord],
-    kids: &[Row],
-    label: &[u8],
-    steps: &mut Steps<'_>,
-) -> Option<usize>
-    requires rows { AllByRecursion (λ k. IsRow records.now k (row_name records.now k)) kids.now }
-    requires rising { Rises label_order (map (row_label records.now) kids.now) }
-    requires few { length kids.now ≤ most_records }
-    requires comparisons { steps.old.comparisons ≤ 4294967278 }
+impl<'z> Node<'z> {
+    /// Visits the child with this label, if that name exists. Labels are compared without regard
+    /// to the case of ASCII letters (RFC 1035 2.3.3). The visit and each comparison of labels are
+    /// counted.
+    ///
+    /// A node has at most 100,000 children, so 17 comparisons find a label. Preconditions: the
+    /// steps are over the node's zone, `visits` is below 4,294,967,295, and `comparisons` is at
+    /// most 4,294,967,278.
+    pub fn down(&self, label: Label<'_>, steps: &mut Steps<'z>) -> Option<Node<'z>>
+        requires zone { steps.old.zone ≡ self.now.zone }
+        requires visits { steps.old.visits < 4294967295 }
+        requires comparisons { steps.old.comparisons ≤ 4294967278 }
 
-    ensures found { IfSome result (λ k. (k < length kids.now)
-        × (row_label records.now (row_at kids.now k) ≡ map to_ascii_lowercase label.now)) }
+        ensures child { IsSome result ↔ IsTrue
+            (exists self.now.zone (label.entry ∷ self.now.name)) }
+        ensures node { IfSome result (λ n. n ≡ record {
+          zone = self.now.zone;
+          name = map to_ascii_lowercase label.entry ∷ self.now.name;
+        }) }
+
+        ensures visits { steps.new.visits ≡ steps.old.visits + (if is_some result then 1 else 0) }
+        ensures rise { steps.old.comparisons ≤ steps.new.comparisons }
+        ensures bound { steps.new.comparisons ≤ steps.old.comparisons + 17 }
+        ensures compared { IfSome result (λ _. steps.old.comparisons < steps.new.comparisons) }
+        ensures same_zone { steps.new.zone ≡ steps.old.zone }
+    {
+        let kids = self.kids();
+        let row = kid_of(&kids, &label, &mut steps.counts)?;
+        Some(kids.visit(row, &mut steps.counts))
+    }
+}
+
+// The row of the child with this label, if that name exists. Each comparison of labels is counted.
+pub(crate) fn kid_of(kids: &Kids<'_>, label: &Label<'_>, counts: &mut Counts) -> Option<RowNumber>
+    requires at { IsNodeAt kids.now.tree kids.now.row }
+    requires comparisons { counts.old.comparisons ≤ 4294967278 }
+
+    ensures child { IsSome result ↔ IsTrue
+        (exists kids.now.tree.zone
+        (label.now ∷ (node_at kids.now.tree kids.now.row).name)) }
+    ensures at { IfSome result (λ k. IsNodeAt kids.now.tree k.0) }
+    ensures node { IfSome result (λ k. node_at kids.now.tree k.0 ≡ record {
+      zone = kids.now.tree.zone;
+      name = map to_ascii_lowercase label.now ∷ (node_at kids.now.tree kids.now.row).name;
+    }) }
+
+    ensures rise { counts.old.comparisons ≤ counts.new.comparisons }
+    ensures bound { counts.new.comparisons ≤ counts.old.comparisons + 17 }
+    ensures compared { IfSome result (λ _. counts.old.comparisons < counts.new.comparisons) }
+    ensures visits { counts.new.visits ≡ counts.old.visits }
+{
+    let found = find(kids, label.octets(), counts)?;
+    Some(kids.row(found))
+}
+
+// The index of the child with this label, whatever its case, if there is one. Each comparison is
+// counted; there are at most 17, since 100,000 children are fewer than 2 ^ 17.
+fn find(kids: &Kids<'_>, label: &[u8], counts: &mut Counts) -> Option<usize>
+    requires at { IsNodeAt kids.now.tree kids.now.row }
+    requires comparisons { counts.old.comparisons ≤ 4294967278 }
+
+    ensures found { IfSome result (λ i. (i < length (kid_rows kids.now))
+        × (kid_label kids.now i ≡ map to_ascii_lowercase label.now)) }
     ensures none { IsNone result → Among (map to_ascii_lowercase label.now)
-        (map (row_label records.now) kids.now) → ⊥ }
+        (map (row_label kids.now.tree.zone.records) (kid_rows kids.now)) → ⊥ }
 
-    ensures rise { steps.old.comparisons ≤ steps.new.comparisons }
-    ensures bound { steps.new.comparisons ≤ steps.old.comparisons + 17 }
-    ensures compared { IfSome result (λ _. steps.old.comparisons < steps.new.comparisons) }
-    ensures visits { steps.new.visits ≡ steps.old.visits }
-    ensures zone { steps.new.zone ≡ steps.old.zone }
+    ensures rise { counts.old.comparisons ≤ counts.new.comparisons }
+    ensures bound { counts.new.comparisons ≤ counts.old.comparisons + 17 }
+    ensures compared { IfSome result (λ _. counts.old.comparisons < counts.new.comparisons) }
+    ensures visits { counts.new.visits ≡ counts.old.visits }
 {
     let key = LabelKey::of(label);
     let (mut low, mut high) = (0, kids.len());
     'halves: while low < high {
         let middle = (low + high) / 2;
-        match order(records, &kids[middle], &key, label, steps) {
+        match kids.order(middle, &key, label, counts) {
             Ordering::Less => low = middle + 1,
             Ordering::Equal => return Some(middle),
             Ordering::Greater => high = middle,
         }
     }
     None
-}
-
-// Compares a row's label with another label, whose key is `key`. This counts as one comparison.
-// Mostly the keys differ. If they are equal and one label has no octets beyond its key, it is a
-// prefix of the other.
-fn order(
-    records: &[StoredRecord],
-    row: &Row,
-    key: &LabelKey,
-    label: &[u8],
-    steps: &mut Steps<'_>,
-) -> Ordering
-    requires row { IsRow records.now row.now (row_name records.now row.now) }
-    requires key { IsKey key.now (map to_ascii_lowercase label.now) }
-    requires room { steps.old.comparisons < 4294967295 }
-    ensures order { result ≡ label_order (row_label records.now row.now)
-        (map to_ascii_lowercase label.now) }
-    ensures counted { steps.new ≡ record steps.old { comparisons = steps.old.comparisons + 1 } }
-{
-    steps.comparisons += 1;
-    if row.key.front != key.front {
-        return row.key.front.cmp(&key.front);
-    }
-    if row.key.next != key.next {
-        return row.key.next.cmp(&key.next);
-    }
-    let count = usize::from(row.label_octets);
-    if count <= KEY_OCTETS || label.len() <= KEY_OCTETS {
-        return count.cmp(&label.len());
-    }
-    let own = first_octets(&NameRef::new(octets_of(records, row)));
-    order_to(own.split_at(KEY_OCTETS).1, label.split_at(KEY_OCTETS).1)
 }

@@ -2,10 +2,10 @@
 ghost use Rattle.std.specs.Prelude.{◌≡◌, ◌+◌, ◌<◌};
 ghost use Rattle.dns_spec.specs.Names.{folded};
 ghost use Rattle.dns_zone.specs.Nodes.{IsNode};
-ghost use Rattle.dns_zone.specs.NodeForm.{IsZoneTree};
 ghost use Rattle.dns_zone.specs.ZoneForm.{IsBuilt};
 
 use crate::tree::Tree;
+use crate::tree::counts::Counts;
 use crate::tree::node::Node;
 use crate::tree::row::RowNumber;
 use crate::zone::Zone;
@@ -19,8 +19,7 @@ use std::marker::Model;
 #[derive(Drop)]
 pub struct Steps<'z> {
     tree: &'z Tree,
-    visits: u32,
-    pub(crate) comparisons: u32,
+    pub(crate) counts: Counts,
 }
 
 impl<'z> Model for Steps<'z> {
@@ -31,8 +30,8 @@ impl<'z> Model for Steps<'z> {
 
     ghost view = { λ s. record {
       zone = s.tree.now.zone;
-      visits = s.visits;
-      comparisons = s.comparisons;
+      visits = s.counts.visits;
+      comparisons = s.counts.comparisons;
     } };
 
     ghost invariant = { λ s. IsZoneTree s.tree.now };
@@ -43,18 +42,9 @@ impl<'z> Steps<'z> {
     pub fn new(zone: &'z Zone) -> Steps<'z>
         ensures { result ≡ record { zone = zone.now; visits = 0; comparisons = 0 } }
     {
-        Steps::over(&zone.tree)
-    }
-
-    // The same for the tree of a zone that is being made.
-    pub(crate) fn over(tree: &'z Tree) -> Steps<'z>
-        requires { IsZoneTree tree.now }
-        ensures { result ≡ record { zone = tree.now.zone; visits = 0; comparisons = 0 } }
-    {
         Steps {
-            tree,
-            visits: 0,
-            comparisons: 0,
+            tree: &zone.tree,
+            counts: Counts::over(&zone.tree),
         }
     }
 
@@ -62,16 +52,14 @@ impl<'z> Steps<'z> {
     pub fn visits(&self) -> u32
         ensures { result ≡ self.now.visits }
     {
-        let Steps { visits, .. } = self;
-        *visits
+        self.counts.visits()
     }
 
     /// How many times a label was compared with a child's label.
     pub fn comparisons(&self) -> u32
         ensures { result ≡ self.now.comparisons }
     {
-        let Steps { comparisons, .. } = self;
-        *comparisons
+        self.counts.comparisons()
     }
 
     /// The origin of the zone, in lower case.
@@ -94,14 +82,7 @@ impl<'z> Steps<'z> {
         ensures comparisons { self.new.comparisons ≡ self.old.comparisons }
         ensures zone { self.new.zone ≡ self.old.zone }
     {
-        self.count_visit();
+        self.counts.count_visit();
         Node::at(self.tree, RowNumber(0))
-    }
-
-    pub(crate) fn count_visit(&mut self)
-        requires { self.old.visits < 4294967295 }
-        ensures { self.new ≡ record self.old { visits = self.old.visits + 1 } }
-    {
-        self.visits += 1;
     }
 }

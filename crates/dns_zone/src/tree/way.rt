@@ -6,10 +6,12 @@ ghost use Rattle.dns_zone.specs.NodeForm.{IsZoneTree, IsHintAt, IsOnWay};
 
 use crate::order::key::count_alike;
 use crate::tree::Tree;
+use crate::tree::counts::Counts;
+use crate::tree::kids::Kids;
 use crate::tree::labels::MOST_LABELS;
-use crate::tree::node::{Node, kid_of};
+use crate::tree::node::Node;
 use crate::tree::row::RowNumber;
-use crate::tree::steps::Steps;
+use crate::tree::search::kid_of;
 use arrayvec::ArrayVec;
 use dns_name::{Label, NameRef, first_label};
 use dns_rdata::RType;
@@ -139,7 +141,8 @@ impl<'z> Way<'z> {
     fn go_down(&mut self, label: &Label<'_>, octets: usize) -> bool
         ensures { self.new ≡ self.old }
     {
-        let kid = kid_of(self.tree, self.last(), label, &mut Steps::over(self.tree));
+        let kids = Kids::of(self.tree, self.last());
+        let kid = kid_of(&kids, label, &mut Counts::over(self.tree));
         let Some(row) = kid else {
             self.missing = octets;
             return false;

@@ -2,7 +2,7 @@ use Rattle.dns_zone.proofs.Common.{List, ◌≡◌, ◌≤◌, ◌⊎◌, inl, i
 use Rattle.dns_zone.specs.declared.tree.label_key.LabelKey.{LabelKey}
 use Rattle.dns_zone.specs.TreeForm.{first_of as first_label}
 use Rattle.dns_zone.proofs.LabelKeys.{first_lower, front_order, next_order, by_length, after_key}
-use Rattle.dns_zone.proofs.tree.search.order.Goals as goal
+use Rattle.dns_zone.proofs.tree.kids.order_of.Goals as goal
 
 module _ (rs : List ResourceRecord) (row : Row) (key : LabelKey) (label : Octets)
     (is_row : IsRow rs row (row_name rs row)) (is_key : IsKey key label)
@@ -31,23 +31,22 @@ module _ (rs : List ResourceRecord) (row : Row) (key : LabelKey) (label : Octets
         → label_order (drop 16 own) (drop 16 label) ≡ label_order own label
     longer l m = after_key own_front is_key.front own_next is_key.next l m
 
-pub returns-then-row-key-clause-order : goal.returns-then-row-key-clause-order
-returns-then-row-key-clause-order c =
+pub returns-then-row-key : goal.returns-then-row-key
+returns-then-row-key c =
     let row = c.args.row.now in
     let own = first_lower (row_name c.args.records.now row) c.requires.row.lower in
     c.cmp.ensures
     ∙ front_order (subst (λ l. IsEight row.key.front l) own c.requires.row.key.front)
     c.requires.key.front c.if-row-key.true
 
-pub returns-then-row-key-2-clause-order : goal.returns-then-row-key-2-clause-order
-returns-then-row-key-2-clause-order c =
+pub returns-then-row-key-2 : goal.returns-then-row-key-2
+returns-then-row-key-2 c =
     c.cmp-then-row-key-2.ensures
     ∙ next c.args.records.now c.args.row.now c.args.key.now (map to_ascii_lowercase
     c.args.label.now) c.requires.row c.requires.key c.if-row-key.false c.if-row-key-2.true
 
-pub returns-then-count-le-KEY_OCTETS-clause-order :
-    goal.returns-then-count-le-KEY_OCTETS-clause-order
-returns-then-count-le-KEY_OCTETS-clause-order c =
+pub returns-then-count-le-KEY_OCTETS : goal.returns-then-count-le-KEY_OCTETS
+returns-then-count-le-KEY_OCTETS c =
     let label = map to_ascii_lowercase c.args.label.now in
     let count = length-map c.args.label.now to_ascii_lowercase in
     let own_count = c.from-count.ensures ∙ c.requires.row.label_octets in
@@ -70,8 +69,8 @@ order_to-requires c =
     ap (map to_ascii_lowercase) c.split_at.ensures.back
     ∙ sym (drop-map to_ascii_lowercase 16 own) ∙ ap (drop 16) lower ∙ sym c.split_at.ensures.back
 
-pub returns-clause-order : goal.returns-clause-order
-returns-clause-order c =
+pub returns : goal.returns
+returns c =
     let count = length-map c.args.label.now to_ascii_lowercase in
     let own_count = c.requires.row.label_octets in
     let long = c.if-count-le-KEY_OCTETS.false in
