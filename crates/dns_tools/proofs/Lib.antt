@@ -1,6 +1,7 @@
 pub mod Common
 mod LineParts
-mod SocketArguments
+mod LastArguments
+mod ClapOptions
 mod CheckedZone
 mod PrintedLines
 pub mod LineDigits

@@ -1,8 +1,8 @@
 -- When the arguments of a command line are accepted or refused.
-use Rattle.std.specs.Prelude.{◌≡◌, Bool, true, false, List, []}
+use Rattle.std.specs.Prelude.{⊤, ◌≡◌, ◌≢◌, ◌⊎◌, Bool, true, false, List, [], ◌∷◌, codes}
 use Rattle.dns_spec.specs.Names.{Octets, DomainName, folded}
 use Rattle.dns_spec.specs.NameText.{SpellsName}
-use Rattle.dns_spec.specs.CommandWords.{ZoneWords, AskToCheck, Transport, udp, tcp, ServiceAsked, by_lines, by_turns, AskToServe, SocketAsked, AskAtSocket}
+use Rattle.dns_spec.specs.CommandWords.{ZoneWords, AskToCheck, Transport, udp, tcp, ServiceAsked, by_lines, by_turns, service_words, HasTurns, AskToServe, SocketAsked, AskAtSocket}
 use Rattle.dns_answer.specs.declared.reply.Limit.{Limit}
 use Rattle.dns_answer.specs.declared.reply.Limit.TheVariants as limits
 use Rattle.dns_tools.specs.Checked.{options_of}
@@ -20,6 +20,10 @@ is_word_fault Usage = true
 is_word_fault BadOrigin = true
 is_word_fault NoMemory = true
 is_word_fault _ = false
+
+-- the diagnostics before ORIGIN is read
+abbrev pub IsRefusal : FaultWord → Type 0
+IsRefusal fault = (fault ≡ Usage) ⊎ (fault ≡ NoMemory)
 
 -- the name that ORIGIN spells, relative to the root, in lower case
 pub record IsOrigin (word : Octets) (origin : DomainName) : Type 0 where
@@ -45,16 +49,22 @@ pub record HasBadOrigin {A : Type 0} (Ask : A → ZoneWords → Type 0) : Type 0
   pub asked : Ask meant zone
   pub bad : IsNoOrigin zone.origin
 
+-- the arguments ask for nothing
+abbrev pub AskNothing : {A : Type 0} → (A → ZoneWords → Type 0) → Type 0
+AskNothing {A} Ask = (a : A) (z : ZoneWords) → Ask a z → ⊥
+
 -- the arguments ask the checker for this
 abbrev pub IsCheckCall : List Octets → CheckWords → Type 0
 IsCheckCall words call = IsCall (AskToCheck words (options_of call.flags)) call.origin call.file.now
 
-abbrev pub HasBadCheckOrigin : List Octets → Type 0
-HasBadCheckOrigin words = HasBadOrigin (AskToCheck words)
-
 abbrev pub transport_of : Limit → Transport
 transport_of limits.Udp = udp
 transport_of limits.Tcp = tcp
+
+-- the arguments after `once`
+abbrev pub limit_words : Transport → List Octets
+limit_words udp = []
+limit_words tcp = codes "--tcp" ∷ []
 
 -- the service that is asked for
 abbrev pub service_of : Service → ServiceAsked
@@ -62,13 +72,25 @@ service_of (Once limit) = by_lines (transport_of limit)
 service_of (Udp address turns) = by_turns udp address.now turns
 service_of (Tcp address turns) = by_turns tcp address.now turns
 
--- the arguments ask the server for this
+-- `--`, which ends options elsewhere, is no ADDR
+abbrev pub HasAddress : ServiceAsked → Type 0
+HasAddress (by_lines transport) = ⊤
+HasAddress (by_turns transport address turns) = address ≢ codes "--"
+
+-- the arguments before ORIGIN and FILE ask for this service; its ADDR is not `--`
+pub record IsService (front : List Octets) (a : ServiceAsked) : Type 0 where
+  pub words : front ≡ service_words a
+  pub turns : HasTurns a
+  pub address : HasAddress a
+
+-- the arguments ask the server for this; its ADDR is not `--`
+pub record AskForService (words : List Octets) (a : ServiceAsked) (z : ZoneWords) : Type 0 where
+  pub asked : AskToServe words a z
+  pub address : HasAddress a
+
 abbrev pub IsServeCall : List Octets → ServeWords → Type 0
 IsServeCall words call =
-    IsCall (AskToServe words (service_of call.service)) call.origin call.file.now
-
-abbrev pub HasBadServeOrigin : List Octets → Type 0
-HasBadServeOrigin words = HasBadOrigin (AskToServe words)
+    IsCall (AskForService words (service_of call.service)) call.origin call.file.now
 
 -- the arguments ask the server of a given socket for this
 abbrev pub socket_asked : SocketWords → SocketAsked
@@ -77,10 +99,3 @@ socket_asked call = record { transport = transport_of call.transport; turns = ca
 abbrev pub IsSocketCall : List Octets → SocketWords → Type 0
 IsSocketCall words call =
     IsCall (AskAtSocket words (socket_asked call)) call.origin call.file.now
-
-abbrev pub HasBadSocketOrigin : List Octets → Type 0
-HasBadSocketOrigin words = HasBadOrigin (AskAtSocket words)
-
--- the arguments ask it for nothing
-abbrev pub AskNoSocket : List Octets → Type 0
-AskNoSocket words = (a : SocketAsked) (z : ZoneWords) → AskAtSocket words a z → ⊥

@@ -3,6 +3,7 @@ pub mod Load
 pub mod Status
 pub mod Stops
 pub mod Arguments
+pub mod ClapCommands
 pub mod Checked
 pub mod Sockets
 pub mod Turns

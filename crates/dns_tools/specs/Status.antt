@@ -1,5 +1,7 @@
 -- The exit status of a program.
 use Rattle.std.specs.Prelude.{ℕ, Bool, true, false, if◌then◌else◌, Result, Ok, Err}
+use Rattle.clap.specs.declared.error.kind.ErrorKind.{ErrorKind}
+use Rattle.clap.specs.declared.error.kind.ErrorKind.TheVariants.{OutOfMemory}
 use Rattle.dns_tools.specs.declared.fault.Stop.{Stop}
 use Rattle.dns_tools.specs.declared.fault.Stop.TheVariants.{Memory, Source, Sink}
 use Rattle.dns_serve.specs.declared.fault.TurnFault.{TurnFault}
@@ -11,7 +13,7 @@ use Rattle.dns_tools.specs.declared.fault.TurnWord.TheVariants.{NoDatagram, NotS
 use Rattle.dns_tools.specs.declared.fault.TurnWord.TheVariants.{StreamNotRead, StreamNotWritten}
 use Rattle.dns_tools.specs.declared.fault.TurnWord.TheVariants.{StreamCut}
 use Rattle.dns_tools.specs.declared.fault.FaultWord.{FaultWord}
-use Rattle.dns_tools.specs.declared.fault.FaultWord.TheVariants.{NoMemory}
+use Rattle.dns_tools.specs.declared.fault.FaultWord.TheVariants.{NoMemory, Usage}
 use Rattle.dns_tools.specs.declared.fault.FaultWord.TheVariants.{SourceFailed as FileFailed}
 use Rattle.dns_tools.specs.declared.fault.FaultWord.TheVariants.{SinkFailed as NotWritten}
 
@@ -26,6 +28,11 @@ abbrev pub word_of : Stop → FaultWord
 word_of Memory = NoMemory
 word_of Source = FileFailed
 word_of Sink = NotWritten
+
+-- the diagnostic for arguments that `clap` refuses
+abbrev pub word_of_kind : ErrorKind → FaultWord
+word_of_kind OutOfMemory = NoMemory
+word_of_kind _ = Usage
 
 -- how a program ends: with a status, or with a diagnostic
 abbrev pub end_of : Result Bool Stop → Result ℕ FaultWord

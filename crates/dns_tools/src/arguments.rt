@@ -1,13 +1,18 @@
 //! The arguments of the programs.
-ghost use Rattle.std.specs.Prelude.{◌≡◌, ◌⊎◌, ℕ, ◌≤◌, [], ◌∷◌, IsTrue, IfOk, IfErr, IfSome, IsNone, Err, map, not, decimal};
-ghost use Rattle.std.specs.Bool.{OnTrue};
-ghost use Rattle.dns_spec.specs.CommandWords.{is_dashed, EndWords, AskToCheck, AskToServe, Transport, transport_word};
+ghost use Rattle.std.specs.Prelude.{◌≡◌, ◌≢◌, ◌⊎◌, ℕ, ◌≤◌, false, List, [], ◌∷◌, IsTrue, IfOk, IfErr, IfSome, IsNone, Err, map, decimal};
+ghost use Rattle.std.specs.Bool.{OnTrue, OnFalse};
+ghost use Rattle.dns_spec.specs.Names.{Octets};
+ghost use Rattle.dns_spec.specs.Report.{Options};
+ghost use Rattle.dns_spec.specs.CommandWords.{is_dashed, ZoneWords, EndWords, AreOptions, AskToCheck, AskAtSocket, ServiceAsked, by_turns, Transport, transport_word};
+ghost use Rattle.clap.specs.Walk.{rule_of};
+ghost use Rattle.clap.specs.Simple.{app_of};
 ghost use Rattle.dns_tools.specs.Checked.{options_of};
-ghost use Rattle.dns_tools.specs.Arguments.{is_word_fault, service_of, IsOrigin, IsNoOrigin, IsCheckCall, HasBadCheckOrigin, IsServeCall, HasBadServeOrigin, IsSocketCall, HasBadSocketOrigin, AskNoSocket, transport_of};
+ghost use Rattle.dns_tools.specs.Arguments.{is_word_fault, IsRefusal, service_of, transport_of, limit_words, IsOrigin, IsNoOrigin, IsService, AskForService, IsCheckCall, IsServeCall, IsSocketCall, HasBadOrigin, AskNothing};
+ghost use Rattle.dns_tools.specs.ClapCommands.{option_rule, bare_app, once_app, check_app};
 
 use crate::check::Flags;
 use crate::fault::FaultWord;
-use clap::{Arg, ArgAction, ArgMatches, Command};
+use clap::{Arg, ArgAction, Command};
 use dns_answer::Limit;
 use dns_name::Name;
 use dns_rdata::read_number;
@@ -29,6 +34,9 @@ const UDP: &str = "udp";
 const TCP: &str = "tcp";
 
 const TCP_OPTION: &str = "--tcp";
+
+// No ADDR is this: it ends the options of other programs.
+const END_OF_OPTIONS: &str = "--";
 
 // The most turns that a server takes.
 const MOST_TURNS: u32 = 1_000_000;
@@ -92,57 +100,51 @@ pub struct SocketWords<'a> {
 
 /// Parses the arguments after the program's own name: `once [--tcp] ORIGIN FILE`, or `udp` or
 /// `tcp` and `ADDR TURNS ORIGIN FILE`. ORIGIN is a name relative to the root, and TURNS a number
-/// from 1 to 1,000,000. ADDR is not parsed yet.
+/// from 1 to 1,000,000. ADDR is not parsed yet, but it is not `--`.
 ///
-/// Fails with `usage` for any other arguments, and if ORIGIN or FILE begins with `-`; then with
-/// `bad origin` if ORIGIN is not a name. There are no other options, not even for help or the
-/// version.
+/// Fails with `usage` if and only if the arguments are not of this form, or ORIGIN or FILE begins
+/// with `-`; then with `bad origin` if ORIGIN is not a name. There are no other options, not even
+/// for help or the version.
 pub fn serve_words<'a, S: AsStr>(alloc: Global, words: &'a [S]) -> Result<ServeWords<'a>, FaultWord>
-    ensures fault { IfErr result (λ fault. IsTrue (is_word_fault fault)) }
     ensures asked { IfOk result (IsServeCall (map S.text words.entry.now)) }
     ensures origin { result ≡ Err FaultWord.BadOrigin
-        → HasBadServeOrigin (map S.text words.entry.now) }
+        → HasBadOrigin (AskForService (map S.text words.entry.now)) }
+    ensures usage { result ≡ Err FaultWord.Usage
+        → AskNothing (AskForService (map S.text words.entry.now)) }
+    ensures fault { IfErr result (λ fault. IsTrue (is_word_fault fault)) }
 {
-    let matches = serve_command(alloc)?.try_get_matches_from(words)?;
-    // The parsed values are checked against the arguments.
-    match given_service(&matches) {
-        Some((service, origin, file)) if ask_to_serve(words, &service, origin, file) => {
-            Ok(ServeWords {
-                service,
-                origin: given_origin(origin)?,
-                file,
-            })
-        }
-        _ => Err(FaultWord::Usage),
-    }
+    let Some((front, origin, file)) = zone_words(words) else {
+        return Err(FaultWord::Usage);
+    };
+    Ok(ServeWords {
+        service: given_service(alloc, front)?,
+        origin: given_origin(origin)?,
+        file,
+    })
 }
 
 /// Parses the arguments after the program's own name: `--quiet` and `--print`, in either order and
 /// each at most once, then ORIGIN, a name relative to the root, and FILE.
 ///
-/// Fails with `usage` for any other arguments, and if one after these options begins with `-`;
-/// then with `bad origin` if ORIGIN is not a name. There are no other options, not even for help
-/// or the version.
+/// Fails with `usage` if and only if the arguments are not of this form, or ORIGIN or FILE begins
+/// with `-`; then with `bad origin` if ORIGIN is not a name. There are no other options, not even
+/// for help or the version.
 pub fn check_words<'a, S: AsStr>(alloc: Global, words: &'a [S]) -> Result<CheckWords<'a>, FaultWord>
     ensures asked { IfOk result (IsCheckCall (map S.text words.entry.now)) }
     ensures origin { result ≡ Err FaultWord.BadOrigin
-        → HasBadCheckOrigin (map S.text words.entry.now) }
+        → HasBadOrigin (AskToCheck (map S.text words.entry.now)) }
+    ensures usage { result ≡ Err FaultWord.Usage
+        → AskNothing (AskToCheck (map S.text words.entry.now)) }
     ensures fault { IfErr result (λ fault. IsTrue (is_word_fault fault)) }
 {
-    let matches = check_command(alloc)?.try_get_matches_from(words)?;
-    let flags = Flags {
-        quiet: matches.get_flag(QUIET),
-        print: matches.get_flag(PRINT),
+    let Some((options, origin, file)) = zone_words(words) else {
+        return Err(FaultWord::Usage);
     };
-    // The parsed values are checked against the arguments.
-    match named_values(&matches) {
-        Some((origin, file)) if ask_to_check(words, flags, origin, file) => Ok(CheckWords {
-            flags,
-            origin: given_origin(origin)?,
-            file,
-        }),
-        _ => Err(FaultWord::Usage),
-    }
+    Ok(CheckWords {
+        flags: given_flags(alloc, options)?,
+        origin: given_origin(origin)?,
+        file,
+    })
 }
 
 /// Parses the arguments after the program's own name: `udp` or `tcp`, TURNS, a number from 1 to
@@ -153,28 +155,162 @@ pub fn check_words<'a, S: AsStr>(alloc: Global, words: &'a [S]) -> Result<CheckW
 pub fn socket_words<'a, S: AsStr>(words: &'a [S]) -> Result<SocketWords<'a>, FaultWord>
     ensures asked { IfOk result (IsSocketCall (map S.text words.entry.now)) }
     ensures origin { result ≡ Err FaultWord.BadOrigin
-        → HasBadSocketOrigin (map S.text words.entry.now) }
-    ensures usage { result ≡ Err FaultWord.Usage → AskNoSocket (map S.text words.entry.now) }
+        → HasBadOrigin (AskAtSocket (map S.text words.entry.now)) }
+    ensures usage { result ≡ Err FaultWord.Usage
+        → AskNothing (AskAtSocket (map S.text words.entry.now)) }
     ensures fault { IfErr result
         (λ fault. (fault ≡ FaultWord.Usage) ⊎ (fault ≡ FaultWord.BadOrigin)) }
 {
-    let [transport, turns, origin, file] = words else {
+    let Some((front, origin, file)) = zone_words(words) else {
         return Err(FaultWord::Usage);
     };
+    let Some((transport, turns)) = said_turns_over(front) else {
+        return Err(FaultWord::Usage);
+    };
+    Ok(SocketWords {
+        transport,
+        turns,
+        origin: given_origin(origin)?,
+        file,
+    })
+}
+
+// ORIGIN and FILE, which are the last arguments, after the arguments before them. `None` if there
+// are fewer than two arguments, or if ORIGIN or FILE begins with `-`.
+fn zone_words<'a, S: AsStr>(words: &'a [S]) -> Option<(&'a [S], &'a str, &'a str)>
+    ensures some { IfSome result (λ r. EndWords (map S.text words.entry.now) (map S.text r.0.now)
+        (record { origin = r.1.now; file = r.2.now })) }
+    ensures none { IsNone result → (front : List Octets) (z : ZoneWords)
+        → EndWords (map S.text words.entry.now) front z → ⊥ }
+{
+    let (file, others) = words.split_last()?;
+    let (origin, front) = others.split_last()?;
     let (origin, file) = (origin.as_str(), file.as_str());
-    match (
-        said_transport(transport.as_str()),
-        said_turns(turns.as_str()),
-    ) {
-        (Some(transport), Some(turns)) if !is_dashed(origin) && !is_dashed(file) => {
-            Ok(SocketWords {
-                transport,
-                turns,
-                origin: given_origin(origin)?,
-                file,
-            })
+    if is_dashed(origin) || is_dashed(file) {
+        return None;
+    }
+    Some((front, origin, file))
+}
+
+// The service that the arguments before ORIGIN and FILE ask for.
+fn given_service<'a, S: AsStr>(alloc: Global, front: &'a [S]) -> Result<Service<'a>, FaultWord>
+    ensures ok { IfOk result (λ s. IsService (map S.text front.entry.now) (service_of s)) }
+    ensures usage { result ≡ Err FaultWord.Usage → (a : ServiceAsked)
+        → IsService (map S.text front.entry.now) a → ⊥ }
+    ensures fault { IfErr result IsRefusal }
+{
+    match front.split_first() {
+        Some((word, options)) if word.as_str() == ONCE => {
+            Ok(Service::Once(given_limit(alloc, options)?))
         }
-        _ => Err(FaultWord::Usage),
+        _ => match said_service(front) {
+            Some(service) => Ok(service),
+            None => Err(FaultWord::Usage),
+        },
+    }
+}
+
+// The limit that the options of `once` ask for.
+fn given_limit<'a, S: AsStr>(alloc: Global, options: &'a [S]) -> Result<Limit, FaultWord>
+    ensures ok { IfOk result (λ limit. map S.text options.entry.now
+        ≡ limit_words (transport_of limit)) }
+    ensures usage { result ≡ Err FaultWord.Usage → (t : Transport)
+        → map S.text options.entry.now ≡ limit_words t → ⊥ }
+    ensures fault { IfErr result IsRefusal }
+{
+    let matches = once_command(alloc)?.try_get_matches_from(options)?;
+    // By itself `clap` takes `--` as the end of the options.
+    if matches.get_flag(TCP) && are_words(options, &[TCP_OPTION]) {
+        return Ok(Limit::Tcp);
+    }
+    if are_words(options, &[]) {
+        return Ok(Limit::Udp);
+    }
+    Err(FaultWord::Usage)
+}
+
+// The service at an address that the arguments before ORIGIN and FILE ask for.
+fn said_service<'a, S: AsStr>(front: &'a [S]) -> Option<Service<'a>>
+    ensures some { IfSome result (λ s. IsService (map S.text front.entry.now) (service_of s)) }
+    ensures none { IsNone result → (t : Transport) (address : Octets) (n : ℕ)
+        → IsService (map S.text front.entry.now) (by_turns t address n) → ⊥ }
+{
+    let [transport, address, turns] = front else {
+        return None;
+    };
+    let (address, turns) = (address.as_str(), said_turns(turns.as_str())?);
+    if address == END_OF_OPTIONS {
+        return None;
+    }
+    match said_transport(transport.as_str())? {
+        Limit::Udp => Some(Service::Udp { address, turns }),
+        Limit::Tcp => Some(Service::Tcp { address, turns }),
+    }
+}
+
+// The options of the checker.
+fn given_flags<'a, S: AsStr>(alloc: Global, options: &'a [S]) -> Result<Flags, FaultWord>
+    ensures ok { IfOk result (λ flags.
+        AreOptions (options_of flags) (map S.text options.entry.now)) }
+    ensures usage { result ≡ Err FaultWord.Usage → (o : Options)
+        → AreOptions o (map S.text options.entry.now) → ⊥ }
+    ensures fault { IfErr result IsRefusal }
+{
+    let matches = check_command(alloc)?.try_get_matches_from(options)?;
+    let flags = Flags {
+        quiet: matches.get_flag(QUIET),
+        print: matches.get_flag(PRINT),
+    };
+    // By itself `clap` takes `--` as the end of the options.
+    if are_options(options, flags) {
+        return Ok(flags);
+    }
+    Err(FaultWord::Usage)
+}
+
+// Whether the arguments are these options.
+fn are_options<S: AsStr>(words: &[S], flags: Flags) -> bool
+    ensures same { OnTrue result (AreOptions (options_of flags) (map S.text words.now)) }
+    ensures other { OnFalse result (AreOptions (options_of flags) (map S.text words.now) → ⊥) }
+{
+    match (flags.quiet, flags.print) {
+        (false, false) => are_words(words, &[]),
+        (true, false) => are_words(words, &[QUIET_OPTION]),
+        (false, true) => are_words(words, &[PRINT_OPTION]),
+        (true, true) => {
+            are_words(words, &[QUIET_OPTION, PRINT_OPTION])
+                || are_words(words, &[PRINT_OPTION, QUIET_OPTION])
+        }
+    }
+}
+
+// The transport and the number of turns that the arguments are.
+fn said_turns_over<S: AsStr>(front: &[S]) -> Option<(Limit, u32)>
+    ensures some { IfSome result (λ r. (map S.text front.now
+        ≡ transport_word (transport_of r.0) ∷ decimal r.1 ∷ []) × (1 ≤ r.1) × (r.1 ≤ 1000000)) }
+    ensures none { IsNone result → (t : Transport) (n : ℕ)
+        → map S.text front.now ≡ transport_word t ∷ decimal n ∷ [] → 1 ≤ n → n ≤ 1000000 → ⊥ }
+{
+    let [transport, turns] = front else {
+        return None;
+    };
+    Some((
+        said_transport(transport.as_str())?,
+        said_turns(turns.as_str())?,
+    ))
+}
+
+// Whether the arguments are the wanted ones.
+fn are_words<S: AsStr>(words: &[S], wanted: &[&str]) -> bool
+    ensures same { OnTrue result (map S.text words.now ≡ map (λ w. w.now) wanted.now) }
+    ensures other { OnFalse result (map S.text words.now ≢ map (λ w. w.now) wanted.now) }
+{
+    match (words.split_first(), wanted.split_first()) {
+        (Some((word, words)), Some((first, wanted))) => {
+            word.as_str() == *first && are_words(words, wanted)
+        }
+        (None, None) => true,
+        _ => false,
     }
 }
 
@@ -217,160 +353,33 @@ fn given_origin(word: &str) -> Result<Name, FaultWord>
     Ok(origin.fold())
 }
 
-fn ask_to_serve<S: AsStr>(words: &[S], service: &Service<'_>, origin: &str, file: &str) -> bool
-    ensures { OnTrue result (AskToServe (map S.text words.now) (service_of service.now)
-        (record { origin = origin.now; file = file.now })) }
+fn once_command<'a>(alloc: Global) -> Result<Command<'a>, AllocError>
+    ensures { IfOk result (λ c. app_of c ≡ once_app) }
 {
-    let Some(front) = before_zone(words, origin, file) else {
-        return false;
-    };
-    match service {
-        Service::Once(Limit::Udp) => are_words(front, &[ONCE]),
-        Service::Once(Limit::Tcp) => are_words(front, &[ONCE, TCP_OPTION]),
-        Service::Udp { address, turns } => are_turns(front, UDP, address, *turns),
-        Service::Tcp { address, turns } => are_turns(front, TCP, address, *turns),
-    }
+    bare_command(alloc, ONCE).arg(option(alloc, TCP))
 }
 
-// Whether the arguments are this transport, address and number of turns.
-fn are_turns<S: AsStr>(words: &[S], transport: &str, address: &str, turns: u32) -> bool
-    ensures words { OnTrue result (map S.text words.now
-        ≡ transport.now ∷ address.now ∷ decimal turns ∷ []) }
-    ensures turns { OnTrue result ((1 ≤ turns) × (turns ≤ 1000000)) }
+fn check_command<'a>(alloc: Global) -> Result<Command<'a>, AllocError>
+    ensures { IfOk result (λ c. app_of c ≡ check_app) }
 {
-    match words.split_last() {
-        Some((count, front)) => {
-            are_words(front, &[transport, address]) && is_count(count.as_str(), turns)
-        }
-        None => false,
-    }
-}
-
-fn are_words<S: AsStr>(words: &[S], wanted: &[&str]) -> bool
-    ensures { OnTrue result (map S.text words.now ≡ map (λ w. w.now) wanted.now) }
-{
-    match (words.split_first(), wanted.split_first()) {
-        (Some((word, words)), Some((first, wanted))) => {
-            word.as_str() == *first && are_words(words, wanted)
-        }
-        (None, None) => true,
-        _ => false,
-    }
-}
-
-// The arguments before ORIGIN and FILE; `None` if the last two are not these.
-fn before_zone<'a, S: AsStr>(words: &'a [S], origin: &str, file: &str) -> Option<&'a [S]>
-    ensures { IfSome result (λ front. EndWords (map S.text words.now) (map S.text front.now)
-        (record { origin = origin.now; file = file.now })) }
-{
-    let (last, others) = words.split_last()?;
-    let (first, front) = others.split_last()?;
-    if is_value(first.as_str(), origin) && is_value(last.as_str(), file) {
-        return Some(front);
-    }
-    None
-}
-
-fn is_count(word: &str, turns: u32) -> bool
-    ensures { OnTrue result ((word.now ≡ decimal turns) × (1 ≤ turns) × (turns ≤ 1000000)) }
-{
-    said_turns(word) == Some(turns)
-}
-
-fn is_value(word: &str, value: &str) -> bool
-    ensures { OnTrue result ((word.now ≡ value.now) × IsTrue (not (is_dashed value.now))) }
-{
-    word == value && !is_dashed(value)
-}
-
-fn serve_command<'a>(alloc: Global) -> Result<Command<'a>, AllocError> {
-    let once = Command::new(alloc, ONCE)
-        .disable_help_flag(true)
-        .arg(option(alloc, TCP))?
-        .arg(value(alloc, "ORIGIN"))?
-        .arg(value(alloc, "FILE"))?;
-    Command::new(alloc, "zoneserve")
-        .no_binary_name(true)
-        .disable_help_flag(true)
-        .disable_version_flag(true)
-        .disable_help_subcommand(true)
-        .subcommand_required(true)
-        .subcommand(once)?
-        .subcommand(listen_command(alloc, UDP)?)?
-        .subcommand(listen_command(alloc, TCP)?)
-}
-
-fn listen_command<'a>(alloc: Global, name: &'a str) -> Result<Command<'a>, AllocError> {
-    Command::new(alloc, name)
-        .disable_help_flag(true)
-        .arg(value(alloc, "ADDR").allow_hyphen_values(true))?
-        .arg(value(alloc, "TURNS"))?
-        .arg(value(alloc, "ORIGIN"))?
-        .arg(value(alloc, "FILE"))
-}
-
-fn value<'a>(alloc: Global, name: &'a str) -> Arg<'a> {
-    Arg::new(alloc, name).required(true).action(ArgAction::Set)
-}
-
-fn given_service<'a>(matches: &ArgMatches<'a>) -> Option<(Service<'a>, &'a str, &'a str)> {
-    let (service, given) = if let Some(given) = matches.subcommand_matches(ONCE) {
-        let limit = if given.get_flag(TCP) {
-            Limit::Tcp
-        } else {
-            Limit::Udp
-        };
-        (Service::Once(limit), given)
-    } else if let Some(given) = matches.subcommand_matches(UDP) {
-        let (address, turns) = given_turns(given)?;
-        (Service::Udp { address, turns }, given)
-    } else {
-        let given = matches.subcommand_matches(TCP)?;
-        let (address, turns) = given_turns(given)?;
-        (Service::Tcp { address, turns }, given)
-    };
-    let (origin, file) = named_values(given)?;
-    Some((service, origin, file))
-}
-
-fn given_turns<'a>(matches: &ArgMatches<'a>) -> Option<(&'a str, u32)> {
-    let turns = read_number(matches.get_str("TURNS")?.as_bytes(), MOST_TURNS)?;
-    Some((matches.get_str("ADDR")?, turns))
-}
-
-fn ask_to_check<S: AsStr>(words: &[S], flags: Flags, origin: &str, file: &str) -> bool
-    ensures { OnTrue result (AskToCheck (map S.text words.now) (options_of flags)
-        (record { origin = origin.now; file = file.now })) }
-{
-    let Some(options) = before_zone(words, origin, file) else {
-        return false;
-    };
-    match (flags.quiet, flags.print) {
-        (false, false) => options.is_empty(),
-        (true, false) => are_words(options, &[QUIET_OPTION]),
-        (false, true) => are_words(options, &[PRINT_OPTION]),
-        (true, true) => {
-            are_words(options, &[QUIET_OPTION, PRINT_OPTION])
-                || are_words(options, &[PRINT_OPTION, QUIET_OPTION])
-        }
-    }
-}
-
-fn check_command<'a>(alloc: Global) -> Result<Command<'a>, AllocError> {
-    Command::new(alloc, "zonecheck")
-        .no_binary_name(true)
-        .disable_help_flag(true)
-        .disable_version_flag(true)
+    bare_command(alloc, "zonecheck")
         .arg(option(alloc, QUIET))?
-        .arg(option(alloc, PRINT))?
-        .arg(value(alloc, "ORIGIN"))?
-        .arg(value(alloc, "FILE"))
+        .arg(option(alloc, PRINT))
 }
 
-fn option<'a>(alloc: Global, name: &'a str) -> Arg<'a> {
+// A command that takes nothing, not even options for help or the version.
+fn bare_command<'a>(alloc: Global, name: &'a str) -> Command<'a>
+    ensures { app_of result ≡ bare_app name.entry.now }
+{
+    Command::new(alloc, name)
+        .no_binary_name(true)
+        .disable_help_flag(true)
+        .disable_version_flag(true)
+}
+
+fn option<'a>(alloc: Global, name: &'a str) -> Arg<'a>
+    ensures rule { rule_of result ≡ option_rule name.entry.now }
+    ensures local { result.global ≡ false }
+{
     Arg::new(alloc, name).long(name).action(ArgAction::SetTrue)
-}
-
-fn named_values<'a>(matches: &ArgMatches<'a>) -> Option<(&'a str, &'a str)> {
-    Some((matches.get_str("ORIGIN")?, matches.get_str("FILE")?))
 }

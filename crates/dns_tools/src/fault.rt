@@ -1,9 +1,10 @@
 //! Why a program stops, the diagnostic that it prints, and its exit status.
-ghost use Rattle.std.specs.Prelude.{◌≡◌, ◌⊎◌};
+ghost use Rattle.std.specs.Prelude.{◌≡◌};
 ghost use Rattle.dns_tools.specs.declared.fault.Stop.TheVariants.{Memory};
-ghost use Rattle.dns_tools.specs.declared.fault.FaultWord.TheVariants.{Usage, BadOrigin, NoMemory};
+ghost use Rattle.dns_tools.specs.declared.fault.FaultWord.TheVariants.{BadOrigin, NoMemory};
+ghost use Rattle.clap.specs.Values.{kind_of};
 ghost use Rattle.dns_tools.specs.Status.{status_of, end_of, status_of_turns};
-ghost use Rattle.dns_tools.specs.Status.{word_of, word_of_turn, word_of_stream};
+ghost use Rattle.dns_tools.specs.Status.{word_of, word_of_kind, word_of_turn, word_of_stream};
 
 use clap::error::ErrorKind;
 use dns_name::NameFault;
@@ -130,7 +131,7 @@ impl From<NameFault> for FaultWord {
 
 /// Arguments that the command line does not take.
 impl From<clap::Error> for FaultWord {
-    ghost from_gives = { λ _ word. (word ≡ Usage) ⊎ (word ≡ NoMemory) };
+    ghost from_gives = { λ error word. word ≡ word_of_kind (kind_of error) };
 
     fn from(error: clap::Error) -> FaultWord {
         match error.kind() {

@@ -84,7 +84,7 @@ fn words_of_the_checker_that_are_taken(rt: HostRuntime) -> Result<(), Fail> {
 
 #[test]
 fn words_that_are_refused(rt: HostRuntime) {
-    let of_server: [&[&str]; 29] = [
+    let of_server: [&[&str]; 30] = [
         &[],
         &["once"],
         &["once", "example"],
@@ -114,6 +114,7 @@ fn words_that_are_refused(rt: HostRuntime) {
         &["udp", "127.0.0.1:53", "1", "-example", "zone"],
         &["udp", "127.0.0.1:53", "1", "example", "-"],
         &["udp", "--tcp", "127.0.0.1:53", "1", "example", "zone"],
+        &["udp", "--", "1", "example", "zone"],
     ];
     for words in of_server {
         let found = serve_words(rt.alloc(), words).err();
