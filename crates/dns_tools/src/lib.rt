@@ -4,6 +4,7 @@
 
 mod arguments;
 mod check;
+mod connections;
 mod fault;
 mod line;
 mod listen;
@@ -21,6 +22,7 @@ pub use arguments::{
     CheckWords, ServeWords, Service, SocketWords, check_words, serve_words, socket_words,
 };
 pub use check::{Flags, check_zone};
+pub use connections::{Connections, Listener};
 pub use fault::{
     FAULT_STATUS, FaultWord, Outcome, Stop, TurnWord, end_of, exit_status, status_of_turns,
 };

@@ -63,8 +63,8 @@ where
             let Ok(mut room) = Box::new(rt.alloc(), StreamRoom::new()) else {
                 return Err(FaultWord::NoMemory);
             };
-            let listener = listener_at(rt, address)?;
-            serve_connections(rt, zone, listener, *turns, &mut room)
+            let mut listener = listener_at(rt, address)?;
+            serve_connections(rt, zone, &mut listener, *turns, &mut room)
         }
     };
     Ok(status_of_turns(are_said))

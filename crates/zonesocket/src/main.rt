@@ -64,9 +64,9 @@ where
             let Ok(mut room) = Box::new(rt.alloc(), StreamRoom::new()) else {
                 return Err(FaultWord::NoMemory);
             };
-            let listener = given_listener(given)?;
+            let mut listener = given_listener(given, rt)?;
             say_serving(rt, zone)?;
-            serve_connections(rt, zone, listener, words.turns, &mut room)
+            serve_connections(rt, zone, &mut listener, words.turns, &mut room)
         }
     };
     Ok(status_of_turns(are_said))

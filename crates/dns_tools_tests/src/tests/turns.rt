@@ -1,9 +1,9 @@
 //! Turns at a device, one after another.
 
 use super::load::sample;
-use dns_serve::Datagrams;
+use dns_serve::{Datagrams, StreamRoom};
 use dns_serve_tests::Mailbox;
-use dns_tools::serve_datagrams;
+use dns_tools::{Connections, TurnWord, serve_connections, serve_datagrams};
 use dns_zone::Zone;
 use std::cell::Cell;
 use std::fmt::Display;
@@ -68,4 +68,36 @@ fn check_turns<R: Abort + Eprint + AllocGlobal>(rt: &R, zone: &Zone) {
         assert_eq!(rt; mailbox.calls, calls);
         assert_eq!(rt; mailbox.failures(), u64::from(fails_at < 9));
     }
+}
+
+// A listener that accepts no connection.
+struct Deaf {
+    asked: u64,
+}
+
+impl Connections for Deaf {
+    ghost use Rattle.std.specs.Prelude.{None};
+
+    ghost state = { λ l. record { asked = l.asked; sessions = None } };
+
+    fn serve_next(&mut self, _zone: &Zone, _room: &mut StreamRoom) -> Result<(), TurnWord> {
+        self.asked += 1;
+        Err(TurnWord::NotAccepted)
+    }
+}
+
+#[test]
+fn connections_go_on_after_a_word_that_is_not_taken(rt: HostRuntime) -> Result<(), Fail> {
+    let zone = sample(rt.alloc())?;
+    let mut room = StreamRoom::new();
+    for turns in [0, 1, 3] {
+        let calls = Cell::new(0);
+        let errors = Refusing { calls: &calls };
+        let mut deaf = Deaf { asked: 0 };
+        let are_said = serve_connections(&errors, &zone, &mut deaf, turns, &mut room);
+        assert_eq!(rt; are_said, turns == 0);
+        assert_eq!(rt; calls.get(), turns.min(1));
+        assert_eq!(rt; deaf.asked, u64::from(turns));
+    }
+    Ok(())
 }

@@ -1,8 +1,8 @@
-use Rattle.dns_tools.proofs.Common.{◌≤◌, ◌+◌, TakesTurns}
+use Rattle.dns_tools.proofs.Common.{◌≡◌, ◌≤◌, ◌+◌, true, TakesTurns}
 use Rattle.dns_tools.proofs.listen.serve_datagrams.Given as goal
 
 -- the device is as `counter` turns leave it, and its count of failures has grown by at most one for
--- each turn
+-- each turn; if it has not grown, the diagnostics were written
 abbrev pub invariant-turns : goal.invariant-turns
 invariant-turns g l = record {
   taken : TakesTurns l.zone l.counter
@@ -17,4 +17,6 @@ invariant-turns g l = record {
         failures = g.D.Datagrams.count l.device;
       });
   count : g.D.Datagrams.count l.device ≤ g.D.Datagrams.count l.initial.device + l.counter;
+  grown : g.D.Datagrams.count l.initial.device ≤ g.D.Datagrams.count l.device;
+  said : g.D.Datagrams.count l.device ≡ g.D.Datagrams.count l.initial.device → l.are_said ≡ true;
 }
