@@ -32,6 +32,6 @@ pub use listen::{
 pub use load::{LoadFault, Refusal, load_zone, write_refusal};
 pub use message::run_message;
 pub use nonblocking::Nonblocking;
-pub use once::run_once;
+pub use once::{LineRoom, run_once, run_once_in};
 pub use socket::Socket;
 pub use startup::{end, finish, given_words, open_file, refuse, say, say_serving};

@@ -52,8 +52,70 @@ pub fn run_once<R: Read, W: Write>(
     ensures unread { result ≡ Err Stop.Memory → source.new ≡ source.old }
     ensures unwritten { result ≡ Err Stop.Memory → sink.new ≡ sink.old }
 {
-    let mut piece = vec![in alloc; 0; PIECE]?;
-    let mut exchange = Exchange::new(alloc, zone, limit)?;
+    let room = LineRoom::new(alloc)?;
+    run_once_in(zone, limit, source, sink, room)
+}
+
+/// The buffers of a run: for the octets that are read at once, for the unfinished line, for the
+/// reply and its digits, and for the drafts of replies.
+#[derive(Drop)]
+pub struct LineRoom {
+    piece: Vec<u8>,
+    line: Line,
+    room: Vec<u8>,
+    drafts: Drafts,
+    ghost piece_octets: { vec_len piece ≡ PIECE },
+    ghost fresh: { line ≡ no_line },
+    ghost room_octets: { vec_len room ≡ MOST_ANSWER },
+}
+
+impl LineRoom {
+    /// New buffers, about 590,000 octets in all. Fails only if allocation fails.
+    pub fn new(alloc: Global) -> Result<LineRoom, AllocError> {
+        Ok(LineRoom {
+            piece: vec![in alloc; 0; PIECE]?,
+            line: Line::new(alloc)?,
+            room: vec![in alloc; 0; MOST_ANSWER]?,
+            drafts: Drafts {
+                udp: UdpDraft::new(),
+                tcp: Box::new(alloc, TcpDraft::new())?,
+            },
+        })
+    }
+}
+
+/// Runs over lines as `run_once` does, in the caller's buffers. No memory is allocated, so no run
+/// stops for want of it.
+pub fn run_once_in<R: Read, W: Write>(
+    zone: &Zone,
+    limit: dns_answer::Limit,
+    source: &mut Tally<R>,
+    sink: &mut Tally<W>,
+    room: LineRoom,
+) -> Outcome
+    requires source { source.old.failures < 2 ^ 64 - 1 }
+    requires sink { sink.old.failures < 2 ^ 64 - 1 }
+    ensures source { source.new.failures ≡ source_failures_after source.old.failures result }
+    ensures sink { sink.new.failures ≡ sink_failures_after sink.old.failures result }
+    ensures lines { LinesAnswered (reply_within limit zone.now)
+        (session R.remaining W.contents source.old source.new sink.old sink.new) result }
+    ensures memory { IfErr result (λ stop. stop ≢ Stop.Memory) }
+{
+    let LineRoom {
+        piece,
+        line,
+        room,
+        drafts,
+    } = room;
+    let mut piece = piece;
+    let mut exchange = Exchange {
+        zone,
+        limit,
+        line,
+        room,
+        drafts,
+        are_all_messages: true,
+    };
     exchange.run(piece.as_mut_slice(), source, sink)
 }
 
@@ -73,23 +135,6 @@ struct Exchange<'z> {
 
 impl<'z> Exchange<'z> {
     ghost use Rattle.dns_tools.specs.ExchangeForm.{kept_of, reply_of};
-
-    fn new(alloc: Global, zone: &'z Zone, limit: dns_answer::Limit) -> Result<Self, AllocError>
-        ensures fresh { IfOk result (λ e. IsFresh (kept_of e)) }
-        ensures task { IfOk result (λ e. reply_of e ≡ reply_within limit zone.now) }
-    {
-        Ok(Exchange {
-            zone,
-            limit,
-            line: Line::new(alloc)?,
-            room: vec![in alloc; 0; MOST_ANSWER]?,
-            drafts: Drafts {
-                udp: UdpDraft::new(),
-                tcp: Box::new(alloc, TcpDraft::new())?,
-            },
-            are_all_messages: true,
-        })
-    }
 
     fn run<R: Read, W: Write>(
         &mut self,
