@@ -10,5 +10,5 @@ mod turn;
 
 pub use datagrams::{Datagrams, Failed};
 pub use fault::{StreamFault, TurnFault};
-pub use stream::{Ahead, StreamRoom, serve_stream, serve_stream_in};
+pub use stream::{Ends, StreamRoom, serve_stream, serve_stream_in};
 pub use turn::{udp_turn, udp_turn_in};

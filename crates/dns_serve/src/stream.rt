@@ -1,6 +1,6 @@
 //! A session over a stream: messages and their replies, each after its length in two octets
 //! (RFC 1035 4.2.2).
-ghost use Rattle.std.specs.Prelude.{◌≡◌, ◌+◌, ◌-◌, ◌^◌, ◌<◌, ◌≤◌, length, IfOk, IfSome};
+ghost use Rattle.std.specs.Prelude.{◌≡◌, ◌+◌, ◌-◌, ◌^◌, ◌<◌, ◌≤◌, ℕ, List, [], length, IfOk, OnOk, IfSome, IsNone};
 ghost use Rattle.dns_spec.specs.Layout.{octets16};
 ghost use Rattle.dns_spec.specs.Stream.{reply_frame};
 ghost use Rattle.dns_name.specs.Counted.{Writes};
@@ -13,7 +13,6 @@ use byteorder::{BigEndian, ByteOrder};
 use dns_answer::{TcpDraft, respond_in};
 use dns_name::{SinkFailed, Tally};
 use dns_zone::{Steps, Zone};
-use std::cell::Cell;
 use std::io::{Read, Write};
 
 // How many octets of a message are kept. No query needs more: its question ends by octet 271.
@@ -49,19 +48,57 @@ pub fn serve_stream<R: Read, W: Write>(
     ensures session { SessionOf (reply_over_tcp zone.now) most
         (session R.remaining W.contents source.old source.new sink.old sink.new) result }
 {
-    let ahead = Cell::new(Ahead::Message);
-    serve_stream_in(zone, source, sink, most, &mut StreamRoom::new(), &ahead)
+    serve_stream_in(
+        zone,
+        source,
+        sink,
+        most,
+        &mut StreamRoom::new(),
+        &Unbuffered,
+    )
 }
 
-/// What a session and the reader of its source tell each other about the octets to come.
-#[derive(Clone, Copy, PartialEq, Eq)]
-pub enum Ahead {
-    /// A message begins next: set by the session before it reads one.
-    Message,
-    /// They have not arrived, so the next call may wait: set by the reader after each call.
-    Awaited,
-    /// If a message begins next, all of it has arrived: set by the reader.
-    AtHand,
+/// What a session knows of its ends beside their octets: which messages have arrived, and what its
+/// sink still keeps.
+pub trait Ends<W: Write> {
+    /// The octets that a sink keeps until it is flushed.
+    ghost kept: { W → List ℕ };
+
+    /// A sign that all of a message has arrived, so that reading it does not wait. Only `arrived`
+    /// gives one.
+    type Arrived: Drop;
+
+    /// A message begins next. The sink keeps nothing, unless the message has arrived.
+    fn begin(&self, sink: &Tally<W>, arrived: &Option<Self::Arrived>)
+        requires { IsNone arrived.now → kept sink.now.device ≡ [] };
+
+    /// Whether all of the message that begins next has arrived.
+    fn arrived(&self) -> Option<Self::Arrived>;
+
+    /// Has the sink pass on what it keeps.
+    fn flush(&self, sink: &mut Tally<W>) -> Result<(), SinkFailed>
+        requires { sink.old.failures < 2 ^ 64 - 1 }
+        ensures written { Writes W.contents sink.old sink.new result [] }
+        ensures empty { OnOk result (kept sink.new.device ≡ []) };
+}
+
+// The ends of a session that knows nothing of them: it flushes the sink after each message.
+struct Unbuffered;
+
+impl<W: Write> Ends<W> for Unbuffered {
+    ghost kept = { λ _. [] };
+
+    type Arrived = ();
+
+    fn begin(&self, _sink: &Tally<W>, _arrived: &Option<()>) {}
+
+    fn arrived(&self) -> Option<()> {
+        None
+    }
+
+    fn flush(&self, sink: &mut Tally<W>) -> Result<(), SinkFailed> {
+        sink.flush()
+    }
 }
 
 /// The buffers of a session: for the kept octets of a message, for its reply and length, and for
@@ -88,36 +125,43 @@ impl StreamRoom {
 /// Serves a stream as `serve_stream` does, in the caller's buffers.
 ///
 /// Earlier sessions in the buffers have no effect, and they are not cleared. After a message the
-/// sink is flushed, unless the reader of the source reports through `ahead` that the next message
-/// has arrived: so a sink that buffers replies holds none back while the session waits for more.
-/// After the last of `most` messages it is always flushed.
-pub fn serve_stream_in<R: Read, W: Write>(
+/// sink is flushed, unless `ends` reports that the next message has arrived: so a sink that
+/// buffers replies holds none back while the session waits for more. A session that does not fail
+/// leaves nothing in its sink.
+pub fn serve_stream_in<R: Read, W: Write, E: Ends<W>>(
     zone: &Zone,
     source: &mut Tally<R>,
     sink: &mut Tally<W>,
     most: u32,
     room: &mut StreamRoom,
-    ahead: &Cell<Ahead>,
+    ends: &E,
 ) -> Result<u32, StreamFault>
     requires source { source.old.failures < 2 ^ 64 - 1 }
     requires sink { sink.old.failures < 2 ^ 64 - 1 }
+    requires kept { E.kept sink.old.device ≡ [] }
+    ensures kept { OnOk result (E.kept sink.new.device ≡ []) }
     ensures session { SessionOf (reply_over_tcp zone.now) most
         (session R.remaining W.contents source.old source.new sink.old sink.new) result }
     ensures source { source.new.failures ≡ source_failures_after source.old.failures result }
     ensures sink { sink.new.failures ≡ sink_failures_after sink.old.failures result }
 {
     let mut served = 0;
+    let mut arrived = None;
     'messages: while served < most {
-        ahead.set(Ahead::Message);
+        ends.begin(sink, &arrived);
         let Some(kept) = read_message(source, &mut room.message, &mut room.reply)? else {
             break;
         };
         let (message, _) = room.message.split_at(kept);
         write_reply(zone, message, sink, &mut room.draft, &mut room.reply)?;
         served += 1;
-        if ahead.get() != Ahead::AtHand || served == most {
-            sink.flush()?;
+        arrived = if served < most { ends.arrived() } else { None };
+        if arrived.is_none() {
+            ends.flush(sink)?;
         }
+    }
+    if arrived.is_some() {
+        ends.flush(sink)?;
     }
     Ok(served)
 }

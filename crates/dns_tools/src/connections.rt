@@ -1,16 +1,16 @@
 //! Connections over TCP, served one after another.
-ghost use Rattle.std.specs.Prelude.{◌≡◌, ◌+◌, ◌-◌, ◌^◌, ◌<◌, None};
+ghost use Rattle.std.specs.Prelude.{◌≡◌, ◌+◌, ◌-◌, ◌^◌, ◌<◌, [], None};
+ghost use Rattle.std.specs.Io.Buffered.{writer_buffer};
 ghost use Rattle.dns_serve.specs.Streams.{SessionOf, session, reply_over_tcp};
 ghost use Rattle.dns_tools.specs.Turns.{ListenerState, NextOf, most_messages};
 
 use crate::fault::TurnWord;
-use crate::peer::{Messages, Peer};
+use crate::peer::{Messages, Peer, PeerEnds};
 use crate::socket::is_made_again;
 use dns_name::Tally;
-use dns_serve::{Ahead, StreamFault, StreamRoom, serve_stream_in};
+use dns_serve::{Ends, StreamFault, StreamRoom, serve_stream_in};
 use dns_zone::Zone;
 use std::alloc::Global;
-use std::cell::Cell;
 use std::io::{self, BufReader, BufWriter, ErrorKind, Read, Write};
 use std::marker::Model;
 use std::net::{TcpListener, TcpStream};
@@ -108,13 +108,13 @@ impl<R: Clock + AllocGlobal> Connections for Listener<'_, R> {
         let Ok(peer) = Peer::new(stream, self.rt) else {
             return Err(TurnWord::from(StreamFault::SourceFailed));
         };
-        let ahead = Cell::new(Ahead::Message);
+        let ends = PeerEnds::new();
         // Messages that arrive together are read together, and their replies sent together, if
         // there is memory for buffers.
         let source = buffered_source(self.rt.alloc(), &peer);
-        let mut source = Tally::new(Messages::new(source, &ahead));
+        let mut source = Tally::new(Messages::new(source, &ends));
         let mut sink = Tally::new(buffered_sink(self.rt.alloc(), &peer));
-        let served = serve_messages(zone, &mut source, &mut sink, room, &ahead);
+        let served = serve_messages(zone, &mut source, &mut sink, room, &ends);
         // What could not be sent is not tried again.
         let _unsent = sink.into_inner().into_parts();
         let _heard = peer.hear_out();
@@ -124,19 +124,20 @@ impl<R: Clock + AllocGlobal> Connections for Listener<'_, R> {
 }
 
 // Serves the messages of one connection, as many as are answered on one.
-fn serve_messages<R: Read, W: Write>(
+fn serve_messages<R: Read, W: Write, E: Ends<W>>(
     zone: &Zone,
     source: &mut Tally<R>,
     sink: &mut Tally<W>,
     room: &mut StreamRoom,
-    ahead: &Cell<Ahead>,
+    ends: &E,
 ) -> Result<u32, StreamFault>
     requires source { source.old.failures < 2 ^ 64 - 1 }
     requires sink { sink.old.failures < 2 ^ 64 - 1 }
+    requires kept { E.kept sink.old.device ≡ [] }
     ensures { SessionOf (reply_over_tcp zone.now) most_messages
         (session R.remaining W.contents source.old source.new sink.old sink.new) result }
 {
-    serve_stream_in(zone, source, sink, MOST_MESSAGES, room, ahead)
+    serve_stream_in(zone, source, sink, MOST_MESSAGES, room, ends)
 }
 
 // Accepts the next connection of a listener, and waits for it even if the listener is
@@ -153,7 +154,9 @@ fn accepted(clock: &impl Clock, listener: &TcpListener) -> io::Result<TcpStream>
 }
 
 // A sink with a buffer, or without one if allocation fails.
-fn buffered_sink<S: Write + Copy + Drop>(alloc: Global, sink: S) -> BufWriter<S> {
+fn buffered_sink<S: Write + Copy + Drop>(alloc: Global, sink: S) -> BufWriter<S>
+    ensures { writer_buffer result ≡ [] }
+{
     if let Ok(buffered) = BufWriter::new(alloc, sink) {
         return buffered;
     }

@@ -1,9 +1,11 @@
 //! The peer of a connection: a stream whose calls wait as long as a message may take, but no
 //! longer.
+ghost use Rattle.std.specs.Io.Buffered.{writer_buffer};
 
-use dns_serve::Ahead;
+use dns_name::{SinkFailed, Tally};
+use dns_serve::Ends;
 use std::cell::Cell;
-use std::io::{self, BufReader, ErrorKind, Read, Write};
+use std::io::{self, BufReader, BufWriter, ErrorKind, Read, Write};
 use std::net::{Shutdown, TcpStream};
 use std::time::{Clock, Duration};
 
@@ -160,29 +162,70 @@ impl<C: Clock> Write for &Peer<'_, C> {
     }
 }
 
-/// A reader of a peer's messages that reads ahead. It reports through `ahead` whether the next
-/// message has arrived, and sets the peer's time limit when a message begins, which its caller
-/// marks there.
+// What a session and the reader of its source know of the octets to come.
+#[derive(Clone, Copy, PartialEq, Eq)]
+enum Ahead {
+    // A message begins next: set by the session before it reads one.
+    Message,
+    // They have not arrived, so the next call may wait: set by the reader after each call.
+    Awaited,
+    // If a message begins next, all of it has arrived: set by the reader.
+    AtHand,
+}
+
+/// The ends of a session with a peer: its reader reports which messages have arrived, and its sink
+/// keeps replies in a buffer.
+#[derive(Drop)]
+pub struct PeerEnds {
+    ahead: Cell<Ahead>,
+}
+
+impl PeerEnds {
+    /// The ends before the first message.
+    pub(crate) fn new() -> PeerEnds {
+        PeerEnds {
+            ahead: Cell::new(Ahead::Message),
+        }
+    }
+}
+
+impl<S: Write + Drop> Ends<BufWriter<S>> for PeerEnds {
+    ghost kept = { writer_buffer };
+
+    type Arrived = ();
+
+    fn begin(&self, _sink: &Tally<BufWriter<S>>, _arrived: &Option<()>) {
+        self.ahead.set(Ahead::Message);
+    }
+
+    fn arrived(&self) -> Option<()> {
+        (self.ahead.get() == Ahead::AtHand).then_some(())
+    }
+
+    fn flush(&self, sink: &mut Tally<BufWriter<S>>) -> Result<(), SinkFailed> {
+        sink.flush_buffer()
+    }
+}
+
+/// A reader of a peer's messages that reads ahead. It reports whether the next message has
+/// arrived, and sets the peer's time limit when a message begins.
 #[derive(Drop)]
 pub struct Messages<'a, C: Clock> {
     source: BufReader<&'a Peer<'a, C>>,
-    ahead: &'a Cell<Ahead>,
+    ends: &'a PeerEnds,
 }
 
 impl<'a, C: Clock> Messages<'a, C> {
     /// The messages of a peer, from the first on.
-    pub(crate) fn new(
-        source: BufReader<&'a Peer<'a, C>>,
-        ahead: &'a Cell<Ahead>,
-    ) -> Messages<'a, C> {
-        Messages { source, ahead }
+    pub(crate) fn new(source: BufReader<&'a Peer<'a, C>>, ends: &'a PeerEnds) -> Messages<'a, C> {
+        Messages { source, ends }
     }
 }
 
 impl<C: Clock> Read for Messages<'_, C> {
     fn read(&mut self, buf: &mut [u8]) -> io::Result<usize> {
         let peer = *self.source.get_ref();
-        let begins = self.ahead.get() == Ahead::Message;
+        let begins = self.ends.ahead.get() == Ahead::Message;
         let is_first = peer.heard.get().is_none();
         if begins && peer.is_over() {
             return Ok(0);
@@ -204,7 +247,7 @@ impl<C: Clock> Read for Messages<'_, C> {
             Some(heard) if begins => peer.until.set(after(heard, MESSAGE)),
             _ => {}
         }
-        self.ahead.set(if peer.is_over() {
+        self.ends.ahead.set(if peer.is_over() {
             Ahead::Awaited
         } else {
             ahead_of(self.source.buffer())

@@ -1,10 +1,10 @@
 use super::zones::{WWW, WWW_REPLY, sample};
-use dns_name::Tally;
+use dns_name::{SinkFailed, Tally};
 use dns_samples_tests::{Kept, Pieces};
-use dns_serve::{Ahead, StreamFault, StreamRoom, serve_stream, serve_stream_in};
+use dns_serve::{Ends, StreamFault, StreamRoom, serve_stream, serve_stream_in};
 use std::alloc::Global;
 use std::cell::Cell;
-use std::io::{self, Read};
+use std::io::{self, Read, Write};
 use std::process::Abort;
 use std::test::Fail;
 
@@ -26,27 +26,58 @@ struct Devices {
     most: usize,
     reads: u32,
     writes: u32,
-    ahead: Ahead,
+    has_arrived: bool,
 }
 
-// A source that reports the same about the octets ahead after each call, and counts the messages
-// that begin.
+// The ends of a session that has the next message at hand after each message, or never. Its sink
+// keeps nothing. `begins` is whether a message begins next.
+#[derive(Drop)]
+struct Told {
+    has_arrived: bool,
+    begins: Cell<bool>,
+}
+
+impl<W: Write> Ends<W> for Told {
+    ghost use Rattle.std.specs.Prelude.{[]};
+
+    ghost kept = { λ _. [] };
+
+    type Arrived = ();
+
+    fn begin(&self, _sink: &Tally<W>, _arrived: &Option<()>) {
+        self.begins.set(true);
+    }
+
+    fn arrived(&self) -> Option<()> {
+        self.has_arrived.then_some(())
+    }
+
+    fn flush(&self, sink: &mut Tally<W>) -> Result<(), SinkFailed> {
+        sink.flush()
+    }
+}
+
+fn ends_of(has_arrived: bool) -> Told {
+    Told {
+        has_arrived,
+        begins: Cell::new(true),
+    }
+}
+
+// A source that counts the messages that begin.
 #[derive(Drop)]
 struct Telling<'a> {
     source: Pieces<'a>,
-    ahead: &'a Cell<Ahead>,
-    says: Ahead,
+    ends: &'a Told,
     begun: usize,
 }
 
 impl Read for Telling<'_> {
     fn read(&mut self, buf: &mut [u8]) -> io::Result<usize> {
-        if self.ahead.get() == Ahead::Message {
+        if self.ends.begins.replace(false) {
             self.begun = self.begun.saturating_add(1);
         }
-        let count = self.source.read(buf)?;
-        self.ahead.set(self.says);
-        Ok(count)
+        self.source.read(buf)
     }
 }
 
@@ -54,20 +85,19 @@ const ALL_WORK: Devices = Devices {
     most: 100_000,
     reads: 1_000_000,
     writes: 1_000_000,
-    ahead: Ahead::AtHand,
+    has_arrived: true,
 };
 
 fn session(alloc: Global, input: &[u8], most: u32, devices: Devices) -> Result<Left, Fail> {
     let zone = sample(alloc)?;
-    let (mut room, ahead) = (StreamRoom::new(), Cell::new(Ahead::Message));
+    let (mut room, ends) = (StreamRoom::new(), ends_of(devices.has_arrived));
     let mut source = Tally::new(Telling {
         source: Pieces::new(input, devices.most, devices.reads),
-        ahead: &ahead,
-        says: devices.ahead,
+        ends: &ends,
         begun: 0,
     });
     let mut sink = Tally::new(Kept::new(alloc, devices.most, devices.writes));
-    let answer = serve_stream_in(&zone, &mut source, &mut sink, most, &mut room, &ahead);
+    let answer = serve_stream_in(&zone, &mut source, &mut sink, most, &mut room, &ends);
     let failures = (source.failures(), sink.failures());
     let (telling, sink) = (source.into_inner(), sink.into_inner());
     let (source, begun) = (telling.source, telling.begun);
@@ -166,8 +196,7 @@ fn sessions_in_one_room(rt: HostRuntime) -> Result<(), Fail> {
         let input = frames(alloc, messages)?;
         let mut source = Tally::new(input.as_slice());
         let mut sink = Tally::new(Vec::new(alloc));
-        let ahead = Cell::new(Ahead::Message);
-        let answer = serve_stream_in(&zone, &mut source, &mut sink, 9, &mut room, &ahead);
+        let answer = serve_stream_in(&zone, &mut source, &mut sink, 9, &mut room, &ends_of(false));
         assert_eq!(rt; answer.map(|count| count as usize), Ok(messages.len()));
         assert!(rt;
             sink.into_inner() == frames(alloc, replies)?,
@@ -263,7 +292,7 @@ fn each_send_fails_in_turn(rt: HostRuntime) -> Result<(), Fail> {
     for (writes, read, written) in rows {
         let devices = Devices {
             writes,
-            ahead: Ahead::Awaited,
+            has_arrived: false,
             ..ALL_WORK
         };
         let found = cut_short(&rt, devices, StreamFault::SinkFailed)?;

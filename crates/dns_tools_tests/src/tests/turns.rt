@@ -71,6 +71,7 @@ fn check_turns<R: Abort + Eprint + AllocGlobal>(rt: &R, zone: &Zone) {
 }
 
 // A listener that accepts no connection.
+#[derive(Drop)]
 struct Deaf {
     asked: u64,
 }
