@@ -1,5 +1,5 @@
 -- The octets at the front of the buffer are the reply that the definitions state.
-use Rattle.dns_answer.proofs.Common.{◌≡◌, ℕ, ◌+◌, ◌≤◌, Bool, true, false, cond, not, ◌&&◌, nat_lt, nat_le, List, [], ◌∷◌, ◌++◌, length, Option, Some, is_some, refl, ap, ◌∙◌, subst, arith, Octets, DomainName, is_name, ZoneContents, Header, MessageQuestion, Item, layout, size, most_aliases, outcome, items, is_authoritative, option_map, reply_head, Decision, kept, truncated, answered, keep_longest, reply_of, reply_octets, few_nodes, Walk, code_of, empty_draft, offer, offered, size_with, State, Holds, Rest, TookRest, chain_rest, Seeks, Followed, IsReply, Answers, Costs, Verdict}
+use Rattle.dns_answer.proofs.Common.{◌≡◌, ℕ, ◌+◌, Bool, true, false, cond, not, ◌&&◌, nat_lt, nat_le, List, [], ◌∷◌, ◌++◌, length, Option, Some, is_some, refl, ap, ◌∙◌, subst, arith, DomainName, is_name, ZoneContents, Header, MessageQuestion, Item, layout, size, most_aliases, outcome, items, is_authoritative, option_map, IsDraft, quick_number, reply_head, Decision, kept, truncated, answered, keep_longest, reply_of, reply_octets, few_nodes, Walk, code_of, empty_draft, offer, offered, size_with, State, Holds, IsHeaded, Rest, TookRest, chain_rest, Seeks, Followed, Answers, Costs, Verdict}
 use Rattle.dns_answer.specs.Draft as spec
 use Rattle.dns_answer.proofs.Offering.{Offers-is}
 use Rattle.dns_answer.proofs.Offered.{offered-keeps, offered-truncated}
@@ -8,12 +8,12 @@ use Rattle.dns_answer.proofs.AnswerCosts.{authority-is, visits-fit, comparisons-
 
 -- a header, and the question if it is repeated, are the reply of a refusal
 pub refusal-put : (z : ZoneContents) (limit : ℕ) (x : Decision) (h : Header)
-    (q : Option MessageQuestion) (sent : Octets)
+    (q : Option MessageQuestion) (w : State)
     → Some (layout h q []) ≡ option_map reply_octets (reply_of (keep_longest z limit) z x)
-    → sent ≡ layout h q [] → length sent ≤ limit → IsReply z limit x sent
-refusal-put z limit x h q sent is laid fits = record {
-  octets = ap (λ o. Some o) laid ∙ is;
-  within = fits;
+    → IsDraft quick_number q [] w.page → w.page.limit ≡ limit → IsHeaded z limit x w h
+refusal-put z limit x h q w is begun room = λ sent laid. record {
+  octets = ap (λ o. Some o) (laid.octets q [] begun) ∙ is;
+  within = omega (arith, laid.within, room);
 }
 
 -- offering sets does not change the question
@@ -56,22 +56,21 @@ module _ (z : ZoneContents) (h : Header) (q : MessageQuestion) where
       grind (arith, authoritative, rcode-is, Offers-is, items-are, truncates)
 
   -- The sets are laid out.
-  pub answer-put : (limit : ℕ) (w w' : State) (head : Header) (sent : Octets)
-      → Holds w (empty_draft q limit) → Answers z h q w w' head → ((d : spec.Draft) → Holds w' d
-      → sent ≡ layout head (Some d.question) d.kept) → length sent ≤ w'.page.limit
-      → IsReply z limit (answered h q) sent
-  answer-put limit w w' head sent begun stated laid fits =
+  pub answer-put : (limit : ℕ) (w w' : State) (head : Header) → Holds w (empty_draft q limit)
+      → Answers z h q w w' head → IsHeaded z limit (answered h q) w' head
+  answer-put limit w w' head begun stated = λ sent laid.
       let all = items z q.qname q.qtype in
       let d = offered (empty_draft q limit) all in
       let held : Holds w' d = stated.offers.draft (empty_draft q limit) begun in
       record {
         octets =
             ap (λ x. Some x)
-            (laid d held ∙ ap (λ (x : MessageQuestion). layout head (Some x) d.kept)
+            (laid.octets (Some d.question) d.kept held.written
+            ∙ ap (λ (x : MessageQuestion). layout head (Some x) d.kept)
             (offered-question (empty_draft q limit) all)
             ∙ ap (λ js. layout head (Some q) js) (offered-keeps q limit all)
             ∙ ap (λ x. layout x (Some q) (keep_longest z limit q)) (stated.header limit begun));
-        within = omega (arith, fits, stated.offers.limit, begun.limit);
+        within = omega (arith, laid.within, stated.offers.limit, begun.limit);
       }
 
 -- The cost of seeking the question's name is no more than an answer may cost.

@@ -1,7 +1,7 @@
 -- What is sent is the reply that the definitions state, by how the datagram was read as a query.
 use Rattle.std.specs.Borrow.{Bor}
 use Rattle.std.specs.Option.{option_copied}
-use Rattle.dns_answer.proofs.Common.{◌≡◌, ◌↔◌, ℕ, ◌<◌, ◌≤◌, Bool, true, false, Option, None, Some, IsTrue, IsNone, IfSome, All, length, take, refl, sym, ap, subst, ◌∙◌, arith, true≢false, All-weaker, option_map, Octets, ResourceRecord, ZoneContents, IsWritable, IsReadRecord, Spells, is_ignored, QueryRead, absent, refused_with, query, query_read, Decision, decide_query, decide, reply_of, keep_longest, Reply, reply_with, reply, reply_octets, reply_message, octets_of, reply_spells, Walk, IsBuilt, IsPut, IsReply, Costs, Responds}
+use Rattle.dns_answer.proofs.Common.{◌≡◌, ◌↔◌, ℕ, ◌<◌, ◌≤◌, Bool, true, false, Option, None, Some, IsTrue, IsNone, IfSome, All, length, take, refl, sym, ap, subst, ◌∙◌, arith, true≢false, All-weaker, option_map, Octets, ResourceRecord, ZoneContents, Header, IsWritable, IsReadRecord, Spells, is_ignored, QueryRead, absent, refused_with, query, query_read, Decision, decide_query, decide, reply_of, keep_longest, Reply, reply_with, reply, reply_octets, reply_message, octets_of, reply_spells, Walk, IsBuilt, State, IsPut, IsHeaded, IsLaidOut, Costs, Responds}
 
 -- the datagrams that get no reply
 abbrev is_absent : QueryRead → Bool
@@ -59,11 +59,13 @@ module _ (d : Octets) (y : QueryRead) (read : y ≡ query_read d) (s s' : Walk) 
       → Responds s s' d limit None
   unanswered missing none = grind (arith, silent, octets-by, costs-by)
 
-  -- the octets of a reply are sent
-  pub responded : (sent : Octets) → is_absent y ≡ false → IsBuilt s.zone
-      → All (λ o. o < 256) d → 512 ≤ limit → limit ≤ 65535
-      → IsReply s.zone limit (decide_query s.zone y) sent → Responds s s' d limit (Some sent)
-  responded sent owed built low from upto reply =
+  -- what is written is a reply, which is sent with its header
+  pub responded : (w : State) (h : Header) (sent : Octets) → is_absent y ≡ false
+      → IsBuilt s.zone → All (λ o. o < 256) d → 512 ≤ limit → limit ≤ 65535
+      → IsHeaded s.zone limit (decide_query s.zone y) w h → IsLaidOut w h sent
+      → Responds s s' d limit (Some sent)
+  responded w h sent owed built low from upto headed laid =
+      let reply = headed sent laid in
       let octets = reply.octets ∙ octets-by d y read s.zone limit in
       record {
         absent = stated d y read owed sent;

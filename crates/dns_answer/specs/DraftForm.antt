@@ -1,5 +1,5 @@
 -- When a reply contains the sets of a draft, and how offering sets changes it.
-use Rattle.std.specs.Prelude.{◌≡◌, ℕ, Bool, false, List}
+use Rattle.std.specs.Prelude.{◌≡◌, Bool, List}
 use Rattle.std.specs.Prelude.{Some}
 use Rattle.dns_spec.specs.Layout.{Item}
 use Rattle.dns_wire.specs.Draft as wire
@@ -12,10 +12,6 @@ use Rattle.dns_answer.specs.Draft.{offered}
 pub record State : Type 0 where
   pub page : wire.Draft
   pub full : Bool
-
--- an empty reply of at most `limit` octets
-abbrev pub blank : ℕ → State
-blank limit = record { page = wire.no_draft limit; full = false }
 
 -- the written reply is the draft's
 pub record Holds (w : State) (d : spec.Draft) : Type 0 where

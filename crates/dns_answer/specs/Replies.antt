@@ -1,14 +1,17 @@
 -- How a question is decided, when a reply was written, and what it may cost.
-use Rattle.std.specs.Prelude.{⊤, ◌≡◌, ◌↔◌, ℕ, ◌*◌, ◌≤◌, length, take, Option, None, Some, Result, Ok, Err, IsTrue, IsNone, IfSome}
+use Rattle.std.specs.Prelude.{⊤, ◌≡◌, ◌↔◌, ℕ, ◌*◌, ◌≤◌, List, length, take, Option, None, Some, Result, Ok, Err, IsTrue, IsNone, IfSome}
 use Rattle.std.specs.Option.{option_map}
 use Rattle.dns_spec.specs.Names.{Octets}
 use Rattle.dns_spec.specs.Records.{ZoneContents}
 use Rattle.dns_spec.specs.Reading.{Header, MessageQuestion, Spells}
+use Rattle.dns_spec.specs.Layout.{Item, layout}
 use Rattle.dns_spec.specs.Query.{is_ignored}
 use Rattle.dns_spec.specs.Answer.{items, most_visits, names_looked_up, most_comparisons}
 use Rattle.dns_spec.specs.Reply.{Decision, silence, header_alone, question_alone, answered, refusal, answer_with, reply_of, keep_longest, reply_octets, decide, reply, reply_message, octets_of}
 use Rattle.dns_zone.specs.Nodes.{Walk}
+use Rattle.dns_wire.specs.Draft.{IsDraft}
 use Rattle.dns_wire.specs.QueryForm.{code_of}
+use Rattle.dns_wire.specs.QuickNumbers.{quick_number}
 use Rattle.dns_answer.specs.Draft.{empty_draft}
 use Rattle.dns_answer.specs.DraftForm.{State, Holds, Offers}
 use Rattle.dns_zone.specs.Starts.{IsBelow}
@@ -25,6 +28,16 @@ JudgedAs z q (Ok sought) =
 pub record IsReply (z : ZoneContents) (limit : ℕ) (x : Decision) (sent : Octets) : Type 0 where
   pub octets : Some sent ≡ option_map reply_octets (reply_of (keep_longest z limit) z x)
   pub within : length sent ≤ limit
+
+-- octets that are the written reply with its header: the page finishes itself so
+pub record IsLaidOut (w : State) (head : Header) (sent : Octets) : Type 0 where
+  pub octets : (q : Option MessageQuestion) (items : List Item)
+      → IsDraft quick_number q items w.page → sent ≡ layout head q items
+  pub within : length sent ≤ w.page.limit
+
+-- With this header the written reply is that of a decision.
+abbrev pub IsHeaded : ZoneContents → ℕ → Decision → State → Header → Type 0
+IsHeaded z limit x w head = (sent : Octets) → IsLaidOut w head sent → IsReply z limit x sent
 
 -- All sets of an answer are offered, and `head` is the header of the reply with those that fit.
 pub record Answers (z : ZoneContents) (h : Header) (q : MessageQuestion) (w w' : State)

@@ -5,10 +5,11 @@ ghost use Rattle.dns_spec.specs.Records.{ZoneContents};
 ghost use Rattle.dns_spec.specs.Reading.{Spells};
 ghost use Rattle.dns_spec.specs.Query.{is_ignored};
 ghost use Rattle.dns_spec.specs.Reply.{answered, decide, reply, reply_message, octets_of};
-ghost use Rattle.dns_answer.specs.DraftForm.{blank};
+ghost use Rattle.dns_answer.specs.Draft.{empty_draft};
+ghost use Rattle.dns_answer.specs.DraftForm.{Holds};
 ghost use Rattle.dns_answer.specs.Limits.{limit_of};
 ghost use Rattle.dns_zone.specs.Starts.{IsBelow};
-ghost use Rattle.dns_answer.specs.Replies.{JudgedAs, IsPut, IsReply, Costs, Responds, visits_for, names_for, comparisons_for};
+ghost use Rattle.dns_answer.specs.Replies.{JudgedAs, IsPut, IsHeaded, Costs, Responds, visits_for, names_for, comparisons_for};
 
 use crate::chain::seek;
 use crate::draft::Draft;
@@ -107,8 +108,7 @@ fn put_reply(reply: Option<&[u8]>, out: &mut [u8]) -> Option<usize>
 /// Nothing of the draft's earlier reply remains, and the time does not depend on the size of its
 /// room.
 ///
-/// Conditions: the walk has counted nothing yet, and the room has 512 to 65,535 octets. Does not
-/// allocate.
+/// Condition: the walk has counted nothing yet. Does not allocate.
 pub fn respond_in<'d, const N: usize, const SIZE: usize>(
     steps: &mut Steps<'_>,
     datagram: &[u8],
@@ -116,26 +116,24 @@ pub fn respond_in<'d, const N: usize, const SIZE: usize>(
 ) -> Option<&'d [u8]>
     requires visits { steps.old.visits ≡ 0 }
     requires comparisons { steps.old.comparisons ≡ 0 }
-    requires from { 512 ≤ SIZE }
-    requires upto { SIZE ≤ 65535 }
     ensures { Responds steps.old steps.new datagram.now SIZE (option_copied result) }
 {
-    draft.clear();
+    draft.page.clear();
+    draft.is_full = false;
     let origin = steps.origin();
     match lent_query(datagram) {
-        QueryRef::Absent => None,
-        QueryRef::Refused(head) => {
-            draft.begin(None);
-            Some(draft.finish(head))
+        QueryRef::Absent => return None,
+        QueryRef::Refused(head) => draft.page.finish(head),
+        QueryRef::Query(head, question) => {
+            draft.page.put_question(&question);
+            let head = match judge(&question, origin) {
+                Err(rcode) => head.reply(false, false, rcode),
+                Ok(sought) => put_answer(steps, &head, &question, sought, draft),
+            };
+            draft.page.finish(head);
         }
-        QueryRef::Query(head, question) => match judge(&question, origin) {
-            Err(rcode) => {
-                draft.begin(Some(&question));
-                Some(draft.finish(head.reply(false, false, rcode)))
-            }
-            Ok(sought) => Some(put_answer(steps, &head, &question, sought, draft)),
-        },
     }
+    Some(draft.page.octets())
 }
 
 // The name to seek, or the RCODE of a refusal: the question's class is tested first, then its
@@ -153,27 +151,25 @@ fn judge<'q>(question: &QuestionRef<'q>, origin: &Name) -> Result<Sought<'q>, Rc
     Sought::below(&question.name, &origin.lent()).ok_or(Rcode::Refused)
 }
 
-// Offers the sets of an answer to a draft, and lends the reply.
-fn put_answer<'d, 'q, 'z: 'q, const N: usize, const SIZE: usize>(
+// Offers the sets of an answer to a draft that contains only the question, and returns the header.
+fn put_answer<'q, 'z: 'q, const N: usize, const SIZE: usize>(
     steps: &mut Steps<'z>,
     head: &Head,
     question: &QuestionRef<'q>,
     sought: Sought<'q>,
-    draft: &'d mut Draft<N, SIZE>,
-) -> &'d [u8]
-    requires blank { draft.old ≡ blank SIZE }
+    draft: &mut Draft<N, SIZE>,
+) -> Head
+    requires begun { Holds draft.old (empty_draft question.now SIZE) }
     requires visits { steps.old.visits ≡ 0 }
     requires comparisons { steps.old.comparisons ≡ 0 }
     requires asked { sought.name ≡ question.now.qname }
     requires below { IsBelow sought steps.old.zone.origin }
-    ensures reply { IsReply steps.old.zone SIZE (answered head.now question.now) result.now }
+    ensures reply { IsHeaded steps.old.zone SIZE (answered head.now question.now) draft.new result }
     ensures costs { Costs (answered head.now question.now) steps.old steps.new }
 {
-    draft.begin(Some(question));
     let apex = steps.apex();
     let (verdict, followed_alias) = seek(sought, question.qtype, &apex, steps, draft);
     // AA is set, unless the reply is only a referral (RFC 1035 4.1.1).
     let only_refers = verdict.is_referral && !followed_alias;
-    let head = head.reply(!only_refers, verdict.is_truncated, verdict.rcode);
-    draft.finish(head)
+    head.reply(!only_refers, verdict.is_truncated, verdict.rcode)
 }

@@ -1,7 +1,7 @@
 -- One more set in a draft: its size is the layout's, and it has one more set.
-use Rattle.dns_wire.proofs.Common.{◌≡◌, ◌↔◌, ℕ, ◌+◌, ◌≤◌, ◌^◌, Bool, true, false, cond, List, [], ◌∷◌, ◌++◌, length, drop, replicate, Option, refl, sym, ap, ◌∙◌, subst, subst₂, arith, All, IfSome, Some, append_assoc, append-nil, length-append, ◌<◌, lt_of_not-le, false≢true, Octets, DomainName, wire, RecordSet, records_at, Header, MessageQuestion, Spells, size, Sharing, IsWritable, IsAskable, sections_in_order, length-map, length-drop, flat_map-append, Item, Laid, laid_front, records_of, in_section, is_section, asked_octets, asked_placed, octets16, question_octets, layout, header_octets, message_of, shared_alone, layout_spells, past_limit, length-layout, Section, asked_places, new_places, Holds, records_laid, suffix_number, Draft, draft_of, known_places, HasNames, IsDraft, Writes, with_counted, counts_of, item_of, names_so_far, Counts}
+use Rattle.dns_wire.proofs.Common.{◌≡◌, ◌↔◌, ℕ, ◌+◌, ◌≤◌, ◌^◌, Bool, true, false, cond, List, [], ◌∷◌, ◌++◌, length, drop, replicate, Option, None, refl, sym, ap, ◌∙◌, subst, subst₂, arith, All, IfSome, Some, append_assoc, append-nil, length-append, ◌<◌, lt_of_not-le, false≢true, Octets, DomainName, wire, RecordSet, records_at, Header, MessageQuestion, Spells, size, Sharing, IsWritable, IsAskable, sections_in_order, length-map, length-drop, flat_map-append, Item, Laid, laid_front, records_of, in_section, is_section, asked_octets, asked_placed, octets16, question_octets, layout, header_octets, message_of, shared_alone, layout_spells, past_limit, length-layout, Section, asked_places, new_places, Holds, records_laid, suffix_number, Draft, draft_of, known_places, HasNames, IsDraft, no_draft, Writes, with_counted, counts_of, item_of, names_so_far, Counts}
 use Rattle.dns_spec.specs.Layout as Layout
-use Rattle.dns_wire.proofs.AskedLemmas.{asked_whole}
+use Rattle.dns_wire.proofs.AskedLemmas.{asked_nothing, asked_whole}
 use Rattle.dns_wire.proofs.NameWritten.{holds_nothing, holds_octets, holds_name}
 use Rattle.dns_wire.proofs.RecordsWritten.{octets_of_records, records_none, records_split}
 
@@ -83,10 +83,18 @@ put_in {head} {d = d} {d'} q items section owner ttl set w counts draft =
     }
 
 -- a draft without sets
-pub draft_begins : (head : Octets → ℕ) (q : Option MessageQuestion) (d : Draft)
+draft_begins : (head : Octets → ℕ) (q : Option MessageQuestion) (d : Draft)
     → d.octets ≡ replicate 12 0 ++ asked_octets q → HasNames d head (asked_placed q)
     → d.counts ≡ counts_of q [] → IfSome q IsAskable → IsDraft head q [] d
 draft_begins head q d octets holds counts askable = grind (arith, records_none, append-nil)
+
+-- an empty draft
+pub nothing_begins : (head : Octets → ℕ) (limit : ℕ) → IsDraft head None [] (no_draft limit)
+nothing_begins head limit =
+    let number = suffix_number head in
+    draft_begins head None (no_draft limit) refl (subst (Holds number [] (replicate 12 0))
+    (sym (append-nil (asked_places number (replicate 12 0) 12)
+    ∙ asked_nothing number (replicate 12 0))) (holds_nothing number)) refl tt
 
 -- a draft with only a question
 abbrev pub asked_draft : ℕ → MessageQuestion → Draft

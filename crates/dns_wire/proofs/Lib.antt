@@ -16,4 +16,4 @@ mod Steps
 mod DataWritten
 mod SharedData
 mod RecordsWritten
-mod DraftLemmas
+pub mod DraftLemmas

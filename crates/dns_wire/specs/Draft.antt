@@ -134,9 +134,10 @@ pub record IsDraft (head : Octets → ℕ) (q : Option MessageQuestion) (items :
   pub counts : d.counts ≡ counts_of q items
   pub askable : IfSome q IsAskable
 
--- A page with N places and `size` octets, and a limit within these octets. It never has more
--- records than octets.
+-- A page with N places and `size` octets, and a limit within these octets that any question fits. It
+-- never has more records than octets.
 pub record IsWellKept (N size : ℕ) (d : Draft) : Type 0 where
+  pub least : 512 ≤ d.limit
   pub within : length d.octets ≤ d.limit
   pub fits : d.limit ≤ size
   pub short : d.limit < 2 ^ 16

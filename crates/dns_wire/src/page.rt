@@ -1,7 +1,6 @@
 //! A message being written: a question, and sets in their sections, within a limit (RFC 1035 4.1).
-ghost use Rattle.std.specs.Prelude.{◌≡◌, ◌↔◌, ◌+◌, ◌<◌, ◌≤◌, ◌^◌, List, [], ◌++◌, ℕ, ◌*◌, length, take, drop, min, IsTrue, IsFalse, IfSome, Option, All};
+ghost use Rattle.std.specs.Prelude.{◌≡◌, ◌↔◌, ◌+◌, ◌<◌, ◌≤◌, ◌^◌, List, [], ◌++◌, ℕ, ◌*◌, length, take, drop, min, IsTrue, IsFalse, IfSome, Option, Some, All};
 ghost use Rattle.std.specs.Bool.{OnTrue, OnFalse};
-ghost use Rattle.std.specs.Option.{option_copied};
 ghost use Rattle.dns_spec.specs.Names.{Octets, DomainName, wire, is_name};
 ghost use Rattle.dns_spec.specs.Data.{Valid, class_in, compresses};
 ghost use Rattle.dns_spec.specs.Reading.{MessageQuestion, Spells};
@@ -59,12 +58,11 @@ impl<const N: usize, const SIZE: usize> Model for Page<N, SIZE> {
 impl<const N: usize, const SIZE: usize> Page<N, SIZE> {
     ghost use Rattle.dns_wire.specs.Draft.{IsDraft, no_draft, with_set};
 
-    /// An empty message of at most `limit` octets, 512 to 65,535. A question is added later, in
-    /// place, so that the page need not be moved.
+    /// An empty message of at most `limit` octets, 512 to 65,535.
     ///
     /// Condition: `SIZE` is at least the limit, and `N` at least half the number of its octets
     /// that a pointer reaches.
-    pub fn empty(limit: usize) -> Page<N, SIZE>
+    pub fn new(limit: usize) -> Page<N, SIZE>
         requires from { 512 ≤ limit }
         requires upto { limit ≤ 65535 }
         requires octets { limit ≤ SIZE }
@@ -83,41 +81,31 @@ impl<const N: usize, const SIZE: usize> Page<N, SIZE> {
         }
     }
 
-    /// Empties the page for a message of at most `limit` octets, 512 to 65,535, whatever was
-    /// written before. The time depends on what was written, not on the size of the page.
-    ///
-    /// Condition: `SIZE` is at least the limit.
-    pub fn clear(&mut self, limit: usize)
-        requires from { 512 ≤ limit }
-        requires upto { limit ≤ 65535 }
-        requires octets { limit ≤ SIZE }
-        ensures { self.new ≡ no_draft limit }
+    /// Empties the page for a new message, whatever was written before. The time depends on what
+    /// was written, not on the size of the page.
+    pub fn clear(&mut self)
+        ensures { self.new ≡ no_draft self.old.limit }
     {
         self.octets.truncate(0);
         extend(&mut self.octets, &[0; HEADER_OCTETS]);
         self.places.take_back(0);
-        self.limit = limit;
         self.asked_end = HEADER_OCTETS;
         self.counts = Counts::default();
     }
 
-    /// Writes the question that a message repeats, if any.
+    /// Writes the question that a message repeats.
     ///
-    /// Conditions: the message is empty, and its limit is at least 512 octets.
-    pub fn put_question<H: SuffixHash>(&mut self, hash: &mut H, question: Option<&QuestionRef<'_>>)
-        requires nothing { self.old ≡ no_draft self.old.limit }
-        requires from { 512 ≤ self.old.limit }
-        ensures draft { IsDraft (H.numbers hash.old) (option_copied question.entry) [] self.new }
+    /// Condition: the message is empty.
+    pub fn put_question(&mut self, question: &QuestionRef<'_>)
+        requires { self.old ≡ no_draft self.old.limit }
+        ensures draft { (h : Octets → ℕ) → IsDraft h (Some question.now) [] self.new }
         ensures limit { self.new.limit ≡ self.old.limit }
-        ensures same { H.numbers hash.new ≡ H.numbers hash.old }
     {
-        if let Some(question) = question {
-            extend(&mut self.octets, question.name.octets());
-            self.asked_end = self.octets.len();
-            extend(&mut self.octets, &question.qtype.to_be_bytes());
-            extend(&mut self.octets, &question.qclass.to_be_bytes());
-            self.counts.questions = 1;
-        }
+        extend(&mut self.octets, question.name.octets());
+        self.asked_end = self.octets.len();
+        extend(&mut self.octets, &question.qtype.to_be_bytes());
+        extend(&mut self.octets, &question.qclass.to_be_bytes());
+        self.counts.questions = 1;
     }
 
     /// Writes the records of a set at a borrowed owner, with a TTL in seconds, into a section: all
@@ -172,6 +160,7 @@ impl<const N: usize, const SIZE: usize> Page<N, SIZE> {
             → IsTrue (sections_in_order items) → All IsWritable (records_of items)
             → Spells self.new.octets (message_of head q items) }
         ensures fits { length self.new.octets ≤ self.old.limit }
+        ensures limit { self.new.limit ≡ self.old.limit }
     {
         put_header(self.octets.as_mut_slice(), &head, &self.counts);
     }

@@ -33,10 +33,9 @@ impl<'h, H: SuffixHash> Writer<'h, H> {
             (option_copied question.entry) [] result.page }
         ensures limit { result.page.limit ≡ limit }
     {
-        let mut page = Page::empty(limit);
-        match question {
-            Some(question) => page.put_question(hash, Some(&question.lent())),
-            None => page.put_question(hash, None),
+        let mut page = Page::new(limit);
+        if let Some(question) = question {
+            page.put_question(&question.lent());
         }
         Writer { hash, page }
     }

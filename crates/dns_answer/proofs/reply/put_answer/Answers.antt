@@ -1,4 +1,4 @@
-use Rattle.dns_answer.proofs.Common.{rules, ◌≡◌, true, sym, ap, subst, arith, is_name, ZoneContents, MessageQuestion, All-nil, folded, IsBelow, Sought, empty_draft, Holds, IsApex}
+use Rattle.dns_answer.proofs.Common.{rules, ◌≡◌, true, sym, ap, subst, arith, is_name, ZoneContents, MessageQuestion, All-nil, folded, IsBelow, Sought, IsApex}
 use Rattle.dns_answer.proofs.PutReplies.{answers-found, answer-put, answer-costs}
 use Rattle.dns_answer.proofs.reply.put_answer.Goals as goal
 
@@ -24,21 +24,12 @@ seek-followed_alias-requires g c =
 
 pub returns-clause-reply : goal.returns-clause-reply
 returns-clause-reply g c =
-    let begun : Holds c.begin.new.self (empty_draft c.args.question.now g.row.SIZE) = record {
-      written = c.begin.ensures.draft;
-      limit = c.begin.ensures.limit;
-      full = c.begin.ensures.empty;
-    } in
-    let followed = c.seek-followed_alias.result.1 in
-    let answers =
-    answers-found c.args.steps.now.zone c.args.head.now c.args.question.now followed
-    c.apex-apex.ensures.zone c.requires.asked
+    answer-put _ _ _ g.row.SIZE _ _ c.reply.result c.requires.begun
+    (answers-found c.args.steps.now.zone c.args.head.now c.args.question.now
+    c.seek-followed_alias.result.1 c.apex-apex.ensures.zone c.requires.asked
     (ap (λ (q : MessageQuestion). q.qtype) c.question.view_is)
     c.seek-followed_alias.ensures.seeks c.seek-followed_alias.ensures.followed
-    (search rules)
-    c.reply-head.ensures in
-    answer-put _ _ _ g.row.SIZE _ _ c.reply-head.result _ begun answers
-    (λ d h. c.finish.ensures.octets _ _ h.written) c.finish.ensures.fits
+    (search rules) c.reply.ensures)
 
 pub returns-clause-costs : goal.returns-clause-costs
 returns-clause-costs g c =
