@@ -1,4 +1,4 @@
-.PHONY: run programs built install uninstall clean package operate examples docs-check test edits misuse clients speed scale faults caught hostile messages worst memory bench
+.PHONY: run programs built install uninstall clean package operate examples docs-check test edits misuse clients speed scale faults caught hostile messages worst bench
 
 PREFIX ?= /usr/local
 NAMES = zonecheck zoneserve dnsmsg zonesocket
@@ -146,15 +146,9 @@ messages: built
 worst: built
 	tools/worst $(THREE)
 
-# Refuses each allocation of each program in turn. It proves nothing, and is not in the gate.
-memory:
-	tools/refuse-memory zonecheck
-	tools/refuse-memory zoneserve
-
 # Counts the instructions that it takes to read and write data, to answer questions, and of whole queries beside other servers,
 # and measures the checker. It decides nothing, and is not in the gate.
 bench: built
 	tools/bench
 	tools/queries crates/zoneserve/out/zoneserve
-	tools/bench-checker
 	tools/shapes crates/zonecheck/out/zonecheck
