@@ -143,6 +143,7 @@ fn shown_set<'z>(node: &Node<'z>, qtype: u16) -> Option<(RecordSet<'z>, bool)>
 
 // The name to seek after an alias, and where its path begins: the alias's target, if more names
 // may be sought and it is at or below the origin and was not sought yet.
+#[inline(always)]
 fn next_sought<'z>(
     alias: &RecordSet<'z>,
     hint: Option<TargetHint<'z>>,

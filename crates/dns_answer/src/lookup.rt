@@ -77,6 +77,7 @@ pub(crate) fn or_apex<'a, 'z>(node: &'a Option<Node<'z>>, apex: &'a Node<'z>) ->
 
 /// Where the path down to a name begins: at its hint, if it has one and the name is at or below
 /// that, else at the apex. `None` if the name is not at or below the origin.
+#[inline(always)]
 pub(crate) fn aim<'n, 'z>(
     name: &NameRef<'n>,
     hint: Option<TargetHint<'z>>,

@@ -1,5 +1,5 @@
 -- The owner and the data of a record in its octets, one after the other.
-use Rattle.dns_zone.proofs.Common.{◌≡◌, ℕ, true, All, [], ◌++◌, length, take, drop, refl, ap, ◌∙◌, arith, length-append, take-append_seam, drop-append_seam, Octets, DomainName, wire, is_name, ResourceRecord, Small, labels_of_spelled, IsWireForm-wire, IsKept, owner_in, data_in, IsEntry}
+use Rattle.dns_zone.proofs.Common.{◌≡◌, ℕ, true, All, ◌++◌, length, take, drop, refl, ap, ◌∙◌, arith, length-append, take-append_seam, drop-append_seam, Octets, DomainName, wire, is_name, ResourceRecord, Small, labels_of_spelled, IsWireForm-wire, IsKept, owner_in, data_in, IsEntry}
 
 -- the octets zs of a record with owner n, whose wire form is own, and data d
 pub record IsLaid (n : DomainName) (d own zs : Octets) : Type 0 where
@@ -7,9 +7,9 @@ pub record IsLaid (n : DomainName) (d own zs : Octets) : Type 0 where
   pub spelled : own ≡ wire n
   pub is_name : is_name n ≡ true
 
-pub laid_in_turn : (n : DomainName) (d own others xs ys zs : Octets) → xs ≡ [] → ys ≡ xs ++ own
-    → zs ≡ ys ++ others → own ≡ wire n → others ≡ d → is_name n ≡ true → IsLaid n d own zs
-laid_in_turn n d own others xs ys zs e f g h k ok = grind arith
+pub laid_in_turn : (n : DomainName) (d own others zs : Octets) → zs ≡ own ++ others → own ≡ wire n
+    → others ≡ d → is_name n ≡ true → IsLaid n d own zs
+laid_in_turn n d own others zs h e f ok = grind arith
 
 module _ (n : DomainName) (d own zs : Octets) (laid : IsLaid n d own zs) where
   owner_octets : take (length own) zs ≡ wire n

@@ -3,6 +3,13 @@ use Rattle.std.specs.Prelude.{ℕ, ◌<◌, ◌≤◌, All, length, take, drop}
 use Rattle.dns_spec.specs.Names.{Octets, DomainName}
 use Rattle.dns_name.specs.WireForm.{labels_of, IsWireForm}
 use Rattle.dns_master.specs.RecordForm.{IsKept}
+use Rattle.dns_zone.specs.declared.store.octets.RecordOctets.{RecordOctets}
+use Rattle.dns_zone.specs.declared.store.octets.RecordOctets.TheVariants.{Few, Many}
+
+-- the octets of a record, which are in place or allocated
+abbrev pub octets_in : RecordOctets → Octets
+octets_in (Few octets) = octets
+octets_in (Many octets) = octets.items
 
 -- the owner: the first k octets are its wire form
 abbrev pub owner_in : ℕ → Octets → DomainName

@@ -1,5 +1,6 @@
 //! A growing list of records, from which a zone is made.
 
+pub(crate) mod octets;
 pub(crate) mod stored;
 
 ghost use Rattle.std.specs.Prelude.{◌≡◌, ◌≢◌, ◌⊎◌, ◌-◌, ◌^◌, ◌<◌, ◌≤◌, [], ◌∷◌, ◌++◌, length, IfOk, IfErr, OnOk, OnErr};
@@ -24,7 +25,7 @@ use std::marker::Model;
 
 /// Records of a zone, in the order in which they were added.
 ///
-/// Each takes 32 octets, and one allocation for its owner and its data.
+/// Each takes 72 octets, and one allocation if its owner and its data have more than 62 octets.
 #[derive(Drop)]
 pub struct Store {
     alloc: Global,

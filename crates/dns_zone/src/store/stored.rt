@@ -4,17 +4,18 @@ ghost use Rattle.dns_spec.specs.Names.{folded};
 ghost use Rattle.dns_spec.specs.Data.{Valid, lower_case};
 ghost use Rattle.dns_spec.specs.ZonePrinted.{IsReadRecord};
 
+use crate::store::octets::RecordOctets;
 use dns_master::Record;
 use dns_name::NameRef;
 use dns_rdata::RType;
 use std::alloc::{AllocError, Global};
 use std::marker::Model;
 
-/// A record: 32 octets, and one allocation for its owner and its data.
+/// A record: 72 octets, and one allocation if its owner and its data have more than 62 octets.
 #[derive(Drop)]
 pub(crate) struct StoredRecord {
     // The owner in wire form, followed by the data.
-    octets: Vec<u8>,
+    octets: RecordOctets,
     owner_octets: u8,
     /// Its type.
     pub(crate) rtype: RType,
@@ -24,32 +25,29 @@ pub(crate) struct StoredRecord {
 
 impl Model for StoredRecord {
     ghost use Rattle.dns_spec.specs.Records.{ResourceRecord};
-    ghost use Rattle.dns_zone.specs.EntryForm.{owner_in, data_in, IsEntry};
+    ghost use Rattle.dns_zone.specs.EntryForm.{owner_in, data_in, octets_in, IsEntry};
 
     ghost Value = { ResourceRecord };
 
     ghost view = { λ e. record {
-      owner = owner_in e.owner_octets e.octets.items;
+      owner = owner_in e.owner_octets (octets_in e.octets);
       ttl = e.ttl;
       rtype = e.rtype.0;
-      rdata = data_in e.owner_octets e.octets.items;
+      rdata = data_in e.owner_octets (octets_in e.octets);
     } };
 
-    ghost invariant = { λ e. IsEntry e.owner_octets e.octets.items e.ttl e.rtype.0 };
+    ghost invariant = { λ e. IsEntry e.owner_octets (octets_in e.octets) e.ttl e.rtype.0 };
 }
 
 impl StoredRecord {
-    /// A copy of a record. Memory is allocated once, for its octets.
+    /// A copy of a record. At most one allocation is made, for its octets.
     pub(crate) fn of(alloc: Global, read: &Record) -> Result<StoredRecord, AllocError>
         ensures { IfOk result (λ entry. entry ≡ read.now) }
     {
         let owner = read.owner.octets();
         let data = read.rdata.octets();
-        let mut octets = Vec::with_capacity(alloc, owner.len() + data.len())?;
-        octets.extend_from_slice(owner)?;
-        octets.extend_from_slice(data)?;
         Ok(StoredRecord {
-            octets,
+            octets: RecordOctets::of(alloc, owner, data)?,
             owner_octets: owner.len() as u8,
             rtype: read.rtype,
             ttl: read.ttl,
@@ -64,12 +62,12 @@ impl StoredRecord {
         // Reading the field gives the proof that its number is below 2 ^ 16.
         let _type = self.rtype.0;
         let count = self.owner_octets as usize;
-        NameRef::new(self.octets.as_slice().split_at(count).0)
+        NameRef::new(self.octets.lent().split_at(count).0)
     }
 
     /// The total length in octets of its owner and its data.
     pub(crate) fn octet_count(&self) -> usize {
-        self.octets.len()
+        self.octets.lent().len()
     }
 
     pub(crate) fn rdata(&self) -> &[u8]
@@ -78,6 +76,6 @@ impl StoredRecord {
         ensures lower { lower_case self.now.rtype self.now.rdata ≡ self.now.rdata }
     {
         let count = self.owner_octets as usize;
-        self.octets.as_slice().split_at(count).1
+        self.octets.lent().split_at(count).1
     }
 }

@@ -50,6 +50,7 @@ impl<'z> Node<'z> {
 }
 
 // The row of the child with this label, if that name exists. Each comparison of labels is counted.
+#[inline(always)]
 pub(crate) fn kid_of(kids: &Kids<'_>, label: &Label<'_>, counts: &mut Counts) -> Option<RowNumber>
     requires at { IsNodeAt kids.now.tree kids.now.row }
     requires comparisons { counts.old.comparisons ≤ 4294967278 }
