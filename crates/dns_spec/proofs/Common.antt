@@ -52,6 +52,7 @@ pub use Rattle.dns_spec.specs.Data.{Field, Part, TypeRow, Valid, anything, are_s
 unfoldable pub use Rattle.dns_spec.specs.Data.{cut}
 pub use Rattle.dns_spec.specs.DataText.{Says, SaysAsSpelled, SaysField, SaysFields, SaysHex, SaysNumber, SaysString, SaysTyped, SaysUnknown, SaysWord, SpellsString, SpellsStringOctet, Word, are_strings_alone, word_fields, word_fields_of, is_hex_word, is_string_octet, is_unknown_mark, is_word_octet, may_be_quoted}
 unfoldable pub use Rattle.dns_spec.specs.DataText.{hex_octets}
+pub use Rattle.dns_spec.specs.DataFaults.{DataFaultIs, FieldsFaultIs, TypedFaultIs, UnknownFaultIs, field_fault}
 pub use Rattle.dns_spec.specs.FileFaults.{FileFault, bad_data, bad_escape, bad_octet, bad_owner, bad_parenthesis, bad_ttl, bad_type, directive_words, fault_code, no_memory, no_owner, no_ttl, other_class, too_long, too_many_records, unended_string, unknown_directive}
 pub use Rattle.dns_spec.specs.Laws.{HasRoom, IsAskable, IsSetAt, IsWritable, OctetsMean, section_rank, sections_in_order}
 pub use Rattle.dns_spec.specs.Layout.{Item, Laid, Lookup, Placed, Section, additional, answer, asked_octets, asked_placed, authority, data_laid, has_suffix, header_octets, in_section, is_section, laid_front, last_place, message_of, message_record, octets16, octets32, parts_of, place_of, pointer, question_octets, reach, reached, record_by, record_laid, record_tail, records_octets, records_of, reply_header, shared_octets, shared_place, suffix_place}

@@ -5,6 +5,7 @@ pub mod Data
 pub mod TypeText
 pub mod AddressText
 pub mod DataText
+pub mod DataFaults
 pub mod WrittenText
 pub mod FileFaults
 pub mod ZoneText

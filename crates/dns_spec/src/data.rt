@@ -7,6 +7,7 @@ ghost use Rattle.dns_spec.specs.Names.{Octets, DomainName};
 ghost use Rattle.dns_spec.specs.Data.{Valid, parts, joined, lower_case};
 ghost use Rattle.dns_spec.specs.TypeText.{NamesType, type_text};
 ghost use Rattle.dns_spec.specs.DataText.{Word, Says};
+ghost use Rattle.dns_spec.specs.DataFaults.{DataFaultIs};
 ghost use Rattle.dns_spec.specs.WrittenText.{written_words, stands_alone};
 
 /// The text of a type of 16 bits names that type (RFC 3597 5).
@@ -53,4 +54,16 @@ pub fn written_words_stand_alone()
 pub fn words_say_one_data()
     ensures { (t : ℕ) (ws : List Word) (origin : DomainName) (d e : Octets) → Says t ws origin d
         → Says t ws origin e → d ≡ e }
+{}
+
+/// Words that have a fault spell no data of the type, relative to the origin.
+pub fn faulty_words_say_no_data()
+    ensures { (t : ℕ) (ws : List Word) (origin : DomainName) (k : ℕ) (d : Octets)
+        → DataFaultIs t ws origin k → Says t ws origin d → ⊥ }
+{}
+
+/// Words have at most one fault.
+pub fn words_have_one_fault()
+    ensures { (t : ℕ) (ws : List Word) (origin : DomainName) (j k : ℕ) → DataFaultIs t ws origin j
+        → DataFaultIs t ws origin k → j ≡ k }
 {}

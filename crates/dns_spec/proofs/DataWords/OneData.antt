@@ -1,5 +1,5 @@
 -- Words spell at most one data of a type.
-use Rattle.dns_spec.proofs.Common.{◌≡◌, ℕ, zero, suc, ◌<◌, ◌≤◌, Bool, true, false, nat_le, List, [], ◌∷◌, ◌++◌, length, replicate, Option, Some, None, refl, sym, ◌∙◌, ap, ap₂, arith, decimal, MatchBool, list_all, option_map, AllDigits, pow-le-pow_right, and_parts, and_from, leb-true, ltb-true, same_Some, decimal_is_IsNumeral, decimal_injective, digit_from_value, Octets, DomainName, wire, Field, TypeRow, type_table, row_of, SaysIpv4, Word, number, ipv4, ipv6, domain, string, SaysNumber, SaysField, SaysFields, word_fields, SaysTyped, SaysUnknown, SaysAsSpelled, is_unknown_mark, Says, MatchOption, ◌==◌, strings, anything}
+use Rattle.dns_spec.proofs.Common.{◌≡◌, ℕ, zero, suc, ◌<◌, ◌≤◌, Bool, true, false, nat_le, List, [], ◌∷◌, ◌++◌, length, replicate, Option, Some, None, refl, sym, ◌∙◌, ap, ap₂, arith, decimal, MatchBool, list_all, option_map, AllDigits, pow-le-pow_right, and_parts, and_from, leb-true, ltb-true, none-some, same_Some, subst, decimal_is_IsNumeral, decimal_injective, digit_from_value, Octets, DomainName, wire, Field, TypeRow, type_table, row_of, SaysIpv4, Word, number, ipv4, ipv6, domain, string, SaysNumber, SaysField, SaysFields, word_fields, word_fields_of, SaysTyped, SaysUnknown, SaysAsSpelled, is_unknown_mark, Says, MatchOption, ◌==◌, strings, anything}
 use Rattle.dns_spec.proofs.NameTexts.OneName.{name_once, string_once}
 use Rattle.dns_spec.proofs.General.Tests.{entry_passes}
 
@@ -65,11 +65,11 @@ ipv4_once text d e h k =
     (ap₂ (λ x xs. x ∷ xs) two.0 (ap₂ (λ x y. x ∷ y ∷ []) three.0 four)) ∙ sym q.is
 
 -- the fields of the table: numbers have at most 32 bits
-is_narrow : Field → Bool
+pub is_narrow : Field → Bool
 is_narrow (number k) = nat_le k 4
 is_narrow _ = true
 
-form_once : (f : Field) (origin : DomainName) (text d e : Octets)
+pub form_once : (f : Field) (origin : DomainName) (text d e : Octets)
     → is_narrow f ≡ true → SaysField f origin text d → SaysField f origin text e → d ≡ e
 unfolding is_narrow
 form_once (number k) origin text d e narrow h h' =
@@ -103,22 +103,34 @@ narrow_words : (k : ℕ) (fs : List Field)
 unfolding is_narrow
 narrow_words k fs h = grind (arith, all_alike)
 
+-- the fields of words of data
+pub narrow_fields : (t k : ℕ) (fs : List Field)
+    → word_fields_of t k ≡ Some fs → list_all is_narrow fs ≡ true
+unfolding is_narrow
+narrow_fields t k fs e = by_row (row_of t) refl e
+  where
+    by_row : (o : Option TypeRow) → row_of t ≡ o
+        → option_map (λ (row : TypeRow). word_fields k row.fields) o ≡ Some fs
+        → list_all is_narrow fs ≡ true
+    by_row None is e = absurd (none-some fs e)
+    by_row (Some row) is e = subst (λ fs. list_all is_narrow fs ≡ true) (same_Some _ fs e)
+        (narrow_words k row.fields (entry_passes (λ (row : TypeRow). row.number == t)
+        (λ (row : TypeRow). list_all is_narrow row.fields) type_table row is refl))
+
 typed_once : (t : ℕ) (origin : DomainName) (ws : List Word) (d e : Octets)
     → SaysTyped t origin ws d → SaysTyped t origin ws e → d ≡ e
-unfolding is_narrow
-typed_once t origin ws d e h k = by_row (row_of t) refl h k
+typed_once t origin ws d e h k = by_fields (word_fields_of t (length ws)) refl h k
   where
-    Typed : Option TypeRow → Octets → Type 0
-    Typed o x = MatchOption (option_map (λ (row : TypeRow). word_fields (length ws) row.fields) o)
-        ⊥ (λ fs. SaysFields fs origin ws x)
+    Typed : Option (List Field) → Octets → Type 0
+    Typed o x = MatchOption o ⊥ (λ fs. SaysFields fs origin ws x)
 
-    by_row : (o : Option TypeRow) → row_of t ≡ o → Typed o d → Typed o e → d ≡ e
-    by_row None is h k = absurd h
-    by_row (Some row) is h k = forms_once (word_fields (length ws) row.fields) origin ws d e
-        (narrow_words (length ws) row.fields (entry_passes (λ (row : TypeRow). row.number == t)
-        (λ (row : TypeRow). list_all is_narrow row.fields) type_table row is refl)) h k
+    by_fields : (o : Option (List Field)) → word_fields_of t (length ws) ≡ o → Typed o d
+        → Typed o e → d ≡ e
+    by_fields None is h k = absurd h
+    by_fields (Some fs) is h k =
+        forms_once fs origin ws d e (narrow_fields t (length ws) fs is) h k
 
-unknown_once : (ws : List Word) (d e : Octets) → SaysUnknown ws d → SaysUnknown ws e → d ≡ e
+pub unknown_once : (ws : List Word) (d e : Octets) → SaysUnknown ws d → SaysUnknown ws e → d ≡ e
 unknown_once ws d e h h1 = grind arith
 
 as_spelled_once : (t : ℕ) (origin : DomainName) (ws : List Word) (d e : Octets)

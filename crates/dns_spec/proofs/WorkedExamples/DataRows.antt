@@ -1,7 +1,7 @@
 -- Words and data, text and octets, in the worked cases: computed from the definitions or, if these
 -- are relations, read or refuted.
-use Rattle.dns_spec.proofs.Common.{◌≡◌, ℕ, zero, suc, ◌<◌, ◌^◌, List, [], ◌∷◌, ◌++◌, true, false, refl, sym, ◌∙◌, ap, length, codes, decimal, get_or, arith, digits, false≢true, none-some, same_Some, Octets, labels_from, SpellsName, octet_text, type_by_mnemonic, type_text, Word, Says, SpellsString, hex_octets, ipv6_groups, SaysIpv6, data_text, None, Some, first_decimal, cut, type_a, type_hinfo, type_mx, type_txt, type_aaaa, type_srv, Valid, valid, parts, octets, name, lower_case}
-use Rattle.dns_spec.proofs.WorkedExamples.Readings.{Rows, SaysOf, are_found, found_is, said_in, string_in, name_in}
+use Rattle.dns_spec.proofs.Common.{◌≡◌, ℕ, zero, suc, ◌<◌, ◌^◌, List, [], ◌∷◌, ◌++◌, true, false, refl, sym, ◌∙◌, ap, length, codes, decimal, get_or, arith, digits, false≢true, inl, inr, none-some, same_Some, Octets, labels_from, SpellsName, octet_text, type_by_mnemonic, type_text, Word, Says, SaysWord, SaysUnknown, DataFaultIs, number, SpellsString, hex_octets, ipv6_groups, SaysIpv6, data_text, None, Some, first_decimal, cut, type_a, type_hinfo, type_mx, type_txt, type_aaaa, type_srv, Valid, valid, parts, octets, name, lower_case}
+use Rattle.dns_spec.proofs.WorkedExamples.Readings.{Rows, SaysOf, are_found, form_in, found_is, unknown_in, said_in, string_in, name_in}
 use Rattle.dns_spec.proofs.WorkedExamples.Zones.{hex, dotted, example, under}
 
 -- an unquoted word, a quoted word, and `\#`
@@ -134,6 +134,60 @@ refuted = (
   λ d h. false≢true h.said.2.0,
   λ d h. let number = h.said.3.said in no_number_010 number.0 number.1 number.2,
   λ d h. h.said.4,
+)
+
+-- a backslash alone
+no_escape : (s : Octets) → SpellsString (codes "\\") s → ⊥
+no_escape [] e = grind arith
+no_escape (x ∷ s) (first, others, e, o, h) = grind arith
+
+-- the words have the fault of this number
+abbrev HasFault : ℕ → List Word → ℕ → Type 0
+HasFault t ws k = DataFaultIs t ws example k
+
+ten : SaysWord (number 2) example (bare (codes "10")) (hex (codes "000a"))
+unfolding digits
+ten = record {
+  quotes = refl;
+  said = found_is (form_in (number 2) example (codes "10")) (hex (codes "000a")) refl;
+}
+
+three_octets : SaysUnknown (bare (codes "3") ∷ bare (codes "c00002") ∷ []) (hex (codes "c00002"))
+unfolding digits hex_octets
+three_octets =
+    found_is (unknown_in (bare (codes "3") ∷ bare (codes "c00002") ∷ [])) (hex (codes "c00002")) refl
+
+fault_rows :
+    -- words are counted before any is judged
+    HasFault type_mx (bare (codes "010") ∷ []) 1
+    × HasFault type_a (bare (codes "1.2.3") ∷ bare (codes "x") ∷ []) 1
+    × HasFault type_txt [] 1
+    -- a leading zero, before a name in quotation marks; and that name after a number
+    × HasFault type_mx (bare (codes "010") ∷ quoted (codes "mail") ∷ []) 2
+    × HasFault type_mx (bare (codes "10") ∷ quoted (codes "mail") ∷ []) 4
+    -- two gaps, and an address in quotation marks, which is not `\#`
+    × HasFault type_aaaa (bare (codes "1::2::3") ∷ []) 3
+    × HasFault type_a (quoted (codes "\\#") ∷ []) 3
+    -- a backslash that begins no escape
+    × HasFault type_txt (bare (codes "\\") ∷ []) 5
+    -- a type without a form of its own, and an odd number of digits
+    × HasFault 65280 (bare (codes "x") ∷ []) 6
+    × HasFault type_a (mark ∷ bare (codes "1") ∷ bare (codes "abc") ∷ []) 6
+    -- octets that are not an address
+    × HasFault type_a (mark ∷ bare (codes "3") ∷ bare (codes "c00002") ∷ []) 7
+unfolding ipv6_groups hex_octets cut
+fault_rows = (
+  refl,
+  refl,
+  refl,
+  inl (λ d h. no_number_010 h.said.0 h.said.1 h.said.2, refl),
+  inr (hex (codes "000a"), ten, inl (λ d h. false≢true h.quotes, refl)),
+  inl (λ d h. none-some d h.said, refl),
+  inl (λ d h. false≢true h.quotes, refl),
+  inl (λ d h. no_escape h.said.0 h.said.2, refl),
+  refl,
+  inl (λ d h _. false≢true h.2.0, refl),
+  inr (hex (codes "c00002"), three_octets, omega arith, refl, refl),
 )
 
 -- words that name types, and data in lower case and in parts

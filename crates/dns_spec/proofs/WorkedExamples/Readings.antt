@@ -170,7 +170,7 @@ said_string text = and_then (string_in (length text) text)
     (λ h. Some (length s.0 ∷ s.0, (s.0, leb-true (length s.0) 255 h, s.1, refl))))
 
 -- a word of data, and the words of data
-abbrev form_in : (f : Field) (o : DomainName) (text : Octets) → Found (SaysField f o text)
+abbrev pub form_in : (f : Field) (o : DomainName) (text : Octets) → Found (SaysField f o text)
 form_in (number k) o text =
     let n = digits_value 10 text in
     and_then (holds (nat_lt n (256 ^ k))) (λ small. and_then (same text (decimal n))
@@ -199,7 +199,7 @@ forms_in_words (f ∷ fs) o (w ∷ ws) =
 abbrev typed_in : (t : ℕ) (o : DomainName) (ws : List Word) → Found (SaysTyped t o ws)
 typed_in t o ws = matched (word_fields_of t (length ws)) None (λ fs. forms_in_words fs o ws)
 
-abbrev unknown_in : (ws : List Word) → Found (SaysUnknown ws)
+abbrev pub unknown_in : (ws : List Word) → Found (SaysUnknown ws)
 unknown_in [] = None
 unknown_in (w ∷ ws) =
     and_then (holds (not w.is_quoted)) (λ q. and_then (holds (list_all is_hex_word ws)) (λ hexes.

@@ -1,0 +1,48 @@
+-- Why words spell no data: the number of their fault, 1 to 7. What is counted as a fault, and in
+-- which order, is this project's choice.
+use Rattle.std.specs.Prelude.{◌≡◌, ℕ, ◌+◌, ◌≤◌, ◌⊎◌, false, List, [], ◌∷◌, length, nat_le, ◌==◌, MatchOption}
+use Rattle.std.specs.Bool.{MatchBool}
+use Rattle.dns_spec.specs.Names.{Octets, DomainName}
+use Rattle.dns_spec.specs.Data.{Field, number, ipv4, ipv6, domain, string, strings, anything, valid}
+use Rattle.dns_spec.specs.DataText.{Word, SaysWord, word_fields_of, SaysUnknown, is_unknown_mark}
+
+-- the fault of a word that does not spell its field: not a number, an address, a name, a string
+abbrev pub field_fault : Field → ℕ
+field_fault (number k) = 2
+field_fault ipv4 = 3
+field_fault ipv6 = 3
+field_fault domain = 4
+field_fault string = 5
+field_fault strings = 5
+field_fault anything = 5
+
+-- The fault of the first word from the left that does not spell its field; 5 if, up to a word, all
+-- do, but spell more than 65,535 octets (RFC 1035 3.2.1). The words before these spell n octets.
+abbrev pub FieldsFaultIs : List Field → DomainName → ℕ → List Word → ℕ → Type 0
+FieldsFaultIs [] origin n ws k = ⊥
+FieldsFaultIs (f ∷ fs) origin n [] k = ⊥
+FieldsFaultIs (f ∷ fs) origin n (w ∷ ws) k =
+    (((d : Octets) → SaysWord f origin w d → ⊥) × (k ≡ field_fault f))
+    ⊎ ((d : Octets) × SaysWord f origin w d
+    × MatchBool (nat_le (n + length d) 65535)
+    (FieldsFaultIs fs origin (n + length d) ws k) (k ≡ 5))
+
+-- in the form of the type: 6 if it has none; 1 if it has another number of words; else the fault
+-- of a word
+abbrev pub TypedFaultIs : ℕ → DomainName → List Word → ℕ → Type 0
+TypedFaultIs t origin ws k =
+    MatchOption (word_fields_of t (length ws)) (k ≡ 6)
+    (λ fs. MatchBool (length fs == length ws) (FieldsFaultIs fs origin 0 ws k) (k ≡ 1))
+
+-- RFC 3597 section 5: after `\#`, 6 if the words spell no octets, or more than 65,535; 7 if these
+-- are invalid for the type
+abbrev pub UnknownFaultIs : ℕ → List Word → ℕ → Type 0
+UnknownFaultIs t ws k =
+    (((d : Octets) → SaysUnknown ws d → length d ≤ 65535 → ⊥) × (k ≡ 6))
+    ⊎ ((d : Octets) × SaysUnknown ws d × (length d ≤ 65535) × (valid t d ≡ false) × (k ≡ 7))
+
+-- The fault of words that spell no data of the type, with names relative to the origin.
+abbrev pub DataFaultIs : ℕ → List Word → DomainName → ℕ → Type 0
+DataFaultIs t [] origin k = TypedFaultIs t origin [] k
+DataFaultIs t (w ∷ ws) origin k =
+    MatchBool (is_unknown_mark w) (UnknownFaultIs t ws k) (TypedFaultIs t origin (w ∷ ws) k)
