@@ -1,6 +1,6 @@
 -- Words are taken from the left, each by its field: what the first words spell, followed by what
 -- the other words spell by the remaining fields, is what all words spell by all fields.
-use Rattle.dns_rdata.proofs.Common.{◌≡◌, ℕ, zero, suc, subst₂, ◌+◌, ◌<◌, ◌≤◌, List, [], ◌∷◌, ◌++◌, length, drop, slice_get, Some, refl, sym, ap, ◌∙◌, arith, none-some, same_Some, Octets, DomainName, Field, Word, SaysWord, SaysFields, append_assoc, append-nil, length-append, length-map, suc-eq-add-one, canonical_octets, Appends}
+use Rattle.dns_rdata.proofs.Common.{◌≡◌, ℕ, zero, suc, inl, inr, Bool, true, false, nat_le, MatchBool, le-leb, lt-leb, FieldsFaultIs, field_fault, subst, subst₂, ◌+◌, ◌<◌, ◌≤◌, List, [], ◌∷◌, ◌++◌, length, drop, slice_get, Some, refl, ap, ◌∙◌, arith, none-some, same_Some, Octets, DomainName, Field, Word, SaysWord, SaysFields, append_assoc, length-append, length-map, suc-eq-add-one, canonical_octets, Appends}
 
 -- the words spell d in order, one word for each field, and e is what is kept of d
 abbrev pub SaysKept : List Field → DomainName → List Word → Octets → Octets → Type 0
@@ -12,14 +12,6 @@ SaysKept (f ∷ fs) origin (w ∷ ws) d e =
     × (e ≡ canonical_octets f front ++ low) × SaysWord f origin w front
     × SaysKept fs origin ws back low
 
--- as many words as fields
-pub as_many_words : (fs : List Field) (origin : DomainName) (ws : List Word) (d : Octets)
-    → SaysFields fs origin ws d → length fs ≡ length ws
-as_many_words [] origin [] d h = refl
-as_many_words [] origin (w ∷ ws) d h = absurd h
-as_many_words (f ∷ fs) origin [] d h = absurd h
-as_many_words (f ∷ fs) origin (w ∷ ws) d h = ap suc (as_many_words fs origin ws h.1 h.4)
-
 -- words whose octets are kept spell data
 pub kept_said : (fs : List Field) (origin : DomainName) (ws : List Word) (d e : Octets)
     → SaysKept fs origin ws d e → SaysFields fs origin ws d
@@ -29,22 +21,27 @@ kept_said (f ∷ fs) origin [] d e h = absurd h
 kept_said (f ∷ fs) origin (w ∷ ws) d e (front, back, low, is, kept_is, said, h) =
     (front, back, is, said, kept_said fs origin ws back low h)
 
+-- each case of a test
+at_true : {b : Bool} (P Q : Type 0) → b ≡ true → P → MatchBool b P Q
+at_true P Q e h = grind arith
+
+at_false : {b : Bool} (P Q : Type 0) → b ≡ false → Q → MatchBool b P Q
+at_false P Q e h = grind arith
+
 length-canonical_octets : (f : Field) (d : Octets) → length (canonical_octets f d) ≡ length d
 length-canonical_octets f d = grind (arith, length-map)
 
 -- All words are `ws`, and all fields `fs`. The words before `rest` were taken by the fields before
--- `left`, and octets grew by what is kept of what they spell.
+-- `left`, and `octets` are what is kept of what they spell.
 pub record Taken (fs left : List Field) (origin : DomainName) (ws rest : List Word)
-    (before after : Octets) : Type 0 where
+    (octets : Octets) : Type 0 where
   pub spelled : Octets
-  pub low : Octets
-  pub grown : after ≡ before ++ low
-  pub as_long : length low ≡ length spelled
+  pub as_long : length octets ≡ length spelled
   pub count : length ws + length left ≡ length fs + length rest
   pub on : (d e : Octets) → SaysKept left origin rest d e
-      → SaysKept fs origin ws (spelled ++ d) (low ++ e)
-  pub back : (d : Octets) → SaysFields fs origin ws d
-      → (e : Octets) × SaysFields left origin rest e × (d ≡ spelled ++ e)
+      → SaysKept fs origin ws (spelled ++ d) (octets ++ e)
+  pub faulty : (k : ℕ) → FieldsFaultIs left origin (length octets) rest k
+      → FieldsFaultIs fs origin 0 ws k
 
 -- the field at a place, and those after it
 next_field : (fs : List Field) (i : ℕ) (f : Field)
@@ -55,62 +52,53 @@ next_field (g ∷ fs) (suc i) f h = next_field fs i f h
 
 module _ (fs : List Field) (origin : DomainName) (ws : List Word) where
   -- no word was taken yet
-  pub none-taken : (octets : Octets) → Taken fs fs origin ws ws octets octets
-  none-taken octets =
-      record {
-        spelled = [];
-        low = [];
-        grown = sym (append-nil octets);
-        as_long = refl;
-        count = omega arith;
-        on = λ d e h. h;
-        back = λ d h. (d, h, refl);
-      }
-
-  -- the next word, and the field at its place
-  pub word-next : (i : ℕ) (f : Field) (w : Word) (mid rest : List Word) (x y : Octets)
-      → slice_get fs i ≡ Some f → mid ≡ w ∷ rest → Taken fs (drop i fs) origin ws mid x y
-      → Taken fs (f ∷ drop (i + 1) fs) origin ws (w ∷ rest) x y
-  word-next i f w mid rest x y at is t = subst₂ (λ left rest. Taken fs left origin ws rest x y)
-      (next_field fs i f at ∙ ap (λ k. f ∷ drop k fs) (suc-eq-add-one i)) is t
-
-  -- one more word was taken
-  pub word-taken : (f : Field) (left : List Field) (w : Word) (rest : List Word) (x y z : Octets)
-      → Taken fs (f ∷ left) origin ws (w ∷ rest) x y
-      → Appends (canonical_octets f) (SaysWord f origin w) y z → Taken fs left origin ws rest x z
-  word-taken f left w rest x y z t a = record {
-    spelled = t.spelled ++ a.spelled;
-    low = t.low ++ canonical_octets f a.spelled;
-    grown = a.grown ∙ ap (λ v. v ++ canonical_octets f a.spelled) t.grown
-        ∙ append_assoc x t.low (canonical_octets f a.spelled);
-    as_long = omega (
-      arith,
-      t.as_long,
-      length-append t.low (canonical_octets f a.spelled),
-      length-append t.spelled a.spelled,
-      length-canonical_octets f a.spelled,
-    );
-    count = omega (arith, t.count);
-    on = λ d e h. simp append_assoc (t.on (a.spelled ++ d) (canonical_octets f a.spelled ++ e)
-        (a.spelled, d, e, refl, refl, a.said, h));
-    back = λ d h.
-        let (e, (front, rest, is, said, more), whole) = t.back d h in (
-          rest,
-          more,
-          whole ∙ ap (λ v. t.spelled ++ v) (is ∙ ap (λ v. v ++ rest) (a.only front said))
-              ∙ sym (append_assoc t.spelled a.spelled rest),
-        );
+  pub none-taken : Taken fs fs origin ws ws []
+  none-taken = record {
+    spelled = [];
+    as_long = refl;
+    count = omega arith;
+    on = λ d e h. h;
+    faulty = λ k h. h;
   }
 
-  -- if the next word does not spell its field, all words spell nothing
-  pub word-refused : (f : Field) (left : List Field) (w : Word) (rest : List Word) (x y : Octets)
-      → Taken fs (f ∷ left) origin ws (w ∷ rest) x y
-      → ((d : Octets) → SaysWord f origin w d → ⊥) → (d : Octets) → SaysFields fs origin ws d → ⊥
-  word-refused f left w rest x y t none d h =
-      let (e, (front, back, is, said, more), whole) = t.back d h in none front said
+  -- the next word, and the field at its place
+  pub word-next : (i : ℕ) (f : Field) (w : Word) (mid rest : List Word) (x : Octets)
+      → slice_get fs i ≡ Some f → mid ≡ w ∷ rest → Taken fs (drop i fs) origin ws mid x
+      → Taken fs (f ∷ drop (i + 1) fs) origin ws (w ∷ rest) x
+  word-next i f w mid rest x at is t = subst₂ (λ left rest. Taken fs left origin ws rest x)
+      (next_field fs i f at ∙ ap (λ k. f ∷ drop k fs) (suc-eq-add-one i)) is t
 
-  -- all words spell too much, if the first words do
-  pub too-long : (left : List Field) (rest : List Word) (x y : Octets)
-      → Taken fs left origin ws rest x y → 65535 < length y
-      → (d : Octets) → SaysFields fs origin ws d → length x + length d ≤ 65535 → ⊥
-  too-long left rest x y t over d h short = grind (arith, length-append)
+  module _ (f : Field) (left : List Field) (w : Word) (rest : List Word) (x : Octets)
+      (t : Taken fs (f ∷ left) origin ws (w ∷ rest) x) where
+    -- if the next word does not spell its field, all words have its fault
+    pub word-refused : ((d : Octets) → SaysWord f origin w d → ⊥)
+        → FieldsFaultIs fs origin 0 ws (field_fault f)
+    word-refused none = t.faulty (field_fault f) (inl (none, refl))
+
+    -- one more word was taken
+    module _ (y : Octets) (a : Appends (canonical_octets f) (SaysWord f origin w) x y) where
+      grown : length y ≡ length x + length a.spelled
+      grown = ap length a.grown ∙ length-append x (canonical_octets f a.spelled)
+          ∙ ap (λ k. length x + k) (length-canonical_octets f a.spelled)
+
+      more : (k : ℕ) → MatchBool (nat_le (length x + length a.spelled) 65535)
+          (FieldsFaultIs left origin (length x + length a.spelled) rest k) (k ≡ 5)
+          → FieldsFaultIs fs origin 0 ws k
+      more k h = t.faulty k (inr (a.spelled, a.said, h))
+
+      pub word-taken : length y ≤ 65535 → Taken fs left origin ws rest y
+      word-taken short = record {
+        spelled = t.spelled ++ a.spelled;
+        as_long = omega (arith, t.as_long, grown, length-append t.spelled a.spelled);
+        count = omega (arith, t.count);
+        on = λ d e h. rw a.grown (simp append_assoc (t.on (a.spelled ++ d)
+            (canonical_octets f a.spelled ++ e) (a.spelled, d, e, refl, refl, a.said, h)));
+        faulty = λ k h. more k (at_true _ _ (le-leb (length x + length a.spelled) 65535
+            (omega (arith, grown, short)))
+            (subst (λ n. FieldsFaultIs left origin n rest k) grown h));
+      }
+
+      -- with the octets of the next word they are too many
+      pub too-long : 65535 < length y → FieldsFaultIs fs origin 0 ws 5
+      too-long over = more 5 (at_false _ _ (lt-leb (length x + length a.spelled) 65535
+          (omega (arith, grown, over))) refl)

@@ -1,10 +1,10 @@
 -- What words spell by the fields of a type is valid data of the type, if it is not too long, and
 -- what is kept of it is that data in lower case.
-use Rattle.dns_rdata.proofs.Common.{◌≡◌, ◌↔◌, ℕ, zero, suc, ◌≤◌, ◌⊎◌, inl, inr, true, false, nat_le, List, [], ◌∷◌, ◌++◌, map, max, length, replicate, Option, Some, refl, sym, ap, ◌∙◌, subst, arith, append-nil, length-append, list_all, is_some, option_map, unwrap_or, MatchOption, to_ascii_lowercase, and_parts, and_from, le-leb, leb-true, ne_eqb, false≢true, drop_at, flat_map-cons, Octets, DomainName, number, ipv4, ipv6, Field, domain, string, strings, anything, Part, octets, name, part_octets, part_folded, joined, strings_front, field_front, are_strings, cut, other_type, row_of, fields_of, Valid, Word, SaysWord, SaysFields, SaysTyped, SaysAsSpelled, Says, are_strings_alone, word_fields, map-lowercase-wire, IsName-is_name, cut-domain, cut-step, lowered_data, length-bytes_high_first, canonical_octets, is_marked}
+use Rattle.dns_rdata.proofs.Common.{◌≡◌, ◌↔◌, ℕ, zero, suc, ◌==◌, ◌≤◌, ◌⊎◌, inl, inr, true, false, nat_le, List, [], ◌∷◌, ◌++◌, map, max, length, replicate, Option, Some, refl, sym, ap, ◌∙◌, subst, arith, append-nil, length-append, list_all, is_some, option_map, unwrap_or, MatchOption, DataFaultIs, FieldsFaultIs, TypedFaultIs, to_ascii_lowercase, and_parts, and_from, le-leb, ne_eqb, false≢true, drop_at, flat_map-cons, Octets, DomainName, number, ipv4, ipv6, Field, domain, string, strings, anything, Part, octets, name, part_octets, part_folded, joined, strings_front, field_front, are_strings, cut, other_type, row_of, fields_of, Valid, Word, SaysWord, SaysFields, SaysTyped, SaysAsSpelled, Says, are_strings_alone, word_fields, map-lowercase-wire, IsName-is_name, cut-domain, cut-step, lowered_data, length-bytes_high_first, canonical_octets, is_marked}
 use Rattle.dns_spec.proofs.Common.{TypeRow, or_cases}
 use Rattle.dns_rdata.proofs.NameFronts.{strings_after}
 use Rattle.dns_rdata.proofs.Ipv6Lemmas.{length-ipv6}
-use Rattle.dns_rdata.proofs.FormFronts.{SaysKept, Taken, as_many_words, kept_said}
+use Rattle.dns_rdata.proofs.FormFronts.{SaysKept, Taken, kept_said}
 use Rattle.dns_spec.proofs.DataWords.SaidAgain.{is_counted, only_strings, words_counted, row_has_forms}
 use Rattle.dns_spec.proofs.DataWords.MadeData.{cut-octets}
 
@@ -121,6 +121,12 @@ pub spelled_typed : (t : ℕ) (origin : DomainName) (ws : List Word) (d : Octets
 spelled_typed t origin [] d plain = (λ h. h, λ h. h)
 spelled_typed t origin (w ∷ ws) d plain = grind arith
 
+-- the fault of words by the form of the type is their fault, too
+fault_typed : (t : ℕ) (origin : DomainName) (ws : List Word) (k : ℕ)
+    → is_marked ws ≡ false → TypedFaultIs t origin ws k → DataFaultIs t ws origin k
+fault_typed t origin [] k plain h = h
+fault_typed t origin (w ∷ ws) k plain h = grind arith
+
 -- the lower-case data that words spell is valid too
 pub said_valid : (t : ℕ) (ws : List Word) (origin : DomainName) (d : Octets)
     → Says t ws origin d → Valid t d
@@ -130,26 +136,18 @@ said_valid t ws origin d said =
 -- what words spell by the row of the type
 module _ (t : ℕ) (row : TypeRow) (origin : DomainName) (ws : List Word) (count : ℕ)
     (plain : is_marked ws ≡ false) (is : Some row ≡ row_of t) (counted : count ≡ length ws) where
-  pub nothing_typed : ((d : Octets) → SaysFields (word_fields count row.fields) origin ws d
-      → length d ≤ 65535 → ⊥) → (d : Octets) → Says t ws origin d → ⊥
-  nothing_typed none d said = grind (arith, spelled_typed, leb-true, and_parts)
-
-  pub other_count : (length (word_fields count row.fields) ≡ count → ⊥)
-      → (d : Octets) → Says t ws origin d → ⊥
-  other_count other = nothing_typed (λ d said _. other
-      (as_many_words (word_fields count row.fields) origin ws d said ∙ sym counted))
+  pub typed_fault : (k : ℕ) → true ≡ (length (word_fields count row.fields) == count)
+      → FieldsFaultIs (word_fields count row.fields) origin 0 ws k → DataFaultIs t ws origin k
+  typed_fault k many fault =
+      fault_typed t origin ws k plain (rw (sym is) (rw (sym counted) (rw (sym many) fault)))
 
   -- all words were taken
-  module _ (e : Octets) (a : Taken (word_fields count row.fields) [] origin ws [] [] e) where
+  module _ (e : Octets) (a : Taken (word_fields count row.fields) [] origin ws [] e) where
     whole : SaysKept (word_fields count row.fields) origin ws a.spelled e
-    whole = subst (λ v. SaysKept (word_fields count row.fields) origin ws a.spelled v)
-        (sym a.grown) (simp append-nil at (a.on [] [] (refl, refl)))
+    whole = simp append-nil at (a.on [] [] (refl, refl))
 
     cut_of : CutInto row.fields a.spelled e
     cut_of = row_said t count row origin ws a.spelled e (sym is) whole
-
-    as_long : length e ≡ length a.spelled
-    as_long = ap length a.grown ∙ a.as_long
 
     pub typed_said : length e ≤ 65535 → Says t ws origin e
     typed_said short =
@@ -162,7 +160,7 @@ module _ (t : ℕ) (row : TypeRow) (origin : DomainName) (ws : List Word) (count
           said = (spelled_typed t origin ws a.spelled plain).1
               (subst (λ r. TypedBy r origin ws a.spelled) is said);
           is_valid = and_from (nat_le (length a.spelled) 65535) _
-              (le-leb (length a.spelled) 65535 (omega (arith, short, as_long))) (ap is_some cut_is);
+              (le-leb (length a.spelled) 65535 (omega (arith, short, a.as_long))) (ap is_some cut_is);
           lower = ap (λ y. joined (map part_folded (unwrap_or y (octets a.spelled ∷ [])))) cut_is
               ∙ cut_of.lowered;
         }

@@ -1,9 +1,10 @@
 -- What is appended for a word.
-use Rattle.std.specs.Prelude.{◌≡◌, ◌≢◌, Result, OnOk, IfErr, Bool, false, List, [], ◌∷◌, ◌++◌, map}
+use Rattle.std.specs.Prelude.{◌≡◌, ◌≢◌, ℕ, Result, OnOk, IfErr, Bool, false, List, [], ◌∷◌, ◌++◌, map}
 use Rattle.std.specs.Char.{to_ascii_lowercase}
 use Rattle.dns_spec.specs.Names.{Octets}
 use Rattle.dns_spec.specs.Data.{Field, domain}
 use Rattle.dns_spec.specs.DataText.{Word, is_unknown_mark}
+use Rattle.dns_rdata.specs.RdataFault.{fault_code}
 use Rattle.dns_rdata.specs.declared.fault.RdataFault.{RdataFault}
 use Rattle.dns_rdata.specs.declared.fault.RdataFault.TheVariants.{NoMemory}
 
@@ -15,21 +16,21 @@ abbrev pub canonical_octets : Field → Octets → Octets
 canonical_octets domain = map to_ascii_lowercase
 canonical_octets _ = as_it_is
 
--- exactly one run of octets is spelled, and octets grew by what is kept of it
+-- octets are spelled, and the buffer grew by what is kept of them
 pub record Appends (keeps : Octets → Octets) (says : Octets → Type 0) (before after : Octets)
     : Type 0 where
   pub spelled : Octets
   pub said : says spelled
-  pub only : (d : Octets) → says d → d ≡ spelled
   pub grown : after ≡ before ++ keeps spelled
 
--- octets grew by what is kept of the octets spelled; or there is a fault, and unless allocation
--- failed, no octets are spelled
+-- the buffer grew by what is kept of the octets spelled; or there is a fault, and unless allocation
+-- failed, no octets are spelled, and the fault has this code
 pub record AppendsSaid
-    {A : Type 0} (keeps : Octets → Octets) (says : Octets → Type 0) (before after : Octets)
-    (result : Result A RdataFault) : Type 0 where
+    {A : Type 0} (code : ℕ) (keeps : Octets → Octets) (says : Octets → Type 0)
+    (before after : Octets) (result : Result A RdataFault) : Type 0 where
   pub ok : OnOk result (Appends keeps says before after)
   pub fault : IfErr result (λ fault. fault ≢ NoMemory → (d : Octets) → says d → ⊥)
+  pub which : IfErr result (λ fault. fault ≢ NoMemory → fault_code fault ≡ code)
 
 -- whether the first word is the unquoted `\#`
 abbrev pub is_marked : List Word → Bool

@@ -1,6 +1,6 @@
 //! Why words or octets are invalid data for a type.
 ghost use Rattle.std.specs.Prelude.{◌≡◌};
-ghost use Rattle.dns_rdata.specs.RdataFault.{HasCode};
+ghost use Rattle.dns_rdata.specs.RdataFault.{fault_code};
 ghost use Rattle.dns_rdata.specs.declared.fault.RdataFault.TheVariants.{BadName, NoMemory};
 
 use dns_name::NameFault;
@@ -31,7 +31,7 @@ pub enum RdataFault {
 impl RdataFault {
     /// The code of the fault, 1 to 8 in the order of the variants.
     pub fn code(self) -> u8
-        ensures { HasCode self result }
+        ensures { result ≡ fault_code self }
     {
         self as u8
     }

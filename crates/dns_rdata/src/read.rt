@@ -3,6 +3,8 @@ ghost use Rattle.std.specs.Prelude.{◌≡◌, ◌≢◌, length, IfOk, IfErr};
 ghost use Rattle.dns_spec.specs.Names.{Octets};
 ghost use Rattle.dns_spec.specs.Data.{Valid};
 ghost use Rattle.dns_spec.specs.DataText.{Says};
+ghost use Rattle.dns_spec.specs.DataFaults.{DataFaultIs};
+ghost use Rattle.dns_rdata.specs.RdataFault.{fault_code};
 
 use crate::fault::RdataFault;
 use crate::rdata::Rdata;
@@ -63,6 +65,8 @@ impl Rdata {
             (λ d. (e : Octets) → Says rtype.0 words.now origin.now e → e ≡ d) }
         ensures fault { IfErr result (λ fault. fault ≢ RdataFault.NoMemory → (d : Octets)
             → Says rtype.0 words.now origin.now d → ⊥) }
+        ensures which { IfErr result (λ fault. fault ≢ RdataFault.NoMemory
+            → DataFaultIs rtype.0 words.now origin.now (fault_code fault)) }
     {
         Rdata::read_words_in(&mut DataRoom::new(alloc), rtype, words, origin)
     }
@@ -82,6 +86,8 @@ impl Rdata {
             (λ d. (e : Octets) → Says rtype.0 (W.to_come words) origin.now e → e ≡ d) }
         ensures fault { IfErr result (λ fault. fault ≢ RdataFault.NoMemory → (d : Octets)
             → Says rtype.0 (W.to_come words) origin.now d → ⊥) }
+        ensures which { IfErr result (λ fault. fault ≢ RdataFault.NoMemory
+            → DataFaultIs rtype.0 (W.to_come words) origin.now (fault_code fault)) }
     {
         let mut octets = replace(&mut room.octets, Vec::new(room.alloc));
         octets.clear();

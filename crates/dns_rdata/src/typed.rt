@@ -1,8 +1,10 @@
 //! Data in the form of its type: one word for each number, address, name and string (RFC 1035
 //! 5.1).
 ghost use Rattle.std.specs.Prelude.{◌≡◌, ◌≢◌, ◌≤◌, ◌==◌, ◌<◌, ℕ, ◌++◌, false, [], length, slice_get, Some, OnOk, IfErr};
-ghost use Rattle.dns_spec.specs.Names.{Octets};
+ghost use Rattle.dns_spec.specs.Data.{number, string};
+ghost use Rattle.dns_spec.specs.DataFaults.{DataFaultIs, field_fault};
 ghost use Rattle.dns_spec.specs.DataText.{SaysNumber, SaysString, SaysWord, Says, word_fields};
+ghost use Rattle.dns_rdata.specs.RdataFault.{fault_code};
 ghost use Rattle.dns_rdata.specs.TypeRows.{field_of, fields_in};
 ghost use Rattle.dns_rdata.specs.WordForms.{as_it_is, canonical_octets, AppendsSaid, is_marked};
 
@@ -37,8 +39,8 @@ pub(crate) fn put_typed<'w, W: Words<'w>>(
     requires none { octets.old.items ≡ [] }
     requires not_unknown { is_marked (W.to_come words) ≡ false }
     ensures ok { OnOk result (Says rtype.0 (W.to_come words) origin.now octets.new.items) }
-    ensures fault { IfErr result (λ fault. fault ≢ RdataFault.NoMemory → (d : Octets)
-        → Says rtype.0 (W.to_come words) origin.now d → ⊥) }
+    ensures which { IfErr result (λ fault. fault ≢ RdataFault.NoMemory
+        → DataFaultIs rtype.0 (W.to_come words) origin.now (fault_code fault)) }
 {
     let Some(row) = row_of_type(rtype) else {
         return Err(RdataFault::BadHex);
@@ -93,7 +95,7 @@ fn append_word(
     name: &mut Name,
     octets: &mut Vec<u8>,
 ) -> Result<(), RdataFault>
-    ensures { AppendsSaid (canonical_octets (field_of field))
+    ensures { AppendsSaid (field_fault (field_of field)) (canonical_octets (field_of field))
         (SaysWord (field_of field) origin.now word.now) octets.old.items octets.new.items result }
 {
     if word.quoted && !matches!(field, Field::String | Field::Strings) {
@@ -114,7 +116,9 @@ fn append_word(
     }
 }
 
-fn fault_of(field: Field) -> RdataFault {
+fn fault_of(field: Field) -> RdataFault
+    ensures { fault_code result ≡ field_fault (field_of field) }
+{
     match field {
         Field::U16 | Field::U32 => RdataFault::BadNumber,
         Field::Ipv4 | Field::Ipv6 => RdataFault::BadAddress,
@@ -125,8 +129,8 @@ fn fault_of(field: Field) -> RdataFault {
 
 // Appends a number, the most significant octet first (RFC 1035 2.3.2).
 fn append_u16(text: &[u8], octets: &mut Vec<u8>) -> Result<(), RdataFault>
-    ensures { AppendsSaid as_it_is (SaysNumber 2 text.now) octets.old.items octets.new.items
-        result }
+    ensures { AppendsSaid (field_fault (number 2)) as_it_is (SaysNumber 2 text.now)
+        octets.old.items octets.new.items result }
 {
     let number = read_number(text, 0xffff).ok_or(RdataFault::BadNumber)?;
     let [_, _, a, b] = number.to_be_bytes();
@@ -134,8 +138,8 @@ fn append_u16(text: &[u8], octets: &mut Vec<u8>) -> Result<(), RdataFault>
 }
 
 fn append_u32(text: &[u8], octets: &mut Vec<u8>) -> Result<(), RdataFault>
-    ensures { AppendsSaid as_it_is (SaysNumber 4 text.now) octets.old.items octets.new.items
-        result }
+    ensures { AppendsSaid (field_fault (number 4)) as_it_is (SaysNumber 4 text.now)
+        octets.old.items octets.new.items result }
 {
     let number = read_number(text, 0xffff_ffff).ok_or(RdataFault::BadNumber)?;
     append(octets, &number.to_be_bytes())
@@ -144,8 +148,8 @@ fn append_u32(text: &[u8], octets: &mut Vec<u8>) -> Result<(), RdataFault>
 // Appends a string after its length (RFC 1035 3.3). Most strings have no escapes, so their octets
 // are taken from the text itself.
 fn append_string(text: &[u8], octets: &mut Vec<u8>) -> Result<(), RdataFault>
-    ensures { AppendsSaid as_it_is (SaysString text.now) octets.old.items octets.new.items
-        result }
+    ensures { AppendsSaid (field_fault string) as_it_is (SaysString text.now)
+        octets.old.items octets.new.items result }
 {
     if is_plain_string(text) {
         append(octets, &[text.len() as u8])?;

@@ -29,6 +29,7 @@ pub(crate) fn put_unknown<'w, W: Words<'w>>(
 ) -> Result<(), RdataFault>
     requires { octets.old.items ≡ [] }
     ensures ok { OnOk result (SaysUnknown (W.to_come words) octets.new.items) }
+    ensures short { OnOk result (length octets.new.items ≤ 65535) }
     ensures fault { IfErr result (λ fault. fault ≢ RdataFault.NoMemory → (d : Octets)
         → SaysUnknown (W.to_come words) d → length d ≤ 65535 → ⊥) }
     ensures kind { IfErr result (λ fault. fault ≢ RdataFault.NoMemory → fault ≡ RdataFault.BadHex) }

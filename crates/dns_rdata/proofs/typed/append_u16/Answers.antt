@@ -13,4 +13,5 @@ returns c =
       ok = on_ok_weaker c.append.result (number_appended 2 (omega arith) n c.args.text.now _ _ _
           read.0 (omega (arith, read.1)) octets) c.append.ensures.ok;
       fault = search rules;
+      which = search rules;
     }

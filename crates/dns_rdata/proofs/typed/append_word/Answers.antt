@@ -10,6 +10,7 @@ returns-in_ok-spell-in-Domain c = rw c.in-Domain.is
           ∙ ap (λ o. c.args.octets.now.items ++ o) (c.octets.ensures.value
           ∙ ap wire c.fold_in_place.ensures))) c.append-in-Domain.ensures.ok;
       fault = search rules;
+      which = search rules;
     }))
 
 pub returns-in-U16 : goal.returns-in-U16

@@ -7,6 +7,6 @@ abbrev pub invariant-words : goal.invariant-words
 invariant-words g l = record {
   taken : Taken (word_fields l.count (fields_in l.row.fields.now)) (drop l.place
       (word_fields l.count (fields_in l.row.fields.now))) l.origin (g.W.Words.to_come l.fn.words)
-      (g.W.Words.to_come l.others) l.initial.octets.items l.octets.items;
+      (g.W.Words.to_come l.others) l.octets.items;
   bound : length l.octets.items ≤ 65535;
 }

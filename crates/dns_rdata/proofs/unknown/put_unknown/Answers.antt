@@ -30,3 +30,8 @@ returns-then-len-count-2-clause-fault g c = grind (arith, only_octets, count_is_
 
 pub returns-clause-ok : goal.returns-clause-ok
 returns-clause-ok g c = grind (arith, says_unknown)
+
+pub returns-clause-short : goal.returns-clause-short
+returns-clause-short g c =
+    let number = (c.read_number.ensures c.in_ok-count.count).0 c.in_ok-count.ensures.ok_part in
+    omega (arith, number.1, c.len-2.ensures, c.if-len-count-2.false)

@@ -1,5 +1,12 @@
-use Rattle.dns_rdata.proofs.Common.{data_once}
+use Rattle.dns_rdata.proofs.Common.{data_once, fault_handed_on}
+use Rattle.dns_spec.proofs.DataWords.OneFault.{no_data_said}
 use Rattle.dns_rdata.proofs.rdata.Rdata.read_words_in.Goals as goal
+
+pub returns-in_err-put_typed-clause-fault : goal.returns-in_err-put_typed-clause-fault
+returns-in_err-put_typed-clause-fault g c =
+    let fault = c.in_err-put_typed in
+    fault_handed_on _ fault.field-0.0 _ c.from_residual-in_err-put_typed.ensures.1
+    (λ other d said. no_data_said _ _ _ _ d (fault.ensures.which other) said)
 
 pub returns-clause-only : goal.returns-clause-only
 returns-clause-only g c = λ e said. data_once _ _ _ _ _ said c.in_ok-put_typed.ensures.ok
