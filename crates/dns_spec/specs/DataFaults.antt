@@ -1,12 +1,13 @@
--- Why words spell no data: the number of their fault, 1 to 7. What is counted as a fault, and in
--- which order, is this project's choice.
+-- Which fault words have that spell no data: its number, 1 to 7. The order in which faults are
+-- looked for is this project's choice.
 use Rattle.std.specs.Prelude.{◌≡◌, ℕ, ◌+◌, ◌≤◌, ◌⊎◌, false, List, [], ◌∷◌, length, nat_le, ◌==◌, MatchOption}
 use Rattle.std.specs.Bool.{MatchBool}
 use Rattle.dns_spec.specs.Names.{Octets, DomainName}
 use Rattle.dns_spec.specs.Data.{Field, number, ipv4, ipv6, domain, string, strings, anything, valid}
 use Rattle.dns_spec.specs.DataText.{Word, SaysWord, word_fields_of, SaysUnknown, is_unknown_mark}
 
--- the fault of a word that does not spell its field: not a number, an address, a name, a string
+-- the fault of a word that does not spell its field: 2 if that is a number, 3 an address, 4 a name,
+-- 5 a string
 abbrev pub field_fault : Field → ℕ
 field_fault (number k) = 2
 field_fault ipv4 = 3
@@ -16,8 +17,9 @@ field_fault string = 5
 field_fault strings = 5
 field_fault anything = 5
 
--- The fault of the first word from the left that does not spell its field; 5 if, up to a word, all
--- do, but spell more than 65,535 octets (RFC 1035 3.2.1). The words before these spell n octets.
+-- The first faulty word from the left decides: one that does not spell its field, or with which the
+-- data is longer than 65,535 octets (RFC 1035 3.2.1), whose fault is 5. The words before spell n
+-- octets.
 abbrev pub FieldsFaultIs : List Field → DomainName → ℕ → List Word → ℕ → Type 0
 FieldsFaultIs [] origin n ws k = ⊥
 FieldsFaultIs (f ∷ fs) origin n [] k = ⊥
@@ -28,7 +30,7 @@ FieldsFaultIs (f ∷ fs) origin n (w ∷ ws) k =
     (FieldsFaultIs fs origin (n + length d) ws k) (k ≡ 5))
 
 -- in the form of the type: 6 if it has none; 1 if it has another number of words; else the fault
--- of a word
+-- of the first faulty word
 abbrev pub TypedFaultIs : ℕ → DomainName → List Word → ℕ → Type 0
 TypedFaultIs t origin ws k =
     MatchOption (word_fields_of t (length ws)) (k ≡ 6)
