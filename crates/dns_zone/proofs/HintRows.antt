@@ -1,90 +1,385 @@
--- The rows on the way from the origin to a target.
-use Rattle.dns_zone.proofs.Common.{◌≡◌, ◌⊎◌, inl, inr, ℕ, ◌<◌, true, false, List, ◌∷◌, map, length, get_or, refl, ap, arith, to_ascii_lowercase, is_some, get_or-map, Octets, DomainName, folded, below, type_ns, type_cname, ResourceRecord, ZoneContents, rrset, set_of, IsNodeAt, IsZoneTree, IsHintRow, IsHintAt, AreHints, set, length-set, get_or-set_same, get_or-set_other, subst, sym, row_name, row_at, Row, Tree}
+-- The rows of the last names on the way to targets, and of the hints of records.
+use Rattle.dns_zone.proofs.Common.{◌≡◌, ◌⊎◌, inl, inr, ℕ, zero, suc, ◌+◌, ◌-◌, ◌<◌, ◌≤◌, Bool, true, false, cond, not, ◌&&◌, ◌||◌, ◌==◌, Option, None, Some, All, List, [], ◌∷◌, map, length, get_or, get_or_default, set, get_or-set_same, get_or-set_other, refl, ap, ap₂, sym, ◌∙◌, arith, subst, and_parts, and_from, and_right, false≢true, true≢false, none-some, false_from_ne_true, cases_lt, leb-true, lt-ltb, ltb-true, length-map, same-length, or_cases, or_left, or_right, to_ascii_lowercase, is_some, eq-eqb, list_any, Octets, DomainName, folded, same, names_equal, names_equal-decides, at_or_below, below, suffixes, exists, is_cut, cut_of, target, type_ns, type_cname, at, owns, ResourceRecord, ZoneContents, ZoneNode, first_of, without_first, at_or_below-cons, IsHint, IsNodeAt, IsNameTree, IsRowOf, IsWayEnd, AreHints, TargetWay, name_below, node_at, may_begin, last_on_way, hint_of, row_name, row_at, Row, Tree}
+use Rattle.dns_spec.proofs.Common.{option_and_then}
 use Rattle.std.specs.Prelude.{replicate}
+use Rattle.std.proofs.lemmas.Bool.{true_from_ne_false}
 use Rattle.std.proofs.lemmas.List.{get_or-replicate}
-use Rattle.dns_spec.proofs.Common.{length-replicate}
-use Rattle.dns_zone.specs.NodeForm.{TargetWay, IsOnWay, type_at}
+use Rattle.dns_zone.specs.NodeForm.{TreeRow}
+use Rattle.dns_zone.specs.declared.tree.hints.TheConstants.{UNKNOWN}
+use Rattle.dns_zone.specs.declared.tree.way.WayEnd.{WayEnd}
+use Rattle.dns_zone.specs.declared.tree.way.WayName.{WayName}
 use Rattle.dns_zone.proofs.NameTree.{itself-under, below-cons}
-use Rattle.dns_zone.proofs.NameOrder.{same-from}
-use Rattle.dns_zone.proofs.NodeRows.{node_is, is_row}
+use Rattle.dns_zone.proofs.NameOrder.{same-from, same-is}
+use Rattle.dns_zone.proofs.NodeRows.{node_is}
 use Rattle.dns_zone.proofs.GrowingKids.{row_is}
-use Rattle.dns_zone.proofs.WayLaws.{cut-none, cut-by_set, no_cut-at_origin}
+use Rattle.dns_zone.proofs.OwnRecords.{own_owns}
+use Rattle.dns_zone.proofs.WayLaws.{cut-above, cut-here, cut-none, exists-up, no_cut-at_origin, under_same}
+use Rattle.dns_spec.proofs.General.Tests.{found_passes}
 
 -- the name of a row
 abbrev pub name_at : Tree → ℕ → DomainName
 name_at t k = row_name t.zone.records (row_at t.rows k)
 
-pub begins : (w : TargetWay) → IsZoneTree w.tree → IsOnWay w 0
-begins w kept =
-    let t = w.tree in
-    let z = t.zone in
-    let named : name_at t 0 ≡ t.zone.origin =
-    row_is t.zone.records (row_at t.rows 0) t.zone.origin kept.tree.origin in
-    let size = ap length named in
+module _ (z : ZoneContents) (a : Bool) where
+  abbrev begins : DomainName → Bool
+  begins = may_begin z a
+
+  -- the way goes on below the name
+  abbrev pub goes_on : DomainName → Bool
+  goes_on n = same n z.origin || begins n
+
+  short_name : (n : DomainName) → length n ≤ length z.origin → begins n ≡ false
+  short_name n h = grind (arith, ltb-true)
+
+  -- the last name on the way to a child
+  pub last_past : (l : Octets) (n : DomainName) → folded (l ∷ n) ≡ l ∷ n → begins (l ∷ n) ≡ false
+      → last_on_way z a (l ∷ n) ≡ last_on_way z a n
+  last_past l n low e =
+      ap (λ m. cond (begins m) (Some m) (last_on_way z a n)) low
+      ∙ ap (λ b. cond b (Some (l ∷ n)) (last_on_way z a n)) e
+
+  pub last_here : (l : Octets) (n : DomainName) → folded (l ∷ n) ≡ l ∷ n → begins (l ∷ n) ≡ true
+      → last_on_way z a (l ∷ n) ≡ Some (l ∷ n)
+  last_here l n low e =
+      ap (λ m. cond (begins m) (Some m) (last_on_way z a n)) low
+      ∙ ap (λ b. cond b (Some (l ∷ n)) (last_on_way z a n)) e
+
+  -- no way begins at the origin or above it
+  pub short_way : (n : DomainName) → length n ≤ length z.origin → last_on_way z a n ≡ None
+  short_way [] h = ap (λ b. cond b (Some []) None) (short_name [] h)
+  short_way (l ∷ n) h =
+      ap (λ b. cond b (Some (folded (l ∷ n))) (last_on_way z a n))
+      (short_name (folded (l ∷ n)) (omega (arith, h, length-map (l ∷ n) (map to_ascii_lowercase))))
+      ∙ short_way n (omega arith)
+
+  outside : (n : DomainName) → at_or_below n z.origin ≡ false → begins n ≡ false
+  outside n h =
+      false_from_ne_true _ (λ f. false≢true (sym h ∙ (and_parts _ _ (and_parts _ _ f).0).1))
+
+  -- no way begins outside the zone
+  pub outside_way : (n : DomainName) → folded n ≡ n → at_or_below n z.origin ≡ false
+      → last_on_way z a n ≡ None
+  outside_way [] low h = ap (λ b. cond b (Some []) None) (outside [] h)
+  outside_way (l ∷ n) low h =
+      last_past l n low (outside (l ∷ n) h)
+      ∙ outside_way n (ap without_first low) (false_from_ne_true _ (λ f.
+      false≢true (sym h ∙ at_or_below-cons l n z.origin ∙ or_right (same (l ∷ n) z.origin) _ f)))
+
+  -- a way begins below a name only if it goes on from there
+  pub goes_above : (l : Octets) (n : DomainName) → begins (l ∷ n) ≡ true → goes_on n ≡ true
+  goes_above l n h = by_length (cases_lt (length z.origin) (length n))
+    where
+      parts : (below (l ∷ n) z.origin ≡ true)
+          × ((exists z (l ∷ n) && not (a && is_some (cut_of z (l ∷ n)))) ≡ true)
+      parts = and_parts _ _ h
+
+      under : at_or_below n z.origin ≡ true
+      under = sym (below-cons l n z.origin) ∙ parts.0
+
+      rest : (exists z (l ∷ n) ≡ true) × (not (a && is_some (cut_of z (l ∷ n))) ≡ true)
+      rest = and_parts _ _ parts.1
+
+      uncut : not (a && is_some (cut_of z n)) ≡ true
+      uncut = by_cut (cut_of z n) refl
+        where
+          by_cut : (c : Option DomainName) → cut_of z n ≡ c → not (a && is_some (cut_of z n)) ≡ true
+          by_cut None e = ap not (and_right a (is_some (cut_of z n)) (ap is_some e))
+          by_cut (Some c) e =
+              ap (λ x. not (a && is_some x)) (e ∙ sym (cut-above z l n c e)) ∙ rest.1
+
+      by_length : (length z.origin < length n) ⊎ (length n ≤ length z.origin) → goes_on n ≡ true
+      by_length (inl longer) =
+          let there = true_from_ne_false (exists z n) (λ e.
+          true≢false (sym rest.0 ∙ exists-up z l n e)) in
+          or_right (same n z.origin) _
+          (and_from _ _ (and_from _ _ (lt-ltb _ _ longer) under) (and_from _ _ there uncut))
+      by_length (inr short) =
+          let least = leb-true _ _ (and_parts _ (same _ z.origin) under).0 in
+          or_left _ _ (under_same n z.origin under (omega (arith, short, least)))
+
+  pub goes_inside : (n : DomainName) → goes_on n ≡ true → at_or_below n z.origin ≡ true
+  goes_inside n h = grind (arith, or_cases, itself-under, and_parts)
+
+  pub goes_uncut : (n : DomainName) → goes_on n ≡ true → a ≡ true → cut_of z n ≡ None
+  goes_uncut n h alias = by_cases (or_cases (same n z.origin) (begins n) h)
+    where
+      uncut : (c : Option DomainName) → not (a && is_some c) ≡ true → c ≡ None
+      uncut None f = refl
+      uncut (Some c) f = absurd (false≢true (sym (ap (λ d. not (d && true)) alias) ∙ f))
+
+      by_cases : (same n z.origin ≡ true) ⊎ (begins n ≡ true) → cut_of z n ≡ None
+      by_cases (inl e) = no_cut-at_origin z n (omega (arith, same-length n z.origin e))
+      by_cases (inr e) = uncut (cut_of z n) (and_parts _ _ (and_parts _ _ e).1).1
+
+  -- a child that exists, unless the way ends at a cut
+  pub child_begins : (l : Octets) (n : DomainName) → goes_on n ≡ true → folded (l ∷ n) ≡ l ∷ n
+      → exists z (l ∷ n) ≡ true → (a ≡ true → owns z (l ∷ n) type_ns ≡ false)
+      → begins (l ∷ n) ≡ true
+  child_begins l n on low there servers =
+      and_from _ _ (below-cons l n z.origin ∙ goes_inside n on)
+      (and_from _ _ there (by_alias a refl))
+    where
+      cut : a ≡ true → is_cut z (folded (l ∷ n)) ≡ false
+      cut e = ap (is_cut z) low
+          ∙ ap₂ (λ x y. x && y) (below-cons l n z.origin ∙ goes_inside n on) (servers e)
+
+      by_alias : (b : Bool) → a ≡ b → not (a && is_some (cut_of z (l ∷ n))) ≡ true
+      by_alias true e =
+          ap₂ (λ x y. not (x && is_some y)) e (cut-none z l n (goes_uncut n on e) (cut e))
+      by_alias false e = ap (λ x. not (x && is_some (cut_of z (l ∷ n)))) e
+
+  pub cut_ends : (l : Octets) (n : DomainName) → goes_on n ≡ true → folded (l ∷ n) ≡ l ∷ n
+      → a ≡ true → owns z (l ∷ n) type_ns ≡ true → begins (l ∷ n) ≡ false
+  cut_ends l n on low alias servers =
+      let cut : is_cut z (folded (l ∷ n)) ≡ true = ap (is_cut z) low
+      ∙ and_from _ _ (below-cons l n z.origin ∙ goes_inside n on) servers in
+      let is = cut-here z l n (goes_uncut n on alias) cut in
+      false_from_ne_true _ (λ h. true≢false (sym (and_parts _ _ (and_parts _ _ h).1).1
+      ∙ ap₂ (λ x y. not (x && is_some y)) alias is))
+
+  pub missing_ends : (n : DomainName) → (exists z n ≡ true → ⊥) → begins n ≡ false
+  missing_ends n missing = false_from_ne_true _ (λ h. missing (and_parts _ _ (and_parts _ _ h).1).0)
+
+  pub stopped_ends : (l : Octets) (n : DomainName) → goes_on n ≡ false → begins (l ∷ n) ≡ false
+  stopped_ends l n off = false_from_ne_true _ (λ h. false≢true (sym off ∙ goes_above l n h))
+
+-- the row of a name below the origin is not 0
+pub below_row : (t : Tree) (k : ℕ) → IsNameTree t
+    → length t.zone.origin < length (name_at t k)
+    → name_below t.zone t.rows k ≡ Some (name_at t k)
+below_row t zero kept longer =
+    absurd (let size = ap length
+    (row_is t.zone.records (row_at t.rows 0) t.zone.origin kept.tree.origin) in
+    omega (arith, longer, size))
+below_row t (suc k) kept longer = refl
+
+-- the ends of ways
+pub end_at_origin : (w : TargetWay) (n : DomainName) → IsNameTree w.tree
+    → n ≡ w.tree.zone.origin → IsWayEnd w n (record { row = record { 0 = 0 }; goes_on = true })
+end_at_origin w n kept e =
+    let z = w.tree.zone in
     record {
       at = record { kept = kept; row = kept.tree.some };
-      inside = grind (arith, itself-under, same-from);
-      longer = inl refl;
-      long = omega arith;
-      uncut = λ e. no_cut-at_origin z (name_at t 0) (omega arith);
+      last = sym (short_way z w.is_of_alias n (omega (arith, ap length e)));
+      on = sym (or_left _ _ (same-from n z.origin (ap folded e)));
+      named = λ _. row_is z.records (row_at w.tree.rows 0) z.origin kept.tree.origin ∙ sym e;
     }
 
--- a child on the way; it is not a cut if the way ends at cuts
-pub goes_on : (w : TargetWay) (k j : ℕ) (l : Octets) → IsOnWay w k
-    → IsNodeAt w.tree j → name_at w.tree j ≡ map to_ascii_lowercase l ∷ name_at w.tree k
-    → (w.is_of_alias ≡ true
-    → is_some (set_of (rrset w.tree.zone (name_at w.tree j) type_ns)) ≡ false) → IsOnWay w j
-goes_on w k j l way at named servers =
-    let t = w.tree in
-    let z = t.zone in
-    let n = name_at t k in
-    let kid = map to_ascii_lowercase l in
-    let size = ap length named in
-    let lower : folded (name_at t j) ≡ name_at t j = (is_row t j at).lower in
-    let below_origin : below (name_at t j) t.zone.origin ≡ true = grind (arith, below-cons) in
+pub end_at_root : (w : TargetWay) (n : DomainName) → IsNameTree w.tree
+    → n ≡ [] → same n w.tree.zone.origin ≡ false
+    → IsWayEnd w n (record { row = record { 0 = 0 }; goes_on = false })
+end_at_root w n kept e other =
+    let z = w.tree.zone in
+    let short : length n ≤ length z.origin = omega (arith, ap length e) in
+    record {
+      at = record { kept = kept; row = kept.tree.some };
+      last = sym (short_way z w.is_of_alias n short);
+      on = grind (arith, short_name);
+      named = λ f. absurd (false≢true f);
+    }
+
+-- the way to a child ends where the way to its parent does
+pub ends_above : (w : TargetWay) (l : Octets) (n : DomainName) (e : WayEnd) → IsWayEnd w n e
+    → folded (l ∷ n) ≡ l ∷ n → same (l ∷ n) w.tree.zone.origin ≡ false
+    → may_begin w.tree.zone w.is_of_alias (l ∷ n) ≡ false
+    → IsWayEnd w (l ∷ n) (record { row = e.row; goes_on = false })
+ends_above w l n e end low other past =
+    let z = w.tree.zone in
+    record {
+      at = end.at;
+      last = end.last ∙ sym (last_past z w.is_of_alias l n low past);
+      on = sym (ap (λ b. b || may_begin z w.is_of_alias (l ∷ n)) other ∙ past);
+      named = λ f. absurd (false≢true f);
+    }
+
+-- a child that the search found
+pub kid_named : (w : TargetWay) (v : TreeRow) (l : Octets) (n : DomainName) (e : WayEnd) (k : ℕ)
+    → IsWayEnd w n e → e.goes_on ≡ true → v ≡ record { tree = w.tree; row = e.row.0 }
+    → node_at v.tree k
+    ≡ record { zone = v.tree.zone; name = map to_ascii_lowercase l ∷ name_at v.tree v.row }
+    → folded (l ∷ n) ≡ l ∷ n → name_at w.tree k ≡ l ∷ n
+kid_named w v l n e k end on is node low =
+    ap (λ (t : Tree). name_at t k) (sym (ap (λ (u : TreeRow). u.tree) is))
+    ∙ ap (λ (m : ZoneNode). m.name) node
+    ∙ ap₂ (λ x y. x ∷ y) (ap first_of low)
+    (ap (λ (u : TreeRow). name_at u.tree u.row) is ∙ end.named on)
+
+pub servers_of : (t u : Tree) (k : ℕ) (m : DomainName) (rs : List ResourceRecord) → t ≡ u
+    → rs ≡ at t.zone (name_at t k) → name_at u k ≡ m
+    → list_any (λ (r : ResourceRecord). r.rtype == type_ns) rs ≡ owns u.zone m type_ns
+servers_of t u k m rs e is named =
+    ap (list_any (λ (r : ResourceRecord). r.rtype == type_ns))
+    (is ∙ ap (λ (x : Tree). at x.zone (name_at x k)) e ∙ ap (at u.zone) named)
+    ∙ own_owns u.zone m type_ns
+
+-- the way to a child goes on below it
+pub ends_here : (w : TargetWay) (l : Octets) (n : DomainName) (e : WayEnd) (k : ℕ)
+    → IsWayEnd w n e → e.goes_on ≡ true → IsNodeAt w.tree k → name_at w.tree k ≡ l ∷ n
+    → folded (l ∷ n) ≡ l ∷ n → may_begin w.tree.zone w.is_of_alias (l ∷ n) ≡ true
+    → IsWayEnd w (l ∷ n) (record { row = record { 0 = k }; goes_on = true })
+ends_here w l n e k end on at named low here =
+    let z = w.tree.zone in
+    let inside = ltb-true _ _ (and_parts _ _ (and_parts _ _ here).0).0 in
     record {
       at = at;
-      inside = grind arith;
-      longer = inr (omega (arith, size, way.long));
-      long = omega (arith, size, way.long);
-      uncut = grind (arith, cut-none, cut-by_set);
+      last =
+          below_row w.tree k at.kept (subst (λ m. length z.origin < length m) (sym named) inside)
+          ∙ ap Some named ∙ sym (last_here z w.is_of_alias l n low here);
+      on = sym (or_right (same (l ∷ n) z.origin) _ here);
+      named = λ _. named;
     }
 
-pub hint_is : (w : TargetWay) (rtype k : ℕ) → IsOnWay w k
-    → (rtype ≡ type_cname → w.is_of_alias ≡ true) → IsHintAt w.tree.zone w.tree.rows rtype k
-hint_is w rtype k way alias =
-    let t = w.tree in
-    grind (arith, node_is)
+-- a name that was passed, at the last place of the list
+pub end_of_last : (w v : TargetWay) (names : List WayName) (s : WayName) (n : DomainName) → v ≡ w
+    → All (λ (x : WayName). IsWayEnd v x.name x.end) names → 0 < length names
+    → s ≡ get_or names (length names - 1) s → names_equal s.name n ≡ true → IsWayEnd w n s.end
+end_of_last w v names s n same each some is named =
+    let there : IsWayEnd v s.name s.end =
+    subst (λ (x : WayName). IsWayEnd v x.name x.end) (sym is)
+    (each (length names - 1) s (omega arith)) in
+    subst (λ u. IsWayEnd u n s.end) same
+    (subst (λ m. IsWayEnd v m s.end) ((names_equal-decides s.name n).0 named) there)
 
--- before any record has a hint
-pub hints_begin : (z : ZoneContents) (rows : List Row) (n : ℕ) → AreHints z rows (replicate n 0)
-hints_begin z rows n j inside =
-    inl (get_or-replicate n j 0 0 (omega (arith, inside, length-replicate {A = ℕ} n 0)))
+-- another name in lower case
+pub other_name : (n o : DomainName) → folded n ≡ n → folded o ≡ o → names_equal o n ≡ false
+    → same n o ≡ false
+other_name n o low lower other = false_from_ne_true _ (λ h.
+    true≢false (sym ((names_equal-decides o n).1 (sym lower ∙ sym (same-is n o h) ∙ low)) ∙ other))
 
-same_or_other : (i j : ℕ) → (i ≡ j) ⊎ (i ≡ j → ⊥)
-same_or_other i j = grind arith
+-- the end of the way to a name, from the step down to it
+pub end_below : (w v : TargetWay) (l : Octets) (n m o : DomainName) (above end : WayEnd) → v ≡ w
+    → m ≡ l ∷ n → IsWayEnd w n above → folded m ≡ m → folded o ≡ o → o ≡ w.tree.zone.origin
+    → names_equal o m ≡ false
+    → ((k : DomainName) → IsWayEnd v k above → folded (l ∷ k) ≡ l ∷ k
+    → same (l ∷ k) v.tree.zone.origin ≡ false → IsWayEnd v (l ∷ k) end) → IsWayEnd v m end
+end_below w v l n m o above end e named there low lower origin other steps =
+    let differs : same m o ≡ false = other_name m o low lower other in
+    subst (λ k. IsWayEnd v k end) (sym named)
+    (steps n (subst (λ u. IsWayEnd u n above) (sym e) there) (subst (λ k. folded k ≡ k) named low)
+    (subst (λ k. same k v.tree.zone.origin ≡ false) named
+    (subst (λ k. same m k ≡ false) (origin ∙ ap (λ (u : TargetWay). u.tree.zone.origin) (sym e))
+    differs)))
 
--- a hint for one more record
-pub hints_set : (z : ZoneContents) (rows : List Row) (hints : List ℕ) (j k : ℕ)
-    (r : ResourceRecord) → AreHints z rows hints → j < length hints → j < length z.records
-    → r ≡ get_or z.records j r → IsHintAt z rows r.rtype k → AreHints z rows (set hints j k)
-hints_set z rows hints j k r are fits inside is hint i l = go (same_or_other i j)
+-- the hint of a record, which is not 0
+pub hint-node : (t : Tree) (r : ResourceRecord) (k : ℕ) → IsNameTree t
+    → IsRowOf t.zone t.rows (hint_of t.zone r) k → (k ≡ 0 → ⊥)
+    → IsHint t.zone r.rtype (name_at t k)
+hint-node t r zero kept h some = absurd (some refl)
+hint-node t r (suc k) kept h some = by_target (target r.rtype r.rdata) refl
   where
-    go : (i ≡ j) ⊎ (i ≡ j → ⊥) → IsHintAt z rows (type_at z.records i) (get_or (set hints j k) i 0)
-    go (inl e) =
-        let typed : type_at z.records i ≡ r.rtype = grind (arith, get_or-map) in
-        let here : get_or (set hints j k) i 0 ≡ k = grind (arith, get_or-set_same) in
-        subst (λ t. IsHintAt z rows t (get_or (set hints j k) i 0)) (sym typed)
-        (subst (λ x. IsHintAt z rows r.rtype x) (sym here) hint)
-    go (inr other) =
-        let here : get_or (set hints j k) i 0 ≡ get_or hints i 0 =
-        grind (arith, get_or-set_other) in
-        subst (λ x. IsHintAt z rows (type_at z.records i) x) (sym here)
-        (are i (omega (arith, l, length-set hints j k)))
+    z : ZoneContents
+    z = t.zone
+
+    n : DomainName
+    n = name_at t (suc k)
+
+    b : Bool
+    b = r.rtype == type_cname
+
+    by_target : (m : Option DomainName) → target r.rtype r.rdata ≡ m → IsHint z r.rtype n
+    by_target None e =
+        absurd (none-some n (sym (h.name ∙ ap (option_and_then (last_on_way z b)) e)))
+    by_target (Some m) e =
+        let found : last_on_way z b m ≡ Some n =
+        sym (h.name ∙ ap (option_and_then (last_on_way z b)) e) in
+        let here = and_parts (below n z.origin) _
+        (found_passes (may_begin z b) (suffixes (folded m)) n found) in
+        let inside = and_parts _ _ here.0 in
+        record {
+          node = node_is t (suc k) (record { kept = kept; row = h.row });
+          inside = inside.1;
+          longer = ltb-true _ _ inside.0;
+          uncut = λ alias. uncut (cut_of z n) (eq-eqb _ _ alias) (and_parts _ _ here.1).1;
+        }
+      where
+        uncut : (c : Option DomainName) → b ≡ true → not (b && is_some c) ≡ true → c ≡ None
+        uncut None f g = refl
+        uncut (Some c) f g = absurd (false≢true (sym (ap (λ d. not (d && true)) f) ∙ g))
+
+-- Each record has its hint, or has a number from `first` on and the mark of an unknown hint.
+abbrev pub AreFound : ZoneContents → List Row → List ℕ → ℕ → Type 0
+AreFound z rows hints first =
+    (j : ℕ) (r : ResourceRecord) → j < length z.records → r ≡ get_or z.records j r
+    → ((first ≤ j) × (get_or hints j 0 ≡ UNKNOWN)) ⊎ IsRowOf z rows (hint_of z r) (get_or hints j 0)
+
+module _ (z : ZoneContents) (rows : List Row) where
+  pub none_found : (n : ℕ) → n ≡ length z.records → AreFound z rows (replicate n UNKNOWN) 0
+  none_found n e j r l is =
+      inl (omega arith, get_or-replicate n j UNKNOWN 0 (omega (arith, l, e)))
+
+  same_or_other : (i j : ℕ) → (i ≡ j) ⊎ (i ≡ j → ⊥)
+  same_or_other i j = grind arith
+
+  -- one more hint
+  pub found_set : (hints : List ℕ) (first i k : ℕ) (r : ResourceRecord)
+      → AreFound z rows hints first → i < length hints → i < length z.records
+      → r ≡ get_or z.records i r → IsRowOf z rows (hint_of z r) k
+      → AreFound z rows (set hints i k) first
+  found_set hints first i k r are fits inside is hint j s l known = go (same_or_other i j)
+    where
+      go : (i ≡ j) ⊎ (i ≡ j → ⊥) → ((first ≤ j) × (get_or (set hints i k) j 0 ≡ UNKNOWN))
+          ⊎ IsRowOf z rows (hint_of z s) (get_or (set hints i k) j 0)
+      go (inl e) =
+          let here : get_or (set hints i k) j 0 ≡ k = grind (arith, get_or-set_same) in
+          let same : r ≡ s = is ∙ get_or_default z.records i r s inside
+          ∙ ap (λ m. get_or z.records m s) e ∙ sym known in
+          inr (subst (λ x. IsRowOf z rows (hint_of z s) x) (sym here)
+          (subst (λ q. IsRowOf z rows (hint_of z q) k) same hint))
+      go (inr other) =
+          let here : get_or (set hints i k) j 0 ≡ get_or hints j 0 =
+          grind (arith, get_or-set_other) in
+          subst (λ x. ((first ≤ j) × (x ≡ UNKNOWN)) ⊎ IsRowOf z rows (hint_of z s) x) (sym here)
+          (are j s l known)
+
+  -- the first record that may be without a hint gets one, or had it before
+  pub found_next : (hints : List ℕ) (first : ℕ) → AreFound z rows hints first
+      → ((r : ResourceRecord) → r ≡ get_or z.records first r
+      → IsRowOf z rows (hint_of z r) (get_or hints first 0)) → AreFound z rows hints (first + 1)
+  found_next hints first are here j r l known = go (same_or_other first j)
+    where
+      go : (first ≡ j) ⊎ (first ≡ j → ⊥) → ((first + 1 ≤ j) × (get_or hints j 0 ≡ UNKNOWN))
+          ⊎ IsRowOf z rows (hint_of z r) (get_or hints j 0)
+      go (inl e) = inr (subst (λ m. IsRowOf z rows (hint_of z r) (get_or hints m 0)) e
+          (here r (known ∙ ap (λ m. get_or z.records m r) (sym e))))
+      go (inr other) = later (are j r l known)
+        where
+          later : ((first ≤ j) × (get_or hints j 0 ≡ UNKNOWN))
+              ⊎ IsRowOf z rows (hint_of z r) (get_or hints j 0)
+              → ((first + 1 ≤ j) × (get_or hints j 0 ≡ UNKNOWN))
+              ⊎ IsRowOf z rows (hint_of z r) (get_or hints j 0)
+          later (inl (up, e)) = inl (omega arith, e)
+          later (inr h) = inr h
+
+  pub found_here : (hints : List ℕ) (i k : ℕ) (r : ResourceRecord) → AreFound z rows hints i
+      → i < length hints → i < length z.records → r ≡ get_or z.records i r
+      → IsRowOf z rows (hint_of z r) k → AreFound z rows (set hints i k) (i + 1)
+  found_here hints i k r are fits inside is hint =
+      let here : get_or (set hints i k) i 0 ≡ k = grind (arith, get_or-set_same) in
+      found_next (set hints i k) i (found_set hints i i k r are fits inside is hint) (λ s known.
+      subst (λ x. IsRowOf z rows (hint_of z s) x) (sym here)
+      (subst (λ q. IsRowOf z rows (hint_of z q) k)
+      (is ∙ get_or_default z.records i r s inside ∙ sym known) hint))
+
+  pub all_found : (hints : List ℕ) (first : ℕ) → AreFound z rows hints first
+      → length z.records ≤ first → length hints ≡ length z.records → AreHints z rows hints
+  all_found hints first are past count = record {
+    count = count;
+    each = λ j r l known. go j r l (are j r l known);
+  }
+    where
+      go : (j : ℕ) (r : ResourceRecord) → j < length z.records
+          → ((first ≤ j) × (get_or hints j 0 ≡ UNKNOWN))
+          ⊎ IsRowOf z rows (hint_of z r) (get_or hints j 0)
+          → IsRowOf z rows (hint_of z r) (get_or hints j 0)
+      go j r l (inl (up, e)) = absurd (omega arith)
+      go j r l (inr h) = h
 
 -- the stored hint of a record
-pub kept-hint : (t : Tree) (rs : List ResourceRecord) (hints : List ℕ)
-    (place rtype : ℕ) (r : ResourceRecord) → IsZoneTree t → rs ≡ t.zone.records → hints ≡ t.hints
-    → place < length rs → place < length hints → r ≡ get_or rs place r → r.rtype ≡ rtype
-    → (get_or hints place 0 ≡ 0 → ⊥) → IsHintRow t.zone t.rows rtype (get_or hints place 0)
-kept-hint t rs hints place rtype r kept e f inside known is typed some = grind (arith, get_or-map)
+pub kept_row : (t : Tree) (rs : List ResourceRecord) (hints : List ℕ) (place : ℕ)
+    (r : ResourceRecord) → AreHints t.zone t.rows t.hints → rs ≡ t.zone.records → hints ≡ t.hints
+    → place < length rs → r ≡ get_or rs place r
+    → IsRowOf t.zone t.rows (hint_of t.zone r) (get_or hints place 0)
+kept_row t rs hints place r are e f inside is =
+    subst (λ hs. IsRowOf t.zone t.rows (hint_of t.zone r) (get_or hs place 0)) (sym f)
+    (are.each place r (subst (λ xs. place < length xs) e inside)
+    (subst (λ xs. r ≡ get_or xs place r) e is))

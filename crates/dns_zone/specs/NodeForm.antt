@@ -1,45 +1,53 @@
 -- Invariants of the tree of a zone, and the node of each row.
-use Rattle.std.specs.Prelude.{◌≡◌, ◌⊎◌, ℕ, ◌+◌, ◌<◌, ◌≤◌, Bool, true, List, All, None, map, length, get_or}
-use Rattle.dns_spec.specs.Names.{Octets, at_or_below}
+use Rattle.std.specs.Prelude.{◌≡◌, ℕ, zero, suc, ◌+◌, ◌<◌, ◌≤◌, Bool, true, ◌||◌, List, All, Option, None, Some, length, get_or}
+use Rattle.dns_spec.specs.Names.{Octets, DomainName, same}
 use Rattle.dns_spec.specs.Records.{ResourceRecord, ZoneContents}
-use Rattle.dns_spec.specs.Tree.{cut_of}
-use Rattle.dns_zone.specs.Nodes.{ZoneNode, IsHint}
+use Rattle.dns_zone.specs.Nodes.{ZoneNode, may_begin, last_on_way, hint_of}
 use Rattle.dns_zone.specs.ZoneForm.{IsBuilt}
 use Rattle.dns_zone.specs.TreeForm.{IsTree, kids_at, row_name, row_label, row_at}
 use Rattle.dns_zone.specs.declared.tree.row.Row.{Row}
 use Rattle.dns_zone.specs.declared.tree.Tree.{Tree}
+use Rattle.dns_zone.specs.declared.tree.way.WayEnd.{WayEnd}
 use Rattle.dns_zone.specs.declared.tree.way.WayName.{WayName}
 
--- the row of a hint for records of a type
-pub record IsHintRow (z : ZoneContents) (rows : List Row) (rtype k : ℕ) : Type 0 where
-  pub row : k < length rows
-  pub hint : IsHint z rtype (row_name z.records (row_at rows k))
+-- the name below the origin whose row this is; row 0 is the origin's
+abbrev pub name_below : ZoneContents → List Row → ℕ → Option DomainName
+name_below z rows zero = None
+name_below z rows (suc k) = Some (row_name z.records (row_at rows (suc k)))
 
--- the row of a record's hint, or 0 if it has none
-abbrev pub IsHintAt : ZoneContents → List Row → ℕ → ℕ → Type 0
-IsHintAt z rows rtype k = (k ≡ 0) ⊎ IsHintRow z rows rtype k
+-- the row of a name below the origin, or 0 if there is none
+pub record IsRowOf (z : ZoneContents) (rows : List Row) (n : Option DomainName) (k : ℕ) : Type 0
+  where
+    pub row : k < length rows
+    pub name : name_below z rows k ≡ n
 
--- the type of a record
-abbrev pub type_at : List ResourceRecord → ℕ → ℕ
-type_at rs j = get_or (map (λ (r : ResourceRecord). r.rtype) rs) j 0
+-- each record has its hint
+pub record AreHints (z : ZoneContents) (rows : List Row) (hints : List ℕ) : Type 0 where
+  pub count : length hints ≡ length z.records
+  pub each : (j : ℕ) (r : ResourceRecord) → j < length z.records → r ≡ get_or z.records j r
+      → IsRowOf z rows (hint_of z r) (get_or hints j 0)
 
--- the hints of the first records of a zone
-abbrev pub AreHints : ZoneContents → List Row → List ℕ → Type 0
-AreHints z rows hints =
-    (j : ℕ) → j < length hints → IsHintAt z rows (type_at z.records j) (get_or hints j 0)
+-- an invariant of the rows of a zone's tree
+pub record IsNameTree (t : Tree) : Type 0 where
+  pub built : IsBuilt t.zone
+  pub tree : IsTree t.zone.origin t.zone.records t.rows t.bounds
 
 -- an invariant of a zone's tree
 pub record IsZoneTree (t : Tree) : Type 0 where
-  pub built : IsBuilt t.zone
-  pub tree : IsTree t.zone.origin t.zone.records t.rows t.bounds
+  pub names : IsNameTree t
   pub hints : AreHints t.zone t.rows t.hints
 
 -- the node of a row
 abbrev pub node_at : Tree → ℕ → ZoneNode
 node_at t k = record { zone = t.zone; name = row_name t.zone.records (row_at t.rows k) }
 
--- a node of the tree
+-- a row of the tree
 pub record IsNodeAt (t : Tree) (k : ℕ) : Type 0 where
+  pub kept : IsNameTree t
+  pub row : k < length t.rows
+
+-- an invariant of a node
+pub record IsZoneNode (t : Tree) (k : ℕ) : Type 0 where
   pub kept : IsZoneTree t
   pub row : k < length t.rows
 
@@ -48,18 +56,20 @@ pub record TargetWay : Type 0 where
   pub tree : Tree
   pub is_of_alias : Bool
 
--- the row of the origin, or of a name below it that may be a hint on this way
-pub record IsOnWay (w : TargetWay) (k : ℕ) : Type 0 where
-  pub at : IsNodeAt w.tree k
-  pub inside : at_or_below (node_at w.tree k).name w.tree.zone.origin ≡ true
-  pub longer : (k ≡ 0) ⊎ (length w.tree.zone.origin < length (node_at w.tree k).name)
-  pub long : length w.tree.zone.origin ≤ length (node_at w.tree k).name
-  pub uncut : w.is_of_alias ≡ true → cut_of w.tree.zone (node_at w.tree k).name ≡ None
+-- The end of the way to a name: the row of the last name on it at which a way may begin. The way
+-- goes on from the origin and from such a name.
+pub record IsWayEnd (w : TargetWay) (n : DomainName) (e : WayEnd) : Type 0 where
+  pub at : IsNodeAt w.tree e.row.0
+  pub last : name_below w.tree.zone w.tree.rows e.row.0
+      ≡ last_on_way w.tree.zone w.is_of_alias n
+  pub on : e.goes_on
+      ≡ (same n w.tree.zone.origin || may_begin w.tree.zone w.is_of_alias n)
+  pub named : e.goes_on ≡ true → (node_at w.tree e.row.0).name ≡ n
 
 -- an invariant of the names on a way
 pub record IsWay (w : TargetWay) (names : List WayName) : Type 0 where
-  pub kept : IsZoneTree w.tree
-  pub each : All (λ (s : WayName). IsOnWay w s.row.0) names
+  pub kept : IsNameTree w.tree
+  pub each : All (λ (s : WayName). IsWayEnd w s.name s.end) names
 
 -- a row of a tree, whose children are compared with a label
 pub record TreeRow : Type 0 where

@@ -1,7 +1,8 @@
 //! Where the way to the target of a record begins.
-ghost use Rattle.std.specs.Prelude.{◌≤◌, length, IfOk};
+ghost use Rattle.std.specs.Prelude.{◌≡◌, ◌≤◌, true, false, length, IfOk};
 ghost use Rattle.dns_spec.specs.Meaning.{most_records};
-ghost use Rattle.dns_zone.specs.NodeForm.{IsZoneTree, AreHints};
+ghost use Rattle.dns_zone.specs.Nodes.{hint_of};
+ghost use Rattle.dns_zone.specs.NodeForm.{IsNameTree, IsRowOf, AreHints};
 
 use crate::checks::target::target;
 use crate::order::owner_keys::in_turn;
@@ -11,6 +12,9 @@ use crate::tree::way::Way;
 use dns_rdata::RType;
 use std::alloc::{AllocError, Global};
 
+// A hint that is not known yet.
+const UNKNOWN: usize = usize::MAX;
+
 /// For each record, the row of the last existing name on the way to its target; 0 if it has no
 /// target, if the target is outside the zone, or if that name is the origin. The way of an alias
 /// ends before a cut. Takes 12 octets of memory for each record.
@@ -19,32 +23,48 @@ use std::alloc::{AllocError, Global};
 /// it shares its ending with the target before, so the steps of the walk are bounded by the labels
 /// that are written in the file.
 pub(crate) fn hints_of(alloc: Global, tree: &Tree) -> Result<Vec<usize>, AllocError>
-    requires { IsZoneTree tree.now }
+    requires { IsNameTree tree.now }
     ensures { IfOk result (λ hints. AreHints tree.now.zone tree.now.rows hints.items) }
 {
     let records = tree.zone.records();
     let mut hints = Vec::new(alloc);
-    hints.resize(records.len(), 0)?;
+    hints.resize(records.len(), UNKNOWN)?;
     let places = places_in_file(alloc, tree.zone.numbers.lent(), records)?;
     let mut way = Way::new(tree, false);
     let mut way_of_aliases = Way::new(tree, true);
-    'records: for place in places.as_slice() {
+    'places: for place in places.as_slice() {
         let place = *place as usize;
         if place >= hints.len() {
             continue;
         }
-        let record = &records[place];
-        let Some(target) = target(record) else {
+        hints[place] = find_hint(&records[place], &mut way, &mut way_of_aliases);
+    }
+    'records: for place in 0..hints.len() {
+        if hints[place] != UNKNOWN {
             continue;
-        };
-        let hint = if record.rtype == RType::CNAME {
-            way_of_aliases.hint_to(&target)
-        } else {
-            way.hint_to(&target)
-        };
-        hints[place] = hint;
+        }
+        hints[place] = find_hint(&records[place], &mut way, &mut way_of_aliases);
     }
     Ok(hints)
+}
+
+// The hint of a record, by the way of aliases if it is one.
+fn find_hint<'z>(entry: &'z StoredRecord, way: &mut Way<'z>, way_of_aliases: &mut Way<'z>) -> usize
+    requires tree { IsNameTree way.old.tree }
+    requires way { way.old.is_of_alias ≡ false }
+    requires aliases { way_of_aliases.old ≡ record { tree = way.old.tree; is_of_alias = true } }
+    ensures way { way.new ≡ way.old }
+    ensures aliases { way_of_aliases.new ≡ way_of_aliases.old }
+    ensures hint { IsRowOf way.old.tree.zone way.old.tree.rows
+        (hint_of way.old.tree.zone entry.now) result }
+{
+    let Some(target) = target(entry) else {
+        return 0;
+    };
+    if entry.rtype == RType::CNAME {
+        return way_of_aliases.hint_to(&target);
+    }
+    way.hint_to(&target)
 }
 
 // The places of the records in the order of the file, or in their own order if the file's is

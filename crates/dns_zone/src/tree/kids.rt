@@ -4,7 +4,7 @@ ghost use Rattle.std.specs.Char.{to_ascii_lowercase};
 ghost use Rattle.dns_spec.specs.Names.{label_order};
 ghost use Rattle.dns_zone.specs.LabelKey.{IsKey};
 ghost use Rattle.dns_zone.specs.TreeForm.{row_label, row_name, IsRow};
-ghost use Rattle.dns_zone.specs.NodeForm.{IsNodeAt, node_at, kid_rows, kid_label};
+ghost use Rattle.dns_zone.specs.NodeForm.{IsNodeAt, IsZoneNode, node_at, kid_rows, kid_label};
 
 use crate::store::stored::StoredRecord;
 use crate::tree::counts::Counts;
@@ -92,7 +92,7 @@ impl<'z> Kids<'z> {
     }
     /// Visits the node of a row; the visit is counted.
     pub(crate) fn visit(&self, row: RowNumber, counts: &mut Counts) -> Node<'z>
-        requires at { IsNodeAt self.now.tree row.0 }
+        requires at { IsZoneNode self.now.tree row.0 }
         requires visits { counts.old.visits < 4294967295 }
         ensures node { result ≡ node_at self.now.tree row.0 }
         ensures visits { counts.new ≡ record counts.old { visits = counts.old.visits + 1 } }

@@ -7,7 +7,7 @@ ghost use Rattle.dns_spec.specs.Records.{ResourceRecord, at, rrset};
 ghost use Rattle.dns_spec.specs.Sets.{set_of, of_lowest_type};
 ghost use Rattle.dns_spec.specs.Tree.{exists};
 ghost use Rattle.dns_zone.specs.Nodes.{IsNode, IsHint, IsSetOf};
-ghost use Rattle.dns_zone.specs.NodeForm.{IsZoneTree, node_at, IsNodeAt};
+ghost use Rattle.dns_zone.specs.NodeForm.{IsZoneTree, node_at, IsNodeAt, IsZoneNode};
 ghost use Rattle.dns_zone.specs.TreeForm.{kids_at};
 
 use crate::store::stored::StoredRecord;
@@ -35,11 +35,11 @@ impl<'z> Model for Node<'z> {
 
     ghost Value = { ZoneNode };
 
-    ghost use Rattle.dns_zone.specs.NodeForm.{node_at, IsNodeAt};
+    ghost use Rattle.dns_zone.specs.NodeForm.{node_at, IsZoneNode};
 
     ghost view = { λ n. node_at n.tree.now n.row.0 };
 
-    ghost invariant = { λ n. IsNodeAt n.tree.now n.row.0 };
+    ghost invariant = { λ n. IsZoneNode n.tree.now n.row.0 };
 }
 
 /// A node that has not been visited: only its name is readable.
@@ -80,7 +80,7 @@ impl<'z> TargetHint<'z> {
 
 impl<'z> Node<'z> {
     pub(crate) fn at(tree: &'z Tree, row: RowNumber) -> Node<'z>
-        requires { IsNodeAt tree.now row.0 }
+        requires { IsZoneNode tree.now row.0 }
         ensures { result ≡ node_at tree.now row.0 }
     {
         Node { tree, row }
@@ -88,7 +88,7 @@ impl<'z> Node<'z> {
 
     /// The node's children.
     pub(crate) fn kids(&self) -> Kids<'z>
-        ensures at { IsNodeAt result.tree result.row }
+        ensures at { IsZoneNode result.tree result.row }
         ensures node { node_at result.tree result.row ≡ self.now }
     {
         Kids::of(self.tree, self.row)
@@ -151,9 +151,18 @@ impl<'z> Node<'z> {
         ensures by_types { IsNonDecreasingBy (λ (r : ResourceRecord). r.rtype) result.now }
         ensures node { IsNode self.now.zone self.now.name }
     {
-        let row = &self.tree.rows.lent()[self.row.0];
-        &self.tree.zone.records()[row.first as usize..row.own_end as usize]
+        own_of(self.tree, self.row)
     }
+}
+
+// The records of a row's name.
+pub(crate) fn own_of(tree: &Tree, row: RowNumber) -> &[StoredRecord]
+    requires { IsNodeAt tree.now row.0 }
+    ensures own { result.now ≡ at tree.now.zone (node_at tree.now row.0).name }
+    ensures by_types { IsNonDecreasingBy (λ (r : ResourceRecord). r.rtype) result.now }
+{
+    let row = &tree.rows.lent()[row.0];
+    &tree.zone.records()[row.first as usize..row.own_end as usize]
 }
 
 // The hint of the record at a place, if one is stored and the record is of the type.

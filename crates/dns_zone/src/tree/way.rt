@@ -1,15 +1,16 @@
 //! The way from the origin of a zone to one target after another.
-ghost use Rattle.std.specs.Prelude.{ℕ, ◌≡◌, true};
-ghost use Rattle.dns_name.specs.WireForm.{IsWireForm};
-ghost use Rattle.dns_spec.specs.Data.{type_cname};
-ghost use Rattle.dns_zone.specs.NodeForm.{IsZoneTree, IsHintAt, IsOnWay};
+ghost use Rattle.std.specs.Prelude.{◌≡◌, ◌∷◌, false};
+ghost use Rattle.dns_spec.specs.Names.{DomainName, folded, same};
+ghost use Rattle.dns_zone.specs.Nodes.{last_on_way};
+ghost use Rattle.dns_zone.specs.NodeForm.{IsNameTree, IsNodeAt, IsRowOf, IsWayEnd};
 
-use crate::order::key::count_alike;
+use crate::checks::above::ends_alike;
 use crate::tree::Tree;
 use crate::tree::counts::Counts;
 use crate::tree::kids::Kids;
 use crate::tree::labels::MOST_LABELS;
-use crate::tree::node::Node;
+use crate::tree::lookup::has_type;
+use crate::tree::node::own_of;
 use crate::tree::row::RowNumber;
 use crate::tree::search::kid_of;
 use arrayvec::ArrayVec;
@@ -17,23 +18,37 @@ use dns_name::{Label, NameRef, first_label};
 use dns_rdata::RType;
 use std::marker::Model;
 
-// A name below the origin that exists: its row, and its length on the wire.
+// The last name on the way to a name that exists: its row, or 0 if there is none below the origin.
+// The way goes on below the name itself only if that is the origin or the last name.
 #[derive(Clone, Copy, Default)]
-struct WayName {
+struct WayEnd {
     row: RowNumber,
-    octets: usize,
+    goes_on: bool,
 }
 
-/// The existing names on the way from the origin to the last target, from the top down. The way of
-/// an alias ends before a cut. Names that the next target shares are kept.
+// A name that was passed, with the end of the way to it.
+#[derive(Drop)]
+struct WayName<'z> {
+    name: NameRef<'z>,
+    end: WayEnd,
+}
+
+impl Default for WayName<'_> {
+    fn default() -> Self {
+        WayName {
+            name: NameRef::new(&[0]),
+            end: WayEnd::default(),
+        }
+    }
+}
+
+/// The names on the way to the last target, from the top down. The way of an alias ends before a
+/// cut. Names that the next target shares are not passed again.
 #[derive(Drop)]
 pub(crate) struct Way<'z> {
     tree: &'z Tree,
     is_of_alias: bool,
-    target: NameRef<'z>,
-    names: ArrayVec<WayName, MOST_LABELS>,
-    // The length of the first missing name on the way; 0 if it is unknown.
-    missing: usize,
+    names: ArrayVec<WayName<'z>, MOST_LABELS>,
 }
 
 impl<'z> Model for Way<'z> {
@@ -50,69 +65,54 @@ impl<'z> Model for Way<'z> {
 impl<'z> Way<'z> {
     /// The way to the origin.
     pub(crate) fn new(tree: &'z Tree, is_of_alias: bool) -> Way<'z>
-        requires { IsZoneTree tree.now }
+        requires { IsNameTree tree.now }
         ensures { result ≡ record { tree = tree.now; is_of_alias = is_of_alias } }
     {
         Way {
             tree,
             is_of_alias,
-            target: NameRef::new(&[0]),
             names: ArrayVec::new(),
-            missing: 0,
         }
     }
 
-    /// The row of the last existing name on the way to a target; 0 if that is the origin, or if
-    /// the target is outside the zone.
+    /// The row of the last name on the way to a target at which the way may begin; 0 if there is
+    /// none below the origin.
     pub(crate) fn hint_to(&mut self, target: &NameRef<'z>) -> usize
+        requires { folded target.now ≡ target.now }
         ensures same { self.new ≡ self.old }
-        ensures hint { (rtype : ℕ) → (rtype ≡ type_cname → self.old.is_of_alias ≡ true)
-            → IsHintAt self.old.tree.zone self.old.tree.rows rtype result }
+        ensures hint { IsRowOf self.old.tree.zone self.old.tree.rows
+            (last_on_way self.old.tree.zone self.old.is_of_alias target.now) result }
     {
-        let octets = target.octets();
-        if !octets.ends_with(self.tree.zone.origin().octets()) {
+        if !ends_alike(target, &self.tree.zone.origin().lent()) {
             return 0;
         }
-        self.turn_to(target);
-        self.last().0
+        self.go_to(target).row.0
     }
 
-    // Drops the names that the target does not share, and goes on to the last one that exists.
-    fn turn_to(&mut self, target: &NameRef<'z>)
-        ensures { self.new ≡ self.old }
+    // The end of the way to a name.
+    fn go_to(&mut self, name: &NameRef<'z>) -> WayEnd
+        requires { folded name.now ≡ name.now }
+        ensures same { self.new ≡ self.old }
+        ensures end { IsWayEnd self.old name.now result }
     {
-        if self.target == *target {
-            return;
+        self.turn_back(name.octets().len());
+        if let Some(last) = self.names.last() {
+            if last.name == *name {
+                return last.end;
+            }
         }
-        let octets = target.octets();
-        let alike = count_alike(octets, self.target.octets());
-        if self.missing > alike {
-            self.missing = 0;
+        if self.tree.zone.origin().lent() == *name {
+            return WayEnd {
+                row: RowNumber(0),
+                goes_on: true,
+            };
         }
-        self.go_to(octets, alike);
-        self.target = NameRef::new(octets);
-    }
-
-    // Goes to the last existing name on the way to `name`, and returns whether that is `name`. The
-    // last `alike` octets of the target and of the last target are equal.
-    fn go_to(&mut self, name: &[u8], alike: usize) -> bool
-        requires { IsWireForm name.now }
-        ensures { self.new ≡ self.old }
-    {
-        self.turn_back(name.len().min(alike));
-        let Some((label, rest)) = first_label(name) else {
-            return self.is_origin(name);
+        let Some((label, rest)) = first_label(name.octets()) else {
+            return WayEnd::default();
         };
-        match self.names.last() {
-            Some(last) if last.octets == name.len() => return true,
-            None if self.is_origin(name) => return true,
-            _ => {}
-        }
-        name.len() != self.missing && self.go_to(rest, alike) && self.go_down(&label, name.len())
-    }
-
-    fn is_origin(&self, name: &[u8]) -> bool {
-        self.tree.zone.origin().octets() == name
+        let above = self.go_to(&NameRef::new(rest));
+        let end = self.go_down(above, &label);
+        self.keep(name, end)
     }
 
     // Drops the names of more than `most` octets.
@@ -120,41 +120,50 @@ impl<'z> Way<'z> {
         ensures { self.new ≡ self.old }
     {
         'names: while let Some(last) = self.names.last() {
-            if last.octets <= most {
+            if last.name.octets().len() <= most {
                 break;
             }
             self.names.pop();
         }
     }
 
-    fn last(&self) -> RowNumber
-        ensures { IsOnWay self.now result.0 }
+    // The end of the way to a child with this label of a name, from the end of the way to that.
+    fn go_down(&self, above: WayEnd, label: &Label<'_>) -> WayEnd
+        requires { IsNodeAt self.now.tree above.row.0 }
+        ensures { (n : DomainName) → IsWayEnd self.now n above
+            → folded (label.now ∷ n) ≡ label.now ∷ n
+            → same (label.now ∷ n) self.now.tree.zone.origin ≡ false
+            → IsWayEnd self.now (label.now ∷ n) result }
     {
-        match self.names.last() {
-            Some(last) => last.row,
-            None => RowNumber(0),
+        let end = WayEnd {
+            row: above.row,
+            goes_on: false,
+        };
+        if !above.goes_on {
+            return end;
         }
+        let kids = Kids::of(self.tree, above.row);
+        let Some(row) = kid_of(&kids, label, &mut Counts::over(self.tree)) else {
+            return end;
+        };
+        if self.is_of_alias && has_type(own_of(self.tree, row), RType::NS) {
+            return end;
+        }
+        WayEnd { row, goes_on: true }
     }
 
-    // Goes down to the child with this label, whose name has `octets` octets, if it exists and the
-    // way does not end before it.
-    fn go_down(&mut self, label: &Label<'_>, octets: usize) -> bool
-        ensures { self.new ≡ self.old }
+    // Keeps a name that was passed, if there is room, and returns the end of the way to it.
+    fn keep(&mut self, name: &NameRef<'z>, end: WayEnd) -> WayEnd
+        requires { IsWayEnd self.old name.now end }
+        ensures same { self.new ≡ self.old }
+        ensures end { IsWayEnd self.new name.now result }
     {
-        let kids = Kids::of(self.tree, self.last());
-        let kid = kid_of(&kids, label, &mut Counts::over(self.tree));
-        let Some(row) = kid else {
-            self.missing = octets;
-            return false;
-        };
-        if self.is_of_alias && Node::at(self.tree, row).set(RType::NS).is_some() {
-            self.missing = octets;
-            return false;
+        if !self.names.is_full() {
+            self.names.push(WayName {
+                name: NameRef::new(name.octets()),
+                end,
+            });
         }
-        if self.names.is_full() {
-            return false;
-        }
-        self.names.push(WayName { row, octets });
-        true
+        end
     }
 }

@@ -1,48 +1,46 @@
-use Rattle.dns_zone.proofs.Common.{rules, arith, true, false≢true, eq-eqb, ap, subst, ◌∙◌, ◌≡◌, ◌<◌, length, get_or, length-set, type_cname, ResourceRecord, IsHintAt, Tree}
-use Rattle.dns_zone.specs.NodeForm.{TargetWay}
-use Rattle.dns_zone.proofs.HintRows.{hints_set}
+use Rattle.dns_zone.proofs.Common.{rules, arith, ap, subst, ◌∙◌, ◌<◌, length, get_or, length-set, IsRowOf, hint_of, TargetWay}
+use Rattle.dns_zone.proofs.HintRows.{found_set, found_here}
 use Rattle.dns_zone.proofs.tree.hints.hints_of.Goals as goal
-use Rattle.dns_zone.proofs.tree.hints.hints_of.Goals.{then-eq, else-eq}
+
+pub places-preserved : goal.places-preserved
+places-preserved c =
+    let t = c.args.tree.now in
+    let inv = c.places.invariant in
+    let place = get_or c.as_slice-place-items.result.now c.places.place-index 0 in
+    let size = ap length c.records-records.ensures.records in
+    let inside : place < length c.places.hints.items =
+    omega (arith, c.if-place-len.false, c.len.ensures) in
+    let r = c.index-records-place.result in
+    let k = c.find_hint.result in
+    record {
+      way = c.find_hint.ensures.way ∙ inv.way;
+      aliases = c.find_hint.ensures.aliases ∙ inv.aliases;
+      hints = found_set t.zone t.rows c.places.hints.items 0 place k r inv.hints inside
+          (omega (arith, inside, inv.count, size))
+          (c.index-records-place.is
+          ∙ ap (λ rs. get_or rs place r) c.records-records.ensures.records)
+          (subst (λ (v : TargetWay). IsRowOf v.tree.zone v.tree.rows (hint_of v.tree.zone r) k)
+          inv.way c.find_hint.ensures.hint);
+      count = length-set c.places.hints.items place k ∙ inv.count;
+    }
 
 pub records-preserved : goal.records-preserved
 records-preserved c =
     let t = c.args.tree.now in
     let inv = c.records.invariant in
-    let rtype = c.index-records-place.result.rtype in
-    let place = get_or c.as_slice-place-items.result.now c.records.place-index 0 in
-    let hint : IsHintAt t.zone t.rows rtype c.if-eq.hint =
-    elim c.if-eq.branch [
-      | then-eq w ↦
-          rw w.hint-is (subst
-          (λ (v : TargetWay). IsHintAt v.tree.zone v.tree.rows rtype w.hint_to-hint.result)
-          inv.aliases (w.hint_to-hint.ensures.hint rtype
-          (λ e. ap (λ (v : TargetWay). v.is_of_alias) inv.aliases)))
-      | else-eq w ↦
-          rw w.hint-is (subst
-          (λ (v : Tree). IsHintAt v.zone v.rows rtype w.hint_to-hint-else-eq.result) inv.way
-          (w.hint_to-hint-else-eq.ensures.hint rtype (λ e. let typed : c.record.inside.rtype.0
-          ≡ type_cname = ap (λ (r : ResourceRecord). r.rtype) c.record.view_is ∙ e in
-          absurd (false≢true (w.if-eq.ensures ∙ eq-eqb _ _ typed)))))
-    ] in
-    let way : c.if-eq.way'.tree ≡ t = elim c.if-eq.branch [
-      | then-eq w ↦ search rules
-      | else-eq w ↦ search rules
-    ] in
-    let aliases : c.if-eq.way_of_aliases ≡ record { tree = t; is_of_alias = true } =
-    elim c.if-eq.branch [
-      | then-eq w ↦ search rules
-      | else-eq w ↦ search rules
-    ] in
-    let inside : place < length c.records.hints.items =
-    omega (arith, c.if-place-len.false, c.len.ensures) in
+    let place = c.records.place in
     let size = ap length c.records-records.ensures.records in
-    let r = c.index-records-place.result in
-    let known = c.index-records-place.is
-    ∙ ap (λ rs. get_or rs place r) c.records-records.ensures.records in
+    let inside : place < length c.records.hints.items = search rules in
+    let r = c.index-records-place-in-records.result in
+    let k = c.find_hint-in-records.result in
     record {
-      way = way;
-      aliases = aliases;
-      hints = hints_set t.zone t.rows c.records.hints.items place c.if-eq.hint
-          r inv.hints inside (omega (arith, inside, inv.count, size)) known hint;
-      count = length-set c.records.hints.items place c.if-eq.hint ∙ inv.count;
+      way = c.find_hint-in-records.ensures.way ∙ inv.way;
+      aliases = c.find_hint-in-records.ensures.aliases ∙ inv.aliases;
+      hints = found_here t.zone t.rows c.records.hints.items place k r inv.hints inside
+          (omega (arith, inside, inv.count, size))
+          (c.index-records-place-in-records.is
+          ∙ ap (λ rs. get_or rs place r) c.records-records.ensures.records)
+          (subst (λ (v : TargetWay). IsRowOf v.tree.zone v.tree.rows (hint_of v.tree.zone r) k)
+          inv.way c.find_hint-in-records.ensures.hint);
+      count = length-set c.records.hints.items place k ∙ inv.count;
     }
