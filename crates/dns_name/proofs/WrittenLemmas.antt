@@ -1,5 +1,5 @@
 -- What is written for an octet, a label and a name, piece by piece, and how long it can get.
-use Rattle.dns_name.proofs.Common.{◌≡◌, ℕ, ◌+◌, ◌-◌, ◌*◌, ◌<◌, ◌≤◌, true, false, [], ◌∷◌, ◌++◌, length, map, take, refl, ap₂, arith, length-append, join_with_byte, Octets, DomainName, wire, is_special, three_digits, octet_text, label_text, labels_text, name_text, append_assoc, append-nil, take_at, is_ascii_graphic, bare_name_text}
+use Rattle.dns_name.proofs.Common.{◌≡◌, ℕ, ◌+◌, ◌-◌, ◌*◌, ◌<◌, ◌≤◌, true, false, [], ◌∷◌, ◌++◌, length, map, take, refl, sym, ap, ap₂, ◌∙◌, arith, length-append, join_with_byte, Octets, DomainName, wire, is_special, three_digits, octet_text, label_text, labels_text, name_text, append_assoc, append-nil, take_at, is_ascii_graphic, bare_name_text}
 
 pub special_text : (x : ℕ) → is_special x ≡ true → octet_text x ≡ 92 ∷ x ∷ []
 unfolding octet_text
@@ -46,6 +46,15 @@ last_dot : (l : Octets) (n : DomainName)
 last_dot l [] = append-nil (label_text l ++ 46 ∷ [])
 last_dot l (k ∷ n) = grind (arith, append_assoc, (last_dot k n))
 
-pub bare_name : (n : DomainName) (text new : Octets)
-    → 0 < length n → text ≡ name_text n → new ≡ take (length text - 1) text → new ≡ bare_name_text n
-bare_name n text new h h1 h2 = grind (arith, last_dot, length-append, ap₂, take_at)
+pub bare_name : (n : DomainName) (before text new : Octets) → 0 < length n
+    → text ≡ before ++ name_text n → new ≡ take (length text - 1) text
+    → new ≡ before ++ bare_name_text n
+bare_name [] before text new h e f = absurd (omega (arith, h))
+bare_name (l ∷ n) before text new h e f =
+    f ∙ ap (λ t. take (length t - 1) t) dotted ∙ without_last (before ++ bare_name_text (l ∷ n))
+  where
+    dotted : text ≡ (before ++ bare_name_text (l ∷ n)) ++ 46 ∷ []
+    dotted = e ∙ ap (λ t. before ++ t) (last_dot l n) ∙ sym (append_assoc before _ _)
+
+    without_last : (xs : Octets) → take (length (xs ++ 46 ∷ []) - 1) (xs ++ 46 ∷ []) ≡ xs
+    without_last xs = grind (arith, length-append, ap₂, take_at)

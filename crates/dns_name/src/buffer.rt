@@ -110,6 +110,22 @@ impl TextBuffer {
         Ok(())
     }
 
+    /// Adds a text of any length: if it does not fit, it is written after the gathered text.
+    ///
+    /// If the writer fails, it has written a beginning of the gathered text and this text.
+    pub fn put<W: Write>(&mut self, text: &[u8], sink: &mut Tally<W>) -> Result<(), SinkFailed>
+        requires { sink.old.failures < 2 ^ 64 - 1 }
+        ensures { Fills W.contents sink.old sink.new result (self.old ++ text.now) self.new }
+    {
+        if self.octets.remaining_capacity() < text.len() {
+            sink.write_parts(&[self.octets(), text])?;
+            self.clear();
+        } else {
+            self.append(text);
+        }
+        Ok(())
+    }
+
     /// Writes the gathered text.
     ///
     /// If the writer fails, it has written a beginning of that text.

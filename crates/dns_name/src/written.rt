@@ -26,21 +26,17 @@ impl Name {
         self.lent().write_text(sink)
     }
 
-    /// Writes the name as most programs print it: its labels, separated by dots, and the root as
-    /// `.`
-    ///
-    /// Octets are written as `write_text` writes them. Does not allocate. If the writer fails, a
-    /// beginning of the text was written, and the failure is counted.
-    pub fn write_bare_text<W: Write>(&self, sink: &mut Tally<W>) -> Result<(), SinkFailed>
-        requires { sink.old.failures < 2 ^ 64 - 1 }
-        ensures { Writes W.contents sink.old sink.new result (bare_name_text self.now) }
+    /// Appends the name as most programs print it: its labels, separated by dots, and the root as
+    /// `.`, at most 1,020 octets. Octets are written as `write_text` writes them.
+    pub fn append_bare_text(&self, text: &mut TextBuffer)
+        requires { length text.old + 1020 ≤ 4096 }
+        ensures { text.new ≡ text.old ++ bare_name_text self.now }
     {
-        let (name, mut bare) = (self.lent(), TextBuffer::new());
-        name.append_text(&mut bare);
+        let name = self.lent();
+        name.append_text(text);
         if name.label_count() > 0 {
-            bare.pop();
+            text.pop();
         }
-        bare.finish(sink)
     }
 }
 

@@ -13,17 +13,36 @@ pub record IsLeft {V : Type 0} (contents : V → Option Octets) (old now : Count
   pub written : Written (contents old.device) (contents now.device) whole rest
   pub counted : now.failures ≡ old.failures
 
+-- the next text is written
+pub text_written : {V E A : Type 0} {contents : V → Option Octets} {old mid new : Counted V} {a : A}
+    {whole rest : Octets} (text others : Octets) → IsLeft contents old mid whole rest
+    → rest ≡ text ++ others
+    → Writes {E = E} contents mid new (Ok a) text → IsLeft contents old new whole others
+text_written text others so e w = record {
+  written = Written-more _ _ _ _ _ _ _ so.written e w.ok;
+  counted = w.counted ∙ so.counted;
+}
+
+-- or a prefix of it was written, and the result is the error
+pub text_begun : {V E A F B : Type 0} {contents : V → Option Octets} {old mid new : Counted V}
+    {e : E} {r : Result B F} {whole rest : Octets} (text others : Octets)
+    → IsLeft contents old mid whole rest → rest ≡ text ++ others
+    → Writes {A = A} contents mid new (Err e) text → IsErr r → Writes contents old new r whole
+text_begun {r = Err failed} text others so e w err = record {
+  ok = tt;
+  err = Written-begun _ _ _ _ _ _ _ so.written e w.err;
+  counted = w.counted ∙ ap (λ count. count + 1) so.counted;
+}
+text_begun {r = Ok answer} text others so e w err = absurd (false≢true err)
+
 -- the next piece is written
 pub piece_written : {V E A T : Type 0} {contents : V → Option Octets} {old mid new : Counted V}
     {a : A} {x : T} {i : ℕ} {whole text : Octets} (f : T → Octets) (xs : List T)
     → i < length xs → x ≡ get_or xs i x → IsLeft contents old mid whole (flat_map f (drop i xs))
     → text ≡ f x → Writes {E = E} contents mid new (Ok a) text
     → IsLeft contents old new whole (flat_map f (drop (i + 1) xs))
-piece_written {x = x} {i} f xs within is so text w = record {
-  written = Written-more _ _ _ _ _ _ _ so.written (next_piece f xs x i within is)
-      (Writes-same text w).ok;
-  counted = w.counted ∙ so.counted;
-}
+piece_written {x = x} {i} f xs within is so text w =
+    text_written (f x) _ so (next_piece f xs x i within is) (Writes-same text w)
 
 -- or a prefix of it was written, and the result is the error
 pub piece_begun : {V E A F B T : Type 0} {contents : V → Option Octets} {old mid new : Counted V}
@@ -31,13 +50,8 @@ pub piece_begun : {V E A F B T : Type 0} {contents : V → Option Octets} {old m
     → i < length xs → x ≡ get_or xs i x → IsLeft contents old mid whole (flat_map f (drop i xs))
     → text ≡ f x → Writes {A = A} contents mid new (Err e) text → IsErr r
     → Writes contents old new r whole
-piece_begun {r = Err failed} {x} {i} f xs within is so text w err = record {
-  ok = tt;
-  err = Written-begun _ _ _ _ _ _ _ so.written (next_piece f xs x i within is)
-      (Writes-same text w).err;
-  counted = w.counted ∙ ap (λ count. count + 1) so.counted;
-}
-piece_begun {r = Ok answer} f xs within is so text w err = absurd (false≢true err)
+piece_begun {x = x} {i} f xs within is so text w =
+    text_begun (f x) _ so (next_piece f xs x i within is) (Writes-same text w)
 
 -- nothing follows the last part
 pub three_parts : (a b c : Octets) → a ++ (b ++ (c ++ [])) ≡ a ++ b ++ c

@@ -1,19 +1,22 @@
 //! Lines of output, assembled from texts, numbers, names and data.
-ghost use Rattle.std.specs.Prelude.{◌≡◌, ◌-◌, ◌^◌, ◌<◌, decimal};
+ghost use Rattle.std.specs.Prelude.{◌≡◌, ◌+◌, ◌-◌, ◌^◌, ◌<◌, ◌≤◌, ◌++◌, length, decimal};
 ghost use Rattle.dns_spec.specs.Layout.{octets16};
 ghost use Rattle.dns_spec.specs.MessageLines.{class_text};
 ghost use Rattle.dns_spec.specs.Report.{two_digits};
 ghost use Rattle.dns_spec.specs.WrittenText.{hex_text};
-ghost use Rattle.dns_name.specs.Counted.{Writes};
+ghost use Rattle.dns_name.specs.Counted.{Writes, Fills};
 ghost use Rattle.dns_tools.specs.Parts.{part_text, parts_text};
 ghost use Rattle.dns_tools.specs.declared.fault.Stop.TheVariants.{Sink};
 
 use crate::fault::Stop;
-use dns_name::{Name, SinkFailed, Tally};
+use dns_name::{Name, SinkFailed, Tally, TextBuffer};
 use dns_rdata::{RType, Rdata};
 use dns_wire::{CLASS_IN, WireRecord};
 use itoa::Buffer;
 use std::io::Write;
+
+// The text of a name. Texts of numbers, codes, classes and types are shorter.
+const NAME_ROOM: usize = 1020;
 
 /// A part of a line.
 #[derive(Clone, Copy)]
@@ -54,51 +57,50 @@ pub(crate) fn write_parts<W: Write>(
     requires { sink.old.failures < 2 ^ 64 - 1 }
     ensures { Writes W.contents sink.old sink.new result (parts_text parts.now) }
 {
+    let mut text = TextBuffer::new();
     'parts: for part in parts {
-        part.write(sink)?;
+        text.make_room(NAME_ROOM, sink)?;
+        part.put(&mut text, sink)?;
     }
-    Ok(())
+    text.finish(sink)
 }
 
 impl LinePart<'_> {
-    fn write<W: Write>(&self, sink: &mut Tally<W>) -> Result<(), SinkFailed>
-        requires { sink.old.failures < 2 ^ 64 - 1 }
-        ensures { Writes W.contents sink.old sink.new result (part_text self.now) }
+    fn put<W: Write>(&self, text: &mut TextBuffer, sink: &mut Tally<W>) -> Result<(), SinkFailed>
+        requires room { length text.old + 1020 ≤ 4096 }
+        requires few_failures { sink.old.failures < 2 ^ 64 - 1 }
+        ensures { Fills W.contents sink.old sink.new result
+            (text.old ++ part_text self.now) text.new }
     {
         match self {
-            LinePart::Text(text) => sink.write_all(text),
-            LinePart::Number(number) => write_number(*number, sink),
-            LinePart::Hex(number) => sink.write_all(hex_of(*number).as_slice()),
-            LinePart::Code(code) => sink.write_all(&[b'0' + *code / 10, b'0' + *code % 10]),
-            LinePart::Name(name) => name.write_text(sink),
-            LinePart::BareName(name) => name.write_bare_text(sink),
-            LinePart::Class(class) => write_class(*class, sink),
-            LinePart::TypeName(rtype) => rtype.write_text(sink),
+            LinePart::Text(octets) => return text.put(octets, sink),
+            LinePart::Number(number) => text.append(Buffer::new().format(*number).as_bytes()),
+            LinePart::Hex(number) => text.append(hex_of(*number).as_slice()),
+            LinePart::Code(code) => text.append(&[b'0' + *code / 10, b'0' + *code % 10]),
+            LinePart::Name(name) => name.lent().append_text(text),
+            LinePart::BareName(name) => name.append_bare_text(text),
+            LinePart::Class(class) => append_class(*class, text),
+            LinePart::TypeName(rtype) => rtype.append_text(text),
             LinePart::Data(record) => {
-                Rdata::write_text(record.data_type(), record.rdata.as_slice(), sink)
+                let octets = record.rdata.as_slice();
+                return Rdata::put_text(record.data_type(), octets, text, sink);
             }
         }
+        Ok(())
     }
 }
 
-fn write_number<W: Write>(number: u64, sink: &mut Tally<W>) -> Result<(), SinkFailed>
-    requires { sink.old.failures < 2 ^ 64 - 1 }
-    ensures { Writes W.contents sink.old sink.new result (decimal number) }
-{
-    let mut digits = Buffer::new();
-    sink.write_all(digits.format(number).as_bytes())
-}
-
-fn write_class<W: Write>(class: u16, sink: &mut Tally<W>) -> Result<(), SinkFailed>
-    requires { sink.old.failures < 2 ^ 64 - 1 }
-    ensures { Writes W.contents sink.old sink.new result (class_text class) }
+fn append_class(class: u16, text: &mut TextBuffer)
+    requires { length text.old + 1020 ≤ 4096 }
+    ensures { text.new ≡ text.old ++ class_text class }
 {
     if class == CLASS_IN {
-        return sink.write_all(b" IN ");
+        text.append(b" IN ");
+        return;
     }
-    let mut digits = Buffer::new();
-    let number = digits.format(class).as_bytes();
-    sink.write_parts(&[b" CLASS", number, b" "])
+    text.append(b" CLASS");
+    text.append(Buffer::new().format(class).as_bytes());
+    text.push(b' ');
 }
 
 fn hex_of(number: u16) -> [u8; 4]

@@ -1,4 +1,4 @@
-use dns_name::{Name, NameFault, SinkFailed, Tally};
+use dns_name::{Name, NameFault, SinkFailed, Tally, TextBuffer};
 use dns_samples_tests::Kept;
 use std::alloc::Global;
 use std::test::Fail;
@@ -39,7 +39,9 @@ fn written(alloc: Global, word: &[u8], is_bare: bool) -> Result<Vec<u8>, Fail> {
     let name = read(word)?;
     let mut sink = Tally::new(Vec::new(alloc));
     if is_bare {
-        name.write_bare_text(&mut sink)?;
+        let mut text = TextBuffer::new();
+        name.append_bare_text(&mut text);
+        text.finish(&mut sink)?;
     } else {
         name.write_text(&mut sink)?;
     }
@@ -85,6 +87,28 @@ fn each_write_of_a_name_fails(rt: HostRuntime) -> Result<(), Fail> {
         assert_eq!(rt; device.calls.has_failed(), fails);
         let end = text.len().min(3 * calls as usize);
         assert_eq!(rt; device.text.as_slice(), &text[..end], "after {calls} calls");
+    }
+    Ok(())
+}
+
+#[test]
+fn texts_of_any_length_are_put(rt: HostRuntime) -> Result<(), Fail> {
+    let rows: [(&[u8], &[u8]); 5] = [
+        (b"", b"b"),
+        (&[b'a'; 4095], b"b"),
+        (&[b'a'; 4096], b"b"),
+        (b"a", &[b'b'; 4096]),
+        (&[b'a'; 5000], &[b'b'; 5000]),
+    ];
+    for (first, second) in rows {
+        let mut sink = Tally::new(Vec::new(rt.alloc()));
+        let mut text = TextBuffer::new();
+        text.put(first, &mut sink)?;
+        text.put(second, &mut sink)?;
+        text.finish(&mut sink)?;
+        let written = sink.into_inner();
+        assert_eq!(rt; written.len(), first.len() + second.len());
+        assert!(rt; written.starts_with(first) && written.ends_with(second));
     }
     Ok(())
 }
