@@ -1,9 +1,7 @@
 -- The rows of the last names on the way to targets, and of the hints of records.
 use Rattle.dns_zone.proofs.Common.{◌≡◌, ◌⊎◌, inl, inr, ℕ, zero, suc, ◌+◌, ◌-◌, ◌<◌, ◌≤◌, Bool, true, false, cond, not, ◌&&◌, ◌||◌, ◌==◌, Option, None, Some, All, List, [], ◌∷◌, map, length, get_or, get_or_default, set, get_or-set_same, get_or-set_other, refl, ap, ap₂, sym, ◌∙◌, arith, subst, and_parts, and_from, and_right, false≢true, true≢false, none-some, false_from_ne_true, cases_lt, leb-true, lt-ltb, ltb-true, length-map, same-length, or_cases, or_left, or_right, to_ascii_lowercase, is_some, eq-eqb, list_any, Octets, DomainName, folded, same, names_equal, names_equal-decides, at_or_below, below, suffixes, exists, is_cut, cut_of, target, type_ns, type_cname, at, owns, ResourceRecord, ZoneContents, ZoneNode, first_of, without_first, at_or_below-cons, IsHint, IsNodeAt, IsNameTree, IsRowOf, IsWayEnd, AreHints, TargetWay, name_below, node_at, may_begin, last_on_way, hint_of, row_name, row_at, Row, Tree}
 use Rattle.dns_spec.proofs.Common.{option_and_then}
-use Rattle.std.specs.Prelude.{replicate}
 use Rattle.std.proofs.lemmas.Bool.{true_from_ne_false}
-use Rattle.std.proofs.lemmas.List.{get_or-replicate}
 use Rattle.dns_zone.specs.NodeForm.{TreeRow}
 use Rattle.dns_zone.specs.declared.tree.hints.TheConstants.{UNKNOWN}
 use Rattle.dns_zone.specs.declared.tree.way.WayEnd.{WayEnd}
@@ -32,20 +30,20 @@ module _ (z : ZoneContents) (a : Bool) where
   short_name n h = grind (arith, ltb-true)
 
   -- the last name on the way to a child
-  pub last_past : (l : Octets) (n : DomainName) → folded (l ∷ n) ≡ l ∷ n → begins (l ∷ n) ≡ false
+  last_past : (l : Octets) (n : DomainName) → folded (l ∷ n) ≡ l ∷ n → begins (l ∷ n) ≡ false
       → last_on_way z a (l ∷ n) ≡ last_on_way z a n
   last_past l n low e =
       ap (λ m. cond (begins m) (Some m) (last_on_way z a n)) low
       ∙ ap (λ b. cond b (Some (l ∷ n)) (last_on_way z a n)) e
 
-  pub last_here : (l : Octets) (n : DomainName) → folded (l ∷ n) ≡ l ∷ n → begins (l ∷ n) ≡ true
+  last_here : (l : Octets) (n : DomainName) → folded (l ∷ n) ≡ l ∷ n → begins (l ∷ n) ≡ true
       → last_on_way z a (l ∷ n) ≡ Some (l ∷ n)
   last_here l n low e =
       ap (λ m. cond (begins m) (Some m) (last_on_way z a n)) low
       ∙ ap (λ b. cond b (Some (l ∷ n)) (last_on_way z a n)) e
 
   -- no way begins at the origin or above it
-  pub short_way : (n : DomainName) → length n ≤ length z.origin → last_on_way z a n ≡ None
+  short_way : (n : DomainName) → length n ≤ length z.origin → last_on_way z a n ≡ None
   short_way [] h = ap (λ b. cond b (Some []) None) (short_name [] h)
   short_way (l ∷ n) h =
       ap (λ b. cond b (Some (folded (l ∷ n))) (last_on_way z a n))
@@ -66,7 +64,7 @@ module _ (z : ZoneContents) (a : Bool) where
       false≢true (sym h ∙ at_or_below-cons l n z.origin ∙ or_right (same (l ∷ n) z.origin) _ f)))
 
   -- a way begins below a name only if it goes on from there
-  pub goes_above : (l : Octets) (n : DomainName) → begins (l ∷ n) ≡ true → goes_on n ≡ true
+  goes_above : (l : Octets) (n : DomainName) → begins (l ∷ n) ≡ true → goes_on n ≡ true
   goes_above l n h = by_length (cases_lt (length z.origin) (length n))
     where
       parts : (below (l ∷ n) z.origin ≡ true)
@@ -97,10 +95,10 @@ module _ (z : ZoneContents) (a : Bool) where
           let least = leb-true _ _ (and_parts _ (same _ z.origin) under).0 in
           or_left _ _ (under_same n z.origin under (omega (arith, short, least)))
 
-  pub goes_inside : (n : DomainName) → goes_on n ≡ true → at_or_below n z.origin ≡ true
+  goes_inside : (n : DomainName) → goes_on n ≡ true → at_or_below n z.origin ≡ true
   goes_inside n h = grind (arith, or_cases, itself-under, and_parts)
 
-  pub goes_uncut : (n : DomainName) → goes_on n ≡ true → a ≡ true → cut_of z n ≡ None
+  goes_uncut : (n : DomainName) → goes_on n ≡ true → a ≡ true → cut_of z n ≡ None
   goes_uncut n h alias = by_cases (or_cases (same n z.origin) (begins n) h)
     where
       uncut : (c : Option DomainName) → not (a && is_some c) ≡ true → c ≡ None
@@ -144,7 +142,7 @@ module _ (z : ZoneContents) (a : Bool) where
   stopped_ends l n off = false_from_ne_true _ (λ h. false≢true (sym off ∙ goes_above l n h))
 
 -- the row of a name below the origin is not 0
-pub below_row : (t : Tree) (k : ℕ) → IsNameTree t
+below_row : (t : Tree) (k : ℕ) → IsNameTree t
     → length t.zone.origin < length (name_at t k)
     → name_below t.zone t.rows k ≡ Some (name_at t k)
 below_row t zero kept longer =
@@ -303,10 +301,6 @@ AreFound z rows hints first =
     → ((first ≤ j) × (get_or hints j 0 ≡ UNKNOWN)) ⊎ IsRowOf z rows (hint_of z r) (get_or hints j 0)
 
 module _ (z : ZoneContents) (rows : List Row) where
-  pub none_found : (n : ℕ) → n ≡ length z.records → AreFound z rows (replicate n UNKNOWN) 0
-  none_found n e j r l is =
-      inl (omega arith, get_or-replicate n j UNKNOWN 0 (omega (arith, l, e)))
-
   same_or_other : (i j : ℕ) → (i ≡ j) ⊎ (i ≡ j → ⊥)
   same_or_other i j = grind arith
 
@@ -332,7 +326,7 @@ module _ (z : ZoneContents) (rows : List Row) where
           (are j s l known)
 
   -- the first record that may be without a hint gets one, or had it before
-  pub found_next : (hints : List ℕ) (first : ℕ) → AreFound z rows hints first
+  found_next : (hints : List ℕ) (first : ℕ) → AreFound z rows hints first
       → ((r : ResourceRecord) → r ≡ get_or z.records first r
       → IsRowOf z rows (hint_of z r) (get_or hints first 0)) → AreFound z rows hints (first + 1)
   found_next hints first are here j r l known = go (same_or_other first j)
@@ -359,20 +353,6 @@ module _ (z : ZoneContents) (rows : List Row) where
       subst (λ x. IsRowOf z rows (hint_of z s) x) (sym here)
       (subst (λ q. IsRowOf z rows (hint_of z q) k)
       (is ∙ get_or_default z.records i r s inside ∙ sym known) hint))
-
-  pub all_found : (hints : List ℕ) (first : ℕ) → AreFound z rows hints first
-      → length z.records ≤ first → length hints ≡ length z.records → AreHints z rows hints
-  all_found hints first are past count = record {
-    count = count;
-    each = λ j r l known. go j r l (are j r l known);
-  }
-    where
-      go : (j : ℕ) (r : ResourceRecord) → j < length z.records
-          → ((first ≤ j) × (get_or hints j 0 ≡ UNKNOWN))
-          ⊎ IsRowOf z rows (hint_of z r) (get_or hints j 0)
-          → IsRowOf z rows (hint_of z r) (get_or hints j 0)
-      go j r l (inl (up, e)) = absurd (omega arith)
-      go j r l (inr h) = h
 
 -- the stored hint of a record
 pub kept_row : (t : Tree) (rs : List ResourceRecord) (hints : List ℕ) (place : ℕ)
