@@ -46,8 +46,8 @@ unfoldable pub use Rattle.dns_spec.specs.Answer.{chain, chain_from, extra, items
 pub use Rattle.dns_spec.specs.Checks.{Check, Fault, Passes, at_or_below_cut, checked_names, checks, count, data_at_cut, fails, fault_order, faults_at, first_is_asterisk, has_target, is_origin, is_owner, lacks_address, large_set, many_sets, most_of_a_set, most_sets, mx_target_alias, ns_target_alias, ns_target_lost, ttls_differ, wildcard_ns}
 unfoldable pub use Rattle.dns_spec.specs.Checks.{faults}
 pub use Rattle.dns_spec.specs.CommandWords.{AreOptions, AskToCheck, AskToServe, HasTurns, ServiceAsked, ZoneWords, by_lines, by_turns, is_dashed, service_words, tcp, udp}
-pub use Rattle.dns_spec.specs.ComputedReading.{RunStep, data_at, from_additionals, from_answers, from_authorities, jump, last_section, message_question_at, message_record_at, name_if_short, octets_upto, field_at, question_after, record_after, record_with, run_end, run_label, run_pointer, step_of, strings_only, unlawful, value_at}
-unfoldable pub use Rattle.dns_spec.specs.ComputedReading.{message_at, name_at, fields_at, run, runs_before, several}
+pub use Rattle.dns_spec.specs.ComputedNames.{RunStep, jump, name_if_short, run_end, run_label, run_pointer, step_of, unlawful}
+unfoldable pub use Rattle.dns_spec.specs.ComputedNames.{name_at, run, runs_before}
 pub use Rattle.dns_spec.specs.Data.{Field, Part, TypeRow, Valid, anything, are_strings, class_in, compresses, domain, first_name, ipv4, ipv6, joined, laid_parts, lower_case, name, number, number_of, octets, octets_front, other_type, part_folded, part_octets, parts, field_front, fields_of, qtype_any, row_of, soa_minimum, string, string_front, strings, strings_front, target, type_a, type_aaaa, type_cname, type_hinfo, type_mx, type_ns, type_soa, type_srv, type_table, type_txt, valid}
 unfoldable pub use Rattle.dns_spec.specs.Data.{cut}
 pub use Rattle.dns_spec.specs.DataText.{Says, SaysAsSpelled, SaysField, SaysFields, SaysHex, SaysNumber, SaysString, SaysTyped, SaysUnknown, SaysWord, SpellsString, SpellsStringOctet, Word, are_strings_alone, word_fields, word_fields_of, is_hex_word, is_string_octet, is_unknown_mark, is_word_octet, may_be_quoted}
@@ -68,8 +68,10 @@ pub use Rattle.dns_spec.specs.Names.{DomainName, Octets, at_or_below, below, fol
 unfoldable pub use Rattle.dns_spec.specs.Names.{labels_from}
 pub use Rattle.dns_spec.specs.Query.{QueryRead, absent, counts_are_one_question, field16, head_of, is_ignored, most_over_udp, opcode, query, query_or_error, question_of, refusal_head, refused_with, reply_head}
 unfoldable pub use Rattle.dns_spec.specs.Query.{query_read, question_at}
-pub use Rattle.dns_spec.specs.Reading.{data_fields, DataAt, DnsMessage, Header, MessageQuestion, MessageRecord, NameAt, NumberAt, OctetsAt, FieldAt, FieldsAt, QuestionsAt, RecordAt, RecordsAt, RunAt, Spells, format_error, name_error, no_error, not_implemented, pointer_place}
-pub use Rattle.dns_spec.specs.Reading.RunAt.{ends, goes_on, jumps}
+pub use Rattle.dns_spec.specs.NamesInMessages.{NameAt, RunAt, pointer_place}
+pub use Rattle.dns_spec.specs.NamesInMessages.RunAt.{ends, goes_on, jumps}
+pub use Rattle.dns_spec.specs.Reading.{DnsMessage, Header, MessageQuestion, MessageRecord, NoMessage, Spells, data_at, data_fields, field_at, format_error, from_additionals, from_answers, from_authorities, last_section, message_question_at, message_record_at, name_before, name_error, no_error, not_implemented, question_after, record_after, record_with, value_at}
+unfoldable pub use Rattle.dns_spec.specs.Reading.{fields_at, message_at, several}
 pub use Rattle.dns_spec.specs.Records.{HoldSameRecords, ResourceRecord, ZoneContents, at, data_order, distinct, first_serial, insert_by, of_type, ordered_zone, owns, record_order, records_equal, rrset, sort_by, with_owner, zone_of, zone_serial}
 pub use Rattle.dns_spec.specs.Reply.{Decision, Reply, answer_with, answered, decide_query, fitting, greatest, header_alone, keep_longest, kept, question_alone, reply_message, reply_octets, reply_of, silence, truncated}
 unfoldable pub use Rattle.dns_spec.specs.Reply.{decide, octets_of, reply, reply_with}

@@ -1,6 +1,6 @@
--- Reading messages: the computed reader equals the relation, and octets spell at most one message.
+-- Reading messages: the computed reader of names equals the relation, and what is at a place of a
+-- message is read there.
 pub mod NameReading
-pub mod MessageReading
-pub mod OneMessage
 pub mod Places
+pub mod Sections
 pub mod Question

@@ -16,8 +16,9 @@ pub mod Tree
 pub mod Checks
 pub mod ZonePrinted
 pub mod Report
+pub mod NamesInMessages
+pub mod ComputedNames
 pub mod Reading
-pub mod ComputedReading
 pub mod Query
 pub mod Layout
 pub mod LayoutSize

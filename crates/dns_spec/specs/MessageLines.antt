@@ -8,7 +8,7 @@ use Rattle.dns_spec.specs.Data.{class_in}
 use Rattle.dns_spec.specs.TypeText.{type_text}
 use Rattle.dns_spec.specs.WrittenText.{hex_text, data_text}
 use Rattle.dns_spec.specs.Report.{Report}
-use Rattle.dns_spec.specs.Reading.{MessageQuestion, MessageRecord, DnsMessage, Spells}
+use Rattle.dns_spec.specs.Reading.{MessageQuestion, MessageRecord, DnsMessage, Spells, NoMessage}
 use Rattle.dns_spec.specs.Layout.{octets16}
 use Rattle.dns_spec.specs.Lines.{lines, line_message}
 
@@ -49,17 +49,13 @@ message_text m =
     ++ flat_map (section_line (codes "authority")) m.authorities
     ++ flat_map (section_line (codes "additional")) m.additionals
 
--- the octets spell no message
-abbrev pub SpellsNone : Octets → Type 0
-SpellsNone b = (m : DnsMessage) → Spells b m → ⊥
-
 -- What is printed for octets: the lines of the message that they spell; if they spell none, a line
 -- with the number of a fault, 1 to 6.
 abbrev pub PrintsOctets : Octets → Report → Type 0
 PrintsOctets b report =
     ((m : DnsMessage) × Spells b m
     × (report ≡ record { output = message_text m; passes = true }))
-    ⊎ (SpellsNone b × ((n : ℕ) × (1 ≤ n) × (n ≤ 6)
+    ⊎ (NoMessage b × ((n : ℕ) × (1 ≤ n) × (n ≤ 6)
     × (report ≡ record { output = codes "fault " ++ decimal n ++ codes "\n"; passes = false })))
 
 -- what is printed for a line that is a message in hex digits, and for any other line

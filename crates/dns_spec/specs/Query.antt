@@ -5,7 +5,7 @@ use Rattle.std.specs.Prelude.{Option, None, Some}
 use Rattle.dns_spec.specs.Names.{Octets, DomainName}
 use Rattle.dns_spec.specs.Data.{number_of}
 use Rattle.dns_spec.specs.Reading.{Header, MessageQuestion, format_error, not_implemented}
-use Rattle.dns_spec.specs.ComputedReading.{name_at}
+use Rattle.dns_spec.specs.ComputedNames.{name_at}
 
 -- RFC 1035 4.2.1 and 4.2.2: the most octets of a message over UDP, and over TCP
 abbrev pub most_over_udp : ℕ

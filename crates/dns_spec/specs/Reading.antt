@@ -1,32 +1,10 @@
--- Which name is at a place of a message, and which message octets spell.
-use Rattle.std.specs.Prelude.{◌≡◌, ℕ, ◌+◌, ◌-◌, ◌*◌, ◌<◌, ◌≤◌, List, [], ◌∷◌, ◌++◌, length, take, drop, ◌==◌, IsTrue, slice_get, if◌then◌else◌}
-use Rattle.std.specs.Prelude.{Some}
-use Rattle.dns_spec.specs.Names.{Octets, DomainName, wire, is_name}
-use Rattle.dns_spec.specs.Data.{class_in, Field, number, ipv4, ipv6, domain, string, strings, anything, fields_of, are_strings, number_of}
-
--- RFC 1035 4.1.4: the place that the two octets of a pointer give; the first octet is at least 192
-abbrev pub pointer_place : ℕ → ℕ → ℕ
-pointer_place o o' = (o - 192) * 256 + o'
-
--- RFC 1035 4.1.4: in the octets b, a run of labels began at place s. From place i on it spells n,
--- and its own octets end before place e. An octet 0 ends the run. An octet k from 1 to 63 is
--- followed by a label of k octets. An octet of at least 192 gives, with the next octet, the place
--- of another run, which spells the rest; that place is after the header and before the place where
--- the current run began. Other octets spell no name.
-pub data RunAt (b : Octets) : ℕ → ℕ → DomainName → ℕ → Type 0 where
-  ends : {s : ℕ} (i : ℕ) → slice_get b i ≡ Some 0 → RunAt b s i [] (i + 1)
-  goes_on : {s : ℕ} (i k : ℕ) (l : Octets) (n : DomainName) (e : ℕ)
-      → slice_get b i ≡ Some k → 0 < k → k < 64 → i + 1 + k ≤ length b → l ≡ take k (drop (i + 1) b)
-      → RunAt b s (i + 1 + k) n e → RunAt b s i (l ∷ n) e
-  jumps : {s : ℕ} (i o o' p : ℕ) (n : DomainName) (e : ℕ)
-      → slice_get b i ≡ Some o → 192 ≤ o → slice_get b (i + 1) ≡ Some o' → p ≡ pointer_place o o'
-      → 12 ≤ p → p < s
-      → RunAt b p p n e → RunAt b s i n (i + 2)
-
--- The name n is spelled at place i, and its own octets end before place e. RFC 1035 2.3.4: the
--- whole name, with the part that pointers lead to, has at most 255 octets.
-abbrev pub NameAt : Octets → ℕ → DomainName → ℕ → Type 0
-NameAt b i n e = RunAt b i i n e × IsTrue (is_name n)
+-- Which message octets spell.
+use Rattle.std.specs.Prelude.{◌≡◌, ℕ, zero, suc, ◌+◌, ◌-◌, ◌&&◌, List, [], ◌∷◌, ◌++◌, length, take, drop, nat_le, ◌==◌, if◌then◌else◌}
+use Rattle.std.specs.Prelude.{Option, None, Some}
+use Rattle.std.specs.Option.{option_map, option_and_then}
+use Rattle.dns_spec.specs.Names.{Octets, DomainName, wire}
+use Rattle.dns_spec.specs.Data.{class_in, Field, domain, anything, fields_of, part_octets, field_front, number_of}
+use Rattle.dns_spec.specs.ComputedNames.{SpelledName, name_at}
 
 -- RFC 1035 4.1.1: the ID, and as one number of 16 bits the flags: QR, opcode, AA, TC, RD, RA,
 -- three zero bits and RCODE
@@ -72,75 +50,111 @@ not_implemented = 4
 abbrev pub refused : ℕ
 refused = 5
 
--- the octets from place i up to place e are d
-pub record OctetsAt (b : Octets) (i e : ℕ) (d : Octets) : Type 0 where
-  pub ordered : i ≤ e
-  pub within : e ≤ length b
-  pub are : take (e - i) (drop i b) ≡ d
+-- RFC 1035 2.3.2: the number that the k octets from place i encode
+abbrev pub value_at : Octets → ℕ → ℕ → ℕ
+value_at b i k = number_of (take k (drop i b))
 
--- RFC 1035 2.3.2: the k octets from place i encode the number v
-pub record NumberAt (b : Octets) (i k v : ℕ) : Type 0 where
-  pub within : i + k ≤ length b
-  pub spelled : v ≡ number_of (take k (drop i b))
+-- RFC 1035 4.1.2: the question at place i, and the place after it
+abbrev pub question_after : Octets → SpelledName → Option (MessageQuestion × ℕ)
+question_after b (n, j) =
+    if nat_le (j + 4) (length b)
+    then Some (record { qname = n; qtype = value_at b j 2; qclass = value_at b (j + 2) 2 }, j + 4)
+    else None
 
--- A field of data is at places i up to j, and the data ends before place e; o is the field without
--- compression. A name may continue elsewhere, but its own octets are in the data.
-abbrev pub FieldAt : Octets → Field → ℕ → ℕ → ℕ → Octets → Type 0
-FieldAt b (number k) i e j o = OctetsAt b i (i + k) o × (j ≡ i + k)
-FieldAt b ipv4 i e j o = OctetsAt b i (i + 4) o × (j ≡ i + 4)
-FieldAt b ipv6 i e j o = OctetsAt b i (i + 16) o × (j ≡ i + 16)
-FieldAt b domain i e j o = (n : DomainName) × NameAt b i n j × (o ≡ wire n)
-FieldAt b string i e j o =
-    (k : ℕ) × (slice_get b i ≡ Some k) × OctetsAt b i (i + 1 + k) o × (j ≡ i + 1 + k)
-FieldAt b strings i e j o = OctetsAt b i j o × (0 < length o) × IsTrue (are_strings 0 o) × (j ≡ e)
-FieldAt b anything i e j o = OctetsAt b i j o × (j ≡ e)
+abbrev pub message_question_at : Octets → ℕ → Option (MessageQuestion × ℕ)
+message_question_at b i = option_and_then (question_after b) (name_at b i)
+
+-- A field at place i of data that ends before place e: its octets without compression, and the
+-- place after it. RFC 1035 4.1.4: only a name may continue elsewhere.
+abbrev pub name_before : ℕ → SpelledName → Option (Octets × ℕ)
+name_before e (n, j) = if nat_le j e then Some (wire n, j) else None
+
+abbrev pub field_at : Octets → Field → ℕ → ℕ → Option (Octets × ℕ)
+field_at b domain i e = option_and_then (name_before e) (name_at b i)
+field_at b f i e =
+    option_map (λ r. (part_octets r.0, e - length r.1)) (field_front f (take (e - i) (drop i b)))
 
 -- fields in order, from place i up to place e
-abbrev pub FieldsAt : Octets → List Field → ℕ → ℕ → Octets → Type 0
-FieldsAt b [] i e d = (i ≡ e) × (d ≡ [])
-FieldsAt b (f ∷ fs) i e d =
-    (j : ℕ) × (o rest : Octets) × FieldAt b f i e j o × (d ≡ o ++ rest) × FieldsAt b fs j e rest
+unfoldable pub fields_at : Octets → List Field → ℕ → ℕ → Option Octets
+fields_at b [] i e = if i == e then Some [] else None
+fields_at b (f ∷ fs) i e =
+    option_and_then (λ r. option_map (λ d. r.0 ++ d) (fields_at b fs r.1 e)) (field_at b f i e)
 
--- the fields of data: by its type in class IN, any octets in other classes
+-- The data from place i up to place e, by its type in class IN; in other classes it is any octets.
 abbrev pub data_fields : ℕ → ℕ → List Field
 data_fields t c = if c == class_in then fields_of t else anything ∷ []
 
-abbrev pub DataAt : Octets → ℕ → ℕ → ℕ → ℕ → Octets → Type 0
-DataAt b t c i e d = (i ≤ e) × (e ≤ length b) × FieldsAt b (data_fields t c) i e d
+abbrev pub data_at : Octets → ℕ → ℕ → ℕ → ℕ → Option Octets
+data_at b t c i e =
+    if nat_le i e && nat_le e (length b) then fields_at b (data_fields t c) i e else None
 
--- RFC 1035 4.1.2: questions in order, from place i up to place e
-abbrev pub QuestionsAt : Octets → ℕ → List MessageQuestion → ℕ → Type 0
-QuestionsAt b i [] e = i ≡ e
-QuestionsAt b i (q ∷ qs) e =
-    (j : ℕ) × NameAt b i q.qname j × NumberAt b j 2 q.qtype × NumberAt b (j + 2) 2 q.qclass
-    × QuestionsAt b (j + 4) qs e
+-- RFC 1035 4.1.3: the record at place i, and the place after it
+abbrev pub record_with : Octets → SpelledName → Octets → MessageRecord × ℕ
+record_with b (n, j) d = (
+  record {
+    owner = n;
+    rtype = value_at b j 2;
+    rclass = value_at b (j + 2) 2;
+    ttl = value_at b (j + 4) 4;
+    rdata = d;
+  },
+  j + 10 + value_at b (j + 8) 2,
+)
 
--- RFC 1035 4.1.3: a record at place i, whose owner ends before place j and whose data has len
--- octets; and records in order, from place i up to place e
-pub record RecordAt (b : Octets) (i : ℕ) (r : MessageRecord) (j len : ℕ) : Type 0 where
-  pub owner : NameAt b i r.owner j
-  pub rtype : NumberAt b j 2 r.rtype
-  pub rclass : NumberAt b (j + 2) 2 r.rclass
-  pub ttl : NumberAt b (j + 4) 4 r.ttl
-  pub length : NumberAt b (j + 8) 2 len
-  pub rdata : DataAt b r.rtype r.rclass (j + 10) (j + 10 + len) r.rdata
+abbrev pub record_after : Octets → SpelledName → Option (MessageRecord × ℕ)
+record_after b (n, j) =
+    if nat_le (j + 10) (length b)
+    then option_map (record_with b (n, j))
+    (data_at b (value_at b j 2) (value_at b (j + 2) 2) (j + 10) (j + 10 + value_at b (j + 8) 2))
+    else None
 
-abbrev pub RecordsAt : Octets → ℕ → List MessageRecord → ℕ → Type 0
-RecordsAt b i [] e = i ≡ e
-RecordsAt b i (r ∷ rs) e = (j len : ℕ) × RecordAt b i r j len × RecordsAt b (j + 10 + len) rs e
+abbrev pub message_record_at : Octets → ℕ → Option (MessageRecord × ℕ)
+message_record_at b i = option_and_then (record_after b) (name_at b i)
 
--- The octets spell the message, with nothing left over.
-pub record Spells (b : Octets) (m : DnsMessage) : Type 0 where
-  pub id : NumberAt b 0 2 m.header.id
-  pub flags : NumberAt b 2 2 m.header.flags
-  pub qdcount : NumberAt b 4 2 (length m.questions)
-  pub ancount : NumberAt b 6 2 (length m.answers)
-  pub nscount : NumberAt b 8 2 (length m.authorities)
-  pub arcount : NumberAt b 10 2 (length m.additionals)
-  pub after_questions : ℕ
-  pub after_answers : ℕ
-  pub after_authorities : ℕ
-  pub questions : QuestionsAt b 12 m.questions after_questions
-  pub answers : RecordsAt b after_questions m.answers after_answers
-  pub authorities : RecordsAt b after_answers m.authorities after_authorities
-  pub additionals : RecordsAt b after_authorities m.additionals (length b)
+-- k questions or records in order, from place i on, and the place after them
+unfoldable pub several : {X : Type 0} → (ℕ → Option (X × ℕ)) → ℕ → ℕ → Option (List X × ℕ)
+several read zero i = Some ([], i)
+several read (suc k) i =
+    option_and_then (λ r. option_map (λ s. (r.0 ∷ s.0, s.1)) (several read k r.1)) (read i)
+
+-- RFC 1035 4.1: the sections after a place, in order, up to the end
+abbrev pub last_section : Octets → List MessageQuestion → List MessageRecord → List MessageRecord
+    → List MessageRecord × ℕ → Option DnsMessage
+last_section b qs ans ns r =
+    if r.1 == length b
+    then Some (record {
+      header = record { id = value_at b 0 2; flags = value_at b 2 2 };
+      questions = qs;
+      answers = ans;
+      authorities = ns;
+      additionals = r.0;
+    })
+    else None
+
+abbrev pub from_additionals : Octets → List MessageQuestion → List MessageRecord
+    → List MessageRecord × ℕ → Option DnsMessage
+from_additionals b qs ans r =
+    option_and_then (last_section b qs ans r.0)
+    (several (message_record_at b) (value_at b 10 2) r.1)
+
+abbrev pub from_authorities : Octets → List MessageQuestion → List MessageRecord × ℕ
+    → Option DnsMessage
+from_authorities b qs r =
+    option_and_then (from_additionals b qs r.0) (several (message_record_at b) (value_at b 8 2) r.1)
+
+abbrev pub from_answers : Octets → List MessageQuestion × ℕ → Option DnsMessage
+from_answers b r =
+    option_and_then (from_authorities b r.0) (several (message_record_at b) (value_at b 6 2) r.1)
+
+-- the message that octets spell, with nothing left over
+unfoldable pub message_at : Octets → Option DnsMessage
+message_at b =
+    if nat_le 12 (length b)
+    then option_and_then (from_answers b) (several (message_question_at b) (value_at b 4 2) 12)
+    else None
+
+abbrev pub Spells : Octets → DnsMessage → Type 0
+Spells b m = message_at b ≡ Some m
+
+abbrev pub NoMessage : Octets → Type 0
+NoMessage b = message_at b ≡ None

@@ -1,10 +1,10 @@
-//! Laws of reading: what `name_at` and `message_at` compute; at most one name is at a place, and
-//! octets spell at most one message.
+//! Laws of reading: what `name_at` computes; at most one name is at a place; how long a question is.
 
 ghost use Rattle.std.specs.Prelude.{◌≡◌, ℕ, ◌≤◌, Some, ◌↔◌, length};
 ghost use Rattle.dns_spec.specs.Names.{Octets, DomainName};
-ghost use Rattle.dns_spec.specs.Reading.{MessageQuestion, DnsMessage, NameAt, Spells};
-ghost use Rattle.dns_spec.specs.ComputedReading.{name_at, message_at};
+ghost use Rattle.dns_spec.specs.NamesInMessages.{NameAt};
+ghost use Rattle.dns_spec.specs.ComputedNames.{name_at};
+ghost use Rattle.dns_spec.specs.Reading.{MessageQuestion};
 ghost use Rattle.dns_spec.specs.Query.{question_at};
 
 /// `name_at` gives a name and the place after it if and only if the name is spelled there (RFC
@@ -24,15 +24,4 @@ pub fn place_spells_one_name()
 /// 255 of the name, and 4 of type and class (RFC 1035 4.1.2).
 pub fn question_ends_by_octet_271()
     ensures { (d : Octets) (q : MessageQuestion) → question_at d ≡ Some q → length d ≤ 271 }
-{}
-
-/// Octets spell at most one message (RFC 1035 4.1).
-pub fn octets_spell_one_message()
-    ensures { (b : Octets) (m n : DnsMessage) → Spells b m → Spells b n → m ≡ n }
-{}
-
-/// `message_at` gives the message that the octets spell, and nothing if they spell none (RFC 1035
-/// 4.1).
-pub fn message_at_computes_the_relation()
-    ensures { (b : Octets) (m : DnsMessage) → (message_at b ≡ Some m) ↔ Spells b m }
 {}

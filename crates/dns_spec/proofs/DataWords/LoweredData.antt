@@ -1,24 +1,8 @@
 -- The parts of data joined are the data, and data in lower case is cut into the same fields.
-use Rattle.dns_spec.proofs.Common.{common_steps, ◌≡◌, ℕ, ◌≤◌, true, Some, List, [], ◌∷◌, ◌++◌, map, length, refl, sym, ap, ◌∙◌, subst, arith, append-nil, length-append, and_parts, and_from, leb-true, le-leb, false≢true, none-some, same_Some, take_at, drop_at, nil_from_length, flat_map-cons, to_ascii_lowercase, Octets, DomainName, folded, Field, number, ipv4, ipv6, domain, string, strings, anything, fields_of, Part, octets, name, part_octets, joined, part_folded, octets_front, field_front, cut, valid, parts, lower_case, lowercase-lowercase}
+use Rattle.dns_spec.proofs.Common.{◌≡◌, ℕ, ◌≤◌, true, Some, List, [], ◌∷◌, ◌++◌, map, length, refl, sym, ap, ◌∙◌, subst, arith, append-nil, length-append, and_parts, and_from, leb-true, le-leb, false≢true, none-some, same_Some, nil_from_length, flat_map-cons, to_ascii_lowercase, Octets, DomainName, folded, Field, domain, fields_of, Part, octets, name, part_octets, joined, part_folded, field_front, cut, valid, parts, lower_case, lowercase-lowercase}
 use Rattle.dns_spec.proofs.DomainNames.NameLaws.{is_name-folded, length-wire-folded}
-use Rattle.dns_spec.proofs.DataWords.WrittenData.{cut_into, name_part, octets_part, front_taken, all_strings}
+use Rattle.dns_spec.proofs.DataWords.WrittenData.{cut_into, name_part, field_whole, field_again, octets_field}
 use Rattle.dns_spec.proofs.DataWords.MadeData.{cut-domain, cut-step}
-
--- a part, and the octets after it, are the whole
-run_whole : (k : ℕ) (os : Octets) (part : Part) (rest : Octets)
-    → octets_front k os ≡ Some (part, rest) → os ≡ part_octets part ++ rest
-run_whole k os part rest h = grind (arith, front_taken, octets_part)
-
-pub field_whole : (p : Field) (os : Octets) (part : Part) (rest : Octets)
-    → field_front p os ≡ Some (part, rest) → os ≡ part_octets part ++ rest
-field_whole (number k) os part rest h = run_whole k os part rest h
-field_whole ipv4 os part rest h = run_whole 4 os part rest h
-field_whole ipv6 os part rest h = run_whole 16 os part rest h
-field_whole domain os part rest h = grind (arith, name_part)
-field_whole string [] part rest h = absurd (none-some (part, rest) h)
-field_whole string (k ∷ os) part rest h = grind (arith, common_steps, front_taken, octets_part)
-field_whole strings os part rest h = grind (arith, all_strings, append-nil)
-field_whole anything os part rest h = grind (arith, same_Some, append-nil)
 
 pub cut_whole : (ps : List Field) (os : Octets) (xs : List Part)
     → cut ps os ≡ Some xs → joined xs ≡ os
@@ -40,23 +24,15 @@ none_after : (rest other : Octets) → rest ≡ [] → length other ≡ length r
 none_after rest other e f = nil_from_length other (f ∙ ap length e)
 
 -- a field in lower case is the same field, even if what follows it is different
-run_lowered : (k : ℕ) (os : Octets) (part : Part) (rest other : Octets)
-    → octets_front k os ≡ Some (part, rest)
-    → octets_front k (part_octets (part_folded part) ++ other) ≡ Some (part_folded part, other)
-run_lowered k os part rest other h = grind (arith, length-append, take_at, drop_at, front_taken)
-
 field_lowered : (p : Field) (os : Octets) (part : Part) (rest other : Octets)
     → field_front p os ≡ Some (part, rest) → length other ≡ length rest
     → field_front p (part_octets (part_folded part) ++ other) ≡ Some (part_folded part, other)
-field_lowered (number k) os part rest other h same = run_lowered k os part rest other h
-field_lowered ipv4 os part rest other h same = run_lowered 4 os part rest other h
-field_lowered ipv6 os part rest other h same = run_lowered 16 os part rest other h
 field_lowered domain os part rest other h same =
     grind (arith, name_part, cut-domain, is_name-folded)
-field_lowered string [] part rest other h same = absurd (none-some (part, rest) h)
-field_lowered string (k ∷ os) part rest other h same = grind (arith, common_steps)
-field_lowered strings os part rest other h same = grind (arith, all_strings, none_after, append-nil)
-field_lowered anything os part rest other h same = grind (arith, same_Some, none_after, append-nil)
+field_lowered p os part rest other h same =
+    subst (λ x. field_front p (part_octets x ++ other) ≡ Some (x, other))
+    (sym (subst (λ x. part_folded x ≡ x) (octets_field p os rest part (grind arith) h) refl))
+    (field_again p os part rest other h (λ none. none_after rest other none same))
 
 pub cut_lowered : (ps : List Field) (os : Octets) (xs : List Part)
     → cut ps os ≡ Some xs → cut ps (joined (map part_folded xs)) ≡ Some (map part_folded xs)

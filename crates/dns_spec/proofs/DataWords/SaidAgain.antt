@@ -2,9 +2,9 @@
 -- reader reads them whole.
 use Rattle.dns_spec.proofs.Common.{length-replicate, ◌≡◌, ℕ, suc, ◌<◌, ◌≤◌, ◌⊎◌, inl, inr, true, false, Bool, ◌||◌, max, Option, None, Some, List, [], ◌∷◌, length, drop, replicate, nat_le, refl, sym, ◌∙◌, ap, subst, arith, false≢true, and_parts, and_from, leb-true, or_cases, none-some, cond_some, some_pair_parts, option_map, unwrap_or, list_all, Octets, DomainName, name_of, ipv4, ipv6, Field, domain, string, strings, anything, TypeRow, row_of, other_type, fields_of, Part, name, part_octets, octets_front, field_front, cut, valid, lower_case, Word, word_fields, word_fields_of, SaysTyped, SaysAsSpelled, Says, are_strings_alone, is_word_octet, word_front, field_words, string_count, words_by, written_words, unknown_words, hex_words, stands_alone, AllByRecursion, number}
 use Rattle.dns_spec.proofs.DomainNames.SmallOctets.{Small, small_back}
-use Rattle.dns_spec.proofs.DataWords.WrittenData.{cut_into, all_strings}
+use Rattle.dns_spec.proofs.DataWords.WrittenData.{cut_into, all_strings, field_whole}
 use Rattle.dns_spec.proofs.DomainNames.WireNames.{name_read}
-use Rattle.dns_spec.proofs.DataWords.LoweredData.{field_whole, cut_data}
+use Rattle.dns_spec.proofs.DataWords.LoweredData.{cut_data}
 use Rattle.dns_spec.proofs.DataWords.HexAgain.{unknown_said}
 use Rattle.dns_spec.proofs.DataWords.WordRuns.{runs_escaped}
 use Rattle.dns_spec.proofs.DataWords.StandingWords.{TakenWhole, decimal_standing, hex_alone, hex_runs}

@@ -1,7 +1,9 @@
 -- Data of a type, written without compression, is read back as data of that type.
-use Rattle.dns_spec.proofs.Common.{common_steps, and_parts, leb-true, not-true, eqb-false, false≢true, none-some, same_Some, cond_some, some_pair_parts, length-take-le, Octets, DomainName, wire, is_name, class_in, Field, number, ipv4, ipv6, domain, string, strings, anything, Part, octets, name, are_strings, octets_front, strings_front, field_front, cut, valid, OctetsAt, FieldsAt, DataAt, ◌≡◌, ℕ, suc, ◌+◌, ◌<◌, true, List, [], ◌∷◌, ◌++◌, length, take, Some, refl, sym, ap, ◌∙◌, subst, arith, append-nil, length-append, take-append-drop, add-zero}
+use Rattle.dns_spec.proofs.Common.{common_steps, and_parts, leb-true, not-true, eqb-false, false≢true, none-some, same_Some, cond_some, some_pair_parts, length-take-le, Octets, DomainName, wire, is_name, class_in, Field, number, ipv4, ipv6, domain, string, strings, anything, string_front, Part, octets, name, are_strings, octets_front, strings_front, field_front, cut, valid, data_at, fields_at, field_at, ◌≡◌, ℕ, suc, ◌+◌, ◌<◌, true, List, [], ◌∷◌, ◌++◌, length, take, Some, refl, sym, ap, ◌∙◌, subst, arith, append-nil, length-append, take-append-drop, add-zero, part_octets, eq-eqb, le-leb, ◌≢◌}
 use Rattle.dns_spec.proofs.DomainNames.WireNames.{name_read}
-use Rattle.dns_spec.proofs.Messages.Places.{Stands, stands_front, stands_rest, stands_within, stands_get, octets_at, name_written}
+use Rattle.dns_spec.proofs.DataWords.MadeData.{cut-domain, cut-octets}
+use Rattle.dns_spec.proofs.Messages.Sections.{field_own, fields_more, name_field}
+use Rattle.dns_spec.proofs.Messages.Places.{Stands, stands_front, stands_rest, stands_within, name_written, stands_own}
 
 -- data that is cut into parts begins with the part of its first field
 pub record CutInto (p : Field) (ps : List Field) (os : Octets) (xs : List Part) : Type 0 where
@@ -26,25 +28,6 @@ pub octets_part : (k : ℕ) (os rest : Octets) (part : Part)
     → octets_front k os ≡ Some (part, rest) → octets (take k os) ≡ part
 octets_part k os rest part h = grind (arith, cond_some)
 
--- the octets of data from place i on, and what follows its first part
-module _
-    {b : Octets} {i : ℕ} (os x rest : Octets) (whole : os ≡ x ++ rest) (at : Stands b i os) where
-  stands_part : Stands b i x
-  stands_part = stands_front x rest (subst (Stands b i) whole at)
-
-  octets_written : (ps : List Field) (j : ℕ) → i + length x ≡ j
-      → ((k : ℕ) → Stands b k rest → FieldsAt b ps k (k + length rest) rest)
-      → OctetsAt b i j x × FieldsAt b ps j (i + length os) rest
-  octets_written ps j place written =
-      let next : ℕ = i + length x in
-      let after = written next (stands_rest x rest (subst (Stands b i) whole at)) in
-      let end : next + length rest ≡ i + length os =
-      omega (arith, ap length whole, length-append x rest) in (
-        subst (λ z. OctetsAt b i z x) place (octets_at x stands_part),
-        subst (λ z. FieldsAt b ps z (i + length os) rest) place
-            (subst (λ e. FieldsAt b ps next e rest) end after),
-      )
-
 pub front_taken : (k : ℕ) (os : Octets) (part : Part) (rest : Octets)
     → octets_front k os ≡ Some (part, rest) → (os ≡ take k os ++ rest) × (length (take k os) ≡ k)
 front_taken k os part rest h = grind (arith, cond_some, take-append-drop, length-take-le, leb-true)
@@ -53,62 +36,87 @@ pub all_strings : (os rest : Octets) (part : Part) → strings_front os ≡ Some
     → (0 < length os) × (are_strings 0 os ≡ true) × (octets os ≡ part) × (rest ≡ [])
 all_strings os rest part h = grind (arith, cond_some, and_parts, eqb-false, not-true)
 
--- the first k octets, and the fields after them
-run_written : {b : Octets} (k : ℕ) (ps : List Field) (os : Octets) (xs : List Part) (i : ℕ)
-    → cut (number k ∷ ps) os ≡ Some xs → Stands b i os
-    → ((os : Octets) (xs : List Part) (i : ℕ)
-    → cut ps os ≡ Some xs → Stands b i os → FieldsAt b ps i (i + length os) os)
-    → FieldsAt b (number k ∷ ps) i (i + length os) os
-run_written k ps os xs i h at written =
-    let c = cut_into (number k) ps os xs h in
-    let t = front_taken k os c.part c.rest c.front in
-    let x = take k os in
-    let r = octets_written os x c.rest t.0 at ps (i + k) (ap (λ z. i + z) t.1)
-    (λ j. written c.rest c.others j c.more) in
-    (i + k, x, c.rest, (r.0, refl), t.0, r.1)
+-- a part, and the octets after it, are the whole
+run_whole : (k : ℕ) (os : Octets) (part : Part) (rest : Octets)
+    → octets_front k os ≡ Some (part, rest) → os ≡ part_octets part ++ rest
+run_whole k os part rest h = grind (arith, front_taken, octets_part)
+
+pub field_whole : (p : Field) (os : Octets) (part : Part) (rest : Octets)
+    → field_front p os ≡ Some (part, rest) → os ≡ part_octets part ++ rest
+field_whole (number k) os part rest h = run_whole k os part rest h
+field_whole ipv4 os part rest h = run_whole 4 os part rest h
+field_whole ipv6 os part rest h = run_whole 16 os part rest h
+field_whole domain os part rest h = grind (arith, name_part)
+field_whole string [] part rest h = absurd (none-some (part, rest) h)
+field_whole string (k ∷ os) part rest h = grind (arith, common_steps, front_taken, octets_part)
+field_whole strings os part rest h = grind (arith, all_strings, append-nil)
+field_whole anything os part rest h = grind (arith, same_Some, append-nil)
+
+-- A field is the same field in front of other octets, if there are none after it
+-- where there were none before.
+run_again : (k : ℕ) (os : Octets) (part : Part) (rest other : Octets) → octets_front k os
+    ≡ Some (part, rest) → octets_front k (part_octets part ++ other) ≡ Some (part, other)
+run_again k os part rest other h = grind (arith, octets_part, front_taken, cut-octets)
+
+pub field_again : (p : Field) (os : Octets) (part : Part) (rest other : Octets)
+    → field_front p os ≡ Some (part, rest) → (rest ≡ [] → other ≡ [])
+    → field_front p (part_octets part ++ other) ≡ Some (part, other)
+field_again (number k) os part rest other h none = run_again k os part rest other h
+field_again ipv4 os part rest other h none = run_again 4 os part rest other h
+field_again ipv6 os part rest other h none = run_again 16 os part rest other h
+field_again domain os part rest other h none = grind (arith, name_part, cut-domain)
+field_again string [] part rest other h none = absurd (none-some (part, rest) h)
+field_again string (k ∷ os) part rest other h none =
+    subst (λ x. octets_front (suc k) (k ∷ os) ≡ Some (x, rest)
+    → string_front (part_octets x ++ other) ≡ Some (x, other)) (octets_part (suc k) (k ∷ os)
+    rest part h) (run_again (suc k) (k ∷ os) (octets (k ∷ take k os)) rest other) h
+field_again strings os part rest other h none =
+    let all = all_strings os rest part h in
+    ap (λ x. strings_front (part_octets x ++ other)) (sym all.2)
+    ∙ ap strings_front (ap (λ y. os ++ y) (none all.3) ∙ append-nil os) ∙ h
+    ∙ ap (λ y. Some (part, y)) (all.3 ∙ sym (none all.3))
+field_again anything os part rest other h none = grind (arith, same_Some, append-nil)
+
+-- the part of any other field
+pub octets_field : (p : Field) (os rest : Octets) (part : Part)
+    → p ≢ domain → field_front p os ≡ Some (part, rest) → octets (part_octets part) ≡ part
+octets_field p os rest (octets o) other front = refl
+octets_field p os rest (name n) other front =
+    grind (arith, octets_part, none-some, all_strings, same_Some)
+
+-- A field is read where it is written, and so are fields one after another.
+field_written : {b : Octets} {i : ℕ} (p : Field) (os : Octets) (part : Part) (rest : Octets)
+    → field_front p os ≡ Some (part, rest) → Stands b i os → Stands b i (part_octets part)
+    → length os ≡ length (part_octets part) + length rest
+    → field_at b p i (i + length os) ≡ Some (part_octets part, i + length (part_octets part))
+field_written {b} {i} domain os part rest front at here long =
+    let m = name_part os rest part front in
+    subst (λ x. Stands b i (part_octets x) → length os ≡ length (part_octets x) + length rest
+    → field_at b domain i (i + length os) ≡ Some (part_octets x, i + length (part_octets x))) m.1
+    (λ there long. name_field b m.0 i (i + length (wire m.0)) (i + length os)
+    (name_written m.0 m.2 there) (omega (arith, long))) here long
+field_written {b} {i} p os part rest front at here long =
+    grind (arith, field_own, stands_own)
 
 pub fields_written : {b : Octets} (ps : List Field) (os : Octets) (xs : List Part) (i : ℕ)
-    → cut ps os ≡ Some xs → Stands b i os → FieldsAt b ps i (i + length os) os
-unfolding cut
-fields_written [] [] xs i h at = (sym (add-zero i), refl)
+    → cut ps os ≡ Some xs → Stands b i os → fields_at b ps i (i + length os) ≡ Some os
+unfolding cut fields_at
+fields_written [] [] xs i h at = grind (arith, eq-eqb, add-zero)
 fields_written [] (o ∷ os) xs i h at = absurd (none-some xs h)
-fields_written (number k ∷ ps) os xs i h at = run_written k ps os xs i h at (fields_written ps)
-fields_written (ipv4 ∷ ps) os xs i h at = run_written 4 ps os xs i h at (fields_written ps)
-fields_written (ipv6 ∷ ps) os xs i h at = run_written 16 ps os xs i h at (fields_written ps)
-fields_written (domain ∷ ps) os xs i h at =
-    let c = cut_into domain ps os xs h in
-    let m = name_part os c.rest c.part c.front in
-    let x = wire m.0 in
-    let r = octets_written os x c.rest m.3 at ps (i + length x) refl
-    (λ k. fields_written ps c.rest c.others k c.more) in
-    let spelled = name_written m.0 m.2 (stands_part os x c.rest m.3 at) in
-    (i + length x, x, c.rest, (m.0, spelled, refl), m.3, r.1)
-fields_written (string ∷ ps) [] xs i h at = absurd (none-some xs h)
-fields_written (string ∷ ps) (k ∷ os) xs i h at =
-    let c = cut_into string ps (k ∷ os) xs h in
-    let t = front_taken (suc k) (k ∷ os) c.part c.rest c.front in
-    let x = take (suc k) (k ∷ os) in
-    let r = octets_written (k ∷ os) x c.rest t.0 at ps (i + 1 + k) (omega (arith, t.1))
-    (λ k. fields_written ps c.rest c.others k c.more) in
-    (i + 1 + k, x, c.rest, (k, stands_get k os at, r.0, refl), t.0, r.1)
-fields_written (strings ∷ ps) os xs i h at =
-    let c = cut_into strings ps os xs h in
-    let t = all_strings os c.rest c.part c.front in
-    let all = sym (append-nil os) in
-    let r = octets_written os os [] all at ps (i + length os) refl
-    (λ k. fields_written ps [] c.others k (ap (cut ps) (sym t.3) ∙ c.more)) in
-    (i + length os, os, [], (r.0, t.0, t.1, refl), all, r.1)
-fields_written (anything ∷ ps) os xs i h at =
-    let c = cut_into anything ps os xs h in
-    let none : c.rest ≡ [] =
-    sym (ap (λ z. z.1) (same_Some (octets os, []) (c.part, c.rest) c.front)) in
-    let all = sym (append-nil os) in
-    let r = octets_written os os [] all at ps (i + length os) refl
-    (λ k. fields_written ps [] c.others k (ap (cut ps) (sym none) ∙ c.more)) in
-    (i + length os, os, [], (r.0, refl), all, r.1)
+fields_written {b} (p ∷ ps) os xs i h at =
+    let c = cut_into p ps os xs h in
+    let x = part_octets c.part in
+    let whole = field_whole p os c.part c.rest c.front in
+    let both : Stands b i (x ++ c.rest) = subst (Stands b i) whole at in
+    let long : length os ≡ length x + length c.rest = ap length whole ∙ length-append x c.rest in
+    let others = subst (λ e. fields_at b ps (i + length x) e ≡ Some c.rest) (omega (arith, long))
+    (fields_written ps c.rest c.others (i + length x) c.more (stands_rest x c.rest both)) in
+    fields_more b p ps i (i + length x) (i + length os) x c.rest
+    (field_written p os c.part c.rest c.front at (stands_front x c.rest both) long) others
+    ∙ ap Some (sym whole)
 
 -- Valid data of class IN, written as it is, is read back.
 pub data_written : {b : Octets} {i : ℕ} (t : ℕ) (d : Octets)
-    → valid t d ≡ true → Stands b i d → DataAt b t class_in i (i + length d) d
+    → valid t d ≡ true → Stands b i d → data_at b t class_in i (i + length d) ≡ Some d
 data_written {b} {i} t d h at =
-    grind (arith, common_steps, stands_within, and_parts, false≢true, fields_written)
+    grind (arith, common_steps, stands_within, and_parts, false≢true, fields_written, le-leb)

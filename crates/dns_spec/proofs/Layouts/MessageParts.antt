@@ -1,6 +1,7 @@
 -- Header, question and sections of a layout are read back at their places.
-use Rattle.dns_spec.proofs.Common.{◌≡◌, ℕ, ◌+◌, ◌^◌, ◌<◌, Bool, true, false, cond, nat_le, List, [], ◌∷◌, ◌++◌, length, Option, IfSome, refl, ◌∙◌, subst, arith, append_assoc, length-append, and_parts, leb-true, list_all, option_to_list, Octets, wire, is_name, Header, MessageQuestion, NumberAt, QuestionsAt, octets16, Section, answer, authority, additional, Item, is_section, records_of, in_section, question_octets, asked_octets, header_octets, section_rank, sections_in_order, IsAskable}
-use Rattle.dns_spec.proofs.Messages.Places.{Stands, stands_front, stands_rest, stands_after, number_at, name_written}
+use Rattle.dns_spec.proofs.Common.{◌≡◌, ℕ, ◌+◌, ◌^◌, ◌<◌, Bool, true, false, cond, nat_le, List, [], ◌∷◌, ◌++◌, length, Option, IfSome, refl, ◌∙◌, subst, arith, append_assoc, length-append, and_parts, leb-true, list_all, option_to_list, Octets, wire, is_name, Header, MessageQuestion, octets16, Section, answer, authority, additional, Item, is_section, records_of, in_section, question_octets, asked_octets, header_octets, section_rank, sections_in_order, IsAskable, value_at, several, message_question_at, ap, Some, None}
+use Rattle.dns_spec.proofs.Messages.Places.{Stands, stands_front, stands_rest, stands_after, stands_within, number_at, name_written}
+use Rattle.dns_spec.proofs.Messages.Sections.{question_read, several_more}
 
 -- sets in the order of their sections are the answer's, then authority's, then additional ones
 other_section : (s s' : Section) → section_rank s < section_rank s' → is_section s s' ≡ false
@@ -39,8 +40,9 @@ records_by_section (i ∷ is) h =
 -- the header, field by field
 pub header_at : {b : Octets} (h : Header) (qd an ns ar : ℕ)
     → h.id < 2 ^ 16 → h.flags < 2 ^ 16 → qd < 2 ^ 16 → an < 2 ^ 16 → ns < 2 ^ 16 → ar < 2 ^ 16
-    → Stands b 0 (header_octets h qd an ns ar) → NumberAt b 0 2 h.id × NumberAt b 2 2 h.flags
-    × NumberAt b 4 2 qd × NumberAt b 6 2 an × NumberAt b 8 2 ns × NumberAt b 10 2 ar
+    → Stands b 0 (header_octets h qd an ns ar) → (value_at b 0 2 ≡ h.id)
+    × (value_at b 2 2 ≡ h.flags) × (value_at b 4 2 ≡ qd) × (value_at b 6 2 ≡ an)
+    × (value_at b 8 2 ≡ ns) × (value_at b 10 2 ≡ ar)
 header_at {b} h qd an ns ar id flags qd-low an-low ns-low ar-low at =
     let o = octets16 h.id in
     let f = octets16 h.flags in
@@ -67,28 +69,33 @@ length-question_octets q = grind (arith, length-append)
 -- the question after the header
 pub question_at_12 : {b : Octets} (q : MessageQuestion)
     → is_name q.qname ≡ true → q.qtype < 2 ^ 16 → q.qclass < 2 ^ 16
-    → Stands b 12 (question_octets q) → QuestionsAt b 12 (q ∷ []) (12 + length (question_octets q))
+    → Stands b 12 (question_octets q)
+    → message_question_at b 12 ≡ Some (q, 12 + length (question_octets q))
 question_at_12 {b} q name qtype qclass at =
     let n = wire q.qname in
     let t = octets16 q.qtype in
     let c = octets16 q.qclass in
     let upto_type : Stands b 12 (n ++ t) = stands_front (n ++ t) c at in
-    let len : length (n ++ t ++ c) ≡ length n + 4 =
-    length-append (n ++ t) c ∙ omega (arith, length-append n t) in
+    let end : 12 + length n + 4 ≡ 12 + length (question_octets q) =
+    omega (arith, length-question_octets q) in
     let class_place : 12 + length (n ++ t) ≡ 12 + length n + 2 =
-    omega (arith, length-append n t) in (
-      12 + length n,
-      name_written q.qname name (stands_front n t upto_type),
-      number_at 2 q.qtype qtype (stands_rest n t upto_type),
-      number_at 2 q.qclass qclass
-          (subst (λ x. Stands b x c) class_place (stands_rest (n ++ t) c at)),
-      omega (arith, len),
-    )
+    omega (arith, length-append n t) in
+    question_read b 12 (12 + length n) q (name_written q.qname name (stands_front n t upto_type))
+    (omega (arith, end, stands_within (question_octets q) at))
+    (number_at 2 q.qtype qtype (stands_rest n t upto_type))
+    (number_at 2 q.qclass qclass
+    (subst (λ x. Stands b x c) class_place (stands_rest (n ++ t) c at)))
+    ∙ ap (λ e. Some (q, e)) end
 
 -- the question section
 pub one_question : (q : Option MessageQuestion) → length (option_to_list q) < 2 ^ 16
 one_question q = grind arith
 
 pub asked_at_12 : {b : Octets} (q : Option MessageQuestion) → IfSome q IsAskable → Stands b 12
-    (asked_octets q) → QuestionsAt b 12 (option_to_list q) (12 + length (asked_octets q))
-asked_at_12 q h h1 = grind (arith, question_at_12)
+    (asked_octets q) → several (message_question_at b) (length (option_to_list q)) 12
+    ≡ Some (option_to_list q, 12 + length (asked_octets q))
+unfolding several
+asked_at_12 None h at = refl
+asked_at_12 {b} (Some q) h at = several_more (message_question_at b) 0 12
+    (12 + length (question_octets q)) (12 + length (question_octets q)) q []
+    (question_at_12 q h.qname h.qtype h.qclass at) refl

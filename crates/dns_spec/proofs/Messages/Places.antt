@@ -1,6 +1,6 @@
 -- What is at a place of a message is read there: numbers, octets, and names that are written whole
 -- or with a pointer.
-use Rattle.dns_spec.proofs.Common.{common_steps, pow-le-pow_right, and_parts, leb-true, ltb-true, list_all, Octets, DomainName, wire, is_label, is_name, number_of, RunAt, NameAt, OctetsAt, NumberAt, ends, goes_on, ◌≡◌, ℕ, zero, suc, ◌+◌, ◌*◌, ◌%◌, ◌^◌, ◌<◌, ◌≤◌, true, [], ◌∷◌, ◌++◌, length, take, drop, IsTrue, Some, slice_get, refl, sym, ap, ◌∙◌, subst, arith, append_assoc, append-nil, take_at, drop_at, length-append, pow-suc, mul_comm, mod-mul, byte_at, bytes_high_first}
+use Rattle.dns_spec.proofs.Common.{common_steps, pow-le-pow_right, and_parts, leb-true, ltb-true, list_all, Octets, DomainName, wire, is_label, is_name, number_of, RunAt, NameAt, value_at, ends, goes_on, ◌≡◌, ℕ, zero, suc, ◌+◌, ◌*◌, ◌%◌, ◌^◌, ◌<◌, ◌≤◌, true, [], ◌∷◌, ◌++◌, length, take, drop, IsTrue, Some, slice_get, refl, sym, ap, ◌∙◌, subst, arith, append_assoc, append-nil, take_at, drop_at, length-append, pow-suc, mul_comm, mod-mul, byte_at, bytes_high_first, ◌-◌}
 
 pub length-bytes_high_first : (k n : ℕ) → length (bytes_high_first k n) ≡ k
 length-bytes_high_first zero n = refl
@@ -49,6 +49,10 @@ stands_within {b} {i} x s = grind (arith, length-append)
 pub stands_take : {b : Octets} {i : ℕ} (x : Octets) → Stands b i x → take (length x) (drop i b) ≡ x
 stands_take {b} {i} x s = grind (arith, drop_at, take_at)
 
+pub stands_own : {b : Octets} {i : ℕ} (x : Octets)
+    → Stands b i x → take (i + length x - i) (drop i b) ≡ x
+stands_own {b} {i} x s = ap (λ k. take k (drop i b)) (omega arith) ∙ stands_take x s
+
 get_at : (p q : Octets) (o i : ℕ) → length p ≡ i → slice_get (p ++ o ∷ q) i ≡ Some o
 get_at [] q o zero e = refl
 get_at [] q o (suc i) e = absurd (omega arith)
@@ -59,13 +63,11 @@ pub stands_get : {b : Octets} {i : ℕ} (o : ℕ) (x : Octets)
     → Stands b i (o ∷ x) → slice_get b i ≡ Some o
 stands_get {b} {i} o x s = grind (arith, slice_get, get_at)
 
--- a number, and octets as they are
+-- a number
 pub number_at : {b : Octets} {i : ℕ} (k v : ℕ)
-    → v < 256 ^ k → Stands b i (bytes_high_first k v) → NumberAt b i k v
-number_at {b} {i} k v low s = grind (arith, common_steps, length-bytes_high_first, number_of-bytes)
-
-pub octets_at : {b : Octets} {i : ℕ} (x : Octets) → Stands b i x → OctetsAt b i (i + length x) x
-octets_at {b} {i} x s = grind (arith, common_steps, stands_within, stands_take)
+    → v < 256 ^ k → Stands b i (bytes_high_first k v) → value_at b i k ≡ v
+number_at {b} {i} k v low s =
+    grind (arith, common_steps, stands_take, length-bytes_high_first, number_of-bytes)
 
 -- a name written whole, of labels
 pub label_parts : (l : Octets) → is_label l ≡ true → (0 < length l) × (length l < 64)

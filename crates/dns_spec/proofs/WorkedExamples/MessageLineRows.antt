@@ -1,6 +1,5 @@
 -- What is printed for inputs, octet by octet, computed from the definitions.
-use Rattle.dns_spec.proofs.Common.{◌≡◌, ℕ, ◌≤◌, true, false, [], ◌∷◌, ◌++◌, codes, decimal, refl, sym, ◌∙◌, lit≤, inl, inr, digits, none-some, octet_text, Octets, labels_from, cut, hex_octets, data_text, DnsMessage, run, runs_before, name_at, fields_at, several, message_at, Option, None, Some, lines, ended_lines, line_message, line_answers, are_messages, section_line, message_text, PrintsMessage, PrintsInput}
-use Rattle.dns_spec.proofs.Messages.MessageReading.{message_at_computes}
+use Rattle.dns_spec.proofs.Common.{◌≡◌, ℕ, ◌≤◌, true, false, [], ◌∷◌, ◌++◌, codes, decimal, refl, lit≤, inl, inr, digits, octet_text, Octets, labels_from, cut, hex_octets, data_text, DnsMessage, run, runs_before, name_at, fields_at, several, message_at, Option, None, Some, lines, ended_lines, line_message, line_answers, are_messages, section_line, message_text, PrintsMessage, PrintsInput}
 use Rattle.dns_spec.proofs.WorkedExamples.Zones.{hex, under, net_192}
 use Rattle.dns_spec.proofs.WorkedExamples.MessageRows.{address_digits, address_message, error_digits, error_message}
 
@@ -19,14 +18,13 @@ pointer_digits =
 
 prints_message : (l : Option Octets) (b : Octets) (m : DnsMessage) → l ≡ Some b
     → message_at b ≡ Some m → PrintsMessage l (record { output = message_text m; passes = true })
-prints_message l b m is_line e = rw is_line (inl (m, (message_at_computes b m).0 e, refl))
+prints_message l b m is_line e = rw is_line (inl (m, e, refl))
 
 prints_fault : (l : Option Octets) (b : Octets) (n : ℕ)
     → l ≡ Some b → message_at b ≡ None → 1 ≤ n → n ≤ 6 → PrintsMessage l
     (record { output = codes "fault " ++ decimal n ++ codes "\n"; passes = false })
 prints_fault l b n is_line e least most =
-    rw is_line
-    (inr (λ m h. none-some m (sym e ∙ (message_at_computes b m).1 h), (n, least, most, refl)))
+    rw is_line (inr (e, (n, least, most, refl)))
 
 printed_rows :
     -- a reply with an address, on a line of its own and before other lines

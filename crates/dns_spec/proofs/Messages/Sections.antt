@@ -1,0 +1,74 @@
+-- Questions, records and fields of data that are read one after another.
+use Rattle.dns_spec.proofs.Common.{◌≡◌, ℕ, suc, ◌+◌, ◌-◌, ◌≤◌, ◌≢◌, List, [], ◌∷◌, ◌++◌, length, take, drop, Option, Some, option_map, refl, ap, ◌∙◌, arith, le-leb, Octets, wire, Field, domain, Part, part_octets, field_front, NameAt, MessageQuestion, MessageRecord, DnsMessage, fields_at, field_at, value_at, data_at, several, message_question_at, message_record_at, message_at, eq-eqb, data_fields, and_from, nat_le, if◌then◌else◌, None}
+use Rattle.dns_spec.proofs.Messages.NameReading.{name_at_computes}
+use Rattle.dns_spec.proofs.General.Options.{and_then_some, then_is}
+
+module _ {X : Type 0} (read : ℕ → Option (X × ℕ)) where
+  -- one, and the others after it
+  pub several_more : (k i j e : ℕ) (x : X) (xs : List X) → read i ≡ Some (x, j)
+      → several read k j ≡ Some (xs, e) → several read (suc k) i ≡ Some (x ∷ xs, e)
+  unfolding several
+  several_more k i j e x xs one others = grind (arith, then_is)
+
+  -- some of them, and the others after these
+  pub several_split : (xs ys : List X) (i e : ℕ)
+      → several read (length (xs ++ ys)) i ≡ Some (xs ++ ys, e) → (j : ℕ)
+      × (several read (length xs) i ≡ Some (xs, j)) × (several read (length ys) j ≡ Some (ys, e))
+  unfolding several
+  several_split [] ys i e h = (i, refl, h)
+  several_split (x ∷ xs) ys i e h =
+      let one = and_then_some (λ r. option_map (λ s. (r.0 ∷ s.0, s.1)) (several read
+      (length (xs ++ ys)) r.1)) (read i) (x ∷ (xs ++ ys), e) h in
+      grind (arith, (several_split xs ys one.0.1 e))
+
+module _ (b : Octets) where
+  -- a name, and any other field, which the octets of the data begin with
+  pub name_field : (n : _) (i j e : ℕ) → NameAt b i n j → j ≤ e
+      → field_at b domain i e ≡ Some (wire n, j)
+  name_field n i j e at inside = grind (arith, name_at_computes, le-leb)
+
+  pub field_own : (p : Field) (i e : ℕ) (os rest : Octets) (part : Part)
+      → p ≢ domain → take (e - i) (drop i b) ≡ os → field_front p os ≡ Some (part, rest)
+      → field_at b p i e ≡ Some (part_octets part, e - length rest)
+  field_own p i e os rest part other own front = grind arith
+
+  -- a field, and the others after it
+  pub fields_more : (p : Field) (ps : List Field) (i j e : ℕ) (o rest : Octets)
+      → field_at b p i e ≡ Some (o, j) → fields_at b ps j e ≡ Some rest
+      → fields_at b (p ∷ ps) i e ≡ Some (o ++ rest)
+  unfolding fields_at
+  fields_more p ps i j e o rest one others = grind (arith, then_is)
+
+  pub data_read : (t c i e : ℕ) (d : Octets) → i ≤ e → e ≤ length b
+      → fields_at b (data_fields t c) i e ≡ Some d → data_at b t c i e ≡ Some d
+  data_read t c i e d ordered within fields =
+      ap (λ test. if test then fields_at b (data_fields t c) i e else None)
+      (and_from (nat_le i e) (nat_le e (length b)) (le-leb i e ordered) (le-leb e (length b) within))
+      ∙ fields
+
+  -- a question, a record, and the message
+  pub question_read : (i j : ℕ) (q : MessageQuestion) → NameAt b i q.qname j → j + 4 ≤ length b
+      → value_at b j 2 ≡ q.qtype → value_at b (j + 2) 2 ≡ q.qclass
+      → message_question_at b i ≡ Some (q, j + 4)
+  question_read i j q at within qtype qclass = grind (arith, name_at_computes, le-leb, then_is)
+
+  pub record_read : (i j len : ℕ) (r : MessageRecord) → NameAt b i r.owner j → j + 10 ≤ length b
+      → value_at b j 2 ≡ r.rtype → value_at b (j + 2) 2 ≡ r.rclass → value_at b (j + 4) 4 ≡ r.ttl
+      → value_at b (j + 8) 2 ≡ len
+      → data_at b r.rtype r.rclass (j + 10) (j + 10 + len) ≡ Some r.rdata
+      → message_record_at b i ≡ Some (r, j + 10 + len)
+  record_read i j len r at within rtype rclass ttl long rdata =
+      grind (arith, name_at_computes, le-leb, then_is)
+
+  pub message_read : (m : DnsMessage) (i j k : ℕ) → 12 ≤ length b → value_at b 0 2 ≡ m.header.id
+      → value_at b 2 2 ≡ m.header.flags → value_at b 4 2 ≡ length m.questions
+      → value_at b 6 2 ≡ length m.answers → value_at b 8 2 ≡ length m.authorities
+      → value_at b 10 2 ≡ length m.additionals
+      → several (message_question_at b) (length m.questions) 12 ≡ Some (m.questions, i)
+      → several (message_record_at b) (length m.answers) i ≡ Some (m.answers, j)
+      → several (message_record_at b) (length m.authorities) j ≡ Some (m.authorities, k)
+      → several (message_record_at b) (length m.additionals) k ≡ Some (m.additionals, length b)
+      → message_at b ≡ Some m
+  unfolding message_at
+  message_read m i j k header id flags qd an ns ar questions answers authorities additionals =
+      grind (arith, le-leb, eq-eqb, then_is)
