@@ -1,10 +1,9 @@
 -- How a datagram is read as a query, before any zone is consulted: it is ignored, refused with
 -- only a header, or has a header and a question.
-use Rattle.std.specs.Prelude.{ℕ, ◌+◌, ◌*◌, ◌/◌, ◌%◌, ◌^◌, Bool, false, ◌&&◌, ◌||◌, not, length, take, drop, nat_lt, nat_le, ◌==◌, if◌then◌else◌}
+use Rattle.std.specs.Prelude.{ℕ, ◌+◌, ◌*◌, ◌/◌, ◌%◌, ◌^◌, Bool, false, ◌&&◌, ◌||◌, not, length, nat_lt, nat_le, ◌==◌, if◌then◌else◌}
 use Rattle.std.specs.Prelude.{Option, None, Some}
 use Rattle.dns_spec.specs.Names.{Octets, DomainName}
-use Rattle.dns_spec.specs.Data.{number_of}
-use Rattle.dns_spec.specs.Reading.{Header, MessageQuestion, format_error, not_implemented}
+use Rattle.dns_spec.specs.Reading.{Header, MessageQuestion, field16, head_of, format_error, not_implemented}
 use Rattle.dns_spec.specs.ComputedNames.{name_at}
 
 -- RFC 1035 4.2.1 and 4.2.2: the most octets of a message over UDP, and over TCP
@@ -13,10 +12,6 @@ most_over_udp = 512
 
 abbrev pub most_over_tcp : ℕ
 most_over_tcp = 65535
-
--- the number of 16 bits at a place
-abbrev pub field16 : Octets → ℕ → ℕ
-field16 d i = number_of (take 2 (drop i d))
 
 -- RFC 1035 4.1.1: the bits of the flags that a server examines
 abbrev pub is_response : ℕ → Bool
@@ -31,10 +26,6 @@ recursion_desired flags = flags / 2 ^ 8 % 2
 -- a bit as a number
 abbrev pub bit : Bool → ℕ
 bit b = if b then 1 else 0
-
--- RFC 1035 4.1.1: ID and flags of a datagram
-abbrev pub head_of : Octets → Header
-head_of d = record { id = field16 d 0; flags = field16 d 2 }
 
 -- The header of a reply to a query with header h: the same ID, opcode and RD, QR set, and RA and
 -- the three Z bits 0.

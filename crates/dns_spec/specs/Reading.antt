@@ -50,15 +50,22 @@ not_implemented = 4
 abbrev pub refused : ℕ
 refused = 5
 
--- RFC 1035 2.3.2: the number that the k octets from place i encode
-abbrev pub value_at : Octets → ℕ → ℕ → ℕ
-value_at b i k = number_of (take k (drop i b))
+-- RFC 1035 2.3.2: the number of 16 bits at place i, and the one of 32 bits
+abbrev pub field16 : Octets → ℕ → ℕ
+field16 b i = number_of (take 2 (drop i b))
+
+abbrev pub field32 : Octets → ℕ → ℕ
+field32 b i = number_of (take 4 (drop i b))
+
+-- RFC 1035 4.1.1: the ID and the flags
+abbrev pub head_of : Octets → Header
+head_of b = record { id = field16 b 0; flags = field16 b 2 }
 
 -- RFC 1035 4.1.2: the question at place i, and the place after it
 abbrev pub question_after : Octets → SpelledName → Option (MessageQuestion × ℕ)
 question_after b (n, j) =
     if nat_le (j + 4) (length b)
-    then Some (record { qname = n; qtype = value_at b j 2; qclass = value_at b (j + 2) 2 }, j + 4)
+    then Some (record { qname = n; qtype = field16 b j; qclass = field16 b (j + 2) }, j + 4)
     else None
 
 abbrev pub message_question_at : Octets → ℕ → Option (MessageQuestion × ℕ)
@@ -93,19 +100,19 @@ abbrev pub record_with : Octets → SpelledName → Octets → MessageRecord × 
 record_with b (n, j) d = (
   record {
     owner = n;
-    rtype = value_at b j 2;
-    rclass = value_at b (j + 2) 2;
-    ttl = value_at b (j + 4) 4;
+    rtype = field16 b j;
+    rclass = field16 b (j + 2);
+    ttl = field32 b (j + 4);
     rdata = d;
   },
-  j + 10 + value_at b (j + 8) 2,
+  j + 10 + field16 b (j + 8),
 )
 
 abbrev pub record_after : Octets → SpelledName → Option (MessageRecord × ℕ)
 record_after b (n, j) =
     if nat_le (j + 10) (length b)
     then option_map (record_with b (n, j))
-    (data_at b (value_at b j 2) (value_at b (j + 2) 2) (j + 10) (j + 10 + value_at b (j + 8) 2))
+    (data_at b (field16 b j) (field16 b (j + 2)) (j + 10) (j + 10 + field16 b (j + 8)))
     else None
 
 abbrev pub message_record_at : Octets → ℕ → Option (MessageRecord × ℕ)
@@ -123,7 +130,7 @@ abbrev pub last_section : Octets → List MessageQuestion → List MessageRecord
 last_section b qs ans ns r =
     if r.1 == length b
     then Some (record {
-      header = record { id = value_at b 0 2; flags = value_at b 2 2 };
+      header = head_of b;
       questions = qs;
       answers = ans;
       authorities = ns;
@@ -135,22 +142,22 @@ abbrev pub from_additionals : Octets → List MessageQuestion → List MessageRe
     → List MessageRecord × ℕ → Option DnsMessage
 from_additionals b qs ans r =
     option_and_then (last_section b qs ans r.0)
-    (several (message_record_at b) (value_at b 10 2) r.1)
+    (several (message_record_at b) (field16 b 10) r.1)
 
 abbrev pub from_authorities : Octets → List MessageQuestion → List MessageRecord × ℕ
     → Option DnsMessage
 from_authorities b qs r =
-    option_and_then (from_additionals b qs r.0) (several (message_record_at b) (value_at b 8 2) r.1)
+    option_and_then (from_additionals b qs r.0) (several (message_record_at b) (field16 b 8) r.1)
 
 abbrev pub from_answers : Octets → List MessageQuestion × ℕ → Option DnsMessage
 from_answers b r =
-    option_and_then (from_authorities b r.0) (several (message_record_at b) (value_at b 6 2) r.1)
+    option_and_then (from_authorities b r.0) (several (message_record_at b) (field16 b 6) r.1)
 
 -- the message that octets spell, with nothing left over
 unfoldable pub message_at : Octets → Option DnsMessage
 message_at b =
     if nat_le 12 (length b)
-    then option_and_then (from_answers b) (several (message_question_at b) (value_at b 4 2) 12)
+    then option_and_then (from_answers b) (several (message_question_at b) (field16 b 4) 12)
     else None
 
 abbrev pub Spells : Octets → DnsMessage → Type 0

@@ -3,7 +3,7 @@ use Rattle.std.specs.Prelude.{◌≡◌, ℕ, zero, suc, ◌+◌, ◌^◌, ◌<�
 use Rattle.std.specs.Prelude.{Option, None, Some}
 use Rattle.std.specs.List.{flat_map}
 use Rattle.dns_spec.specs.Names.{Octets}
-use Rattle.dns_spec.specs.Query.{field16}
+use Rattle.dns_spec.specs.Reading.{field16}
 use Rattle.dns_spec.specs.Layout.{octets16}
 
 -- RFC 1035 4.2.2: over TCP a message follows its length in two octets

@@ -1,5 +1,5 @@
 -- What is at a place in a run of labels determines how the run continues.
-use Rattle.dns_wire.proofs.Common.{pointer_place, ◌≡◌, ℕ, ◌+◌, ◌<◌, ◌≤◌, true, IfSome, [], ◌∷◌, ◌++◌, length, take, drop, get_or, slice_get, Option, Some, refl, sym, ap, ◌∙◌, subst, arith, append_assoc, append-nil, length-append, same_Some, slice_get_within, slice_get-get_or, Octets, DomainName, wire, is_name, RunAt, NameAt, ends, goes_on, jumps, length-take-le, length-drop, LabelAt, PointerAt, NoRunAt, NoNameAt, IsReading, end_or}
+use Rattle.dns_wire.proofs.Common.{pointer_place, ◌≡◌, ℕ, ◌+◌, ◌<◌, ◌≤◌, true, IfSome, [], ◌∷◌, ◌++◌, length, take, drop, get_or, slice_get, Option, Some, refl, sym, ap, ◌∙◌, subst, arith, append_assoc, append-nil, length-append, same_Some, slice_get_within, slice_get-get_or, Octets, DomainName, wire, is_name, RunAt, NameAt, ends, goes_on, jumps, length-take-le, length-drop, LabelAt, PointerAt, NoRunAt, name_at, name_at_computes, name_computed, None, IsReading, end_or}
 
 -- how a run continues from place i: with its end, a label, or a pointer
 pub data GoesOn (b : Octets) (s i : ℕ) (n : DomainName) (e : ℕ) : Type 0 where
@@ -56,12 +56,26 @@ length-wire-front (l ∷ n) m = grind (arith, length-append, (length-wire-front 
 
 -- the end
 pub reading_ends : {b : Octets} {at s i : ℕ} {n : DomainName} {end : Option ℕ}
-    → IsReading b at n s i end → slice_get b i ≡ Some 0 → NameAt b at n (end_or end (i + 1))
-reading_ends {b} {at} {s} {i} {n} {end} reading root = (
+    → IsReading b at n s i end → slice_get b i ≡ Some 0 → name_at b at ≡ Some (n, end_or end (i + 1))
+reading_ends {b} {at} {s} {i} {n} {end} reading root = name_computed b at n (end_or end (i + 1)) (
   subst (λ m. RunAt b at at m (end_or end (i + 1)))
       (append-nil n) (reading.forth [] (i + 1) (ends i root)),
   reading.is_name,
 )
+
+-- no name is read where none is spelled
+no_name : (b : Octets) (i : ℕ) → ((n : DomainName) (e : ℕ) → NameAt b i n e → ⊥)
+    → name_at b i ≡ None
+no_name b i none = go (name_at b i) refl
+  where
+    go : (x : Option (DomainName × ℕ)) → name_at b i ≡ x → name_at b i ≡ None
+    go None is = is
+    go (Some (n, e)) is = absurd (none n e ((name_at_computes b i n e).0 is))
+
+pub reading_stops : {b : Octets} {at s i : ℕ} {n : DomainName} {end : Option ℕ}
+    → IsReading b at n s i end → NoRunAt b s i → name_at b at ≡ None
+reading_stops {b} {at} reading none =
+    no_name b at (λ w f name. let r = reading.back w f name.0 in none r.0 r.1 r.2)
 
 -- one more label
 pub reading_label : {b : Octets} {at s i : ℕ} {n : DomainName} {end : Option ℕ} (l : Octets)
@@ -90,14 +104,17 @@ reading_label {b} {at} {s} {i} {n} {end} l reading there ok = record {
 
 -- the name with the label is too long
 pub label_too_long : {b : Octets} {at s i : ℕ} {n : DomainName} {end : Option ℕ} (l : Octets)
-    → IsReading b at n s i end → LabelAt b i l → 255 < length (wire (n ++ l ∷ [])) → NoNameAt b at
-label_too_long {b} {at} {s} {i} {n} {end} l reading there long w f name =
-    let r = reading.back w f name.0 in go r.0 r.1 r.3 (goes_on_at r.2)
+    → IsReading b at n s i end → LabelAt b i l → 255 < length (wire (n ++ l ∷ []))
+    → name_at b at ≡ None
+label_too_long {b} {at} {s} {i} {n} {end} l reading there long =
+    no_name b at (λ w f name.
+    let r = reading.back w f name.0 in go w name.1 r.0 r.1 r.3 (goes_on_at r.2))
   where
-    go : (m : DomainName) (e : ℕ) → w ≡ n ++ m → GoesOn b s i m e → ⊥
-    go m e p (at_end root none end) =
+    go : (w : DomainName) → is_name w ≡ true → (m : DomainName) (e : ℕ)
+        → w ≡ n ++ m → GoesOn b s i m e → ⊥
+    go w short m e p (at_end root none end) =
         omega (arith, same_Some (length l) 0 (sym there.length_there ∙ root), there.some)
-    go m e p (at_label k rest label shape run) =
+    go w short m e p (at_label k rest label shape run) =
         let as_long : length l ≡ length k =
         same_Some (length l) (length k) (sym there.length_there ∙ label.length_there) in
         let same : k ≡ l =
@@ -105,7 +122,7 @@ label_too_long {b} {at} {s} {i} {n} {end} l reading there long w f name =
         let whole : w ≡ (n ++ l ∷ []) ++ rest = p ∙ ap
         (λ x. n ++ x) (shape ∙ ap (λ x. x ∷ rest) same) ∙ sym (append_assoc n (l ∷ []) rest) in
         grind (arith, wire, length-wire-front)
-    go m e p (at_pointer place d pointer end run) = grind arith
+    go w short m e p (at_pointer place d pointer end run) = grind arith
 
 pub end_fits : (b : Octets) (x : Option ℕ) (e : ℕ)
     → IfSome x (λ y. y ≤ length b) → e ≤ length b → end_or x e ≤ length b

@@ -1,7 +1,7 @@
 -- Which places a writer keeps for the suffixes of names, and what it means that one is found.
 use Rattle.std.specs.Prelude.{◌≡◌, ℕ, ◌<◌, ◌≤◌, List, length, take, drop, slice_get, Some, IsTrue}
 use Rattle.dns_spec.specs.Names.{Octets, DomainName, wire, is_name}
-use Rattle.dns_spec.specs.Reading.{RunAt}
+use Rattle.dns_spec.specs.NamesInMessages.{RunAt}
 
 -- a place, and the number of the suffix at that place
 pub record Kept : Type 0 where

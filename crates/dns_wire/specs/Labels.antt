@@ -2,7 +2,7 @@
 use Rattle.std.specs.Prelude.{◌≡◌, ℕ, ◌+◌, ◌<◌, ◌≤◌, ◌++◌, length, take, drop, slice_get, Option, Some, IfSome, IsTrue}
 use Rattle.std.specs.Option.{unwrap_or}
 use Rattle.dns_spec.specs.Names.{Octets, DomainName, is_name}
-use Rattle.dns_spec.specs.Reading.{pointer_place, RunAt, NameAt}
+use Rattle.dns_spec.specs.NamesInMessages.{pointer_place, RunAt}
 use Rattle.dns_wire.specs.declared.name.NameStep.{NameStep}
 use Rattle.dns_wire.specs.declared.name.NameStep.TheVariants.{End, Label, Jump}
 
@@ -34,9 +34,6 @@ StepAt b s i (Jump p) = PointerAt b s i p
 -- no name continues at place i, in a run of labels that began at place s
 abbrev pub NoRunAt : Octets → ℕ → ℕ → Type 0
 NoRunAt b s i = (n : DomainName) (e : ℕ) → RunAt b s i n e → ⊥
-
-abbrev pub NoNameAt : Octets → ℕ → Type 0
-NoNameAt b i = (n : DomainName) (e : ℕ) → NameAt b i n e → ⊥
 
 -- the place after a name's own octets: `end` if a pointer was followed already, else e
 abbrev pub end_or : Option ℕ → ℕ → ℕ

@@ -1,7 +1,7 @@
 -- Which query and which RCODE of the definitions the program's values represent.
 use Rattle.std.specs.Prelude.{◌≡◌, ℕ, ◌-◌, ◌<◌, ◌≤◌, Some, IsTrue, length, take, drop}
 use Rattle.dns_spec.specs.Names.{Octets, DomainName, wire, is_name}
-use Rattle.dns_spec.specs.ComputedReading.{name_at}
+use Rattle.dns_spec.specs.ComputedNames.{name_at}
 use Rattle.dns_spec.specs.Query as spec
 use Rattle.dns_spec.specs.Reading as reading
 use Rattle.dns_wire.specs.declared.query.QueryRead.{QueryRead}

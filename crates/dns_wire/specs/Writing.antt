@@ -5,7 +5,7 @@ use Rattle.std.specs.Prelude.{Option, None, Some}
 use Rattle.dns_spec.specs.Names.{Octets, DomainName, wire, is_name}
 use Rattle.dns_spec.specs.Data.{laid_parts}
 use Rattle.dns_spec.specs.Records.{ResourceRecord}
-use Rattle.dns_spec.specs.Reading.{RunAt}
+use Rattle.dns_spec.specs.NamesInMessages.{RunAt}
 use Rattle.dns_spec.specs.Layout.{Placed, Laid, laid_front, data_laid, record_laid, record_tail, pointer, place_of, last_place, shared_octets, shared_place}
 use Rattle.dns_name.specs.WireForm.{labels_of, IsWireForm}
 use Rattle.dns_wire.specs.Kept.{Kept, IsKept, SpelledAt}

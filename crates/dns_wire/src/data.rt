@@ -1,8 +1,8 @@
 //! Data of records, in which names may continue elsewhere by a pointer (RFC 1035 3.3 and 4.1.4).
-ghost use Rattle.std.specs.Prelude.{◌+◌, ◌≤◌, length, IfOk, IfErr};
-ghost use Rattle.dns_spec.specs.Reading.{DataAt};
+ghost use Rattle.std.specs.Prelude.{◌≡◌, ◌+◌, ◌≤◌, length, Some, None, IfOk, IfErr};
+ghost use Rattle.dns_spec.specs.Reading.{data_at, field_at};
 ghost use Rattle.dns_rdata.specs.TypeRows.{field_of};
-ghost use Rattle.dns_wire.specs.FieldReads.{IsFieldRead, NoFieldAt, NoDataAt};
+ghost use Rattle.dns_wire.specs.FieldReads.{IsFieldRead};
 ghost use Rattle.dns_wire.specs.Read.{IsWireData};
 ghost use Rattle.dns_wire.specs.WireFault.{UnlessNoMemory};
 
@@ -27,10 +27,11 @@ pub(crate) fn read_data(
     requires ordered { at ≤ end }
     requires within { end ≤ length message.now }
     requires short { end ≤ at + 65535 }
-    ensures ok { IfOk result (λ read. DataAt message.now rtype.0 rclass at end read.items) }
+    ensures ok { IfOk result
+        (λ read. data_at message.now rtype.0 rclass at end ≡ Some read.items) }
     ensures valid { IfOk result (λ read. IsWireData rtype.0 rclass read.items) }
     ensures err { IfErr result
-        (λ fault. UnlessNoMemory fault (NoDataAt message.now rtype.0 rclass at end)) }
+        (λ fault. UnlessNoMemory fault (data_at message.now rtype.0 rclass at end ≡ None)) }
 {
     let mut data = Vec::new(alloc);
     let mut place = at;
@@ -65,7 +66,7 @@ fn read_field(
         (λ place. IsFieldRead message.now (field_of field) at end
         written.old.items written.new.items place) }
     ensures err { IfErr result
-        (λ fault. UnlessNoMemory fault (NoFieldAt message.now (field_of field) at end)) }
+        (λ fault. UnlessNoMemory fault (field_at message.now (field_of field) at end ≡ None)) }
 {
     if let Field::Domain = field {
         let (name, place) = read_name(message, at)?;

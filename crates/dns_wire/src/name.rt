@@ -1,7 +1,7 @@
 //! Names in a message, which may continue elsewhere by a pointer (RFC 1035 4.1.4).
-ghost use Rattle.std.specs.Prelude.{◌≤◌, ◌<◌, length, get_or, IfOk, IsErr, IfSome, IsNone};
-ghost use Rattle.dns_spec.specs.Reading.{NameAt};
-ghost use Rattle.dns_wire.specs.Labels.{StepAt, PointerAt, NoRunAt, NoNameAt};
+ghost use Rattle.std.specs.Prelude.{◌≡◌, ◌≤◌, ◌<◌, length, get_or, Some, None, IfOk, IsErr, IfSome, IsNone};
+ghost use Rattle.dns_spec.specs.ComputedNames.{name_at};
+ghost use Rattle.dns_wire.specs.Labels.{StepAt, PointerAt, NoRunAt};
 
 use crate::fault::WireFault;
 use crate::message::HEADER_OCTETS;
@@ -25,9 +25,9 @@ pub(crate) enum NameStep<'a> {
 /// label.
 pub(crate) fn read_name(message: &[u8], at: usize) -> Result<(Name, usize), WireFault>
     requires { at ≤ length message.now }
-    ensures name { IfOk result (λ read. NameAt message.now at read.0 read.1) }
+    ensures name { IfOk result (λ read. name_at message.now at ≡ Some (read.0, read.1)) }
     ensures within { IfOk result (λ read. read.1 ≤ length message.now) }
-    ensures none { IsErr result → NoNameAt message.now at }
+    ensures none { IsErr result → name_at message.now at ≡ None }
 {
     let mut name = Name::root();
     let mut run = at;

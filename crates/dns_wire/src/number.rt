@@ -1,13 +1,14 @@
 //! Numbers in a message, the most significant octet first (RFC 1035 2.3.2).
 ghost use Rattle.std.specs.Prelude.{◌≡◌, ◌+◌, ◌<◌, ◌≤◌, ◌↔◌, length, take, drop, IfOk, IsErr};
-ghost use Rattle.dns_spec.specs.Reading.{NumberAt};
+ghost use Rattle.dns_spec.specs.Reading.{field16, field32};
 
 use crate::fault::WireFault;
 
 /// The 16 bits at a place. `Short` if the octets end before them.
 pub(crate) fn read_u16(message: &[u8], at: usize) -> Result<u16, WireFault>
     requires { at ≤ length message.now }
-    ensures ok { IfOk result (λ number. NumberAt message.now at 2 number) }
+    ensures ok { IfOk result (λ number. number ≡ field16 message.now at) }
+    ensures within { IfOk result (λ number. at + 2 ≤ length message.now) }
     ensures err { IsErr result → length message.now < at + 2 }
 {
     Ok(u16::from_be_bytes(octets_at(message, at)?))
@@ -16,7 +17,8 @@ pub(crate) fn read_u16(message: &[u8], at: usize) -> Result<u16, WireFault>
 /// The 32 bits at a place. `Short` if the octets end before them.
 pub(crate) fn read_u32(message: &[u8], at: usize) -> Result<u32, WireFault>
     requires { at ≤ length message.now }
-    ensures ok { IfOk result (λ number. NumberAt message.now at 4 number) }
+    ensures ok { IfOk result (λ number. number ≡ field32 message.now at) }
+    ensures within { IfOk result (λ number. at + 4 ≤ length message.now) }
     ensures err { IsErr result → length message.now < at + 4 }
 {
     Ok(u32::from_be_bytes(octets_at(message, at)?))

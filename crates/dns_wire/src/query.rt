@@ -1,7 +1,8 @@
 //! Reading of queries: a header and one question (RFC 1035 4.1).
 ghost use Rattle.std.specs.Prelude.{◌≡◌, ◌+◌, ◌≤◌, length, IfSome, IsNone, None};
-ghost use Rattle.dns_spec.specs.ComputedReading.{name_at};
-ghost use Rattle.dns_spec.specs.Query.{field16, reply_head, question_at, query_read};
+ghost use Rattle.dns_spec.specs.ComputedNames.{name_at};
+ghost use Rattle.dns_spec.specs.Reading.{field16};
+ghost use Rattle.dns_spec.specs.Query.{reply_head, question_at, query_read};
 ghost use Rattle.dns_wire.specs.QueryForm.{as_lent, as_read, code_of, NameEnds};
 
 use crate::message::{HEADER_OCTETS, Head, Question, QuestionRef};

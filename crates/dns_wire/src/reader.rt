@@ -1,7 +1,7 @@
 //! Messages read from octets (RFC 1035 4.1).
-ghost use Rattle.std.specs.Prelude.{◌≤◌, ◌<◌, length, IfOk, IfErr};
-ghost use Rattle.dns_spec.specs.Reading.{Spells};
-ghost use Rattle.dns_wire.specs.Read.{WholeRecordAt, HeaderAt, AreQuestions, AreRecords, NoRecord, NoQuestions, NoRecords, NoMessage};
+ghost use Rattle.std.specs.Prelude.{◌≡◌, ◌≤◌, ◌<◌, length, Some, None, IfOk, IfErr};
+ghost use Rattle.dns_spec.specs.Reading.{Spells, NoMessage, several, message_question_at, message_record_at};
+ghost use Rattle.dns_wire.specs.Read.{HeaderAt};
 ghost use Rattle.dns_wire.specs.WireFault.{UnlessNoMemory};
 
 use crate::data::read_data;
@@ -41,8 +41,7 @@ pub fn read_message(alloc: Global, octets: &[u8]) -> Result<Message, WireFault>
 }
 
 fn read_header(octets: &[u8]) -> Result<(Head, Counts), WireFault>
-    ensures ok { IfOk result (λ read. HeaderAt octets.now read.0 read.1
-        × (12 ≤ length octets.now)) }
+    ensures ok { IfOk result (λ read. HeaderAt octets.now read.0 read.1) }
     ensures err { IfErr result (λ fault. length octets.now < 12) }
 {
     if octets.len() < HEADER_OCTETS {
@@ -63,8 +62,11 @@ fn read_header(octets: &[u8]) -> Result<(Head, Counts), WireFault>
 
 fn read_questions(alloc: Global, message: &[u8], count: u16, at: usize) -> Read<Vec<Question>>
     requires { at ≤ length message.now }
-    ensures ok { IfOk result (λ read. AreQuestions message.now at count read.0.items read.1) }
-    ensures err { IfErr result (λ fault. UnlessNoMemory fault (NoQuestions message.now at count)) }
+    ensures ok { IfOk result
+        (λ read. several (message_question_at message.now) count at ≡ Some (read.0.items, read.1)) }
+    ensures within { IfOk result (λ read. read.1 ≤ length message.now) }
+    ensures err { IfErr result (λ fault. UnlessNoMemory fault
+        (several (message_question_at message.now) count at ≡ None)) }
 {
     let mut questions = Vec::new(alloc);
     let mut place = at;
@@ -84,8 +86,11 @@ fn read_questions(alloc: Global, message: &[u8], count: u16, at: usize) -> Read<
 
 fn read_records(alloc: Global, message: &[u8], count: u16, at: usize) -> Read<Vec<WireRecord>>
     requires { at ≤ length message.now }
-    ensures ok { IfOk result (λ read. AreRecords message.now at count read.0.items read.1) }
-    ensures err { IfErr result (λ fault. UnlessNoMemory fault (NoRecords message.now at count)) }
+    ensures ok { IfOk result
+        (λ read. several (message_record_at message.now) count at ≡ Some (read.0.items, read.1)) }
+    ensures within { IfOk result (λ read. read.1 ≤ length message.now) }
+    ensures err { IfErr result (λ fault. UnlessNoMemory fault
+        (several (message_record_at message.now) count at ≡ None)) }
 {
     let mut place = at;
     let mut records = Vec::new(alloc);
@@ -99,9 +104,11 @@ fn read_records(alloc: Global, message: &[u8], count: u16, at: usize) -> Read<Ve
 
 fn read_record(alloc: Global, message: &[u8], at: usize) -> Read<WireRecord>
     requires { at ≤ length message.now }
-    ensures ok { IfOk result (λ read. WholeRecordAt message.now at read.0 read.1
-        × (read.1 ≤ length message.now)) }
-    ensures err { IfErr result (λ fault. UnlessNoMemory fault (NoRecord message.now at)) }
+    ensures ok { IfOk result
+        (λ read. message_record_at message.now at ≡ Some (read.0, read.1)) }
+    ensures within { IfOk result (λ read. read.1 ≤ length message.now) }
+    ensures err { IfErr result
+        (λ fault. UnlessNoMemory fault (message_record_at message.now at ≡ None)) }
 {
     let (owner, at) = read_name(message, at)?;
     let rtype = RType(read_u16(message, at)?);

@@ -93,8 +93,8 @@ field_written {b} {i} domain os part rest front at here long =
     let m = name_part os rest part front in
     subst (λ x. Stands b i (part_octets x) → length os ≡ length (part_octets x) + length rest
     → field_at b domain i (i + length os) ≡ Some (part_octets x, i + length (part_octets x))) m.1
-    (λ there long. name_field b m.0 i (i + length (wire m.0)) (i + length os)
-    (name_written m.0 m.2 there) (omega (arith, long))) here long
+    (λ there long. name_field b m.0 i (i + length (wire m.0)) (i + length os) (name_written
+    m.0 m.2 there) (omega (arith, long))) here long
 field_written {b} {i} p os part rest front at here long =
     grind (arith, field_own, stands_own)
 

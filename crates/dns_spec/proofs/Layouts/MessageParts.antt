@@ -1,5 +1,5 @@
 -- Header, question and sections of a layout are read back at their places.
-use Rattle.dns_spec.proofs.Common.{◌≡◌, ℕ, ◌+◌, ◌^◌, ◌<◌, Bool, true, false, cond, nat_le, List, [], ◌∷◌, ◌++◌, length, Option, IfSome, refl, ◌∙◌, subst, arith, append_assoc, length-append, and_parts, leb-true, list_all, option_to_list, Octets, wire, is_name, Header, MessageQuestion, octets16, Section, answer, authority, additional, Item, is_section, records_of, in_section, question_octets, asked_octets, header_octets, section_rank, sections_in_order, IsAskable, value_at, several, message_question_at, ap, Some, None}
+use Rattle.dns_spec.proofs.Common.{◌≡◌, ℕ, ◌+◌, ◌^◌, ◌<◌, Bool, true, false, cond, nat_le, List, [], ◌∷◌, ◌++◌, length, Option, IfSome, refl, ◌∙◌, subst, arith, append_assoc, length-append, and_parts, leb-true, list_all, option_to_list, Octets, wire, is_name, Header, MessageQuestion, octets16, Section, answer, authority, additional, Item, is_section, records_of, in_section, question_octets, asked_octets, header_octets, section_rank, sections_in_order, IsAskable, field16, several, message_question_at, ap, Some, None, head_of, ap₂}
 use Rattle.dns_spec.proofs.Messages.Places.{Stands, stands_front, stands_rest, stands_after, stands_within, number_at, name_written}
 use Rattle.dns_spec.proofs.Messages.Sections.{question_read, several_more}
 
@@ -40,9 +40,9 @@ records_by_section (i ∷ is) h =
 -- the header, field by field
 pub header_at : {b : Octets} (h : Header) (qd an ns ar : ℕ)
     → h.id < 2 ^ 16 → h.flags < 2 ^ 16 → qd < 2 ^ 16 → an < 2 ^ 16 → ns < 2 ^ 16 → ar < 2 ^ 16
-    → Stands b 0 (header_octets h qd an ns ar) → (value_at b 0 2 ≡ h.id)
-    × (value_at b 2 2 ≡ h.flags) × (value_at b 4 2 ≡ qd) × (value_at b 6 2 ≡ an)
-    × (value_at b 8 2 ≡ ns) × (value_at b 10 2 ≡ ar)
+    → Stands b 0 (header_octets h qd an ns ar) → (head_of b ≡ h)
+    × (field16 b 4 ≡ qd) × (field16 b 6 ≡ an)
+    × (field16 b 8 ≡ ns) × (field16 b 10 ≡ ar)
 header_at {b} h qd an ns ar id flags qd-low an-low ns-low ar-low at =
     let o = octets16 h.id in
     let f = octets16 h.flags in
@@ -54,8 +54,8 @@ header_at {b} h qd an ns ar id flags qd-low an-low ns-low ar-low at =
     let s4 : Stands b 0 (o ++ f ++ q ++ a) = stands_front (o ++ f ++ q ++ a) n s5 in
     let s3 : Stands b 0 (o ++ f ++ q) = stands_front (o ++ f ++ q) a s4 in
     let s2 : Stands b 0 (o ++ f) = stands_front (o ++ f) q s3 in (
-      number_at 2 h.id id (stands_front o f s2),
-      number_at 2 h.flags flags (stands_after 2 o f refl s2),
+      ap₂ (λ x y. record { id = x; flags = y }) (number_at 2 h.id id (stands_front o f s2))
+          (number_at 2 h.flags flags (stands_after 2 o f refl s2)),
       number_at 2 qd qd-low (stands_after 4 (o ++ f) q refl s3),
       number_at 2 an an-low (stands_after 6 (o ++ f ++ q) a refl s4),
       number_at 2 ns ns-low (stands_after 8 (o ++ f ++ q ++ a) n refl s5),

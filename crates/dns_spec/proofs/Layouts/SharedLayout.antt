@@ -1,5 +1,5 @@
 -- The layout, in which names share suffixes, spells its message.
-use Rattle.dns_spec.proofs.Common.{◌≡◌, ℕ, ◌+◌, ◌^◌, ◌<◌, ◌≤◌, Bool, true, false, cond, nat_le, List, [], ◌∷◌, ◌++◌, map, length, Option, None, Some, All, IfSome, is_some, unwrap_or, refl, sym, ap, ◌∙◌, subst, arith, append_assoc, append-nil, length-append, add-zero, zero-add, and_parts, false≢true, none-some, same_Some, length-map, map-append, list_all, option_to_list, Octets, wire, is_label, ResourceRecord, Header, MessageQuestion, Spells, size, class_in, Field, domain, fields_of, compresses, Part, octets, field_front, cut, valid, parts, laid_parts, octets16, octets32, answer, authority, additional, Item, records_of, in_section, Placed, shared_octets, data_laid, data_by, parts_of, record_tail, records_octets, records_by, question_octets, asked_octets, asked_placed, reply_header, layout, Section, message_record, message_of, IsWritable, IsAskable, HasRoom, AllByRecursion, recursion_from_All, record_laid, data_at, fields_at, several, message_record_at, joined, part_octets, eq-eqb, name}
+use Rattle.dns_spec.proofs.Common.{message_question_at, ◌≡◌, ℕ, ◌+◌, ◌^◌, ◌<◌, ◌≤◌, Bool, true, false, cond, nat_le, List, [], ◌∷◌, ◌++◌, map, length, Option, None, Some, All, IfSome, is_some, unwrap_or, refl, sym, ap, ◌∙◌, subst, arith, append_assoc, append-nil, length-append, add-zero, zero-add, and_parts, false≢true, none-some, same_Some, length-map, map-append, list_all, option_to_list, Octets, wire, is_label, ResourceRecord, Header, MessageQuestion, Spells, size, class_in, Field, domain, fields_of, compresses, Part, octets, field_front, cut, valid, parts, laid_parts, octets16, octets32, answer, authority, additional, Item, records_of, in_section, Placed, shared_octets, data_laid, data_by, parts_of, record_tail, records_octets, records_by, question_octets, asked_octets, asked_placed, reply_header, layout, Section, message_record, message_of, IsWritable, IsAskable, HasRoom, AllByRecursion, recursion_from_All, record_laid, data_at, fields_at, several, message_record_at, joined, part_octets, eq-eqb, name}
 use Rattle.dns_spec.proofs.Messages.Places.{Stands, stands_front, stands_rest, stands_after, stands_all, stands_within, number_at, stands_own}
 use Rattle.dns_spec.proofs.DataWords.WrittenData.{cut_into, name_part, data_written, octets_field, field_again, field_whole}
 use Rattle.dns_spec.proofs.DataWords.LoweredData.{cut_whole}
@@ -270,9 +270,17 @@ spells_where b h q items room ok counts writable whole =
     (message_record_at b) (length x) from ≡ Some (x, length b)) split read) in
     let t = several_split (message_record_at b) (map message_record B) (map message_record C) s.0
     (length b) s.2 in
-    message_read b (message_of h q items) from s.0 t.0 (omega (arith, end)) at.0 at.1 at.2
-    (at.3 ∙ sym (length-map A message_record)) (at.4 ∙ sym (length-map B message_record))
-    (at.5 ∙ sym (length-map C message_record)) asked s.1 t.1 t.2
+    message_read b (message_of h q items) from s.0 t.0 (omega (arith, end)) at.0
+    (ap (λ k. several (message_question_at b) k 12) at.1 ∙ asked)
+    (counted A from s.0 at.2 s.1) (counted B s.0 t.0 at.3 t.1)
+    (counted C t.0 (length b) at.4 t.2)
+  where
+    counted : {k : ℕ} (rs : List ResourceRecord) (i e : ℕ) → k ≡ length rs
+        → several (message_record_at b) (length (map message_record rs)) i
+        ≡ Some (map message_record rs, e)
+        → several (message_record_at b) k i ≡ Some (map message_record rs, e)
+    counted rs i e is read = ap (λ n. several (message_record_at b) n i)
+        (is ∙ sym (length-map rs message_record)) ∙ read
 
 -- there are no more records than octets
 section_bound : (s : Section) (is : List Item) → length (in_section s is) ≤ length (records_of is)

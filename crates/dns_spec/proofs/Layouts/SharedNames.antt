@@ -1,7 +1,8 @@
 -- A name that shares a suffix with an earlier name is read back, and its own new suffixes are
 -- where later names find them.
-use Rattle.dns_spec.proofs.Common.{◌≡◌, ℕ, ◌+◌, ◌-◌, ◌/◌, ◌%◌, ◌<◌, ◌≤◌, Bool, true, false, cond, nat_le, ◌⊎◌, inl, inr, List, [], ◌∷◌, ◌++◌, length, take, drop, Option, None, Some, refl, sym, ap, ap₂, ◌∙◌, subst, arith, append_assoc, length-append, take-append-drop, drop_at, and_parts, and_from, le-leb, leb-true, false≢true, none-some, same_Some, cond_some, list_all, Octets, DomainName, wire, is_label, is_name, names_equal, last_labels, RunAt, NameAt, ends, goes_on, jumps, reach, pointer, Placed, has_suffix, suffix_place, place_of, reached, shared_place, shared_octets, octets_by}
+use Rattle.dns_spec.proofs.Common.{◌≡◌, ℕ, ◌+◌, ◌-◌, ◌/◌, ◌%◌, ◌<◌, ◌≤◌, Bool, true, false, cond, nat_le, ◌⊎◌, inl, inr, List, [], ◌∷◌, ◌++◌, length, take, drop, Option, None, Some, refl, sym, ap, ap₂, ◌∙◌, subst, arith, append_assoc, length-append, take-append-drop, drop_at, and_parts, and_from, le-leb, leb-true, false≢true, none-some, same_Some, cond_some, list_all, Octets, DomainName, wire, is_label, is_name, names_equal, last_labels, RunAt, ends, goes_on, jumps, reach, pointer, Placed, has_suffix, suffix_place, place_of, reached, shared_place, shared_octets, octets_by, name_at}
 use Rattle.dns_spec.proofs.Messages.Places.{Stands, stands_front, stands_rest, stands_after, stands_within, stands_get, stands_take, label_parts}
+use Rattle.dns_spec.proofs.Messages.NameReading.{name_computed}
 use Rattle.dns_spec.proofs.DomainNames.NameLaws.{names_equal-decides}
 
 -- s is a suffix of n
@@ -227,8 +228,9 @@ module _ (b : Octets) (bound : ℕ) (ms : List Placed) (known : Known b bound ms
           })
 
   pub name_shared : (n : DomainName) (i : ℕ) → bound ≤ i → is_name n ≡ true
-      → Stands b i (shared_octets ms n) → NameAt b i n (i + length (shared_octets ms n))
-  name_shared n i after name at = grind (arith, run_shared, and_parts)
+      → Stands b i (shared_octets ms n) → name_at b i ≡ Some (n, i + length (shared_octets ms n))
+  name_shared n i after name at = name_computed b i n (i + length (shared_octets ms n))
+      (run_shared n i i after (and_parts (list_all is_label n) _ name).0 at, name)
 
 -- without earlier names nothing is shared
 pub nothing_known : (b : Octets) (bound : ℕ) → Known b bound []

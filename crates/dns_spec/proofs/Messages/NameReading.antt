@@ -200,18 +200,19 @@ name_at_is : (b : Octets) (i : ℕ)
 unfolding name_at
 name_at_is b i = ap (option_and_then name_if_short) (known_is b i i)
 
-related : (b : Octets) (i : ℕ) (n : DomainName) (e : ℕ) → NameAt b i n e → name_at b i ≡ Some (n, e)
-related b i n e h = grind (arith, name_at_is, complete, cond-true)
+pub name_computed :
+    (b : Octets) (i : ℕ) (n : DomainName) (e : ℕ) → NameAt b i n e → name_at b i ≡ Some (n, e)
+name_computed b i n e h = grind (arith, name_at_is, complete, cond-true)
 
 -- `name_at` computes the relation.
 pub name_at_computes : (b : Octets) (i : ℕ) (n : DomainName) (e : ℕ)
     → (name_at b i ≡ Some (n, e)) ↔ NameAt b i n e
-name_at_computes b i n e = grind (arith, name_at_is, sound_run, sound, related)
+name_at_computes b i n e = grind (arith, name_at_is, sound_run, sound, name_computed)
 
 -- At most one name is at a place, with one end.
 pub one_name : (b : Octets) (i : ℕ) (n m : DomainName) (e f : ℕ)
     → NameAt b i n e → NameAt b i m f → (n ≡ m) × (e ≡ f)
-one_name b i n m e f h g = some_pair_parts n m e f (sym (related b i n e h) ∙ related b i m f g)
+one_name b i n m e f h g = some_pair_parts n m e f (sym (name_computed b i n e h) ∙ name_computed b i m f g)
 
 -- A name at place 12, directly after the header: no place is after the header and before it, so no
 -- pointer is valid and the name is read label by label. This gives the labels from place i on, in

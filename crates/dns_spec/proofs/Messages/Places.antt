@@ -1,6 +1,7 @@
 -- What is at a place of a message is read there: numbers, octets, and names that are written whole
 -- or with a pointer.
-use Rattle.dns_spec.proofs.Common.{common_steps, pow-le-pow_right, and_parts, leb-true, ltb-true, list_all, Octets, DomainName, wire, is_label, is_name, number_of, RunAt, NameAt, value_at, ends, goes_on, ◌≡◌, ℕ, zero, suc, ◌+◌, ◌*◌, ◌%◌, ◌^◌, ◌<◌, ◌≤◌, true, [], ◌∷◌, ◌++◌, length, take, drop, IsTrue, Some, slice_get, refl, sym, ap, ◌∙◌, subst, arith, append_assoc, append-nil, take_at, drop_at, length-append, pow-suc, mul_comm, mod-mul, byte_at, bytes_high_first, ◌-◌}
+use Rattle.dns_spec.proofs.Common.{common_steps, pow-le-pow_right, and_parts, leb-true, ltb-true, list_all, Octets, DomainName, wire, is_label, is_name, number_of, RunAt, ends, goes_on, ◌≡◌, ℕ, zero, suc, ◌+◌, ◌*◌, ◌%◌, ◌^◌, ◌<◌, ◌≤◌, true, [], ◌∷◌, ◌++◌, length, take, drop, IsTrue, Some, slice_get, refl, sym, ap, ◌∙◌, subst, arith, append_assoc, append-nil, take_at, drop_at, length-append, pow-suc, mul_comm, mod-mul, byte_at, bytes_high_first, ◌-◌, name_at}
+use Rattle.dns_spec.proofs.Messages.NameReading.{name_computed}
 
 pub length-bytes_high_first : (k n : ℕ) → length (bytes_high_first k n) ≡ k
 length-bytes_high_first zero n = refl
@@ -65,7 +66,7 @@ stands_get {b} {i} o x s = grind (arith, slice_get, get_at)
 
 -- a number
 pub number_at : {b : Octets} {i : ℕ} (k v : ℕ)
-    → v < 256 ^ k → Stands b i (bytes_high_first k v) → value_at b i k ≡ v
+    → v < 256 ^ k → Stands b i (bytes_high_first k v) → number_of (take k (drop i b)) ≡ v
 number_at {b} {i} k v low s =
     grind (arith, common_steps, stands_take, length-bytes_high_first, number_of-bytes)
 
@@ -90,5 +91,6 @@ run_written {b} {s} (l ∷ n) {i} h at =
     (sym (stands_take l front)) (run_written n p.1 (stands_rest l (wire n) tail)))
 
 pub name_written : {b : Octets} {i : ℕ} (n : DomainName)
-    → IsTrue (is_name n) → Stands b i (wire n) → NameAt b i n (i + length (wire n))
-name_written n h at = (run_written n (and_parts (list_all is_label n) _ h).0 at, h)
+    → IsTrue (is_name n) → Stands b i (wire n) → name_at b i ≡ Some (n, i + length (wire n))
+name_written {b} {i} n h at = name_computed b i n (i + length (wire n))
+    (run_written n (and_parts (list_all is_label n) _ h).0 at, h)

@@ -1,6 +1,5 @@
 -- Questions, records and fields of data that are read one after another.
-use Rattle.dns_spec.proofs.Common.{◌≡◌, ℕ, suc, ◌+◌, ◌-◌, ◌≤◌, ◌≢◌, List, [], ◌∷◌, ◌++◌, length, take, drop, Option, Some, option_map, refl, ap, ◌∙◌, arith, le-leb, Octets, wire, Field, domain, Part, part_octets, field_front, NameAt, MessageQuestion, MessageRecord, DnsMessage, fields_at, field_at, value_at, data_at, several, message_question_at, message_record_at, message_at, eq-eqb, data_fields, and_from, nat_le, if◌then◌else◌, None}
-use Rattle.dns_spec.proofs.Messages.NameReading.{name_at_computes}
+use Rattle.dns_spec.proofs.Common.{◌≡◌, ℕ, suc, ◌+◌, ◌-◌, ◌≤◌, ◌≢◌, List, [], ◌∷◌, ◌++◌, length, take, drop, Option, Some, option_map, refl, ap, ◌∙◌, arith, le-leb, Octets, wire, Field, domain, Part, part_octets, field_front, MessageQuestion, MessageRecord, DnsMessage, fields_at, field_at, field16, field32, data_at, several, message_question_at, message_record_at, message_at, eq-eqb, data_fields, and_from, nat_le, if◌then◌else◌, None, name_at, head_of, DomainName}
 use Rattle.dns_spec.proofs.General.Options.{and_then_some, then_is}
 
 module _ {X : Type 0} (read : ℕ → Option (X × ℕ)) where
@@ -23,9 +22,9 @@ module _ {X : Type 0} (read : ℕ → Option (X × ℕ)) where
 
 module _ (b : Octets) where
   -- a name, and any other field, which the octets of the data begin with
-  pub name_field : (n : _) (i j e : ℕ) → NameAt b i n j → j ≤ e
+  pub name_field : (n : DomainName) (i j e : ℕ) → name_at b i ≡ Some (n, j) → j ≤ e
       → field_at b domain i e ≡ Some (wire n, j)
-  name_field n i j e at inside = grind (arith, name_at_computes, le-leb)
+  name_field n i j e at inside = grind (arith, le-leb, then_is)
 
   pub field_own : (p : Field) (i e : ℕ) (os rest : Octets) (part : Part)
       → p ≢ domain → take (e - i) (drop i b) ≡ os → field_front p os ≡ Some (part, rest)
@@ -47,28 +46,24 @@ module _ (b : Octets) where
       ∙ fields
 
   -- a question, a record, and the message
-  pub question_read : (i j : ℕ) (q : MessageQuestion) → NameAt b i q.qname j → j + 4 ≤ length b
-      → value_at b j 2 ≡ q.qtype → value_at b (j + 2) 2 ≡ q.qclass
+  pub question_read : (i j : ℕ) (q : MessageQuestion) → name_at b i ≡ Some (q.qname, j)
+      → j + 4 ≤ length b → field16 b j ≡ q.qtype → field16 b (j + 2) ≡ q.qclass
       → message_question_at b i ≡ Some (q, j + 4)
-  question_read i j q at within qtype qclass = grind (arith, name_at_computes, le-leb, then_is)
+  question_read i j q at within qtype qclass = grind (arith, le-leb, then_is)
 
-  pub record_read : (i j len : ℕ) (r : MessageRecord) → NameAt b i r.owner j → j + 10 ≤ length b
-      → value_at b j 2 ≡ r.rtype → value_at b (j + 2) 2 ≡ r.rclass → value_at b (j + 4) 4 ≡ r.ttl
-      → value_at b (j + 8) 2 ≡ len
+  pub record_read : (i j len : ℕ) (r : MessageRecord) → name_at b i ≡ Some (r.owner, j)
+      → j + 10 ≤ length b → field16 b j ≡ r.rtype → field16 b (j + 2) ≡ r.rclass
+      → field32 b (j + 4) ≡ r.ttl → field16 b (j + 8) ≡ len
       → data_at b r.rtype r.rclass (j + 10) (j + 10 + len) ≡ Some r.rdata
       → message_record_at b i ≡ Some (r, j + 10 + len)
-  record_read i j len r at within rtype rclass ttl long rdata =
-      grind (arith, name_at_computes, le-leb, then_is)
+  record_read i j len r at within rtype rclass ttl long rdata = grind (arith, le-leb, then_is)
 
-  pub message_read : (m : DnsMessage) (i j k : ℕ) → 12 ≤ length b → value_at b 0 2 ≡ m.header.id
-      → value_at b 2 2 ≡ m.header.flags → value_at b 4 2 ≡ length m.questions
-      → value_at b 6 2 ≡ length m.answers → value_at b 8 2 ≡ length m.authorities
-      → value_at b 10 2 ≡ length m.additionals
-      → several (message_question_at b) (length m.questions) 12 ≡ Some (m.questions, i)
-      → several (message_record_at b) (length m.answers) i ≡ Some (m.answers, j)
-      → several (message_record_at b) (length m.authorities) j ≡ Some (m.authorities, k)
-      → several (message_record_at b) (length m.additionals) k ≡ Some (m.additionals, length b)
+  pub message_read : (m : DnsMessage) (i j k : ℕ) → 12 ≤ length b → head_of b ≡ m.header
+      → several (message_question_at b) (field16 b 4) 12 ≡ Some (m.questions, i)
+      → several (message_record_at b) (field16 b 6) i ≡ Some (m.answers, j)
+      → several (message_record_at b) (field16 b 8) j ≡ Some (m.authorities, k)
+      → several (message_record_at b) (field16 b 10) k ≡ Some (m.additionals, length b)
       → message_at b ≡ Some m
   unfolding message_at
-  message_read m i j k header id flags qd an ns ar questions answers authorities additionals =
+  message_read m i j k header head questions answers authorities additionals =
       grind (arith, le-leb, eq-eqb, then_is)

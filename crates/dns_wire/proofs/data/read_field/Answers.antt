@@ -1,4 +1,4 @@
-use Rattle.dns_wire.proofs.Common.{◌≡◌, ◌≢◌, ◌-◌, ◌∙◌, ap, sym, arith, subst, take, domain, field_front, part_octets, part_for, field_of, NoFieldAt}
+use Rattle.dns_wire.proofs.Common.{◌≡◌, ◌≢◌, ◌-◌, ◌∙◌, ap, sym, arith, subst, take, None, domain, field_at, field_front, part_octets, part_for, field_of}
 use Rattle.dns_rdata.specs.declared.table.Field.{Field}
 use Rattle.dns_rdata.specs.declared.table.Field.TheVariants.{Domain}
 use Rattle.dns_wire.proofs.FieldLemmas.{long_name_none, field_read}
@@ -7,7 +7,7 @@ use Rattle.dns_wire.proofs.data.read_field.Goals as goal
 pub returns-then-place-end-clause-err : goal.returns-then-place-end-clause-err
 returns-then-place-end-clause-err c _ =
     let m = c.args.message.now in
-    subst (λ p. NoFieldAt m (field_of p) c.args.at c.args.end) (sym c.in-Domain.is)
+    subst (λ p. field_at m (field_of p) c.args.at c.args.end ≡ None) (sym c.in-Domain.is)
     (long_name_none m c.args.at c.args.end _ _ c.in_ok-name.ensures.name (omega arith))
 
 other_field : (f : Field) → f ≢ Domain → field_of f ≢ domain
@@ -18,6 +18,5 @@ returns-clause-ok c =
     let front = ap (field_front (field_of c.args.field)) (sym (c.split_at-2.ensures.front
     ∙ ap (take (c.args.end - c.args.at)) c.split_at.ensures.back)) ∙ c.in-Some.ensures.0 in
     let lends : part_octets (part_for c.in-Some.part) ≡ c.match-part.octets.now = grind arith in
-    field_read _ _ _ _ _ _ _ _ _ c.requires.ordered c.requires.within
-    (other_field c.args.field c.in_default.not-Domain) front lends
+    field_read _ _ _ _ _ _ _ _ _ (other_field c.args.field c.in_default.not-Domain) front lends
     c.in_ok-extend_from_slice-2.ensures.items

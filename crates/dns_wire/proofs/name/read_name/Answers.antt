@@ -1,6 +1,10 @@
-use Rattle.dns_wire.proofs.Common.{arith, true≢false, sym, length, ◌≤◌, ◌∷◌, [], ◌++◌, slice_get_within, wire}
-use Rattle.dns_wire.proofs.Runs.{reading_ends, reading_label, label_too_long, reading_jumps, end_fits}
+use Rattle.dns_wire.proofs.Common.{refl, arith, true≢false, sym, length, ◌≤◌, ◌∷◌, [], ◌++◌, slice_get_within, wire}
+use Rattle.dns_wire.proofs.Runs.{reading_ends, reading_stops, reading_label, label_too_long, reading_jumps, end_fits}
 use Rattle.dns_wire.proofs.name.read_name.Goals as goal
+
+pub returns-in_err-step_at-clause-none : goal.returns-in_err-step_at-clause-none
+returns-in_err-step_at-clause-none c _ =
+    reading_stops c.steps.invariant.reading (c.in_err-step_at.ensures.none refl)
 
 pub returns-in-End-clause-name : goal.returns-in-End-clause-name
 returns-in-End-clause-name c =

@@ -1,8 +1,9 @@
-use Rattle.dns_wire.proofs.Common.{◌≡◌, length, QuestionsRead}
+use Rattle.dns_wire.proofs.Common.{◌≤◌, ◌-◌, length, AreRead, message_question_at}
 use Rattle.dns_wire.proofs.reader.read_questions.Given as goal
 
 abbrev pub invariant-questions : goal.invariant-questions
 invariant-questions l = record {
-  read : QuestionsRead l.message l.at l.questions.items l.place;
-  as_many : length l.questions.items ≡ l.counter;
+  read : AreRead (message_question_at l.message) l.fn.count l.at l.questions.items
+      (l.fn.count - l.counter) l.place;
+  within : l.place ≤ length l.message;
 }
