@@ -14,7 +14,8 @@ pub use Rattle.dns_serve.specs.Streams.{Session}
 pub use Rattle.dns_spec.proofs.PrintedZones.OrderedReport.{ordered_passing}
 pub use Rattle.dns_spec.proofs.ZoneChecks.FaultOrder.{folded_folded}
 pub use Rattle.dns_spec.specs.Lines.{begin_line}
-pub use Rattle.dns_spec.specs.MessageLines.{PrintsOctets, SpellsNone, class_text, first_of, header_line}
+pub use Rattle.dns_spec.specs.MessageLines.{PrintsOctets, class_text, first_of, header_line}
+pub use Rattle.dns_spec.specs.Reading.{NoMessage}
 pub use Rattle.dns_spec.specs.Report.{bare_name_text, failing, line_report, loaded_report, two_digits}
 pub use Rattle.dns_tools.specs.Checked.{CheckedAs, ReportedAs, ReportsOn, WrittenAs, options_of}
 pub use Rattle.dns_tools.specs.ExchangeForm.{kept_of, reply_of}

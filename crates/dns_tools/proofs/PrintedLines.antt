@@ -1,5 +1,5 @@
 -- What was printed for a message, a fault or a line is what a run must print.
-use Rattle.dns_tools.proofs.Common.{◌≡◌, ◌≢◌, ℕ, ◌≤◌, Bool, false, Option, Some, None, Result, Ok, Err, codes, refl, sym, subst, arith, inr, Octets, Report, IfErr, SpellsNone, PrintsOctets, PrintsMessage, UnlessNoMemory, WireFault, Short, ReservedLabel, BadPointer, LongName, BadData, Trailing, NoMemory, Stop, Memory, Source, Sink, source_failures_after, sink_failures_after, ReportedAs, KeptLine, kept_message, HasReadFront, ReadsFirst, IsFaultReport, PrintedAs}
+use Rattle.dns_tools.proofs.Common.{◌≡◌, ◌≢◌, ℕ, ◌≤◌, Bool, false, Option, Some, None, Result, Ok, Err, codes, refl, sym, subst, arith, inr, Octets, Report, IfErr, NoMessage, PrintsOctets, PrintsMessage, UnlessNoMemory, WireFault, Short, ReservedLabel, BadPointer, LongName, BadData, Trailing, NoMemory, Stop, Memory, Source, Sink, source_failures_after, sink_failures_after, ReportedAs, KeptLine, kept_message, HasReadFront, ReadsFirst, IsFaultReport, PrintedAs}
 use Rattle.dns_wire.specs.WireFault.{fault_code}
 
 code_within : (fault : WireFault)
@@ -12,13 +12,13 @@ code_within BadData h = (omega arith, omega arith)
 code_within Trailing h = (omega arith, omega arith)
 code_within NoMemory h = absurd (h refl)
 
-fault_prints : (b : Octets) (fault : WireFault) → UnlessNoMemory fault (SpellsNone b)
+fault_prints : (b : Octets) (fault : WireFault) → UnlessNoMemory fault (NoMessage b)
     → (report : Report) → IsFaultReport fault report → PrintsOctets b report
 fault_prints b fault none report (other, is) = inr
     (none other, (fault_code fault, (code_within fault other).0, (code_within fault other).1, is))
 
 pub fault_reported : (b : Octets) (fault : WireFault)
-    (result : Result Bool Stop) (old new : Option Octets) → UnlessNoMemory fault (SpellsNone b)
+    (result : Result Bool Stop) (old new : Option Octets) → UnlessNoMemory fault (NoMessage b)
     → ReportedAs (IsFaultReport fault) result old new → ReportedAs (PrintsOctets b) result old new
 fault_reported b fault (Ok passes) old new none (report, is, written) =
     (report, fault_prints b fault none report is, written)

@@ -1,5 +1,5 @@
 -- Data that is read is valid for its type and has at most 65,535 octets.
-use Rattle.dns_wire.proofs.Common.{AllByRecursion, ◌≡◌, ◌≢◌, ℕ, ◌+◌, ◌-◌, ◌<◌, ◌≤◌, Bool, true, false, ◌||◌, nat_le, ◌==◌, if◌then◌else◌, List, [], ◌∷◌, ◌++◌, length, take, drop, Some, None, ◌&&◌, is_some, option_map, unwrap_or, refl, sym, ap, ◌∙◌, subst, arith, length-append, length-take-le, length-drop, nil_from_length, and_parts, leb-true, eqb-true, list_all, find, Octets, DomainName, wire, class_in, Field, number, ipv4, ipv6, domain, string, strings, anything, TypeRow, other_type, Part, name, part_octets, field_front, cut, valid, RunAt, ends, goes_on, jumps, name_at, name_at_computes, field_at, fields_at, data_at, field_again, field_whole, octets_part, front_taken, IsName-is_name, more_are_cut, is_name, data_fields, fields_of, none-some, le-leb, rules, inl, inr, ◌⊎◌, cond_some}
+use Rattle.dns_wire.proofs.Common.{AllByRecursion, ◌≡◌, ◌≢◌, ℕ, ◌+◌, ◌-◌, ◌<◌, ◌≤◌, Bool, true, false, ◌||◌, nat_le, ◌==◌, if◌then◌else◌, List, [], ◌∷◌, ◌++◌, length, take, drop, Some, None, ◌&&◌, is_some, option_map, unwrap_or, refl, sym, ap, ◌∙◌, subst, arith, length-append, length-take-le, length-drop, nil_from_length, and_parts, leb-true, eqb-true, list_all, find, Octets, DomainName, wire, class_in, Field, number, ipv4, ipv6, domain, anything, TypeRow, other_type, Part, name, part_octets, field_front, cut, valid, RunAt, ends, goes_on, jumps, name_at, name_at_computes, field_at, fields_at, data_at, field_again, field_whole, octets_part, front_taken, IsName-is_name, more_are_cut, data_fields, fields_of, none-some, le-leb, rules, inl, inr, ◌⊎◌, cond_some, false≢true}
 use Rattle.std.proofs.lemmas.Bool.{and_from, or_cases}
 use Rattle.dns_spec.specs.Data.{type_table}
 use Rattle.dns_spec.specs.Reading.{name_before}
@@ -33,205 +33,131 @@ most_of (f ∷ fs) = most f + most_of fs
 bounded : List Field → Bool
 bounded fs = list_all is_run fs || nat_le (most_of fs) 65535
 
+few_octets : (f : Field) (os : Octets) (part : Part) (rest : Octets)
+    → f ≢ domain → most f ≤ 65535 → field_front f os ≡ Some (part, rest)
+    → length (part_octets part) ≤ most f
+unfolding most
+few_octets (number k) os part rest other fits h = grind (arith, octets_part, front_taken)
+few_octets ipv4 os part rest other fits h = grind (arith, octets_part, front_taken)
+few_octets ipv6 os part rest other fits h = grind (arith, octets_part, front_taken)
+few_octets domain os part rest other fits h = absurd (other refl)
+few_octets f os part rest other fits h = absurd (omega arith)
+
 module _ (b : Octets) (e : ℕ) (within : e ≤ length b) where
-  -- a field that is read, and those after it
-  record First (f : Field) (fs : List Field) (i : ℕ) (d : Octets) : Type 0 where
-    front : Octets
-    place : ℕ
-    rest : Octets
-    read : field_at b f i e ≡ Some (front, place)
-    others : fields_at b fs place e ≡ Some rest
-    whole : front ++ rest ≡ d
-
-  first_of : (f : Field) (fs : List Field) (i : ℕ) (d : Octets)
-      → fields_at b (f ∷ fs) i e ≡ Some d → First f fs i d
-  unfolding fields_at
-  first_of f fs i d h =
-      let one = and_then_some (λ r. option_map (λ x. r.0 ++ x) (fields_at b fs r.1 e))
-      (field_at b f i e) d h in
-      map_some (λ x. one.0.0 ++ x) (fields_at b fs one.0.1 e) d one.2 (λ rest others whole. record {
-        front = one.0.0;
-        place = one.0.1;
-        rest = rest;
-        read = one.1;
-        others = others;
-        whole = whole;
-      })
-
-  -- a name
-  record NameRead (i j : ℕ) (o : Octets) : Type 0 where
-    name : DomainName
-    valid_name : is_name name ≡ true
-    octets : wire name ≡ o
-    past : i < j
+  -- what is known of a field from place i up to place j, and of fields from place i on
+  record ReadField (f : Field) (i j : ℕ) (o : Octets) : Type 0 where
+    forward : i ≤ j
     inside : j ≤ e
+    none : i ≡ e → o ≡ []
+    run : is_run f ≡ true → i + length o ≡ j
+    few : most f ≤ 65535 → length o ≤ most f
+    part : Part
+    front : (rest : Octets) → (j ≡ e → rest ≡ []) → field_front f (o ++ rest) ≡ Some (part, rest)
 
-  name_read : (i j : ℕ) (o : Octets) → field_at b domain i e ≡ Some (o, j) → NameRead i j o
+  record ReadFields (fs : List Field) (i : ℕ) (d : Octets) : Type 0 where
+    none : i ≡ e → d ≡ []
+    run : list_all is_run fs ≡ true → i + length d ≡ e
+    few : most_of fs ≤ 65535 → length d ≤ most_of fs
+    whole : is_some (cut fs d) ≡ true
+
+  name_read : (i j : ℕ) (o : Octets) → field_at b domain i e ≡ Some (o, j) → ReadField domain i j o
+  unfolding most is_run
   name_read i j o h =
       let at = and_then_some (name_before e) (name_at b i) (o, j) h in
-      let test = cond_some (nat_le at.0.1 e) (wire at.0.0, at.0.1) (o, j) at.2 in
-      let there = (name_at_computes b i at.0.0 at.0.1).0 at.1 in
-      let end = ap (λ z. z.1) test.1 in
-      record {
-        name = at.0.0;
-        valid_name = there.1;
-        octets = ap (λ z. z.0) test.1;
-        past = subst (λ k. i < k) end (run_past there.0);
-        inside = subst (λ k. k ≤ e) end (leb-true at.0.1 e test.0);
-      }
-
-  -- any other field
-  record OtherRead (f : Field) (i j : ℕ) (o : Octets) : Type 0 where
-    part : Part
-    rest : Octets
-    front : field_front f (take (e - i) (drop i b)) ≡ Some (part, rest)
-    octets : part_octets part ≡ o
-    place : e - length rest ≡ j
-    long : length o + length rest ≡ e - i
+      let n = at.0.0 in
+      let test = cond_some (nat_le at.0.1 e) (wire n, at.0.1) (o, j) at.2 in
+      let there = (name_at_computes b i n at.0.1).0 at.1 in
+      let inside = leb-true at.0.1 e test.0 in
+      let past = run_past there.0 in
+      subst (λ (r : Octets × ℕ). ReadField domain i r.1 r.0) test.1 (record {
+        forward = omega (arith, past);
+        inside = inside;
+        none = λ end. absurd (omega (arith, past, inside));
+        run = λ no. absurd (false≢true no);
+        few = λ fits. (IsName-is_name n there.1).fits;
+        part = name n;
+        front = λ rest last. cut-domain n rest there.1;
+      })
 
   other_at : (f : Field) (i : ℕ) → f ≢ domain → field_at b f i e
       ≡ option_map (λ r. (part_octets r.0, e - length r.1)) (field_front f (take (e - i) (drop i b)))
   other_at f i other = grind arith
 
   other_read : (f : Field) (i j : ℕ) (o : Octets)
-      → f ≢ domain → i ≤ e → field_at b f i e ≡ Some (o, j) → OtherRead f i j o
+      → f ≢ domain → i ≤ e → field_at b f i e ≡ Some (o, j) → ReadField f i j o
   other_read f i j o other ordered h =
       let own = take (e - i) (drop i b) in
       map_some (λ r. (part_octets r.0, e - length r.1)) (field_front f own) (o, j)
-      (sym (other_at f i other) ∙ h) (λ r front same. record {
+      (sym (other_at f i other) ∙ h) (λ r is same.
+      let long : length (part_octets r.0) + length r.1 ≡ e - i =
+      sym (length-append (part_octets r.0) r.1)
+      ∙ ap length (sym (field_whole f own r.0 r.1 is))
+      ∙ length-take-le (e - i) (drop i b) (omega (arith, length-drop i b, within, ordered)) in
+      subst (λ (x : Octets × ℕ). ReadField f i x.1 x.0) same (record {
+        forward = omega (arith, long, ordered);
+        inside = omega arith;
+        none = λ end. nil_from_length (part_octets r.0) (omega (arith, long, end));
+        run = λ yes. omega (arith, long, ordered);
+        few = λ fits. few_octets f own r.0 r.1 other fits is;
         part = r.0;
-        rest = r.1;
-        front = front;
-        octets = ap (λ z. z.0) same;
-        place = ap (λ z. z.1) same;
-        long =
+        front = λ rest last. field_again f own r.0 r.1 rest is
+            (λ none. last (omega (arith, ap length none)));
+      }))
+
+  field_read : (f : Field) (i j : ℕ) (o : Octets)
+      → i ≤ e → field_at b f i e ≡ Some (o, j) → ReadField f i j o
+  field_read domain i j o ordered h = name_read i j o h
+  field_read f i j o ordered h = other_read f i j o (grind arith) ordered h
+
+  fields_read : (fs : List Field) (i : ℕ) (d : Octets)
+      → i ≤ e → fields_at b fs i e ≡ Some d → ReadFields fs i d
+  unfolding fields_at cut most_of
+  fields_read [] i d ordered h =
+      let test = cond_some (i == e) [] d h in
+      subst (ReadFields [] i) test.1 (record {
+        none = λ end. refl;
+        run = λ yes. omega (arith, eqb-true i e test.0);
+        few = λ fits. omega arith;
+        whole = refl;
+      })
+  fields_read (f ∷ fs) i d ordered h =
+      let one = and_then_some (λ r. option_map (λ x. r.0 ++ x) (fields_at b fs r.1 e))
+      (field_at b f i e) d h in
+      let o = one.0.0 in
+      let j = one.0.1 in
+      let first = field_read f i j o ordered one.1 in
+      let forward = first.forward in
+      let inside = first.inside in
+      map_some (λ x. o ++ x) (fields_at b fs j e) d one.2 (λ rest others same.
+      let after = fields_read fs j rest inside others in
+      let long = length-append o rest in
+      subst (ReadFields (f ∷ fs) i) same (record {
+        none = λ end. ap (λ x. x ++ rest) (first.none end)
+            ∙ after.none (omega (arith, forward, inside, end));
+        run = λ yes.
+            let tests = and_parts (is_run f) (list_all is_run fs) yes in
+            omega (arith, long, first.run tests.0, after.run tests.1);
+        few = λ fits.
             omega (
               arith,
-              ap (λ z. length z.0) same,
-              ap length (field_whole f own r.0 r.1 front),
-              length-append (part_octets r.0) r.1,
-              length-take-le (e - i) (drop i b) (omega (arith, length-drop i b, within, ordered)),
+              long,
+              first.few (omega (arith, fits)),
+              after.few (omega (arith, fits)),
             );
-      })
-
-  run_other : (f : Field) → is_run f ≡ true → f ≢ domain
-  unfolding is_run
-  run_other f run = grind arith
-
-  -- data without names is as long as it is in the message
-  unnamed_length : (fs : List Field) (i : ℕ) (d : Octets) → list_all is_run fs ≡ true → i ≤ e
-      → fields_at b fs i e ≡ Some d → (length d ≡ e - i)
-  unfolding fields_at
-  unnamed_length [] i d runs ordered h = grind (arith, eqb-true)
-  unnamed_length (f ∷ fs) i d runs ordered h =
-      let tests = and_parts (is_run f) (list_all is_run fs) runs in
-      let one = first_of f fs i d h in
-      let o = other_read f i one.place one.front (run_other f tests.0) ordered one.read in
-      let long = o.long in
-      let place = o.place in
-      omega (
-        arith,
-        ap length one.whole,
-        length-append one.front one.rest,
-        unnamed_length fs one.place one.rest tests.1 (omega (arith, place)) one.others,
-        long,
-        place,
-      )
-
-  most_length : (f : Field) (i j : ℕ) (o : Octets)
-      → most f ≤ 65535 → i ≤ e → field_at b f i e ≡ Some (o, j) → length o ≤ most f
-  unfolding most
-  most_length (number k) i j o fits ordered h = grind (arith, octets_part, front_taken)
-  most_length ipv4 i j o fits ordered h = grind (arith, octets_part, front_taken)
-  most_length ipv6 i j o fits ordered h = grind (arith, octets_part, front_taken)
-  most_length domain i j o fits ordered h =
-      let n = name_read i j o h in grind (arith, IsName-is_name)
-  most_length string i j o fits ordered h = absurd (omega arith)
-  most_length strings i j o fits ordered h = absurd (omega arith)
-  most_length anything i j o fits ordered h = absurd (omega arith)
-
-  -- a field ends within the data
-  ends_within : (f : Field) (i j : ℕ) (o : Octets) → i ≤ e → field_at b f i e ≡ Some (o, j) → j ≤ e
-  ends_within domain i j o ordered h = (name_read i j o h).inside
-  ends_within f i j o ordered h =
-      let place = (other_read f i j o (grind arith) ordered h).place in omega (arith, place)
-
-  named_length : (fs : List Field) (i : ℕ) (d : Octets) → most_of fs ≤ 65535 → i ≤ e
-      → fields_at b fs i e ≡ Some d → length d ≤ most_of fs
-  unfolding most_of fields_at
-  named_length [] i d fits ordered h = grind (arith, eqb-true)
-  named_length (f ∷ fs) i d fits ordered h =
-      let one = first_of f fs i d h in
-      omega (
-        arith,
-        ap length one.whole,
-        length-append one.front one.rest,
-        most_length f i one.place one.front (omega (arith, fits)) ordered one.read,
-        named_length fs one.place one.rest (omega (arith, fits))
-            (ends_within f i one.place one.front ordered one.read) one.others,
-      )
-
-  -- there is nothing at the end
-  nothing_left : (ps : List Field) (i : ℕ) (d : Octets)
-      → i ≡ e → fields_at b ps i e ≡ Some d → d ≡ []
-  unfolding fields_at
-  nothing_left [] i d end h = grind (arith, eqb-true)
-  nothing_left (domain ∷ ps) i d end h =
-      let one = first_of domain ps i d h in
-      let n = name_read i one.place one.front one.read in
-      let past = n.past in
-      let inside = n.inside in
-      absurd (omega (arith, past, inside))
-  nothing_left (p ∷ ps) i d end h =
-      let one = first_of p ps i d h in
-      let o = other_read p i one.place one.front (grind arith) (omega arith) one.read in
-      let long = o.long in
-      let place = o.place in
-      sym one.whole
-      ∙ ap (λ x. x ++ one.rest) (nil_from_length one.front (omega (arith, long, end)))
-      ∙ nothing_left ps one.place one.rest (omega (arith, long, place, end)) one.others
-
-  -- Data that is read in fields is cut into them.
-  fields_cut : (ps : List Field) (i : ℕ) (d : Octets)
-      → i ≤ e → fields_at b ps i e ≡ Some d → is_some (cut ps d) ≡ true
-  unfolding cut fields_at
-  fields_cut [] i d ordered h = grind (arith, eqb-true)
-  fields_cut (p ∷ ps) i d ordered h =
-      let one = first_of p ps i d h in
-      ap (λ x. is_some (cut (p ∷ ps) x)) (sym one.whole)
-      ∙ go p one.place one.front one.rest one.read one.others
-      (λ inside. fields_cut ps one.place one.rest inside one.others)
-    where
-      go : (p : Field) (j : ℕ) (o rest : Octets)
-          → field_at b p i e ≡ Some (o, j) → fields_at b ps j e ≡ Some rest
-          → (j ≤ e → is_some (cut ps rest) ≡ true) → is_some (cut (p ∷ ps) (o ++ rest)) ≡ true
-      go domain j o rest read others more =
-          let n = name_read i j o read in
-          ap (λ x. is_some (cut (domain ∷ ps) (x ++ rest))) (sym n.octets)
-          ∙ more_are_cut domain ps (wire n.name ++ rest) (name n.name) rest
-          (cut-domain n.name rest n.valid_name)
-          ∙ more n.inside
-      go p j o rest read others more =
-          let f = other_read p i j o (grind arith) ordered read in
-          let place = f.place in
-          ap (λ x. is_some (cut (p ∷ ps) (x ++ rest))) (sym f.octets)
-          ∙ more_are_cut p ps (part_octets f.part ++ rest) f.part rest
-          (field_again p (take (e - i) (drop i b)) f.part f.rest rest f.front
-          (λ none. nothing_left ps j rest (omega (arith, place, ap length none)) others))
-          ∙ more (omega (arith, place))
+        whole = more_are_cut f fs (o ++ rest) first.part rest (first.front rest after.none)
+            ∙ after.whole;
+      }))
 
   short : (fs : List Field) (i : ℕ) (d : Octets)
-      → bounded fs ≡ true → i ≤ e → e - i ≤ 65535 → fields_at b fs i e ≡ Some d
-      → length d ≤ 65535
+      → bounded fs ≡ true → e - i ≤ 65535 → ReadFields fs i d → length d ≤ 65535
   unfolding bounded
-  short fs i d bound ordered fits h =
+  short fs i d bound fits read =
       go (or_cases (list_all is_run fs) (nat_le (most_of fs) 65535) bound)
     where
       go : (list_all is_run fs ≡ true) ⊎ (nat_le (most_of fs) 65535 ≡ true) → length d ≤ 65535
-      go (inl runs) = omega (arith, unnamed_length fs i d runs ordered h, fits)
+      go (inl runs) = omega (arith, read.run runs, fits)
       go (inr low) =
-          let few = leb-true (most_of fs) 65535 low in
-          omega (arith, few, named_length fs i d few ordered h)
+          let few = leb-true (most_of fs) 65535 low in omega (arith, few, read.few few)
 
 -- what holds for each row of the table with a number holds for the row of that type
 pub by_row : (t : ℕ) (P : TypeRow → Type 0) (rows : List TypeRow) → P other_type
@@ -270,8 +196,7 @@ pub data_valid : (b : Octets) (t c i e : ℕ) (d : Octets) → data_at b t c i e
 data_valid b t c i e d h fits =
     let r = fields_of_data b t c i e d h in
     let kind : ℕ = if c == class_in then t else 0 in
-    let read = subst (λ fs. fields_at b fs i e ≡ Some d) (same_fields t c) r.2 in
-    and_from (nat_le (length d) 65535) (is_some (cut (fields_of kind) d))
-    (le-leb (length d) 65535
-    (short b e r.1 (fields_of kind) i d (bounded_fields kind) r.0 fits read))
-    (fields_cut b e r.1 (fields_of kind) i d r.0 read)
+    let read = fields_read b e r.1 (fields_of kind) i d r.0
+    (subst (λ fs. fields_at b fs i e ≡ Some d) (same_fields t c) r.2) in
+    and_from (nat_le (length d) 65535) (is_some (cut (fields_of kind) d)) (le-leb (length d) 65535
+    (short b e r.1 (fields_of kind) i d (bounded_fields kind) fits read)) read.whole

@@ -50,13 +50,6 @@ front p xs h =
           (sym (prefix_len_stops p xs d (omega arith)) ∙ h (prefix_len p xs) k d a m t)),
     )
 
--- the beginning of an empty list
-pub take_none : (k : ℕ) → take {A = ℕ} k [] ≡ []
-take_none k = grind arith
-
-pub drop_none : (k : ℕ) → drop {A = ℕ} k [] ≡ []
-drop_none k = grind arith
-
 pub same_fronts_ends : (k j : ℕ) (a b : List ℕ) → k ≤ j → take j a ≡ take j b → drop k a ≡ drop k b
     → a ≡ b
 same_fronts_ends zero j a b h e d = d
