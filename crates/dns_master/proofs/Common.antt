@@ -1,22 +1,22 @@
 -- Re-exports the names that most proofs use. Declares nothing.
-pub use Rattle.dns_spec.proofs.Common.{Bool, Consumes, DataIs, DomainName, EntriesMean, Entry, EntryGives, EntryKind, EntryMeaning, Extent, Fields, FileFault, IfErr, IfErr-weaker, IfSome, IsAtEnd, IsNoTtl, IsRecord, IsTrue, KindGives, List, Lowest, MatchOption, Meaning, Means, NameIs, NamesType, None, Nothing, Octets, OneWord, Option, OriginIs, OwnerBefore, RecordGives, ResourceRecord, Result, Says, Some, SpellsName, Token, TokensThen, TtlSays, TypeIs, Word, [], after, and_parts, ap, append-nil, append_assoc, ap₂, are_too_many, arith, bad_data, bad_owner, bad_parenthesis, bad_type, before_first, beginning, closed, codes, cond, cons_option, cut_entries, directive, directive_word, directive_words, drop, drop-drop, drop_all, ended, eq-eqb, eqb-true, escape_left, extent_by, false, false≢true, fault_at, fault_code, faulty, fields, filter, fold, folded, get_or, gives, if◌then◌else◌, in_string, in_token, inl, inr, is_blank, is_cut_short, is_line_end, is_none, is_open_at_end, is_other_class, is_record, is_string_octet, is_word_octet, kind_by_words, kind_of, le-ltb, length, length-append, length-drop, line_after, line_end, line_feed_front, list_all, list_all-append, list_any, lower_case, lt-ltb, ltb-false, nat_eq, nat_le, nat_lt, nearest, no_owner, no_ttl, no_words, none-some, not, on_ok_weaker, open_after, option_or, other_class, owned, owner_word, parentheses, parenthesis, position_or_len, prefix_len, prefix_len-le-length, quoted_string, records, refl, rules, same_Some, slice_index_or, stop_at, stop_fault, subst, suc, sym, take, take-add, take_all, take_at, take_turns, text_in_lower_case, token_front, too_long, too_many_records, true, ttl_in_force, ttl_word, unit_left, unowned, unwrap_or, whole_text, with_end, word_of, zero, ℕ, ◌&&◌, ◌++◌, ◌+◌, ◌-◌, ◌<◌, ◌==◌, ◌||◌, ◌∙◌, ◌∷◌, ◌≡◌, ◌≢◌, ◌≤◌, ◌⊎◌}
+pub use Rattle.dns_spec.proofs.Common.{Bool, Consumes, DataIs, DomainName, EntriesMean, Entry, EntryGives, EntryKind, EntryMeaning, Extent, Fields, FileFault, IfErr, IfErr-weaker, IfSome, IsAtEnd, IsNoTtl, IsRecord, IsTrue, KindGives, List, Lowest, MatchOption, Meaning, Means, NameIs, NamesType, None, Nothing, Octets, OneWord, Option, OriginIs, OwnerBefore, RecordGives, ResourceRecord, Result, Says, Some, SpellsName, Token, TokensThen, TtlSays, TypeIs, Word, [], after, and_parts, ap, append-nil, append_assoc, ap₂, are_too_many, arith, bad_data, bad_owner, bad_parenthesis, bad_type, before_first, beginning, closed, codes, cond, cons_option, cut_entries, directive, directive_word, directive_words, drop, drop-drop, drop_all, ended, eq-eqb, eqb-true, escape_left, extent_by, false, false≢true, fault_at, fault_code, faulty, fields, filter, fold, folded, get_or, gives, if◌then◌else◌, in_string, in_token, inl, inr, is_blank, is_cut_short, is_line_end, is_none, is_open_at_end, is_other_class, is_record, is_string_octet, is_word_octet, kind_by_words, kind_of, le-ltb, length, length-append, length-drop, line_after, line_end, line_feed_front, list_all, list_all-append, list_any, lower_case, lt-ltb, ltb-false, nat_eq, nat_le, nat_lt, nearest, no_owner, no_ttl, no_words, none-some, not, open_after, option_or, other_class, owned, owner_word, parentheses, parenthesis, position_or_len, prefix_len, prefix_len-le-length, quoted_string, records, refl, rules, same_Some, slice_index_or, stop_at, stop_fault, subst, suc, sym, take, take-add, take_all, take_at, take_turns, text_in_lower_case, token_front, too_long, too_many_records, true, ttl_in_force, ttl_word, unit_left, unowned, unwrap_or, whole_text, with_end, word_of, zero, ℕ, ◌&&◌, ◌++◌, ◌+◌, ◌-◌, ◌<◌, ◌==◌, ◌||◌, ◌∙◌, ◌∷◌, ◌≡◌, ◌≢◌, ◌≤◌, ◌⊎◌}
 unfoldable pub use Rattle.dns_spec.proofs.Common.{cut, run_length}
 pub use Rattle.std.specs.Cmp.Lexicographic.{pointwise, same_text}
 pub use Rattle.std.specs.List.{position}
 pub use Rattle.std.specs.Option.{option_and}
 pub use Rattle.std.proofs.lemmas.List.{at_drop_more}
-pub use Rattle.dns_master.specs.Codes.{ForFault, IsFaultOn, OfEntry, code_number, fault_of}
+pub use Rattle.dns_master.specs.Codes.{ForFault, IsFaultOn, OfEntry, OfFile, code_number, failures_after_read, fault_of}
 pub use Rattle.dns_master.specs.EntryForm.{EntryRead, IsWhole, IsWrong, Outcome, Reads, Step, TextMeans, line_ends, misplaced, onward, outcome_of, over, step, token_words, unended, wrong}
 pub use Rattle.dns_master.specs.OwnedBody.{with_owner}
 pub use Rattle.dns_master.specs.PieceForm.{FrontFaulty, FrontGathered, FrontTaken, MayFollow, PieceFaulty, PieceTaken, ReaderMeans, TextGathered}
 pub use Rattle.dns_master.specs.ReaderForm.{EntryTaken, Knows, RecordTaken, owner_of}
 pub use Rattle.dns_master.specs.RecordForm.{Inherited, IsKept, LastOwner, SpelledName, SpelledOwner, TtlOf}
-pub use Rattle.dns_master.specs.SourceForm.{AppendsPiece, Decides, GivesMeaning}
+pub use Rattle.dns_master.specs.SourceForm.{AppendsPiece, Decides, IsRead, ReadsFile}
 pub use Rattle.dns_master.specs.TokenForm.{by_itself, shown_token}
 pub use Rattle.dns_master.specs.WordsForm.{KeptAndCounted, WordTaken, words_from, words_in, words_of_first}
 pub use Rattle.dns_master.specs.WordsLeft.{later_words, words_left}
 pub use Rattle.dns_master.specs.declared.fault.ReadCode.{ReadCode}
-pub use Rattle.dns_master.specs.declared.fault.ReadCode.TheVariants.{BadData, BadType, DirectiveWords, NoMemory, NoTtl, OtherClass, Parenthesis, SourceFailed, TooLong, TooManyRecords}
+pub use Rattle.dns_master.specs.declared.fault.ReadCode.TheVariants.{BadData, BadType, DirectiveWords, NoMemory, NoTtl, OtherClass, Parenthesis, TooLong, TooManyRecords}
 pub use Rattle.dns_master.specs.declared.fault.ReadFault.{ReadFault}
 pub use Rattle.dns_master.specs.declared.run.RunKind.{RunKind}
 pub use Rattle.dns_master.specs.declared.run.TheConstants.{PLAIN_IN}

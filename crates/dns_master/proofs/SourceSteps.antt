@@ -1,5 +1,9 @@
 -- A source's octets, read piece by piece.
-use Rattle.dns_master.proofs.Common.{◌≡◌, ℕ, ◌+◌, ◌≤◌, ◌<◌, ◌⊎◌, inl, inr, Bool, true, false, List, [], ◌++◌, length, take, nat_lt, length-append, append-nil, append_assoc, refl, sym, ap, ◌∙◌, subst, arith, Option, Some, None, take_all, take_at, Consumes, IsAtEnd, lt-ltb, le-ltb, Octets, DomainName, ResourceRecord, FileFault, Meaning, Means, records, fault_at, after, TextMeans, ReaderMeans, TextGathered, PieceTaken, PieceFaulty, Reader, AppendsPiece, GivesMeaning, Decides}
+use Rattle.dns_master.proofs.Common.{◌≡◌, ℕ, ◌+◌, ◌≤◌, ◌<◌, ◌⊎◌, inl, inr, Bool, true, false, List, [], ◌++◌, length, take, nat_lt, length-append, append-nil, append_assoc, refl, sym, ap, ◌∙◌, subst, arith, Option, Some, None, take_all, take_at, Consumes, IsAtEnd, lt-ltb, le-ltb, Octets, DomainName, ResourceRecord, FileFault, Meaning, Means, records, fault_at, after, TextMeans, ReaderMeans, TextGathered, PieceTaken, PieceFaulty, Reader, ReadFault, Result, IfErr, IfErr-weaker, fault_handed_on, AppendsPiece, Decides, IsRead, ReadsFile, OfEntry, OfFile, code_number, fault_of, failures_after_read}
+use Rattle.std.specs.Prelude.{IfOk, IsErrAnd, Ok, Err}
+use Rattle.std.proofs.lemmas.Result.{IfOk-weaker}
+use Rattle.dns_name.specs.Counted.{Counted}
+use Rattle.dns_spec.specs.Meaning.{most_records}
 use Rattle.dns_master.proofs.EntriesLoop.{after-append, looked-means}
 use Rattle.dns_spec.proofs.General.Fronts.{looked_at}
 
@@ -130,11 +134,11 @@ module _ (old mid new : Option Octets) (o : DomainName) (r : Reader) (held : Oct
       }
 
 -- a decided meaning is the meaning of all that the source gives
-pub decided-gives : (old new : Option Octets) (o : DomainName) (m : Meaning)
-    → Decides old new o m → GivesMeaning old o m
-decided-gives None new o m d = tt
-decided-gives (Some x) None o m d = absurd d.consumed
-decided-gives (Some x) (Some y) o m d = go d.decided
+is_read : (old new : Option Octets) (o : DomainName) (m : Meaning)
+    → Decides old new o m → IsRead old new o m
+is_read None new o m d = record { means = tt; decides = d }
+is_read (Some x) None o m d = absurd d.consumed
+is_read (Some x) (Some y) o m d = record { means = go d.decided; decides = d }
   where
     go : (IsAtEnd (Some y) × Means o d.given m) ⊎ ((more : Octets) → Means o (d.given ++ more) m)
         → Means o x m
@@ -142,19 +146,47 @@ decided-gives (Some x) (Some y) o m d = go d.decided
         (λ t. Means o t m) (sym (d.consumed ∙ ap (λ t. d.given ++ t) over ∙ append-nil d.given)) h
     go (inr h) = subst (λ t. Means o t m) (sym d.consumed) (h y)
 
-module _ (old mid new : Option Octets) (o : DomainName) (r : Reader) (held : Octets)
-    (left : ℕ) (found : List ResourceRecord) (so : GivenSoFar old mid o r held left found) where
-  -- the records of the rest at the end of the source
-  pub end-records : (all : List ResourceRecord)
-      → IsAtEnd mid → TextGathered r false held found all → Decides old mid o (records all)
-  end-records all over t =
-      subst (λ rs. Decides old mid o (records rs))
-      (sym t.grown) (end-given old mid new o r held left found so (records t.came) over t.means)
+no_value : {A E : Type 0} (result : Result A E) (P : E → Type 0) (Q : A → Type 0)
+    → IsErrAnd result P → IfOk result Q
+no_value (Ok a) P Q is = absurd is
+no_value (Err f) P Q is = tt
 
-  -- the same when the limit is reached
-  pub limit-records : {text text' : Octets} (goes_on : Bool) (all : List ResourceRecord)
-      → left ≡ 0 → AppendsPiece mid new 1 text text' goes_on
-      → TextGathered r goes_on held found all → Decides old new o (records all)
-  limit-records goes_on all full more t =
-      subst (λ rs. Decides old new o (records rs)) (sym t.grown) (limit-given
-      old mid new o r held left found so goes_on (records t.came) full more t.means)
+module _ {R A : Type 0} (remaining : R → Option Octets) (old new : Counted R) (o : DomainName)
+    (found : A → List ResourceRecord) (result : Result A ReadFault) where
+  -- a read that returns the fault of a call, which decides the meaning
+  pub fault_read : (fault : ReadFault) (P : FileFault → ℕ → Type 0)
+      → IsErrAnd result (λ f. f ≡ fault) → ((code : FileFault) (line : ℕ) → P code line
+      → Decides (remaining old.device) (remaining new.device) o (fault_at code line))
+      → OfFile P fault → new.failures ≡ failures_after_read old.failures result
+      → ReadsFile remaining old new o found result
+  fault_read fault P is decided of counted = record {
+    ok = no_value result _ _ is;
+    few = no_value result _ _ is;
+    err = fault_handed_on result fault _ is (record {
+      told = λ source memory. is_read _ _ o (fault_at (fault_of fault.code) fault.line)
+          (decided (fault_of fault.code) fault.line (of.told source memory));
+      line = of.line;
+    });
+    counted = counted;
+  }
+
+  -- a read that ends with the rest of the text, whose meaning is decided
+  pub rest_read : (r : Reader) (goes_on : Bool) (held : Octets) (before : List ResourceRecord)
+      → ((m : Meaning) → ReaderMeans r goes_on held m
+      → Decides (remaining old.device) (remaining new.device) o (after before m))
+      → IfOk result (λ a. TextGathered r goes_on held before (found a))
+      → IfOk result (λ a. length (found a) ≤ most_records)
+      → IfErr result (OfEntry (λ fault line. ReaderMeans r goes_on held (fault_at fault line)))
+      → new.failures ≡ old.failures → ReadsFile remaining old new o found result
+  rest_read r goes_on held before decided gathered few fault same = record {
+    ok = IfOk-weaker result _ _ (λ a t. is_read _ _ o (records (found a))
+        (subst (λ rs. Decides (remaining old.device) (remaining new.device) o (records rs))
+        (sym t.grown) (decided (records t.came) t.means))) gathered;
+    few = few;
+    err = IfErr-weaker result _ _ (λ f h. record {
+      told = λ _ memory. is_read _ _ o (fault_at (fault_of f.code) f.line)
+          (decided (fault_at (fault_of f.code) f.line) (h.told memory));
+      line = grind arith;
+    }) fault;
+    counted = grind (arith, failures_after_read, code_number);
+  }

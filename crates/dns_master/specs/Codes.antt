@@ -1,5 +1,5 @@
 -- The fault for each code, and the code's number.
-use Rattle.std.specs.Prelude.{◌≡◌, ◌≢◌, ℕ, ◌+◌, ◌==◌, if◌then◌else◌, Result, Ok, Err}
+use Rattle.std.specs.Prelude.{◌≡◌, ◌≢◌, ℕ, ◌+◌, ◌==◌, ◌⊎◌, if◌then◌else◌, Result, Ok, Err}
 use Rattle.dns_spec.specs.FileFaults.{FileFault, fault_code, bad_octet, bad_escape, unended_string, bad_parenthesis, unknown_directive, directive_words, bad_owner, no_owner, bad_ttl, other_class, bad_type, no_ttl, bad_data, too_many_records, too_long, unreadable, no_memory}
 use Rattle.dns_master.specs.declared.fault.ReadCode.{ReadCode}
 use Rattle.dns_master.specs.declared.fault.ReadFault.{ReadFault}
@@ -44,6 +44,12 @@ pub record OfEntry (says : FileFault → ℕ → Type 0) (f : ReadFault) : Type 
   pub told : f.code ≢ NoMemory → says (fault_of f.code) f.line
   pub source : f.code ≢ SourceFailed
   pub memory : f.code ≡ NoMemory → f.line ≡ 0
+
+-- A fault of the file: fault and line have this property, unless allocation or the source failed,
+-- and then the line is 0.
+pub record OfFile (says : FileFault → ℕ → Type 0) (f : ReadFault) : Type 0 where
+  pub told : f.code ≢ SourceFailed → f.code ≢ NoMemory → says (fault_of f.code) f.line
+  pub line : (f.code ≡ SourceFailed) ⊎ (f.code ≡ NoMemory) → f.line ≡ 0
 
 -- the fault of a file whose entry on this line is rejected with this code
 pub record IsFaultOn (line : ℕ) (code : ReadCode) (f : ReadFault) : Type 0 where

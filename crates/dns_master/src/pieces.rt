@@ -1,7 +1,7 @@
 //! Reads a zone file piece by piece.
 ghost use Rattle.std.specs.Prelude.{◌≡◌, ◌≢◌, ◌+◌, ◌-◌, ◌^◌, ◌<◌, ◌≤◌, ◌++◌, ◌⊎◌, [], length, IfOk, IfErr, OnOk, None};
 ghost use Rattle.dns_spec.specs.Meaning.{fault_at, most_records};
-ghost use Rattle.dns_master.specs.Codes.{OfEntry, fault_of, failures_after_read};
+ghost use Rattle.dns_master.specs.Codes.{OfEntry, OfFile, failures_after_read};
 ghost use Rattle.dns_master.specs.ReaderForm.{Knows, handed};
 ghost use Rattle.dns_master.specs.PieceForm.{FrontFaulty, FrontGathered, PieceTaken, PieceFaulty, ReaderMeans, TextGathered};
 
@@ -84,12 +84,8 @@ impl Begun {
         ensures fits { OnOk result (self.new.reader.line + length self.new.held.items
             + self.new.left ≤ 16777217) }
         ensures same { length piece.new ≡ length piece.old }
-        ensures err { IfErr result (λ f. f.code ≢ ReadCode.SourceFailed
-            → f.code ≢ ReadCode.NoMemory → PieceFaulty (R.remaining source.old.device)
-            (R.remaining source.new.device) self.old.reader self.old.held.items self.old.left
-            (fault_of f.code) f.line) }
-        ensures line { IfErr result (λ f. (f.code ≡ ReadCode.SourceFailed)
-            ⊎ (f.code ≡ ReadCode.NoMemory) → f.line ≡ 0) }
+        ensures err { IfErr result (OfFile (PieceFaulty (R.remaining source.old.device)
+            (R.remaining source.new.device) self.old.reader self.old.held.items self.old.left)) }
         ensures counted { source.new.failures ≡ failures_after_read source.old.failures result }
     {
         let asked = PIECE.min(self.left);

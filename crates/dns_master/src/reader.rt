@@ -1,9 +1,9 @@
 //! The reader of zone files (RFC 1035 section 5).
 ghost use Rattle.std.specs.Prelude.{◌≡◌, ◌≢◌, ◌+◌, ◌-◌, ◌^◌, ◌≤◌, ◌<◌, ◌⊎◌, length, [], ◌∷◌, IfOk, IfErr, OnOk, IfSome, Some, None, true};
 ghost use Rattle.dns_spec.specs.TypeText.{text_in_lower_case};
-ghost use Rattle.dns_spec.specs.Meaning.{TtlSays, gives, faulty, directive, kind_by_words, fields, records, fault_at, most_records};
-ghost use Rattle.dns_master.specs.Codes.{ForFault, fault_of, failures_after_read};
-ghost use Rattle.dns_master.specs.SourceForm.{GivesMeaning, Decides};
+ghost use Rattle.dns_spec.specs.Meaning.{TtlSays, gives, faulty, directive, kind_by_words, fields, most_records};
+ghost use Rattle.dns_master.specs.Codes.{ForFault};
+ghost use Rattle.dns_master.specs.SourceForm.{ReadsFile};
 ghost use Rattle.dns_master.specs.OwnedBody.{with_owner};
 ghost use Rattle.dns_master.specs.RecordForm.{IsKept};
 ghost use Rattle.dns_master.specs.ReaderForm.{TakesEntry, RefusesEntry, RecordMeans, TakesRecord, handed};
@@ -45,20 +45,7 @@ pub fn read_zone<R: Read>(
     source: &mut Tally<R>,
 ) -> Result<Vec<Record>, ReadFault>
     requires { source.old.failures < 2 ^ 64 - 1 }
-    ensures ok { IfOk result (λ found. GivesMeaning (R.remaining source.old.device) origin.now
-        (records found.items)) }
-    ensures fault { IfErr result (λ f. f.code ≢ ReadCode.SourceFailed → f.code ≢ ReadCode.NoMemory
-        → GivesMeaning (R.remaining source.old.device) origin.now
-        (fault_at (fault_of f.code) f.line)) }
-    ensures whole { IfOk result (λ found. Decides (R.remaining source.old.device)
-        (R.remaining source.new.device) origin.now (records found.items)) }
-    ensures decided { IfErr result (λ f. f.code ≢ ReadCode.SourceFailed
-        → f.code ≢ ReadCode.NoMemory → Decides (R.remaining source.old.device)
-        (R.remaining source.new.device) origin.now (fault_at (fault_of f.code) f.line)) }
-    ensures few { IfOk result (λ found. length found.items ≤ most_records) }
-    ensures line { IfErr result (λ f. (f.code ≡ ReadCode.SourceFailed)
-        ⊎ (f.code ≡ ReadCode.NoMemory) → f.line ≡ 0) }
-    ensures counted { source.new.failures ≡ failures_after_read source.old.failures result }
+    ensures { ReadsFile R.remaining source.old source.new origin.now (λ found. found.items) result }
 {
     let mut whole = WholeRecords {
         alloc,
@@ -78,20 +65,8 @@ pub fn read_into<R: Read, G: Gathers>(
 ) -> Result<(), ReadFault>
     requires room { source.old.failures < 2 ^ 64 - 1 }
     requires nothing { G.gathered found.old ≡ [] }
-    ensures ok { OnOk result (GivesMeaning (R.remaining source.old.device) origin.now
-        (records (G.gathered found.new))) }
-    ensures fault { IfErr result (λ f. f.code ≢ ReadCode.SourceFailed → f.code ≢ ReadCode.NoMemory
-        → GivesMeaning (R.remaining source.old.device) origin.now
-        (fault_at (fault_of f.code) f.line)) }
-    ensures whole { OnOk result (Decides (R.remaining source.old.device)
-        (R.remaining source.new.device) origin.now (records (G.gathered found.new))) }
-    ensures decided { IfErr result (λ f. f.code ≢ ReadCode.SourceFailed
-        → f.code ≢ ReadCode.NoMemory → Decides (R.remaining source.old.device)
-        (R.remaining source.new.device) origin.now (fault_at (fault_of f.code) f.line)) }
-    ensures few { OnOk result (length (G.gathered found.new) ≤ most_records) }
-    ensures line { IfErr result (λ f. (f.code ≡ ReadCode.SourceFailed)
-        ⊎ (f.code ≡ ReadCode.NoMemory) → f.line ≡ 0) }
-    ensures counted { source.new.failures ≡ failures_after_read source.old.failures result }
+    ensures { ReadsFile R.remaining source.old source.new origin.now
+        (λ _. G.gathered found.new) result }
 {
     let mut piece = [0; PIECE];
     let mut begun = Begun::new(alloc, origin);

@@ -25,7 +25,7 @@ reports_on (Some x) o options m report h e = (m, h, e)
 -- the report on what was read
 checked : (known left : Option Octets) (o : DomainName) (options : Options)
     (m : Meaning) (report : Report) (result : Result Bool Stop) (old new : Option Octets)
-    → IsRead known left o m → report ≡ report_of_meaning options o m
+    → IsRead known left (folded o) m → report ≡ report_of_meaning options o m
     → WrittenAs report result old new → CheckedAs known left o options result old new
 checked known left o options m report result old new read e written =
     grind (arith, reported, reports_on)

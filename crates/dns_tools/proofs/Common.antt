@@ -6,7 +6,7 @@ pub use Rattle.std.specs.Prelude.{IfNone, IsErr}
 pub use Rattle.std.proofs.KnownBytes.{Consumes-kept}
 pub use Rattle.std.proofs.lemmas.List.{take_more_set}
 pub use Rattle.dns_master.specs.Codes.{fault_of}
-pub use Rattle.dns_master.specs.SourceForm.{GivesMeaning}
+pub use Rattle.dns_master.specs.SourceForm.{GivesMeaning, IsRead}
 pub use Rattle.dns_name.proofs.WritesLemmas.{Writes-after, Writes-held, Writes-same, Written, Written-begun, Written-more, beginning_of_first, beginning_of_second, held_begun, held_less, held_more}
 pub use Rattle.dns_name.specs.Counted.{AppendsAllBut, AppendsBeginning, Counted, Writes}
 pub use Rattle.dns_serve.proofs.OneTurn.{handed_unknown}
@@ -22,7 +22,7 @@ pub use Rattle.dns_tools.specs.ExchangeForm.{kept_of, reply_of}
 pub use Rattle.dns_tools.specs.Exchanges.{Answered, Begun, Grows, HasAnsweredEnded, HasAnsweredLines, HasBegunAnswers, IsFresh, IsInput, KeepsUp, Kept, LinesAnswered, Progress}
 pub use Rattle.dns_tools.specs.FirstLine.{HasReadFront, IsFront, KeepsFirst, ReadsFirst}
 pub use Rattle.dns_tools.specs.KeptLine.{KeepsOctet, KeptLine, kept_line, kept_message, no_line}
-pub use Rattle.dns_tools.specs.Load.{IsRead, LoadedAs, refusal_report}
+pub use Rattle.dns_tools.specs.Load.{LoadedAs, refusal_report}
 pub use Rattle.dns_tools.specs.Parts.{part_text, parts_text}
 pub use Rattle.dns_tools.specs.Printed.{IsFaultReport, PrintedAs}
 pub use Rattle.dns_tools.specs.Stops.{sink_failures_after, source_failures_after}

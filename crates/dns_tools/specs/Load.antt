@@ -5,9 +5,10 @@ use Rattle.std.specs.List.{flat_map}
 use Rattle.dns_spec.specs.Names.{Octets, DomainName, folded}
 use Rattle.dns_spec.specs.Records.{ResourceRecord, ZoneContents, zone_of, ordered_zone}
 use Rattle.dns_spec.specs.Checks.{faults}
-use Rattle.dns_spec.specs.Meaning.{Meaning, records, fault_at}
+use Rattle.dns_spec.specs.Meaning.{records, fault_at}
 use Rattle.dns_spec.specs.Report.{line_report, fault_report}
-use Rattle.dns_master.specs.SourceForm.{GivesMeaning, Decides}
+use Rattle.dns_name.specs.Counted.{Counted}
+use Rattle.dns_master.specs.SourceForm.{IsRead}
 use Rattle.dns_master.specs.declared.fault.ReadCode.{ReadCode}
 use Rattle.dns_master.specs.declared.fault.ReadCode.TheVariants.{SourceFailed, NoMemory}
 use Rattle.dns_master.specs.declared.fault.ReadFault.{ReadFault}
@@ -18,24 +19,19 @@ use Rattle.dns_tools.specs.declared.load.Refusal.TheVariants.{File, Zone}
 use Rattle.dns_tools.specs.declared.load.LoadFault.{LoadFault}
 use Rattle.dns_tools.specs.declared.load.LoadFault.TheVariants.{Refused, Stopped}
 
--- the octets of a source up to its end have this meaning, and the ones that were read decide it
-pub record IsRead (known left : Option Octets) (o : DomainName) (m : Meaning) : Type 0 where
-  pub means : GivesMeaning known (folded o) m
-  pub decides : Decides known left (folded o) m
-
 -- The result of loading a file for an origin: the zone of the records that the file means, which
 -- has no faults; or the faults of that zone, at least one; or the fault that the file means.
 -- Nothing is claimed if allocation or the source failed.
 abbrev pub LoadedAs : Option Octets → Option Octets → DomainName → Result ZoneContents LoadFault
     → Type 0
 LoadedAs known left o (Ok zone) =
-    (rs : List ResourceRecord) × IsRead known left o (records rs)
+    (rs : List ResourceRecord) × IsRead known left (folded o) (records rs)
     × (faults (zone_of (folded o) rs) ≡ []) × (zone ≡ ordered_zone (folded o) rs)
 LoadedAs known left o (Err (Refused (Zone found))) =
-    (rs : List ResourceRecord) × IsRead known left o (records rs)
+    (rs : List ResourceRecord) × IsRead known left (folded o) (records rs)
     × (found.items ≡ faults (zone_of (folded o) rs)) × (faults (zone_of (folded o) rs) ≢ [])
 LoadedAs known left o (Err (Refused (File fault))) =
-    IsRead known left o (fault_at (fault_of fault.code) fault.line)
+    IsRead known left (folded o) (fault_at (fault_of fault.code) fault.line)
 LoadedAs known left o (Err (Stopped stop)) = ⊤
 
 -- the loader's fault for a fault of the reader, by its code
@@ -59,3 +55,10 @@ failures_after_load count (Err (Refused refusal)) = count
 failures_after_load count (Err (Stopped Memory)) = count
 failures_after_load count (Err (Stopped Source)) = count + 1
 failures_after_load count (Err (Stopped Sink)) = count
+
+-- What a call that loads a zone does to a counted source, whose octets `remaining` gives if they
+-- are known.
+pub record Loads {R : Type 0} (remaining : R → Option Octets) (old new : Counted R)
+    (o : DomainName) (result : Result ZoneContents LoadFault) : Type 0 where
+  pub meaning : LoadedAs (remaining old.device) (remaining new.device) o result
+  pub counted : new.failures ≡ failures_after_load old.failures result

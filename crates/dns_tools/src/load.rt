@@ -3,7 +3,7 @@ ghost use Rattle.std.specs.Prelude.{◌≡◌, ◌-◌, ◌^◌, ◌<◌};
 ghost use Rattle.dns_name.specs.Counted.{Writes};
 ghost use Rattle.dns_tools.specs.declared.fault.Stop.TheVariants.{Memory};
 ghost use Rattle.dns_tools.specs.declared.load.LoadFault.TheVariants.{Stopped};
-ghost use Rattle.dns_tools.specs.Load.{LoadedAs, failures_after_load, fault_of_read, refusal_report};
+ghost use Rattle.dns_tools.specs.Load.{Loads, fault_of_read, refusal_report};
 
 use crate::fault::Stop;
 use crate::parts::{LinePart, write_parts};
@@ -62,9 +62,7 @@ pub(crate) fn load<R: Read>(
     source: &mut Tally<R>,
 ) -> Result<CheckedZone, LoadFault>
     requires { source.old.failures < 2 ^ 64 - 1 }
-    ensures counted { source.new.failures ≡ failures_after_load source.old.failures result }
-    ensures meaning { LoadedAs (R.remaining source.old.device) (R.remaining source.new.device)
-        origin.now result }
+    ensures { Loads R.remaining source.old source.new origin.now result }
 {
     let origin = origin.fold();
     let records = Store::read(alloc, &origin, source)?;
@@ -80,9 +78,7 @@ pub fn load_zone<R>(alloc: Global, origin: &Name, source: &mut Tally<R>) -> Resu
 where
     R: Read,
     requires { source.old.failures < 2 ^ 64 - 1 }
-    ensures counted { source.new.failures ≡ failures_after_load source.old.failures result }
-    ensures meaning { LoadedAs (R.remaining source.old.device) (R.remaining source.new.device)
-        origin.now result }
+    ensures { Loads R.remaining source.old source.new origin.now result }
 {
     Ok(Zone::of(alloc, load(alloc, origin, source)?)?)
 }

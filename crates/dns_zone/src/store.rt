@@ -6,9 +6,8 @@ pub(crate) mod stored;
 ghost use Rattle.std.specs.Prelude.{◌≡◌, ◌≢◌, ◌⊎◌, ◌-◌, ◌^◌, ◌<◌, ◌≤◌, [], ◌∷◌, ◌++◌, length, IfOk, IfErr, OnOk, OnErr};
 ghost use Rattle.dns_spec.specs.Records.{zone_of, ordered_zone};
 ghost use Rattle.dns_spec.specs.Checks.{faults};
-ghost use Rattle.dns_spec.specs.Meaning.{most_records, records, fault_at};
-ghost use Rattle.dns_master.specs.Codes.{fault_of, failures_after_read};
-ghost use Rattle.dns_master.specs.SourceForm.{GivesMeaning, Decides};
+ghost use Rattle.dns_spec.specs.Meaning.{most_records};
+ghost use Rattle.dns_master.specs.SourceForm.{ReadsFile};
 ghost use Rattle.dns_zone.specs.ZoneForm.{ReportsFaults};
 
 use crate::checks::faults;
@@ -60,21 +59,7 @@ impl Store {
         source: &mut Tally<R>,
     ) -> Result<Store, ReadFault>
         requires { source.old.failures < 2 ^ 64 - 1 }
-        ensures ok { IfOk result (λ found. GivesMeaning (R.remaining source.old.device) origin.now
-            (records found)) }
-        ensures fault { IfErr result (λ f. f.code ≢ ReadCode.SourceFailed
-            → f.code ≢ ReadCode.NoMemory
-            → GivesMeaning (R.remaining source.old.device) origin.now
-            (fault_at (fault_of f.code) f.line)) }
-        ensures whole { IfOk result (λ found. Decides (R.remaining source.old.device)
-            (R.remaining source.new.device) origin.now (records found)) }
-        ensures decided { IfErr result (λ f. f.code ≢ ReadCode.SourceFailed
-            → f.code ≢ ReadCode.NoMemory → Decides (R.remaining source.old.device)
-            (R.remaining source.new.device) origin.now (fault_at (fault_of f.code) f.line)) }
-        ensures few { IfOk result (λ found. length found ≤ most_records) }
-        ensures line { IfErr result (λ f. (f.code ≡ ReadCode.SourceFailed)
-            ⊎ (f.code ≡ ReadCode.NoMemory) → f.line ≡ 0) }
-        ensures counted { source.new.failures ≡ failures_after_read source.old.failures result }
+        ensures { ReadsFile R.remaining source.old source.new origin.now (λ found. found) result }
     {
         let mut store = Store::new(alloc);
         read_into(alloc, origin, source, &mut store)?;
