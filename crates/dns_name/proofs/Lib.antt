@@ -1,6 +1,8 @@
 pub mod Common
 pub mod FaultLemmas
+pub mod LowerCase
 pub mod OctetRuns
+pub mod PlainLemmas
 pub mod OrderLemmas
 pub mod TextLemmas
 pub mod WireLemmas

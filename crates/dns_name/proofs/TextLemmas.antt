@@ -115,11 +115,11 @@ LabelThen-unique text l rest l' rest' h h' end end' =
     by_cases (x ∷ m, e, (first, after, f, p, g)) = grind arith
 
 -- the empty text spells the empty label, followed by nothing
-LabelThen-nil : (l rest : Octets) → LabelThen [] l rest → (l ≡ []) × (rest ≡ [])
+pub LabelThen-nil : (l rest : Octets) → LabelThen [] l rest → (l ≡ []) × (rest ≡ [])
 LabelThen-nil [] rest h = (refl, sym h)
 LabelThen-nil (x ∷ l) rest (first, after, e, p, h) = grind (arith, true≢false, OctetThen-goes_on)
 
-no_empty_label : is_label [] ≡ true → ⊥
+pub no_empty_label : is_label [] ≡ true → ⊥
 no_empty_label h = false≢true h
 
 -- the labels `read` are read and `rest` remains: the text spells `read` and what `rest` spells

@@ -1,10 +1,11 @@
 -- How the text of a name is read from left to right, case by case as in the code.
-use Rattle.std.specs.Prelude.{◌≡◌, ℕ, ◌-◌, ◌<◌, Bool, true, ◌⊎◌, ◌||◌, ◌==◌, nat_lt, if◌then◌else◌, [], ◌∷◌, ◌++◌, length, take, Option, Some, None, Result, Ok, Err, ◌↔◌}
+use Rattle.std.specs.Prelude.{◌≡◌, ℕ, ◌-◌, ◌<◌, Bool, true, ◌⊎◌, ◌||◌, ◌&&◌, ◌==◌, nat_lt, nat_le, if◌then◌else◌, [], ◌∷◌, ◌++◌, length, take, drop, Option, Some, None, Result, Ok, Err, ◌↔◌}
 use Rattle.std.specs.Bool.{MatchBool}
 use Rattle.std.specs.Borrow.{Bor}
 use Rattle.std.specs.Char.{is_ascii_digit}
-use Rattle.dns_spec.specs.Names.{Octets, DomainName, wire, is_label, is_name}
-use Rattle.dns_spec.specs.NameText.{LabelThen, TextSpells, escape_front, name_fault}
+use Rattle.std.specs.List.{list_all}
+use Rattle.dns_spec.specs.Names.{Octets, DomainName, wire, is_label, is_name, folded}
+use Rattle.dns_spec.specs.NameText.{LabelThen, TextSpells, SpellsName, escape_front, name_fault}
 
 -- the function returned the value and the rest of the text, borrowed, that reading gives
 abbrev pub Gives : Option (ℕ × Bor Octets) → Option (ℕ × Octets) → Type 0
@@ -76,3 +77,34 @@ SpellsIff origin word r =
 abbrev pub spelled_as : {A E : Type 0} → Result A E → DomainName → Result DomainName E
 spelled_as (Ok done) name = Ok name
 spelled_as (Err fault) name = Err fault
+
+-- the name in lower case that the word spells
+abbrev pub SpellsFolded : DomainName → Octets → DomainName → Type 0
+SpellsFolded origin word m = (n : DomainName) × SpellsName origin word n × (m ≡ folded n)
+
+-- a text without escapes is the first label's octets, and each other label's octets after a dot
+abbrev pub IsPlain : Octets → Octets → DomainName → Type 0
+IsPlain text l [] = LabelThen text l []
+IsPlain text l (m ∷ n) =
+    (others : Octets) × LabelThen text l (46 ∷ others) × IsPlain others m n
+
+-- a label may have this number of octets
+abbrev pub is_length : ℕ → Bool
+is_length count = nat_lt 0 count && nat_le count 63
+
+-- Octets, after the first, were a text without escapes, and are now its labels in lower case, each
+-- after its length.
+pub record HasLengths (old new : Octets) : Type 0 where
+  pub first : Octets
+  pub others : DomainName
+  pub plain : IsPlain (drop 1 old) first others
+  pub labels : list_all is_label (first ∷ others) ≡ true
+  pub written : new ++ 0 ∷ [] ≡ wire (folded (first ∷ others))
+
+-- the word is the labels and a final dot, or the labels alone, which the origin follows; `end` is the
+-- wire form of what follows
+pub record IsEnded (origin : DomainName) (word labels end : Octets) : Type 0 where
+  pub above : DomainName
+  pub spelled : ((word ≡ labels ++ 46 ∷ []) × (above ≡ [])) ⊎ ((word ≡ labels) × (above ≡ origin))
+  pub wire_is : end ≡ wire above
+  pub is_name : is_name above ≡ true

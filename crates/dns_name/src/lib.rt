@@ -7,6 +7,7 @@ mod label;
 mod lent;
 mod name;
 mod octets;
+mod plain;
 mod tally;
 mod text;
 mod written;

@@ -17,13 +17,13 @@ use std::alloc::AllocError;
 use std::cmp::Ordering;
 use std::marker::Model;
 
-const MAX_OCTETS: usize = 255;
+pub(crate) const MAX_OCTETS: usize = 255;
 
 /// A domain name: its labels, the label nearest to the root last, with at most 255 octets on the
 /// wire (RFC 1034 3.1, RFC 1035 2.3.4). The root has no labels.
 #[derive(Drop)]
 pub struct Name {
-    octets: ArrayVec<u8, MAX_OCTETS>,
+    pub(crate) octets: ArrayVec<u8, MAX_OCTETS>,
 }
 
 impl Model for Name {
@@ -43,7 +43,7 @@ impl Name {
         ensures { result ≡ [] }
     {
         let mut octets = ArrayVec::new();
-        octets.push(0);
+        put_root(&mut octets);
         Name { octets }
     }
 
@@ -51,8 +51,7 @@ impl Name {
     pub fn clear(&mut self)
         ensures { self.new ≡ [] }
     {
-        self.octets.clear();
-        self.octets.push(0);
+        put_root(&mut self.octets);
     }
 
     /// Sets the name to `other`, with the same octets. Does not allocate.
@@ -225,7 +224,15 @@ impl Eq for Name {
     ghost laws = { lists_equiv (lists_equiv nat_eq_equiv) };
 }
 
-fn append_octets(octets: &mut ArrayVec<u8, MAX_OCTETS>, part: &[u8])
+// Leaves only the root's length 0.
+pub(crate) fn put_root(octets: &mut ArrayVec<u8, MAX_OCTETS>)
+    ensures { octets.new.items ≡ 0 ∷ [] }
+{
+    octets.clear();
+    octets.push(0);
+}
+
+pub(crate) fn append_octets(octets: &mut ArrayVec<u8, MAX_OCTETS>, part: &[u8])
     requires { array_vec_len octets.old + length part.now ≤ MAX_OCTETS }
     ensures { octets.new.items ≡ octets.old.items ++ part.now }
 {

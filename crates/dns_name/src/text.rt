@@ -1,10 +1,9 @@
 //! Names in the text of zone files (RFC 1035 5.1).
 ghost use Rattle.std.specs.Prelude.{◌≡◌, ◌≢◌, true, if◌then◌else◌, IsNone, ◌↔◌, [], ◌∷◌, ◌≤◌, length, IsTrue, IfOk, IfErr, OnOk, OnErr, Ok, IfSome, ◌<◌};
-ghost use Rattle.dns_spec.specs.Names.{Octets, DomainName, is_label};
+ghost use Rattle.dns_spec.specs.Names.{Octets, DomainName, is_label, folded};
 ghost use Rattle.dns_spec.specs.NameText.{SpellsName, digits_front, name_fault};
-ghost use Rattle.std.specs.List.{list_any, position_or_len};
 ghost use Rattle.dns_name.specs.NameFault.{fault_code};
-ghost use Rattle.dns_name.specs.TextForm.{is_mark, ReadsLabel, PushesLabel, HasFault, IsNoLength, SpellsIff, spelled_as, Gives, digit_at, octet_at, is_label_end, Appended};
+ghost use Rattle.dns_name.specs.TextForm.{ReadsLabel, PushesLabel, HasFault, IsNoLength, SpellsIff, spelled_as, Gives, digit_at, octet_at, is_label_end, Appended, SpellsFolded};
 
 use crate::label::Label;
 use crate::name::Name;
@@ -12,9 +11,6 @@ use arrayvec::ArrayVec;
 
 // A label has at most 63 octets. One more is kept to detect a label that is too long.
 const KEPT_OCTETS: usize = 64;
-
-// The number of octets of a name that are tested at once.
-const GROUP: usize = 8;
 
 /// Why a word does not spell a name.
 #[derive(Clone, Copy, Debug, PartialEq, Eq)]
@@ -55,15 +51,13 @@ impl Name {
         ensures which { IfErr result (λ fault. fault_code fault ≡ name_fault word.now) }
     {
         let mut name = Name::root();
-        name.spell(word, origin)?;
+        name.spell_as_written(word, origin)?;
         Ok(name)
     }
 
-    /// Sets the name to the one that a word spells, as `read_text` does, without a second name and
-    /// without a copy.
-    ///
-    /// After a fault the name is unspecified.
-    pub fn spell(&mut self, word: &[u8], origin: &Name) -> Result<(), NameFault>
+    // Sets the name to the one that a word spells, as `read_text` does, without a second name. After
+    // a fault the name is unspecified.
+    fn spell_as_written(&mut self, word: &[u8], origin: &Name) -> Result<(), NameFault>
         ensures ok { OnOk result (SpellsName origin.now word.now self.new) }
         ensures only { OnOk result
             ((n : DomainName) → SpellsName origin.now word.now n → n ≡ self.new) }
@@ -83,6 +77,41 @@ impl Name {
             return Ok(());
         }
         spell_labels(self, word, origin)
+    }
+
+    /// Sets the name to the one that a word spells, in lower case: `read_text` and `fold` without a
+    /// second name. A word without an escape is read in one pass.
+    ///
+    /// After a fault the name is unspecified.
+    pub fn spell(&mut self, word: &[u8], origin: &Name) -> Result<(), NameFault>
+        ensures ok { OnOk result (SpellsFolded origin.now word.now self.new) }
+        ensures only { OnOk result
+            ((n : DomainName) → SpellsName origin.now word.now n → folded n ≡ self.new) }
+        ensures fault { OnErr result
+            ((n : DomainName) → SpellsName origin.now word.now n → ⊥) }
+        ensures which { IfErr result (λ fault. fault_code fault ≡ name_fault word.now) }
+    {
+        if self.spell_plain(word, origin) {
+            return Ok(());
+        }
+        self.spell_any(word, origin)
+    }
+
+    // The same for each word. Cold, because few words need it; out of line, because its room would
+    // be cleared for each word.
+    #[cold]
+    #[inline(never)]
+    fn spell_any(&mut self, word: &[u8], origin: &Name) -> Result<(), NameFault>
+        ensures ok { OnOk result (SpellsFolded origin.now word.now self.new) }
+        ensures only { OnOk result
+            ((n : DomainName) → SpellsName origin.now word.now n → folded n ≡ self.new) }
+        ensures fault { OnErr result
+            ((n : DomainName) → SpellsName origin.now word.now n → ⊥) }
+        ensures which { IfErr result (λ fault. fault_code fault ≡ name_fault word.now) }
+    {
+        self.spell_as_written(word, origin)?;
+        self.fold_in_place();
+        Ok(())
     }
 }
 
@@ -120,15 +149,10 @@ fn check_fits(fits: bool) -> Result<(), NameFault>
 // Reads the label at the beginning of the text, and adds it to the name if it fits.
 //
 // Returns whether it fits, and the text from the label's end on: empty, or beginning with a dot.
-// Most labels have no escapes, so their octets are taken from the text itself.
 fn push_label<'a>(name: &mut Name, text: &'a [u8]) -> Result<(bool, &'a [u8]), NameFault>
     ensures ok { IfOk result (λ x. PushesLabel text.now name.old x.0 x.1.now name.new) }
     ensures err { IfErr result (λ fault. HasFault text.now (fault_code fault)) }
 {
-    let (octets, end) = text.split_at(plain_length(text));
-    if at_label_end(end) {
-        return Ok((push_octets(name, octets)?, end));
-    }
     let Some((octets, end)) = label_text(text) else {
         return Err(NameFault::BadEscape);
     };
@@ -148,50 +172,6 @@ fn push_octets(name: &mut Name, octets: &[u8]) -> Result<bool, NameFault>
         return Err(NameFault::LabelTooLong);
     };
     Ok(name.push(label))
-}
-
-// The number of octets before the first dot or backslash. Groups without one are skipped whole,
-// which saves a fortieth of a check.
-fn plain_length(text: &[u8]) -> usize
-    ensures value { result ≡ position_or_len is_mark text.now }
-    ensures bound { result ≤ length text.now }
-{
-    let mut front = 0;
-    let mut rest = text;
-    'groups: while let Some((group, others)) = rest.split_first_chunk::<GROUP>() {
-        if has_mark(group) {
-            break;
-        }
-        front += GROUP;
-        rest = others;
-    }
-    front + mark_place(rest)
-}
-
-// The same, octet by octet.
-fn mark_place(text: &[u8]) -> usize
-    ensures value { result ≡ position_or_len is_mark text.now }
-    ensures bound { result ≤ length text.now }
-{
-    text.iter().take_while(|octet| !is_mark(**octet)).count()
-}
-
-// Whether a group contains a dot or a backslash. The loop does not stop early, so that a processor
-// can test all octets at once.
-fn has_mark(group: &[u8; GROUP]) -> bool
-    ensures { result ≡ list_any is_mark group.now }
-{
-    let mut any = false;
-    'octets: for octet in group {
-        any |= is_mark(*octet);
-    }
-    any
-}
-
-fn is_mark(octet: u8) -> bool
-    ensures { result ≡ is_mark octet }
-{
-    (octet == b'.') | (octet == b'\\')
 }
 
 // The octets of the label at the beginning of the text, at most 64 of them, and the text from its
