@@ -56,9 +56,7 @@ impl Record {
             ((n : DomainName) → SpelledName origin.now word.now n → ⊥) }
         ensures low { folded self.new.owner ≡ self.new.owner }
     {
-        let is_spelled = self.owner.spell(word.raw, origin).is_ok();
-        self.owner.fold_in_place();
-        is_spelled && !word.quoted
+        !word.quoted && self.owner.spell(word.raw, origin).is_ok()
     }
 
     /// A copy. Memory is allocated once, for the data.

@@ -1,5 +1,6 @@
 //! Comparison of runs of octets.
-ghost use Rattle.std.specs.Prelude.{◌≡◌, ◌↔◌, ◌<◌, ◌≤◌, length, take, IsTrue};
+ghost use Rattle.std.specs.Prelude.{◌≡◌, ◌↔◌, ◌<◌, ◌≤◌, ◌==◌, length, take, IsTrue};
+ghost use Rattle.std.specs.List.{starts_with};
 ghost use Rattle.std.specs.Int.{from_le_bytes, w16, w32, w64};
 
 /// Whether two runs of octets are equal, octet by octet.
@@ -17,6 +18,15 @@ pub fn are_equal(left: &[u8], right: &[u8]) -> bool
         return are_others_equal(left, right);
     }
     have_same_eights(left, right)
+}
+
+/// Whether a run of octets begins with another run.
+///
+/// `starts_with` of slices is a call that takes twice the instructions for a short run.
+pub fn begins_with(octets: &[u8], front: &[u8]) -> bool
+    ensures { result ≡ starts_with ◌==◌ octets.now front.now }
+{
+    octets.len() >= front.len() && are_equal(octets.split_at(front.len()).0, front)
 }
 
 // Whether runs of fewer than 8 octets, or of more than 16, are equal.

@@ -56,7 +56,9 @@ impl Name {
     }
 
     // Sets the name to the one that a word spells, as `read_text` does, without a second name. After
-    // a fault the name is unspecified.
+    // a fault the name is unspecified. Out of line, because its room would be cleared for each word.
+    #[cold]
+    #[inline(never)]
     fn spell_as_written(&mut self, word: &[u8], origin: &Name) -> Result<(), NameFault>
         ensures ok { OnOk result (SpellsName origin.now word.now self.new) }
         ensures only { OnOk result
@@ -82,36 +84,22 @@ impl Name {
     /// Sets the name to the one that a word spells, in lower case: `read_text` and `fold` without a
     /// second name. A word without an escape is read in one pass.
     ///
-    /// After a fault the name is unspecified.
+    /// After a fault the name is unspecified, but in lower case.
     pub fn spell(&mut self, word: &[u8], origin: &Name) -> Result<(), NameFault>
         ensures ok { OnOk result (SpellsFolded origin.now word.now self.new) }
         ensures only { OnOk result
             ((n : DomainName) → SpellsName origin.now word.now n → folded n ≡ self.new) }
         ensures fault { OnErr result
             ((n : DomainName) → SpellsName origin.now word.now n → ⊥) }
+        ensures low { folded self.new ≡ self.new }
         ensures which { IfErr result (λ fault. fault_code fault ≡ name_fault word.now) }
     {
         if self.spell_plain(word, origin) {
             return Ok(());
         }
-        self.spell_any(word, origin)
-    }
-
-    // The same for each word. Cold, because few words need it; out of line, because its room would
-    // be cleared for each word.
-    #[cold]
-    #[inline(never)]
-    fn spell_any(&mut self, word: &[u8], origin: &Name) -> Result<(), NameFault>
-        ensures ok { OnOk result (SpellsFolded origin.now word.now self.new) }
-        ensures only { OnOk result
-            ((n : DomainName) → SpellsName origin.now word.now n → folded n ≡ self.new) }
-        ensures fault { OnErr result
-            ((n : DomainName) → SpellsName origin.now word.now n → ⊥) }
-        ensures which { IfErr result (λ fault. fault_code fault ≡ name_fault word.now) }
-    {
-        self.spell_as_written(word, origin)?;
+        let spelled = self.spell_as_written(word, origin);
         self.fold_in_place();
-        Ok(())
+        spelled
     }
 }
 

@@ -108,7 +108,6 @@ fn append_word(
         Field::Ipv6 => append(octets, &read_ipv6(word.raw).ok_or(RdataFault::BadAddress)?),
         Field::Domain => {
             name.spell(word.raw, origin)?;
-            name.fold_in_place();
             append(octets, name.octets())
         }
         Field::String | Field::Strings => append_string(word.raw, octets),

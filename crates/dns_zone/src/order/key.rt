@@ -5,7 +5,7 @@ ghost use Rattle.dns_name.specs.WireForm.{labels_of, IsWireForm};
 ghost use Rattle.dns_zone.specs.KeyForm.{raised, ended, name_key, GoOnAlike, AreAlike, BeginsAs};
 
 use arrayvec::ArrayVec;
-use dns_name::{Name, NameRef, first_label};
+use dns_name::{Name, NameRef, begins_with, first_label};
 use std::marker::Model;
 
 const MAX_OCTETS: usize = 255;
@@ -79,7 +79,7 @@ pub(crate) fn is_under(key: &[u8], other: &[u8]) -> bool
     ensures { (n m : DomainName) → folded n ≡ n → folded m ≡ m → key.now ≡ name_key n
         → other.now ≡ name_key m → result ≡ at_or_below n m }
 {
-    key.starts_with(other)
+    begins_with(key, other)
 }
 
 /// Whether the name of the first key is below the name of the other, both in lower case.

@@ -8,6 +8,7 @@ ghost use Rattle.std.specs.Prelude.{◌≡◌, ◌<◌, ◌≤◌, length};
 use crate::checks::lcp_search::rests;
 use crate::order::owner_keys::key_at;
 use crate::store::stored::StoredRecord;
+use dns_name::begins_with;
 
 // The number of octets of a key or of data in a front.
 const FRONT_OCTETS: usize = 12;
@@ -38,9 +39,11 @@ impl Run {
     /// The records of one owner, from `at` up to `end`. The owner's key is compared with the
     /// origin's.
     pub(crate) fn of_owner(origin: &[u8], key: &[u8], at: u32, end: u32) -> Run {
-        let front = match key.strip_prefix(origin) {
-            Some(inside) => front_of((2 * MOST_SHARED).saturating_sub(origin.len()), inside),
-            None => front_beside(origin, key, 0),
+        let front = if begins_with(key, origin) {
+            let inside = key.split_at(origin.len()).1;
+            front_of((2 * MOST_SHARED).saturating_sub(origin.len()), inside)
+        } else {
+            front_beside(origin, key, 0)
         };
         Run { front, at, end }
     }

@@ -6,9 +6,10 @@ pub returns-in_ok-spell-in-Domain : goal.returns-in_ok-spell-in-Domain
 returns-in_ok-spell-in-Domain c = rw c.in-Domain.is
     (word_said domain _ _ _ _ _ _ (sym (ap (λ w. w.raw) c.word.view_is)) (search rules) (record {
       ok = on_ok_weaker c.append-in-Domain.result (λ grown.
-          name_appended _ _ _ _ _ c.in_ok-spell-in-Domain.ensures.ok (grown
+          let spelled = c.in_ok-spell-in-Domain.ensures.ok in
+          name_appended _ _ _ _ _ spelled.1 (grown
           ∙ ap (λ o. c.args.octets.now.items ++ o) (c.octets.ensures.value
-          ∙ ap wire c.fold_in_place.ensures))) c.append-in-Domain.ensures.ok;
+          ∙ ap wire spelled.2))) c.append-in-Domain.ensures.ok;
       fault = search rules;
       which = search rules;
     }))
