@@ -61,26 +61,6 @@ LabelThen-push text [] rest x others e (first, f, h) = (first, others, e ∙ f, 
 LabelThen-push text (y ∷ l) rest x others (first, after, f, h, g) next =
     (first, after, f, h, LabelThen-push after l rest x others g next)
 
--- octets up to the first dot or backslash spell themselves
-pub up_to_mark : (text : Octets) → LabelThen text
-    (take (position_or_len is_mark text) text) (drop (position_or_len is_mark text) text)
-up_to_mark [] = refl
-up_to_mark (a ∷ text) = elim (cases_Bool (is_mark a)) [
-  | inl mark ↦ rw mark refl
-  | inr plain ↦
-      let parts = or_parts (a == 46) (a == 92) plain in
-      let after : suc (position_or_len is_mark text) ≡ position_or_len is_mark (a ∷ text) =
-      rw plain (omega arith) in
-      let P : ℕ → Type 0 = λ n. LabelThen (a ∷ text) (take n (a ∷ text)) (drop n (a ∷ text)) in
-      subst P after (
-        a ∷ [],
-        text,
-        refl,
-        (refl, eqb-false a 46 parts.0, eqb-false a 92 parts.1),
-        up_to_mark text,
-      )
-]
-
 LabelThen-at : (text l rest text' : Octets)
     → text ≡ text' → LabelThen text l rest → LabelThen text' l rest
 LabelThen-at text l rest text' e h =

@@ -13,6 +13,14 @@ fn read(word: &[u8]) -> Result<Name, NameFault> {
     Name::read_text(word, &origin)
 }
 
+// The same in place and in lower case, with an origin in capitals.
+fn spelled(word: &[u8]) -> Result<Name, NameFault> {
+    let origin = Name::read_text(b"EXAMPLE.", &Name::root())?;
+    let mut name = Name::root();
+    name.spell(word, &origin)?;
+    Ok(name)
+}
+
 fn fault(word: &[u8]) -> u8 {
     match read(word) {
         Ok(_) => 0,
@@ -57,6 +65,10 @@ fn names_read(rt: HostRuntime) {
         match read(word) {
             Ok(name) => assert_eq!(rt; Ok(name.octets()), wanted, "at {word:?}"),
             Err(fault) => assert_eq!(rt; Err(fault.code()), wanted, "at {word:?}"),
+        }
+        match (spelled(word), read(word)) {
+            (Ok(name), Ok(read)) => assert_eq!(rt; name.octets(), read.fold().octets()),
+            (name, _) => assert_eq!(rt; name.err().map_or(0, NameFault::code), fault(word)),
         }
     }
 }
