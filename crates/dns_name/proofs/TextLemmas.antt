@@ -1,5 +1,5 @@
 -- Reading a text from left to right finds what it spells, and nothing else.
-use Rattle.dns_name.proofs.Common.{Result, Ok, Err, IfErr, ◌≡◌, ◌≢◌, ℕ, suc, ◌<◌, ◌≤◌, inl, inr, Bool, true, false, ◌&&◌, ◌==◌, [], ◌∷◌, ◌++◌, length, take, drop, Some, None, refl, sym, ◌∙◌, ap, subst, arith, length-append, MatchBool, if◌then◌else◌, is_ascii_digit, IsNotAsciiDigit, list_all, position_or_len, Octets, DomainName, wire, is_label, is_name, SpellsOctet, LabelThen, TextSpells, SpellsName, append_assoc, append-nil, length-take, take_all, take-append-le, true≢false, false≢true, and_parts, and_from, and_left, and_right, lt-leb, eqb-true, eqb-false, or_parts, eq-eqb, ne_eqb, lt-ltb, le-leb, cases_Bool, IsErr, is_label-head, length-wire-append, IsName-is_name, IsLabel-is_label, octet_at, escape_front, labels_fault, name_fault, is_mark, is_label_end, ReadsLabel, PushesLabel, HasFault, IsNoLength, Appended, SpellsIff, spelled_as}
+use Rattle.dns_name.proofs.Common.{Result, Ok, Err, IfErr, ◌≡◌, ◌≢◌, ℕ, ◌<◌, ◌≤◌, inl, inr, Bool, true, false, ◌&&◌, ◌==◌, [], ◌∷◌, ◌++◌, length, take, drop, Some, None, refl, sym, ◌∙◌, ap, subst, arith, length-append, MatchBool, if◌then◌else◌, is_ascii_digit, IsNotAsciiDigit, list_all, Octets, DomainName, wire, is_label, is_name, SpellsOctet, LabelThen, TextSpells, SpellsName, append_assoc, append-nil, length-take, take_all, take-append-le, true≢false, false≢true, and_parts, and_from, and_left, and_right, lt-leb, eqb-true, eqb-false, eq-eqb, ne_eqb, lt-ltb, le-leb, cases_Bool, IsErr, is_label-head, length-wire-append, IsName-is_name, IsLabel-is_label, octet_at, escape_front, labels_fault, name_fault, is_label_end, ReadsLabel, PushesLabel, HasFault, IsNoLength, Appended, SpellsIff, spelled_as}
 use Rattle.dns_spec.proofs.General.Options.{some_parts}
 use Rattle.dns_spec.proofs.DomainNames.WireNames.{wire_some}
 use Rattle.dns_spec.proofs.NameTexts.Escapes.{escape_spells}

@@ -1,5 +1,5 @@
 //! Names whose text has no escape, which most texts of zone files have (RFC 1035 5.1).
-ghost use Rattle.std.specs.Prelude.{◌≡◌, ◌<◌, ◌≤◌, length, if◌then◌else◌};
+ghost use Rattle.std.specs.Prelude.{◌≡◌, ◌≢◌, ◌<◌, ◌≤◌, length, codes, if◌then◌else◌};
 ghost use Rattle.std.specs.Bool.{OnTrue};
 ghost use Rattle.std.specs.Char.{to_ascii_lowercase};
 ghost use Rattle.dns_name.specs.TextForm.{SpellsFolded, HasLengths, IsEnded, is_length, is_mark};
@@ -24,13 +24,14 @@ const IN_LOWER_CASE: [u8; 256] = [
 ];
 
 impl Name {
-    // Sets the name to the one that a word spells, in lower case. False for `@` and `.`, and if
-    // the word has an escape or spells no name; then the name is unspecified.
+    // Sets the name to the one that a word spells, in lower case. False for `.`, and if the
+    // word has an escape or spells no name; then the name is unspecified.
     pub(crate) fn spell_plain(&mut self, word: &[u8], origin: &Name) -> bool
+        requires { word.now ≢ codes "@" }
         ensures { OnTrue result (SpellsFolded origin.now word.now self.new) }
     {
         let (labels, end) = ended_labels(word, origin);
-        if labels.len() + end.len() >= MAX_OCTETS || word == b"@".as_slice() {
+        if labels.len() + end.len() >= MAX_OCTETS {
             return false;
         }
         put_root(&mut self.octets);

@@ -94,6 +94,11 @@ impl Name {
         ensures low { folded self.new ≡ self.new }
         ensures which { IfErr result (λ fault. fault_code fault ≡ name_fault word.now) }
     {
+        if word == b"@".as_slice() {
+            self.copy_from(&origin.lent());
+            self.fold_in_place();
+            return Ok(());
+        }
         if self.spell_plain(word, origin) {
             return Ok(());
         }

@@ -17,5 +17,9 @@ pub returns-then-spell_plain-clause-low : goal.returns-then-spell_plain-clause-l
 returns-then-spell_plain-clause-low c =
     let s = said c in ap folded s.2 ∙ folded_folded s.0 ∙ sym s.2
 
+pub returns-then-eq-clause-low : goal.returns-then-eq-clause-low
+returns-then-eq-clause-low c = rw c.fold_in_place.ensures (folded_folded c.copy_from.new.self)
+
 pub returns-clause-low : goal.returns-clause-low
-returns-clause-low c = rw c.fold_in_place.ensures (folded_folded c.spell_as_written-spelled.new.self)
+returns-clause-low c =
+    rw c.fold_in_place-2.ensures (folded_folded c.spell_as_written-spelled.new.self)

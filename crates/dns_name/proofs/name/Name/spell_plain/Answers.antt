@@ -1,4 +1,4 @@
-use Rattle.dns_name.proofs.Common.{refl, ◌≡◌, ◌+◌, ◌++◌, ◌∷◌, ◌∙◌, [], length, take, drop, map, ap, subst, arith, true≢false, take_at, drop_at, length-append, folded, octets_equal-decides, to_ascii_lowercase, Octets}
+use Rattle.dns_name.proofs.Common.{refl, ◌≡◌, ◌+◌, ◌++◌, ◌∷◌, ◌∙◌, [], length, take, drop, map, ap, subst, arith, take_at, drop_at, length-append, folded, to_ascii_lowercase, Octets}
 use Rattle.std.specs.List.{refill}
 use Rattle.std.proofs.lemmas.List.{length-map}
 use Rattle.dns_name.specs.TextForm.{HasLengths}
@@ -65,7 +65,7 @@ module _ (c : After-self-4-1) where
   plain_word : SpelledPlain c.args.origin.now c.args.word.now final
   plain_word = plain_spelled _ _ labels c.ended_labels.result.1.now put final (record {
     ended = c.ended_labels.ensures;
-    not_at = grind (arith, octets_equal-decides, true≢false);
+    not_at = c.requires;
     lengths = lengths;
     size = size;
     fits = grind arith;
