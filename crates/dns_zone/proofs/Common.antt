@@ -39,7 +39,7 @@ unfoldable pub use Rattle.dns_zone.specs.LabelKey.{key_of}
 pub use Rattle.dns_zone.specs.NameEnd.{ending}
 pub use Rattle.dns_zone.specs.NamesForm.{AreChecked, AreOwners, ComesNext, IsChecked, IsCutAbove, IsLastAt, IsLastUpto, IsSurvey, IsTopmost, first_owner, is_covered, is_upto, owner_of, own_in}
 pub use Rattle.dns_zone.specs.NodeForm.{AreHints, IsNameTree, IsNodeAt, IsRowOf, IsWayEnd, IsZoneNode, IsZoneTree, TargetWay, kid_label, kid_rows, name_below, node_at}
-pub use Rattle.dns_zone.specs.Nodes.{IsHint, IsNode, IsSetOf, Walk, ZoneNode, hint_of, last_on_way, may_begin}
+pub use Rattle.dns_zone.specs.Nodes.{IsHint, IsNode, IsSetOf, Walk, ZoneNode, hint_node, hint_of, last_on_way, may_begin}
 pub use Rattle.dns_zone.specs.OwnerForm.{AreCounted, IsOwner, NameOfZone, is_exchange_alias, is_exchange_type, is_other_type, is_server_alias, is_server_lost, number_of}
 pub use Rattle.dns_zone.specs.ReportedForm.{HasOwners, begins_with_owner, failed_from, owners_once}
 unfoldable pub use Rattle.dns_zone.specs.ReportedForm.{reported_at}
@@ -58,7 +58,7 @@ pub use Rattle.dns_zone.specs.declared.tree.row.Row.{Row}
 pub use Rattle.dns_spec.proofs.General.Elements.{Among, among_contains, among_permutation, contains_among, each_among, each_at, each_weaker}
 pub use Rattle.dns_spec.proofs.General.Filters.{each_filter, filter_among, filter_each, filter_test}
 pub use Rattle.dns_spec.proofs.General.Sorted.{Rises, among_distinct, among_sort, apart_distinct, distinct_among, each_distinct, each_sort, length-sort_by, same_risen, sort_among, sort_risen, sort_rises}
-pub use Rattle.dns_spec.proofs.General.Results.{OnErr-always, fault_handed_on}
+pub use Rattle.dns_spec.proofs.General.Results.{OnErr-always}
 pub use Rattle.dns_spec.proofs.General.Orderings.{nat_ties}
 pub use Rattle.dns_spec.proofs.General.Truths.{same_tests}
 pub use Rattle.dns_spec.proofs.DomainNames.WireNames.{wire_some}

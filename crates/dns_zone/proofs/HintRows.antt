@@ -1,14 +1,18 @@
 -- The rows of the last names on the way to targets, and of the hints of records.
-use Rattle.dns_zone.proofs.Common.{◌≡◌, ◌⊎◌, inl, inr, ℕ, zero, suc, ◌+◌, ◌-◌, ◌<◌, ◌≤◌, Bool, true, false, cond, not, ◌&&◌, ◌||◌, ◌==◌, Option, None, Some, All, List, [], ◌∷◌, map, length, get_or, get_or_default, set, get_or-set_same, get_or-set_other, refl, ap, ap₂, sym, ◌∙◌, arith, subst, and_parts, and_from, and_right, false≢true, true≢false, none-some, false_from_ne_true, cases_lt, leb-true, lt-ltb, ltb-true, length-map, same-length, or_cases, or_left, or_right, to_ascii_lowercase, is_some, eq-eqb, list_any, Octets, DomainName, folded, same, names_equal, names_equal-decides, at_or_below, below, suffixes, exists, is_cut, cut_of, target, type_ns, type_cname, at, owns, ResourceRecord, ZoneContents, ZoneNode, first_of, without_first, at_or_below-cons, IsHint, IsNodeAt, IsNameTree, IsRowOf, IsWayEnd, AreHints, TargetWay, name_below, node_at, may_begin, last_on_way, hint_of, row_name, row_at, Row, Tree}
+use Rattle.dns_zone.proofs.Common.{◌≡◌, ◌⊎◌, inl, inr, ℕ, zero, suc, ◌+◌, ◌-◌, ◌<◌, ◌≤◌, Bool, true, false, cond, not, ◌&&◌, ◌||◌, ◌==◌, Option, None, Some, All, List, [], ◌∷◌, map, length, drop, get_or, filter, slice_get, IsNonDecreasingBy, rrset, get_or_default, set, get_or-set_same, get_or-set_other, refl, ap, ap₂, sym, ◌∙◌, arith, subst, and_parts, and_from, and_right, false≢true, true≢false, none-some, false_from_ne_true, cases_lt, leb-true, lt-ltb, ltb-true, length-map, same-length, or_cases, or_left, or_right, to_ascii_lowercase, is_some, eq-eqb, ne_eqb, list_any, Octets, DomainName, folded, same, names_equal, names_equal-decides, at_or_below, below, suffixes, exists, is_cut, cut_of, target, type_ns, type_cname, at, owns, ResourceRecord, ZoneContents, ZoneNode, first_of, without_first, at_or_below-cons, IsHint, IsNodeAt, IsZoneNode, IsNameTree, IsRowOf, IsWayEnd, TargetWay, name_below, node_at, may_begin, last_on_way, hint_of, hint_node, row_name, row_at, Row, Tree}
 use Rattle.dns_spec.proofs.Common.{option_and_then}
+use Rattle.std.specs.Option.{option_map}
 use Rattle.std.proofs.lemmas.Bool.{true_from_ne_false}
+use Rattle.std.proofs.lemmas.Option.{slice_get_read}
 use Rattle.dns_zone.specs.NodeForm.{TreeRow}
 use Rattle.dns_zone.specs.declared.tree.hints.TheConstants.{UNKNOWN}
 use Rattle.dns_zone.specs.declared.tree.way.WayEnd.{WayEnd}
 use Rattle.dns_zone.specs.declared.tree.way.WayName.{WayName}
 use Rattle.dns_zone.proofs.NameTree.{itself-under, below-cons}
 use Rattle.dns_zone.proofs.NameOrder.{same-from, same-is}
-use Rattle.dns_zone.proofs.NodeRows.{node_is}
+use Rattle.dns_zone.proofs.NodeRows.{node_is, own_at}
+use Rattle.dns_zone.proofs.NodeSets.{nth}
+use Rattle.dns_zone.proofs.Types.{passing, of_t, not_below}
 use Rattle.dns_zone.proofs.GrowingKids.{row_is}
 use Rattle.dns_zone.proofs.OwnRecords.{own_owns}
 use Rattle.dns_zone.proofs.WayLaws.{cut-above, cut-here, cut-none, exists-up, no_cut-at_origin, under_same}
@@ -258,8 +262,19 @@ end_below w v l n m o above end e named there low lower origin other steps =
     (subst (λ k. same m k ≡ false) (origin ∙ ap (λ (u : TargetWay). u.tree.zone.origin) (sym e))
     differs)))
 
+abbrev in_zone : ZoneContents → Option DomainName → Option ZoneNode
+in_zone z = option_map (λ n. record { zone = z; name = n })
+
+-- the node of a record's hint, by its row
+row_node : (t : Tree) (r : ResourceRecord) (k : ℕ) → IsRowOf t.zone t.rows (hint_of t.zone r) k
+    → hint_node t.zone r ≡ cond (k == 0) None (Some (node_at t k))
+row_node t r zero h = sym (ap (in_zone t.zone) h.name)
+row_node t r (suc k) h =
+    sym (ap (in_zone t.zone) h.name) ∙ ap (λ b. cond b None (Some (node_at t (suc k))))
+    (sym (ne_eqb (suc k) 0 (λ e. omega (arith, e))))
+
 -- the hint of a record, which is not 0
-pub hint-node : (t : Tree) (r : ResourceRecord) (k : ℕ) → IsNameTree t
+hint-node : (t : Tree) (r : ResourceRecord) (k : ℕ) → IsNameTree t
     → IsRowOf t.zone t.rows (hint_of t.zone r) k → (k ≡ 0 → ⊥)
     → IsHint t.zone r.rtype (name_at t k)
 hint-node t r zero kept h some = absurd (some refl)
@@ -354,12 +369,51 @@ module _ (z : ZoneContents) (rows : List Row) where
       (subst (λ q. IsRowOf z rows (hint_of z q) k)
       (is ∙ get_or_default z.records i r s inside ∙ sym known) hint))
 
--- the stored hint of a record
-pub kept_row : (t : Tree) (rs : List ResourceRecord) (hints : List ℕ) (place : ℕ)
-    (r : ResourceRecord) → AreHints t.zone t.rows t.hints → rs ≡ t.zone.records → hints ≡ t.hints
-    → place < length rs → r ≡ get_or rs place r
-    → IsRowOf t.zone t.rows (hint_of t.zone r) (get_or hints place 0)
-kept_row t rs hints place r are e f inside is =
-    subst (λ hs. IsRowOf t.zone t.rows (hint_of t.zone r) (get_or hs place 0)) (sym f)
-    (are.each place r (subst (λ xs. place < length xs) e inside)
-    (subst (λ xs. r ≡ get_or xs place r) e is))
+-- the hint of an own record of a node, found among those whose type is not lower
+module _ (t : Tree) (k : ℕ) (node : IsZoneNode t k) (own others : List ResourceRecord)
+    (u before i : ℕ) (own_is : own ≡ at t.zone (name_at t k))
+    (rising : IsNonDecreasingBy (λ (q : ResourceRecord). q.rtype) own)
+    (rest : drop before own ≡ filter (not_below u) own) (same : others ≡ drop before own)
+    (r : ResourceRecord) (fits : i < length others) (there : r ≡ get_or others i r)
+    (rows : List Row) (hints : List ℕ) (e : rows ≡ t.rows) (f : hints ≡ t.hints) where
+  abbrev place : ℕ
+  place = (row_at rows k).first + before + i
+
+  abbrev hint : ℕ
+  hint = get_or hints place 0
+
+  kept : (place < length t.zone.records) × (r ≡ get_or t.zone.records place r)
+  kept =
+      subst (λ qs. ((row_at qs k).first + before + i < length t.zone.records)
+      × (r ≡ get_or t.zone.records ((row_at qs k).first + before + i) r)) (sym e)
+      (own_at t k (record { kept = node.kept.names; row = node.row }) own others before i r own_is
+      same fits there)
+
+  pub hint_place : place < length hints
+  hint_place = omega (arith, kept.0, node.kept.hints.count, ap length f)
+
+  row : IsRowOf t.zone t.rows (hint_of t.zone r) hint
+  row =
+      subst (λ hs. IsRowOf t.zone t.rows (hint_of t.zone r) (get_or hs place 0)) (sym f)
+      (node.kept.hints.each place r kept.0 kept.1)
+
+  pub hint_at : IsZoneNode t hint
+  hint_at = record { kept = node.kept; row = row.row }
+
+  pub hint_is : option_and_then (hint_node t.zone) (slice_get (rrset t.zone (name_at t k) u) i)
+      ≡ cond (r.rtype == u) (cond (hint == 0) None (Some (node_at t hint))) None
+  hint_is =
+      ap (option_and_then (hint_node t.zone))
+      (nth t.zone node.kept.names.built (name_at t k) u own others i own_is rising (same ∙ rest)
+      ∙ ap (option_and_then (passing (of_t u)))
+      (slice_get_read others (length others) i r refl fits there)) ∙ go (r.rtype == u)
+    where
+      go : (b : Bool) → option_and_then (hint_node t.zone) (cond b (Some r) None)
+          ≡ cond b (cond (hint == 0) None (Some (node_at t hint))) None
+      go true = row_node t r hint row
+      go false = refl
+
+  pub hint_kept : r.rtype ≡ u → (hint ≡ 0 → ⊥) → IsHint t.zone u (name_at t hint)
+  hint_kept typed some =
+      subst (λ m. IsHint t.zone m (name_at t hint)) typed
+      (hint-node t r hint node.kept.names row some)

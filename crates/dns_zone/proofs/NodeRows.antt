@@ -1,5 +1,5 @@
 -- The nodes of a zone by their rows.
-use Rattle.dns_zone.proofs.Common.{◌≡◌, ℕ, ◌+◌, ◌-◌, ◌<◌, ◌≤◌, true, List, [], ◌∷◌, length, drop, get_or, sym, ap, ◌∙◌, arith, subst, length-take, get_or-take, get_or-drop, get_or_default, list_any, Octets, DomainName, at_or_below, ResourceRecord, exists, AllByRecursion, each_weaker, contains_among, IsNode, IsNodeAt, first_of, row_name, row_label, row_at, kids_at, IsRow, IsKid, AreKids, Row, Tree}
+use Rattle.dns_zone.proofs.Common.{◌≡◌, ℕ, ◌+◌, ◌-◌, ◌<◌, ◌≤◌, true, List, [], ◌∷◌, length, drop, get_or, sym, ap, ◌∙◌, arith, subst, filter, length-take, length-drop, get_or-take, get_or-drop, get_or_default, list_any, Octets, DomainName, same, at_or_below, ResourceRecord, exists, AllByRecursion, each_weaker, contains_among, IsNode, IsNodeAt, first_of, row_name, row_label, row_at, span, kids_at, IsRow, IsKid, AreKids, Row, Tree}
 use Rattle.dns_zone.proofs.Spans.{in_span}
 use Rattle.dns_zone.proofs.KidRows.{is_under}
 use Rattle.dns_zone.proofs.GrowingKids.{row_is}
@@ -39,6 +39,22 @@ module _ (t : Tree) (k : ℕ) (at : IsNodeAt t k) where
     lower = is_row.lower;
     stands = row_exists rs row name is_row;
   }
+
+  -- an own record of the node, found among those from a place on, is a record of the zone
+  pub own_at : (own others : List ResourceRecord) (before i : ℕ) (r : ResourceRecord)
+      → own ≡ filter (λ (q : ResourceRecord). same q.owner name) rs → others ≡ drop before own
+      → i < length others → r ≡ get_or others i r
+      → (row.first + before + i < length rs) × (r ≡ get_or rs (row.first + before + i) r)
+  own_at own others before i r is rest fits there =
+      let front = span rs row.first row.own_end in
+      let e : others ≡ drop before front = rest ∙ ap (drop before) (is ∙ sym is_row.own) in
+      let short = length-take (row.own_end - row.first) (drop row.first rs) in
+      let size : before + i < length front =
+      omega (arith, fits, ap length e, length-drop before front) in
+      let inside : before + i < row.own_end - row.first = omega (arith, size, short) in (
+        omega (arith, size, short, length-drop row.first rs),
+        there ∙ ap (λ xs. get_or xs i r) e ∙ grind (arith, inside, get_or-take, get_or-drop),
+      )
 
   abbrev start : ℕ
   start = get_or t.bounds k 0

@@ -1,7 +1,7 @@
 -- The counts of a walk over the names of a zone, the nodes of a zone, and their sets of records.
 use Rattle.std.specs.Prelude.{◌≡◌, ℕ, Bool, true, not, ◌&&◌, ◌==◌, ◌<◌, ◌≤◌, length, Option, None}
 use Rattle.std.specs.List.{find}
-use Rattle.std.specs.Option.{is_some, option_and_then}
+use Rattle.std.specs.Option.{is_some, option_map, option_and_then}
 use Rattle.dns_spec.specs.Names.{DomainName, folded, at_or_below, below, suffixes}
 use Rattle.dns_spec.specs.Data.{type_cname, target}
 use Rattle.dns_spec.specs.Records.{ResourceRecord, ZoneContents, rrset}
@@ -48,6 +48,10 @@ last_on_way z is_of_alias target = find (may_begin z is_of_alias) (suffixes (fol
 -- such a name for the target of a record
 abbrev pub hint_of : ZoneContents → ResourceRecord → Option DomainName
 hint_of z r = option_and_then (last_on_way z (r.rtype == type_cname)) (target r.rtype r.rdata)
+
+-- the node of that name
+abbrev pub hint_node : ZoneContents → ResourceRecord → Option ZoneNode
+hint_node z r = option_map (λ n. record { zone = z; name = n }) (hint_of z r)
 
 -- RFC 2181 5: the set is the RRset of its type at the node's name. It has at most 64 records.
 pub record IsSetOf (node : ZoneNode) (set : RecordSet) : Type 0 where

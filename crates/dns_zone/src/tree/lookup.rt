@@ -81,8 +81,8 @@ pub(crate) fn of_type<'a>(records: &'a [StoredRecord], rtype: RType) -> &'a [Sto
     &others[..others.partition_point(|entry| entry.rtype == rtype)]
 }
 
-// The number of records with a lower type.
-fn count_below(records: &[StoredRecord], rtype: RType) -> usize
+/// The number of records with a lower type, from records ordered by type.
+pub(crate) fn count_below(records: &[StoredRecord], rtype: RType) -> usize
     requires { IsNonDecreasingBy (λ (r : ResourceRecord). r.rtype) records.now }
     ensures bound { result ≤ length records.now }
     ensures others { drop result records.now

@@ -1,18 +1,19 @@
 //! The nodes of a zone: the names that exist in it (RFC 1034 3.1, RFC 4592 2.2).
 ghost use Rattle.std.specs.Prelude.{◌≡◌, ◌+◌, ◌<◌, ◌≤◌, ◌↔◌, [], ◌∷◌, map, length, get_or, if◌then◌else◌, IsTrue, IsSome, IfSome, MatchOption};
-ghost use Rattle.std.specs.Option.{is_some};
+ghost use Rattle.std.specs.List.{slice_get};
+ghost use Rattle.std.specs.Option.{is_some, option_and_then};
 ghost use Rattle.std.specs.Char.{to_ascii_lowercase};
 ghost use Rattle.std.specs.List.Sorted.{IsNonDecreasingBy};
 ghost use Rattle.dns_spec.specs.Records.{ResourceRecord, at, rrset};
 ghost use Rattle.dns_spec.specs.Sets.{set_of, of_lowest_type};
 ghost use Rattle.dns_spec.specs.Tree.{exists};
-ghost use Rattle.dns_zone.specs.Nodes.{IsNode, IsHint, IsSetOf};
-ghost use Rattle.dns_zone.specs.NodeForm.{IsZoneTree, node_at, IsNodeAt, IsZoneNode};
+ghost use Rattle.dns_zone.specs.Nodes.{IsNode, IsHint, IsSetOf, hint_node};
+ghost use Rattle.dns_zone.specs.NodeForm.{node_at, IsNodeAt, IsZoneNode};
 ghost use Rattle.dns_zone.specs.TreeForm.{kids_at};
 
 use crate::store::stored::StoredRecord;
 use crate::tree::kids::Kids;
-use crate::tree::lookup::of_type;
+use crate::tree::lookup::{count_below, of_type};
 use crate::tree::row::{Row, RowNumber};
 use crate::tree::set::{RecordSet, lent_set};
 use crate::tree::steps::Steps;
@@ -102,17 +103,27 @@ impl<'z> Node<'z> {
         NameRef::new(octets_of(self.tree.zone.records(), row))
     }
 
-    /// A node at which the way to a target may begin: to the target of record `i`, counted from 0,
-    /// of the type. `None` if none is stored; then the way begins at the apex. The node is not
-    /// visited yet.
+    /// The node at which the way to the target of record `i` of the type begins, counted from 0:
+    /// the last name on the way that exists below the origin, for an alias above each cut. `None`
+    /// if there is no such name or record; then the way begins at the apex. The node is not visited
+    /// yet.
     pub fn hint(&self, rtype: RType, i: usize) -> Option<TargetHint<'z>>
-        ensures { IfSome result (λ v. (v.zone ≡ self.now.zone)
+        ensures node { result ≡ option_and_then (hint_node self.now.zone)
+            (slice_get (rrset self.now.zone self.now.name rtype.0) i) }
+        ensures hint { IfSome result (λ v. (v.zone ≡ self.now.zone)
             × IsHint self.now.zone rtype.0 v.name) }
     {
         let row = &self.tree.rows.lent()[self.row.0];
-        let before = self.own().iter().position(|entry| entry.rtype == rtype)?;
-        let place = (row.first as usize).checked_add(before)?.checked_add(i)?;
-        hint_at(self.tree, place, rtype)
+        let own = self.own();
+        let before = count_below(own, rtype);
+        let record = own.split_at(before).1.get(i)?;
+        let hint = self.tree.hints.lent()[row.first as usize + before + i];
+        if hint == 0 || record.rtype != rtype {
+            return None;
+        }
+        Some(TargetHint {
+            node: Node::at(self.tree, RowNumber(hint)),
+        })
     }
 
     /// The records of a type at the name, ordered by data octets; `None` if there are none
@@ -163,23 +174,4 @@ pub(crate) fn own_of(tree: &Tree, row: RowNumber) -> &[StoredRecord]
 {
     let row = &tree.rows.lent()[row.0];
     &tree.zone.records()[row.first as usize..row.own_end as usize]
-}
-
-// The hint of the record at a place, if one is stored and the record is of the type.
-fn hint_at<'z>(tree: &'z Tree, place: usize, rtype: RType) -> Option<TargetHint<'z>>
-    requires { IsZoneTree tree.now }
-    ensures { IfSome result (λ v. (v.zone ≡ tree.now.zone)
-        × IsHint tree.now.zone rtype.0 v.name) }
-{
-    let (records, hints) = (tree.zone.records(), tree.hints.lent());
-    if place >= records.len() || place >= hints.len() {
-        return None;
-    }
-    let (record, hint) = (&records[place], hints[place]);
-    if hint == 0 || record.rtype.0 != rtype.0 {
-        return None;
-    }
-    Some(TargetHint {
-        node: Node::at(tree, RowNumber(hint)),
-    })
 }

@@ -71,7 +71,7 @@ returns-in_default-next_sought g c =
     let origin : c.origin.result.now ≡ z.origin = c.origin.ensures.value
     ∙ ap (λ (y : ZoneContents). y.origin) c.look_up.ensures.took.zone in
     let hint = leads-to z c.or_apex-node.result.now.zone type_cname true c.hint-hint.result
-    records.zone (λ _. refl) c.hint-hint.ensures in
+    records.zone (λ _. refl) c.hint-hint.ensures.hint in
     let next = c.in_default-next_sought.ensures z (sym origin) hint in
     let ended = c.ended.ensures in
     record {
@@ -97,7 +97,7 @@ returns g c =
     let origin : c.origin.result.now ≡ z.origin = c.origin.ensures.value
     ∙ ap (λ (y : ZoneContents). y.origin) first.zone in
     let hint = leads-to z c.or_apex-node.result.now.zone type_cname true c.hint-hint.result
-    records.zone (λ _. refl) c.hint-hint.ensures in
+    records.zone (λ _. refl) c.hint-hint.ensures.hint in
     let next = c.in-Some-next_sought.ensures z (sym origin) hint in
     let rest = λ (y : ZoneContents). chain_rest y c.args.qtype (aliases_left (s ∷ before))
     (s ∷ before) m.name in
