@@ -70,7 +70,7 @@ pub use Rattle.dns_spec.specs.Query.{QueryRead, absent, counts_are_one_question,
 unfoldable pub use Rattle.dns_spec.specs.Query.{query_read, question_at}
 pub use Rattle.dns_spec.specs.NamesInMessages.{NameAt, RunAt, pointer_place}
 pub use Rattle.dns_spec.specs.NamesInMessages.RunAt.{ends, goes_on, jumps}
-pub use Rattle.dns_spec.specs.Reading.{DnsMessage, Header, MessageQuestion, MessageRecord, NoMessage, Spells, data_at, data_fields, field_at, format_error, from_additionals, from_answers, from_authorities, last_section, message_question_at, message_record_at, name_before, name_error, no_error, not_implemented, question_after, record_after, record_with, field16, field32, head_of}
+pub use Rattle.dns_spec.specs.Reading.{DnsMessage, Header, MessageQuestion, MessageRecord, NoMessage, Spells, data_at, data_fields, field_at, format_error, from_additionals, from_answers, from_authorities, last_section, message_question_at, message_record_at, name_inside, name_error, no_error, not_implemented, question_after, record_after, record_with, field16, field32, head_of}
 unfoldable pub use Rattle.dns_spec.specs.Reading.{fields_at, message_at, several}
 pub use Rattle.dns_spec.specs.Records.{HoldSameRecords, ResourceRecord, ZoneContents, at, data_order, distinct, first_serial, insert_by, of_type, ordered_zone, owns, record_order, records_equal, rrset, sort_by, with_owner, zone_of, zone_serial}
 pub use Rattle.dns_spec.specs.Reply.{Decision, Reply, answer_with, answered, decide_query, fitting, greatest, header_alone, keep_longest, kept, question_alone, reply_message, reply_octets, reply_of, silence, truncated}

@@ -1,4 +1,5 @@
--- Which message octets spell.
+-- Which message octets spell. `name_at` gives the name at a place and the place after it: by a law
+-- that is what `NameAt` of NamesInMessages relates.
 use Rattle.std.specs.Prelude.{◌≡◌, ℕ, zero, suc, ◌+◌, ◌-◌, ◌&&◌, List, [], ◌∷◌, ◌++◌, length, take, drop, nat_le, ◌==◌, if◌then◌else◌}
 use Rattle.std.specs.Prelude.{Option, None, Some}
 use Rattle.std.specs.Option.{option_map, option_and_then}
@@ -71,13 +72,13 @@ question_after b (n, j) =
 abbrev pub message_question_at : Octets → ℕ → Option (MessageQuestion × ℕ)
 message_question_at b i = option_and_then (question_after b) (name_at b i)
 
--- A field at place i of data that ends before place e: its octets without compression, and the
--- place after it. RFC 1035 4.1.4: only a name may continue elsewhere.
-abbrev pub name_before : ℕ → SpelledName → Option (Octets × ℕ)
-name_before e (n, j) = if nat_le j e then Some (wire n, j) else None
+-- A field at place i of data that ends before place e, for i ≤ e ≤ length b: its octets without
+-- compression, and the place after it. RFC 1035 4.1.4: only a name may continue elsewhere.
+abbrev pub name_inside : ℕ → SpelledName → Option (Octets × ℕ)
+name_inside e (n, j) = if nat_le j e then Some (wire n, j) else None
 
 abbrev pub field_at : Octets → Field → ℕ → ℕ → Option (Octets × ℕ)
-field_at b domain i e = option_and_then (name_before e) (name_at b i)
+field_at b domain i e = option_and_then (name_inside e) (name_at b i)
 field_at b f i e =
     option_map (λ r. (part_octets r.0, e - length r.1)) (field_front f (take (e - i) (drop i b)))
 
@@ -87,7 +88,8 @@ fields_at b [] i e = if i == e then Some [] else None
 fields_at b (f ∷ fs) i e =
     option_and_then (λ r. option_map (λ d. r.0 ++ d) (fields_at b fs r.1 e)) (field_at b f i e)
 
--- The data from place i up to place e, by its type in class IN; in other classes it is any octets.
+-- The data from place i up to place e, by its type in class IN. In other classes, and for types
+-- without a row of fields, it is any octets, even if RFC 1035 3.3 has names in them (own).
 abbrev pub data_fields : ℕ → ℕ → List Field
 data_fields t c = if c == class_in then fields_of t else anything ∷ []
 

@@ -2,7 +2,7 @@
 use Rattle.dns_wire.proofs.Common.{AllByRecursion, ◌≡◌, ◌≢◌, ℕ, ◌+◌, ◌-◌, ◌<◌, ◌≤◌, Bool, true, false, ◌||◌, nat_le, ◌==◌, if◌then◌else◌, List, [], ◌∷◌, ◌++◌, length, take, drop, Some, None, ◌&&◌, is_some, option_map, unwrap_or, refl, sym, ap, ◌∙◌, subst, arith, length-append, length-take-le, length-drop, nil_from_length, and_parts, leb-true, eqb-true, list_all, find, Octets, DomainName, wire, class_in, Field, number, ipv4, ipv6, domain, anything, TypeRow, other_type, Part, name, part_octets, field_front, cut, valid, RunAt, ends, goes_on, jumps, name_at, name_at_computes, field_at, fields_at, data_at, field_again, field_whole, octets_part, front_taken, IsName-is_name, more_are_cut, data_fields, fields_of, none-some, le-leb, rules, inl, inr, ◌⊎◌, cond_some, false≢true}
 use Rattle.std.proofs.lemmas.Bool.{and_from, or_cases}
 use Rattle.dns_spec.specs.Data.{type_table}
-use Rattle.dns_spec.specs.Reading.{name_before}
+use Rattle.dns_spec.specs.Reading.{name_inside}
 use Rattle.dns_spec.proofs.DataWords.MadeData.{cut-domain}
 use Rattle.dns_spec.proofs.General.Options.{and_then_some, map_some}
 
@@ -63,7 +63,7 @@ module _ (b : Octets) (e : ℕ) (within : e ≤ length b) where
   name_read : (i j : ℕ) (o : Octets) → field_at b domain i e ≡ Some (o, j) → ReadField domain i j o
   unfolding most is_run
   name_read i j o h =
-      let at = and_then_some (name_before e) (name_at b i) (o, j) h in
+      let at = and_then_some (name_inside e) (name_at b i) (o, j) h in
       let n = at.0.0 in
       let test = cond_some (nat_le at.0.1 e) (wire n, at.0.1) (o, j) at.2 in
       let there = (name_at_computes b i n at.0.1).0 at.1 in

@@ -72,6 +72,32 @@ fn faults_by_what_is_changed(rt: HostRuntime) -> Result<(), Fail> {
     Ok(())
 }
 
+// A response with one answer, whose owner is the root, and the code of its fault.
+#[test]
+fn data_by_class_and_type(rt: HostRuntime) -> Result<(), Fail> {
+    let rows: [(&str, &[u8], u8); 4] = [
+        (
+            "A in another class",
+            b"\0\x01\0\x03\0\0\0\x01\0\x03\x01\x02\x03",
+            0,
+        ),
+        (
+            "A of three octets",
+            b"\0\x01\0\x01\0\0\0\x01\0\x03\x01\x02\x03",
+            5,
+        ),
+        ("TXT without a string", b"\0\x10\0\x01\0\0\0\x01\0\0", 5),
+        ("MX of one octet", b"\0\x0f\0\x01\0\0\0\x01\0\x01\0", 5),
+    ];
+    for (name, record, wanted) in rows {
+        let mut octets = Vec::new(rt.alloc());
+        octets.extend_from_slice(b"\x12\x34\x84\0\0\0\0\x01\0\0\0\0\0")?;
+        octets.extend_from_slice(record)?;
+        assert_eq!(rt; fault(rt, &octets), wanted, "{name}");
+    }
+    Ok(())
+}
+
 #[test]
 fn beginnings_are_short(rt: HostRuntime) -> Result<(), Fail> {
     for count in 0..ANSWER.len() {
