@@ -1,13 +1,11 @@
 -- The names that most proofs cite, passed on from one place. Declares nothing.
-pub use Rattle.dns_spec.proofs.Common.{data_fields, data_at, field_at, field32, head_of, message_question_at, message_record_at, question_after, record_after, record_with, from_answers, from_authorities, from_additionals, last_section, NoMessage, All, AllByRecursion, Bool, Bor, DnsMessage, DomainName, Header, IfErr, IfSome, IsAskable, IsErrAnd, IsWritable, Item, Laid, List, MessageQuestion, MessageRecord, NameAt, None, Octets, OnTrue, Option, Part, Field, Placed, RecordSet, ResourceRecord, Result, RunAt, Sharing, Some, Spells, TypeRow, [], add-zero, and_parts, anything, ap, append-nil, append_assoc, ap₂, are_strings, arith, asked_octets, asked_placed, class_in, compresses, cond, cond_some, data_laid, domain, drop, drop-cons, drop-drop, drop-take, drop_at, ends, eq-eqb, eqb-true, err_from_is_err_and, false, false≢true, field16, find, flat_map-append, get_or, get_or-drop, get_or-map, get_or-set_other, get_or-set_same, get_or-take, get_or_append_left, get_or_push, goes_on, has_suffix, header_octets, if◌then◌else◌, in_section, inl, inr, is_label, is_name, is_section, is_some, jumps, laid_front, laid_parts, last_place, le-leb, leb-false, leb-true, length, length-append, length-drop, length-map, length-replicate, length-set, length-take, length-take-le, list_all, lt-leb, ltb-false, ltb-true, map, message_of, name, name_if_short, nat_le, ne_eqb, nil_from_length, none-some, not, octets, octets16, octets32, octets_front, option_and_then, option_map, option_to_list, other_type, part_octets, parts, field_front, fields_of, place_of, pointer_place, question_octets, record_laid, record_tail, records_at, records_octets, records_of, refl, replicate, rules, same_Some, sections_in_order, shared_octets, shared_place, slice_get, slice_get-get_or, slice_get_past, slice_get_within, slice_set, string, string_front, strings, subst, subst₂, suc, suffix_place, sym, take, take-add, take-append-add, take-append-drop, take-append-le, take-append_seam, take_all, take_at, take_more, true, true≢false, type_mx, type_soa, unwrap_or, valid, wire, with_label, zero, ℕ, ◌%◌, ◌&&◌, ◌*◌, ◌++◌, ◌+◌, ◌-◌, ◌/◌, ◌<◌, ◌==◌, ◌^◌, ◌||◌, ◌↔◌, ◌∙◌, ◌∷◌, ◌≡◌, ◌≢◌, ◌≤◌, ◌⊎◌, number, ipv4, ipv6, suc-mul}
-unfoldable pub use Rattle.dns_spec.proofs.Common.{cut, data_by, fields_at, layout, message_at, several, name_at, octets_by, question_at, records_by, size}
+pub use Rattle.dns_spec.proofs.Common.{data_fields, data_at, field_at, message_question_at, message_record_at, All, AllByRecursion, Bool, Bor, DomainName, Header, IfSome, IsAskable, IsWritable, Item, Laid, List, MessageQuestion, NameAt, None, Octets, OnTrue, Option, Part, Field, Placed, RecordSet, ResourceRecord, RunAt, Sharing, Some, Spells, TypeRow, [], add-zero, and_parts, anything, ap, append-nil, append_assoc, ap₂, arith, asked_octets, asked_placed, class_in, compresses, cond, cond_some, data_laid, domain, drop, drop-cons, drop-drop, drop-take, drop_at, ends, eq-eqb, eqb-true, false, false≢true, field16, find, flat_map-append, get_or, get_or-map, get_or-set_other, get_or-set_same, get_or_append_left, get_or_push, goes_on, has_suffix, header_octets, if◌then◌else◌, in_section, inl, inr, is_label, is_name, is_section, is_some, jumps, laid_front, laid_parts, last_place, le-leb, leb-false, leb-true, length, length-append, length-drop, length-map, length-replicate, length-set, length-take, length-take-le, list_all, lt-leb, map, message_of, name, name_if_short, nat_le, ne_eqb, nil_from_length, none-some, octets, octets16, octets32, option_and_then, option_map, option_to_list, other_type, part_octets, parts, field_front, fields_of, place_of, pointer_place, question_octets, record_laid, record_tail, records_at, records_octets, records_of, refl, replicate, rules, same_Some, sections_in_order, shared_octets, shared_place, slice_get, slice_get-get_or, slice_get_past, slice_get_within, slice_set, subst, subst₂, suc, suffix_place, sym, take, take-add, take-append-add, take-append-drop, take-append-le, take-append_seam, take_all, take_at, take_more, true, true≢false, type_mx, type_soa, unwrap_or, valid, wire, with_label, zero, ℕ, ◌%◌, ◌&&◌, ◌*◌, ◌++◌, ◌+◌, ◌-◌, ◌/◌, ◌<◌, ◌==◌, ◌^◌, ◌||◌, ◌↔◌, ◌∙◌, ◌∷◌, ◌≡◌, ◌≢◌, ◌≤◌, ◌⊎◌, number, ipv4, ipv6, suc-mul}
+unfoldable pub use Rattle.dns_spec.proofs.Common.{cut, data_by, fields_at, layout, several, name_at, octets_by, question_at, records_by, size}
 pub use Rattle.std.proofs.Common.{IsFalse, lt_of_not-le}
 pub use Rattle.std.specs.List.{refill}
-pub use Rattle.std.specs.Option.{option_copied}
-pub use Rattle.std.proofs.lemmas.List.{get_or-replicate, take-take}
+pub use Rattle.std.proofs.lemmas.List.{get_or-replicate}
 pub use Rattle.std.proofs.lemmas.Nat.{mod_below}
-pub use Rattle.std.proofs.lemmas.Option.{get_or_from_slice_get, slice_get-map}
-pub use Rattle.dns_name.proofs.OctetRuns.{eight_tell, low_end}
+pub use Rattle.std.proofs.lemmas.Option.{slice_get-map}
 pub use Rattle.dns_name.proofs.WireLemmas.{IsWireForm-wire, labels_of_spelled}
 pub use Rattle.dns_name.specs.WireForm.{IsWireForm}
 unfoldable pub use Rattle.dns_name.specs.WireForm.{labels_of}
@@ -15,9 +13,8 @@ pub use Rattle.dns_rdata.proofs.PartLemmas.{more_are_cut}
 pub use Rattle.dns_rdata.specs.Parts.{Cuts, IsLent, part_for}
 pub use Rattle.dns_rdata.specs.TypeRows.{field_of, fields_in}
 pub use Rattle.dns_rdata.specs.declared.parts.Part.TheVariants.{Name}
-pub use Rattle.dns_spec.proofs.DataWords.WrittenData.{cut_into, field_again, field_whole, octets_field, front_taken, name_part, octets_part}
+pub use Rattle.dns_spec.proofs.DataWords.WrittenData.{cut_into, field_again, field_whole, front_taken, name_part, octets_part}
 pub use Rattle.dns_spec.proofs.DomainNames.NameLaws.{IsName-is_name, is_label-head, is_name-push, is_name-tail, wire-injective}
-pub use Rattle.dns_spec.proofs.DomainNames.WireNames.{name_of-wire}
 pub use Rattle.dns_spec.proofs.Layouts.LayoutSize.{length-layout, length-record_tail}
 pub use Rattle.dns_spec.proofs.Layouts.LeastSize.{past_limit}
 pub use Rattle.dns_spec.proofs.Layouts.SameLayout.{begins_inside}
@@ -26,7 +23,7 @@ pub use Rattle.dns_spec.proofs.Layouts.SharedNames.{Known, known_more, place_aga
 pub use Rattle.dns_spec.proofs.Messages.NameReading.{name_at_12, run12_high, run12_label, run12_label_past, run12_missing, run12_root}
 unfoldable pub use Rattle.dns_spec.proofs.Messages.NameReading.{run12}
 pub use Rattle.dns_spec.proofs.Messages.NameReading.{name_at_computes, name_computed}
-pub use Rattle.dns_spec.proofs.Messages.Sections.{data_read, field_own, message_read, name_field, question_read, record_read}
+pub use Rattle.dns_spec.proofs.Messages.Sections.{data_read, field_own}
 pub use Rattle.dns_spec.proofs.Messages.Places.{Stands, label_parts, run_written}
 pub use Rattle.dns_wire.specs.Chains.{AreChains, chain_of, entry_at, kept_in, last_with}
 pub use Rattle.dns_wire.specs.Draft.{Draft, Grows, HasNames, IsDraft, IsWellKept, Writes, WritesAfter, counts_of, draft_of, item_of, known_places, names_so_far, no_draft, with_counted, with_octets, with_set}
@@ -34,13 +31,11 @@ pub use Rattle.dns_wire.specs.Kept.{HasAt, HasPlace, IsKept, IsSharedAt, Kept, N
 pub use Rattle.dns_wire.specs.Labels.{IsReading, LabelAt, NoRunAt, PointerAt, end_or}
 pub use Rattle.dns_wire.specs.FieldReads.{AreFieldsRead, IsFieldRead}
 pub use Rattle.dns_wire.specs.QueryForm.{NameEnds}
-pub use Rattle.dns_wire.specs.Read.{AreRead, HeaderAt}
+pub use Rattle.dns_wire.specs.Read.{AreRead}
 pub use Rattle.dns_wire.specs.SuffixNumbers.{with_eights}
 unfoldable pub use Rattle.dns_wire.specs.SuffixNumbers.{octets_number, suffix_number}
-pub use Rattle.dns_wire.specs.WireFault.{UnlessNoMemory}
 pub use Rattle.dns_wire.specs.Writing.{AfterLabel, Answers, Follows, Form, Holds, IsAsked, IsForm, IsLaid, IsLaidAs, IsLastOf, Layout, NotAsked, both_laid, end_octets, form_again, name_before, name_laid, octets_laid, parts_laid, shown, tail_laid}
 unfoldable pub use Rattle.dns_wire.specs.Writing.{asked_places, front_size, new_places, pointed_place, records_laid}
-pub use Rattle.dns_wire.specs.declared.fault.WireFault.{WireFault}
 pub use Rattle.dns_wire.specs.declared.message.Counts.{Counts}
 pub use Rattle.dns_wire.specs.declared.page.Section.{Section}
 pub use Rattle.dns_wire.specs.declared.places.KeptPlace.{KeptPlace}

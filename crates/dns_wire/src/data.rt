@@ -16,6 +16,7 @@ use std::alloc::Global;
 ///
 /// Data of a class other than IN is any octets. `BadData` if the octets do not exactly fill the
 /// fields of the type; a name is read first, over the whole message.
+#[tactic(auto, unfolding(dns_spec::specs::Reading::fields_at))]
 pub(crate) fn read_data(
     alloc: Global,
     message: &[u8],

@@ -19,6 +19,7 @@ type Read<T> = Result<(T, usize), WireFault>;
 ///
 /// The fault is the first one from the left: in the header, the questions, or the records.
 /// `NoMemory` only if an allocation fails.
+#[tactic(auto, unfolding(dns_spec::specs::Reading::message_at))]
 pub fn read_message(alloc: Global, octets: &[u8]) -> Result<Message, WireFault>
     ensures ok { IfOk result (λ message. Spells octets.now message) }
     ensures err { IfErr result (λ fault. UnlessNoMemory fault (NoMessage octets.now)) }
@@ -60,6 +61,7 @@ fn read_header(octets: &[u8]) -> Result<(Head, Counts), WireFault>
     Ok((head, counts))
 }
 
+#[tactic(auto, using(crate::proofs::ReadLemmas::read_none, crate::proofs::ReadLemmas::read_more, crate::proofs::ReadLemmas::read_end))]
 fn read_questions(alloc: Global, message: &[u8], count: u16, at: usize) -> Read<Vec<Question>>
     requires { at ≤ length message.now }
     ensures ok { IfOk result
@@ -84,6 +86,7 @@ fn read_questions(alloc: Global, message: &[u8], count: u16, at: usize) -> Read<
     Ok((questions, place))
 }
 
+#[tactic(auto, using(crate::proofs::ReadLemmas::read_none, crate::proofs::ReadLemmas::read_more, crate::proofs::ReadLemmas::read_end))]
 fn read_records(alloc: Global, message: &[u8], count: u16, at: usize) -> Read<Vec<WireRecord>>
     requires { at ≤ length message.now }
     ensures ok { IfOk result

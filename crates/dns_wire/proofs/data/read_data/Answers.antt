@@ -1,31 +1,17 @@
 use Rattle.dns_wire.proofs.Common.{ℕ, List, arith, ◌≡◌, nil_from_length, Octets, fields_in, AreFieldsRead, data_read}
 use Rattle.dns_spec.specs.Data as Data
 use Rattle.dns_rdata.specs.declared.table.Field.{Field}
-use Rattle.dns_wire.proofs.FieldLemmas.{data_none, fields_none, fields_past, field_more, fields_end}
+use Rattle.dns_wire.proofs.FieldLemmas.{field_more, fields_end}
 use Rattle.dns_wire.proofs.ValidData.{data_valid}
-use Rattle.dns_wire.proofs.Anyway.{handed_on}
 use Rattle.dns_wire.proofs.data.read_data.Goals as goal
 
 left : {b o : Octets} {all : List Data.Field} {i e j : ℕ} {ps qs : List Field} → ps ≡ qs
     → AreFieldsRead b all i e (fields_in ps) j o → AreFieldsRead b all i e (fields_in qs) j o
 left {b} {o} {all} {i} {e} {j} same reading = grind arith
 
-pub returns-in_err-place-clause-err : goal.returns-in_err-place-clause-err
-returns-in_err-place-clause-err c =
-    handed_on _ _ c.from_residual.ensures.1
-    (λ none. data_none _ c.args.rtype.0 c.args.rclass _ _
-    (fields_none (left c.in-Some.ensures.cases.0 c.fields.invariant) none))
-    c.in_err-place.ensures.err
-
 pub fields-preserved : goal.fields-preserved
 fields-preserved c =
     field_more (left c.in-Some.ensures.cases.0 c.fields.invariant) c.in_ok-place.ensures.ok
-
-pub returns-then-place-end-clause-err : goal.returns-then-place-end-clause-err
-returns-then-place-end-clause-err c _ =
-    data_none _ c.args.rtype.0 c.args.rclass _ _
-    (fields_past (left (nil_from_length _ c.in_default.ensures.cases) c.fields.invariant)
-    c.if-place-end.true)
 
 pub returns-clause-ok : goal.returns-clause-ok
 returns-clause-ok c =
