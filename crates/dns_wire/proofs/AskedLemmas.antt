@@ -28,18 +28,6 @@ pub is_asked_same : {b b' : Octets} {a a' : ℕ}
     → IsAsked b a → take a b' ≡ take a b → a' ≡ a → a ≤ length b' → IsAsked b' a'
 is_asked_same {b} {b'} {a} asked e same inside = grind (arith, name_same)
 
--- another header before the question
-pub is_asked_after : {b b' : Octets} {a : ℕ}
-    → IsAsked b a → drop 12 b' ≡ drop 12 b → length b' ≡ length b → IsAsked b' a
-is_asked_after {b} {b'} {a} asked e long =
-    let inside = asked.inside in
-    record {
-      after = asked.after;
-      inside = omega (arith, inside, long);
-      near = asked.near;
-      name = λ some. subst IsWireForm (ap (take (a - 12)) (sym e)) (asked.name some);
-    }
-
 pub is_asked_more : {b b' : Octets} {a a' : ℕ} (o : Octets)
     → IsAsked b a → b' ≡ b ++ o → a' ≡ a → IsAsked b' a'
 is_asked_more {b} {b'} {a} o asked e same =

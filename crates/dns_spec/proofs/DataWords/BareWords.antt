@@ -56,10 +56,6 @@ digits_octet p x rest digit none small after = grind arith
 bare_below_10 : (e : ℕ) → e < 10 → is_word_octet (48 + e) ≡ true
 bare_below_10 e small = agree_below_at (λ d. is_word_octet (48 + d)) (λ d. true) 10 e refl small
 
-pub graphic_bare : (x : ℕ)
-    → x < 256 → is_special x ≡ false → is_ascii_graphic x ≡ true → is_word_octet x ≡ true
-graphic_bare x small other graphic = grind (arith, follows, agree_below_at, and_from)
-
 special_graphic : (x : ℕ) → x < 256 → is_special x ≡ true → is_ascii_graphic x ≡ true
 special_graphic x small special = grind arith
 

@@ -21,10 +21,6 @@ pub and_then_some : {A B : Type 0} (f : A → Option B) (o : Option A) (y : B)
 and_then_some f None y e = cc
 and_then_some f (Some x) y e = (x, refl, e)
 
-pub if_some : {A : Type 0} (t : Bool) (x y : A)
-    → (if t then Some x else None) ≡ Some y → (t ≡ true) × (x ≡ y)
-if_some t x y h = grind arith
-
 pub is_some-option_map : {A B : Type 0} (f : A → B) (x : Option A)
     → is_some (option_map f x) ≡ is_some x
 is_some-option_map f x = grind arith

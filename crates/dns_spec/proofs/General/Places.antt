@@ -20,9 +20,6 @@ get_dropped zero k b = ap (slice_get b) {x = k} {y = 0 + k} (omega arith)
 get_dropped (suc s) k [] = refl
 get_dropped (suc s) k (x ∷ b) = grind (arith, (get_dropped s k b))
 
-pub get_front : (x y : List ℕ) (k : ℕ) → k < length x → slice_get (x ++ y) k ≡ slice_get x k
-get_front x y k h = let at = slice_get-get_or x k 0 h in get_more x y k _ at ∙ sym at
-
 pub get_seam : (x y : List ℕ) → slice_get (x ++ y) (length x) ≡ slice_get y 0
 get_seam [] y = refl
 get_seam (o ∷ x) y = get_seam x y

@@ -11,10 +11,6 @@ pub uncut : (place more : Octets)
     → is_cut_short place ≡ false → is_cut_short (place ++ more) ≡ false
 uncut place more h = grind arith
 
-counted_more : (text more : Octets) → (counted_escape text ≡ 0 → is_cut_short (92 ∷ text) ≡ false)
-    → counted_escape (text ++ more) ≡ counted_escape text
-counted_more text more h = grind arith
-
 module _ (by : ℕ → Bool) where
   unit_more : (o : ℕ) (text more : Octets) → (unit_left by o text ≡ None
       → is_cut_short (o ∷ text) ≡ false) → unit_left by o (text ++ more) ≡ unit_left by o text

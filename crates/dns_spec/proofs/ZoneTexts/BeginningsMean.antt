@@ -183,10 +183,6 @@ cut_place : (is_open : Bool) (o : ℕ) (text : Octets) → is_cut_short (stop_pl
     → stop_fault beginning is_open (stop_at (o ∷ text)) ≡ Some too_long
 cut_place is_open o text = grind arith
 
-cut_rest : (is_open : Bool) (rest : Octets)
-    → is_cut_short rest ≡ true → stop_fault beginning is_open (stop_at rest) ≡ Some too_long
-cut_rest is_open rest h = grind arith
-
 -- the entries that a text is known to begin with keep their meaning, whatever follows them
 module _ (o : DomainName) (fault : FileFault) (line : ℕ) where
   entries_then : (earlier es xs ys : List Entry) → ((before : List Entry) → EntriesMean o before xs

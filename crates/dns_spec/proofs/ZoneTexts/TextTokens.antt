@@ -9,11 +9,6 @@ closed-shorter : (n : ℕ) (raw text : Octets) → length text < n → Shorter n
 unfolding Shorter
 closed-shorter n raw text h = grind arith
 
-word-shorter : (k : ℕ) (o : ℕ) (text : Octets) → Shorter (length (o ∷ text))
-    (if k == 0 then None else Some (word (take k (o ∷ text)), drop k (o ∷ text)))
-unfolding Shorter
-word-shorter k o text = grind (arith, length-drop)
-
 shorter : (text : Octets) → Shorter (length text) (token_front text)
 unfolding Shorter
 shorter text = grind (arith, length-drop, closed-shorter)
