@@ -142,7 +142,7 @@ const REFUSED: &[u8] = b"\x12\x34\x80\x05\x00\x01\x00\x00\x00\x00\x00\x00";
 const NOT_IMPLEMENTED: &[u8] = b"\x12\x34\x80\x04\x00\x01\x00\x00\x00\x00\x00\x00";
 
 /// A question, and the header of the reply, which repeats the question.
-pub const QUESTIONS: [(&[u8], &[u8]); 6] = [
+pub const QUESTIONS: &[(&[u8], &[u8])] = &[
     (b"\x03www\x05other\x00\x00\x01\x00\x01", REFUSED),
     (b"\x03www\x07example\x00\x00\x01\x00\x03", REFUSED),
     (b"\x07example\x00\x00\xfc\x00\x01", NOT_IMPLEMENTED),
@@ -153,7 +153,7 @@ pub const QUESTIONS: [(&[u8], &[u8]); 6] = [
 ];
 
 /// A message in pieces, and its reply, which is empty if there is none.
-pub const MESSAGES: [(&[&[u8]], &[&[u8]]); 7] = [
+pub const MESSAGES: &[(&[&[u8]], &[&[u8]])] = &[
     (
         &[
             b"\x12\x34\x80\x00\x00\x01\x00\x00\x00\x00\x00\x00",

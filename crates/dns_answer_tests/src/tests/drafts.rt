@@ -11,7 +11,7 @@ use std::test::Fail;
 
 // A long answer of each kind, a name that does not exist, and questions that are refused. Each
 // leaves more, or less, in the room than the next one writes.
-const QUESTIONS: [&[u8]; 6] = [
+const QUESTIONS: &[&[u8]] = &[
     b"\x01y\x07example\x00\x00\x21\x00\x01",
     b"\x03none\x07example\x00\x00\x01\x00\x01",
     b"\x01x\x07example\x00\x00\x10\x00\x01",
@@ -94,8 +94,8 @@ fn check_drafts(rt: &impl Abort, alloc: Global, zone: &Zone) -> Result<(), Fail>
         short: UdpDraft::new(),
         large: TcpDraft::new(),
     };
-    for first in QUESTIONS {
-        for second in QUESTIONS {
+    for &first in QUESTIONS {
+        for &second in QUESTIONS {
             for question in [first, second] {
                 for limit in [Limit::Udp, Limit::Tcp] {
                     let is_alike = is_alike(alloc, zone, &mut drafts, limit, question)?;

@@ -29,7 +29,7 @@ fn sets_about_the_limit_of_udp(rt: HostRuntime) -> Result<(), Fail> {
 
 // A question, its transport, the header of its record, whose data ends with the longest string and
 // a second one, and the length of the second one.
-const STRINGS: [(&[u8], Limit, &[u8], u8); 2] = [
+const STRINGS: &[(&[u8], Limit, &[u8], u8)] = &[
     (
         b"\x01t\x07example\x00\x00\x10\x00\x01",
         Limit::Udp,
@@ -55,12 +55,12 @@ fn has_strings(
 ) -> Result<bool, Fail> {
     let head = b"\x12\x34\x84\x00\x00\x01\x00\x01\x00\x00\x00\x00";
     let last = &LETTERS[..usize::from(count)];
-    let wanted: [&[u8]; 6] = [head, question, record, &LETTERS, &[count], last];
+    let wanted: [&[u8]; 6] = [head, question, record, LETTERS, &[count], last];
     is_reply(alloc, zone, limit, question, &wanted)
 }
 
 fn check_limit(rt: &impl Abort, alloc: Global, zone: &Zone) -> Result<(), Fail> {
-    for (question, limit, record, count) in STRINGS {
+    for &(question, limit, record, count) in STRINGS {
         assert!(rt; has_strings(alloc, zone, limit, question, record, count)?);
     }
     Ok(())
@@ -84,7 +84,7 @@ fn addresses(alloc: Global, owner: &[u8]) -> Result<Vec<u8>, Fail> {
 }
 
 // A question, the header, the record before the addresses, and the owner of the addresses.
-const SIXTY_FOUR: [(&[u8], &[u8], &[u8], &[u8]); 3] = [
+const SIXTY_FOUR: &[(&[u8], &[u8], &[u8], &[u8])] = &[
     (
         b"\x01m\x07example\x00\x00\x0f\x00\x01",
         b"\x12\x34\x84\x00\x00\x01\x00\x01\x00\x00\x00\x40",
@@ -120,7 +120,7 @@ fn ends_so(
 }
 
 fn check_addresses(rt: &impl Abort, alloc: Global, zone: &Zone) -> Result<(), Fail> {
-    for (question, head, before, owner) in SIXTY_FOUR {
+    for &(question, head, before, owner) in SIXTY_FOUR {
         assert!(rt; ends_so(alloc, zone, question, head, before, owner)?);
     }
     Ok(())

@@ -10,8 +10,8 @@ use std::process::Abort;
 use std::test::Fail;
 
 // The query of `www.example. IN A`.
-const WWW: [u8; 29] =
-    *b"\x12\x34\x00\x00\x00\x01\x00\x00\x00\x00\x00\x00\x03www\x07example\x00\x00\x01\x00\x01";
+const WWW: &[u8] =
+    b"\x12\x34\x00\x00\x00\x01\x00\x00\x00\x00\x00\x00\x03www\x07example\x00\x00\x01\x00\x01";
 
 #[test]
 fn datagrams_that_get_no_records(rt: HostRuntime) -> Result<(), Fail> {
@@ -22,7 +22,7 @@ fn datagrams_that_get_no_records(rt: HostRuntime) -> Result<(), Fail> {
 }
 
 fn check_messages(rt: &impl Abort, alloc: Global, zone: &Zone) -> Result<(), Fail> {
-    for (sent, wanted) in MESSAGES {
+    for &(sent, wanted) in MESSAGES {
         let found = tried(alloc, zone, Limit::Udp, sent, wanted)?;
         assert!(rt; found.is_wanted && found.visits == 0, "{sent:?}");
     }
@@ -39,7 +39,7 @@ fn check_beginnings(rt: &impl Abort, alloc: Global, zone: &Zone) -> Result<(), F
 }
 
 fn check_questions(rt: &impl Abort, alloc: Global, zone: &Zone) -> Result<(), Fail> {
-    for (question, head) in QUESTIONS {
+    for &(question, head) in QUESTIONS {
         for limit in [Limit::Udp, Limit::Tcp] {
             let sent = [QUERY, question];
             let found = tried(alloc, zone, limit, &sent, &[head, question])?;

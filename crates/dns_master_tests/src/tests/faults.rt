@@ -5,7 +5,7 @@ use super::reading::{Row, judge};
 use std::test::Fail;
 
 // `R01`: invalid octets.
-const OCTETS: [Row<'static>; 14] = [
+const OCTETS: &[Row<'static>] = &[
     (b"\x00", (1, 1)),
     (b"a\x7f", (1, 1)),
     (b"\x80", (1, 1)),
@@ -23,7 +23,7 @@ const OCTETS: [Row<'static>; 14] = [
 ];
 
 // `R02`: backslashes that begin no escape.
-const ESCAPES: [Row<'static>; 15] = [
+const ESCAPES: &[Row<'static>] = &[
     (b"\\", (2, 1)),
     (b"\\\n", (2, 1)),
     (b"\\\r\n", (2, 1)),
@@ -42,7 +42,7 @@ const ESCAPES: [Row<'static>; 15] = [
 ];
 
 // `R03`: strings that do not end.
-const STRINGS: [Row<'static>; 6] = [
+const STRINGS: &[Row<'static>] = &[
     (b"\"", (3, 1)),
     (b"\"a\nb\"", (3, 1)),
     (b"\"a\r\nb\"", (3, 1)),
@@ -52,7 +52,7 @@ const STRINGS: [Row<'static>; 6] = [
 ];
 
 // `R04`: parentheses that do not end, or do not begin.
-const PARENTHESES: [Row<'static>; 10] = [
+const PARENTHESES: &[Row<'static>] = &[
     (b"(", (4, 1)),
     (b")", (4, 1)),
     (b"(()", (4, 1)),
@@ -66,7 +66,7 @@ const PARENTHESES: [Row<'static>; 10] = [
 ];
 
 // The first of several faults, by place.
-const PLACES: [Row<'static>; 16] = [
+const PLACES: &[Row<'static>] = &[
     (b"\x00 \\256", (1, 1)),
     (b"\\256 \x00", (2, 1)),
     (b") \x00", (4, 1)),
@@ -86,7 +86,7 @@ const PLACES: [Row<'static>; 16] = [
 ];
 
 // `R05` and `R06`: directives.
-const DIRECTIVES: [Row<'static>; 33] = [
+const DIRECTIVES: &[Row<'static>] = &[
     (b"$", (5, 1)),
     (b"$X", (5, 1)),
     (b"$INCLUDE x", (5, 1)),
@@ -123,7 +123,7 @@ const DIRECTIVES: [Row<'static>; 33] = [
 ];
 
 // `R07` and `R08`: owners.
-const OWNERS: [Row<'static>; 8] = [
+const OWNERS: &[Row<'static>] = &[
     (b"a..b 1 A 192.0.2.1", (7, 1)),
     (b".a 1 A 192.0.2.1", (7, 1)),
     (b"\"\" 1 A 192.0.2.1", (7, 1)),
@@ -135,7 +135,7 @@ const OWNERS: [Row<'static>; 8] = [
 ];
 
 // `R09`: TTLs.
-const TTLS: [Row<'static>; 12] = [
+const TTLS: &[Row<'static>] = &[
     (b"\n ;\na 0 A 192.0.2.1\n A 192.0.2.2", (0, 0)),
     (b"a 2147483647 A 192.0.2.1", (0, 0)),
     (b"a 2147483648 A 192.0.2.1", (9, 1)),
@@ -151,7 +151,7 @@ const TTLS: [Row<'static>; 12] = [
 ];
 
 // `R10`: classes.
-const CLASSES: [Row<'static>; 17] = [
+const CLASSES: &[Row<'static>] = &[
     (b"a 1 CH A 192.0.2.1", (10, 1)),
     (b"a cs 1 A 192.0.2.1", (10, 1)),
     (b"a hS A 192.0.2.1", (10, 1)),
@@ -172,7 +172,7 @@ const CLASSES: [Row<'static>; 17] = [
 ];
 
 // `R11`: types.
-const TYPES: [Row<'static>; 41] = [
+const TYPES: &[Row<'static>] = &[
     (b"a", (11, 1)),
     (b"a 1", (11, 1)),
     (b"a IN", (11, 1)),
@@ -217,7 +217,7 @@ const TYPES: [Row<'static>; 41] = [
 ];
 
 // `R12`: missing TTLs.
-const NO_TTLS: [Row<'static>; 6] = [
+const NO_TTLS: &[Row<'static>] = &[
     (b"a A 192.0.2.1", (12, 1)),
     (b"a IN A 192.0.2.1", (12, 1)),
     (b"a A x", (12, 1)),
@@ -227,7 +227,7 @@ const NO_TTLS: [Row<'static>; 6] = [
 ];
 
 // `R13`: data.
-const DATA: [Row<'static>; 16] = [
+const DATA: &[Row<'static>] = &[
     (b"a 1 A", (13, 1)),
     (b"a 1 A 192.0.2.1 x", (13, 1)),
     (b"a 1 A \"192.0.2.1\"", (13, 1)),
@@ -248,60 +248,60 @@ const DATA: [Row<'static>; 16] = [
 
 #[test]
 fn octets_that_are_not_allowed(rt: HostRuntime) -> Result<(), Fail> {
-    judge(&rt, &OCTETS)
+    judge(&rt, OCTETS)
 }
 
 #[test]
 fn backslashes_that_begin_no_escape(rt: HostRuntime) -> Result<(), Fail> {
-    judge(&rt, &ESCAPES)
+    judge(&rt, ESCAPES)
 }
 
 #[test]
 fn strings_that_are_not_ended(rt: HostRuntime) -> Result<(), Fail> {
-    judge(&rt, &STRINGS)
+    judge(&rt, STRINGS)
 }
 
 #[test]
 fn parentheses_that_do_not_match(rt: HostRuntime) -> Result<(), Fail> {
-    judge(&rt, &PARENTHESES)
+    judge(&rt, PARENTHESES)
 }
 
 #[test]
 fn the_first_fault_by_place(rt: HostRuntime) -> Result<(), Fail> {
-    judge(&rt, &PLACES)
+    judge(&rt, PLACES)
 }
 
 #[test]
 fn directives(rt: HostRuntime) -> Result<(), Fail> {
-    judge(&rt, &DIRECTIVES)
+    judge(&rt, DIRECTIVES)
 }
 
 #[test]
 fn owners(rt: HostRuntime) -> Result<(), Fail> {
-    judge(&rt, &OWNERS)
+    judge(&rt, OWNERS)
 }
 
 #[test]
 fn ttls(rt: HostRuntime) -> Result<(), Fail> {
-    judge(&rt, &TTLS)
+    judge(&rt, TTLS)
 }
 
 #[test]
 fn classes(rt: HostRuntime) -> Result<(), Fail> {
-    judge(&rt, &CLASSES)
+    judge(&rt, CLASSES)
 }
 
 #[test]
 fn types(rt: HostRuntime) -> Result<(), Fail> {
-    judge(&rt, &TYPES)
+    judge(&rt, TYPES)
 }
 
 #[test]
 fn ttls_that_are_not_known(rt: HostRuntime) -> Result<(), Fail> {
-    judge(&rt, &NO_TTLS)
+    judge(&rt, NO_TTLS)
 }
 
 #[test]
 fn data(rt: HostRuntime) -> Result<(), Fail> {
-    judge(&rt, &DATA)
+    judge(&rt, DATA)
 }

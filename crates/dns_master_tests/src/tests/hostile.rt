@@ -9,7 +9,7 @@ use std::test::Fail;
 // A beginning, a text and how often it is repeated, and the fault.
 type Hostile<'a> = (&'a [u8], &'a [u8], usize, (u8, u32));
 
-const FILES: [Hostile<'static>; 29] = [
+const FILES: &[Hostile<'static>] = &[
     (b"", b"(", 1_000_000, (4, 1)),
     (b"", b"(\n", 1_000_000, (4, 1)),
     (b"", b")", 1_000_000, (4, 1)),
@@ -43,7 +43,7 @@ const FILES: [Hostile<'static>; 29] = [
 
 #[test]
 fn files_that_are_written_to_do_harm(rt: HostRuntime) -> Result<(), Fail> {
-    for (begin, piece, times, wanted) in FILES {
+    for &(begin, piece, times, wanted) in FILES {
         let mut text = repeated(rt.alloc(), begin, 1)?;
         text.extend_from_slice(repeated(rt.alloc(), piece, times)?.as_slice())?;
         let reported = fault(rt.alloc(), text.as_slice())?;

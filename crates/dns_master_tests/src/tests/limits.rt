@@ -11,7 +11,7 @@ const RECORD: &[u8] = b"a A 192.0.2.1\n";
 // The last octets up to the limit, on the second line; the octets after it; and the fault.
 type Limit<'a> = (&'a [u8], &'a [u8], (u8, u32));
 
-const LIMITS: [Limit<'static>; 33] = [
+const LIMITS: &[Limit<'static>] = &[
     (b"", b"", (0, 0)),
     (b"", b"x", (15, 2)),
     (b"\n", b"x", (15, 3)),
@@ -59,7 +59,7 @@ fn fill(text: &mut Vec<u8>, within: &[u8], beyond: &[u8]) -> Result<(), AllocErr
 #[test]
 fn what_stands_at_the_limit(rt: HostRuntime) -> Result<(), Fail> {
     let mut text = Vec::new(rt.alloc());
-    for (within, beyond, wanted) in LIMITS {
+    for &(within, beyond, wanted) in LIMITS {
         fill(&mut text, within, beyond)?;
         assert_eq!(rt; text.len(), MOST_FILE_OCTETS.saturating_add(beyond.len()));
         let reported = fault(rt.alloc(), text.as_slice())?;
@@ -92,22 +92,23 @@ fn records_and(alloc: Global, last: &[u8]) -> Result<(u8, u32), Fail> {
     fault(alloc, text.as_slice())
 }
 
+const LAST: &[Row<'static>] = &[
+    (b"", (0, 0)),
+    (b"\n; a A 192.0.2.1\n$TTL 1\n$ORIGIN .\n", (0, 0)),
+    (RECORD, (14, 100_002)),
+    (b"\n A 192.0.2.1\n", (14, 100_003)),
+    (b"a 1 TYPE1 \\# 4 C0000201", (14, 100_002)),
+    (b"a A 192.0.2.256", (13, 100_002)),
+    (b"a 1 X", (11, 100_002)),
+    (b"a 1 CH A 192.0.2.1", (10, 100_002)),
+    (b"a..b 1 A 192.0.2.1", (7, 100_002)),
+    (b"a A 192.0.2.1 (", (4, 100_002)),
+    (b"$X", (5, 100_002)),
+];
+
 #[test]
 fn what_stands_after_100000_records(rt: HostRuntime) -> Result<(), Fail> {
-    let rows: [Row<'_>; 11] = [
-        (b"", (0, 0)),
-        (b"\n; a A 192.0.2.1\n$TTL 1\n$ORIGIN .\n", (0, 0)),
-        (RECORD, (14, 100_002)),
-        (b"\n A 192.0.2.1\n", (14, 100_003)),
-        (b"a 1 TYPE1 \\# 4 C0000201", (14, 100_002)),
-        (b"a A 192.0.2.256", (13, 100_002)),
-        (b"a 1 X", (11, 100_002)),
-        (b"a 1 CH A 192.0.2.1", (10, 100_002)),
-        (b"a..b 1 A 192.0.2.1", (7, 100_002)),
-        (b"a A 192.0.2.1 (", (4, 100_002)),
-        (b"$X", (5, 100_002)),
-    ];
-    for (last, wanted) in rows {
+    for &(last, wanted) in LAST {
         assert_eq!(rt; records_and(rt.alloc(), last)?, wanted, "at {last:?}");
     }
     Ok(())

@@ -8,7 +8,7 @@ use std::test::Fail;
 const PIECE: usize = 4_096;
 
 // Separators of words inside parentheses.
-const BETWEEN: [&[u8]; 4] = [b" ", b"\t \n", b" ; c ( \" \\\n ", b"\r\n"];
+const BETWEEN: &[&[u8]] = &[b" ", b"\t \n", b" ; c ( \" \\\n ", b"\r\n"];
 
 // The separator after the word with this number.
 fn between(number: usize) -> &'static [u8] {
@@ -113,7 +113,7 @@ fn a_string_that_is_too_long_after_those_that_are_kept(rt: HostRuntime) -> Resul
     Ok(())
 }
 
-const FAULTY: [(&[u8], &[u8], (u8, u32)); 6] = [
+const FAULTY: &[(&[u8], &[u8], (u8, u32))] = &[
     (b"$TTL 1", b"", (6, 1)),
     (b"$ORIGIN a", b"", (6, 1)),
     (b"a 1 TXT", b" \\256", (2, 1)),
@@ -124,7 +124,7 @@ const FAULTY: [(&[u8], &[u8], (u8, u32)); 6] = [
 
 #[test]
 fn faults_of_entries_of_40_words_more(rt: HostRuntime) -> Result<(), Fail> {
-    for (begin, end, wanted) in FAULTY {
+    for &(begin, end, wanted) in FAULTY {
         let mut text = repeated(rt.alloc(), begin, 1)?;
         text.extend_from_slice(repeated(rt.alloc(), b" 1", 40)?.as_slice())?;
         text.extend_from_slice(end)?;

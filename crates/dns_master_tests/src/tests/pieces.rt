@@ -12,7 +12,7 @@ use std::test::Fail;
 const PIECE: usize = 4_096;
 
 // Beginnings of files that have a fault, whatever follows.
-const DECIDED: [Row<'static>; 9] = [
+const DECIDED: &[Row<'static>] = &[
     (b"$INCLUDE x\n", (5, 1)),
     (b"a 1 A 192.0.2.1\n\x00", (1, 2)),
     (b"\n\n\\256", (2, 3)),
@@ -49,7 +49,7 @@ fn taken(alloc: Global, text: &[u8]) -> Result<((u8, u32), usize), Fail> {
 
 #[test]
 fn a_fault_is_reported_in_the_piece_that_decides_it(rt: HostRuntime) -> Result<(), Fail> {
-    for (begin, wanted) in DECIDED {
+    for &(begin, wanted) in DECIDED {
         let mut text = repeated(rt.alloc(), begin, 1)?;
         text.extend_from_slice(repeated(rt.alloc(), b"\n", 8_192)?.as_slice())?;
         assert_eq!(rt; taken(rt.alloc(), &text)?, (wanted, PIECE), "at {begin:?}");
@@ -91,7 +91,7 @@ fn a_file_from_sources_of_few_octets(rt: HostRuntime) -> Result<(), Fail> {
     let text = after_comment(rt.alloc(), 9_000, MIXED.as_bytes())?;
     for most in [1, 2, 4_095, 4_096, 4_097] {
         let records = read(rt.alloc(), by(&text, &[most]))??;
-        judge_all(&rt, &records, MIXED.as_bytes(), &MIXED_MEANS)?;
+        judge_all(&rt, &records, MIXED.as_bytes(), MIXED_MEANS)?;
     }
     Ok(())
 }
@@ -102,14 +102,14 @@ fn entries_that_cross_the_end_of_a_piece_at_each_octet(rt: HostRuntime) -> Resul
         let length = PIECE.saturating_sub(within);
         let text = after_comment(rt.alloc(), length, MIXED.as_bytes())?;
         let records = read(rt.alloc(), text.as_slice())??;
-        judge_all(&rt, &records, MIXED.as_bytes(), &MIXED_MEANS)?;
+        judge_all(&rt, &records, MIXED.as_bytes(), MIXED_MEANS)?;
     }
     Ok(())
 }
 
 #[test]
 fn faults_that_cross_the_end_of_a_piece_at_each_octet(rt: HostRuntime) -> Result<(), Fail> {
-    for (begin, (code, line)) in DECIDED {
+    for &(begin, (code, line)) in DECIDED {
         for within in 0..=begin.len() {
             let length = PIECE.saturating_sub(within);
             let text = after_comment(rt.alloc(), length, begin)?;

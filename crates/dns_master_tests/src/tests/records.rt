@@ -18,7 +18,7 @@ const HOST: &[u8] = b"\xc0\x00\x02\x01";
 // The address 2001:db8::1:0:0:1.
 const IPV6: &[u8] = b"\x20\x01\x0d\xb8\x00\x00\x00\x00\x00\x01\x00\x00\x00\x00\x00\x01";
 
-pub(super) const MIXED_MEANS: [Meant<'static>; 6] = [
+pub(super) const MIXED_MEANS: &[Meant<'static>] = &[
     (
         b"\x07example\x00",
         60,
@@ -36,7 +36,7 @@ pub(super) const MIXED_MEANS: [Meant<'static>; 6] = [
 // The name `a.example`.
 const A: &[u8] = b"\x01a\x07example\x00";
 
-const FILES: [Case<'static>; 16] = [
+const FILES: &[Case<'static>] = &[
     // Owners and origins.
     (b"", &[]),
     (b"\n ; c\r\n\t\n( )\n(\n)", &[]),
@@ -203,12 +203,12 @@ fn judge<R: Abort>(rt: &R, text: &[u8], record: &Record, (owner, ttl, rtype, oct
 
 #[test]
 fn a_file_of_many_forms(rt: HostRuntime) -> Result<(), Fail> {
-    compare(&rt, MIXED.as_bytes(), &MIXED_MEANS)
+    compare(&rt, MIXED.as_bytes(), MIXED_MEANS)
 }
 
 #[test]
 fn files_and_their_records(rt: HostRuntime) -> Result<(), Fail> {
-    for (text, meant) in FILES {
+    for &(text, meant) in FILES {
         compare(&rt, text, meant)?;
     }
     Ok(())

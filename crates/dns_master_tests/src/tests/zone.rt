@@ -6,7 +6,7 @@ use std::alloc::Global;
 use std::test::Fail;
 
 // Parentheses around words of data, and in them.
-const PARENTHESES: [Row<'static>; 5] = [
+const PARENTHESES: &[Row<'static>] = &[
     (b"v 60 TXT ( \"a)\" ; )\n\"b\" )\n", (0, 0)),
     (b"v 60 TXT (a) b", (0, 0)),
     (b"v 60 TXT a)", (4, 1)),
@@ -30,13 +30,14 @@ fn a_zone_without_fault(rt: HostRuntime) -> Result<(), Fail> {
     Ok(())
 }
 
+const CHANGED: &[(usize, &str, (u8, u32))] = &[
+    (6, "*.w TEXT \"any\"", (11, 7)),
+    (3, "ns 1h A 192.0.2.1", (9, 4)),
+];
+
 #[test]
 fn a_line_that_is_another(rt: HostRuntime) -> Result<(), Fail> {
-    let others = [
-        (6, "*.w TEXT \"any\"", (11, 7)),
-        (3, "ns 1h A 192.0.2.1", (9, 4)),
-    ];
-    for (at, line, wanted) in others {
+    for &(at, line, wanted) in CHANGED {
         let text = changed(rt.alloc(), at, line)?;
         assert_eq!(rt; fault(rt.alloc(), text.as_bytes())?, wanted, "with {line}");
     }
@@ -61,5 +62,5 @@ fn an_open_parenthesis_at_the_end(rt: HostRuntime) -> Result<(), Fail> {
 
 #[test]
 fn parentheses_about_words(rt: HostRuntime) -> Result<(), Fail> {
-    judge(&rt, &PARENTHESES)
+    judge(&rt, PARENTHESES)
 }

@@ -2,7 +2,7 @@ use dns_name::{Label, Name};
 use std::test::Fail;
 
 // `www.example.` on the wire (RFC 1035 3.1).
-const WWW_EXAMPLE: [u8; 13] = *b"\x03www\x07example\x00";
+const WWW_EXAMPLE: &[u8] = b"\x03www\x07example\x00";
 
 fn name_of(labels: &[&[u8]]) -> Result<Name, Fail> {
     let mut name = Name::root();
@@ -18,7 +18,7 @@ fn name_of(labels: &[&[u8]]) -> Result<Name, Fail> {
 #[test]
 fn pushed_labels(rt: HostRuntime) -> Result<(), Fail> {
     let name = name_of(&[b"www", b"example"])?;
-    assert_eq!(rt; name.octets(), WWW_EXAMPLE.as_slice());
+    assert_eq!(rt; name.octets(), WWW_EXAMPLE);
     assert_eq!(rt; Name::root().octets(), [0].as_slice());
     assert_eq!(rt; name.labels().count(), 2);
     let mut labels = name.labels();
@@ -68,7 +68,7 @@ fn compared_names(rt: HostRuntime) -> Result<(), Fail> {
 fn lent_names(rt: HostRuntime) -> Result<(), Fail> {
     let (name, above) = (name_of(&[b"www", b"example"])?, name_of(&[b"example"])?);
     let (lent, lent_above) = (name.lent(), above.lent());
-    assert_eq!(rt; lent.octets(), WWW_EXAMPLE.as_slice());
+    assert_eq!(rt; lent.octets(), WWW_EXAMPLE);
     assert_eq!(rt; lent.labels().count(), 2);
     let label = lent.labels().next().ok_or("a first label")?;
     assert_eq!(rt; label.octets(), b"www".as_slice());

@@ -4,7 +4,7 @@ use std::alloc::Global;
 use std::test::Fail;
 
 // The names of RFC 4034 6.1 in their order, after the root.
-const IN_ORDER: [&[u8]; 10] = [
+const IN_ORDER: &[&[u8]] = &[
     b".",
     b"example.",
     b"a.example.",
@@ -48,26 +48,27 @@ fn written(alloc: Global, word: &[u8], is_bare: bool) -> Result<Vec<u8>, Fail> {
     Ok(sink.into_inner())
 }
 
+// Whether the final dot is left out, the word to read, and what is written for its name.
+const WRITTEN: &[(bool, &[u8], &[u8])] = &[
+    (false, b".", b"."),
+    (false, b"WwW.Example", b"WwW.Example."),
+    (false, b"\\@", b"\\@."),
+    (
+        false,
+        b"a\\.b.\\;\\(\\)\\$.\\\"\\\\",
+        b"a\\.b.\\;\\(\\)\\$.\\\"\\\\.",
+    ),
+    (false, b"\\032\\127.\\000\\255", b"\\032\\127.\\000\\255."),
+    (false, b"\\~\\!\\'", b"~!'."),
+    (true, b".", b"."),
+    (true, b"org.", b"org"),
+    (true, b"WwW.Example.", b"WwW.Example"),
+    (true, b"a.b\\..", b"a.b\\."),
+];
+
 #[test]
 fn names_written(rt: HostRuntime) -> Result<(), Fail> {
-    // Whether the final dot is left out, the word to read, and what is written for its name.
-    let rows: [(bool, &[u8], &[u8]); 10] = [
-        (false, b".", b"."),
-        (false, b"WwW.Example", b"WwW.Example."),
-        (false, b"\\@", b"\\@."),
-        (
-            false,
-            b"a\\.b.\\;\\(\\)\\$.\\\"\\\\",
-            b"a\\.b.\\;\\(\\)\\$.\\\"\\\\.",
-        ),
-        (false, b"\\032\\127.\\000\\255", b"\\032\\127.\\000\\255."),
-        (false, b"\\~\\!\\'", b"~!'."),
-        (true, b".", b"."),
-        (true, b"org.", b"org"),
-        (true, b"WwW.Example.", b"WwW.Example"),
-        (true, b"a.b\\..", b"a.b\\."),
-    ];
-    for (is_bare, word, text) in rows {
+    for &(is_bare, word, text) in WRITTEN {
         assert_eq!(rt; written(rt.alloc(), word, is_bare)?.as_slice(), text);
     }
     Ok(())
@@ -91,16 +92,17 @@ fn each_write_of_a_name_fails(rt: HostRuntime) -> Result<(), Fail> {
     Ok(())
 }
 
+const PUT: &[(&[u8], &[u8])] = &[
+    (b"", b"b"),
+    (&[b'a'; 4095], b"b"),
+    (&[b'a'; 4096], b"b"),
+    (b"a", &[b'b'; 4096]),
+    (&[b'a'; 5000], &[b'b'; 5000]),
+];
+
 #[test]
 fn texts_of_any_length_are_put(rt: HostRuntime) -> Result<(), Fail> {
-    let rows: [(&[u8], &[u8]); 5] = [
-        (b"", b"b"),
-        (&[b'a'; 4095], b"b"),
-        (&[b'a'; 4096], b"b"),
-        (b"a", &[b'b'; 4096]),
-        (&[b'a'; 5000], &[b'b'; 5000]),
-    ];
-    for (first, second) in rows {
+    for &(first, second) in PUT {
         let mut sink = Tally::new(Vec::new(rt.alloc()));
         let mut text = TextBuffer::new();
         text.put(first, &mut sink)?;

@@ -7,54 +7,59 @@ use std::process::Abort;
 use std::test::Fail;
 
 // Two names, then SERIAL, REFRESH, RETRY, EXPIRE and MINIMUM (RFC 1035 3.3.13).
-const SOA: [u8; 32] =
-    *b"\x02ns\x00\x04mAIL\x01x\x00\x00\x00\x00\x01\x00\x00\x1c\x20\x00\x00\x03\x84\x00\x12\x75\x00\x00\x00\x01\x2c";
+const SOA: &[u8] =
+    b"\x02ns\x00\x04mAIL\x01x\x00\x00\x00\x00\x01\x00\x00\x1c\x20\x00\x00\x03\x84\x00\x12\x75\x00\x00\x00\x01\x2c";
 
-const SOA_LOWERED: [u8; 32] =
-    *b"\x02ns\x00\x04mail\x01x\x00\x00\x00\x00\x01\x00\x00\x1c\x20\x00\x00\x03\x84\x00\x12\x75\x00\x00\x00\x01\x2c";
+// All but the last octet.
+const SOA_CUT: &[u8] =
+    b"\x02ns\x00\x04mAIL\x01x\x00\x00\x00\x00\x01\x00\x00\x1c\x20\x00\x00\x03\x84\x00\x12\x75\x00\x00\x00\x01";
+
+const SOA_LOWERED: &[u8] =
+    b"\x02ns\x00\x04mail\x01x\x00\x00\x00\x00\x01\x00\x00\x1c\x20\x00\x00\x03\x84\x00\x12\x75\x00\x00\x00\x01\x2c";
 
 // Types with octets, and the data with these octets, if they are valid.
+const OCTETS: &[(RType, &[u8], Option<&[u8]>)] = &[
+    (RType::SOA, SOA, Some(SOA_LOWERED)),
+    (RType::SOA, SOA_CUT, None),
+    (
+        RType::MX,
+        b"\x00\x0a\x04Mail\x07example\x00",
+        Some(b"\x00\x0a\x04mail\x07example\x00"),
+    ),
+    (RType::A, b"ABCD", Some(b"ABCD")),
+    (RType::NS, b"\x00", Some(b"\x00")),
+    (RType::CNAME, b"\x01A\x00", Some(b"\x01a\x00")),
+    (RType::PTR, b"\x01A\x02Bc\x00", Some(b"\x01a\x02bc\x00")),
+    (RType::HINFO, b"\x01A\x00", Some(b"\x01A\x00")),
+    (RType::TXT, b"\x02AB\x00\x01C", Some(b"\x02AB\x00\x01C")),
+    (RType::AAAA, b"ABCDEFGHIJKLMNOP", Some(b"ABCDEFGHIJKLMNOP")),
+    (RType::SRV, b"AAAAAA\x01A\x00", Some(b"AAAAAA\x01a\x00")),
+    (RType(65), b"\x03ABC", Some(b"\x03ABC")),
+    (RType(65), b"", Some(b"")),
+    (RType(0), b"\xc0\x0c", Some(b"\xc0\x0c")),
+    (RType::A, b"ABC", None),
+    (RType::A, b"ABCDE", None),
+    (RType::NS, b"", None),
+    (RType::NS, b"\x00\x00", None),
+    (RType::NS, b"\x01A", None),
+    (RType::NS, b"\x02A\x00", None),
+    (RType::NS, b"\xc0\x0c", None),
+    (RType::NS, b"\x40\x00", None),
+    (RType::CNAME, b"\x01A\xc0\x0c", None),
+    (RType::MX, b"\x00\x0a", None),
+    (RType::MX, b"\x00\x0a\x01A\x00\x00", None),
+    (RType::HINFO, b"\x01A", None),
+    (RType::HINFO, b"\x01A\x01A\x00", None),
+    (RType::TXT, b"", None),
+    (RType::TXT, b"\x02A", None),
+    (RType::AAAA, b"ABCDEFGHIJKLMNO", None),
+    (RType::SRV, b"AAAAAA", None),
+    (RType::SRV, b"AAAAAA\xc0\x0c", None),
+];
+
 #[test]
 fn octets_of_types(rt: HostRuntime) -> Result<(), Fail> {
-    let rows: [(RType, &[u8], Option<&[u8]>); 32] = [
-        (RType::SOA, &SOA, Some(&SOA_LOWERED)),
-        (RType::SOA, &SOA[..31], None),
-        (
-            RType::MX,
-            b"\x00\x0a\x04Mail\x07example\x00",
-            Some(b"\x00\x0a\x04mail\x07example\x00"),
-        ),
-        (RType::A, b"ABCD", Some(b"ABCD")),
-        (RType::NS, b"\x00", Some(b"\x00")),
-        (RType::CNAME, b"\x01A\x00", Some(b"\x01a\x00")),
-        (RType::PTR, b"\x01A\x02Bc\x00", Some(b"\x01a\x02bc\x00")),
-        (RType::HINFO, b"\x01A\x00", Some(b"\x01A\x00")),
-        (RType::TXT, b"\x02AB\x00\x01C", Some(b"\x02AB\x00\x01C")),
-        (RType::AAAA, b"ABCDEFGHIJKLMNOP", Some(b"ABCDEFGHIJKLMNOP")),
-        (RType::SRV, b"AAAAAA\x01A\x00", Some(b"AAAAAA\x01a\x00")),
-        (RType(65), b"\x03ABC", Some(b"\x03ABC")),
-        (RType(65), b"", Some(b"")),
-        (RType(0), b"\xc0\x0c", Some(b"\xc0\x0c")),
-        (RType::A, b"ABC", None),
-        (RType::A, b"ABCDE", None),
-        (RType::NS, b"", None),
-        (RType::NS, b"\x00\x00", None),
-        (RType::NS, b"\x01A", None),
-        (RType::NS, b"\x02A\x00", None),
-        (RType::NS, b"\xc0\x0c", None),
-        (RType::NS, b"\x40\x00", None),
-        (RType::CNAME, b"\x01A\xc0\x0c", None),
-        (RType::MX, b"\x00\x0a", None),
-        (RType::MX, b"\x00\x0a\x01A\x00\x00", None),
-        (RType::HINFO, b"\x01A", None),
-        (RType::HINFO, b"\x01A\x01A\x00", None),
-        (RType::TXT, b"", None),
-        (RType::TXT, b"\x02A", None),
-        (RType::AAAA, b"ABCDEFGHIJKLMNO", None),
-        (RType::SRV, b"AAAAAA", None),
-        (RType::SRV, b"AAAAAA\xc0\x0c", None),
-    ];
-    for (rtype, octets, wanted) in rows {
+    for &(rtype, octets, wanted) in OCTETS {
         match Rdata::from_wire(rt.alloc(), rtype, octets) {
             Ok(data) => assert_eq!(rt; Some(data.octets()), wanted, "at {octets:?}"),
             Err(fault) => {
@@ -129,58 +134,60 @@ fn parts_are(
     Ok(())
 }
 
+const PARTS: &[(RType, &[u8], &[Part<'static>])] = &[
+    (
+        RType::MX,
+        b"\x00\x0a\x04Mail\x07example\x00",
+        &[
+            Part::Octets(b"\x00\x0a"),
+            Part::Name(b"\x04Mail\x07example\x00"),
+        ],
+    ),
+    (
+        RType::HINFO,
+        b"\x01A\x02BC",
+        &[Part::Octets(b"\x01A"), Part::Octets(b"\x02BC")],
+    ),
+    (
+        RType::SOA,
+        SOA,
+        &[
+            Part::Name(b"\x02ns\x00"),
+            Part::Name(b"\x04mAIL\x01x\x00"),
+            Part::Octets(b"\x00\x00\x00\x01"),
+            Part::Octets(b"\x00\x00\x1c\x20"),
+            Part::Octets(b"\x00\x00\x03\x84"),
+            Part::Octets(b"\x00\x12\x75\x00"),
+            Part::Octets(b"\x00\x00\x01\x2c"),
+        ],
+    ),
+    (
+        RType::TXT,
+        b"\x01A\x00\x02BC",
+        &[Part::Octets(b"\x01A\x00\x02BC")],
+    ),
+    (RType(65), b"\x01A\x00", &[Part::Octets(b"\x01A\x00")]),
+    (RType(65), b"", &[Part::Octets(b"")]),
+];
+
 #[test]
 fn parts_in_order(rt: HostRuntime) -> Result<(), Fail> {
-    let rows: [(RType, &[u8], &[Part<'_>]); 6] = [
-        (
-            RType::MX,
-            b"\x00\x0a\x04Mail\x07example\x00",
-            &[
-                Part::Octets(b"\x00\x0a"),
-                Part::Name(b"\x04Mail\x07example\x00"),
-            ],
-        ),
-        (
-            RType::HINFO,
-            b"\x01A\x02BC",
-            &[Part::Octets(b"\x01A"), Part::Octets(b"\x02BC")],
-        ),
-        (
-            RType::SOA,
-            &SOA,
-            &[
-                Part::Name(b"\x02ns\x00"),
-                Part::Name(b"\x04mAIL\x01x\x00"),
-                Part::Octets(b"\x00\x00\x00\x01"),
-                Part::Octets(b"\x00\x00\x1c\x20"),
-                Part::Octets(b"\x00\x00\x03\x84"),
-                Part::Octets(b"\x00\x12\x75\x00"),
-                Part::Octets(b"\x00\x00\x01\x2c"),
-            ],
-        ),
-        (
-            RType::TXT,
-            b"\x01A\x00\x02BC",
-            &[Part::Octets(b"\x01A\x00\x02BC")],
-        ),
-        (RType(65), b"\x01A\x00", &[Part::Octets(b"\x01A\x00")]),
-        (RType(65), b"", &[Part::Octets(b"")]),
-    ];
-    for (rtype, octets, wanted) in rows {
+    for &(rtype, octets, wanted) in PARTS {
         parts_are(&rt, rt.alloc(), rtype, octets, wanted)?;
     }
     Ok(())
 }
 
+const TARGETS: &[(RType, &[u8], Option<&[u8]>)] = &[
+    (RType::MX, b"\x00\x0a\x04Mail\x00", Some(b"\x04Mail\x00")),
+    (RType::SRV, b"AAAAAA\x01A\x00", Some(b"\x01A\x00")),
+    (RType::SOA, SOA, Some(b"\x02ns\x00")),
+    (RType::TXT, b"\x01A", None),
+];
+
 #[test]
 fn targets(rt: HostRuntime) -> Result<(), Fail> {
-    let rows: [(RType, &[u8], Option<&[u8]>); 4] = [
-        (RType::MX, b"\x00\x0a\x04Mail\x00", Some(b"\x04Mail\x00")),
-        (RType::SRV, b"AAAAAA\x01A\x00", Some(b"\x01A\x00")),
-        (RType::SOA, &SOA, Some(b"\x02ns\x00")),
-        (RType::TXT, b"\x01A", None),
-    ];
-    for (rtype, octets, wanted) in rows {
+    for &(rtype, octets, wanted) in TARGETS {
         let Ok(_) = Rdata::from_wire(rt.alloc(), rtype, octets) else {
             return Err("data of its type".into());
         };
@@ -196,10 +203,10 @@ fn targets(rt: HostRuntime) -> Result<(), Fail> {
 
 #[test]
 fn numbers_of_an_soa(rt: HostRuntime) -> Result<(), Fail> {
-    let Ok(_) = Rdata::from_wire(rt.alloc(), RType::SOA, &SOA) else {
+    let Ok(_) = Rdata::from_wire(rt.alloc(), RType::SOA, SOA) else {
         return Err("data of its type".into());
     };
-    assert_eq!(rt; Rdata::soa_serial(&SOA), 1);
-    assert_eq!(rt; Rdata::soa_minimum(&SOA), 300);
+    assert_eq!(rt; Rdata::soa_serial(SOA), 1);
+    assert_eq!(rt; Rdata::soa_minimum(SOA), 300);
     Ok(())
 }

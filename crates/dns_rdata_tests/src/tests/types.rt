@@ -3,51 +3,53 @@ use dns_rdata::{RType, RdataFault};
 use dns_samples_tests::Kept;
 use std::test::Fail;
 
+const READ: &[(&[u8], Option<RType>)] = &[
+    (b"A", Some(RType::A)),
+    (b"ns", Some(RType::NS)),
+    (b"CName", Some(RType::CNAME)),
+    (b"SOA", Some(RType::SOA)),
+    (b"aaaa", Some(RType::AAAA)),
+    (b"TYPE1", Some(RType::A)),
+    (b"type15", Some(RType::MX)),
+    (b"Type0", Some(RType(0))),
+    (b"TYPE65535", Some(RType(65535))),
+    (b"TYPE65536", None),
+    (b"TYPE4294967297", None),
+    (b"TYPE065", None),
+    (b"TYPE00", None),
+    (b"TYPE+1", None),
+    (b"TYPE", None),
+    (b"TYP", None),
+    (b"ANY", None),
+    (b"", None),
+];
+
 #[test]
 fn types_read(rt: HostRuntime) {
-    let rows: [(&[u8], Option<RType>); 18] = [
-        (b"A", Some(RType::A)),
-        (b"ns", Some(RType::NS)),
-        (b"CName", Some(RType::CNAME)),
-        (b"SOA", Some(RType::SOA)),
-        (b"aaaa", Some(RType::AAAA)),
-        (b"TYPE1", Some(RType::A)),
-        (b"type15", Some(RType::MX)),
-        (b"Type0", Some(RType(0))),
-        (b"TYPE65535", Some(RType(65535))),
-        (b"TYPE65536", None),
-        (b"TYPE4294967297", None),
-        (b"TYPE065", None),
-        (b"TYPE00", None),
-        (b"TYPE+1", None),
-        (b"TYPE", None),
-        (b"TYP", None),
-        (b"ANY", None),
-        (b"", None),
-    ];
-    for (word, wanted) in rows {
+    for &(word, wanted) in READ {
         assert_eq!(rt; RType::read_text(word), wanted, "at {word:?}");
     }
 }
 
+const WRITTEN: &[(u16, &[u8])] = &[
+    (1, b"A"),
+    (2, b"NS"),
+    (5, b"CNAME"),
+    (6, b"SOA"),
+    (12, b"PTR"),
+    (13, b"HINFO"),
+    (15, b"MX"),
+    (16, b"TXT"),
+    (28, b"AAAA"),
+    (33, b"SRV"),
+    (0, b"TYPE0"),
+    (65, b"TYPE65"),
+    (65535, b"TYPE65535"),
+];
+
 #[test]
 fn types_written(rt: HostRuntime) -> Result<(), Fail> {
-    let rows: [(u16, &[u8]); 13] = [
-        (1, b"A"),
-        (2, b"NS"),
-        (5, b"CNAME"),
-        (6, b"SOA"),
-        (12, b"PTR"),
-        (13, b"HINFO"),
-        (15, b"MX"),
-        (16, b"TXT"),
-        (28, b"AAAA"),
-        (33, b"SRV"),
-        (0, b"TYPE0"),
-        (65, b"TYPE65"),
-        (65535, b"TYPE65535"),
-    ];
-    for (number, wanted) in rows {
+    for &(number, wanted) in WRITTEN {
         let mut sink = Tally::new(Vec::new(rt.alloc()));
         assert_eq!(rt; RType(number).write_text(&mut sink), Ok(()));
         assert_eq!(rt; sink.into_inner().as_slice(), wanted);
@@ -75,19 +77,20 @@ fn compression(rt: HostRuntime) {
     }
 }
 
+const CODES: &[(RdataFault, u8)] = &[
+    (RdataFault::WordCount, 1),
+    (RdataFault::BadNumber, 2),
+    (RdataFault::BadAddress, 3),
+    (RdataFault::BadName, 4),
+    (RdataFault::BadString, 5),
+    (RdataFault::BadHex, 6),
+    (RdataFault::NotOfType, 7),
+    (RdataFault::NoMemory, 8),
+];
+
 #[test]
 fn codes(rt: HostRuntime) {
-    let faults = [
-        (RdataFault::WordCount, 1),
-        (RdataFault::BadNumber, 2),
-        (RdataFault::BadAddress, 3),
-        (RdataFault::BadName, 4),
-        (RdataFault::BadString, 5),
-        (RdataFault::BadHex, 6),
-        (RdataFault::NotOfType, 7),
-        (RdataFault::NoMemory, 8),
-    ];
-    for (fault, code) in faults {
+    for &(fault, code) in CODES {
         assert_eq!(rt; fault.code(), code);
     }
 }

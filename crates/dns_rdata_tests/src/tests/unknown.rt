@@ -21,18 +21,19 @@ fn said(alloc: Global, raws: &[&[u8]], quoted: bool) -> Result<Result<Rdata, Rda
     read(alloc, ANY, &words)
 }
 
+const MARKS: &[(&[u8], bool, bool)] = &[
+    (b"\\#", false, true),
+    (b"\\#", true, false),
+    (b"#", false, false),
+    (b"\\", false, false),
+    (b"\\##", false, false),
+    (b"\\035", false, false),
+    (b"", false, false),
+];
+
 #[test]
 fn marks(rt: HostRuntime) -> Result<(), Fail> {
-    let rows: [(&[u8], bool, bool); 7] = [
-        (b"\\#", false, true),
-        (b"\\#", true, false),
-        (b"#", false, false),
-        (b"\\", false, false),
-        (b"\\##", false, false),
-        (b"\\035", false, false),
-        (b"", false, false),
-    ];
-    for (raw, quoted, wanted) in rows {
+    for &(raw, quoted, wanted) in MARKS {
         let count = Word {
             raw: b"0",
             quoted: false,
@@ -44,36 +45,37 @@ fn marks(rt: HostRuntime) -> Result<(), Fail> {
 }
 
 // Words, whether they are quoted, and the octets that they spell, if any.
+const SAID: &[(&[&[u8]], bool, Option<&[u8]>)] = &[
+    (&[b"4", b"C0000201"], false, Some(b"\xc0\x00\x02\x01")),
+    (&[b"0"], false, Some(b"")),
+    (&[b"2", b"abcd"], false, Some(b"\xab\xcd")),
+    (&[b"2", b"ab", b"cd"], false, Some(b"\xab\xcd")),
+    (&[b"3", b"aBCd", b"0F"], false, Some(b"\xab\xcd\x0f")),
+    (&[b"3", b"09aAfF"], false, Some(b"\x09\xaa\xff")),
+    (&[b"4", b"C0000201"], true, None),
+    (&[b"0"], true, None),
+    (&[], false, None),
+    (&[b""], false, None),
+    (&[b"2"], false, None),
+    (&[b"abcd"], false, None),
+    (&[b"3", b"c000"], false, None),
+    (&[b"1", b"c000"], false, None),
+    (&[b"04", b"C0000201"], false, None),
+    (&[b"0", b""], false, None),
+    (&[b"2", b"abcg"], false, None),
+    (&[b"1", b"0g"], false, None),
+    (&[b"1", b"g0"], false, None),
+    (&[b"1", b"0x"], false, None),
+    (&[b"1", b"@0"], false, None),
+    (&[b"+2", b"abcd"], false, None),
+    (&[b"65536", b"abcd"], false, None),
+    (&[b"2", b"abc", b"d"], false, None),
+    (&[b"2", b"abcd", b""], false, None),
+];
+
 #[test]
 fn octets_said(rt: HostRuntime) -> Result<(), Fail> {
-    let rows: [(&[&[u8]], bool, Option<&[u8]>); 25] = [
-        (&[b"4", b"C0000201"], false, Some(b"\xc0\x00\x02\x01")),
-        (&[b"0"], false, Some(b"")),
-        (&[b"2", b"abcd"], false, Some(b"\xab\xcd")),
-        (&[b"2", b"ab", b"cd"], false, Some(b"\xab\xcd")),
-        (&[b"3", b"aBCd", b"0F"], false, Some(b"\xab\xcd\x0f")),
-        (&[b"3", b"09aAfF"], false, Some(b"\x09\xaa\xff")),
-        (&[b"4", b"C0000201"], true, None),
-        (&[b"0"], true, None),
-        (&[], false, None),
-        (&[b""], false, None),
-        (&[b"2"], false, None),
-        (&[b"abcd"], false, None),
-        (&[b"3", b"c000"], false, None),
-        (&[b"1", b"c000"], false, None),
-        (&[b"04", b"C0000201"], false, None),
-        (&[b"0", b""], false, None),
-        (&[b"2", b"abcg"], false, None),
-        (&[b"1", b"0g"], false, None),
-        (&[b"1", b"g0"], false, None),
-        (&[b"1", b"0x"], false, None),
-        (&[b"1", b"@0"], false, None),
-        (&[b"+2", b"abcd"], false, None),
-        (&[b"65536", b"abcd"], false, None),
-        (&[b"2", b"abc", b"d"], false, None),
-        (&[b"2", b"abcd", b""], false, None),
-    ];
-    for (raws, quoted, wanted) in rows {
+    for &(raws, quoted, wanted) in SAID {
         match said(rt.alloc(), raws, quoted)? {
             Ok(data) => assert_eq!(rt; Some(data.octets()), wanted, "at {raws:?}"),
             Err(fault) => {

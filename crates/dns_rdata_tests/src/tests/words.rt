@@ -32,33 +32,34 @@ fn read_line(alloc: Global, rtype: RType, text: &[u8]) -> Result<Result<Rdata, R
 const ANY: RType = RType(65280);
 
 // The root, `a.example`, and five numbers.
-const SOA: [u8; 32] =
-    *b"\x00\x01a\x07example\x00\x00\x00\x00\x01\x00\x00\x00\x00\xff\xff\xff\xff\x00\x00\x00\x02\x00\x00\x00\x03";
+const SOA: &[u8] =
+    b"\x00\x01a\x07example\x00\x00\x00\x00\x01\x00\x00\x00\x00\xff\xff\xff\xff\x00\x00\x00\x02\x00\x00\x00\x03";
 
 // Three numbers, and `ns.`.
-const SRV: [u8; 10] = *b"\x00\x00\xff\xff\x00\x35\x02ns\x00";
+const SRV: &[u8] = b"\x00\x00\xff\xff\x00\x35\x02ns\x00";
+
+const SAID: &[(RType, &[u8], &[u8])] = &[
+    (RType::A, b"192.0.2.1", b"\xc0\x00\x02\x01"),
+    (RType::A, b"\\# 4 C0000201", b"\xc0\x00\x02\x01"),
+    (RType::NS, b"@", b"\x07example\x00"),
+    (RType::NS, b"Ns", b"\x02ns\x07example\x00"),
+    (RType::CNAME, b"A\\.b.", b"\x03a.b\x00"),
+    (RType::SOA, b". a 1 0 4294967295 2 3", SOA),
+    (RType::PTR, b".", b"\x00"),
+    (RType::HINFO, b"\"\" b", b"\x00\x01b"),
+    (RType::MX, b"10 Mail", b"\x00\x0a\x04mail\x07example\x00"),
+    (RType::SRV, b"0 65535 53 Ns.", SRV),
+    (RType::TXT, b"\"a\\\"b\\009\"", b"\x04a\"b\x09"),
+    (RType::TXT, b"A \"\\#\" .", b"\x01A\x01#\x01."),
+    (RType::MX, b"\\# 5 0001014100", b"\x00\x01\x01a\x00"),
+    (ANY, b"\\# 0", b""),
+    (ANY, b"\\# 3 ab CDef", b"\xab\xcd\xef"),
+    (RType(0), b"\\# 2 c00c", b"\xc0\x0c"),
+];
 
 #[test]
 fn data_that_words_say(rt: HostRuntime) -> Result<(), Fail> {
-    let rows: [(RType, &[u8], &[u8]); 16] = [
-        (RType::A, b"192.0.2.1", b"\xc0\x00\x02\x01"),
-        (RType::A, b"\\# 4 C0000201", b"\xc0\x00\x02\x01"),
-        (RType::NS, b"@", b"\x07example\x00"),
-        (RType::NS, b"Ns", b"\x02ns\x07example\x00"),
-        (RType::CNAME, b"A\\.b.", b"\x03a.b\x00"),
-        (RType::SOA, b". a 1 0 4294967295 2 3", &SOA),
-        (RType::PTR, b".", b"\x00"),
-        (RType::HINFO, b"\"\" b", b"\x00\x01b"),
-        (RType::MX, b"10 Mail", b"\x00\x0a\x04mail\x07example\x00"),
-        (RType::SRV, b"0 65535 53 Ns.", &SRV),
-        (RType::TXT, b"\"a\\\"b\\009\"", b"\x04a\"b\x09"),
-        (RType::TXT, b"A \"\\#\" .", b"\x01A\x01#\x01."),
-        (RType::MX, b"\\# 5 0001014100", b"\x00\x01\x01a\x00"),
-        (ANY, b"\\# 0", b""),
-        (ANY, b"\\# 3 ab CDef", b"\xab\xcd\xef"),
-        (RType(0), b"\\# 2 c00c", b"\xc0\x0c"),
-    ];
-    for (rtype, text, wanted) in rows {
+    for &(rtype, text, wanted) in SAID {
         match read_line(rt.alloc(), rtype, text)? {
             Ok(data) => assert_eq!(rt; data.octets(), wanted, "at {text:?}"),
             Err(_) => return Err("words that say data".into()),
@@ -67,45 +68,46 @@ fn data_that_words_say(rt: HostRuntime) -> Result<(), Fail> {
     Ok(())
 }
 
+const FAULTS: &[(RType, &[u8], RdataFault)] = &[
+    (RType::HINFO, b"a", RdataFault::WordCount),
+    (RType::TXT, b"", RdataFault::WordCount),
+    (RType::A, b"", RdataFault::WordCount),
+    (RType::A, b"x 192.0.2.1", RdataFault::WordCount),
+    (RType::SOA, b"a..b . 1 2 3 4", RdataFault::WordCount),
+    (RType::MX, b"010 mail", RdataFault::BadNumber),
+    (RType::MX, b"65536 a..b", RdataFault::BadNumber),
+    (RType::MX, b"\"10\" mail", RdataFault::BadNumber),
+    (RType::MX, b"10 a..b", RdataFault::BadName),
+    (RType::SOA, b". . 4294967296 2 3 4 5", RdataFault::BadNumber),
+    (RType::SOA, b". . 1 +2 3 4 5", RdataFault::BadNumber),
+    (RType::SRV, b"0 0 -1 a..b", RdataFault::BadNumber),
+    (RType::A, b"192.0.2.256", RdataFault::BadAddress),
+    (RType::A, b"192.0.2.01", RdataFault::BadAddress),
+    (RType::A, b"\"192.0.2.1\"", RdataFault::BadAddress),
+    (RType::AAAA, b"1:2:3:4:5:6:7:8::", RdataFault::BadAddress),
+    (RType::AAAA, b"::1.2.3.4", RdataFault::BadAddress),
+    (RType::AAAA, b"\"::\"", RdataFault::BadAddress),
+    (RType::NS, b"\"ns\"", RdataFault::BadName),
+    (RType::NS, b"\\256", RdataFault::BadName),
+    (RType::TXT, b"a \\256", RdataFault::BadString),
+    (RType::TXT, b"\"\\9\"", RdataFault::BadString),
+    (RType::A, b"\\#", RdataFault::BadHex),
+    (RType::A, b"\\# x", RdataFault::BadHex),
+    (RType::A, b"\\# 4", RdataFault::BadHex),
+    (RType::A, b"\\# \"4\" c0000201", RdataFault::BadHex),
+    (RType::A, b"\\# 4 c000020", RdataFault::BadHex),
+    (RType::A, b"\\# 3 c00002", RdataFault::NotOfType),
+    (RType::A, b"\\# 0", RdataFault::NotOfType),
+    (RType::NS, b"\\# 2 c00c", RdataFault::NotOfType),
+    (ANY, b"\\# 2 abc d", RdataFault::BadHex),
+    (ANY, b"\\# 65536", RdataFault::BadHex),
+    (ANY, b"", RdataFault::BadHex),
+    (ANY, b"\"\\#\" 0", RdataFault::BadHex),
+];
+
 #[test]
 fn faults_in_their_order(rt: HostRuntime) -> Result<(), Fail> {
-    let rows: [(RType, &[u8], RdataFault); 34] = [
-        (RType::HINFO, b"a", RdataFault::WordCount),
-        (RType::TXT, b"", RdataFault::WordCount),
-        (RType::A, b"", RdataFault::WordCount),
-        (RType::A, b"x 192.0.2.1", RdataFault::WordCount),
-        (RType::SOA, b"a..b . 1 2 3 4", RdataFault::WordCount),
-        (RType::MX, b"010 mail", RdataFault::BadNumber),
-        (RType::MX, b"65536 a..b", RdataFault::BadNumber),
-        (RType::MX, b"\"10\" mail", RdataFault::BadNumber),
-        (RType::MX, b"10 a..b", RdataFault::BadName),
-        (RType::SOA, b". . 4294967296 2 3 4 5", RdataFault::BadNumber),
-        (RType::SOA, b". . 1 +2 3 4 5", RdataFault::BadNumber),
-        (RType::SRV, b"0 0 -1 a..b", RdataFault::BadNumber),
-        (RType::A, b"192.0.2.256", RdataFault::BadAddress),
-        (RType::A, b"192.0.2.01", RdataFault::BadAddress),
-        (RType::A, b"\"192.0.2.1\"", RdataFault::BadAddress),
-        (RType::AAAA, b"1:2:3:4:5:6:7:8::", RdataFault::BadAddress),
-        (RType::AAAA, b"::1.2.3.4", RdataFault::BadAddress),
-        (RType::AAAA, b"\"::\"", RdataFault::BadAddress),
-        (RType::NS, b"\"ns\"", RdataFault::BadName),
-        (RType::NS, b"\\256", RdataFault::BadName),
-        (RType::TXT, b"a \\256", RdataFault::BadString),
-        (RType::TXT, b"\"\\9\"", RdataFault::BadString),
-        (RType::A, b"\\#", RdataFault::BadHex),
-        (RType::A, b"\\# x", RdataFault::BadHex),
-        (RType::A, b"\\# 4", RdataFault::BadHex),
-        (RType::A, b"\\# \"4\" c0000201", RdataFault::BadHex),
-        (RType::A, b"\\# 4 c000020", RdataFault::BadHex),
-        (RType::A, b"\\# 3 c00002", RdataFault::NotOfType),
-        (RType::A, b"\\# 0", RdataFault::NotOfType),
-        (RType::NS, b"\\# 2 c00c", RdataFault::NotOfType),
-        (ANY, b"\\# 2 abc d", RdataFault::BadHex),
-        (ANY, b"\\# 65536", RdataFault::BadHex),
-        (ANY, b"", RdataFault::BadHex),
-        (ANY, b"\"\\#\" 0", RdataFault::BadHex),
-    ];
-    for (rtype, text, wanted) in rows {
+    for &(rtype, text, wanted) in FAULTS {
         let found = read_line(rt.alloc(), rtype, text)?.err();
         assert_eq!(rt; found, Some(wanted), "at {text:?}");
     }
@@ -165,25 +167,26 @@ impl<'w> Words<'w> for Repeated<'w> {
     }
 }
 
+const REPEATED: &[(RType, &[u8], usize, Result<&[u8], RdataFault>)] = &[
+    (RType::A, b"192.0.2.1", 1, Ok(b"\xc0\x00\x02\x01")),
+    (RType::HINFO, b"ab", 2, Ok(b"\x02ab\x02ab")),
+    (RType::MX, b"10", 2, Ok(b"\x00\x0a\x0210\x00")),
+    (RType::TXT, b"a", 4, Ok(b"\x01a\x01a\x01a\x01a")),
+    (RType::SRV, b"1", 4, Ok(b"\0\x01\0\x01\0\x01\x011\0")),
+    (RType::TXT, b"a", 0, Err(RdataFault::WordCount)),
+    (RType::NS, b"a..b", 2, Err(RdataFault::WordCount)),
+    (RType::SOA, b"a..b", 6, Err(RdataFault::WordCount)),
+    (RType::SOA, b".", 5_592_000, Err(RdataFault::WordCount)),
+    (RType::SOA, b".", 7, Err(RdataFault::BadNumber)),
+    (RType::HINFO, b"\\256", 2, Err(RdataFault::BadString)),
+    (ANY, b"x", 5_592_000, Err(RdataFault::BadHex)),
+    (RType::A, b"\\#", 5_592_000, Err(RdataFault::BadHex)),
+];
+
 #[test]
 fn words_that_are_no_list(rt: HostRuntime) -> Result<(), Fail> {
-    let rows: [(RType, &[u8], usize, Result<&[u8], RdataFault>); 13] = [
-        (RType::A, b"192.0.2.1", 1, Ok(b"\xc0\x00\x02\x01")),
-        (RType::HINFO, b"ab", 2, Ok(b"\x02ab\x02ab")),
-        (RType::MX, b"10", 2, Ok(b"\x00\x0a\x0210\x00")),
-        (RType::TXT, b"a", 4, Ok(b"\x01a\x01a\x01a\x01a")),
-        (RType::SRV, b"1", 4, Ok(b"\0\x01\0\x01\0\x01\x011\0")),
-        (RType::TXT, b"a", 0, Err(RdataFault::WordCount)),
-        (RType::NS, b"a..b", 2, Err(RdataFault::WordCount)),
-        (RType::SOA, b"a..b", 6, Err(RdataFault::WordCount)),
-        (RType::SOA, b".", 5_592_000, Err(RdataFault::WordCount)),
-        (RType::SOA, b".", 7, Err(RdataFault::BadNumber)),
-        (RType::HINFO, b"\\256", 2, Err(RdataFault::BadString)),
-        (ANY, b"x", 5_592_000, Err(RdataFault::BadHex)),
-        (RType::A, b"\\#", 5_592_000, Err(RdataFault::BadHex)),
-    ];
     let mut room = DataRoom::new(rt.alloc());
-    for (rtype, raw, left, wanted) in rows {
+    for &(rtype, raw, left, wanted) in REPEATED {
         let words = Repeated { raw, left };
         match Rdata::read_words_in(&mut room, rtype, words, &Name::root()) {
             Ok(data) => {

@@ -5,10 +5,10 @@ use dns_samples_tests::Kept;
 use std::test::Fail;
 
 // MNAME, RNAME, SERIAL, REFRESH, RETRY, EXPIRE and MINIMUM (RFC 1035 3.3.13).
-const SOA: [u8; 32] =
-    *b"\x02Ns\x00\x04mail\x01x\x00\x00\x00\x00\x01\x00\x00\x1c\x20\x00\x00\x03\x84\x00\x12\x75\x00\x00\x00\x01\x2c";
+const SOA: &[u8] =
+    b"\x02Ns\x00\x04mail\x01x\x00\x00\x00\x00\x01\x00\x00\x1c\x20\x00\x00\x03\x84\x00\x12\x75\x00\x00\x00\x01\x2c";
 
-const ROWS: [(RType, &[u8], &[u8]); 25] = [
+const ROWS: &[(RType, &[u8], &[u8])] = &[
     (RType::A, b"\xc0\x00\x02\x01", b"192.0.2.1"),
     (RType::A, b"\xff\xff\xff\xff", b"255.255.255.255"),
     (
@@ -26,7 +26,7 @@ const ROWS: [(RType, &[u8], &[u8]); 25] = [
         b"\x00\x01\x00\x02\x00\x03\x00\x04\x00\x05\x00\x06\x00\x07\x00\x00",
         b"1:2:3:4:5:6:7:0",
     ),
-    (RType::SOA, &SOA, b"Ns. mail.x. 1 7200 900 1209600 300"),
+    (RType::SOA, SOA, b"Ns. mail.x. 1 7200 900 1209600 300"),
     (RType::NS, b"\x00", b"."),
     (RType::CNAME, b"\x03a.b\x01C\x00", b"a\\.b.C."),
     (RType::PTR, b"\x02ns\x07example\x00", b"ns.example."),
@@ -62,7 +62,7 @@ const ROWS: [(RType, &[u8], &[u8]); 25] = [
 
 #[test]
 fn data_written(rt: HostRuntime) -> Result<(), Fail> {
-    for (rtype, octets, text) in ROWS {
+    for &(rtype, octets, text) in ROWS {
         let mut sink = Tally::new(Vec::new(rt.alloc()));
         assert_eq!(rt; write(rt.alloc(), rtype, octets, &mut sink), Ok(()));
         assert_eq!(rt; sink.into_inner().as_slice(), text);
@@ -74,7 +74,7 @@ fn data_written(rt: HostRuntime) -> Result<(), Fail> {
 // before the last fails, a beginning was written.
 #[test]
 fn each_write_fails(rt: HostRuntime) -> Result<(), Fail> {
-    for (rtype, octets, text) in ROWS {
+    for &(rtype, octets, text) in ROWS {
         let mut written = 0;
         for calls in 0..41 {
             let mut sink = Tally::new(Kept::new(rt.alloc(), 3, calls));

@@ -86,12 +86,12 @@ fn replies_to_one_message(rt: HostRuntime) -> Result<(), Fail> {
         let wanted = line_of(rt.alloc(), &[reply.head, reply.question], reply.records)?;
         judge(&rt, query.as_str(), wanted.as_str())?;
     }
-    for (question, head) in QUESTIONS {
+    for &(question, head) in QUESTIONS {
         let query = line_of(rt.alloc(), &[QUERY, question], &[])?;
         let wanted = line_of(rt.alloc(), &[head, question], &[])?;
         judge(&rt, query.as_str(), wanted.as_str())?;
     }
-    for (sent, pieces) in MESSAGES {
+    for &(sent, pieces) in MESSAGES {
         let reply = line_of(rt.alloc(), pieces, &[])?;
         let wanted = if pieces.is_empty() {
             "none\n"
