@@ -369,51 +369,51 @@ module _ (z : ZoneContents) (rows : List Row) where
       (subst (λ q. IsRowOf z rows (hint_of z q) k)
       (is ∙ get_or_default z.records i r s inside ∙ sym known) hint))
 
+-- the hint in a list of hints, for record i of a type at a node, if that record is r
+pub record HasHint (t : Tree) (k u i : ℕ) (r : ResourceRecord) (hints : List ℕ) (place : ℕ)
+    : Type 0 where
+  pub inside : place < length hints
+  pub at : IsZoneNode t (get_or hints place 0)
+  pub is : option_and_then (hint_node t.zone) (slice_get (rrset t.zone (name_at t k) u) i)
+      ≡ cond (r.rtype == u) (cond (get_or hints place 0 == 0) None
+      (Some (node_at t (get_or hints place 0)))) None
+  pub kept : r.rtype ≡ u → (get_or hints place 0 ≡ 0 → ⊥)
+      → IsHint t.zone u (name_at t (get_or hints place 0))
+
 -- the hint of an own record of a node, found among those whose type is not lower
-module _ (t : Tree) (k : ℕ) (node : IsZoneNode t k) (own others : List ResourceRecord)
-    (u before i : ℕ) (own_is : own ≡ at t.zone (name_at t k))
-    (rising : IsNonDecreasingBy (λ (q : ResourceRecord). q.rtype) own)
-    (rest : drop before own ≡ filter (not_below u) own) (same : others ≡ drop before own)
-    (r : ResourceRecord) (fits : i < length others) (there : r ≡ get_or others i r)
-    (rows : List Row) (hints : List ℕ) (e : rows ≡ t.rows) (f : hints ≡ t.hints) where
-  abbrev place : ℕ
-  place = (row_at rows k).first + before + i
+pub has_hint : (t : Tree) (k : ℕ) → IsZoneNode t k → (own others : List ResourceRecord)
+    (u before i : ℕ) → own ≡ at t.zone (name_at t k)
+    → IsNonDecreasingBy (λ (q : ResourceRecord). q.rtype) own
+    → drop before own ≡ filter (not_below u) own → others ≡ drop before own
+    → (r : ResourceRecord) → i < length others → r ≡ get_or others i r
+    → HasHint t k u i r t.hints ((row_at t.rows k).first + before + i)
+has_hint t k node own others u before i own_is rising rest same r fits there =
+    record {
+      inside = omega (arith, kept.0, node.kept.hints.count);
+      at = record { kept = node.kept; row = row.row };
+      is = ap (option_and_then (hint_node t.zone))
+          (nth t.zone node.kept.names.built (name_at t k) u own others i own_is rising (same ∙ rest)
+          ∙ ap (option_and_then (passing (of_t u)))
+          (slice_get_read others (length others) i r refl fits there)) ∙ go (r.rtype == u);
+      kept = λ typed some. subst (λ m. IsHint t.zone m (name_at t hint)) typed
+          (hint-node t r hint node.kept.names row some);
+    }
+  where
+    place : ℕ
+    place = (row_at t.rows k).first + before + i
 
-  abbrev hint : ℕ
-  hint = get_or hints place 0
+    hint : ℕ
+    hint = get_or t.hints place 0
 
-  kept : (place < length t.zone.records) × (r ≡ get_or t.zone.records place r)
-  kept =
-      subst (λ qs. ((row_at qs k).first + before + i < length t.zone.records)
-      × (r ≡ get_or t.zone.records ((row_at qs k).first + before + i) r)) (sym e)
-      (own_at t k (record { kept = node.kept.names; row = node.row }) own others before i r own_is
-      same fits there)
+    kept : (place < length t.zone.records) × (r ≡ get_or t.zone.records place r)
+    kept =
+        own_at t k (record { kept = node.kept.names; row = node.row }) own others before i r own_is
+        same fits there
 
-  pub hint_place : place < length hints
-  hint_place = omega (arith, kept.0, node.kept.hints.count, ap length f)
+    row : IsRowOf t.zone t.rows (hint_of t.zone r) hint
+    row = node.kept.hints.each place r kept.0 kept.1
 
-  row : IsRowOf t.zone t.rows (hint_of t.zone r) hint
-  row =
-      subst (λ hs. IsRowOf t.zone t.rows (hint_of t.zone r) (get_or hs place 0)) (sym f)
-      (node.kept.hints.each place r kept.0 kept.1)
-
-  pub hint_at : IsZoneNode t hint
-  hint_at = record { kept = node.kept; row = row.row }
-
-  pub hint_is : option_and_then (hint_node t.zone) (slice_get (rrset t.zone (name_at t k) u) i)
-      ≡ cond (r.rtype == u) (cond (hint == 0) None (Some (node_at t hint))) None
-  hint_is =
-      ap (option_and_then (hint_node t.zone))
-      (nth t.zone node.kept.names.built (name_at t k) u own others i own_is rising (same ∙ rest)
-      ∙ ap (option_and_then (passing (of_t u)))
-      (slice_get_read others (length others) i r refl fits there)) ∙ go (r.rtype == u)
-    where
-      go : (b : Bool) → option_and_then (hint_node t.zone) (cond b (Some r) None)
-          ≡ cond b (cond (hint == 0) None (Some (node_at t hint))) None
-      go true = row_node t r hint row
-      go false = refl
-
-  pub hint_kept : r.rtype ≡ u → (hint ≡ 0 → ⊥) → IsHint t.zone u (name_at t hint)
-  hint_kept typed some =
-      subst (λ m. IsHint t.zone m (name_at t hint)) typed
-      (hint-node t r hint node.kept.names row some)
+    go : (b : Bool) → option_and_then (hint_node t.zone) (cond b (Some r) None)
+        ≡ cond b (cond (hint == 0) None (Some (node_at t hint))) None
+    go true = row_node t r hint row
+    go false = refl
