@@ -122,4 +122,4 @@ said-lowered t ws o d e = grind (arith, lower_case, lowered-twice)
 -- the root, with type 0 and no data
 pub no_data-kept : IsKept [] 0 0 []
 unfolding cut
-no_data-kept = record { low = refl; short = omega arith; is_valid = refl; lowered = refl }
+no_data-kept = grind arith

@@ -1,5 +1,5 @@
 -- What single words of an entry mean, and what the reader keeps of the entries so far.
-use Rattle.std.specs.Prelude.{⊤, ◌≡◌, ℕ, ◌≤◌, not, List, [], ◌∷◌, length, IsTrue, MatchOption, Option, Some, None, codes}
+use Rattle.std.specs.Prelude.{⊤, ◌≡◌, ℕ, ◌<◌, ◌≤◌, not, List, [], ◌∷◌, length, IsTrue, MatchOption, Option, Some, None, codes}
 use Rattle.std.specs.List.{filter}
 use Rattle.dns_spec.specs.Names.{Octets, DomainName, folded}
 use Rattle.dns_spec.specs.Data.{Valid, lower_case}
@@ -50,10 +50,11 @@ pub record Inherited (o : DomainName) (earlier : List Entry) (origin : DomainNam
   pub stated_is : TtlOf (nearest ttl_word earlier) stated_ttl
   pub count_is : count ≡ length (filter is_record earlier)
 
--- An invariant of records: the owner is in lower case, the TTL within its limit, and the data
--- valid for its type, with its names in lower case.
+-- An invariant of records: the owner is in lower case, the TTL within its limit, the type a number
+-- of 16 bits, and the data valid for it, with its names in lower case.
 pub record IsKept (owner : DomainName) (ttl t : ℕ) (d : Octets) : Type 0 where
   pub low : folded owner ≡ owner
   pub short : ttl ≤ most_ttl
+  pub small : t < 65536
   pub is_valid : Valid t d
   pub lowered : lower_case t d ≡ d

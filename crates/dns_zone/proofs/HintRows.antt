@@ -1,5 +1,5 @@
 -- The rows of the last names on the way to targets, and of the hints of records.
-use Rattle.dns_zone.proofs.Common.{◌≡◌, ◌⊎◌, inl, inr, ℕ, zero, suc, ◌+◌, ◌-◌, ◌<◌, ◌≤◌, Bool, true, false, cond, not, ◌&&◌, ◌||◌, ◌==◌, Option, None, Some, All, List, [], ◌∷◌, map, length, drop, get_or, filter, slice_get, IsNonDecreasingBy, rrset, get_or_default, set, get_or-set_same, get_or-set_other, refl, ap, ap₂, sym, ◌∙◌, arith, subst, and_parts, and_from, and_right, false≢true, true≢false, none-some, false_from_ne_true, cases_lt, leb-true, lt-ltb, ltb-true, length-map, same-length, or_cases, or_left, or_right, to_ascii_lowercase, is_some, eq-eqb, ne_eqb, list_any, Octets, DomainName, folded, same, names_equal, names_equal-decides, at_or_below, below, suffixes, exists, is_cut, cut_of, target, type_ns, type_cname, at, owns, ResourceRecord, ZoneContents, ZoneNode, first_of, without_first, at_or_below-cons, IsHint, IsNodeAt, IsZoneNode, IsNameTree, IsRowOf, IsWayEnd, TargetWay, name_below, node_at, may_begin, last_on_way, hint_of, hint_node, row_name, row_at, Row, Tree}
+use Rattle.dns_zone.proofs.Common.{◌≡◌, ◌⊎◌, inl, inr, ℕ, zero, suc, ◌+◌, ◌-◌, ◌<◌, ◌≤◌, Bool, true, false, cond, not, ◌&&◌, ◌||◌, ◌==◌, Option, None, Some, All, List, [], ◌∷◌, map, length, drop, get_or, filter, slice_get, IsNonDecreasingBy, rrset, get_or_default, set, get_or-set_same, get_or-set_other, refl, ap, sym, ◌∙◌, arith, subst, and_parts, and_from, false≢true, true≢false, none-some, false_from_ne_true, cases_lt, leb-true, lt-ltb, ltb-true, length-map, same-length, or_cases, or_left, or_right, to_ascii_lowercase, is_some, eq-eqb, ne_eqb, list_any, Octets, DomainName, folded, same, names_equal, names_equal-decides, at_or_below, below, suffixes, exists, cut_of, target, type_ns, type_cname, at, owns, ResourceRecord, ZoneContents, ZoneNode, first_of, without_first, at_or_below-cons, IsHint, IsNodeAt, IsZoneNode, IsNameTree, IsRowOf, IsWayEnd, TargetWay, name_below, node_at, may_begin, last_on_way, hint_of, hint_node, row_name, row_at, Row, Tree}
 use Rattle.dns_spec.proofs.Common.{option_and_then}
 use Rattle.std.specs.Option.{option_map}
 use Rattle.std.proofs.lemmas.Bool.{true_from_ne_false}
@@ -12,7 +12,7 @@ use Rattle.dns_zone.proofs.NameTree.{itself-under, below-cons}
 use Rattle.dns_zone.proofs.NameOrder.{same-from, same-is}
 use Rattle.dns_zone.proofs.NodeRows.{node_is, own_at}
 use Rattle.dns_zone.proofs.NodeSets.{nth}
-use Rattle.dns_zone.proofs.Types.{passing, of_t, not_below}
+use Rattle.dns_zone.proofs.Types.{not_below}
 use Rattle.dns_zone.proofs.GrowingKids.{row_is}
 use Rattle.dns_zone.proofs.OwnRecords.{own_owns}
 use Rattle.dns_zone.proofs.WayLaws.{cut-above, cut-here, cut-none, exists-up, no_cut-at_origin, under_same}
@@ -36,15 +36,11 @@ module _ (z : ZoneContents) (a : Bool) where
   -- the last name on the way to a child
   last_past : (l : Octets) (n : DomainName) → folded (l ∷ n) ≡ l ∷ n → begins (l ∷ n) ≡ false
       → last_on_way z a (l ∷ n) ≡ last_on_way z a n
-  last_past l n low e =
-      ap (λ m. cond (begins m) (Some m) (last_on_way z a n)) low
-      ∙ ap (λ b. cond b (Some (l ∷ n)) (last_on_way z a n)) e
+  last_past l n low e = grind arith
 
   last_here : (l : Octets) (n : DomainName) → folded (l ∷ n) ≡ l ∷ n → begins (l ∷ n) ≡ true
       → last_on_way z a (l ∷ n) ≡ Some (l ∷ n)
-  last_here l n low e =
-      ap (λ m. cond (begins m) (Some m) (last_on_way z a n)) low
-      ∙ ap (λ b. cond b (Some (l ∷ n)) (last_on_way z a n)) e
+  last_here l n low e = grind arith
 
   -- no way begins at the origin or above it
   short_way : (n : DomainName) → length n ≤ length z.origin → last_on_way z a n ≡ None
@@ -63,9 +59,8 @@ module _ (z : ZoneContents) (a : Bool) where
       → last_on_way z a n ≡ None
   outside_way [] low h = ap (λ b. cond b (Some []) None) (outside [] h)
   outside_way (l ∷ n) low h =
-      last_past l n low (outside (l ∷ n) h)
-      ∙ outside_way n (ap without_first low) (false_from_ne_true _ (λ f.
-      false≢true (sym h ∙ at_or_below-cons l n z.origin ∙ or_right (same (l ∷ n) z.origin) _ f)))
+      let above = outside_way n (ap without_first low) in
+      grind (arith, last_past, outside, at_or_below-cons, or_right)
 
   -- a way begins below a name only if it goes on from there
   goes_above : (l : Octets) (n : DomainName) → begins (l ∷ n) ≡ true → goes_on n ≡ true
@@ -82,12 +77,9 @@ module _ (z : ZoneContents) (a : Bool) where
       rest = and_parts _ _ parts.1
 
       uncut : not (a && is_some (cut_of z n)) ≡ true
-      uncut = by_cut (cut_of z n) refl
-        where
-          by_cut : (c : Option DomainName) → cut_of z n ≡ c → not (a && is_some (cut_of z n)) ≡ true
-          by_cut None e = ap not (and_right a (is_some (cut_of z n)) (ap is_some e))
-          by_cut (Some c) e =
-              ap (λ x. not (a && is_some x)) (e ∙ sym (cut-above z l n c e)) ∙ rest.1
+      uncut =
+          let cut = cut-above z l n in
+          grind arith
 
       by_length : (length z.origin < length n) ⊎ (length n ≤ length z.origin) → goes_on n ≡ true
       by_length (inl longer) =
@@ -103,41 +95,22 @@ module _ (z : ZoneContents) (a : Bool) where
   goes_inside n h = grind (arith, or_cases, itself-under, and_parts)
 
   goes_uncut : (n : DomainName) → goes_on n ≡ true → a ≡ true → cut_of z n ≡ None
-  goes_uncut n h alias = by_cases (or_cases (same n z.origin) (begins n) h)
-    where
-      uncut : (c : Option DomainName) → not (a && is_some c) ≡ true → c ≡ None
-      uncut None f = refl
-      uncut (Some c) f = absurd (false≢true (sym (ap (λ d. not (d && true)) alias) ∙ f))
-
-      by_cases : (same n z.origin ≡ true) ⊎ (begins n ≡ true) → cut_of z n ≡ None
-      by_cases (inl e) = no_cut-at_origin z n (omega (arith, same-length n z.origin e))
-      by_cases (inr e) = uncut (cut_of z n) (and_parts _ _ (and_parts _ _ e).1).1
+  goes_uncut n h alias =
+      grind (arith, or_cases, no_cut-at_origin, same-length, and_parts, false≢true)
 
   -- a child that exists, unless the way ends at a cut
   pub child_begins : (l : Octets) (n : DomainName) → goes_on n ≡ true → folded (l ∷ n) ≡ l ∷ n
       → exists z (l ∷ n) ≡ true → (a ≡ true → owns z (l ∷ n) type_ns ≡ false)
       → begins (l ∷ n) ≡ true
   child_begins l n on low there servers =
-      and_from _ _ (below-cons l n z.origin ∙ goes_inside n on)
-      (and_from _ _ there (by_alias a refl))
-    where
-      cut : a ≡ true → is_cut z (folded (l ∷ n)) ≡ false
-      cut e = ap (is_cut z) low
-          ∙ ap₂ (λ x y. x && y) (below-cons l n z.origin ∙ goes_inside n on) (servers e)
-
-      by_alias : (b : Bool) → a ≡ b → not (a && is_some (cut_of z (l ∷ n))) ≡ true
-      by_alias true e =
-          ap₂ (λ x y. not (x && is_some y)) e (cut-none z l n (goes_uncut n on e) (cut e))
-      by_alias false e = ap (λ x. not (x && is_some (cut_of z (l ∷ n)))) e
+      let uncut = goes_uncut n on in
+      grind (arith, and_from, below-cons, goes_inside, cut-none)
 
   pub cut_ends : (l : Octets) (n : DomainName) → goes_on n ≡ true → folded (l ∷ n) ≡ l ∷ n
       → a ≡ true → owns z (l ∷ n) type_ns ≡ true → begins (l ∷ n) ≡ false
   cut_ends l n on low alias servers =
-      let cut : is_cut z (folded (l ∷ n)) ≡ true = ap (is_cut z) low
-      ∙ and_from _ _ (below-cons l n z.origin ∙ goes_inside n on) servers in
-      let is = cut-here z l n (goes_uncut n on alias) cut in
-      false_from_ne_true _ (λ h. true≢false (sym (and_parts _ _ (and_parts _ _ h).1).1
-      ∙ ap₂ (λ x y. not (x && is_some y)) alias is))
+      let uncut = goes_uncut n on alias in
+      grind (arith, and_parts, and_from, below-cons, goes_inside, cut-here)
 
   pub missing_ends : (n : DomainName) → (exists z n ≡ true → ⊥) → begins n ≡ false
   missing_ends n missing = false_from_ne_true _ (λ h. missing (and_parts _ _ (and_parts _ _ h).1).0)
@@ -170,29 +143,14 @@ end_at_origin w n kept e =
 pub end_at_root : (w : TargetWay) (n : DomainName) → IsNameTree w.tree
     → n ≡ [] → same n w.tree.zone.origin ≡ false
     → IsWayEnd w n (record { row = record { 0 = 0 }; goes_on = false })
-end_at_root w n kept e other =
-    let z = w.tree.zone in
-    let short : length n ≤ length z.origin = omega (arith, ap length e) in
-    record {
-      at = record { kept = kept; row = kept.tree.some };
-      last = sym (short_way z w.is_of_alias n short);
-      on = grind (arith, short_name);
-      named = λ f. absurd (false≢true f);
-    }
+end_at_root w n kept e other = grind (arith, short_way, short_name)
 
 -- the way to a child ends where the way to its parent does
 pub ends_above : (w : TargetWay) (l : Octets) (n : DomainName) (e : WayEnd) → IsWayEnd w n e
     → folded (l ∷ n) ≡ l ∷ n → same (l ∷ n) w.tree.zone.origin ≡ false
     → may_begin w.tree.zone w.is_of_alias (l ∷ n) ≡ false
     → IsWayEnd w (l ∷ n) (record { row = e.row; goes_on = false })
-ends_above w l n e end low other past =
-    let z = w.tree.zone in
-    record {
-      at = end.at;
-      last = end.last ∙ sym (last_past z w.is_of_alias l n low past);
-      on = sym (ap (λ b. b || may_begin z w.is_of_alias (l ∷ n)) other ∙ past);
-      named = λ f. absurd (false≢true f);
-    }
+ends_above w l n e end low other past = grind (arith, last_past)
 
 -- a child that the search found
 pub kid_named : (w : TargetWay) (v : TreeRow) (l : Octets) (n : DomainName) (e : WayEnd) (k : ℕ)
@@ -201,18 +159,13 @@ pub kid_named : (w : TargetWay) (v : TreeRow) (l : Octets) (n : DomainName) (e :
     ≡ record { zone = v.tree.zone; name = map to_ascii_lowercase l ∷ name_at v.tree v.row }
     → folded (l ∷ n) ≡ l ∷ n → name_at w.tree k ≡ l ∷ n
 kid_named w v l n e k end on is node low =
-    ap (λ (t : Tree). name_at t k) (sym (ap (λ (u : TreeRow). u.tree) is))
-    ∙ ap (λ (m : ZoneNode). m.name) node
-    ∙ ap₂ (λ x y. x ∷ y) (ap first_of low)
-    (ap (λ (u : TreeRow). name_at u.tree u.row) is ∙ end.named on)
+    let named = end.named on in
+    grind (arith, first_of)
 
 pub servers_of : (t u : Tree) (k : ℕ) (m : DomainName) (rs : List ResourceRecord) → t ≡ u
     → rs ≡ at t.zone (name_at t k) → name_at u k ≡ m
     → list_any (λ (r : ResourceRecord). r.rtype == type_ns) rs ≡ owns u.zone m type_ns
-servers_of t u k m rs e is named =
-    ap (list_any (λ (r : ResourceRecord). r.rtype == type_ns))
-    (is ∙ ap (λ (x : Tree). at x.zone (name_at x k)) e ∙ ap (at u.zone) named)
-    ∙ own_owns u.zone m type_ns
+servers_of t u k m rs e is named = grind (arith, own_owns)
 
 -- the way to a child goes on below it
 pub ends_here : (w : TargetWay) (l : Octets) (n : DomainName) (e : WayEnd) (k : ℕ)
@@ -220,27 +173,19 @@ pub ends_here : (w : TargetWay) (l : Octets) (n : DomainName) (e : WayEnd) (k : 
     → folded (l ∷ n) ≡ l ∷ n → may_begin w.tree.zone w.is_of_alias (l ∷ n) ≡ true
     → IsWayEnd w (l ∷ n) (record { row = record { 0 = k }; goes_on = true })
 ends_here w l n e k end on at named low here =
-    let z = w.tree.zone in
-    let inside = ltb-true _ _ (and_parts _ _ (and_parts _ _ here).0).0 in
-    record {
-      at = at;
-      last =
-          below_row w.tree k at.kept (subst (λ m. length z.origin < length m) (sym named) inside)
-          ∙ ap Some named ∙ sym (last_here z w.is_of_alias l n low here);
-      on = sym (or_right (same (l ∷ n) z.origin) _ here);
-      named = λ _. named;
-    }
+    let inside : length w.tree.zone.origin < length (l ∷ n) =
+    ltb-true _ _ (and_parts _ _ (and_parts _ _ here).0).0 in
+    let some = below_row w.tree k at.kept in
+    grind (arith, last_here, or_right)
 
 -- a name that was passed, at the last place of the list
 pub end_of_last : (w v : TargetWay) (names : List WayName) (s : WayName) (n : DomainName) → v ≡ w
     → All (λ (x : WayName). IsWayEnd v x.name x.end) names → 0 < length names
     → s ≡ get_or names (length names - 1) s → names_equal s.name n ≡ true → IsWayEnd w n s.end
 end_of_last w v names s n same each some is named =
-    let there : IsWayEnd v s.name s.end =
-    subst (λ (x : WayName). IsWayEnd v x.name x.end) (sym is)
-    (each (length names - 1) s (omega arith)) in
-    subst (λ u. IsWayEnd u n s.end) same
-    (subst (λ m. IsWayEnd v m s.end) ((names_equal-decides s.name n).0 named) there)
+    let there = each (length names - 1) s (omega arith) in
+    let equal = (names_equal-decides s.name n).0 named in
+    grind arith
 
 -- another name in lower case
 pub other_name : (n o : DomainName) → folded n ≡ n → folded o ≡ o → names_equal o n ≡ false
@@ -256,11 +201,8 @@ pub end_below : (w v : TargetWay) (l : Octets) (n m o : DomainName) (above end :
     → same (l ∷ k) v.tree.zone.origin ≡ false → IsWayEnd v (l ∷ k) end) → IsWayEnd v m end
 end_below w v l n m o above end e named there low lower origin other steps =
     let differs : same m o ≡ false = other_name m o low lower other in
-    subst (λ k. IsWayEnd v k end) (sym named)
-    (steps n (subst (λ u. IsWayEnd u n above) (sym e) there) (subst (λ k. folded k ≡ k) named low)
-    (subst (λ k. same k v.tree.zone.origin ≡ false) named
-    (subst (λ k. same m k ≡ false) (origin ∙ ap (λ (u : TargetWay). u.tree.zone.origin) (sym e))
-    differs)))
+    let next = steps n in
+    grind arith
 
 abbrev in_zone : ZoneContents → Option DomainName → Option ZoneNode
 in_zone z = option_map (λ n. record { zone = z; name = n })
@@ -269,9 +211,7 @@ in_zone z = option_map (λ n. record { zone = z; name = n })
 row_node : (t : Tree) (r : ResourceRecord) (k : ℕ) → IsRowOf t.zone t.rows (hint_of t.zone r) k
     → hint_node t.zone r ≡ cond (k == 0) None (Some (node_at t k))
 row_node t r zero h = sym (ap (in_zone t.zone) h.name)
-row_node t r (suc k) h =
-    sym (ap (in_zone t.zone) h.name) ∙ ap (λ b. cond b None (Some (node_at t (suc k))))
-    (sym (ne_eqb (suc k) 0 (λ e. omega (arith, e))))
+row_node t r (suc k) h = grind (arith, ne_eqb)
 
 -- the hint of a record, which is not 0
 hint-node : (t : Tree) (r : ResourceRecord) (k : ℕ) → IsNameTree t
@@ -295,19 +235,9 @@ hint-node t r (suc k) kept h some = by_target (target r.rtype r.rdata) refl
     by_target (Some m) e =
         let found : last_on_way z b m ≡ Some n =
         sym (h.name ∙ ap (option_and_then (last_on_way z b)) e) in
-        let here = and_parts (below n z.origin) _
-        (found_passes (may_begin z b) (suffixes (folded m)) n found) in
-        let inside = and_parts _ _ here.0 in
-        record {
-          node = node_is t (suc k) (record { kept = kept; row = h.row });
-          inside = inside.1;
-          longer = ltb-true _ _ inside.0;
-          uncut = λ alias. uncut (cut_of z n) (eq-eqb _ _ alias) (and_parts _ _ here.1).1;
-        }
-      where
-        uncut : (c : Option DomainName) → b ≡ true → not (b && is_some c) ≡ true → c ≡ None
-        uncut None f g = refl
-        uncut (Some c) f g = absurd (false≢true (sym (ap (λ d. not (d && true)) f) ∙ g))
+        let passes = found_passes (may_begin z b) (suffixes (folded m)) n found in
+        let there = node_is t (suc k) (record { kept = kept; row = h.row }) in
+        grind (arith, and_parts, ltb-true, eq-eqb, false≢true)
 
 -- Each record has its hint, or has a number from `first` on and the mark of an unknown hint.
 abbrev pub AreFound : ZoneContents → List Row → List ℕ → ℕ → Type 0
@@ -315,105 +245,71 @@ AreFound z rows hints first =
     (j : ℕ) (r : ResourceRecord) → j < length z.records → r ≡ get_or z.records j r
     → ((first ≤ j) × (get_or hints j 0 ≡ UNKNOWN)) ⊎ IsRowOf z rows (hint_of z r) (get_or hints j 0)
 
-module _ (z : ZoneContents) (rows : List Row) where
-  same_or_other : (i j : ℕ) → (i ≡ j) ⊎ (i ≡ j → ⊥)
-  same_or_other i j = grind arith
+same_or_other : (i j : ℕ) → (i ≡ j) ⊎ (i ≡ j → ⊥)
+same_or_other i j = grind arith
 
-  -- one more hint
-  pub found_set : (hints : List ℕ) (first i k : ℕ) (r : ResourceRecord)
-      → AreFound z rows hints first → i < length hints → i < length z.records
-      → r ≡ get_or z.records i r → IsRowOf z rows (hint_of z r) k
-      → AreFound z rows (set hints i k) first
-  found_set hints first i k r are fits inside is hint j s l known = go (same_or_other i j)
-    where
-      go : (i ≡ j) ⊎ (i ≡ j → ⊥) → ((first ≤ j) × (get_or (set hints i k) j 0 ≡ UNKNOWN))
-          ⊎ IsRowOf z rows (hint_of z s) (get_or (set hints i k) j 0)
-      go (inl e) =
-          let here : get_or (set hints i k) j 0 ≡ k = grind (arith, get_or-set_same) in
-          let same : r ≡ s = is ∙ get_or_default z.records i r s inside
-          ∙ ap (λ m. get_or z.records m s) e ∙ sym known in
-          inr (subst (λ x. IsRowOf z rows (hint_of z s) x) (sym here)
-          (subst (λ q. IsRowOf z rows (hint_of z q) k) same hint))
-      go (inr other) =
-          let here : get_or (set hints i k) j 0 ≡ get_or hints j 0 =
-          grind (arith, get_or-set_other) in
-          subst (λ x. ((first ≤ j) × (x ≡ UNKNOWN)) ⊎ IsRowOf z rows (hint_of z s) x) (sym here)
-          (are j s l known)
+-- one more hint; after it, the same records may be without a hint, or all of them but this one
+pub found_set : (z : ZoneContents) (rows : List Row) (hints : List ℕ) (first next i k : ℕ)
+    (r : ResourceRecord) → AreFound z rows hints first
+    → ((j : ℕ) → (i ≡ j → ⊥) → first ≤ j → next ≤ j) → i < length hints → i < length z.records
+    → r ≡ get_or z.records i r → IsRowOf z rows (hint_of z r) k
+    → AreFound z rows (set hints i k) next
+found_set z rows hints first next i k r are past fits inside is hint j s l known =
+    go (same_or_other i j)
+  where
+    go : (i ≡ j) ⊎ (i ≡ j → ⊥) → ((next ≤ j) × (get_or (set hints i k) j 0 ≡ UNKNOWN))
+        ⊎ IsRowOf z rows (hint_of z s) (get_or (set hints i k) j 0)
+    go (inl e) =
+        let same : r ≡ s = is ∙ get_or_default z.records i r s inside
+        ∙ ap (λ m. get_or z.records m s) e ∙ sym known in
+        inr (grind (arith, get_or-set_same))
+    go (inr other) =
+        let left = are j s l known in
+        let later = past j other in
+        grind (arith, get_or-set_other)
 
-  -- the first record that may be without a hint gets one, or had it before
-  found_next : (hints : List ℕ) (first : ℕ) → AreFound z rows hints first
-      → ((r : ResourceRecord) → r ≡ get_or z.records first r
-      → IsRowOf z rows (hint_of z r) (get_or hints first 0)) → AreFound z rows hints (first + 1)
-  found_next hints first are here j r l known = go (same_or_other first j)
-    where
-      go : (first ≡ j) ⊎ (first ≡ j → ⊥) → ((first + 1 ≤ j) × (get_or hints j 0 ≡ UNKNOWN))
-          ⊎ IsRowOf z rows (hint_of z r) (get_or hints j 0)
-      go (inl e) = inr (subst (λ m. IsRowOf z rows (hint_of z r) (get_or hints m 0)) e
-          (here r (known ∙ ap (λ m. get_or z.records m r) (sym e))))
-      go (inr other) = later (are j r l known)
-        where
-          later : ((first ≤ j) × (get_or hints j 0 ≡ UNKNOWN))
-              ⊎ IsRowOf z rows (hint_of z r) (get_or hints j 0)
-              → ((first + 1 ≤ j) × (get_or hints j 0 ≡ UNKNOWN))
-              ⊎ IsRowOf z rows (hint_of z r) (get_or hints j 0)
-          later (inl (up, e)) = inl (omega arith, e)
-          later (inr h) = inr h
-
-  pub found_here : (hints : List ℕ) (i k : ℕ) (r : ResourceRecord) → AreFound z rows hints i
-      → i < length hints → i < length z.records → r ≡ get_or z.records i r
-      → IsRowOf z rows (hint_of z r) k → AreFound z rows (set hints i k) (i + 1)
-  found_here hints i k r are fits inside is hint =
-      let here : get_or (set hints i k) i 0 ≡ k = grind (arith, get_or-set_same) in
-      found_next (set hints i k) i (found_set hints i i k r are fits inside is hint) (λ s known.
-      subst (λ x. IsRowOf z rows (hint_of z s) x) (sym here)
-      (subst (λ q. IsRowOf z rows (hint_of z q) k)
-      (is ∙ get_or_default z.records i r s inside ∙ sym known) hint))
+-- the hint in a list of hints, for record i of a type at a node, if that record is r
+pub record HasHint (t : Tree) (k u i : ℕ) (r : ResourceRecord) (hints : List ℕ) (place : ℕ)
+    : Type 0 where
+  pub inside : place < length hints
+  pub at : IsZoneNode t (get_or hints place 0)
+  pub is : option_and_then (hint_node t.zone) (slice_get (rrset t.zone (name_at t k) u) i)
+      ≡ cond (r.rtype == u) (cond (get_or hints place 0 == 0) None
+      (Some (node_at t (get_or hints place 0)))) None
+  pub kept : r.rtype ≡ u → (get_or hints place 0 ≡ 0 → ⊥)
+      → IsHint t.zone u (name_at t (get_or hints place 0))
 
 -- the hint of an own record of a node, found among those whose type is not lower
-module _ (t : Tree) (k : ℕ) (node : IsZoneNode t k) (own others : List ResourceRecord)
-    (u before i : ℕ) (own_is : own ≡ at t.zone (name_at t k))
-    (rising : IsNonDecreasingBy (λ (q : ResourceRecord). q.rtype) own)
-    (rest : drop before own ≡ filter (not_below u) own) (same : others ≡ drop before own)
-    (r : ResourceRecord) (fits : i < length others) (there : r ≡ get_or others i r)
-    (rows : List Row) (hints : List ℕ) (e : rows ≡ t.rows) (f : hints ≡ t.hints) where
-  abbrev place : ℕ
-  place = (row_at rows k).first + before + i
+pub has_hint : (t : Tree) (k : ℕ) → IsZoneNode t k → (own others : List ResourceRecord)
+    (u before i : ℕ) → own ≡ at t.zone (name_at t k)
+    → IsNonDecreasingBy (λ (q : ResourceRecord). q.rtype) own
+    → drop before own ≡ filter (not_below u) own → others ≡ drop before own
+    → (r : ResourceRecord) → i < length others → r ≡ get_or others i r
+    → HasHint t k u i r t.hints ((row_at t.rows k).first + before + i)
+has_hint t k node own others u before i own_is rising rest same r fits there =
+    record {
+      inside = omega (arith, kept.0, node.kept.hints.count);
+      at = record { kept = node.kept; row = row.row };
+      is =
+          let found = slice_get_read others (length others) i r refl fits there in
+          let one = nth t.zone node.kept.names.built (name_at t k) u own others i own_is rising
+          (same ∙ rest) in
+          let to = row_node t r hint row in
+          grind arith;
+      kept = λ typed some. subst (λ m. IsHint t.zone m (name_at t hint)) typed
+          (hint-node t r hint node.kept.names row some);
+    }
+  where
+    place : ℕ
+    place = (row_at t.rows k).first + before + i
 
-  abbrev hint : ℕ
-  hint = get_or hints place 0
+    hint : ℕ
+    hint = get_or t.hints place 0
 
-  kept : (place < length t.zone.records) × (r ≡ get_or t.zone.records place r)
-  kept =
-      subst (λ qs. ((row_at qs k).first + before + i < length t.zone.records)
-      × (r ≡ get_or t.zone.records ((row_at qs k).first + before + i) r)) (sym e)
-      (own_at t k (record { kept = node.kept.names; row = node.row }) own others before i r own_is
-      same fits there)
+    kept : (place < length t.zone.records) × (r ≡ get_or t.zone.records place r)
+    kept =
+        own_at t k (record { kept = node.kept.names; row = node.row }) own others before i r own_is
+        same fits there
 
-  pub hint_place : place < length hints
-  hint_place = omega (arith, kept.0, node.kept.hints.count, ap length f)
-
-  row : IsRowOf t.zone t.rows (hint_of t.zone r) hint
-  row =
-      subst (λ hs. IsRowOf t.zone t.rows (hint_of t.zone r) (get_or hs place 0)) (sym f)
-      (node.kept.hints.each place r kept.0 kept.1)
-
-  pub hint_at : IsZoneNode t hint
-  hint_at = record { kept = node.kept; row = row.row }
-
-  pub hint_is : option_and_then (hint_node t.zone) (slice_get (rrset t.zone (name_at t k) u) i)
-      ≡ cond (r.rtype == u) (cond (hint == 0) None (Some (node_at t hint))) None
-  hint_is =
-      ap (option_and_then (hint_node t.zone))
-      (nth t.zone node.kept.names.built (name_at t k) u own others i own_is rising (same ∙ rest)
-      ∙ ap (option_and_then (passing (of_t u)))
-      (slice_get_read others (length others) i r refl fits there)) ∙ go (r.rtype == u)
-    where
-      go : (b : Bool) → option_and_then (hint_node t.zone) (cond b (Some r) None)
-          ≡ cond b (cond (hint == 0) None (Some (node_at t hint))) None
-      go true = row_node t r hint row
-      go false = refl
-
-  pub hint_kept : r.rtype ≡ u → (hint ≡ 0 → ⊥) → IsHint t.zone u (name_at t hint)
-  hint_kept typed some =
-      subst (λ m. IsHint t.zone m (name_at t hint)) typed
-      (hint-node t r hint node.kept.names row some)
+    row : IsRowOf t.zone t.rows (hint_of t.zone r) hint
+    row = node.kept.hints.each place r kept.0 kept.1

@@ -59,8 +59,6 @@ impl StoredRecord {
         ensures lower { folded result ≡ result }
         ensures read { IsReadRecord self.now }
     {
-        // Reading the field gives the proof that its number is below 2 ^ 16.
-        let _type = self.rtype.0;
         let count = self.owner_octets as usize;
         NameRef::new(self.octets.lent().split_at(count).0)
     }

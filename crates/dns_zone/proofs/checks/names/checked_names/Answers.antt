@@ -5,7 +5,7 @@ use Rattle.dns_zone.proofs.OwnerKeys.{first_keyed}
 use Rattle.dns_zone.proofs.OwnersWalk.{Step, step, all_owners, one_more}
 use Rattle.dns_zone.proofs.TopmostCut.{topmost_fits}
 use Rattle.dns_zone.proofs.checks.names.checked_names.Goals as goal
-use Rattle.dns_zone.proofs.checks.names.checked_names.Goals.{In_ok-push}
+use Rattle.dns_zone.proofs.checks.names.checked_names.Goals.{After-split_at, In_ok-push}
 
 pub owners-init : goal.owners-init
 owners-init c = grind (arith, all_owners, root_first)
@@ -16,19 +16,28 @@ index-requires c = grind arith
 pub cut_of-cut-requires-clause-fits : goal.cut_of-cut-requires-clause-fits
 cut_of-cut-requires-clause-fits c = grind (arith, topmost_fits)
 
+module _ (c : After-split_at) where
+  rest_is : c.owners.rest.now ≡ c.in-Some.record.now ∷ c.in-Some.others.now
+  rest_is = search rules
+
+  name_is : c.owner-owner.result ≡ c.in-Some.record.now.owner
+  name_is = search rules
+
+  taken : Step (record { origin = c.args.origin.now; records = c.args.records.now })
+      c.owner-owner.result c.owners.rest.now c.split_at.result.0.now c.split_at.result.1.now
+  taken =
+      step _ _ c.in-Some.record.now c.in-Some.others.now _ _ _ _ name_is
+      c.owner-owner.ensures.lower rest_is c.owners.invariant.whole
+      (record {
+        count = one_more _ c.in-Some.record.now _ _ name_is c.count_in_front.ensures.value
+            ∙ ap (prefix_len (is_at c.owner-owner.result)) (sym rest_is);
+        own_is = c.split_at.ensures.front;
+        others_are = c.split_at.ensures.back;
+      })
+
 pub cut_of-cut-requires-clause-by_types : goal.cut_of-cut-requires-clause-by_types
 cut_of-cut-requires-clause-by_types c =
-    let rest_is : c.owners.rest.now ≡ c.in-Some.record.now ∷ c.in-Some.others.now =
-    search rules in
-    let name_is : c.owner-owner.result ≡ c.in-Some.record.now.owner = search rules in
-    (step _ _ c.in-Some.record.now c.in-Some.others.now _ _ _ _ name_is
-    c.owner-owner.ensures.lower rest_is c.owners.invariant.whole
-    (record {
-      count = one_more _ c.in-Some.record.now _ _ name_is c.count_in_front.ensures.value
-          ∙ ap (prefix_len (is_at c.owner-owner.result)) (sym rest_is);
-      own_is = c.split_at.ensures.front;
-      others_are = c.split_at.ensures.back;
-    })).is_owner.by_types
+    (taken (goal.at.cut_of-cut-requires-clause-by_types c).After-split_at).is_owner.by_types
 
 module _ (c : In_ok-push) where
   abbrev z : ZoneContents
@@ -43,19 +52,11 @@ module _ (c : In_ok-push) where
   abbrev others : List ResourceRecord
   others = c.split_at.result.1.now
 
+  abbrev at : After-split_at
+  at = (goal.at.owners-preserved c).After-split_at
+
   pub stepped : Step z n c.owners.rest.now own others
-  stepped =
-      let rest_is : c.owners.rest.now ≡ c.in-Some.record.now ∷ c.in-Some.others.now =
-      search rules in
-      let name_is : n ≡ c.in-Some.record.now.owner = search rules in
-      step _ _ c.in-Some.record.now c.in-Some.others.now _ _ _ _ name_is
-      c.owner-owner.ensures.lower rest_is c.owners.invariant.whole
-      (record {
-        count = one_more _ c.in-Some.record.now _ _ name_is c.count_in_front.ensures.value
-            ∙ ap (prefix_len (is_at n)) (sym rest_is);
-        own_is = c.split_at.ensures.front;
-        others_are = c.split_at.ensures.back;
-      })
+  stepped = taken at
 
   abbrev added : CheckedName
   added = record {
@@ -70,9 +71,7 @@ module _ (c : In_ok-push) where
       let front = c.split_at.ensures.front_len in
       let back = c.split_at.ensures.back_len in
       let bound = c.count_in_front.ensures.bound in
-      let rest_is : c.owners.rest.now ≡ c.in-Some.record.now ∷ c.in-Some.others.now =
-      search rules in
-      omega (arith, front, back, bound, ap length rest_is)
+      omega (arith, front, back, bound, ap length (rest_is at))
 
   own_there : own_in c.args.records.now added ≡ own
   own_there =
@@ -87,16 +86,14 @@ module _ (c : In_ok-push) where
 
   key : c.key_at-next.result.now ≡ name_key n
   key =
-      let rest_is : c.owners.rest.now ≡ c.in-Some.record.now ∷ c.in-Some.others.now =
-      search rules in
-      let name_is : c.in-Some.record.now.owner ≡ n = search rules in
+      let rest_is = rest_is at in
       let count = c.owners.invariant.count in
       c.key_at-next.ensures.value
       ∙ ap₂ (λ ks s. key_in ks s c.in-Some.record.now.owner) c.as_slice.ensures.value
       c.index.ensures
       ∙ first_keyed _ _ _ c.requires.keyed c.owners.first _ c.in-Some.record.now _
       (omega (arith, count, ap length rest_is)) (sym c.owners.invariant.part ∙ rest_is)
-      ∙ ap name_key name_is
+      ∙ ap name_key (sym (name_is at))
 
   whole : map (owner_of z) c.owners.names.items ++ n ∷ owners_once others
       ≡ owners_once c.args.records.now

@@ -1,5 +1,5 @@
 use Rattle.dns_zone.proofs.Common.{rules, arith, ap, subst, ◌∙◌, ◌<◌, length, get_or, length-set, IsRowOf, hint_of, TargetWay}
-use Rattle.dns_zone.proofs.HintRows.{found_set, found_here}
+use Rattle.dns_zone.proofs.HintRows.{found_set}
 use Rattle.dns_zone.proofs.tree.hints.hints_of.Goals as goal
 
 pub places-preserved : goal.places-preserved
@@ -15,7 +15,8 @@ places-preserved c =
     record {
       way = c.find_hint.ensures.way ∙ inv.way;
       aliases = c.find_hint.ensures.aliases ∙ inv.aliases;
-      hints = found_set t.zone t.rows c.places.hints.items 0 place k r inv.hints inside
+      hints = found_set t.zone t.rows c.places.hints.items 0 0 place k r inv.hints
+          (λ j other up. up) inside
           (omega (arith, inside, inv.count, size))
           (c.index-records-place.is
           ∙ ap (λ rs. get_or rs place r) c.records-records.ensures.records)
@@ -36,7 +37,8 @@ records-preserved c =
     record {
       way = c.find_hint-in-records.ensures.way ∙ inv.way;
       aliases = c.find_hint-in-records.ensures.aliases ∙ inv.aliases;
-      hints = found_here t.zone t.rows c.records.hints.items place k r inv.hints inside
+      hints = found_set t.zone t.rows c.records.hints.items place _ place k r inv.hints
+          (λ j other up. grind arith) inside
           (omega (arith, inside, inv.count, size))
           (c.index-records-place-in-records.is
           ∙ ap (λ rs. get_or rs place r) c.records-records.ensures.records)

@@ -1,41 +1,38 @@
-use Rattle.dns_zone.proofs.Common.{◌≡◌, ◌-◌, ◌<◌, ℕ, suc, map, true, List, sym, ap, ◌∙◌, subst, arith, Octets, DomainName, folded, at_or_below, name_order, ZoneContents, octets_equal-decides, Rises, IsFront, name_key, owner_of, is_upto, IsChecked, IsLastUpto, IsSurvey, CheckedName}
+use Rattle.dns_zone.proofs.Common.{◌≡◌, ◌-◌, ◌<◌, suc, map, List, sym, ap, ◌∙◌, subst, arith, Octets, DomainName, at_or_below, name_order, ZoneContents, octets_equal-decides, Rises, owner_of, IsChecked, IsLastUpto, IsSurvey, CheckedName}
 use Rattle.dns_zone.proofs.CheckedNames.{upto_parted, upto_some, found_there, found_itself}
 use Rattle.dns_zone.proofs.ReportedNames.{checked_rise}
 use Rattle.dns_spec.proofs.General.Elements.{each_get}
 use Rattle.dns_zone.proofs.checks.survey.Survey.last_upto.Goals as goal
+use Rattle.dns_zone.proofs.checks.survey.Survey.last_upto.Goals.{After-count_upto-place}
 
-module _ (y z : ZoneContents)
-    (own : Octets) (names : List CheckedName) (survey : IsSurvey y own names) where
-  rises : Rises name_order (map (owner_of y) names)
-  rises = subst (Rises name_order) (sym survey.names_are.all) (checked_rise y)
+rises : (z : ZoneContents) (own : Octets) (names : List CheckedName) → IsSurvey z own names
+    → Rises name_order (map (owner_of z) names)
+rises z own names survey = subst (Rises name_order) (sym survey.names_are.all) (checked_rise z)
 
-  -- the origin is not after a name of the zone
-  some : (n : DomainName) (key : Octets) (k : ℕ) → y ≡ z → folded n ≡ n → key ≡ name_key n
-      → at_or_below n z.origin ≡ true → IsFront (is_upto key) names k → 0 < k
-  some n key k same lower is inside front =
-      upto_some y names survey.names_are.each rises n lower key is k front survey.names_are.all
-      survey.lower (ap (λ (x : ZoneContents). at_or_below n x.origin) same ∙ inside)
+-- the origin is not after a name of the zone
+some : (c : After-count_upto-place) → 0 < c.count_upto-place.result
+some c =
+    let are = c.self.invariant.names_are in
+    upto_some _ c.self.inside.names.now are.each (rises _ _ _ c.self.invariant) c.args.target.now
+    c.requires.lower c.key-2.result.now c.key-2.ensures c.count_upto-place.result
+    c.count_upto-place.ensures are.all c.self.invariant.lower
+    (ap (λ (z : ZoneContents). at_or_below c.args.target.now z.origin) c.self.view_is
+    ∙ c.requires.inside)
 
 pub count_upto-place-requires : goal.count_upto-place-requires
 count_upto-place-requires c =
     upto_parted _ c.self.inside.names.now c.self.invariant.names_are.each
-    (rises _ c.args.self.now _ _ c.self.invariant) c.args.target.now c.requires.lower
+    (rises _ _ _ c.self.invariant) c.args.target.now c.requires.lower
     c.key-2.result.now c.key-2.ensures
 
 pub overflow_sub-place : goal.overflow_sub-place
 overflow_sub-place c =
-    let s =
-    some _
-    _ _ _ c.self.invariant c.args.target.now _ _ c.self.view_is c.requires.lower c.key-2.ensures
-    c.requires.inside c.count_upto-place.ensures in
+    let s = some (goal.at.overflow_sub-place c).After-count_upto-place in
     omega (arith, s)
 
 pub bounds-names-place-3 : goal.bounds-names-place-3
 bounds-names-place-3 c =
-    let s =
-    some _
-    _ _ _ c.self.invariant c.args.target.now _ _ c.self.view_is c.requires.lower c.key-2.ensures
-    c.requires.inside c.count_upto-place.ensures in
+    let s = some (goal.at.bounds-names-place-3 c).After-count_upto-place in
     let bound = c.count_upto-place.ensures.bound in omega (arith, s, bound)
 
 in_zone : (x y : ZoneContents) (n : DomainName) (d : CheckedName) → x ≡ y → IsLastUpto x n d
@@ -52,14 +49,11 @@ returns-clause-last c =
 
 pub returns-2-clause-last : goal.returns-2-clause-last
 returns-2-clause-last c =
-    let s =
-    some _
-    _ _ _ c.self.invariant c.args.target.now _ _ c.self.view_is c.requires.lower c.key-2.ensures
-    c.requires.inside c.count_upto-place.ensures in
+    let s = some (goal.at.returns-2-clause-last c).After-count_upto-place in
     let k = c.count_upto-place.result in
     let next : k ≡ suc (k - 1) = omega (arith, s) in
     in_zone _ _ _ _ c.self.view_is
     (found_there _ c.self.inside.names.now c.self.invariant.names_are.each
-    (rises _ c.args.self.now _ _ c.self.invariant) c.args.target.now c.requires.lower
+    (rises _ _ _ c.self.invariant) c.args.target.now c.requires.lower
     c.key-2.result.now c.key-2.ensures k c.count_upto-place.ensures
     c.self.invariant.names_are.all (k - 1) next _)
