@@ -2,7 +2,7 @@
 ghost use Rattle.dns_spec.specs.ZoneText.{token_front};
 ghost use Rattle.dns_master.specs.TokenForm.{Begins};
 
-use crate::run::{RunKind, after_comment, after_run, is_blank};
+use crate::run::{RunKind, after_blanks, after_comment};
 
 /// A token. A word and a quoted string keep their spelling; the quotation marks are left out.
 #[derive(Clone, Copy, Debug, PartialEq, Eq)]
@@ -22,12 +22,14 @@ pub(crate) enum Token<'a> {
 pub(crate) fn first_token(text: &[u8]) -> Option<(Token<'_>, &[u8])>
     ensures { Begins result (token_front text.now) }
 {
+    let length = RunKind::Word.length(text);
+    if length > 0 {
+        let (raw, others) = text.split_at(length);
+        return Some((Token::Word(raw), others));
+    }
     let (first, others) = text.split_first()?;
     match *first {
-        b' ' | b'\t' if others.first().is_some_and(|next| is_blank(*next)) => {
-            Some((Token::Blank, after_run(others)))
-        }
-        b' ' | b'\t' => Some((Token::Blank, others)),
+        b' ' | b'\t' => Some((Token::Blank, after_blanks(text))),
         b';' => Some((Token::Comment, after_comment(others))),
         b'"' => {
             let (raw, end) = others.split_at(RunKind::String.length(others));
@@ -43,13 +45,6 @@ pub(crate) fn first_token(text: &[u8]) -> Option<(Token<'_>, &[u8])>
             [b'\n', after @ ..] => Some((Token::LineEnd, after)),
             _ => None,
         },
-        _ => {
-            let length = RunKind::Word.length(text);
-            if length == 0 {
-                return None;
-            }
-            let (raw, others) = text.split_at(length);
-            Some((Token::Word(raw), others))
-        }
+        _ => None,
     }
 }
