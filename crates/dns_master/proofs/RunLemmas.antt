@@ -4,8 +4,7 @@ use Rattle.dns_master.specs.declared.run.RunKind.TheVariants.{Word as WordRun, S
 use Rattle.dns_spec.proofs.DataWords.BareWords.{no_backslash}
 use Rattle.std.proofs.lemmas.List.Folds.{prefix_len-append}
 use Rattle.std.proofs.lemmas.List.Sums.{prefix_len_stops}
-use Rattle.dns_spec.proofs.Common.{◌++◌, not, eqb-true, false≢true, subst, token_front}
-use Rattle.dns_spec.specs.ZoneText.{unquoted_front}
+use Rattle.dns_spec.proofs.Common.{◌++◌, not}
 
 -- the place of the first octet with a property
 pub place-some : (p : ℕ → Bool) (text : Octets) (n : ℕ)
@@ -193,29 +192,3 @@ module _ (text : Octets) where
   word-stops h e =
       let none = here-end WordRun text count h (prefix_len_stops is_word_octet text 0 h) e in
       omega (arith, on, none)
-
--- an octet that begins a word begins no other token
-module _ (o : ℕ) (text : Octets) (some : 0 < run_length is_word_octet 0 (o ∷ text)) where
-  led : is_word_octet o ≡ false → (o == 92) ≡ true
-  led e = by_case (o == 92) refl
-    where
-      by_case : (b : Bool) → (o == 92) ≡ b → b ≡ true
-      by_case true h = refl
-      by_case false h =
-          let none = run-end is_word_octet o text h e in absurd (omega (arith, some, none))
-
-  other : (s : ℕ) → is_word_octet s ≡ false → (s == 92) ≡ false → (o == s) ≡ false
-  other s e h = by_case (o == s) refl
-    where
-      by_case : (b : Bool) → (o == s) ≡ b → b ≡ false
-      by_case false is = refl
-      by_case true is =
-          let same : o ≡ s = eqb-true o s is in
-          let word : (s == 92) ≡ true = subst (λ x. is_word_octet x ≡ false → (x == 92) ≡ true) same led e in
-          absurd (false≢true (sym h ∙ word))
-
-  pub word-token : token_front (o ∷ text) ≡ unquoted_front (o ∷ text)
-  word-token =
-      rw (other 32 refl refl) (rw (other 9 refl refl) (rw (other 59 refl refl)
-      (rw (other 34 refl refl) (rw (other 40 refl refl) (rw (other 41 refl refl)
-      (rw (other 10 refl refl) (rw (other 13 refl refl) refl)))))))

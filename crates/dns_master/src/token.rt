@@ -22,11 +22,6 @@ pub(crate) enum Token<'a> {
 pub(crate) fn first_token(text: &[u8]) -> Option<(Token<'_>, &[u8])>
     ensures { Begins result (token_front text.now) }
 {
-    let length = RunKind::Word.length(text);
-    if length > 0 {
-        let (raw, others) = text.split_at(length);
-        return Some((Token::Word(raw), others));
-    }
     let (first, others) = text.split_first()?;
     match *first {
         b' ' | b'\t' => Some((Token::Blank, after_blanks(text))),
@@ -45,6 +40,13 @@ pub(crate) fn first_token(text: &[u8]) -> Option<(Token<'_>, &[u8])>
             [b'\n', after @ ..] => Some((Token::LineEnd, after)),
             _ => None,
         },
-        _ => None,
+        _ => {
+            let length = RunKind::Word.length(text);
+            if length == 0 {
+                return None;
+            }
+            let (raw, others) = text.split_at(length);
+            Some((Token::Word(raw), others))
+        }
     }
 }
