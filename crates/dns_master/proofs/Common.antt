@@ -13,7 +13,7 @@ pub use Rattle.dns_master.specs.ReaderForm.{EntryTaken, Knows, RecordTaken, owne
 pub use Rattle.dns_master.specs.RecordForm.{Inherited, IsKept, LastOwner, SpelledName, SpelledOwner, TtlOf}
 pub use Rattle.dns_master.specs.SourceForm.{AppendsPiece, Decides, IsRead, ReadsFile}
 pub use Rattle.dns_master.specs.TokenForm.{by_itself, shown_token}
-pub use Rattle.dns_master.specs.WordsForm.{KeptAndCounted, WordTaken, words_from, words_in, words_of_first}
+pub use Rattle.dns_master.specs.WordsForm.{Found, KeptAndCounted, words_from, words_in, words_of_first}
 pub use Rattle.dns_master.specs.WordsLeft.{later_words, words_left}
 pub use Rattle.dns_master.specs.declared.fault.ReadCode.{ReadCode}
 pub use Rattle.dns_master.specs.declared.fault.ReadCode.TheVariants.{BadData, BadType, DirectiveWords, NoMemory, NoTtl, OtherClass, Parenthesis, TooLong, TooManyRecords}

@@ -1,6 +1,8 @@
 -- Reading an entry token by token: the tokens so far and the remaining ones together make the
 -- entry.
-use Rattle.dns_master.proofs.Common.{◌≡◌, ℕ, ◌+◌, ◌≤◌, Bool, true, false, cond, List, [], ◌∷◌, ◌++◌, length, refl, sym, ap, ◌∙◌, subst, arith, append_assoc, append-nil, Some, None, Octets, Word, Token, token_front, is_line_end, word_of, filter, cons_option, front-shorter, misplaced, over, onward, step, Outcome, unended, wrong, Reads, token_words, line_ends, EntryRead, IsWrong}
+use Rattle.dns_master.proofs.Common.{◌≡◌, ℕ, ◌+◌, ◌≤◌, Bool, true, false, cond, List, [], ◌∷◌, ◌++◌, length, refl, sym, ap, ◌∙◌, subst, arith, append_assoc, append-nil, Some, None, Octets, Word, Token, token_front, is_line_end, word_of, filter, cons_option, front-shorter, misplaced, over, onward, step, Outcome, unended, wrong, Reads, token_words, line_ends, EntryRead, IsWrong, is_blank, drop, prefix_len}
+use Rattle.dns_master.proofs.RunLemmas.{blank-first}
+use Rattle.dns_spec.specs.ZoneText.{blank}
 use Rattle.dns_master.specs.EntryForm.{ended}
 use Rattle.dns_spec.proofs.General.Options.{cons_option-append}
 
@@ -57,6 +59,22 @@ module _ (text : Octets) where
         counted =
             l ∙ ap (λ n. n + line_ends (p ∷ [])) so.counted ∙ sym (lines-append so.tokens (p ∷ []));
       }
+
+  -- the blanks at the front of the rest, if there are any, are a token
+  pub blanks-passed : (is_open : Bool) (rest : Octets) (words : List Word)
+      (lines : ℕ) → EntrySoFar is_open rest words lines
+      → EntrySoFar is_open (drop (prefix_len is_blank rest) rest) words lines
+  blanks-passed is_open [] words lines so = so
+  blanks-passed is_open (o ∷ rest) words lines so = by_case (is_blank o) refl
+    where
+      by_case : (b : Bool) → is_blank o ≡ b → EntrySoFar is_open
+          (drop (prefix_len is_blank (o ∷ rest)) (o ∷ rest)) words lines
+      by_case false e = rw e so
+      by_case true e = subst (λ t. EntrySoFar is_open t words lines) (blank-first o rest e)
+          (subst (λ ws. EntrySoFar is_open (drop (prefix_len is_blank rest) rest) ws lines)
+          (append-nil words) (token-read is_open is_open (o ∷ rest)
+          (drop (prefix_len is_blank rest) rest) blank words lines lines so (rw e refl) refl
+          (omega arith)))
 
   -- the token that ends the entry
   pub entry-ended : (is_open : Bool) (rest others : Octets) (p : Token) (words words' : List Word)

@@ -2,6 +2,9 @@
 use Rattle.dns_master.proofs.Common.{get_or, ◌≡◌, ℕ, zero, suc, sym, cond, ◌+◌, ◌≤◌, ◌<◌, Bool, true, false, [], ◌∷◌, length, take, drop, refl, ◌∙◌, ap, arith, Option, None, Some, ◌==◌, nat_eq, MatchOption, list_all, position, position_or_len, prefix_len, unwrap_or, and_parts, ltb-false, none-some, same_Some, prefix_len-le-length, Octets, is_blank, escape_left, unit_left, run_length, is_word_octet, is_string_octet, pointwise, same_text, drop_all, drop-drop, at_drop_more, counted_escape, escape-counted, by_itself, RunKind}
 use Rattle.dns_master.specs.declared.run.RunKind.TheVariants.{Word as WordRun, String as StringRun}
 use Rattle.dns_spec.proofs.DataWords.BareWords.{no_backslash}
+use Rattle.std.proofs.lemmas.List.Folds.{prefix_len-append}
+use Rattle.std.proofs.lemmas.List.Sums.{prefix_len_stops}
+use Rattle.dns_spec.proofs.Common.{◌++◌, not}
 
 -- the place of the first octet with a property
 pub place-some : (p : ℕ → Bool) (text : Octets) (n : ℕ)
@@ -130,3 +133,62 @@ spaces-passed now spaces all (Some x) text m =
     ap (λ t. drop (prefix_len is_blank t) t) m.1
     ∙ blanks-passed (length spaces) (now text) (ap
     (list_all is_blank) (same_text (take (length spaces) (now text)) spaces (sym m.0)) ∙ all)
+
+-- the front of a text in which each octet has a property, up to the first one without it
+module _ (p : ℕ → Bool) where
+  twice : (text : Octets) → position_or_len (λ x. not (p x)) text ≡ prefix_len p text
+  twice [] = refl
+  twice (o ∷ text) = grind (arith, (twice text))
+
+  pub front-place : (text : Octets) (found : Option ℕ) → found ≡ position (λ x. not (p x)) text
+      → unwrap_or found (length text) ≡ prefix_len p text
+  front-place text None e = place-none (λ x. not (p x)) text (sym e) ∙ twice text
+  front-place text (Some n) e = place-some (λ x. not (p x)) text n (sym e) ∙ twice text
+
+  -- a text of a group and others
+  module _ (text group others : Octets) (is : text ≡ group ++ others) where
+    pub front-ends : (n : ℕ) → Some n ≡ position (λ x. not (p x)) group → n ≡ prefix_len p text
+    front-ends n e =
+        let found = front-place group (Some n) e in
+        let inside : n < length group = grind (arith, same_Some, none-some) in
+        search (arith, prefix_len-append)
+
+    pub front-goes_on : None ≡ position (λ x. not (p x)) group
+        → prefix_len p text ≡ length group + prefix_len p others
+    front-goes_on e =
+        let all = front-place group None e in search (arith, prefix_len-append)
+
+pub front-all : (p : ℕ → Bool) (text : Octets)
+    → list_all p (take (prefix_len p text) text) ≡ true
+front-all p [] = refl
+front-all p (o ∷ text) = by_case (p o) refl (front-all p text)
+  where
+    one : 1 + prefix_len p text ≡ suc (prefix_len p text)
+    one = omega arith
+
+    by_case : (b : Bool) → p o ≡ b → list_all p (take (prefix_len p text) text) ≡ true
+        → list_all p (take (cond (p o) (1 + prefix_len p text) 0) (o ∷ text)) ≡ true
+    by_case true e more = rw e (rw one (rw e more))
+    by_case false e more = rw e refl
+
+-- a word without an escape: it goes on to the end of the text, or up to an octet of no word
+module _ (text : Octets) where
+  abbrev count : ℕ
+  count = prefix_len is_word_octet text
+
+  on : run_length is_word_octet 0 text ≡ count + run_length is_word_octet 0 (drop count text)
+  on = run-front WordRun count text (prefix_len-le-length is_word_octet text)
+      (front-all is_word_octet text)
+
+  pub word-to_end : length text ≤ prefix_len is_word_octet text
+      → prefix_len is_word_octet text ≡ run_length is_word_octet 0 text
+  word-to_end h =
+      let none = run-none is_word_octet (drop count text) (ap length (drop_all count text h)) in
+      omega (arith, on, none)
+
+  pub word-stops : prefix_len is_word_octet text < length text
+      → (get_or text (prefix_len is_word_octet text) 0 == 92) ≡ false
+      → prefix_len is_word_octet text ≡ run_length is_word_octet 0 text
+  word-stops h e =
+      let none = here-end WordRun text count h (prefix_len_stops is_word_octet text 0 h) e in
+      omega (arith, on, none)

@@ -1,5 +1,5 @@
 -- The words of a text, token by token.
-use Rattle.dns_master.proofs.Common.{◌≡◌, ℕ, zero, suc, ◌+◌, ◌≤◌, ◌<◌, List, [], ◌∷◌, ◌++◌, length, take, refl, sym, ap, ◌∙◌, arith, append_assoc, append-nil, Option, Some, None, cons_option, Octets, Word, Token, token_front, TokensThen, word_of, front-shorter, token_words, words_from, words_of_first, words_in, KeptAndCounted, WordTaken}
+use Rattle.dns_master.proofs.Common.{◌≡◌, ◌==◌, false, if◌then◌else◌, inl, inr, Found, length-append, ℕ, zero, suc, ◌+◌, ◌≤◌, ◌<◌, List, [], ◌∷◌, ◌++◌, length, take, refl, sym, ap, ◌∙◌, arith, append_assoc, append-nil, Option, Some, None, cons_option, Octets, Word, Token, token_front, TokensThen, word_of, front-shorter, token_words, words_from, words_of_first, words_in, KeptAndCounted}
 use Rattle.dns_master.proofs.EntryLoop.{words-append}
 use Rattle.dns_spec.proofs.ZoneTexts.TextTokens.{tokens_then}
 use Rattle.dns_spec.proofs.Common.{take-append_seam}
@@ -60,39 +60,78 @@ length-more (x ∷ xs) ys = grind (arith, (length-more xs ys))
 
 -- the counted words are in the text after the kept ones
 module _ (kept : List Word) (later rest : Octets)
-    (count : ℕ) (all : List Word) (h : KeptAndCounted kept later rest count all) where
+    (count : ℕ) (all : List Word) (h : Found kept later rest count all) where
   pub counted-enough : count ≤ length (words_in later)
-  counted-enough = grind (arith, length-more, words-then)
+  counted-enough = elim h [
+    | inl none ↦ omega (arith, none.0)
+    | inr some ↦ grind (arith, length-more, words-then, some.2.spelled, some.2.counted)
+  ]
 
   pub counted-words : kept ++ take count (words_in later) ≡ all
-  counted-words = grind (arith, words-then, take-append_seam)
+  counted-words = elim h [
+    | inl none ↦ rw none.0 (append-nil kept ∙ sym none.1)
+    | inr some ↦ grind (arith, words-then, take-append_seam, some.2.spelled, some.2.counted, some.2.all_are)
+  ]
 
-module _ (p : Token) (others : Octets) (kept : List Word) (later : Octets) (count : ℕ) where
-  one-more : (rest : Octets) → token_front rest ≡ Some (p, others)
-      → (ps : List Token) → TokensThen later ps rest → TokensThen later (ps ++ p ∷ []) others
-  one-more rest e ps h = tokens_then later rest others ps (p ∷ []) h (others, e, refl)
-
-  all-more : (ps : List Token) (all : List Word) → all ≡ kept ++ token_words ps
-      → all ++ token_words (p ∷ []) ≡ kept ++ token_words (ps ++ p ∷ [])
-  all-more ps all is = grind (arith, token_words, append_assoc, words-append)
+-- a token is read
+module _ (p : Token) (others : Octets) (kept : List Word) (later rest : Octets) (count : ℕ)
+    (all : List Word) (front : token_front rest ≡ Some (p, others)) where
+  passed-on : (now : ℕ) → now ≡ count + length (token_words (p ∷ []))
+      → KeptAndCounted kept later rest count all
+      → KeptAndCounted kept later others now (all ++ token_words (p ∷ []))
+  passed-on now is h = record {
+    passed = h.passed ++ p ∷ [];
+    spelled = tokens_then later rest others h.passed (p ∷ []) h.spelled (others, front, refl);
+    counted = is ∙ ap (λ n. n + length (token_words (p ∷ []))) h.counted
+        ∙ sym (length-append (token_words h.passed) (token_words (p ∷ [])))
+        ∙ ap length (sym (words-append h.passed (p ∷ [])));
+    all_are = ap (λ x. x ++ token_words (p ∷ [])) h.all_are
+        ∙ append_assoc kept (token_words h.passed) (token_words (p ∷ []))
+        ∙ ap (λ x. kept ++ x) (sym (words-append h.passed (p ∷ [])));
+  }
 
   -- a token that is not a word
-  pub passed-over : word_of p ≡ None → WordTaken p others kept later count kept later count
-  passed-over is rest all e h = grind (arith, one-more, words-append, append-nil, all-more)
+  pub passed-over : word_of p ≡ None → Found kept later rest count all
+      → Found kept later others count (all ++ token_words (p ∷ []))
+  passed-over is (inl none) =
+      inl (none.0, rw (ap (λ x. cons_option x []) is) (append-nil all ∙ none.1))
+  passed-over is (inr some) = inr (
+    some.0,
+    some.1,
+    passed-on count
+        (rw (ap (λ x. cons_option x []) is) (omega arith)) some.2,
+  )
 
-  -- a counted word
-  pub word-counted : (w : Word)
-      → word_of p ≡ Some w → WordTaken p others kept later count kept later (count + 1)
-  word-counted w is rest all e h = record {
-    passed = h.passed ++ p ∷ [];
-    spelled = one-more rest e h.passed h.spelled;
-    counted = ap (λ n. n + 1) h.counted ∙ sym (length-one (token_words h.passed))
-        ∙ ap length (sym (words-append h.passed (p ∷ [])
-        ∙ ap (λ x. token_words h.passed ++ cons_option x []) is));
-    all_are = all-more h.passed all h.all_are;
-  }
-    where
-      length-one : (ws : List Word) → length (ws ++ w ∷ []) ≡ length ws + 1
-      length-one [] = refl
-      length-one (v ∷ ws) =
-          let more : length (ws ++ w ∷ []) ≡ length ws + 1 = length-one ws in omega (arith, more)
+  module _ (w : Word) (is : word_of p ≡ Some w) where
+    -- a word that is kept
+    pub word-kept : (next : Octets) → length kept < 16 → Found kept later rest count all
+        → Found (kept ++ w ∷ []) later next count (all ++ token_words (p ∷ []))
+    word-kept next few (inl none) = inl (
+      none.0,
+      ap (λ x. x ++ token_words (p ∷ [])) none.1
+          ∙ ap (λ x. kept ++ cons_option x []) is,
+    )
+    word-kept next few (inr some) = absurd (omega (arith, few, some.1))
+
+    -- a counted word, maybe the first one
+    pub word-counted : 16 ≤ length kept → Found kept later rest count all
+        → Found kept (if count == 0 then rest else later) others (count + 1)
+        (all ++ token_words (p ∷ []))
+    word-counted full (inl none) = rw none.0 (inr (
+      omega arith,
+      full,
+      record {
+        passed = p ∷ [];
+        spelled = (others, front, refl);
+        counted = rw (ap (λ x. cons_option x []) is) (omega arith);
+        all_are = ap (λ x. x ++ token_words (p ∷ [])) none.1;
+      },
+    ))
+    word-counted full (inr some) =
+        let more : (count == 0) ≡ false = grind (arith, some.0) in
+        rw more (inr (
+          omega (arith, some.0),
+          full,
+          passed-on (count + 1)
+              (rw (ap (λ x. cons_option x []) is) refl) some.2,
+        ))

@@ -1,5 +1,5 @@
 -- The words of a text, and how the words of an entry are found in it.
-use Rattle.std.specs.Prelude.{◌≡◌, ℕ, zero, suc, List, [], ◌∷◌, ◌++◌, length, Option, Some, None}
+use Rattle.std.specs.Prelude.{◌≡◌, ◌<◌, ◌≤◌, ◌⊎◌, ℕ, zero, suc, List, [], ◌++◌, length, Option, Some, None}
 use Rattle.std.specs.List.{cons_option}
 use Rattle.dns_spec.specs.Names.{Octets}
 use Rattle.dns_spec.specs.DataText.{Word}
@@ -30,9 +30,8 @@ pub record KeptAndCounted (kept : List Word) (later rest : Octets) (count : ℕ)
   pub counted : count ≡ length (token_words passed)
   pub all_are : all ≡ kept ++ token_words passed
 
--- a token's word, if it has one, was kept or counted; `others` is the text after the token
-abbrev pub WordTaken : Token → Octets → List Word → Octets → ℕ → List Word → Octets → ℕ → Type 0
-WordTaken token others kept later count kept' later' count' =
-    (rest : Octets) (all : List Word) → token_front rest ≡ Some (token, others)
-    → KeptAndCounted kept later rest count all
-    → KeptAndCounted kept' later' others count' (all ++ token_words (token ∷ []))
+-- All words of an entry up to some place are kept; or as many as can be, and the others counted.
+abbrev pub Found : List Word → Octets → Octets → ℕ → List Word → Type 0
+Found kept later rest count all =
+    ((count ≡ 0) × (all ≡ kept))
+    ⊎ ((0 < count) × (16 ≤ length kept) × KeptAndCounted kept later rest count all)

@@ -1,20 +1,19 @@
 //! The entries of a zone file. An entry ends at the first line end outside parentheses
 //! (RFC 1035 5.1).
-ghost use Rattle.std.specs.Prelude.{◌≡◌, ◌≢◌, ◌+◌, ◌≤◌, ◌++◌, [], true, false, Some, None, length, IfOk, IfErr, IfSome};
+ghost use Rattle.std.specs.Prelude.{◌≡◌, ◌==◌, ◌≢◌, ◌+◌, ◌≤◌, ◌++◌, [], true, false, if◌then◌else◌, Some, None, length, IfOk, IfErr, IfSome};
 ghost use Rattle.std.specs.Option.{option_map, unwrap_or};
 ghost use Rattle.std.specs.Bool.{MatchBool};
 ghost use Rattle.dns_spec.specs.FileFaults.{bad_parenthesis, too_long};
 ghost use Rattle.dns_spec.specs.ZoneText.{is_cut_short, extent_by, stop_at, stop_fault, string_fault, token_fault, unless_cut_short};
 ghost use Rattle.dns_master.specs.TokenForm.{shown_token};
-ghost use Rattle.dns_master.specs.EntryForm.{EntryRead, IsWhole, IsWrong, outcome_of, step};
-ghost use Rattle.dns_master.specs.WordsForm.{WordTaken, words_in};
-ghost use Rattle.dns_master.specs.WordsLeft.{later_words};
+ghost use Rattle.dns_master.specs.EntryForm.{IsWhole, IsWrong, step};
+ghost use Rattle.dns_master.specs.WordsLeft.{EntryFound};
 ghost use Rattle.dns_master.specs.Steps.{shown_step};
 ghost use Rattle.dns_master.specs.Codes.{ForFault, fault_of};
 
 use crate::entry_words::{LaterWords, word_of};
 use crate::fault::ReadCode;
-use crate::run::RunKind;
+use crate::run::{RunKind, after_blanks};
 use crate::token::{Token, first_token};
 use dns_rdata::Word;
 
@@ -45,63 +44,54 @@ pub(crate) fn read_entry<'a>(
     kept: &mut Vec<Word<'a>>,
 ) -> Result<EntryEnd<'a>, ReadCode>
     requires { length text.now ≤ 16777217 }
-    ensures ok { IfOk result (λ end. EntryRead text.now
-        (kept.new.items ++ later_words end.later) end.lines
-        (outcome_of end.is_ended end.is_open end.rest.now)) }
-    ensures enough { IfOk result (λ end.
-        end.later.count ≤ length (words_in end.later.text.now)) }
-    ensures few { IfOk result (λ end. end.later.count ≤ length text.now) }
-    ensures bound { IfOk result (λ end. end.lines + length end.rest.now ≤ length text.now) }
+    ensures ok { IfOk result (λ end. EntryFound text.now kept.new.items end) }
     ensures err { IfErr result (λ code. ForFault code
         (λ fault. (fault ≡ bad_parenthesis) × IsWrong text.now)) }
 {
     kept.clear();
+    let mut later = LaterWords { text, count: 0 };
     let mut end = EntryEnd {
-        later: LaterWords { text, count: 0 },
+        later,
         lines: 0,
         is_ended: false,
         is_open: false,
         rest: text,
     };
     'tokens: while let Some((token, others)) = first_token(end.rest) {
-        end.later = take_word(kept, end.later, token, others)?;
+        if let Some(word) = word_of(token) {
+            if kept.len() < MOST_KEPT {
+                kept.push(word)?;
+                end.rest = after_blanks(others);
+                continue;
+            }
+            later = one_later(later, end.rest);
+        }
         end.lines += u32::from(matches!(token, Token::LineEnd));
         end.rest = others;
         match step_after(token, end.is_open) {
             Progress::Misplaced => return Err(ReadCode::Parenthesis),
             Progress::Over => {
                 end.is_ended = true;
-                return Ok(end);
+                return Ok(EntryEnd { later, ..end });
             }
             Progress::Onward(now_open) => end.is_open = now_open,
         }
     }
-    Ok(end)
+    Ok(EntryEnd { later, ..end })
 }
 
-// Keeps or counts the word of a token, if the token is one. `text` is what follows the token.
-fn take_word<'a>(
-    kept: &mut Vec<Word<'a>>,
-    later: LaterWords<'a>,
-    token: Token<'a>,
-    text: &'a [u8],
-) -> Result<LaterWords<'a>, ReadCode>
+// The words that are not kept, and one more, which is the first of `rest`.
+#[cold]
+#[inline(never)]
+fn one_later<'a>(later: LaterWords<'a>, rest: &'a [u8]) -> LaterWords<'a>
     requires { later.count ≤ 16777217 }
-    ensures ok { IfOk result (λ now. WordTaken (shown_token token.entry) text.now
-        kept.old.items later.entry.text.now later.entry.count
-        kept.new.items now.text.now now.count) }
-    ensures bound { IfOk result (λ now. now.count ≤ later.entry.count + 1) }
-    ensures err { IfErr result (λ code. code ≡ ReadCode.NoMemory) }
+    ensures count { result.count ≡ later.entry.count + 1 }
+    ensures text { result.text.now ≡ (if later.entry.count == 0 then rest.now
+        else later.entry.text.now) }
 {
-    let Some(word) = word_of(token) else {
-        return Ok(later);
-    };
-    if later.count > 0 || kept.len() >= MOST_KEPT {
-        let count = later.count + 1;
-        return Ok(LaterWords { count, ..later });
-    }
-    kept.push(word)?;
-    Ok(LaterWords { text, count: 0 })
+    let text = if later.count == 0 { rest } else { later.text };
+    let count = later.count + 1;
+    LaterWords { text, count }
 }
 
 // What follows a token: nothing, because a parenthesis is misplaced or because the entry has

@@ -2,7 +2,7 @@
 ghost use Rattle.std.specs.Prelude.{◌≡◌, ◌==◌, ◌≤◌, true, not, length, take, drop};
 ghost use Rattle.std.specs.List.{list_all, prefix_len, position};
 ghost use Rattle.dns_spec.specs.ZoneText.{is_blank, run_length};
-ghost use Rattle.dns_spec.specs.DataText.{is_string_octet};
+ghost use Rattle.dns_spec.specs.DataText.{is_string_octet, is_word_octet};
 ghost use Rattle.dns_spec.proofs.NameTexts.Escapes.{counted_escape};
 ghost use Rattle.dns_master.specs.TokenForm.{by_itself};
 
@@ -15,7 +15,7 @@ pub(crate) enum RunKind {
     String,
 }
 
-// How many octets of a string are checked at once, because a string may be long.
+// How many octets are checked at once, because a word or a string may be long.
 const GROUP: usize = 16;
 
 // Where each octet may appear unescaped: 2 in words and strings, 1 only in strings, 0 in neither.
@@ -32,15 +32,34 @@ const PLAIN_IN: [u8; 256] = [
 
 impl RunKind {
     /// The length in octets of the run at the beginning of a text. All octets of an escape count.
+    #[inline(always)]
     pub(crate) fn length(self, text: &[u8]) -> usize
         ensures value { result ≡ run_length (by_itself self) 0 text.now }
         ensures bound { result ≤ length text.now }
     {
-        // Only a string may be long.
-        let mut place = match self {
-            RunKind::Word => 0,
-            RunKind::String => plain_groups(text),
-        };
+        match self {
+            RunKind::Word => {
+                let front = word_front(text);
+                if front < text.len() && text[front] == b'\\' {
+                    self.length_from(text, front)
+                } else {
+                    front
+                }
+            }
+            // Only a string may be long.
+            RunKind::String => self.length_from(text, plain_groups(text)),
+        }
+    }
+
+    // The length of the run, which begins with `front` unescaped octets.
+    #[inline(never)]
+    fn length_from(self, text: &[u8], front: usize) -> usize
+        requires bound { front ≤ length text.now }
+        requires plain { list_all (by_itself self) (take front text.now) ≡ true }
+        ensures value { result ≡ run_length (by_itself self) 0 text.now }
+        ensures bound { result ≤ length text.now }
+    {
+        let mut place = front;
         'units: while place < text.len() {
             let octet = text[place];
             if self.has(octet) {
@@ -60,14 +79,41 @@ impl RunKind {
     }
 
     // Whether an octet may appear in the run unescaped.
+    #[inline(always)]
     fn has(self, octet: u8) -> bool
         ensures { result ≡ by_itself self octet }
     {
-        match self {
-            RunKind::Word => PLAIN_IN[octet as usize] >= 2,
-            RunKind::String => PLAIN_IN[octet as usize] >= 1,
-        }
+        let least = match self {
+            RunKind::Word => 2,
+            RunKind::String => 1,
+        };
+        PLAIN_IN[octet as usize] >= least
     }
+}
+
+// The number of unescaped word octets at the front of a text.
+#[inline(always)]
+fn word_front(text: &[u8]) -> usize
+    ensures { result ≡ prefix_len is_word_octet text.now }
+{
+    let mut front = 0;
+    let mut rest = text;
+    'groups: while let Some((group, others)) = rest.split_first_chunk::<GROUP>() {
+        if let Some(place) = word_end(group) {
+            return front + place;
+        }
+        front += GROUP;
+        rest = others;
+    }
+    front + word_end(rest).unwrap_or(rest.len())
+}
+
+// The place of the first octet that ends a word, or begins an escape.
+#[inline(always)]
+fn word_end(text: &[u8]) -> Option<usize>
+    ensures { result ≡ position (λ x. not (is_word_octet x)) text.now }
+{
+    text.iter().position(|octet| !RunKind::Word.has(*octet))
 }
 
 // The total length of the groups at the front that contain only unescaped string octets.
@@ -124,10 +170,24 @@ fn escape_length(text: &[u8]) -> usize
     if value < 256 { 3 } else { 0 }
 }
 
-/// The text without the spaces and tabs at its front. Rarely called, because most blanks are one
-/// octet. Skips spaces by eights after the first octet, because a line may be padded with them.
+/// The text without the spaces and tabs at its front.
+#[inline(always)]
+pub(crate) fn after_blanks(text: &[u8]) -> &[u8]
+    ensures { result.now ≡ drop (prefix_len is_blank text.now) text.now }
+{
+    match text {
+        [first, others @ ..] if is_blank(*first) => match others.first() {
+            Some(next) if is_blank(*next) => after_run(others),
+            _ => others,
+        },
+        _ => text,
+    }
+}
+
+// The same. Rarely called, because most blanks are one octet. Skips spaces by eights after the
+// first octet, because a line may be padded with them.
 #[inline(never)]
-pub(crate) fn after_run(text: &[u8]) -> &[u8]
+fn after_run(text: &[u8]) -> &[u8]
     ensures { result.now ≡ drop (prefix_len is_blank text.now) text.now }
 {
     let mut rest = text;

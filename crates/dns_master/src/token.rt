@@ -2,7 +2,7 @@
 ghost use Rattle.dns_spec.specs.ZoneText.{token_front};
 ghost use Rattle.dns_master.specs.TokenForm.{Begins};
 
-use crate::run::{RunKind, after_comment, after_run, is_blank};
+use crate::run::{RunKind, after_blanks, after_comment};
 
 /// A token. A word and a quoted string keep their spelling; the quotation marks are left out.
 #[derive(Clone, Copy, Debug, PartialEq, Eq)]
@@ -24,10 +24,7 @@ pub(crate) fn first_token(text: &[u8]) -> Option<(Token<'_>, &[u8])>
 {
     let (first, others) = text.split_first()?;
     match *first {
-        b' ' | b'\t' if others.first().is_some_and(|next| is_blank(*next)) => {
-            Some((Token::Blank, after_run(others)))
-        }
-        b' ' | b'\t' => Some((Token::Blank, others)),
+        b' ' | b'\t' => Some((Token::Blank, after_blanks(text))),
         b';' => Some((Token::Comment, after_comment(others))),
         b'"' => {
             let (raw, end) = others.split_at(RunKind::String.length(others));

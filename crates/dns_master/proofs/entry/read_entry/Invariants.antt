@@ -1,4 +1,4 @@
-use Rattle.dns_master.proofs.Common.{◌≡◌, ◌+◌, false, ◌≤◌, List, length, Word, KeptAndCounted}
+use Rattle.dns_master.proofs.Common.{◌≡◌, ◌+◌, false, ◌≤◌, List, length, Word, Found}
 use Rattle.dns_master.proofs.EntryLoop.{EntrySoFar}
 use Rattle.dns_master.proofs.entry.read_entry.Given as goal
 
@@ -6,8 +6,8 @@ abbrev pub invariant-tokens : goal.invariant-tokens
 invariant-tokens l = record {
   words : List Word;
   so_far : EntrySoFar l.text l.end.is_open l.end.rest.now words l.end.lines;
-  found : KeptAndCounted l.kept.items l.end.later.text.now l.end.rest.now l.end.later.count words;
-  few : l.end.later.count + length l.end.rest.now ≤ length l.text;
+  found : Found l.kept.items l.later.text.now l.end.rest.now l.later.count words;
+  few : l.later.count + length l.end.rest.now ≤ length l.text;
   going : l.end.is_ended ≡ false;
   bound : l.end.lines + length l.end.rest.now ≤ length l.text;
 }

@@ -1,9 +1,9 @@
-use Rattle.dns_master.proofs.Common.{rules}
 use Rattle.dns_master.proofs.RunTable.{in-words, in-strings}
+use Rattle.dns_master.proofs.run.RunKind.has.Goals.{in-Word, in-String}
 use Rattle.dns_master.proofs.run.RunKind.has.Goals as goal
 
-pub returns-in-Word : goal.returns-in-Word
-returns-in-Word c = search (rules, in-words)
-
-pub returns-in-String : goal.returns-in-String
-returns-in-String c = search (rules, in-strings)
+pub returns : goal.returns
+returns c = elim c.match-self.branch [
+  | in-Word w ↦ rw w.least-is (rw w.in-Word.is (in-words c.args.octet c.ranges.octet.fits))
+  | in-String w ↦ rw w.least-is (rw w.in-String.is (in-strings c.args.octet c.ranges.octet.fits))
+]

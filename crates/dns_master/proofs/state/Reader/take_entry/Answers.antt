@@ -8,12 +8,12 @@ use Rattle.dns_spec.proofs.Common.{MatchBool-at_true}
 
 module _ (c : After-is_some_and-is_blank_led) where
   -- the words found are the entry's words
-  sort : kind_of (ended c.in_ok-end.ensures.ok.tokens)
+  sort : kind_of (ended c.in_ok-end.ensures.ok.read.tokens)
       ≡ kind_by_words c.is_some_and-is_blank_led.result
       (c.as_slice.result.now ++ later_words c.in_ok-end.end.later)
   sort = same_sort c.args.text.now c.read_entry.new.kept.items c.as_slice.result.now
       (later_words c.in_ok-end.end.later) _ _ c.is_some_and-is_blank_led.result
-      c.in_ok-end.ensures.ok (search rules) c.as_slice.ensures.value
+      c.in_ok-end.ensures.ok.read (search rules) c.as_slice.ensures.value
 
   -- the entry is complete, whatever follows the text
   whole : IsWhole
@@ -39,7 +39,7 @@ returns-in_err-is_whole-clause-err c =
     rw line (end-faulty c.args.goes_on o earlier c.args.text.now more past fault
     (line_after earlier) may (entry-ends_faulty o earlier (unwrap_or c.args.goes_on true)
     c.args.text.now c.in_ok-end.end.rest.now _ _ c.in_ok-end.end.is_ended
-    c.in_ok-end.end.is_open c.in_ok-end.ensures.ok reported.0 fault reported.1) reported.2))
+    c.in_ok-end.end.is_open c.in_ok-end.ensures.ok.read reported.0 fault reported.1) reported.2))
     c.in_err-is_whole.ensures.err)
 
 pub returns-in_err-taken-clause-err : goal.returns-in_err-taken-clause-err
@@ -49,7 +49,7 @@ returns-in_err-taken-clause-err c =
     c.in_err-taken.field-0.0 _ c.from_residual-in_err-taken.ensures.1
     (ForFault-map c.in_err-taken.field-0.0 (λ fault given more past may o earlier known line.
     let on = entry-on c.args.goes_on more
-    past c.args.text.now c.in_ok-end.end.rest.now _ _ _ _ may (whole here) c.in_ok-end.ensures.ok in
+    past c.args.text.now c.in_ok-end.end.rest.now _ _ _ _ may (whole here) c.in_ok-end.ensures.ok.read in
     rw line (entry-faulty o earlier past (c.args.text.now ++ more)
     (c.in_ok-end.end.rest.now ++ more) _ _ c.in_ok-end.end.is_ended c.in_ok-end.end.is_open
     on.0 on.1 fault (subst (λ (s : EntryKind). KindGives o earlier s (faulty fault))
@@ -61,19 +61,19 @@ returns-clause-ok c =
     record {
       taken = λ more past later may h o earlier known line.
           let on = entry-on c.args.goes_on more past c.args.text.now c.in_ok-end.end.rest.now
-          _ _ _ _ may (whole here) c.in_ok-end.ensures.ok in
-          let done = c.in_ok-taken.ensures.ok o earlier (ended c.in_ok-end.ensures.ok.tokens)
+          _ _ _ _ may (whole here) c.in_ok-end.ensures.ok.read in
+          let done = c.in_ok-taken.ensures.ok o earlier (ended c.in_ok-end.ensures.ok.read.tokens)
           known (sort here) in
           let line_is = ap (λ n. n + c.in_ok-end.end.lines) (c.in_ok-taken.ensures.line ∙ line)
           ∙ sym (entry-line o earlier true c.args.text.now c.in_ok-end.end.rest.now
-          _ _ c.in_ok-end.end.is_ended c.in_ok-end.end.is_open c.in_ok-end.ensures.ok) in
+          _ _ c.in_ok-end.end.is_ended c.in_ok-end.end.is_open c.in_ok-end.ensures.ok.read) in
           entry-means o earlier past (c.args.text.now ++ more) (c.in_ok-end.end.rest.now ++ more)
           _ _ c.in_ok-end.end.is_ended c.in_ok-end.end.is_open on.0 on.1 _ done.given later
-          (h o (ended c.in_ok-end.ensures.ok.tokens ∷ earlier) done.known line_is);
+          (h o (ended c.in_ok-end.ensures.ok.read.tokens ∷ earlier) done.known line_is);
       counted = c.in_ok-taken.ensures.counted;
       shorter =
           entry-shorter (unwrap_or c.args.goes_on true) c.args.text.now c.in_ok-end.end.rest.now
           _ _ c.in_ok-end.end.is_ended c.in_ok-end.end.is_open c.requires.some
-          c.in_ok-end.ensures.ok (whole here);
-      lines = omega (arith, c.in_ok-end.ensures.bound, c.in_ok-taken.ensures.line);
+          c.in_ok-end.ensures.ok.read (whole here);
+      lines = omega (arith, c.in_ok-end.ensures.ok.bound, c.in_ok-taken.ensures.line);
     }

@@ -1,5 +1,5 @@
 use Rattle.dns_master.proofs.Common.{◌≡◌, ◌+◌, ◌-◌, ◌≤◌, length, drop, run_length, by_itself}
-use Rattle.dns_master.proofs.run.RunKind.length.Given as goal
+use Rattle.dns_master.proofs.run.RunKind.length_from.Given as goal
 
 -- the octets so far and the rest of the run make up the whole run
 abbrev pub invariant-units : goal.invariant-units
