@@ -93,8 +93,7 @@ pub(crate) fn is_below(key: &[u8], other: &[u8]) -> bool
 pub(crate) fn count_alike(one: &[u8], other: &[u8]) -> usize
     ensures { AreAlike result one.now other.now }
 {
-    let (left, right) = before_alike::<64>(one, other);
-    let (left, right) = before_alike::<8>(left, right);
+    let (left, right) = before_alike::<8>(one, other);
     one.len() - before_alike::<1>(left, right).0.len()
 }
 
