@@ -1,4 +1,4 @@
-use Rattle.dns_zone.proofs.Common.{rules, ◌≡◌, ◌-◌, ◌++◌, length, take, take_at, ap, ◌∙◌, arith, IsWireForm-wire, labels_of_spelled, name_key}
+use Rattle.dns_zone.proofs.Common.{rules, ◌-◌, length, take_at, ap, ◌∙◌, arith, IsWireForm-wire, labels_of_spelled, name_key}
 use Rattle.std.proofs.lemmas.List.{length-take, length-take-le}
 use Rattle.dns_zone.proofs.CommonEnds.{some, begins_as}
 use Rattle.dns_zone.proofs.order.key.Key.move_to.Goals as goal
