@@ -102,14 +102,13 @@ last_alike xs ys count k a fits =
         ap (λ i. drop i zs) place ∙ ap (drop (length left + (count - k))) e
         ∙ drop-append-add left end (count - k)
 
--- what remains of a key after it is cut to another name's length
-pub begins_as : (octets other key more kept : Octets) (m : DomainName) (count : ℕ)
-    → other ≡ wire m → is_name m ≡ true → key ≡ name_key m → AreAlike count octets other
-    → kept ≡ take (length octets - 1) key ++ more → BeginsAs count octets kept
-begins_as octets other key more kept m count e ok f alike g =
+-- where a key was, the key of another name's length begins alike
+pub begins_as : (octets other room : Octets) (m : DomainName) (count size : ℕ)
+    → other ≡ wire m → is_name m ≡ true → take size room ≡ name_key m → AreAlike count octets other
+    → BeginsAs count octets (take (length octets - 1) room)
+begins_as octets other room m count size e ok f alike =
     let s = alike.same in
-    let same : AreAlike count octets (wire m) = subst (AreAlike count octets) e alike in
-    let long : length other ≡ length key + 1 = ap length e ∙ sym (key_length m)
+    let long : length other ≡ length (take size room) + 1 = ap length e ∙ sym (key_length m)
     ∙ ap (λ xs. length xs + 1) (sym f) in
     let few : count ≤ length octets =
     omega (arith, alike.size, ap length s.whole_one, length-append alike.left s.end) in
@@ -118,12 +117,11 @@ begins_as octets other key more kept m count e ok f alike g =
     record {
       name = m;
       is_name = ok;
-      alike = same;
+      alike = subst (AreAlike count octets) e alike;
       kept = λ k less.
-          let size = length-take (length octets - 1) key in
-          ap (take k) g
-          ∙ take-append-le k (take (length octets - 1) key) more (omega (arith, size))
-          ∙ take-take k (length octets - 1) key (omega arith) ∙ ap (take k) f;
+          take-take k (length octets - 1) room (omega arith)
+          ∙ sym (take-take k size room (omega (arith, length-take size room)))
+          ∙ ap (take k) f;
     }
 
 end_name : (front end : DomainName) → is_name (front ++ end) ≡ true → is_name end ≡ true

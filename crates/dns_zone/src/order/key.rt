@@ -4,7 +4,6 @@ ghost use Rattle.dns_spec.specs.Names.{DomainName, folded, at_or_below, below};
 ghost use Rattle.dns_name.specs.WireForm.{labels_of, IsWireForm};
 ghost use Rattle.dns_zone.specs.KeyForm.{raised, ended, name_key, GoOnAlike, AreAlike, BeginsAs};
 
-use arrayvec::ArrayVec;
 use dns_name::{Name, NameRef, begins_with, first_label};
 use std::marker::Model;
 
@@ -14,15 +13,19 @@ const MAX_OCTETS: usize = 255;
 /// (RFC 4034 6.1).
 #[derive(Drop)]
 pub(crate) struct Key {
-    octets: ArrayVec<u8, MAX_OCTETS>,
+    octets: [u8; MAX_OCTETS],
+    count: usize,
 }
 
 impl Model for Key {
+    ghost use Rattle.std.specs.Prelude.{◌≤◌, take};
     ghost use Rattle.dns_spec.specs.Names.{Octets};
 
     ghost Value = { Octets };
 
-    ghost view = { λ k. k.octets.items };
+    ghost view = { λ k. take k.count k.octets };
+
+    ghost invariant = { λ k. k.count ≤ 255 };
 }
 
 impl Key {
@@ -31,7 +34,8 @@ impl Key {
         ensures { result ≡ name_key [] }
     {
         Key {
-            octets: ArrayVec::new(),
+            octets: [0; MAX_OCTETS],
+            count: 0,
         }
     }
 
@@ -53,14 +57,9 @@ impl Key {
         ensures { self.new ≡ name_key name.now }
     {
         let octets = name.octets();
-        let count = octets.len() - 1;
-        self.octets.truncate(count);
-        let (more, _) = octets.split_at(count - self.octets.len());
-        if self.octets.try_extend_from_slice(more).is_err() {
-            unreachable!();
-        }
         let alike = count_alike(octets, from.octets());
-        put_labels(octets, alike, self.octets.as_mut_slice());
+        self.count = octets.len() - 1;
+        put_labels(octets, alike, &mut self.octets[..self.count]);
     }
 
     /// Its octets, one fewer than in the wire form of the name.
@@ -68,7 +67,7 @@ impl Key {
         ensures value { result.now ≡ self.now }
         ensures bound { length result.now ≤ 255 }
     {
-        self.octets.as_slice()
+        &self.octets[..self.count]
     }
 }
 
@@ -94,8 +93,7 @@ pub(crate) fn is_below(key: &[u8], other: &[u8]) -> bool
 pub(crate) fn count_alike(one: &[u8], other: &[u8]) -> usize
     ensures { AreAlike result one.now other.now }
 {
-    let (left, right) = before_alike::<64>(one, other);
-    let (left, right) = before_alike::<8>(left, right);
+    let (left, right) = before_alike::<8>(one, other);
     one.len() - before_alike::<1>(left, right).0.len()
 }
 

@@ -7,6 +7,7 @@ ghost use Rattle.dns_zone.specs.KeyForm.{name_key};
 ghost use Rattle.dns_zone.specs.OwnerKeysForm.{key_in, AreKeyed};
 
 use crate::order::key::Key;
+use crate::order::runs::Run;
 use crate::store::stored::StoredRecord;
 use dns_name::NameRef;
 use std::alloc::{AllocError, Global};
@@ -26,40 +27,47 @@ pub(crate) struct OwnerKeys {
     pub(crate) numbers: Vec<u32>,
 }
 
+/// The keys of the owners, and the runs of records of one owner in the order of the records.
 #[tactic(auto, using(crate::proofs::SearchSteps::wire_steps))]
 pub(crate) fn keys_of<'a>(
     alloc: Global,
     origin: &'a NameRef<'a>,
     records: &'a [StoredRecord],
-) -> Result<OwnerKeys, AllocError>
+) -> Result<(OwnerKeys, Vec<Run>), AllocError>
     requires { length records.now ≤ most_records }
-    ensures origin { IfOk result (λ k.
+    ensures origin { IfOk result (λ (k, _).
         key_in k.keys.items 0 origin.now ≡ name_key origin.now) }
-    ensures records { IfOk result (λ k. AreKeyed k.keys.items records.now k.starts.items) }
+    ensures records { IfOk result (λ (k, _).
+        AreKeyed k.keys.items records.now k.starts.items) }
     ensures read { IfOk result (λ _. All IsReadRecord records.now) }
 {
     let mut keys = Vec::new(alloc);
     let mut starts = Vec::with_capacity(alloc, records.len())?;
+    let mut runs: Vec<Run> = Vec::with_capacity(alloc, records.len())?;
     let numbers = numbers_of(alloc, records)?;
-    let mut key = Key::of(origin);
+    let (first, mut key) = (Key::of(origin), Key::of(origin));
     keys.extend_from_slice(key.octets())?;
     let mut last = NameRef::new(origin.octets());
     let mut start = 0;
     'records: for each in records {
         let owner = each.owner();
-        if owner != last {
+        if owner != last || runs.is_empty() {
             start = keys.len() as u32;
             key.move_to(&last, &owner);
             keys.extend_from_slice(key.octets())?;
+            runs.push(Run::of_owner(first.octets(), key.octets(), starts.len() as u32))?;
             last = owner;
+        } else if let Some(run) = runs.as_mut_slice().last_mut() {
+            run.end = run.end.wrapping_add(1);
         }
         starts.push(start)?;
     }
-    Ok(OwnerKeys {
+    let keyed = OwnerKeys {
         keys,
         starts,
         numbers,
-    })
+    };
+    Ok((keyed, runs))
 }
 
 fn numbers_of(alloc: Global, records: &[StoredRecord]) -> Result<Vec<u32>, AllocError>

@@ -8,7 +8,7 @@ ghost use Rattle.dns_spec.specs.Meaning.{most_records};
 ghost use Rattle.dns_zone.specs.OwnerKeysForm.{AreKeyed};
 
 use crate::order::own_order;
-use crate::order::owner_keys::{key_at, swap_numbers};
+use crate::order::owner_keys::swap_numbers;
 use crate::order::runs::{Run, Sorted};
 use crate::store::stored::StoredRecord;
 use std::alloc::{AllocError, Global};
@@ -19,14 +19,12 @@ const FEW_RECORDS: usize = 8;
 
 /// Moves records, with the places of their keys and with their numbers, into canonical order, and
 /// keeps duplicates. The result is unverified: callers check the order, and sort if it is wrong.
-/// `base` is the length of the origin's key, with which `keys` begins.
 ///
-/// Takes 32 octets of memory for each run of records of one owner and for each record of the
-/// largest owner, and 4 for each record.
+/// Takes 32 octets of memory for each record of the largest owner, and 4 for each record.
 #[tactic(auto, using(crate::proofs::SearchSteps::swap_steps))]
 pub(crate) fn presort(
     alloc: Global,
-    base: usize,
+    runs: Vec<Run>,
     keys: &[u8],
     records: &mut [StoredRecord],
     starts: &mut [u32],
@@ -37,7 +35,7 @@ pub(crate) fn presort(
     ensures permutation { IsPermutation records.old records.new }
     ensures keyed { AreKeyed keys.now records.new starts.new }
 {
-    let mut places = places(alloc, base, keys, records, starts)?;
+    let mut places = places(alloc, runs, keys, records, starts)?;
     let sources = places.as_mut_slice();
     if sources.len() == records.len() {
         'places: for at in 0..records.len() {
@@ -50,16 +48,14 @@ pub(crate) fn presort(
 // For each place of the sorted list, the place from which its record comes.
 fn places(
     alloc: Global,
-    base: usize,
+    mut runs: Vec<Run>,
     keys: &[u8],
     records: &[StoredRecord],
     starts: &[u32],
 ) -> Result<Vec<u32>, AllocError>
-    requires count { length starts.now ≡ length records.now }
-    requires few { length records.now ≤ most_records }
+    requires { length records.now ≤ most_records }
     ensures { IfOk result (λ places. All (λ p. p < length records.now) places.items) }
 {
-    let mut runs = runs(alloc, base, keys, records, starts)?;
     let owners = Sorted::ByOwner(keys, records, starts);
     owners.sort(runs.as_mut_slice());
     let mut places = Vec::with_capacity(alloc, records.len())?;
@@ -83,34 +79,6 @@ fn places(
         first = places.len();
     }
     Ok(places)
-}
-
-// The runs of records of one owner, in the order of the records: their keys begin at one place and
-// have the same length. The place alone is not enough: the root has an empty key, so the next
-// owner's begins at the same place.
-fn runs(
-    alloc: Global,
-    base: usize,
-    keys: &[u8],
-    records: &[StoredRecord],
-    starts: &[u32],
-) -> Result<Vec<Run>, AllocError>
-    requires count { length starts.now ≡ length records.now }
-    requires few { length records.now ≤ most_records }
-{
-    let mut runs = Vec::with_capacity(alloc, records.len())?;
-    let (origin, _) = keys.split_at(base.min(keys.len()));
-    let mut at = 0;
-    'runs: while at < records.len() {
-        let key = key_at(keys, starts[at], &records[at]);
-        let others = starts[at + 1..].iter().zip(records[at + 1..].iter());
-        let own = others.take_while(|(start, one)| **start == starts[at]
-            && one.owner().octets().len() == key.len() + 1);
-        let end = at + 1 + own.count();
-        runs.push(Run::of_owner(origin, key, at as u32, end as u32))?;
-        at = end;
-    }
-    Ok(runs)
 }
 
 // Sorts the records of one owner, whose places are in `places` from `first` on.

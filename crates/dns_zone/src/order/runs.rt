@@ -3,7 +3,7 @@
 //! A sort that compares whole names is slow. Here each run keeps a few octets beside it, its
 //! front, by which it is compared. Runs with equal fronts are each compared once with one of them,
 //! and their next fronts are: how many octets they share with it, and the octets that follow.
-ghost use Rattle.std.specs.Prelude.{◌≡◌, ◌<◌, ◌≤◌, length};
+ghost use Rattle.std.specs.Prelude.{◌≡◌, length};
 
 use crate::checks::lcp_search::rests;
 use crate::order::owner_keys::key_at;
@@ -36,15 +36,15 @@ pub(crate) struct Run {
 }
 
 impl Run {
-    /// The records of one owner, from `at` up to `end`. The owner's key is compared with the
-    /// origin's.
-    pub(crate) fn of_owner(origin: &[u8], key: &[u8], at: u32, end: u32) -> Run {
+    /// The first record of an owner. The owner's key is compared with the origin's.
+    pub(crate) fn of_owner(origin: &[u8], key: &[u8], at: u32) -> Run {
         let front = if begins_with(key, origin) {
             let inside = key.split_at(origin.len()).1;
             front_of((2 * MOST_SHARED).saturating_sub(origin.len()), inside)
         } else {
             front_beside(origin, key, 0)
         };
+        let end = at.wrapping_add(1);
         Run { front, at, end }
     }
 
@@ -90,7 +90,11 @@ impl<'a> Sorted<'a> {
         }
         let mut at = 0;
         'alike: while at < runs.len() {
-            let next = at + count_of_front(&runs[at..]);
+            let front = runs[at].front;
+            let mut next = at + 1;
+            'fronts: while next < runs.len() && runs[next].front == front {
+                next += 1;
+            }
             if next > at + 1 && self.put_fronts(&mut runs[at..next]) {
                 self.sort_further(&mut runs[at..next], times - 1);
             }
@@ -139,18 +143,6 @@ impl<'a> Sorted<'a> {
     }
 }
 
-// The number of runs at the beginning that have the same front as the first.
-fn count_of_front(runs: &[Run]) -> usize
-    ensures some { 0 < length runs.now → 0 < result }
-    ensures bound { result ≤ length runs.now }
-{
-    let Some((first, others)) = runs.split_first() else {
-        return 0;
-    };
-    let alike = others.iter().take_while(|run| run.front == first.front);
-    1 + alike.count()
-}
-
 // The number of octets that parts with this front share.
 fn known_octets(front: u128) -> usize {
     let place = (front >> 104) as usize;
@@ -176,9 +168,20 @@ fn front_beside(other: &[u8], part: &[u8], known: usize) -> u128 {
 
 // A front: a place, the next octets of the part, and in the last octet how many these are.
 fn front_of(place: usize, rest: &[u8]) -> u128 {
-    let count = rest.len().min(FRONT_OCTETS);
-    let mut front = [0; 16];
-    front[..count].copy_from_slice(&rest[..count]);
     let end = rest.len().min(MORE);
-    ((place as u128) << 104) | (u128::from_be_bytes(front) >> 24) | end as u128
+    let (front, _) = rest.split_at(rest.len().min(FRONT_OCTETS));
+    ((place as u128) << 104) | (number_of(front) << 8) | end as u128
+}
+
+// The number whose 12 octets are those given, followed by octets 0. Eight octets or more are read
+// as two numbers that may overlap.
+fn number_of(front: &[u8]) -> u128 {
+    if let (Some(first), Some(last)) = (front.first_chunk::<8>(), front.last_chunk::<8>()) {
+        let missing = FRONT_OCTETS.saturating_sub(front.len()) as u32;
+        let more = u64::from_be_bytes(*last).wrapping_shl(8 * missing) % 4_294_967_296;
+        return ((u64::from_be_bytes(*first) as u128) << 32) | more as u128;
+    }
+    let mut octets = [0; 16];
+    octets[..front.len()].copy_from_slice(front);
+    u128::from_be_bytes(octets) >> 32
 }

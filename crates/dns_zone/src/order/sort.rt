@@ -39,10 +39,10 @@ pub(crate) fn sorted(
     ensures keyed { IfOk result (λ (kept, keyed). AreKeyed keyed.keys.items kept.items
         keyed.starts.items) }
 {
-    let mut keyed = keys_of(alloc, &*origin, records.as_slice())?;
+    let (mut keyed, runs) = keys_of(alloc, &*origin, records.as_slice())?;
     presort(
         alloc,
-        origin.octets().len() - 1,
+        runs,
         keyed.keys.as_slice(),
         records.as_mut_slice(),
         keyed.starts.as_mut_slice(),
@@ -52,7 +52,7 @@ pub(crate) fn sorted(
         return Ok((records, keyed));
     }
     records.sort_unstable_by(|one, other| record_order(one, other));
-    let mut keyed = keys_of(alloc, &*origin, records.as_slice())?;
+    let (mut keyed, _) = keys_of(alloc, &*origin, records.as_slice())?;
     leave_out_duplicates(&mut records, &mut keyed);
     Ok((records, keyed))
 }

@@ -3,5 +3,4 @@ use Rattle.dns_zone.proofs.order.key.count_alike.Goals as goal
 
 pub returns : goal.returns
 returns c =
-    let long = go_on _ _ _ _ _ _ c.before_alike.ensures c.before_alike-2.ensures in
-    alike_count _ _ _ _ (go_on _ _ _ _ _ _ long c.before_alike-3.ensures)
+    alike_count _ _ _ _ (go_on _ _ _ _ _ _ c.before_alike.ensures c.before_alike-2.ensures)

@@ -1,7 +1,7 @@
-use Rattle.dns_zone.proofs.Common.{rules, ◌≡◌, ◌≤◌, ◌<◌, length, ℕ, ◌+◌, List, [], ◌∷◌, ◌++◌, get_or, arith, sym, ap, subst, ◌∙◌, inl, inr, ◌⊎◌, length-append, cases_lt, get_or_append_left, get_or_default, Octets, DomainName, ResourceRecord, IsReadRecord, All, All-nil, take_all, get_or-append_seam, All-more, names_equal-decides, labels_of_spelled, name_key, key_in}
+use Rattle.dns_zone.proofs.Common.{rules, ◌≡◌, ◌≤◌, ◌<◌, length, ℕ, ◌+◌, List, [], ◌∷◌, ◌++◌, get_or, arith, refl, false, false≢true, sym, ap, subst, ◌∙◌, inl, inr, ◌⊎◌, length-append, cases_lt, get_or_append_left, get_or_default, Octets, DomainName, ResourceRecord, IsReadRecord, All, All-nil, take_all, get_or-append_seam, All-more, names_equal-decides, labels_of_spelled, name_key, key_in}
 use Rattle.dns_zone.proofs.OwnerKeys.{key_stays, key_added}
 use Rattle.dns_zone.proofs.order.owner_keys.keys_of.Goals as goal
-use Rattle.dns_zone.proofs.order.owner_keys.keys_of.Goals.{then-ne+in_ok-extend_from_slice-2, else-ne}
+use Rattle.dns_zone.proofs.order.owner_keys.keys_of.Goals.{then-ne, else-ne, then-is_empty+in_ok-extend_from_slice-2+in_ok-push, else-is_empty+in-Some, else-is_empty+in_default}
 
 pub records-init : goal.records-init
 records-init c =
@@ -50,69 +50,85 @@ each_pushed keys starts rs k start count each here i r s l = go (cases_lt i k)
         ∙ get_or-append_seam starts start [] s))
         (subst (λ j. IsAt keys start (get_or rs j r).owner) (sym is) (here r))
 
+-- the list of keys after the key of a name was added, or found to be its last
+record Added (old new key : Octets) (start : ℕ) (last n : DomainName) : Type 0 where
+  pub key_is : key ≡ name_key n
+  pub stays : (m : DomainName) (s : ℕ) → IsAt old s m → IsAt new s m
+  pub at : IsAt new start n
+  pub fits : length new ≤ length old + 255
+  pub is : last ≡ n
+
+key_put : (old new key : Octets) (start : ℕ) (last n : DomainName) → key ≡ name_key n
+    → new ≡ old ++ name_key n → start ≡ length old → last ≡ n → length (name_key n) ≤ 255
+    → Added old new key start last n
+key_put old new key start last n k e f g bound = rw (e, f, g) (record {
+  key_is = k;
+  stays = key_stays old (name_key n);
+  at = key_added old [] n;
+  fits = omega (arith, bound, length-append old (name_key n));
+  is = refl;
+})
+
+key_kept : (old new key : Octets) (from start : ℕ) (last m n : DomainName) → key ≡ name_key m
+    → new ≡ old → start ≡ from → last ≡ m → n ≡ m → IsAt old from m → Added old new key start last n
+key_kept old new key from start last m n k e f g h at = rw (e, f, g, h) (record {
+  key_is = k;
+  stays = λ _ _ a. a;
+  at = at;
+  fits = omega arith;
+  is = refl;
+})
+
 pub records-preserved : goal.records-preserved
 records-preserved c =
     let n = c.owner-owner.result in
     let old = c.records.keys.items in
+    let new = c.if-is_empty.keys.items in
+    let key = c.if-is_empty.key in
+    let last = c.if-is_empty.last in
+    let start = c.if-is_empty.start in
     let k = c.records.each-index in
     let rs = c.args.records.now in
     let inv = c.records.invariant in
     let few = inv.few in
-    let starts = c.in_ok-push.ensures.items in
+    let starts = c.in_ok-push-2.ensures.items in
     let here : (r : ResourceRecord) → (get_or rs k r).owner ≡ n =
     λ r. ap (λ (s : ResourceRecord). s.owner)
     (get_or_default rs k r c.each-item.result c.records-test.true ∙ sym c.each-item.is)
     ∙ sym c.owner-owner.ensures.value in
-    let count : length c.push.new.self.items ≡ k + 1 =
-    ap length starts ∙ length-append c.records.starts.items _ ∙ ap (λ j. j + 1) inv.count in
-    let read = All-more IsReadRecord rs k c.each-item.result c.records-test.true inv.read
-    (subst IsReadRecord c.each-item.is c.owner-owner.ensures.read) in
-    elim c.if-ne.branch [
-      | then-ne+in_ok-extend_from_slice-2 w ↦
-          let more : w.octets-then-ne.result.now ≡ name_key n =
-          w.octets-then-ne.ensures.value ∙ w.move_to.ensures in
-          let keys : c.if-ne.keys.items ≡ old ++ name_key n = search (rules, more) in
-          let start : c.if-ne.start ≡ length old = search rules in
-          let size = ap length keys ∙ length-append old (name_key n) in
-          let bound = w.octets-then-ne.ensures.bound in
-          let added : IsAt c.if-ne.keys.items c.if-ne.start n =
-          subst (λ xs. IsAt xs c.if-ne.start n) (sym keys)
-          (subst (λ j. IsAt (old ++ name_key n) j n) (sym start) (key_added old [] n)) in
-          let stays : (m : DomainName) (s : ℕ) → IsAt old s m → IsAt c.if-ne.keys.items s m =
-          λ m s e. subst (λ xs. IsAt xs s m) (sym keys) (key_stays old (name_key n) m s e) in
-          record {
-            key = w.key-is ∙ w.move_to.ensures ∙ ap name_key (sym w.last-is);
-            last = subst (λ m. IsAt c.if-ne.keys.items c.if-ne.start m) (sym w.last-is) added;
-            origin = stays c.args.origin.now 0 inv.origin;
-            count = count;
-            each = subst (AreFirst c.if-ne.keys.items rs (k + 1)) (sym starts)
-                (each_pushed _ _ rs k _ inv.count (λ i r s l. stays _ _ (inv.each i r s l))
-                (λ r. subst (λ m. IsAt c.if-ne.keys.items c.if-ne.start m) (sym (here r)) added));
-            few = omega (arith, few, size, ap length more, bound);
-            read = read;
-          }
-      | else-ne w ↦
-          let same : n ≡ c.records.last =
-          (names_equal-decides n c.records.last).0 (search rules) in
-          let keys : c.if-ne.keys.items ≡ old = search rules in
-          let stays : (m : DomainName) (s : ℕ) → IsAt old s m → IsAt c.if-ne.keys.items s m =
-          λ m s e. subst (λ xs. IsAt xs s m) (sym keys) e in
-          let last : IsAt c.if-ne.keys.items c.if-ne.start c.records.last =
-          subst (λ j. IsAt c.if-ne.keys.items j c.records.last) (sym w.start-is)
-          (stays c.records.last c.records.start inv.last) in
-          record {
-            key = w.key-is ∙ inv.key ∙ ap name_key (sym w.last-is);
-            last = subst (λ m. IsAt c.if-ne.keys.items c.if-ne.start m) (sym w.last-is) last;
-            origin = stays c.args.origin.now 0 inv.origin;
-            count = count;
-            each = subst (AreFirst c.if-ne.keys.items rs (k + 1)) (sym starts)
-                (each_pushed _ _ rs k _ inv.count (λ i r s l. stays _ _ (inv.each i r s l))
-                (λ r. subst (λ m. IsAt c.if-ne.keys.items c.if-ne.start m) (sym (here r ∙ same))
-                last));
-            few = omega (arith, few, ap length keys);
-            read = read;
-          }
-    ]
+    let same : c.if-ne.value ≡ false → n ≡ c.records.last =
+    λ f. elim c.if-ne.branch [
+      | then-ne w ↦ absurd (false≢true (sym f ∙ w.value-is ∙ w.if-ne.true))
+      | else-ne w ↦ (names_equal-decides n c.records.last).0 (search rules)
+    ] in
+    let kept : c.if-ne.value ≡ false → key ≡ c.records.key → new ≡ old → start ≡ c.records.start
+    → last ≡ c.records.last → Added old new key start last n =
+    λ f k e g h. key_kept old new key _ start last _ n (k ∙ inv.key) e g h (same f) inv.last in
+    let added : Added old new key start last n = elim c.if-is_empty.branch [
+      | then-is_empty+in_ok-extend_from_slice-2+in_ok-push w ↦
+          let is = w.key-is ∙ w.move_to.ensures in
+          let more : w.octets-then-is_empty.result.now ≡ name_key n = search (rules, is) in
+          let bound = w.octets-then-is_empty.ensures.bound in
+          key_put old new key start last n is (search (rules, more)) (search rules) w.last-is
+          (omega (arith, bound, ap length more))
+      | else-is_empty+in-Some w ↦
+          kept w.if-is_empty.false w.key-is (search rules) w.start-is w.last-is
+      | else-is_empty+in_default w ↦
+          kept w.if-is_empty.false w.key-is (search rules) w.start-is w.last-is
+    ] in
+    let fits = added.fits in
+    record {
+      key = added.key_is ∙ ap name_key (sym added.is);
+      last = subst (IsAt new start) (sym added.is) added.at;
+      origin = added.stays c.args.origin.now 0 inv.origin;
+      count = ap length starts ∙ length-append c.records.starts.items _ ∙ ap (λ j. j + 1) inv.count;
+      each = subst (AreFirst new rs (k + 1)) (sym starts)
+          (each_pushed _ _ rs k _ inv.count (λ i r s l. added.stays _ _ (inv.each i r s l))
+          (λ r. subst (IsAt new start) (sym (here r)) added.at));
+      few = omega (arith, few, fits);
+      read = All-more IsReadRecord rs k c.each-item.result c.records-test.true inv.read
+          (subst IsReadRecord c.each-item.is c.owner-owner.ensures.read);
+    }
 
 pub returns-clause-read : goal.returns-clause-read
 returns-clause-read c =

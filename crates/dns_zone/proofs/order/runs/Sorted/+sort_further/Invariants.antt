@@ -1,4 +1,4 @@
-use Rattle.dns_zone.proofs.Common.{◌≡◌, ◌-◌, length}
+use Rattle.dns_zone.proofs.Common.{◌≡◌, ◌-◌, ◌<◌, ◌≤◌, length}
 use Rattle.dns_zone.proofs.order.runs.Sorted.+sort_further.Given as goal
 
 abbrev pub decreases-sort_further : goal.decreases-sort_further
@@ -9,3 +9,9 @@ invariant-alike l = length l.runs ≡ length l.fn.runs
 
 abbrev pub decreases-alike : goal.decreases-alike
 decreases-alike l = length l.fn.runs - l.at
+
+abbrev pub invariant-fronts : goal.invariant-fronts
+invariant-fronts l = (l.at < l.next) × (l.next ≤ length l.runs)
+
+abbrev pub decreases-fronts : goal.decreases-fronts
+decreases-fronts l = length l.runs - l.next
