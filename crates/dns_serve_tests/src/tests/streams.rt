@@ -154,19 +154,20 @@ fn frames(alloc: Global, letters: &str) -> Result<Vec<u8>, Fail> {
     Ok(octets)
 }
 
+// The messages, how many to serve, which are read, and the replies.
+const SESSIONS: &[(&str, u32, &str, &str)] = &[
+    ("waw", 9, "waw", "WW"),
+    ("ww", 1, "w", "W"),
+    ("w", 0, "", ""),
+    ("e", 9, "e", ""),
+    ("l", 9, "l", "R"),
+    ("", 9, "", ""),
+];
+
 #[test]
 fn messages_and_their_replies(rt: HostRuntime) -> Result<(), Fail> {
     let alloc = rt.alloc();
-    // The messages, how many to serve, which are read, and the replies.
-    let rows = [
-        ("waw", 9, "waw", "WW"),
-        ("ww", 1, "w", "W"),
-        ("w", 0, "", ""),
-        ("e", 9, "e", ""),
-        ("l", 9, "l", "R"),
-        ("", 9, "", ""),
-    ];
-    for (messages, most, read, replies) in rows {
+    for &(messages, most, read, replies) in SESSIONS {
         let input = frames(alloc, messages)?;
         let wanted = frames(alloc, replies)?;
         let unread = input.len().saturating_sub(frames(alloc, read)?.len());
@@ -187,12 +188,14 @@ fn messages_and_their_replies(rt: HostRuntime) -> Result<(), Fail> {
     Ok(())
 }
 
+const REPLIES: &[(&str, &str)] = &[("wal", "WR"), ("w", "W"), ("", ""), ("lw", "RW")];
+
 #[test]
 fn sessions_in_one_room(rt: HostRuntime) -> Result<(), Fail> {
     let alloc = rt.alloc();
     let zone = sample(alloc)?;
     let mut room = StreamRoom::new();
-    for (messages, replies) in [("wal", "WR"), ("w", "W"), ("", ""), ("lw", "RW")] {
+    for &(messages, replies) in REPLIES {
         let input = frames(alloc, messages)?;
         let mut source = Tally::new(input.as_slice());
         let mut sink = Tally::new(Vec::new(alloc));
@@ -278,18 +281,19 @@ fn each_read_and_each_write_fails_in_turn(rt: HostRuntime) -> Result<(), Fail> {
     Ok(())
 }
 
+// How many octets were read and written: replies are sent after each message, even after the
+// one without a reply.
+const SENDS: &[(u32, usize, usize)] = &[
+    (0, 31, 0),
+    (1, 31, 47),
+    (2, 44, 47),
+    (3, 75, 47),
+    (4, 75, 94),
+];
+
 #[test]
 fn each_send_fails_in_turn(rt: HostRuntime) -> Result<(), Fail> {
-    // How many octets were read and written: replies are sent after each message, even after the
-    // one without a reply.
-    let rows = [
-        (0, 31, 0),
-        (1, 31, 47),
-        (2, 44, 47),
-        (3, 75, 47),
-        (4, 75, 94),
-    ];
-    for (writes, read, written) in rows {
+    for &(writes, read, written) in SENDS {
         let devices = Devices {
             writes,
             has_arrived: false,

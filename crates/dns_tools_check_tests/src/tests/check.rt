@@ -50,15 +50,16 @@ fn changed(alloc: Global, line: usize, others: &str) -> Result<String, Fail> {
     Ok(text)
 }
 
+const WRITTEN: &[(Flags, &str)] = &[
+    (PLAIN, LOADED),
+    (PRINT, SMALL_PRINTED),
+    (QUIET, ""),
+    (QUIET_PRINT, SMALL_PRINTED),
+];
+
 #[test]
 fn a_zone_that_passes(rt: HostRuntime) -> Result<(), Fail> {
-    let rows = [
-        (PLAIN, LOADED),
-        (PRINT, SMALL_PRINTED),
-        (QUIET, ""),
-        (QUIET_PRINT, SMALL_PRINTED),
-    ];
-    for (flags, wanted) in rows {
+    for &(flags, wanted) in WRITTEN {
         for most in [1, 4096] {
             let (passes, output) = checked(rt.alloc(), SMALL.as_bytes(), flags, most)?;
             assert!(rt; passes);
@@ -68,32 +69,33 @@ fn a_zone_that_passes(rt: HostRuntime) -> Result<(), Fail> {
     Ok(())
 }
 
+const LINES_ADDED: &[(&str, &str)] = &[
+    ("www A 192.0.2.10", LOADED),
+    ("www 60 A 192.0.2.10", "www.example. Z08\n"),
+    ("alias CNAME ns", "alias.example. Z07\n"),
+    ("@ NS alias", "example. Z09\nexample. Z10\n"),
+    ("@ NS h.sub", LOADED),
+    ("sub NS h.sub", "sub.example. Z10\n"),
+    ("@ MX 10 alias", "example. Z11\n"),
+    ("_s._tcp SRV 1 2 53 alias", "_s._tcp.example. Z11\n"),
+    ("@ MX 10 www.other.", LOADED),
+    ("*.w NS ns", "*.w.example. Z12\n*.w.example. Z13\n"),
+    ("www.other. A 192.0.2.1", "www.other. Z05\n"),
+    ("www SOA ns hostmaster 1 2 3 4 5", "www.example. Z03\n"),
+    (
+        "@ SOA ns hostmaster 2 7200 900 1209600 300",
+        "example. Z02\n",
+    ),
+    (
+        "www CNAME ns\nx.sub TXT \"q\"",
+        "x.sub.example. Z12\nwww.example. Z06\n",
+    ),
+    ("www CNAME ns\nwww CNAME ns", "www.example. Z06\n"),
+];
+
 #[test]
 fn zones_with_lines_added(rt: HostRuntime) -> Result<(), Fail> {
-    let rows = [
-        ("www A 192.0.2.10", LOADED),
-        ("www 60 A 192.0.2.10", "www.example. Z08\n"),
-        ("alias CNAME ns", "alias.example. Z07\n"),
-        ("@ NS alias", "example. Z09\nexample. Z10\n"),
-        ("@ NS h.sub", LOADED),
-        ("sub NS h.sub", "sub.example. Z10\n"),
-        ("@ MX 10 alias", "example. Z11\n"),
-        ("_s._tcp SRV 1 2 53 alias", "_s._tcp.example. Z11\n"),
-        ("@ MX 10 www.other.", LOADED),
-        ("*.w NS ns", "*.w.example. Z12\n*.w.example. Z13\n"),
-        ("www.other. A 192.0.2.1", "www.other. Z05\n"),
-        ("www SOA ns hostmaster 1 2 3 4 5", "www.example. Z03\n"),
-        (
-            "@ SOA ns hostmaster 2 7200 900 1209600 300",
-            "example. Z02\n",
-        ),
-        (
-            "www CNAME ns\nx.sub TXT \"q\"",
-            "x.sub.example. Z12\nwww.example. Z06\n",
-        ),
-        ("www CNAME ns\nwww CNAME ns", "www.example. Z06\n"),
-    ];
-    for (added, wanted) in rows {
+    for &(added, wanted) in LINES_ADDED {
         let text = changed(rt.alloc(), 11, added)?;
         let (passes, output) = checked(rt.alloc(), text.as_bytes(), PLAIN, 4096)?;
         assert_eq!(rt; output.as_slice(), wanted.as_bytes(), "with {added}");
@@ -124,24 +126,23 @@ fn sets_up_to_their_limits(rt: HostRuntime) -> Result<(), Fail> {
     Ok(())
 }
 
+const FLAGS: &[Flags] = &[PLAIN, PRINT, QUIET_PRINT, QUIET];
+
+const FAULTY: &[(usize, &str, &str)] = &[
+    (7, "*.w TEXT \"any\"", "line 7: R11\n"),
+    (4, "ns 1h A 192.0.2.1", "line 4: R09\n"),
+    (1, "", "line 2: R12\n"),
+    (11, "v TXT ( \"a\"", "line 11: R04\n"),
+];
+
 #[test]
 fn faulty_files(rt: HostRuntime) -> Result<(), Fail> {
-    let rows = [
-        (7, "*.w TEXT \"any\"", "line 7: R11\n"),
-        (4, "ns 1h A 192.0.2.1", "line 4: R09\n"),
-        (1, "", "line 2: R12\n"),
-        (11, "v TXT ( \"a\"", "line 11: R04\n"),
-    ];
-    for (line, others, wanted) in rows {
+    for &(line, others, wanted) in FAULTY {
         let text = changed(rt.alloc(), line, others)?;
-        for (flags, written) in [
-            (PLAIN, wanted),
-            (PRINT, wanted),
-            (QUIET_PRINT, wanted),
-            (QUIET, ""),
-        ] {
+        for &flags in FLAGS {
             let (passes, output) = checked(rt.alloc(), text.as_bytes(), flags, 4096)?;
             assert!(rt; !passes);
+            let written = if flags == QUIET { "" } else { wanted };
             assert_eq!(rt; output.as_slice(), written.as_bytes(), "with {others}");
         }
     }

@@ -106,9 +106,11 @@ fn replies_to_one_message(rt: HostRuntime) -> Result<(), Fail> {
     judge(&rt, WWW_IN_CAPITALS, wanted.as_str())
 }
 
+const NO_MESSAGES: &[&str] = &["zz", "0", "00\r", "00 ", "123", "0x00", "\u{e9}"];
+
 #[test]
 fn lines_that_are_no_messages(rt: HostRuntime) -> Result<(), Fail> {
-    for line in ["zz", "0", "00\r", "00 ", "123", "0x00", "\u{e9}"] {
+    for &line in NO_MESSAGES {
         let input = format!(in rt.alloc(); "\n{line}\n00\n")?;
         for most in [1, 1000] {
             let (output, outcome) = run(rt.alloc(), input.as_bytes(), most, 1000, 1000)?;
@@ -123,14 +125,16 @@ fn lines_that_are_no_messages(rt: HostRuntime) -> Result<(), Fail> {
     Ok(())
 }
 
+const WITHOUT_END: &[(&str, &str)] = &[
+    ("", ""),
+    ("\n", "none\n"),
+    ("\n00", "none\nnone\n"),
+    ("z", "bad hex\n"),
+];
+
 #[test]
 fn the_last_line_may_lack_its_end(rt: HostRuntime) -> Result<(), Fail> {
-    for (input, wanted) in [
-        ("", ""),
-        ("\n", "none\n"),
-        ("\n00", "none\nnone\n"),
-        ("z", "bad hex\n"),
-    ] {
+    for &(input, wanted) in WITHOUT_END {
         let (output, outcome) = run(rt.alloc(), input.as_bytes(), 1, 1000, 1000)?;
         assert_eq!(rt; output.as_slice(), wanted.as_bytes());
         assert_eq!(rt; outcome, Ok(input != "z"));

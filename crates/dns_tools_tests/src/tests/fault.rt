@@ -1,5 +1,6 @@
 use dns_serve::{StreamFault, TurnFault};
 use dns_tools::{FaultWord, Stop, TurnWord, exit_status};
+use std::alloc::Global;
 use std::test::Fail;
 
 #[test]
@@ -11,32 +12,31 @@ fn statuses_of_an_engine(rt: HostRuntime) {
     }
 }
 
+const TEXTS: &[(FaultWord, &str)] = &[
+    (FaultWord::Usage, "usage"),
+    (FaultWord::BadOrigin, "bad origin"),
+    (FaultWord::NoMemory, "no memory"),
+    (FaultWord::SourceFailed, "R16"),
+    (FaultWord::SinkFailed, "P1"),
+    (FaultWord::NotBound, "bind"),
+];
+
+fn shows(alloc: Global, word: TurnWord, text: &str) -> Result<bool, Fail> {
+    Ok(word.to_string(alloc)?.as_str() == text)
+}
+
 #[test]
 fn texts_of_the_words(rt: HostRuntime) -> Result<(), Fail> {
-    let rows = [
-        (FaultWord::Usage, "usage"),
-        (FaultWord::BadOrigin, "bad origin"),
-        (FaultWord::NoMemory, "no memory"),
-        (FaultWord::SourceFailed, "R16"),
-        (FaultWord::SinkFailed, "P1"),
-        (FaultWord::NotBound, "bind"),
-    ];
-    for (word, text) in rows {
+    for &(word, text) in TEXTS {
         let shown = word.to_string(rt.alloc())?;
         assert_eq!(rt; shown.as_str(), text);
     }
-    let rows = [
-        (TurnWord::from(TurnFault::ReceiveFailed), "U1"),
-        (TurnWord::from(TurnFault::SendFailed), "U2"),
-        (TurnWord::NotAccepted, "accept"),
-        (TurnWord::from(StreamFault::SourceFailed), "S1"),
-        (TurnWord::from(StreamFault::SinkFailed), "S2"),
-        (TurnWord::from(StreamFault::Cut), "S3"),
-    ];
-    for (word, text) in rows {
-        let shown = word.to_string(rt.alloc())?;
-        assert_eq!(rt; shown.as_str(), text);
-    }
+    assert!(rt; shows(rt.alloc(), TurnFault::ReceiveFailed.into(), "U1")?);
+    assert!(rt; shows(rt.alloc(), TurnFault::SendFailed.into(), "U2")?);
+    assert!(rt; shows(rt.alloc(), TurnWord::NotAccepted, "accept")?);
+    assert!(rt; shows(rt.alloc(), StreamFault::SourceFailed.into(), "S1")?);
+    assert!(rt; shows(rt.alloc(), StreamFault::SinkFailed.into(), "S2")?);
+    assert!(rt; shows(rt.alloc(), StreamFault::Cut.into(), "S3")?);
     Ok(())
 }
 

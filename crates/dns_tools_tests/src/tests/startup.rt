@@ -19,15 +19,16 @@ impl Write for Counting<'_> {
     }
 }
 
+const OUTCOMES: &[(Result<bool, Stop>, Result<bool, Stop>, u32)] = &[
+    (Ok(true), Err(Stop::Sink), 1),
+    (Ok(false), Err(Stop::Sink), 1),
+    (Err(Stop::Memory), Err(Stop::Memory), 0),
+    (Err(Stop::Sink), Err(Stop::Sink), 0),
+];
+
 #[test]
 fn a_buffer_is_written_once_at_most(rt: HostRuntime) -> Result<(), Fail> {
-    let rows = [
-        (Ok(true), Err(Stop::Sink), 1),
-        (Ok(false), Err(Stop::Sink), 1),
-        (Err(Stop::Memory), Err(Stop::Memory), 0),
-        (Err(Stop::Sink), Err(Stop::Sink), 0),
-    ];
-    for (outcome, wanted, wanted_calls) in rows {
+    for &(outcome, wanted, wanted_calls) in OUTCOMES {
         let mut calls = 0;
         let mut output = BufWriter::new(rt.alloc(), Counting { calls: &mut calls })?;
         output.write_all(b"zone")?;

@@ -34,10 +34,13 @@ impl Eprint for Refusing<'_> {
     }
 }
 
+// Which call fails, whether all words are taken, and how many there are.
+const SAID: &[(u32, bool, u32)] = &[(9, true, 0), (0, false, 1), (5, false, 1)];
+
 #[test]
 fn turns_go_on_after_a_word_that_is_not_taken(rt: HostRuntime) -> Result<(), Fail> {
     let zone = sample(rt.alloc())?;
-    for (fails_at, are_said, words) in [(9, true, 0), (0, false, 1), (5, false, 1)] {
+    for &(fails_at, are_said, words) in SAID {
         let calls = Cell::new(0);
         let errors = Refusing { calls: &calls };
         let mut mailbox = Mailbox::new(rt.alloc(), QUERY, fails_at);

@@ -5,7 +5,7 @@ use dns_wire::{QuickHash, SuffixHash};
 use std::test::Fail;
 
 // A name error: `nope.example`.
-const NAME_ERROR: Row<'static> = Row {
+const NAME_ERROR: &Row<'static> = &Row {
     name: "a name error",
     qname: b"nope.example",
     qtype: 1,
@@ -27,7 +27,7 @@ const NAME_ERROR: Row<'static> = Row {
 const ANY: Record<'static> = (b"x.y.w.example", RType::TXT, b"\x03any");
 
 // A wildcard: `x.y.w.example`.
-const WILDCARD: Row<'static> = Row {
+const WILDCARD: &Row<'static> = &Row {
     name: "a wildcard",
     qname: b"x.y.w.example",
     qtype: 16,
@@ -41,7 +41,7 @@ const WILDCARD: Row<'static> = Row {
 };
 
 // A referral with glue: `h.sub.example`.
-const REFERRAL: Row<'static> = Row {
+const REFERRAL: &Row<'static> = &Row {
     name: "a referral with glue",
     qname: b"h.sub.example",
     qtype: 1,
@@ -56,7 +56,7 @@ const REFERRAL: Row<'static> = Row {
 };
 
 // An alias: `alias.example`.
-const ALIAS: Row<'static> = Row {
+const ALIAS: &Row<'static> = &Row {
     name: "an alias",
     qname: b"alias.example",
     qtype: 1,
@@ -74,7 +74,7 @@ const ALIAS: Row<'static> = Row {
 };
 
 // Name servers: `example`.
-const NAME_SERVERS: Row<'static> = Row {
+const NAME_SERVERS: &Row<'static> = &Row {
     name: "name servers",
     qname: b"example",
     qtype: 2,
@@ -87,18 +87,18 @@ const NAME_SERVERS: Row<'static> = Row {
         \xc0\x0c\xc0\x25\x00\x01\x00\x01\x00\x00\x0e\x10\x00\x04\xc0\x00\x02\x01",
 };
 
-const ALIASES: [Record<'static>; 2] = [
+const ALIASES: &[Record<'static>] = &[
     (b"r1.example", RType::CNAME, b"\x02r2\x07example\x00"),
     (b"r2.example", RType::CNAME, b"\x02r1\x07example\x00"),
 ];
 
 // A ring of aliases: `r1.example`.
-const RING: Row<'static> = Row {
+const RING: &Row<'static> = &Row {
     name: "a ring of aliases",
     qname: b"r1.example",
     qtype: 1,
     flags: 0x8400,
-    answers: &ALIASES,
+    answers: ALIASES,
     authorities: &[],
     additionals: &[],
     wanted: b"\x12\x34\x84\x00\x00\x01\x00\x02\x00\x00\x00\x00\x02\x72\x31\x07\x65\x78\x61\x6d\
@@ -108,7 +108,7 @@ const RING: Row<'static> = Row {
 
 // A question whose first label ends with the octets of `www`, after the length of that label:
 // `www.example` is not a name there, so of it only `example` is shared.
-const INSIDE_A_LABEL: Row<'static> = Row {
+const INSIDE_A_LABEL: &Row<'static> = &Row {
     name: "a name inside a label of the question",
     qname: b"a\\003www.example",
     qtype: 1,
@@ -123,7 +123,7 @@ const INSIDE_A_LABEL: Row<'static> = Row {
 
 // Two exchanges that differ only in their last label before the question's, and their addresses:
 // as runs of octets, the names differ before the pointer that ends them.
-const MANY_LABELS: Row<'static> = Row {
+const MANY_LABELS: &Row<'static> = &Row {
     name: "names of many labels",
     qname: b"q.example",
     qtype: 15,
@@ -166,7 +166,7 @@ const MANY_LABELS: Row<'static> = Row {
         \xc0\x64\x00\x01\x00\x01\x00\x00\x0e\x10\x00\x04\xc0\x00\x02\x02",
 };
 
-const ROWS: [Row<'static>; 8] = [
+const ROWS: &[&Row<'static>] = &[
     NAME_ERROR,
     WILDCARD,
     REFERRAL,
@@ -184,11 +184,11 @@ fn is_written<H: SuffixHash>(rt: HostRuntime, hash: &mut H, row: &Row<'_>) -> Re
 
 #[test]
 fn octets_do_not_depend_on_the_hash(rt: HostRuntime) -> Result<(), Fail> {
-    for row in ROWS {
-        assert!(rt; is_written(rt, &mut OneChain, &row)?, "{}", row.name);
-        assert!(rt; is_written(rt, &mut QuickHash, &row)?, "{}", row.name);
+    for &row in ROWS {
+        assert!(rt; is_written(rt, &mut OneChain, row)?, "{}", row.name);
+        assert!(rt; is_written(rt, &mut QuickHash, row)?, "{}", row.name);
         let mut counting = CountingHash { calls: 0 };
-        assert!(rt; is_written(rt, &mut counting, &row)?, "{}", row.name);
+        assert!(rt; is_written(rt, &mut counting, row)?, "{}", row.name);
     }
     Ok(())
 }
@@ -196,15 +196,15 @@ fn octets_do_not_depend_on_the_hash(rt: HostRuntime) -> Result<(), Fail> {
 #[test]
 fn suffixes_of_the_question_are_not_hashed(rt: HostRuntime) -> Result<(), Fail> {
     let mut counting = CountingHash { calls: 0 };
-    assert!(rt; is_written(rt, &mut counting, &WILDCARD)?);
+    assert!(rt; is_written(rt, &mut counting, WILDCARD)?);
     assert_eq!(rt; counting.calls, 0);
-    assert!(rt; is_written(rt, &mut counting, &RING)?);
+    assert!(rt; is_written(rt, &mut counting, RING)?);
     assert!(rt; counting.calls > 0);
     Ok(())
 }
 
 // Two addresses of a name whose first label does not appear before them.
-const ADDRESSES: Row<'static> = Row {
+const ADDRESSES: &Row<'static> = &Row {
     name: "two addresses",
     qname: b"u.example",
     qtype: 16,
@@ -227,9 +227,9 @@ fn a_refused_set_leaves_nothing(rt: HostRuntime) -> Result<(), Fail> {
     strings[0] = 255;
     strings[256] = 217;
     let refused: [Record<'_>; 1] = [(b"b.u.example", RType::TXT, &strings)];
-    let chained = written(rt, &mut OneChain, &ADDRESSES, &refused)?;
+    let chained = written(rt, &mut OneChain, ADDRESSES, &refused)?;
     assert_eq!(rt; chained.as_slice(), ADDRESSES.wanted);
-    let quick = written(rt, &mut QuickHash, &ADDRESSES, &refused)?;
+    let quick = written(rt, &mut QuickHash, ADDRESSES, &refused)?;
     assert_eq!(rt; quick.as_slice(), ADDRESSES.wanted);
     Ok(())
 }

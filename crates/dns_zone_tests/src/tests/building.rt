@@ -5,34 +5,36 @@ use dns_master::read_zone;
 use dns_name::{Name, Tally};
 use dns_samples_tests::SMALL_PRINTED;
 use dns_zone::{BuildFault, Store, Zone, print};
+use std::alloc::Global;
 use std::test::Fail;
 
 // A fault: the owner's wire form, and the number of the code.
 type Reported<'a> = (&'a [u8], u8);
 
+const ORIGINS: &[(&[u8], &[u8], &[u8], u32)] = &[
+    (
+        b"Example.",
+        b"@ 60 SOA ns h 1 2 3 4 5\n@ 60 NS ns.other.",
+        b"\x07example\x00",
+        1,
+    ),
+    (
+        b"a.b.",
+        b"x 60 A 192.0.2.1\n@ 60 NS x\n@ 60 SOA x x 4294967295 2 3 4 5",
+        b"\x01a\x01b\x00",
+        4_294_967_295,
+    ),
+    (
+        b".",
+        b"@ 60 NS x\nx 60 A 192.0.2.1\n@ 60 SOA x x 16909060 0 0 0 0",
+        b"\x00",
+        16_909_060,
+    ),
+];
+
 #[test]
 fn origins_and_serials(rt: HostRuntime) -> Result<(), Fail> {
-    let rows: [(&[u8], &[u8], &[u8], u32); 3] = [
-        (
-            b"Example.",
-            b"@ 60 SOA ns h 1 2 3 4 5\n@ 60 NS ns.other.",
-            b"\x07example\x00",
-            1,
-        ),
-        (
-            b"a.b.",
-            b"x 60 A 192.0.2.1\n@ 60 NS x\n@ 60 SOA x x 4294967295 2 3 4 5",
-            b"\x01a\x01b\x00",
-            4_294_967_295,
-        ),
-        (
-            b".",
-            b"@ 60 NS x\nx 60 A 192.0.2.1\n@ 60 SOA x x 16909060 0 0 0 0",
-            b"\x00",
-            16_909_060,
-        ),
-    ];
-    for (origin, text, wire, serial) in rows {
+    for &(origin, text, wire, serial) in ORIGINS {
         let Some(Ok(zone)) = built(rt.alloc(), origin, text)? else {
             panic!(rt; "no zone of {text:?}");
         };
@@ -42,31 +44,47 @@ fn origins_and_serials(rt: HostRuntime) -> Result<(), Fail> {
     Ok(())
 }
 
+// Lines appended to the small zone, or `None` for an empty file, and the faults of the zone.
+const FAULTS: &[(Option<&[u8]>, &[Reported<'static>])] = &[
+    (
+        Some(b"www CNAME ns\nx.sub TXT \"q\"\n"),
+        &[
+            (b"\x01x\x03sub\x07example\x00", 12),
+            (b"\x03www\x07example\x00", 6),
+        ],
+    ),
+    (None, &[(b"\x07example\x00", 1), (b"\x07example\x00", 4)]),
+    // A record that differs only in its TTL is another record.
+    (
+        Some(b"www 1 A 192.0.2.10\n"),
+        &[(b"\x03www\x07example\x00", 8)],
+    ),
+];
+
+// Whether these faults are reported of a file.
+fn is_refused(alloc: Global, text: &[u8], wanted: &[Reported<'_>]) -> Result<bool, Fail> {
+    let Some(Err(BuildFault::Faults(reported))) = built(alloc, b"example.", text)? else {
+        return Ok(false);
+    };
+    if reported.len() != wanted.len() {
+        return Ok(false);
+    }
+    for (fault, (owner, code)) in reported.iter().zip(wanted) {
+        if fault.owner.octets() != *owner || fault.code != *code {
+            return Ok(false);
+        }
+    }
+    Ok(true)
+}
+
 #[test]
 fn faults_are_reported(rt: HostRuntime) -> Result<(), Fail> {
-    let more = file_with(rt.alloc(), b"www CNAME ns\nx.sub TXT \"q\"\n")?;
-    let other_ttl = file_with(rt.alloc(), b"www 1 A 192.0.2.10\n")?;
-    let rows: [(&[u8], &[Reported<'_>]); 3] = [
-        (
-            &more,
-            &[
-                (b"\x01x\x03sub\x07example\x00", 12),
-                (b"\x03www\x07example\x00", 6),
-            ],
-        ),
-        (b"", &[(b"\x07example\x00", 1), (b"\x07example\x00", 4)]),
-        // A record that differs only in its TTL is another record.
-        (&other_ttl, &[(b"\x03www\x07example\x00", 8)]),
-    ];
-    for (text, wanted) in rows {
-        let Some(Err(BuildFault::Faults(reported))) = built(rt.alloc(), b"example.", text)? else {
-            panic!(rt; "no faults of {text:?}");
+    for &(lines, wanted) in FAULTS {
+        let text = match lines {
+            Some(lines) => file_with(rt.alloc(), lines)?,
+            None => Vec::new(rt.alloc()),
         };
-        assert_eq!(rt; reported.len(), wanted.len());
-        for (fault, (owner, code)) in reported.iter().zip(wanted) {
-            assert_eq!(rt; fault.owner.octets(), *owner);
-            assert_eq!(rt; fault.code, *code);
-        }
+        assert!(rt; is_refused(rt.alloc(), &text, wanted)?, "{lines:?}");
     }
     Ok(())
 }

@@ -13,40 +13,42 @@ use std::test::Fail;
 // last name found, or 0 if it owns nothing.
 type Walked<'a> = (&'a [&'a [u8]], usize, u16);
 
+const SETS: &[(RType, &[&[u8]])] = &[
+    (RType::A, &[&[192, 0, 2, 9], &[192, 0, 2, 10]]),
+    (RType::TXT, &[b"\x00", b"\x01b"]),
+    (RType::AAAA, &[]),
+];
+
 #[test]
 fn sets_are_lent_by_their_data(rt: HostRuntime) -> Result<(), Fail> {
     let zone = zone_with(rt.alloc(), b"www A 192.0.2.9\nwww TXT \"b\"\nwww TXT \"\"")?;
     let mut steps = Steps::new(&zone);
     let (_, node) = walked(&mut steps, &[b"www"])?;
-    let rows: [(RType, &[&[u8]]); 3] = [
-        (RType::A, &[&[192, 0, 2, 9], &[192, 0, 2, 10]]),
-        (RType::TXT, &[b"\x00", b"\x01b"]),
-        (RType::AAAA, &[]),
-    ];
-    for (rtype, wanted) in rows {
+    for &(rtype, wanted) in SETS {
         assert!(rt; has_data(&node, rtype, wanted), "{rtype:?}");
     }
     Ok(())
 }
 
+const WALKS: &[Walked<'static>] = &[
+    (&[], 0, 2),
+    (&[b"www"], 1, 1),
+    // Labels are compared without regard to case.
+    (&[b"SUB", b"Ns"], 2, 1),
+    // A name that owns nothing exists if a name below it owns something.
+    (&[b"ent"], 1, 0),
+    (&[b"ent", b"b"], 2, 0),
+    (&[b"ent", b"b", b"a"], 3, 1),
+    (&[b"w", b"*"], 2, 16),
+    (&[b"w", b"x"], 1, 0),
+    (&[b"nope"], 0, 2),
+    (&[b"www", b"www"], 1, 1),
+];
+
 #[test]
 fn names_are_found_label_by_label(rt: HostRuntime) -> Result<(), Fail> {
     let zone = zone_with(rt.alloc(), b"")?;
-    let rows: [Walked<'_>; 10] = [
-        (&[], 0, 2),
-        (&[b"www"], 1, 1),
-        // Labels are compared without regard to case.
-        (&[b"SUB", b"Ns"], 2, 1),
-        // A name that owns nothing exists if a name below it owns something.
-        (&[b"ent"], 1, 0),
-        (&[b"ent", b"b"], 2, 0),
-        (&[b"ent", b"b", b"a"], 3, 1),
-        (&[b"w", b"*"], 2, 16),
-        (&[b"w", b"x"], 1, 0),
-        (&[b"nope"], 0, 2),
-        (&[b"www", b"www"], 1, 1),
-    ];
-    check_walks(&rt, &zone, &rows)
+    check_walks(&rt, &zone, WALKS)
 }
 
 fn check_walks(rt: &impl Abort, zone: &Zone, rows: &[Walked<'_>]) -> Result<(), Fail> {
@@ -100,18 +102,19 @@ fn the_longest_name_has_127_labels(rt: HostRuntime) -> Result<(), Fail> {
     Ok(())
 }
 
+const CHILDREN: &[Walked<'static>] = &[
+    (&[b"ns"], 1, 1),
+    (&[b"0"], 1, 1),
+    (&[b"99995"], 1, 1),
+    (&[b"99996"], 0, 2),
+    (&[b"zz"], 0, 2),
+];
+
 #[test]
 fn a_name_has_at_most_100_000_children(rt: HostRuntime) -> Result<(), Fail> {
     let text = file_of_children(rt.alloc())?;
     let zone = zone_of(rt.alloc(), b"example.", text.as_slice())?;
-    let rows: [Walked<'_>; 5] = [
-        (&[b"ns"], 1, 1),
-        (&[b"0"], 1, 1),
-        (&[b"99995"], 1, 1),
-        (&[b"99996"], 0, 2),
-        (&[b"zz"], 0, 2),
-    ];
-    check_walks(&rt, &zone, &rows)
+    check_walks(&rt, &zone, CHILDREN)
 }
 
 // A file of 100,000 records; 99,997 of them have owners of their own.
