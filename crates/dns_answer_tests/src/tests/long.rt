@@ -55,7 +55,7 @@ fn has_strings(
 ) -> Result<bool, Fail> {
     let head = b"\x12\x34\x84\x00\x00\x01\x00\x01\x00\x00\x00\x00";
     let last = &LETTERS[..usize::from(count)];
-    let wanted: [&[u8]; 6] = [head, question, record, LETTERS, &[count], last];
+    let wanted: [&[u8]; 6] = [head, question, record, &LETTERS, &[count], last];
     is_reply(alloc, zone, limit, question, &wanted)
 }
 

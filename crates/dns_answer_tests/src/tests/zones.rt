@@ -21,7 +21,7 @@ _s._tcp SRV 1 2 53 ns
 const APEX: &[u8] = b"$TTL 60\n@ SOA ns h 1 2 3 4 5\n@ NS ns\nns A 192.0.2.1\n";
 
 /// The longest string.
-pub(super) const LETTERS: &[u8] = &[b'a'; 255];
+pub(super) const LETTERS: [u8; 255] = [b'a'; 255];
 
 /// The zone of a file, as it is served.
 pub(super) fn zone(alloc: Global, origin: &[u8], text: &[u8]) -> Result<Zone, Fail> {
@@ -46,7 +46,7 @@ pub(super) fn small(alloc: Global) -> Result<Zone, Fail> {
 pub(super) fn large(alloc: Global) -> Result<Vec<u8>, Fail> {
     let mut text = joined(alloc, &[SMALL.as_bytes(), MORE.as_bytes()])?;
     for (owner, count) in [(b"t TXT ", 216), (b"u TXT ", 217)] {
-        let string = [owner, LETTERS, b" ", &LETTERS[..count], b"\n"];
+        let string = [owner, LETTERS.as_slice(), b" ", &LETTERS[..count], b"\n"];
         push_all(&mut text, &string)?;
     }
     for number in 1..18_u32 {
