@@ -56,14 +56,16 @@ side_items z p before (m ∷ ms) = target_items z p before (Some m)
 abbrev pub side_nodes : ZoneContents → (DomainName → Bool) → List DomainName → ℕ
 side_nodes z p ms = sum (map (λ m. length m - length z.origin) (targets_in_zone z (filter p ms)))
 
--- the number of nodes below the apex on the path to a name, and to a target that passes the test
+-- the number of nodes below the apex on the path to a name, which is 0 outside the zone
 abbrev pub depth_in : ZoneContents → DomainName → ℕ
 depth_in z m = if at_or_below m z.origin then length m - length z.origin else 0
 
+-- the same for the path to a target, if it passes the test
 abbrev pub target_nodes : ZoneContents → (DomainName → Bool) → Option DomainName → ℕ
 target_nodes z p None = 0
 target_nodes z p (Some m) = if p m && at_or_below m z.origin then length m - length z.origin else 0
 
+-- the most children that are missing on that path: one, if the target passes the test
 abbrev pub target_misses : (DomainName → Bool) → Option DomainName → ℕ
 target_misses p None = 0
 target_misses p (Some m) = if p m then 1 else 0

@@ -48,14 +48,14 @@ pub type TcpDraft = Draft<8192, 65_535>;
 ///
 /// `None`, with `out` unspecified, if and only if the datagram gets no reply: it is shorter than a
 /// header, or is a response. A datagram may contain any octets. The reply follows RFC 1034 4.3.2
-/// and RFC 2308, contains the longest beginning of the RRsets that fits, and is truncated if a
-/// required RRset is missing.
+/// and RFC 2308, contains as many of the RRsets as fit, from the first one on, and has TC set if an
+/// RRset that the answer requires does not fit.
 ///
-/// Conditions: the walk has counted nothing yet, and `out` is as long as the limit. Does not
-/// allocate. No name is looked up unless a question is answered.
+/// Conditions: `steps` is a new walk, which has counted nothing, and `out` is as long as the limit.
+/// Does not allocate. No name is looked up unless a question is answered.
 ///
-/// Each call first fills the room for a reply, which over TCP takes far longer than a short reply.
-/// To answer many messages, keep a draft and call `respond_in`.
+/// Each call first sets the room for a reply to zero, which over TCP takes far longer than a short
+/// reply. To answer many messages, keep a draft and call `respond_in`.
 #[tactic(auto, using(crate::proofs::SentReplies::put_room, crate::proofs::SentReplies::put_absent, crate::proofs::SentReplies::put_octets, crate::proofs::SentReplies::put_spells, crate::proofs::SentReplies::put_fits))]
 pub fn respond(
     steps: &mut Steps<'_>,
@@ -108,7 +108,7 @@ fn put_reply(reply: Option<&[u8]>, out: &mut [u8]) -> Option<usize>
 /// Nothing of the draft's earlier reply remains, and the time does not depend on the size of its
 /// room.
 ///
-/// Condition: the walk has counted nothing yet. Does not allocate.
+/// Condition: `steps` is a new walk, which has counted nothing. Does not allocate.
 pub fn respond_in<'d, const N: usize, const SIZE: usize>(
     steps: &mut Steps<'_>,
     datagram: &[u8],

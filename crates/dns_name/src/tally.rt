@@ -8,18 +8,18 @@ ghost use Rattle.dns_name.specs.Counted.{Writes, failures_after, joined};
 use std::io::{BufWriter, Read, Write};
 use std::marker::Model;
 
-/// A call of a reader failed and was counted.
+/// A call to a reader failed and was counted.
 #[derive(Clone, Copy, Debug, PartialEq, Eq)]
 pub struct SourceFailed;
 
-/// A call of a writer failed and was counted.
+/// A call to a writer failed and was counted.
 #[derive(Clone, Copy, Debug, PartialEq, Eq)]
 pub struct SinkFailed;
 
 /// A reader or a writer with the count of its failures.
 ///
-/// The count rises by one if and only if a call returns an error. No call is retried. Each call
-/// over the device requires the count to be below the greatest `u64`.
+/// The count rises by one if and only if a call returns an error. No call is retried. Each method
+/// that calls the device requires the count to be below the greatest `u64`.
 #[derive(Drop)]
 pub struct Tally<T> {
     device: T,
@@ -133,8 +133,7 @@ impl<T: Write> Tally<T> {
         Ok(())
     }
 
-    /// Has the device pass on what it has buffered. If that fails, the failure is counted, and
-    /// nothing is retried.
+    /// Flushes the device. If that fails, the failure is counted, and nothing is retried.
     pub fn flush(&mut self) -> Result<(), SinkFailed>
         requires { self.old.failures < 2 ^ 64 - 1 }
         ensures { Writes T.contents self.old self.new result [] }

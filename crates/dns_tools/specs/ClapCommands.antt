@@ -1,4 +1,4 @@
--- What `clap` reads of the commands for the options of the programs.
+-- The programs' options, as `clap` commands.
 use Rattle.std.specs.Prelude.{Some, true, codes}
 use Rattle.dns_spec.specs.Names.{Octets}
 use Rattle.clap.specs.Walk.{Rule}

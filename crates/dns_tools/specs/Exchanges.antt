@@ -1,4 +1,4 @@
--- What a run over lines has read and written, at its end and before.
+-- What a run over lines has read and written, at its end and at each point before.
 use Rattle.std.specs.Prelude.{⊤, ◌≡◌, ◌^◌, ◌-◌, ◌<◌, ◌≤◌, Bool, true}
 use Rattle.std.specs.Prelude.{List, ◌++◌, length, take}
 use Rattle.std.specs.Prelude.{MatchOption, Option, Result, Ok, Err}

@@ -100,7 +100,7 @@ impl<R: Clock + AllocGlobal> Listener<'_, R> {
 impl<R: Clock + AllocGlobal> Connections for Listener<'_, R> {
     ghost state = { λ asked. record { asked = asked; sessions = None } };
 
-    // Hears out the peer after its session, if that has not ended.
+    // After the session, reads and discards what the peer still sends, so that it loses no reply.
     fn serve_next(&mut self, zone: &Zone, room: &mut StreamRoom) -> Result<(), TurnWord> {
         let Some(stream) = self.accept() else {
             return Err(TurnWord::NotAccepted);
@@ -115,7 +115,7 @@ impl<R: Clock + AllocGlobal> Connections for Listener<'_, R> {
         let mut source = Tally::new(Messages::new(source, &ends));
         let mut sink = Tally::new(buffered_sink(self.rt.alloc(), &peer));
         let served = serve_messages(zone, &mut source, &mut sink, room, &ends);
-        // What could not be sent is not tried again.
+        // Taken apart, since dropping the buffer would try to write again.
         let _unsent = sink.into_inner().into_parts();
         let _heard = peer.hear_out();
         served?;

@@ -134,7 +134,8 @@ fn buffered_stream<'a, R: Clock + AllocGlobal, P: Print>(
     }
 }
 
-/// The exit status of a program: its own, or the status of the diagnostic that it prints first.
+/// The exit status of a program: its own, or, if it stopped early, the status of the diagnostic,
+/// which is printed here.
 pub fn end(rt: &impl Eprint, status: Result<u8, FaultWord>) -> u8
     ensures said { IfErr status (λ _. result ≡ 2) }
     ensures status { IfOk status (λ status. result ≡ status) }

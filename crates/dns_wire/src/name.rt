@@ -1,4 +1,5 @@
-//! Names in a message, which may continue elsewhere by a pointer (RFC 1035 4.1.4).
+//! Names in a message, whose rest may be elsewhere, at the place that a pointer gives (RFC 1035
+//! 4.1.4).
 ghost use Rattle.std.specs.Prelude.{◌≡◌, ◌≤◌, ◌<◌, length, get_or, Some, None, IfOk, IsErr, IfSome, IsNone};
 ghost use Rattle.dns_spec.specs.ComputedNames.{name_at};
 ghost use Rattle.dns_wire.specs.Labels.{StepAt, PointerAt, NoRunAt};

@@ -71,7 +71,7 @@ pub record IsWay (w : TargetWay) (names : List WayName) : Type 0 where
   pub kept : IsNameTree w.tree
   pub each : All (λ (s : WayName). IsWayEnd w s.name s.end) names
 
--- a row of a tree, whose children are compared with a label
+-- a tree and one of its rows, for a search among the row's children
 pub record TreeRow : Type 0 where
   pub tree : Tree
   pub row : ℕ

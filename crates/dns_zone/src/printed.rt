@@ -98,7 +98,7 @@ fn put_chosen<W: Write>(
     Ok(())
 }
 
-// Writes a record on a line of its own, after its front (owner, TTL and class).
+// Writes the line of a record. `front` is the beginning of that line: owner, TTL, class.
 fn put_record<W: Write>(
     entry: &StoredRecord,
     front: &[u8],

@@ -1,4 +1,4 @@
-//! The name to which the data of a record points.
+//! The name to which a record's data points, and where the checks last found it.
 ghost use Rattle.std.specs.Prelude.{◌≡◌, [], IfSome};
 ghost use Rattle.dns_spec.specs.Names.{folded};
 ghost use Rattle.dns_spec.specs.Data.{target};
