@@ -20,7 +20,7 @@ const FEW_RECORDS: usize = 8;
 /// Moves records, with the places of their keys and with their numbers, into canonical order, and
 /// keeps duplicates. The result is unverified: callers check the order, and sort if it is wrong.
 ///
-/// Takes 32 octets of memory for each record of the largest owner, and 4 for each record.
+/// Takes 24 octets of memory for each record of the largest owner, and 4 for each record.
 #[tactic(auto, using(crate::proofs::SearchSteps::swap_steps))]
 pub(crate) fn presort(
     alloc: Global,

@@ -28,14 +28,27 @@ const MOST_SHARED: usize = 65_536;
 const MOST_FRONTS: usize = 5_500;
 
 /// Adjacent records, the ones from `at` up to `end`, and the front by which they are compared.
-#[derive(Drop)]
+#[derive(Clone, Copy)]
 pub(crate) struct Run {
-    front: u128,
+    // The halves of the front. As one number they would take 8 octets more, since a run would have
+    // to begin at a multiple of 16.
+    high: u64,
+    low: u64,
     pub(crate) at: u32,
     pub(crate) end: u32,
 }
 
 impl Run {
+    // A run of one record.
+    fn of(front: u128, at: u32) -> Run {
+        Run {
+            high: (front >> 64) as u64,
+            low: (front % (1 << 64)) as u64,
+            at,
+            end: at.wrapping_add(1),
+        }
+    }
+
     /// The first record of an owner. The owner's key is compared with the origin's.
     pub(crate) fn of_owner(origin: &[u8], key: &[u8], at: u32) -> Run {
         let front = if begins_with(key, origin) {
@@ -44,17 +57,24 @@ impl Run {
         } else {
             front_beside(origin, key, 0)
         };
-        let end = at.wrapping_add(1);
-        Run { front, at, end }
+        Run::of(front, at)
     }
 
     /// A single record of an owner.
     pub(crate) fn of_data(record: &StoredRecord, at: u32) -> Run {
-        let front = front_of(2 * MOST_SHARED + record.rtype.0 as usize, record.rdata());
+        let place = 2 * MOST_SHARED + record.rtype.0 as usize;
+        Run::of(front_of(place, record.rdata()), at)
+    }
+
+    fn front(&self) -> u128 {
+        ((self.high as u128) << 64) | self.low as u128
+    }
+
+    fn with_front(&self, front: u128) -> Run {
+        let end = self.end;
         Run {
-            front,
-            at,
-            end: at.wrapping_add(1),
+            end,
+            ..Run::of(front, self.at)
         }
     }
 }
@@ -77,22 +97,22 @@ impl<'a> Sorted<'a> {
 
     /// Whether two runs of a sorted list are equal.
     pub(crate) fn are_alike(&self, one: &Run, other: &Run) -> bool {
-        one.front == other.front && self.part(one) == self.part(other)
+        one.front() == other.front() && self.part(one) == self.part(other)
     }
 
     // Sorts runs by their fronts, and runs with equal fronts by what follows.
     fn sort_further(&self, runs: &mut [Run], times: usize)
         ensures { length runs.new ≡ length runs.old }
     {
-        runs.sort_unstable_by(|one, other| one.front.cmp(&other.front));
+        runs.sort_unstable_by(|one, other| one.front().cmp(&other.front()));
         if times == 0 {
             return;
         }
         let mut at = 0;
         'alike: while at < runs.len() {
-            let front = runs[at].front;
+            let front = runs[at].front();
             let mut next = at + 1;
-            'fronts: while next < runs.len() && runs[next].front == front {
+            'fronts: while next < runs.len() && runs[next].front() == front {
                 next += 1;
             }
             if next > at + 1 && self.put_fronts(&mut runs[at..next]) {
@@ -109,11 +129,11 @@ impl<'a> Sorted<'a> {
         let Some(run) = runs.get(runs.len() / 2) else {
             return false;
         };
-        let end = run.front % 256;
+        let end = run.front() % 256;
         if end == MORE as u128 {
-            let (beside, known) = (self.part(run), known_octets(run.front));
+            let (beside, known) = (self.part(run), known_octets(run.front()));
             'fronts: for run in runs.iter_mut() {
-                run.front = front_beside(beside, self.part(run), known);
+                *run = run.with_front(front_beside(beside, self.part(run), known));
             }
             return true;
         }
@@ -122,7 +142,7 @@ impl<'a> Sorted<'a> {
         };
         'ttls: for run in runs.iter_mut() {
             let ttl = records.get(run.at as usize).map_or(0, |record| record.ttl);
-            run.front = ((ttl as u128) << 8) | LAST;
+            *run = run.with_front(((ttl as u128) << 8) | LAST);
         }
         end != LAST
     }
