@@ -3,12 +3,13 @@
 //! A sort that compares whole names is slow. Here each run keeps a few octets beside it, its
 //! front, by which it is compared. Runs with equal fronts are each compared once with one of them,
 //! and their next fronts are: how many octets they share with it, and the octets that follow.
-ghost use Rattle.std.specs.Prelude.{◌≡◌, length};
+ghost use Rattle.std.specs.Prelude.{◌≡◌, ◌≤◌, length};
 
 use crate::checks::lcp_search::rests;
 use crate::order::owner_keys::key_at;
 use crate::store::stored::StoredRecord;
 use dns_name::begins_with;
+use std::alloc::{AllocError, Global};
 
 // The number of octets of a key or of data in a front.
 const FRONT_OCTETS: usize = 12;
@@ -79,6 +80,62 @@ impl Run {
     }
 }
 
+/// Sorts runs by their fronts if at most a quarter of them are out of order: these are taken out,
+/// sorted, and merged with the others. Most files list their names in order, with few exceptions.
+pub(crate) fn merge_few(alloc: Global, runs: &mut [Run]) -> Result<(), AllocError> {
+    let mut left = keep_rising(runs);
+    let mut free = runs.len();
+    if free - left > free / 4 {
+        return Ok(());
+    }
+    let mut few = Vec::new(alloc);
+    few.extend_from_slice(&runs[left..])?;
+    sort_fronts(few.as_mut_slice());
+    'merge: while let Some(last) = few.pop() {
+        'after: while left > 0 && last.front() < runs[left - 1].front() {
+            left -= 1;
+            free -= 1;
+            runs[free] = runs[left];
+        }
+        free -= 1;
+        runs[free] = last;
+    }
+    Ok(())
+}
+
+// Moves runs whose fronts rise to the beginning, and returns their number. A run that comes before
+// the last of them, but not before the one before that, takes the place of the last. Stops if a
+// quarter of all runs are out of order.
+fn keep_rising(runs: &mut [Run]) -> usize
+    ensures count { result ≤ length runs.old }
+    ensures same { length runs.new ≡ length runs.old }
+{
+    let mut kept = 0;
+    let mut last = 0;
+    'runs: for at in 0..runs.len() {
+        let front = runs[at].front();
+        if front < last {
+            if kept < 2 || front < runs[kept - 2].front() {
+                if at - kept > runs.len() / 4 {
+                    break;
+                }
+                continue;
+            }
+            kept -= 1;
+        }
+        runs.swap(kept, at);
+        kept += 1;
+        last = front;
+    }
+    kept
+}
+
+fn sort_fronts(runs: &mut [Run])
+    ensures { length runs.new ≡ length runs.old }
+{
+    runs.sort_unstable_by(|one, other| one.front().cmp(&other.front()));
+}
+
 /// The order in which runs are sorted.
 #[derive(Drop)]
 pub(crate) enum Sorted<'a> {
@@ -104,7 +161,7 @@ impl<'a> Sorted<'a> {
     fn sort_further(&self, runs: &mut [Run], times: usize)
         ensures { length runs.new ≡ length runs.old }
     {
-        runs.sort_unstable_by(|one, other| one.front().cmp(&other.front()));
+        sort_fronts(runs);
         if times == 0 {
             return;
         }
