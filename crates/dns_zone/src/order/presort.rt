@@ -9,7 +9,7 @@ ghost use Rattle.dns_zone.specs.OwnerKeysForm.{AreKeyed};
 
 use crate::order::own_order;
 use crate::order::owner_keys::swap_numbers;
-use crate::order::runs::{Run, Sorted};
+use crate::order::runs::{Run, Sorted, merge_few};
 use crate::store::stored::StoredRecord;
 use std::alloc::{AllocError, Global};
 use std::cmp::Ordering;
@@ -20,7 +20,8 @@ const FEW_RECORDS: usize = 8;
 /// Moves records, with the places of their keys and with their numbers, into canonical order, and
 /// keeps duplicates. The result is unverified: callers check the order, and sort if it is wrong.
 ///
-/// Takes 32 octets of memory for each record of the largest owner, and 4 for each record.
+/// Takes 24 octets of memory for each record of the largest owner, and 4 for each record; before
+/// that, at most 6 for each run.
 #[tactic(auto, using(crate::proofs::SearchSteps::swap_steps))]
 pub(crate) fn presort(
     alloc: Global,
@@ -56,6 +57,7 @@ fn places(
     requires { length records.now ≤ most_records }
     ensures { IfOk result (λ places. All (λ p. p < length records.now) places.items) }
 {
+    merge_few(alloc, runs.as_mut_slice())?;
     let owners = Sorted::ByOwner(keys, records, starts);
     owners.sort(runs.as_mut_slice());
     let mut places = Vec::with_capacity(alloc, records.len())?;

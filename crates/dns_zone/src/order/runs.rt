@@ -3,12 +3,13 @@
 //! A sort that compares whole names is slow. Here each run keeps a few octets beside it, its
 //! front, by which it is compared. Runs with equal fronts are each compared once with one of them,
 //! and their next fronts are: how many octets they share with it, and the octets that follow.
-ghost use Rattle.std.specs.Prelude.{◌≡◌, length};
+ghost use Rattle.std.specs.Prelude.{◌≡◌, ◌≤◌, length};
 
 use crate::checks::lcp_search::rests;
 use crate::order::owner_keys::key_at;
 use crate::store::stored::StoredRecord;
 use dns_name::begins_with;
+use std::alloc::{AllocError, Global};
 
 // The number of octets of a key or of data in a front.
 const FRONT_OCTETS: usize = 12;
@@ -28,14 +29,27 @@ const MOST_SHARED: usize = 65_536;
 const MOST_FRONTS: usize = 5_500;
 
 /// Adjacent records, the ones from `at` up to `end`, and the front by which they are compared.
-#[derive(Drop)]
+#[derive(Clone, Copy)]
 pub(crate) struct Run {
-    front: u128,
+    // The halves of the front. As one number they would take 8 octets more, since a run would have
+    // to begin at a multiple of 16.
+    high: u64,
+    low: u64,
     pub(crate) at: u32,
     pub(crate) end: u32,
 }
 
 impl Run {
+    // A run of one record.
+    fn of(front: u128, at: u32) -> Run {
+        Run {
+            high: (front >> 64) as u64,
+            low: (front % (1 << 64)) as u64,
+            at,
+            end: at.wrapping_add(1),
+        }
+    }
+
     /// The first record of an owner. The owner's key is compared with the origin's.
     pub(crate) fn of_owner(origin: &[u8], key: &[u8], at: u32) -> Run {
         let front = if begins_with(key, origin) {
@@ -44,19 +58,82 @@ impl Run {
         } else {
             front_beside(origin, key, 0)
         };
-        let end = at.wrapping_add(1);
-        Run { front, at, end }
+        Run::of(front, at)
     }
 
     /// A single record of an owner.
     pub(crate) fn of_data(record: &StoredRecord, at: u32) -> Run {
-        let front = front_of(2 * MOST_SHARED + record.rtype.0 as usize, record.rdata());
+        let place = 2 * MOST_SHARED + record.rtype.0 as usize;
+        Run::of(front_of(place, record.rdata()), at)
+    }
+
+    fn front(&self) -> u128 {
+        ((self.high as u128) << 64) | self.low as u128
+    }
+
+    fn with_front(&self, front: u128) -> Run {
+        let end = self.end;
         Run {
-            front,
-            at,
-            end: at.wrapping_add(1),
+            end,
+            ..Run::of(front, self.at)
         }
     }
+}
+
+/// Sorts runs by their fronts if at most a quarter of them are out of order: these are taken out,
+/// sorted, and merged with the others. Most files list their names in order, with few exceptions.
+pub(crate) fn merge_few(alloc: Global, runs: &mut [Run]) -> Result<(), AllocError> {
+    let mut left = keep_rising(runs);
+    let mut free = runs.len();
+    if free - left > free / 4 {
+        return Ok(());
+    }
+    let mut few = Vec::new(alloc);
+    few.extend_from_slice(&runs[left..])?;
+    sort_fronts(few.as_mut_slice());
+    'merge: while let Some(last) = few.pop() {
+        'after: while left > 0 && last.front() < runs[left - 1].front() {
+            left -= 1;
+            free -= 1;
+            runs[free] = runs[left];
+        }
+        free -= 1;
+        runs[free] = last;
+    }
+    Ok(())
+}
+
+// Moves runs whose fronts rise to the beginning, and returns their number. A run that comes before
+// the last of them, but not before the one before that, takes the place of the last. Stops if a
+// quarter of all runs are out of order.
+fn keep_rising(runs: &mut [Run]) -> usize
+    ensures count { result ≤ length runs.old }
+    ensures same { length runs.new ≡ length runs.old }
+{
+    let mut kept = 0;
+    let mut last = 0;
+    'runs: for at in 0..runs.len() {
+        let front = runs[at].front();
+        if front < last {
+            if kept < 2 || front < runs[kept - 2].front() {
+                if at - kept > runs.len() / 4 {
+                    break;
+                }
+                continue;
+            }
+            kept -= 1;
+        }
+        runs.swap(kept, at);
+        kept += 1;
+        last = front;
+    }
+    kept
+}
+
+fn sort_fronts(runs: &mut [Run])
+    ensures { length runs.new ≡ length runs.old }
+{
+    runs.sort_unstable_by(|one, other| one.front().cmp(&other.front()));
 }
 
 /// The order in which runs are sorted.
@@ -77,22 +154,22 @@ impl<'a> Sorted<'a> {
 
     /// Whether two runs of a sorted list are equal.
     pub(crate) fn are_alike(&self, one: &Run, other: &Run) -> bool {
-        one.front == other.front && self.part(one) == self.part(other)
+        one.front() == other.front() && self.part(one) == self.part(other)
     }
 
     // Sorts runs by their fronts, and runs with equal fronts by what follows.
     fn sort_further(&self, runs: &mut [Run], times: usize)
         ensures { length runs.new ≡ length runs.old }
     {
-        runs.sort_unstable_by(|one, other| one.front.cmp(&other.front));
+        sort_fronts(runs);
         if times == 0 {
             return;
         }
         let mut at = 0;
         'alike: while at < runs.len() {
-            let front = runs[at].front;
+            let front = runs[at].front();
             let mut next = at + 1;
-            'fronts: while next < runs.len() && runs[next].front == front {
+            'fronts: while next < runs.len() && runs[next].front() == front {
                 next += 1;
             }
             if next > at + 1 && self.put_fronts(&mut runs[at..next]) {
@@ -109,11 +186,11 @@ impl<'a> Sorted<'a> {
         let Some(run) = runs.get(runs.len() / 2) else {
             return false;
         };
-        let end = run.front % 256;
+        let end = run.front() % 256;
         if end == MORE as u128 {
-            let (beside, known) = (self.part(run), known_octets(run.front));
+            let (beside, known) = (self.part(run), known_octets(run.front()));
             'fronts: for run in runs.iter_mut() {
-                run.front = front_beside(beside, self.part(run), known);
+                *run = run.with_front(front_beside(beside, self.part(run), known));
             }
             return true;
         }
@@ -122,7 +199,7 @@ impl<'a> Sorted<'a> {
         };
         'ttls: for run in runs.iter_mut() {
             let ttl = records.get(run.at as usize).map_or(0, |record| record.ttl);
-            run.front = ((ttl as u128) << 8) | LAST;
+            *run = run.with_front(((ttl as u128) << 8) | LAST);
         }
         end != LAST
     }
