@@ -105,7 +105,7 @@ const TAKEN: &[(&str, &str, &[u8])] = &[
 fn is_taken(alloc: Global, origin: &str, file: &str, octets: &[u8]) -> Result<bool, Fail> {
     let words = ["once", origin, file];
     let said = serve_words(alloc, words.as_slice())?;
-    Ok(said.origin.octets() == octets && said.file == file)
+    Ok((said.origin.octets() == octets) & (said.file == file))
 }
 
 // Services at an address, and the arguments that ask for them.
@@ -136,7 +136,7 @@ const SERVICES: &[(&str, Service<'static>)] = &[
 fn asks_for(alloc: Global, line: &str, service: Service<'_>) -> Result<bool, Fail> {
     let words = words_of(alloc, line)?;
     let said = serve_words(alloc, words.as_slice())?;
-    Ok(said.service == service && said.file == "zone")
+    Ok((said.service == service) & (said.file == "zone"))
 }
 
 const TAKEN_WITH_SOCKET: &[(&str, Limit, u32)] = &[
@@ -151,8 +151,8 @@ const EXAMPLE: &[u8] = b"\x07example\x00";
 fn asks_for_turns(alloc: Global, line: &str, transport: Limit, turns: u32) -> Result<bool, Fail> {
     let words = words_of(alloc, line)?;
     let said = socket_words(words.as_slice())?;
-    let are_said = said.transport == transport && said.turns == turns;
-    Ok(are_said && said.origin.octets() == EXAMPLE && said.file == "zone")
+    let are_said = (said.transport, said.turns, said.file) == (transport, turns, "zone");
+    Ok(are_said & (said.origin.octets() == EXAMPLE))
 }
 
 #[test]

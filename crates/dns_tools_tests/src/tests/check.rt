@@ -113,12 +113,16 @@ const LINES_ADDED: &[(&str, &str)] = &[
     ("www CNAME ns\nwww CNAME ns", "www.example. Z06\n"),
 ];
 
+// Whether this is the report on the sample with a line added.
+fn is_report_with(alloc: Global, added: &str, report: &str) -> Result<bool, Fail> {
+    let text = format!(in alloc; "{SMALL}{added}")?;
+    judges(alloc, PLAIN, text.as_str(), report == LOADED, report)
+}
+
 #[test]
 fn zones_with_lines_added(rt: HostRuntime) -> Result<(), Fail> {
     for &(added, report) in LINES_ADDED {
-        let text = format!(in rt.alloc(); "{SMALL}{added}")?;
-        let judges = judges(rt.alloc(), PLAIN, text.as_str(), report == LOADED, report)?;
-        assert!(rt; judges, "with {added}");
+        assert!(rt; is_report_with(rt.alloc(), added, report)?, "with {added}");
     }
     Ok(())
 }
@@ -167,36 +171,57 @@ const FAULTY: &[(usize, &str, &str)] = &[
     (11, "v TXT ( \"a\"", "line 11: R04\n"),
 ];
 
+// Whether a text that is refused has this report, unless it is checked quietly.
+fn is_faulty(alloc: Global, text: &str, report: &str) -> Result<bool, Fail> {
+    for &flags in FLAGS {
+        let report = if flags == QUIET { "" } else { report };
+        if !judges(alloc, flags, text, false, report)? {
+            return Ok(false);
+        }
+    }
+    Ok(true)
+}
+
+fn is_change(alloc: Global, line: usize, other: &str, report: &str) -> Result<bool, Fail> {
+    let text = changed(alloc, line, other)?;
+    is_faulty(alloc, text.as_str(), report)
+}
+
 #[test]
 fn faulty_files(rt: HostRuntime) -> Result<(), Fail> {
     for &(line, other, report) in FAULTY {
-        let text = changed(rt.alloc(), line, other)?;
-        for &flags in FLAGS {
-            let report = if flags == QUIET { "" } else { report };
-            assert!(rt;
-                judges(rt.alloc(), flags, text.as_str(), false, report)?,
-                "{other}"
-            );
-        }
+        assert!(rt; is_change(rt.alloc(), line, other, report)?, "{other}");
     }
     let report = "example. Z01\nexample. Z04\n";
     assert!(rt; judges(rt.alloc(), PLAIN, "", false, report)?);
     Ok(())
 }
 
+fn is_cut(alloc: Global, writes: u32) -> Result<bool, Fail> {
+    let wanted = (Err(Stop::Sink), front(LOADED.as_bytes(), writes));
+    is_checked(alloc, PLAIN, SMALL, (1, 1000, writes), wanted)
+}
+
+fn is_unread(alloc: Global, reads: u32) -> Result<bool, Fail> {
+    is_checked(
+        alloc,
+        PRINT,
+        SMALL,
+        (64, reads, 1000),
+        (Err(Stop::Source), b""),
+    )
+}
+
 #[test]
 fn sinks_and_sources_that_fail(rt: HostRuntime) -> Result<(), Fail> {
     for writes in 0..36 {
-        let wanted = (Err(Stop::Sink), front(LOADED.as_bytes(), writes));
-        let is_checked = is_checked(rt.alloc(), PLAIN, SMALL, (1, 1000, writes), wanted)?;
-        assert!(rt; is_checked, "after {writes} octets");
+        assert!(rt; is_cut(rt.alloc(), writes)?, "after {writes} octets");
     }
     for reads in 0..4 {
-        let wanted = (Err(Stop::Source), b"".as_slice());
-        let is_checked = is_checked(rt.alloc(), PRINT, SMALL, (64, reads, 1000), wanted)?;
-        assert!(rt; is_checked, "after {reads} reads");
+        assert!(rt; is_unread(rt.alloc(), reads)?, "after {reads} reads");
     }
-    assert!(rt; fails_at_once(rt.alloc(), PLAIN)? && fails_at_once(rt.alloc(), PRINT)?);
+    assert!(rt; fails_at_once(rt.alloc(), PLAIN)?);
+    assert!(rt; fails_at_once(rt.alloc(), PRINT)?);
     Ok(())
 }
 

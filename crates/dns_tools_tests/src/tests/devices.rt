@@ -28,11 +28,14 @@ pub(super) fn has_ended(
 ) -> bool {
     let counts = (source.failures(), sink.failures());
     let (source, sink) = (source.into_inner(), sink.into_inner());
+    let calls = (source.calls.has_failed(), sink.calls.has_failed());
+    are_counted(outcome, counts, calls) & (outcome == wanted.0) & (sink.text.as_slice() == wanted.1)
+}
+
+// Whether the failures that were counted, and the calls that failed, are those of the result.
+fn are_counted(outcome: Outcome, counts: (u64, u64), calls: (bool, bool)) -> bool {
     let source_failed = outcome == Err(Stop::Source);
     let sink_failed = outcome == Err(Stop::Sink);
     counts == (u64::from(source_failed), u64::from(sink_failed))
-        && source.calls.has_failed() == source_failed
-        && sink.calls.has_failed() == sink_failed
-        && outcome == wanted.0
-        && sink.text.as_slice() == wanted.1
+        && calls == (source_failed, sink_failed)
 }

@@ -37,22 +37,25 @@ fn is_report(alloc: Global, refusal: &Refusal, wanted: &str) -> Result<bool, Fai
     Ok(sink.into_inner().text.as_slice() == wanted.as_bytes())
 }
 
-// Whether a text is refused with this report, or, if that is empty, can't be read.
-fn is_refused(alloc: Global, text: &[u8], given: Given, wanted: &str) -> Result<bool, Fail> {
+// Whether a text has a zone with this serial, or is refused with this report, or, if that is empty,
+// can't be read.
+fn is_loaded(
+    alloc: Global,
+    text: &[u8],
+    given: Given,
+    wanted: Result<u32, &str>,
+) -> Result<bool, Fail> {
     match loaded(alloc, text, given)? {
-        Ok(_) => Ok(false),
-        Err(LoadFault::Refused(refusal)) => is_report(alloc, &refusal, wanted),
-        Err(LoadFault::Stopped(stop)) => Ok(stop == Stop::Source && wanted.is_empty()),
+        Ok(zone) => Ok(wanted == Ok(zone.serial())),
+        Err(LoadFault::Refused(refusal)) => is_report(alloc, &refusal, wanted.err().unwrap_or("")),
+        Err(LoadFault::Stopped(stop)) => Ok(stop == Stop::Source && wanted == Err("")),
     }
 }
 
 #[test]
 fn the_sample_file(rt: HostRuntime) -> Result<(), Fail> {
     for most in [1, 7, 1000] {
-        let is_loaded = match loaded(rt.alloc(), SMALL.as_bytes(), (most, 1000))? {
-            Ok(zone) => zone.serial() == 1,
-            Err(_) => false,
-        };
+        let is_loaded = is_loaded(rt.alloc(), SMALL.as_bytes(), (most, 1000), Ok(1))?;
         assert!(rt; is_loaded, "in pieces of {most}");
     }
     Ok(())
@@ -71,12 +74,15 @@ const REFUSED: &[(&str, &str, &str)] = &[
     (SMALL, "www.other. A 192.0.2.1\n", "www.other. Z05\n"),
 ];
 
+fn is_refused(alloc: Global, begin: &str, end: &str, report: &str) -> Result<bool, Fail> {
+    let text = format!(in alloc; "{begin}{end}")?;
+    is_loaded(alloc, text.as_bytes(), (7, 1000), Err(report))
+}
+
 #[test]
 fn refusals_in_the_lines_of_the_report(rt: HostRuntime) -> Result<(), Fail> {
-    for &(begin, end, wanted) in REFUSED {
-        let text = format!(in rt.alloc(); "{begin}{end}")?;
-        let is_refused = is_refused(rt.alloc(), text.as_bytes(), (7, 1000), wanted)?;
-        assert!(rt; is_refused, "{wanted}");
+    for &(begin, end, report) in REFUSED {
+        assert!(rt; is_refused(rt.alloc(), begin, end, report)?, "{report}");
     }
     Ok(())
 }
@@ -84,8 +90,8 @@ fn refusals_in_the_lines_of_the_report(rt: HostRuntime) -> Result<(), Fail> {
 #[test]
 fn a_source_that_fails(rt: HostRuntime) -> Result<(), Fail> {
     for calls in 0..10 {
-        let is_refused = is_refused(rt.alloc(), SMALL.as_bytes(), (20, calls), "")?;
-        assert!(rt; is_refused, "after {calls} reads");
+        let is_unread = is_loaded(rt.alloc(), SMALL.as_bytes(), (20, calls), Err(""))?;
+        assert!(rt; is_unread, "after {calls} reads");
     }
     Ok(())
 }
