@@ -1,5 +1,4 @@
-//! Tests of `dns_tools`, through its public functions. The tests of `zonecheck` and of lines of
-//! digits are in crates of their own, so that the three are proved in parallel.
+//! Tests of `dns_tools`, through its public functions.
 #![tactic(auto)]
 
 #[cfg(test)]

@@ -1,6 +1,10 @@
 mod arguments;
-mod fault;
+mod check;
+mod devices;
 mod load;
+mod long;
+mod message;
 mod nonblocking;
+mod once;
 mod startup;
 mod turns;

@@ -2,6 +2,7 @@ use super::zones::{WWW, WWW_REPLY, sample};
 use dns_name::{SinkFailed, Tally};
 use dns_samples_tests::{Kept, Pieces};
 use dns_serve::{Ends, StreamFault, StreamRoom, serve_stream, serve_stream_in};
+use dns_zone::Zone;
 use std::alloc::Global;
 use std::cell::Cell;
 use std::io::{self, Read, Write};
@@ -9,25 +10,23 @@ use std::process::Abort;
 use std::test::Fail;
 
 /// The outcome of a session: its result, how often it announced that a message begins, what was
-/// written, and how many octets were not read.
+/// written, how many octets were not read, and whether each device failed, with its count.
 #[derive(Drop)]
 struct Left {
     answer: Result<u32, StreamFault>,
     begun: usize,
     written: Vec<u8>,
     unread: usize,
+    has_failed: (bool, bool),
     failures: (u64, u64),
 }
 
-// How the devices behave: how many octets a call transfers at most, how many reads and writes work
+// How many octets a call of a device transfers at most, how many reads and how many writes work
 // before one fails, and whether the next message has arrived after each message.
-#[derive(Clone, Copy)]
-struct Devices {
-    most: usize,
-    reads: u32,
-    writes: u32,
-    has_arrived: bool,
-}
+type Devices = (usize, u32, u32, bool);
+
+// More than a session transfers, and more calls than it makes.
+const MANY: u32 = 1_000_000;
 
 // The ends of a session that has the next message at hand after each message, or never. Its sink
 // keeps nothing. `begins` is whether a message begins next.
@@ -81,40 +80,39 @@ impl Read for Telling<'_> {
     }
 }
 
-const ALL_WORK: Devices = Devices {
-    most: 100_000,
-    reads: 1_000_000,
-    writes: 1_000_000,
-    has_arrived: true,
-};
-
-fn session(alloc: Global, input: &[u8], most: u32, devices: Devices) -> Result<Left, Fail> {
-    let zone = sample(alloc)?;
-    let (mut room, ends) = (StreamRoom::new(), ends_of(devices.has_arrived));
+// A session for at most so many messages.
+fn session(alloc: Global, zone: &Zone, input: &[u8], most: u32, devices: Devices) -> Left {
+    let (octets, reads, writes, has_arrived) = devices;
+    let (mut room, ends) = (StreamRoom::new(), ends_of(has_arrived));
     let mut source = Tally::new(Telling {
-        source: Pieces::new(input, devices.most, devices.reads),
+        source: Pieces::new(input, octets, reads),
         ends: &ends,
         begun: 0,
     });
-    let mut sink = Tally::new(Kept::new(alloc, devices.most, devices.writes));
-    let answer = serve_stream_in(&zone, &mut source, &mut sink, most, &mut room, &ends);
+    let mut sink = Tally::new(Kept::new(alloc, octets, writes));
+    let answer = serve_stream_in(zone, &mut source, &mut sink, most, &mut room, &ends);
     let failures = (source.failures(), sink.failures());
     let (telling, sink) = (source.into_inner(), sink.into_inner());
-    let (source, begun) = (telling.source, telling.begun);
-    // Each device would work again after its failure.
-    if source.calls.has_failed() != (answer == Err(StreamFault::SourceFailed)) {
-        return Err(Fail::new("a source that is asked after its failure"));
-    }
-    if sink.calls.has_failed() != (answer == Err(StreamFault::SinkFailed)) {
-        return Err(Fail::new("a sink that is asked after its failure"));
-    }
-    Ok(Left {
+    Left {
         answer,
-        begun,
-        written: sink.text,
-        unread: source.text.len(),
+        begun: telling.begun,
+        unread: telling.source.text.len(),
+        has_failed: (telling.source.calls.has_failed(), sink.calls.has_failed()),
         failures,
-    })
+        written: sink.text,
+    }
+}
+
+// Whether a session has this result, and its replies are these octets. If a device failed, the
+// result says so, the failure was counted once, and the device was not used again, though it would
+// work.
+fn has_ended(left: &Left, answer: Result<u32, StreamFault>, replies: &[u8]) -> bool {
+    let source_failed = answer == Err(StreamFault::SourceFailed);
+    let sink_failed = answer == Err(StreamFault::SinkFailed);
+    left.answer == answer
+        && left.has_failed == (source_failed, sink_failed)
+        && left.failures == (u64::from(source_failed), u64::from(sink_failed))
+        && left.written.as_slice() == replies
 }
 
 // A message that gets no reply, because it is shorter than a header.
@@ -154,182 +152,211 @@ fn frames(alloc: Global, letters: &str) -> Result<Vec<u8>, Fail> {
     Ok(octets)
 }
 
-// The messages, how many to serve, which are read, and the replies.
-const SESSIONS: &[(&str, u32, &str, &str)] = &[
-    ("waw", 9, "waw", "WW"),
-    ("ww", 1, "w", "W"),
-    ("w", 0, "", ""),
-    ("e", 9, "e", ""),
-    ("l", 9, "l", "R"),
-    ("", 9, "", ""),
+// The messages, how many to serve, how many are read, how many octets are not, and the replies.
+type Session<'a> = (&'a str, u32, u32, usize, &'a str);
+
+const SESSIONS: &[Session<'static>] = &[
+    ("waw", 9, 3, 0, "WW"),
+    ("ww", 1, 1, 31, "W"),
+    ("w", 0, 0, 31, ""),
+    ("e", 9, 1, 0, ""),
+    ("l", 9, 1, 0, "R"),
+    ("", 9, 0, 0, ""),
 ];
+
+// Whether a session in pieces of so many octets is as wanted. It finds the end of the source at the
+// beginning of a message.
+fn is_session(alloc: Global, zone: &Zone, row: Session<'_>, piece: usize) -> Result<bool, Fail> {
+    let (messages, most, count, unread, replies) = row;
+    let input = frames(alloc, messages)?;
+    let wanted = frames(alloc, replies)?;
+    let left = session(alloc, zone, &input, most, (piece, MANY, MANY, true));
+    let begun = count.saturating_add(1).min(most) as usize;
+    Ok(has_ended(&left, Ok(count), &wanted) & (left.unread == unread) & (left.begun == begun))
+}
 
 #[test]
 fn messages_and_their_replies(rt: HostRuntime) -> Result<(), Fail> {
-    let alloc = rt.alloc();
-    for &(messages, most, read, replies) in SESSIONS {
-        let input = frames(alloc, messages)?;
-        let wanted = frames(alloc, replies)?;
-        let unread = input.len().saturating_sub(frames(alloc, read)?.len());
-        for piece in [1, 2, 3, 512, 100_000] {
-            let devices = Devices {
-                most: piece,
-                ..ALL_WORK
-            };
-            let left = session(alloc, input.as_slice(), most, devices)?;
-            assert_eq!(rt; left.answer.map(|count| count as usize), Ok(read.len()));
-            assert!(rt; left.written == wanted, "of {messages}");
-            assert_eq!(rt; left.unread, unread, "of {messages}");
-            assert_eq!(rt; left.failures, (0, 0));
-            // The end of the source is found at the beginning of a message.
-            assert_eq!(rt; left.begun, read.len().saturating_add(1).min(most as usize));
-        }
-    }
-    Ok(())
+    let zone = sample(rt.alloc())?;
+    check_sessions(&rt, rt.alloc(), &zone)
 }
 
-const REPLIES: &[(&str, &str)] = &[("wal", "WR"), ("w", "W"), ("", ""), ("lw", "RW")];
-
-#[test]
-fn sessions_in_one_room(rt: HostRuntime) -> Result<(), Fail> {
-    let alloc = rt.alloc();
-    let zone = sample(alloc)?;
+fn check_sessions(rt: &impl Abort, alloc: Global, zone: &Zone) -> Result<(), Fail> {
+    for &row in SESSIONS {
+        for piece in [1, 2, 3, 512, 100_000] {
+            assert!(rt; is_session(alloc, zone, row, piece)?, "{row:?}");
+        }
+    }
     let mut room = StreamRoom::new();
-    for &(messages, replies) in REPLIES {
-        let input = frames(alloc, messages)?;
-        let mut source = Tally::new(input.as_slice());
-        let mut sink = Tally::new(Vec::new(alloc));
-        let answer = serve_stream_in(&zone, &mut source, &mut sink, 9, &mut room, &ends_of(false));
-        assert_eq!(rt; answer.map(|count| count as usize), Ok(messages.len()));
+    for &(messages, replies) in ROOM {
         assert!(rt;
-            sink.into_inner() == frames(alloc, replies)?,
-            "of {messages}"
+            is_served(alloc, zone, &mut room, messages, replies)?,
+            "{messages}"
         );
     }
     Ok(())
 }
 
+// Sessions in one room, one after another: the messages, and the replies.
+const ROOM: &[(&str, &str)] = &[("wal", "WR"), ("w", "W"), ("", ""), ("lw", "RW")];
+
+// Whether messages are served, with these replies, in a room that was used before.
+fn is_served(
+    alloc: Global,
+    zone: &Zone,
+    room: &mut StreamRoom,
+    messages: &str,
+    replies: &str,
+) -> Result<bool, Fail> {
+    let input = frames(alloc, messages)?;
+    let wanted = frames(alloc, replies)?;
+    let mut source = Tally::new(input.as_slice());
+    let mut sink = Tally::new(Vec::new(alloc));
+    let answer = serve_stream_in(zone, &mut source, &mut sink, 9, room, &ends_of(false));
+    let is_whole = answer.map(|count| count as usize) == Ok(messages.len());
+    Ok(is_whole & (sink.into_inner() == wanted))
+}
+
+// A zone, messages in their frames, and the replies to them.
+type Asked<'a> = (&'a Zone, &'a [u8], &'a [u8]);
+
+fn front(octets: &[u8], length: usize) -> &[u8] {
+    octets.get(..length).unwrap_or(&[])
+}
+
+// Whether a session of a beginning of two messages ends inside a message, after the reply to the
+// one before.
+fn is_cut(alloc: Global, (zone, messages, replies): Asked<'_>, length: usize) -> bool {
+    let left = session(
+        alloc,
+        zone,
+        front(messages, length),
+        9,
+        (512, MANY, MANY, true),
+    );
+    let written = if length < 31 { 0 } else { 47 };
+    has_ended(&left, Err(StreamFault::Cut), front(replies, written))
+}
+
+// Whether the reply to the last message asked for is sent: the sink's second call fails, which
+// sends the buffered replies.
+fn sends_the_last(alloc: Global, (zone, messages, replies): Asked<'_>) -> bool {
+    let left = session(alloc, zone, messages, 1, (512, MANY, 1, true));
+    has_ended(&left, Err(StreamFault::SinkFailed), front(replies, 47))
+}
+
 #[test]
-fn streams_that_are_cut(rt: HostRuntime) -> Result<(), Fail> {
-    let alloc = rt.alloc();
-    let left = session(alloc, b"\x00", 9, ALL_WORK)?;
-    assert_eq!(rt; left.answer, Err(StreamFault::Cut));
-    assert_eq!(rt; left.written.len(), 0);
-    let two = frames(alloc, "ww")?;
-    let reply = frames(alloc, "W")?;
+fn two_messages_that_are_cut(rt: HostRuntime) -> Result<(), Fail> {
+    let zone = sample(rt.alloc())?;
+    check_cuts(&rt, rt.alloc(), &zone)
+}
+
+fn check_cuts(rt: &impl Abort, alloc: Global, zone: &Zone) -> Result<(), Fail> {
+    let messages = frames(alloc, "ww")?;
+    let replies = frames(alloc, "WW")?;
+    check_lengths(rt, alloc, (zone, &messages, &replies));
+    Ok(())
+}
+
+fn check_lengths(rt: &impl Abort, alloc: Global, asked: Asked<'_>) {
     for length in [1, 2, 3, 30, 32, 33, 34, 60, 61] {
-        let Some(input) = two.as_slice().get(..length) else {
-            return Err(Fail::new("too few octets"));
-        };
-        let left = session(alloc, input, 9, ALL_WORK)?;
-        assert_eq!(rt; left.answer, Err(StreamFault::Cut), "at {length}");
-        let due = if length < 31 { 0 } else { reply.len() };
-        assert_eq!(rt; left.written.len(), due, "at {length}");
-        assert!(rt; reply.as_slice().starts_with(left.written.as_slice()));
+        assert!(rt; is_cut(alloc, asked, length), "at {length}");
     }
-    Ok(())
+    assert!(rt; sends_the_last(alloc, asked));
 }
 
-// How many octets of three messages were read, and how many octets of their replies were written,
-// before a device failed; `None` if no call failed.
-fn cut_short<R: Abort + AllocGlobal>(
-    rt: &R,
-    devices: Devices,
-    fault: StreamFault,
-) -> Result<Option<(usize, usize)>, Fail> {
-    let input = frames(rt.alloc(), "waw")?;
-    let wanted = frames(rt.alloc(), "WW")?;
-    let left = session(rt.alloc(), input.as_slice(), 9, devices)?;
-    if left.answer == Ok(3) {
-        return Ok(None);
-    }
-    assert_eq!(rt; left.answer, Err(fault));
-    let failures = if fault == StreamFault::SourceFailed {
-        (1, 0)
-    } else {
-        (0, 1)
+// Whether a session serves three messages, or ends well if a read fails: the first message ends
+// after 31 octets, the last one after 75.
+fn ends_at_read(
+    alloc: Global,
+    (zone, messages, replies): Asked<'_>,
+    most: usize,
+    reads: u32,
+) -> bool {
+    let left = session(alloc, zone, messages, 9, (most, reads, MANY, true));
+    let replies = match left.unread {
+        0 => replies,
+        1..45 => front(replies, 47),
+        _ => b"",
     };
-    assert_eq!(rt; left.failures, failures);
-    assert!(rt; wanted.as_slice().starts_with(left.written.as_slice()));
-    Ok(Some((input.len().saturating_sub(left.unread), left.written.len())))
+    has_ended(&left, Ok(3), replies) || has_ended(&left, Err(StreamFault::SourceFailed), replies)
 }
 
-#[test]
-fn each_read_and_each_write_fails_in_turn(rt: HostRuntime) -> Result<(), Fail> {
-    for most in [1, 7, 100_000] {
-        for calls in 0..200 {
-            let mut devices = Devices { most, ..ALL_WORK };
-            devices.reads = calls;
-            if let Some((read, written)) = cut_short(&rt, devices, StreamFault::SourceFailed)? {
-                // The first message ends after 31 octets, the last one after 75.
-                let due = match read {
-                    0..31 => 0,
-                    31..75 => 47,
-                    _ => 94,
-                };
-                assert_eq!(rt; written, due, "after {calls} reads");
-            }
-            let mut devices = Devices { most, ..ALL_WORK };
-            devices.writes = calls;
-            if let Some((read, written)) = cut_short(&rt, devices, StreamFault::SinkFailed)? {
-                // Nothing is read after the message whose reply could not be written.
-                let due = if written < 47 { 31 } else { 75 };
-                assert_eq!(rt; read, due, "after {calls} writes");
-            }
-        }
-    }
-    Ok(())
+// Whether a session serves three messages, or ends well if a write fails: nothing is read after the
+// message whose reply could not be written.
+fn ends_at_write(
+    alloc: Global,
+    (zone, messages, replies): Asked<'_>,
+    most: usize,
+    writes: u32,
+) -> bool {
+    let left = session(alloc, zone, messages, 9, (most, MANY, writes, true));
+    has_ended(&left, Ok(3), replies) || is_unsent(&left, replies)
 }
 
-// How many octets were read and written: replies are sent after each message, even after the
-// one without a reply.
+fn is_unsent(left: &Left, replies: &[u8]) -> bool {
+    let written = left.written.len();
+    has_ended(left, Err(StreamFault::SinkFailed), front(replies, written))
+        && left.unread == if written < 47 { 44 } else { 0 }
+}
+
+// How many writes work, how many octets are then not read, and how many are written: replies are
+// sent after each message, even after the one without a reply.
 const SENDS: &[(u32, usize, usize)] = &[
-    (0, 31, 0),
-    (1, 31, 47),
-    (2, 44, 47),
-    (3, 75, 47),
-    (4, 75, 94),
+    (0, 44, 0),
+    (1, 44, 47),
+    (2, 31, 47),
+    (3, 0, 47),
+    (4, 0, 94),
 ];
 
-#[test]
-fn each_send_fails_in_turn(rt: HostRuntime) -> Result<(), Fail> {
-    for &(writes, read, written) in SENDS {
-        let devices = Devices {
-            writes,
-            has_arrived: false,
-            ..ALL_WORK
-        };
-        let found = cut_short(&rt, devices, StreamFault::SinkFailed)?;
-        assert_eq!(rt; found, Some((read, written)), "after {writes} writes");
-    }
-    Ok(())
+// Whether a session that never has the next message at hand ends so if a write fails.
+fn ends_at_send(
+    alloc: Global,
+    (zone, messages, replies): Asked<'_>,
+    row: (u32, usize, usize),
+) -> bool {
+    let left = session(alloc, zone, messages, 9, (512, MANY, row.0, false));
+    let is_unread = left.unread == row.1;
+    has_ended(&left, Err(StreamFault::SinkFailed), front(replies, row.2)) && is_unread
+}
+
+// Whether a sink that takes nothing is asked once, after the first message was read.
+fn takes_nothing(alloc: Global, zone: &Zone, messages: &[u8]) -> bool {
+    let mut source = Tally::new(messages);
+    let mut sink = Tally::new(Kept::new(alloc, 0, 9));
+    let answer = serve_stream(zone, &mut source, &mut sink, 9);
+    let (failures, unread) = (sink.failures(), source.into_inner().len());
+    let left = sink.into_inner().calls.left;
+    (answer, failures, left, unread) == (Err(StreamFault::SinkFailed), 1, 8, 44)
 }
 
 #[test]
-fn the_reply_to_the_last_message_asked_for_is_sent(rt: HostRuntime) -> Result<(), Fail> {
-    let input = frames(rt.alloc(), "ww")?;
-    // The sink's second call fails, which sends the buffered replies.
-    let devices = Devices {
-        writes: 1,
-        ..ALL_WORK
-    };
-    let left = session(rt.alloc(), input.as_slice(), 1, devices)?;
-    assert_eq!(rt; left.answer, Err(StreamFault::SinkFailed));
-    assert_eq!(rt; left.written.len(), 47);
-    Ok(())
-}
-
-#[test]
-fn a_sink_that_takes_nothing_fails(rt: HostRuntime) -> Result<(), Fail> {
+fn each_call_fails_in_turn(rt: HostRuntime) -> Result<(), Fail> {
     let zone = sample(rt.alloc())?;
-    let input = frames(rt.alloc(), "waw")?;
-    let mut source = Tally::new(input.as_slice());
-    let mut sink = Tally::new(Kept::new(rt.alloc(), 0, 9));
-    let answer = serve_stream(&zone, &mut source, &mut sink, 9);
-    assert_eq!(rt; answer, Err(StreamFault::SinkFailed));
-    assert_eq!(rt; sink.failures(), 1);
-    assert_eq!(rt; sink.into_inner().calls.left, 8);
-    // The first message was read, with its length.
-    assert_eq!(rt; input.len().saturating_sub(source.into_inner().len()), 31);
+    check_failures(&rt, rt.alloc(), &zone)
+}
+
+fn check_failures(rt: &impl Abort, alloc: Global, zone: &Zone) -> Result<(), Fail> {
+    let messages = frames(alloc, "waw")?;
+    let replies = frames(alloc, "WW")?;
+    check_calls(rt, alloc, (zone, &messages, &replies));
+    check_sends(rt, alloc, (zone, &messages, &replies));
     Ok(())
+}
+
+fn check_sends(rt: &impl Abort, alloc: Global, asked: Asked<'_>) {
+    for &row in SENDS {
+        assert!(rt; ends_at_send(alloc, asked, row), "at {row:?}");
+    }
+    assert!(rt; takes_nothing(alloc, asked.0, asked.1));
+}
+
+fn check_calls(rt: &impl Abort, alloc: Global, asked: Asked<'_>) {
+    for most in [1, 7, 100_000] {
+        for calls in 0..200 {
+            assert!(rt; ends_at_read(alloc, asked, most, calls), "read {calls}");
+            assert!(rt; ends_at_write(alloc, asked, most, calls), "write {calls}");
+        }
+    }
 }

@@ -57,20 +57,24 @@ impl Write for PutOff {
     }
 }
 
+// Whether a call that is put off is made again, and one that fails is not.
+fn is_read(pauses: &Pauses) -> io::Result<bool> {
+    let mut source = Nonblocking::new(PutOff { calls: 0 }, pauses);
+    Ok(source.read(&mut [0; 4])? == 1 && source.read(&mut [0; 4]).is_err())
+}
+
+fn is_written(pauses: &Pauses) -> io::Result<bool> {
+    let mut sink = Nonblocking::new(PutOff { calls: 0 }, pauses);
+    Ok(sink.write(b"zone")? == 1 && sink.write(b"zone").is_err())
+}
+
 #[test]
 fn a_call_that_is_put_off_is_made_again_and_one_that_fails_is_not(
     rt: HostRuntime,
 ) -> Result<(), Fail> {
-    let pauses = Pauses {
-        count: Cell::new(0),
-    };
-    let mut source = Nonblocking::new(PutOff { calls: 0 }, &pauses);
-    assert_eq!(rt; source.read(&mut [0; 4])?, 1);
-    assert!(rt; source.read(&mut [0; 4]).is_err());
-    assert_eq!(rt; pauses.count.get(), 2);
-    let mut sink = Nonblocking::new(PutOff { calls: 0 }, &pauses);
-    assert_eq!(rt; sink.write(b"zone")?, 1);
-    assert!(rt; sink.write(b"zone").is_err());
-    assert_eq!(rt; pauses.count.get(), 4);
+    let count = Cell::new(0);
+    let pauses = Pauses { count };
+    assert!(rt; is_read(&pauses)? && pauses.count.get() == 2);
+    assert!(rt; is_written(&pauses)? && pauses.count.get() == 4);
     Ok(())
 }

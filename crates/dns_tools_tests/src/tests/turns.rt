@@ -5,6 +5,7 @@ use dns_serve::{Datagrams, StreamRoom};
 use dns_serve_tests::Mailbox;
 use dns_tools::{Connections, TurnWord, serve_connections, serve_datagrams};
 use dns_zone::Zone;
+use std::alloc::Global;
 use std::cell::Cell;
 use std::fmt::Display;
 use std::io::{self, ErrorKind};
@@ -37,40 +38,40 @@ impl Eprint for Refusing<'_> {
 // Which call fails, whether all words are taken, and how many there are.
 const SAID: &[(u32, bool, u32)] = &[(9, true, 0), (0, false, 1), (5, false, 1)];
 
-#[test]
-fn turns_go_on_after_a_word_that_is_not_taken(rt: HostRuntime) -> Result<(), Fail> {
-    let zone = sample(rt.alloc())?;
-    for &(fails_at, are_said, words) in SAID {
-        let calls = Cell::new(0);
-        let errors = Refusing { calls: &calls };
-        let mut mailbox = Mailbox::new(rt.alloc(), QUERY, fails_at);
-        assert_eq!(rt; serve_datagrams(&errors, &zone, &mut mailbox, 3), are_said);
-        assert_eq!(rt; calls.get(), words);
-        assert_eq!(rt; mailbox.failures(), u64::from(fails_at < 9));
-    }
-    Ok(())
+// Whether three turns are taken, though no word is.
+fn go_on_unheard(alloc: Global, zone: &Zone, fails_at: u32, are_said: bool, words: u32) -> bool {
+    let calls = Cell::new(0);
+    let mut mailbox = Mailbox::new(alloc, QUERY, fails_at);
+    let errors = Refusing { calls: &calls };
+    serve_datagrams(&errors, zone, &mut mailbox, 3) == are_said
+        && calls.get() == words
+        && mailbox.failures() == u64::from(fails_at < 9)
 }
 
-#[test]
-fn turns_go_on_after_one_that_fails(rt: HostRuntime) -> Result<(), Fail> {
-    let zone = sample(rt.alloc())?;
-    check_turns(&rt, &zone);
-    Ok(())
+// Which call fails, how many replies are sent in three turns, and how many calls are made.
+const TURNS: &[(u32, u32, u32)] = &[(9, 3, 6), (0, 2, 5), (3, 2, 6), (5, 2, 6)];
+
+// Whether so many replies are sent in three turns, by so many calls, and all words are taken.
+fn go_on<R>(rt: &R, zone: &Zone, fails_at: u32, replies: u32, calls: u32) -> bool
+where
+    R: Eprint + AllocGlobal,
+{
+    let mut mailbox = Mailbox::new(rt.alloc(), QUERY, fails_at);
+    serve_datagrams(rt, zone, &mut mailbox, 3)
+        && mailbox.sends == replies
+        && mailbox.calls == calls
+        && mailbox.failures() == u64::from(fails_at < 9)
+        && are_replies(mailbox.replies.as_slice(), replies)
 }
 
-fn check_turns<R: Abort + Eprint + AllocGlobal>(rt: &R, zone: &Zone) {
-    // Which call fails, how many replies are sent in three turns, and how many calls are made.
-    for (fails_at, replies, calls) in [(9, 3, 6), (0, 2, 5), (3, 2, 6), (5, 2, 6)] {
-        let mut mailbox = Mailbox::new(rt.alloc(), QUERY, fails_at);
-        assert!(rt; serve_datagrams(rt, zone, &mut mailbox, 3));
-        assert_eq!(rt; mailbox.sends, replies, "where call {fails_at} fails");
-        assert_eq!(rt; mailbox.replies.len(), REPLY.len() * replies as usize);
-        for reply in mailbox.replies.as_slice().chunks(REPLY.len()) {
-            assert_eq!(rt; reply, REPLY);
+// Whether octets are the reply, so many times.
+fn are_replies(octets: &[u8], count: u32) -> bool {
+    for reply in octets.chunks(REPLY.len()) {
+        if reply != REPLY {
+            return false;
         }
-        assert_eq!(rt; mailbox.calls, calls);
-        assert_eq!(rt; mailbox.failures(), u64::from(fails_at < 9));
     }
+    octets.len() == REPLY.len() * count as usize
 }
 
 // A listener that accepts no connection.
@@ -90,18 +91,34 @@ impl Connections for Deaf {
     }
 }
 
+// Whether a server at such a listener takes each turn, though its first word is not taken.
+fn go_on_deaf(zone: &Zone, turns: u32, room: &mut StreamRoom) -> bool {
+    let calls = Cell::new(0);
+    let errors = Refusing { calls: &calls };
+    let mut deaf = Deaf { asked: 0 };
+    serve_connections(&errors, zone, &mut deaf, turns, room) == (turns == 0)
+        && calls.get() == turns.min(1)
+        && deaf.asked == u64::from(turns)
+}
+
 #[test]
-fn connections_go_on_after_a_word_that_is_not_taken(rt: HostRuntime) -> Result<(), Fail> {
+fn turns_go_on(rt: HostRuntime) -> Result<(), Fail> {
     let zone = sample(rt.alloc())?;
+    check(&rt, &zone);
+    Ok(())
+}
+
+fn check<R: Abort + Eprint + AllocGlobal>(rt: &R, zone: &Zone) {
+    for &(fails_at, are_said, words) in SAID {
+        let are_taken = go_on_unheard(rt.alloc(), zone, fails_at, are_said, words);
+        assert!(rt; are_taken, "unheard, where call {fails_at} fails");
+    }
+    for &(fails_at, replies, calls) in TURNS {
+        let are_taken = go_on(rt, zone, fails_at, replies, calls);
+        assert!(rt; are_taken, "where call {fails_at} fails");
+    }
     let mut room = StreamRoom::new();
     for turns in [0, 1, 3] {
-        let calls = Cell::new(0);
-        let errors = Refusing { calls: &calls };
-        let mut deaf = Deaf { asked: 0 };
-        let are_said = serve_connections(&errors, &zone, &mut deaf, turns, &mut room);
-        assert_eq!(rt; are_said, turns == 0);
-        assert_eq!(rt; calls.get(), turns.min(1));
-        assert_eq!(rt; deaf.asked, u64::from(turns));
+        assert!(rt; go_on_deaf(zone, turns, &mut room), "{turns} turns");
     }
-    Ok(())
 }

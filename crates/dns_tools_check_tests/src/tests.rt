@@ -1,2 +1,0 @@
-mod check;
-mod long;

@@ -1,3 +1,0 @@
-mod devices;
-mod message;
-mod once;
