@@ -56,6 +56,7 @@ fn is_pushed(labels: Labels<'_>, octets: &[u8], is_wildcard: bool) -> bool {
         && lent.octets() == octets
         && lent.is_wildcard() == is_wildcard
         && has_labels(&lent, labels)
+        && name.labels().count() == labels.len()
 }
 
 #[test]
