@@ -6,5 +6,4 @@ mod many_words;
 mod pieces;
 mod reading;
 mod records;
-mod rows;
 mod zone;

@@ -1,11 +1,11 @@
 //! Sources that give their text in different pieces, that fail, and that never end.
 
-use super::reading::{ONE, Pieces, example};
-use dns_master::{ReadCode, ReadFault, Record, read_zone};
+use super::reading::{ONE, Pieces, by, example, number};
+use super::records::{Meant, has_records};
+use dns_master::read_zone;
 use dns_name::Tally;
 use std::alloc::Global;
 use std::io::{self, Read};
-use std::test::Fail;
 
 const TEXT: &[u8] = b"$TTL 60
 @ SOA ns h ( 1 2\r
@@ -34,79 +34,65 @@ impl Read for Endless {
     }
 }
 
-// What is read of the text in pieces, how many calls failed, and how many were made.
-fn read(
-    alloc: Global,
-    lengths: &[usize],
-    fails_at: usize,
-) -> Result<(Result<Vec<Record>, ReadFault>, u64, usize), Fail> {
-    let origin = example()?;
+// What is read of the text in pieces: its fault, how many calls failed, and how many were made.
+fn outcome(alloc: Global, lengths: &[usize], fails_at: usize) -> ((u8, u32), u64, usize) {
     let mut source = Tally::new(Pieces {
-        text: TEXT,
-        lengths,
-        calls: 0,
         fails_at,
+        ..by(TEXT, lengths)
     });
-    let read = read_zone(alloc, &origin, &mut source);
+    let fault = number(read_zone(alloc, &example(), &mut source).err());
     let failures = source.failures();
-    Ok((read, failures, source.into_inner().calls))
+    (fault, failures, source.into_inner().calls)
 }
 
+const MEANT: &[Meant<'static>] = &[
+    (
+        b"\x07example\x00",
+        60,
+        6,
+        b"\x02ns\x07example\x00\x01h\x07example\x00\x00\x00\x00\x01\x00\x00\x00\x02\
+        \x00\x00\x00\x03\x00\x00\x00\x04\x00\x00\x00\x05",
+    ),
+    (b"\x02ns\x07example\x00", 60, 1, b"\xc0\x00\x02\x01"),
+    (b"\x02ns\x07example\x00", 60, 16, b"\x03a b\x01\""),
+];
+
 #[test]
-fn pieces_of_any_length(rt: HostRuntime) -> Result<(), Fail> {
+fn pieces_of_any_length(rt: HostRuntime) {
     for lengths in [ONE, ANY] {
-        let (read, failures, _) = read(rt.alloc(), lengths, 1000)?;
-        let records = read?;
-        assert_eq!(rt; failures, 0);
-        assert_eq!(rt; records.len(), 3);
-        let soa = b"\x02ns\x07example\x00\x01h\x07example\x00\x00\x00\x00\x01\x00\x00\x00\x02\
-            \x00\x00\x00\x03\x00\x00\x00\x04\x00\x00\x00\x05";
-        assert_eq!(rt; records[0].rdata.octets(), soa.as_slice());
-        assert_eq!(rt; records[1].rdata.octets(), b"\xc0\x00\x02\x01".as_slice());
-        assert_eq!(rt; records[2].rdata.octets(), b"\x03a b\x01\"".as_slice());
-        assert_eq!(rt;
-            records[2].owner.octets(),
-            b"\x02ns\x07example\x00".as_slice()
-        );
+        assert!(rt; has_records(rt.alloc(), by(TEXT, lengths), MEANT));
+        let (_, failures, _) = outcome(rt.alloc(), lengths, 1000);
+        assert!(rt; failures == 0);
     }
-    Ok(())
 }
 
+// A source that failed, for which the code is 16, is not called again, though it would work.
 #[test]
-fn a_source_that_fails_at_each_call(rt: HostRuntime) -> Result<(), Fail> {
-    let wanted = ReadFault {
-        code: ReadCode::SourceFailed,
-        line: 0,
-    };
+fn a_source_that_fails_at_each_call(rt: HostRuntime) {
     for fails_at in 0..=TEXT.len() {
-        let (read, failures, calls) = read(rt.alloc(), ONE, fails_at)?;
-        assert_eq!(rt; read.err(), Some(wanted), "after {fails_at} calls");
-        assert_eq!(rt; failures, 1, "after {fails_at} calls");
-        // The source is not called again, though it would work.
-        assert_eq!(rt; calls, fails_at + 1);
+        let found = outcome(rt.alloc(), ONE, fails_at);
+        let holds = found == ((16, 0), 1, fails_at + 1);
+        assert!(rt; holds, "after {fails_at} calls");
     }
-    let (read, failures, _) = read(rt.alloc(), ONE, TEXT.len() + 1)?;
-    assert!(rt; read.is_ok());
-    assert_eq!(rt; failures, 0);
-    Ok(())
+    let (fault, failures, _) = outcome(rt.alloc(), ONE, TEXT.len() + 1);
+    assert!(rt; fault == (0, 0) && failures == 0);
+}
+
+// The fault of a source that never ends, and how many octets it gave.
+fn fault_of_endless(alloc: Global, octet: u8, most: usize) -> ((u8, u32), usize) {
+    let mut source = Tally::new(Endless {
+        octet,
+        most,
+        given: 0,
+    });
+    let fault = number(read_zone(alloc, &example(), &mut source).err());
+    (fault, source.into_inner().given)
 }
 
 #[test]
-fn no_more_octets_are_taken_than_decide(rt: HostRuntime) -> Result<(), Fail> {
+fn no_more_octets_are_taken_than_decide(rt: HostRuntime) {
     for (octet, most, line) in [(b';', 65_536, 1), (b'\n', 1_000_003, 16_777_217)] {
-        let origin = example()?;
-        let mut source = Tally::new(Endless {
-            octet,
-            most,
-            given: 0,
-        });
-        let fault = read_zone(rt.alloc(), &origin, &mut source).err();
-        let wanted = ReadFault {
-            code: ReadCode::TooLong,
-            line,
-        };
-        assert_eq!(rt; fault, Some(wanted));
-        assert_eq!(rt; source.into_inner().given, 16_777_217);
+        let found = fault_of_endless(rt.alloc(), octet, most);
+        assert!(rt; found == ((15, line), 16_777_217), "of {octet}");
     }
-    Ok(())
 }

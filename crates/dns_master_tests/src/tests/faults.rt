@@ -2,7 +2,6 @@
 //! reported.
 
 use super::reading::{Row, judge};
-use std::test::Fail;
 
 // `R01`: invalid octets.
 const OCTETS: &[Row<'static>] = &[
@@ -63,6 +62,9 @@ const PARENTHESES: &[Row<'static>] = &[
     (b"( \")\"", (4, 1)),
     (b"( )\n)", (4, 2)),
     (b"(;(\n)()\n", (0, 0)),
+    (b"v 60 TXT a)", (4, 1)),
+    (b"v 60 TXT ((a))", (4, 1)),
+    (b"v 60 TXT (a) (b", (4, 1)),
 ];
 
 // The first of several faults, by place.
@@ -246,62 +248,90 @@ const DATA: &[Row<'static>] = &[
     (b"a 1 TXT \"\\#\" x", (0, 0)),
 ];
 
+// Small files of one fault each, or of none.
+const SMALL_FILES: &[Row<'static>] = &[
+    (b"", (0, 0)),
+    (b" A 192.0.2.1", (8, 1)),
+    (b"$TTL", (6, 1)),
+    (b"$TTL 010", (6, 1)),
+    (b"\"www\" 60 A 192.0.2.1", (7, 1)),
+    (b"www 2147483648 A 192.0.2.1", (9, 1)),
+    (b"www 60 CH A 192.0.2.1", (10, 1)),
+    (b"www 60 60 A 192.0.2.1", (11, 1)),
+    (b"www 60 A 192.0.2.256", (13, 1)),
+    (b"www 60 TXT \"a\n", (3, 1)),
+    (b"www 60 TXT a\\\n", (2, 1)),
+    (b"www 60 A \x00", (1, 1)),
+    (
+        b"a 60 A 192.0.2.1\n\nb A ( 192.0.2.1\n)\n  TXT ( \"a\"\n",
+        (4, 5),
+    ),
+    (b"$INCLUDE \"x", (3, 1)),
+    (b"a A 1", (12, 1)),
+    (b"a 1 A 192.0.2.1 ; (\r\n\tNS @\n", (0, 0)),
+];
+
 #[test]
-fn octets_that_are_not_allowed(rt: HostRuntime) -> Result<(), Fail> {
-    judge(&rt, OCTETS)
+fn octets_that_are_not_allowed(rt: HostRuntime) {
+    judge(&rt, OCTETS);
 }
 
 #[test]
-fn backslashes_that_begin_no_escape(rt: HostRuntime) -> Result<(), Fail> {
-    judge(&rt, ESCAPES)
+fn backslashes_that_begin_no_escape(rt: HostRuntime) {
+    judge(&rt, ESCAPES);
 }
 
 #[test]
-fn strings_that_are_not_ended(rt: HostRuntime) -> Result<(), Fail> {
-    judge(&rt, STRINGS)
+fn strings_that_are_not_ended(rt: HostRuntime) {
+    judge(&rt, STRINGS);
 }
 
 #[test]
-fn parentheses_that_do_not_match(rt: HostRuntime) -> Result<(), Fail> {
-    judge(&rt, PARENTHESES)
+fn parentheses_that_do_not_match(rt: HostRuntime) {
+    judge(&rt, PARENTHESES);
 }
 
 #[test]
-fn the_first_fault_by_place(rt: HostRuntime) -> Result<(), Fail> {
-    judge(&rt, PLACES)
+fn the_first_fault_by_place(rt: HostRuntime) {
+    judge(&rt, PLACES);
 }
 
 #[test]
-fn directives(rt: HostRuntime) -> Result<(), Fail> {
-    judge(&rt, DIRECTIVES)
+fn directives(rt: HostRuntime) {
+    judge(&rt, DIRECTIVES);
 }
 
 #[test]
-fn owners(rt: HostRuntime) -> Result<(), Fail> {
-    judge(&rt, OWNERS)
+fn owners(rt: HostRuntime) {
+    judge(&rt, OWNERS);
 }
 
 #[test]
-fn ttls(rt: HostRuntime) -> Result<(), Fail> {
-    judge(&rt, TTLS)
+fn ttls(rt: HostRuntime) {
+    judge(&rt, TTLS);
 }
 
 #[test]
-fn classes(rt: HostRuntime) -> Result<(), Fail> {
-    judge(&rt, CLASSES)
+fn classes(rt: HostRuntime) {
+    judge(&rt, CLASSES);
 }
 
 #[test]
-fn types(rt: HostRuntime) -> Result<(), Fail> {
-    judge(&rt, TYPES)
+fn types(rt: HostRuntime) {
+    judge(&rt, TYPES);
 }
 
 #[test]
-fn ttls_that_are_not_known(rt: HostRuntime) -> Result<(), Fail> {
-    judge(&rt, NO_TTLS)
+fn ttls_that_are_not_known(rt: HostRuntime) {
+    judge(&rt, NO_TTLS);
 }
 
 #[test]
-fn data(rt: HostRuntime) -> Result<(), Fail> {
-    judge(&rt, DATA)
+fn data(rt: HostRuntime) {
+    judge(&rt, DATA);
+}
+
+#[test]
+fn faults_of_small_files(rt: HostRuntime) {
+    judge(&rt, SMALL_FILES);
 }

@@ -1,8 +1,8 @@
 //! Entries of many words. The reader keeps only the first ones.
 
-use super::reading::{ONE, by, fault, judge, read, repeated};
+use super::reading::{ONE, by, fault, has_fault, repeated};
+use super::records::{A, Meant, has_records};
 use std::alloc::{AllocError, Global};
-use std::process::Abort;
 use std::test::Fail;
 
 const PIECE: usize = 4_096;
@@ -55,23 +55,17 @@ fn last_hex_digit(number: usize) -> u8 {
     b"0123456789abcdef"[number % 16]
 }
 
-// Checks that a file is one record with this data.
-fn compare<R: Abort + AllocGlobal>(rt: &R, text: &[u8], data: &[u8]) -> Result<(), Fail> {
-    for lengths in [&[usize::MAX], ONE] {
-        let records = read(rt.alloc(), by(text, lengths))??;
-        assert_eq!(rt; records.len(), 1, "of {text:?}");
-        for record in &records {
-            assert_eq!(rt; record.rdata.octets(), data, "of {text:?}");
-        }
-    }
-    Ok(())
+// Whether a file is one record of `a.example` with this type and data, also octet by octet.
+fn is_record(alloc: Global, text: &[u8], rtype: u16, data: &[u8]) -> bool {
+    let meant: &[Meant<'_>] = &[(A, 1, rtype, data)];
+    has_records(alloc, text, meant) && has_records(alloc, by(text, ONE), meant)
 }
 
 #[test]
 fn strings_about_as_many_as_are_kept(rt: HostRuntime) -> Result<(), Fail> {
     for count in 10..=20 {
         let (text, data) = strings(rt.alloc(), count)?;
-        compare(&rt, &text, &data)?;
+        assert!(rt; is_record(rt.alloc(), &text, 16, &data), "{count} strings");
     }
     Ok(())
 }
@@ -79,13 +73,15 @@ fn strings_about_as_many_as_are_kept(rt: HostRuntime) -> Result<(), Fail> {
 #[test]
 fn a_record_of_300_strings(rt: HostRuntime) -> Result<(), Fail> {
     let (text, data) = strings(rt.alloc(), 300)?;
-    compare(&rt, &text, &data)
+    assert!(rt; is_record(rt.alloc(), &text, 16, &data));
+    Ok(())
 }
 
 #[test]
 fn a_record_of_300_words_of_hex_digits(rt: HostRuntime) -> Result<(), Fail> {
     let (text, data) = hex_words(rt.alloc())?;
-    compare(&rt, &text, &data)
+    assert!(rt; is_record(rt.alloc(), &text, 65280, &data));
+    Ok(())
 }
 
 #[test]
@@ -94,7 +90,7 @@ fn a_record_of_300_strings_across_the_end_of_a_piece(rt: HostRuntime) -> Result<
     for within in [1, 9, 10, 150, 151, 152, 153, 1_000, 2_000] {
         let mut all = repeated(rt.alloc(), b"\n", PIECE - within)?;
         all.extend_from_slice(&text)?;
-        compare(&rt, &all, &data)?;
+        assert!(rt; is_record(rt.alloc(), &all, 16, &data), "from {within}");
     }
     Ok(())
 }
@@ -107,8 +103,8 @@ fn a_string_that_is_too_long_after_those_that_are_kept(rt: HostRuntime) -> Resul
         text.extend_from_slice(repeated(rt.alloc(), b" b\n", 40)?.as_slice())?;
         text.extend_from_slice(repeated(rt.alloc(), b"c", length)?.as_slice())?;
         text.extend_from_slice(b" d )\n")?;
-        let found = fault(rt.alloc(), text.as_slice())?;
-        assert_eq!(rt; found, wanted, "for {length} octets");
+        let holds = fault(rt.alloc(), text.as_slice()) == wanted;
+        assert!(rt; holds, "for {length} octets");
     }
     Ok(())
 }
@@ -129,7 +125,7 @@ fn faults_of_entries_of_40_words_more(rt: HostRuntime) -> Result<(), Fail> {
         text.extend_from_slice(repeated(rt.alloc(), b" 1", 40)?.as_slice())?;
         text.extend_from_slice(end)?;
         text.push(b'\n')?;
-        judge(&rt, &[(text.as_slice(), wanted)])?;
+        assert!(rt; has_fault(rt.alloc(), &text, wanted), "at {begin:?}");
     }
     Ok(())
 }

@@ -1,107 +1,125 @@
-use dns_name::{Label, Name};
-use std::test::Fail;
+use dns_name::{Label, Name, NameRef};
 
-// `www.example.` on the wire (RFC 1035 3.1).
-const WWW_EXAMPLE: &[u8] = b"\x03www\x07example\x00";
+// The labels of a name.
+type Labels<'a> = &'a [&'a [u8]];
 
-fn name_of(labels: &[&[u8]]) -> Result<Name, Fail> {
-    let mut name = Name::root();
+const WWW: Labels<'static> = &[b"www", b"example"];
+
+const CAPITALS: Labels<'static> = &[b"WWW", b"Example"];
+
+const EXAMPLE: Labels<'static> = &[b"example"];
+
+// A name below a wildcard.
+const BELOW: Labels<'static> = &[b"a", b"*", b"example"];
+
+// Labels that fill 255 octets on the wire.
+const LONGEST: Labels<'static> = &[&[b'a'; 63], &[b'b'; 63], &[b'c'; 63], &[b'd'; 61]];
+
+// Adds labels next to the root; false if one is refused.
+fn push_all(name: &mut Name, labels: Labels<'_>) -> bool {
+    let mut fit = true;
     for octets in labels {
-        let label = Label::new(*octets).ok_or("a label")?;
-        if !name.push(label) {
-            return Err("a short name is refused".into());
+        match Label::new(*octets) {
+            Some(label) => fit &= name.push(label),
+            None => fit = false,
         }
     }
-    Ok(name)
+    fit
 }
 
-#[test]
-fn pushed_labels(rt: HostRuntime) -> Result<(), Fail> {
-    let name = name_of(&[b"www", b"example"])?;
-    assert_eq!(rt; name.octets(), WWW_EXAMPLE);
-    assert_eq!(rt; Name::root().octets(), [0].as_slice());
-    assert_eq!(rt; name.labels().count(), 2);
+fn has_labels(name: &NameRef<'_>, wanted: Labels<'_>) -> bool {
     let mut labels = name.labels();
-    assert_eq!(rt;
-        labels.next().ok_or("a first label")?.octets(),
-        b"www".as_slice()
-    );
-    assert_eq!(rt;
-        labels.next().ok_or("a second label")?.octets(),
-        b"example".as_slice()
-    );
-    assert!(rt; labels.next().is_none());
-    Ok(())
-}
-
-#[test]
-fn longest_name(rt: HostRuntime) -> Result<(), Fail> {
-    let mut name = Name::root();
-    for octets in [[b'a'; 63].as_slice(), &[b'b'; 63], &[b'c'; 63], &[b'd'; 61]] {
-        assert!(rt; name.push(Label::new(octets).ok_or("a label")?));
+    for octets in wanted {
+        let label = labels.next();
+        if label.map(|label| label.octets()) != Some(*octets) {
+            return false;
+        }
     }
-    assert_eq!(rt; name.octets().len(), 255);
-    assert!(rt; !name.push(Label::new(b"e").ok_or("a label")?));
-    assert_eq!(rt; name.labels().count(), 4);
-    Ok(())
+    labels.next().is_none() && name.labels().count() == wanted.len()
+}
+
+// Labels, the octets of their name on the wire (RFC 1035 3.1), and whether it is a wildcard.
+const PUSHED: &[(Labels<'static>, &[u8], bool)] = &[
+    (&[], b"\x00", false),
+    (WWW, b"\x03www\x07example\x00", false),
+    (&[b"*", b"example"], b"\x01*\x07example\x00", true),
+    (BELOW, b"\x01a\x01*\x07example\x00", false),
+    (&[b"**", b"example"], b"\x02**\x07example\x00", false),
+];
+
+// Whether labels are those of a name with these octets, also when it is borrowed.
+fn is_pushed(labels: Labels<'_>, octets: &[u8], is_wildcard: bool) -> bool {
+    let mut name = Name::root();
+    let fit = push_all(&mut name, labels);
+    let lent = name.lent();
+    fit && name.octets() == octets
+        && lent.octets() == octets
+        && lent.is_wildcard() == is_wildcard
+        && has_labels(&lent, labels)
+        && name.labels().count() == labels.len()
 }
 
 #[test]
-fn compared_names(rt: HostRuntime) -> Result<(), Fail> {
-    let name = name_of(&[b"WWW", b"Example"])?;
-    let lower = name_of(&[b"www", b"example"])?;
-    assert_eq!(rt; name.fold().octets(), lower.octets());
-    let mut folded = name.copied();
-    folded.fold_in_place();
-    assert_eq!(rt; folded.octets(), lower.octets());
-    assert!(rt; name.same(&lower));
-    assert!(rt; name != lower);
-    assert!(rt; name == name.copied());
-    assert!(rt; name == name.clone()?);
-    // `@` and `[` are next to A to Z, and differ from `` ` `` and `{` by the same bit as letters
-    // of different case.
-    assert!(rt; !name_of(&[b"@["])?.same(&name_of(&[b"`{"])?));
-    Ok(())
+fn pushed_labels(rt: HostRuntime) {
+    for &(labels, octets, is_wildcard) in PUSHED {
+        assert!(rt; is_pushed(labels, octets, is_wildcard), "of {labels:?}");
+    }
 }
 
 #[test]
-fn lent_names(rt: HostRuntime) -> Result<(), Fail> {
-    let (name, above) = (name_of(&[b"www", b"example"])?, name_of(&[b"example"])?);
-    let (lent, lent_above) = (name.lent(), above.lent());
-    assert_eq!(rt; lent.octets(), WWW_EXAMPLE);
-    assert_eq!(rt; lent.labels().count(), 2);
-    let label = lent.labels().next().ok_or("a first label")?;
-    assert_eq!(rt; label.octets(), b"www".as_slice());
-    assert!(rt; lent.to_name() == name);
-    assert!(rt; lent == name.lent());
-    assert!(rt; lent != lent_above);
-    let upper = name_of(&[b"WWW", b"Example"])?;
-    assert!(rt; lent.same(&upper.lent()));
-    assert!(rt; lent.at_or_below(&lent_above));
-    assert!(rt; !lent_above.at_or_below(&lent));
-    assert!(rt; !lent.is_wildcard());
-    Ok(())
+fn longest_name(rt: HostRuntime) {
+    let mut name = Name::root();
+    assert!(rt; push_all(&mut name, LONGEST));
+    assert!(rt; name.octets().len() == 255);
+    assert!(rt; !push_all(&mut name, &[b"e"]));
+    assert!(rt; has_labels(&name.lent(), LONGEST));
+}
+
+// Two names; whether they are equal, the same but for case, and the first at or below the second.
+// `@` and `[` are next to A to Z, and differ from `` ` `` and `{` by the same bit as letters of
+// different case. The octets of `a.` are the last ones of the label `x\001a`, but do not begin at a
+// label.
+const PAIRS: &[(Labels<'static>, Labels<'static>, [bool; 3])] = &[
+    (WWW, WWW, [true, true, true]),
+    (CAPITALS, WWW, [false, true, true]),
+    (WWW, CAPITALS, [false, true, true]),
+    (WWW, EXAMPLE, [false, false, true]),
+    (WWW, &[b"EXAMPLE"], [false, false, true]),
+    (WWW, &[], [false, false, true]),
+    (EXAMPLE, WWW, [false, false, false]),
+    (&[b"x\x01a"], &[b"a"], [false, false, false]),
+    (&[b"@["], &[b"`{"], [false, false, false]),
+];
+
+// Whether two names compare so, also when they are borrowed.
+fn compare(first: Labels<'_>, second: Labels<'_>, wanted: [bool; 3]) -> bool {
+    let (mut a, mut b) = (Name::root(), Name::root());
+    let fit = push_all(&mut a, first) && push_all(&mut b, second);
+    let (c, d) = (a.lent(), b.lent());
+    fit && [a == b, a.same(&b), a.at_or_below(&b)] == wanted
+        && [c == d, c.same(&d), c.at_or_below(&d)] == wanted
 }
 
 #[test]
-fn names_above(rt: HostRuntime) -> Result<(), Fail> {
-    let name = name_of(&[b"www", b"example"])?;
-    assert!(rt; name.at_or_below(&name));
-    assert!(rt; name.at_or_below(&name_of(&[b"EXAMPLE"])?));
-    assert!(rt; name.at_or_below(&Name::root()));
-    assert!(rt; !name_of(&[b"example"])?.at_or_below(&name));
-    // The octets of `a.` are the last ones of this single label, but do not begin at a label.
-    assert!(rt; !name_of(&[b"x\x01a"])?.at_or_below(&name_of(&[b"a"])?));
-    Ok(())
+fn compared_names(rt: HostRuntime) {
+    for &(first, second, wanted) in PAIRS {
+        assert!(rt; compare(first, second, wanted), "{first:?} and {second:?}");
+    }
+}
+
+// Whether a name is equal to each copy of it.
+fn is_copied(name: &Name) -> bool {
+    let is_cloned = name.clone().map_or(false, |copy| *name == copy);
+    is_cloned && *name == name.copied() && *name == name.lent().to_name()
 }
 
 #[test]
-fn wildcards(rt: HostRuntime) -> Result<(), Fail> {
-    assert!(rt; name_of(&[b"*", b"example"])?.lent().is_wildcard());
-    assert!(rt; !name_of(&[b"a", b"*", b"example"])?.lent().is_wildcard());
-    assert!(rt; !name_of(&[b"**", b"example"])?.lent().is_wildcard());
-    assert!(rt; !Name::root().lent().is_wildcard());
-    Ok(())
+fn copies(rt: HostRuntime) {
+    let mut name = Name::root();
+    assert!(rt; push_all(&mut name, CAPITALS) && is_copied(&name));
+    assert!(rt; has_labels(&name.fold().lent(), WWW));
+    name.fold_in_place();
+    assert!(rt; has_labels(&name.lent(), WWW));
 }
 
 #[test]

@@ -1,8 +1,7 @@
 ghost use Rattle.std.specs.Prelude.{◌≡◌, IfOk};
 
-use dns_name::{SinkFailed, SourceFailed, Tally};
+use dns_name::{SinkFailed, Tally};
 use std::io::{self, ErrorKind, Read, Write};
-use std::test::Fail;
 
 /// A device that counts its calls. Those from `from` up to `to`, counted from 0, fail; those after
 /// them would succeed again.
@@ -43,21 +42,88 @@ impl Write for Failing {
     }
 }
 
-// All its calls from one on fail.
-fn fading(from: u32) -> Failing {
-    Failing {
-        from,
-        to: u32::MAX,
-        calls: 0,
+// A call of a device.
+enum Call<'a> {
+    Take,
+    Put(&'a [u8]),
+    All(&'a [u8]),
+    Parts(&'a [&'a [u8]]),
+    Flush,
+}
+
+use Call::{All, Flush, Parts, Put, Take};
+
+// A call, and what it returns (0 if it returns no number); none if it fails.
+type Step<'a> = (Call<'a>, Option<usize>);
+
+const ABC: &[&[u8]] = &[b"a", b"", b"bc"];
+
+const DE: &[&[u8]] = &[b"", b"d", b"e"];
+
+// The calls of a device that fail, from one up to another; how many it has in all; the calls made.
+const RUNS: &[(u32, u32, u32, &[Step<'static>])] = &[
+    // Each failure is counted once.
+    (1, u32::MAX, 2, &[(Take, Some(1)), (Take, None)]),
+    (2, u32::MAX, 4, &[(All(b"abc"), None), (Parts(DE), None)]),
+    // A device is asked again after a failure, and each time to pass on what it keeps.
+    (0, 1, 2, &[(Take, None), (Take, Some(1))]),
+    (
+        0,
+        1,
+        4,
+        &[
+            (Put(b"a"), None),
+            (Put(b"a"), Some(1)),
+            (All(b"bc"), Some(0)),
+        ],
+    ),
+    (
+        1,
+        2,
+        3,
+        &[(Flush, Some(0)), (Flush, None), (Flush, Some(0))],
+    ),
+    // After a failure a call asks nothing more.
+    (0, 1, 1, &[(All(b"abc"), None)]),
+    (1, 2, 2, &[(All(b"abc"), None)]),
+    (2, 3, 3, &[(All(b"abc"), None)]),
+    (0, 1, 1, &[(Parts(ABC), None)]),
+    (1, 2, 2, &[(Parts(ABC), None)]),
+    (2, 3, 3, &[(Parts(ABC), None)]),
+    (0, 1, 1, &[(Put(b"abc"), None)]),
+    (0, 1, 1, &[(Take, None)]),
+];
+
+// What a call returns; none after ten failures.
+fn made(device: &mut Tally<Failing>, call: &Call<'_>) -> Option<usize> {
+    if device.failures() > 9 {
+        return None;
+    }
+    match call {
+        Take => device.read(&mut [0; 4]).ok(),
+        Put(text) => device.write(*text).ok(),
+        All(text) => device.write_all(*text).ok().map(|()| 0),
+        Parts(texts) => device.write_parts(*texts).ok().map(|()| 0),
+        Flush => device.flush().ok().map(|()| 0),
     }
 }
 
-// Only one of its calls fails.
-fn failing_once(at: u32) -> Failing {
-    Failing {
-        from: at,
-        to: at.saturating_add(1),
-        calls: 0,
+fn has_run(mut device: Tally<Failing>, steps: &[Step<'_>], calls: u32) -> bool {
+    let mut failures = 0_u8;
+    for (call, wanted) in steps {
+        failures = failures.saturating_add(u8::from(wanted.is_none()));
+        if made(&mut device, call) != *wanted || device.failures() != u64::from(failures) {
+            return false;
+        }
+    }
+    device.into_inner().calls == calls
+}
+
+#[test]
+fn failures_are_counted(rt: HostRuntime) {
+    for (i, &(from, to, calls, steps)) in RUNS.iter().enumerate() {
+        let device = Tally::new(Failing { from, to, calls: 0 });
+        assert!(rt; has_run(device, steps, calls), "run {i}");
     }
 }
 
@@ -65,96 +131,33 @@ fn failing_once(at: u32) -> Failing {
 fn a_short_read_and_the_end_are_no_failures(rt: HostRuntime) {
     let mut source = Tally::new(b"abc".as_slice());
     let mut piece = [0; 2];
-    for wanted in [(2, [b'a', b'b']), (1, [b'c', b'b']), (0, [b'c', b'b'])] {
-        assert_eq!(rt; source.failures(), 0);
-        assert_eq!(rt; source.read(&mut piece), Ok(wanted.0));
-        assert_eq!(rt; piece, wanted.1);
+    for (count, wanted) in [(2, b"ab"), (1, b"cb"), (0, b"cb")] {
+        assert!(rt; source.failures() == 0);
+        assert!(rt; source.read(&mut piece) == Ok(count));
+        assert!(rt; piece == *wanted);
     }
-    assert_eq!(rt; source.failures(), 0);
-    assert_eq!(rt; source.into_inner().len(), 0);
+    assert!(rt; source.failures() == 0);
+    assert!(rt; source.into_inner().is_empty());
 }
 
 #[test]
-fn what_is_written_stands_in_the_device(rt: HostRuntime) -> Result<(), Fail> {
+fn what_is_written_stands_in_the_device(rt: HostRuntime) {
     let mut sink = Tally::new(Vec::new(rt.alloc()));
-    assert_eq!(rt; sink.write(b"ab"), Ok(2));
-    assert_eq!(rt; sink.write_all(b"cd"), Ok(()));
-    assert_eq!(rt; sink.write_parts(&[b"e", b"", b"fg"]), Ok(()));
-    assert_eq!(rt; sink.failures(), 0);
-    assert_eq!(rt; sink.into_inner().as_slice(), b"abcdefg".as_slice());
-    Ok(())
-}
-
-#[test]
-fn each_failure_is_counted_once(rt: HostRuntime) {
-    let mut source = Tally::new(fading(1));
-    assert_eq!(rt; source.read(&mut [0; 4]), Ok(1));
-    assert_eq!(rt; source.failures(), 0);
-    assert_eq!(rt; source.read(&mut [0; 4]), Err(SourceFailed));
-    assert_eq!(rt; source.failures(), 1);
-
-    let mut sink = Tally::new(fading(2));
-    assert_eq!(rt; sink.write_all(b"abc"), Err(SinkFailed));
-    assert_eq!(rt; sink.failures(), 1);
-    assert_eq!(rt; sink.write_parts(&[b"", b"d", b"e"]), Err(SinkFailed));
-    assert_eq!(rt; sink.failures(), 2);
-}
-
-#[test]
-fn a_device_is_asked_again_after_a_failure(rt: HostRuntime) {
-    let mut source = Tally::new(failing_once(0));
-    assert_eq!(rt; source.read(&mut [0; 4]), Err(SourceFailed));
-    assert_eq!(rt; source.read(&mut [0; 4]), Ok(1));
-    assert_eq!(rt; source.failures(), 1);
-
-    let mut sink = Tally::new(failing_once(0));
-    assert_eq!(rt; sink.write(b"a"), Err(SinkFailed));
-    assert_eq!(rt; sink.write(b"a"), Ok(1));
-    assert_eq!(rt; sink.write_all(b"bc"), Ok(()));
-    assert_eq!(rt; sink.failures(), 1);
-    assert_eq!(rt; sink.into_inner().calls, 4);
-}
-
-#[test]
-fn a_device_is_asked_each_time_to_pass_on_what_it_keeps(rt: HostRuntime) {
-    let mut sink = Tally::new(failing_once(1));
-    assert_eq!(rt; sink.flush(), Ok(()));
-    assert_eq!(rt; sink.failures(), 0);
-    assert_eq!(rt; sink.flush(), Err(SinkFailed));
-    assert_eq!(rt; sink.failures(), 1);
-    assert_eq!(rt; sink.flush(), Ok(()));
-    assert_eq!(rt; sink.failures(), 1);
-    assert_eq!(rt; sink.into_inner().calls, 3);
+    assert!(rt; sink.write(b"ab") == Ok(2));
+    assert!(rt; sink.write_all(b"cd") == Ok(()));
+    assert!(rt; sink.write_parts(&[b"e", b"", b"fg"]) == Ok(()));
+    assert!(rt; sink.failures() == 0);
+    assert!(rt; sink.into_inner().as_slice() == b"abcdefg".as_slice());
 }
 
 #[test]
 fn a_write_that_takes_nothing_is_a_failure(rt: HostRuntime) {
     let mut room = [0; 3];
     let mut sink = Tally::new(room.as_mut_slice());
-    assert_eq!(rt; sink.write(b""), Ok(0));
-    assert_eq!(rt; sink.write_all(b"abc"), Ok(()));
-    assert_eq!(rt; sink.failures(), 0);
-    assert_eq!(rt; sink.write(b""), Ok(0));
-    assert_eq!(rt; sink.write(b"d"), Err(SinkFailed));
-    assert_eq!(rt; sink.failures(), 1);
-}
-
-#[test]
-fn nothing_is_asked_after_a_failure(rt: HostRuntime) {
-    for (fails_at, calls) in [(0, 1), (1, 2), (2, 3)] {
-        let mut sink = Tally::new(failing_once(fails_at));
-        assert_eq!(rt; sink.write_all(b"abc"), Err(SinkFailed));
-        assert_eq!(rt; sink.into_inner().calls, calls);
-
-        let mut sink = Tally::new(failing_once(fails_at));
-        assert_eq!(rt; sink.write_parts(&[b"a", b"", b"bc"]), Err(SinkFailed));
-        assert_eq!(rt; sink.into_inner().calls, calls);
-    }
-    let mut sink = Tally::new(failing_once(0));
-    assert_eq!(rt; sink.write(b"abc"), Err(SinkFailed));
-    assert_eq!(rt; sink.into_inner().calls, 1);
-
-    let mut source = Tally::new(failing_once(0));
-    assert_eq!(rt; source.read(&mut [0; 4]), Err(SourceFailed));
-    assert_eq!(rt; source.into_inner().calls, 1);
+    assert!(rt; sink.write(b"") == Ok(0));
+    assert!(rt; sink.write_all(b"abc") == Ok(()));
+    assert!(rt; sink.failures() == 0);
+    assert!(rt; sink.write(b"") == Ok(0));
+    assert!(rt; sink.write(b"d") == Err(SinkFailed));
+    assert!(rt; sink.failures() == 1);
 }

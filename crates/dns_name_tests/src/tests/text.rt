@@ -1,4 +1,5 @@
 use dns_name::{Name, NameFault};
+use std::alloc::{AllocError, Global};
 use std::test::Fail;
 
 const LABEL: &[u8] = &[b'x'; 63];
@@ -22,10 +23,7 @@ fn spelled(word: &[u8]) -> Result<Name, NameFault> {
 }
 
 fn fault(word: &[u8]) -> u8 {
-    match read(word) {
-        Ok(_) => 0,
-        Err(fault) => fault.code(),
-    }
+    read(word).err().map_or(0, NameFault::code)
 }
 
 // Words, and the octets of their names or the code of their fault. Within a label, a bad escape is
@@ -101,14 +99,19 @@ const LAST: &[(&[&[u8]], u8)] = &[
     (&[LABEL, b"x\\"], 4),
 ];
 
+fn long_word(alloc: Global, last: &[&[u8]]) -> Result<Vec<u8>, AllocError> {
+    let mut word = Vec::new(alloc);
+    for part in THREE.iter().chain(last) {
+        word.extend_from_slice(*part)?;
+    }
+    Ok(word)
+}
+
 #[test]
 fn long_labels_and_names(rt: HostRuntime) -> Result<(), Fail> {
     for &(last, code) in LAST {
-        let mut word = Vec::new(rt.alloc());
-        for part in THREE.iter().chain(last.iter()) {
-            word.extend_from_slice(*part)?;
-        }
-        assert_eq!(rt; fault(&word), code, "at {last:?}");
+        let word = long_word(rt.alloc(), last)?;
+        assert!(rt; fault(&word) == code, "at {last:?}");
     }
     Ok(())
 }

@@ -1,6 +1,7 @@
-use dns_name::{Name, NameFault, SinkFailed, Tally, TextBuffer};
+use dns_name::{Name, SinkFailed, Tally, TextBuffer};
 use dns_samples_tests::Kept;
 use std::alloc::Global;
+use std::cmp::Ordering;
 use std::test::Fail;
 
 // The names of RFC 4034 6.1 in their order, after the root.
@@ -17,79 +18,87 @@ const IN_ORDER: &[&[u8]] = &[
     b"\\200.z.example.",
 ];
 
-fn read(word: &[u8]) -> Result<Name, NameFault> {
-    Name::read_text(word, &Name::root())
+// The name of a word; an invalid one is read as the root, which is no row's but that of `.`
+fn read(word: &[u8]) -> Name {
+    Name::read_text(word, &Name::root()).unwrap_or_default()
+}
+
+fn is_ordered(first: &[u8], second: &[u8], wanted: Ordering) -> bool {
+    read(first).order(&read(second)) == wanted
 }
 
 #[test]
-fn canonical_order(rt: HostRuntime) -> Result<(), Fail> {
+fn canonical_order(rt: HostRuntime) {
     for (i, first) in IN_ORDER.iter().enumerate() {
         for (j, second) in IN_ORDER.iter().enumerate() {
-            let order = read(*first)?.order(&read(*second)?);
-            assert_eq!(rt; order, i.cmp(&j), "at {first:?} and {second:?}");
+            let is_ordered = is_ordered(*first, *second, i.cmp(&j));
+            assert!(rt; is_ordered, "at {first:?} and {second:?}");
         }
     }
-    let order = read(b"z.a.example.")?.order(&read(b"Z.A.Example.")?);
-    assert!(rt; order.is_eq());
-    Ok(())
+    assert!(rt; is_ordered(b"z.a.example.", b"Z.A.Example.", Ordering::Equal));
 }
 
-// A name as it is written in a zone file, or without its final dot.
-fn written(alloc: Global, word: &[u8], is_bare: bool) -> Result<Vec<u8>, Fail> {
-    let name = read(word)?;
+// Whether the name of a word is written as a text.
+fn is_written(alloc: Global, word: &[u8], text: &[u8]) -> bool {
     let mut sink = Tally::new(Vec::new(alloc));
-    if is_bare {
-        let mut text = TextBuffer::new();
-        name.append_bare_text(&mut text);
-        text.finish(&mut sink)?;
-    } else {
-        name.write_text(&mut sink)?;
-    }
-    Ok(sink.into_inner())
+    let result = read(word).write_text(&mut sink);
+    result.is_ok() && sink.into_inner().as_slice() == text
 }
 
-// Whether the final dot is left out, the word to read, and what is written for its name.
-const WRITTEN: &[(bool, &[u8], &[u8])] = &[
-    (false, b".", b"."),
-    (false, b"WwW.Example", b"WwW.Example."),
-    (false, b"\\@", b"\\@."),
+// The same without the final dot.
+fn is_bare(word: &[u8], text: &[u8]) -> bool {
+    let mut buffer = TextBuffer::new();
+    read(word).append_bare_text(&mut buffer);
+    buffer.octets() == text
+}
+
+// The word to read, and what is written for its name.
+const WRITTEN: &[(&[u8], &[u8])] = &[
+    (b".", b"."),
+    (b"WwW.Example", b"WwW.Example."),
+    (b"\\@", b"\\@."),
     (
-        false,
         b"a\\.b.\\;\\(\\)\\$.\\\"\\\\",
         b"a\\.b.\\;\\(\\)\\$.\\\"\\\\.",
     ),
-    (false, b"\\032\\127.\\000\\255", b"\\032\\127.\\000\\255."),
-    (false, b"\\~\\!\\'", b"~!'."),
-    (true, b".", b"."),
-    (true, b"org.", b"org"),
-    (true, b"WwW.Example.", b"WwW.Example"),
-    (true, b"a.b\\..", b"a.b\\."),
+    (b"\\032\\127.\\000\\255", b"\\032\\127.\\000\\255."),
+    (b"\\~\\!\\'", b"~!'."),
+];
+
+const BARE: &[(&[u8], &[u8])] = &[
+    (b".", b"."),
+    (b"org.", b"org"),
+    (b"WwW.Example.", b"WwW.Example"),
+    (b"a.b\\..", b"a.b\\."),
 ];
 
 #[test]
-fn names_written(rt: HostRuntime) -> Result<(), Fail> {
-    for &(is_bare, word, text) in WRITTEN {
-        assert_eq!(rt; written(rt.alloc(), word, is_bare)?.as_slice(), text);
+fn names_written(rt: HostRuntime) {
+    for &(word, text) in WRITTEN {
+        assert!(rt; is_written(rt.alloc(), word, text), "at {word:?}");
     }
-    Ok(())
+    for &(word, text) in BARE {
+        assert!(rt; is_bare(word, text), "at {word:?}");
+    }
 }
 
 // `ns.example.` is written in four calls. If one of them fails, the octets before it were written.
+fn is_written_in_four(alloc: Global, text: &[u8], calls: u32) -> bool {
+    let mut sink = Tally::new(Kept::new(alloc, 3, calls));
+    let (fails, has_failed) = (calls < 4, read(text).write_text(&mut sink).is_err());
+    let failures = sink.failures();
+    let device = sink.into_inner();
+    let end = text.len().min(3 * calls as usize);
+    (has_failed, failures, device.calls.has_failed()) == (fails, u64::from(fails), fails)
+        && device.text.as_slice() == &text[..end]
+}
+
 #[test]
-fn each_write_of_a_name_fails(rt: HostRuntime) -> Result<(), Fail> {
-    let text = b"ns.example.";
+fn each_write_of_a_name_fails(rt: HostRuntime) {
     for calls in 0..5 {
-        let mut sink = Tally::new(Kept::new(rt.alloc(), 3, calls));
-        let fails = calls < 4;
-        let wanted = if fails { Err(SinkFailed) } else { Ok(()) };
-        assert_eq!(rt; read(text)?.write_text(&mut sink), wanted);
-        assert_eq!(rt; sink.failures(), u64::from(fails));
-        let device = sink.into_inner();
-        assert_eq!(rt; device.calls.has_failed(), fails);
-        let end = text.len().min(3 * calls as usize);
-        assert_eq!(rt; device.text.as_slice(), &text[..end], "after {calls} calls");
+        let holds = is_written_in_four(rt.alloc(), b"ns.example.", calls);
+        assert!(rt; holds, "{calls} calls");
     }
-    Ok(())
 }
 
 const PUT: &[(&[u8], &[u8])] = &[
@@ -100,16 +109,20 @@ const PUT: &[(&[u8], &[u8])] = &[
     (&[b'a'; 5000], &[b'b'; 5000]),
 ];
 
+fn put(alloc: Global, first: &[u8], second: &[u8]) -> Result<Vec<u8>, SinkFailed> {
+    let mut sink = Tally::new(Vec::new(alloc));
+    let mut text = TextBuffer::new();
+    text.put(first, &mut sink)?;
+    text.put(second, &mut sink)?;
+    text.finish(&mut sink)?;
+    Ok(sink.into_inner())
+}
+
 #[test]
 fn texts_of_any_length_are_put(rt: HostRuntime) -> Result<(), Fail> {
     for &(first, second) in PUT {
-        let mut sink = Tally::new(Vec::new(rt.alloc()));
-        let mut text = TextBuffer::new();
-        text.put(first, &mut sink)?;
-        text.put(second, &mut sink)?;
-        text.finish(&mut sink)?;
-        let written = sink.into_inner();
-        assert_eq!(rt; written.len(), first.len() + second.len());
+        let written = put(rt.alloc(), first, second)?;
+        assert!(rt; written.len() == first.len() + second.len());
         assert!(rt; written.starts_with(first) && written.ends_with(second));
     }
     Ok(())

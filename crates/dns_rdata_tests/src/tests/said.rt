@@ -4,40 +4,33 @@ use dns_name::{Name, SinkFailed, Tally};
 use dns_rdata::{DataRoom, RType, Rdata, RdataFault, Word};
 use std::alloc::Global;
 use std::io::Write;
-use std::process::Abort;
-use std::test::Fail;
 
-// The data that words spell. It is read twice in one room: nothing of the first reading may
-// remain.
-pub(crate) fn read(
-    alloc: Global,
-    rtype: RType,
-    words: &[Word<'_>],
-) -> Result<Result<Rdata, RdataFault>, Fail> {
-    let origin = Name::read_text(b"Example.", &Name::root())?;
+/// The data that words spell below `Example.` It is read twice in one room: nothing of the first
+/// reading may remain.
+pub(crate) fn read(alloc: Global, rtype: RType, words: &[Word<'_>]) -> Result<Rdata, RdataFault> {
+    let origin = Name::read_text(b"Example.", &Name::root()).unwrap_or_default();
     let mut room = DataRoom::new(alloc);
     if let Ok(before) = Rdata::read_words_in(&mut room, rtype, words, &origin) {
         room.take_back(before);
     }
-    Ok(Rdata::read_words_in(&mut room, rtype, words, &origin))
+    Rdata::read_words_in(&mut room, rtype, words, &origin)
 }
 
-/// A word, and the data that it spells, if any.
-pub(crate) type Row<'a> = (&'a [u8], Option<&'a [u8]>);
+pub(crate) fn word(raw: &[u8], quoted: bool) -> Word<'_> {
+    Word { raw, quoted }
+}
 
-// Compares the data that each word spells, all of one type, with the data wanted.
-pub(crate) fn judge<R: Abort + AllocGlobal>(
-    rt: &R,
+/// Whether words spell data with these octets, or have this fault.
+pub(crate) fn spell(
+    alloc: Global,
     rtype: RType,
-    quoted: bool,
-    rows: &[Row<'_>],
-) -> Result<(), Fail> {
-    for (raw, wanted) in rows {
-        let data = read(rt.alloc(), rtype, &[Word { raw: *raw, quoted }])?.ok();
-        let octets = data.as_ref().map(|data| data.octets());
-        assert_eq!(rt; octets, *wanted, "at {raw:?}");
+    words: &[Word<'_>],
+    wanted: Result<&[u8], RdataFault>,
+) -> bool {
+    match read(alloc, rtype, words) {
+        Ok(data) => wanted == Ok(data.octets()),
+        Err(fault) => wanted == Err(fault),
     }
-    Ok(())
 }
 
 // Invalid data is written as nothing.
@@ -53,4 +46,15 @@ pub(crate) fn write<W: Write>(
         Ok(_) => Rdata::write_text(rtype, octets, sink),
         Err(_) => Ok(()),
     }
+}
+
+/// The text of valid data; nothing if it could not be written.
+pub(crate) fn written(alloc: Global, rtype: RType, octets: &[u8]) -> Vec<u8> {
+    let mut sink = Tally::new(Vec::new(alloc));
+    let result = write(alloc, rtype, octets, &mut sink);
+    let mut text = sink.into_inner();
+    if result.is_err() {
+        text.clear();
+    }
+    text
 }

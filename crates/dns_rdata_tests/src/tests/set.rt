@@ -17,8 +17,7 @@ fn a_set_is_lent(rt: HostRuntime) -> Result<(), Fail> {
         return Err("an address".into());
     };
     let set = OneRecord { rtype, ttl, rdata };
-    assert_eq!(rt; set.rtype(), RType::A);
-    assert_eq!(rt; set.ttl(), 3600);
-    assert_eq!(rt; first_octet(&set), Some(b'A'));
+    assert!(rt; (set.rtype(), set.ttl()) == (RType::A, 3600));
+    assert!(rt; first_octet(&set) == Some(b'A'));
     Ok(())
 }

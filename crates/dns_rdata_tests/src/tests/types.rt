@@ -1,7 +1,7 @@
 use dns_name::Tally;
 use dns_rdata::{RType, RdataFault};
 use dns_samples_tests::Kept;
-use std::test::Fail;
+use std::alloc::Global;
 
 const READ: &[(&[u8], Option<RType>)] = &[
     (b"A", Some(RType::A)),
@@ -27,7 +27,7 @@ const READ: &[(&[u8], Option<RType>)] = &[
 #[test]
 fn types_read(rt: HostRuntime) {
     for &(word, wanted) in READ {
-        assert_eq!(rt; RType::read_text(word), wanted, "at {word:?}");
+        assert!(rt; RType::read_text(word) == wanted, "at {word:?}");
     }
 }
 
@@ -47,21 +47,25 @@ const WRITTEN: &[(u16, &[u8])] = &[
     (65535, b"TYPE65535"),
 ];
 
+fn is_written(alloc: Global, rtype: RType, wanted: &[u8]) -> bool {
+    let mut sink = Tally::new(Vec::new(alloc));
+    let result = rtype.write_text(&mut sink);
+    result.is_ok() && sink.into_inner().as_slice() == wanted
+}
+
 #[test]
-fn types_written(rt: HostRuntime) -> Result<(), Fail> {
+fn types_written(rt: HostRuntime) {
     for &(number, wanted) in WRITTEN {
-        let mut sink = Tally::new(Vec::new(rt.alloc()));
-        assert_eq!(rt; RType(number).write_text(&mut sink), Ok(()));
-        assert_eq!(rt; sink.into_inner().as_slice(), wanted);
+        let holds = is_written(rt.alloc(), RType(number), wanted);
+        assert!(rt; holds, "at {number}");
     }
-    Ok(())
 }
 
 #[test]
 fn a_failure_after_the_first_octet_is_told(rt: HostRuntime) {
     let mut sink = Tally::new(Kept::new(rt.alloc(), 1, 1));
     assert!(rt; RType(65).write_text(&mut sink).is_err());
-    assert_eq!(rt; sink.failures(), 1);
+    assert!(rt; sink.failures() == 1);
 }
 
 #[test]
@@ -73,7 +77,7 @@ fn compression(rt: HostRuntime) {
         (RType::SRV, false),
         (RType(65), false),
     ] {
-        assert_eq!(rt; rtype.compresses(), wanted);
+        assert!(rt; rtype.compresses() == wanted);
     }
 }
 
@@ -91,6 +95,6 @@ const CODES: &[(RdataFault, u8)] = &[
 #[test]
 fn codes(rt: HostRuntime) {
     for &(fault, code) in CODES {
-        assert_eq!(rt; fault.code(), code);
+        assert!(rt; fault.code() == code);
     }
 }

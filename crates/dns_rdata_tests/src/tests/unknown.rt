@@ -1,24 +1,24 @@
-use crate::tests::said::read;
-use dns_rdata::{RType, Rdata, RdataFault, Word};
-use std::alloc::Global;
+use crate::tests::said::{read, spell, word};
+use dns_rdata::{RType, RdataFault};
+use std::alloc::{AllocError, Global};
 use std::test::Fail;
 
 // A type without a mnemonic.
 const ANY: RType = RType(65280);
 
-const MARK: Word<'static> = Word {
-    raw: b"\\#",
-    quoted: false,
-};
-
-// What `\#` and the words after it spell; either all these words are quoted or none.
-fn said(alloc: Global, raws: &[&[u8]], quoted: bool) -> Result<Result<Rdata, RdataFault>, Fail> {
+// Whether `\#` and the words after it, either all quoted or none, spell these octets, or none.
+fn said(
+    alloc: Global,
+    raws: &[&[u8]],
+    quoted: bool,
+    wanted: Option<&[u8]>,
+) -> Result<bool, AllocError> {
     let mut words = Vec::new(alloc);
-    words.push(MARK)?;
+    words.push(word(b"\\#", false))?;
     for raw in raws {
-        words.push(Word { raw: *raw, quoted })?;
+        words.push(word(*raw, quoted))?;
     }
-    read(alloc, ANY, &words)
+    Ok(spell(alloc, ANY, &words, wanted.ok_or(RdataFault::BadHex)))
 }
 
 const MARKS: &[(&[u8], bool, bool)] = &[
@@ -32,16 +32,11 @@ const MARKS: &[(&[u8], bool, bool)] = &[
 ];
 
 #[test]
-fn marks(rt: HostRuntime) -> Result<(), Fail> {
+fn marks(rt: HostRuntime) {
     for &(raw, quoted, wanted) in MARKS {
-        let count = Word {
-            raw: b"0",
-            quoted: false,
-        };
-        let said = read(rt.alloc(), ANY, &[Word { raw, quoted }, count])?;
-        assert_eq!(rt; said.is_ok(), wanted, "at {raw:?}");
+        let said = read(rt.alloc(), ANY, &[word(raw, quoted), word(b"0", false)]);
+        assert!(rt; said.is_ok() == wanted, "at {raw:?}");
     }
-    Ok(())
 }
 
 // Words, whether they are quoted, and the octets that they spell, if any.
@@ -76,23 +71,10 @@ const SAID: &[(&[&[u8]], bool, Option<&[u8]>)] = &[
 #[test]
 fn octets_said(rt: HostRuntime) -> Result<(), Fail> {
     for &(raws, quoted, wanted) in SAID {
-        match said(rt.alloc(), raws, quoted)? {
-            Ok(data) => assert_eq!(rt; Some(data.octets()), wanted, "at {raws:?}"),
-            Err(fault) => {
-                assert_eq!(rt; fault.code(), 6, "at {raws:?}");
-                assert!(rt; wanted.is_none(), "at {raws:?}");
-            }
-        }
+        assert!(rt; said(rt.alloc(), raws, quoted, wanted)?, "at {raws:?}");
     }
-    let count = Word {
-        raw: b"1",
-        quoted: false,
-    };
-    let digits = Word {
-        raw: b"ab",
-        quoted: true,
-    };
-    assert!(rt; read(rt.alloc(), ANY, &[MARK, count, digits])?.is_err());
+    let words = &[word(b"\\#", false), word(b"1", false), word(b"ab", true)];
+    assert!(rt; read(rt.alloc(), ANY, words).is_err());
     Ok(())
 }
 
@@ -101,10 +83,9 @@ fn octets_said(rt: HostRuntime) -> Result<(), Fail> {
 fn longest_octets(rt: HostRuntime) -> Result<(), Fail> {
     let mut digits = Vec::new(rt.alloc());
     digits.resize(131_070, b'a')?;
-    match said(rt.alloc(), &[b"65535", &digits], false)? {
-        Ok(data) => assert_eq!(rt; data.octets().len(), 65_535),
-        Err(_) => return Err("words that say octets".into()),
-    }
-    assert!(rt; said(rt.alloc(), &[b"65536", &digits, b"aa"], false)?.is_err());
+    let mut octets = Vec::new(rt.alloc());
+    octets.resize(65_535, 0xaa)?;
+    assert!(rt; said(rt.alloc(), &[b"65535", &digits], false, Some(&octets))?);
+    assert!(rt; said(rt.alloc(), &[b"65536", &digits, b"aa"], false, None)?);
     Ok(())
 }

@@ -1,32 +1,34 @@
 ghost use Rattle.std.specs.Prelude.{false, replicate};
 
-use crate::tests::said::read;
+use crate::tests::said::{spell, word};
 use dns_name::Name;
 use dns_rdata::{DataRoom, RType, Rdata, RdataFault, Word, Words};
-use std::alloc::Global;
+use std::alloc::{AllocError, Global};
 use std::test::Fail;
 
-// Words as a zone file has them, separated by single spaces; here, quoted words contain no space.
-fn words<'a>(alloc: Global, text: &'a [u8]) -> Result<Vec<Word<'a>>, Fail> {
-    let mut words = Vec::new(alloc);
-    if text.is_empty() {
-        return Ok(words);
-    }
-    for spelled in text.split(|octet| *octet == b' ') {
-        let word = match spelled {
-            [b'"', raw @ .., b'"'] => Word { raw, quoted: true },
-            _ => Word {
-                raw: spelled,
-                quoted: false,
-            },
-        };
-        words.push(word)?;
-    }
-    Ok(words)
+// One word of a line; here, quoted words contain no space.
+fn spelled(word: &[u8]) -> Word<'_> {
+    let (raw, quoted) = match word {
+        [b'"', raw @ .., b'"'] => (raw, true),
+        _ => (word, false),
+    };
+    Word { raw, quoted }
 }
 
-fn read_line(alloc: Global, rtype: RType, text: &[u8]) -> Result<Result<Rdata, RdataFault>, Fail> {
-    read(alloc, rtype, words(alloc, text)?.as_slice())
+// Whether a line of words, separated by single spaces, spells these octets, or has this fault.
+fn is_read(
+    alloc: Global,
+    rtype: RType,
+    line: &[u8],
+    wanted: Result<&[u8], RdataFault>,
+) -> Result<bool, AllocError> {
+    let mut words = Vec::new(alloc);
+    if !line.is_empty() {
+        for word in line.split(|octet| *octet == b' ') {
+            words.push(spelled(word))?;
+        }
+    }
+    Ok(spell(alloc, rtype, &words, wanted))
 }
 
 const ANY: RType = RType(65280);
@@ -60,10 +62,8 @@ const SAID: &[(RType, &[u8], &[u8])] = &[
 #[test]
 fn data_that_words_say(rt: HostRuntime) -> Result<(), Fail> {
     for &(rtype, text, wanted) in SAID {
-        match read_line(rt.alloc(), rtype, text)? {
-            Ok(data) => assert_eq!(rt; data.octets(), wanted, "at {text:?}"),
-            Err(_) => return Err("words that say data".into()),
-        }
+        let holds = is_read(rt.alloc(), rtype, text, Ok(wanted))?;
+        assert!(rt; holds, "at {text:?}");
     }
     Ok(())
 }
@@ -108,30 +108,25 @@ const FAULTS: &[(RType, &[u8], RdataFault)] = &[
 #[test]
 fn faults_in_their_order(rt: HostRuntime) -> Result<(), Fail> {
     for &(rtype, text, wanted) in FAULTS {
-        let found = read_line(rt.alloc(), rtype, text)?.err();
-        assert_eq!(rt; found, Some(wanted), "at {text:?}");
+        let holds = is_read(rt.alloc(), rtype, text, Err(wanted))?;
+        assert!(rt; holds, "at {text:?}");
     }
     Ok(())
 }
 
+const FULL: &[u8] = &[b'x'; 255];
+
 // 256 strings of 255 octets make 65,536 octets; one octet less is the longest data.
 #[test]
 fn most_data(rt: HostRuntime) -> Result<(), Fail> {
-    let full = [b'x'; 255];
     let mut words = Vec::new(rt.alloc());
     for _ in 0..255 {
-        words.push(Word {
-            raw: full.as_slice(),
-            quoted: true,
-        })?;
+        words.push(word(FULL, true))?;
     }
-    for (raw, wanted) in [
-        (&full[..254], None),
-        (full.as_slice(), Some(RdataFault::BadString)),
-    ] {
-        words.push(Word { raw, quoted: true })?;
+    for (raw, wanted) in [(&FULL[..254], None), (FULL, Some(RdataFault::BadString))] {
+        words.push(word(raw, true))?;
         let found = Rdata::read_words(rt.alloc(), RType::TXT, words.as_slice(), &Name::root());
-        assert_eq!(rt; found.err(), wanted);
+        assert!(rt; found.err() == wanted);
         words.pop();
     }
     Ok(())
@@ -155,10 +150,7 @@ impl<'w> Words<'w> for Repeated<'w> {
         if self.left == 0 {
             return None;
         }
-        let word = Word {
-            raw: self.raw,
-            quoted: false,
-        };
+        let word = word(self.raw, false);
         let others = Repeated {
             raw: self.raw,
             left: self.left - 1,
@@ -183,18 +175,28 @@ const REPEATED: &[(RType, &[u8], usize, Result<&[u8], RdataFault>)] = &[
     (RType::A, b"\\#", 5_592_000, Err(RdataFault::BadHex)),
 ];
 
+// Whether repeated words spell these octets, or have this fault; the room is kept.
+fn is_said(
+    room: &mut DataRoom,
+    rtype: RType,
+    words: Repeated<'_>,
+    wanted: Result<&[u8], RdataFault>,
+) -> bool {
+    match Rdata::read_words_in(room, rtype, words, &Name::root()) {
+        Ok(data) => {
+            let is_wanted = wanted == Ok(data.octets());
+            room.take_back(data);
+            is_wanted
+        }
+        Err(fault) => wanted == Err(fault),
+    }
+}
+
 #[test]
-fn words_that_are_no_list(rt: HostRuntime) -> Result<(), Fail> {
+fn words_that_are_no_list(rt: HostRuntime) {
     let mut room = DataRoom::new(rt.alloc());
     for &(rtype, raw, left, wanted) in REPEATED {
         let words = Repeated { raw, left };
-        match Rdata::read_words_in(&mut room, rtype, words, &Name::root()) {
-            Ok(data) => {
-                assert_eq!(rt; Ok(data.octets()), wanted, "at {raw:?}");
-                room.take_back(data);
-            }
-            Err(fault) => assert_eq!(rt; Err(fault), wanted, "at {raw:?}"),
-        }
+        assert!(rt; is_said(&mut room, rtype, words, wanted), "at {raw:?}");
     }
-    Ok(())
 }

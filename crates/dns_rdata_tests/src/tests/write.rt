@@ -1,7 +1,8 @@
-use crate::tests::said::write;
+use crate::tests::said::{write, written};
 use dns_name::Tally;
 use dns_rdata::RType;
 use dns_samples_tests::Kept;
+use std::alloc::{AllocError, Global};
 use std::test::Fail;
 
 // MNAME, RNAME, SERIAL, REFRESH, RETRY, EXPIRE and MINIMUM (RFC 1035 3.3.13).
@@ -61,58 +62,66 @@ const ROWS: &[(RType, &[u8], &[u8])] = &[
 ];
 
 #[test]
-fn data_written(rt: HostRuntime) -> Result<(), Fail> {
+fn data_written(rt: HostRuntime) {
     for &(rtype, octets, text) in ROWS {
-        let mut sink = Tally::new(Vec::new(rt.alloc()));
-        assert_eq!(rt; write(rt.alloc(), rtype, octets, &mut sink), Ok(()));
-        assert_eq!(rt; sink.into_inner().as_slice(), text);
+        let written = written(rt.alloc(), rtype, octets);
+        assert!(rt; written.as_slice() == text, "at {text:?}");
     }
-    Ok(())
+}
+
+// How much of a text is written by calls of at most three octets each, after `calls` of which one
+// fails, if it is a beginning, and failures are counted.
+fn beginning(alloc: Global, row: (RType, &[u8], &[u8]), calls: u32) -> Option<usize> {
+    let (rtype, octets, text) = row;
+    let mut sink = Tally::new(Kept::new(alloc, 3, calls));
+    let fails = write(alloc, rtype, octets, &mut sink).is_err();
+    let failures = sink.failures();
+    let device = sink.into_inner();
+    let length = device.text.len();
+    let is_told = failures == u64::from(fails) && device.calls.has_failed() == fails;
+    let is_right = text.starts_with(device.text.as_slice()) && fails == (length < text.len());
+    if is_told && is_right {
+        Some(length)
+    } else {
+        None
+    }
 }
 
 // No text is longer than 40 octets, so 40 calls, of at most three octets each, write it. If a call
 // before the last fails, a beginning was written.
 #[test]
 fn each_write_fails(rt: HostRuntime) -> Result<(), Fail> {
-    for &(rtype, octets, text) in ROWS {
-        let mut written = 0;
+    for &row in ROWS {
+        let (mut written, whole) = (0, row.2.len());
         for calls in 0..41 {
-            let mut sink = Tally::new(Kept::new(rt.alloc(), 3, calls));
-            let result = write(rt.alloc(), rtype, octets, &mut sink);
-            assert_eq!(rt; sink.failures(), u64::from(result.is_err()));
-            let device = sink.into_inner();
-            assert_eq!(rt; device.calls.has_failed(), result.is_err());
-            let beginning = device.text;
-            assert!(rt; text.starts_with(beginning.as_slice()), "at {text:?}");
-            assert_eq!(rt; result.is_ok(), beginning.len() == text.len());
-            assert!(rt; beginning.len() > written || calls == 0 || written == text.len());
-            written = beginning.len();
+            let length = beginning(rt.alloc(), row, calls).ok_or("a beginning")?;
+            assert!(rt; length > written || calls == 0 || written == whole);
+            written = length;
         }
-        assert_eq!(rt; written, text.len());
+        assert!(rt; written == whole);
     }
     Ok(())
 }
 
 // 255 strings of 255 octets and 255 empty strings make 65,535 octets (RFC 1035 3.2.1).
+fn longest(alloc: Global) -> Result<Vec<u8>, AllocError> {
+    let mut data = Vec::new(alloc);
+    for number in 1..256_usize {
+        data.push(255)?;
+        data.resize(256 * number, b'"')?;
+    }
+    data.resize(65_535, 0)?;
+    Ok(data)
+}
+
 #[test]
 fn longest_text_written(rt: HostRuntime) -> Result<(), Fail> {
-    let mut data = Vec::new(rt.alloc());
-    for _ in 0..255 {
-        data.push(255)?;
-        for _ in 0..255 {
-            data.push(b'"')?;
-        }
-    }
-    for _ in 0..255 {
-        data.push(0)?;
-    }
-    let mut sink = Tally::new(Vec::new(rt.alloc()));
-    assert_eq!(rt; write(rt.alloc(), RType::TXT, &data, &mut sink), Ok(()));
+    let data = longest(rt.alloc())?;
     // Each quotation mark has a backslash before it, and each string two quotation marks around it
     // and, except the first, a space before it.
-    assert_eq!(rt; sink.into_inner().len(), 2 * 255 * 255 + 3 * 510 - 1);
-    let mut sink = Tally::new(Vec::new(rt.alloc()));
-    assert_eq!(rt; write(rt.alloc(), RType(65280), &data, &mut sink), Ok(()));
-    assert_eq!(rt; sink.into_inner().len(), 9 + 2 * 65535);
+    let text = written(rt.alloc(), RType::TXT, &data);
+    assert!(rt; text.len() == 2 * 255 * 255 + 3 * 510 - 1);
+    let text = written(rt.alloc(), RType(65280), &data);
+    assert!(rt; text.len() == 9 + 2 * 65535);
     Ok(())
 }

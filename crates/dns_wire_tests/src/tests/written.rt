@@ -1,7 +1,7 @@
 //! Messages with sets of one record, as tests write them, and hashes to find their names by.
-ghost use Rattle.std.specs.Prelude.{◌≡◌, ◌≤◌};
+ghost use Rattle.std.specs.Prelude.{◌≡◌};
 
-use dns_name::Name;
+use dns_name::{Name, NameFault};
 use dns_rdata::{RType, Rdata};
 use dns_samples_tests::OneRecord;
 use dns_wire::{CLASS_IN, Head, Question, Section, SuffixHash, Writer};
@@ -52,14 +52,7 @@ pub(crate) struct Row<'a> {
     pub(crate) wanted: &'a [u8],
 }
 
-fn name(text: &[u8]) -> Result<Name, Fail> {
-    let Ok(name) = Name::read_text(text, &Name::root()) else {
-        return Err("a name".into());
-    };
-    Ok(name)
-}
-
-/// Offers a set of one record, which must fit, or must not. An SOA record has the TTL of a
+/// Offers a set of one record, and whether it fits as expected. An SOA record has the TTL of a
 /// negative answer.
 pub(crate) fn offer<H: SuffixHash>(
     rt: HostRuntime,
@@ -67,77 +60,79 @@ pub(crate) fn offer<H: SuffixHash>(
     section: Section,
     record: Record<'_>,
     has_room: bool,
-) -> Result<(), Fail>
+) -> bool
     ensures { writer.new.page.limit ≡ writer.old.page.limit }
 {
     let (owner, rtype, octets) = record;
     let ttl = if rtype == RType::SOA { 300 } else { 3600 };
-    let Ok(rdata) = Rdata::from_wire(rt.alloc(), rtype, octets) else {
-        return Err("data of the type".into());
-    };
-    let owner = name(owner)?;
-    let set = OneRecord { rtype, ttl, rdata };
-    if writer.put_set(section, &owner, ttl, &set) == has_room {
-        Ok(())
-    } else {
-        Err("room for a set where there is none, or none".into())
+    match (
+        Rdata::from_wire(rt.alloc(), rtype, octets),
+        Name::read_text(owner, &Name::root()),
+    ) {
+        (Ok(rdata), Ok(owner)) => {
+            let set = OneRecord { rtype, ttl, rdata };
+            writer.put_set(section, &owner, ttl, &set) == has_room
+        }
+        _ => false,
     }
 }
 
-// Offers sets of one record each; either all of them must fit, or none.
+// Offers sets of one record each, and whether all of them fit, or none.
 fn offer_all<H: SuffixHash>(
     rt: HostRuntime,
     writer: &mut Writer<'_, H>,
     section: Section,
     records: &[Record<'_>],
     has_room: bool,
-) -> Result<(), Fail>
+) -> bool
     ensures { writer.new.page.limit ≡ writer.old.page.limit }
 {
     'records: for record in records {
-        offer(rt, writer, section, *record, has_room)?;
+        if !offer(rt, writer, section, *record, has_room) {
+            return false;
+        }
     }
-    Ok(())
+    true
+}
+
+// Offers the sets of a row; sets that do not fit are offered before them and after them.
+fn offer_row<H: SuffixHash>(
+    rt: HostRuntime,
+    writer: &mut Writer<'_, H>,
+    row: &Row<'_>,
+    refused: &[Record<'_>],
+) -> bool
+    ensures { writer.new.page.limit ≡ writer.old.page.limit }
+{
+    offer_all(rt, writer, Section::Answer, refused, false)
+        && offer_all(rt, writer, Section::Answer, row.answers, true)
+        && offer_all(rt, writer, Section::Authority, row.authorities, true)
+        && offer_all(rt, writer, Section::Additional, row.additionals, true)
+        && offer_all(rt, writer, Section::Answer, refused, false)
 }
 
 /// The question for a name, given as text, and a type.
-pub(crate) fn asked(qname: &[u8], qtype: u16) -> Result<Question, Fail> {
+pub(crate) fn asked(qname: &[u8], qtype: u16) -> Result<Question, NameFault> {
     Ok(Question {
-        name: name(qname)?,
+        name: Name::read_text(qname, &Name::root())?,
         qtype,
         qclass: CLASS_IN,
     })
 }
 
-// The octets of a message of at most 512 octets.
-fn finished<H: SuffixHash>(
-    rt: HostRuntime,
-    writer: Writer<'_, H>,
-    flags: u16,
-) -> Result<Vec<u8>, Fail>
-    requires { writer.page.limit ≤ 512 }
-{
-    let mut out = [0; 512];
-    let length = writer.finish(Head { id: 0x1234, flags }, &mut out);
-    let mut octets = Vec::new(rt.alloc());
-    octets.extend_from_slice(out.get(..length).unwrap_or(&[]))?;
-    Ok(octets)
-}
-
-/// The octets of a row's reply, within 512 octets; sets that do not fit are offered before the
-/// others and after them.
-pub(crate) fn written<H: SuffixHash>(
+/// Whether a row's reply is written as wanted, within 512 octets; sets that do not fit are offered
+/// before the others and after them.
+pub(crate) fn is_written<H: SuffixHash>(
     rt: HostRuntime,
     hash: &mut H,
     row: &Row<'_>,
     refused: &[Record<'_>],
-) -> Result<Vec<u8>, Fail> {
+) -> Result<bool, Fail> {
     let question = asked(row.qname, row.qtype)?;
+    let mut out = vec![in rt.alloc(); 0; 512]?;
     let mut writer = Writer::new(512, Some(&question), hash);
-    offer_all(rt, &mut writer, Section::Answer, refused, false)?;
-    offer_all(rt, &mut writer, Section::Answer, row.answers, true)?;
-    offer_all(rt, &mut writer, Section::Authority, row.authorities, true)?;
-    offer_all(rt, &mut writer, Section::Additional, row.additionals, true)?;
-    offer_all(rt, &mut writer, Section::Answer, refused, false)?;
-    finished(rt, writer, row.flags)
+    let are_offered = offer_row(rt, &mut writer, row, refused);
+    let flags = row.flags;
+    let length = writer.finish(Head { id: 0x1234, flags }, &mut out);
+    Ok(are_offered && out.get(..length) == Some(row.wanted))
 }
