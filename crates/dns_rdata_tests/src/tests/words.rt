@@ -150,7 +150,10 @@ impl<'w> Words<'w> for Repeated<'w> {
         if self.left == 0 {
             return None;
         }
-        let word = word(self.raw, false);
+        let word = Word {
+            raw: self.raw,
+            quoted: false,
+        };
         let others = Repeated {
             raw: self.raw,
             left: self.left - 1,
