@@ -1,6 +1,7 @@
 mod arguments;
 mod check;
 mod devices;
+mod fault;
 mod load;
 mod long;
 mod message;
