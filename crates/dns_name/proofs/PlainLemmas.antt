@@ -9,33 +9,29 @@ use Rattle.dns_spec.proofs.DomainNames.NameLaws.{is_name-IsName, length-wire-fol
 use Rattle.dns_spec.proofs.DomainNames.WireNames.{wire_some}
 use Rattle.dns_name.specs.TextForm.{IsPlain, HasLengths, IsEnded, is_length}
 
--- the octets after `place` are a text's labels in lower case, each after its length; `count` is the
--- length of the first label
-pub record LengthsPut (old now : Octets) (place count : ℕ) : Type 0 where
+-- the octets after `place` are the labels of a text from there on, in lower case, each after its
+-- length; `count` is the length of the first label
+pub record LengthsPut (text now : Octets) (place count : ℕ) : Type 0 where
   pub first : Octets
   pub others : DomainName
-  pub plain : IsPlain (drop (place + 1) old) first others
+  pub plain : IsPlain (drop place text) first others
   pub labels : list_all is_label others ≡ true
   pub written : (count ∷ drop (place + 1) now) ++ 0 ∷ [] ≡ wire (folded (first ∷ others))
-  pub kept : take (place + 1) now ≡ take (place + 1) old
-  pub within : place < length old
-  pub size : length now ≡ length old
-  pub few : count ≤ length old - (place + 1)
+  pub within : place ≤ length text
+  pub size : length now ≡ length text + 1
+  pub few : count ≤ length text - place
 
-pub none_put : (old : Octets) → 0 < length old → LengthsPut old old (length old - 1) 0
-none_put old some =
-    let none : drop (length old - 1 + 1) old ≡ [] = drop_all (length old - 1 + 1) old (omega arith) in
-    record {
-      first = [];
-      others = [];
-      plain = none;
-      labels = refl;
-      written = ap (λ x. (0 ∷ x) ++ 0 ∷ []) none;
-      kept = refl;
-      within = omega arith;
-      size = refl;
-      few = omega arith;
-    }
+pub none_put : (text now : Octets) → length now ≡ length text + 1 → LengthsPut text now (length text) 0
+none_put text now size = record {
+  first = [];
+  others = [];
+  plain = drop_all (length text) text (omega arith);
+  labels = refl;
+  written = ap (λ x. (0 ∷ x) ++ 0 ∷ []) (drop_all (length text + 1) now (omega (arith, size)));
+  within = omega arith;
+  size = size;
+  few = omega arith;
+}
 
 -- one more octet, which spells itself
 plain_octet : (o : ℕ) (text first : Octets) (others : DomainName)
@@ -50,73 +46,53 @@ plain_octet o text first (l ∷ n) plain (others, h, g) =
       g,
     )
 
--- the octets at a place that is not yet changed
-here : (old now : Octets) (place count : ℕ) → LengthsPut old now place count
-    → drop place old ≡ get_or now place 0 ∷ drop (place + 1) old
-here old now place count p =
-    drop_more old place 0 p.within
-    ∙ ap (λ o. o ∷ drop (place + 1) old) (sym (get_or-take (place + 1) old place 0 (omega arith))
-    ∙ ap (λ x. get_or x place 0) (sym p.kept) ∙ get_or-take (place + 1) now place 0 (omega arith))
-
-earlier_kept : (old now : Octets) (place count v : ℕ) → LengthsPut old now place count
-    → take place (set now place v) ≡ take place old
-earlier_kept old now place count v p =
-    take-set now place v ∙ sym (take-take place (place + 1) now (omega arith))
-    ∙ ap (take place) p.kept ∙ take-take place (place + 1) old (omega arith)
-
-module _ (old now : Octets) (place count : ℕ) (p : LengthsPut old now place count) (on : 0 < place) where
+module _ (text now : Octets) (place count : ℕ)
+    (p : LengthsPut text now place count) (on : 0 < place) where
   back : place - 1 + 1 ≡ place
   back = omega arith
 
-  pub octet_put : (v : ℕ) → is_mark (get_or now place 0) ≡ false
-      → v ≡ to_ascii_lowercase (get_or now place 0)
-      → LengthsPut old (set now place v) (place - 1) (count + 1)
+  here : drop (place - 1) text ≡ get_or text (place - 1) 0 ∷ drop place text
+  here = subst (λ k. drop (place - 1) text ≡ get_or text (place - 1) 0 ∷ drop k text) back
+      (drop_more text (place - 1) 0 (omega (arith, p.within)))
+
+  after : (v : ℕ) → drop (place - 1 + 1) (set now place v) ≡ v ∷ drop (place + 1) now
+  after v = ap (λ k. drop k (set now place v)) back
+      ∙ drop-set now place v (omega (arith, p.within, p.size))
+
+  pub octet_put : (v : ℕ) → is_mark (get_or text (place - 1) 0) ≡ false
+      → v ≡ to_ascii_lowercase (get_or text (place - 1) 0)
+      → LengthsPut text (set now place v) (place - 1) (count + 1)
   octet_put v plain is_lower =
-      let o = get_or now place 0 in
-      let there = here old now place count p in
-      let after : drop place (set now place v) ≡ v ∷ drop (place + 1) now =
-      drop-set now place v (omega (arith, p.within, p.size)) in
+      let o = get_or text (place - 1) 0 in
       let first_is : count ≡ length (map to_ascii_lowercase p.first) =
       ap (λ x. get_or x 0 0) p.written in
       let rest : drop (place + 1) now ++ 0 ∷ []
       ≡ map to_ascii_lowercase p.first ++ wire (folded p.others) =
       ap (drop 1) p.written in
-      let put : LengthsPut old (set now place v) (place - 1) (count + 1) = record {
+      let put : LengthsPut text (set now place v) (place - 1) (count + 1) = record {
         first = o ∷ p.first;
         others = p.others;
-        plain = subst (λ k. IsPlain (drop k old) (o ∷ p.first) p.others) (sym back)
-            (subst (λ x. IsPlain x (o ∷ p.first) p.others) (sym there)
-            (plain_octet o (drop (place + 1) old) p.first p.others plain p.plain));
+        plain = subst (λ x. IsPlain x (o ∷ p.first) p.others) (sym here)
+            (plain_octet o (drop place text) p.first p.others plain p.plain);
         labels = p.labels;
-        written = grind (arith, back, after, first_is, rest);
-        kept = ap (λ k. take k (set now place v)) back ∙ earlier_kept old now place count v p
-            ∙ ap (λ k. take k old) (sym back);
+        written = grind (arith, after, first_is, rest);
         within = omega (arith, p.within);
         size = length-set now place v ∙ p.size;
         few = omega (arith, p.few, p.within);
       } in
       put
 
-  pub dot_put : get_or now place 0 ≡ 46 → is_length count ≡ true
-      → LengthsPut old (set now place count) (place - 1) 0
+  pub dot_put : get_or text (place - 1) 0 ≡ 46 → is_length count ≡ true
+      → LengthsPut text (set now place count) (place - 1) 0
   dot_put dot fits =
-      let there = here old now place count p in
-      let after : drop place (set now place count) ≡ count ∷ drop (place + 1) now =
-      drop-set now place count (omega (arith, p.within, p.size)) in
       let first_is : count ≡ length p.first =
       ap (λ x. get_or x 0 0) p.written ∙ length-map p.first to_ascii_lowercase in
-      let put : LengthsPut old (set now place count) (place - 1) 0 = record {
+      let put : LengthsPut text (set now place count) (place - 1) 0 = record {
         first = [];
         others = p.first ∷ p.others;
-        plain = (
-          drop (place + 1) old,
-          ap (λ k. drop k old) back ∙ there ∙ ap (λ o. o ∷ drop (place + 1) old) dot,
-          p.plain,
-        );
+        plain = (drop place text, here ∙ ap (λ o. o ∷ drop place text) dot, p.plain);
         labels = and_from (is_label p.first) _ (ap is_length (sym first_is) ∙ fits) p.labels;
-        written = grind (arith, back, after);
-        kept = ap (λ k. take k (set now place count)) back
-            ∙ earlier_kept old now place count count p ∙ ap (λ k. take k old) (sym back);
+        written = grind (arith, after);
         within = omega (arith, p.within);
         size = length-set now place count ∙ p.size;
         few = omega arith;
@@ -159,9 +135,9 @@ plain_some first (l ∷ n) ok (rest, h, g) = grind (arith, LabelThen-nil, no_emp
 pub record PlainWord (origin : DomainName) (word labels end put final : Octets) : Type 0 where
   pub ended : IsEnded origin word labels end
   pub not_at : word ≢ 64 ∷ []
-  pub lengths : HasLengths (0 ∷ labels) put
+  pub lengths : HasLengths labels put
   pub size : length put ≡ length labels + 1
-  pub fits : length labels + length end < 255
+  pub fits : length put + length end ≤ 255
   pub final_is : final ≡ put ++ map to_ascii_lowercase end
 
 -- they spell its name in lower case

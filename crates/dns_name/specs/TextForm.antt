@@ -92,14 +92,13 @@ IsPlain text l (m ∷ n) =
 abbrev pub is_length : ℕ → Bool
 is_length count = nat_lt 0 count && nat_le count 63
 
--- Octets, after the first, were a text without escapes, and are now its labels in lower case, each
--- after its length.
-pub record HasLengths (old new : Octets) : Type 0 where
+-- octets are the labels of a text without escapes, in lower case, each after its length
+pub record HasLengths (text octets : Octets) : Type 0 where
   pub first : Octets
   pub others : DomainName
-  pub plain : IsPlain (drop 1 old) first others
+  pub plain : IsPlain text first others
   pub labels : list_all is_label (first ∷ others) ≡ true
-  pub written : new ++ 0 ∷ [] ≡ wire (folded (first ∷ others))
+  pub written : octets ++ 0 ∷ [] ≡ wire (folded (first ∷ others))
 
 -- the word is the labels and a final dot, or the labels alone, which the origin follows; `end` is the
 -- wire form of what follows

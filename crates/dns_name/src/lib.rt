@@ -6,6 +6,7 @@ mod buffer;
 mod label;
 mod lent;
 mod name;
+mod name_octets;
 mod octets;
 mod plain;
 mod tally;

@@ -1,29 +1,25 @@
 //! Domain names in their wire form.
-ghost use Rattle.std.specs.Prelude.{⊤, ◌≡◌, ◌+◌, ◌≤◌, ◌↔◌, [], ◌∷◌, ◌++◌, length, map, IsTrue};
+ghost use Rattle.std.specs.Prelude.{⊤, ◌≡◌, ◌≤◌, ◌↔◌, [], ◌∷◌, ◌++◌, length, IsTrue};
 ghost use Rattle.std.specs.Bool.{OnTrue, OnFalse};
-ghost use Rattle.std.specs.Char.{to_ascii_lowercase};
 ghost use Rattle.std.specs.Cmp.{nat_eq_equiv, partial_equiv_from_equiv};
 ghost use Rattle.std.specs.Cmp.Lexicographic.{lists_per, lists_equiv};
 ghost use Rattle.dns_spec.specs.Names.{is_name, wire, folded, same, at_or_below, below, names_equal, name_order};
 ghost use Rattle.dns_spec.specs.Checks.{first_is_asterisk};
-ghost use Rattle.arrayvec.specs.ArrayVec.{array_vec_len};
 ghost use Rattle.dns_name.specs.TextForm.{Appended};
 ghost use Rattle.dns_name.specs.WireForm.{labels_of, IsWireForm};
 
 use crate::label::Label;
 use crate::lent::{Labels, NameRef};
-use arrayvec::ArrayVec;
+use crate::name_octets::NameOctets;
 use std::alloc::AllocError;
 use std::cmp::Ordering;
 use std::marker::Model;
-
-pub(crate) const MAX_OCTETS: usize = 255;
 
 /// A domain name: its labels, the label nearest to the root last, with at most 255 octets on the
 /// wire (RFC 1034 3.1, RFC 1035 2.3.4). The root has no labels.
 #[derive(Drop)]
 pub struct Name {
-    pub(crate) octets: ArrayVec<u8, MAX_OCTETS>,
+    pub(crate) octets: NameOctets,
 }
 
 impl Model for Name {
@@ -32,9 +28,9 @@ impl Model for Name {
 
     ghost Value = { DomainName };
 
-    ghost view = { λ n. labels_of n.octets.items };
+    ghost view = { λ n. labels_of n.octets };
 
-    ghost invariant = { λ n. IsWireForm n.octets.items };
+    ghost invariant = { λ n. IsWireForm n.octets };
 }
 
 impl Name {
@@ -42,16 +38,16 @@ impl Name {
     pub fn root() -> Name
         ensures { result ≡ [] }
     {
-        let mut octets = ArrayVec::new();
-        put_root(&mut octets);
-        Name { octets }
+        Name {
+            octets: NameOctets::root(),
+        }
     }
 
     /// Sets the name to the root.
     pub fn clear(&mut self)
         ensures { self.new ≡ [] }
     {
-        put_root(&mut self.octets);
+        self.octets.set_root();
     }
 
     /// Sets the name to `other`, with the same octets. Does not allocate.
@@ -60,7 +56,7 @@ impl Name {
         ensures is_name { IsTrue (is_name self.new) }
     {
         self.octets.clear();
-        append_octets(&mut self.octets, other.octets());
+        self.octets.append(other.octets());
     }
 
     /// Adds a label next to the root: `www.example.` and `org` give `www.example.org.`
@@ -78,7 +74,7 @@ impl Name {
         }
         self.octets.pop();
         self.octets.push(octets.len() as u8);
-        append_octets(&mut self.octets, octets);
+        self.octets.append(octets);
         self.octets.push(0);
         true
     }
@@ -92,7 +88,7 @@ impl Name {
             return false;
         }
         self.octets.pop();
-        append_octets(&mut self.octets, octets);
+        self.octets.append(octets);
         true
     }
 
@@ -142,7 +138,7 @@ impl Name {
     pub fn fold_in_place(&mut self)
         ensures { self.new ≡ folded self.old }
     {
-        lower_case(&mut self.octets);
+        self.octets.lower();
     }
 
     /// Whether the names are the same, ignoring the case of ASCII letters.
@@ -176,8 +172,9 @@ impl Name {
         ensures value { result ≡ labels_of octets.now }
         ensures is_name { IsTrue (is_name result) }
     {
-        let mut name = ArrayVec::new();
-        append_octets(&mut name, octets);
+        let mut name = NameOctets::root();
+        name.clear();
+        name.append(octets);
         Name { octets: name }
     }
 
@@ -222,29 +219,4 @@ impl PartialEq for Name {
 
 impl Eq for Name {
     ghost laws = { lists_equiv (lists_equiv nat_eq_equiv) };
-}
-
-// Leaves only the root's length 0.
-pub(crate) fn put_root(octets: &mut ArrayVec<u8, MAX_OCTETS>)
-    ensures { octets.new.items ≡ 0 ∷ [] }
-{
-    octets.clear();
-    octets.push(0);
-}
-
-pub(crate) fn append_octets(octets: &mut ArrayVec<u8, MAX_OCTETS>, part: &[u8])
-    requires { array_vec_len octets.old + length part.now ≤ MAX_OCTETS }
-    ensures { octets.new.items ≡ octets.old.items ++ part.now }
-{
-    if octets.try_extend_from_slice(part).is_err() {
-        unreachable!();
-    }
-}
-
-// Folds wire octets in place. Lengths are at most 63, so none is mistaken for a letter.
-#[inline(never)]
-fn lower_case(octets: &mut ArrayVec<u8, MAX_OCTETS>)
-    ensures { octets.new.items ≡ map to_ascii_lowercase octets.old.items }
-{
-    octets.as_mut_slice().make_ascii_lowercase();
 }

@@ -1,10 +1,11 @@
 //! Names whose text has no escape, which most texts of zone files have (RFC 1035 5.1).
-ghost use Rattle.std.specs.Prelude.{◌≡◌, ◌≢◌, ◌<◌, ◌≤◌, length, codes, if◌then◌else◌};
+ghost use Rattle.std.specs.Prelude.{◌≡◌, ◌≢◌, ◌+◌, ◌≤◌, ◌++◌, length, drop, map, codes, if◌then◌else◌};
 ghost use Rattle.std.specs.Bool.{OnTrue};
 ghost use Rattle.std.specs.Char.{to_ascii_lowercase};
 ghost use Rattle.dns_name.specs.TextForm.{SpellsFolded, HasLengths, IsEnded, is_length, is_mark};
 
-use crate::name::{MAX_OCTETS, Name, append_octets, put_root};
+use crate::name::Name;
+use crate::name_octets::MAX_OCTETS;
 
 // Each octet in lower case, but 0 for a dot and a backslash.
 const IN_LOWER_CASE: [u8; 256] = [
@@ -31,20 +32,33 @@ impl Name {
         ensures { OnTrue result (SpellsFolded origin.now word.now self.new) }
     {
         let (labels, end) = ended_labels(word, origin);
-        if labels.len() + end.len() >= MAX_OCTETS {
+        let count = labels.len() + 1;
+        if count + end.len() > MAX_OCTETS {
             return false;
         }
-        put_root(&mut self.octets);
-        append_octets(&mut self.octets, labels);
-        if !put_lengths(self.octets.as_mut_slice()) {
-            put_root(&mut self.octets);
+        let (front, rest) = self.octets.all.split_at_mut(count);
+        if !put_lengths(labels, front) {
+            self.octets.set_root();
             return false;
         }
-        append_octets(&mut self.octets, end);
-        let (_, end) = self.octets.as_mut_slice().split_at_mut(labels.len() + 1);
-        end.make_ascii_lowercase();
+        put_lowered(end, rest);
+        self.octets.count = count + end.len();
         true
     }
+}
+
+// Puts octets at the front of a room, in lower case. Often they are the length of the root alone.
+fn put_lowered(octets: &[u8], room: &mut [u8])
+    requires { length octets.now ≤ length room.old }
+    ensures { room.new ≡ map to_ascii_lowercase octets.now ++ drop (length octets.now) room.old }
+{
+    if let [octet] = octets {
+        room[0] = octet.to_ascii_lowercase();
+        return;
+    }
+    let room = &mut room[..octets.len()];
+    room.copy_from_slice(octets);
+    room.make_ascii_lowercase();
 }
 
 // The labels before the final dot, and the wire form of the root. Without a final dot the labels
@@ -58,18 +72,17 @@ fn ended_labels<'a>(word: &'a [u8], origin: &'a Name) -> (&'a [u8], &'a [u8])
     }
 }
 
-// Puts the length of each label in front of it, in place of the dot, from the last label to the
-// first, whose length replaces the first octet. Converts the labels to lower case. False if an
+// Puts labels in lower case, each after its length, from the last label to the first. False if an
 // octet is a backslash or 0, or if a label has no octets or more than 63 (RFC 1035 2.3.4).
-fn put_lengths(octets: &mut [u8]) -> bool
-    requires some { 0 < length octets.old }
+fn put_lengths(labels: &[u8], octets: &mut [u8]) -> bool
+    requires room { length octets.old ≡ length labels.now + 1 }
     requires few { length octets.old ≤ 255 }
-    ensures { OnTrue result (HasLengths octets.old octets.new) }
+    ensures { OnTrue result (HasLengths labels.now octets.new) }
 {
     let mut count = 0;
-    let mut place = octets.len() - 1;
+    let mut place = labels.len();
     'octets: while place > 0 {
-        let octet = octets[place];
+        let octet = labels[place - 1];
         let lower = in_lower_case(octet);
         if lower > 0 {
             octets[place] = lower;

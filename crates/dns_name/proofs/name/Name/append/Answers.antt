@@ -1,5 +1,6 @@
 use Rattle.dns_name.proofs.Common.{◌≡◌, ◌+◌, ◌-◌, ◌≤◌, ◌++◌, length, take, true, ap, sym, ◌∙◌, arith, wire, is_name, DomainName, Octets, length-wire-append, is_name-append, labels_of, IsWireForm}
 use Rattle.dns_name.proofs.WireLemmas.{labels_of_spelled, IsWireForm-wire, wire-append}
+use Rattle.dns_spec.proofs.DomainNames.WireNames.{wire_some}
 use Rattle.dns_name.proofs.name.Name.append.Goals as goal
 
 -- the octets xs of the name n become zs, by way of ys, as those of the name m are appended
@@ -20,8 +21,8 @@ spells n m xs ys zs p = grind (arith, wire-append, wire_is)
 stays_name : (n m : DomainName) (xs ys zs : Octets) → Appends n m xs ys zs → is_name (n ++ m) ≡ true
 stays_name n m xs ys zs p = grind (arith, is_name-append, wire_is, length-wire-append)
 
-appends : (c : goal.After-append_octets) → Appends c.args.self.now c.args.other.now
-    c.self.inside.octets.items c.pop.new.self.items c.append_octets.new.octets.items
+appends : (c : goal.After-append) → Appends c.args.self.now c.args.other.now
+    c.self.inside.octets c.pop.new.self c.append.new.self
 appends c = grind arith
 
 pub returns-then-remaining_capacity-octets : goal.returns-then-remaining_capacity-octets
@@ -38,3 +39,6 @@ returns c =
       ap is_name (labels_of_spelled _ _ (spells _ _ _ _ _ p) (stays_name _ _ _ _ _ p))
           ∙ stays_name _ _ _ _ _ p,
     )
+
+pub pop-requires : goal.pop-requires
+pop-requires c = grind (arith, wire_some)

@@ -3,7 +3,7 @@ use Rattle.dns_name.proofs.WireLemmas.{labels_of_spelled, IsWireForm-wire}
 use Rattle.dns_name.proofs.name.Name.clear.Goals as goal
 
 pub invariant_of-self : goal.invariant_of-self
-invariant_of-self c = IsWireForm-wire _ [] c.put_root.ensures refl
+invariant_of-self c = IsWireForm-wire _ [] c.set_root.ensures refl
 
 pub returns : goal.returns
-returns c = labels_of_spelled _ [] c.put_root.ensures refl
+returns c = labels_of_spelled _ [] c.set_root.ensures refl

@@ -1,10 +1,10 @@
 use Rattle.dns_name.proofs.Common.{◌≡◌, arith, wire}
 use Rattle.dns_name.proofs.WireLemmas.{labels_of_spelled, IsWireForm-wire}
 use Rattle.dns_name.proofs.name.Name.copy_from.Goals as goal
-use Rattle.dns_name.proofs.name.Name.copy_from.Goals.{After-append_octets}
+use Rattle.dns_name.proofs.name.Name.copy_from.Goals.{After-append}
 
-octets_of_other : (c : After-append_octets)
-    → c.append_octets.new.octets.items ≡ wire c.args.other.now
+octets_of_other : (c : After-append)
+    → c.append.new.self ≡ wire c.args.other.now
 octets_of_other c = grind arith
 
 pub invariant_of-self : goal.invariant_of-self

@@ -1,5 +1,6 @@
 use Rattle.dns_name.proofs.Common.{◌≡◌, ◌+◌, ◌≤◌, ◌∷◌, [], ◌++◌, length, take, ◌-◌, true, ap, sym, ◌∙◌, arith, false≢true, wire, is_name, is_label, DomainName, Octets, length-wire-push, is_name-push, labels_of, IsWireForm}
 use Rattle.dns_name.proofs.WireLemmas.{labels_of_spelled, IsWireForm-wire, wire-push}
+use Rattle.dns_spec.proofs.DomainNames.WireNames.{wire_some}
 use Rattle.dns_name.proofs.name.Name.push.Goals as goal
 
 -- the octets xs of the name n become zs, by way of ys, as `push` writes a label
@@ -25,10 +26,10 @@ pub returns-then-remaining_capacity-octets-clause-fits :
 returns-then-remaining_capacity-octets-clause-fits c = grind (arith, length_more, false≢true)
 
 pushes : (c : goal.After-push-2) → Pushes c.args.self.now
-    c.args.label c.self.inside.octets.items c.pop.new.self.items c.push-2.new.self.items
+    c.args.label c.self.inside.octets c.pop.new.self c.push-2.new.self
 pushes c = grind arith
 
-fits : (c : goal.After-push-2) → length c.self.inside.octets.items + 1 + length c.args.label ≤ 255
+fits : (c : goal.After-push-2) → length c.self.inside.octets + 1 + length c.args.label ≤ 255
 fits c = let same = ap length c.octets-octets.ensures.value in omega arith
 
 pub invariant_of-self : goal.invariant_of-self
@@ -56,3 +57,6 @@ returns-clause-is_name c =
     let p = pushes c in
     let ok = stays_name _ _ _ _ _ p c.octets-octets.ensures.is_label (fits c) in
     ap is_name (labels_of_spelled _ _ (spells _ _ _ _ _ p) ok) ∙ ok
+
+pub pop-requires : goal.pop-requires
+pop-requires c = grind (arith, wire_some)
