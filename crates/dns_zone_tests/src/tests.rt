@@ -1,4 +1,3 @@
 mod building;
 mod printing;
-mod texts;
 mod walking;

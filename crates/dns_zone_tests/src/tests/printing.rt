@@ -1,16 +1,15 @@
 //! The canonical text of zones, and sinks that fail.
-ghost use Rattle.std.specs.Prelude.{◌<◌, ◌-◌, ◌^◌};
 
-use super::texts::{built, file_with};
+use crate::zone_of;
 use dns_name::Tally;
-use dns_samples_tests::{Kept, MIXED, MIXED_PRINTED, SMALL_PRINTED};
-use dns_zone::{PrintFault, print};
+use dns_samples_tests::{Kept, MIXED, MIXED_PRINTED, SMALL, SMALL_PRINTED};
+use dns_zone::{PrintFault, Zone, print};
 use std::alloc::Global;
-use std::io::Write;
+use std::process::Abort;
 use std::test::Fail;
 
 // The names of RFC 4034 6.1 in reverse, and records of one name that differ in type and in data.
-const TURNED: &[u8] = b"$TTL 60
+const TURNED: &str = "$TTL 60
 \\200.z TXT \"\"
 *.z TXT \"\"
 \\001.z TXT \"\"
@@ -29,7 +28,7 @@ A A 192.0.2.3
 @ SOA ns.other. h 1 2 3 4 5
 ";
 
-const TURNED_PRINTED: &[u8] = b"example. 60 IN SOA ns.other. h.example. 1 2 3 4 5
+const TURNED_PRINTED: &str = "example. 60 IN SOA ns.other. h.example. 1 2 3 4 5
 example. 60 IN A 192.0.2.3
 example. 60 IN NS ns.other.
 a.example. 60 IN A 192.0.2.3
@@ -46,82 +45,67 @@ z.example. 60 IN TXT \"\"
 \\200.z.example. 60 IN TXT \"\"
 ";
 
-const SHORT: &[u8] = b"@ 1 NS ns\n@ 1 SOA ns . 1 2 3 4 5\nns 1 A 192.0.2.1";
+const SHORT: &str = "@ 1 NS ns\n@ 1 SOA ns . 1 2 3 4 5\nns 1 A 192.0.2.1";
 
-const SHORT_PRINTED: &[u8] = b". 1 IN SOA ns. . 1 2 3 4 5
+const SHORT_PRINTED: &str = ". 1 IN SOA ns. . 1 2 3 4 5
 . 1 IN NS ns.
 ns. 1 IN A 192.0.2.1
 ";
 
-// The result of printing the zone of a file; `None` if it has no zone.
-fn printed<W: Write>(
-    alloc: Global,
-    origin: &[u8],
-    text: &[u8],
-    sink: &mut Tally<W>,
-) -> Result<Option<Result<(), PrintFault>>, Fail>
-    requires { sink.old.failures < 2 ^ 64 - 1 }
-{
-    match built(alloc, origin, text)? {
-        Some(Ok(zone)) => Ok(Some(print(&zone, sink))),
-        _ => Ok(None),
-    }
-}
+// The file of a zone `example.` in two parts, and its text. Printed text is printed as it is.
+const PRINTED: &[(&str, &str, &str)] = &[
+    (SMALL, "", SMALL_PRINTED),
+    // Lines that do not change the small zone.
+    (SMALL, "WWW A 192.0.2.10\n@ NS ns\n", SMALL_PRINTED),
+    (SMALL_PRINTED, "", SMALL_PRINTED),
+    (MIXED, "", MIXED_PRINTED),
+    (MIXED_PRINTED, "", MIXED_PRINTED),
+    (TURNED, "", TURNED_PRINTED),
+    (TURNED_PRINTED, "", TURNED_PRINTED),
+];
 
-// Whether the zone of a file is printed as this text.
-fn is_printed(alloc: Global, origin: &[u8], text: &[u8], wanted: &[u8]) -> Result<bool, Fail> {
+// Whether a zone is printed as this text.
+fn has_text(alloc: Global, zone: &Zone, wanted: &[u8]) -> bool {
     let mut sink = Tally::new(Vec::new(alloc));
-    let outcome = printed(alloc, origin, text, &mut sink)?;
-    let is_whole = outcome == Some(Ok(())) && sink.failures() == 0;
-    Ok(is_whole && sink.into_inner().as_slice() == wanted)
+    let is_whole = print(zone, &mut sink) == Ok(()) && sink.failures() == 0;
+    is_whole & (sink.into_inner().as_slice() == wanted)
 }
 
-// Lines that do not change the small zone.
-const SMALL_LINES: &[&[u8]] = &[b"", b"WWW A 192.0.2.10\n@ NS ns\n"];
+fn is_printed(alloc: Global, begin: &str, end: &str, wanted: &str) -> Result<bool, Fail> {
+    let zone = zone_of(alloc, b"example.", begin, end)?;
+    Ok(has_text(alloc, &zone, wanted.as_bytes()))
+}
 
 #[test]
 fn zones_printed(rt: HostRuntime) -> Result<(), Fail> {
-    let alloc = rt.alloc();
-    for &lines in SMALL_LINES {
-        let file = file_with(alloc, lines)?;
-        let wanted = SMALL_PRINTED.as_bytes();
-        assert!(rt;
-            is_printed(alloc, b"example.", &file, wanted)?,
-            "with {lines:?}"
-        );
+    for &(begin, end, wanted) in PRINTED {
+        assert!(rt; is_printed(rt.alloc(), begin, end, wanted)?, "{begin}{end}");
     }
-    let (mixed, wanted) = (MIXED.as_bytes(), MIXED_PRINTED.as_bytes());
-    assert!(rt; is_printed(alloc, b"example.", mixed, wanted)?);
-    assert!(rt; is_printed(alloc, b"example.", TURNED, TURNED_PRINTED)?);
-    assert!(rt; is_printed(alloc, b".", SHORT, SHORT_PRINTED)?);
     Ok(())
 }
 
-// Whether the canonical text of a zone `example.` is printed as it is.
-fn is_printed_again(alloc: Global, text: &[u8]) -> Result<bool, Fail> {
-    is_printed(alloc, b"example.", text, text)
-}
-
-#[test]
-fn the_printed_text_is_printed_again(rt: HostRuntime) -> Result<(), Fail> {
-    assert!(rt; is_printed_again(rt.alloc(), SMALL_PRINTED.as_bytes())?);
-    assert!(rt; is_printed_again(rt.alloc(), MIXED_PRINTED.as_bytes())?);
-    assert!(rt; is_printed_again(rt.alloc(), TURNED_PRINTED)?);
-    Ok(())
+// Whether a sink that fails after so many octets gets these, and its failure is counted.
+fn is_cut(alloc: Global, zone: &Zone, most: u32) -> bool {
+    let is_whole = most as usize == SHORT_PRINTED.len();
+    let mut sink = Tally::new(Kept::new(alloc, 1, most));
+    let outcome = print(zone, &mut sink);
+    let failures = sink.failures();
+    let device = sink.into_inner();
+    (outcome == if is_whole { Ok(()) } else { Err(PrintFault) })
+        & (failures == u64::from(!is_whole))
+        & (device.calls.has_failed() != is_whole)
+        & (Some(device.text.as_slice()) == SHORT_PRINTED.as_bytes().get(..most as usize))
 }
 
 #[test]
 fn a_sink_that_fails_after_each_octet(rt: HostRuntime) -> Result<(), Fail> {
-    for most in 0..SHORT_PRINTED.len() + 1 {
-        let whole = most == SHORT_PRINTED.len();
-        let mut sink = Tally::new(Kept::new(rt.alloc(), 1, most as u32));
-        let outcome = printed(rt.alloc(), b".", SHORT, &mut sink)?;
-        let wanted = if whole { Ok(()) } else { Err(PrintFault) };
-        assert_eq!(rt; outcome, Some(wanted), "after {most}");
-        assert_eq!(rt; sink.failures(), u64::from(!whole), "after {most}");
-        let device = sink.into_inner();
-        assert_eq!(rt; device.calls.has_failed(), !whole, "after {most}");
-        assert_eq!(rt; device.text.as_slice(), &SHORT_PRINTED[..most]);
-    }
+    let zone = zone_of(rt.alloc(), b".", SHORT, "")?;
+    check_cuts(&rt, rt.alloc(), &zone);
     Ok(())
+}
+
+fn check_cuts(rt: &impl Abort, alloc: Global, zone: &Zone) {
+    for most in 0..63 {
+        assert!(rt; is_cut(alloc, zone, most), "after {most}");
+    }
 }

@@ -1,162 +1,51 @@
 //! Walks down the names of zones.
 
-use super::texts::{zone_of, zone_with};
+use crate::zone_of;
 use dns_name::Label;
 use dns_rdata::{RType, SetView};
+use dns_samples_tests::SMALL;
 use dns_zone::{Node, Steps, Zone};
 use itoa::Buffer;
-use std::alloc::Global;
+use std::alloc::{AllocError, Global};
 use std::process::Abort;
 use std::test::Fail;
 
-// Labels, the closest to the origin first; how many of them are found; and the lowest type at the
-// last name found, or 0 if it owns nothing.
-type Walked<'a> = (&'a [&'a [u8]], usize, u16);
+// Labels, the closest to the origin first.
+type Labels<'a> = &'a [&'a [u8]];
 
-const SETS: &[(RType, &[&[u8]])] = &[
-    (RType::A, &[&[192, 0, 2, 9], &[192, 0, 2, 10]]),
-    (RType::TXT, &[b"\x00", b"\x01b"]),
-    (RType::AAAA, &[]),
-];
-
-#[test]
-fn sets_are_lent_by_their_data(rt: HostRuntime) -> Result<(), Fail> {
-    let zone = zone_with(rt.alloc(), b"www A 192.0.2.9\nwww TXT \"b\"\nwww TXT \"\"")?;
-    let mut steps = Steps::new(&zone);
-    let (_, node) = walked(&mut steps, &[b"www"])?;
-    for &(rtype, wanted) in SETS {
-        assert!(rt; has_data(&node, rtype, wanted), "{rtype:?}");
-    }
-    Ok(())
-}
-
-const WALKS: &[Walked<'static>] = &[
-    (&[], 0, 2),
-    (&[b"www"], 1, 1),
-    // Labels are compared without regard to case.
-    (&[b"SUB", b"Ns"], 2, 1),
-    // A name that owns nothing exists if a name below it owns something.
-    (&[b"ent"], 1, 0),
-    (&[b"ent", b"b"], 2, 0),
-    (&[b"ent", b"b", b"a"], 3, 1),
-    (&[b"w", b"*"], 2, 16),
-    (&[b"w", b"x"], 1, 0),
-    (&[b"nope"], 0, 2),
-    (&[b"www", b"www"], 1, 1),
-];
-
-#[test]
-fn names_are_found_label_by_label(rt: HostRuntime) -> Result<(), Fail> {
-    let zone = zone_with(rt.alloc(), b"")?;
-    check_walks(&rt, &zone, WALKS)
-}
-
-fn check_walks(rt: &impl Abort, zone: &Zone, rows: &[Walked<'_>]) -> Result<(), Fail> {
-    for (labels, found, rtype) in rows {
-        let mut steps = Steps::new(zone);
-        let (count, node) = walked(&mut steps, labels)?;
-        assert_eq!(rt; count, *found, "{labels:?}");
-        assert_eq!(rt; steps.visits() as usize, found.saturating_add(1));
-        assert_eq!(rt; lowest_type(&node), *rtype, "{labels:?}");
-        assert!(rt; steps.comparisons() <= 17);
-    }
-    Ok(())
-}
-
-#[test]
-fn targets_are_lent_in_lower_case(rt: HostRuntime) -> Result<(), Fail> {
-    let zone = zone_with(rt.alloc(), b"m MX 10 WWW.Example.\nm MX 20 www\nm TXT www")?;
-    let mut steps = Steps::new(&zone);
-    let (_, node) = walked(&mut steps, &[b"m"])?;
-    for (rtype, records, wanted) in [(RType::MX, 2, true), (RType::TXT, 1, false)] {
-        let Some(set) = node.set(rtype) else {
-            panic!(rt; "no set of {rtype:?}");
-        };
-        assert_eq!(rt; set.len(), records);
-        for i in 0..set.len() {
-            let target = set.target(i);
-            assert_eq!(rt; target.is_some(), wanted);
-            if let Some(target) = target {
-                assert_eq!(rt; target.octets(), b"\x03www\x07example\x00".as_slice());
-            }
-        }
-    }
-    Ok(())
-}
-
-#[test]
-fn the_longest_name_has_127_labels(rt: HostRuntime) -> Result<(), Fail> {
-    let mut text = Vec::new(rt.alloc());
-    text.extend_from_slice(b"@ 60 SOA a a 1 2 3 4 5\n@ 60 NS a\na 60 A 192.0.2.1\n")?;
-    for _ in 0..127_u8 {
-        text.extend_from_slice(b"a.")?;
-    }
-    text.extend_from_slice(b" 60 A 192.0.2.2\n")?;
-    let zone = zone_of(rt.alloc(), b".", text.as_slice())?;
-    let labels: [&[u8]; 128] = [b"a"; 128];
-    let mut steps = Steps::new(&zone);
-    let (count, node) = walked(&mut steps, &labels)?;
-    assert_eq!(rt; count, 127);
-    assert_eq!(rt; steps.visits(), 128);
-    assert!(rt; has_data(&node, RType::A, &[&[192, 0, 2, 2]]));
-    Ok(())
-}
-
-const CHILDREN: &[Walked<'static>] = &[
-    (&[b"ns"], 1, 1),
-    (&[b"0"], 1, 1),
-    (&[b"99995"], 1, 1),
-    (&[b"99996"], 0, 2),
-    (&[b"zz"], 0, 2),
-];
-
-#[test]
-fn a_name_has_at_most_100_000_children(rt: HostRuntime) -> Result<(), Fail> {
-    let text = file_of_children(rt.alloc())?;
-    let zone = zone_of(rt.alloc(), b"example.", text.as_slice())?;
-    check_walks(&rt, &zone, CHILDREN)
-}
-
-// A file of 100,000 records; 99,997 of them have owners of their own.
-fn file_of_children(alloc: Global) -> Result<Vec<u8>, Fail> {
-    let mut text = Vec::new(alloc);
-    text.extend_from_slice(
-        b"$TTL 60\n@ SOA ns h 1 2 3 4 5\n@ NS ns\n@ TXT \"\"\nns A 192.0.2.1\n",
-    )?;
-    for number in 0..99_996_u32 {
-        let mut digits = Buffer::new();
-        text.extend_from_slice(digits.format(number).as_bytes())?;
-        text.extend_from_slice(b" A 192.0.2.1\n")?;
-    }
-    Ok(text)
-}
+// Labels, how many of them are found, and the lowest type at the last name found, or 0 if it owns
+// nothing.
+type Walked<'a> = (Labels<'a>, u32, u16);
 
 // Walks down from the origin as far as names exist.
-fn walked<'z>(steps: &mut Steps<'z>, labels: &[&[u8]]) -> Result<(usize, Node<'z>), Fail> {
-    if steps.visits() > 1_000_000 {
-        return Err(Fail::new("many visits"));
-    }
+fn walked<'z>(zone: &'z Zone, labels: Labels<'_>) -> Option<(Steps<'z>, Node<'z>)> {
+    let mut steps = Steps::new(zone);
     let mut node = steps.apex();
-    let mut found = 0;
     'labels: for octets in labels {
-        let label = Label::new(octets).ok_or("a label")?;
-        if steps.visits() > 1_000_000 || steps.comparisons() > 1_000_000 {
-            return Err(Fail::new("many steps"));
+        let label = Label::new(octets)?;
+        if steps.visits() > 1_000 || steps.comparisons() > 1_000_000 {
+            return None;
         }
-        let Some(child) = node.down(label, steps) else {
-            return Ok((found, node));
+        let Some(child) = node.down(label, &mut steps) else {
+            return Some((steps, node));
         };
         node = child;
-        found += 1;
     }
-    Ok((found, node))
+    Some((steps, node))
 }
 
-// The lowest type at a name, or 0 if it owns nothing.
 fn lowest_type(node: &Node<'_>) -> u16 {
-    match node.first_set() {
-        Some(set) => set.rtype().0,
-        None => 0,
+    node.first_set().map_or(0, |set| set.rtype().0)
+}
+
+fn is_walked(zone: &Zone, (labels, found, rtype): Walked<'_>) -> bool {
+    match walked(zone, labels) {
+        Some((steps, node)) => {
+            (steps.visits() == found.saturating_add(1))
+                & (steps.comparisons() <= 17)
+                & (lowest_type(&node) == rtype)
+        }
+        None => false,
     }
 }
 
@@ -176,21 +65,156 @@ fn has_data(node: &Node<'_>, rtype: RType, wanted: &[&[u8]]) -> bool {
     true
 }
 
+// Whether a type has so many records, each with this target, or with none.
+fn has_targets(node: &Node<'_>, rtype: RType, count: usize, target: Option<&[u8]>) -> bool {
+    let Some(set) = node.set(rtype) else {
+        return false;
+    };
+    for i in 0..set.len() {
+        if set.target(i).map(|name| name.octets()) != target {
+            return false;
+        }
+    }
+    set.len() == count
+}
+
+// Whether the way to the target of MX record `i` begins at this name.
+fn is_hint(node: &Node<'_>, i: usize, name: &[u8]) -> bool {
+    let hint = node.hint(RType::MX, i);
+    hint.is_some_and(|hint| hint.name().octets() == name)
+}
+
+const WALKS: &[Walked<'static>] = &[
+    (&[], 0, 2),
+    (&[b"www"], 1, 1),
+    // Labels are compared without regard to case.
+    (&[b"SUB", b"Ns"], 2, 1),
+    // A name that owns nothing exists if a name below it owns something.
+    (&[b"ent"], 1, 0),
+    (&[b"ent", b"b"], 2, 0),
+    (&[b"ent", b"b", b"a"], 3, 1),
+    (&[b"w", b"*"], 2, 16),
+    (&[b"w", b"x"], 1, 0),
+    (&[b"nope"], 0, 2),
+    (&[b"www", b"www"], 1, 1),
+];
+
+// Lines that are appended to the small zone.
+const SETS: &str = "www A 192.0.2.9
+www TXT \"b\"
+www TXT \"\"
+m MX 10 WWW.Example.
+m MX 20 www
+m TXT www
+h MX 1 x.y.ent
+h MX 2 www
+h MX 3 nowhere
+";
+
+fn has_sets(zone: &Zone) -> bool {
+    let Some((_, node)) = walked(zone, &[b"www"]) else {
+        return false;
+    };
+    has_data(&node, RType::A, &[&[192, 0, 2, 9], &[192, 0, 2, 10]])
+        & has_data(&node, RType::TXT, &[b"\x00", b"\x01b"])
+        & has_data(&node, RType::AAAA, &[])
+}
+
+fn lends_targets(zone: &Zone) -> bool {
+    let Some((_, node)) = walked(zone, &[b"m"]) else {
+        return false;
+    };
+    has_targets(&node, RType::MX, 2, Some(b"\x03www\x07example\x00"))
+        & has_targets(&node, RType::TXT, 1, None)
+}
+
+// The way to a target begins at the last name on it.
+fn has_hints(zone: &Zone) -> bool {
+    let Some((_, node)) = walked(zone, &[b"h"]) else {
+        return false;
+    };
+    is_hint(&node, 0, b"\x03ent\x07example\x00")
+        & is_hint(&node, 1, b"\x03www\x07example\x00")
+        & !is_hint(&node, 2, b"\x07example\x00")
+}
+
 #[test]
-fn the_way_to_a_target_begins_at_the_last_name_on_it(rt: HostRuntime) -> Result<(), Fail> {
-    let zone = zone_with(rt.alloc(), b"m MX 1 x.y.ent\nm MX 2 www\nm MX 3 nowhere")?;
-    assert!(rt; leads_to(&zone, 0, b"\x03ent\x07example\x00")?);
-    assert!(rt; leads_to(&zone, 1, b"\x03www\x07example\x00")?);
-    assert!(rt; !leads_to(&zone, 2, b"\x07example\x00")?);
+fn names_are_found_label_by_label(rt: HostRuntime) -> Result<(), Fail> {
+    let zone = zone_of(rt.alloc(), b"example.", SMALL, SETS)?;
+    check_names(&rt, &zone);
     Ok(())
 }
 
-// Whether the way to the target of MX record `i` of the name `m` begins at `name`.
-fn leads_to(zone: &Zone, i: usize, name: &[u8]) -> Result<bool, Fail> {
-    let mut steps = Steps::new(zone);
-    let (count, node) = walked(&mut steps, &[b"m"])?;
-    Ok(match node.hint(RType::MX, i) {
-        Some(hint) => count == 1 && hint.name().octets() == name,
+fn check_names(rt: &impl Abort, zone: &Zone) {
+    check_walks(rt, zone, WALKS);
+    assert!(rt; has_sets(zone));
+    assert!(rt; lends_targets(zone));
+    assert!(rt; has_hints(zone));
+}
+
+fn check_walks(rt: &impl Abort, zone: &Zone, rows: &[Walked<'_>]) {
+    for &row in rows {
+        assert!(rt; is_walked(zone, row), "{row:?}");
+    }
+}
+
+const A: &[u8] = b"a";
+
+const TOO_MANY: &[&[u8]] = &[A; 128];
+
+// A zone with an address at a name of 127 labels.
+fn of_longest(alloc: Global) -> Result<Zone, Fail> {
+    let mut end = "a.".repeat(alloc, 127)?;
+    end.push_str(" 60 A 192.0.2.2\n")?;
+    let begin = "@ 60 SOA a a 1 2 3 4 5\n@ 60 NS a\na 60 A 192.0.2.1\n";
+    zone_of(alloc, b".", begin, end.as_str())
+}
+
+// Whether the longest name is found, with its address.
+fn has_longest(zone: &Zone) -> bool {
+    match walked(zone, TOO_MANY) {
+        Some((steps, node)) => {
+            (steps.visits() == 128) & has_data(&node, RType::A, &[&[192, 0, 2, 2]])
+        }
         None => false,
-    })
+    }
+}
+
+#[test]
+fn the_longest_name_has_127_labels(rt: HostRuntime) -> Result<(), Fail> {
+    let zone = of_longest(rt.alloc())?;
+    assert!(rt; has_longest(&zone));
+    Ok(())
+}
+
+const CHILDREN: &[Walked<'static>] = &[
+    (&[b"ns"], 1, 1),
+    (&[b"0"], 1, 1),
+    (&[b"99995"], 1, 1),
+    (&[b"99996"], 0, 2),
+    (&[b"zz"], 0, 2),
+];
+
+// Addresses of 99,996 names.
+fn addresses(alloc: Global) -> Result<String, AllocError> {
+    let mut text = String::new(alloc);
+    for number in 0..99_996_u32 {
+        text.push_str(Buffer::new().format(number))?;
+        text.push_str(" A 192.0.2.1\n")?;
+    }
+    Ok(text)
+}
+
+// The zone of 100,000 records; 99,997 of them have owners of their own.
+fn of_children(alloc: Global) -> Result<Zone, Fail> {
+    let begin = "$TTL 60\n@ SOA ns h 1 2 3 4 5\n@ NS ns\n@ TXT \"\"\nns A 192.0.2.1\n";
+    let end = addresses(alloc)?;
+    zone_of(alloc, b"example.", begin, end.as_str())
+}
+
+#[test]
+fn a_name_has_at_most_100_000_children(rt: HostRuntime) -> Result<(), Fail> {
+    let zone = of_children(rt.alloc())?;
+    check_walks(&rt, &zone, CHILDREN);
+    Ok(())
 }
