@@ -1,7 +1,6 @@
 mod costs;
-mod drafts;
+mod large;
 mod long;
-mod refusals;
 mod replies;
-mod rows;
+mod small;
 mod zones;

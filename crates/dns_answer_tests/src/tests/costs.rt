@@ -1,11 +1,11 @@
 //! The cost of answers: the nodes visited, and the labels compared.
 
-use super::replies::replied;
-use super::zones::{deep, many_servers, wide, zone};
+use super::replies::cost;
+use super::zones::{deep, many_servers, wide};
 use dns_answer::Limit;
 use dns_samples_tests::Reply;
 use dns_zone::Zone;
-use std::alloc::Global;
+use std::alloc::{AllocError, Global};
 use std::test::Fail;
 
 const OF_MANY_NAMES: Reply<'static> = Reply {
@@ -22,55 +22,51 @@ const OF_MANY_SERVERS: Reply<'static> = Reply {
     records: &[],
 };
 
-// The number of nodes that the reply visits, and of labels that it compares.
-fn costs(alloc: Global, zone: &Zone, limit: Limit, reply: &Reply<'_>) -> Result<(u32, u32), Fail> {
-    let found = replied(alloc, zone, limit, reply)?;
-    if !found.is_wanted {
-        return Err("another reply".into());
-    }
-    Ok((found.visits, found.comparisons))
-}
-
 // The question for a name of 127 labels.
-fn deep_question(alloc: Global) -> Result<Vec<u8>, Fail> {
-    let mut question = Vec::new(alloc);
-    for _ in 0..127_u8 {
-        question.extend_from_slice(b"\x01a")?;
-    }
+fn deep_question(alloc: Global) -> Result<Vec<u8>, AllocError> {
+    let mut question = b"\x01a".repeat(alloc, 127)?;
     question.extend_from_slice(b"\x00\x00\x01\x00\x01")?;
     Ok(question)
 }
 
-#[test]
-fn a_name_of_127_labels_takes_128_visits(rt: HostRuntime) -> Result<(), Fail> {
-    let question = deep_question(rt.alloc())?;
-    assert_eq!(rt; question.len(), 259);
+// The number of nodes that the reply to this question visits.
+fn deep_visits(alloc: Global, zone: &Zone, limit: Limit, question: &[u8]) -> u32 {
     let reply = Reply {
         name: "an address of a name of 127 labels",
-        question: question.as_slice(),
+        question,
         head: b"\x12\x34\x84\x00\x00\x01\x00\x01\x00\x00\x00\x00",
         records: &[b"\xc0\x0c\x00\x01\x00\x01\x00\x00\x0e\x10\x00\x04\xc0\x00\x02\x02"],
     };
-    let zone = zone(rt.alloc(), b".", &deep(rt.alloc())?)?;
-    for limit in [Limit::Udp, Limit::Tcp] {
-        let (visits, _) = costs(rt.alloc(), &zone, limit, &reply)?;
-        assert_eq!(rt; visits, 128);
-    }
+    let (visits, _) = cost(alloc, zone, limit, &reply).unwrap_or((0, 0));
+    visits
+}
+
+fn visits_128(alloc: Global, zone: &Zone, limit: Limit) -> Result<bool, AllocError> {
+    let question = deep_question(alloc)?;
+    Ok(deep_visits(alloc, zone, limit, &question) == 128)
+}
+
+#[test]
+fn a_name_of_127_labels_takes_128_visits(rt: HostRuntime) -> Result<(), Fail> {
+    let zone = deep(rt.alloc())?;
+    let is_short = visits_128(rt.alloc(), &zone, Limit::Udp)?;
+    let is_large = visits_128(rt.alloc(), &zone, Limit::Tcp)?;
+    assert!(rt; is_short && is_large);
     Ok(())
 }
 
 #[test]
 fn one_of_100_000_names_takes_17_comparisons(rt: HostRuntime) -> Result<(), Fail> {
-    let zone = zone(rt.alloc(), b"example", &wide(rt.alloc())?)?;
-    let (visits, comparisons) = costs(rt.alloc(), &zone, Limit::Udp, &OF_MANY_NAMES)?;
-    assert!(rt; visits == 2 && comparisons <= 17);
+    let zone = wide(rt.alloc())?;
+    let cost = cost(rt.alloc(), &zone, Limit::Udp, &OF_MANY_NAMES);
+    assert!(rt; cost.is_some_and(|(visits, comparisons)| visits == 2 && comparisons <= 17));
     Ok(())
 }
 
 #[test]
 fn a_referral_whose_servers_do_not_fit_seeks_none_of_them(rt: HostRuntime) -> Result<(), Fail> {
-    let zone = zone(rt.alloc(), b"example", &many_servers(rt.alloc())?)?;
-    let (visits, _) = costs(rt.alloc(), &zone, Limit::Udp, &OF_MANY_SERVERS)?;
-    assert_eq!(rt; visits, 2);
+    let zone = many_servers(rt.alloc())?;
+    let cost = cost(rt.alloc(), &zone, Limit::Udp, &OF_MANY_SERVERS);
+    assert!(rt; cost.is_some_and(|(visits, _)| visits == 2));
     Ok(())
 }

@@ -4,73 +4,107 @@ use dns_answer::{Limit, respond};
 use dns_samples_tests::{QUERY, Reply};
 use dns_zone::{Steps, Zone};
 use std::alloc::Global;
-use std::test::Fail;
+use std::process::Abort;
 
-/// Whether a reply is the one wanted, and its cost: the nodes visited and the labels compared.
-#[derive(Clone, Copy)]
-pub(super) struct Compared {
-    pub(super) is_wanted: bool,
-    pub(super) visits: u32,
-    pub(super) comparisons: u32,
+pub(super) const BOTH: &[Limit] = &[Limit::Udp, Limit::Tcp];
+
+/// A reply, empty if there is none, and its cost: the nodes visited and the labels compared.
+#[derive(Drop)]
+pub(super) struct Outcome {
+    pub(super) octets: Vec<u8>,
+    pub(super) cost: (u32, u32),
 }
 
-/// The pieces, joined.
-pub(super) fn joined(alloc: Global, pieces: &[&[u8]]) -> Result<Vec<u8>, Fail> {
-    let mut octets = Vec::new(alloc);
-    for piece in pieces {
-        octets.extend_from_slice(piece)?;
-    }
-    Ok(octets)
-}
-
-/// Compares a zone's reply to a datagram with the reply wanted, if any.
-fn compare(
-    alloc: Global,
-    zone: &Zone,
-    limit: Limit,
-    datagram: &[u8],
-    wanted: Option<&[u8]>,
-) -> Result<Compared, Fail> {
-    let mut out = vec![in alloc; 0; limit.octets()]?;
-    let mut steps = Steps::new(zone);
-    let length = respond(&mut steps, datagram, limit, &mut out);
-    let is_wanted = match (length, wanted) {
-        (None, None) => true,
-        (Some(length), Some(wanted)) => out.as_slice().get(..length) == Some(wanted),
-        _ => false,
-    };
-    Ok(Compared {
-        is_wanted,
-        visits: steps.visits(),
-        comparisons: steps.comparisons(),
-    })
-}
-
-/// Compares a zone's reply to a datagram with the reply wanted, both in pieces; no pieces mean no
-/// reply.
-pub(super) fn tried(
-    alloc: Global,
-    zone: &Zone,
-    limit: Limit,
-    sent: &[&[u8]],
-    wanted: &[&[u8]],
-) -> Result<Compared, Fail> {
-    let sent = joined(alloc, sent)?;
-    if wanted.is_empty() {
-        return compare(alloc, zone, limit, sent.as_slice(), None);
-    }
-    let wanted = joined(alloc, wanted)?;
-    compare(alloc, zone, limit, sent.as_slice(), Some(wanted.as_slice()))
-}
-
-/// Compares a zone's reply to a question with the reply wanted.
+/// A zone's reply to a datagram.
 pub(super) fn replied(
     alloc: Global,
     zone: &Zone,
     limit: Limit,
+    datagram: &[u8],
+) -> Option<Outcome> {
+    let Ok(mut octets) = vec![in alloc; 0; limit.octets()] else {
+        return None;
+    };
+    let mut steps = Steps::new(zone);
+    let length = respond(&mut steps, datagram, limit, &mut octets);
+    octets.truncate(length.unwrap_or(0));
+    let cost = (steps.visits(), steps.comparisons());
+    Some(Outcome { octets, cost })
+}
+
+/// A zone's reply to a datagram in pieces.
+pub(super) fn replied_to(
+    alloc: Global,
+    zone: &Zone,
+    limit: Limit,
+    sent: &[&[u8]],
+) -> Option<Outcome> {
+    match sent.concat(alloc) {
+        Ok(datagram) => replied(alloc, zone, limit, &datagram),
+        Err(_) => None,
+    }
+}
+
+/// Octets that are compared piece by piece: what follows the pieces so far, and whether all were
+/// the ones wanted.
+#[derive(Drop)]
+pub(super) struct Rest<'a> {
+    octets: &'a [u8],
+    are_wanted: bool,
+}
+
+impl<'a> Rest<'a> {
+    pub(super) fn of(octets: &'a [u8]) -> Rest<'a> {
+        Rest {
+            octets,
+            are_wanted: true,
+        }
+    }
+
+    pub(super) fn take(&mut self, piece: &[u8]) {
+        self.are_wanted &= self.octets.starts_with(piece);
+        self.octets = self.octets.get(piece.len()..).unwrap_or(&[]);
+    }
+
+    pub(super) fn take_all(&mut self, pieces: &[&[u8]]) {
+        for piece in pieces {
+            self.take(piece);
+        }
+    }
+
+    /// Whether the octets were the pieces, and nothing follows them.
+    pub(super) fn has_ended(&self) -> bool {
+        self.are_wanted && self.octets.is_empty()
+    }
+}
+
+/// The cost of a zone's reply to a question, if it is the one wanted.
+pub(super) fn cost(
+    alloc: Global,
+    zone: &Zone,
+    limit: Limit,
     reply: &Reply<'_>,
-) -> Result<Compared, Fail> {
-    let records = joined(alloc, reply.records)?;
-    let wanted = [reply.head, reply.question, records.as_slice()];
-    tried(alloc, zone, limit, &[QUERY, reply.question], &wanted)
+) -> Option<(u32, u32)> {
+    let replied = replied_to(alloc, zone, limit, &[QUERY, reply.question])?;
+    let mut rest = Rest::of(&replied.octets);
+    rest.take(reply.head);
+    rest.take(reply.question);
+    rest.take_all(reply.records);
+    rest.has_ended().then_some(replied.cost)
+}
+
+/// Checks the replies of a zone.
+pub(super) fn check(
+    rt: &impl Abort,
+    alloc: Global,
+    zone: &Zone,
+    limits: &[Limit],
+    replies: &[Reply<'_>],
+) {
+    for reply in replies {
+        for &limit in limits {
+            let cost = cost(alloc, zone, limit, reply);
+            assert!(rt; cost.is_some(), "{} over {limit:?}", reply.name);
+        }
+    }
 }
