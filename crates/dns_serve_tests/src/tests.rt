@@ -1,3 +1,3 @@
+mod frames;
 mod streams;
 mod turns;
-mod zones;

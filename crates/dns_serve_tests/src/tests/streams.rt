@@ -1,11 +1,12 @@
-use super::zones::{WWW, WWW_REPLY, sample};
+use super::frames::{EMPTY, LONG, REFUSED, WWW, WWW_REPLY, ZEROS};
 use dns_name::{SinkFailed, Tally};
-use dns_samples_tests::{Kept, Pieces};
+use dns_samples_tests::{Kept, Pieces, SMALL};
 use dns_serve::{Ends, StreamFault, StreamRoom, serve_stream, serve_stream_in};
 use dns_zone::Zone;
-use std::alloc::Global;
+use dns_zone_tests::zone_of;
+use std::alloc::{AllocError, Global};
 use std::cell::Cell;
-use std::io::{self, Read, Write};
+use std::io::Write;
 use std::process::Abort;
 use std::test::Fail;
 
@@ -14,7 +15,7 @@ use std::test::Fail;
 #[derive(Drop)]
 struct Left {
     answer: Result<u32, StreamFault>,
-    begun: usize,
+    begun: u32,
     written: Vec<u8>,
     unread: usize,
     has_failed: (bool, bool),
@@ -29,11 +30,11 @@ type Devices = (usize, u32, u32, bool);
 const MANY: u32 = 1_000_000;
 
 // The ends of a session that has the next message at hand after each message, or never. Its sink
-// keeps nothing. `begins` is whether a message begins next.
+// keeps nothing. They count the messages that begin.
 #[derive(Drop)]
 struct Told {
     has_arrived: bool,
-    begins: Cell<bool>,
+    begun: Cell<u32>,
 }
 
 impl<W: Write> Ends<W> for Told {
@@ -44,7 +45,7 @@ impl<W: Write> Ends<W> for Told {
     type Arrived = ();
 
     fn begin(&self, _sink: &Tally<W>, _arrived: &Option<()>) {
-        self.begins.set(true);
+        self.begun.set(self.begun.get().saturating_add(1));
     }
 
     fn arrived(&self) -> Option<()> {
@@ -59,24 +60,7 @@ impl<W: Write> Ends<W> for Told {
 fn ends_of(has_arrived: bool) -> Told {
     Told {
         has_arrived,
-        begins: Cell::new(true),
-    }
-}
-
-// A source that counts the messages that begin.
-#[derive(Drop)]
-struct Telling<'a> {
-    source: Pieces<'a>,
-    ends: &'a Told,
-    begun: usize,
-}
-
-impl Read for Telling<'_> {
-    fn read(&mut self, buf: &mut [u8]) -> io::Result<usize> {
-        if self.ends.begins.replace(false) {
-            self.begun = self.begun.saturating_add(1);
-        }
-        self.source.read(buf)
+        begun: Cell::new(0),
     }
 }
 
@@ -84,20 +68,16 @@ impl Read for Telling<'_> {
 fn session(alloc: Global, zone: &Zone, input: &[u8], most: u32, devices: Devices) -> Left {
     let (octets, reads, writes, has_arrived) = devices;
     let (mut room, ends) = (StreamRoom::new(), ends_of(has_arrived));
-    let mut source = Tally::new(Telling {
-        source: Pieces::new(input, octets, reads),
-        ends: &ends,
-        begun: 0,
-    });
+    let mut source = Tally::new(Pieces::new(input, octets, reads));
     let mut sink = Tally::new(Kept::new(alloc, octets, writes));
     let answer = serve_stream_in(zone, &mut source, &mut sink, most, &mut room, &ends);
     let failures = (source.failures(), sink.failures());
-    let (telling, sink) = (source.into_inner(), sink.into_inner());
+    let (source, sink) = (source.into_inner(), sink.into_inner());
     Left {
         answer,
-        begun: telling.begun,
-        unread: telling.source.text.len(),
-        has_failed: (telling.source.calls.has_failed(), sink.calls.has_failed()),
+        begun: ends.begun.get(),
+        unread: source.text.len(),
+        has_failed: (source.calls.has_failed(), sink.calls.has_failed()),
         failures,
         written: sink.text,
     }
@@ -116,108 +96,77 @@ fn has_ended(left: &Left, answer: Result<u32, StreamFault>, replies: &[u8]) -> b
 }
 
 // A message that gets no reply, because it is shorter than a header.
-const ABSENT: &[u8] = b"\x12\x34\x00\x00\x00\x01\x00\x00\x00\x00\x00";
-
-// The header of the reply to a message that is not a query.
-const REFUSED: &[u8] = b"\x12\x34\x80\x01\x00\x00\x00\x00\x00\x00\x00\x00";
-
-// Appends a message after its length in two octets.
-fn add_frame(octets: &mut Vec<u8>, message: &[u8]) -> Result<(), Fail> {
-    let Ok(length) = u16::try_from(message.len()) else {
-        return Err(Fail::new("a long message"));
-    };
-    octets.extend_from_slice(&length.to_be_bytes())?;
-    octets.extend_from_slice(message)?;
-    Ok(())
-}
-
-// Messages in their frames, one for each letter: `w` the query, `W` its reply, `a` a message
-// without a reply, `e` no octets, `l` the query with zeros up to 600 octets, `R` the reply to
-// that.
-fn frames(alloc: Global, letters: &str) -> Result<Vec<u8>, Fail> {
-    let mut long = Vec::new(alloc);
-    long.extend_from_slice(WWW)?;
-    long.resize(600, 0)?;
-    let mut octets = Vec::new(alloc);
-    for letter in letters.as_bytes() {
-        match letter {
-            b'w' => add_frame(&mut octets, WWW)?,
-            b'W' => add_frame(&mut octets, WWW_REPLY)?,
-            b'a' => add_frame(&mut octets, ABSENT)?,
-            b'l' => add_frame(&mut octets, long.as_slice())?,
-            b'R' => add_frame(&mut octets, REFUSED)?,
-            _ => add_frame(&mut octets, b"")?,
-        }
-    }
-    Ok(octets)
-}
+const ABSENT: &[u8] = b"\x00\x0b\x12\x34\x00\x00\x00\x01\x00\x00\x00\x00\x00";
 
 // The messages, how many to serve, how many are read, how many octets are not, and the replies.
-type Session<'a> = (&'a str, u32, u32, usize, &'a str);
+type Session<'a> = (&'a [&'a [u8]], u32, u32, usize, &'a [&'a [u8]]);
 
 const SESSIONS: &[Session<'static>] = &[
-    ("waw", 9, 3, 0, "WW"),
-    ("ww", 1, 1, 31, "W"),
-    ("w", 0, 0, 31, ""),
-    ("e", 9, 1, 0, ""),
-    ("l", 9, 1, 0, "R"),
-    ("", 9, 0, 0, ""),
+    (&[WWW, ABSENT, WWW], 9, 3, 0, &[WWW_REPLY, WWW_REPLY]),
+    (&[WWW, WWW], 1, 1, 31, &[WWW_REPLY]),
+    (&[WWW], 0, 0, 31, &[]),
+    (&[EMPTY], 9, 1, 0, &[]),
+    (&[LONG, ZEROS], 9, 1, 0, &[REFUSED]),
+    (&[], 9, 0, 0, &[]),
 ];
 
 // Whether a session in pieces of so many octets is as wanted. It finds the end of the source at the
 // beginning of a message.
-fn is_session(alloc: Global, zone: &Zone, row: Session<'_>, piece: usize) -> Result<bool, Fail> {
+fn is_session(
+    alloc: Global,
+    zone: &Zone,
+    row: Session<'_>,
+    piece: usize,
+) -> Result<bool, AllocError> {
     let (messages, most, count, unread, replies) = row;
-    let input = frames(alloc, messages)?;
-    let wanted = frames(alloc, replies)?;
+    let input = messages.concat(alloc)?;
+    let wanted = replies.concat(alloc)?;
     let left = session(alloc, zone, &input, most, (piece, MANY, MANY, true));
-    let begun = count.saturating_add(1).min(most) as usize;
+    let begun = count.saturating_add(1).min(most);
     Ok(has_ended(&left, Ok(count), &wanted) & (left.unread == unread) & (left.begun == begun))
 }
 
-#[test]
-fn messages_and_their_replies(rt: HostRuntime) -> Result<(), Fail> {
-    let zone = sample(rt.alloc())?;
-    check_sessions(&rt, rt.alloc(), &zone)
-}
-
-fn check_sessions(rt: &impl Abort, alloc: Global, zone: &Zone) -> Result<(), Fail> {
+fn check_sessions(rt: &impl Abort, alloc: Global, zone: &Zone) -> Result<(), AllocError> {
     for &row in SESSIONS {
         for piece in [1, 2, 3, 512, 100_000] {
             assert!(rt; is_session(alloc, zone, row, piece)?, "{row:?}");
         }
     }
-    let mut room = StreamRoom::new();
-    for &(messages, replies) in ROOM {
-        assert!(rt;
-            is_served(alloc, zone, &mut room, messages, replies)?,
-            "{messages}"
-        );
-    }
     Ok(())
 }
 
-// Sessions in one room, one after another: the messages, and the replies.
-const ROOM: &[(&str, &str)] = &[("wal", "WR"), ("w", "W"), ("", ""), ("lw", "RW")];
+// Sessions in one room, one after another: the messages, how many they are, and the replies.
+const ROOM: &[(&[&[u8]], u32, &[&[u8]])] = &[
+    (&[WWW, ABSENT, LONG, ZEROS], 3, &[WWW_REPLY, REFUSED]),
+    (&[WWW], 1, &[WWW_REPLY]),
+    (&[], 0, &[]),
+    (&[LONG, ZEROS, WWW], 2, &[REFUSED, WWW_REPLY]),
+];
 
 // Whether messages are served, with these replies, in a room that was used before.
 fn is_served(
     alloc: Global,
     zone: &Zone,
     room: &mut StreamRoom,
-    messages: &str,
-    replies: &str,
-) -> Result<bool, Fail> {
-    let input = frames(alloc, messages)?;
-    let wanted = frames(alloc, replies)?;
+    row: (&[&[u8]], u32, &[&[u8]]),
+) -> Result<bool, AllocError> {
+    let input = row.0.concat(alloc)?;
+    let wanted = row.2.concat(alloc)?;
     let mut source = Tally::new(input.as_slice());
     let mut sink = Tally::new(Vec::new(alloc));
     let answer = serve_stream_in(zone, &mut source, &mut sink, 9, room, &ends_of(false));
-    let is_whole = answer.map(|count| count as usize) == Ok(messages.len());
-    Ok(is_whole & (sink.into_inner() == wanted))
+    Ok((answer == Ok(row.1)) & (sink.into_inner() == wanted))
 }
 
-// A zone, messages in their frames, and the replies to them.
+fn check_room(rt: &impl Abort, alloc: Global, zone: &Zone) -> Result<(), AllocError> {
+    let mut room = StreamRoom::new();
+    for &row in ROOM {
+        assert!(rt; is_served(alloc, zone, &mut room, row)?, "{row:?}");
+    }
+    Ok(())
+}
+
+// A zone, messages, and the replies to them.
 type Asked<'a> = (&'a Zone, &'a [u8], &'a [u8]);
 
 fn front(octets: &[u8], length: usize) -> &[u8] {
@@ -227,13 +176,8 @@ fn front(octets: &[u8], length: usize) -> &[u8] {
 // Whether a session of a beginning of two messages ends inside a message, after the reply to the
 // one before.
 fn is_cut(alloc: Global, (zone, messages, replies): Asked<'_>, length: usize) -> bool {
-    let left = session(
-        alloc,
-        zone,
-        front(messages, length),
-        9,
-        (512, MANY, MANY, true),
-    );
+    let devices = (512, MANY, MANY, true);
+    let left = session(alloc, zone, front(messages, length), 9, devices);
     let written = if length < 31 { 0 } else { 47 };
     has_ended(&left, Err(StreamFault::Cut), front(replies, written))
 }
@@ -245,20 +189,7 @@ fn sends_the_last(alloc: Global, (zone, messages, replies): Asked<'_>) -> bool {
     has_ended(&left, Err(StreamFault::SinkFailed), front(replies, 47))
 }
 
-#[test]
-fn two_messages_that_are_cut(rt: HostRuntime) -> Result<(), Fail> {
-    let zone = sample(rt.alloc())?;
-    check_cuts(&rt, rt.alloc(), &zone)
-}
-
-fn check_cuts(rt: &impl Abort, alloc: Global, zone: &Zone) -> Result<(), Fail> {
-    let messages = frames(alloc, "ww")?;
-    let replies = frames(alloc, "WW")?;
-    check_lengths(rt, alloc, (zone, &messages, &replies));
-    Ok(())
-}
-
-fn check_lengths(rt: &impl Abort, alloc: Global, asked: Asked<'_>) {
+fn check_cuts(rt: &impl Abort, alloc: Global, asked: Asked<'_>) {
     for length in [1, 2, 3, 30, 32, 33, 34, 60, 61] {
         assert!(rt; is_cut(alloc, asked, length), "at {length}");
     }
@@ -300,6 +231,15 @@ fn is_unsent(left: &Left, replies: &[u8]) -> bool {
         && left.unread == if written < 47 { 44 } else { 0 }
 }
 
+fn check_calls(rt: &impl Abort, alloc: Global, asked: Asked<'_>) {
+    for most in [1, 7, 100_000] {
+        for calls in 0..200 {
+            assert!(rt; ends_at_read(alloc, asked, most, calls), "read {calls}");
+            assert!(rt; ends_at_write(alloc, asked, most, calls), "write {calls}");
+        }
+    }
+}
+
 // How many writes work, how many octets are then not read, and how many are written: replies are
 // sent after each message, even after the one without a reply.
 const SENDS: &[(u32, usize, usize)] = &[
@@ -322,7 +262,7 @@ fn ends_at_send(
 }
 
 // Whether a sink that takes nothing is asked once, after the first message was read.
-fn takes_nothing(alloc: Global, zone: &Zone, messages: &[u8]) -> bool {
+fn takes_nothing(alloc: Global, (zone, messages, _): Asked<'_>) -> bool {
     let mut source = Tally::new(messages);
     let mut sink = Tally::new(Kept::new(alloc, 0, 9));
     let answer = serve_stream(zone, &mut source, &mut sink, 9);
@@ -331,32 +271,28 @@ fn takes_nothing(alloc: Global, zone: &Zone, messages: &[u8]) -> bool {
     (answer, failures, left, unread) == (Err(StreamFault::SinkFailed), 1, 8, 44)
 }
 
-#[test]
-fn each_call_fails_in_turn(rt: HostRuntime) -> Result<(), Fail> {
-    let zone = sample(rt.alloc())?;
-    check_failures(&rt, rt.alloc(), &zone)
-}
-
-fn check_failures(rt: &impl Abort, alloc: Global, zone: &Zone) -> Result<(), Fail> {
-    let messages = frames(alloc, "waw")?;
-    let replies = frames(alloc, "WW")?;
-    check_calls(rt, alloc, (zone, &messages, &replies));
-    check_sends(rt, alloc, (zone, &messages, &replies));
-    Ok(())
-}
-
 fn check_sends(rt: &impl Abort, alloc: Global, asked: Asked<'_>) {
     for &row in SENDS {
         assert!(rt; ends_at_send(alloc, asked, row), "at {row:?}");
     }
-    assert!(rt; takes_nothing(alloc, asked.0, asked.1));
+    assert!(rt; takes_nothing(alloc, asked));
 }
 
-fn check_calls(rt: &impl Abort, alloc: Global, asked: Asked<'_>) {
-    for most in [1, 7, 100_000] {
-        for calls in 0..200 {
-            assert!(rt; ends_at_read(alloc, asked, most, calls), "read {calls}");
-            assert!(rt; ends_at_write(alloc, asked, most, calls), "write {calls}");
-        }
-    }
+fn check_failures(rt: &impl Abort, alloc: Global, zone: &Zone) -> Result<(), AllocError> {
+    let two = [WWW, WWW].concat(alloc)?;
+    let three = [WWW, ABSENT, WWW].concat(alloc)?;
+    let replies = [WWW_REPLY, WWW_REPLY].concat(alloc)?;
+    check_cuts(rt, alloc, (zone, &two, &replies));
+    check_calls(rt, alloc, (zone, &three, &replies));
+    check_sends(rt, alloc, (zone, &three, &replies));
+    Ok(())
+}
+
+#[test]
+fn messages_and_their_replies(rt: HostRuntime) -> Result<(), Fail> {
+    let zone = zone_of(rt.alloc(), b"example", SMALL, "")?;
+    check_sessions(&rt, rt.alloc(), &zone)?;
+    check_room(&rt, rt.alloc(), &zone)?;
+    check_failures(&rt, rt.alloc(), &zone)?;
+    Ok(())
 }

@@ -1,54 +1,65 @@
-use super::zones::{WWW, WWW_REPLY, sample};
+use super::frames::{EMPTY, LONG, REFUSED, WWW, WWW_REPLY, ZEROS};
 use crate::Mailbox;
 use dns_answer::UdpDraft;
+use dns_samples_tests::SMALL;
 use dns_serve::{Datagrams, TurnFault, udp_turn, udp_turn_in};
 use dns_zone::Zone;
+use dns_zone_tests::zone_of;
 use std::alloc::Global;
 use std::process::Abort;
 use std::test::Fail;
 
-#[test]
-fn a_datagram_and_its_reply(rt: HostRuntime) -> Result<(), Fail> {
-    let zone = sample(rt.alloc())?;
-    let mut long = Vec::new(rt.alloc());
-    long.extend_from_slice(WWW)?;
-    long.resize(600, 0)?;
-    check_replies(&rt, rt.alloc(), &zone, &long);
-    check_failures(&rt, rt.alloc(), &zone);
-    Ok(())
-}
-
-// Datagrams, whether each gets a reply, and the reply. The last datagram is longer.
-const DATAGRAMS: &[(&[u8], bool, &[u8])] = &[
-    (WWW, true, WWW_REPLY),
-    (b"", false, b""),
-    (WWW_REPLY, false, b""),
+// A datagram and its reply, each after a length. An empty reply is not sent.
+const DATAGRAMS: &[(&[&[u8]], &[u8])] = &[
+    (&[WWW], WWW_REPLY),
+    (&[EMPTY], EMPTY),
+    (&[WWW_REPLY], EMPTY),
+    (&[LONG, ZEROS], REFUSED),
 ];
 
-const FORMAT_ERROR: &[u8] = b"\x12\x34\x80\x01\x00\x00\x00\x00\x00\x00\x00\x00";
+// A message without its length.
+fn message(octets: &[u8]) -> &[u8] {
+    octets.get(2..).unwrap_or(&[])
+}
 
-fn check_replies(rt: &impl Abort, alloc: Global, zone: &Zone, long: &[u8]) {
-    let (mut room, mut draft) = ([0; 512], UdpDraft::new());
-    for &(datagram, replied, reply) in DATAGRAMS {
-        let mut mailbox = Mailbox::new(alloc, datagram, 9);
-        let turn = udp_turn_in(zone, &mut mailbox, &mut room, &mut draft);
-        assert!(rt;
-            turn == Ok(replied) && has_sent(&mailbox, replied, reply),
-            "{reply:?}"
-        );
+/// Room that is used for one turn after another.
+#[derive(Drop)]
+struct Room {
+    octets: [u8; 512],
+    draft: UdpDraft,
+}
+
+// Whether a turn sends this reply, or none, and no call fails.
+fn is_answered(
+    alloc: Global,
+    zone: &Zone,
+    room: &mut Room,
+    datagram: &[&[u8]],
+    reply: &[u8],
+) -> bool {
+    let Ok(datagram) = datagram.concat(alloc) else {
+        return false;
+    };
+    let mut mailbox = Mailbox::new(alloc, message(&datagram), 9);
+    let turn = udp_turn_in(zone, &mut mailbox, &mut room.octets, &mut room.draft);
+    (turn == Ok(reply != EMPTY))
+        & (mailbox.replies.as_slice() == message(reply))
+        & (mailbox.sends == u32::from(reply != EMPTY))
+        & (mailbox.failures() == 0)
+}
+
+fn check_replies(rt: &impl Abort, alloc: Global, zone: &Zone) {
+    let mut room = Room {
+        octets: [0; 512],
+        draft: UdpDraft::new(),
+    };
+    for &(datagram, reply) in DATAGRAMS {
+        let is_answered = is_answered(alloc, zone, &mut room, datagram, reply);
+        assert!(rt; is_answered, "{reply:?}");
     }
-    let mut mailbox = Mailbox::new(alloc, long, 9);
-    let turn = udp_turn_in(zone, &mut mailbox, &mut room, &mut draft);
-    assert!(rt; turn == Ok(true) && has_sent(&mailbox, true, FORMAT_ERROR));
 }
 
-// Whether a device has sent this reply, or none, and no call failed.
-fn has_sent(mailbox: &Mailbox<'_>, replied: bool, reply: &[u8]) -> bool {
-    mailbox.replies.as_slice() == reply
-        && mailbox.sends == u32::from(replied)
-        && mailbox.failures() == 0
-}
-
+// Which call fails, the result of the turn, and how many calls are made.
 const FAILURES: &[(u32, Result<bool, TurnFault>, u32)] = &[
     (0, Err(TurnFault::ReceiveFailed), 1),
     (1, Err(TurnFault::SendFailed), 2),
@@ -63,15 +74,24 @@ fn ends_so(
     wanted: Result<bool, TurnFault>,
     calls: u32,
 ) -> bool {
-    let mut mailbox = Mailbox::new(alloc, WWW, fails_at);
-    udp_turn(zone, &mut mailbox) == wanted
-        && mailbox.calls == calls
-        && mailbox.failures() == u64::from(wanted.is_err())
-        && mailbox.sends == u32::from(wanted.is_ok())
+    let mut mailbox = Mailbox::new(alloc, message(WWW), fails_at);
+    let turn = udp_turn(zone, &mut mailbox);
+    (turn == wanted)
+        & (mailbox.calls == calls)
+        & (mailbox.failures() == u64::from(wanted.is_err()))
+        & (mailbox.sends == u32::from(wanted.is_ok()))
 }
 
 fn check_failures(rt: &impl Abort, alloc: Global, zone: &Zone) {
     for &(fails_at, wanted, calls) in FAILURES {
         assert!(rt; ends_so(alloc, zone, fails_at, wanted, calls), "{wanted:?}");
     }
+}
+
+#[test]
+fn a_datagram_and_its_reply(rt: HostRuntime) -> Result<(), Fail> {
+    let zone = zone_of(rt.alloc(), b"example", SMALL, "")?;
+    check_replies(&rt, rt.alloc(), &zone);
+    check_failures(&rt, rt.alloc(), &zone);
+    Ok(())
 }
