@@ -1,3 +1,5 @@
+//! Zones made of the text of files.
+
 use dns_master::read_zone;
 use dns_name::{Name, Tally};
 use dns_zone::{BuildFault, Zone};
