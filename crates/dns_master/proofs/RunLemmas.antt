@@ -2,6 +2,8 @@
 use Rattle.dns_master.proofs.Common.{get_or, ◌≡◌, ℕ, zero, suc, sym, cond, ◌+◌, ◌≤◌, ◌<◌, Bool, true, false, [], ◌∷◌, length, take, drop, refl, ◌∙◌, ap, arith, Option, None, Some, ◌==◌, nat_eq, MatchOption, list_all, position, position_or_len, prefix_len, unwrap_or, and_parts, ltb-false, none-some, same_Some, prefix_len-le-length, Octets, is_blank, escape_left, unit_left, run_length, is_word_octet, is_string_octet, pointwise, same_text, drop_all, drop-drop, at_drop_more, counted_escape, escape-counted, by_itself, RunKind}
 use Rattle.dns_master.specs.declared.run.RunKind.TheVariants.{Word as WordRun, String as StringRun}
 use Rattle.dns_spec.proofs.DataWords.BareWords.{no_backslash}
+use Rattle.dns_spec.proofs.ZoneTexts.ReadWords.{front_taken}
+use Rattle.dns_spec.specs.ZoneText.{token_front, word}
 use Rattle.std.proofs.lemmas.List.Folds.{prefix_len-append}
 use Rattle.std.proofs.lemmas.List.Sums.{prefix_len_stops}
 use Rattle.dns_spec.proofs.Common.{◌++◌, not}
@@ -192,3 +194,11 @@ module _ (text : Octets) where
   word-stops h e =
       let none = here-end WordRun text count h (prefix_len_stops is_word_octet text 0 h) e in
       omega (arith, on, none)
+
+-- a text that begins with a word octet begins with a word
+pub word_first : (o : ℕ) (text : Octets) → is_word_octet o ≡ true
+    → token_front (o ∷ text) ≡ Some (
+      word (take (run_length is_word_octet 0 (o ∷ text)) (o ∷ text)),
+      drop (run_length is_word_octet 0 (o ∷ text)) (o ∷ text),
+    )
+word_first o text h = grind (arith, run-itself, no-backslash, front_taken)

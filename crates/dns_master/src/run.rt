@@ -78,9 +78,9 @@ impl RunKind {
         place
     }
 
-    // Whether an octet may appear in the run unescaped.
+    /// Whether an octet may appear in the run unescaped.
     #[inline(always)]
-    fn has(self, octet: u8) -> bool
+    pub(crate) fn has(self, octet: u8) -> bool
         ensures { result ≡ by_itself self octet }
     {
         let least = match self {
@@ -177,7 +177,7 @@ pub(crate) fn after_blanks(text: &[u8]) -> &[u8]
 {
     match text {
         [first, others @ ..] if is_blank(*first) => match others.first() {
-            Some(next) if is_blank(*next) => after_run(others),
+            Some(next) if *next <= b' ' => after_run(others),
             _ => others,
         },
         _ => text,
