@@ -88,7 +88,7 @@ docs-check: built
 
 test:
 	tools/files --check
-	RT_JOBS=$$(tools/lanes) rt ci
+	rt ci
 
 # Tries the edits that the gate leaves out: the check has to refuse each. It is not in the gate.
 edits:

@@ -11,7 +11,9 @@ pub(crate) const MAX_OCTETS: usize = 255;
 /// up, which would take a tenth of the time of spelling a name.
 #[derive(Drop)]
 pub(crate) struct NameOctets {
+    /// Their place. What it contains after the first `count` octets means nothing.
     pub(crate) all: [u8; MAX_OCTETS],
+    /// Their number.
     pub(crate) count: usize,
 }
 
@@ -93,7 +95,8 @@ impl NameOctets {
         self.count = end;
     }
 
-    /// Converts letters to lower case.
+    /// Converts letters to lower case. In a wire form only letters change: a length is at most 63,
+    /// and letters begin at 65.
     pub(crate) fn lower(&mut self)
         ensures { self.new ≡ map to_ascii_lowercase self.old }
     {

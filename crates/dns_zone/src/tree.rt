@@ -35,23 +35,26 @@ use std::alloc::{AllocError, Global};
 pub(crate) struct Tree {
     pub(crate) zone: CheckedZone,
     pub(crate) rows: SharedSlice<Row>,
-    pub(crate) bounds: SharedSlice<usize>,
+    pub(crate) bounds: SharedSlice<u32>,
     /// For each record the row of its hint, or 0 if it has none.
-    pub(crate) hints: SharedSlice<usize>,
+    pub(crate) hints: SharedSlice<u32>,
 }
 
 /// The rows of all names of a zone, and for each row the number of its first child. A row's
-/// children end where the next row's begin. Takes 40 octets of memory for each name.
+/// children end where the next row's begin. Takes 36 octets of memory for each name.
 pub(crate) fn rows_of(
     alloc: Global,
     origin: &NameRef<'_>,
     records: &[StoredRecord],
-) -> Result<(SharedSlice<Row>, SharedSlice<usize>), AllocError>
+) -> Result<(SharedSlice<Row>, SharedSlice<u32>), AllocError>
     requires { IsBuilt (record { origin = origin.now; records = records.now }) }
     ensures { IfOk result (λ (rows, bounds). IsTree origin.now records.now rows bounds) }
 {
-    let mut rows = Vec::new(alloc);
-    let mut bounds = Vec::new(alloc);
+    // Room for the names of most zones: a list that grows is copied, and room that is not used
+    // takes no memory.
+    let most = 2 * records.len();
+    let mut rows = Vec::with_capacity(alloc, most)?;
+    let mut bounds = Vec::with_capacity(alloc, most)?;
     // All records of a zone are at or below the origin.
     rows.push(Row::of(records, origin, 0, records.len()))?;
     bounds.push(1)?;
@@ -60,9 +63,16 @@ pub(crate) fn rows_of(
             break;
         }
         add_kids(records, number, &mut rows)?;
-        bounds.push(rows.len())?;
+        bounds.push(to_u32(rows.len())?)?;
     }
     Ok((SharedSlice::new(rows), SharedSlice::new(bounds)))
+}
+
+// A number of rows in four octets. It always fits, because more rows would take over 128 GB.
+pub(crate) fn to_u32(rows: usize) -> Result<u32, AllocError>
+    ensures { IfOk result (λ number. number ≡ rows) }
+{
+    u32::try_from(rows).ok().ok_or(AllocError)
 }
 
 // Adds the rows of a row's children after all other rows.

@@ -111,7 +111,7 @@ impl Zone {
 
     /// Prepares a checked zone for serving: makes a tree of its names, and stores for each target
     /// the last existing name on the way to it, so that an alias to a name of many labels costs a
-    /// query no more than one to a short name. Takes 40 octets of memory for each name and 12 for
+    /// query no more than one to a short name. Takes 36 octets of memory for each name and 8 for
     /// each record.
     pub fn of(alloc: Global, zone: CheckedZone) -> Result<Zone, AllocError>
         ensures { IfOk result (λ whole. whole ≡ zone) }

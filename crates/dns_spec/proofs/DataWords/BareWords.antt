@@ -1,7 +1,6 @@
 -- What is written for numbers, addresses, names and strings contains no octet that ends the word.
-use Rattle.dns_spec.proofs.Common.{◌≡◌, ℕ, ◌+◌, ◌<◌, ◌^◌, Bool, true, false, List, [], ◌∷◌, ◌++◌, map, refl, arith, append_assoc, decimal, rules, agree_below_at, and_from, decimal_is_IsNumeral, flat_map, join_with_byte, AllDigits, Octets, DomainName, is_special, three_digits, octet_text, label_text, labels_text, ipv4_text, is_word_octet, is_ascii_graphic, digit_char, string_octet_text, is_unbroken, is_quotable, AllByRecursion, ◌==◌, cases_Bool, inl, true≢false, eqb-true, inr}
+use Rattle.dns_spec.proofs.Common.{◌≡◌, ℕ, ◌+◌, ◌<◌, ◌^◌, Bool, true, false, List, [], ◌∷◌, ◌++◌, map, refl, arith, append_assoc, decimal, rules, agree_below_at, decimal_is_IsNumeral, flat_map, join_with_byte, AllDigits, Octets, DomainName, is_special, three_digits, octet_text, label_text, labels_text, ipv4_text, is_word_octet, is_ascii_graphic, digit_char, string_octet_text, is_unbroken, is_quotable, AllByRecursion, ◌==◌, cases_Bool, inl, true≢false, eqb-true, inr}
 use Rattle.dns_spec.proofs.DomainNames.SmallOctets.{Small, small_head, small_tail}
-use Rattle.dns_spec.proofs.General.Truths.{follows}
 
 -- octets that do not end a word
 abbrev pub Bare : Octets → Type 0

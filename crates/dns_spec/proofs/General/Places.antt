@@ -1,5 +1,5 @@
 -- What is at a place of a list.
-use Rattle.dns_spec.proofs.Common.{◌≡◌, List, Some, [], ap, arith, drop, length, none-some, refl, same_Some, slice_get, slice_get-get_or, suc, sym, take, take-append-le, zero, ℕ, ◌++◌, ◌+◌, ◌<◌, ◌∙◌, ◌∷◌, ◌≤◌}
+use Rattle.dns_spec.proofs.Common.{◌≡◌, List, Some, [], ap, arith, drop, length, none-some, refl, same_Some, slice_get, suc, take, take-append-le, zero, ℕ, ◌++◌, ◌+◌, ◌<◌, ◌∷◌, ◌≤◌}
 
 -- an element at a place stays, whatever follows
 pub get_more : {A : Type 0} (xs ys : List A) (i : ℕ) (x : A)

@@ -1,5 +1,5 @@
 -- Every text consists of tokens, up to a place where none begins.
-use Rattle.dns_spec.proofs.Common.{◌≡◌, ℕ, zero, suc, ◌<◌, List, [], ◌∷◌, length, drop, take, refl, sym, subst, arith, Option, Some, None, ◌==◌, ⊤, if◌then◌else◌, MatchOption, Octets, Token, word, closed, token_front, TokensThen, length-drop, false, Extent, EntriesOf, with_end, cut_entries, ◌++◌}
+use Rattle.dns_spec.proofs.Common.{◌≡◌, ℕ, zero, suc, ◌<◌, List, [], ◌∷◌, length, refl, sym, subst, arith, Option, Some, None, ⊤, MatchOption, Octets, Token, closed, token_front, TokensThen, length-drop, false, Extent, EntriesOf, with_end, cut_entries, ◌++◌}
 
 -- what follows the token is shorter than n octets
 Shorter : ℕ → Option (Token × Octets) → Type 0

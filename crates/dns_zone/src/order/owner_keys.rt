@@ -27,7 +27,9 @@ pub(crate) struct OwnerKeys {
     pub(crate) numbers: Vec<u32>,
 }
 
-/// The keys of the owners, and the runs of records of one owner in the order of the records.
+/// The keys of the owners, and the runs of records of one owner in the order of the records. Takes
+/// the octets of the owners, 28 octets of memory for each record, and 4 more if the file's order
+/// is kept.
 #[tactic(auto, using(crate::proofs::SearchSteps::wire_steps))]
 pub(crate) fn keys_of<'a>(
     alloc: Global,
@@ -82,8 +84,8 @@ fn numbers_of(alloc: Global, records: &[StoredRecord]) -> Result<Vec<u32>, Alloc
     in_turn(alloc, records.len() as u32)
 }
 
-/// The numbers below `count`, in order.
-pub(crate) fn in_turn(alloc: Global, count: u32) -> Result<Vec<u32>, AllocError> {
+// The numbers below `count`, in order.
+fn in_turn(alloc: Global, count: u32) -> Result<Vec<u32>, AllocError> {
     let mut numbers = Vec::with_capacity(alloc, count as usize)?;
     'numbers: for number in 0..count {
         numbers.push(number)?;

@@ -5,24 +5,24 @@ ghost use Rattle.dns_zone.specs.Nodes.{hint_of};
 ghost use Rattle.dns_zone.specs.NodeForm.{IsNameTree, IsRowOf, AreHints};
 
 use crate::checks::target::target;
-use crate::order::owner_keys::in_turn;
 use crate::store::stored::StoredRecord;
-use crate::tree::Tree;
 use crate::tree::way::Way;
+use crate::tree::{Tree, to_u32};
 use dns_rdata::RType;
 use std::alloc::{AllocError, Global};
 
 // A hint that is not known yet.
-const UNKNOWN: usize = usize::MAX;
+const UNKNOWN: u32 = u32::MAX;
 
 /// For each record, the row of the last existing name on the way to its target; 0 if it has no
 /// target, if the target is outside the zone, or if that name is the origin. The way of an alias
-/// ends before a cut. Takes 12 octets of memory for each record.
+/// ends before a cut. Takes 4 octets of memory for each record, and 4 more until it returns if the
+/// order of the file is known.
 ///
 /// Targets are visited in the order of the file. There, a target of many labels is short only if
 /// it shares its ending with the target before, so the steps of the walk are bounded by the labels
 /// that are written in the file.
-pub(crate) fn hints_of(alloc: Global, tree: &Tree) -> Result<Vec<usize>, AllocError>
+pub(crate) fn hints_of(alloc: Global, tree: &Tree) -> Result<Vec<u32>, AllocError>
     requires { IsNameTree tree.now }
     ensures { IfOk result (λ hints. AreHints tree.now.zone tree.now.rows hints.items) }
 {
@@ -37,13 +37,13 @@ pub(crate) fn hints_of(alloc: Global, tree: &Tree) -> Result<Vec<usize>, AllocEr
         if place >= hints.len() {
             continue;
         }
-        hints[place] = find_hint(&records[place], &mut way, &mut way_of_aliases);
+        hints[place] = to_u32(find_hint(&records[place], &mut way, &mut way_of_aliases))?;
     }
     'records: for place in 0..hints.len() {
         if hints[place] != UNKNOWN {
             continue;
         }
-        hints[place] = find_hint(&records[place], &mut way, &mut way_of_aliases);
+        hints[place] = to_u32(find_hint(&records[place], &mut way, &mut way_of_aliases))?;
     }
     Ok(hints)
 }
@@ -67,8 +67,8 @@ fn find_hint<'z>(entry: &'z StoredRecord, way: &mut Way<'z>, way_of_aliases: &mu
     way.hint_to(&target)
 }
 
-// The places of the records in the order of the file, or in their own order if the file's is
-// unknown. The numbers of removed duplicates have no place.
+// The places of the records in the order of the file, as far as `numbers` has it. The numbers of
+// removed duplicates have no place.
 fn places_in_file(
     alloc: Global,
     numbers: &[u32],
@@ -76,9 +76,6 @@ fn places_in_file(
 ) -> Result<Vec<u32>, AllocError>
     requires { length records.now ≤ most_records }
 {
-    if numbers.is_empty() {
-        return in_turn(alloc, records.len() as u32);
-    }
     let most = numbers.iter().fold(0, |most, number| most.max(*number));
     let mut places = Vec::new(alloc);
     places.resize(most as usize + 1, u32::MAX)?;

@@ -44,12 +44,12 @@ impl<'z> Kids<'z> {
         ensures { result ≡ record { tree = tree.now; row = row.0 } }
     {
         let bounds = tree.bounds.lent();
-        let start = bounds[row.0];
+        let start = bounds[row.0] as usize;
         Kids {
             tree,
             parent: row,
             start,
-            rows: &tree.rows.lent()[start..bounds[row.0 + 1]],
+            rows: &tree.rows.lent()[start..bounds[row.0 + 1] as usize],
         }
     }
 

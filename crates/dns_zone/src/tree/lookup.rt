@@ -21,16 +21,17 @@ pub(crate) fn count_under(records: &[StoredRecord], name: &NameRef<'_>) -> usize
     requires lower { folded name.now ≡ name.now }
     ensures { IsFront (λ (r : ResourceRecord). at_or_below r.owner name.now) records.now result }
 {
-    // Most names have no name below them. If a name is the only child of its parent, all of these
-    // records are at or below it.
+    // If a name is the only child of its parent, all of these records are at or below it. This is
+    // asked first, since a name of many labels may have many such names above it. Of the others,
+    // most have no name below them.
     let (Some(first), Some(last)) = (records.first(), records.last()) else {
         return 0;
     };
-    if !is_under(first, name) {
-        return 0;
-    }
     if is_under(last, name) {
         return records.len();
+    }
+    if !is_under(first, name) {
+        return 0;
     }
     records.partition_point(|entry| is_under(entry, name))
 }

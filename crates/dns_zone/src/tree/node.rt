@@ -122,7 +122,7 @@ impl<'z> Node<'z> {
             return None;
         }
         Some(TargetHint {
-            node: Node::at(self.tree, RowNumber(hint)),
+            node: Node::at(self.tree, RowNumber(hint as usize)),
         })
     }
 

@@ -26,9 +26,9 @@ rows-init c =
     let rs = c.args.records.now in
     let r = c.of.result in
     let rows : c.push.new.self.items ≡ r ∷ [] =
-    c.in_ok-push.ensures.items ∙ ap (λ (xs : List Row). xs ++ r ∷ []) c.new-rows.ensures.items in
+    c.in_ok-push.ensures.items ∙ ap (λ (xs : List Row). xs ++ r ∷ []) c.in_ok-rows.ensures.items in
     let bounds : c.push-2.new.self.items ≡ 1 ∷ [] =
-    c.in_ok-push-2.ensures.items ∙ ap (λ (xs : List ℕ). xs ++ 1 ∷ []) c.new-bounds.ensures.items
+    c.in_ok-push-2.ensures.items ∙ ap (λ (xs : List ℕ). xs ++ 1 ∷ []) c.in_ok-bounds.ensures.items
     in
     subst (λ (xs : List Row). Growing o rs xs c.push-2.new.self.items 0) (sym rows)
     (subst (λ (xs : List ℕ). Growing o rs (r ∷ []) xs 0) (sym bounds)
@@ -52,5 +52,6 @@ rows-preserved c =
     other_than i (length rows) c.rows.invariant.upto
     (λ e. c.if-number-len.false (sym e ∙ sym count)) in
     subst (λ (bs : List ℕ). Growing o rs rows' bs (i + 1))
-    (sym (c.in_ok-push-3.ensures.items ∙ ap (λ (k : ℕ). c.rows.bounds.items ++ k ∷ []) count'))
+    (sym (c.in_ok-push-3.ensures.items
+    ∙ ap (λ (k : ℕ). c.rows.bounds.items ++ k ∷ []) (c.in_ok-to_u32.ensures ∙ count')))
     (advance o rs rows c.rows.bounds.items i c.rows.invariant less rows' c.in_ok-add_kids.ensures)

@@ -11,7 +11,7 @@ places-preserved c =
     let inside : place < length c.places.hints.items =
     omega (arith, c.if-place-len.false, c.len.ensures) in
     let r = c.index-records-place.result in
-    let k = c.find_hint.result in
+    let k = c.in_ok-hints.field-0 in
     record {
       way = c.find_hint.ensures.way ∙ inv.way;
       aliases = c.find_hint.ensures.aliases ∙ inv.aliases;
@@ -21,7 +21,7 @@ places-preserved c =
           (c.index-records-place.is
           ∙ ap (λ rs. get_or rs place r) c.records-records.ensures.records)
           (subst (λ (v : TargetWay). IsRowOf v.tree.zone v.tree.rows (hint_of v.tree.zone r) k)
-          inv.way c.find_hint.ensures.hint);
+          inv.way (rw c.in_ok-hints.ensures c.find_hint.ensures.hint));
       count = length-set c.places.hints.items place k ∙ inv.count;
     }
 
@@ -33,7 +33,7 @@ records-preserved c =
     let size = ap length c.records-records.ensures.records in
     let inside : place < length c.records.hints.items = search rules in
     let r = c.index-records-place-in-records.result in
-    let k = c.find_hint-in-records.result in
+    let k = c.in_ok-hints-2.field-0 in
     record {
       way = c.find_hint-in-records.ensures.way ∙ inv.way;
       aliases = c.find_hint-in-records.ensures.aliases ∙ inv.aliases;
@@ -43,6 +43,6 @@ records-preserved c =
           (c.index-records-place-in-records.is
           ∙ ap (λ rs. get_or rs place r) c.records-records.ensures.records)
           (subst (λ (v : TargetWay). IsRowOf v.tree.zone v.tree.rows (hint_of v.tree.zone r) k)
-          inv.way c.find_hint-in-records.ensures.hint);
+          inv.way (rw c.in_ok-hints-2.ensures c.find_hint-in-records.ensures.hint));
       count = length-set c.records.hints.items place k ∙ inv.count;
     }

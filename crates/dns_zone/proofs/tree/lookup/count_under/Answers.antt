@@ -37,7 +37,7 @@ returns-then-is_under c =
     search rules in
     all_in_front _ rs
     (λ d. ap (λ (r : ResourceRecord). at_or_below r.owner c.args.name.now) (last d)
-    ∙ sym c.is_under-2.ensures ∙ c.if-is_under.true) c.requires.in_front
+    ∙ sym c.is_under.ensures ∙ c.if-is_under.true) c.requires.in_front
 
 pub returns : goal.returns
 returns c =
