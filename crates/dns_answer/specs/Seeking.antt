@@ -49,15 +49,15 @@ pub record Seeks (w w' : State) (s s' : Walk) (t : ℕ) (before : List DomainNam
   pub says : Says w w' (chain_rest s.zone t (aliases_left before) before n) v
   pub took : TookRest s s' (chain_rest s.zone t (aliases_left before) before n)
 
--- the name has an alias that is followed
+-- the name is an alias that is followed
 abbrev pub leads_on : ZoneContents → ℕ → DomainName → Bool
 leads_on z t n = follows_alias t && has_any (alias_set z n)
 
--- If the answer is a referral, `led` says whether the name n has an alias that is followed.
+-- If the answer is a referral, `led` says whether the name n is an alias that is followed.
 abbrev pub Followed : ZoneContents → ℕ → DomainName → Verdict → Bool → Type 0
 Followed z t s v led = v.is_referral ≡ true → led ≡ leads_on z t s
 
--- The name is the last one sought; if it ends in a referral, it has no alias that is followed.
+-- The name is the last one sought; if it ends in a referral, it is no alias that is followed.
 pub record IsLast (w w' : State) (s s' : Walk) (t : ℕ) (before : List DomainName) (n : DomainName)
     (v : Verdict) : Type 0 where
   pub seeks : Seeks w w' s s' t before n v
@@ -70,7 +70,7 @@ Completes w w' s s' t before before' n m =
     (last : State) (end : Walk) (v : Verdict) → Seeks w' last s' end t before' m v
     → Seeks w last s end t before n v
 
--- The name n has an alias, which leads to the name m.
+-- The name n is an alias of m, and m may be sought next.
 pub record LeadsTo (w w' : State) (s s' : Walk) (t : ℕ) (top : ZoneNode) (earlier : List Sought)
     (n m : Sought) (l : Option ZoneNode) : Type 0 where
   pub more : length earlier < most_aliases
@@ -79,6 +79,7 @@ pub record LeadsTo (w w' : State) (s s' : Walk) (t : ℕ) (top : ZoneNode) (earl
   pub completes : Completes w w' s s' t (names_of earlier) (names_of (earlier ++ n ∷ [])) n.name
       m.name
 
+-- What the result of seeking the name n states: n is the last name sought, or an alias of m.
 abbrev pub SoughtAs : State → State → Walk → Walk → ℕ → ZoneNode → List Sought → Sought → Next
     → Type 0
 SoughtAs w w' s s' t top earlier n (nexts.Last v) =

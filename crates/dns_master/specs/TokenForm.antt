@@ -1,4 +1,4 @@
--- The code's runs and tokens as the definitions' runs and tokens.
+-- How the code's runs and tokens correspond to those of the definitions.
 use Rattle.std.specs.Prelude.{◌≡◌, ℕ, Bool, Option, Some, None}
 use Rattle.std.specs.Borrow.{Bor}
 use Rattle.dns_spec.specs.Names.{Octets}

@@ -12,8 +12,8 @@ use arrayvec::ArrayVec;
 pub(crate) const MOST_IPV6_OCTETS: usize = 39;
 
 /// The text of an IPv6 address, such as `2001:db8::1:0:0:1`: groups in lower case without leading
-/// zeros, and `::` for the longest run of at least two zero groups, the first of equals (RFC 5952
-/// 4).
+/// zeros, and `::` for the longest run of at least two zero groups, the first of those that are
+/// equally long (RFC 5952 4).
 pub(crate) fn text_of_ipv6(address: &[u8; 16]) -> ArrayVec<u8, MOST_IPV6_OCTETS>
     ensures { result.items ≡ ipv6_text address.now }
 {

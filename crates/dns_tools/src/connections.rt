@@ -20,8 +20,8 @@ use std::time::{Clock, Duration};
 // The most messages that are answered on one connection.
 const MOST_MESSAGES: u32 = 1_000_000;
 
-// How many milliseconds pass after a connection could not be accepted: mostly the process has too
-// many open files, and would fail again at once.
+// How many milliseconds to wait after a connection could not be accepted: usually the process has
+// too many open files, and the next call would fail at once.
 const PAUSE: u64 = 100;
 
 /// A listener whose connections are served one after another.
@@ -80,8 +80,8 @@ impl<'a, R> Listener<'a, R> {
 }
 
 impl<R: Clock + AllocGlobal> Listener<'_, R> {
-    // Accepts the next connection. After a failure it waits, since the next call would mostly fail
-    // at once.
+    // Accepts the next connection. After a failure it waits, since the next call would usually
+    // fail at once.
     fn accept(&mut self) -> Option<TcpStream>
         requires { self.old < 2 ^ 64 - 1 }
         ensures { self.new ≡ self.old + 1 }
@@ -123,7 +123,7 @@ impl<R: Clock + AllocGlobal> Connections for Listener<'_, R> {
     }
 }
 
-// Serves the messages of one connection, as many as are answered on one.
+// Serves the messages of one connection, at most `MOST_MESSAGES`, and returns their number.
 fn serve_messages<R: Read, W: Write, E: Ends<W>>(
     zone: &Zone,
     source: &mut Tally<R>,

@@ -10,7 +10,7 @@ use Rattle.dns_spec.specs.Layout.{Placed, Laid, laid_front, data_laid, record_la
 use Rattle.dns_name.specs.WireForm.{labels_of, IsWireForm}
 use Rattle.dns_wire.specs.Kept.{Kept, IsKept, SpelledAt}
 
--- octets begin with a length k other than 0, and `after` are the octets after k more
+-- octets begin with a length k other than 0, and `after` is what follows the next k octets
 pub record AfterLabel (octets : Octets) (k : ℕ) (after : Octets) : Type 0 where
   pub others : Octets
   pub first : octets ≡ k ∷ others

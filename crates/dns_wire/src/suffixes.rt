@@ -126,7 +126,7 @@ fn has_last_labels(name: &[u8], suffix: &[u8]) -> bool
     rest.len() == suffix.len()
 }
 
-// Whether octets end with others. If they do not, no labels need to be walked, up to 127 for each
+// Whether octets end with others. If they do not, the labels need not be walked, up to 127 for each
 // suffix of a name.
 fn has_end(octets: &[u8], end: &[u8]) -> bool
     ensures yes { IsTrue result → (length end.now ≤ length octets.now)

@@ -86,12 +86,12 @@ const WHOLE: &[Reply<'static>] = &[Reply {
     ],
 }];
 
-// Replies over UDP, from which 64 addresses are missing. Over TCP these follow: the header there,
-// and their owner.
+// Each row: a reply over UDP, which leaves out 64 addresses; the header of the same reply over TCP,
+// which ends with them; and the owner of each of them, as it is written there.
 const ADDRESSES: &[(Reply<'static>, &[u8], &[u8])] = &[
     (
         Reply {
-            name: "an exchange with 64 addresses",
+            name: "a mail exchange with 64 addresses",
             question: b"\x01m\x07example\x00\x00\x0f\x00\x01",
             head: b"\x12\x34\x84\x00\x00\x01\x00\x01\x00\x00\x00\x00",
             records: &[b"\xc0\x0c\x00\x0f\x00\x01\x00\x00\x0e\x10\x00\x08\x00\x0a\x03big\xc0\x0e"],
@@ -121,7 +121,8 @@ const ADDRESSES: &[(Reply<'static>, &[u8], &[u8])] = &[
     ),
 ];
 
-/// Takes the addresses 198.51.100.1 to 198.51.100.64, the first and the others each after an owner.
+/// Takes the addresses 198.51.100.1 to 198.51.100.64: the first after the owner `first`, each of
+/// the others after the owner `others`.
 pub(super) fn take_addresses(rest: &mut Rest<'_>, first: &[u8], others: &[u8]) {
     for last in 1..65_u8 {
         rest.take(if last == 1 { first } else { others });

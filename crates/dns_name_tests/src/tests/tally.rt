@@ -3,8 +3,8 @@ ghost use Rattle.std.specs.Prelude.{◌≡◌, IfOk};
 use dns_name::{SinkFailed, Tally};
 use std::io::{self, ErrorKind, Read, Write};
 
-/// A device that counts its calls. Those from `from` up to `to`, counted from 0, fail; those after
-/// them would succeed again.
+/// A device that counts its calls. The calls `from` to `to` - 1, counted from 0, fail; later ones
+/// would succeed again.
 #[derive(Drop)]
 struct Failing {
     from: u32,
@@ -60,7 +60,8 @@ const ABC: &[&[u8]] = &[b"a", b"", b"bc"];
 
 const DE: &[&[u8]] = &[b"", b"d", b"e"];
 
-// The calls of a device that fail, from one up to another; how many it has in all; the calls made.
+// The first call that fails, and the first after it that does not; how many calls the device gets
+// in all; the steps that make them.
 const RUNS: &[(u32, u32, u32, &[Step<'static>])] = &[
     // Each failure is counted once.
     (1, u32::MAX, 2, &[(Take, Some(1)), (Take, None)]),

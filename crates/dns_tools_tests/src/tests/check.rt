@@ -55,7 +55,7 @@ fn is_checked(
     Ok(is_report(alloc, &origin, flags, text, devices, wanted))
 }
 
-// Whether a zone with these lines passes or not, and this is its report.
+// Whether a zone with this text passes or fails as `passes` says, and this is its report.
 fn judges(
     alloc: Global,
     flags: Flags,
@@ -89,6 +89,7 @@ fn a_zone_that_passes(rt: HostRuntime) -> Result<(), Fail> {
     Ok(())
 }
 
+// Lines added to the sample, and the report on the result.
 const LINES_ADDED: &[(&str, &str)] = &[
     ("www A 192.0.2.10", LOADED),
     ("www 60 A 192.0.2.10", "www.example. Z08\n"),
@@ -113,7 +114,7 @@ const LINES_ADDED: &[(&str, &str)] = &[
     ("www CNAME ns\nwww CNAME ns", "www.example. Z06\n"),
 ];
 
-// Whether this is the report on the sample with a line added.
+// Whether this is the report on the sample with these lines added.
 fn is_report_with(alloc: Global, added: &str, report: &str) -> Result<bool, Fail> {
     let text = format!(in alloc; "{SMALL}{added}")?;
     judges(alloc, PLAIN, text.as_str(), report == LOADED, report)

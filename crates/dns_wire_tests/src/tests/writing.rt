@@ -1,4 +1,4 @@
-//! The sets of worked replies, written with several hashes.
+//! The sets of the replies of worked examples, written with several hashes.
 use crate::tests::written::{CountingHash, OneChain, Record, Row, is_written};
 use dns_rdata::RType;
 use dns_wire::QuickHash;

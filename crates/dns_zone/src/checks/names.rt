@@ -1,5 +1,5 @@
-//! The names of a zone to be checked: its origin and all owners, without duplicates, in canonical
-//! order.
+//! The names that are checked in a zone: its origin and all owners, without duplicates, in
+//! canonical order.
 ghost use Rattle.std.specs.Prelude.{◌≡◌, ◌≤◌, length, IfOk, OnOk};
 ghost use Rattle.std.specs.Bool.{OnTrue};
 ghost use Rattle.std.specs.List.Sorted.{IsNonDecreasingBy, IsPartitionedBy};
@@ -33,7 +33,7 @@ pub(crate) struct CheckedName<'a> {
     pub(crate) cut: usize,
 }
 
-/// The names of a zone to be checked. Its records are in canonical order; `key` is the origin's,
+/// The names that are checked in a zone. Its records are in canonical order; `key` is the origin's,
 /// and `keyed` has the owners' keys.
 pub(crate) fn checked_names<'a>(
     alloc: Global,

@@ -1,8 +1,9 @@
 //! Runs of records, sorted by their owners or by their data.
 //!
 //! A sort that compares whole names is slow. Here each run keeps a few octets beside it, its
-//! front, by which it is compared. Runs with equal fronts are each compared once with one of them,
-//! and their next fronts are: how many octets they share with it, and the octets that follow.
+//! front, by which it is compared. Runs with equal fronts are each compared once with one of them;
+//! the next front of a run has the number of octets that it shares with that one, and the octets
+//! that follow.
 ghost use Rattle.std.specs.Prelude.{◌≡◌, ◌≤◌, length};
 
 use crate::checks::lcp_search::rests;
@@ -14,7 +15,7 @@ use std::alloc::{AllocError, Global};
 // The number of octets of a key or of data in a front.
 const FRONT_OCTETS: usize = 12;
 
-// The last octet of a front that more octets follow.
+// The last octet of a front if more octets follow it.
 const MORE: usize = 13;
 
 // The last octet of a front that is a TTL.
@@ -25,7 +26,7 @@ const LAST: u128 = 255;
 // that number.
 const MOST_SHARED: usize = 65_536;
 
-// How many times fronts are renewed: data of 65,535 octets has no more of them.
+// How many times fronts are renewed at most: even data of 65,535 octets has fewer of them.
 const MOST_FRONTS: usize = 5_500;
 
 /// Adjacent records, the ones from `at` up to `end`, and the front by which they are compared.
@@ -104,8 +105,8 @@ pub(crate) fn merge_few(alloc: Global, runs: &mut [Run]) -> Result<(), AllocErro
 }
 
 // Moves runs whose fronts rise to the beginning, and returns their number. A run that comes before
-// the last of them, but not before the one before that, takes the place of the last. Stops if a
-// quarter of all runs are out of order.
+// the last of them, but not before the one before that, takes the place of the last. Stops if
+// more than a quarter of all runs are out of order.
 fn keep_rising(runs: &mut [Run]) -> usize
     ensures count { result ≤ length runs.old }
     ensures same { length runs.new ≡ length runs.old }
