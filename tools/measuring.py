@@ -14,12 +14,12 @@ SECONDS = 600
 MOST_TO_CHECK = 670
 MOST_TO_LOAD = 910
 # The most instructions for a reply over TCP: in all, and for each octet of the query and the reply.
-MOST_A_REPLY = 100_000_000
-MOST_AN_OCTET = 1_000
+MOST_OVER_TCP = 100_000_000
+MOST_OVER_TCP_PER_OCTET = 1_000
 # The most instructions for a question over UDP, in any zone of 100,000 records. The hex digits of its line and of the reply's
 # line take about 30 more for each octet. docs/DECISIONS.md gives the reasons for these numbers.
 MOST_OVER_UDP = 200_000
-DIGITS_AN_OCTET = 30
+HEX_PER_OCTET = 30
 # The records that each zone needs.
 HEAD = b"$TTL 60\n@ SOA . . 1 2 3 4 5\n@ NS .\n"
 

@@ -70,7 +70,7 @@ def filled(words, **values):
 
 @contextlib.contextmanager
 def serving(row, address, folder, zone, workers):
-    """Runs a server of the list with `workers` processes or workers. Its `reload` makes it reload its zone, or is None."""
+    """Runs a server of `SERVERS` with this many processes or threads. Its `reload` makes it reload its zone, or is None."""
     name, _, settings, words, reload = row
     values = {"here": address[0], "port": address[1], "folder": folder, "zone": zone, "workers": workers}
     values["conf"] = Path(folder, f"{name}.conf")
