@@ -72,6 +72,7 @@ def seconds_of(server):
     user = system = 0
     for stat in Path("/proc").glob("[0-9]*/stat"):
         with contextlib.suppress(OSError):
+            # After the name of the program: 3 is the session, 11 and 12 are the ticks in user space and in the system.
             fields = stat.read_text().rsplit(")", 1)[1].split()
             if int(fields[3]) == server.pid:
                 user, system = user + int(fields[11]), system + int(fields[12])
@@ -79,13 +80,13 @@ def seconds_of(server):
 
 
 def time_of(server):
-    """The processor time so far of the processes in a server's session, in microseconds, more precise than one."""
-    taken = 0
+    """The processor time so far of the processes in a server's session, in microseconds, with a fraction."""
+    nanoseconds = 0
     for task in glob.iglob("/proc/[0-9]*/task/*"):
         with contextlib.suppress(OSError):
             if int(Path(task, "stat").read_text().rsplit(")", 1)[1].split()[3]) == server.pid:
-                taken += int(Path(task, "schedstat").read_text().split()[0])
-    return taken / 1_000
+                nanoseconds += int(Path(task, "schedstat").read_text().split()[0])
+    return nanoseconds / 1_000
 
 
 def by_dnsperf(address, port, asked, queries, rate=0):

@@ -30,13 +30,14 @@ def generic(entry, rtype, origin):
 def generated(text, number):
     """A template of $GENERATE filled with a number, as in BIND: an offset also applies to the rest of the template."""
     offset, filled = 0, ""
-    for other, sign, given, width, base, bad in PART.findall(text):
-        refuse(bad, f"{text}: after ${{ are an offset, a width and one of d, o, x, X, n and N")
+    for other, dollar, given, width, base, bad in PART.findall(text):
+        refuse(bad, f"{text}: ${{ takes an offset, a width and one of d, o, x, X, n and N")
         offset, width, base = int(given or offset), int(width or 0), base or "d"
         value = number + offset
         refuse(width > 127 or value > 2147483647, f"{text}: the width or the number is too great")
+        # n and N: hex digits, the lowest first, with dots between them. The width counts both.
         nibbles = f"{value & 0xffffffff:{'X' if base == 'N' else 'x'}}"[::-1].ljust((width + 1) // 2, "0")
-        filled += other or sign or (
+        filled += other or dollar or (
             ".".join(nibbles) + "." * (len(nibbles) * 2 == width) if base in "nN" else
             f"%0{width}{base}" % (value if base == "d" else value & 0xffffffff))
     return filled

@@ -66,11 +66,11 @@ def address(token):
 def octets(token):
     """The octets of a token or string, without its quotation marks and escapes."""
     bare = token[1:].removesuffix('"') if token[:1] == '"' else token
-    return re.sub(r"\\(\d{3}|.)", lambda c: chr(int(c[1]) & 255) if c[1].isdigit() else c[1], bare, flags=re.S)
+    return re.sub(r"\\(\d{3}|.)", lambda c: chr(int(c[1]) & 255) if c[1].isdecimal() else c[1], bare, flags=re.S)
 
 
 def escaped(text, spared=" -~"):
-    """A text with \\DDD for octets that are not printable, or not `spared`."""
+    """A text with \\DDD for each octet that is not `spared`; by default, for each that is not printable."""
     sound = text.isascii() and text.isprintable()
     return text if sound else re.sub(f"[^{spared}]", lambda c: f"\\{ord(c[0]):03}", text)
 

@@ -20,7 +20,7 @@ INSTEAD = {"4": "192.0.2.1", "6": "2001:db8::1", "n": "host.invalid.", "s": '"te
 BIND = "the file is in the {0} format of BIND: `named-compilezone -f {0} -F text -o NEW ORIGIN FILE` writes it as text"
 UTF16 = "the file is UTF-16: `iconv -f UTF-16 -t UTF-8 FILE` writes it in octets"
 FORMS = {"\0\0\0\2": BIND.format("raw"), "\0\0\0\3": BIND.format("map"), "\xff\xfe": UTF16, "\xfe\xff": UTF16}
-# Characters in texts that come from other programs: the characters, the replacement for each, and the message.
+# Characters in texts that come from other programs: the inside of a pattern's brackets, the replacement for each, the message.
 # Octets that are not UTF-8, here \udc80 to \udcff, are read as Windows-1252.
 STRAY = [("\ufeff", "", "a byte order mark: take it out"),
          ("\u201c\u201d\u201e\u201f\udc93\udc94\udc84", '"', 'a curly quotation mark: write " for each'),
@@ -50,11 +50,11 @@ RULES = [
     ("R11", r"\n(ALIAS|ANAME)( .*|$)", "\nA 192.0.2.1",
      "{0} is not a DNS type: write the A and AAAA records of its target", "data"),
     ("R11", r"\n(DS|TYPE43)( |$)", None,
-     UNSIGNED + "the record out, and after its TTL sign the zone below no more", "owner"),
+     UNSIGNED + "the record out, and after its TTL stop signing the zone below", "owner"),
     ("R11", r"\n(DNSKEY|RRSIG|NSEC|NSEC3|NSEC3PARAM|TYPE46|TYPE47|TYPE48|TYPE50|TYPE51)( |$)", None,
      UNSIGNED + "its DS out at the parent, if there is one, wait as long as the TTL of the DS says, "
      "and then take this record out", "owner"),
-    ("R11", r"\n(DNAME|TYPE39)( |$)", None, "{0} is not served here: an alias for each name takes its place", "owner"),
+    ("R11", r"\n(DNAME|TYPE39)( |$)", None, "{0} is not served here: write a CNAME record for each name instead", "owner"),
     ("R14", "", None, "more than 100,000 records: split the zone", "rest"),
     ("R15", "", None, "more than 16,777,216 octets: split the zone", "rest")]
 # Corrections of data that lacks a field or has two in the wrong order: a pattern, the replacement, and the message.

@@ -95,7 +95,7 @@ class Warnings(Names):
             ("W34", "\\@" in full, f"@ inside the target {full}; it means the origin only if it is the whole name"),
             ("W33", host and not HOST.fullmatch(full), f"the host {full} has an octet that host names do not have"),
             ("W43", known and cut and server,
-             f"the server {full} is in the zone of {cut}, and has no address here: is it there?"),
+             f"the server {full} is in the zone of {cut}, and has no address here: add its address"),
             ("W42", known and not cut and full != closest and not types, f"the target {full} does not exist{do}"),
             ("W43", known and not cut and (rtype in ("MX", "SRV") or "_" not in record.owner + full)
              and types.keys().isdisjoint(("A", "AAAA", "CNAME")), f"the target {full} has no address")) if row[1]][:1]
