@@ -1,5 +1,5 @@
 -- Removes the OPT record (EDNS) from a query before the server gets it, so that the reply is not FORMERR. The reply has no OPT
--- record, from which a resolver learns that there is no EDNS here, and it asks once. For dnsdist with LuaJIT, such as Debian's.
+-- record, so a resolver learns that there is no EDNS here, and asks only once. For dnsdist with LuaJIT, such as Debian's.
 local ffi = require("ffi")
 local C = ffi.C
 

@@ -58,6 +58,7 @@ int main(int count, char **words) {
     for (long i = 0; i < begun_count; i++) begin();
     while (left > 0) {
         int ready = epoll_wait(waiting, events, 64, 10000);
+        if (ready == 0) errno = ETIMEDOUT;
         if (ready <= 0) fail("no reply");
         for (int i = 0; i < ready; i++) {
             if (events[i].events & EPOLLOUT) {

@@ -11,10 +11,10 @@ from pathlib import Path
 LIBEXEC = Path(__file__).resolve().parent.parent / "libexec"
 
 
-def linked(words, folder):
+def linked(programs, folder):
     """Links the programs that a command line names into a folder for PATH, and returns the folder."""
-    for word in words:
-        os.symlink(Path(word).resolve(), Path(folder, Path(word).name))
+    for program in programs:
+        os.symlink(Path(program).resolve(), Path(folder, Path(program).name))
     return folder
 
 

@@ -50,7 +50,8 @@ class Importer(Reader):
     def __init__(self, zone, folder):
         super().__init__(zone)
         self.folder, self.lines, self.places, self.notes, self.sources = os.path.realpath(folder), [], [], {}, {}
-        # Whether the next record must state its owner, and the TTL that records get from the SOA record.
+        # Whether the next record must state its owner; the TTL that records get from the SOA record, or None; the number of
+        # octets of `lines`; and the number of included files.
         self.restate, self.implied, self.size, self.files = False, None, 0, 0
 
     def read(self, text, path, stack=()):
@@ -65,7 +66,8 @@ class Importer(Reader):
                 self.add([""], path, at, at)
                 continue
             entry, begun = Entry(lines, at, nested), len(self.lines)
-            # An entry that is not closed reads to the end of the file. So later ones are read without nesting.
+            # An entry that is not closed is read to the end of the file. Later ones are read without nesting: the next
+            # parenthesis inside another ends them.
             nested = nested and entry.closed
             directive, tokens = (entry.owner or "").upper(), entry.tokens
             try:

@@ -18,7 +18,7 @@ import bind
 from master import Names, Reader, Record, Refused, address, escaped, name, twice, unique, within
 from mending import FORMS, Mending
 
-MOST = 100                  # the most faults that are reported for a file
+MOST = 100                  # the most faults, and the most warnings, that are reported for a file
 FIELD = re.compile(r'"(?:[^"\\]|\\.)*"|(?:[^ "\\]|\\.)+')
 Fault = collections.namedtuple("Fault", "place code name text")
 
@@ -86,7 +86,8 @@ class Zone:
     `lines` are its lines, corrected so far. `places` are their files and numbers, if an importer made the lines or
     lines were added to the file's own. `notes` has the importer's message for each line that it could not convert.
     `unknown` has, for each corrected line, what is unknown about it. `doubtful` has the names that may own more than
-    `records` contain. The file is `partial` if lines that it includes are unknown.
+    `records` contain. The file is `partial` if lines that it includes are unknown. `sources` has the lines of each file as
+    they were read. `mended` counts the corrections by line and code. There may be `more` faults than those reported.
     """
 
     def __init__(self, origin, text, path, importer=None):
@@ -130,7 +131,7 @@ class Zone:
         return self.places[line] if self.places else (self.path, line + 1)
 
     def where(self, lines):
-        """The first three lines, as part of a sentence."""
+        """The places of the first three of these lines, as part of a sentence."""
         places = dict.fromkeys(self.place(line) for line in itertools.islice(lines, 3))
         where = [f"line {line}" + f" of {file}" * (file != self.path) for file, line in places]
         return " and ".join(where) or "the same line"
@@ -165,12 +166,13 @@ class Zone:
         """Reports and corrects the fault of an entry. Returns False if the rest of the file can't be checked."""
         collections.deque(reader.records(self.lines, line), 0)
         mending = Mending(self, reader, line, code)
-        # An entry that is at fault again after its correction, or by the octets put into it, has only one fault.
+        # A fault that an entry has again after its correction is not reported again, and a fault that comes from the correction
+        # of a string is not reported.
         self.mended[line, code] += 1
         again = self.mended[line, code] > (3 if code == "R01" else 1)
         follows = mending.follows and "string" in self.unknown[line]
         if not again and not follows and not self.found(line, code, mending.says):
-            # Other records of the same $GENERATE have the same fault.
+            # The last fault was equal: another record of the same $GENERATE has it. The rest of these records are taken out.
             rest = range(line, len(self.lines))
             for at in itertools.takewhile(lambda at: self.place(at) == self.place(line), rest):
                 self.lines[at] = ""
@@ -186,7 +188,7 @@ class Zone:
                 self.lines[after] = mending.owner + self.lines[after]
         lines += [""] * (end - line - len(lines))
         if len(lines) > end - line:
-            # All lines of an entry that gets more than it has are at its first line.
+            # If an entry gets more lines than it has, the place of all of them is the place of its first line.
             self.places = self.places or [(self.path, number) for number in range(1, len(self.lines) + 1)]
             self.places[line:end] = [self.places[line]] * len(lines)
         self.lines[line:end] = lines
@@ -286,7 +288,7 @@ class ZoneFaults(Names):
         elif twice(target, self.zone):
             do = f"the final dot is missing: write {written}."
         elif aliases:
-            do = f"write {end}, to which it is an alias"
+            do = f"write {end}, the name that it is an alias for"
         elif "." in written and written[-1] != "." and (owner == self.zone or not within(target, owner)):
             do = f"write {written}. if it is in another zone; else {do}"
         below = self.cut(target) and not (owner in self.cuts and within(target, owner))

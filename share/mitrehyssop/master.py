@@ -114,7 +114,7 @@ class Refused(Exception):
 
 
 def read(path, shown=None):
-    """The octets of a file, or of standard input (`-`): as many as zonecheck reads."""
+    """The octets of a file, or of standard input (`-`): at most one more than a file may have."""
     try:
         with open(0 if path == "-" else path, "rb", closefd=path != "-") as source:
             return source.read(LARGEST + 1).decode("latin-1")
@@ -183,7 +183,10 @@ class Entry:
 
 
 class Reader:
-    """Reads the entries of a zone in order, and keeps what a later entry takes from earlier ones."""
+    """Reads the entries of a zone in order, and keeps what a later entry takes from earlier ones.
+
+    `at` is the next line, `default` the TTL of the last $TTL, and `stated` the last TTL that a record stated.
+    """
 
     def __init__(self, zone):
         self.origin, self.at, self.owner, self.default, self.stated = zone, 0, None, None, None
@@ -223,7 +226,7 @@ def unique(records):
 
 
 class Names:
-    """The records of a zone by owner and type, and its cuts."""
+    """The records of a zone by owner and type, and its cuts. `of` is the `Zone` of faults.py, and `zone` its name."""
 
     def __init__(self, zone, records):
         self.of, self.zone, self.sets = zone, zone.zone, collections.defaultdict(dict)

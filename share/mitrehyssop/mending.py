@@ -71,13 +71,14 @@ class Mending(Entry):
 
     `unknown` is what is unknown after that: its `data` or `ttl`, what its `owner` owns, the end of a `string`, or the
     `rest` of the file. `follows` means that its fault may come from a string that was corrected. Most methods yield
-    rows, the first that holds is used: whether it holds, the right tokens, what is unknown, and the message.
+    rows: whether the row holds, the right tokens, what is unknown, and the message. The first row that holds is used.
     """
 
     def __init__(self, zone, reader, line, code):
         super().__init__(zone.lines, line)
         self.zone, self.reader, self.follows = zone, reader, False
-        # An entry that is not closed has no other fault yet, because zonecheck reads the lines after it as part of it.
+        # If the code has no method and no rule matches, the entry is not closed: zonecheck reads the lines after it as part of
+        # it, and found the fault there. Then the open parenthesis is reported.
         rows = itertools.chain(self.rules(code), getattr(self, code.lower(), self.r04)())
         _, tokens, self.unknown, self.says = next(row for row in rows if row[0])
         self.fixed = " ".join(tokens).split("\n") if tokens else []
@@ -208,7 +209,7 @@ class Mending(Entry):
 
     def r12(self):
         value = next((record.ttl for record in self.zone.model() if record.ttl), "")
-        value = value if value.isdigit() else "3600"
+        value = value if value.isdecimal() and int(value) < 2**31 else "3600"
         yield True, self.record(ttl=value), "ttl", f"no TTL: put $TTL {value} on the first line"
 
     def r11(self):
@@ -221,12 +222,12 @@ class Mending(Entry):
             yield True, new, "", f"{typed.upper()} is not known by name: {do}"
         near = [bare] if bare in NUMBERS else difflib.get_close_matches(bare[:20], NUMBERS, 1) if bare[2:] else []
         yield near, self.record(rtype="".join(near)), "", f"{typed} is not a type: write {''.join(near)}"
-        yield typed, [], "owner", f"{typed} is not a type: known are {', '.join(KINDS)}, and others as TYPEn"
+        yield typed, [], "owner", f"{typed} is not a type: the known types are {', '.join(KINDS)}; write others as TYPEn"
         yield True, [], "owner", f"no type after {self.tokens[-1]}"
 
     def r13(self):
         rtype, hexes = NAMED.get(self.rtype, self.rtype), "".join(self.data[2:])
-        kinds, notes, says = KINDS.get(rtype, ""), [], "after \\# are a length and as many octets in hex digits"
+        kinds, notes, says = KINDS.get(rtype, ""), [], "\\# takes a length and hex digits for that number of octets"
         if self.data[:1] == ["\\#"]:
             data, new = ["\\#", str(len(hexes) // 2), hexes], self.record(data=[INSTEAD[kind] for kind in kinds])
             yield kinds, new, "data", f"{says}; these are not valid for {rtype}"
@@ -253,7 +254,7 @@ class Mending(Entry):
             front.append(data.pop(0))
         if front:
             self.ttl = next((digits(token) for token in front if token.upper() != "IN"), self.ttl)
-            notes.append(f"TTL and class stand before the type: write {' '.join(front)} {rtype}")
+            notes.append(f"TTL and class come before the type: write {' '.join(front)} {rtype}")
         for pattern, instead, says in FIELDS:
             if found := re.fullmatch(pattern, " ".join([rtype, *data])):
                 notes.append(says.format(*found.groups()))
@@ -307,7 +308,8 @@ class Mending(Entry):
     def as_string(self, token, _):
         text = octets(token)
         several = " ".join(string(text[at:at + 255]) for at in range(0, len(text), 255))
-        says = f"a string has {len(text)} octets, and not more than 255: write several, in parentheses"
+        says = f"a string has {len(text)} octets, but at most 255 are allowed: write several, in parentheses"
         return (several, says) if len(text) > 255 else (token, None)
 
+    # For each kind of field, the method that reads a token. It returns the right token or None, and what is wrong or None.
     READ = {"n": as_name, "s": as_string, "4": as_address, "6": as_address, "H": as_number, "L": as_number}

@@ -17,7 +17,7 @@ LOWER = {kind.lower(): kind for kind in TEXTS}
 
 
 def kind_of(record):
-    """The kind of a text by its beginning, ignoring case."""
+    """The key of TEXTS with which a text begins, ignoring case, or None."""
     return LOWER.get(re.split("[ ;]", octets(record.data[0]), 1)[0].lower())
 
 
@@ -40,7 +40,7 @@ class Warnings(Names):
             yield from self.owner(full, sets)
             for record in itertools.chain.from_iterable(sets.values()):
                 if not self.of.lacks(record, "data") and record.data[:1] != ["\\#"]:
-                    yield record, "W06", record.ttl == "0", "the TTL is 0: it is asked for again and again"
+                    yield record, "W06", record.ttl == "0", "the TTL is 0: each question reaches the server"
                     for row in looks[record.rtype](record) if record.rtype in looks else ():
                         yield record, *row
         servers = self.at(self.zone, "NS")
@@ -53,7 +53,7 @@ class Warnings(Names):
     def owner(self, full, sets):
         record, hosts = next(iter(sets.values()))[0], sets.get("A") or sets.get("AAAA") or ()
         doubled = twice(full, self.zone) or full.endswith(self.ends)
-        # In lists of addresses, owners are addresses too, and the addresses in their data are codes.
+        # In lists of addresses (DNSBL, RFC 5782), owners are addresses too, and the addresses in their data are codes.
         listed = self.arpa or hosts and hosts[0].data[0].startswith("127.")
         yield record, "W34", "\\@" in full, "@ inside a name; it means the origin only if it is the whole name"
         yield record, "W35", "*" in full.removeprefix("*."), "a * that is not the whole first label matches nothing"
@@ -70,7 +70,7 @@ class Warnings(Names):
     def target(self, record):
         rtype, full, inside = record.rtype, record.data[-1], within(record.data[-1], self.zone)
         if rtype == "CNAME":
-            end, chain = self.aliased(full, [record.owner], 20)  # A server follows 16 aliases.
+            end, chain = self.aliased(full, [record.owner], 20)  # 20 bounds the work; a server follows 16.
             back = f"the alias leads back to {end}" if full != record.owner else "an alias to itself"
             yield "W44", end in chain, back
             yield "W45", end not in chain and chain[1:], f"the target {full} is an alias too: write {end}"
@@ -124,7 +124,7 @@ class Warnings(Names):
         lost, elsewhere = needed not in whole.lower() and "._report._dmarc." not in owner, not re.match(names, owner)
         begun = spf or not kind or whole.startswith(kind) and whole[len(kind):].lstrip()[:1] in ("", ";")
         return [
-            ("W51", several, f"more than one text of {kind} at a name: none of them holds"),
+            ("W51", several, f"more than one text of {kind} at a name: none of them applies"),
             ("W52", spf and joined,
              "the strings of the SPF text are joined without a space: write one, or end each with one"),
             ("W53", lost, f"the text lacks {needed}; is it cut off at a ; without quotation marks?"),
