@@ -142,7 +142,7 @@ hostile: built
 messages: built
 	tools/messages crates/dnsmsg/out/dnsmsg
 
-# Measures the programs on the inputs that cost the most. It decides nothing, and is not in the gate.
+# Measures the programs on the inputs that cost the most, and fails if one exceeds its bound. It is not in the gate.
 worst: built
 	tools/worst $(THREE)
 
