@@ -77,8 +77,8 @@ class Mending(Entry):
     def __init__(self, zone, reader, line, code):
         super().__init__(zone.lines, line)
         self.zone, self.reader, self.follows = zone, reader, False
-        # If the code has no method and no rule matches, the entry is not closed: zonecheck reads the lines after it as part of
-        # it, and found the fault there. Then the open parenthesis is reported.
+        # zonecheck reads the lines after an entry that is not closed as part of it, and may find a fault there. If the entry
+        # itself has no such fault, the open parenthesis is reported.
         rows = itertools.chain(self.rules(code), getattr(self, code.lower(), self.r04)())
         _, tokens, self.unknown, self.says = next(row for row in rows if row[0])
         self.fixed = " ".join(tokens).split("\n") if tokens else []
@@ -107,6 +107,7 @@ class Mending(Entry):
     def r01(self):
         says, notes = next((says for begin, says in FORMS.items() if self.zone.text.startswith(begin)), None), []
         lines = [self.clean(at, notes) for at in range(self.begin, self.end)]
+        yield from () if says or notes or self.closed else self.r04()
         notes = dict.fromkeys(notes or ["an octet that is not allowed: only printable ASCII, spaces and tabs are"])
         yield True, ["\n".join(lines)], "rest" if says else "", says or "; ".join(notes)
 
@@ -141,7 +142,9 @@ class Mending(Entry):
 
     def r03(self):
         lines, tokens, more, quoted = self.zone.lines, self.tokens, [], re.compile(r'"(?:[^"\\]|\\.)*"')
-        token = next((token for token in tokens if token[0] == '"' and not quoted.fullmatch(token)), '"')
+        token = next((token for token in tokens if token[0] == '"' and not quoted.fullmatch(token)), "")
+        yield from () if token or self.closed else self.r04()
+        token = token or '"'
         inner = token.endswith('\\"')
         closed = token[:-2] + '\\\\"' if inner else token.rstrip("\r) \t" if self.depth else "\r") + '"'
         # The string goes on to the line with its closing mark, if that line comes before the next entry.
