@@ -145,7 +145,7 @@ pub end_at_root : (w : TargetWay) (n : DomainName) → IsNameTree w.tree
     → IsWayEnd w n (record { row = record { 0 = 0 }; goes_on = false })
 end_at_root w n kept e other = grind (arith, short_way, short_name)
 
--- the way to a child ends where the way to its parent does
+-- if no way may begin at a child, the way to it ends where the way to its parent does
 pub ends_above : (w : TargetWay) (l : Octets) (n : DomainName) (e : WayEnd) → IsWayEnd w n e
     → folded (l ∷ n) ≡ l ∷ n → same (l ∷ n) w.tree.zone.origin ≡ false
     → may_begin w.tree.zone w.is_of_alias (l ∷ n) ≡ false
@@ -178,12 +178,12 @@ ends_here w l n e k end on at named low here =
     let some = below_row w.tree k at.kept in
     grind (arith, last_here, or_right)
 
--- a name that was passed, at the last place of the list
-pub end_of_last : (w v : TargetWay) (names : List WayName) (s : WayName) (n : DomainName) → v ≡ w
-    → All (λ (x : WayName). IsWayEnd v x.name x.end) names → 0 < length names
-    → s ≡ get_or names (length names - 1) s → names_equal s.name n ≡ true → IsWayEnd w n s.end
-end_of_last w v names s n same each some is named =
-    let there = each (length names - 1) s (omega arith) in
+-- a name that was kept, at a place of the list
+pub end_of_kept : (w v : TargetWay) (names : List WayName) (i : ℕ) (s : WayName) (n : DomainName)
+    → v ≡ w → All (λ (x : WayName). IsWayEnd v x.name x.end) names → i < length names
+    → s ≡ get_or names i s → names_equal s.name n ≡ true → IsWayEnd w n s.end
+end_of_kept w v names i s n same each some is named =
+    let there = each i s some in
     let equal = (names_equal-decides s.name n).0 named in
     grind arith
 

@@ -19,9 +19,9 @@ const UNKNOWN: u32 = u32::MAX;
 /// ends before a cut. Takes 4 octets of memory for each record, and 4 more until it returns if the
 /// order of the file is known.
 ///
-/// Targets are visited in the order of the file. There, a target of many labels is short only if
-/// it shares its ending with the target before, so the steps of the walk are bounded by the labels
-/// that are written in the file.
+/// Targets are visited in the order of the file. A short line there has a target of many labels
+/// only below the origin in force, and the names above such a target are not passed again until
+/// other names as long are written out. So the steps grow with the octets of the file.
 pub(crate) fn hints_of(alloc: Global, tree: &Tree) -> Result<Vec<u32>, AllocError>
     requires { IsNameTree tree.now }
     ensures { IfOk result (λ hints. AreHints tree.now.zone tree.now.rows hints.items) }
@@ -48,7 +48,7 @@ pub(crate) fn hints_of(alloc: Global, tree: &Tree) -> Result<Vec<u32>, AllocErro
     Ok(hints)
 }
 
-// The hint of a record, by the way of aliases if it is one.
+// The hint of a record, found on the way of aliases if the record is an alias.
 fn find_hint<'z>(entry: &'z StoredRecord, way: &mut Way<'z>, way_of_aliases: &mut Way<'z>) -> usize
     requires tree { IsNameTree way.old.tree }
     requires way { way.old.is_of_alias ≡ false }

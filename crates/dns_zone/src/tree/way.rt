@@ -8,7 +8,6 @@ use crate::checks::above::ends_alike;
 use crate::tree::Tree;
 use crate::tree::counts::Counts;
 use crate::tree::kids::Kids;
-use crate::tree::labels::MOST_LABELS;
 use crate::tree::lookup::has_type;
 use crate::tree::node::own_of;
 use crate::tree::row::RowNumber;
@@ -18,15 +17,18 @@ use dns_name::{Label, NameRef, first_label};
 use dns_rdata::RType;
 use std::marker::Model;
 
-// The last name on the way to a name that exists: its row, or 0 if there is none below the origin.
-// The way goes on below the name itself only if that is the origin or the last name.
+// The end of the way to a name: the row of the last existing name on it, or 0 if there is none
+// below the origin. The way goes on below the name only if the name itself is its end.
 #[derive(Clone, Copy, Default)]
 struct WayEnd {
     row: RowNumber,
     goes_on: bool,
 }
 
-// A name that was passed, with the end of the way to it.
+// One more than the most octets of a name (RFC 1035 2.3.4).
+const SLOTS: usize = 256;
+
+// A name, with the end of the way to it.
 #[derive(Drop)]
 struct WayName<'z> {
     name: NameRef<'z>,
@@ -42,13 +44,14 @@ impl Default for WayName<'_> {
     }
 }
 
-/// The names on the way to the last target, from the top down. The way of an alias ends before a
-/// cut. Names that the next target shares are not passed again.
+/// The ways to one target after another. The way of an alias ends before a cut. For each target,
+/// the way goes on from the last name on it that was kept.
 #[derive(Drop)]
 pub(crate) struct Way<'z> {
     tree: &'z Tree,
     is_of_alias: bool,
-    names: ArrayVec<WayName<'z>, MOST_LABELS>,
+    // For each number of octets, the last name of this length on a way; at first the origin.
+    names: ArrayVec<WayName<'z>, SLOTS>,
 }
 
 impl<'z> Model for Way<'z> {
@@ -68,15 +71,25 @@ impl<'z> Way<'z> {
         requires { IsNameTree tree.now }
         ensures { result ≡ record { tree = tree.now; is_of_alias = is_of_alias } }
     {
+        let mut names = ArrayVec::new();
+        'slots: while !names.is_full() {
+            names.push(WayName {
+                name: tree.zone.origin().lent(),
+                end: WayEnd {
+                    row: RowNumber(0),
+                    goes_on: true,
+                },
+            });
+        }
         Way {
             tree,
             is_of_alias,
-            names: ArrayVec::new(),
+            names,
         }
     }
 
-    /// The row of the last name on the way to a target at which the way may begin; 0 if there is
-    /// none below the origin.
+    /// The hint to a target: the row at the end of the way to it; 0 if the end is the origin, or
+    /// the target is outside the zone.
     pub(crate) fn hint_to(&mut self, target: &NameRef<'z>) -> usize
         requires { folded target.now ≡ target.now }
         ensures same { self.new ≡ self.old }
@@ -95,10 +108,9 @@ impl<'z> Way<'z> {
         ensures same { self.new ≡ self.old }
         ensures end { IsWayEnd self.old name.now result }
     {
-        self.turn_back(name.octets().len());
-        if let Some(last) = self.names.last() {
-            if last.name == *name {
-                return last.end;
+        if let Some(kept) = self.names.get(name.octets().len()) {
+            if kept.name == *name {
+                return kept.end;
             }
         }
         if self.tree.zone.origin().lent() == *name {
@@ -115,19 +127,8 @@ impl<'z> Way<'z> {
         self.keep(name, end)
     }
 
-    // Drops the names of more than `most` octets.
-    fn turn_back(&mut self, most: usize)
-        ensures { self.new ≡ self.old }
-    {
-        'names: while let Some(last) = self.names.last() {
-            if last.name.octets().len() <= most {
-                break;
-            }
-            self.names.pop();
-        }
-    }
-
-    // The end of the way to a child with this label of a name, from the end of the way to that.
+    // The end of the way to the name that has this label below another name. `above` is the end of
+    // the way to the other name.
     fn go_down(&self, above: WayEnd, label: &Label<'_>) -> WayEnd
         requires { IsNodeAt self.now.tree above.row.0 }
         ensures { (n : DomainName) → IsWayEnd self.now n above
@@ -152,17 +153,17 @@ impl<'z> Way<'z> {
         WayEnd { row, goes_on: true }
     }
 
-    // Keeps a name that was passed, if there is room, and returns the end of the way to it.
+    // Keeps a name in place of another name of its length, and returns the end of the way to it.
     fn keep(&mut self, name: &NameRef<'z>, end: WayEnd) -> WayEnd
         requires { IsWayEnd self.old name.now end }
         ensures same { self.new ≡ self.old }
         ensures end { IsWayEnd self.new name.now result }
     {
-        if !self.names.is_full() {
-            self.names.push(WayName {
+        if let Some(kept) = self.names.get_mut(name.octets().len()) {
+            *kept = WayName {
                 name: NameRef::new(name.octets()),
                 end,
-            });
+            };
         }
         end
     }

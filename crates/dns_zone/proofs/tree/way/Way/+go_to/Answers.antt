@@ -1,19 +1,20 @@
-use Rattle.dns_zone.proofs.Common.{rules, arith, sym, ap, ap₂, ◌∙◌, subst, ◌≡◌, ◌∷◌, ◌-◌, ◌<◌, ℕ, Bool, get_or, length, false, DomainName, folded, same, names_equal-decides, without_first, IsWireForm-wire, labels_of_spelled, IsNameTree, TargetWay, IsWayEnd}
+use Rattle.dns_zone.proofs.Common.{rules, arith, sym, ap, ap₂, ◌∙◌, subst, ◌≡◌, ◌∷◌, ◌-◌, ◌<◌, ℕ, Bool, get_or, length, false, DomainName, folded, same, names_equal-decides, ltb-true, without_first, IsWireForm-wire, labels_of_spelled, IsNameTree, TargetWay, IsWayEnd}
 use Rattle.dns_zone.specs.declared.tree.way.WayEnd.{WayEnd}
-use Rattle.dns_zone.proofs.HintRows.{end_of_last, end_at_origin, end_at_root, end_below, other_name}
+use Rattle.dns_zone.proofs.HintRows.{end_of_kept, end_at_origin, end_at_root, end_below, other_name}
 use Rattle.dns_zone.proofs.tree.way.Way.+go_to.Goals as goal
 
 pub returns-then-eq-clause-end : goal.returns-then-eq-clause-end
 returns-then-eq-clause-end t c =
-    end_of_last c.args.self.now _ _ c.in-Some.last.now c.args.name.now
-    (c.self.view_is ∙ c.turn_back.ensures) c.self.invariant.each
-    (subst (λ xs. 0 < length xs) c.deref.ensures.0 c.in-Some.ensures.item.3.0)
-    (subst (λ xs. c.in-Some.last.now ≡ get_or xs (length xs - 1) c.in-Some.last.now)
-    c.deref.ensures.0 c.in-Some.ensures.item.1) (sym c.eq.ensures ∙ c.if-eq.true)
+    end_of_kept c.args.self.now _ _ (length c.octets.result.now) c.in-Some.kept.now
+    c.args.name.now c.self.view_is c.self.invariant.each
+    (subst (λ xs. length c.octets.result.now < length xs) c.deref.ensures.0
+    (ltb-true _ _ (sym c.in-Some.ensures.lookup.0)))
+    (subst (λ xs. c.in-Some.kept.now ≡ get_or xs (length c.octets.result.now) c.in-Some.kept.now)
+    c.deref.ensures.0 c.in-Some.ensures.lookup.1) (sym c.eq.ensures ∙ c.if-eq.true)
 
 pub returns-then-eq-2-clause-end : goal.returns-then-eq-2-clause-end
 returns-then-eq-2-clause-end t c =
-    let tree = c.self.view_is ∙ c.turn_back.ensures in
+    let tree = c.self.view_is in
     end_at_origin c.args.self.now c.args.name.now
     (subst (λ (w : TargetWay). IsNameTree w.tree) tree c.self.invariant.kept)
     (sym ((names_equal-decides _ _).0 (sym c.eq-2.ensures ∙ c.if-eq-2.true))
@@ -30,7 +31,7 @@ pub returns-in_default-first_label-clause-end : goal.returns-in_default-first_la
 returns-in_default-first_label-clause-end t c =
     let w = c.args.self.now in
     let n = c.args.name.now in
-    let tree = c.self.view_is ∙ c.turn_back.ensures in
+    let tree = c.self.view_is in
     let root = sym (labels_of_spelled _ _ c.octets-2.ensures.value c.octets-2.ensures.is_name)
     ∙ c.in_default-first_label.ensures in
     let origin = c.lent.ensures.value ∙ c.origin.ensures.origin in
@@ -68,4 +69,4 @@ keep-requires t c =
 pub returns-clause-end : goal.returns-clause-end
 returns-clause-end t c =
     subst (λ w. IsWayEnd w c.args.name.now c.keep.result)
-    (c.keep.ensures.same ∙ c.go_to-above.ensures.same ∙ c.turn_back.ensures) c.keep.ensures.end
+    (c.keep.ensures.same ∙ c.go_to-above.ensures.same) c.keep.ensures.end
