@@ -11,7 +11,7 @@ use std::alloc::{AllocError, Global};
 use std::fs;
 use std::rt::Files;
 
-/// Does the work of a line `rounds` times, and returns the number of its octets: of the data that
+/// Does the work of a line `rounds` times, and returns a number of octets: of the data that
 /// `read TYPE WORDS` reads or `write TYPE WORDS` writes, or of the reply to `udp FILE NAME TYPE`
 /// or `tcp FILE NAME TYPE` from the zone in a file.
 pub(crate) fn octets_of_work<R: Files + AllocGlobal>(

@@ -24,7 +24,7 @@ module _ (z : ZoneContents) (q : DomainName) (t : ℕ) where
   unfolding chain chain_from
   chain-some = grind arith
 
-  -- with the apex, no more nodes than allowed
+  -- the visits, including the apex, are within the bound
   pub visits-fit : (s s' : Walk) (misses : ℕ) → s.visits ≤ 1
       → Took s s' (chain_rest z t most_aliases [] q).nodes misses → s'.visits ≤ most_visits z q t
   visits-fit s s' misses first took = grind (arith, nodes-are, nodes-sum, chain-some)

@@ -76,8 +76,8 @@ module _ (z : ZoneContents) (t k : ℕ) (sought : List DomainName) (s : DomainNa
   ends-nothing e f =
       ends-plain (negative z name_error) (rw (e, f) (and-false (follows_alias t))) (rw (e, f) refl)
 
-  -- its alias leads no further: no more targets are followed, or its own is outside, was sought
-  -- before, or is missing
+  -- the alias at s is not followed: no more aliases may be followed, or its target is outside the
+  -- zone, was sought before, or is missing
   pub ends-alias : (is : List Item) → follows_alias t ≡ true → item answer (alias_set z s) ≡ is
       → outcome_at z t s ≡ positive [] → (k ≡ 0) ⊎ (next_sought z (s ∷ sought) s ≡ None)
       → ChainEnds is (positive [])

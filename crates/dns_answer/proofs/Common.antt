@@ -1,4 +1,4 @@
--- The names that most proofs cite, passed on from one place. Declares nothing.
+-- Re-exports the names that most proofs use. Declares nothing.
 pub use Rattle.dns_spec.proofs.Common.{All, All-append, All-cons, All-head, All-nil, All-tail, All-weaker, AllByRecursion, Bool, Decision, DomainName, Header, IfSome, IsReadRecord, IsTrue, IsWritable, Item, List, MessageQuestion, None, Octets, OnFalse, OnTrue, Option, Outcome, QueryRead, RecordSet, ResourceRecord, Section, Some, Spells, ZoneContents, [], absent, add-one, additional, address_set, address_sets, alias_items, alias_set, and-false, and_from, and_parts, and_right, answer, answered, ap, append-nil, append_assoc, ap₂, arith, asked_records, at, at_or_below, authority, below, cases_lt, cond, cons_option, cut_of, data_order, decide_query, distinct, drop, eqb-true, exists, false, false_from_ne_true, false≢true, filter, filter-append, filter_map, filter_map-append, find, first_target, fitting, flat_map-append, folded, follows_alias, found, get_or, get_or_default_zero, has_any, has_target_type, inl, inr, insert_by, is_authoritative, is_cut, is_ignored, is_name, is_owner, is_some, item, keep_longest, kept, last_of, last_sought, le-leb, length, length-append, length-drop, length-map, length-reverse, length-take, list_all, list_all-append, list_any, list_any-append, lt-ltb, ltb-true, main_items, map, map-append, min, most_aliases, most_visits, name_error, names_equal, nat_cmp, nat_le, nat_lt, negative, negative_soa, next_sought, no_error, nodes_to, not, not-true, of_first_type, of_lowest_type, of_type, option_map, option_to_list, or-false, or_left, or_parts, or_right, outcome_by, owns, positive, qtype_any, query, records_at, records_of, recursion_from_All, referral_to, refl, refused_with, reply_head, reply_message, reply_octets, reply_of, reverse, reverse-append, rising_types, rrset, rules, same, set_of, soa_minimum, sort_by, subst, subst₂, suc, suffixes, sum, sym, take, take-append-drop, take-suc, take_all, target, targets, targets_in_zone, targets_inside, targets_of, to_ascii_lowercase, true, true≢false, truncated, type_a, type_aaaa, type_cname, type_mx, type_ns, type_soa, type_srv, with_owner, zero, ℕ, ◌&&◌, ◌*◌, ◌++◌, ◌+◌, ◌-◌, ◌<◌, ◌==◌, ◌||◌, ◌↔◌, ◌∙◌, ◌∷◌, ◌≡◌, ◌≤◌, ◌⊎◌}
 unfoldable pub use Rattle.dns_spec.proofs.Common.{chain, chain_from, decide, extra, items, layout, octets_of, outcome, outcome_at, query_read, reply, reply_with, required_items, size}
 pub use Rattle.std.proofs.Common.{IsNone}

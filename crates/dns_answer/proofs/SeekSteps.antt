@@ -153,13 +153,13 @@ module _ (z : ZoneContents) (t : ℕ) (before : List DomainName) (s : DomainName
       alias-leads : first_target (alias_set z s) ≡ target_at 0 set
       alias-leads = grind (arith, aliases-at, are_set)
 
-      -- the alias leads no further
+      -- the alias is not followed
       pub alias-ends : NextIs z set (s ∷ before) None
           → Chain (asked_item s set) (ending z (positive []))
       alias-ends next =
           grind (arith, ends-alias, alias-item, outcome-alias, has-alias, alias-leads)
 
-      -- the alias leads to another name
+      -- the alias is followed to another name
       pub alias-goes_on : (m : Sought) (l : Option ZoneNode)
           → NextIs z set (s ∷ before) (Some (m, l)) → Chain
           (asked_item s set) (chain_rest z t (aliases_left (s ∷ before)) (s ∷ before) m.name)

@@ -75,14 +75,14 @@ module _ (d : Octets) (y : QueryRead) (read : y ≡ query_read d) (s s' : Walk) 
         costs = costs-by d y read s.zone s s' costs;
       }
 
--- a reply has room in as many octets as its limit
+-- a reply within a limit fits in a buffer of as many octets
 pub put_room : (lent : Option (Bor Octets)) (limit room : ℕ)
     → IfSome (option_copied lent) (λ o. length o ≤ limit)
     → room ≡ limit → IfSome lent (λ o. length o.now ≤ room)
 put_room None limit room h e = tt
 put_room (Some o) limit room h e = omega (arith, h, e)
 
--- A reply that is put at the front of `out` is there, and is none if none is owed.
+-- What holds of the sent octets holds of the front of `out`, to which they are copied.
 pub put_absent : (sent : Option Octets) (len : Option ℕ) (out d : Octets) → IsPut sent len out
     → (IsNone sent ↔ IsTrue (is_ignored d)) → IsNone len ↔ IsTrue (is_ignored d)
 put_absent None None out d put h = (λ _. h.0 refl, λ _. refl)

@@ -1,7 +1,7 @@
 -- The cost of look-ups in sequence, and the room that they leave.
 use Rattle.dns_answer.proofs.Common.{ℕ, ◌+◌, ◌≤◌, arith, Walk, HasNodesLeft, Took}
 
--- a walk that stops costs no more than any
+-- an unchanged walk is within any cost
 pub Took-none : {s : Walk} {nodes misses : ℕ} → Took s s nodes misses
 Took-none = grind arith
 

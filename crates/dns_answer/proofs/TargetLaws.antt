@@ -133,7 +133,7 @@ Took-rest z p set i {s} {s'} took =
     (Took-within (omega (arith, nodes-append z p ms ns))
     (omega (arith, misses-append z p ms ns)) took)
 
--- a full reply was offered all of them
+-- a full reply counts as offered all targets
 pub Offers-rest : (z : ZoneContents) (p : DomainName → Bool) (set : RecordSet) (i : ℕ)
     (w w' : State) → w'.full ≡ true → Offers w w' (side_items z p [] (targets_of_first i set))
     → Offers w w' (side_items z p [] (set_targets set))
@@ -144,7 +144,7 @@ Offers-rest z p set i w w' full firsts =
     ∙ ap (side_items z p []) (first-rest set i))
     (Offers-then _ _ _ _ _ firsts (Offers-full w' _ full))
 
--- a set that is there, and one that is not
+-- there is no item for an empty set
 pub item-none : (s : Section) (rs : List ResourceRecord) → set_of rs ≡ None → item s rs ≡ []
 item-none s rs h = grind arith
 
@@ -171,7 +171,7 @@ owner_inside z kept r m =
     go true e = refl
     go false e = absurd (false≢true (sym e))
 
--- a name that owns no record
+-- a name that owns no record has no addresses
 none-at : (z : ZoneContents) (m : DomainName)
     → ((r : ResourceRecord) → Among r z.records → same r.owner m ≡ true → ⊥) → addresses_of z m ≡ []
 none-at z m none = grind (arith, filter_none, each_among, false_from_ne_true)
@@ -180,7 +180,7 @@ pub none-outside : (z : ZoneContents) (m : DomainName) → IsBuilt z
     → at_or_below m z.origin ≡ false → addresses_of z m ≡ []
 none-outside z m kept out = grind (arith, none-at, false≢true, same-under, owner_inside)
 
--- nor one that does not exist
+-- a name that does not exist has no addresses
 pub none-missing : (z : ZoneContents) (m : DomainName) → exists z m ≡ false → addresses_of z m ≡ []
 none-missing z m out =
     none-at z m (λ r a e. false≢true (sym out ∙ some z.records r a (itself-under r.owner m e)))

@@ -16,7 +16,7 @@ abbrev pub aliases_of : ZoneContents → ℕ → List DomainName → List Item
 aliases_of z t ns = if follows_alias t then flat_map (λ n. item answer (alias_set z n)) ns else []
 
 -- RFC 1034 4.3.2 step 3a: the rest of an answer for the names sought from s on: the aliases of
--- all, and the sets that end the answer. At most two labels are missing for each name.
+-- all, and the sets that end the answer. At most two children are missing for each name.
 abbrev pub rest_of : ZoneContents → ℕ → DomainName → List DomainName → Rest
 rest_of z t s ns =
     let r = ending z (outcome_at z t (last_of s ns)) in

@@ -29,13 +29,13 @@ pub record IsReply (z : ZoneContents) (limit : ℕ) (x : Decision) (sent : Octet
   pub octets : Some sent ≡ option_map reply_octets (reply_of (keep_longest z limit) z x)
   pub within : length sent ≤ limit
 
--- octets that are the written reply with its header: the page finishes itself so
+-- the octets of the written reply with its header, as `Page::finish` makes them
 pub record IsLaidOut (w : State) (head : Header) (sent : Octets) : Type 0 where
   pub octets : (q : Option MessageQuestion) (items : List Item)
       → IsDraft quick_number q items w.page → sent ≡ layout head q items
   pub within : length sent ≤ w.page.limit
 
--- With this header the written reply is that of a decision.
+-- With this header, the written reply is the reply of a decision.
 abbrev pub IsHeaded : ZoneContents → ℕ → Decision → State → Header → Type 0
 IsHeaded z limit x w head = (sent : Octets) → IsLaidOut w head sent → IsReply z limit x sent
 

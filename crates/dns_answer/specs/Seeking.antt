@@ -53,11 +53,12 @@ pub record Seeks (w w' : State) (s s' : Walk) (t : ℕ) (before : List DomainNam
 abbrev pub leads_on : ZoneContents → ℕ → DomainName → Bool
 leads_on z t n = follows_alias t && has_any (alias_set z n)
 
--- If the answer is a referral, `led` says whether the name n is an alias that is followed.
+-- If the answer is a referral, `led` is whether the name is an alias that is followed.
 abbrev pub Followed : ZoneContents → ℕ → DomainName → Verdict → Bool → Type 0
 Followed z t s v led = v.is_referral ≡ true → led ≡ leads_on z t s
 
--- The name is the last one sought; if it ends in a referral, it is no alias that is followed.
+-- The name is the last one sought. If the answer is a referral, the name is not an alias that is
+-- followed.
 pub record IsLast (w w' : State) (s s' : Walk) (t : ℕ) (before : List DomainName) (n : DomainName)
     (v : Verdict) : Type 0 where
   pub seeks : Seeks w w' s s' t before n v

@@ -75,8 +75,8 @@ pub(crate) fn offer_addresses<'z, const N: usize, const SIZE: usize>(
     all
 }
 
-// Offers the addresses of the target of a record, if it is selected and not the target of an
-// earlier record. False if it is not selected.
+// Offers the addresses of the target of record `i`, if the target is selected and no earlier record
+// has it. False only if the record has a target that is not selected.
 fn offer_target<'z, const N: usize, const SIZE: usize>(
     node: &Node<'z>,
     set: &RecordSet<'z>,

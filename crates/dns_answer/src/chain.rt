@@ -25,15 +25,15 @@ const MOST_ALIASES: usize = 16;
 /// The result of seeking one name.
 #[derive(Drop)]
 pub(crate) enum Next<'z> {
-    /// It is the last name sought.
+    /// The name is the last one sought.
     Last(Verdict),
-    /// It is an alias of this name, whose path may begin at the hint.
+    /// The name is an alias of this name, whose path may begin at the hint.
     Alias(Sought<'z>, Option<TargetHint<'z>>),
 }
 
 /// Seeks the name of a question and then the targets of aliases: offers the sets of the aliases,
-/// and the sets with which the last name ends the answer. Returns also whether the question's name
-/// has an alias that was followed.
+/// and the sets with which the last name ends the answer. Also returns whether the question's name
+/// is an alias that was followed.
 pub(crate) fn seek<'q, 'z: 'q, const N: usize, const SIZE: usize>(
     first: Sought<'q>,
     qtype: u16,
@@ -122,9 +122,9 @@ fn seek_one<'z, const N: usize, const SIZE: usize>(
     Next::Alias(target, hint)
 }
 
-// The set at a node that an answer contains, and whether it is an alias that is followed: the
-// alias is in the answer in place of the set asked for, unless the question asks for it. For all
-// types, the set with the lowest number (RFC 8482 4.1).
+// The set at a node that the answer contains, and whether it is an alias to follow. A CNAME set
+// replaces the set asked for, unless the question asks for CNAME or for all types. For all types,
+// the set with the lowest type number (RFC 8482 4.1).
 #[inline(always)]
 fn shown_set<'z>(node: &Node<'z>, qtype: u16) -> Option<(RecordSet<'z>, bool)>
     ensures shown { IsShown qtype (at node.now.zone node.now.name) result }
@@ -141,8 +141,8 @@ fn shown_set<'z>(node: &Node<'z>, qtype: u16) -> Option<(RecordSet<'z>, bool)>
     Some((node.set(RType(qtype))?, false))
 }
 
-// The name to seek after an alias, and where its path begins: the alias's target, if more names
-// may be sought and it is at or below the origin and was not sought yet.
+// The name to seek after an alias, and where its path begins: the alias's target, if more aliases
+// may be followed, and the target is at or below the origin and was not sought yet.
 #[inline(always)]
 fn next_sought<'z>(
     alias: &RecordSet<'z>,
@@ -166,8 +166,8 @@ fn next_sought<'z>(
     Some((next, hint))
 }
 
-// Whether a name in lower case is the last one sought, or was sought before. All names but the
-// first are targets and so in lower case too, so these are the same only if they are equal.
+// Whether a name in lower case is the last one sought, or was sought before. All names sought but
+// the first are targets, so they are in lower case too, and comparing octets suffices for them.
 fn is_among(name: &NameRef<'_>, last: &Sought<'_>, earlier: &[Sought<'_>]) -> bool
     requires name { folded name.now ≡ name.now }
     requires lower { AreTargets earlier.now last.now }

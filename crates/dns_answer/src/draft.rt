@@ -8,7 +8,7 @@ use dns_rdata::SetView;
 use dns_wire::{Page, QuickHash, Section};
 use std::marker::Model;
 
-/// A reply being made, with room in the value itself for `N` places of names and `SIZE` octets.
+/// A reply being made. The value itself has room for `N` places of names and `SIZE` octets.
 /// `respond_in` borrows it for one reply after another.
 #[derive(Drop)]
 pub struct Draft<const N: usize, const SIZE: usize> {
@@ -30,7 +30,8 @@ impl<const N: usize, const SIZE: usize> Model for Draft<N, SIZE> {
 impl<const N: usize, const SIZE: usize> Draft<N, SIZE> {
     /// Room for replies of at most `SIZE` octets, 512 to 65,535.
     ///
-    /// Condition: `N` is at least half the number of these octets that a pointer reaches.
+    /// Precondition: `N` is at least half the number of octets that a pointer reaches (the first
+    /// 16,384 of them), and at most 8,192.
     pub fn new() -> Draft<N, SIZE>
         requires from { 512 ≤ SIZE }
         requires upto { SIZE ≤ 65535 }

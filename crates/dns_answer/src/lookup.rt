@@ -36,7 +36,7 @@ pub(crate) enum Found<'z> {
     Records(Option<Node<'z>>),
 }
 
-/// What is found for a name at or below the origin; an alias may have a hint to it.
+/// What is found for a name at or below the origin; the alias before it may have a hint to it.
 // Inlining saves 36 to 89 instructions per reply.
 #[inline(always)]
 pub(crate) fn look_up<'z>(
@@ -75,8 +75,8 @@ pub(crate) fn or_apex<'a, 'z>(node: &'a Option<Node<'z>>, apex: &'a Node<'z>) ->
     }
 }
 
-/// Where the path down to a name begins: at its hint, if it has one and the name is at or below
-/// that, else at the apex. `None` if the name is not at or below the origin.
+/// Where the path down to a name begins: at the hint, if there is one and the name is at or below
+/// it, else at the apex. `None` if the name is not at or below the origin.
 #[inline(always)]
 pub(crate) fn aim<'n, 'z>(
     name: &NameRef<'n>,

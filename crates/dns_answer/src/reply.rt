@@ -51,7 +51,7 @@ pub type TcpDraft = Draft<8192, 65_535>;
 /// and RFC 2308, contains as many of the RRsets as fit, from the first one on, and has TC set if an
 /// RRset that the answer requires does not fit.
 ///
-/// Conditions: `steps` is a new walk, which has counted nothing, and `out` is as long as the limit.
+/// Preconditions: `steps` is a new walk, with counts of 0, and `out` is as long as the limit.
 /// Does not allocate. No name is looked up unless a question is answered.
 ///
 /// Each call first sets the room for a reply to zero, which over TCP takes far longer than a short
@@ -102,13 +102,13 @@ fn put_reply(reply: Option<&[u8]>, out: &mut [u8]) -> Option<usize>
     Some(reply.len())
 }
 
-/// Makes the reply to a datagram in a draft, within the draft's room, and lends it: the same as
-/// `respond` at that limit.
+/// Makes the reply to a datagram in a draft, and lends it: the reply that `respond` writes, with
+/// the draft's `SIZE` as the limit. `None` if the datagram gets no reply.
 ///
 /// Nothing of the draft's earlier reply remains, and the time does not depend on the size of its
 /// room.
 ///
-/// Condition: `steps` is a new walk, which has counted nothing. Does not allocate.
+/// Precondition: `steps` is a new walk, with counts of 0. Does not allocate.
 pub fn respond_in<'d, const N: usize, const SIZE: usize>(
     steps: &mut Steps<'_>,
     datagram: &[u8],

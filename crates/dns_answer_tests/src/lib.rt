@@ -1,5 +1,5 @@
-//! Tests of `dns_answer`, through its public calls. In a separate crate their proofs are made only
-//! once, while the edits of `dns_answer` are tried.
+//! Tests of `dns_answer`, through its public functions. They are a separate crate, so that their
+//! proofs are made only once, while wrong edits of `dns_answer` are tried.
 #![tactic(auto)]
 
 #[cfg(test)]

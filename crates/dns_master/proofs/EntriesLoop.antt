@@ -9,7 +9,7 @@ after-append rs taken m = grind (arith, append_assoc)
 pub after-nil : (m : Meaning) → after [] m ≡ m
 after-nil m = grind arith
 
--- the meaning of the octets up to the limit is the meaning of the text
+-- the octets up to the limit, with whether the text goes on, decide the meaning of the text
 pub looked-means : (o : DomainName) (text front : Octets) (goes_on : Bool) (m : Meaning)
     → front ≡ take 16777216 text
     → goes_on ≡ nat_lt 16777216 (length text) → TextMeans o [] goes_on front m → Means o text m

@@ -236,7 +236,7 @@ pub past-means : (o : DomainName) (earlier : List Entry)
     → TextMeans o earlier true [] (fault_at too_long (line_after earlier))
 past-means o earlier = grind (arith, faulty, too_long)
 
--- a text at a place where no token begins is faulty
+-- a text that is not empty and begins with no token is faulty
 stuck-faulty : (extent : Extent) (is_open in_a_string : Bool) (x y : Octets)
     → stop_fault extent is_open (if in_a_string then in_string x else in_token y) ≡ None → ⊥
 stuck-faulty whole_text is_open true x y e = none-some _ (sym e)
@@ -317,7 +317,7 @@ some-shorter [] rest some e = absurd (some refl)
 some-shorter (o ∷ text) rest some e =
     let none : length rest ≡ 0 = ap length e in omega (arith, none)
 
--- an entry that ends without a fault has at least one octet
+-- an entry that ends without a fault leaves fewer octets
 pub entry-shorter : (goes_on : Bool)
     (text rest : Octets) (words : List Word) (lines : ℕ) (is_ended is_open : Bool) → (text ≡ [] → ⊥)
     → EntryRead text words lines (outcome_of is_ended is_open rest) → (is_ended ≡ true)

@@ -36,7 +36,7 @@ words-front text others p e =
 pub words-none : (text : Octets) → token_front text ≡ None → words_in text ≡ []
 words-none text e = grind (arith, same_words, words_from, words_of_first)
 
--- a token that is a word, and one that is not
+-- the words of a text whose first token is a word, and of one whose first token is not
 pub words-word : (text others : Octets) (p : Token) (w : Word)
     → token_front text ≡ Some (p, others) → word_of p ≡ Some w → words_in text ≡ w ∷ words_in others
 words-word text others p w e is =

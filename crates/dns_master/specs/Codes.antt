@@ -27,7 +27,7 @@ fault_of NoMemory = no_memory
 abbrev pub code_number : ReadCode → ℕ
 code_number code = fault_code (fault_of code)
 
--- a source's failure count: one more if and only if the code is SourceFailed (16)
+-- a source's failure count after a read: one more if and only if the code is SourceFailed (16)
 abbrev pub failures_after_read : {A : Type 0} → ℕ → Result A ReadFault → ℕ
 failures_after_read count (Ok a) = count
 failures_after_read count (Err f) = if code_number f.code == 16 then count + 1 else count

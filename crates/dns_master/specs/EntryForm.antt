@@ -24,8 +24,8 @@ step is_open opening = if is_open then misplaced else onward true
 step is_open closing = if is_open then onward false else misplaced
 step is_open line_end = if is_open then onward true else over
 
--- How reading an entry ends: after its line end, with the rest of the text; at a place where no
--- token begins, inside (true) or outside parentheses; or at a misplaced parenthesis.
+-- How reading an entry ends: after its line end, with the rest of the text; before a text with
+-- which no token begins, inside (true) or outside parentheses; or at a misplaced parenthesis.
 pub data Outcome : Type 0 where
   ended : Octets → Outcome
   unended : Bool → Octets → Outcome
@@ -63,7 +63,7 @@ IsWrong text = (ps : List Token) × Reads false text ps wrong
 abbrev pub outcome_of : Bool → Bool → Octets → Outcome
 outcome_of is_ended is_open rest = if is_ended then ended rest else unended is_open rest
 
--- an entry is ended by its line end, or by the end of a text that does not go on past its limit
+-- an entry is complete: ended by its line end, or without a fault by the end of the text
 abbrev pub IsWhole : Option Bool → Bool → Bool → Octets → Type 0
 IsWhole goes_on is_ended is_open rest =
     (is_ended ≡ true)

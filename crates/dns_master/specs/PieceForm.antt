@@ -70,7 +70,7 @@ pub record PieceTaken (old new : Option Octets) (before : Reader) (held : Octets
   pub some : more ≡ true → left' < left
   pub gathered : FrontGathered None before (held ++ came) now held' found found'
 
--- a piece was read; the held octets and that piece have this fault
+-- a piece was read, and the held octets followed by that piece have this fault
 pub record PieceFaulty (old new : Option Octets) (before : Reader) (held : Octets) (left : ℕ)
     (fault : FileFault) (line : ℕ) : Type 0 where
   pub came : Octets

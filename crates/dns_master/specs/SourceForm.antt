@@ -1,5 +1,5 @@
--- What one read of a source appends to a text, which text all reads give, which of its octets
--- decide a meaning, and what reading a zone file does.
+-- What one read of a source appends to a text, what the whole source means, which of its octets
+-- decide that meaning, and what reading a zone file does.
 use Rattle.std.specs.Prelude.{⊤, ◌≡◌, ℕ, ◌≤◌, ◌<◌, ◌⊎◌, Bool, true, false, List, [], ◌++◌, length, MatchOption, Option, Result, IfOk, IfErr}
 use Rattle.std.specs.Io.KnownBytes.{Consumes, IsAtEnd}
 use Rattle.dns_spec.specs.Names.{Octets, DomainName}
@@ -36,9 +36,9 @@ pub record IsRead (old new : Option Octets) (o : DomainName) (m : Meaning) : Typ
   pub means : GivesMeaning old o m
   pub decides : Decides old new o m
 
--- What a call that reads a zone file does to a counted source, whose octets `remaining` gives if
--- they are known. If the call returns a value, the file means the records that `found` gives of it.
--- If it returns a fault, the file means that fault, unless allocation or the source failed.
+-- The effect of a call that reads a zone file from a counted source; `remaining` gives the source's
+-- octets, if they are known. If the call returns a value, the file means the records that `found`
+-- gives for it; if a fault, the file means that fault, unless allocation or the source failed.
 pub record ReadsFile {R A : Type 0} (remaining : R → Option Octets) (old new : Counted R)
     (o : DomainName) (found : A → List ResourceRecord) (result : Result A ReadFault) : Type 0 where
   pub ok : IfOk result (λ a. IsRead (remaining old.device) (remaining new.device) o

@@ -1,4 +1,4 @@
-//! Directives: `$ORIGIN` (RFC 1035 5.1) and `$TTL` (RFC 2308 4).
+//! Reads the arguments of directives: `$ORIGIN` (RFC 1035 5.1) and `$TTL` (RFC 2308 4).
 ghost use Rattle.std.specs.Prelude.{◌≡◌, ◌↔◌, ℕ, Some};
 ghost use Rattle.dns_spec.specs.Names.{DomainName};
 ghost use Rattle.dns_spec.specs.Meaning.{OneWord, TtlSays};
@@ -11,7 +11,7 @@ use dns_name::Name;
 use dns_rdata::{Word, Words};
 
 /// The new origin from the arguments of `$ORIGIN`; a relative name is relative to the old origin.
-/// `None` unless they are one unquoted name.
+/// `None` unless there is one argument, an unquoted valid name.
 pub(crate) fn read_origin(words: EntryWords<'_, '_>, origin: &Name) -> Option<Name>
     ensures { (n : DomainName) → (result ≡ Some n)
         ↔ OneWord (λ w. SpelledName origin.now w n) (words_left words.entry) }

@@ -17,28 +17,28 @@ use crate::run::{RunKind, after_blanks};
 use crate::token::{Token, first_token};
 use dns_rdata::Word;
 
-// How many words of an entry are kept while its end is sought; later ones are only counted.
+// The number of words of an entry that are kept while its end is sought; later ones are counted.
 const MOST_KEPT: usize = 16;
 
-/// The end of the first entry of a text.
+/// How the first entry of a text ends.
 #[derive(Debug, Drop)]
 pub(crate) struct EntryEnd<'a> {
-    /// Its words after the kept ones.
+    /// The entry's words after the kept ones.
     pub(crate) later: LaterWords<'a>,
-    /// The number of line ends in it.
+    /// The number of line ends in the entry.
     pub(crate) lines: u32,
-    /// Whether a line end ends it.
+    /// Whether a line end ends the entry.
     pub(crate) is_ended: bool,
-    /// Whether a parenthesis is open at its end.
+    /// Whether a parenthesis is open at the end of the entry.
     pub(crate) is_open: bool,
-    /// The text after it, or from the place at which no token begins.
+    /// The text after the entry, or from the first octet at which no token begins.
     pub(crate) rest: &'a [u8],
 }
 
-/// Reads the first entry of a text, up to its end or to the first place at which no token begins.
-/// Keeps its first words and counts the later ones.
+/// Reads the first entry of a text, up to its end or to the first octet at which no token begins.
+/// Keeps the entry's first words and counts the later ones.
 ///
-/// Fails with `Parenthesis` if one is misplaced, and with `NoMemory` if allocation fails.
+/// Fails with `Parenthesis` if a parenthesis is misplaced, and with `NoMemory` if allocation fails.
 pub(crate) fn read_entry<'a>(
     text: &'a [u8],
     kept: &mut Vec<Word<'a>>,
@@ -80,7 +80,7 @@ pub(crate) fn read_entry<'a>(
     Ok(EntryEnd { later, ..end })
 }
 
-// The words that are not kept, and one more, which is the first of `rest`.
+// `later` with one more word, the first of `rest`.
 #[cold]
 #[inline(never)]
 fn one_later<'a>(later: LaterWords<'a>, rest: &'a [u8]) -> LaterWords<'a>
@@ -119,8 +119,7 @@ fn step_after(token: Token<'_>, is_open: bool) -> Progress
 /// Whether an entry is complete: ended by a line end, or by the end of a text that does not go on.
 /// `goes_on` is whether the text goes on past its limit, if that is known.
 ///
-/// False if only more text could decide it. An error is the fault at the place where the entry
-/// stops.
+/// False if only more text could decide it. An error is the fault at the end of the entry.
 #[tactic(auto, using(crate::proofs::Refusals::other_than_long))]
 pub(crate) fn is_whole(end: &EntryEnd<'_>, goes_on: Option<bool>) -> Result<bool, ReadCode>
     ensures ok { IfOk result (λ whole. MatchBool whole
@@ -160,8 +159,8 @@ fn end_fault(end: &EntryEnd<'_>, goes_on: bool) -> Option<ReadCode>
     Some(unless_cut_short(goes_on, end.rest, token_fault(end.rest)))
 }
 
-// The fault at a place where no token continues, or `TooLong` if only octets past the limit could
-// decide it: the place may be the beginning of an escape or of CR LF.
+// `fault`, the fault of a text at which no token continues; or `TooLong` if only octets past the
+// limit could decide it, because the text may be the beginning of an escape or of CR LF.
 fn unless_cut_short(goes_on: bool, place: &[u8], fault: ReadCode) -> ReadCode
     ensures value { fault_of result ≡ unless_cut_short (extent_by goes_on) place.now
         (fault_of fault) }

@@ -1,5 +1,4 @@
-//! The words of an entry, which are its fields and quoted strings, one after another
-//! (RFC 1035 5.1).
+//! The words of an entry, quoted or not, in order (RFC 1035 5.1).
 ghost use Rattle.std.specs.Prelude.{◌≡◌, ◌≤◌, ◌+◌, [], ◌∷◌, length, MatchOption};
 ghost use Rattle.dns_spec.specs.ZoneText.{word_of};
 ghost use Rattle.dns_master.specs.TokenForm.{shown_token};
@@ -8,7 +7,7 @@ ghost use Rattle.dns_master.specs.WordsForm.{words_in};
 use crate::token::{Token, first_token};
 use dns_rdata::{Word, Words};
 
-/// The first `count` words of a text: the words of an entry that were not kept.
+/// The words of an entry that were not kept: the first `count` words of a text.
 #[derive(Clone, Copy, Debug)]
 pub(crate) struct LaterWords<'w> {
     pub(crate) text: &'w [u8],
@@ -28,7 +27,7 @@ impl<'w> LaterWords<'w> {
     }
 }
 
-/// The remaining words of an entry: first the kept ones, then the ones that are still in the text.
+/// The remaining words of an entry: first the kept ones, then those that were only counted.
 #[derive(Clone, Copy, Debug)]
 pub(crate) struct EntryWords<'k, 'w> {
     pub(crate) kept: &'k [Word<'w>],

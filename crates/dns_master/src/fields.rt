@@ -1,4 +1,4 @@
-//! The fields between the owner and the data of a record (RFC 1035 5.1).
+//! Reads the fields between the owner and the data of a record (RFC 1035 5.1).
 ghost use Rattle.std.specs.Prelude.{◌≡◌, [], ◌∷◌, drop, codes, MatchOption, MatchResult};
 ghost use Rattle.std.specs.List.{list_any};
 ghost use Rattle.std.specs.Option.{option_copied};
@@ -79,8 +79,8 @@ fn is_ttl_word(word: &Word<'_>) -> bool
     !word.quoted && word.raw.first().is_some_and(|first| first.is_ascii_digit())
 }
 
-// Whether a word is unquoted and names a class, or begins with `CLASS` as `CLASS1` does
-// (RFC 1035 3.2.4, RFC 3597 5).
+// Whether a word is unquoted and is the mnemonic of a class, or begins with `CLASS`, as `CLASS1`
+// does, in any case (RFC 1035 3.2.4, RFC 3597 5).
 #[inline(always)]
 fn is_class_word(word: &Word<'_>) -> bool
     ensures { result ≡ is_class_word word.now }
@@ -128,8 +128,8 @@ pub(crate) fn type_and_words<'a, 'w>(
     Some((read_type(&first)?, others))
 }
 
-// The type that a word names, if zones may have it: not 0, no type of questions or messages
-// (RFC 6895 3.1), no DNSSEC type and not DNAME.
+// The type that an unquoted word names, if zones may have it: not 0, no QTYPE or meta-TYPE
+// (RFC 6895 3.1), and not DNAME, DS, RRSIG, NSEC, DNSKEY, NSEC3 or NSEC3PARAM.
 fn read_type(word: &Word<'_>) -> Option<RType>
     ensures { MatchOption result (Nothing (NamedType word.now)) (λ r. NamedType word.now r.0) }
 {

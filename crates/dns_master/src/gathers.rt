@@ -5,7 +5,7 @@ ghost use Rattle.dns_spec.specs.Records.{ResourceRecord};
 use crate::record::Record;
 use std::alloc::{AllocError, Global};
 
-/// A collection of records, in any form that the caller needs.
+/// A collection to which the reader adds records, in any form that the caller needs.
 pub trait Gathers {
     /// Its records, in the order in which they were added.
     ghost gathered: { Self → List ResourceRecord };

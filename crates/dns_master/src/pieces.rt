@@ -15,18 +15,18 @@ use dns_rdata::{DataRoom, RType, Rdata};
 use std::alloc::Global;
 use std::io::Read;
 
-/// The state between pieces: what the entries so far say, and the octets after them, which begin
-/// the current entry.
+/// The state between pieces: what the reader keeps of the entries so far, and the octets after
+/// them, which are the beginning of the next entry.
 #[derive(Drop)]
 pub(crate) struct Begun {
     alloc: Global,
     pub(crate) reader: Reader,
     room: DataRoom,
     pub(crate) held: Vec<u8>,
-    /// How many octets were held at the last attempt to take entries. The next attempt waits until
-    /// twice as many are held, so that an entry of many pieces is read in linear time.
+    /// The number of octets held after the last attempt to take entries. The next attempt waits
+    /// until twice as many are held, so that an entry of many pieces is read in linear time.
     tried: usize,
-    /// How many more octets may be read.
+    /// The number of octets that may still be read.
     pub(crate) left: usize,
 }
 
@@ -131,7 +131,7 @@ impl Begun {
         Ok(())
     }
 
-    /// Adds the records of the remaining text, which ends here, or goes on past its limit.
+    /// Adds the records of the held octets, after which the file ends, or goes on past its limit.
     pub(crate) fn finish<G: Gathers>(self, goes_on: bool, found: &mut G) -> Result<(), ReadFault>
         requires count { length (G.gathered found.old) ≡ self.reader.count }
         requires fits { self.reader.line + length self.held.items ≤ 16777217 }

@@ -1,4 +1,4 @@
-//! The reader of zone files (RFC 1035 section 5).
+//! Reads zone files (RFC 1035 section 5).
 ghost use Rattle.std.specs.Prelude.{◌≡◌, ◌≢◌, ◌+◌, ◌-◌, ◌^◌, ◌≤◌, ◌<◌, ◌⊎◌, length, [], ◌∷◌, IfOk, IfErr, OnOk, IfSome, Some, None, true};
 ghost use Rattle.dns_spec.specs.TypeText.{text_in_lower_case};
 ghost use Rattle.dns_spec.specs.Meaning.{TtlSays, gives, faulty, directive, kind_by_words, fields, most_records};
@@ -36,9 +36,9 @@ pub const MOST_RECORDS: usize = 100_000;
 /// The records are in the order of the file; owners, and names in data, are in lower case. A file
 /// may have at most 100,000 records and 16,777,216 octets; at most one octet more is asked for.
 ///
-/// A faulty file yields no records. The fault is the first faulty entry's: its line, and the first
-/// by place of `R01` to `R04` and `R15` in it, else its lowest code from `R05`. The code is `R16`
-/// if the source failed, and `R17` only if allocation failed.
+/// A faulty file yields no records. The fault has the line of the first faulty entry, and as code
+/// the first by place of `R01` to `R04` and `R15` in that entry, else its lowest code from `R05`.
+/// The code is `R16` if the source failed, and `R17` only if allocation failed.
 pub fn read_zone<R: Read>(
     alloc: Global,
     origin: &Name,
@@ -83,8 +83,8 @@ pub fn read_into<R: Read, G: Gathers>(
 }
 
 impl Reader {
-    /// Takes the first entry of a text. Returns whether it is a record, which is then `last`, and
-    /// the text after it.
+    /// Takes the first entry of a text. Returns whether the entry is a record, which is then in
+    /// `last`, and the text after the entry.
     ///
     /// `goes_on` is whether the text goes on past its limit; if that is unknown, more text may
     /// follow. `None`, with nothing taken, if only more text could decide where the entry ends.

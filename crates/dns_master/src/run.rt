@@ -6,7 +6,7 @@ ghost use Rattle.dns_spec.specs.DataText.{is_string_octet, is_word_octet};
 ghost use Rattle.dns_spec.proofs.NameTexts.Escapes.{counted_escape};
 ghost use Rattle.dns_master.specs.TokenForm.{by_itself};
 
-/// The octets of a run, apart from escapes.
+/// A kind of run, by the octets that may appear in it unescaped.
 #[derive(Clone, Copy, Debug, PartialEq, Eq)]
 pub(crate) enum RunKind {
     /// The printable octets of a word, without `"`, `(`, `)`, `;` and `\`.
@@ -15,7 +15,7 @@ pub(crate) enum RunKind {
     String,
 }
 
-// How many octets are checked at once, because a word or a string may be long.
+// The number of octets in a group, which is checked at once, because a run may be long.
 const GROUP: usize = 16;
 
 // Where each octet may appear unescaped: 2 in words and strings, 1 only in strings, 0 in neither.
@@ -31,7 +31,7 @@ const PLAIN_IN: [u8; 256] = [
 ];
 
 impl RunKind {
-    /// The length in octets of the run at the beginning of a text. All octets of an escape count.
+    /// The length in octets of the run at the beginning of a text, with all octets of its escapes.
     #[inline(always)]
     pub(crate) fn length(self, text: &[u8]) -> usize
         ensures value { result ≡ run_length (by_itself self) 0 text.now }
@@ -46,7 +46,7 @@ impl RunKind {
                     front
                 }
             }
-            // Only a string may be long.
+            // Strings may be long, so groups without escapes are skipped first.
             RunKind::String => self.length_from(text, plain_groups(text)),
         }
     }
@@ -108,7 +108,7 @@ fn word_front(text: &[u8]) -> usize
     front + word_end(rest).unwrap_or(rest.len())
 }
 
-// The place of the first octet that ends a word, or begins an escape.
+// The place of the first octet that ends a word or begins an escape, if there is one.
 #[inline(always)]
 fn word_end(text: &[u8]) -> Option<usize>
     ensures { result ≡ position (λ x. not (is_word_octet x)) text.now }
@@ -121,7 +121,7 @@ fn plain_groups(text: &[u8]) -> usize
     ensures bound { result ≤ length text.now }
     ensures plain { list_all is_string_octet (take result text.now) ≡ true }
 {
-    // An empty string takes a seventh less time.
+    // A fast path: an empty string takes a seventh less time.
     if text.first() == Some(&b'"') {
         return 0;
     }
@@ -137,8 +137,8 @@ fn plain_groups(text: &[u8]) -> usize
     front
 }
 
-// Whether a group contains only printable octets, spaces and tabs, without `"` and `\`. It looks
-// at each octet, so that a processor can check many at once.
+// Whether a group contains only printable octets, spaces and tabs, without `"` and `\`. The loop
+// does not stop early, so that a processor can check many octets at once.
 fn are_plain(group: &[u8; GROUP]) -> bool
     ensures { result ≡ list_all is_string_octet group.now }
 {
@@ -151,8 +151,8 @@ fn are_plain(group: &[u8; GROUP]) -> bool
     all
 }
 
-// The number of octets of an escape after its backslash: 1 if the first is printable and no digit,
-// 3 if they are digits up to 255, else 0 because the backslash begins no escape.
+// The number of octets of an escape after its backslash: 1 if the first is printable and not a
+// digit, 3 if there are three digits up to 255, and 0 if the backslash begins no escape.
 fn escape_length(text: &[u8]) -> usize
     ensures value { result ≡ counted_escape text.now }
     ensures bound { result ≤ length text.now }
@@ -188,8 +188,8 @@ pub(crate) fn after_blanks(text: &[u8]) -> &[u8]
     }
 }
 
-// The same. Rarely called, because most blanks are one octet. Skips spaces by eights after the
-// first octet, because a line may be padded with them.
+// The same as `after_blanks`. Rarely called, because most blanks are one octet. Skips spaces in
+// eights, because a line may be padded with them.
 #[inline(never)]
 fn after_run(text: &[u8]) -> &[u8]
     ensures { result.now ≡ drop (prefix_len is_blank text.now) text.now }
@@ -210,7 +210,7 @@ pub(crate) fn is_blank(octet: u8) -> bool
     octet == b' ' || octet == b'\t'
 }
 
-/// The text from its first LF.
+/// The text from its first LF on; empty if there is none.
 pub(crate) fn after_comment(text: &[u8]) -> &[u8]
     ensures { result.now ≡ drop (prefix_len (λ x. not (x == 10)) text.now) text.now }
 {

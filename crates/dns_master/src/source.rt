@@ -1,4 +1,4 @@
-//! Reads text from a source.
+//! Reads the octets of a file from a source.
 ghost use Rattle.std.specs.Prelude.{◌≡◌, ◌-◌, ◌^◌, ◌<◌, ◌≤◌, ◌⊎◌, length, IfOk, IfErr};
 ghost use Rattle.dns_master.specs.SourceForm.{AppendsPiece};
 ghost use Rattle.dns_master.specs.Codes.{failures_after_read};
@@ -7,10 +7,10 @@ use crate::fault::{ReadCode, ReadFault};
 use dns_name::Tally;
 use std::io::Read;
 
-/// The most octets that a text may have.
+/// The most octets that a file may have.
 pub(crate) const MOST_FILE_OCTETS: usize = 16_777_216;
 
-/// How many octets each read asks for.
+/// The number of octets that each read asks for.
 pub(crate) const PIECE: usize = 4_096;
 
 /// Reads once, at most `asked` octets, and appends them. False at the end of the source.

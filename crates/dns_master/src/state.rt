@@ -14,11 +14,11 @@ pub(crate) struct Reader {
     pub(crate) origin: Name,
     /// The TTL of the last `$TTL`.
     pub(crate) default_ttl: Option<u32>,
-    /// The TTL that a record stated last.
+    /// The TTL of the last record that states one.
     pub(crate) stated_ttl: Option<u32>,
     /// The line on which the next entry begins, counted from 1.
     pub(crate) line: u32,
-    /// The last record, if there is one. The next one is read in place, owner first.
+    /// The last record, if `count` is not 0. The next record is read in its place, owner first.
     pub(crate) last: Record,
     /// The number of records so far.
     pub(crate) count: usize,

@@ -4,7 +4,7 @@ ghost use Rattle.dns_master.specs.TokenForm.{Begins};
 
 use crate::run::{RunKind, after_blanks, after_comment};
 
-/// A token. A word and a quoted string keep their spelling; the quotation marks are left out.
+/// A token. Words and quoted strings keep their escapes; quotation marks are left out.
 #[derive(Clone, Copy, Debug, PartialEq, Eq)]
 pub(crate) enum Token<'a> {
     Blank,
@@ -24,8 +24,8 @@ pub(crate) fn first_token(text: &[u8]) -> Option<(Token<'_>, &[u8])>
     ensures { Begins result (token_front text.now) }
 {
     let (first, others) = text.split_first()?;
-    // A fast path, because most tokens are words: a check of a large zone takes 2 in 100 fewer
-    // instructions. Of the words, only those that begin with an escape remain.
+    // A fast path, because most tokens are words: a check of a large zone takes 2 % fewer
+    // instructions. Only words that begin with an escape are left for the last case below.
     if RunKind::Word.has(*first) {
         let (raw, others) = text.split_at(RunKind::Word.length(text));
         return Some((Token::Word(raw), others));

@@ -8,7 +8,8 @@ use dns_rdata::{Word, read_number};
 // The greatest TTL (RFC 2181 8).
 const MOST_TTL: u32 = 2_147_483_647;
 
-/// The TTL of an unquoted word: seconds in decimal, without leading zeros.
+/// The TTL that an unquoted word spells: seconds in decimal, without leading zeros, at most
+/// 2147483647. `None` for any other word.
 pub(crate) fn read_ttl(word: &Word<'_>) -> Option<u32>
     ensures { (n : ℕ) → (result ≡ Some n) ↔ TtlSays word.now n }
 {

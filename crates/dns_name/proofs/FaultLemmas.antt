@@ -54,7 +54,7 @@ pub named_fault : (text : Octets) → (text ≡ [] → ⊥) → name_fault text 
 named_fault [] some = absurd (some refl)
 named_fault (o ∷ text) some = refl
 
--- a label ends where a backslash begins no escape
+-- a backslash that begins no escape has fault 4
 bad_escape : (rest : Octets) (i : ℕ) → is_label_end rest ≡ false → octet_at rest ≡ None
     → labels_fault 0 i rest ≡ 4
 unfolding labels_fault octet_at
@@ -74,7 +74,7 @@ dot_after : (o : ℕ) (rest l : Octets) (code : ℕ) → (o == 46) ≡ true → 
 unfolding labels_fault
 dot_after o rest l code dot none = grind arith
 
--- a label of no octets, or of more than 63, has its fault
+-- an empty label has fault 1, and a label of more than 63 octets fault 2
 pub length_fault : (text l rest : Octets) (code : ℕ) → LabelThen text l rest
     → is_label_end rest ≡ true → IsNoLength l code → name_fault text ≡ code
 unfolding labels_fault

@@ -13,8 +13,7 @@ pub drop-next : (s t n : DomainName) (r : Option Octets) (k : ℕ)
     → s ≡ drop k n → YieldsFirst (λ x. x) s r t → t ≡ drop (k + 1) n
 drop-next s t n r k e h = grind (arith, drop-one)
 
--- the last k labels of both decide before the number of labels does, if one name has no more than
--- k
+-- if one name has only k labels, the last k labels of both decide, and then the number of labels
 pub order_of_last : (n m : DomainName) (k : ℕ)
     → k ≤ length n → k ≤ length m → (length n ≡ k) ⊎ (length m ≡ k)
     → ordering_then (slice_cmp label_order (reverse (last_labels k n)) (reverse (last_labels k m)))
@@ -67,7 +66,7 @@ pub order_stays : (n m : DomainName) (order : Ordering)
     → n ≡ m → ordering_then (slice_cmp label_order (reverse n) (reverse m)) order ≡ order
 order_stays n m order e = grind (arith, cmp_self)
 
--- names with the same parent
+-- the first labels decide the order of names with the same parent
 pub order_of_first : (n n' m m' : DomainName) (l k : Octets) (result : Ordering)
     → n ≡ l ∷ n' → m ≡ k ∷ m'
     → n' ≡ m' → result ≡ label_order l k → result ≡ slice_cmp label_order (reverse n) (reverse m)

@@ -119,7 +119,7 @@ pub wire-append : (n m : DomainName) (xs : Octets)
     → xs ≡ take (length (wire n) - 1) (wire n) → xs ++ wire m ≡ wire (n ++ m)
 wire-append n m xs e = ap (λ ys. ys ++ wire m) (e ∙ front_taken n) ∙ sym (wire_front n m)
 
--- a suffix that is not longer decides
+-- a name that is no longer than `a` is at or below it only if they are the same
 pub no_longer_decides : (xs ys : Octets) (a : DomainName) → IsWireForm xs
     → ys ≡ wire a → length xs ≤ length ys → at_or_below (labels_of xs) a ≡ same (labels_of xs) a
 no_longer_decides xs ys a form f short =

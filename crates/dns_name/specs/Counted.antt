@@ -21,9 +21,9 @@ joined = flat_map (λ part. part.now)
 abbrev pub AppendsBeginning : Option (List ℕ) → Option (List ℕ) → List ℕ → Type 0
 AppendsBeginning old new text = (n : ℕ) × (n ≤ length text) × Appends old new (take n text)
 
--- What a call that writes a text does to a counted device, whose octets `contents` gives if they
--- are known. The call returns Ok with the whole text written, or an error with a beginning of it
--- written and one more failure counted.
+-- The effect of a call that writes a text to a counted device; `contents` gives the octets of the
+-- device, if they are known. The call returns Ok with the whole text written, or an error with a
+-- beginning of it written and one more failure counted.
 pub record Writes {W A E : Type 0} (contents : W → Option (List ℕ)) (old new : Counted W)
     (result : Result A E) (text : List ℕ) : Type 0 where
   pub ok : OnOk result (Appends (contents old.device) (contents new.device) text)
@@ -36,9 +36,9 @@ pub record AppendsAllBut (old new : Option (List ℕ)) (whole held : List ℕ) :
   pub appended : Appends old new done
   pub whole_is : done ++ held ≡ whole
 
--- What a call does that adds a text to a buffer, which is written when it is full. The whole is
--- the text that was held and the added text: the call has written all of it except what is held
--- now; or it returns an error with a beginning of the whole written and one more failure counted.
+-- The effect of a call that adds a text to a buffer, which is written when it is full. `whole` is
+-- the text held before, then the added text. The call returns Ok with all of it written except
+-- `held`, its end; or an error with a beginning of it written and one more failure counted.
 pub record Fills {W A E : Type 0} (contents : W → Option (List ℕ)) (old new : Counted W)
     (result : Result A E) (whole held : List ℕ) : Type 0 where
   pub ok : OnOk result (AppendsAllBut (contents old.device) (contents new.device) whole held)

@@ -7,7 +7,7 @@ use Rattle.std.specs.List.{list_all}
 use Rattle.dns_spec.specs.Names.{Octets, DomainName, wire, is_label, is_name, folded}
 use Rattle.dns_spec.specs.NameText.{LabelThen, TextSpells, SpellsName, escape_front, name_fault}
 
--- the function returned the value and the rest of the text, borrowed, that reading gives
+-- a function returned the value and the rest that a definition gives, with the rest borrowed
 abbrev pub Gives : Option (ℕ × Bor Octets) → Option (ℕ × Octets) → Type 0
 Gives None read = read ≡ None
 Gives (Some x) read = read ≡ Some (x.0, x.1.now)
@@ -57,12 +57,12 @@ pub record PushesLabel (text : Octets) (old : DomainName) (fits : Bool) (end : O
   pub is_label : is_label label ≡ true
   pub appended : Appended old (label ∷ []) fits new
 
--- a label has 1 to 63 octets, and not these: the fault is 1 if there are none, and 2 if there are more
+-- these are not 1 to 63 octets: the fault is 1 if there are none, and 2 if there are more than 63
 abbrev pub IsNoLength : Octets → ℕ → Type 0
 IsNoLength octets fault =
     ((octets ≡ []) × (fault ≡ 1)) ⊎ ((63 < length octets) × (fault ≡ 2))
 
--- no label of 1 to 63 octets is at the beginning, and this is the fault
+-- the text does not begin with a label of 1 to 63 octets, and this is its fault
 pub record HasFault (text : Octets) (fault : ℕ) : Type 0 where
   pub none : (l end : Octets)
       → LabelThen text l end → is_label_end end ≡ true → is_label l ≡ true → ⊥
@@ -100,8 +100,8 @@ pub record HasLengths (text octets : Octets) : Type 0 where
   pub labels : list_all is_label (first ∷ others) ≡ true
   pub written : octets ++ 0 ∷ [] ≡ wire (folded (first ∷ others))
 
--- the word is the labels and a final dot, or the labels alone, which the origin follows; `end` is the
--- wire form of what follows
+-- the word is the labels and a final dot, or the labels alone, which the origin follows; `end` is
+-- the wire form of what follows the labels
 pub record IsEnded (origin : DomainName) (word labels end : Octets) : Type 0 where
   pub above : DomainName
   pub spelled : ((word ≡ labels ++ 46 ∷ []) × (above ≡ [])) ⊎ ((word ≡ labels) × (above ≡ origin))

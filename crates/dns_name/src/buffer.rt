@@ -1,4 +1,4 @@
-//! Text that is gathered before it is written.
+//! Gathers text in a buffer before it is written.
 ghost use Rattle.std.specs.Prelude.{◌≡◌, ◌+◌, ◌-◌, ◌^◌, ◌<◌, ◌≤◌, [], ◌∷◌, ◌++◌, length, take, OnOk};
 ghost use Rattle.dns_spec.specs.NameText.{three_digits};
 ghost use Rattle.dns_name.specs.Counted.{Writes, Fills};
@@ -8,8 +8,8 @@ use arrayvec::ArrayVec;
 use std::io::Write;
 use std::marker::Model;
 
-/// Text on its way to a writer, gathered in place up to 4,096 octets, so that a line of many parts
-/// takes few calls to write.
+/// Text on its way to a writer, in an inline buffer of 4,096 octets, so that a line of many parts
+/// is written in few calls.
 #[derive(Drop)]
 pub struct TextBuffer {
     octets: ArrayVec<u8, 4096>,

@@ -135,8 +135,8 @@ impl NameRef<'_> {
         self.order_as_spelled(other)
     }
 
-    // Labels are compared from the right, with regard to case. Two names of a zone often have the
-    // same parent: then their first labels decide, and no labels need to be counted.
+    // Compares labels from the right, case-sensitively. Fast path: two names of a zone often have
+    // the same parent, and then only their first labels are compared.
     pub(crate) fn order_as_spelled(&self, other: &NameRef<'_>) -> Ordering
         ensures { result ≡ slice_cmp label_order (reverse self.now) (reverse other.now) }
     {
@@ -214,7 +214,7 @@ impl Labels<'_> {
 }
 
 /// The first label of a name in wire form, and the wire form of the rest: `www` and `example.` of
-/// `www.example.`. The root gives `None`.
+/// `www.example.`. `None` for the root.
 pub fn first_label(octets: &[u8]) -> Option<(Label<'_>, &[u8])>
     requires { IsWireForm octets.now }
     ensures { MatchOption result (labels_of octets.now ≡ [])
@@ -229,9 +229,9 @@ pub fn first_label(octets: &[u8]) -> Option<(Label<'_>, &[u8])>
     Some((Label::new(label)?, rest))
 }
 
-// The order of equally many labels on both sides, compared from the right; `longer` if they are
-// equal. Names of a zone often differ only in their first labels, so the loop stops once the
-// remaining labels are equal.
+// The order of two lists of equally many labels, compared from the right; `longer` if they are
+// equal. The loop stops once the remaining labels are equal, since names of a zone often differ
+// only in their first labels.
 fn order_of_labels(left: Labels<'_>, right: Labels<'_>, longer: Ordering) -> Ordering
     requires { length left ≡ length right }
     ensures { result ≡ ordering_then (slice_cmp label_order (reverse left.entry)
@@ -249,7 +249,8 @@ fn order_of_labels(left: Labels<'_>, right: Labels<'_>, longer: Ordering) -> Ord
     order
 }
 
-// A fast path: octets are mostly in one case. It saves 130 to 350 instructions of a short reply.
+// Fast path: names that are the same mostly have equal octets. This saves 130 to 350 instructions
+// per short reply.
 fn same_octets(left: &[u8], right: &[u8]) -> bool
     ensures { IsTrue result ↔ (map to_ascii_lowercase left.now ≡ map to_ascii_lowercase right.now) }
 {

@@ -1,4 +1,4 @@
-//! The octets of a name, in place.
+//! The octets of a name, stored inline.
 ghost use Rattle.std.specs.Prelude.{◌≡◌, ◌+◌, ◌-◌, ◌<◌, ◌≤◌, [], ◌∷◌, ◌++◌, length, take, map};
 ghost use Rattle.std.specs.Char.{to_ascii_lowercase};
 
@@ -7,13 +7,13 @@ use std::marker::Model;
 // The most octets of a name on the wire (RFC 1035 2.3.4).
 pub(crate) const MAX_OCTETS: usize = 255;
 
-/// At most 255 octets, in place. Unlike an `ArrayVec`, it does not clear the octets that it gives
-/// up, which would take a tenth of the time of spelling a name.
+/// At most 255 octets, stored inline. Unlike `ArrayVec`, it does not clear removed octets, which
+/// would take a tenth of the time of spelling a name.
 #[derive(Drop)]
 pub(crate) struct NameOctets {
-    /// Their place. What it contains after the first `count` octets means nothing.
+    /// The array. Its octets after the first `count` are unspecified.
     pub(crate) all: [u8; MAX_OCTETS],
-    /// Their number.
+    /// The number of octets in use.
     pub(crate) count: usize,
 }
 
@@ -39,7 +39,7 @@ impl NameOctets {
         }
     }
 
-    /// Sets them to the wire form of the root.
+    /// Sets the octets to the wire form of the root.
     pub(crate) fn set_root(&mut self)
         ensures { self.new ≡ 0 ∷ [] }
     {
@@ -47,14 +47,14 @@ impl NameOctets {
         self.push(0);
     }
 
-    /// Gives up all octets.
+    /// Removes all octets.
     pub(crate) fn clear(&mut self)
         ensures { self.new ≡ [] }
     {
         self.count = 0;
     }
 
-    /// All of them.
+    /// The octets.
     pub(crate) fn as_slice(&self) -> &[u8]
         ensures value { result.now ≡ self.now }
         ensures bound { length result.now ≤ 255 }

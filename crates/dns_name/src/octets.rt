@@ -22,7 +22,7 @@ pub fn are_equal(left: &[u8], right: &[u8]) -> bool
 
 /// Whether a run of octets begins with another run.
 ///
-/// `starts_with` of slices is a call that takes twice the instructions for a short run.
+/// For a short run, `starts_with` of slices takes twice as many instructions.
 pub fn begins_with(octets: &[u8], front: &[u8]) -> bool
     ensures { result ≡ starts_with ◌==◌ octets.now front.now }
 {

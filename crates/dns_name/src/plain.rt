@@ -1,4 +1,4 @@
-//! Names whose text has no escape, which most texts of zone files have (RFC 1035 5.1).
+//! Reads names without escapes, as most names in zone files are (RFC 1035 5.1).
 ghost use Rattle.std.specs.Prelude.{◌≡◌, ◌≢◌, ◌+◌, ◌≤◌, ◌++◌, length, drop, map, codes, if◌then◌else◌};
 ghost use Rattle.std.specs.Bool.{OnTrue};
 ghost use Rattle.std.specs.Char.{to_ascii_lowercase};
@@ -25,8 +25,8 @@ const IN_LOWER_CASE: [u8; 256] = [
 ];
 
 impl Name {
-    // Sets the name to the one that a word spells, in lower case. False for `.`, and if the
-    // word has an escape or spells no name; then the name is unspecified.
+    // Sets the name to the one that a word spells, in lower case. Returns false, with the name
+    // unspecified, if the word is `.`, contains a backslash or an octet 0, or spells no name.
     pub(crate) fn spell_plain(&mut self, word: &[u8], origin: &Name) -> bool
         requires { word.now ≢ codes "@" }
         ensures { OnTrue result (SpellsFolded origin.now word.now self.new) }
@@ -47,7 +47,7 @@ impl Name {
     }
 }
 
-// Puts octets at the front of a room, in lower case. Often they are the length of the root alone.
+// Copies octets to the front of `room`, in lower case. Often there is only the root's length.
 fn put_lowered(octets: &[u8], room: &mut [u8])
     requires { length octets.now ≤ length room.old }
     ensures { room.new ≡ map to_ascii_lowercase octets.now ++ drop (length octets.now) room.old }
@@ -61,8 +61,8 @@ fn put_lowered(octets: &[u8], room: &mut [u8])
     room.make_ascii_lowercase();
 }
 
-// The labels before the final dot, and the wire form of the root. Without a final dot the labels
-// are the whole word, and the origin follows.
+// The text of the word's labels, and the wire form of what follows them: the root if the word ends
+// with a dot, otherwise the origin.
 fn ended_labels<'a>(word: &'a [u8], origin: &'a Name) -> (&'a [u8], &'a [u8])
     ensures { IsEnded origin.now word.now result.0.now result.1.now }
 {
@@ -72,8 +72,9 @@ fn ended_labels<'a>(word: &'a [u8], origin: &'a Name) -> (&'a [u8], &'a [u8])
     }
 }
 
-// Puts labels in lower case, each after its length, from the last label to the first. False if an
-// octet is a backslash or 0, or if a label has no octets or more than 63 (RFC 1035 2.3.4).
+// Writes labels in lower case, each after its length, from the last label to the first. Returns
+// false if an octet is a backslash or 0, or if a label has no octets or more than 63 (RFC 1035
+// 2.3.4).
 fn put_lengths(labels: &[u8], octets: &mut [u8]) -> bool
     requires room { length octets.old ≡ length labels.now + 1 }
     requires few { length octets.old ≤ 255 }

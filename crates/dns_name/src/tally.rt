@@ -19,7 +19,7 @@ pub struct SinkFailed;
 /// A reader or a writer with the count of its failures.
 ///
 /// The count rises by one if and only if a call returns an error. No call is retried. Each method
-/// that calls the device requires the count to be below the greatest `u64`.
+/// that calls the device requires the count to be below `u64::MAX`.
 #[derive(Drop)]
 pub struct Tally<T> {
     device: T,
@@ -147,7 +147,7 @@ impl<T: Write> Tally<T> {
 }
 
 impl<W: Write + Drop> Tally<BufWriter<W>> {
-    /// Has the buffer pass on what it keeps, as `flush` does. If that succeeds, it keeps nothing.
+    /// Flushes the buffered writer, as `flush` does. After success its buffer is empty.
     pub fn flush_buffer(&mut self) -> Result<(), SinkFailed>
         requires { self.old.failures < 2 ^ 64 - 1 }
         ensures written { Writes (writer_contents W.contents) self.old self.new result [] }

@@ -1,4 +1,4 @@
-//! Names in the text of zone files (RFC 1035 5.1).
+//! Reads names from the text of zone files (RFC 1035 5.1).
 ghost use Rattle.std.specs.Prelude.{◌≡◌, ◌≢◌, true, if◌then◌else◌, IsNone, ◌↔◌, [], ◌∷◌, ◌≤◌, length, IsTrue, IfOk, IfErr, OnOk, OnErr, Ok, IfSome, ◌<◌};
 ghost use Rattle.dns_spec.specs.Names.{Octets, DomainName, is_label, folded};
 ghost use Rattle.dns_spec.specs.NameText.{SpellsName, digits_front, name_fault};
@@ -15,7 +15,7 @@ const KEPT_OCTETS: usize = 64;
 /// Why a word does not spell a name.
 #[derive(Clone, Copy, Debug, PartialEq, Eq)]
 pub enum NameFault {
-    /// A label is empty, as in `a..b`. The empty word is such a label.
+    /// A label is empty, as in `a..b`, or the word is empty.
     EmptyLabel = 1,
     /// A label has more than 63 octets (RFC 1035 2.3.4).
     LabelTooLong,
@@ -55,8 +55,8 @@ impl Name {
         Ok(name)
     }
 
-    // Sets the name to the one that a word spells, as `read_text` does, without a second name. After
-    // a fault the name is unspecified. Out of line, because its room would be cleared for each word.
+    // `read_text` in place. After a fault the name is unspecified. Out of line: if it were inlined
+    // into `spell`, its buffer would be cleared for each word.
     #[cold]
     #[inline(never)]
     fn spell_as_written(&mut self, word: &[u8], origin: &Name) -> Result<(), NameFault>
@@ -81,8 +81,8 @@ impl Name {
         spell_labels(self, word, origin)
     }
 
-    /// Sets the name to the one that a word spells, in lower case: `read_text` and `fold` without a
-    /// second name. A word without an escape is read in one pass.
+    /// Sets the name to the one that a word spells, in lower case: `read_text` and `fold` in place.
+    /// A word without an escape is read in one pass.
     ///
     /// After a fault the name is unspecified, but in lower case.
     pub fn spell(&mut self, word: &[u8], origin: &Name) -> Result<(), NameFault>
@@ -108,7 +108,7 @@ impl Name {
     }
 }
 
-// Adds to the root the labels that the word spells, and the origin's labels if it is relative.
+// Adds to the root the labels that the word spells, and the origin's if the word is relative.
 fn spell_labels(name: &mut Name, word: &[u8], origin: &Name) -> Result<(), NameFault>
     requires some { word.now ≢ [] }
     requires root { name.old ≡ [] }
@@ -168,7 +168,7 @@ fn push_octets(name: &mut Name, octets: &[u8]) -> Result<bool, NameFault>
 }
 
 // The octets of the label at the beginning of the text, at most 64 of them, and the text from its
-// end on. `None` if it contains a bad escape.
+// end on. `None` if the label contains a bad escape.
 fn label_text(text: &[u8]) -> Option<(ArrayVec<u8, KEPT_OCTETS>, &[u8])>
     ensures some { IfSome result (λ x. ReadsLabel text.now x.0.items x.1.now) }
     ensures end { IfSome result (λ x. IsTrue (is_label_end x.1.now)) }

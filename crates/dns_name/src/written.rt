@@ -1,4 +1,4 @@
-//! Names as they are written in zone files (RFC 1035 5.1).
+//! Writes names as they appear in zone files (RFC 1035 5.1).
 ghost use Rattle.std.specs.Prelude.{◌≡◌, ◌+◌, ◌-◌, ◌*◌, ◌^◌, ◌<◌, ◌≤◌, ◌++◌, length};
 ghost use Rattle.dns_spec.specs.NameText.{is_special, octet_text, label_text, name_text};
 ghost use Rattle.dns_spec.specs.Report.{bare_name_text};
@@ -26,8 +26,8 @@ impl Name {
         self.lent().write_text(sink)
     }
 
-    /// Appends the name as most programs print it: its labels, separated by dots, and the root as
-    /// `.`, at most 1,020 octets. Octets are written as `write_text` writes them.
+    /// Appends the name without its final dot, as most programs print it: its labels, separated by
+    /// dots, or `.` for the root; at most 1,020 octets. Octets are written as in `write_text`.
     pub fn append_bare_text(&self, text: &mut TextBuffer)
         requires { length text.old + 1020 ≤ 4096 }
         ensures { text.new ≡ text.old ++ bare_name_text self.now }
@@ -93,8 +93,8 @@ fn append_octet(text: &mut TextBuffer, octet: u8)
     }
 }
 
-// Whether an octet has a meaning of its own in a zone file, unless a backslash precedes it. Most
-// octets of names are small letters, for which one test is enough.
+// Whether an octet has a special meaning in a zone file unless a backslash precedes it. Most octets
+// of names are lower-case letters, for which the first test is enough.
 fn is_special(octet: u8) -> bool
     ensures { result ≡ is_special octet }
 {

@@ -4,7 +4,7 @@ use Rattle.dns_rdata.proofs.Common.{◌≡◌, ℕ, ◌-◌, ◌≤◌, length, 
 pub big_number-four : (xs : Octets) → 4 ≤ length xs → big_number 4 xs ≡ number_of (take 4 xs)
 big_number-four xs h = grind arith
 
--- the last k octets, of which the first four are a number
+-- the last k octets are at least four, so a number may be read from them
 pub four_long : (xs : Octets) (k : ℕ) → 4 ≤ k
     → k ≤ length xs → 4 ≤ length (take (length xs - (length xs - k)) (drop (length xs - k) xs))
 four_long xs k some long = grind (arith, take_all, length-drop)

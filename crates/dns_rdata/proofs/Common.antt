@@ -1,4 +1,4 @@
--- The names that most proofs cite, passed on from one place. Declares nothing.
+-- Re-exports the names that most proofs use. Declares nothing.
 pub use Rattle.dns_spec.proofs.Common.{All, All-cons, All-head, All-nil, All-tail, AllDigits, Appends-nil, Bool, Bor, DomainName, IfErr, IsAsciiDigit, IsErrAnd, IsNotAsciiDigit, IsTrue, List, MatchOption, None, Octets, OnTrue, Option, Part, Field, Result, Says, DataFaultIs, FieldsFaultIs, TypedFaultIs, UnknownFaultIs, field_fault, MatchBool, SaysAsSpelled, SaysField, SaysFields, SaysHex, SaysIpv4, SaysIpv6, SaysNumber, SaysTyped, SaysUnknown, SaysWord, Some, SpellsName, SpellsString, SpellsStringOctet, Valid, Word, [], add-one, and_from, and_parts, anything, ap, append-nil, append_assoc, are_strings, arith, around_gap, bytes_high_first, cases_Bool, cases_lt, common_steps, cond_some, decimal, decimal_injective, decimal_is_IsNumeral, digit_char, digit_from_value, digit_value, digits_value, domain, drop, drop-append_seam, drop-cons, drop-drop, drop_at, eq-eqb, escape_front, eqb-false, eqb-true, false, false_from_ne_true, false≢true, first_decimal, first_name, flat_map, flat_map-append, flat_map-cons, fold, folded, field_words, word_fields, get_or, group_values, groups_said, groups_text, hex_text, if◌then◌else◌, inl, inr, ipv4, ipv6, ipv6_octets, is_ascii_hexdigit, is_group, is_hex_word, is_label, is_name, is_some, join_with_byte, joined, le-leb, le-ltb, leb-false, leb-true, length, length-append, length-drop, length-map, length-replicate, length-take-le, list_all, list_any, lower_case, lt-leb, lt-ltb, ltb-false, ltb-true, map, map-append, max, may_be_quoted, name, name_of, nat_le, nat_lt, ne_eqb, nil_from_length, none-some, not, not-true, number_of, number, numbered_type, octets, octets_equal, octets_front, on_ok_weaker, option_and_then, option_and_then_some, option_map, other_type, part_folded, part_octets, field_front, fields_of, position_or_len, pow-le-pow_right, pow-suc, prefix_len, refl, replicate, row_of, rules, same_Some, slice_index_or, slice_split, string, string_count, string_front, string_octet_text, strings, strings_front, subst, subst₂, suc, sym, take, take-append-drop, take_all, take_at, take_more, target, text_in_lower_case, to_ascii_lowercase, true, true≢false, type_soa, type_table, unknown_words, unwrap_or, valid, wire, word_front, word_text, words_by, zero, zero_runs, ℕ, ◌%◌, ◌&&◌, ◌*◌, ◌++◌, ◌+◌, ◌-◌, ◌/◌, ◌<◌, ◌==◌, ◌^◌, ◌||◌, ◌↔◌, ◌∙◌, ◌∷◌, ◌≡◌, ◌≢◌, ◌≤◌, ◌⊎◌, are_strings_alone, slice_get}
 unfoldable pub use Rattle.dns_spec.proofs.Common.{cut, data_text, digits, hex_octets, ipv6_groups}
 pub use Rattle.std.specs.Prelude.{SomeIff, position}

@@ -98,7 +98,7 @@ module _ (fs : List Field) (origin : DomainName) (ws : List Word) where
             (subst (λ n. FieldsFaultIs left origin n rest k) grown h));
       }
 
-      -- with the octets of the next word they are too many
+      -- with the octets of the next word, the data is too long
       pub too-long : 65535 < length y → FieldsFaultIs fs origin 0 ws 5
       too-long over = more 5 (at_false _ _ (lt-leb (length x + length a.spelled) 65535
           (omega (arith, grown, over))) refl)

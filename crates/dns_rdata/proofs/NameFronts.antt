@@ -4,12 +4,12 @@ use Rattle.dns_rdata.proofs.Common.{◌≡◌, ℕ, zero, suc, ◌-◌, ◌<◌,
 positive : (n : ℕ) → (n ≡ 0 → ⊥) → 0 < n
 positive n h = grind arith
 
--- the rest has the same labels ahead as the whole
+-- reading labels from `rest` on ends at the same octets as reading them from `octets` on
 pub record Alike (octets rest : Octets) : Type 0 where
   pub found : (after : Octets) → StandsAfterLabels rest after → StandsAfterLabels octets after
   pub none : HasNoLabels rest → HasNoLabels octets
 
--- what begins with labels begins with the length of a label or of the root
+-- octets that begin with labels are not empty
 pub nothing_begins : (rest : Octets) → length rest ≡ 0 → HasNoLabels rest
 nothing_begins rest none after h = by_cases h.labels (ap length (sym h.whole) ∙ none)
   where
@@ -26,7 +26,7 @@ no_label_there rest others k e some bad after h = by_cases h.labels h.are_labels
     by_cases [] ok f = some (sym (ap (λ (xs : Octets). get_or xs 0 0) f))
     by_cases (l ∷ n) ok f = grind (arith, IsLabel-is_label, and_parts, length-append)
 
--- a label: the rest follows it
+-- after a label, reading goes on with the octets after it
 pub label_passed : (octets rest others : Octets) (k : ℕ) → Alike octets rest
     → rest ≡ k ∷ others → (k ≡ 0 → ⊥) → k ≤ 63 → k ≤ length others → Alike octets (drop k others)
 label_passed octets rest others k alike e some fits there = record {
@@ -70,7 +70,7 @@ no_front_name octets none = go (name_of octets) refl
         absurd (none rest
         (record { labels = n; are_labels = (IsName-is_name n r.0).labels; whole = r.1 }))
 
--- the octets before the octets that follow the labels
+-- all octets but those after the name are its wire form
 wire_taken : (octets after : Octets) (n : DomainName) (k : ℕ) → octets ≡ wire n ++ after
     → k ≡ length octets - length after → (take k octets ≡ wire n) × (drop k octets ≡ after)
 wire_taken octets after n k e f = grind (arith, length-append, take_at, drop_at)

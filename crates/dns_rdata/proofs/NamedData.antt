@@ -2,7 +2,7 @@
 use Rattle.dns_rdata.proofs.Common.{◌≡◌, ℕ, ◌+◌, ◌≤◌, true, List, [], ◌∷◌, length, take, drop, Option, Some, sym, ap, ◌∙◌, subst, arith, append-nil, length-append, drop_at, drop-drop, none-some, Octets, DomainName, wire, is_name, Field, number, ipv4, ipv6, domain, string, strings, anything, Part, fields_of, cut, valid, first_name, target, cut_into, cut_data, name_part, octets_part, front_taken, before_name}
 use Rattle.dns_spec.proofs.General.Options.{map_some}
 
--- after k octets a name, the one sought, extends to the end
+-- the octets after the first k are a name, and it is the name sought
 pub record EndsWithName (k : ℕ) (d : Octets) (sought : Option DomainName) : Type 0 where
   pub inside : k ≤ length d
   pub own : DomainName

@@ -1,7 +1,7 @@
 -- Digits read from left to right spell a number, and only a number's own text spells it.
 use Rattle.dns_rdata.proofs.Common.{◌≡◌, ◌↔◌, ℕ, [], ◌∷◌, ◌+◌, ◌-◌, ◌*◌, ◌<◌, ◌≤◌, ◌^◌, List, length, take, get_or, inl, inr, refl, sym, ◌∙◌, ap, subst, arith, decimal, cases_lt, IsAsciiDigit, IsNotAsciiDigit, AllDigits, digits_value, digits, Octets, take_all, Option, Some, None, SomeIff, digits_value_more, digits_more, digit_at, digits_value-take-le, numerals_by_value, tells_digits, decimal_is_IsNumeral, decimal-digits_value, first_decimal, length-decimal-le, same_Some}
 
--- an octet that is not a digit
+-- digits contain no octet that is not a digit
 pub no_digit : (ds : List ℕ) (i : ℕ)
     → i < length ds → IsNotAsciiDigit (get_or ds i 0) → AllDigits 10 ds → ⊥
 no_digit ds i inside out all = grind (arith, digit_at)
@@ -12,7 +12,7 @@ pub digit_more : (ds : List ℕ) (i n : ℕ)
     → digits_value 10 (take (i + 1) ds) ≡ n * 10 + (get_or ds i 0 - 48)
 digit_more ds i n inside digit value = grind (arith, digits_value_more)
 
--- the number exceeds the bound
+-- if the digits so far exceed the bound, all digits do
 pub past_bound : (ds : List ℕ) (i n bound : ℕ)
     → i < length ds → IsAsciiDigit (get_or ds i 0) → n ≡ digits_value 10 (take i ds)
     → bound ≤ n * 10 + (get_or ds i 0 - 48) → digits_value 10 ds < bound → ⊥
@@ -27,7 +27,7 @@ pub all_more : (ds : List ℕ) (i : ℕ) → i < length ds
     → IsAsciiDigit (get_or ds i 0) → AllDigits 10 (take i ds) → AllDigits 10 (take (i + 1) ds)
 all_more ds i inside digit all = grind (arith, digits_more)
 
--- the result is nothing
+-- None is right if the condition does not hold
 pub none_iff : {P : Type 0} (o : Option ℕ) (v : ℕ) → o ≡ None → (P → ⊥) → SomeIff o P v
 none_iff o v h h1 = grind arith
 
@@ -55,7 +55,7 @@ says_digits text n small e =
     let numeral = decimal_is_IsNumeral n (omega arith) in
     subst P (sym e) (numeral.0.1, numeral.1, numeral.0.0)
 
--- an empty text
+-- an empty text spells no number
 pub no_text : (text : Octets) (most : ℕ)
     → most < 2 ^ 32 → length text ≡ 0 → (n : ℕ) → text ≡ decimal n → n ≤ most → ⊥
 no_text text most small empty n e le =
@@ -65,12 +65,12 @@ zero_text : decimal 0 ≡ 48 ∷ []
 unfolding digits
 zero_text = refl
 
--- a zero in front of other octets
+-- a text with a leading zero spells no number
 pub zero_in_front : (text : Octets) (most : ℕ) → most < 2 ^ 32
     → get_or text 0 0 ≡ 48 → (length text ≡ 1 → ⊥) → (n : ℕ) → text ≡ decimal n → n ≤ most → ⊥
 zero_in_front text most small zero_first more n e le = grind (arith, zero_text, first_decimal)
 
--- no digits, or digits of too great a number
+-- a text that is not digits, or whose value is too great, spells no number
 pub no_digits : (text : Octets) (most : ℕ) → most < 2 ^ 32 → (AllDigits 10 text
     × (digits_value 10 text < 2 ^ 32) → ⊥) → (n : ℕ) → text ≡ decimal n → n ≤ most → ⊥
 no_digits text most small refuted n e le = grind (arith, says_digits)

@@ -99,7 +99,7 @@ no_string text read rest so_far more none s h =
     by_cases (y ∷ t) (first, others, e, spelled, g) =
         none-some (y, others) (sym none ∙ spelled_read rest y others (first, e, spelled))
 
--- a string of 255 octets can't be longer
+-- if 255 octets were read and the text goes on, its string has more than 255 octets
 pub string_is_long : (text read rest : Octets) → StringSoFar text read rest
     → (rest ≡ [] → ⊥) → length read ≡ 255 → (s : Octets) → SpellsString text s → length s ≤ 255 → ⊥
 string_is_long text read rest so_far more full s h short =
@@ -138,7 +138,7 @@ pub plain_string : (text : Octets)
 plain_string text none =
     StringSoFar-iff text text [] (plain_read text [] text (StringSoFar-none text) none) refl
 
--- an octet, and octets, that are written as they are
+-- plain octets are written as they are
 pub plain_text : (s : Octets) → list_all is_plain s ≡ true → flat_map string_octet_text s ≡ s
 plain_text [] e = refl
 plain_text (o ∷ s) e =

@@ -32,7 +32,7 @@ pub rest_says : (ws rest : List Word) (octets d : Octets)
     → WordsSoFar ws rest octets → SaysHex ws d → (e : Octets) × SaysHex rest e × (d ≡ octets ++ e)
 rest_says ws rest octets d so_far (all, says) = grind arith
 
--- data whose length the first word spells, of the octets of the other words
+-- if the first word spells the number of octets that the others spell, all words spell this data
 pub says_unknown : (w : Word) (ws : List Word) (count : ℕ) (octets : Octets)
     → IsTrue (not w.is_quoted) → w.raw ≡ decimal count
     → length octets ≡ count → WordsSoFar ws [] octets → SaysUnknown (w ∷ ws) octets
@@ -51,7 +51,7 @@ pub only_octets : (w : Word) (ws : List Word) (octets d : Octets)
 unfolding hex_octets
 only_octets w ws octets d so_far said = grind (arith, WordsSoFar-end)
 
--- more octets than the first word states
+-- if there are more octets than the first word states, the words spell no data
 pub past_count : (w : Word) (ws rest : List Word) (count : ℕ) (octets d : Octets)
     → WordsSoFar ws rest octets → w.raw ≡ decimal count
     → count < length octets → count ≤ 65535 → SaysUnknown (w ∷ ws) d → length d ≤ 65535 → ⊥
@@ -65,7 +65,7 @@ past_count w ws rest count octets d so_far number over few said short =
       length-append octets e,
     )
 
--- a word that does not spell octets
+-- if a word does not spell octets, all words spell no data
 pub word_refused : (w : Word) (ws rest : List Word) (octets d : Octets)
     → WordsSoFar ws (w ∷ rest) octets → ((e : Octets) → SaysHexWord w e → ⊥) → SaysHex ws d → ⊥
 word_refused w ws rest octets d so_far none said =

@@ -24,11 +24,11 @@ number_at text =
 abbrev pub OctetThen : Octets → ℕ → Octets → Type 0
 OctetThen text n rest = (text ≡ decimal n ++ 46 ∷ rest) × (n ≤ 255)
 
--- the function returned the two texts, borrowed, that reading gives
+-- a function returned the two texts that a definition gives, borrowed
 abbrev pub GivesPair : Option (Bor Octets × Bor Octets) → Option (Octets × Octets) → Type 0
 GivesPair None read = read ≡ None
 GivesPair (Some x) read = read ≡ Some (x.0.now, x.1.now)
 
--- the groups, if an address can have that many
+-- the groups, if there are at most eight
 abbrev pub few_groups : List ℕ → Option (List ℕ)
 few_groups gs = if nat_le (length gs) 8 then Some gs else None

@@ -26,8 +26,7 @@ abbrev pub IsLent : Part → Type 0
 IsLent (Run o) = ⊤
 IsLent (Name o) = IsWireForm o.now
 
--- the function returned the part, and the octets after it, that the definition cuts from the
--- octets
+-- a function returned the part that a definition cuts from octets, and the octets after it
 abbrev pub Cuts : Option (Part × Bor Octets) → Option (Data.Part × Octets) → Type 0
 Cuts None read = read ≡ None
 Cuts (Some x) read = (read ≡ Some (part_for x.0, x.1.now)) × IsLent x.0

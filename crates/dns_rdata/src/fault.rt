@@ -20,7 +20,7 @@ pub enum RdataFault {
     /// A string has more than 255 octets or a bad escape, or the data exceeds 65,535 octets.
     BadString,
     /// In the generic form (RFC 3597 5), the length is invalid, or the digits are not that many
-    /// octets.
+    /// octets; or a type without a mnemonic has data in another form.
     BadHex,
     /// The octets are invalid for the type, or more than 65,535 (RFC 1035 3.2.1).
     NotOfType,

@@ -1,4 +1,4 @@
-//! Octets in hex digits, the generic form of data (RFC 3597 section 5).
+//! Reads and writes octets as hex digits.
 ghost use Rattle.std.specs.Prelude.{◌≡◌, ◌<◌, ◌/◌, ◌%◌, [], ◌∷◌, IfOk, IfSome};
 ghost use Rattle.std.specs.Char.{digit_char};
 ghost use Rattle.dns_name.specs.TextForm.{Gives};
@@ -7,10 +7,10 @@ ghost use Rattle.dns_rdata.specs.HexForm.{hex_front, digit_of, AppendsHex};
 use std::alloc::AllocError;
 
 /// Appends to `octets` the octets that a text spells in hex digits of either case, two digits per
-/// octet, and returns whether it spells any.
+/// octet.
 ///
-/// False if the text contains another octet or an odd number of digits; `octets` has then grown by
-/// some octets. The call fails only if allocation fails.
+/// Returns false if the text contains another octet or an odd number of digits; `octets` may have
+/// grown even so. Fails only if allocation fails.
 pub(crate) fn append_hex(text: &[u8], octets: &mut Vec<u8>) -> Result<bool, AllocError>
     ensures { IfOk result (λ said. AppendsHex text.now said octets.old.items octets.new.items) }
 {

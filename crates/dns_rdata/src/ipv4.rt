@@ -1,4 +1,4 @@
-//! IPv4 addresses in the text of zone files.
+//! Reads and writes IPv4 addresses (RFC 1035 3.4.1).
 ghost use Rattle.std.specs.Prelude.{◌≡◌, ◌↔◌, ℕ, IsNone, IfSome, Some, ◌≤◌, decimal, ◌==◌, ◌+◌, ◌++◌, length};
 ghost use Rattle.std.specs.List.{position};
 ghost use Rattle.dns_spec.specs.Names.{Octets};
@@ -72,8 +72,8 @@ fn octet_and_dot(text: &[u8]) -> Option<(u8, &[u8])>
     Some((octet, rest))
 }
 
-// The number at the beginning of a text, without leading zeros, and the text after its digits, of
-// which there are at most three.
+// The number at the beginning of a text, at most three digits without a leading zero, and the text
+// after it.
 #[tactic(auto, unfolding(crate::specs::AddressForm::number_at))]
 fn first_number(text: &[u8]) -> Option<(u8, &[u8])>
     ensures { Gives result (number_at text.now) }

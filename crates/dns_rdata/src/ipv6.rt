@@ -1,4 +1,4 @@
-//! IPv6 addresses in the text of zone files.
+//! Reads IPv6 addresses (RFC 4291 2.2).
 ghost use Rattle.std.specs.Prelude.{◌≡◌, ◌==◌, ◌&&◌, [], ◌∷◌, ◌++◌, Some, None, length, nat_lt, if◌then◌else◌, MatchOption, IsTrue, IsFalse};
 ghost use Rattle.std.specs.Bool.{OnTrue};
 ghost use Rattle.std.specs.Option.{option_map, option_and_then};
@@ -91,7 +91,7 @@ fn push_group(groups: &mut ArrayVec<u16, GROUPS>, text: &[u8]) -> bool
     true
 }
 
-// Appends at least one zero group, and the groups after it, if there is room.
+// Appends one or more zero groups and then `back`, to make eight groups; false if there is no room.
 fn fill(groups: &mut ArrayVec<u16, GROUPS>, back: &[u16]) -> bool
     ensures { MatchOption (filled_groups groups.old.items back.now) (IsFalse result)
         (λ filled. IsTrue result × (groups.new.items ≡ filled)) }

@@ -1,4 +1,4 @@
-//! The text of IPv6 addresses.
+//! Writes IPv6 addresses (RFC 5952 4).
 ghost use Rattle.std.specs.Prelude.{◌≡◌, ◌≤◌, ◌+◌, ◌*◌, ◌-◌, ◌++◌, false, length, ◌==◌};
 ghost use Rattle.std.specs.Fmt.{digits};
 ghost use Rattle.std.specs.List.{prefix_len};
@@ -56,8 +56,8 @@ fn group_of(high: u8, low: u8) -> u16
     256 * u16::from(high) + u16::from(low)
 }
 
-// The place where the first of the longest runs of zero groups begins, and the number of its
-// groups.
+// The place of the longest run of zero groups, the first one if several are equally long, and the
+// number of its groups.
 fn longest_zero_run(groups: &[u16]) -> (usize, usize)
     ensures place { result.0 ≡ longest_place groups.now }
     ensures run { result.1 ≡ longest_run groups.now }

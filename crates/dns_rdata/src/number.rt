@@ -1,4 +1,4 @@
-//! Numbers in the text of zone files.
+//! Reads decimal numbers from the text of zone files.
 ghost use Rattle.std.specs.Prelude.{◌≡◌, ◌↔◌, ℕ, ◌<◌, ◌≤◌, ◌^◌, Some, decimal, SomeIff};
 ghost use Rattle.std.specs.Str.Parse.{AllDigits, digits_value};
 

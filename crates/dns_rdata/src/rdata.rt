@@ -16,8 +16,8 @@ pub(crate) const MAX_OCTETS: usize = 65_535;
 
 /// The data of a record: its octets without compression, with names in lower case.
 ///
-/// It does not contain its type. A type that holds both keeps as its invariant that the data is
-/// valid for the type.
+/// It does not contain the record type. A struct that holds both has the invariant that the data is
+/// valid for the record type.
 #[derive(Drop)]
 pub struct Rdata {
     pub(crate) octets: Vec<u8>,
@@ -60,7 +60,7 @@ impl Rdata {
         }
     }
 
-    /// A copy with the same octets. Allocates once.
+    /// A copy with the same octets. Allocates at most once.
     pub fn copied(&self, alloc: Global) -> Result<Rdata, AllocError>
         ensures { IfOk result (λ copy. copy ≡ self.now) }
     {
@@ -139,8 +139,8 @@ impl Rdata {
     }
 }
 
-// The number of octets before a name that is the rest of the data, if the data of the type has
-// that form (RFC 1035 3.3.1, 3.3.9, 3.3.11 and 3.3.12, RFC 2782).
+// For types whose data ends with its only name: the number of octets before that name (RFC 1035
+// 3.3.1, 3.3.9, 3.3.11 and 3.3.12, RFC 2782).
 fn octets_before_name(rtype: RType) -> Option<usize>
     ensures { IfSome result (λ k. before_name (fields_of rtype.0) ≡ Some k) }
 {

@@ -1,4 +1,4 @@
-//! Data from the words of a zone file (RFC 1035 5.1, RFC 3597 5).
+//! Reads data from the words of a zone file (RFC 1035 5.1, RFC 3597 5).
 ghost use Rattle.std.specs.Prelude.{◌≡◌, ◌≢◌, length, IfOk, IfErr};
 ghost use Rattle.dns_spec.specs.Names.{Octets};
 ghost use Rattle.dns_spec.specs.Data.{Valid};
@@ -16,7 +16,7 @@ use dns_name::Name;
 use std::alloc::Global;
 use std::mem::replace;
 
-/// Room in which the data of one record after another is read: its memory is kept and used again.
+/// Buffers for reading data; their memory is reused from record to record.
 #[derive(Drop)]
 pub struct DataRoom {
     alloc: Global,
@@ -27,7 +27,7 @@ pub struct DataRoom {
 }
 
 impl DataRoom {
-    /// Room without memory.
+    /// Empty buffers. Does not allocate.
     pub fn new(alloc: Global) -> DataRoom {
         DataRoom {
             alloc,
@@ -37,7 +37,7 @@ impl DataRoom {
         }
     }
 
-    /// Takes back the memory of data that is no longer needed.
+    /// Takes back the memory of data that is no longer needed, for the next data.
     pub fn take_back(&mut self, data: Rdata) {
         self.octets = data.octets;
     }
@@ -47,8 +47,8 @@ impl Rdata {
     /// The data that words spell, relative to the origin, with its names in lower case.
     ///
     /// If the first word is the unquoted `\#`, the others must be the length and the octets in hex
-    /// digits (RFC 3597 5): if they are not, the fault is `BadHex`, as for any other words of a
-    /// type without a mnemonic; if the octets are invalid for the type, it is `NotOfType`.
+    /// digits (RFC 3597 5), or else the fault is `BadHex`; if the octets are invalid for the type,
+    /// it is `NotOfType`. A type without a mnemonic has only this form: `BadHex` for other words.
     /// Otherwise the words must be in the form of the type: `WordCount` if their number is wrong,
     /// else the fault of the first invalid word from the left, `BadNumber`, `BadAddress`,
     /// `BadName` or `BadString`; `BadString` also reports data of more than 65,535 octets.
@@ -71,8 +71,8 @@ impl Rdata {
         Rdata::read_words_in(&mut DataRoom::new(alloc), rtype, words, origin)
     }
 
-    /// The data that words spell, as `read_words` gives it, read in borrowed room. The data uses
-    /// the room's memory; `take_back` returns it.
+    /// The data that words spell, as `read_words` gives it, read with borrowed buffers. The data
+    /// takes its memory from `room`; `take_back` gives it back.
     #[tactic(auto, using(crate::proofs::TypedData::said_valid))]
     pub fn read_words_in<'w, W: Words<'w>>(
         room: &mut DataRoom,

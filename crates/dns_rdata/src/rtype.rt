@@ -47,10 +47,10 @@ impl RType {
     }
 }
 
-/// Types in the text of zone files (RFC 1035 5.1, RFC 3597 5).
+/// Reading and writing types as text (RFC 1035 5.1, RFC 3597 5).
 impl RType {
-    /// The type that a word names, such as `MX` or `TYPE15`, in any case. A number is `0` or
-    /// begins with 1 to 9, and is at most 65535. `None` if the word does not name a type.
+    /// The type that a word names, such as `MX` or `TYPE15`, in any case. The number after `TYPE`
+    /// has no leading zeros and is at most 65535. `None` if the word does not name a type.
     pub fn read_text(word: &[u8]) -> Option<RType>
         ensures { MatchOption result ((t : ℕ) → NamesType word.now t → ⊥)
             (λ r. NamesType word.now r.0) }

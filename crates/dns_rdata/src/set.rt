@@ -11,7 +11,7 @@ use crate::rtype::RType;
 pub trait SetView {
     ghost use Rattle.dns_spec.specs.Sets.{RecordSet, HasValidData};
 
-    /// The set that is borrowed.
+    /// The set.
     ghost set: { Self → RecordSet };
 
     /// The type of all records.
@@ -27,8 +27,8 @@ pub trait SetView {
         ensures value { result ≡ length (set self.now).rdata }
         ensures valid { HasValidData (set self.now) };
 
-    /// The data of the record at `i`, counted from 0: octets without compression. Condition: `i`
-    /// is below `len`.
+    /// The data of record `i`, counted from 0: octets without compression. Requires `i` to be
+    /// below `len`.
     fn rdata(&self, i: usize) -> &[u8]
         requires { i < length (set self.now).rdata }
         ensures value { result.now ≡ get_or (set self.now).rdata i [] }

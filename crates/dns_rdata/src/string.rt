@@ -1,4 +1,4 @@
-//! Character-strings in the text of zone files.
+//! Reads and writes character-strings (RFC 1035 3.3 and 5.1).
 ghost use Rattle.std.specs.Prelude.{◌≡◌, ◌↔◌, ◌≤◌, ◌+◌, ◌*◌, ◌++◌, length, IsNone, IfSome};
 ghost use Rattle.std.specs.Bool.{OnTrue};
 ghost use Rattle.std.specs.List.{list_all};
@@ -43,8 +43,8 @@ pub(crate) fn read_string(word: &[u8]) -> Option<ArrayVec<u8, MOST_STRING_OCTETS
     Some(octets)
 }
 
-/// Whether the word's own octets are the string that it spells: at most 255 octets, without a
-/// backslash.
+/// Whether a word has at most 255 octets and no backslash: then its octets are the string that it
+/// spells.
 pub(crate) fn is_plain_string(word: &[u8]) -> bool
     ensures short { OnTrue result (length word.now ≤ 255) }
     ensures itself { OnTrue result ((s : Octets) → SpellsString word.now s ↔ (s ≡ word.now)) }

@@ -10,7 +10,7 @@ ghost use Rattle.dns_rdata.specs.TypeRows.{row_for, fields_in, has_number, has_m
 
 use crate::rtype::RType;
 
-/// A field of data: one word of its text, except strings.
+/// A field of data. In text each field is one word, except `Strings` and `Anything`.
 #[derive(Clone, Copy, Debug)]
 pub enum Field {
     /// A number of 16 bits.
@@ -25,8 +25,8 @@ pub enum Field {
     Domain,
     /// A character-string (RFC 1035 3.3).
     String,
-    /// One or more character-strings, a word each, up to the end of the data. They are the only
-    /// field of their type.
+    /// One or more character-strings, a word each, up to the end of the data: the only field of its
+    /// type.
     Strings,
     /// Any octets, up to the end of the data, of a type without a mnemonic.
     Anything,

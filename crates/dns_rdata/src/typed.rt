@@ -1,5 +1,5 @@
-//! Data in the form of its type: one word for each number, address, name and string (RFC 1035
-//! 5.1).
+//! Reads data in the form of its type: one word for each number, address, name and string (RFC
+//! 1035 5.1).
 ghost use Rattle.std.specs.Prelude.{◌≡◌, ◌≢◌, ◌≤◌, ◌==◌, ◌<◌, ℕ, ◌++◌, false, [], length, slice_get, Some, OnOk, IfErr};
 ghost use Rattle.dns_spec.specs.Data.{number, string};
 ghost use Rattle.dns_spec.specs.DataFaults.{DataFaultIs, field_fault};
@@ -19,14 +19,14 @@ use crate::table::{Field, is_strings, row_of_type};
 use crate::word::{Word, Words};
 use dns_name::Name;
 
-/// Most data has at most this many octets, so its memory never grows. An allocator returns hardly
-/// less memory for a smaller request.
+/// The octets reserved for data before it is read. Most data fits, so its memory never grows; an
+/// allocator hardly takes less memory for a smaller request.
 pub(crate) const USUAL_OCTETS: usize = 24;
 
 /// Puts the data that words spell in the form of the type into an empty buffer, with names in
-/// lower case. `name` is room for names.
+/// lower case. `name` is a buffer for names.
 ///
-/// `BadHex` if the type has no such form; `WordCount` if it has another number of words; else the
+/// `BadHex` if the type has no mnemonic; `WordCount` if it has another number of words; else the
 /// fault of the first invalid word from the left, or `BadString` if the data exceeds 65,535
 /// octets.
 pub(crate) fn put_typed<'w, W: Words<'w>>(
@@ -63,7 +63,7 @@ pub(crate) fn put_typed<'w, W: Words<'w>>(
     Ok(())
 }
 
-// Whether the fields have `count` words.
+// Whether data with these fields may have `count` words.
 fn is_word_count(fields: &[Field], count: usize) -> bool
     ensures { result ≡ (length (word_fields count (fields_in fields.now)) == count) }
 {
@@ -74,7 +74,7 @@ fn is_word_count(fields: &[Field], count: usize) -> bool
     }
 }
 
-// The field of the word at a place.
+// The field that the word at `place` spells, counted from 0.
 fn field_at(fields: &[Field], place: usize) -> Field
     requires { (k : ℕ) × (place < k) × (length (word_fields k (fields_in fields.now)) ≡ k) }
     ensures { (k : ℕ) → place < k

@@ -1,4 +1,4 @@
-//! Data in the generic form, for any type: its length and its octets in hex digits (RFC 3597 5).
+//! Reads data in the generic form, its length and its octets as hex digits (RFC 3597 5).
 ghost use Rattle.std.specs.Prelude.{◌≡◌, ◌≢◌, ◌≤◌, [], length, OnOk, IfOk, IfErr};
 ghost use Rattle.dns_spec.specs.Names.{Octets};
 ghost use Rattle.dns_spec.specs.DataText.{SaysUnknown, is_unknown_mark};
@@ -19,8 +19,8 @@ pub(crate) fn is_unknown_mark(word: &Word<'_>) -> bool
     !word.quoted && word.raw == b"\\#".as_slice()
 }
 
-/// Puts the octets that the words after `\#` spell into an empty buffer: their number, and then
-/// words of whole octets.
+/// Puts the octets that the words after `\#` spell into an empty buffer. The first word is the
+/// number of octets; the others are hex digits, an even number in each word.
 ///
 /// Fails with `NoMemory` only if allocation fails, and otherwise with `BadHex`.
 pub(crate) fn put_unknown<'w, W: Words<'w>>(
@@ -55,7 +55,7 @@ pub(crate) fn put_unknown<'w, W: Words<'w>>(
     Ok(())
 }
 
-// Appends the octets that an unquoted word of whole octets spells, at least one.
+// Appends the octets that an unquoted word of hex digits spells, at least one.
 fn append_word(word: &Word<'_>, octets: &mut Vec<u8>) -> Result<(), RdataFault>
     ensures ok { IfOk result (λ _. AppendsWord word.now octets.old.items octets.new.items) }
     ensures fault { IfErr result (λ fault. fault ≢ RdataFault.NoMemory → (d : Octets)

@@ -8,7 +8,7 @@ use std::marker::Model;
 /// quotation marks (RFC 1035 5.1).
 #[derive(Debug, Default, Drop)]
 pub struct Word<'a> {
-    /// Its octets.
+    /// Its spelling.
     pub raw: &'a [u8],
     /// Whether it is in quotation marks.
     pub quoted: bool,

@@ -1,4 +1,4 @@
-//! Data as it is written in zone files (RFC 1035 5.1, RFC 3597 5).
+//! Writes data as it appears in zone files (RFC 1035 5.1, RFC 3597 5).
 ghost use Rattle.std.specs.Prelude.{◌≡◌, ◌+◌, ◌≤◌, ◌<◌, ◌-◌, ◌*◌, ◌^◌, ◌++◌, [], length, replicate, IsTrue};
 ghost use Rattle.std.specs.Option.{is_some};
 ghost use Rattle.dns_spec.specs.Names.{name_of};
@@ -109,7 +109,7 @@ fn append_field<'a>(
     }
 }
 
-// Puts all strings.
+// Puts strings, separated by single spaces.
 fn put_strings<W: Write>(
     octets: &[u8],
     text: &mut TextBuffer,
@@ -181,7 +181,7 @@ fn append_name<'a>(before: &[u8], octets: &'a [u8], text: &mut TextBuffer) -> &'
     rest
 }
 
-// Appends in decimal a number whose most significant octet comes first (RFC 1035 2.3.2).
+// Appends a big-endian number in decimal (RFC 1035 2.3.2).
 fn append_u16<'a>(before: &[u8], octets: &'a [u8], text: &mut TextBuffer) -> &'a [u8]
     requires long { 2 ≤ length octets.now }
     requires short { length before.now ≤ 1 }

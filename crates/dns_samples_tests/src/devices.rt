@@ -3,16 +3,16 @@ ghost use Rattle.std.specs.Prelude.{◌≡◌, ◌↔◌, IsTrue};
 use std::alloc::Global;
 use std::io::{self, ErrorKind, Read, Write};
 
-/// The calls of a device. After the last one that works, one fails, and later ones would work
+/// A count of the calls of a device. The first calls work, the next one fails, and later ones work
 /// again.
 #[derive(Drop)]
 pub struct Calls {
-    /// How many more calls work; `u32::MAX` after one has failed.
+    /// The number of calls that work before the failing one; `u32::MAX` right after that one.
     pub left: u32,
 }
 
 impl Calls {
-    /// Whether a call has failed, and no other was made since.
+    /// Whether the failing call was made, and no other call since.
     pub fn has_failed(&self) -> bool
         ensures { IsTrue result ↔ self.now.left ≡ 4294967295 }
     {
@@ -35,7 +35,7 @@ impl Calls {
 pub struct Pieces<'a> {
     /// The rest of the text.
     pub text: &'a [u8],
-    /// How many octets a call gives at most.
+    /// The most octets that a call gives.
     pub most: usize,
     /// Its calls.
     pub calls: Calls,
@@ -64,7 +64,7 @@ impl Read for Pieces<'_> {
 pub struct Kept {
     /// What was written.
     pub text: Vec<u8>,
-    /// How many octets a call takes at most.
+    /// The most octets that a call takes.
     pub most: usize,
     /// Its calls.
     pub calls: Calls,

@@ -1,5 +1,5 @@
 /// The file of a small zone `example.`, with an address, a wildcard, an empty non-terminal, an
-/// alias and a cut with glue.
+/// alias and a zone cut with glue.
 pub const SMALL: &str = "$TTL 3600
 @ SOA ns hostmaster 1 7200 900 1209600 300
 @ NS ns
@@ -12,7 +12,7 @@ sub NS ns.sub
 ns.sub A 192.0.2.53
 ";
 
-/// Its canonical text.
+/// The zone as it is printed, in canonical order.
 pub const SMALL_PRINTED: &str =
     "example. 3600 IN SOA ns.example. hostmaster.example. 1 7200 900 1209600 300
 example. 3600 IN NS ns.example.
@@ -25,10 +25,10 @@ ns.sub.example. 3600 IN A 192.0.2.53
 www.example. 3600 IN A 192.0.2.10
 ";
 
-/// The report on it, as on each zone `example.` with serial 1.
+/// The report on the small zone, and on any valid zone `example.` with serial 1.
 pub const LOADED: &str = "zone example/IN: loaded serial 1\nOK\n";
 
-/// A file with entries over several lines, changing origins, and data of many forms.
+/// A file with an entry over several lines, another origin, and data of many forms.
 pub const MIXED: &str = "$TTL 60
 @ SOA ns h ( 1 2
  3 4 ; c
@@ -41,7 +41,7 @@ a\\.b 7 IN TXT hi \"x;y\"
  CLASS1 9 TYPE65280 \\# 3 AB cdef
 ";
 
-/// Its canonical text.
+/// The zone as it is printed, in canonical order.
 pub const MIXED_PRINTED: &str = "example. 60 IN SOA ns.example. h.example. 1 2 3 4 5
 example. 60 IN NS ns.example.
 a\\.b.deep.example. 7 IN TXT \"hi\" \"x;y\"

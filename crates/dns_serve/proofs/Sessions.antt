@@ -148,7 +148,7 @@ pub unread : (reply : Octets → Option Octets) (most n : ℕ) (a b c x y : Opti
 unread reply most n a b c x y buf fault h h1 h2 =
     grind (arith, frames_by, Consumes-trans, frames_of_known)
 
--- its reply could not be written
+-- the reply to the next message could not be written
 pub unwritten : (reply : Octets → Option Octets) (most n : ℕ) (a b c x y z : Option Octets)
     → Done reply (session a b x y) n
     → n < most → HasBegun reply (session b c y z) → WasRefused reply most (session a c x z)
@@ -167,7 +167,7 @@ unwritten reply most n a b c x y z d h b' = record {
   written = Appends-trans x y z _ _ d.written b'.written;
 }
 
--- all was served, and then the sink was flushed
+-- all messages were served, and then the sink was flushed
 pub served_flushed : (reply : Octets → Option Octets) (most n : ℕ) (a b x y z : Option Octets)
     → HasServed reply most (session a b x y) n → Appends y z []
     → HasServed reply most (session a b x z) n

@@ -3,7 +3,7 @@ ghost use Rattle.std.specs.Prelude.{◌≡◌};
 
 use dns_name::{SinkFailed, SourceFailed};
 
-/// Why a turn over UDP ended without sending a reply.
+/// Why a turn over UDP failed.
 #[derive(Clone, Copy, Debug, PartialEq, Eq)]
 pub enum TurnFault {
     /// No datagram was received, and nothing was sent (`U1`).
@@ -17,8 +17,8 @@ pub enum TurnFault {
 pub enum StreamFault {
     /// The source failed (`S1`). The replies to all complete messages were written.
     SourceFailed,
-    /// The sink failed (`S2`). The replies to all messages but the last one were written, and a
-    /// prefix of the reply to the last.
+    /// The sink failed (`S2`). The replies to all messages but the last one read were written, and
+    /// a prefix of the reply to the last one.
     SinkFailed,
     /// The source ended inside a length or a message (`S3`). The replies to all earlier messages
     /// were written.

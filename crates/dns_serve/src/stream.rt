@@ -58,31 +58,32 @@ pub fn serve_stream<R: Read, W: Write>(
     )
 }
 
-/// What a session knows of its ends beside their octets: which messages have arrived, and what its
-/// sink still keeps.
+/// What a session knows about its source and its sink besides their octets: which messages have
+/// arrived, and what the sink still keeps.
 pub trait Ends<W: Write> {
     /// The octets that a sink keeps until it is flushed.
     ghost kept: { W → List ℕ };
 
-    /// A sign that all of a message has arrived, so that reading it does not wait. Only `arrived`
-    /// gives one.
+    /// Evidence that a whole message has arrived, so that reading it does not wait. Only `arrived`
+    /// returns it.
     type Arrived: Drop;
 
-    /// A message begins next. The sink keeps nothing, unless the message has arrived.
+    /// Called before each message is read. Precondition: the sink keeps nothing, unless the whole
+    /// message has arrived.
     fn begin(&self, sink: &Tally<W>, arrived: &Option<Self::Arrived>)
         requires { IsNone arrived.now → kept sink.now.device ≡ [] };
 
-    /// Whether all of the message that begins next has arrived.
+    /// Returns evidence if the whole next message has arrived, else `None`.
     fn arrived(&self) -> Option<Self::Arrived>;
 
-    /// Has the sink pass on what it keeps.
+    /// Makes the sink pass on what it keeps.
     fn flush(&self, sink: &mut Tally<W>) -> Result<(), SinkFailed>
         requires { sink.old.failures < 2 ^ 64 - 1 }
         ensures written { Writes W.contents sink.old sink.new result [] }
         ensures empty { OnOk result (kept sink.new.device ≡ []) };
 }
 
-// The ends of a session that knows nothing of them: it flushes the sink after each message.
+// For a session that never knows whether a message has arrived: it flushes after each message.
 struct Unbuffered;
 
 impl<W: Write> Ends<W> for Unbuffered {
@@ -124,7 +125,7 @@ impl StreamRoom {
 
 /// Serves a stream as `serve_stream` does, in the caller's buffers.
 ///
-/// Earlier sessions in the buffers have no effect, and they are not cleared. After a message the
+/// The buffers are not cleared, and earlier sessions in them have no effect. After a message the
 /// sink is flushed, unless `ends` reports that the next message has arrived: so a sink that
 /// buffers replies holds none back while the session waits for more. A session that does not fail
 /// leaves nothing in its sink.

@@ -31,7 +31,7 @@ pub fn udp_turn<D: Datagrams>(zone: &Zone, device: &mut D) -> Result<bool, TurnF
 
 /// Takes a turn as `udp_turn` does, in the caller's buffers: for the datagram and for the reply.
 ///
-/// Earlier turns in the buffers have no effect, and they are not cleared.
+/// The buffers are not cleared, and earlier turns in them have no effect.
 pub fn udp_turn_in<D: Datagrams>(
     zone: &Zone,
     device: &mut D,

@@ -1,6 +1,6 @@
-//! Tests of `dns_serve`, through its public functions. They are a crate of their own, so that
-//! `dns_serve` is proved only once, and its wrong bodies are tried in the meantime. The device is
-//! also used by the tests of `dns_tools`.
+//! Tests of `dns_serve`, through its public functions. They are a separate crate, so that
+//! `dns_serve` is proved only once, while wrong edits of it are tried. The tests of `dns_tools`
+//! also use the device.
 #![tactic(auto)]
 
 mod devices;

@@ -1,5 +1,5 @@
--- The arguments of a command line determine what they ask for: ORIGIN and FILE are the last two,
--- and the arguments before them determine the rest.
+-- The arguments of a command line ask for at most one thing: ORIGIN and FILE are the last two
+-- arguments, and the arguments before them determine the rest.
 use Rattle.dns_spec.proofs.Common.{◌≡◌, ℕ, Bool, List, [], ◌∷◌, ◌++◌, length, get_or, codes, refl, ap, ap₂, arith, length-append, list_any, decimal_injective, Octets, octets_equal, Options, ZoneWords, AskToCheck, ServiceAsked, AskToServe}
 use Rattle.dns_spec.specs.CommandWords.{SocketAsked, AskAtSocket}
 

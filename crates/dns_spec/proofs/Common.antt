@@ -1,4 +1,4 @@
--- The names that most proofs cite, passed on from one place. Declares nothing.
+-- Re-exports the names that most proofs use.
 pub use Rattle.std.proofs.Common.{All, Bool, Equal, Err, Greater, IfErr, IfSome, IsErrAnd, IsTrue, Less, List, None, Ok, OnOk, Option, Ordering, Result, Some, [], add-one, add-zero, add_comm, ap, append-nil, append_assoc, ap₂, arith, codes, cond, decimal, drop, eq-or-lt_of_le, eqb, false, filter, fold, get_or, inl, inr, is_eq, is_gt, is_lt, length, length-append, length-drop, length-set, length-take, lit<, lit≤, map, max, min, mod-eq_of_lt, mod-lt, mul_comm, nat_cmp, nat_eq, nat_le, nat_lt, not, pow-suc, refl, replicate, reverse, rules, set, slice_get, slice_index_or, slice_set, subst, subst₂, suc, suc-mul, sum, sym, take, true, vec_len, zero, zero-add, ℕ, ◌%◌, ◌&&◌, ◌*◌, ◌++◌, ◌+◌, ◌-◌, ◌/◌, ◌<◌, ◌==◌, ◌^◌, ◌||◌, ◌↔◌, ◌∙◌, ◌∷◌, ◌≡◌, ◌≢◌, ◌≤◌, ◌⊎◌}
 pub use Rattle.std.specs.Bool.{MatchBool, OnFalse, OnTrue}
 pub use Rattle.std.specs.Borrow.{Bor}

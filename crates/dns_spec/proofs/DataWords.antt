@@ -1,5 +1,4 @@
--- Types and data: the pieces of data, the words that spell it, and that written data is spelled
--- again.
+-- Types and data: the parts of data, the words that spell it, and that written data is read back.
 pub mod MadeData
 pub mod LoweredData
 pub mod WrittenData

@@ -1,4 +1,4 @@
--- Lists, options, results and sums, without anything of DNS; one file for each subject.
+-- Facts about lists, options, results and sums that have nothing to do with DNS, by subject.
 pub mod Elements
 pub mod Filters
 pub mod Fronts

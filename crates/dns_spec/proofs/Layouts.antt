@@ -1,4 +1,4 @@
--- Layouts and sharing: what is laid out spells its message, and its size is the least.
+-- Layouts and sharing: a layout spells its message, and its size is the least.
 pub mod MessageParts
 pub mod SharedNames
 pub mod SharedLayout

@@ -1,5 +1,5 @@
--- Reading messages: the computed reader of names equals the relation, and what is at a place of a
--- message is read there.
+-- Reading messages: the computed reader of names agrees with the relation, and what is at a place
+-- of a message is read there.
 pub mod NameReading
 pub mod Places
 pub mod Sections

@@ -1,3 +1,3 @@
--- Records: their order, and lists of them with each record once.
+-- Records: their canonical order, and lists without duplicates.
 pub mod RecordOrder
 pub mod SameRecords

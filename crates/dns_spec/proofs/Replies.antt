@@ -1,4 +1,4 @@
--- Answers and replies: their sets, the number of these, and what they spell.
+-- Answers and replies: their sets, the number of their sets, and the messages that they spell.
 pub mod ChainLength
 pub mod FewItems
 pub mod ItemSets

@@ -1,4 +1,4 @@
--- Worked examples, computed from the definitions. Zones contains the zones and queries.
+-- Worked examples, computed from the definitions. `Zones` contains their zones and queries.
 pub mod Zones
 pub mod Readings
 pub mod AnswerRows

@@ -1,5 +1,5 @@
--- Which RRsets answer a question: the names sought one after another, the five cases of the last
--- one, the additional addresses, and the sets that a reply must not leave out.
+-- Which RRsets answer a question: the names sought one after another along aliases, the five cases
+-- for the last of these names, the additional addresses, and the sets that are required.
 use Rattle.std.specs.Prelude.{ℕ, zero, suc, ◌+◌, ◌-◌, ◌*◌, min, sum, Bool, true, false, ◌&&◌, ◌||◌, not, List, [], ◌∷◌, ◌++◌, map, length, ◌==◌, if◌then◌else◌}
 use Rattle.std.specs.Prelude.{Option, None, Some}
 use Rattle.std.specs.Option.{option_map, option_and_then, is_some, unwrap_or, option_to_list}
@@ -40,7 +40,7 @@ next_sought z sought s =
     (λ m. if at_or_below m z.origin && not (list_any (same m) sought) then Some m else None)
     (first_target (alias_set z s))
 
--- the names sought from s on: s and at most k targets
+-- the names sought from s on: s and the targets of at most k aliases; `sought` are the names before
 unfoldable pub chain_from : ZoneContents → ℕ → List DomainName → DomainName → List DomainName
 chain_from z zero sought s = s ∷ []
 chain_from z (suc k) sought s =
@@ -50,7 +50,7 @@ chain_from z (suc k) sought s =
 abbrev pub most_aliases : ℕ
 most_aliases = 16
 
--- The names sought, beginning with the question's.
+-- The names sought, the QNAME first.
 unfoldable pub chain : ZoneContents → DomainName → ℕ → List DomainName
 chain z q t = if follows_alias t then chain_from z most_aliases [] q else q ∷ []
 
@@ -89,7 +89,7 @@ negative_soa z =
 abbrev pub asked_records : ℕ → List ResourceRecord → List ResourceRecord
 asked_records t rs = if t == qtype_any then of_lowest_type rs else of_type t rs
 
--- a referral to the cut, with its NS set (RFC 1034 4.3.2 step 3b)
+-- a referral to the cut, with the NS set of the cut (RFC 1034 4.3.2 step 3b)
 abbrev pub referral_to : ZoneContents → DomainName → Outcome
 referral_to z c =
     record {
@@ -113,9 +113,9 @@ abbrev pub has_any : {X : Type 0} → List X → Bool
 has_any [] = false
 has_any (x ∷ xs) = true
 
--- RFC 1034 4.3.2 step 3, by the cut of a name and the records found for the name. The first of
--- five cases that holds: there is a cut; nothing is found; the name is an alias, at which the
--- chain ends; it has the records asked for; it has none of them.
+-- RFC 1034 4.3.2 step 3: the outcome for a name, by its cut and the records found for it. The first
+-- of five cases that holds: the name is at or below a cut; it does not exist; it is an alias, at
+-- which the chain ends; it has records of the type asked for; it has none.
 abbrev pub outcome_by : ZoneContents → ℕ → Option DomainName → Option (List ResourceRecord)
     → Outcome
 outcome_by z t (Some c) found = referral_to z c
@@ -140,8 +140,8 @@ outcome z q t =
 abbrev pub is_authoritative : Outcome → Bool
 is_authoritative o = not (is_some o.referral && length o.answers == 0)
 
--- RFC 1035 3.3.9 and 3.3.11, RFC 2782: the addresses of the record's target are useful to the
--- client
+-- RFC 1035 3.3.9 and 3.3.11, RFC 2782: the record is an NS, MX or SRV record: the addresses of its
+-- target are additional data
 abbrev pub has_target_type : ResourceRecord → Bool
 has_target_type r = r.rtype == type_ns || r.rtype == type_mx || r.rtype == type_srv
 
@@ -151,8 +151,8 @@ targets_of items =
     filter_map (λ (r : ResourceRecord). if has_target_type r then target r.rtype r.rdata else None)
     (records_of items)
 
--- RFC 9471 section 2: the targets of a referral's NS set at or below the cut, whose addresses are
--- its glue; and its other targets
+-- RFC 9471 section 2.1: the targets of a referral's NS set at or below the cut, whose addresses are
+-- its glue; and the other targets
 abbrev pub targets_inside : Outcome → List DomainName
 targets_inside o =
     flat_map (λ c. filter (λ m. at_or_below m c) (targets_of o.authorities))
@@ -163,8 +163,8 @@ targets_outside o =
     flat_map (λ c. filter (λ m. not (at_or_below m c)) (targets_of o.authorities))
     (option_to_list o.referral)
 
--- The targets, in order. In a referral, those at or below the cut come first: without their
--- addresses the client can't continue (RFC 1034 4.3.2 step 3b, RFC 9471 section 3.1).
+-- The targets, in order. In a referral, the targets at or below the cut come first: without their
+-- addresses a client can't continue (RFC 1034 4.3.2 step 3b, RFC 9471 section 3.1).
 abbrev pub targets : Outcome → List DomainName
 targets o = targets_of o.answers ++ targets_inside o ++ targets_outside o
 
@@ -173,15 +173,15 @@ abbrev pub stands : DomainName → ℕ → List Item → Bool
 stands n t items =
     list_any (λ (r : ResourceRecord). same r.owner n && r.rtype == t) (records_of items)
 
--- the address sets of a name that are not in the reply yet, A and then AAAA
+-- the A set of a name and then its AAAA set, each unless it is in the reply already
 abbrev pub address_set : ZoneContents → List Item → DomainName → ℕ → List Item
 address_set z earlier n t = if stands n t earlier then [] else item additional (rrset z n t)
 
 abbrev pub address_sets : ZoneContents → List Item → DomainName → List Item
 address_sets z earlier n = address_set z earlier n type_a ++ address_set z earlier n type_aaaa
 
--- RFC 1034 4.3.2 step 6: the address sets of the targets that are not in the reply yet, by exact
--- owner, also below a cut, never by a wildcard
+-- RFC 1034 4.3.2 step 6: the address sets of the targets, each unless it is in the reply already;
+-- also below a cut, but never by a wildcard
 unfoldable pub extra : ZoneContents → List Item → List DomainName → List Item
 extra z earlier [] = []
 extra z earlier (m ∷ ms) =
@@ -198,9 +198,9 @@ items z q t =
     let o = outcome z q t in
     main_items o ++ extra z (main_items o) (targets o)
 
--- The sets that a reply must not leave out without TC: answer, authority, and the glue of a
--- referral (RFC 2181 section 9, RFC 9471 section 3.1). They come first of all sets, since the
--- aliases before a referral have no targets.
+-- The sets without which a reply has to set TC: answer, authority, and the glue of a referral (RFC
+-- 2181 section 9, RFC 9471 section 3.1). They come before the other sets: aliases have no targets,
+-- so in a referral the targets at or below the cut are the first.
 unfoldable pub required_items : ZoneContents → DomainName → ℕ → List Item
 required_items z q t =
     let o = outcome z q t in
@@ -210,7 +210,7 @@ required_items z q t =
 abbrev pub nodes_to : ZoneContents → DomainName → ℕ
 nodes_to z n = 1 + (length n - length z.origin)
 
--- the targets at or below the origin, whose addresses the zone may have
+-- the targets at or below the origin: only for these does the zone have addresses
 abbrev pub targets_in_zone : ZoneContents → List DomainName → List DomainName
 targets_in_zone z ms = filter (λ m. at_or_below m z.origin) ms
 
@@ -230,9 +230,9 @@ names_looked_up z q t = length (chain z q t) + length (targets (outcome z q t))
 abbrev pub most_of_a_search : ℕ
 most_of_a_search = 17
 
--- The most label comparisons of an answer that visits `visits` nodes: one search for each child
--- that is found and for each that is not. At most two are not found for each name of the chain,
--- and one for each target.
+-- The most label comparisons of an answer that visits `visits` nodes: one binary search for each
+-- child that is looked up, found or not. For each name of the chain at most two children are not
+-- found, the next label and the wildcard, and for each target at most one.
 abbrev pub most_comparisons : ZoneContents → DomainName → ℕ → ℕ → ℕ
 most_comparisons z q t visits =
     most_of_a_search

@@ -41,7 +41,7 @@ has_target z n type test =
     && option_map_or (λ m. at_or_below m z.origin && test m) (target r.rtype r.rdata) false)
     (at z n)
 
--- RFC 1034 4.2: the name is at or below a cut, so its records are not the zone's own
+-- RFC 1034 4.2: the name is at or below a cut, so the zone is not authoritative for its records
 abbrev pub at_or_below_cut : Check
 at_or_below_cut z n = list_any (is_cut z) (suffixes n)
 
@@ -49,7 +49,7 @@ at_or_below_cut z n = list_any (is_cut z) (suffixes n)
 abbrev pub below_cut : Check
 below_cut z n = list_any (is_cut z) (without_first (suffixes n))
 
--- the name owns an address; the types of addresses
+-- the name owns an address record; the type is A or AAAA
 abbrev pub has_address : Check
 has_address z n = owns z n type_a || owns z n type_aaaa
 
@@ -93,8 +93,8 @@ abbrev pub ns_target_alias : Check
 ns_target_alias z n = has_target z n (λ t. t == type_ns) (λ m. owns z m type_cname)
 
 -- RFC 1034 4.2.1: m, a name server of n, lacks an address that the zone must have: m is not at or
--- below a cut, or n is a cut and m, at or below n, needs glue. A server at or below another cut
--- has its address there.
+-- below a cut, or n is a cut and m, at or below n, needs glue. The address of a server at or below
+-- another cut is in the zone below that cut.
 abbrev pub lacks_address : ZoneContents → DomainName → DomainName → Bool
 lacks_address z n m =
     not (has_address z m) && (not (at_or_below_cut z m) || is_cut z n && at_or_below m n)
@@ -121,7 +121,7 @@ first_is_asterisk (l ∷ n) = octets_equal l asterisk
 abbrev pub wildcard_ns : Check
 wildcard_ns z n = first_is_asterisk n && owns z n type_ns
 
--- limits of this project: the most records of an RRset, and the most RRsets of a name
+-- limits of this project: the most records in an RRset, and the most RRsets at a name
 abbrev pub most_of_a_set : ℕ
 most_of_a_set = 64
 

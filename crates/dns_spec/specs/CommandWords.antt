@@ -9,7 +9,7 @@ abbrev pub is_dashed : Octets → Bool
 is_dashed [] = false
 is_dashed (o ∷ word) = o == 45
 
--- the zone that a program is given: the arguments ORIGIN and FILE, not read yet
+-- the zone that a program is given: the arguments ORIGIN and FILE, as strings
 pub record ZoneWords : Type 0 where
   pub origin : Octets
   pub file : Octets
@@ -41,13 +41,14 @@ pub data Transport : Type 0 where
   udp : Transport
   tcp : Transport
 
--- How the server is to serve: reply to each line of its input within the limit of a transport, or
--- take a number of turns over a transport at an address, which is not read yet.
+-- How the server is to serve: reply to each line of its input within the limit of a transport; or
+-- handle a number of turns, datagrams over UDP or connections over TCP, at an address, given as a
+-- string.
 pub data ServiceAsked : Type 0 where
   by_lines : Transport → ServiceAsked
   by_turns : Transport → Octets → ℕ → ServiceAsked
 
--- the arguments for it: `once`, `once --tcp`, `udp ADDR TURNS` or `tcp ADDR TURNS`
+-- the arguments for a service: `once`, `once --tcp`, `udp ADDR TURNS` or `tcp ADDR TURNS`
 abbrev pub service_words : ServiceAsked → List Octets
 service_words (by_lines udp) = codes "once" ∷ []
 service_words (by_lines tcp) = codes "once" ∷ codes "--tcp" ∷ []
@@ -65,7 +66,7 @@ pub record AskToServe (words : List Octets) (service : ServiceAsked) (zone : Zon
   pub turns : HasTurns service
   pub zone_is : EndWords words (service_words service) zone
 
--- what a server that is given its socket is asked for: a transport and a number of turns
+-- what `zonesocket`, which is given its socket, is asked for: a transport and a number of turns
 pub record SocketAsked : Type 0 where
   pub transport : Transport
   pub turns : ℕ

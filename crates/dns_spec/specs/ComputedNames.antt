@@ -7,7 +7,7 @@ use Rattle.dns_spec.specs.Names.{Octets, DomainName, is_name, with_label}
 use Rattle.dns_spec.specs.NamesInMessages.{pointer_place}
 
 -- RFC 1035 4.1.4: what is at a place in a run of labels: its end, a label of k octets, a pointer
--- to place p, or nothing that is allowed.
+-- to place p, or octets that are not allowed.
 pub data RunStep : Type 0 where
   run_end : RunStep
   run_label : ℕ → RunStep
@@ -30,8 +30,9 @@ step_of b i (Some o) =
 abbrev pub SpelledName : Type 0
 SpelledName = DomainName × ℕ
 
--- A pointer may give a place after the header and before its run. `earlier` gives what the runs
--- that began before this one spell.
+-- The name after a pointer at place i to place p, in a run that began at place s. The pointer's
+-- place has to be after the header and before its run. `earlier` gives what the runs that begin
+-- before place s spell.
 abbrev pub jump : (ℕ → Option SpelledName) → ℕ → ℕ → ℕ → Option SpelledName
 jump earlier s i p =
     elim (nat_le 12 p && nat_lt p s) [
@@ -39,8 +40,8 @@ jump earlier s i p =
       | false ↦ None
     ]
 
--- What a run that began at place s spells from place i on. The number of octets bounds its steps,
--- since each step takes at least one.
+-- What a run that began at place s spells from place i on, in at most r steps. The number of octets
+-- is enough for r, since each step takes at least one octet.
 unfoldable pub run : (ℕ → Option SpelledName) → Octets → ℕ → ℕ → ℕ → Option SpelledName
 run earlier b s zero i = None
 run earlier b s (suc r) i =

@@ -93,7 +93,8 @@ type_table =
 abbrev pub other_type : TypeRow
 other_type = plain_row 0 [] (anything ∷ [])
 
--- the row of a type in the table, if it has one; and the same, or else the row for other types
+-- the row of a type in the table, if any; and the row of a type, `other_type` if it is not in the
+-- table
 abbrev pub row_of : ℕ → Option TypeRow
 row_of t = find (λ (row : TypeRow). row.number == t) type_table
 
@@ -112,7 +113,7 @@ pub data Part : Type 0 where
   octets : Octets → Part
   name : DomainName → Part
 
--- the octets of a part, and of a list of parts, in order
+-- the octets of a part, and of a list of parts one after another
 abbrev pub part_octets : Part → Octets
 part_octets (octets o) = o
 part_octets (name n) = wire n
@@ -120,8 +121,8 @@ part_octets (name n) = wire n
 abbrev pub joined : List Part → Octets
 joined = flat_map part_octets
 
--- RFC 1035 3.3: character-strings one after another, each after its length in one octet; k octets
--- of the current string are still to come
+-- RFC 1035 3.3: the octets are character-strings one after another, each after its length in one
+-- octet; the first k octets are the rest of the current string
 abbrev pub are_strings : ℕ → Octets → Bool
 are_strings zero [] = true
 are_strings (suc k) [] = false
@@ -166,12 +167,12 @@ valid t d = nat_le (length d) 65535 && is_some (cut (fields_of t) d)
 abbrev pub Valid : ℕ → Octets → Type 0
 Valid t d = IsTrue (valid t d)
 
--- the parts of data in order, runs of octets and names; joined they are the data. Invalid data is
--- one run.
+-- the parts of data in order, runs of octets and names; joined, they are the data. Invalid data is
+-- one run of octets.
 abbrev pub parts : ℕ → Octets → List Part
 parts t d = unwrap_or (cut (fields_of t) d) (octets d ∷ [])
 
--- the data with the ASCII letters of its names in lower case
+-- a part, and data, with the ASCII letters of names in lower case
 abbrev pub part_folded : Part → Part
 part_folded (octets o) = octets o
 part_folded (name n) = name (folded n)
@@ -179,12 +180,12 @@ part_folded (name n) = name (folded n)
 abbrev pub lower_case : ℕ → Octets → Octets
 lower_case t d = joined (map part_folded (parts t d))
 
--- the parts that a writer of messages sees: one run of octets, unless names in the data are
--- compressed
+-- the parts of data for a writer of messages: one run of octets, unless names in data of the type
+-- are compressed
 abbrev pub laid_parts : ℕ → Octets → List Part
 laid_parts t d = if compresses t then parts t d else octets d ∷ []
 
--- the first name in the data: the target of NS, CNAME, PTR, MX and SRV
+-- the first name in parts, and in data: the target of NS, CNAME, PTR, MX and SRV
 abbrev pub first_name : List Part → Option DomainName
 first_name [] = None
 first_name (octets o ∷ ps) = first_name ps

@@ -1,13 +1,13 @@
--- Which fault words have that spell no data: its number, 1 to 7. The order in which faults are
--- looked for is this project's choice.
+-- The fault of words that spell no data: its number, 1 to 7. The numbers, and the order in which
+-- faults are looked for, are this project's choice.
 use Rattle.std.specs.Prelude.{◌≡◌, ℕ, ◌+◌, ◌≤◌, ◌⊎◌, false, List, [], ◌∷◌, length, nat_le, ◌==◌, MatchOption}
 use Rattle.std.specs.Bool.{MatchBool}
 use Rattle.dns_spec.specs.Names.{Octets, DomainName}
 use Rattle.dns_spec.specs.Data.{Field, number, ipv4, ipv6, domain, string, strings, anything, valid}
 use Rattle.dns_spec.specs.DataText.{Word, SaysWord, word_fields_of, SaysUnknown, is_unknown_mark}
 
--- the fault of a word that does not spell its field: 2 if that is a number, 3 an address, 4 a name,
--- 5 a string
+-- the fault of a word that does not spell its field: 2 if the field is a number, 3 if it is an
+-- address, 4 if it is a name, and 5 if it is a string
 abbrev pub field_fault : Field → ℕ
 field_fault (number k) = 2
 field_fault ipv4 = 3
@@ -17,8 +17,8 @@ field_fault string = 5
 field_fault strings = 5
 field_fault anything = 5
 
--- The first faulty word from the left decides: one that does not spell its field, or with which the
--- data is longer than 65,535 octets (RFC 1035 3.2.1), whose fault is 5. The words before spell n
+-- The first faulty word from the left decides: it does not spell its field, or it makes the data
+-- longer than 65,535 octets (RFC 1035 3.2.1), which is fault 5. The words before these spell n
 -- octets.
 abbrev pub FieldsFaultIs : List Field → DomainName → ℕ → List Word → ℕ → Type 0
 FieldsFaultIs [] origin n ws k = ⊥
@@ -29,15 +29,15 @@ FieldsFaultIs (f ∷ fs) origin n (w ∷ ws) k =
     × MatchBool (nat_le (n + length d) 65535)
     (FieldsFaultIs fs origin (n + length d) ws k) (k ≡ 5))
 
--- in the form of the type: 6 if it has none; 1 if it has another number of words; else the fault
+-- in the type's own form: 6 if the type has none; 1 if the number of words is wrong; else the fault
 -- of the first faulty word
 abbrev pub TypedFaultIs : ℕ → DomainName → List Word → ℕ → Type 0
 TypedFaultIs t origin ws k =
     MatchOption (word_fields_of t (length ws)) (k ≡ 6)
     (λ fs. MatchBool (length fs == length ws) (FieldsFaultIs fs origin 0 ws k) (k ≡ 1))
 
--- RFC 3597 section 5: after `\#`, 6 if the words spell no octets, or more than 65,535; 7 if these
--- are invalid for the type
+-- RFC 3597 section 5: after `\#`, 6 if the words are not the length and the octets of data of at
+-- most 65,535 octets; 7 if these octets are invalid for the type
 abbrev pub UnknownFaultIs : ℕ → List Word → ℕ → Type 0
 UnknownFaultIs t ws k =
     (((d : Octets) → SaysUnknown ws d → length d ≤ 65535 → ⊥) × (k ≡ 6))

@@ -12,12 +12,14 @@ use Rattle.dns_spec.specs.NameText.{is_printable, SpellsOctet, SpellsName}
 use Rattle.dns_spec.specs.Data.{Field, number, ipv4, ipv6, domain, string, strings, anything, TypeRow, row_of, Valid, lower_case}
 use Rattle.dns_spec.specs.AddressText.{SaysIpv4, SaysIpv6}
 
--- RFC 1035 5.1: a word as it is spelled, with its escapes but without its quotation marks
+-- RFC 1035 5.1: a word of an entry, unquoted or in quotation marks: its text as it is spelled, with
+-- its escapes but without its quotation marks
 pub record Word : Type 0 where
   pub raw : Octets
   pub is_quoted : Bool
 
--- an octet that represents itself in a word: it neither ends the word nor begins an escape
+-- an octet that represents itself in an unquoted word: it neither ends the word nor begins an
+-- escape
 abbrev pub is_word_octet : ℕ → Bool
 is_word_octet o = is_ascii_graphic o && not (list_any (λ s. o == s) (codes "\"();\\"))
 
@@ -48,8 +50,8 @@ SpellsString text (x ∷ s) =
 abbrev pub SaysString : Octets → Octets → Type 0
 SaysString text d = (s : Octets) × (length s ≤ 255) × SpellsString text s × (d ≡ length s ∷ s)
 
--- The text spells the field, or one string of strings; a name is relative to the origin. No type
--- with a mnemonic has a field of any octets.
+-- The text spells the field, or one of the strings of `strings`; a name is relative to the origin.
+-- `anything` has no form, since no type with a mnemonic has such a field.
 abbrev pub SaysField : Field → DomainName → Octets → Octets → Type 0
 SaysField (number k) origin text d = SaysNumber k text d
 SaysField ipv4 origin text d = SaysIpv4 text d
@@ -79,16 +81,17 @@ SaysFields (f ∷ fs) origin (w ∷ ws) d =
     (front : Octets) × (back : Octets) × (d ≡ front ++ back)
     × SaysWord f origin w front × SaysFields fs origin ws back
 
--- RFC 1035 3.3.14: strings are the only field of TXT
+-- `strings` is the only field, as in TXT (RFC 1035 3.3.14)
 abbrev pub are_strings_alone : List Field → Bool
 are_strings_alone (strings ∷ []) = true
 are_strings_alone _ = false
 
--- The fields of k words of data, one field for each word; there is at least one of strings.
+-- The fields that k words of data have to spell. If `strings` is the only field, each word spells
+-- one string, and there is at least one. Otherwise they are the fields of the type, for any k.
 abbrev pub word_fields : ℕ → List Field → List Field
 word_fields k fs = if are_strings_alone fs then replicate (max 1 k) strings else fs
 
--- the fields of k words of data of a type that has a mnemonic
+-- the fields that k words of data of a type have to spell, if the type has a mnemonic
 abbrev pub word_fields_of : ℕ → ℕ → Option (List Field)
 word_fields_of t k = option_map (λ (row : TypeRow). word_fields k row.fields) (row_of t)
 
@@ -105,11 +108,12 @@ hex_octets (h ∷ l ∷ text) =
     then option_map (λ d. (16 * digit_value h + digit_value l) ∷ d) (hex_octets text)
     else None
 
--- an unquoted word of an even number of octets, at least two
+-- an unquoted word of an even number of octets, at least two; whether they are hex digits is not
+-- tested here
 abbrev pub is_hex_word : Word → Bool
 is_hex_word w = not w.is_quoted && nat_lt 0 (length w.raw) && length w.raw % 2 == 0
 
--- such words spell the octets, two hex digits per octet
+-- words spell octets in hex, two digits per octet, and no octet is divided between two words
 abbrev pub SaysHex : List Word → Octets → Type 0
 SaysHex ws d =
     IsTrue (list_all is_hex_word ws) × (hex_octets (flat_map (λ (w : Word). w.raw) ws) ≡ Some d)
@@ -132,7 +136,7 @@ SaysAsSpelled t origin (w ∷ ws) d =
     MatchBool (is_unknown_mark w) (SaysUnknown ws d) (SaysTyped t origin (w ∷ ws) d)
 
 -- The words spell valid data of the type, with names relative to the origin; d is that data with
--- its names in lower case.
+-- its names in lower case (in this product).
 pub record Says (t : ℕ) (ws : List Word) (origin : DomainName) (d : Octets) : Type 0 where
   pub as_spelled : Octets
   pub said : SaysAsSpelled t origin ws as_spelled

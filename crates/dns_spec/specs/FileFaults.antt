@@ -18,15 +18,15 @@ pub data FileFault : Type 0 where
   directive_words : FileFault
   -- an invalid owner
   bad_owner : FileFault
-  -- a record without an owner, and no earlier record has one
+  -- a record without an owner, if no earlier record has one
   no_owner : FileFault
   -- a TTL that is not a number up to 2147483647
   bad_ttl : FileFault
   -- a class other than IN
   other_class : FileFault
-  -- a missing type, or a type that no zone contains
+  -- a missing or unknown type, or a type that no zone contains
   bad_type : FileFault
-  -- a record without a TTL, and none is in force
+  -- a record without a TTL, if none is in force
   no_ttl : FileFault
   -- data that is invalid for its type
   bad_data : FileFault

@@ -11,8 +11,8 @@ use Rattle.dns_spec.specs.Sets.{RecordSet, records_at}
 use Rattle.dns_spec.specs.Reading.{Header, MessageQuestion}
 use Rattle.dns_spec.specs.Layout.{Section, answer, authority, additional, Item}
 
--- What octets mean after the entries before them. They are the rest of a text, or a beginning of
--- the rest.
+-- What octets mean after the earlier entries of a text. By `extent`, the octets are the rest of the
+-- text or a beginning of the rest.
 abbrev pub OctetsMean : DomainName → List Entry → Extent → Octets → Meaning → Type 0
 OctetsMean o earlier extent octets m =
     (es : List Entry) × EntriesOf extent octets es × EntriesMean o earlier es m

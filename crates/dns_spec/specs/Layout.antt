@@ -1,5 +1,5 @@
--- How a reply is laid out in octets: which suffix of a name is shared with an earlier name, and by
--- which place.
+-- How a reply is laid out in octets: which suffix of a name is shared with an earlier name, and the
+-- place to which its pointer points.
 use Rattle.std.specs.Prelude.{ℕ, ◌+◌, ◌-◌, ◌*◌, Bool, true, false, ◌&&◌, List, [], ◌∷◌, ◌++◌, map, length, nat_le, if◌then◌else◌}
 use Rattle.std.specs.Prelude.{Option, None, Some}
 use Rattle.std.specs.Option.{option_to_list}
@@ -46,7 +46,7 @@ in_section s items = records_of (filter (λ (i : Item). is_section s i.section) 
 abbrev pub pointer : ℕ → Octets
 pointer p = octets16 (192 * 256 + p)
 
--- An earlier name of the message, and the place where it begins.
+-- An earlier name in the message, and the place where the name begins.
 abbrev pub Placed : Type 0
 Placed = DomainName × ℕ
 
@@ -54,12 +54,13 @@ Placed = DomainName × ℕ
 abbrev pub has_suffix : DomainName → DomainName → Bool
 has_suffix n s = nat_le (length s) (length n) && names_equal (last_labels (length s) n) s
 
--- the place of the first label of the suffix s, in the name that begins at the given place
+-- the place of the first label of the suffix s, if the labels before s are written at the name's
+-- place
 abbrev pub suffix_place : Placed → DomainName → ℕ
 suffix_place m s = m.1 + (length (wire m.0) - length (wire s))
 
--- The place of s in the first earlier name that ends with it. No name before that one ends with s,
--- so s is written out there.
+-- The place of s in the first earlier name that ends with s. No name before that name ends with s,
+-- so at least the first label of s is written there, before any pointer.
 abbrev pub place_of : List Placed → DomainName → Option ℕ
 place_of [] s = None
 place_of (m ∷ ms) s = if has_suffix m.0 s then Some (suffix_place m s) else place_of ms s
@@ -68,7 +69,7 @@ place_of (m ∷ ms) s = if has_suffix m.0 s then Some (suffix_place m s) else pl
 abbrev pub last_place : ℕ
 last_place = 16383
 
--- a pointer reaches every place in this many octets
+-- the number of places that a pointer reaches: all places of a message of at most 16,384 octets
 abbrev pub reach : ℕ
 reach = 1 + last_place
 
@@ -77,18 +78,18 @@ abbrev pub reached : Option ℕ → Option ℕ
 reached None = None
 reached (Some p) = if nat_le p last_place then Some p else None
 
--- the place to which a name that ends with s points: the place of s, if a pointer reaches it
+-- the place to which a name that ends with s may point: the place of s, if a pointer reaches it
 abbrev pub shared_place : List Placed → DomainName → Option ℕ
 shared_place ms s = reached (place_of ms s)
 
--- How the place of a suffix is found among earlier names, if the suffix is shared: by
--- `shared_place` in the layout, and by `place_of` if a pointer reached every place.
+-- A function that gives the place of a suffix among earlier names, if the suffix is to be shared:
+-- `shared_place` for the layout, and `place_of` if a pointer reached every place.
 abbrev pub Lookup : Type 0
 Lookup = List Placed → DomainName → Option ℕ
 
 -- RFC 1035 4.1.4: a name is written as its labels before the longest suffix for which `find` gives
--- a place, and a pointer to that place; without such a suffix it is written whole. The root is
--- never shared.
+-- a place, and a pointer to that place; without such a suffix, the name is written whole. The root
+-- is never shared.
 unfoldable pub octets_by : Lookup → List Placed → DomainName → Octets
 octets_by find ms [] = 0 ∷ []
 octets_by find ms (l ∷ n) =
@@ -122,7 +123,7 @@ data_by find ms p (name n ∷ ps) =
 abbrev pub data_laid : List Placed → ℕ → List Part → Laid
 data_laid = data_by shared_place
 
--- the parts of a record's data that a writer sees
+-- the parts of a record's data for a writer
 abbrev pub parts_of : ResourceRecord → List Part
 parts_of r = laid_parts r.rtype r.rdata
 
@@ -131,7 +132,7 @@ abbrev pub record_tail : ResourceRecord → Octets → Octets
 record_tail r d =
     octets16 r.rtype ++ octets16 class_in ++ octets32 r.ttl ++ octets16 (length d) ++ d
 
--- a record laid out from place p on; its owner is an earlier name for its data
+-- a record laid out from place p on; for the names in its data, its owner is an earlier name
 abbrev pub record_by : Lookup → List Placed → ℕ → ResourceRecord → Laid
 record_by find ms p r =
     let owner = octets_by find ms r.owner in
@@ -160,7 +161,7 @@ abbrev pub asked_octets : Option MessageQuestion → Octets
 asked_octets None = []
 asked_octets (Some q) = question_octets q
 
--- the earlier names that the question gives to the records: its own name, which begins at place 12
+-- the earlier names of the first record: the QNAME, which begins at place 12
 abbrev pub asked_placed : Option MessageQuestion → List Placed
 asked_placed None = []
 asked_placed (Some q) = (q.qname, 12) ∷ []
@@ -184,7 +185,7 @@ layout h q items =
     reply_header h q items ++ asked_octets q
     ++ records_octets (asked_placed q) (12 + length (asked_octets q)) (records_of items)
 
--- The message that a layout spells.
+-- A record in a message, and the message that a layout spells.
 abbrev pub message_record : ResourceRecord → MessageRecord
 message_record r =
     record { owner = r.owner; rtype = r.rtype; rclass = class_in; ttl = r.ttl; rdata = r.rdata }

@@ -7,7 +7,7 @@ use Rattle.dns_spec.specs.Names.{Octets}
 use Rattle.dns_spec.specs.DataText.{hex_octets}
 use Rattle.dns_spec.specs.WrittenText.{hex_text}
 
--- adds an octet in front of the first line, or makes a line of it if there is none
+-- puts an octet in front of the first line, or makes it a line if there are no lines
 abbrev pub begin_line : ℕ → List Octets → List Octets
 begin_line o [] = (o ∷ []) ∷ []
 begin_line o (l ∷ ls) = (o ∷ l) ∷ ls
@@ -25,22 +25,23 @@ line_ends x = length (filter (λ o. o == 10) x)
 abbrev pub ended_lines : Octets → List Octets
 ended_lines x = take (line_ends x) (lines x)
 
--- RFC 1035 4.2.2: the message in a line; it has at most 65,535 octets, so its line has at most
--- 131,070 hex digits, of either case
+-- The message in a line, if the line is hex digits of either case, two per octet. RFC 1035 4.2.2: a
+-- message has at most 65,535 octets, so its line has at most 131,070 digits.
 abbrev pub line_message : Octets → Option Octets
 line_message l = if nat_le (length l) 131070 then hex_octets l else None
 
--- the line of a reply, and of a missing one
+-- the line for a reply, or `none` if there is no reply
 abbrev pub reply_line : Option Octets → Octets
 reply_line None = codes "none\n"
 reply_line (Some r) = hex_text r ++ codes "\n"
 
--- the line written for a message, whose reply `reply` gives, and for a line that is not a message
+-- the line that is written for a message, by its reply, or for a line that is not a message;
+-- `reply` gives the reply to each message
 abbrev pub message_answer : (Octets → Option Octets) → Option Octets → Octets
 message_answer reply None = codes "bad hex\n"
 message_answer reply (Some m) = reply_line (reply m)
 
--- what is written for the lines
+-- what is written for lines: one line for each
 abbrev pub line_answers : (Octets → Option Octets) → List Octets → Octets
 line_answers reply = flat_map (λ l. message_answer reply (line_message l))
 

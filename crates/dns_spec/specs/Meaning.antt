@@ -24,7 +24,7 @@ most_ttl = 2147483647
 abbrev pub most_records : ℕ
 most_records = 100000
 
--- What an entry means: a fault, or at most one record.
+-- What an entry means: a fault, or one record or none.
 pub data EntryMeaning : Type 0 where
   faulty : FileFault → EntryMeaning
   gives : List ResourceRecord → EntryMeaning
@@ -59,9 +59,9 @@ kind_by_words blank (w ∷ ws) =
     else if is_directive w then directive (text_in_lower_case w.raw) ws
     else owned w ws
 
--- An entry without words means nothing. An entry that begins with a blank is a record without an
--- owner of its own. Of the others, an entry whose first word begins with `$` is a directive; else
--- its first word is the owner of a record.
+-- An entry without words gives no record. Otherwise, an entry that begins with a blank is a record
+-- that states no owner; an entry whose first word is unquoted and begins with `$` is a directive;
+-- and the first word of any other entry is the owner of a record.
 abbrev pub kind_of : Entry → EntryKind
 kind_of e = kind_by_words (begins_blank e.tokens) (entry_words e)
 
@@ -88,11 +88,12 @@ is_class_word w =
     && (list_any (λ c. is_word c w.raw) (codes "in" ∷ codes "ch" ∷ codes "cs" ∷ codes "hs" ∷ [])
     || is_word (codes "class") (take 5 w.raw))
 
--- the word names the class IN
+-- the word names the class IN, by its mnemonic or as `CLASS1`
 abbrev pub is_class_in : Word → Bool
 is_class_in w = is_word (codes "in") w.raw || is_word (codes "class1") w.raw
 
--- the fields among the words after a TTL, among the words after a class, and among all the words
+-- the fields of a record by the words after its TTL, by the words after its class, and by all
+-- words after its owner
 abbrev pub class_after : Word → List Word → Fields
 class_after ttl [] = record { ttl = Some ttl; class = None; others = [] }
 class_after ttl (w ∷ ws) =
@@ -112,7 +113,7 @@ fields (w ∷ ws) =
     else if is_class_word w then ttl_after w ws
     else record { ttl = None; class = None; others = w ∷ ws }
 
--- the first argument of a directive of this name
+-- the first argument of the directive, if it has this name
 abbrev pub directive_word : Octets → EntryKind → Option Word
 directive_word name no_words = None
 directive_word name (directive n []) = None
@@ -143,7 +144,7 @@ is_record e = elim (kind_of e) [
   | unowned ws ↦ true
 ]
 
--- the word that `word_of` finds in the nearest entry that has one
+-- the word that `word_of` gives for the nearest entry for which it gives one
 abbrev pub nearest : (EntryKind → Option Word) → List Entry → Option Word
 nearest word_of [] = None
 nearest word_of (e ∷ earlier) = option_or (word_of (kind_of e)) (nearest word_of earlier)
@@ -184,7 +185,8 @@ abbrev pub TtlIs : List Entry → Option Word → ℕ → Type 0
 TtlIs earlier stated n = MatchOption (ttl_in_force earlier stated) ⊥ (λ w. TtlSays w n)
 
 -- All types except those that no zone contains: 0, and the query types and meta-types (RFC 6895
--- 3.1); and, in this product, the types of DNSSEC and DNAME.
+-- 3.1), 128 to 255 and OPT; and, in this product, DNAME, DS, RRSIG, NSEC, DNSKEY, NSEC3 and
+-- NSEC3PARAM.
 abbrev pub is_zone_type : ℕ → Bool
 is_zone_type t =
     not (t == 0 || (nat_le 128 t && nat_le t 255)
@@ -200,7 +202,8 @@ abbrev pub DataIs : DomainName → List Entry → List Word → Octets → Type 
 DataIs o earlier ws d =
     (t : ℕ) × TypeIs ws t × ((m : DomainName) × OriginIs o earlier m × Says t (drop 1 ws) m d)
 
--- The record of an entry: its owner in lower case, its TTL, its type and its data.
+-- The record of an entry: its owner, in lower case (in this product; RFC 1035 2.3.3 asks to keep
+-- the case if possible), its TTL, its type and its data.
 pub record IsRecord (o : DomainName) (earlier : List Entry) (Owner : DomainName → Type 0)
     (f : Fields) (r : ResourceRecord) : Type 0 where
   pub owner : (n : DomainName) × Owner n × (r.owner ≡ folded n)
@@ -208,7 +211,7 @@ pub record IsRecord (o : DomainName) (earlier : List Entry) (Owner : DomainName 
   pub rtype : TypeIs f.others r.rtype
   pub rdata : DataIs o earlier f.others r.rdata
 
--- a TTL is stated and is invalid
+-- a TTL is stated, and it is invalid
 abbrev pub IsNoTtl : Option Word → Type 0
 IsNoTtl stated = MatchOption stated ⊥ (λ w. Nothing (TtlSays w))
 
@@ -250,7 +253,8 @@ OneWord P [] = ⊥
 OneWord P (w ∷ []) = P w
 OneWord P (w ∷ v ∷ ws) = ⊥
 
--- `R06`: the arguments of a directive are invalid; valid ones give no record
+-- `R06` if a directive does not have exactly one argument, or P holds for no value of it; valid
+-- arguments give no record
 abbrev pub DirectiveSays : {A : Type 0} → (A → Word → Type 0) → List Word → EntryMeaning → Type 0
 DirectiveSays {A} P ws =
     Lowest ((directive_words, Nothing (λ (v : A). OneWord (P v) ws)) ∷ [])
@@ -286,7 +290,7 @@ pub data Meaning : Type 0 where
   records : List ResourceRecord → Meaning
   fault_at : FileFault → ℕ → Meaning
 
--- records, and after them what the later entries mean
+-- records, followed by the records that later entries mean; or the fault of the later entries
 abbrev pub after : List ResourceRecord → Meaning → Meaning
 after rs (records more) = records (rs ++ more)
 after rs (fault_at fault line) = fault_at fault line

@@ -12,8 +12,8 @@ use Rattle.dns_spec.specs.Reading.{MessageQuestion, MessageRecord, DnsMessage, S
 use Rattle.dns_spec.specs.Layout.{octets16}
 use Rattle.dns_spec.specs.Lines.{lines, line_message}
 
--- RFC 1035 4.1.1: ID and flags in hex digits, and the numbers of questions, answers, authority and
--- additional records
+-- a count; and the line for the header (RFC 1035 4.1.1): ID and flags in hex digits, and the
+-- numbers of questions, answers, authority and additional records
 abbrev pub count_text : ℕ → Octets
 count_text n = codes " " ++ decimal n
 
@@ -33,8 +33,8 @@ question_line q =
     codes "question " ++ name_text q.qname ++ class_text q.qclass ++ type_text q.qtype
     ++ codes "\n"
 
--- A record of a section. RFC 3597 5: data of a class other than IN is written in the generic form,
--- as data of type 0 is.
+-- The line for a record of a section. RFC 3597 5: data of a class other than IN is written in the
+-- generic form, like data of type 0.
 abbrev pub section_line : Octets → MessageRecord → Octets
 section_line section r =
     section ++ codes " " ++ name_text r.owner ++ codes " " ++ decimal r.ttl ++ class_text r.rclass
@@ -49,8 +49,8 @@ message_text m =
     ++ flat_map (section_line (codes "authority")) m.authorities
     ++ flat_map (section_line (codes "additional")) m.additionals
 
--- What is printed for octets: the lines of the message that they spell; if they spell none, a line
--- with the number of a fault, 1 to 6.
+-- What is printed for octets: the lines of the message that they spell; or, if they spell none, a
+-- line with the number of a fault, 1 to 6. Which number is not defined here.
 abbrev pub PrintsOctets : Octets → Report → Type 0
 PrintsOctets b report =
     ((m : DnsMessage) × Spells b m

@@ -45,7 +45,7 @@ escape_front (a ∷ text) =
     if is_ascii_digit a then digits_front (a ∷ text)
     else if is_printable a then Some (a, text) else None
 
--- how many octets of the text after a backslash belong to its escape, if it begins one
+-- the number of octets after a backslash that belong to its escape, if it begins one
 abbrev pub escape_left : Octets → Option ℕ
 escape_left text = option_map (λ r. length text - length r.1) (escape_front text)
 
@@ -73,10 +73,10 @@ pub record SpellsName (origin : DomainName) (word : Octets) (n : DomainName) : T
       ⊎ ((word ≢ codes "@") × (word ≢ []) × TextSpells origin word n))
   pub is_name : IsTrue (is_name n)
 
--- RFC 1035 5.1 and 2.3.4: what is wrong with the first faulty label of a text. 4: a backslash in it
--- begins no escape; else 1: it is empty; or 2: it has more than 63 octets. 3 if no label is faulty.
--- An empty text is no label. The label has i octets before the text, and the first k octets of the
--- text belong to the current escape.
+-- RFC 1035 5.1 and 2.3.4: the fault of the first faulty label of a text. 4: a backslash in the
+-- label begins no escape; else 1: the label is empty; or 2: it has more than 63 octets. 3 if no
+-- label is faulty. The empty text after a final dot is not a label. The current label has i octets
+-- before the text, and the first k octets of the text belong to the current escape.
 unfoldable pub labels_fault : ℕ → ℕ → Octets → ℕ
 labels_fault k i [] = if nat_lt 63 i then 2 else 3
 labels_fault (suc k) i (o ∷ text) = labels_fault k i text
@@ -89,8 +89,8 @@ labels_fault zero i (o ∷ text) =
       ]
     ]
 
--- The fault of a word that spells no name, 1 to 4: that of its first faulty label, from the left; 3
--- if no label is faulty, so that the name is too long. The empty word is an empty label.
+-- The fault of a word that spells no name, 1 to 4: the fault of its first faulty label, from the
+-- left; or 3, the name is too long, if no label is faulty. The empty word is an empty label.
 abbrev pub name_fault : Octets → ℕ
 name_fault [] = 1
 name_fault (o ∷ word) = labels_fault 0 0 (o ∷ word)
@@ -103,7 +103,8 @@ is_special x = list_any (λ s. x == s) (codes "\"$().;@\\")
 abbrev pub three_digits : ℕ → Octets
 three_digits x = (48 + x / 100) ∷ (48 + x / 10 % 10) ∷ (48 + x % 10) ∷ []
 
--- RFC 1035 5.1: an octet of a label is written as itself, as `\X` or as `\DDD`
+-- RFC 1035 5.1: how an octet of a label is written: a special octet as `\X`, another graphic octet
+-- as itself, and any other octet as `\DDD`
 unfoldable pub octet_text : ℕ → Octets
 octet_text x =
     if is_special x then 92 ∷ x ∷ []

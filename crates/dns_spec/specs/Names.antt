@@ -1,8 +1,8 @@
 -- Domain names: their wire form, when two names are the same, when one is at or below another, and
 -- their canonical order.
 --
--- An octet is a number below 256. These lists come from programs, so no definition states the
--- bound again.
+-- An octet is a number below 256, but the type `Octets` does not include this bound: definitions
+-- and laws that need it state it.
 use Rattle.std.specs.Prelude.{ℕ, zero, suc, ◌-◌, Bool, true, false, ◌&&◌, List, [], ◌∷◌, ◌++◌, map, reverse, length, take, drop, nat_lt, nat_le, ◌==◌, if◌then◌else◌, Option, None, Some}
 use Rattle.std.specs.Option.{option_map, option_and_then}
 use Rattle.std.specs.List.{list_all}
@@ -33,8 +33,8 @@ is_label l = nat_lt 0 (length l) && nat_le (length l) 63
 abbrev pub is_name : DomainName → Bool
 is_name n = list_all is_label n && nat_le (length (wire n)) 255
 
--- RFC 1035 2.3.3: the name with its ASCII letters in lower case; names are compared without regard
--- to case
+-- RFC 1035 2.3.3, RFC 4343 section 3: the name with its ASCII letters in lower case; names are
+-- compared without regard to case
 abbrev pub folded : DomainName → DomainName
 folded n = map (map to_ascii_lowercase) n
 
@@ -53,7 +53,7 @@ same n m = names_equal (folded n) (folded m)
 abbrev pub last_labels : ℕ → DomainName → DomainName
 last_labels k n = drop (length n - k) n
 
--- RFC 1034 3.1: n is a or a name below it: n ends with the labels of a
+-- RFC 1034 3.1: n is a or a name below a: n ends with the labels of a, in any case
 abbrev pub at_or_below : DomainName → DomainName → Bool
 at_or_below n a = nat_le (length a) (length n) && same (last_labels (length a) n) a
 
@@ -75,12 +75,12 @@ label_order = slice_cmp nat_cmp
 abbrev pub name_order : DomainName → DomainName → Ordering
 name_order n m = slice_cmp label_order (reverse (folded n)) (reverse (folded m))
 
--- puts a label in front of a name; what follows the name stays
+-- puts a label in front of a name, the first of a pair
 abbrev pub with_label : {X : Type 0} → Octets → DomainName × X → DomainName × X
 with_label l (n, after) = (l ∷ n, after)
 
--- RFC 1035 3.1: the name at the beginning of the octets, if it has fewer than k labels, and the
--- octets after its final 0
+-- RFC 1035 3.1: the labels in wire form at the beginning of the octets, if they are fewer than k,
+-- and the octets after their final 0. Labels may be longer than 63 octets here.
 unfoldable pub labels_from : ℕ → Octets → Option (DomainName × Octets)
 labels_from zero os = None
 labels_from (suc k) [] = None
@@ -91,7 +91,7 @@ labels_from (suc k) (suc i ∷ os) =
       | false ↦ None
     ]
 
--- The name whose wire form begins the octets, and the octets after it. A name has at most 127
--- labels, since each label takes at least two octets.
+-- The valid name whose wire form begins the octets, and the octets after it. A name has at most
+-- 127 labels, since each label takes at least two octets.
 abbrev pub name_of : Octets → Option (DomainName × Octets)
 name_of os = option_and_then (λ r. if is_name r.0 then Some r else None) (labels_from 128 os)

@@ -13,7 +13,7 @@ most_over_udp = 512
 abbrev pub most_over_tcp : ℕ
 most_over_tcp = 65535
 
--- RFC 1035 4.1.1: the bits of the flags that a server examines
+-- RFC 1035 4.1.1: the flags QR, opcode and RD, which a server examines
 abbrev pub is_response : ℕ → Bool
 is_response flags = nat_le 1 (flags / 2 ^ 15)
 
@@ -27,8 +27,8 @@ recursion_desired flags = flags / 2 ^ 8 % 2
 abbrev pub bit : Bool → ℕ
 bit b = if b then 1 else 0
 
--- The header of a reply to a query with header h: the same ID, opcode and RD, QR set, and RA and
--- the three Z bits 0.
+-- The header of a reply to a query with header h: ID, opcode and RD as in h, QR set, RA and the
+-- three Z bits 0, and this AA, TC and RCODE.
 abbrev pub reply_head : Header → Bool → Bool → ℕ → Header
 reply_head h aa tc rcode = record {
   id = h.id;
@@ -61,15 +61,15 @@ counts_are_one_question d =
 abbrev pub is_ignored : Octets → Bool
 is_ignored d = nat_lt (length d) 12 || is_response (field16 d 2)
 
--- A datagram as a query: `absent` if it gets no reply; refused with only the header of a reply, if
--- it has another opcode or not exactly one question; else its header as received, and its
--- question.
+-- A datagram as a query: `absent` if it gets no reply; `refused_with` a header, the whole reply, if
+-- its opcode is not 0 or it is not a header and exactly one question; else its header as received,
+-- and its question.
 pub data QueryRead : Type 0 where
   absent : QueryRead
   refused_with : Header → QueryRead
   query : Header → MessageQuestion → QueryRead
 
--- a query with its question; without one it is refused
+-- a query with its question; without a question, it is refused as a format error
 abbrev pub query_or_error : Header → Option MessageQuestion → QueryRead
 query_or_error h None = refused_with (refusal_head h format_error)
 query_or_error h (Some q) = query h q

@@ -1,5 +1,5 @@
--- Which message octets spell. `name_at` gives the name at a place and the place after it: by a law
--- that is what `NameAt` of NamesInMessages relates.
+-- Which message octets spell. `name_at` gives the name at a place and the place after the name; by
+-- a law, it computes the relation `NameAt` of NamesInMessages.
 use Rattle.std.specs.Prelude.{◌≡◌, ℕ, zero, suc, ◌+◌, ◌-◌, ◌&&◌, List, [], ◌∷◌, ◌++◌, length, take, drop, nat_le, ◌==◌, if◌then◌else◌}
 use Rattle.std.specs.Prelude.{Option, None, Some}
 use Rattle.std.specs.Option.{option_map, option_and_then}
@@ -51,7 +51,7 @@ not_implemented = 4
 abbrev pub refused : ℕ
 refused = 5
 
--- RFC 1035 2.3.2: the number of 16 bits at place i, and the one of 32 bits
+-- RFC 1035 2.3.2: the number of 16 bits, and the number of 32 bits, at place i
 abbrev pub field16 : Octets → ℕ → ℕ
 field16 b i = number_of (take 2 (drop i b))
 
@@ -73,7 +73,7 @@ abbrev pub message_question_at : Octets → ℕ → Option (MessageQuestion × �
 message_question_at b i = option_and_then (question_after b) (name_at b i)
 
 -- A field at place i of data that ends before place e, for i ≤ e ≤ length b: its octets without
--- compression, and the place after it. RFC 1035 4.1.4: only a name may continue elsewhere.
+-- compression, and the place after the field. RFC 1035 4.1.4: only names contain pointers.
 abbrev pub name_inside : ℕ → SpelledName → Option (Octets × ℕ)
 name_inside e (n, j) = if nat_le j e then Some (wire n, j) else None
 
@@ -88,8 +88,9 @@ fields_at b [] i e = if i == e then Some [] else None
 fields_at b (f ∷ fs) i e =
     option_and_then (λ r. option_map (λ d. r.0 ++ d) (fields_at b fs r.1 e)) (field_at b f i e)
 
--- The data from place i up to place e, by its type in class IN. In other classes, and for types
--- without a row of fields, it is any octets, even if RFC 1035 3.3 has names in them (own).
+-- The data from place i up to place e, by the fields of its type in class IN. In another class, or
+-- if the type is not in the table, the data is any octets; in this product also if RFC 1035 3.3
+-- defines names in data of the type.
 abbrev pub data_fields : ℕ → ℕ → List Field
 data_fields t c = if c == class_in then fields_of t else anything ∷ []
 
@@ -120,13 +121,14 @@ record_after b (n, j) =
 abbrev pub message_record_at : Octets → ℕ → Option (MessageRecord × ℕ)
 message_record_at b i = option_and_then (record_after b) (name_at b i)
 
--- k questions or records in order, from place i on, and the place after them
+-- k questions or records in order, from place i on, and the place after them; `read` gives each
 unfoldable pub several : {X : Type 0} → (ℕ → Option (X × ℕ)) → ℕ → ℕ → Option (List X × ℕ)
 several read zero i = Some ([], i)
 several read (suc k) i =
     option_and_then (λ r. option_map (λ s. (r.0 ∷ s.0, s.1)) (several read k r.1)) (read i)
 
--- RFC 1035 4.1: the sections after a place, in order, up to the end
+-- RFC 1035 4.1: the message, by the sections already read and the place after them; the octets end
+-- with the last section
 abbrev pub last_section : Octets → List MessageQuestion → List MessageRecord → List MessageRecord
     → List MessageRecord × ℕ → Option DnsMessage
 last_section b qs ans ns r =

@@ -23,7 +23,7 @@ records_equal r s =
 abbrev pub HoldSameRecords : List ResourceRecord → List ResourceRecord → Type 0
 HoldSameRecords rs ss = All (Contains ss) rs × All (Contains rs) ss
 
--- an origin in lower case, and records whose order has no meaning
+-- an origin, and records whose order has no meaning; `zone_of` gives an origin in lower case
 pub record ZoneContents : Type 0 where
   pub origin : DomainName
   pub records : List ResourceRecord
@@ -37,8 +37,8 @@ distinct eq (x ∷ xs) = x ∷ filter (λ y. not (eq x y)) (distinct eq xs)
 abbrev pub zone_of : DomainName → List ResourceRecord → ZoneContents
 zone_of o rs = record { origin = folded o; records = distinct records_equal rs }
 
--- insertion sort: an element is inserted before the first that it does not come after, so equal
--- elements keep their order
+-- insertion sort: an element is inserted before the first element that is not less than it, so
+-- equal elements keep their order
 abbrev pub insert_by : {X : Type 0} → (X → X → Ordering) → X → List X → List X
 insert_by cmp x [] = x ∷ []
 insert_by cmp x (y ∷ ys) = if is_gt (cmp x y) then y ∷ insert_by cmp x ys else x ∷ y ∷ ys
@@ -79,7 +79,7 @@ rrset z n t = of_type t (at z n)
 abbrev pub owns : ZoneContents → DomainName → ℕ → Bool
 owns z n t = list_any (λ (r : ResourceRecord). same r.owner n && r.rtype == t) z.records
 
--- the records with another owner
+-- the records, with this name as their owner
 abbrev pub with_owner : DomainName → List ResourceRecord → List ResourceRecord
 with_owner n = map (λ (r : ResourceRecord). record r { owner = n })
 

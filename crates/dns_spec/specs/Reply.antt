@@ -17,15 +17,16 @@ abbrev pub greatest : (ℕ → Bool) → ℕ → ℕ
 greatest test zero = 0
 greatest test (suc k) = if test (suc k) then suc k else greatest test k
 
--- RFC 2181 section 9: an RRset is sent whole or not at all. The longest beginning of a list of
--- sets whose size is at most the limit. If not even the empty one fits, since the limit has no
--- room for the question (below 271 octets), no set is kept and the reply exceeds the limit.
+-- The longest beginning of a list of sets for which the size of the reply is at most the limit. In
+-- this product, an RRset is sent whole or not at all (with TC, RFC 2181 section 9 allows a part).
+-- If not even the question fits (it may need 271 octets with the header), no set is kept and the
+-- reply exceeds the limit.
 abbrev pub kept : (List Item → ℕ) → ℕ → List Item → List Item
 kept size_of limit sets =
     take (greatest (λ k. nat_le (size_of (take k sets)) limit) (length sets)) sets
 
--- The same for sets added to `front` one after another: it stops before the first set with which
--- the size exceeds the limit.
+-- Adds sets to `front` one after another, and stops before the first set with which the size
+-- exceeds the limit.
 abbrev pub fitting : (List Item → ℕ) → ℕ → List Item → List Item → List Item
 fitting size_of limit front [] = front
 fitting size_of limit front (i ∷ is) =
@@ -33,7 +34,7 @@ fitting size_of limit front (i ∷ is) =
     if nat_le (size_of next) limit then fitting size_of limit next is else front
 
 -- RFC 2181 section 9, RFC 9471 section 3.1: TC (RFC 1035 4.1.1) is set if a required set is
--- missing, such as glue that does not fit, and not if only optional addresses are missing.
+-- missing, such as glue that does not fit, but not if only optional addresses are missing.
 abbrev pub truncated : ZoneContents → MessageQuestion → List Item → Bool
 truncated z q sets = nat_lt (length sets) (length (required_items z q.qname q.qtype))
 
@@ -77,7 +78,7 @@ pub record Reply : Type 0 where
   pub question : Option MessageQuestion
   pub sets : List Item
 
--- The reply to a question with these sets, a beginning of all its sets.
+-- The reply to a question with these sets, a beginning of all sets of its answer.
 abbrev pub answer_with : ZoneContents → Header → MessageQuestion → List Item → Reply
 answer_with z h q sets =
     let o = outcome z q.qname q.qtype in
@@ -87,7 +88,7 @@ answer_with z h q sets =
       sets = sets;
     }
 
--- The reply for a decision; `keep` gives the beginning of a question's sets that is kept.
+-- The reply for a decision, and to a datagram; `keep` gives the sets that are kept for a question.
 abbrev pub reply_of : (MessageQuestion → List Item) → ZoneContents → Decision → Option Reply
 reply_of keep z silence = None
 reply_of keep z (header_alone h) = Some (record { header = h; question = None; sets = [] })
@@ -97,7 +98,8 @@ reply_of keep z (answered h q) = Some (answer_with z h q (keep q))
 unfoldable pub reply_with : (MessageQuestion → List Item) → ZoneContents → Octets → Option Reply
 reply_with keep z d = reply_of keep z (decide z d)
 
--- the longest beginning of all sets that fits the limit; the limit should be at least 271 octets
+-- the longest beginning of all sets of a question's answer that fits the limit; the limit should be
+-- at least 271 octets
 abbrev pub keep_longest : ZoneContents → ℕ → MessageQuestion → List Item
 keep_longest z limit q = kept (size (Some q)) limit (items z q.qname q.qtype)
 
@@ -113,8 +115,7 @@ reply_octets r = layout r.header r.question r.sets
 abbrev pub reply_message : Reply → DnsMessage
 reply_message r = message_of r.header r.question r.sets
 
--- The octets of the reply to a datagram, if there is one. If the limit is at least 271, so that
--- every question fits, they are at most `limit` octets; below that, a question may exceed the
--- limit.
+-- The octets of the reply to a datagram, if it gets one: at most `limit` octets if the limit is at
+-- least 271, so that every question fits. Below 271, a question may exceed the limit.
 unfoldable pub octets_of : ZoneContents → Octets → ℕ → Option Octets
 octets_of z d limit = option_map reply_octets (reply z d limit)

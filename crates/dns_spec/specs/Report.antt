@@ -21,16 +21,16 @@ pub record Report : Type 0 where
   pub output : Octets
   pub passes : Bool
 
--- the number of a code in two digits
+-- the number of a code in two decimal digits
 abbrev pub two_digits : ℕ → Octets
 two_digits n = (48 + n / 10) ∷ (48 + n % 10) ∷ []
 
--- a fault of the file, on the line where its entry begins
+-- the line for a fault of the file, with the number of the line on which the faulty entry begins
 abbrev pub line_report : FileFault → ℕ → Octets
 line_report fault line =
     codes "line " ++ decimal line ++ codes ": R" ++ two_digits (fault_code fault) ++ codes "\n"
 
--- a fault of the zone
+-- the line for a fault of the zone
 abbrev pub fault_report : Fault → Octets
 fault_report f = name_text f.owner ++ codes " Z" ++ two_digits f.code ++ codes "\n"
 
@@ -45,13 +45,13 @@ loaded_report z =
     codes "zone " ++ bare_name_text z.origin ++ codes "/IN: loaded serial "
     ++ decimal (zone_serial z) ++ codes "\nOK\n"
 
--- what a server that is given its socket prints once it serves the zone
+-- what `zonesocket` prints when it begins to serve the zone
 abbrev pub serving_report : ZoneContents → Octets
 serving_report z =
     codes "zone " ++ bare_name_text z.origin ++ codes "/IN: serving serial "
     ++ decimal (zone_serial z) ++ codes "\n"
 
--- the report of a failure; it is empty with `is_quiet`, unless `is_printing`
+-- the report of a failure; with `is_quiet` and without `is_printing`, nothing is written
 abbrev pub failing : Options → Octets → Report
 failing options lines =
     record {
@@ -59,8 +59,8 @@ failing options lines =
       passes = false;
     }
 
--- the report of a zone that passes: the zone itself with `is_printing`; else that it is loaded, or
--- nothing with `is_quiet`
+-- the report of a zone that passes: with `is_printing` its canonical text, else with `is_quiet`
+-- nothing, else that it is loaded
 abbrev pub passing : Options → ZoneContents → Report
 passing options z =
     record {

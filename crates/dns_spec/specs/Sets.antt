@@ -1,4 +1,4 @@
--- Record sets: the types of records, a set without its owner, and the records of a set at an
+-- RRsets: the types of records, an RRset without its owner, and the records of an RRset at an
 -- owner.
 use Rattle.std.specs.Prelude.{ℕ, List, [], ◌∷◌, map, All, ◌==◌}
 use Rattle.std.specs.Prelude.{Option, None, Some}
@@ -7,14 +7,14 @@ use Rattle.dns_spec.specs.Names.{Octets, DomainName}
 use Rattle.dns_spec.specs.Data.{Valid}
 use Rattle.dns_spec.specs.Records.{ResourceRecord, distinct, sort_by, of_type}
 
--- the types of records, each once; and the same by rising number
+-- the types of records, each once; and these types by rising number
 abbrev pub types_of : List ResourceRecord → List ℕ
 types_of rs = distinct ◌==◌ (map (λ (r : ResourceRecord). r.rtype) rs)
 
 abbrev pub rising_types : List ResourceRecord → List ℕ
 rising_types rs = sort_by nat_cmp (types_of rs)
 
--- the records of their lowest type, sorted by data
+-- the records of the first type, and of the lowest type of these records, sorted by data
 abbrev pub of_first_type : List ℕ → List ResourceRecord → List ResourceRecord
 of_first_type [] rs = []
 of_first_type (t ∷ ts) rs = of_type t rs
@@ -22,8 +22,7 @@ of_first_type (t ∷ ts) rs = of_type t rs
 abbrev pub of_lowest_type : List ResourceRecord → List ResourceRecord
 of_lowest_type rs = of_first_type (rising_types rs) rs
 
--- RFC 2181 5: a record set without its owner: a type, a TTL in seconds, and the data of each
--- record
+-- RFC 2181 5: an RRset without its owner: a type, a TTL in seconds, and the data of each record
 pub record RecordSet : Type 0 where
   pub rtype : ℕ
   pub ttl : ℕ
@@ -39,7 +38,7 @@ records_at owner ttl set =
     map (λ (d : Octets). record { owner = owner; ttl = ttl; rtype = set.rtype; rdata = d })
     set.rdata
 
--- the set of these records, which have one type, with the TTL of the first; none if there are no
+-- the set of records of one type, with the type and the TTL of the first; none if there are no
 -- records
 abbrev pub set_of : List ResourceRecord → Option RecordSet
 set_of [] = None

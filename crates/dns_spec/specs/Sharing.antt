@@ -9,9 +9,9 @@ use Rattle.dns_spec.specs.Reading.{MessageQuestion}
 use Rattle.dns_spec.specs.Layout.{Item, Lookup, Placed, has_suffix}
 use Rattle.dns_spec.specs.LayoutSize.{size_by}
 
--- A choice of what each name shares, if anything: it gives a place only for a suffix that an
--- earlier name has, octet by octet. The choice is free for each name, since the list of earlier
--- names grows with each.
+-- `find` chooses what each name shares, if anything: it gives a place only for a suffix that an
+-- earlier name has, octet by octet. It may choose differently for each name, since the list of
+-- earlier names grows with each name.
 abbrev pub IsLawful : Lookup → Type 0
 IsLawful find =
     (ms : List Placed) (s : DomainName) (p : ℕ) → find ms s ≡ Some p

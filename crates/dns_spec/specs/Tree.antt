@@ -1,5 +1,5 @@
--- Which names exist, where the cuts of a zone are, which name is the closest encloser of a missing
--- one, and which records are found for a name, by a wildcard too.
+-- Which names of a zone exist, which are zone cuts, the closest encloser of a missing name, and the
+-- records found for a name, its own or those of a wildcard.
 use Rattle.std.specs.Prelude.{Bool, ◌&&◌, List, [], ◌∷◌, reverse, if◌then◌else◌}
 use Rattle.std.specs.Prelude.{Option, None, Some}
 use Rattle.std.specs.Option.{option_map, option_and_then}
@@ -12,7 +12,7 @@ use Rattle.dns_spec.specs.Records.{ResourceRecord, ZoneContents, at, owns, with_
 abbrev pub exists : ZoneContents → DomainName → Bool
 exists z n = list_any (λ (r : ResourceRecord). at_or_below r.owner n) z.records
 
--- RFC 1034 4.2: a cut is a name below the origin that owns NS records
+-- RFC 1034 4.2: a zone cut is a name below the origin that owns NS records
 abbrev pub is_cut : ZoneContents → DomainName → Bool
 is_cut z n = below n z.origin && owns z n type_ns
 
@@ -25,11 +25,11 @@ without_first (x ∷ xs) = xs
 abbrev pub ancestors : DomainName → List DomainName
 ancestors n = without_first (suffixes (folded n))
 
--- RFC 1034 4.3.2 step 3b: the cut with the fewest labels that the name is at or below
+-- RFC 1034 4.3.2 step 3b: of the cuts that the name is at or below, the one with the fewest labels
 abbrev pub cut_of : ZoneContents → DomainName → Option DomainName
 cut_of z q = find (is_cut z) (reverse (suffixes (folded q)))
 
--- RFC 4592 3.3.1: the existing name with the most labels that the name is below
+-- RFC 4592 3.3.1: of the existing names that the name is below, the one with the most labels
 abbrev pub closest_encloser : ZoneContents → DomainName → Option DomainName
 closest_encloser z q = find (exists z) (ancestors q)
 
@@ -43,8 +43,9 @@ source_of_synthesis z q =
     option_and_then (λ e. if exists z (asterisk ∷ e) then Some (asterisk ∷ e) else None)
     (closest_encloser z q)
 
--- RFC 1034 4.3.2 step 3: the records found for a name, with that name as owner: its own records if
--- it exists (there may be none), else the records of the wildcard. `None` is a name error.
+-- RFC 1034 4.3.2 steps 3a and 3c: the records found for a name, with that name as owner: its own
+-- records if it exists (there may be none), else the records of the source of synthesis. `None` is
+-- a name error.
 abbrev pub found : ZoneContents → DomainName → Option (List ResourceRecord)
 found z q =
     if exists z q then Some (with_owner q (at z q))

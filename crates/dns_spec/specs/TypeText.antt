@@ -11,7 +11,7 @@ use Rattle.dns_spec.specs.Data.{TypeRow, type_table, row_of}
 abbrev pub text_in_lower_case : Octets → Octets
 text_in_lower_case = map to_ascii_lowercase
 
--- RFC 1035 3.2.2 and 5.1: the type in the table whose mnemonic is the word, in any case
+-- RFC 1035 3.2.2 and 5.1: the row, and the type, whose mnemonic is the word, in any case
 abbrev pub row_by_mnemonic : Octets → Option TypeRow
 row_by_mnemonic word =
     find

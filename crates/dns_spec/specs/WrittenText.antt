@@ -56,7 +56,8 @@ abbrev pub string_word : Octets → Word × Octets
 string_word [] = (quoted [], [])
 string_word (k ∷ d) = (quoted (take k d), drop k d)
 
--- the word of a field that data begins with, or of one string of strings, and the data after it
+-- the word of the field that data begins with, or of one of the strings of `strings`, and the data
+-- after it
 abbrev pub word_front : Field → Octets → Word × Octets
 word_front (number k) d = (plain (decimal (number_of (take k d))), drop k d)
 word_front ipv4 d = (plain (ipv4_text (take 4 d)), drop 4 d)
@@ -78,7 +79,7 @@ string_count k [] = 0
 string_count zero (k ∷ d) = 1 + string_count k d
 string_count (suc k) (o ∷ d) = string_count k d
 
--- the words of data by its fields; in the generic form if its type has no mnemonic
+-- the words of data by its fields, or in the generic form without fields
 abbrev pub words_by : Option (List Field) → Octets → List Word
 words_by None d = unknown_words d
 words_by (Some fs) d = field_words fs d
@@ -92,8 +93,8 @@ written_words t d = words_by (word_fields_of t (string_count 0 d)) d
 unfoldable pub data_text : ℕ → Octets → Octets
 data_text t d = join_with_byte 32 (map word_text (written_words t d))
 
--- RFC 1035 5.1: the text is made of octets that p accepts and of escapes, each a backslash and a
--- graphic octet; p does not accept the backslash
+-- RFC 1035 5.1: the text consists of octets that p accepts, and of backslashes that each precede a
+-- graphic octet; p must not accept the backslash
 abbrev pub is_unbroken : (ℕ → Bool) → Octets → Bool
 is_unbroken p [] = true
 is_unbroken p (c ∷ []) = p c
@@ -107,8 +108,7 @@ is_unbroken p (c ∷ d ∷ text) =
 abbrev pub is_quotable : ℕ → Bool
 is_quotable c = not (c == 9) && is_string_octet c
 
--- Nothing in the text of the word ends it early. Whether its escapes are valid is not checked
--- here.
+-- No octet of the word ends it early. Whether its escapes are valid is not tested here.
 abbrev pub stands_alone : Word → Bool
 stands_alone w =
     if w.is_quoted then is_unbroken is_quotable w.raw

@@ -9,8 +9,8 @@ use Rattle.dns_spec.specs.WrittenText.{data_text}
 use Rattle.dns_spec.specs.Records.{record_order, ResourceRecord, ZoneContents, sort_by}
 use Rattle.dns_spec.specs.Meaning.{most_ttl, is_zone_type}
 
--- what holds for every record that was read: its fields are in range, its data is valid for its
--- type, and its owner and the names in its data are in lower case
+-- what holds for each record that is read from a file: its fields are in range, its data is valid
+-- for its type, and its owner and the names in its data are in lower case
 pub record IsReadRecord (r : ResourceRecord) : Type 0 where
   pub owner_octets : All (All (λ o. o < 256)) r.owner
   pub owner : IsTrue (is_name r.owner)

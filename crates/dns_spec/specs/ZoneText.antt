@@ -15,8 +15,8 @@ use Rattle.dns_spec.specs.FileFaults.{FileFault, bad_octet, bad_escape, unended_
 abbrev pub most_octets : ℕ
 most_octets = 16777216
 
--- RFC 1035 5.1: the tokens of a text. A word and a quoted string keep their spelling, without the
--- quotation marks.
+-- RFC 1035 5.1: the tokens of a text. The octets of a word or a quoted string are as spelled, with
+-- escapes but without quotation marks.
 pub data Token : Type 0 where
   blank : Token
   comment : Token
@@ -30,29 +30,31 @@ pub data Token : Type 0 where
 abbrev pub is_blank : ℕ → Bool
 is_blank o = o == 32 || o == 9
 
--- If o continues a word or a string: how many octets of its escape follow it, 0 if o is not a
--- backslash. `by_itself` accepts the octets that may appear unescaped.
+-- If o, followed by the text, continues a word or a string: the number of octets of its escape
+-- that follow o, 0 if o is not a backslash. `by_itself` accepts the octets that may appear
+-- unescaped.
 abbrev pub unit_left : (ℕ → Bool) → ℕ → Octets → Option ℕ
 unit_left by_itself o text =
     if o == 92 then escape_left text else if by_itself o then Some 0 else None
 
--- the length of the longest run at the beginning of the text that may be in a word or a string;
--- the first k octets belong to the current escape
+-- the length of the longest beginning of the text that may be in a word or a string; its first k
+-- octets belong to the current escape
 unfoldable pub run_length : (ℕ → Bool) → ℕ → Octets → ℕ
 run_length by_itself k [] = 0
 run_length by_itself (suc k) (o ∷ text) = 1 + run_length by_itself k text
 run_length by_itself zero (o ∷ text) =
     elim (unit_left by_itself o text) [ None ↦ 0 | Some k ↦ 1 + run_length by_itself k text ]
 
--- the length of the word that begins the text, 0 if none does
+-- the length of the unquoted word that begins the text, 0 if no word begins it
 abbrev pub word_length : Octets → ℕ
 word_length text = run_length is_word_octet 0 text
 
--- the length of the string that begins the text, up to its end or up to what can't continue it
+-- the length of the string that begins the text after its quotation mark, up to the first octet
+-- that can't continue it
 abbrev pub string_length : Octets → ℕ
 string_length text = run_length is_string_octet 0 text
 
--- after an opening quotation mark: the string up to the closing mark, and the text after that
+-- after an opening quotation mark: the string up to the closing mark, and the text after the mark
 abbrev pub closed : Octets → Octets → Option (Token × Octets)
 closed raw [] = None
 closed raw (o ∷ text) = if o == 34 then Some (quoted_string raw, text) else None
@@ -111,7 +113,7 @@ is_line_end _ = false
 abbrev pub open_after : Bool → Token → Bool
 open_after was_open p = unwrap_or (parenthesis p) was_open
 
--- adds a token in front of the first list
+-- puts a token in front of the first list
 abbrev pub before_first : Token → List (List Token) → List (List Token)
 before_first p [] = []
 before_first p (e ∷ es) = (p ∷ e) ∷ es
@@ -145,8 +147,8 @@ begins_line_end [] = false
 begins_line_end (o ∷ []) = o == 10
 begins_line_end (o ∷ p ∷ text) = o == 10 || (o == 13 && p == 10)
 
--- the octets are empty, or the beginning of an escape (with any digits) or of CR LF that more
--- octets might complete
+-- the octets are empty, CR, or a backslash with at most two digits after it (of any value): more
+-- octets might complete CR LF or an escape
 abbrev pub is_cut_short : Octets → Bool
 is_cut_short [] = true
 is_cut_short (o ∷ []) = o == 92 || o == 13
@@ -172,8 +174,9 @@ extent_by goes_on = if goes_on then beginning else whole_text
 abbrev pub extent_of : Octets → Extent
 extent_of text = extent_by (nat_lt most_octets (length text))
 
--- Why no token begins at a place: the text is over; an octet can't continue a string; or an octet
--- can't begin a token. The octets from that place on come with it.
+-- Why no token begins at a place: the text is over; the quoted string that begins there ends
+-- without a closing mark; or the octet there can't begin a token. `in_string` contains the octets
+-- after the string, and `in_token` the octets from the place on.
 pub data EntryStop : Type 0 where
   text_over : EntryStop
   in_string : Octets → EntryStop
@@ -189,19 +192,19 @@ stop_at (o ∷ text) =
 abbrev pub token_fault : Octets → FileFault
 token_fault place = if begins_with 92 place then bad_escape else bad_octet
 
--- `R03` if the string does not end on its line; else the fault of its next octets.
+-- `R03` if the text or the line ends before the closing mark; else the fault of the next octets.
 abbrev pub string_fault : Octets → FileFault
 string_fault place =
     if length place == 0 || begins_line_end place then unended_string else token_fault place
 
--- The fault, or `R15` if the text goes on past its limit and more octets might change the fault.
+-- The fault, or `R15` if the text goes on and its next octets might change the fault.
 abbrev pub unless_cut_short : Extent → Octets → FileFault → FileFault
 unless_cut_short whole_text place fault = fault
 unless_cut_short beginning place fault = if is_cut_short place then too_long else fault
 
 -- The fault of an entry that does not end with a line end; `is_open` is whether it ends inside
--- parentheses. `R15`, the text goes on past its limit; `R04`, the text ends inside parentheses; or
--- the fault of an invalid token.
+-- parentheses. `R15` if the text goes on past its limit; `R04` if the text ends inside parentheses;
+-- no fault if it ends outside them; else the fault of an invalid token.
 abbrev pub stop_fault : Extent → Bool → EntryStop → Option FileFault
 stop_fault whole_text is_open text_over = if is_open then Some bad_parenthesis else None
 stop_fault beginning is_open text_over = Some too_long
@@ -230,8 +233,8 @@ with_end extent rest [] = []
 with_end extent rest (ps ∷ []) = unended extent rest ps ∷ []
 with_end extent rest (ps ∷ qs ∷ es) = ended ps ∷ with_end extent rest (qs ∷ es)
 
--- The entries of octets that are all of a text, or a beginning of one: the tokens up to the place
--- where none begins, split into entries.
+-- The entries of octets that are a whole text, or a beginning of one: the tokens up to the first
+-- place where no token begins, split into entries.
 pub record EntriesOf (extent : Extent) (octets : Octets) (es : List Entry) : Type 0 where
   pub tokens : List Token
   pub rest : Octets
@@ -243,8 +246,8 @@ pub record EntriesOf (extent : Extent) (octets : Octets) (es : List Entry) : Typ
 abbrev pub Entries : Octets → List Entry → Type 0
 Entries text es = EntriesOf (extent_of text) (take most_octets text) es
 
--- The first fault of an entry by its place, before any word is read: `R04`, a nested parenthesis
--- or a closing one without an opening one; else the fault at its end.
+-- The first fault in the text of an entry, before any word is read: `R04`, a nested parenthesis or
+-- a closing one without an opening one; else the fault at its end.
 abbrev pub lexical_fault : Entry → Option FileFault
 lexical_fault e =
     if take_turns false (parentheses e.tokens) then e.end_fault else Some bad_parenthesis

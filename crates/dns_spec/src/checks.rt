@@ -14,15 +14,14 @@ pub fn fault_stands_where_its_check_fails()
         → Contains (faults z) (record { owner = n; code = code }) ↔ IsTrue (fails z n code) }
 {}
 
-/// A name that fails a check is the origin or owns a record, so checking these names finds all
-/// faults.
+/// A name that fails a check is the origin or owns a record, so checking the origin and all owners
+/// finds all faults.
 pub fn what_fails_is_the_origin_or_an_owner()
     ensures { (z : ZoneContents) (n : DomainName) (code : ℕ) → IsTrue (fails z n code)
         → IsTrue (is_origin z n || is_owner z n) }
 {}
 
-/// Each fault is in the list once; the faults are sorted by the canonical order of their names,
-/// then by code.
+/// Each fault is in the list once; the faults are sorted by owner in canonical order, then by code.
 pub fn faults_stand_once_in_order()
     ensures { (z : ZoneContents) → IsStrictlySortedBy fault_order (faults z) }
 {}

@@ -17,7 +17,7 @@ pub fn words_ask_for_one_service()
         → AskToServe words s y → AskToServe words t z → (s ≡ t) × (y ≡ z) }
 {}
 
-/// The arguments of the server that is given its socket ask for at most one service.
+/// The arguments of `zonesocket` ask for at most one service.
 pub fn words_ask_for_one_socket()
     ensures { (words : List Octets) (a b : SocketAsked) (y z : ZoneWords)
         → AskAtSocket words a y → AskAtSocket words b z → (a ≡ b) × (y ≡ z) }

@@ -14,18 +14,17 @@ pub fn layout_has_its_size()
         → length (layout h q items) ≡ size q items }
 {}
 
-/// The layout, in which names share suffixes, spells its message, with or without a question, if
-/// header and question fit their fields and the sets are in the order of their sections
-/// (`HasRoom`), the records fit a message (`IsWritable`), and the layout has at most 65,535 octets
-/// (RFC 1035 4.1.4).
+/// The layout, in which names share suffixes, spells its message, with or without a question (RFC
+/// 1035 4.1.4). The header and the question fit their fields and the sets are in the order of their
+/// sections (`HasRoom`), the records fit a message (`IsWritable`), and the layout has at most
+/// 65,535 octets.
 pub fn layout_is_spelled()
     ensures { (h : Header) (q : Option MessageQuestion) (items : List Item) → HasRoom h q items
         → All IsWritable (records_of items) → size q items ≤ 65535
         → Spells (layout h q items) (message_of h q items) }
 {}
 
-/// If the layout or the unbounded layout has at most 16,384 octets, they are the same. Otherwise
-/// both are longer.
+/// If the layout or the unbounded layout has at most 16,384 octets, they are the same.
 pub fn layout_is_without_bound_within_reach()
     ensures { (h : Header) (q : Option MessageQuestion) (items : List Item)
         → (size q items ≤ reach) ⊎ (unbounded_size q items ≤ reach)
@@ -53,8 +52,8 @@ pub fn size_is_the_least()
         → size q items ≤ z }
 {}
 
-/// So the layout exceeds a limit of at most 16,384 octets if and only if every size that sharing
-/// allows exceeds it.
+/// So, for a limit of at most 16,384 octets, the layout exceeds the limit if and only if every size
+/// that sharing allows exceeds it.
 pub fn layout_is_past_a_limit_where_all_sizes_are()
     ensures { (q : Option MessageQuestion) (items : List Item) (limit : ℕ) → limit ≤ reach
         → (limit < size q items) ↔ ((z : ℕ) → Sharing q items z → limit < z) }

@@ -18,9 +18,10 @@ pub fn no_text_is_without_a_meaning()
     ensures { (o : DomainName) (text : Octets) → Nothing (Means o text) → ⊥ }
 {}
 
-/// A fault that a beginning of a text has, other than the limit's, is the fault of every text that
-/// continues it: an entry that a line end ends, or whose fault is decided by octets already there,
-/// is faulty whatever follows. The same holds for the rest of a text after its earlier entries.
+/// A fault of a beginning of a text, other than `too_long`, is the fault of every text that begins
+/// so, on the same line: an entry that a line end ends, or whose fault is decided by octets of the
+/// beginning, is faulty whatever follows. The same holds for the rest of a text after its earlier
+/// entries.
 pub fn beginning_decides()
     ensures { (o : DomainName) (earlier : List Entry) (extent : Extent) (front more : Octets)
         (fault : FileFault) (line : ℕ)
@@ -28,8 +29,8 @@ pub fn beginning_decides()
         → OctetsMean o earlier extent (front ++ more) (fault_at fault line) }
 {}
 
-/// If a beginning of a text, within the limit, has a fault other than the limit's, the text has
-/// that fault, on the same line.
+/// If a beginning of a text, of at most 16,777,216 octets, has a fault other than `too_long`, the
+/// text has that fault, on the same line.
 pub fn faulty_beginning_makes_a_faulty_text()
     ensures { (o : DomainName) (front more : Octets) (fault : FileFault) (line : ℕ)
         → length front ≤ most_octets

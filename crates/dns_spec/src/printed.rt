@@ -11,7 +11,7 @@ ghost use Rattle.dns_spec.specs.Report.{Options, Report, Reports, zone_report};
 ghost use Rattle.dns_spec.specs.ZonePrinted.{IsReadRecord, HasZoneType, record_line, printed_records, zone_text};
 
 /// The text printed for records means these records, in the same order, whatever the origin (RFC
-/// 1035 section 5). The records are as they are read (`IsReadRecord`), of types that zones
+/// 1035 section 5). The records are as read from a file (`IsReadRecord`), of types that zones
 /// contain, at most 100,000, and their text has at most 16,777,216 octets.
 pub fn printed_records_are_read_back()
     ensures { (o : DomainName) (rs : List ResourceRecord) → All IsReadRecord rs
@@ -30,7 +30,7 @@ pub fn zone_text_means_the_zone()
         × IsPermutation z.records (printed_records z) }
 {}
 
-/// The report of a zone is the same for its records in canonical order.
+/// The report of a zone stays the same if its records are put in canonical order.
 pub fn order_of_records_changes_no_report()
     ensures { (options : Options) (o : DomainName) (rs : List ResourceRecord)
         → zone_report options (ordered_zone o rs) ≡ zone_report options (zone_of o rs) }
@@ -38,8 +38,8 @@ pub fn order_of_records_changes_no_report()
 
 /// Lists of the same records, in any order and with or without duplicates, make one zone: in
 /// canonical order they are one list, with one canonical text and one report (RFC 2181 section 5,
-/// RFC 4034 section 6). The records are as they are read, of any type and any number; it is enough
-/// if the records of one list are.
+/// RFC 4034 section 6). The records of one of the lists, and so of both, are as read from a file
+/// (`IsReadRecord`), of any type and any number.
 pub fn one_zone_has_one_text()
     ensures { (options : Options) (o : DomainName) (rs ss : List ResourceRecord)
         → All IsReadRecord rs → HoldSameRecords rs ss
@@ -58,17 +58,17 @@ pub fn files_of_one_zone_have_one_report()
         → Reports o t options report ↔ Reports o u options report }
 {}
 
-/// The records that a text means meet the conditions of the other laws here: they are as they are
-/// read, of types that zones contain, and at most 100,000. The octets of the origin are below 256,
-/// as in every name of a program.
+/// The records that a text means meet the conditions of the other laws here: `IsReadRecord`, types
+/// that zones contain, and at most 100,000 records. The octets of the origin are below 256, as in
+/// every name of a program.
 pub fn records_of_a_text_are_as_read()
     ensures { (o : DomainName) (t : Octets) (rs : List ResourceRecord) → All (All (λ x. x < 256)) o
         → Means o t (records rs)
         → All IsReadRecord rs × All HasZoneType rs × (length rs ≤ most_records) }
 {}
 
-/// The canonical text of the zone that a file means is itself a file of that zone, if it has at
-/// most 16,777,216 octets and the octets of the origin are below 256: it has the file's report,
+/// The canonical text of the zone that a file means is itself a file of that zone, if the text has
+/// at most 16,777,216 octets and the octets of the origin are below 256: it has the file's report,
 /// whatever the options. So it has the same faults, or passes as the same zone.
 pub fn canonical_text_has_the_report_of_its_file()
     ensures { (o : DomainName) (t : Octets) (rs : List ResourceRecord) → All (All (λ x. x < 256)) o
@@ -87,9 +87,10 @@ pub fn printing_twice_is_printing_once()
         → Reports o report.output options report }
 {}
 
-/// Zones with one canonical text contain the same records, each equally often. The records are as
-/// they are read, of types that zones contain, at most 100,000 in each zone, and the text has at
-/// most 16,777,216 octets. The text does not name the origin, so the origins may differ.
+/// Zones with the same canonical text contain the same records, each equally often. The records are
+/// as read from a file (`IsReadRecord`), of types that zones contain, at most 100,000 in each zone,
+/// and the text has at most 16,777,216 octets. The text does not state the origin, so the origins
+/// may differ.
 pub fn zones_with_one_text_hold_the_same_records()
     ensures { (y z : ZoneContents) → All IsReadRecord y.records → All HasZoneType y.records
         → length y.records ≤ most_records

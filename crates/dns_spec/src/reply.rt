@@ -23,8 +23,8 @@ pub fn reply_is_spelled()
         → reply z d limit ≡ Some r → Spells (reply_octets r) (reply_message r) }
 {}
 
-/// The octets of a reply are at most its limit, if the limit is at least 271, so that every
-/// question fits.
+/// The octets of a reply are at most `limit`, if `limit` is at least 271, so that every question
+/// fits.
 pub fn reply_is_within_its_limit()
     ensures { (z : ZoneContents) (d : Octets) (limit : ℕ) (r : Reply) → 271 ≤ limit
         → reply z d limit ≡ Some r → length (reply_octets r) ≤ limit }
@@ -37,14 +37,15 @@ pub fn chains_have_few_names()
         → length (chain z q t) ≤ 1 + most_aliases }
 {}
 
-/// The sets of a reply begin with the required ones (RFC 1035 4.1.1).
+/// The list of all sets for a question begins with the required sets, without which TC is set (RFC
+/// 1035 4.1.1).
 pub fn items_begin_with_the_required()
     ensures { (z : ZoneContents) (q : DomainName) (t : ℕ)
         → take (length (required_items z q t)) (items z q t) ≡ required_items z q t }
 {}
 
-/// Each set of a reply is the records of one set at one owner, with one TTL, for every zone that
-/// passes and whose names are in lower case, as names that were read are (RFC 2181 section 5).
+/// Each set of a reply is the records of one RRset at one owner, with one TTL (RFC 2181 section 5),
+/// for every zone that passes and whose names are in lower case, as names read from a file are.
 pub fn items_are_record_sets()
     ensures { (z : ZoneContents) → folded z.origin ≡ z.origin
         → All (λ (r : ResourceRecord). folded r.owner ≡ r.owner) z.records → Passes z
@@ -52,7 +53,7 @@ pub fn items_are_record_sets()
 {}
 
 /// An answer has at most 64 targets, for every zone that passes and whose names are in lower case:
-/// all of them are in one set, and a set has at most 64 records (a limit of this project).
+/// all targets are in one set, and a set has at most 64 records (a limit of this project).
 pub fn answers_have_few_targets()
     ensures { (z : ZoneContents) → folded z.origin ≡ z.origin
         → All (λ (r : ResourceRecord). folded r.owner ≡ r.owner) z.records → Passes z
@@ -67,20 +68,20 @@ pub fn answers_have_few_sets()
         → (q : DomainName) (t : ℕ) → length (items z q t) ≤ 2 + most_aliases + 2 * most_of_a_set }
 {}
 
-/// An answer to a question with a valid name visits at most 128 nodes for each name that it looks
-/// up: a name has at most 127 labels (RFC 1035 2.3.4).
+/// An answer to a question with a valid name visits at most 128 nodes for each name that is looked
+/// up: a name has at most 127 labels (RFC 1035 2.3.4), and the origin is a node too.
 pub fn answers_visit_few_nodes()
     ensures { (z : ZoneContents) (q : DomainName) (t : ℕ) → IsTrue (is_name q)
         → most_visits z q t ≤ 128 * names_looked_up z q t }
 {}
 
-/// What is kept of a list of sets fits, if a reply without sets does.
+/// The sets that are kept of a list fit the limit, if a reply without sets does.
 pub fn kept_sets_fit()
     ensures { (size_of : List Item → ℕ) (limit : ℕ) (sets : List Item) → size_of [] ≤ limit
         → size_of (kept size_of limit sets) ≤ limit }
 {}
 
-/// No beginning of a list of sets that fits is longer than what is kept of it.
+/// A beginning of a list of sets that fits the limit is not longer than the sets that are kept.
 pub fn kept_sets_are_the_most()
     ensures { (size_of : List Item → ℕ) (limit : ℕ) (sets : List Item) (k : ℕ) → k ≤ length sets
         → size_of (take k sets) ≤ limit
@@ -111,7 +112,7 @@ pub fn first_octets_decide()
         → reply_with keep z d ≡ reply_with keep z (take most_over_udp d) }
 {}
 
-/// So do the header, the question and the sets of the reply, whatever the limit.
+/// And so do the header, the question and the sets of the reply, whatever the limit.
 pub fn first_octets_give_the_message()
     ensures { (z : ZoneContents) (d : Octets) (limit : ℕ)
         → reply z d limit ≡ reply z (take most_over_udp d) limit }

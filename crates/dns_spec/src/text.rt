@@ -17,8 +17,8 @@ pub fn word_spells_one_name()
         → SpellsName origin word n → SpellsName origin word m → n ≡ m }
 {}
 
-/// The octet that an escape after a backslash represents is the octet that the escape spells in a
-/// name, and there are no other escapes (RFC 1035 5.1).
+/// `escape_front` gives an octet for the text after a backslash if and only if the text begins with
+/// an escape that spells that octet in a name (RFC 1035 5.1).
 pub fn escape_stands_for_what_it_spells()
     ensures { (text : Octets) (x : ℕ) (rest : Octets) → (escape_front text ≡ Some (x, rest))
         ↔ ((e : Octets) × (text ≡ e ++ rest) × SpellsOctet (92 ∷ e) x) }

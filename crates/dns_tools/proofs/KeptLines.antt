@@ -123,7 +123,7 @@ first_goes_on : (front y : Octets) (l : KeptLine) → line_ends front ≡ 0 → 
 first_goes_on front y l unended kept over =
     grind (arith, kept_says, line_message, first_line, append-nil)
 
--- an LF ends it
+-- an LF ends the line
 pub ended_first : (x octets : Octets) (i : ℕ) (l : KeptLine)
     → i < length octets → get_or octets i 0 ≡ 10 → line_ends (x ++ take i octets) ≡ 0
     → l ≡ kept_line (x ++ take i octets) → KeepsFirst (x ++ octets) l
@@ -139,13 +139,13 @@ ended_first x octets i l here is unended kept = λ y.
     first_goes_on front (10 ∷ (drop (suc i) octets ++ y)) l unended kept (first_ended
     (drop (suc i) octets ++ y)) ∙ ap (λ z. line_message (first_of (lines z))) (sym whole)
 
--- it is too long
+-- the line is too long
 pub overlong_first : (x : Octets) (l : KeptLine)
     → line_ends x ≡ 0 → l ≡ kept_line x → l.is_overlong ≡ true → KeepsFirst x l
 overlong_first x l unended kept over =
     grind (arith, ltb-true, kept, first_line, first_of, lines, length-append, lt-leb)
 
--- it is not too long, so far
+-- the line is not too long so far
 pub not_overlong : (x : Octets) (l : KeptLine)
     → line_ends x ≡ 0 → l ≡ kept_line x → l.is_overlong ≡ false → IsFront x l
 not_overlong x l unended kept short = grind (arith, ltb-false, kept)

@@ -35,8 +35,8 @@ pub record IsOrigin (word : Octets) (origin : DomainName) : Type 0 where
 abbrev pub IsNoOrigin : Octets → Type 0
 IsNoOrigin word = (n : DomainName) → SpellsName [] word n → ⊥
 
--- the arguments ask for this zone: they are as `Ask` says for some ORIGIN, which spells the name,
--- and this FILE
+-- the arguments ask for this zone: `Ask` holds for this FILE and for some ORIGIN that spells the
+-- name
 pub record IsCall (Ask : ZoneWords → Type 0) (name : DomainName) (file : Octets) : Type 0 where
   pub origin : Octets
   pub asked : Ask (record { origin = origin; file = file })
@@ -72,7 +72,7 @@ service_of (Once limit) = by_lines (transport_of limit)
 service_of (Udp address turns) = by_turns udp address.now turns
 service_of (Tcp address turns) = by_turns tcp address.now turns
 
--- `--`, which ends options elsewhere, is no ADDR
+-- ADDR is not `--`, which ends the options of other programs
 abbrev pub HasAddress : ServiceAsked → Type 0
 HasAddress (by_lines transport) = ⊤
 HasAddress (by_turns transport address turns) = address ≢ codes "--"

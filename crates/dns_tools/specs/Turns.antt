@@ -38,7 +38,7 @@ abbrev pub TakesTurns : ZoneContents → ℕ → DeviceState → DeviceState →
 TakesTurns z zero old new = new ≡ old
 TakesTurns z (suc n) old new = (mid : DeviceState) × TakesTurns z n old mid × TakesTurn z mid new
 
--- the most messages that are answered on one connection (own)
+-- the most messages that are answered on one connection, a limit of this project
 abbrev pub most_messages : ℕ
 most_messages = 1000000
 
@@ -79,7 +79,7 @@ ServesInTurn z (suc n) old new well = (mid : ListenerState) × (before : Bool)
     × (result : Result ⊤ TurnWord) × ServesInTurn z n old mid before
     × NextOf (reply_over_tcp z) mid new result × (well ≡ (before && is_ok result))
 
--- the same; the diagnostics of those that were not were written, or this is false
+-- the same; if each was served to its end, `are_said` is true
 pub record ServesTurns (z : ZoneContents) (n : ℕ) (old new : ListenerState) (are_said : Bool)
     : Type 0 where
   pub well : Bool

@@ -35,7 +35,7 @@ const TCP: &str = "tcp";
 
 const TCP_OPTION: &str = "--tcp";
 
-// No ADDR is this: it ends the options of other programs.
+// ADDR may not be this, because it ends the options of other programs.
 const END_OF_OPTIONS: &str = "--";
 
 // The most turns that a server takes.
@@ -102,9 +102,9 @@ pub struct SocketWords<'a> {
 /// `tcp` and `ADDR TURNS ORIGIN FILE`. ORIGIN is a name relative to the root, and TURNS a number
 /// from 1 to 1,000,000. ADDR is not parsed yet, but it is not `--`.
 ///
-/// Fails with `usage` if and only if the arguments are not of this form, or ORIGIN or FILE begins
-/// with `-`; then with `bad origin` if ORIGIN is not a name. There are no other options, not even
-/// for help or the version.
+/// Fails with `usage` if the arguments are not of this form, or ORIGIN or FILE begins with `-`;
+/// else with `bad origin` if ORIGIN is not a name; and with `no memory` if allocation fails. There
+/// are no other options, not even for help or the version.
 pub fn serve_words<'a, S: AsStr>(alloc: Global, words: &'a [S]) -> Result<ServeWords<'a>, FaultWord>
     ensures asked { IfOk result (IsServeCall (map S.text words.entry.now)) }
     ensures origin { result ≡ Err FaultWord.BadOrigin
@@ -126,9 +126,9 @@ pub fn serve_words<'a, S: AsStr>(alloc: Global, words: &'a [S]) -> Result<ServeW
 /// Parses the arguments after the program's own name: `--quiet` and `--print`, in either order and
 /// each at most once, then ORIGIN, a name relative to the root, and FILE.
 ///
-/// Fails with `usage` if and only if the arguments are not of this form, or ORIGIN or FILE begins
-/// with `-`; then with `bad origin` if ORIGIN is not a name. There are no other options, not even
-/// for help or the version.
+/// Fails with `usage` if the arguments are not of this form, or ORIGIN or FILE begins with `-`;
+/// else with `bad origin` if ORIGIN is not a name; and with `no memory` if allocation fails. There
+/// are no other options, not even for help or the version.
 pub fn check_words<'a, S: AsStr>(alloc: Global, words: &'a [S]) -> Result<CheckWords<'a>, FaultWord>
     ensures asked { IfOk result (IsCheckCall (map S.text words.entry.now)) }
     ensures origin { result ≡ Err FaultWord.BadOrigin
@@ -151,7 +151,7 @@ pub fn check_words<'a, S: AsStr>(alloc: Global, words: &'a [S]) -> Result<CheckW
 /// 1,000,000, ORIGIN, a name relative to the root, and FILE.
 ///
 /// Fails with `usage` if and only if the arguments are not of this form, or ORIGIN or FILE begins
-/// with `-`; then with `bad origin` if ORIGIN is not a name.
+/// with `-`; else with `bad origin` if ORIGIN is not a name.
 pub fn socket_words<'a, S: AsStr>(words: &'a [S]) -> Result<SocketWords<'a>, FaultWord>
     ensures asked { IfOk result (IsSocketCall (map S.text words.entry.now)) }
     ensures origin { result ≡ Err FaultWord.BadOrigin
@@ -229,7 +229,7 @@ fn given_limit<'a, S: AsStr>(alloc: Global, options: &'a [S]) -> Result<Limit, F
     Err(FaultWord::Usage)
 }
 
-// The service at an address that the arguments before ORIGIN and FILE ask for.
+// Parses the arguments before ORIGIN and FILE: `udp` or `tcp`, ADDR and TURNS.
 fn said_service<'a, S: AsStr>(front: &'a [S]) -> Option<Service<'a>>
     ensures some { IfSome result (λ s. IsService (map S.text front.entry.now) (service_of s)) }
     ensures none { IsNone result → (t : Transport) (address : Octets) (n : ℕ)
@@ -248,7 +248,7 @@ fn said_service<'a, S: AsStr>(front: &'a [S]) -> Option<Service<'a>>
     }
 }
 
-// The options of the checker.
+// Parses the arguments before ORIGIN and FILE: the options of the checker.
 fn given_flags<'a, S: AsStr>(alloc: Global, options: &'a [S]) -> Result<Flags, FaultWord>
     ensures ok { IfOk result (λ flags.
         AreOptions (options_of flags) (map S.text options.entry.now)) }
@@ -284,7 +284,7 @@ fn are_options<S: AsStr>(words: &[S], flags: Flags) -> bool
     }
 }
 
-// The transport and the number of turns that the arguments are.
+// Parses the arguments before ORIGIN and FILE: `udp` or `tcp`, and TURNS.
 fn said_turns_over<S: AsStr>(front: &[S]) -> Option<(Limit, u32)>
     ensures some { IfSome result (λ r. (map S.text front.now
         ≡ transport_word (transport_of r.0) ∷ decimal r.1 ∷ []) × (1 ≤ r.1) × (r.1 ≤ 1000000)) }

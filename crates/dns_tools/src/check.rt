@@ -40,8 +40,8 @@ impl From<PrintFault> for Stop {
 /// reported by its name and serial, or printed in its canonical text. With `quiet` alone nothing
 /// is written.
 ///
-/// Nothing was written if the run stops with `Memory` or `Source`; if it stops with `Sink`, a
-/// prefix of the report was.
+/// If the run stops with `Memory` or `Source`, nothing was written. If it stops with `Sink`, a
+/// prefix of the report was written.
 ///
 /// The memory of a zone that passes is leaked, because the program ends afterwards.
 pub fn check_zone<R: Read, W: Write>(

@@ -37,7 +37,7 @@ pub trait Connections {
     /// 1,000,000 messages.
     ///
     /// Fails with `accept` if no connection was accepted, and with `S1`, `S2` or `S3` if the
-    /// session on it ended early.
+    /// session on the connection ended early.
     fn serve_next(&mut self, zone: &Zone, room: &mut StreamRoom) -> Result<(), TurnWord>
         requires { (state self.old).asked < 2 ^ 64 - 1 }
         ensures { NextOf (reply_over_tcp zone.now) (state self.old) (state self.new) result };
@@ -48,7 +48,7 @@ pub trait Connections {
 /// A connection ends if its first octet does not arrive within two seconds (`S1`), or if its peer
 /// is silent for 300 milliseconds after a reply. A message has ten seconds, from its first octet
 /// until all of its reply was sent. Ten seconds after a connection was accepted no new message may
-/// begin on it; then its peer is heard out for at most one second. So a connection holds up the
+/// begin on it; then its input is discarded for at most one second. So a connection holds up the
 /// others for at most 21 seconds. Replies to messages that arrived together are sent together,
 /// before waiting for more, and have the time of the last of these messages.
 #[derive(Drop)]
@@ -67,7 +67,7 @@ impl<'a, R> Model for Listener<'a, R> {
 }
 
 impl<'a, R> Listener<'a, R> {
-    /// The listener, which was asked for no connection.
+    /// The listener, which has not been asked for a connection yet.
     pub fn new(listener: TcpListener, rt: &'a R) -> Listener<'a, R>
         ensures { result ≡ 0 }
     {
@@ -100,7 +100,8 @@ impl<R: Clock + AllocGlobal> Listener<'_, R> {
 impl<R: Clock + AllocGlobal> Connections for Listener<'_, R> {
     ghost state = { λ asked. record { asked = asked; sessions = None } };
 
-    // After the session, reads and discards what the peer still sends, so that it loses no reply.
+    // After the session, reads and discards what the peer still sends, so that the peer loses no
+    // reply.
     fn serve_next(&mut self, zone: &Zone, room: &mut StreamRoom) -> Result<(), TurnWord> {
         let Some(stream) = self.accept() else {
             return Err(TurnWord::NotAccepted);
@@ -115,7 +116,7 @@ impl<R: Clock + AllocGlobal> Connections for Listener<'_, R> {
         let mut source = Tally::new(Messages::new(source, &ends));
         let mut sink = Tally::new(buffered_sink(self.rt.alloc(), &peer));
         let served = serve_messages(zone, &mut source, &mut sink, room, &ends);
-        // Taken apart, since dropping the buffer would try to write again.
+        // The buffer is taken apart, since dropping it would try to write again.
         let _unsent = sink.into_inner().into_parts();
         let _heard = peer.hear_out();
         served?;

@@ -167,7 +167,7 @@ pub enum TurnWord {
     /// A stream could not be written.
     #[error("S2")]
     StreamNotWritten,
-    /// A stream ended inside a message.
+    /// A stream ended inside a length or a message.
     #[error("S3")]
     StreamCut,
 }

@@ -13,7 +13,7 @@ use std::alloc::{AllocError, Global};
 use std::io::Read;
 use std::marker::Model;
 
-/// The most octets of a message, and the number of their digits.
+/// The most octets of a message on a line. `MOST_DIGITS` is the number of their digits.
 pub(crate) const MOST_LINE_OCTETS: usize = 65_535;
 
 pub(crate) const MOST_DIGITS: usize = 131_070;
@@ -83,8 +83,8 @@ impl Line {
         self.is_overlong = false;
     }
 
-    /// Reads the first line of a source, a full buffer at a time, and stops once the line has
-    /// ended or is too long.
+    /// Reads the first line of a source, in pieces of at most `PIECE` octets, and stops once the
+    /// line has ended or is too long.
     pub(crate) fn read<R: Read>(
         &mut self,
         piece: &mut [u8],
@@ -123,8 +123,8 @@ impl Line {
         self.is_overlong
     }
 
-    /// Writes the octets of the line's message to the front of the buffer, and returns how many
-    /// they are. `None` if the line is not a message.
+    /// Writes the octets of the line's message to the front of the buffer, and returns their
+    /// number. `None` if the line is not a message.
     pub(crate) fn spell(&self, octets: &mut [u8]) -> Option<usize>
         requires { length octets.old ≡ MOST_LINE_OCTETS }
         ensures some { IfSome result (λ len. kept_message self.now ≡ Some (take len octets.new)) }
@@ -138,7 +138,8 @@ impl Line {
     }
 }
 
-// Writes the octets of digits to the front of the buffer, and returns how many they are.
+// Writes the octets that digits spell to the front of the buffer, and returns their number.
+// `None` if the digits spell no octets.
 fn octets_of(digits: &[u8], octets: &mut [u8]) -> Option<usize>
     requires { length digits.now ≤ 2 * length octets.old + 1 }
     ensures some { IfSome result (λ len. decode_of digits.now ≡ Ok (take len octets.new)) }

@@ -96,9 +96,9 @@ fn has_port(address: io::Result<SocketAddr>) -> bool {
     address.is_ok_and(|address| address.port() > 0)
 }
 
-/// Takes `turns` turns at a device, one after another. Returns whether every diagnostic was
-/// written to standard error: `U1` if no datagram was received, `U2` if a reply was not sent. Such
-/// a turn counts.
+/// Takes `turns` turns at a device, one after another; turns that fail count too. Returns whether
+/// every diagnostic was written to standard error: `U1` if no datagram was received, `U2` if a
+/// reply was not sent.
 pub fn serve_datagrams<E: Eprint, D: Datagrams>(
     rt: &E,
     zone: &Zone,
@@ -141,15 +141,16 @@ fn socket_address(address: &str) -> Result<SocketAddr, FaultWord>
 }
 
 // Writes a diagnostic to standard error, unless an earlier one could not be written. Returns
-// whether it was written.
+// whether all were written so far.
 fn say_of_turn(rt: &impl Eprint, are_said: bool, word: TurnWord) -> bool {
     are_said && rt.eprintln(word).is_ok()
 }
 
-/// Serves `turns` connections of a listener, one after another. Returns whether every diagnostic
-/// was written to standard error: `accept` if no connection was accepted; `S1` if a stream could
-/// not be read, or a message did not arrive in time; `S2` if a stream could not be written, or a
-/// reply was not sent in time; `S3` if a stream ended inside a message. Such a turn counts.
+/// Serves `turns` connections of a listener, one after another; connections that fail count too.
+/// Returns whether every diagnostic was written to standard error: `accept` if no connection was
+/// accepted; `S1` if a stream could not be read, or a message did not arrive in time; `S2` if a
+/// stream could not be written, or a reply was not sent in time; `S3` if a stream ended inside a
+/// length or a message.
 ///
 /// The buffers in `room` are used for one connection after another.
 pub fn serve_connections<E: Eprint, C: Connections>(

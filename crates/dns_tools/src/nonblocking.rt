@@ -5,7 +5,7 @@ use std::io::{self, ErrorKind, Read, Write};
 use std::thread;
 use std::time::{Clock, Duration};
 
-// How many milliseconds pass before a call that would block is repeated.
+// The pause before a call that would block is repeated, in milliseconds.
 const PAUSE: u64 = 10;
 
 /// A device whose calls wait: if it is non-blocking (`O_NONBLOCK`, which another process that
@@ -59,7 +59,7 @@ impl<T: Write, C: Clock> Write for Nonblocking<'_, T, C> {
     }
 }
 
-// Whether a call would have blocked; if so, waits for the pause.
+// Whether a call failed because it would block. If so, sleeps for the pause.
 pub(crate) fn is_put_off(error: &io::Error, clock: &impl Clock) -> bool {
     let put_off = error.kind() == ErrorKind::WouldBlock;
     if put_off {

@@ -70,7 +70,7 @@ pub struct LineRoom {
 }
 
 impl LineRoom {
-    /// New buffers, about 590,000 octets in all. Fails only if allocation fails.
+    /// New buffers, about 460,000 octets in all. Fails only if allocation fails.
     pub fn new(alloc: Global) -> Result<LineRoom, AllocError> {
         Ok(LineRoom {
             piece: vec![in alloc; 0; PIECE]?,
@@ -84,8 +84,8 @@ impl LineRoom {
     }
 }
 
-/// Runs over lines as `run_once` does, in the caller's buffers. No memory is allocated, so no run
-/// stops for want of it.
+/// Runs over lines as `run_once` does, in the caller's buffers. Allocates no memory, so the run
+/// never stops with `Memory`.
 pub fn run_once_in<R: Read, W: Write>(
     zone: &Zone,
     limit: dns_answer::Limit,
@@ -219,8 +219,8 @@ struct Drafts {
     tcp: Box<TcpDraft>,
 }
 
-// Answers a line, and returns whether it is a message. `room` is for the line's octets and for the
-// digits of the reply.
+// Answers a line, and returns whether the line is a message. `room` is for the line's octets, then
+// for the digits of the reply.
 fn answer<W: Write>(
     zone: &Zone,
     limit: dns_answer::Limit,
@@ -253,7 +253,7 @@ fn answer<W: Write>(
     Ok(true)
 }
 
-// Writes the line for a reply, or for none, using `room` for the digits.
+// Writes the line for a reply, or `none` if there is no reply. `room` is for the digits.
 fn write_reply<W: Write>(
     reply: Option<&[u8]>,
     room: &mut [u8],
@@ -269,7 +269,7 @@ fn write_reply<W: Write>(
     }
 }
 
-// Writes a reply as a line of digits, using `room` for the digits.
+// Writes a reply as a line of digits. `room` is for the digits.
 fn write_digits<W: Write>(
     reply: &[u8],
     room: &mut [u8],

@@ -15,7 +15,7 @@ use dns_wire::{CLASS_IN, WireRecord};
 use itoa::Buffer;
 use std::io::Write;
 
-// The text of a name. Texts of numbers, codes, classes and types are shorter.
+// Room for the text of a name. Texts of numbers, codes, classes and types are shorter.
 const NAME_ROOM: usize = 1020;
 
 /// A part of a line.

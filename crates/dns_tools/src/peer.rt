@@ -15,7 +15,7 @@ use std::time::{Clock, Duration};
 // How long the first octet of a connection may take.
 const FIRST: u64 = 2_000;
 
-// How long a peer may be silent after a reply, or while it is heard out.
+// How long a peer may be silent after a reply, or while its input is read and discarded.
 const SILENCE: u64 = 300;
 
 // How long a message may take, from its first octet until all of its reply was sent.
@@ -24,7 +24,7 @@ const MESSAGE: u64 = 10_000;
 // How long after a connection was accepted a new message may begin.
 const CONNECTION: u64 = 10_000;
 
-// How long a peer is heard out at most.
+// How long the input of a peer is read and discarded at most.
 const HEARING: u64 = 1_000;
 
 // How long a call that was interrupted still waits when its time is over, to take what has
@@ -39,9 +39,9 @@ pub struct Peer<'a, C> {
     clock: &'a C,
     // The time on the clock from which no message may begin.
     ends: Duration,
-    // When octets last arrived: `None` before the first, and after the end.
+    // When octets last arrived: `None` before the first, after the end, and after a full silence.
     heard: Cell<Option<Duration>>,
-    // When the current calls time out.
+    // The time on the clock at which calls time out.
     until: Cell<Duration>,
 }
 
@@ -59,8 +59,8 @@ impl<'a, C: Clock> Peer<'a, C> {
     }
 
     /// Ends the output, and reads and discards input until the peer ends its own: for at most one
-    /// second, and at most 300 milliseconds of silence. Returns at once if the peer has ended, or
-    /// never sent an octet.
+    /// second, and at most 300 milliseconds of silence. Returns at once if the peer has ended its
+    /// output, was silent for its full time after a reply, or never sent an octet.
     ///
     /// Closing a socket before all of its input is read resets the connection, and the peer loses
     /// the replies that have not reached it yet (RFC 2525 2.17).
@@ -97,7 +97,7 @@ impl<'a, C: Clock> Peer<'a, C> {
         Ok(rest.max(Duration::from_millis(LAST_LOOK)))
     }
 
-    // Whether the octets that came last are too late to begin a message.
+    // Whether the octets that arrived last were too late to begin a message.
     fn is_over(&self) -> bool {
         self.heard.get().is_some_and(|heard| heard >= self.ends)
     }
@@ -167,14 +167,14 @@ impl<C: Clock> Write for &Peer<'_, C> {
 enum Ahead {
     // A message begins next: set by the session before it reads one.
     Message,
-    // They have not arrived, so the next call may wait: set by the reader after each call.
+    // The next call may wait: set by the reader after each call, unless `AtHand` applies.
     Awaited,
-    // If a message begins next, all of it has arrived: set by the reader.
+    // If a message begins next, all of it has arrived: set by the reader after each call.
     AtHand,
 }
 
-/// The ends of a session with a peer: its reader reports which messages have arrived, and its sink
-/// keeps replies in a buffer.
+/// What a session with a peer knows about its source and its sink: the reader reports whether the
+/// next message has arrived, and the sink keeps replies in a buffer.
 #[derive(Drop)]
 pub struct PeerEnds {
     ahead: Cell<Ahead>,

@@ -18,7 +18,7 @@ use std::time::Clock;
 use std::{env, fs};
 
 /// The arguments after the program's own name, which is ignored. Fails with `usage` if an argument
-/// is not text, because no program takes such arguments.
+/// is not text, because no program takes such arguments, and with `no memory` if allocation fails.
 pub fn given_words<R: Env + AllocGlobal>(rt: &R) -> Result<Vec<String>, FaultWord>
     ensures { IfErr result (λ fault. (fault ≡ FaultWord.Usage) ⊎ (fault ≡ FaultWord.NoMemory)) }
 {
@@ -31,7 +31,7 @@ pub fn given_words<R: Env + AllocGlobal>(rt: &R) -> Result<Vec<String>, FaultWor
     Ok(words)
 }
 
-// The environment without the program's own name, which may be other than text.
+// The environment without the program's own name, which need not be text.
 #[derive(Drop)]
 struct Arguments<'a, R> {
     rt: &'a R,
@@ -54,7 +54,8 @@ impl<R: Env> Env for Arguments<'_, R> {
     }
 }
 
-/// Opens the file at a path for reading. Fails with `R16` if it can't be opened.
+/// Opens the file at a path for reading. Fails with `R16` if it can't be opened, and with
+/// `no memory` if allocation fails.
 pub fn open_file<R: Files>(rt: &R, path: &str) -> Result<R::File, FaultWord>
     ensures { IfErr result (λ fault. (fault ≡ FaultWord.SourceFailed)
         ⊎ (fault ≡ FaultWord.NoMemory)) }
@@ -84,8 +85,8 @@ pub fn finish<W: Write + Drop>(outcome: Outcome, output: BufWriter<W>) -> (Outco
     }
 }
 
-/// Writes to standard error why there is no zone to serve, in the checker's format, and returns
-/// the exit status for that.
+/// Writes to standard error why there is no zone to serve, in the checker's format. Returns the
+/// exit status: 1, or 2 if the writing failed.
 pub fn refuse<R: Clock + AllocGlobal, E: Print>(
     rt: &R,
     errors: &E,

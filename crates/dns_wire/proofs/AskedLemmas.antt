@@ -38,13 +38,13 @@ pub kept_same : (head : Octets → ℕ) (b b' : Octets) (a a' : ℕ) (ks ks' : L
 unfolding asked_places
 kept_same head b b' a a' ks ks' e same places = grind (arith, name_same)
 
--- octets after the others leave all places unchanged
+-- appending octets leaves all places unchanged
 pub kept_more : (head : Octets → ℕ) (b b' : Octets) (a a' : ℕ) (ks ks' : List Kept) (o : Octets)
     → IsAsked b a
     → b' ≡ b ++ o → a' ≡ a → ks' ≡ ks → asked_places head b' a' ++ ks' ≡ asked_places head b a ++ ks
 kept_more head b b' a a' ks ks' o asked e same places = grind (arith, kept_same, take-append-le)
 
--- before the question there is no label
+-- without a question there are no labels
 no_labels : labels_of [] ≡ []
 unfolding labels_of
 no_labels = refl

@@ -15,7 +15,7 @@ place_added ms more n p s suffix none =
     ∙ place_left (ms ++ (n, p) ∷ []) more s (suffix_place (n, p) s)
     (place_new ms (n, p) s none (suffix_to n s suffix))
 
--- beyond the reach of a pointer it is shared as before
+-- a name beyond the reach of pointers does not change which places its suffixes share
 shared_still : (ms more : List Placed) (n : DomainName) (p : ℕ) (s : DomainName) → Suffix n s
     → last_place < p → shared_place (ms ++ (n, p) ∷ more) s ≡ shared_place ms s
 shared_still ms more n p s suffix high = go (place_of ms s) refl
@@ -101,7 +101,7 @@ laid_again ms more (l ∷ t) p (suc k, x) before laid = go (nat_le p last_place)
         (λ s suffix. shared_still ms more (l ∷ t) p s suffix high) in
         (same.0 ∙ laid.0, same.1 ∙ laid.1)
 
--- no places of such a name are kept
+-- no places are kept of a name that is laid out again
 pub none_kept : (head : Octets → ℕ) (ms : List Placed) (n : DomainName) (start at : ℕ) (form : Form)
     → start ≤ at → IsLaid ms n (form_again start form) → new_places head ms n at ≡ []
 none_kept head ms n start at (zero, x) after laid = sym (keep_none head ms n at [] laid.0)
@@ -115,7 +115,7 @@ none_kept head ms n start at (suc k, x) after laid = go (nat_le start last_place
         let high = leb-false start last_place e in
         kept-high head ms l t at (omega (arith, high, after))
 
--- a name that the message spells at a place that is kept
+-- a name that the message spells at a kept place is laid out as a pointer to that place
 pub laid_there : {head : Octets → ℕ} {ms : List Placed} {b : Octets} {ks : List Kept} {o : Octets}
     (n : DomainName) (p : ℕ) → Holds head ms b ks → o ≡ wire n → is_name n ≡ true
     → IsSharedAt ks b o p → IsLaid ms n (zero, Some p)

@@ -32,7 +32,7 @@ pub taken_back : {d d' : Draft} {k j : ℕ} → Grows d d' → k ≡ length d.oc
     → j ≡ length d.kept → record d' { octets = take k d'.octets; kept = take j d'.kept } ≡ d
 taken_back {d} {d'} {k} {j} g octets kept = grind (arith, ap₂, take-append_seam)
 
--- octets that are not a name to a writer
+-- octets that are written without keeping places
 pub octets_written : {d d' : Draft} (head : Octets → ℕ) (o : Octets)
     → IsAsked d.octets d.asked_end → length d.octets + length o ≤ d.limit
     → d' ≡ with_octets d o → Writes head head d d' (octets_laid o) true

@@ -51,8 +51,8 @@ item_of section owner ttl set =
 abbrev pub with_set : List Item → Section → DomainName → ℕ → RecordSet → List Item
 with_set items section owner ttl set = items ++ item_of section owner ttl set ∷ []
 
--- a message being written: its limit, its octets after room for a header, the place where the name
--- of its question ends, the places kept of later names, and the counts of its header
+-- a message being written: its limit, its octets, which begin with room for a header, the place
+-- where the name of its question ends, the places kept of later names, and the counts of its header
 pub record Draft : Type 0 where
   pub limit : ℕ
   pub octets : Octets
@@ -95,8 +95,8 @@ pub record Grows (old new : Draft) : Type 0 where
   pub limit : new.limit ≡ old.limit
   pub counts : new.counts ≡ old.counts
 
--- What was laid out after these names is written if and only if it fits the limit. Its names are
--- then earlier names too, whatever the earlier octets are, if their number is the same.
+-- What is laid out after these names is written if and only if it fits the limit. Its names are
+-- then earlier names too, also after other earlier octets, if there are equally many.
 pub record IsWritten (number : Octets → ℕ) (ms : List Placed) (old new : Draft) (laid : Laid)
     (fits : Bool) : Type 0 where
   pub exactly : IsTrue fits ↔ (length (old.octets ++ laid.written) ≤ old.limit)
@@ -134,8 +134,8 @@ pub record IsDraft (head : Octets → ℕ) (q : Option MessageQuestion) (items :
   pub counts : d.counts ≡ counts_of q items
   pub askable : IfSome q IsAskable
 
--- A page with N places and `size` octets, and a limit within these octets that any question fits. It
--- never has more records than octets.
+-- A page with N places and `size` octets, and a limit within these octets that any question fits.
+-- It never has more records than octets.
 pub record IsWellKept (N size : ℕ) (d : Draft) : Type 0 where
   pub least : 512 ≤ d.limit
   pub within : length d.octets ≤ d.limit

@@ -5,7 +5,7 @@ use Rattle.std.specs.Int.Bits.{bit_xor}
 use Rattle.std.specs.List.{fold}
 use Rattle.dns_spec.specs.Names.{Octets}
 
--- each bit of the number affects all bits of both halves of a product
+-- the two halves of a product of 128 bits, combined: all bits of the number affect the result
 abbrev pub mixed : ℕ → ℕ
 mixed n =
     let product = n * 11400714819323198485 in
@@ -32,8 +32,8 @@ octets_number s =
     then mixed (few_number s)
     else with_eights ((length s - 1) / 8) s) / 2 ^ 42
 
--- the number of a suffix: the number of its octets, its length, and the highest bits of its number
--- by a borrowed hash
+-- the number of a suffix: 22 bits from its octets, 8 bits of its length, and the two highest bits
+-- of its hash by `numbers`
 unfoldable pub suffix_number : (Octets → ℕ) → Octets → ℕ
 suffix_number numbers s =
     octets_number s * 1024 + length s % 256 * 4 + numbers s / 256

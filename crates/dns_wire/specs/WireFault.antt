@@ -15,6 +15,6 @@ fault_code fault =
       | NoMemory ↦ 7
     ]
 
--- what a fault means, unless allocation failed
+-- unless the fault is that allocation failed, this holds
 abbrev pub UnlessNoMemory : WireFault → Type 0 → Type 0
 UnlessNoMemory fault Said = fault ≢ NoMemory → Said

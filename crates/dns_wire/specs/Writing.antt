@@ -24,7 +24,7 @@ front_size ms [] = 0
 front_size ms (l ∷ n) =
     elim (shared_place ms (l ∷ n)) [ None ↦ 1 + length l + front_size ms n | Some p ↦ 0 ]
 
--- the place of that suffix
+-- the place of the suffix that a name shares, if it shares one
 unfoldable pub pointed_place : List Placed → DomainName → Option ℕ
 pointed_place ms [] = None
 pointed_place ms (l ∷ n) =
@@ -81,11 +81,11 @@ pub record IsAsked (b : Octets) (a : ℕ) : Type 0 where
   pub near : a ≤ 267
   pub name : 12 < a → IsWireForm (name_before b a)
 
--- the places of its suffixes, each with the number of the suffix
+-- the places of the suffixes of the question's name, each with the number of the suffix
 unfoldable pub asked_places : (Octets → ℕ) → Octets → ℕ → List Kept
 asked_places number b a = new_places number [] (labels_of (name_before b a)) 12
 
--- the message spells these octets at none of those places
+-- the message spells these octets at no place of the question's name
 abbrev pub NotAsked : Octets → ℕ → Octets → Type 0
 NotAsked b a o =
     (number : Octets → ℕ) (p h : ℕ) → IsKept (asked_places number b a) p h → SpelledAt b p o → ⊥

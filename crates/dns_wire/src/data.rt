@@ -1,4 +1,4 @@
-//! Data of records, in which names may continue elsewhere by a pointer (RFC 1035 3.3 and 4.1.4).
+//! Reads the data of records, whose names may be compressed (RFC 1035 3.3 and 4.1.4).
 ghost use Rattle.std.specs.Prelude.{◌≡◌, ◌+◌, ◌≤◌, length, Some, None, IfOk, IfErr};
 ghost use Rattle.dns_spec.specs.Reading.{data_at, field_at};
 ghost use Rattle.dns_rdata.specs.TypeRows.{field_of};
@@ -15,7 +15,8 @@ use std::alloc::Global;
 /// The data of a record, from place `at` up to `end`, without compression.
 ///
 /// Data of a class other than IN is any octets. `BadData` if the octets do not exactly fill the
-/// fields of the type; a name is read first, over the whole message.
+/// fields of the type. A name is read from the whole message, so its own faults are reported before
+/// it is found to extend past `end`.
 #[tactic(auto, unfolding(dns_spec::specs::Reading::fields_at))]
 pub(crate) fn read_data(
     alloc: Global,
@@ -52,8 +53,8 @@ pub(crate) fn read_data(
     Ok(data)
 }
 
-// Appends the field at a place, and returns the place after it, which is at most `end`. Only a
-// domain name may continue elsewhere.
+// Appends the field at a place, and returns the place after the field, at most `end`. A domain
+// name is appended without compression.
 fn read_field(
     message: &[u8],
     field: Field,

@@ -7,16 +7,16 @@ use std::alloc::{AllocError, AllocFailed};
 /// Why octets are not a message (RFC 1035 4.1).
 #[derive(Clone, Copy, Debug, PartialEq, Eq)]
 pub enum WireFault {
-    /// The octets end where more are needed.
+    /// The octets end before the message is complete.
     Short = 1,
     /// A label begins with the bits 01 or 10, which are reserved (RFC 1035 4.1.4).
     ReservedLabel,
-    /// A pointer gives a place in the header, or not before the place where the current labels
-    /// began (RFC 1035 4.1.4).
+    /// A pointer leads into the header, or not to a place before the labels that it follows (RFC
+    /// 1035 4.1.4).
     BadPointer,
     /// A name has more than 255 octets (RFC 1035 2.3.4).
     LongName,
-    /// Data does not fill its length, or is invalid for its type (RFC 1035 3.3).
+    /// The fields of data do not fill its length, or are invalid for its type (RFC 1035 3.3).
     BadData,
     /// Octets follow the last record.
     Trailing,

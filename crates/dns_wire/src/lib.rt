@@ -1,4 +1,4 @@
-//! Messages on the wire (RFC 1035 4.1), read and written; and queries, read.
+//! Reads and writes messages on the wire, and reads queries (RFC 1035 4.1).
 #![tactic(auto)]
 
 mod data;

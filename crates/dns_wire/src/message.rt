@@ -10,10 +10,11 @@ use std::marker::Model;
 /// The class of the Internet (RFC 1035 3.2.4).
 pub const CLASS_IN: u16 = 1;
 
-/// The octets of a header (RFC 1035 4.1.1); no name is in it.
+/// The number of octets of a header (RFC 1035 4.1.1).
 pub(crate) const HEADER_OCTETS: usize = 12;
 
-/// The ID, and as 16 bits QR, opcode, AA, TC, RD, RA, three zero bits and RCODE (RFC 1035 4.1.1).
+/// A header without its counts: the ID, and 16 bits of QR, opcode, AA, TC, RD, RA, Z and RCODE (RFC
+/// 1035 4.1.1).
 #[derive(Drop)]
 pub struct Head {
     /// The identifier that a reply repeats.
@@ -39,8 +40,8 @@ pub(crate) struct Counts {
     pub(crate) additionals: u16,
 }
 
-/// A question: the name as it is spelled, and the numbers of the type and the class asked for (RFC
-/// 1035 4.1.2).
+/// A question: the name in the case received, and the numbers of the type and the class asked for
+/// (RFC 1035 4.1.2).
 #[derive(Drop)]
 pub struct Question {
     /// The name asked for.
@@ -107,7 +108,7 @@ impl QuestionRef<'_> {
 /// A record of a message (RFC 1035 4.1.3).
 #[derive(Drop)]
 pub struct WireRecord {
-    /// The name that owns the record, as it is spelled.
+    /// The owner name, in the case received.
     pub owner: Name,
     /// The type.
     pub rtype: RType,

@@ -1,5 +1,4 @@
-//! Names in a message, whose rest may be elsewhere, at the place that a pointer gives (RFC 1035
-//! 4.1.4).
+//! Reads names in a message, and follows their pointers (RFC 1035 4.1.4).
 ghost use Rattle.std.specs.Prelude.{◌≡◌, ◌≤◌, ◌<◌, length, get_or, Some, None, IfOk, IsErr, IfSome, IsNone};
 ghost use Rattle.dns_spec.specs.ComputedNames.{name_at};
 ghost use Rattle.dns_wire.specs.Labels.{StepAt, PointerAt, NoRunAt};
@@ -18,12 +17,12 @@ pub(crate) enum NameStep<'a> {
     Jump(usize),
 }
 
-/// The name at a place of a message, as it is spelled, and the place after its own octets.
+/// The name at a place of a message, in the case received, and the place after its octets there,
+/// which a pointer ends.
 ///
-/// A pointer gives a place after the header and before the place where the current labels began,
-/// so reading ends. Faults are found from the left: a missing octet, the reserved bits, a
-/// pointer's second octet and its place, a label's octets, and the length of the name with the
-/// label.
+/// A pointer leads to a place after the header and before the labels that it follows, so reading
+/// terminates. The first fault is reported: a missing octet, reserved bits, a missing second octet
+/// of a pointer, its target, a label cut short, or a name that is too long with the label.
 pub(crate) fn read_name(message: &[u8], at: usize) -> Result<(Name, usize), WireFault>
     requires { at ≤ length message.now }
     ensures name { IfOk result (λ read. name_at message.now at ≡ Some (read.0, read.1)) }
@@ -76,7 +75,7 @@ pub(crate) fn step_at(message: &[u8], run: usize, place: usize) -> Result<NameSt
     }
 }
 
-// The place that a pointer of two octets gives; the first octet is at least 192.
+// The target of the pointer at `place`, whose first octet is at least 192.
 fn pointer_at(message: &[u8], run: usize, place: usize) -> Result<usize, WireFault>
     requires inside { place < length message.now }
     requires high { 192 ≤ get_or message.now place 0 }

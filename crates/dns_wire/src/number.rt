@@ -1,4 +1,4 @@
-//! Numbers in a message, the most significant octet first (RFC 1035 2.3.2).
+//! Reads big-endian numbers in a message (RFC 1035 2.3.2).
 ghost use Rattle.std.specs.Prelude.{◌≡◌, ◌+◌, ◌<◌, ◌≤◌, ◌↔◌, length, take, drop, IfOk, IsErr};
 ghost use Rattle.dns_spec.specs.Reading.{field16, field32};
 

@@ -35,11 +35,11 @@ pub enum Section {
 #[derive(Drop)]
 pub struct Page<const N: usize, const SIZE: usize> {
     octets: ArrayVec<u8, SIZE>,
-    // The places in names after the question's that later names may point to.
+    // The places that later names may point to, in names after the question.
     places: Places<N>,
     limit: usize,
-    // The place where the question's name ends; before that is written, the place where the header
-    // ends. The places of its suffixes are not kept, since they follow from this one.
+    // The place where the question's name ends; without a question, the place where the header
+    // ends. The places of the name's suffixes are not kept, since they follow from this place.
     asked_end: usize,
     counts: Counts,
 }
@@ -60,8 +60,8 @@ impl<const N: usize, const SIZE: usize> Page<N, SIZE> {
 
     /// An empty message of at most `limit` octets, 512 to 65,535.
     ///
-    /// Condition: `SIZE` is at least the limit, and `N` at least half the number of its octets
-    /// that a pointer reaches.
+    /// Condition: `SIZE` is at least the limit; `N` is at least half of `SIZE` or 8,192, whichever
+    /// is less, and at most 8,192. A pointer reaches 16,384 octets.
     pub fn new(limit: usize) -> Page<N, SIZE>
         requires from { 512 ≤ limit }
         requires upto { limit ≤ 65535 }
@@ -93,7 +93,7 @@ impl<const N: usize, const SIZE: usize> Page<N, SIZE> {
         self.counts = Counts::default();
     }
 
-    /// Writes the question that a message repeats.
+    /// Writes the question that a reply repeats.
     ///
     /// Condition: the message is empty.
     pub fn put_question(&mut self, question: &QuestionRef<'_>)
@@ -109,7 +109,7 @@ impl<const N: usize, const SIZE: usize> Page<N, SIZE> {
     }
 
     /// Writes the records of a set at a borrowed owner, with a TTL in seconds, into a section: all
-    /// of them, or none if they would make the message exceed its limit.
+    /// of them; or none, and returns false, if they would make the message exceed its limit.
     pub fn put_set<H: SuffixHash, S: SetView>(
         &mut self,
         hash: &mut H,
@@ -165,15 +165,15 @@ impl<const N: usize, const SIZE: usize> Page<N, SIZE> {
         put_header(self.octets.as_mut_slice(), &head, &self.counts);
     }
 
-    /// What is written.
+    /// The octets written so far.
     pub fn octets(&self) -> &[u8]
         ensures { result.now ≡ self.now.octets }
     {
         self.octets.as_slice()
     }
 
-    // Writes a record of class IN, in a set that begins at `start`. False if it does not fit; a
-    // part of it may then be written. `form` is how the owner of the first record is laid out.
+    // Writes a record of class IN, in a set that begins at place `start`. False if the record does
+    // not fit; a part of it may then be written. `form` is how the set's first owner is laid out.
     fn put_record<H: SuffixHash>(
         &mut self,
         hash: &mut H,
@@ -210,8 +210,8 @@ impl<const N: usize, const SIZE: usize> Page<N, SIZE> {
         }
     }
 
-    // Writes what follows the owner of a record in whose data names may be shared. The length of
-    // the data, which ends the message, is written into the last two of the 10 octets before it.
+    // Writes what follows the owner of a record whose data may have compressed names. The data's
+    // length is known only then; it is written into the last two of the 10 octets before the data.
     fn put_shared_tail<H: SuffixHash>(
         &mut self,
         hash: &mut H,
@@ -239,9 +239,9 @@ impl<const N: usize, const SIZE: usize> Page<N, SIZE> {
         true
     }
 
-    // Writes data in which names may be shared, all of it or, if it does not fit, a part of it:
-    // for MX a preference and the name of an exchange (RFC 1035 3.3.9), for SOA the names of a
-    // server and of a mailbox and five numbers of 32 bits (3.3.13), for other types one name.
+    // Writes data that may have compressed names: for MX a preference and the name of an exchange
+    // (RFC 1035 3.3.9), for SOA the names of a server and of a mailbox and five numbers of 32 bits
+    // (3.3.13), for other types one name. False if it does not fit; a part may then be written.
     fn put_data<H: SuffixHash>(&mut self, hash: &mut H, rtype: RType, rdata: &[u8]) -> bool
         requires valid { Valid rtype.0 rdata.now }
         requires shared { IsTrue (compresses rtype.0) }
@@ -268,9 +268,9 @@ impl<const N: usize, const SIZE: usize> Page<N, SIZE> {
         self.put_name(hash, rdata)
     }
 
-    // Writes the owner of a record. The owner of the first record of a set is looked up. The
-    // others are a pointer to it, or the same octets: a pointer, the root, or a name that begins
-    // beyond the reach of pointers. Inlining saves about 50 instructions per record.
+    // Writes the owner of a record. The owner of the first record of a set is looked up. In the
+    // other records it is a pointer to the first one, or the same octets: a pointer, the root, or a
+    // name beyond the reach of pointers. Inlining saves about 50 instructions per record.
     #[inline(always)]
     fn put_owner<H: SuffixHash>(
         &mut self,
@@ -316,9 +316,9 @@ impl<const N: usize, const SIZE: usize> Page<N, SIZE> {
         self.lay_name(hash, name, &mut (0, None))
     }
 
-    // Writes a name, given in its wire form: its labels before the longest suffix that is shared,
-    // and a pointer to that suffix; or the whole name. False, with nothing written, if it does not
-    // fit. `form` gets the number of octets before the suffix, and the suffix's place.
+    // Writes a name, given in its wire form: the labels before its longest suffix that was written
+    // before, and a pointer to that suffix; or the whole name. False, with nothing written, if it
+    // does not fit. `form` gets the number of octets before the suffix, and the suffix's place.
     #[inline(never)]
     fn lay_name<H: SuffixHash>(
         &mut self,

@@ -11,14 +11,14 @@ use std::marker::Model;
 // The number of chains of places: a suffix with number k is in chain k / 2 modulo this.
 //
 // Whatever the hash, a chain contains suffixes of only four lengths, 64 octets apart, since six of
-// the seven bits that choose it are bits of the length. So it contains one suffix for each 64
-// octets of a name: at most 256 in the 16,384 octets that a pointer reaches, plus one for each
-// name there. A reply has about 82 names, so a suffix is compared by its octets with at most about
-// 82 suffixes of its length.
+// the seven bits that choose the chain are bits of the length. So it contains at most one suffix
+// for each 64 octets of a name, rounded up: at most 256 in the 16,384 octets that a pointer
+// reaches, plus one for each name there. A reply has about 82 names, so a suffix is compared by its
+// octets with at most about 82 suffixes of its length.
 const HEADS: usize = 128;
 
-// A place; the entry of its chain that was kept before it, counted from 1, or 0 if there is none;
-// and the number of its suffix.
+// The place of a suffix; the entry of the same chain that was kept before this one, counted from 1,
+// or 0 if there is none; and the number of the suffix.
 #[derive(Clone, Copy, Default)]
 struct KeptPlace {
     place: u16,
@@ -122,18 +122,18 @@ fn chain_of(number: u32) -> usize
     (number / 2 % HEADS as u32) as usize
 }
 
-/// Chooses the chain in which a suffix is looked for: a number below 1,024, always the same for
-/// the same octets.
+/// A hash of suffixes, below 1,024, always the same for the same octets. The highest bit of the ten
+/// and the suffix's length choose the chain in which the suffix is looked for.
 ///
-/// The message that is written does not depend on these numbers.
+/// The message that is written does not depend on this hash.
 pub trait SuffixHash {
     ghost use Rattle.std.specs.Prelude.{ℕ};
     ghost use Rattle.dns_spec.specs.Names.{Octets};
 
-    /// The number of each suffix.
+    /// The hash of each suffix.
     ghost numbers: { Self → Octets → ℕ };
 
-    /// The number of a suffix, given in its wire form.
+    /// The hash of a suffix, given in its wire form.
     fn head(&mut self, suffix: &[u8]) -> u16
         ensures value { result ≡ numbers self.old suffix.now }
         ensures low { result < 1024 }

@@ -1,4 +1,4 @@
-//! Reading of queries: a header and one question (RFC 1035 4.1).
+//! Reads queries: a header and one question (RFC 1035 4.1).
 ghost use Rattle.std.specs.Prelude.{◌≡◌, ◌+◌, ◌≤◌, length, IfSome, IsNone, None};
 ghost use Rattle.dns_spec.specs.ComputedNames.{name_at};
 ghost use Rattle.dns_spec.specs.Reading.{field16};
@@ -12,30 +12,30 @@ use dns_name::NameRef;
 /// A datagram read as a query.
 #[derive(Drop)]
 pub enum QueryRead {
-    /// It is shorter than a header, or is a response: nothing is sent.
+    /// A datagram that is shorter than a header, or is a response. It gets no reply.
     Absent,
-    /// It is refused; only this header of a reply is sent.
+    /// A query that is malformed or unsupported. The reply is this header alone.
     Refused(Head),
-    /// It is a query: its header and its question, both as received.
+    /// A query: its header and its question, both as received.
     Query(Head, Question),
 }
 
 /// A datagram read as a query, with the question borrowed from it.
 #[derive(Drop)]
 pub enum QueryRef<'d> {
-    /// It is shorter than a header, or is a response: nothing is sent.
+    /// A datagram that is shorter than a header, or is a response. It gets no reply.
     Absent,
-    /// It is refused; only this header of a reply is sent.
+    /// A query that is malformed or unsupported. The reply is this header alone.
     Refused(Head),
-    /// It is a query: its header and its question, both as received.
+    /// A query: its header and its question, both as received.
     Query(Head, QuestionRef<'d>),
 }
 
 // The most octets of a label (RFC 1035 2.3.4).
 const MOST_LABEL: usize = 63;
 
-// The last place of the root that ends the question's name, which has at most 255 octets (RFC 1035
-// 2.3.4).
+// The last place at which the question's name may end with the root, since the name has at most 255
+// octets (RFC 1035 2.3.4).
 const LAST_ROOT: usize = HEADER_OCTETS + 254;
 
 /// The RCODE of a reply (RFC 1035 4.1.1).
@@ -64,7 +64,7 @@ impl Rcode {
 
 impl Head {
     /// The header of the reply to a query with this header (RFC 1035 4.1.1): the same ID, opcode
-    /// and RD, with QR set, and AA and TC as given. RA and the three zero bits are 0.
+    /// and RD, with QR set, and AA, TC and RCODE as given. RA and Z are 0.
     pub fn reply(&self, authoritative: bool, truncated: bool, rcode: Rcode) -> Head
         ensures { result ≡ reply_head self.now authoritative truncated (code_of rcode) }
     {
@@ -86,9 +86,9 @@ impl Head {
 
 /// Reads a datagram of any octets as a query (RFC 1035 4.1).
 ///
-/// `Absent` for fewer than 12 octets and for responses. `Refused`, in this order: with RCODE 4 if
-/// the opcode is not 0, and with RCODE 1 if the counts are not 1, 0, 0, 0 or the octets after the
-/// header are not exactly one question.
+/// `Absent` for fewer than 12 octets and for responses. `Refused` with RCODE 4 if the opcode is not
+/// 0; else with RCODE 1 if the counts are not 1, 0, 0, 0 or the octets after the header are not
+/// exactly one question.
 pub fn read_query(datagram: &[u8]) -> QueryRead
     ensures { as_read result ≡ query_read datagram.now }
 {
@@ -138,7 +138,7 @@ fn field(datagram: &[u8], at: usize) -> u16
     BigEndian::read_u16(&datagram[at..])
 }
 
-// The question, if nothing else follows the header.
+// The question, if exactly one follows the header.
 #[tactic(auto, unfolding(dns_spec::specs::Query::question_at))]
 #[inline(always)]
 fn lent_question(datagram: &[u8]) -> Option<QuestionRef<'_>>
@@ -155,8 +155,8 @@ fn lent_question(datagram: &[u8]) -> Option<QuestionRef<'_>>
     })
 }
 
-// The place after the name that follows the header. A pointer is never valid there, since its
-// place would have to be before that name and after the header (RFC 1035 4.1.4).
+// The place after the name that follows the header. A pointer is never valid in this name, since it
+// would have to lead to a place before the name and after the header (RFC 1035 4.1.4).
 fn name_end(datagram: &[u8]) -> Option<usize>
     ensures some { IfSome result (λ end. NameEnds datagram.now end) }
     ensures none { IsNone result → name_at datagram.now 12 ≡ None }

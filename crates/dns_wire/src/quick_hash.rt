@@ -4,8 +4,8 @@ use crate::places::SuffixHash;
 // 2^32 divided by the golden ratio.
 const SPREAD: u32 = 2_654_435_769;
 
-/// Hashes the first four octets of a suffix by one multiplication. A suffix of three octets is
-/// hashed by its only letter.
+/// Hashes the first four octets of a suffix by one multiplication. The hash of a suffix of three
+/// octets is the only octet of its label.
 #[derive(Clone, Copy, Default, Debug)]
 pub struct QuickHash;
 

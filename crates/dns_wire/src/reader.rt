@@ -1,4 +1,4 @@
-//! Messages read from octets (RFC 1035 4.1).
+//! Reads messages from octets (RFC 1035 4.1).
 ghost use Rattle.std.specs.Prelude.{◌≡◌, ◌≤◌, ◌<◌, length, Some, None, IfOk, IfErr};
 ghost use Rattle.dns_spec.specs.Reading.{Spells, NoMessage, several, message_question_at, message_record_at};
 ghost use Rattle.dns_wire.specs.Read.{HeaderAt};

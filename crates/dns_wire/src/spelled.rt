@@ -1,4 +1,4 @@
-//! Whether a message spells a suffix at a place, following pointers (RFC 1035 4.1.4).
+//! Checks whether a message spells a suffix at a place, following pointers (RFC 1035 4.1.4).
 ghost use Rattle.std.specs.Prelude.{◌≡◌, ◌≤◌, ◌∷◌, ◌++◌, length, take, drop, IsTrue, IfSome, IsNone};
 ghost use Rattle.dns_spec.specs.Names.{Octets};
 ghost use Rattle.dns_wire.specs.Kept.{SpelledAt, SpellsSuffix, HasAt};
@@ -48,7 +48,7 @@ fn has_at(message: &[u8], at: usize, octets: &[u8]) -> bool
         .is_some_and(|(front, _)| are_equal(front, octets))
 }
 
-// The octets after the label, if the octets begin with it.
+// The octets after the label, if `wire` begins with its length and its octets.
 fn after_label<'a>(wire: &'a [u8], label: &[u8]) -> Option<&'a [u8]>
     ensures some { IfSome result (λ rest. wire.now ≡ length label.now ∷ (label.now ++ rest.now)) }
     ensures none { IsNone result → (rest : Octets)

@@ -1,4 +1,4 @@
-//! The number of a suffix, which distinguishes its places and chooses their chain.
+//! The number of a suffix, by which its places are found among the kept ones.
 ghost use Rattle.std.specs.Prelude.{◌≡◌, ◌<◌, ◌≤◌, ◌^◌, length, take, drop, ◌+◌};
 ghost use Rattle.std.specs.Int.{from_le_bytes, w64};
 ghost use Rattle.dns_wire.specs.SuffixNumbers.{suffix_number, octets_number, mixed};
@@ -8,8 +8,8 @@ use crate::places::SuffixHash;
 // 2^64 divided by the golden ratio.
 const SPREAD: u64 = 11_400_714_819_323_198_485;
 
-/// The number of a suffix: 22 bits of a hash of all its octets, its length, and the two highest
-/// bits of its number by the writer's hash.
+/// The number of a suffix: 22 bits of a hash of all its octets, 8 bits of its length, and the two
+/// highest bits of the writer's hash.
 pub(crate) fn number_of<H: SuffixHash>(hash: &mut H, suffix: &[u8]) -> u32
     ensures value { result ≡ suffix_number (H.numbers hash.old) suffix.now }
     ensures same { H.numbers hash.new ≡ H.numbers hash.old }
@@ -38,7 +38,7 @@ fn octets_number(octets: &[u8]) -> u32
     (number >> 42) as u32
 }
 
-// Each bit of the number affects all bits of the result.
+// The two halves of a product of 128 bits, combined: all bits of the number affect the result.
 fn mixed(number: u64) -> u64
     ensures { result ≡ mixed number }
 {

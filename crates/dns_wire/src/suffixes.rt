@@ -1,5 +1,5 @@
-//! How a name is laid out after others: its longest suffix that a pointer may replace, and the
-//! places that are kept of the rest (RFC 1035 4.1.4).
+//! Compression of names: the longest suffix of a name that a pointer may replace, and the places
+//! that are kept of the suffixes before it (RFC 1035 4.1.4).
 ghost use Rattle.std.specs.Prelude.{◌≡◌, List, ◌+◌, ◌-◌, ◌*◌, ◌≤◌, ◌<◌, ◌^◌, [], ◌∷◌, ◌++◌, length, drop, min, IsTrue, IfSome, IsNone, ℕ, false};
 ghost use Rattle.dns_spec.specs.Names.{Octets, DomainName, wire, is_name};
 ghost use Rattle.dns_spec.specs.Layout.{Placed, shared_octets};
@@ -16,8 +16,8 @@ use dns_name::are_equal;
 pub(crate) const LAST_PLACE: usize = 16383;
 
 /// How a name, in its wire form, is laid out in `room` octets: the number of octets before the
-/// longest suffix that a pointer may replace, and the place of that suffix. `None` if it does not
-/// fit: no suffix is looked up if the labels before it leave no room for a pointer.
+/// longest suffix that a pointer may replace, and the place of that suffix, if there is one. `None`
+/// if the labels before the next suffix leave no room for a pointer: then the name does not fit.
 pub(crate) fn shared_suffix<H: SuffixHash, const N: usize>(
     places: &Places<N>,
     message: &[u8],
@@ -55,7 +55,7 @@ pub(crate) fn shared_suffix<H: SuffixHash, const N: usize>(
     Some((name.len() - rest.len(), None))
 }
 
-// A place at which the message spells a suffix: in the name of the question, or one that is kept.
+// A place at which the message spells a suffix: in the question's name, or else a kept place.
 // Nothing is hashed if no place is kept.
 fn find_suffix<H: SuffixHash, const N: usize>(
     places: &Places<N>,
@@ -83,8 +83,8 @@ fn find_suffix<H: SuffixHash, const N: usize>(
     places.find(number, message, suffix)
 }
 
-// The place of a suffix in the question's name, which ends at `end`. It need not be kept: its
-// distance from that end is the suffix's length. Inlining saves up to a twentieth of a reply.
+// The place of a suffix in the question's name, which ends at `end`. The place need not be kept:
+// its distance from `end` is the suffix's length. Inlining saves up to 5 % of the work for a reply.
 #[inline(always)]
 pub(crate) fn place_before(message: &[u8], end: usize, suffix: &[u8]) -> Option<u16>
     requires { IsAsked message.now end }
@@ -104,8 +104,8 @@ pub(crate) fn place_before(message: &[u8], end: usize, suffix: &[u8]) -> Option<
     Some((end - suffix.len()) as u16)
 }
 
-// Whether a name ends with these octets, beginning at one of its labels: the octets of a suffix
-// may also be inside a label. Inlining saves up to a twentieth of a reply.
+// Whether a name ends with these octets, from one of its labels on: equal octets may also begin
+// inside a label. Inlining saves up to 5 % of the work for a reply.
 #[inline(always)]
 fn has_last_labels(name: &[u8], suffix: &[u8]) -> bool
     ensures yes { IsTrue result
@@ -126,8 +126,8 @@ fn has_last_labels(name: &[u8], suffix: &[u8]) -> bool
     rest.len() == suffix.len()
 }
 
-// Whether octets end with others. If they do not, the labels need not be walked, up to 127 for each
-// suffix of a name.
+// Whether octets end with others. If not, the caller need not walk the labels, of which there may
+// be 127 for each suffix of a name.
 fn has_end(octets: &[u8], end: &[u8]) -> bool
     ensures yes { IsTrue result → (length end.now ≤ length octets.now)
         × (drop (length octets.now - length end.now) octets.now ≡ end.now) }
@@ -140,8 +140,8 @@ fn has_end(octets: &[u8], end: &[u8]) -> bool
     are_equal(last, end)
 }
 
-/// Keeps the places of the suffixes that begin in the first `front` octets of a name laid out at a
-/// place.
+/// Keeps the places of the suffixes that begin in the first `front` octets of a name laid out at
+/// place `at`, as far as a pointer reaches.
 pub(crate) fn keep_suffixes<H: SuffixHash, const N: usize>(
     places: &mut Places<N>,
     hash: &mut H,
@@ -177,8 +177,8 @@ pub(crate) fn keep_suffixes<H: SuffixHash, const N: usize>(
     }
 }
 
-// The length of the first label of a name in wire form, and the octets after that length. `None`
-// for the root.
+// The length of the first label of a name in wire form, and the octets after that label. `None` for
+// the root.
 fn after_first_label(name: &[u8]) -> Option<(usize, &[u8])>
     ensures some { IfSome result (λ r. AfterLabel name.now r.0 r.1.now) }
     ensures root { IsNone result → (n : DomainName) → name.now ≡ wire n → IsTrue (is_name n)

@@ -16,7 +16,7 @@ use crate::places::SuffixHash;
 use dns_name::Name;
 use dns_rdata::SetView;
 
-/// A message being written: a page of the greatest size, and the hash for finding its places.
+/// A message being written: a page of the greatest size, and the hash of its suffixes.
 #[derive(Drop)]
 pub struct Writer<'h, H: SuffixHash> {
     hash: &'h mut H,
@@ -24,8 +24,8 @@ pub struct Writer<'h, H: SuffixHash> {
 }
 
 impl<'h, H: SuffixHash> Writer<'h, H> {
-    /// An empty message of at most `limit` octets, 512 to 65,535, with the question that it
-    /// repeats, if any.
+    /// A message of at most `limit` octets, 512 to 65,535, without records, and with a question if
+    /// one is given.
     pub fn new(limit: usize, question: Option<&Question>, hash: &'h mut H) -> Writer<'h, H>
         requires from { 512 ≤ limit }
         requires upto { limit ≤ 65535 }
@@ -41,7 +41,7 @@ impl<'h, H: SuffixHash> Writer<'h, H> {
     }
 
     /// Writes the records of a set at an owner, with a TTL in seconds, into a section: all of
-    /// them, or none if they would make the message exceed its limit.
+    /// them; or none, and returns false, if they would make the message exceed its limit.
     pub fn put_set<S: SetView>(&mut self, section: Section, owner: &Name, ttl: u32, set: &S) -> bool
         ensures fits { (q : Option MessageQuestion) (items : List Item)
             → IsDraft (H.numbers self.old.hash.now) q items self.old.page → IsTrue result
@@ -66,7 +66,7 @@ impl<'h, H: SuffixHash> Writer<'h, H> {
     /// Copies the message, with its header and counts, to the front of `out` and returns its
     /// length in octets.
     ///
-    /// Condition: `out` is as long as the limit.
+    /// Condition: `out` is at least as long as the limit.
     pub fn finish(self, head: Head, out: &mut [u8]) -> usize
         requires { self.page.limit ≤ length out.old }
         ensures length { (h : Octets → ℕ) (q : Option MessageQuestion) (items : List Item)

@@ -1,5 +1,5 @@
-//! Tests of `dns_wire`, through its public calls. In a separate crate their proofs are made only
-//! once, while the edits of `dns_wire` are tried.
+//! Tests of `dns_wire` through its public functions. They are a crate of their own, so that
+//! `dns_wire` is not proved once more with them.
 #![tactic(auto)]
 
 #[cfg(test)]

@@ -18,7 +18,7 @@ rises_pairs f [] h = tt
 rises_pairs f (x ∷ xs) h =
     (map_each f (λ n. name_order (f x) n ≡ Less) xs h.0, rises_pairs f xs h.1)
 
--- each element up to place i is the one there, or is related to it
+-- each element up to place i equals element i, or is related to it
 pub last_at : {X : Type 0} (R : X → X → Type 0) (xs : List X) (i : ℕ) (d : X) → Pairs R xs
     → i < length xs
     → AllByRecursion (λ x. (x ≡ get_or xs i d) ⊎ R x (get_or xs i d)) (take (suc i) xs)
@@ -94,7 +94,7 @@ module _ (z : ZoneContents) where
         (sym (ap is_gt (key_tells d q)) ∙ not-true _ r)))
         each pairs)
 
-    -- k is the number of names that are not after the name
+    -- k is the number of names that are not after m
     module _ (k : ℕ) (front : IsFront (is_upto key) names k) where
       upto_each : AllByRecursion (λ c. is_gt (name_order (name c) m) ≡ false) (take k names)
       upto_each =
@@ -124,12 +124,12 @@ module _ (z : ZoneContents) where
           after Equal d e f = absurd (false≢true f)
           after Greater d e f = e
 
-      -- each name that is not after it is among the first k
+      -- each name that is not after m is among the first k
       pub upto_among : (c : CheckedName) → Among c names → is_gt (name_order (name c) m) ≡ false
           → Among c (take k names)
       upto_among c a e = grind (arith, each_at, filter_among, key_tells)
 
-      -- the last of them
+      -- c is the last of the first k names
       module _ (i : ℕ) (next : k ≡ suc i) (c : CheckedName)
           (is : c ≡ get_or names i c) where
         fits : i < length names
@@ -152,12 +152,12 @@ module _ (z : ZoneContents) where
             (each_get (λ d. is_gt (name_order (name d) m) ≡ false) (take k names) i c upto_each
             (omega (arith, size, next)))
 
-        -- the others of these come before it
+        -- the others of the first k names come before c
         pub upto_last : (d : CheckedName) → Among d names → is_gt (name_order (name d) m) ≡ false
             → is_gt (name_order (name d) (name c)) ≡ false
         upto_last d a e = grind (arith, each_at, in_order, upto_among, equal_upto)
 
-      -- if these are all checked names
+      -- if the names are all checked names
       module _ (all : map (owner_of z) names ≡ checked_names z) where
         pub upto_some : Lower z.origin → at_or_below m z.origin ≡ true → 0 < k
         upto_some low_origin under = go (cases_lt 0 k)

@@ -85,7 +85,7 @@ alike_count one left other right g = record {
   size = omega (arith, ap length g.whole_one, length-append left g.end);
 }
 
--- if the last `count` octets of two lists are equal, so are fewer
+-- if the last `count` octets of two lists are equal, so are any fewer
 last_alike : (xs ys : Octets) (count k : ℕ) → AreAlike count xs ys → k ≤ count
     → drop (length xs - k) xs ≡ drop (length ys - k) ys
 last_alike xs ys count k a fits =
@@ -102,7 +102,7 @@ last_alike xs ys count k a fits =
         ap (λ i. drop i zs) place ∙ ap (drop (length left + (count - k))) e
         ∙ drop-append-add left end (count - k)
 
--- where a key was, the key of another name's length begins alike
+-- the room that holds the key of a name, cut to another key's length, begins like that name's key
 pub begins_as : (octets other room : Octets) (m : DomainName) (count size : ℕ)
     → other ≡ wire m → is_name m ≡ true → take size room ≡ name_key m → AreAlike count octets other
     → BeginsAs count octets (take (length octets - 1) room)
@@ -128,7 +128,7 @@ end_name : (front end : DomainName) → is_name (front ++ end) ≡ true → is_n
 end_name [] end ok = ok
 end_name (l ∷ front) end ok = end_name front end (is_name-tail l (front ++ end) ok)
 
--- the key after the labels before the rest of a name were written
+-- the key when all labels before the rest of a name are written
 pub record PutAfter (octets old rest key : Octets) : Type 0 where
   pub form : IsWireForm rest
   pub is_rest : rest ≡ drop (length octets - length rest) octets

@@ -128,7 +128,7 @@ module _ (z : ZoneContents) (low : folded z.origin ≡ z.origin) (ordered : AreO
   owners_parted = upto_parted z names are.each rise o low key key_is
 
   module _ (k : ℕ) (front : IsFront (is_upto key) names k) where
-    -- it is the last name that is not after it
+    -- the origin is itself the last name that is not after it
     pub origin_owns : (i : ℕ) → k ≡ suc i → (c : CheckedName)
         → c ≡ get_or names i c → c.key.now ≡ key → AreChecked z names
     origin_owns i next c is e =
@@ -152,7 +152,7 @@ module _ (z : ZoneContents) (low : folded z.origin ≡ z.origin) (ordered : AreO
     abbrev origin_name : Bor Octets → CheckedName
     origin_name key = record { key = key; first = 0; end = 0; cut = 0 }
 
-    -- it owns no records
+    -- all names that are not after the origin are before it, so it owns no records
     module _ (before : AllByRecursion (λ c. name_order (owner_of z c) o ≡ Less) (take k names)) where
       none : Among o (owners_once z.records) → ⊥
       none m =
@@ -192,7 +192,7 @@ module _ (z : ZoneContents) (low : folded z.origin ≡ z.origin) (ordered : AreO
           back a (inl f) = inl (f ∙ low)
           back a (inr m) = inr (subst (Among a) (sym are.all) m)
 
-    -- all of these are before it, if the last one is another name
+    -- all of the first k names are before the origin, if the last one is another name
     pub others_before : (i : ℕ) → k ≡ suc i → (c : CheckedName) → c ≡ get_or names i c
         → (c.key.now ≡ key → ⊥)
         → AllByRecursion (λ d. name_order (owner_of z d) o ≡ Less) (take k names)

@@ -26,7 +26,7 @@ module _ (keys more : Octets) (n : DomainName) where
   pub key_added : key_in (keys ++ name_key n) (length keys) n ≡ name_key n
   key_added = grind (arith, drop-append_seam, key_octets, take-length)
 
--- and so does the key of each record
+-- the keys of records remain when two records are swapped with their starts
 module _ (keys : Octets) (rs ss : List ResourceRecord) (xs ys : List ℕ) (a b : ℕ) where
   pub keyed_swapped : a < length rs → b < length rs → AreKeyed keys rs xs → SwappedAt rs ss a b
       → SwappedAt xs ys a b → length ss ≡ length rs → length ys ≡ length xs → AreKeyed keys ss ys

@@ -48,7 +48,7 @@ module _ (rs xs : List ResourceRecord) (last at : ℕ) (h : IsOnce rs xs last at
                 ∙ sym f ∙ sym g ∙ e ∙ get_or_default xs last r d inside,
           )
 
-  -- it comes after them, and is moved to their end
+  -- the next record comes after these, and is moved to their end
   pub once_less : (r s : ResourceRecord) → r ≡ get_or xs last r → s ≡ get_or xs at s
       → record_order r s ≡ Less → at < length xs → (ys : List ResourceRecord)
       → SwappedAt xs ys (last + 1) at → length ys ≡ length xs → IsOnce rs ys (last + 1) (at + 1)
@@ -86,7 +86,7 @@ module _ (rs xs : List ResourceRecord) (last at : ℕ) (h : IsOnce rs xs last at
           let is : i ≡ at = omega (arith, m, n) in
           (last + 1, omega arith, sym (h.rest i d m) ∙ ap (λ x. get_or xs x d) is ∙ sym (swap.0 d))
 
-  -- if the records are in order, it does not come before them
+  -- if the records are in order, the next record does not come before these
   pub once_sorted : (r s : ResourceRecord) → r ≡ get_or xs last r → s ≡ get_or xs at s
       → record_order r s ≡ Greater → at < length xs → IsSorted record_order rs → ⊥
   once_sorted r s e f greater l sorted =

@@ -29,8 +29,8 @@ pub record AreAlike (count : ℕ) (one other : Octets) : Type 0 where
   pub same : GoOnAlike one left other right
   pub size : length same.end ≡ count
 
--- A key begins as some name's key does; the last `count` octets of that name's wire form equal
--- those of `octets`.
+-- A key begins like some name's key. The last `count` octets of that name's wire form and of
+-- `octets` are equal.
 pub record BeginsAs (count : ℕ) (octets key : Octets) : Type 0 where
   pub name : DomainName
   pub is_name : is_name name ≡ true

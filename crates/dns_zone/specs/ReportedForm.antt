@@ -30,6 +30,6 @@ pub record HasOwners (z : ZoneContents) (rs : List ResourceRecord) : Type 0 wher
   pub all : All (λ (r : ResourceRecord). filter (λ (s : ResourceRecord). same s.owner r.owner) rs
       ≡ at z r.owner) rs
 
--- the faults of a name, as a name that is not unfolded
+-- `faults_at`, as a definition that is unfolded only on request
 unfoldable pub reported_at : ZoneContents → DomainName → List Fault
 reported_at z n = faults_at z n

@@ -87,7 +87,7 @@ pub record IsTree (o : DomainName) (rs : List ResourceRecord) (rows : List Row)
   pub kids : (k : ℕ) → k < length rows
       → AreKids rs (row_name rs (row_at rows k)) (kids_at rows bounds k)
 
--- at most how many children remain to be searched after k comparisons; a node has at most 100,000
+-- the most children that remain to be searched after k comparisons; a node has at most 100,000
 abbrev pub room_after : ℕ → ℕ
 room_after zero = 131071
 room_after (suc k) = room_after k / 2

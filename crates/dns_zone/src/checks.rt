@@ -34,7 +34,7 @@ use std::alloc::{AllocError, Global};
 /// The faults of a zone, ordered by owner, then by code. All owners are checked, and the origin
 /// even if it owns nothing.
 ///
-/// Fails only if allocation fails, for the list of faults, for keys or for names.
+/// Fails only if allocation fails.
 #[tactic(auto, using(crate::proofs::Common::wire_some))]
 pub(crate) fn faults<'a>(
     alloc: Global,
@@ -95,14 +95,14 @@ fn report<'a>(
     add_failed(&name, &owner.judged(last), found)
 }
 
-// Whether any check failed. It is asked first because few names have faults.
+// Whether any check failed. Tested first because few names have faults.
 fn any_failed(failed: &[bool]) -> bool
     ensures { result ≡ list_any (λ x. x) failed.now }
 {
     failed.iter().any(|fails| *fails)
 }
 
-// Adds a fault for each check that failed. `failed` says which; its first entry is for code 1.
+// Adds a fault for each check that failed. `failed` has an entry for each code, from code 1 on.
 fn add_failed(
     name: &NameRef<'_>,
     failed: &[bool],

@@ -17,10 +17,10 @@ use dns_rdata::{RType, Rdata};
 use itoa::Buffer;
 use std::io::Write;
 
-// The text of an owner (1,020 octets), a TTL (10) and a type (9), with what is between them (6).
+// Room for an owner (1,020 octets), a TTL (10), a type (9), and the class and spaces (6).
 const FRONT_ROOM: usize = 1045;
 
-/// A zone was not fully printed, because the sink failed (`P1`). The failure was counted.
+/// A zone was not fully printed, because the sink failed (`P1`). The `Tally` counted the failure.
 #[derive(Clone, Copy, Debug, PartialEq, Eq)]
 pub struct PrintFault;
 
@@ -34,10 +34,10 @@ impl From<SinkFailed> for PrintFault {
 /// class, type and data, the SOA first and the others in canonical order (RFC 1035 5.1, 5.2,
 /// RFC 4034 6.1, 6.3).
 ///
-/// Names are written in full, with a final dot. The text is a zone file that means the same zone,
-/// whatever the origin: it has at most 100,000 records, and can be read back if it has at most
-/// 16,777,216 octets and only types that zones may have. Printing allocates no memory. If the sink
-/// fails, a prefix of the text was written, and nothing is written after it.
+/// Names are written in full, with a final dot. The text is a zone file. Read with any origin, it
+/// means the same records, if it has at most 16,777,216 octets and the zone has only types that a
+/// zone file may contain. Printing allocates no memory. If the sink fails, a prefix of the text was
+/// written, and nothing is written after it.
 pub fn print<W: Write>(zone: &Zone, sink: &mut Tally<W>) -> Result<(), PrintFault>
     requires { sink.old.failures < 2 ^ 64 - 1 }
     ensures writes { Writes W.contents sink.old sink.new result (zone_text zone.now) }
@@ -122,8 +122,8 @@ fn put_record<W: Write>(
     Ok(())
 }
 
-// Changes the front of the last record to an entry's: owner, TTL and class, with a space after
-// each. A third of records have the same front as the last.
+// Makes `front` the front of the entry's line: owner, TTL and class, each followed by a space.
+// Keeps the front of the last record if it is the same, as for a third of records.
 fn turn_front(front: &mut TextBuffer, last: Option<&StoredRecord>, entry: &StoredRecord)
     requires { IfSome last (λ r. (front.old ≡ ((name_text r.now.owner ++ codes " ")
         ++ decimal r.now.ttl) ++ codes " IN ") × (length front.old ≤ 1035)) }

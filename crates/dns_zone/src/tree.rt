@@ -68,7 +68,7 @@ pub(crate) fn rows_of(
     Ok((SharedSlice::new(rows), SharedSlice::new(bounds)))
 }
 
-// A number of rows in four octets. It always fits, because more rows would take over 128 GB.
+// A number of rows as a `u32`. Fails only beyond 2^32 rows, which would take over 128 GB.
 pub(crate) fn to_u32(rows: usize) -> Result<u32, AllocError>
     ensures { IfOk result (λ number. number ≡ rows) }
 {

@@ -1,6 +1,6 @@
-//! Tests of `dns_zone`, through its public functions. They are a crate of their own, so that
-//! `dns_zone` is proved only once, and its wrong bodies are tried in the meantime. The zones of
-//! other tests are made here too.
+//! Tests of `dns_zone`, through its public functions. They are a separate crate, so that `dns_zone`
+//! is proved only once, while wrong edits of it are tried. This crate also makes the zones of other
+//! tests.
 #![tactic(auto)]
 
 #[cfg(test)]

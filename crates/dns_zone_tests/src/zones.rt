@@ -16,7 +16,7 @@ fn built_of(alloc: Global, origin: &[u8], text: &[u8]) -> Option<Result<Zone, Bu
     }
 }
 
-/// What is built from a file in two parts; `None` if the file has a fault of its own.
+/// What is built from a file in two parts; `None` if the file can't be read as records.
 pub fn built(
     alloc: Global,
     origin: &[u8],

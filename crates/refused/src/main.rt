@@ -1,4 +1,4 @@
-//! What functions return if memory is refused. `refused FILE` calls each function that allocates
+//! What functions return if memory is refused. `refused FILE` calls functions that allocate
 //! memory, loads the zone of `example.` from FILE, serves queries and a session from it, and
 //! prints the result of each call.
 //!

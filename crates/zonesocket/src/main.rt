@@ -1,8 +1,8 @@
 //! A server of one zone at a socket that it is given as standard input:
 //! `zonesocket udp|tcp TURNS ORIGIN FILE` loads the zone of ORIGIN from FILE, reports that on
 //! standard output, and serves TURNS datagrams or connections. The socket outlives the process, so
-//! that several processes can serve it at once, and one can follow another without losing
-//! anything.
+//! that several processes can serve it at once, and a new process can replace an old one without
+//! losing what waits at the socket.
 #![tactic(auto)]
 
 use dns_answer::Limit;

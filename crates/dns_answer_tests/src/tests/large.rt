@@ -86,8 +86,8 @@ const WHOLE: &[Reply<'static>] = &[Reply {
     ],
 }];
 
-// Each row: a reply over UDP, which leaves out 64 addresses; the header of the same reply over TCP,
-// which ends with them; and the owner of each of them, as it is written there.
+// Each row: a reply over UDP, which leaves out 64 addresses; the header of the reply over TCP,
+// which ends with these addresses; and the owner of each address, as it is written in that reply.
 const ADDRESSES: &[(Reply<'static>, &[u8], &[u8])] = &[
     (
         Reply {

@@ -71,8 +71,8 @@ fn take_target(rest: &mut Rest<'_>, number: u8, place: u16) {
     }
 }
 
-// Whether octets are the reply with 17 services and the addresses of their targets. Those of `t26`
-// begin at place 17,002, so none of their owners is shared whole.
+// Whether octets are the reply with 17 services and the addresses of their targets. The addresses
+// of `t26` begin at place 17,002, which no pointer reaches, so each spells the first label.
 fn are_services(octets: &[u8]) -> bool {
     let mut rest = Rest::of(octets);
     rest.take(b"\x12\x34\x84\x00\x00\x01\x00\x11\x00\x00\x04\x40");
@@ -96,8 +96,8 @@ fn has_long(alloc: Global, zone: &Zone) -> bool {
     }
 }
 
-// A long answer of each kind, a name that does not exist, and questions that are refused. Each
-// leaves more, or less, in the room than the next one writes.
+// Questions with a long answer of each kind, a name error, a refusal, a short answer and a format
+// error. Each reply leaves more, or less, in the draft than the next one writes.
 const QUESTIONS: &[&[u8]] = &[
     SERVICES,
     b"\x03none\x07example\x00\x00\x01\x00\x01",

@@ -45,8 +45,8 @@ pub(super) fn replied_to(
     }
 }
 
-/// Octets that are compared piece by piece: what follows the pieces so far, and whether all were
-/// the ones wanted.
+/// Octets that are compared piece by piece: the octets after the pieces so far, and whether all
+/// pieces so far were as wanted.
 #[derive(Drop)]
 pub(super) struct Rest<'a> {
     octets: &'a [u8],
@@ -78,7 +78,7 @@ impl<'a> Rest<'a> {
     }
 }
 
-/// The cost of a zone's reply to a question, if it is the one wanted.
+/// The cost of a zone's reply to a question; `None` if the reply is not `reply`.
 pub(super) fn cost(
     alloc: Global,
     zone: &Zone,

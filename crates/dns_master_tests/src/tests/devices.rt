@@ -1,4 +1,4 @@
-//! Sources that give their text in different pieces, that fail, and that never end.
+//! Sources that give their text in pieces of different lengths, that fail, or that never end.
 
 use super::reading::{ONE, Pieces, by, example, number};
 use super::records::{Meant, has_records};
@@ -14,7 +14,7 @@ ns A 192.0.2.1
  TXT \"a b\" \\\"
 ";
 
-// How many octets each call gives, in order.
+// The most octets that each call gives, in order.
 const ANY: &[usize] = &[3, 1, 65_536, 2, 7];
 
 // A source that gives up to `most` octets each call, and never ends.
@@ -34,7 +34,7 @@ impl Read for Endless {
     }
 }
 
-// What is read of the text in pieces: its fault, how many calls failed, and how many were made.
+// What reading the text in pieces gives: its fault, and the numbers of failed and of all calls.
 fn outcome(alloc: Global, lengths: &[usize], fails_at: usize) -> ((u8, u32), u64, usize) {
     let mut source = Tally::new(Pieces {
         fails_at,
@@ -66,7 +66,7 @@ fn pieces_of_any_length(rt: HostRuntime) {
     }
 }
 
-// A source that failed, for which the code is 16, is not called again, though it would work.
+// After a source failed (code 16), it is not called again, though a later call would work.
 #[test]
 fn a_source_that_fails_at_each_call(rt: HostRuntime) {
     for fails_at in 0..=TEXT.len() {
@@ -78,7 +78,7 @@ fn a_source_that_fails_at_each_call(rt: HostRuntime) {
     assert!(rt; fault == (0, 0) && failures == 0);
 }
 
-// The fault of a source that never ends, and how many octets it gave.
+// The fault of a source that never ends, and the number of octets that it gave.
 fn fault_of_endless(alloc: Global, octet: u8, most: usize) -> ((u8, u32), usize) {
     let mut source = Tally::new(Endless {
         octet,

@@ -1,5 +1,5 @@
-//! Faults of tokens, in order of place, and faults of whole entries; the lowest of an entry is
-//! reported.
+//! Faults of tokens, of which the first is reported, and faults of whole entries, of which the
+//! lowest code is reported.
 
 use super::reading::{Row, judge};
 
@@ -40,7 +40,7 @@ const ESCAPES: &[Row<'static>] = &[
     (b"\"a\\", (2, 1)),
 ];
 
-// `R03`: strings that do not end.
+// `R03`: strings without a closing quotation mark.
 const STRINGS: &[Row<'static>] = &[
     (b"\"", (3, 1)),
     (b"\"a\nb\"", (3, 1)),
@@ -50,7 +50,7 @@ const STRINGS: &[Row<'static>] = &[
     (b"(\"", (3, 1)),
 ];
 
-// `R04`: parentheses that do not end, or do not begin.
+// `R04`: parentheses that do not match.
 const PARENTHESES: &[Row<'static>] = &[
     (b"(", (4, 1)),
     (b")", (4, 1)),

@@ -5,7 +5,7 @@ use dns_master::read_zone;
 use dns_name::{Name, Tally};
 use std::test::Fail;
 
-// A beginning, a text and how often it is repeated, and the fault.
+// The beginning of a file, a text after it and its number of repetitions, and the fault.
 type Hostile<'a> = (&'a [u8], &'a [u8], usize, (u8, u32));
 
 const FILES: &[Hostile<'static>] = &[

@@ -47,7 +47,7 @@ const LIMITS: &[Limit<'static>] = &[
     (b"a 1 A 192.0.2.1", b"0", (15, 2)),
 ];
 
-// A text whose first line is a comment, and in which the limit is exactly at the end of `within`.
+// Makes a text whose first line is a comment, and whose octets up to the limit end with `within`.
 fn fill(text: &mut Vec<u8>, within: &[u8], beyond: &[u8]) -> Result<(), AllocError> {
     text.truncate(MOST_FILE_OCTETS - 100);
     text.resize((MOST_FILE_OCTETS - 1).saturating_sub(within.len()), b';')?;

@@ -1,5 +1,5 @@
-//! Files that are read in pieces of 4,096 octets: entries that cross the end of a piece, and how
-//! little of a source is read once its fault is decided.
+//! Files that are read in pieces of 4,096 octets: entries that cross the end of a piece, and
+//! reading that stops with the piece that decides the fault.
 
 use super::reading::{Pieces, Row, by, example, fault, number, repeated};
 use super::records::{MIXED_MEANS, has_records};
@@ -32,7 +32,7 @@ fn after_comment(alloc: Global, length: usize, text: &[u8]) -> Result<Vec<u8>, A
     Ok(all)
 }
 
-// The fault of a text whose source fails at its end, and how many octets were read.
+// The fault of a text whose source fails at its end, and the number of octets that were read.
 fn taken(alloc: Global, text: &[u8]) -> ((u8, u32), usize) {
     let mut source = Tally::new(Pieces {
         fails_at: text.len().div_ceil(PIECE),
@@ -102,8 +102,8 @@ fn entries_that_cross_the_end_of_a_piece_at_each_octet(rt: HostRuntime) -> Resul
     Ok(())
 }
 
-// Whether a text has this fault after comment lines of different lengths, so that each octet of it
-// is once the last of a piece.
+// Whether a text has this fault after comment lines of different lengths, so that each octet of the
+// text is the last of a piece once.
 fn has_fault_across(alloc: Global, text: &[u8], wanted: (u8, u32)) -> Result<bool, AllocError> {
     for within in 0..=text.len() {
         let all = after_comment(alloc, PIECE.saturating_sub(within), text)?;

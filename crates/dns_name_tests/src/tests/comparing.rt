@@ -75,7 +75,8 @@ fn longest_name(rt: HostRuntime) {
     assert!(rt; has_labels(&name.lent(), LONGEST));
 }
 
-// Two names; whether they are equal, the same but for case, and the first at or below the second.
+// Two names; whether they are equal, whether they are the same ignoring case, and whether the first
+// is at or below the second.
 // `@` and `[` are next to A to Z, and differ from `` ` `` and `{` by the same bit as letters of
 // different case. The octets of `a.` are the last ones of the label `x\001a`, but do not begin at a
 // label.
@@ -91,7 +92,7 @@ const PAIRS: &[(Labels<'static>, Labels<'static>, [bool; 3])] = &[
     (&[b"@["], &[b"`{"], [false, false, false]),
 ];
 
-// Whether two names compare so, also when they are borrowed.
+// Whether comparing two names gives the wanted results, also when they are borrowed.
 fn compare(first: Labels<'_>, second: Labels<'_>, wanted: [bool; 3]) -> bool {
     let (mut a, mut b) = (Name::root(), Name::root());
     let fit = push_all(&mut a, first) && push_all(&mut b, second);

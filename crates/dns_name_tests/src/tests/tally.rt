@@ -53,20 +53,20 @@ enum Call<'a> {
 
 use Call::{All, Flush, Parts, Put, Take};
 
-// A call, and what it returns (0 if it returns no number); none if it fails.
+// A call, and what it returns: 0 if it returns no number, `None` if it fails.
 type Step<'a> = (Call<'a>, Option<usize>);
 
 const ABC: &[&[u8]] = &[b"a", b"", b"bc"];
 
 const DE: &[&[u8]] = &[b"", b"d", b"e"];
 
-// The first call that fails, and the first after it that does not; how many calls the device gets
-// in all; the steps that make them.
+// The first call that fails, and the first call after it that works; the number of calls that the
+// device gets in all; the steps that make them.
 const RUNS: &[(u32, u32, u32, &[Step<'static>])] = &[
     // Each failure is counted once.
     (1, u32::MAX, 2, &[(Take, Some(1)), (Take, None)]),
     (2, u32::MAX, 4, &[(All(b"abc"), None), (Parts(DE), None)]),
-    // A device is asked again after a failure, and each time to pass on what it keeps.
+    // After a failure, later steps call the device again, and each flush is passed on.
     (0, 1, 2, &[(Take, None), (Take, Some(1))]),
     (
         0,
@@ -84,7 +84,7 @@ const RUNS: &[(u32, u32, u32, &[Step<'static>])] = &[
         3,
         &[(Flush, Some(0)), (Flush, None), (Flush, Some(0))],
     ),
-    // After a failure a call asks nothing more.
+    // After a failure, a step makes no more calls.
     (0, 1, 1, &[(All(b"abc"), None)]),
     (1, 2, 2, &[(All(b"abc"), None)]),
     (2, 3, 3, &[(All(b"abc"), None)]),
@@ -95,7 +95,7 @@ const RUNS: &[(u32, u32, u32, &[Step<'static>])] = &[
     (0, 1, 1, &[(Take, None)]),
 ];
 
-// What a call returns; none after ten failures.
+// What a call returns; `None` after ten failures.
 fn made(device: &mut Tally<Failing>, call: &Call<'_>) -> Option<usize> {
     if device.failures() > 9 {
         return None;

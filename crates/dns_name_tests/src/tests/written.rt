@@ -18,7 +18,7 @@ const IN_ORDER: &[&[u8]] = &[
     b"\\200.z.example.",
 ];
 
-// The name of a word; an invalid one is read as the root, which is no row's but that of `.`
+// The name that a word spells. An invalid word gives the root, which only the rows of `.` expect.
 fn read(word: &[u8]) -> Name {
     Name::read_text(word, &Name::root()).unwrap_or_default()
 }
@@ -45,7 +45,7 @@ fn is_written(alloc: Global, word: &[u8], text: &[u8]) -> bool {
     result.is_ok() && sink.into_inner().as_slice() == text
 }
 
-// The same without the final dot.
+// Whether the name of a word is written as a text, without the final dot.
 fn is_bare(word: &[u8], text: &[u8]) -> bool {
     let mut buffer = TextBuffer::new();
     read(word).append_bare_text(&mut buffer);

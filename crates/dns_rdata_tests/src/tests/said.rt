@@ -5,8 +5,8 @@ use dns_rdata::{DataRoom, RType, Rdata, RdataFault, Word};
 use std::alloc::Global;
 use std::io::Write;
 
-/// The data that words spell below `Example.` It is read twice in one room: nothing of the first
-/// reading may remain.
+/// The data that words spell, relative to `Example.` It is read twice with the same buffers:
+/// nothing may remain in them from the first reading.
 pub(crate) fn read(alloc: Global, rtype: RType, words: &[Word<'_>]) -> Result<Rdata, RdataFault> {
     let origin = Name::read_text(b"Example.", &Name::root()).unwrap_or_default();
     let mut room = DataRoom::new(alloc);
@@ -33,7 +33,7 @@ pub(crate) fn spell(
     }
 }
 
-// Invalid data is written as nothing.
+// Writes data as text; nothing if the data is invalid.
 pub(crate) fn write<W: Write>(
     alloc: Global,
     rtype: RType,

@@ -6,7 +6,8 @@ use std::test::Fail;
 // A type without a mnemonic.
 const ANY: RType = RType(65280);
 
-// Whether `\#` and the words after it, either all quoted or none, spell these octets, or none.
+// Whether `\#` and the words after it, either all quoted or none, spell the wanted octets; or have
+// the fault `BadHex`, if no octets are wanted.
 fn said(
     alloc: Global,
     raws: &[&[u8]],

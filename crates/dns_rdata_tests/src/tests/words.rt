@@ -178,7 +178,7 @@ const REPEATED: &[(RType, &[u8], usize, Result<&[u8], RdataFault>)] = &[
     (RType::A, b"\\#", 5_592_000, Err(RdataFault::BadHex)),
 ];
 
-// Whether repeated words spell these octets, or have this fault; the room is kept.
+// Whether repeated words spell these octets, or have this fault. The buffers are reused.
 fn is_said(
     room: &mut DataRoom,
     rtype: RType,

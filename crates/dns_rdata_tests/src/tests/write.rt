@@ -69,8 +69,9 @@ fn data_written(rt: HostRuntime) {
     }
 }
 
-// How much of a text is written by calls of at most three octets each, after `calls` of which one
-// fails, if it is a beginning, and failures are counted.
+// The number of octets that are written by calls of at most three octets each, if the call after
+// the first `calls` fails. `None` unless these octets are a beginning of the text, and a failure is
+// counted if and only if they are not all of it.
 fn beginning(alloc: Global, row: (RType, &[u8], &[u8]), calls: u32) -> Option<usize> {
     let (rtype, octets, text) = row;
     let mut sink = Tally::new(Kept::new(alloc, 3, calls));
@@ -87,8 +88,8 @@ fn beginning(alloc: Global, row: (RType, &[u8], &[u8]), calls: u32) -> Option<us
     }
 }
 
-// No text is longer than 40 octets, so 40 calls, of at most three octets each, write it. If a call
-// before the last fails, a beginning was written.
+// No text is longer than 40 octets, so at most 40 calls write it. With each call more that works,
+// more of the text is written.
 #[test]
 fn each_write_fails(rt: HostRuntime) -> Result<(), Fail> {
     for &row in ROWS {

@@ -19,5 +19,5 @@ pub(super) const ZEROS: &[u8] = &[0; 571];
 /// The reply to a message that is not a query.
 pub(super) const REFUSED: &[u8] = b"\x00\x0c\x12\x34\x80\x01\x00\x00\x00\x00\x00\x00\x00\x00";
 
-/// No octets.
+/// A message of no octets, after its length.
 pub(super) const EMPTY: &[u8] = b"\x00\x00";

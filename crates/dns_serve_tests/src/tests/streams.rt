@@ -10,7 +10,7 @@ use std::io::Write;
 use std::process::Abort;
 use std::test::Fail;
 
-/// The outcome of a session: its result, how often it announced that a message begins, what was
+/// The outcome of a session: its result, how often it called `Ends::begin`, what was
 /// written, how many octets were not read, and whether each device failed, with its count.
 #[derive(Drop)]
 struct Left {
@@ -30,7 +30,7 @@ type Devices = (usize, u32, u32, bool);
 const MANY: u32 = 1_000_000;
 
 // The ends of a session that has the next message at hand after each message, or never. Its sink
-// keeps nothing. They count the messages that begin.
+// keeps nothing. They count the calls of `begin`.
 #[derive(Drop)]
 struct Told {
     has_arrived: bool,
@@ -64,7 +64,7 @@ fn ends_of(has_arrived: bool) -> Told {
     }
 }
 
-// A session for at most so many messages.
+// A session for at most `most` messages.
 fn session(alloc: Global, zone: &Zone, input: &[u8], most: u32, devices: Devices) -> Left {
     let (octets, reads, writes, has_arrived) = devices;
     let (mut room, ends) = (StreamRoom::new(), ends_of(has_arrived));
@@ -98,7 +98,7 @@ fn has_ended(left: &Left, answer: Result<u32, StreamFault>, replies: &[u8]) -> b
 // A message that gets no reply, because it is shorter than a header.
 const ABSENT: &[u8] = b"\x00\x0b\x12\x34\x00\x00\x00\x01\x00\x00\x00\x00\x00";
 
-// The messages, how many to serve, how many are read, how many octets are not, and the replies.
+// The messages, how many to serve, how many are read, how many octets stay unread, and the replies.
 type Session<'a> = (&'a [&'a [u8]], u32, u32, usize, &'a [&'a [u8]]);
 
 const SESSIONS: &[Session<'static>] = &[
@@ -110,8 +110,8 @@ const SESSIONS: &[Session<'static>] = &[
     (&[], 9, 0, 0, &[]),
 ];
 
-// Whether a session in pieces of so many octets is as wanted. It finds the end of the source at the
-// beginning of a message.
+// Whether a session that transfers at most `piece` octets a call is as wanted. It calls `begin`
+// also before it finds the end of the source.
 fn is_session(
     alloc: Global,
     zone: &Zone,
@@ -173,8 +173,8 @@ fn front(octets: &[u8], length: usize) -> &[u8] {
     octets.get(..length).unwrap_or(&[])
 }
 
-// Whether a session of a beginning of two messages ends inside a message, after the reply to the
-// one before.
+// Whether a session over the first `length` octets of two messages ends with `Cut`, after the
+// replies to the complete messages.
 fn is_cut(alloc: Global, (zone, messages, replies): Asked<'_>, length: usize) -> bool {
     let devices = (512, MANY, MANY, true);
     let left = session(alloc, zone, front(messages, length), 9, devices);
@@ -182,8 +182,7 @@ fn is_cut(alloc: Global, (zone, messages, replies): Asked<'_>, length: usize) ->
     has_ended(&left, Err(StreamFault::Cut), front(replies, written))
 }
 
-// Whether the reply to the last message asked for is sent: the sink's second call fails, which
-// sends the buffered replies.
+// Whether the sink is flushed after the last message asked for: its second call, the flush, fails.
 fn sends_the_last(alloc: Global, (zone, messages, replies): Asked<'_>) -> bool {
     let left = session(alloc, zone, messages, 1, (512, MANY, 1, true));
     has_ended(&left, Err(StreamFault::SinkFailed), front(replies, 47))
@@ -240,8 +239,8 @@ fn check_calls(rt: &impl Abort, alloc: Global, asked: Asked<'_>) {
     }
 }
 
-// How many writes work, how many octets are then not read, and how many are written: replies are
-// sent after each message, even after the one without a reply.
+// How many calls of the sink work, how many octets are then not read, and how many are written. The
+// sink is flushed after each message, even after the one without a reply.
 const SENDS: &[(u32, usize, usize)] = &[
     (0, 44, 0),
     (1, 44, 47),
@@ -250,7 +249,8 @@ const SENDS: &[(u32, usize, usize)] = &[
     (4, 0, 94),
 ];
 
-// Whether a session that never has the next message at hand ends so if a write fails.
+// Whether a session that never has the next message at hand ends as in the row if a call of its
+// sink fails.
 fn ends_at_send(
     alloc: Global,
     (zone, messages, replies): Asked<'_>,
@@ -261,7 +261,7 @@ fn ends_at_send(
     has_ended(&left, Err(StreamFault::SinkFailed), front(replies, row.2)) && is_unread
 }
 
-// Whether a sink that takes nothing is asked once, after the first message was read.
+// Whether a sink that takes nothing is called once, after the first message was read.
 fn takes_nothing(alloc: Global, (zone, messages, _): Asked<'_>) -> bool {
     let mut source = Tally::new(messages);
     let mut sink = Tally::new(Kept::new(alloc, 0, 9));

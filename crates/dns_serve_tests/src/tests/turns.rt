@@ -66,7 +66,7 @@ const FAILURES: &[(u32, Result<bool, TurnFault>, u32)] = &[
     (2, Ok(true), 2),
 ];
 
-// Whether a turn ends so after so many calls, if this one fails.
+// Whether a turn returns `wanted` after `calls` calls, if call `fails_at` fails.
 fn ends_so(
     alloc: Global,
     zone: &Zone,

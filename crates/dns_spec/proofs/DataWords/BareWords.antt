@@ -10,7 +10,7 @@ pub bare_append : (x y : Octets) → Bare x → Bare y → Bare (x ++ y)
 bare_append [] y h k = k
 bare_append (o ∷ x) y h k = (h.0, bare_append x y h.1 k)
 
--- texts separated by an octet
+-- such texts, joined by such an octet
 pub bare_joined : (c : ℕ) (f : ℕ → Octets) (xs : List ℕ)
     → is_word_octet c ≡ true → AllByRecursion (λ x. Bare (f x)) xs
     → Bare (join_with_byte c (map f xs))

@@ -1,4 +1,5 @@
--- The word that is written for the front of data spells that front again, form by form.
+-- The word that is written for the first field of data spells that field again, for each kind of
+-- field.
 use Rattle.dns_spec.proofs.Common.{◌≡◌, ℕ, zero, suc, ◌^◌, ◌<◌, ◌≤◌, All, true, Bool, not, Some, List, [], ◌∷◌, ◌++◌, length, take, drop, replicate, refl, sym, ap, subst, arith, take-append-drop, pow-le-pow_right, and_from, and_parts, false≢true, length-take-le, list_all, Octets, DomainName, wire, is_label, is_name, name_of, are_strings, number_of, Word, Field, number, ipv4, ipv6, domain, string, SaysWord, SaysFields, SaysString, is_unknown_mark, All-take, All-drop, name_front, word_front, field_words, string_count, quoted, stands_alone, AllByRecursion, strings}
 use Rattle.dns_spec.proofs.DomainNames.SmallOctets.{Small, small_head, small_tail, small_front, small_back, small_test}
 use Rattle.dns_spec.proofs.DomainNames.NameLaws.{IsName-is_name, IsLabel-is_label}
@@ -12,7 +13,7 @@ abbrev pub is_unmarked : List Word → Bool
 is_unmarked [] = true
 is_unmarked (w ∷ ws) = not (is_unknown_mark w)
 
--- the word of a form spells the front of data, and leaves the back
+-- the word written for a field spells the front of the data, and `back` is left
 pub record FormSaid (f : Field) (origin : DomainName) (d back : Octets) : Type 0 where
   pub front : Octets
   pub whole : d ≡ front ++ back
@@ -20,8 +21,8 @@ pub record FormSaid (f : Field) (origin : DomainName) (d back : Octets) : Type 0
   pub after : (word_front f d).1 ≡ back
   pub standing : Standing (word_front f d).0
 
--- the words of forms spell all data, they do not end early and are read whole, and the first is
--- not the mark of the generic form
+-- the words written for fields spell all the data; they do not end early and are read whole, and
+-- the first word is not the mark of the generic form
 pub record WordsSaid (fs : List Field) (origin : DomainName) (d : Octets) : Type 0 where
   pub said : SaysFields fs origin (field_words fs d) d
   pub alone : list_all stands_alone (field_words fs d) ≡ true
@@ -133,7 +134,7 @@ string_front_said origin k d inside small =
       standing = string_standing (take k d) (All-take (λ o. o < 256) k d (small_tail k d small));
     }
 
--- the same for one of strings
+-- the same for one of the strings of `strings`
 strings_front_said : (origin : DomainName) (k : ℕ) (d : Octets)
     → k ≤ length d → Small (k ∷ d) → FormSaid strings origin (k ∷ d) (drop k d)
 strings_front_said origin k d inside small =
@@ -146,8 +147,8 @@ strings_front_said origin k d inside small =
       standing = s.standing;
     }
 
--- d begins with the last k octets of a string: all k are there, and whole strings follow, as many as
--- are counted in d
+-- d begins with the last k octets of a string, and whole strings follow, as many as are counted in
+-- d
 record StringsAfter (k : ℕ) (d : Octets) : Type 0 where
   inside : k ≤ length d
   others : are_strings 0 (drop k d) ≡ true

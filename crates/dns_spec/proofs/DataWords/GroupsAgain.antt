@@ -1,5 +1,5 @@
 -- Groups that are written with colons between them are read as those groups again, and their text
--- contains no gap.
+-- contains no `::`.
 use Rattle.dns_spec.proofs.Common.{◌≡◌, ℕ, zero, suc, ◌/◌, ◌%◌, ◌<◌, ◌≤◌, inl, inr, Bool, true, false, ◌&&◌, ◌==◌, All, Option, None, Some, List, [], ◌∷◌, ◌++◌, map, length, nat_lt, nat_le, refl, sym, ◌∙◌, ap, subst, arith, append_assoc, append-nil, agree_below_at, and_from, lt-ltb, le-leb, cases_lt, option_map, list_all, slice_split, is_ascii_hexdigit, digit_char, digits, Octets, digits_is_IsNumeral, slice_split_none, slice_split_at, is_group, group_values, groups_said, around_gap, groups_text, AllByRecursion}
 use Rattle.dns_spec.proofs.DataWords.GroupDigits.{one_digit, two_digits, three_of, four_of}
 use Rattle.dns_spec.proofs.DataWords.HexAgain.{hex_digit}
@@ -106,7 +106,7 @@ values_of : (gs : List ℕ) → Groups gs → group_values (map (digits 16 false
 values_of [] small = refl
 values_of (g ∷ gs) small = grind (arith, group_text, (values_of gs small.1), digits_is_IsNumeral)
 
--- the first octet of groups is a digit
+-- the text of groups begins with an octet that is not a colon
 record DigitFirst (text : Octets) : Type 0 where
   first : ℕ
   others : Octets
@@ -140,7 +140,7 @@ groups_again (g ∷ gs) small =
     ap groups_said t.whole ∙ ap (λ x. group_values (slice_split is_colon x)) (sym t.whole)
     ∙ ap group_values (parts_of g gs small) ∙ values_of (g ∷ gs) small
 
--- what is found after a text without a gap
+-- the text w in front of what is found around `::`
 abbrev pub with_front : Octets → Octets × Octets → Octets × Octets
 with_front w r = (w ++ r.0, r.1)
 

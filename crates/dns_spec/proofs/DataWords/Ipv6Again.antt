@@ -21,7 +21,7 @@ length-groups_of (h ∷ l ∷ d) = omega (arith, length-groups_of d)
 two_octets : (h l : ℕ) → h < 256 → l < 256 → bytes_high_first 2 (256 * h + l) ≡ h ∷ l ∷ []
 two_octets h l high low = grind arith
 
--- groups are spelled by their octets
+-- the groups of an address give its octets again
 octets_again : (d : Octets)
     → length d % 2 ≡ 0 → Small d → flat_map (bytes_high_first 2) (groups_of d) ≡ d
 octets_again [] even small = refl
@@ -42,12 +42,12 @@ groups_dropped zero gs small = small
 groups_dropped (suc k) [] small = tt
 groups_dropped (suc k) (g ∷ gs) small = groups_dropped k gs small.1
 
--- eight groups without a gap
+-- eight groups without `::`
 whole_again : (gs : List ℕ) → length gs ≡ 8 → Groups gs → ipv6_groups (groups_text gs) ≡ Some gs
 unfolding ipv6_groups
 whole_again gs eight small = grind (arith, no_gap, groups_again, eq-eqb)
 
--- groups on both sides of a gap
+-- groups on both sides of `::`
 gap_again : (front back gs : List ℕ) (run : ℕ) → Groups front → Groups back
     → 0 < run → length front + length back + run ≡ 8 → (front ++ replicate run 0) ++ back ≡ gs
     → ipv6_groups (groups_text front ++ 58 ∷ 58 ∷ groups_text back) ≡ Some gs

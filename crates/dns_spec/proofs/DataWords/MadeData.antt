@@ -1,4 +1,4 @@
--- Data that begins with a name, or with any other field, is cut there.
+-- Data that begins with a name, or with any other field, is cut after it.
 use Rattle.dns_spec.proofs.Common.{◌≡◌, true, List, ◌∷◌, ◌++◌, Some, arith, Octets, DomainName, wire, is_name, Field, Part, name, field_front, cut, domain, ℕ, length, octets_front, octets, le-leb, length-append, take_at, drop_at}
 use Rattle.dns_spec.proofs.DomainNames.WireNames.{name_of-wire}
 

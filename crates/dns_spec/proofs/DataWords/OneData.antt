@@ -64,7 +64,7 @@ ipv4_once text d e h k =
     p.is ∙ ap₂ (λ x xs. x ∷ xs) one.0
     (ap₂ (λ x xs. x ∷ xs) two.0 (ap₂ (λ x y. x ∷ y ∷ []) three.0 four)) ∙ sym q.is
 
--- the fields of the table: numbers have at most 32 bits
+-- a field as in the table, in which numbers have at most 32 bits
 pub is_narrow : Field → Bool
 is_narrow (number k) = nat_le k 4
 is_narrow _ = true
@@ -103,7 +103,7 @@ narrow_words : (k : ℕ) (fs : List Field)
 unfolding is_narrow
 narrow_words k fs h = grind (arith, all_alike)
 
--- the fields of words of data
+-- the fields of words of data have only such numbers
 pub narrow_fields : (t k : ℕ) (fs : List Field)
     → word_fields_of t k ≡ Some fs → list_all is_narrow fs ≡ true
 unfolding is_narrow

@@ -3,7 +3,7 @@ use Rattle.dns_spec.proofs.Common.{◌≡◌, ℕ, suc, ◌+◌, ◌≤◌, inl,
 use Rattle.std.proofs.lemmas.Bool.Decides.{when_true}
 use Rattle.dns_spec.proofs.DataWords.OneData.{is_narrow, form_once, narrow_fields, unknown_once}
 
--- as many words as fields
+-- if words spell fields, there are as many words as fields
 as_many_words : (fs : List Field) (origin : DomainName) (ws : List Word) (d : Octets)
     → SaysFields fs origin ws d → length fs ≡ length ws
 as_many_words [] origin [] d h = refl
@@ -11,7 +11,7 @@ as_many_words [] origin (w ∷ ws) d h = absurd h
 as_many_words (f ∷ fs) origin [] d h = absurd h
 as_many_words (f ∷ fs) origin (w ∷ ws) d h = ap suc (as_many_words fs origin ws h.1 h.4)
 
--- what follows from both of two values, each by the same test, or by the same optional value
+-- what follows from two facts that are chosen by the same test, or by the same optional value
 both_by_test : {P Q R S A : Type 0} (b : Bool) → (b ≡ true → P → R → A) → (b ≡ false → Q → S → A)
     → MatchBool b P Q → MatchBool b R S → A
 both_by_test true f g h h' = f refl h h'

@@ -11,7 +11,7 @@ use Rattle.dns_spec.proofs.DataWords.StandingWords.{TakenWhole, decimal_standing
 use Rattle.dns_spec.proofs.DataWords.FormsAgain.{WordsSaid, is_unmarked, none_said, said_step, ipv4_front_said, ipv6_front_said, name_front_said, string_front_said, number_front_said, strings_said}
 use Rattle.dns_spec.proofs.General.Tests.{entry_passes}
 
--- a field that is one word, with numbers of at most 64 bits
+-- a field that is written as one word; numbers have at most 64 bits
 abbrev pub is_counted : Field → Bool
 is_counted (number k) = nat_le k 8
 is_counted strings = false
@@ -69,7 +69,7 @@ fields_said origin (f ∷ fs) d xs counted h small =
     field_said origin f fs d c.part c.rest each.0 c.front small
     (fields_said origin fs c.rest c.others each.1 c.more after)
 
--- such fields are those of any number of words
+-- if all fields of a type are such fields, they are its fields for any number of words
 pub words_counted : (k : ℕ) (fs : List Field) → list_all is_counted fs ≡ true → word_fields k fs ≡ fs
 words_counted k fs counted = grind arith
 
@@ -80,7 +80,7 @@ length-field_words (f ∷ fs) d = ap suc (length-field_words fs (word_front f d)
 pub only_strings : (ps : List Field) → are_strings_alone ps ≡ true → ps ≡ strings ∷ []
 only_strings ps h = grind arith
 
--- the forms of data, which are the forms of equally many words, and its words
+-- the fields of data, which are also the fields of as many words, and the words written for it
 record Formed (t : ℕ) (origin : DomainName) (d : Octets) : Type 0 where
   forms : List Field
   of_data : word_fields_of t (string_count 0 d) ≡ Some forms
@@ -90,7 +90,7 @@ record Formed (t : ℕ) (origin : DomainName) (d : Octets) : Type 0 where
 abbrev forms_by : ℕ → TypeRow → List Field
 forms_by k made = word_fields k made.fields
 
--- forms of a type in the table
+-- the fields of a type in the table
 forms_are : (t k : ℕ) (made : TypeRow)
     → row_of t ≡ Some made → word_fields_of t k ≡ Some (forms_by k made)
 forms_are t k made e = ap (option_map (forms_by k)) e
@@ -154,7 +154,7 @@ formed t origin d made e ok small = by_cases (or_cases
         strings_formed t origin d made c.cut_parts e is
         (ap (λ ps. cut ps d) (sym (fields ∙ is)) ∙ c.is_cut) small
 
--- the words of a type are read by its forms, unless the first is the mark
+-- words are read by the fields of the type, unless the first word is the mark of the generic form
 as_typed : (t : ℕ) (origin : DomainName) (ws : List Word) (d : Octets)
     → is_unmarked ws ≡ true → SaysTyped t origin ws d → SaysAsSpelled t origin ws d
 as_typed t origin ws d h h1 = grind arith
@@ -163,7 +163,7 @@ typed_said : (t : ℕ) (origin : DomainName) (d : Octets)
     → Formed t origin d → SaysAsSpelled t origin (written_words t d) d
 typed_said t origin d f = grind (arith, length-field_words, as_typed)
 
--- words of a type without a mnemonic
+-- data of a type without a mnemonic is written in the generic form
 unnamed_words : (t : ℕ) (d : Octets) → row_of t ≡ None → written_words t d ≡ unknown_words d
 unnamed_words t d e = ap (λ o. words_by (option_map (forms_by (string_count 0 d)) o) d) e
 

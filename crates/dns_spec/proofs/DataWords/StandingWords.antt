@@ -1,5 +1,5 @@
--- The words that are written do not end early, a reader reads them whole, and none of them is the
--- mark of the generic form.
+-- The words that are written for fields do not end early, are read whole, and are not the mark of
+-- the generic form.
 use Rattle.dns_spec.proofs.Common.{common_steps, ◌≡◌, ℕ, ◌<◌, ◌^◌, Bool, true, false, ◌==◌, List, [], ◌∷◌, ◌++◌, length, refl, sym, ◌∙◌, ap, subst, arith, append_assoc, append-nil, length-append, decimal, rules, and_from, and_right, lt-ltb, if◌then◌else◌, digits, Octets, DomainName, octets_equal, label_text, labels_text, name_text, Word, is_unknown_mark, is_word_octet, is_string_octet, decimal_nonempty, SaysIpv6, ipv6_groups, ipv4_text, groups_text, ipv6_text, plain, quoted, hex_text, is_unbroken, stands_alone, AllByRecursion}
 use Rattle.dns_spec.proofs.DomainNames.SmallOctets.{Small, small_head, small_tail}
 use Rattle.dns_spec.proofs.NameTexts.WrittenNames.{labels_text_long}
@@ -8,7 +8,7 @@ use Rattle.dns_spec.proofs.DataWords.GroupsAgain.{Groups, group_digits}
 use Rattle.dns_spec.proofs.DataWords.Ipv6Again.{groups_of-small, groups_taken, groups_dropped, ipv6_said}
 use Rattle.dns_spec.proofs.DataWords.BareWords.{Bare, bare_append, bare_joined, bare_decimal, bare_ipv4, bare_hex, bare_text, labels_unbroken, string_unbroken}
 
--- the octets that continue a word for a reader
+-- the octets that continue a word unescaped
 abbrev pub by_itself : Word → ℕ → Bool
 by_itself w = if w.is_quoted then is_string_octet else is_word_octet
 
@@ -62,7 +62,7 @@ pub ipv6_standing : (d : Octets) → length d ≡ 16 → Small d → Standing (p
 ipv6_standing d long small = bare_standing
     (ipv6_text d) (ipv6_some (ipv6_text d) d (ipv6_said d long small)) (bare_ipv6 d small)
 
--- a dot ends the text of a name
+-- the text ends with a dot, as the text of a name does
 record DotLast (text : Octets) : Type 0 where
   front : Octets
   whole : text ≡ front ++ 46 ∷ []

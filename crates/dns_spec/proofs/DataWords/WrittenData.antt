@@ -52,8 +52,8 @@ field_whole string (k ∷ os) part rest h = grind (arith, common_steps, front_ta
 field_whole strings os part rest h = grind (arith, all_strings, append-nil)
 field_whole anything os part rest h = grind (arith, same_Some, append-nil)
 
--- A field is the same field in front of other octets, if there are none after it
--- where there were none before.
+-- A field that is read in front of `rest` is also read in front of `other`, if `other` is empty
+-- whenever `rest` is.
 run_again : (k : ℕ) (os : Octets) (part : Part) (rest other : Octets) → octets_front k os
     ≡ Some (part, rest) → octets_front k (part_octets part ++ other) ≡ Some (part, other)
 run_again k os part rest other h = grind (arith, octets_part, front_taken, cut-octets)
@@ -77,7 +77,7 @@ field_again strings os part rest other h none =
     ∙ ap (λ y. Some (part, y)) (all.3 ∙ sym (none all.3))
 field_again anything os part rest other h none = grind (arith, same_Some, append-nil)
 
--- the part of any other field
+-- the part of any field other than a name is a run of octets
 pub octets_field : (p : Field) (os rest : Octets) (part : Part)
     → p ≢ domain → field_front p os ≡ Some (part, rest) → octets (part_octets part) ≡ part
 octets_field p os rest (octets o) other front = refl

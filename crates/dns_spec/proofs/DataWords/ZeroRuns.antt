@@ -14,7 +14,7 @@ run_at [] i inside = absurd (omega (arith, inside))
 run_at (g ∷ gs) zero inside = refl
 run_at (g ∷ gs) (suc i) inside = run_at gs i (omega (arith, inside))
 
--- the greatest of numbers is one of them, or the number before them
+-- n is one of the numbers, and its place; the greatest of a and of numbers is a or one of these
 record Reached (xs : List ℕ) (n : ℕ) : Type 0 where
   place : ℕ
   inside : place < length xs
@@ -32,11 +32,11 @@ greatest a (x ∷ xs) = by_cases (greatest (max a x) xs) (cases_lt a x)
         inr (record { place = 0; inside = omega arith; is = omega (arith, e, more) })
     by_cases (inl e) (inr less) = inl (omega (arith, e, less))
 
--- so its place is found
+-- so the place of such a number is found
 found : (n : ℕ) (xs : List ℕ) → Reached xs n → position_or_len (λ k. k == n) xs < length xs
 found n xs r = grind (arith, cases_lt, inl, inr, fails_before_first, true≢false, eq-eqb)
 
--- where the longest run begins, and its length
+-- the place that the definition gives is inside, and the run there has the greatest length
 pub record LongestRun (gs : List ℕ) : Type 0 where
   pub inside : longest_place gs < length gs
   pub long : prefix_len is_zero (drop (longest_place gs) gs) ≡ longest_run gs

@@ -2,7 +2,7 @@
 -- decided label by label.
 use Rattle.dns_spec.proofs.Common.{common_steps, ◌≡◌, ℕ, zero, suc, ◌+◌, ◌*◌, ◌-◌, ◌<◌, ◌≤◌, true, false, ◌||◌, ◌⊎◌, [], ◌∷◌, ◌++◌, length, take, drop, map, nat_le, refl, sym, ◌∙◌, ap, arith, inl, inr, length-append, rules, take_at, drop_at, length-map, map-append, list_all, to_ascii_lowercase, Octets, DomainName, wire, is_label, is_name, folded, octets_equal, names_equal, same, at_or_below, and_parts, and_from, and_left, leb-true, le-leb, lt-leb, ltb-true, lt-ltb, eqb-true, eq-eqb, cases_order, false_from_ne_true, pointwise_decides}
 
--- what the test for a label means
+-- what `is_label` means
 pub record IsLabel (l : Octets) : Type 0 where
   pub some : 0 < length l
   pub fits : length l ≤ 63
@@ -13,7 +13,7 @@ IsLabel-is_label l ok = grind (arith, and_parts, ltb-true, leb-true)
 pub is_label-IsLabel : (l : Octets) → 0 < length l → length l ≤ 63 → is_label l ≡ true
 is_label-IsLabel l some fits = and_from _ _ (lt-ltb _ _ some) (le-leb _ _ fits)
 
--- what the test for a name means
+-- what `is_name` means
 pub record IsName (n : DomainName) : Type 0 where
   pub labels : list_all is_label n ≡ true
   pub fits : length (wire n) ≤ 255
@@ -59,7 +59,7 @@ wire-injective (l ∷ n) (k ∷ m) p q e =
     let others : n ≡ m = wire-injective n m (is_name-tail l n p) (is_name-tail k m q) rest in
     cc
 
--- the tests of equality decide it
+-- the tests `octets_equal` and `names_equal` decide equality
 pub octets_equal-decides : (xs ys : Octets)
     → (octets_equal xs ys ≡ true → xs ≡ ys) × (xs ≡ ys → octets_equal xs ys ≡ true)
 octets_equal-decides = pointwise_decides (λ x y. (eqb-true x y, eq-eqb x y))
@@ -103,8 +103,8 @@ same-length-wire n m h =
     ap (λ k. length (wire k)) ((names_equal-decides (folded n) (folded m)).0 h) in
     omega (arith, length-wire-folded n, length-wire-folded m)
 
--- a name with one more label in front is at or below any name that it is the same as, and any name
--- that the rest is at or below
+-- a name is at or below another name if it is the same name, or if the rest after its first label
+-- is at or below the other name
 pub at_or_below-cons : (l : Octets) (n a : DomainName)
     → at_or_below (l ∷ n) a ≡ (same (l ∷ n) a || at_or_below n a)
 at_or_below-cons l n a = by_length (cases_order (length a) (suc (length n)))
@@ -141,12 +141,12 @@ at_or_below-short [] (k ∷ a) h = and_left _ _ (lt-leb (suc (length a)) 0 (omeg
 at_or_below-short (l ∷ n) a h =
     grind (arith, at_or_below-length-wire, length-append, at_or_below-cons)
 
--- if n is longer, its first label doesn't matter
+-- if a name is longer on the wire than a, its first label does not matter
 pub at_or_below-long : (l : Octets) (n a : DomainName)
     → length (wire a) < length (wire (l ∷ n)) → at_or_below (l ∷ n) a ≡ at_or_below n a
 at_or_below-long l n a h = search (rules, false_from_ne_true, same-length-wire, at_or_below-cons)
 
--- RFC 1035 2.3.4: a name has at most 127 labels besides the root
+-- RFC 1035 2.3.4: a name has at most 127 labels, without the root's
 pub length-is_name : (n : DomainName) → is_name n ≡ true → length n ≤ 127
 length-is_name n ok =
     let name = IsName-is_name n ok in
@@ -160,13 +160,13 @@ length-is_name n ok =
         let is_l = IsLabel-is_label l parts.0 in
         omega (arith, length-wire_long n parts.1, length-append l (wire n))
 
--- the labels of two names in order
+-- the wire length of a name made of the labels of two names
 pub length-wire-append : (n m : DomainName)
     → length (wire (n ++ m)) + 1 ≡ length (wire n) + length (wire m)
 length-wire-append [] m = omega arith
 length-wire-append (l ∷ n) m = grind (arith, length-append, (length-wire-append n m))
 
--- they are a name, if there is room
+-- the labels of two names are a valid name, if it has at most 255 octets on the wire
 pub is_name-append : (n m : DomainName)
     → is_name n ≡ true → is_name m ≡ true → length (wire (n ++ m)) ≤ 255 → is_name (n ++ m) ≡ true
 is_name-append n m p q fits = grind (arith, common_steps)

@@ -23,7 +23,7 @@ pub name_of-wire : (n : DomainName) (rest : Octets)
     → is_name n ≡ true → name_of (wire n ++ rest) ≡ Some (n, rest)
 name_of-wire n rest ok = grind (arith, IsName-is_name, labels_taken, few_labels)
 
--- the labels that are read from octets are at their beginning in wire form, before the rest
+-- the octets are the wire form of the labels that are read from them, followed by the rest
 abbrev LabelsRead : ℕ → Octets → Type 0
 LabelsRead k os =
     (n : DomainName) (rest : Octets) → labels_from k os ≡ Some (n, rest) → os ≡ wire n ++ rest
@@ -65,7 +65,7 @@ pub name_of_reads : (octets : Octets) (n : DomainName) (rest : Octets)
     → (name_of octets ≡ Some (n, rest)) ↔ ((octets ≡ wire n ++ rest) × (is_name n ≡ true))
 name_of_reads octets n rest = grind (arith, name_read, name_of-wire)
 
--- the octets determine their labels and what follows these
+-- octets that begin with the wire form of a name determine the name and the octets after it
 pub wire_fronts_agree : (n m : DomainName) (rest tail : Octets) → list_all is_label n ≡ true
     → list_all is_label m ≡ true → wire n ++ rest ≡ wire m ++ tail → (n ≡ m) × (rest ≡ tail)
 wire_fronts_agree [] [] rest tail p q e = (refl, ap (drop 1) e)

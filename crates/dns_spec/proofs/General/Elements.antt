@@ -2,7 +2,7 @@
 use mathlib.Core.List.{reverse_aux}
 use Rattle.dns_spec.proofs.Common.{All, List, [], ap, arith, drop, get_or, inl, inr, length, map, refl, subst, suc, sym, take, zero, ℕ, ◌++◌, ◌<◌, ◌∷◌, ◌≡◌, ◌⊎◌, AllByRecursion, Contains, flat_map, IsPermutation, get_or_default, flat_map-cons, All-contains, Contains-permutation, All-from_recursion, get_or-take, length-take, take-append-drop, ◌≤◌, map_push, reverse, reverse-append, ◌∙◌}
 
--- P for each element, by recursion, is a list of proofs; membership of x
+-- `AllByRecursion P` is a proof of P for each element: the trivial P, and a P that always holds
 pub each_any : {X : Type 0} (xs : List X) → AllByRecursion (λ _. Unit {0}) xs
 each_any [] = tt
 each_any (x ∷ xs) = (tt, each_any xs)
@@ -22,7 +22,7 @@ pub each_weaker : {X : Type 0} (P Q : X → Type 0) (xs : List X)
 each_weaker P Q [] f e = tt
 each_weaker P Q (x ∷ xs) f e = (f x e.0, each_weaker P Q xs f e.1)
 
--- a third property, from two
+-- if two properties imply a third
 pub each_both : {X : Type 0} (P Q S : X → Type 0) (xs : List X)
     → ((x : X) → P x → Q x → S x) → AllByRecursion P xs → AllByRecursion Q xs → AllByRecursion S xs
 each_both P Q S [] f p q = tt
@@ -33,7 +33,7 @@ pub each_append : {X : Type 0} (P : X → Type 0) (xs ys : List X)
 each_append P [] ys e f = f
 each_append P (x ∷ xs) ys e f = (e.0, each_append P xs ys e.1 f)
 
--- for the elements before, and for the elements after
+-- for the first elements, the last elements, one more element, and parts of a list
 pub each_front : {X : Type 0} (P : X → Type 0) (xs ys : List X)
     → AllByRecursion P (xs ++ ys) → AllByRecursion P xs
 each_front P [] ys e = tt
@@ -128,7 +128,7 @@ mapped_among f a [] m = absurd m
 mapped_among f a (y ∷ ys) (inl e) = (y, inl refl, e)
 mapped_among f a (y ∷ ys) (inr m) = let r = mapped_among f a ys m in (r.0, inr r.1, r.2)
 
--- elements of joined, mapped and filtered lists
+-- membership in joined, mapped and filtered lists
 pub among_front : {X : Type 0} (a : X) (xs ys : List X) → Among a xs → Among a (xs ++ ys)
 among_front a [] ys m = absurd m
 among_front a (x ∷ xs) ys (inl e) = inl e
@@ -179,7 +179,7 @@ module _ {X Y : Type 0} (f : X → Y) where
   among_put a (y ∷ ys) (suc i) x (inr (inl e)) = inl e
   among_put a (y ∷ ys) (suc i) x (inr (inr m)) = inr (among_put a ys i x (inr m))
 
--- membership, by places and by recursion
+-- membership by places (`Contains`) and by recursion (`Among`)
 pub contains_among : {X : Type 0} (a : X) (xs : List X) → Contains xs a → Among a xs
 contains_among a [] c = absurd (omega (arith, c.1))
 contains_among a (x ∷ xs) (zero, h, e) = inl (sym e)

@@ -45,7 +45,7 @@ pub map_nothing : {X Y : Type 0} (f : X → Y) (xs : List X) → map f xs ≡ []
 map_nothing f [] e = refl
 map_nothing f (x ∷ xs) e = cc
 
--- if all together give nothing, no element gives anything
+-- if `flat_map` gives nothing, f gives nothing for each element
 pub flat_nothing : {X Y : Type 0} (f : X → List Y) (xs : List X) (a : X)
     → flat_map f xs ≡ [] → Among a xs → f a ≡ []
 flat_nothing f [] a e m = absurd m
@@ -76,7 +76,7 @@ pub kept_among : {X : Type 0} (p q : X → Bool) (a : X) (xs ys : List X) → ((
     → Among b xs → Among b ys) → Among a (filter p (filter q xs)) → Among a (filter p (filter q ys))
 kept_among p q a xs ys forth m = grind (arith, among_filter, filter_among, each_at, filter_each)
 
--- how many elements pass and how many do not, and how many give something
+-- the lengths of filtered lists
 pub filtered_lengths : {X : Type 0} (p : X → Bool) (xs : List X)
     → length (filter p xs) + length (filter (λ x. not (p x)) xs) ≡ length xs
 filtered_lengths p xs = length-filter_both p (λ x. not (p x)) (λ x. refl) xs
@@ -96,7 +96,7 @@ pub filter_none : {X : Type 0} (p : X → Bool) (xs : List X)
 filter_none p [] e = refl
 filter_none p (x ∷ xs) e = grind (arith, filter, (filter_none p xs e.1))
 
--- whatever passes q also passes p
+-- filtering twice, if whatever passes q also passes p
 pub filter_within : {X : Type 0} (p q : X → Bool) (xs : List X)
     → ((x : X) → q x ≡ true → p x ≡ true) → filter q (filter p xs) ≡ filter q xs
 filter_within p q [] f = refl

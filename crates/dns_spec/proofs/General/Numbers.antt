@@ -2,7 +2,7 @@
 use Rattle.std.proofs.Math.Nat.{mul-le-mul_right}
 use Rattle.dns_spec.proofs.Common.{List, [], ap, arith, fold, inl, inr, suc, sum, ℕ, ◌*◌, ◌+◌, ◌<◌, ◌∷◌, ◌≡◌, ◌≤◌, ◌⊎◌, cases_order, cases_lt}
 
--- a sum with a first number
+-- a sum that begins with k, and a sum with a first number
 pub fold_from : (k : ℕ) (xs : List ℕ) → fold ◌+◌ k xs ≡ k + sum xs
 fold_from k [] = omega arith
 fold_from k (x ∷ xs) = omega (arith, fold_from (k + x) xs, fold_from (0 + x) xs)

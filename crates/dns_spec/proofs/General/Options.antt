@@ -11,7 +11,7 @@ pub then_is : {X Y : Type 0} (f : X → Option Y) (o : Option X) (x : X) (y : Y)
     → o ≡ Some x → f x ≡ Some y → option_and_then f o ≡ Some y
 then_is f o x y e h = ap (option_and_then f) e ∙ h
 
--- if both cases give equal values, the values are equal
+-- n and m are equal if they are equal in both cases of an option
 pub by_option : {X N : Type 0} {P Q : Type 0} {R S : X → Type 0} (o : Option X) (n m : N) → (P
     → Q → n ≡ m) → ((x : X) → R x → S x → n ≡ m) → MatchOption o P R → MatchOption o Q S → n ≡ m
 by_option o n m h h1 h2 h3 = grind arith

@@ -1,11 +1,11 @@
--- Lists whose elements are in order, each with each after it.
+-- Lists in order: a relation holds for each element and each element after it.
 use Rattle.dns_spec.proofs.Common.{Bool, List, Ordering, [], ap, arith, cond, drop, eqb, false, filter, inl, inr, is_gt, nat_lt, not, refl, subst, suc, sym, true, zero, ℕ, ◌<◌, ◌||◌, ◌∙◌, ◌∷◌, ◌≡◌, ◌≤◌, ◌⊎◌, IsTotalOrder, AllByRecursion, list_any, IsNonDecreasingBy, IsPartitionedBy, cases_lt, eqb-false, eqb-true, false≢true, ltb-false, ltb-true, ne_eqb, upto, insert_by, sort_by}
 use Rattle.dns_spec.proofs.General.Elements.{each_weaker, each_get, each_from_get, each_both}
 use Rattle.dns_spec.proofs.General.Filters.{each_filter}
 use Rattle.dns_spec.proofs.General.Tests.{none_pass, first_passes}
 use Rattle.dns_spec.proofs.General.Sorted.{each_insert}
 
--- R holds for each element and each after it
+-- R holds for each element and each element after it
 abbrev pub Pairs : {X : Type 0} → (X → X → Type 0) → List X → Type 0
 Pairs R [] = Unit {0}
 Pairs R (x ∷ xs) = AllByRecursion (R x) xs × Pairs R xs
@@ -51,7 +51,7 @@ pairs_rising n (x ∷ xs) h = (
   pairs_rising n xs (λ i j d l m. h (suc i) (suc j) d (omega arith) (omega arith)),
 )
 
--- a sorted list is in order, each element with each after it
+-- a sorted list is in order: no element is greater than an element after it
 module _ {X : Type 0} (cmp : X → X → Ordering) (total : IsTotalOrder cmp) where
   abbrev pub NotAfter : X → X → Type 0
   NotAfter x y = is_gt (cmp x y) ≡ false
@@ -93,7 +93,8 @@ module _ {X : Type 0} (n : X → ℕ) (t : ℕ) where
   greater x [] l e = tt
   greater x (y ∷ ys) l e = grind (arith, ne_eqb, (greater x ys l e.1))
 
-  -- an element has the number if and only if the first that is not below it has the number
+  -- if elements rise by their numbers, an element has the number t if and only if the first element
+  -- whose number is not below t has it
   pub found_first : (xs : List X) → Pairs (λ x y. n x ≤ n y) xs → list_any (λ x. eqb (n x) t) xs
       ≡ first_passes (λ x. eqb (n x) t) (filter (λ x. not (nat_lt (n x) t)) xs)
   found_first [] h = refl

@@ -8,7 +8,7 @@ get_more [] ys i x at = absurd (none-some x at)
 get_more (y ∷ xs) ys zero x at = at
 get_more (y ∷ xs) ys (suc i) x at = get_more xs ys i x at
 
--- the place of an element of a part in the whole
+-- the element at a place of a part is at a place of the whole
 pub get_taken : (m k : ℕ) (xs : List ℕ) → k < m → slice_get (take m xs) k ≡ slice_get xs k
 get_taken zero k xs h = absurd (omega arith)
 get_taken (suc m) k [] h = refl

@@ -1,8 +1,8 @@
--- From one fact about a result to another: for success, and for failure.
+-- From one fact about a result to another, if it is a failure.
 use Rattle.std.proofs.Common.{OnErr}
 use Rattle.dns_spec.proofs.Common.{IfErr, IsErrAnd, Result, arith, ◌≡◌}
 
--- what holds anyway, holds if a call fails
+-- what always holds, also holds if a call fails
 pub OnErr-always : {A E P : Type 0} (result : Result A E) → P → OnErr result P
 OnErr-always result h = grind arith
 
@@ -11,7 +11,7 @@ pub fault_handed_on : {A F : Type 0} (result : Result A F) (fault : F) (P : F �
     → IsErrAnd result (λ e. e ≡ fault) → P fault → IfErr result P
 fault_handed_on result fault P h h1 = grind arith
 
--- a fault that is converted to another, and what holds for that
+-- a fault that is replaced by another, and what holds for the other fault
 pub fault_turned : {A F : Type 0} (result : Result A F) (R P : F → Type 0)
     → IsErrAnd result R → ((f : F) → R f → P f) → IfErr result P
 fault_turned result R P h h1 = grind arith

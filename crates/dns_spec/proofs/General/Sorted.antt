@@ -4,7 +4,7 @@ use Rattle.dns_spec.proofs.General.Elements.{Among, each_at, each_weaker}
 use Rattle.dns_spec.proofs.General.Filters.{each_filter, filter_each, filter_short, among_filter, filter_among}
 use Rattle.dns_spec.proofs.General.Orderings.{less_from}
 
--- each element only once
+-- no two elements are equal by the test `eq`
 abbrev pub Apart : {X : Type 0} → (X → X → Bool) → List X → Type 0
 Apart eq [] = Unit {0}
 Apart eq (x ∷ xs) = AllByRecursion (λ y. eq x y ≡ false) xs × Apart eq xs
@@ -31,7 +31,7 @@ pub each_distinct : {X : Type 0} (P : X → Type 0) (eq : X → X → Bool) (xs 
 each_distinct P eq [] e = tt
 each_distinct P eq (x ∷ xs) e = grind (arith, each_filter, (each_distinct P eq xs e.1))
 
--- a sort keeps the elements
+-- sorting keeps the elements
 module _ {X : Type 0} (cmp : X → X → Ordering) where
   pub each_insert : (P : X → Type 0) (x : X) (ys : List X)
       → P x → AllByRecursion P ys → AllByRecursion P (insert_by cmp x ys)
@@ -164,7 +164,7 @@ sort_risen {X} cmp (x ∷ xs) r = ap (insert_by cmp x) (sort_risen cmp xs r.1) �
     first x (y ∷ ys) e =
         ap (λ (o : Ordering). cond (is_gt o) (y ∷ insert_by cmp x ys) (x ∷ y ∷ ys)) e.0
 
--- a sort moves elements
+-- sorting permutes the elements
 pub permutation_insert : {X : Type 0} (cmp : X → X → Ordering) (x : X) (ys : List X)
     → IsPermutation (x ∷ ys) (insert_by cmp x ys)
 permutation_insert cmp x [] = IsPermutation-refl (x ∷ [])

@@ -7,7 +7,7 @@ four_tests a b c d = grind arith
 pub in_rest : {A B C : Type 0} → A ⊎ B → (B → C) → A ⊎ C
 in_rest h h1 = grind arith
 
--- a test that fails, and one that fails if it does
+-- in a conjunction, a test replaced by another test that fails if it does
 pub and_later : (x y z : Bool) → (y ≡ false → z ≡ false) → (x && y) ≡ false → (x && z) ≡ false
 and_later x y z h h1 = grind arith
 
@@ -19,7 +19,7 @@ follows a b h h1 = grind arith
 pub same_tests : (a b : Bool) → (a ≡ true → b ≡ true) → (b ≡ true → a ≡ true) → a ≡ b
 same_tests a b h h1 = grind arith
 
--- A is not empty
+-- A holds, but without a value of it (double negation)
 abbrev pub Sure : Type 0 → Type 0
 Sure A = (A → ⊥) → ⊥
 

@@ -1,5 +1,5 @@
--- The size of a layout grows with each set. So stopping at the first set that does not fit gives
--- the greatest number of sets that fits.
+-- The size of a layout never shrinks when a set is added. So stopping at the first set that does
+-- not fit gives the greatest number of sets that fit.
 use Rattle.dns_spec.proofs.Common.{◌≡◌, ℕ, zero, suc, ◌+◌, ◌≤◌, Bool, true, false, cond, nat_le, List, [], ◌∷◌, ◌++◌, length, take, Option, refl, sym, ap, ◌∙◌, arith, append_assoc, append-nil, le-leb, leb-true, flat_map-append, ResourceRecord, MessageQuestion, Item, Placed, size, kept, fitting, greatest, length-append, record_laid, records_octets, records_by}
 
 records_grow : (ms : List Placed) (p : ℕ) (rs ss : List ResourceRecord)

@@ -1,4 +1,4 @@
--- The size of the layout is one that sharing allows, and up to 16,384 octets it is the least.
+-- Sharing allows the size of the layout, and up to 16,384 octets allows no smaller size.
 use Rattle.dns_spec.proofs.Common.{sym, is_some, ap, ◌∙◌, ◌≡◌, ℕ, ◌<◌, ◌≤◌, ◌↔◌, Bool, true, false, nat_le, inr, List, Option, refl, arith, leb-true, leb-false, MessageQuestion, reach, Item, shared_place, size, IsLawful, Sharing}
 use Rattle.dns_spec.proofs.Layouts.UnboundedSize.{placed, unbounded_size_least}
 use Rattle.dns_spec.proofs.Layouts.SharedNames.{shared_is}

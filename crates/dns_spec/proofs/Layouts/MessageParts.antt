@@ -3,7 +3,7 @@ use Rattle.dns_spec.proofs.Common.{◌≡◌, ℕ, ◌+◌, ◌^◌, ◌<◌, Bo
 use Rattle.dns_spec.proofs.Messages.Places.{Stands, stands_front, stands_rest, stands_after, stands_within, number_at, name_written}
 use Rattle.dns_spec.proofs.Messages.Sections.{question_read, several_more}
 
--- sets in the order of their sections are the answer's, then authority's, then additional ones
+-- the records of sets in the order of their sections: answer, then authority, then additional
 other_section : (s s' : Section) → section_rank s < section_rank s' → is_section s s' ≡ false
 other_section s s' h = grind arith
 

@@ -5,7 +5,7 @@ use Rattle.dns_spec.proofs.Layouts.UnboundedSize.{length-unbounded_layout}
 use Rattle.dns_spec.proofs.Layouts.SharedNames.{suffix_from, place_again, place_pushed, shared_none, shared_whole, shared_some, shared_alone}
 use Rattle.dns_spec.proofs.Layouts.MessageParts.{length-question_octets}
 
--- all places are in reach
+-- a pointer reaches all places of earlier names
 abbrev Low : List Placed → Type 0
 Low ms = (l : Octets) (n : DomainName) (p : ℕ) → place_of ms (l ∷ n) ≡ Some p → p < reach
 
@@ -15,7 +15,7 @@ unfolding octets_by
 same_octets ms low [] = refl
 same_octets ms low (l ∷ n) = grind (arith, (same_octets ms low n))
 
--- a suffix that is new begins among the octets laid out
+-- a suffix that no earlier name has begins among the octets laid out for the name
 pub begins_inside : (ms : List Placed) (n front : DomainName) (l : Octets) (t : DomainName)
     → n ≡ front ++ l ∷ t → place_of ms (l ∷ t) ≡ None → (length (wire (l ∷ t)) ≤ length (wire n))
     × (length (wire n) - length (wire (l ∷ t)) < length (shared_octets ms n))
@@ -46,11 +46,12 @@ low_more ms low n i room l t p e = go (place_pushed ms (n, i) (l ∷ t) p e)
         let at = f.2 in
         omega (arith, inside, at, room)
 
--- octets that end in reach
+-- x or y, from place p on, ends within reach
 abbrev Ends : ℕ → Octets → Octets → Type 0
 Ends p x y = (p + length x ≤ reach) ⊎ (p + length y ≤ reach)
 
--- what ends after octets and others also ends after the octets alone; so does what follows both
+-- if octets and the octets after them end within reach, so do the first alone; and the octets after
+-- them, from their own place on
 ends_front : (p : ℕ) (w x y : Octets) → Ends p (w ++ x) (w ++ y) → p + length w ≤ reach
 ends_front p w x y h = grind (arith, length-append)
 
@@ -61,7 +62,7 @@ record SameData (ms : List Placed) (a b : Laid) : Type 0 where
   same : a ≡ b
   low : Low (ms ++ a.names)
 
--- data after octets, and after a name, if it holds for the data after it
+-- both layouts of data are the same; if so, they are also the same with a part in front
 abbrev Again : List Part → Type 0
 Again ps = (ms : List Placed) (p : ℕ) → Low ms → Ends p (data_laid ms p ps).written
     (data_by place_of ms p ps).written → SameData ms (data_laid ms p ps) (data_by place_of ms p ps)
@@ -168,7 +169,7 @@ same_records ms p (r ∷ rs) low ends =
         → Ends p (record_laid ms p r).written (record_by place_of ms p r).written
     front ends = grind (arith, length-append, records_by)
 
--- the question's name begins in reach
+-- a pointer reaches the question's name
 asked_low : (q : Option MessageQuestion)
     → 12 + length (asked_octets q) ≤ reach → Low (asked_placed q)
 asked_low q h = grind (arith, none-some, low_more, shared_alone, length-question_octets)

@@ -15,7 +15,7 @@ data_octets ms p ps = (data_laid ms p ps).written
 abbrev data_names : List Placed → ℕ → List Part → List Placed
 data_names ms p ps = (data_laid ms p ps).names
 
--- parts without octets are laid out as no octets
+-- no octets are laid out for parts without octets
 no_octets : (ys : List Part) → joined ys ≡ []
     → (ms : List Placed) (i : ℕ) → data_octets ms i ys ≡ []
 unfolding data_by
@@ -46,7 +46,7 @@ module _ (b : Octets) (room : length b < 2 ^ 16) where
       })
   nil_lays (o ∷ os) xs e ms i known header at = absurd (none-some xs e)
 
-  -- a field in front of others, by its part
+  -- a field in front of others
   field_lays : (p : Field) (ps : List Field) (os rest : Octets) (part : Part) (ys : List Part)
       → field_front p os ≡ Some (part, rest)
       → Lays ps rest ys → cut ps rest ≡ Some ys → Lays (p ∷ ps) os (part ∷ ys)
@@ -107,7 +107,7 @@ module _ (b : Octets) (room : length b < 2 ^ 16) where
       subst (Lays (p ∷ ps) os) c.whole (field_lays p ps os c.rest c.part c.others c.front
       (data_lays ps c.rest c.others c.more) c.more)
 
-  -- the data of a record, whose names become earlier names
+  -- the data of a record is read, and its names become earlier names
   record DataLaid (t : ℕ) (d : Octets) (ms : List Placed) (i : ℕ) (xs : List Part) : Type 0 where
     rdata : data_at b t class_in i (i + length (data_octets ms i xs)) ≡ Some d
     known : Known b (i + length (data_octets ms i xs)) (ms ++ data_names ms i xs)
@@ -150,7 +150,7 @@ module _ (b : Octets) (room : length b < 2 ^ 16) where
       by_type true f at = f at
       by_type false f at = whole_laid t d ms i ok known at
 
-  -- records laid out from place i on
+  -- records laid out from place i on are read there
   records_laid : (rs : List ResourceRecord) (ms : List Placed) (i : ℕ)
       → Known b i ms → 12 ≤ i → AllByRecursion IsWritable rs → Stands b i (records_octets ms i rs)
       → several (message_record_at b) (length (map message_record rs)) i
@@ -224,8 +224,8 @@ asked_known b (Some q) ok at =
     known_later b (12 + length (shared_octets [] q.qname)) from ((q.qname, 12) ∷ [])
     (omega (arith, ap length (shared_alone q.qname), length-question_octets q)) first
 
--- The counts of the records fit their fields. In a message of at most 65,535 octets they always
--- do.
+-- The counts of the records fit their fields, as they always do in a message of at most 65,535
+-- octets.
 record HasCounts (items : List Item) : Type 0 where
   answers : length (in_section answer items) < 2 ^ 16
   authorities : length (in_section authority items) < 2 ^ 16

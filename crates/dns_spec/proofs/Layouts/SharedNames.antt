@@ -1,5 +1,5 @@
--- A name that shares a suffix with an earlier name is read back, and its own new suffixes are
--- where later names find them.
+-- A name that shares a suffix with an earlier name is read back, and the suffixes that no earlier
+-- name has are at the places that `place_of` gives to later names.
 use Rattle.dns_spec.proofs.Common.{◌≡◌, ℕ, ◌+◌, ◌-◌, ◌/◌, ◌%◌, ◌<◌, ◌≤◌, Bool, true, false, cond, nat_le, ◌⊎◌, inl, inr, List, [], ◌∷◌, ◌++◌, length, take, drop, Option, None, Some, refl, sym, ap, ap₂, ◌∙◌, subst, arith, append_assoc, length-append, take-append-drop, drop_at, and_parts, and_from, le-leb, leb-true, false≢true, none-some, same_Some, cond_some, list_all, Octets, DomainName, wire, is_label, is_name, names_equal, last_labels, RunAt, ends, goes_on, jumps, reach, pointer, Placed, has_suffix, suffix_place, place_of, reached, shared_place, shared_octets, octets_by, name_at}
 use Rattle.dns_spec.proofs.Messages.Places.{Stands, stands_front, stands_rest, stands_after, stands_within, stands_get, stands_take, label_parts}
 use Rattle.dns_spec.proofs.Messages.NameReading.{name_computed}
@@ -29,7 +29,7 @@ suffix_again m n s h g = record {
   whole = h.whole ∙ ap (λ x. h.front ++ x) g.whole ∙ sym (append_assoc h.front g.front s);
 }
 
--- if no earlier name has a suffix, none has a name that ends with it
+-- if no earlier name ends with s, no earlier name ends with a name that ends with s
 pub place_again : (ms : List Placed) (n s : DomainName)
     → Suffix n s → place_of ms s ≡ None → place_of ms n ≡ None
 place_again [] n s h e = refl
@@ -47,14 +47,15 @@ place_again (m ∷ ms) n s h e = go (has_suffix m.0 s) refl e (place_again ms n 
     go true p q f = absurd (none-some (suffix_place m s) (sym q))
     go false p q f = other (has_suffix m.0 n) refl p (f q)
 
--- the place of a suffix in one more name is found if no earlier name has the suffix
+-- the place of a suffix among earlier names and one more name: in the last name only if no earlier
+-- name has the suffix
 pub place_pushed : (ms : List Placed) (m : Placed) (s : DomainName) (p : ℕ)
     → place_of (ms ++ m ∷ []) s ≡ Some p → (place_of ms s ≡ Some p)
     ⊎ ((place_of ms s ≡ None) × (has_suffix m.0 s ≡ true) × (suffix_place m s ≡ p))
 place_pushed [] m s p e = grind (arith, inr, same_Some, none-some)
 place_pushed (k ∷ ms) m s p e = grind (arith, inl, (place_pushed ms m s p))
 
--- a place that is shared is a place, and a pointer reaches it
+-- a shared place is the place of the suffix, and a pointer reaches it
 pub shared_is : (ms : List Placed) (s : DomainName) (p : ℕ)
     → shared_place ms s ≡ Some p → (place_of ms s ≡ Some p) × (p < reach)
 shared_is ms s p e = grind (arith, none-some, cond_some, leb-true)
@@ -71,7 +72,7 @@ shared_none ms s e = ap reached e
 pub pointer_octets : (p : ℕ) → p < reach → pointer p ≡ (192 + p / 256) ∷ p % 256 ∷ []
 pointer_octets p h = ap₂ (λ x y. x ∷ y ∷ []) (omega arith) (omega arith)
 
--- What is known about earlier names: each suffix that has a place is spelled there.
+-- What is known about earlier names: at the place of a suffix, the octets spell that suffix.
 pub record Found (b : Octets) (bound : ℕ) (s : DomainName) (p : ℕ) : Type 0 where
   pub header : 12 ≤ p
   pub earlier : p < bound
@@ -93,7 +94,7 @@ known_later b bound bound' ms h k l n p e =
       spelled = f.spelled;
     }
 
--- how a name with a first label is laid out
+-- how a name is laid out: with its first label, as a pointer, or as the root
 pub shared_whole : (ms : List Placed) (l : Octets) (n : DomainName) → shared_place ms (l ∷ n) ≡ None
     → shared_octets ms (l ∷ n) ≡ length l ∷ (l ++ shared_octets ms n)
 unfolding octets_by
@@ -117,7 +118,7 @@ shared_some ms (l ∷ n) = go (shared_place ms (l ∷ n)) refl
     go None e = let w = ap length (shared_whole ms l n e) in omega (arith, w)
     go (Some k) e = let w = ap length (shared_pointed ms l n k e) in omega (arith, w)
 
--- the name is read where it is laid out
+-- the name is read from the octets laid out for it
 module _ (b : Octets) (bound : ℕ) (ms : List Placed) (known : Known b bound ms) where
   run_shared : (n : DomainName) (s i : ℕ) → bound ≤ s → list_all is_label n ≡ true
       → Stands b i (shared_octets ms n) → RunAt b s i n (i + length (shared_octets ms n))
@@ -200,7 +201,7 @@ module _ (b : Octets) (bound : ℕ) (ms : List Placed) (known : Known b bound ms
   labels_after (k ∷ front) s h =
       labels_after front s (and_parts (is_label k) (list_all is_label (front ++ s)) h).1
 
-  -- the name that is laid out is one more earlier name
+  -- the name that was laid out becomes an earlier name
   pub known_more : (n : DomainName) (i : ℕ)
       → bound ≤ i → 12 ≤ i → list_all is_label n ≡ true → Stands b i (shared_octets ms n)
       → Known b (i + length (shared_octets ms n)) (ms ++ (n, i) ∷ [])

@@ -8,7 +8,7 @@ pub placed : (ms : List Placed) (s : DomainName)
 placed [] s = refl
 placed (m ∷ ms) s = grind (arith, (placed ms s))
 
--- the names, wherever they begin
+-- earlier names without their places
 abbrev unplaced : List Placed → List DomainName
 unplaced = map (λ (m : Placed). m.0)
 
@@ -21,7 +21,7 @@ pub length-unbounded_layout : (h : Header) (q : Option MessageQuestion) (items :
 unfolding unbounded_layout unbounded_size
 length-unbounded_layout h q items = grind (arith, length-append)
 
--- what an earlier name has is found among the same names at other places
+-- a suffix that an earlier name has is found among the same names at other places
 found_again : (ms ks : List Placed) (s : DomainName) → unplaced ms ≡ unplaced ks
     → list_any (λ (m : Placed). has_suffix m.0 s) ks ≡ true → is_some (place_of ms s) ≡ true
 found_again ms ks s e h = placed ms s ∙ named ms ∙ ap (list_any (λ x. has_suffix x s)) e
@@ -69,7 +69,7 @@ module _ (find : Lookup) (lawful : IsLawful find) where
       go None (Some o) f g h = absurd (false≢true
           (sym (ap is_some f) ∙ found_again ms ks (l ∷ n) e (lawful ks (l ∷ n) o g)))
 
-  -- data has the same names, however they share, and is not shorter
+  -- data laid out in two ways has the same names, and the first is not longer
   record DataLeast (a b : Laid) : Type 0 where
     same : unplaced a.names ≡ unplaced b.names
     least : length a.written ≤ length b.written

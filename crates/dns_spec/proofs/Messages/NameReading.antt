@@ -1,8 +1,7 @@
--- The computed reader of names spells what the relation spells, and at most one name is at a
--- place.
+-- `name_at` gives the names that the relation `NameAt` relates, and at most one name is at a place.
 use Rattle.dns_spec.proofs.Common.{◌≡◌, ℕ, zero, suc, ◌+◌, ◌-◌, ◌<◌, ◌≤◌, ◌↔◌, inl, inr, [], ◌∷◌, length, take, drop, Option, None, Some, slice_get, option_map, option_and_then, refl, sym, ap, ◌∙◌, subst, subst₂, arith, lt-ltb, le-ltb, le-leb, ne_eqb, rules, cases_lt, lt-leb, cond-true, none-some, same_Some, slice_get_past, slice_get_within, some_pair_parts, Octets, DomainName, with_label, ends, goes_on, jumps, pointer_place, RunAt, NameAt, RunStep, run_end, run_label, run_pointer, unlawful, step_of, jump, run, runs_before, name_if_short, name_at}
 
--- What is at a place, by the step that a run takes there.
+-- What the step of a run at a place says about the octets there.
 abbrev StepAt : Octets → ℕ → RunStep → Type 0
 StepAt b i run_end = slice_get b i ≡ Some 0
 StepAt b i (run_label k) =
@@ -57,7 +56,7 @@ module _ (known : ℕ → Option (DomainName × ℕ)) (b : Octets) (s r i : ℕ)
       grind (arith, ne_eqb, le-ltb) in
       step_is (Some o) e ∙ ap at_step step
 
--- a jump to a place in the range, and to any other place
+-- what a pointer to an allowed place gives, and a pointer to any other place
 after : ℕ → Option (DomainName × ℕ) → Option (DomainName × ℕ)
 after i x = option_map (λ r. (r.0, i + 2)) x
 
@@ -75,9 +74,9 @@ data PlaceFor (s p : ℕ) : Type 0 where
 place_for : (s p : ℕ) → PlaceFor s p
 place_for s p = grind (arith, cases_lt, inl, inr)
 
--- The number of octets bounds the steps of a run: with that many steps the result does not depend
--- on their number, nor on what is known about runs that begin in the header, at the run's own
--- place or after it.
+-- A run takes at most one step per octet that is left: with at least this number of steps, its
+-- result depends neither on the number of steps nor on what is known about runs that begin in the
+-- header, at the run's own place or after it.
 abbrev Alike : ℕ → (ℕ → Option (DomainName × ℕ)) → (ℕ → Option (DomainName × ℕ)) → Type 0
 Alike s known known' = (p : ℕ) → 12 ≤ p → p < s → known p ≡ known' p
 
@@ -111,7 +110,7 @@ same_run known known' b s (suc r) (suc r') i a h h' =
     (step_of b i (slice_get b i))
     ∙ sym (step_is known' b s r' i (slice_get b i) refl)
 
--- The relation is computed.
+-- What the relation relates is computed.
 known_is : (b : Octets) (k p : ℕ) → runs_before b (suc k) p ≡ run (runs_before b k) b p (length b) p
 unfolding runs_before
 known_is b k p = refl
@@ -140,7 +139,7 @@ complete {b} {s} (jumps i o o' p n e at high at' is from before rest) (suc k) (s
     ∙ ap (after i) (known_is b k p ∙ complete rest k (length b) (omega arith) (omega arith))
     ∙ after_some i n e
 
--- What is computed satisfies the relation.
+-- What is computed is related.
 abbrev Truthful : Octets → (ℕ → Option (DomainName × ℕ)) → Type 0
 Truthful b known = (p : ℕ) (n : DomainName) (e : ℕ) → known p ≡ Some (n, e) → RunAt b p p n e
 
@@ -214,13 +213,13 @@ pub one_name : (b : Octets) (i : ℕ) (n m : DomainName) (e f : ℕ)
     → NameAt b i n e → NameAt b i m f → (n ≡ m) × (e ≡ f)
 one_name b i n m e f h g = some_pair_parts n m e f (sym (name_computed b i n e h) ∙ name_computed b i m f g)
 
--- A name at place 12, directly after the header: no place is after the header and before it, so no
--- pointer is valid and the name is read label by label. This gives the labels from place i on, in
--- a run that began at place 12, and the place after them.
+-- A name at place 12, directly after the header: no place is between the header and the name, so no
+-- pointer is valid and the name is read label by label. `run12` gives the labels from place i on,
+-- in a run that began at place 12, and the place after them.
 unfoldable pub run12 : Octets → ℕ → Option (DomainName × ℕ)
 run12 d i = run (λ p. None) d 12 (length d - i) i
 
--- the reader computes the same, whatever is known about other runs, with at least that many steps
+-- `run` gives the same with at least `length d - i` steps, whatever is known about other runs
 pub run12_is : (known : ℕ → Option (DomainName × ℕ)) (d : Octets) (r i : ℕ)
     → length d - i ≤ r → run12 d i ≡ run known d 12 r i
 unfolding run12

@@ -43,7 +43,7 @@ stands_after {b} {i} k x y e s = subst (λ z. Stands b (i + z) y) e (stands_rest
 pub stands_all : (b : Octets) → Stands b 0 b
 stands_all b = record { before = []; after = []; whole = sym (append-nil b); place = refl }
 
--- they are within b, and are read from it
+-- octets that are in b end within b, and are read from it
 pub stands_within : {b : Octets} {i : ℕ} (x : Octets) → Stands b i x → i + length x ≤ length b
 stands_within {b} {i} x s = grind (arith, length-append)
 
@@ -64,13 +64,13 @@ pub stands_get : {b : Octets} {i : ℕ} (o : ℕ) (x : Octets)
     → Stands b i (o ∷ x) → slice_get b i ≡ Some o
 stands_get {b} {i} o x s = grind (arith, slice_get, get_at)
 
--- a number
+-- a number that is in b is read from it
 pub number_at : {b : Octets} {i : ℕ} (k v : ℕ)
     → v < 256 ^ k → Stands b i (bytes_high_first k v) → number_of (take k (drop i b)) ≡ v
 number_at {b} {i} k v low s =
     grind (arith, common_steps, stands_take, length-bytes_high_first, number_of-bytes)
 
--- a name written whole, of labels
+-- a name that is written whole is read label by label
 pub label_parts : (l : Octets) → is_label l ≡ true → (0 < length l) × (length l < 64)
 label_parts l h = grind (arith, and_parts, ltb-true, leb-true)
 

@@ -2,7 +2,7 @@
 use Rattle.dns_spec.proofs.Common.{◌≡◌, ℕ, ◌+◌, ◌≤◌, eqb, nat_le, length, Option, None, Some, refl, arith, length-append, length-drop, and_parts, leb-true, eqb-true, none-some, cond_some, length-take-le, list_all, Octets, DomainName, wire, is_label, MessageQuestion, RunAt, NameAt, name_at, ends, goes_on, jumps, field16, question_of, question_at}
 use Rattle.dns_spec.proofs.Messages.NameReading.{name_at_computes}
 
--- a run that begins by the end of the header has no pointer: it ends after its own labels
+-- a run that begins at place 12 or before has no pointer, so it ends after its own labels
 written_out : {b : Octets} {s i e : ℕ} {n : DomainName}
     → RunAt b s i n e → s ≤ 12 → e ≡ i + length (wire n)
 written_out (ends i at) h = refl

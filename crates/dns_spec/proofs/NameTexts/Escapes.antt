@@ -1,4 +1,5 @@
--- Escapes: the octet of an escape is the one that it spells in a name; and the length of escapes.
+-- Escapes: `escape_front` gives the octet that an escape spells in a name; and the length of an
+-- escape.
 use Rattle.dns_spec.proofs.Common.{◌≡◌, ℕ, ◌<◌, Bool, true, false, cond, ◌&&◌, nat_le, nat_lt, Option, Some, None, [], ◌∷◌, ◌++◌, refl, ap, subst, arith, and_parts, leb-true, ltb-true, lt-ltb, none-some, some_pair_parts, is_ascii_digit, IsAsciiDigit, IsNotAsciiDigit, Octets, escape_left, ◌↔◌, ◌==◌, if◌then◌else◌, three_digits_value, SpellsOctet, is_printable, digits_front, escape_front}
 
 -- the number of octets of the escape, case by case
@@ -15,14 +16,14 @@ counted_escape [] = 0
 counted_escape (a ∷ text) =
     cond (is_ascii_digit a) (counted_digits (a ∷ text)) (cond (is_printable a) 1 0)
 
--- the number of its octets that are still to come, if there are any
+-- the number of octets of an escape after its backslash, or none if there is no escape
 abbrev pub left_by : ℕ → Option ℕ
 left_by k = if k == 0 then None else Some k
 
 pub escape-counted : (text : Octets) → escape_left text ≡ left_by (counted_escape text)
 escape-counted text = grind arith
 
--- the octet of an escape is the one that it spells in a name
+-- the text is an escape, after its backslash, that spells x in a name, followed by `rest`
 abbrev pub Spelled : Octets → ℕ → Octets → Type 0
 Spelled text x rest = (e : Octets) × (text ≡ e ++ rest) × SpellsOctet (92 ∷ e) x
 

@@ -16,7 +16,7 @@ octet_front : Octets → Option (ℕ × Octets)
 octet_front [] = None
 octet_front (a ∷ text) = if a == 92 then escaped_front text else Some (a, text)
 
--- a text begins with the spelling of one octet
+-- a text begins with the spelling of at most one octet
 octet_once : (text first first' others others' : Octets) (x y : ℕ)
     → text ≡ first ++ others → text ≡ first' ++ others'
     → SpellsStringOctet first x → SpellsStringOctet first' y → (x ≡ y) × (others ≡ others')
@@ -57,7 +57,7 @@ label_once text (x ∷ l) rest
 no_empty_label : (l : Octets) → [] ≡ l → is_label l ≡ true → ⊥
 no_empty_label l e h = false≢true (ap is_label e ∙ h)
 
--- if no label is next, a text spells no name with labels
+-- a text that is empty or begins with a dot spells no name with labels
 no_labels : (origin text rest : Octets) (above : DomainName) (l : Octets) (n : DomainName) → text
     ≡ rest → ends rest ≡ true → list_all is_label (l ∷ n) ≡ true → TextSpells above text (l ∷ n) → ⊥
 unfolding ends

@@ -9,7 +9,7 @@ use Rattle.dns_spec.proofs.Records.SameRecords.{same_reports}
 use Rattle.dns_spec.proofs.General.Elements.{Among, contains_among, among_contains, held_among}
 use Rattle.dns_spec.proofs.General.Sorted.{each_distinct, distinct_among, among_distinct, length_distinct}
 
--- taking out duplicates and printing drop no record and add none
+-- removing duplicates and printing keep the records: none is lost, and none is added
 all_distinct : (P : ResourceRecord → Type 0) (rs : List ResourceRecord)
     → All P rs → All P (distinct records_equal rs)
 all_distinct P rs all =
@@ -76,7 +76,7 @@ printed_reports o t options report from (records rs, means, e) printing passes s
     printed_output options z (f ∷ fs) report e printing passes =
         absurd (false≢true (sym (ap (λ (r : Report). r.passes) e) ∙ passes))
 
--- zones with one text
+-- zones with the same canonical text
 records_of : Meaning → List ResourceRecord
 records_of (records rs) = rs
 records_of (fault_at code line) = []

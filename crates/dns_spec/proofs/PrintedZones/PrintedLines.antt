@@ -1,4 +1,4 @@
--- The line of a record is read as the words of the record, and a line end.
+-- The line of a record is read as the record's words and a line end.
 use Rattle.dns_spec.proofs.Common.{◌≡◌, ℕ, ◌<◌, Bool, true, false, ◌&&◌, Some, None, Option, List, [], ◌∷◌, ◌++◌, map, length, nat_lt, refl, sym, subst, arith, append_assoc, codes, decimal, rules, and_parts, ltb-true, option_map, unwrap_or, list_all, prefix_len, filter_map, join_with_byte, Octets, name_text, TypeRow, row_of, numbered_type, type_text, Word, is_word_octet, plain, word_text, written_words, data_text, stands_alone, ResourceRecord, Token, blank, line_end, is_blank, TokensThen, cut_entries, parentheses, word_of, IsReadRecord, record_line, AllByRecursion}
 use Rattle.dns_spec.proofs.DataWords.BareWords.{Bare, bare_append, bare_decimal}
 use Rattle.dns_spec.proofs.DataWords.StandingWords.{TakenWhole, Standing, bare_standing, decimal_standing, name_standing}
@@ -29,7 +29,7 @@ led (w ∷ ws) ps = word_token w ∷ blank ∷ led ws ps
 abbrev pub line_tokens : ResourceRecord → List Token
 line_tokens r = led (first_words r) (words_tokens (written_words r.rtype r.rdata))
 
--- words that are read whole
+-- a word that does not end early and is read whole
 record Read (w : Word) : Type 0 where
   alone : stands_alone w ≡ true
   whole : TakenWhole w
@@ -44,7 +44,7 @@ all_read (w ∷ ws) alone whole =
     let p = and_parts (stands_alone w) (list_all stands_alone ws) alone in
     (record { alone = p.0; whole = whole.0 }, all_read ws p.1 whole.1)
 
--- what is read at a place that is not a blank
+-- the tokens of a text that does not begin with a blank
 record Reads (text : Octets) (ps : List Token) (rest : Octets) : Type 0 where
   tokens : TokensThen text ps rest
   first : prefix_len is_blank text ≡ 0

@@ -59,7 +59,7 @@ name_begins [] = refl
 name_begins ([] ∷ n) = refl
 name_begins ((x ∷ l) ∷ n) = grind arith
 
--- the parts of a line by its words
+-- the words of a line after the owner, and its fields
 abbrev words_after : ResourceRecord → List Word
 words_after r = plain
     (decimal r.ttl) ∷ plain (codes "IN") ∷ plain (type_text r.rtype) ∷ written_words r.rtype r.rdata
@@ -89,7 +89,7 @@ line_faultless r = grind (arith, line_parentheses)
 type_named : (t : ℕ) → t < 65536 → NamesType (type_text t) t
 type_named t small = grind arith
 
--- if no earlier entry is `$ORIGIN`
+-- the entry is not `$ORIGIN`; without `$ORIGIN`, the origin stays
 abbrev KeepsOrigin : Entry → Type 0
 KeepsOrigin e = directive_word (codes "$origin") (kind_of e) ≡ None
 

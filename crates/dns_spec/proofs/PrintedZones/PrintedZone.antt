@@ -1,4 +1,4 @@
--- The canonical text of a zone means its records, which it prints in another order.
+-- The canonical text of a zone means the zone's records, in the order in which they are printed.
 use Rattle.dns_spec.proofs.Common.{◌≡◌, ◌≤◌, not, All, length, refl, sym, subst, IsPermutation, DomainName, record_order, ZoneContents, sort_by, most_octets, most_records, records, Means, IsPermutation-trans, IsPermutation-filter_both, All-permutation, length_permutation, IsReadRecord, HasZoneType, is_soa, printed_records, zone_text}
 use Rattle.dns_spec.proofs.PrintedZones.PrintedMeaning.{printed_again}
 use Rattle.dns_spec.proofs.General.Sorted.{permutation_sort}

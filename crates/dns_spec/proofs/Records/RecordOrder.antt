@@ -21,7 +21,7 @@ pub record_ties : (r s : ResourceRecord) → records_equal r s ≡ eq_by_cmp rec
 record_ties r s =
     grind (arith, four_tests, name_ties, nat_ties, lists_ties, then_ties)
 
--- equal records whose owners are in lower case are one
+-- records that are equal by `records_equal`, with owners in lower case, are the same
 abbrev pub LowerOwner : ResourceRecord → Type 0
 LowerOwner r = Lower r.owner
 

@@ -22,7 +22,7 @@ unfolding outcome
 targets_last z q t =
     grind (arith, target_of, flat_map-append, filter_map-append, no_targets, each_alias_item)
 
--- lengths
+-- a set has at most as many targets as records
 targets_short : (s : Section) (rs : List ResourceRecord)
     → length (targets_of (item s rs)) ≤ length rs
 targets_short s rs = grind (arith, item_records, mapped_short)
@@ -95,7 +95,7 @@ module _ (z : ZoneContents) (origin : folded z.origin ≡ z.origin) (low : AllBy
   unfolding outcome_at
   targets_few q t = grind (arith, targets_last, outcome_few)
 
--- sets
+-- the number of sets of an answer
 main_one : (z : ZoneContents) (t : ℕ) (x : Option DomainName) (y : Option (List ResourceRecord))
     → length (main_items (outcome_by z t x y)) ≤ 1
 main_one z t x y = grind arith
@@ -126,7 +126,7 @@ module _ (z : ZoneContents) (origin : folded z.origin ≡ z.origin)
   unfolding items outcome outcome_at
   few_items = grind (arith, length-append, main_one, alias_items_few, extra_few, few_targets)
 
--- nodes
+-- the number of nodes that an answer visits
 nodes_few : (z : ZoneContents) (ns : List DomainName)
     → AllByRecursion Named ns → sum (map (nodes_to z) ns) ≤ 128 * length ns
 nodes_few z [] e = omega arith

@@ -2,7 +2,7 @@
 use Rattle.dns_spec.proofs.Common.{◌≡◌, ℕ, ◌<◌, ◌≤◌, Bool, not, cond, ◌==◌, ◌⊎◌, inl, inr, List, length, take, Option, None, refl, sym, ap, arith, take_all, length-take-le, cases_lt, Octets, ZoneContents, option_map, Item, decide_query, decide, reply_of, reply_with, keep_longest, reply, reply_octets, octets_of, Header, MessageQuestion, format_error, not_implemented, most_over_udp, opcode, head_of, refusal_head, question_at, counts_are_one_question, is_ignored, QueryRead, absent, refused_with, query_or_error, query_read}
 use Rattle.dns_spec.proofs.Messages.Question.{question_ends}
 
--- what is examined of a query
+-- how a datagram is read, by the parts of it that are examined
 read_by : Bool → Header → Bool → Option MessageQuestion → QueryRead
 read_by ignored h one q =
     cond ignored absent
@@ -37,7 +37,7 @@ pub first_octets_decide : (z : ZoneContents) (keep : MessageQuestion → List It
 unfolding reply_with decide
 first_octets_decide z keep d = ap (λ x. reply_of keep z (decide_query z x)) (first_octets_read d)
 
--- so do its message and its octets
+-- the reply and its octets too depend only on the first 512 octets
 pub first_octets_reply : (z : ZoneContents) (d : Octets) (limit : ℕ)
     → reply z d limit ≡ reply z (take most_over_udp d) limit
 unfolding reply

@@ -1,4 +1,5 @@
--- In a zone that passes each item of a reply is the records of a set at an owner, with one TTL.
+-- If a zone passes, each item of its replies is the records of one RRset at one owner, with one
+-- TTL.
 use Rattle.dns_spec.proofs.Common.{common_steps, eqb-true, eq-eqb, false≢true, none-some, same_Some, list_any, DomainName, folded, names_equal, same, type_ns, type_cname, ResourceRecord, ZoneContents, at, of_type, rrset, with_owner, records_at, of_lowest_type, found, ttls_differ, Passes, Section, answer, Item, no_error, item, follows_alias, alias_set, chain, alias_items, asked_records, negative_soa, negative, positive, has_any, outcome_by, outcome_at, outcome, address_sets, extra, items, ◌≡◌, ℕ, ◌≤◌, Bool, true, false, ◌&&◌, not, cond, ◌==◌, ◌⊎◌, inl, inr, List, [], ◌∷◌, ◌++◌, map, length, Option, None, Some, All, filter, flat_map, refl, sym, ap, ap₂, ◌∙◌, subst, arith, IsSetAt, AllByRecursion, recursion_from_All, All-from_recursion}
 use Rattle.dns_spec.proofs.DomainNames.NameLaws.{names_equal-decides}
 use Rattle.dns_spec.proofs.ZoneChecks.PassedChecks.{passes_check, few_soa, one_soa}
@@ -128,7 +129,7 @@ module _ (z : ZoneContents) (origin : folded z.origin ≡ z.origin) (low : AllBy
           → Among r (at z n) → r.rtype ≡ t → FirstOf t (at z n) → r.ttl ≡ first_ttl t (at z n)
       first_is n t r m e f = same_ttl n r f.first m f.among (e ∙ sym f.typed) ∙ sym f.ttl
 
-  -- the set of a type at a name, with another owner
+  -- the set of a type at the name n, with the owner o
   shown_set : (o n : DomainName) (t : ℕ) → IsSetAt (of_type t (with_owner o (at z n)))
   shown_set o n t =
       one_set o (first_ttl t (at z n)) t (of_type t (with_owner o (at z n)))
@@ -142,7 +143,7 @@ module _ (z : ZoneContents) (origin : folded z.origin ≡ z.origin) (low : AllBy
       each_weak (r ∷ rs) e =
           (record { owner = e.0.0.0; ttl = e.0.0.1 e.0.1; rtype = e.0.1 }, each_weak rs e.1)
 
-  -- the records of a set, whose owner is the name in lower case
+  -- the records of a set at a name: their owner is the name in lower case
   pub own_records : (n : DomainName) (t : ℕ)
       → AllByRecursion (IsOf (folded n) (first_ttl t (at z n)) t) (rrset z n t)
   own_records n t =
@@ -174,7 +175,7 @@ module _ (z : ZoneContents) (origin : folded z.origin ≡ z.origin) (low : AllBy
       shown [] e = tt
       shown (r ∷ rs) e = (record { owner = refl; ttl = e.0.0 e.0.1; rtype = e.0.1 }, shown rs e.1)
 
-  -- the records found for a name are the records at some name, with the other name as owner
+  -- the records found for q are the records at some name, with q as owner
   record Shown (q : DomainName) (rs : List ResourceRecord) : Type 0 where
     source : DomainName
     whole : with_owner q (at z source) ≡ rs

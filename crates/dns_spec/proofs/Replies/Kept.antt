@@ -1,4 +1,4 @@
--- What is kept of a list of sets is its longest beginning that fits.
+-- The sets that are kept of a list are its longest beginning that fits the limit.
 use Rattle.dns_spec.proofs.Common.{◌≡◌, ℕ, zero, suc, ◌<◌, ◌≤◌, Bool, true, false, cond, nat_le, ◌⊎◌, inl, inr, List, [], length, take, refl, sym, ap, ◌∙◌, arith, eq-or-lt_of_le, false≢true, length-take-le, Item, kept, greatest}
 
 pub greatest_bound : (test : ℕ → Bool) (n : ℕ) → greatest test n ≤ n
@@ -26,7 +26,7 @@ module _ (size_of : List Item → ℕ) (limit : ℕ) (sets : List Item) where
   how_many : ℕ
   how_many = greatest (λ k. nat_le (size_of (take k sets)) limit) (length sets)
 
-  -- it fits if the empty list does
+  -- the kept sets fit if the empty list does
   pub kept_fits : size_of [] ≤ limit → size_of (kept size_of limit sets) ≤ limit
   unfolding how_many
   kept_fits h = grind (arith, greatest_passes)
@@ -35,7 +35,7 @@ module _ (size_of : List Item → ℕ) (limit : ℕ) (sets : List Item) where
       (kept size_of limit sets) ≡ greatest (λ k. nat_le (size_of (take k sets)) limit) (length sets)
   length-kept = grind (arith, length-take-le, greatest_bound)
 
-  -- and no longer beginning does
+  -- no beginning longer than the kept sets fits
   pub kept_longest : (k : ℕ)
       → k ≤ length sets → size_of (take k sets) ≤ limit → k ≤ length (kept size_of limit sets)
   kept_longest k h fits = grind (arith, greatest_most, length-kept)

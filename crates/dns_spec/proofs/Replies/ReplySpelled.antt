@@ -7,7 +7,7 @@ use Rattle.dns_spec.proofs.Layouts.SharedLayout.{layout_spells}
 use Rattle.dns_spec.proofs.Replies.WritableItems.{items_in_order, items_writable, outcome_rcode}
 use Rattle.dns_spec.proofs.Replies.Kept.{kept_fits}
 
--- a field of 16 bits of octets
+-- a field of two octets below 256 is below 2^16
 two_bound : (os : Octets) → length os ≤ 2 → AllByRecursion (λ o. o < 256) os → number_of os < 2 ^ 16
 two_bound [] h e = omega arith
 two_bound (a ∷ []) h e = let p = e.0 in omega (arith, p)
@@ -49,7 +49,7 @@ record Refuses (d : Octets) (h : Header) : Type 0 where
   low : rcode < 16
   head : refusal_head (head_of d) rcode ≡ h
 
--- what holds for a decision
+-- what holds for each decision about a datagram
 abbrev Decided : Octets → Decision → Type 0
 Decided d silence = Unit {0}
 Decided d (header_alone h) = Refuses d h
@@ -60,7 +60,7 @@ decided : (z : ZoneContents) (d : Octets) → Decided d (decide z d)
 unfolding decide query_read
 decided z d = grind (arith, cond_both)
 
--- a question with sets that fit a message
+-- `HasRoom`, by its parts
 roomy : (h : Header) (q : Option MessageQuestion) (is : List Item) → h.id < 2 ^ 16
     → h.flags < 2 ^ 16 → IfSome q IsAskable → sections_in_order is ≡ true → HasRoom h q is
 roomy h q is id flags ok ordered = grind arith
@@ -87,7 +87,7 @@ reply_spells z d limit r writable low from upto e = go (decide z d) (decided z d
         → ◌≡◌ {A = Option Reply} (Some x) (Some r) → Spells (reply_octets r) (reply_message r)
     replied x s e = subst (λ y. Spells (reply_octets y) (reply_message y)) (same_Some x r e) s
 
-    -- only the header, and perhaps the question
+    -- a refusal: only the header, or the header and the question
     refusing : (h : Header) (q : Option MessageQuestion) → Refuses d h
         → IfSome q IsAskable → size q [] ≤ 65535 → Spells (layout h q []) (message_of h q [])
     refusing h q ok may small =
@@ -96,7 +96,7 @@ reply_spells z d limit r writable low from upto e = go (decide z d) (decided z d
         (roomy _ q [] id (flags_bound (head_of d) false false ok.rcode ok.low) may refl)
         (All-nil IsWritable) small)
 
-    -- a question with the sets that are kept
+    -- an answer: the question, with the sets that are kept
     answering : (h : Header) (q : MessageQuestion) → IsAskable q
         → h.id < 2 ^ 16 → h.flags < 2 ^ 16 → Spells (layout h (Some q) (keep_longest z limit q))
         (message_of h (Some q) (keep_longest z limit q))

@@ -3,7 +3,7 @@ use Rattle.dns_spec.proofs.Common.{arith, rules, eqb-true, take_at, filter_map, 
 use Rattle.dns_spec.proofs.General.Elements.{each_any, each_flat_map}
 use Rattle.dns_spec.proofs.General.Sorted.{each_sort}
 
--- what is added for targets after others
+-- the sets added for two lists of targets, one after the other
 pub extra_append : (z : ZoneContents) (earlier : List Item) (ms ns : List DomainName)
     → extra z earlier (ms ++ ns) ≡ extra z earlier ms ++ extra z (earlier ++ extra z earlier ms) ns
 unfolding extra
@@ -76,7 +76,7 @@ pub no_targets : (is : List Item)
     → AllByRecursion (λ (i : Item). AllByRecursion IsAlias i.records) is → targets_of is ≡ []
 no_targets is e = search (rules, no_target, each_flat_map)
 
--- a referral adds nothing to the answer, and no other outcome refers
+-- an outcome is not a referral, or has no sets in the answer section
 record Refers (o : Outcome) : Type 0 where
   cases : (o.referral ≡ None) ⊎ (o.answers ≡ [])
 

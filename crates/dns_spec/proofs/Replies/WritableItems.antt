@@ -8,7 +8,7 @@ use Rattle.dns_spec.proofs.General.Filters.{each_filter}
 use Rattle.dns_spec.proofs.General.Tests.{found_each}
 use Rattle.dns_spec.proofs.General.Sorted.{each_sort}
 
--- names above a name, and in lower case, are valid
+-- a valid name; the names above it, and the name in lower case, are valid too
 abbrev pub Named : DomainName → Type 0
 Named n = is_name n ≡ true
 
@@ -47,7 +47,7 @@ named_first (name n ∷ xs) m e h = subst Named (same_Some n m h) e.0
 pub named_target : (t : ℕ) (d : Octets) (m : DomainName) → target t d ≡ Some m → Named m
 named_target t d m h = grind (arith, none-some, named_first, named_parts)
 
--- records taken from those of a zone
+-- records that fit a message, such as records taken from a zone of such records
 abbrev Writable : List ResourceRecord → Type 0
 Writable = AllByRecursion IsWritable
 
@@ -99,7 +99,7 @@ module _ (z : ZoneContents) (w : Writable z.records) where
   last_named s [] h e = h
   last_named s (m ∷ ms) h e = last_named m ms e.0 e.1
 
--- sets of a section whose records fit a message
+-- a set of the section s, whose records fit a message
 abbrev Stood : Section → Item → Type 0
 Stood s i = (i.section ≡ s) × Writable i.records
 
@@ -207,7 +207,7 @@ not_before : (s s' : Section) (js : List Item)
 not_before s s' [] h g = tt
 not_before s s' (j ∷ js) h g = grind (arith, (not_before s s' js h g.1))
 
--- sets of one section in front of sets of that section or later ones
+-- sets of one section in front of sets of that section or of later sections are in order
 ordered_front : (s : Section) (xs ys : List Item)
     → AllByRecursion (Stood s) xs → AllByRecursion (NotBefore s) ys → Ordered ys
     → Ordered (xs ++ ys)

@@ -1,4 +1,4 @@
--- Which sets answer a question, in unusual cases, computed from the definitions.
+-- Which RRsets answer a question in unusual cases, computed from the definitions.
 use Rattle.dns_spec.proofs.Common.{◌≡◌, ℕ, Bool, true, false, List, [], ◌∷◌, ◌++◌, map, length, codes, bytes_high_first, Octets, DomainName, wire, labels_from, type_cname, type_mx, cut, ResourceRecord, ZoneContents, faults, Section, answer, authority, additional, Item, chain_from, chain, outcome_at, outcome, extra, items, required_items, is_authoritative}
 use mathlib.Core.Path.{refl}
 use Rattle.dns_spec.proofs.WorkedExamples.Zones.{dotted, under, entry, in_zone, address, alias, server, net_192, small_zone_with}
@@ -6,8 +6,8 @@ use Rattle.dns_spec.proofs.WorkedExamples.Zones.{dotted, under, entry, in_zone, 
 abbrev exchange : ℕ → Octets → Octets
 exchange k to = bytes_high_first 2 k ++ wire (under to)
 
--- aliases of names below a cut, missing and outside; wildcards; exchanges; a cut with a server
--- below it and one elsewhere
+-- aliases of a name below a cut, of a missing name and of a name outside the zone; wildcards; mail
+-- exchanges; and a cut with a name server below it and one elsewhere
 abbrev zone : ZoneContents
 zone =
     small_zone_with (
@@ -33,7 +33,7 @@ zone_passes : faults zone ≡ []
 unfolding faults labels_from cut
 zone_passes = refl
 
--- a set: its section, its owner's text, its type and the number of its records
+-- a set: its section, its owner, its type and the number of its records
 abbrev Row : Type 0
 Row = Section × DomainName × ℕ × ℕ
 
@@ -73,15 +73,15 @@ answer_rows :
     ≡ (0, true, 3, in_answer (codes "far.example") 5 1 ++ referral))
     -- an alias of a name that does not exist is a name error
     × (summary (codes "gone.example") 1 ≡ (3, true, 2, in_answer (codes "gone.example") 5 1 ++ soa))
-    -- an alias of a name of another zone ends there
+    -- the chain ends at an alias of a name outside the zone
     × (summary (codes "out.example") 1 ≡ (0, true, 1, in_answer (codes "out.example") 5 1))
-    -- a wildcard that only has names below it gives a negative answer without an error
+    -- a wildcard without records of its own gives a negative answer, not a name error
     × (summary (codes "q.v.example") 1 ≡ (0, true, 1, soa))
-    -- a wildcard does not apply below a name that exists
+    -- a wildcard does not apply below another name that exists
     × (summary (codes "z.c.e.example") 1 ≡ (3, true, 1, soa))
-    -- but it does elsewhere
+    -- but it applies to other names
     × (summary (codes "z.e.example") 1 ≡ (0, true, 1, in_answer (codes "z.e.example") 1 1))
-    -- also for a name of several labels
+    -- also to a name with several more labels
     × (summary (codes "y.z.e.example") 1 ≡ (0, true, 1, in_answer (codes "y.z.e.example") 1 1))
     -- an alias by a wildcard
     × (summary (codes "q.k.example") 1
@@ -91,26 +91,26 @@ answer_rows :
     ≡ (0, true, 2, in_answer (codes "*.k.example") 5 1 ++ in_answer (codes "www.example") 1 1))
     -- an alias that is asked for is not followed
     × (summary (codes "alias.example") 5 ≡ (0, true, 1, in_answer (codes "alias.example") 5 1))
-    -- nor if all types are asked for
+    -- nor is it followed if all types are asked for
     × (summary (codes "alias.example") 255 ≡ (0, true, 1, in_answer (codes "alias.example") 5 1))
     -- glue is not an answer
     × (summary (codes "ns.sub.example") 1 ≡ (0, false, 2, referral))
     -- nor are the servers at a cut
     × (summary (codes "sub.example") 2 ≡ (0, false, 2, referral))
-    -- also if all types are asked for
+    -- not even if all types are asked for
     × (summary (codes "sub.example") 255 ≡ (0, false, 2, referral))
-    -- if all types are asked for, the answer is the one set with the lowest type number: addresses
-    -- have no targets
+    -- if all types are asked for, the answer is only the set with the lowest type number, here A,
+    -- so the MX set gives no additional addresses
     × (summary (codes "self.example") 255 ≡ (0, true, 1, in_answer (codes "self.example") 1 1))
     -- the address set of a target that appears twice is not repeated
     × (summary (codes "twice.example") 15
     ≡ (0, true, 1, in_answer (codes "twice.example") 15 2 ++ added (codes "www.example") 1 1))
     -- a name without the type asked for
     × (summary (codes "www.example") 16 ≡ (0, true, 1, soa))
-    -- the NS set of the origin comes before its SOA
+    -- if all types of the origin are asked for, NS has a lower type number than SOA
     × (summary (codes "example") 255
     ≡ (0, true, 1, in_answer (codes "example") 2 1 ++ added (codes "ns.example") 1 1))
-    -- nothing is found at a name if only names below it own records
+    -- an empty non-terminal gives a negative answer, even if all types are asked for
     × (summary (codes "w.example") 255 ≡ (0, true, 1, soa))
     -- additional addresses in the order of their targets
     × (summary (codes "mm.example") 15

@@ -1,4 +1,5 @@
--- The faults of zones, computed from the definitions: most checks once, with cases that pass them.
+-- The faults of zones, computed from the definitions: each check fails at least once, and other
+-- zones pass.
 use Rattle.dns_spec.proofs.Common.{◌≡◌, ℕ, zero, suc, ◌+◌, List, [], ◌∷◌, ◌++◌, codes, bytes_high_first, Octets, DomainName, wire, labels_from, type_txt, type_a, type_soa, type_mx, cut, ResourceRecord, zone_of, Fault, faults}
 use Rattle.dns_spec.proofs.WorkedExamples.Zones.{dotted, example, under, entry, in_zone, address, alias, server, net_192, soa_of, addresses, small_zone_with, small_zone, large_zone}
 
@@ -6,7 +7,7 @@ use Rattle.dns_spec.proofs.WorkedExamples.Zones.{dotted, example, under, entry, 
 abbrev reported : Octets → ℕ → Fault
 reported cs code = record { owner = dotted cs; code = code }
 
--- n sets of unknown types at g
+-- k sets of types without a mnemonic at `g.example.`
 abbrev unknown_sets : ℕ → List ResourceRecord
 unknown_sets zero = []
 unknown_sets (suc k) = unknown_sets k ++ in_zone (codes "g") (65280 + k) [] ∷ []
@@ -25,22 +26,22 @@ exchange = entry example type_mx (bytes_high_first 2 10 ++ wire (under (codes "a
 check_rows :
     -- a record that appears twice is one record
     With (address (codes "www") (net_192 10) ∷ []) []
-    -- one set with two TTLs
+    -- a set with two TTLs
     × With (record (address (codes "www") (net_192 10)) { ttl = 60 } ∷ [])
     (reported (codes "www.example") 8 ∷ [])
     -- two CNAME records at a name
     × With (alias (codes "alias") (codes "ns") ∷ []) (reported (codes "alias.example") 7 ∷ [])
-    -- a server that is an alias has no address either
+    -- a name server that is an alias lacks an address too
     × With (server example (codes "alias") ∷ [])
     (reported (codes "example") 9 ∷ reported (codes "example") 10 ∷ [])
-    -- a server below a cut has its address there
+    -- a name server of the origin may be below a cut without an address in this zone
     × With (server example (codes "h.sub") ∷ []) []
-    -- but a server below the cut that it serves has glue
+    -- but a name server below the cut that it serves needs glue
     × With (server (under (codes "sub")) (codes "h.sub") ∷ [])
     (reported (codes "sub.example") 10 ∷ [])
     -- a mail exchange that is an alias
     × With (exchange ∷ []) (reported (codes "example") 11 ∷ [])
-    -- a cut at a wildcard, so its strings are not allowed
+    -- a cut at a wildcard, so its TXT set is not allowed either
     × With (server (under (codes "*.w")) (codes "ns") ∷ [])
     (reported (codes "*.w.example") 12 ∷ reported (codes "*.w.example") 13 ∷ [])
     -- a name of another zone

@@ -1,4 +1,4 @@
--- Which arguments ask for what, in the worked cases.
+-- What the arguments of command lines ask for.
 use Rattle.dns_spec.proofs.Common.{◌≡◌, Bool, not, true, false, List, [], ◌∷◌, ◌++◌, codes, refl, ap, ◌∙◌, lit≤, inl, inr, digits, false≢true, Octets, Options, AreOptions, AskToCheck, AskToServe, is_dashed, by_lines, by_turns, udp, tcp, ZoneWords, ServiceAsked, HasTurns, service_words}
 
 abbrev zone : ZoneWords
@@ -46,7 +46,7 @@ command_rows = (
   serves (by_turns udp (codes "127.0.0.1:53") 1000000) (lit≤ tt, lit≤ tt),
 )
 
--- an option after ORIGIN is not an option, and is not accepted as FILE
+-- `--quiet` as the last argument is not an option, and is not accepted as FILE
 last_of : List Octets → Octets
 last_of [] = []
 last_of (w ∷ []) = w

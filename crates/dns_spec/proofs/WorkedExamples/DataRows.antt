@@ -1,5 +1,5 @@
--- Words and data, text and octets, in the worked cases: computed from the definitions or, if these
--- are relations, read or refuted.
+-- Words and data, text and octets, computed from the definitions; relations between them are proved
+-- or refuted.
 use Rattle.dns_spec.proofs.Common.{◌≡◌, ℕ, zero, suc, ◌<◌, ◌^◌, List, [], ◌∷◌, ◌++◌, true, false, refl, sym, ◌∙◌, ap, length, codes, decimal, get_or, arith, digits, false≢true, inl, inr, none-some, same_Some, Octets, labels_from, SpellsName, octet_text, type_by_mnemonic, type_text, Word, Says, SaysWord, SaysUnknown, DataFaultIs, number, SpellsString, hex_octets, ipv6_groups, SaysIpv6, data_text, None, Some, first_decimal, cut, type_a, type_hinfo, type_mx, type_txt, type_aaaa, type_srv, Valid, valid, parts, octets, name, lower_case}
 use Rattle.dns_spec.proofs.WorkedExamples.Readings.{Rows, SaysOf, are_found, form_in, found_is, unknown_in, said_in, string_in, name_in}
 use Rattle.dns_spec.proofs.WorkedExamples.Zones.{hex, dotted, example, under}
@@ -14,7 +14,7 @@ quoted cs = record { raw = cs; is_quoted = true }
 abbrev mark : Word
 mark = bare (codes "\\#")
 
--- a string with escapes, and a single zero group
+-- a string with escapes, and an address with a single zero group
 abbrev escaped : Octets
 escaped = codes "a\\\"b\\009"
 
@@ -26,7 +26,7 @@ said_rows : Rows SaysOf (
     ((type_aaaa, bare (codes "1:0:2:3:4:5:6:7") ∷ []), hex single_zero)
     -- an address in the generic form
     ∷ ((type_a, mark ∷ bare (codes "4") ∷ bare (codes "C0000201") ∷ []), hex (codes "c0000201"))
-    -- no octets for a type without a mnemonic
+    -- data of no octets, of a type without a mnemonic
     ∷ ((65280, mark ∷ bare (codes "0") ∷ []), [])
     -- a string with escapes
     ∷ ((type_txt, quoted escaped ∷ []), hex (codes "0461226209"))
@@ -39,14 +39,15 @@ said_rows : Rows SaysOf (
 unfolding ipv6_groups digits cut labels_from hex_octets
 said_rows = are_found _ said_in _ refl
 
--- the string and the name in them
+-- the string and the name in the last two rows
 escaped_string : SpellsString escaped (97 ∷ 34 ∷ 98 ∷ 9 ∷ [])
 escaped_string = found_is (string_in 9 escaped) (97 ∷ 34 ∷ 98 ∷ 9 ∷ []) refl
 
 mail_name : SpellsName example (codes "Mail") (under (codes "Mail"))
 mail_name = found_is (name_in example (codes "Mail")) (under (codes "Mail")) refl
 
--- an address read from a text and written as one, and data written
+-- the text is read as an IPv6 address of these hex digits; and data of these hex digits is written
+-- as the text
 abbrev Reads : Octets → Octets → Type 0
 Reads text digits = SaysIpv6 text (hex digits)
 
@@ -63,7 +64,7 @@ data_rows :
     -- a single zero group is not replaced
     Reads (codes "1:0:2:3:4:5:6:7") single_zero
     × Writes type_aaaa single_zero (codes "1:0:2:3:4:5:6:7")
-    -- the first of two equal runs, and capitals
+    -- `::` replaces the first of two equal runs; capitals are read, but not written
     × Reads (codes "2001:DB8:0:0:1:0:0:1") (codes "2001 0db8 0000 0000 0001 0000 0000 0001")
     × Writes type_aaaa (codes "2001 0db8 0000 0000 0001 0000 0000 0001") (codes "2001:db8::1:0:0:1")
     -- `::` for a single group is read, but not written
@@ -72,7 +73,7 @@ data_rows :
     -- `::` for all groups
     × Reads (codes "::") (codes "0000 0000 0000 0000 0000 0000 0000 0000")
     × Writes type_aaaa (codes "0000 0000 0000 0000 0000 0000 0000 0000") (codes "::")
-    -- the longest run, at the end
+    -- `::` replaces the longest run, here at the end
     × Writes type_aaaa (codes "0001 0000 0000 0002 0003 0000 0000 0000") (codes "1:0:0:2:3::")
     -- eight groups leave nothing for `::`
     × (ipv6_groups (codes "1:2:3:4:5:6:7:8::") ≡ None)
@@ -82,7 +83,7 @@ data_rows :
     × (ipv6_groups (codes ":::") ≡ None)
     × (ipv6_groups (codes "1:2:3:4:5:6:7:00008") ≡ None)
     × (ipv6_groups (codes ":1:2:3:4:5:6:7") ≡ None)
-    -- an address in the generic form; and in that form no octets, and octets
+    -- an address, in its own form; and data of no octets and of two octets, in the generic form
     × Writes type_a (codes "c0000201") (codes "192.0.2.1")
     × Writes 65280 [] (codes "\\# 0")
     × Writes 65280 (codes "0aFF") (codes "\\# 2 0aff")
@@ -92,7 +93,7 @@ data_rows :
     × Writes type_mx mail_exchange (codes "10 mail.example.")
     × (parts type_mx (hex mail_exchange)
     ≡ octets (hex (codes "000a")) ∷ name (under (codes "mail")) ∷ [])
-    -- the same data as received in a message
+    -- the same data with a capital letter, as a message may contain it
     × Valid type_mx (hex capital_exchange)
     × (lower_case type_mx (hex capital_exchange) ≡ hex mail_exchange)
 unfolding ipv6_groups data_text digits labels_from octet_text cut
@@ -119,7 +120,7 @@ refuted :
     -- octets that are not an address
     × SaysNothing type_a (mark ∷ bare (codes "3") ∷ bare (codes "c00002") ∷ [])
     × SaysNothing type_a (mark ∷ bare (codes "0") ∷ [])
-    -- a word of three digits
+    -- a word of three hex digits
     × SaysNothing 65280 (mark ∷ bare (codes "2") ∷ bare (codes "abc") ∷ bare (codes "d") ∷ [])
     -- a leading zero
     × SaysNothing type_mx (bare (codes "010") ∷ bare (codes "mail") ∷ [])
@@ -136,7 +137,7 @@ refuted = (
   λ d h. h.said.4,
 )
 
--- a backslash alone
+-- a backslash alone spells no string
 no_escape : (s : Octets) → SpellsString (codes "\\") s → ⊥
 no_escape [] e = grind arith
 no_escape (x ∷ s) (first, others, e, o, h) = grind arith
@@ -158,19 +159,19 @@ three_octets =
     found_is (unknown_in (bare (codes "3") ∷ bare (codes "c00002") ∷ [])) (hex (codes "c00002")) refl
 
 fault_rows :
-    -- words are counted before any is judged
+    -- the number of words is tested before any word
     HasFault type_mx (bare (codes "010") ∷ []) 1
     × HasFault type_a (bare (codes "1.2.3") ∷ bare (codes "x") ∷ []) 1
     × HasFault type_txt [] 1
-    -- a leading zero, before a name in quotation marks; and that name after a number
+    -- a number with a leading zero, before a quoted name; and the quoted name after a valid number
     × HasFault type_mx (bare (codes "010") ∷ quoted (codes "mail") ∷ []) 2
     × HasFault type_mx (bare (codes "10") ∷ quoted (codes "mail") ∷ []) 4
-    -- two gaps, and an address in quotation marks, which is not `\#`
+    -- `::` twice; and a quoted `\#`, which is not the mark of the generic form
     × HasFault type_aaaa (bare (codes "1::2::3") ∷ []) 3
     × HasFault type_a (quoted (codes "\\#") ∷ []) 3
     -- a backslash that begins no escape
     × HasFault type_txt (bare (codes "\\") ∷ []) 5
-    -- a type without a form of its own, and an odd number of digits
+    -- a type without a form of its own, and an odd number of hex digits
     × HasFault 65280 (bare (codes "x") ∷ []) 6
     × HasFault type_a (mark ∷ bare (codes "1") ∷ bare (codes "abc") ∷ []) 6
     -- octets that are not an address
@@ -193,7 +194,7 @@ fault_rows = (
 -- words that name types, and data in lower case and in parts
 type_rows :
     (type_by_mnemonic (codes "aAaA") ≡ Some 28)
-    -- a number is not a mnemonic in the table
+    -- `TYPE1` is not a mnemonic in the table
     × (type_by_mnemonic (codes "TYPE1") ≡ None)
     × (type_text 33 ≡ codes "SRV")
     × (type_text 65 ≡ codes "TYPE65")
@@ -202,7 +203,7 @@ type_rows :
     ≡ hex (codes "000a046d61696c076578616d706c6500"))
     × (parts type_mx (hex (codes "000a044d61696c076578616d706c6500"))
     ≡ octets (hex (codes "000a")) ∷ name (dotted (codes "Mail.example")) ∷ [])
-    -- a compressed name, one octet more, and one octet less
+    -- a compressed name, an address of five octets, and an address of three
     × (valid type_srv (hex (codes "000100020035c00c")) ≡ false)
     × (valid type_a (hex (codes "c000020100")) ≡ false)
     × (valid type_a (hex (codes "c00002")) ≡ false)

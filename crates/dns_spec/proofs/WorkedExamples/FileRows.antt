@@ -1,5 +1,5 @@
--- A small file and its records; and a whole zone, with the faults of texts that differ from its
--- text in one line.
+-- A small file and its records; and the text of a whole zone, with the faults of texts that differ
+-- from it in one line.
 use Rattle.dns_spec.proofs.Common.{ℕ, List, [], ◌∷◌, ◌++◌, refl, codes, digits, Octets, DomainName, wire, labels_from, cut, type_a, type_ns, type_soa, type_txt, type_aaaa, hex_octets, ipv6_groups, ResourceRecord, run_length, records, fault_at, Means, bad_ttl, bad_type, no_ttl}
 use Rattle.dns_spec.proofs.WorkedExamples.Zones.{hex, example, under, net_192, soa_of, strings_data, small_records}
 use Rattle.dns_spec.proofs.WorkedExamples.Readings.{tokens_in, Mean, are_found, text_in, reads}
@@ -21,7 +21,7 @@ small_file =
 abbrev record_of : DomainName → ℕ → ℕ → Octets → ResourceRecord
 record_of n ttl t d = record { owner = n; ttl = ttl; rtype = t; rdata = d }
 
--- a name below the origin of the last two records
+-- the owner of the last two records, whose first label is `a.b`
 abbrev dotted_owner : DomainName
 dotted_owner = codes "a.b" ∷ codes "deep" ∷ example
 
@@ -40,7 +40,7 @@ pub small_file_means : Means example small_file (records six_records)
 unfolding tokens_in run_length xor digits cut labels_from ipv6_groups hex_octets
 small_file_means = reads small_file (records six_records) refl
 
--- the lines of the zone
+-- the lines of the small zone
 abbrev soa_and_server : Octets
 soa_and_server = codes "@ SOA ns hostmaster 1 7200 900 1209600 300\n" ++ codes "@ NS ns\n"
 

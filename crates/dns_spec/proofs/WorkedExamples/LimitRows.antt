@@ -6,7 +6,7 @@ use Rattle.dns_spec.proofs.WorkedExamples.Readings.{data_in, found_is}
 use Rattle.dns_spec.proofs.WorkedExamples.Zones.{example}
 
 -- Copies of one line, which states a record, up to one too many. The number of lines is a
--- variable, so nothing computes all of them.
+-- variable, so the check does not compute all lines.
 abbrev line_tokens : List Token
 line_tokens =
     word (codes "@") ∷ blank ∷ word (codes "7") ∷ blank ∷ word (codes "TXT") ∷ blank
@@ -16,7 +16,7 @@ line_tokens =
 abbrev line_entry : Entry
 line_entry = ended line_tokens
 
--- n lines, their tokens, their entries, and the entries in front of another one
+-- n lines, their tokens, their entries, and the entries before a line
 lines : ℕ → Octets
 lines zero = []
 lines (suc n) = codes "@ 7 TXT a\n" ++ lines n
@@ -53,7 +53,7 @@ lines_ended zero = refl
 lines_ended (suc zero) = refl
 lines_ended (suc (suc n)) = ap (λ es. line_entry ∷ es) (lines_ended (suc n))
 
--- what precedes a line
+-- the origin in force, the number of records before a line, and the number of the line
 origin_kept : (k : ℕ) → OriginIs example (earlier k) example
 unfolding earlier
 origin_kept zero = refl
@@ -165,8 +165,8 @@ blanks_then (o ∷ text) rest some h none =
     (ap (λ k. Some (blank, drop k (text ++ rest))) (blanks_before text rest parts.1 none)
     ∙ ap (λ r. Some (blank, r)) (drop-append_seam text rest))
 
--- Blanks up to the limit, with these octets at their end, and more after them: if no token begins
--- with the octets, they decide the fault.
+-- A text of blanks, followed by the octets `ends` up to the limit and by more octets: if no token
+-- begins with `ends`, they decide the fault.
 AtLimit : Octets → FileFault → Type 0
 AtLimit ends code = (text more : Octets) → length text + length ends ≡ most_octets → 0 < length more
     → list_all is_blank text ≡ true → Means example (text ++ (ends ++ more)) (fault_at code 1)
@@ -211,13 +211,14 @@ at_limit ends code few none at_end reports text more full goes_on blanks =
     reported (Some c) e = cc
 
 limit_rows :
-    -- octet 16,777,217, if there is no other fault
+    -- more octets than the limit, without another fault
     AtLimit [] too_long
-    -- an escape that the next octets might complete, and one that they can't
+    -- a backslash with fewer than three digits after it, whatever their value; an escape that is
+    -- invalid already; and CR
     × AtLimit (codes "\\3") too_long
     × AtLimit (codes "\\1x") bad_escape
     × AtLimit (codes "\r") too_long
-    -- an octet that isn't allowed, before the limit
+    -- the last octet before the limit is not allowed
     × AtLimit (0 ∷ []) bad_octet
     -- a string that does not end at the limit
     × AtLimit (codes "\"a") too_long

@@ -27,7 +27,7 @@ prints_fault l b n is_line e least most =
     rw is_line (inr (e, (n, least, most, refl)))
 
 printed_rows :
-    -- a reply with an address, on a line of its own and before other lines
+    -- a reply with an address, on the first of several lines
     Prints (address_digits ++ codes "\n\nzz")
     (codes "header 1234 8400 1 1 0 0\n" ++ codes "question www.example. IN A\n"
     ++ codes "answer www.example. 3600 IN A 192.0.2.10\n")
@@ -36,13 +36,13 @@ printed_rows :
     (codes "header 1234 8403 1 0 1 0\n" ++ codes "question nope.example. IN A\n"
     ++ codes "authority example. 300 IN SOA ns.example. hostmaster.example. 1 7200 900 1209600"
     ++ codes " 300\n")
-    -- a record of another class, with data that would be an address, and an additional one
+    -- an additional record of another class, with data that would be an address in class IN
     × (section_line (codes "additional")
     (record { owner = under (codes "a"); rtype = 1; rclass = 3; ttl = 0; rdata = net_192 10 })
     ≡ codes "additional a.example. 0 CLASS3 A \\# 4 c000020a\n")
-    -- the number of the fault of a pointer to itself
+    -- a pointer to itself: fault 3
     × Refuses pointer_digits (codes "fault 3\n")
-    -- an input without lines is the empty message, which ends before its header does
+    -- an input without lines is read as no octets, fewer than a header
     × Refuses [] (codes "fault 1\n")
     -- a line that is not a message
     × Refuses (codes "zz\n00") (codes "bad hex\n")
@@ -59,12 +59,12 @@ printed_rows = (
 
 -- the lines of an input, and what is written for them
 line_rows :
-    -- no line follows the last LF, unless octets do
+    -- octets after the last LF are a line
     (lines [] ≡ [])
     × (lines (codes "ab\n\n") ≡ codes "ab" ∷ [] ∷ [])
     × (lines (codes "ab\n\nc") ≡ codes "ab" ∷ [] ∷ codes "c" ∷ [])
     × (ended_lines (codes "ab\n\nc") ≡ codes "ab" ∷ [] ∷ [])
-    -- digits are in either case, and their number is even; other octets, such as CR, are not
+    -- digits may be in either case, but their number is even; other octets, such as CR, are not
     -- allowed
     × (line_message (codes "0aFf") ≡ Some (10 ∷ 255 ∷ []))
     × (line_message [] ≡ Some [])
@@ -73,7 +73,7 @@ line_rows :
 unfolding lines hex_octets
 line_rows = search []
 
--- a reply to all messages but the empty one: the message itself
+-- the reply to a message is the message; the empty message gets no reply
 echo : Octets → Option Octets
 echo [] = None
 echo (o ∷ m) = Some (o ∷ m)

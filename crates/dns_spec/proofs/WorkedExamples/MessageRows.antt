@@ -1,5 +1,5 @@
--- Names, queries and messages read from octets, complete, changed and cut, computed from the
--- definitions.
+-- Names, queries and messages read from octets that are complete, changed or cut short, computed
+-- from the definitions.
 use Rattle.dns_spec.proofs.Common.{◌≡◌, ℕ, zero, suc, ◌+◌, Bool, true, not, List, [], ◌∷◌, ◌++◌, take, drop, replicate, codes, None, Some, is_some, option_map, list_all, Octets, DomainName, wire, Header, MessageRecord, DnsMessage, run, runs_before, name_at, fields_at, several, message_at, absent, refused_with, query, question_at, query_read, pointer}
 use Rattle.dns_spec.proofs.WorkedExamples.Zones.{hex, dotted, under, example, net_192, soa_of, letters, www_query}
 
@@ -26,7 +26,7 @@ error_reply = hex error_digits
 abbrev pointing : Octets → ℕ → ℕ → Octets
 pointing b i p = take i b ++ pointer p ++ drop (i + 2) b
 
--- n places from one on
+-- the k places from place i on
 abbrev places : ℕ → ℕ → List ℕ
 places i zero = []
 places i (suc k) = i ∷ places (i + 1) k
@@ -35,7 +35,7 @@ unfoldable spells_nothing : Octets → Bool
 unfolding run runs_before name_at fields_at several message_at
 spells_nothing b = not (is_some (message_at b))
 
--- the message that they spell; data is read without compression
+-- the messages that the two replies spell, with data without compression
 abbrev message_of : ℕ → Octets → List MessageRecord → List MessageRecord → DnsMessage
 message_of flags cs answers authorities = record {
   header = record { id = 4660; flags = flags };
@@ -63,7 +63,7 @@ message_rows :
     -- a pointer into the header, and one to itself
     × (spells_nothing (pointing address_reply 29 11) ≡ true)
     × (spells_nothing (pointing address_reply 29 29) ≡ true)
-    -- a reserved label in place of a length
+    -- a reserved octet in place of a label's length
     × (spells_nothing (take 12 address_reply ++ 67 ∷ drop 13 address_reply) ≡ true)
     -- no octets, one octet less, and one octet more
     × (spells_nothing [] ≡ true)
@@ -76,8 +76,8 @@ message_rows :
 unfolding spells_nothing run runs_before name_at fields_at several message_at
 message_rows = search []
 
--- A pointer to the place before it is valid, whatever octets are there: a label of one octet, and
--- one of 29.
+-- A pointer to the place just before it is valid if the octets from there on spell a name, here a
+-- label of one octet, the pointer's first, and a label of 29 octets.
 abbrev authority_owners : DnsMessage → List DomainName
 authority_owners m = owners m.authorities
   where
@@ -88,7 +88,8 @@ authority_owners m = owners m.authorities
 one_place_before_rows :
     (option_map authority_owners (message_at (pointing error_reply 30 29))
     ≡ Some (((192 ∷ []) ∷ take 29 (drop 32 error_reply) ∷ []) ∷ []))
-    -- each pointer to each place of the header, and to each place from its own run on
+    -- each of the three pointers, to each place of the header and to each place from the beginning
+    -- of its own run on
     × (list_all (λ i. list_all (λ p. spells_nothing (pointing error_reply i p)) (places 0 12))
     (30 ∷ 45 ∷ 58 ∷ []) ≡ true)
     × (list_all (λ p. spells_nothing (pointing error_reply 30 p)) (places 30 50) ≡ true)
@@ -101,7 +102,7 @@ one_place_before_rows = search []
 abbrev message : Octets → Octets
 message os = replicate 12 0 ++ os
 
--- `www` at 12, `x` and a pointer to it at 17, a pointer to that at 21
+-- `www` at place 12; `x` and a pointer to 12 at place 17; a pointer to 17 at place 21
 abbrev chained : Octets
 chained = message (hex (codes "0377777700 0178c00c c011"))
 
@@ -113,7 +114,7 @@ reading_rows :
     × (name_at (message (hex (codes "0161c00c"))) 12 ≡ None)
     -- also if the run was reached by a pointer that is itself valid
     × (name_at (message (hex (codes "0161c00cc00c"))) 16 ≡ None)
-    -- to itself, forwards, and into the header
+    -- a pointer to itself, a pointer forwards, and a pointer into the header
     × (name_at (message (hex (codes "00c00d"))) 13 ≡ None)
     × (name_at (message (hex (codes "c00e00"))) 12 ≡ None)
     × (name_at (message (hex (codes "00c00b"))) 13 ≡ None)
@@ -125,7 +126,7 @@ reading_rows :
 unfolding run runs_before name_at
 reading_rows = search []
 
--- a name of 255 octets, and a label in front that makes it too long
+-- a name of 255 octets; and a label in front of it, which makes the name too long
 abbrev longest : DomainName
 longest = letters 63 ∷ letters 63 ∷ letters 63 ∷ letters 61 ∷ []
 
@@ -143,10 +144,10 @@ abbrev head : ℕ → Header
 head flags = record { id = 4660; flags = flags }
 
 query_rows :
-    -- header and question as received
+    -- the header and the question are as received
     (query_read www_query
     ≡ query (head 0) (record { qname = dotted (codes "www.example"); qtype = 1; qclass = 1 }))
-    -- the root, capitals, and any class or type do not matter here; RD is set
+    -- the root, with any type and class; RD is set
     × (query_read (hex (codes "123401000001000000000000 000041ffff"))
     ≡ query (head 256) (record { qname = []; qtype = 65; qclass = 65535 }))
     -- fewer octets than a header, and a response
@@ -154,7 +155,8 @@ query_rows :
     × (query_read (hex (codes "123484000001000000000000 0000010001")) ≡ absent)
     -- another opcode gives RCODE 4, and the opcode stays (RFC 1035 4.1.1)
     × (query_read (hex (codes "123410000000000000000000")) ≡ refused_with (head 36868))
-    -- no question, two questions, a record, and an octet after the question give RCODE 1
+    -- no question, two questions, a question and a record, and an octet after the question give
+    -- RCODE 1
     × (query_read (hex (codes "123401000000000000000000")) ≡ refused_with (head 33025))
     × (query_read (hex (codes "123400000002000000000000 0000010001 0000010001"))
     ≡ refused_with (head 32769))

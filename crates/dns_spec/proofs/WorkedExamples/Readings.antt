@@ -1,5 +1,5 @@
--- Readings that compute what a text or a part of it means, with the proof that it does, or nothing
--- if the reading can't decide.
+-- Functions that compute what a text or a part of a text means, together with the proof, or give
+-- `None` if they can't decide.
 use Rattle.dns_spec.proofs.Common.{◌≡◌, ◌≢◌, ℕ, zero, suc, ◌^◌, ◌⊎◌, inl, inr, Bool, true, false, ◌&&◌, ◌||◌, not, ◌==◌, List, [], ◌∷◌, ◌++◌, Option, Some, None, refl, sym, ◌∙◌, ap, subst, codes, decimal, length, map, take, drop, nat_lt, nat_le, arith, MatchOption, MatchBool, bytes_high_first, list_all, slice_split, flat_map, option_map, is_none, digits_value, and_parts, and_from, false≢true, eqb-true, eqb-false, ltb-true, leb-true, le-leb, decimal_is_IsNumeral, none-some, same_Some, Octets, DomainName, wire, folded, is_name, octets_equal, SpellsOctet, TextSpells, SpellsName, escape_front, text_in_lower_case, type_by_mnemonic, numbered_type, NamesType, valid, lower_case, ResourceRecord, Entry, most_octets, token_front, lexical_fault, Token, TokensThen, cut_entries, with_end, whole_text, extent_by, FileFault, unknown_directive, directive_words, bad_owner, no_owner, bad_ttl, other_class, bad_type, no_ttl, bad_data, too_many_records, ipv4_text, ipv6_octets, Word, Field, number, ipv4, ipv6, domain, string, strings, anything, SaysString, SpellsString, SaysField, may_be_quoted, SaysFields, word_fields_of, SaysTyped, hex_octets, is_hex_word, SaysUnknown, is_unknown_mark, SaysAsSpelled, Says, EntryMeaning, faulty, gives, Nothing, EntryKind, no_words, directive, owned, unowned, kind_of, directive_word, owner_word, OriginIs, NameIs, OwnerBefore, most_ttl, TtlSays, ttl_in_force, TtlIs, is_zone_type, TypeIs, DataIs, IsRecord, Fields, fields, IsNoTtl, is_other_class, are_too_many, RecordGives, DirectiveSays, DirectiveGives, KindGives, EntryGives, Meaning, records, fault_at, after, line_after, EntriesMean, Means}
 use Rattle.dns_spec.proofs.DomainNames.NameLaws.{octets_equal-decides}
 use Rattle.dns_spec.proofs.NameTexts.Escapes.{escape_spells}
@@ -13,7 +13,7 @@ abbrev and_then : {A B : Type 0} → Option A → (A → Option B) → Option B
 and_then None f = None
 and_then (Some a) f = f a
 
--- what is found, by whether there is a value, and by a test
+-- what is found in one of two cases, by whether there is a value, and by a test
 abbrev matched : {A B : Type 0} {P : B → Type 0} {Q : A → B → Type 0} (o : Option A) → Found P
     → ((a : A) → Found (Q a)) → Found (λ v. MatchOption o (P v) (λ a. Q a v))
 matched None first second = first
@@ -24,7 +24,7 @@ abbrev chosen : {B : Type 0} {P Q : B → Type 0} (b : Bool) → Found P → Fou
 chosen true one other = one
 chosen false one other = other
 
--- a test that passes
+-- the proof that a test passes, and that it fails
 abbrev holds : (b : Bool) → Option (b ≡ true)
 holds true = Some refl
 holds false = None
@@ -33,7 +33,7 @@ abbrev fails : (b : Bool) → Option (b ≡ false)
 fails true = None
 fails false = Some refl
 
--- a value, or the proof that there is none
+-- the value of an option with its proof, and the proof that it has none
 abbrev there : {A : Type 0} (o : Option A) → Found (λ (v : A). o ≡ Some v)
 there None = None
 there (Some v) = Some (v, refl)
@@ -42,7 +42,7 @@ abbrev missing : {A : Type 0} (o : Option A) → Option (o ≡ None)
 missing None = Some refl
 missing (Some v) = None
 
--- one of two cases, by a test
+-- a proof of one of two cases, by a test
 abbrev by_test : {P Q : Type 0} (b : Bool) → (b ≡ true → P) → (b ≡ false → Q) → P ⊎ Q
 by_test true f g = inl (f refl)
 by_test false f g = inr (g refl)
@@ -130,7 +130,7 @@ name_in o text = elim (same_or_not text (codes "@")) [
   ]
 ]
 
--- a word that states a TTL, or states none
+-- the TTL that a word states, or the proof that it states none
 abbrev says_ttl : Word → ℕ → Bool
 says_ttl w n = not w.is_quoted && octets_equal w.raw (decimal n) && nat_le n most_ttl
 
@@ -153,7 +153,7 @@ ttl_of w =
     by_test (says_ttl w n) (λ e. (n, ttl_said w n e))
     (λ e k h. false≢true (sym e ∙ ttl_tested w k h))
 
--- a string
+-- the string that a text spells
 abbrev pub string_in : ℕ → (text : Octets) → Found (SpellsString text)
 string_in k [] = Some ([], refl)
 string_in zero (c ∷ cs) = None
@@ -169,7 +169,7 @@ said_string text = and_then (string_in (length text) text)
     (λ s. and_then (holds (nat_le (length s.0) 255))
     (λ h. Some (length s.0 ∷ s.0, (s.0, leb-true (length s.0) 255 h, s.1, refl))))
 
--- a word of data, and the words of data
+-- the data that a word spells for a field, and that words spell
 abbrev pub form_in : (f : Field) (o : DomainName) (text : Octets) → Found (SaysField f o text)
 form_in (number k) o text =
     let n = digits_value 10 text in
@@ -217,7 +217,7 @@ data_in t ws o = and_then (spelled_in t o ws) (λ d. and_then (holds (valid t d.
       record { as_spelled = d.0; said = d.1; is_valid = valid; lower = refl },
     )))
 
--- What a word of an entry means, after the entries before it.
+-- The origin, the names and the TTL in force after earlier entries.
 abbrev origin_after : (o : DomainName) (earlier : List Entry) → Found (OriginIs o earlier)
 origin_after o [] = Some (o, refl)
 origin_after o (e ∷ earlier) =
@@ -240,7 +240,7 @@ abbrev ttl_after : (earlier : List Entry) (stated : Option Word) → Found (TtlI
 ttl_after earlier stated = matched (ttl_in_force earlier stated) None
     (λ w. elim (ttl_of w) [ inl n ↦ Some n | inr none ↦ None ])
 
--- a type, or the proof that the word names none
+-- the type that a word names, or the proof that it names none
 abbrev names_type : (raw : Octets) → Found (NamesType raw)
 names_type raw = elim (there (type_by_mnemonic raw)) [
   | Some t ↦ Some (t.0, inl t.1)
@@ -277,7 +277,7 @@ abbrev data_after : (o : DomainName) (earlier : List Entry) (ws : List Word)
 data_after o earlier ws = and_then (type_in ws) (λ t. and_then (origin_after o earlier)
     (λ m. and_then (data_in t.0 (drop 1 ws) m.0) (λ d. Some (d.0, (t.0, t.1, (m.0, m.1, d.1))))))
 
--- A decided, or a value or the proof that there is none, if this is decided
+-- if decided: A or its negation; and a value for which P holds, or the proof that there is none
 abbrev Told : Type 0 → Type 0
 Told A = Option (A ⊎ (A → ⊥))
 
@@ -287,7 +287,7 @@ Known {A} P = Option (((v : A) × P v) ⊎ Nothing P)
 abbrev tested : (b : Bool) → Told (b ≡ true)
 tested b = Some (by_test b (λ e. e) (λ e h. false≢true (sym e ∙ h)))
 
--- something is found, so there is something
+-- a value was found, so there is one
 abbrev pub some : {A : Type 0} {P : A → Type 0} → (v : A) × P v → Nothing P → ⊥
 some f none = none f.0 f.1
 
@@ -320,7 +320,7 @@ whole_record o earlier Owner f n d =
     record { owner = (n.0, n.1, refl); ttl = k.1; rtype = t.1; rdata = d.1 } in
     Some (gives (r ∷ []), (r, is, refl))))
 
--- What a record means: its lowest fault, or itself. Faults of its data are not decided.
+-- What a record entry means: its first fault, or its record. Faults of its data are not decided.
 abbrev record_in : (o : DomainName) (earlier : List Entry) (fault : FileFault) (Owner : DomainName
     → Type 0) (f : Fields) → Known Owner → Found (RecordGives o earlier fault Owner f)
 record_in o earlier fault Owner f None = None
@@ -349,7 +349,8 @@ directive_in P one (w ∷ []) = elim (one w) [
   ]
 ]
 
--- a name, or the proof that there is none since the word is quoted
+-- the name of a word, or the proof that there is none since the word is quoted; and the inherited
+-- owner
 abbrev name_told : (o : DomainName) (earlier : List Entry) (w : Word) → Known (NameIs o earlier w)
 name_told o earlier w = elim (by_test w.is_quoted (λ e. e) (λ e. e)) [
   | inl quoted ↦ Some (inr (λ n h. false≢true (sym (ap not quoted) ∙ h.0)))
@@ -433,11 +434,11 @@ pub Rows : {A B : Type 0} → (A → B → Type 0) → List (A × B) → Type 0
 Rows P [] = Unit {0}
 Rows P (r ∷ rows) = P r.0 r.1 × Rows P rows
 
--- what a reading finds
+-- the value that is found
 abbrev pub value_of : {A : Type 0} {P : A → Type 0} → Found P → Option A
 value_of {A} {P} o = option_map (λ (f : (v : A) × P v). f.0) o
 
--- a reading that finds the second of each row
+-- if `read` finds the second part of each row from its first part, P holds for all rows
 pub are_found : {A B : Type 0} (P : A → B → Type 0) (read : (a : A) → Found (P a))
     (rows : List (A × B)) → map (λ (r : A × B). value_of (read r.0)) rows
     ≡ map (λ (r : A × B). Some r.1) rows → Rows P rows
@@ -457,7 +458,7 @@ Mean = Rows (Means example)
 pub reads : (text : Octets) (m : Meaning) → value_of (text_in text) ≡ Some m → Means example text m
 reads text m e = found_is (text_in text) m e
 
--- for each type these words spell this data, relative to `example.`
+-- the words spell this data of the type, relative to `example.`
 abbrev pub SaysOf : ℕ × List Word → Octets → Type 0
 SaysOf said d = Says said.0 said.1 example d
 

@@ -1,4 +1,4 @@
--- The reports about worked zones, octet by octet.
+-- The reports about zones and files, octet by octet.
 use Rattle.dns_spec.proofs.Common.{◌≡◌, ℕ, Bool, true, false, List, [], ◌∷◌, ◌++◌, codes, refl, lit<, lit≤, ◌<◌, All, Contains, digits, octet_text, Octets, DomainName, wire, labels_from, type_a, type_ns, type_soa, type_txt, cut, hex_octets, data_text, ResourceRecord, HoldSameRecords, zone_of, faults, bad_ttl, bad_type, records, fault_at, zone_text, IsReadRecord, record_line, Options, Report, Reports, report_of_meaning, zone_report, All-from_recursion}
 use Rattle.dns_spec.proofs.WorkedExamples.FileRows.{small_file, six_records, small_file_means}
 use Rattle.dns_spec.proofs.WorkedExamples.Zones.{dotted, example, entry, in_zone, alias, server, soa_of, strings_data, net_192, small_records, small_zone_with}
@@ -12,7 +12,7 @@ passed output = record { output = output; passes = true }
 abbrev failed : Octets → Report
 failed output = record { output = output; passes = false }
 
--- the reports without options, with only quiet, with only print, and with both
+-- no options, only `--quiet`, only `--print`, and both
 abbrev no_options : Options
 no_options = options false false
 
@@ -40,7 +40,7 @@ dotted_records =
     entry dotted_label type_soa (soa_of [] [] 8 2 3 4 5)
     ∷ entry dotted_label type_ns (wire (dotted (codes "ns"))) ∷ []
 
--- an address with two TTLs
+-- an address record with a TTL, and two lists of such records with two TTLs
 abbrev address_for : ℕ → ResourceRecord
 address_for ttl = record (entry (dotted (codes "ns")) type_a (net_192 1)) { ttl = ttl }
 
@@ -66,7 +66,7 @@ report_rows :
     ++ codes "ns.sub.example. 3600 IN A 192.0.2.53\n"
     ++ codes "*.w.example. 3600 IN TXT \"any\"\n"
     ++ codes "www.example. 3600 IN A 192.0.2.10\n"))
-    -- data below a cut, and an alias with an address: by owner
+    -- data below a cut, and an alias with an address: the faults are sorted by owner
     × (zone_report no_options (small_zone_with (alias (codes "www") (codes "ns")
     ∷ in_zone (codes "x.sub") type_txt (strings_data (codes "q" ∷ [])) ∷ []))
     ≡ failed (codes "x.sub.example. Z12\nwww.example. Z06\n"))
@@ -76,13 +76,13 @@ report_rows :
     ≡ failed (codes "example. Z01\nexample. Z04\n"))
     -- an empty file for the root; its faults are reported although printing was asked for
     × (report_of_meaning printing [] (records []) ≡ failed (codes ". Z01\n. Z04\n"))
-    -- a fault of the file
+    -- a fault of the file is reported although printing was asked for
     × (report_of_meaning printing example (fault_at bad_ttl 4) ≡ failed (codes "line 4: R09\n"))
-    -- with only quiet, a fault of the file is not reported either
+    -- with only `--quiet`, a fault of the file is not reported either
     × (report_of_meaning quiet example (fault_at bad_ttl 4) ≡ failed [])
-    -- the two digits of a code
+    -- a fault with a code above 9
     × (report_of_meaning no_options example (fault_at bad_type 7) ≡ failed (codes "line 7: R11\n"))
-    -- with print and quiet, faults are reported
+    -- with `--print` and `--quiet`, faults are reported
     × (zone_report quiet_printing (small_zone_with (server example (codes "alias") ∷ []))
     ≡ failed (codes "example. Z09\nexample. Z10\n"))
     -- a zone at the root
@@ -91,8 +91,8 @@ report_rows :
     -- an origin with a dot in its label
     × (report_of_meaning no_options dotted_label (records dotted_records)
     ≡ passed (codes "zone a\\.b/IN: loaded serial 8\nOK\n"))
-    -- a record that appears twice is printed once; data comes before data that it begins, and
-    -- quiet omits nothing
+    -- a record that appears twice is printed once; data comes before longer data that begins with
+    -- it; and `--quiet` omits nothing if `--print` is given too
     × (zone_report quiet_printing (zone_of [] (root_records
     ++ entry (dotted (codes "ns")) type_a (net_192 1) ∷ entry [] 65280 (0 ∷ [])
     ∷ entry [] 65280 [] ∷ []))
@@ -124,7 +124,7 @@ small_file_printed : Reports example small_file printing (passed (
 unfolding faults labels_from cut zone_text data_text hex_octets octet_text digits
 small_file_printed = (records six_records, small_file_means, refl)
 
--- a printable record whose owner and data contain octets that need a backslash
+-- a record whose owner and data contain octets that are written with a backslash
 odd_record : ResourceRecord
 odd_record = record {
   owner = (36 ∷ 7 ∷ 46 ∷ []) ∷ codes "a" ∷ [];

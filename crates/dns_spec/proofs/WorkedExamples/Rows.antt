@@ -1,5 +1,5 @@
--- The worked replies, to datagrams and to streams, computed from the definitions: whole replies
--- octet by octet, of others the header, the length and a distinctive part; and their sizes.
+-- Replies to datagrams and to streams, computed from the definitions: some whole, octet by octet,
+-- others by their header, length and a distinctive part; and the sizes of replies.
 use Rattle.dns_spec.proofs.Common.{◌≡◌, ℕ, zero, suc, ◌+◌, ◌*◌, List, [], ◌∷◌, ◌++◌, length, take, drop, replicate, codes, Option, None, Some, option_map, Octets, wire, labels_from, cut, type_txt, type_cname, type_srv, ResourceRecord, ZoneContents, run, runs_before, name_at, answer, Item, Placed, octets_by, data_by, record_laid, header_octets, records_octets, records_by, layout, size, chain_from, chain, outcome_at, outcome, extra, items, required_items, keep_longest, reply_with, reply, octets_of, decide, question_at, query_read, Header, MessageQuestion, frame, first_frame, frames, after_frames, replies}
 use mathlib.Core.Path.{refl}
 use Rattle.dns_spec.proofs.WorkedExamples.Zones.{hex, dotted, under, entry, in_zone, addresses, query, asks, www_query, small_zone, small_zone_with, large_zone, deep_zone, deep_name}
@@ -17,11 +17,11 @@ udp = within 512
 abbrev tcp : ZoneContents → Octets → Option Octets
 tcp = within 65535
 
--- a header, the length of the reply, and the octets from a place on
+-- the outline of a reply: its header, its length, and the k octets from place i on
 abbrev outline : Option Octets → ℕ → ℕ → Option (Octets × ℕ × Octets)
 outline o i k = option_map (λ b. (take 12 b, length b, take k (drop i b))) o
 
--- octets by their digits, whole, and as an outline
+-- an expected reply by its hex digits: whole, and as an outline
 abbrev octets : Octets → Option Octets
 octets digits = Some (hex digits)
 
@@ -39,7 +39,8 @@ www_reply =
     hex (codes "123484000001000100000000"
     ++ codes "03777777076578616d706c650000010001 c00c0001000100000e100004c000020a")
 
--- digits that two replies contain: the server of the zone with its address, and an alias of `www`
+-- digits that two replies contain: the name server of the zone with its address, and the alias of
+-- `www`
 abbrev servers : Octets
 servers = codes "c00c0002000100000e100005026e73c00c c0250001000100000e100004c0000201"
 
@@ -69,14 +70,14 @@ reply_rows :
     -- and the alias itself, if all types are asked for
     × (udp small_zone (query (codes "alias.example") 255)
     ≡ octets (codes "123484000001000100000000 05616c696173076578616d706c650000ff0001" ++ to_www))
-    -- capitals in the question stay
+    -- the question is returned as asked, with its capitals
     × (udp small_zone (query (codes "WWW.Example") 1)
     ≡ octets (codes "123484000001000100000000 03575757074578616d706c650000010001"
     ++ codes "c00c0001000100000e100004c000020a"))
     -- the servers of the zone with their addresses
     × (udp small_zone (query (codes "example") 2)
     ≡ octets (codes "123484000001000100000001 076578616d706c650000020001" ++ servers))
-    -- all types of the origin asked for: the servers alone
+    -- all types of the origin asked for: only the NS set
     × (udp small_zone (query (codes "example") 255)
     ≡ octets (codes "123484000001000100000001 076578616d706c650000ff0001" ++ servers))
     -- no reply to fewer octets than a header
@@ -108,10 +109,10 @@ reply_rows :
     -- a type that is not a type of records
     × (udp small_zone (query (codes "example") 252)
     ≡ octets (codes "123480040001000000000000 076578616d706c650000fc0001"))
-    -- a set of one octet more than fits
+    -- a set that is one octet too long
     × (udp large_zone (query (codes "u.example") 16)
     ≡ octets (codes "123486000001000000000000 0175076578616d706c650000100001"))
-    -- a ring of two aliases
+    -- two aliases of each other
     × (udp large_zone (query (codes "r1.example") 1)
     ≡ octets (codes "123484000001000200000000 027231076578616d706c650000010001"
     ++ codes "c00c0005000100000e100005027232c00f c0280005000100000e100002c00c"))
@@ -127,22 +128,22 @@ reply_rows :
     -- a set that fits exactly
     × (outline (udp large_zone (query (codes "t.example") 16)) 27 14
     ≡ part (codes "123484000001000100000000") 512 (codes "c00c0010000100000e1001d9ff61"))
-    -- the set of one octet more, if there is room
+    -- the set that was one octet too long, over TCP
     × (outline (tcp large_zone (query (codes "u.example") 16)) 27 14
     ≡ part (codes "123484000001000100000000") 513 (codes "c00c0010000100000e1001daff61"))
     -- a chain of 17 aliases, of which 16 are followed
     × (outline (udp large_zone (query (codes "c1.example") 1)) 28 17
     ≡ part (codes "123484000001001100000000") 326 (codes "c00c0005000100000e100005026332c00f"))
-    -- 64 addresses that may be left out
+    -- 64 additional addresses, which may be left out
     × (outline (udp large_zone (query (codes "m.example") 15)) 27 20
     ≡ part (codes "123484000001000100000000") 47 (codes "c00c000f000100000e100008000a03626967c00e"))
-    -- and are included if there is room
+    -- and are included over TCP
     × (outline (tcp large_zone (query (codes "m.example") 15)) 47 16
     ≡ part (codes "123484000001000100000040") 1071 (codes "c0290001000100000e100004c6336401"))
-    -- 64 addresses that were asked for
+    -- 64 addresses that were asked for, so TC is set
     × (outline (udp large_zone (query (codes "big.example") 1)) 12 17
     ≡ part (codes "123486000001000000000000") 29 (codes "03626967076578616d706c650000010001"))
-    -- and are included if there is room
+    -- and they are included over TCP
     × (outline (tcp large_zone (query (codes "big.example") 1)) 29 16
     ≡ part (codes "123484000001004000000000") 1053 (codes "c00c0001000100000e100004c6336401"))
     -- a referral without room for its glue
@@ -174,9 +175,9 @@ unfolding within labels_from cut run runs_before name_at octets_by data_by
     items required_items reply_with reply octets_of question_at query_read decide
 reply_rows = search []
 
--- In a set that begins at the last place but one that a pointer reaches, only the first owner is
--- spelled, and the others are pointers to it. Beyond that place, each owner is spelled up to the
--- suffix that it shares with the question.
+-- If the first owner of a set is at place 16,382, which a pointer reaches, the second owner is a
+-- pointer to it. If it is at place 17,002, beyond the reach of a pointer, each owner is written up
+-- to the suffix that it shares with the question.
 abbrev after_question : List Placed
 after_question = (under (codes "y"), 12) ∷ []
 
@@ -207,7 +208,7 @@ stream_rows :
     -- a message without a reply gets no frame either
     × (answers 9 three_messages
     ≡ hex (codes "002d") ++ www_reply ++ hex (codes "002d") ++ www_reply)
-    -- after the last message asked for, nothing is read
+    -- after k messages, nothing is read
     × (after_frames 1 (frame www_query ++ frame www_query) ≡ frame www_query)
     × (answers 1 (frame www_query ++ frame www_query) ≡ hex (codes "002d") ++ www_reply)
     × (after_frames 0 three_messages ≡ three_messages)
@@ -228,7 +229,7 @@ unfolding first_frame frames after_frames answers within labels_from cut run run
     query_read decide
 stream_rows = search []
 
--- a question, and the size of its reply with all the sets that fit a limit
+-- a question, and the size of its reply with the sets that fit a limit
 abbrev asked : Octets → ℕ → MessageQuestion
 asked cs t = record { qname = dotted cs; qtype = t; qclass = 1 }
 
@@ -260,7 +261,7 @@ unfolding reply_size labels_from cut octets_by data_by records_by size chain_fro
     outcome extra items
 size_rows = search []
 
--- what is laid out, and layouts without a question
+-- layouts without a question
 abbrev head : Header
 head = record { id = 1; flags = 33792 }
 
@@ -269,7 +270,7 @@ abbrev www_alias : ResourceRecord
 www_alias = entry (under (codes "www")) type_cname (wire (under (codes "ns")))
 
 layout_rows :
-    -- its names and their places: 10 octets are between owner and data
+    -- the names of the alias and their places: 10 octets are between owner and data
     ((record_laid [] 12 www_alias).names
     ≡ (under (codes "www"), 12) ∷ (under (codes "ns"), 35) ∷ [])
     -- the target of SRV is not a name to a writer
@@ -282,14 +283,14 @@ layout_rows = (refl, refl)
 abbrev one_alias : List Item
 one_alias = record { section = answer; records = www_alias ∷ [] } ∷ []
 
--- Without question and records a layout is a header, with counts of 0.
+-- Without a question and records, a layout is a header with counts of 0.
 header_alone : (h : Header) → layout h None [] ≡ header_octets h 0 0 0 0
 unfolding layout records_by
 header_alone h = refl
 
 header_size_rows :
     (size None [] ≡ 12)
-    -- its data shares `example`, at place 16, with its owner
+    -- the data of the alias shares `example`, at place 16, with its owner
     × (layout head None one_alias
     ≡ hex (codes "000184000000000100000000 03777777076578616d706c6500"
     ++ codes "00050001 00000e10 0005 026e73c010"))

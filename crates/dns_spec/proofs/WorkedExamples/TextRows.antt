@@ -1,4 +1,4 @@
--- Names on the wire and as they are written, computed from the definitions.
+-- Names in wire form and as text, computed from the definitions.
 use Rattle.dns_spec.proofs.Common.{◌≡◌, [], ◌∷◌, ◌++◌, replicate, codes, Some, None, labels_from, name_of, escape_front, labels_fault, name_fault, octet_text, name_text}
 use Rattle.dns_spec.proofs.WorkedExamples.Zones.{dotted, hex}
 
@@ -9,16 +9,16 @@ text_rows :
     × (name_text (codes "WwW" ∷ codes "-_09" ∷ []) ≡ codes "WwW.-_09.")
     -- a dot inside a label does not separate labels
     × (name_text (codes "a.b" ∷ codes "c" ∷ []) ≡ codes "a\\.b.c.")
-    -- `@` as the only label is not the origin
+    -- `@` as the only label is written with a backslash, since `@` alone spells the origin
     × (name_text (codes "@" ∷ []) ≡ codes "\\@.")
-    -- all octets that have a meaning of their own without a backslash
+    -- all octets that need a backslash
     × (name_text (codes "\"$().;@\\" ∷ []) ≡ codes "\\\"\\$\\(\\)\\.\\;\\@\\\\.")
-    -- their neighbours, and the first and last of the printable octets
+    -- the octets next to these, and the first and the last graphic octet
     × (name_text (codes "!#%'*-/:<?A[]^~" ∷ []) ≡ codes "!#%'*-/:<?A[]^~.")
     × (name_text ((0 ∷ 32 ∷ 127 ∷ 255 ∷ []) ∷ []) ≡ codes "\\000\\032\\127\\255.")
     -- a digit after an octet's three digits is an octet of its own
     × (name_text ((9 ∷ 49 ∷ []) ∷ []) ≡ codes "\\0091.")
-    -- escapes after their backslash: one octet, three digits, three beyond 255, and two digits
+    -- the text after a backslash: one octet, three digits, three digits beyond 255, and two digits
     × (escape_front (codes ".b") ≡ Some (46, codes "b"))
     × (escape_front (codes "0461") ≡ Some (46, codes "1"))
     × (escape_front (codes "256") ≡ None)
@@ -28,14 +28,14 @@ text_rows :
     × (name_fault (codes "..") ≡ 1)
     × (name_fault (codes "a..\\x\\") ≡ 1)
     × (name_fault (replicate 64 97 ++ codes "..") ≡ 2)
-    -- in a label, a bad escape before the length
+    -- an invalid escape is reported before the length of its label
     × (name_fault (codes "\\256") ≡ 4)
     × (name_fault (codes "a.\\") ≡ 4)
     × (name_fault (replicate 64 97 ++ codes "\\1x") ≡ 4)
     -- an escape is one octet, and an escaped dot ends no label
     × (name_fault (replicate 63 97 ++ codes "\\065..") ≡ 2)
     × (name_fault (codes "\\.." ++ replicate 64 97) ≡ 2)
-    -- a name that is too long only if all its labels are valid
+    -- fault 3, the name is too long, only if all labels are valid
     × (name_fault (replicate 63 97 ++ codes ".b.") ≡ 3)
     × (name_fault (replicate 63 97 ++ codes ".b..") ≡ 1)
     -- `a.` and what follows it

@@ -1,4 +1,4 @@
--- Tokens, and why none begins, in the worked cases.
+-- Tokens, and why no token begins at a place.
 use Rattle.dns_spec.proofs.Common.{◌≡◌, true, false, [], ◌∷◌, Some, None, codes, bad_octet, bad_escape, unended_string, bad_parenthesis, too_long, no_memory, fault_code, blank, comment, word, quoted_string, opening, line_end, run_length, token_front, cut_entries, whole_text, beginning, text_over, in_string, in_token, stop_at, stop_fault}
 
 token_rows :
@@ -20,7 +20,7 @@ token_rows :
     -- why no token begins
     × (stop_at (codes "\"a\nb") ≡ in_string (codes "\nb"))
     × (stop_at (codes "\\256") ≡ in_token (codes "\\256"))
-    -- its fault, if the whole text is examined, and if the text goes on
+    -- the fault at the end of an entry, if the whole text is examined, and if the text goes on
     × (stop_fault whole_text false text_over ≡ None)
     × (stop_fault whole_text true text_over ≡ Some bad_parenthesis)
     × (stop_fault beginning true text_over ≡ Some too_long)

@@ -21,15 +21,16 @@ word_rows :
     -- unless a backslash precedes them
     × (stands_alone (plain (codes "a\\;\\(\\)\\\"b")) ≡ true)
     × (stands_alone (plain (codes "\\009\\0321")) ≡ true)
-    -- of two backslashes the second is escaped
+    -- the second of two backslashes is escaped, so it does not escape the semicolon
     × (stands_alone (plain (codes "a\\\\;b")) ≡ false)
-    -- a backslash escapes whatever follows the word
+    -- a backslash at the end escapes whatever follows the word
     × (stands_alone (plain (codes "a\\")) ≡ false)
     -- octets that are not printable
     × (stands_alone (plain (97 ∷ 9 ∷ [])) ≡ false)
     × (stands_alone (plain (97 ∷ 127 ∷ [])) ≡ false)
     × (stands_alone (between (97 ∷ 255 ∷ [])) ≡ false)
-    -- in quotation marks only these octets end the word
+    -- in quotation marks, only a quotation mark, a backslash at the end, and octets that are not
+    -- printable are not allowed
     × (stands_alone (between (codes "a; (b)")) ≡ true)
     × (stands_alone (between (codes "a\"b")) ≡ false)
     × (stands_alone (between (codes "a\\\"b")) ≡ true)

@@ -1,7 +1,7 @@
--- The zones and queries of the worked examples, written as a person writes them.
+-- The zones and queries of the worked examples, built from readable text.
 use Rattle.dns_spec.proofs.Common.{ℕ, zero, suc, ◌+◌, ◌*◌, ◌/◌, ◌%◌, List, [], ◌∷◌, ◌++◌, length, replicate, nat_lt, ◌==◌, if◌then◌else◌, codes, flat_map, bytes_high_first, digit_value, Octets, DomainName, wire, type_a, type_ns, type_cname, type_soa, type_mx, type_txt, type_srv, ResourceRecord, ZoneContents, zone_of}
 
--- `www.example` is the list of the labels `www` and `example`
+-- a name by its labels with dots between them: `www.example` is the labels `www` and `example`
 abbrev pub with_letter : ℕ → DomainName → DomainName
 with_letter c [] = (c ∷ []) ∷ []
 with_letter c (l ∷ n) = (c ∷ l) ∷ n
@@ -11,7 +11,7 @@ dotted [] = []
 dotted (c ∷ []) = (c ∷ []) ∷ []
 dotted (c ∷ d ∷ cs) = if c == 46 then [] ∷ dotted (d ∷ cs) else with_letter c (dotted (d ∷ cs))
 
--- octets by their hex digits, with any spaces between
+-- octets by their hex digits, with spaces anywhere
 abbrev pub hex_digits : Octets → Octets
 hex_digits [] = []
 hex_digits (c ∷ cs) = if c == 32 then hex_digits cs else digit_value c ∷ hex_digits cs
@@ -24,7 +24,7 @@ paired (h ∷ l ∷ ds) = (16 * h + l) ∷ paired ds
 abbrev pub hex : Octets → Octets
 hex cs = paired (hex_digits cs)
 
--- names relative to `example.`
+-- names, and records with a TTL of 3600, relative to `example.`
 abbrev pub example : DomainName
 example = dotted (codes "example")
 
@@ -63,7 +63,7 @@ example_soa =
     entry example type_soa
     (soa_of (under (codes "ns")) (under (codes "hostmaster")) 1 7200 900 1209600 300)
 
--- ns, www, alias, *.w, a.b.ent, and the cut sub with its server below it
+-- `ns`, `www`, `alias`, `*.w`, `a.b.ent`, and the cut `sub` with its name server below it
 abbrev pub small_records : List ResourceRecord
 small_records =
     example_soa
@@ -92,7 +92,7 @@ addresses (suc k) cs = addresses k cs ++ address cs (198 ∷ 51 ∷ 100 ∷ suc 
 abbrev pub decimal : ℕ → Octets
 decimal k = if nat_lt k 10 then (48 + k) ∷ [] else (48 + k / 10) ∷ (48 + k % 10) ∷ []
 
--- c1 to ck, each an alias of the next
+-- `c1` to `ck`, each an alias of the next
 abbrev pub aliases : ℕ → List ResourceRecord
 aliases zero = []
 aliases (suc k) =
@@ -101,7 +101,8 @@ aliases (suc k) =
 abbrev pub letters : ℕ → Octets
 letters k = replicate k 97
 
--- sets at the limits of a reply, a ring of aliases, a chain of 17, a cut with 64 addresses as glue
+-- sets at the limits of a reply, two aliases of each other, a chain of 17 aliases, and a cut with
+-- 64 addresses as glue
 abbrev pub large_zone : ZoneContents
 large_zone =
     small_zone_with (
@@ -118,7 +119,7 @@ large_zone =
     ++ in_zone (codes "_s._tcp") type_srv (hex (codes "000100020035") ++ wire (under (codes "ns")))
     ∷ [])
 
--- the root zone with a name of 127 labels, which is its server
+-- the root zone with a name of 127 labels, which is its name server
 abbrev pub deep_name : DomainName
 deep_name = replicate 127 (letters 1)
 

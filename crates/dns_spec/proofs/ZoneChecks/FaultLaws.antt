@@ -1,5 +1,5 @@
--- A fault is among the faults of a zone if and only if its condition holds, once, by the order of
--- owners and then of codes.
+-- A fault is among the faults of a zone if and only if its check fails. Each fault is in the list
+-- once, and the faults are sorted by owner and then by code.
 use Rattle.dns_spec.proofs.Common.{common_steps, ◌≡◌, ℕ, ◌↔◌, Bool, true, false, ◌&&◌, ◌||◌, ◌⊎◌, inl, inr, List, [], ◌∷◌, map, ◌==◌, filter, refl, sym, ap, ◌∙◌, subst, arith, Ordering, Less, nat_cmp, Contains, flat_map, ordering_then, and_parts, and_from, eqb-true, eq-eqb, tied_itself, flat_map-cons, DomainName, folded, names_equal, same, name_order, ResourceRecord, ZoneContents, owns, distinct, IsStrictlySortedBy, Check, is_origin, is_owner, checks, fails, Fault, faults_at, checked_names, faults, fault_order, AllByRecursion}
 use Rattle.dns_spec.proofs.ZoneChecks.FaultOrder.{Lower, lower_equal, each_lower, name_order_total, name_tie, folded_folded}
 use Rattle.dns_spec.proofs.General.Elements.{Among, each_at, among_mapped, among_joined, joined_among, mapped_among, contains_among, among_contains}
@@ -78,7 +78,7 @@ fails_fault z n code e =
     subst (λ k. Among (record { owner = n; code = k }) (faults_at z n))
     (eqb-true r.0.0 code both.0) there
 
--- A fault is among the faults if and only if its condition holds.
+-- A fault is among the faults if and only if the name fails its check.
 pub fault_stands : (z : ZoneContents) (n : DomainName) (code : ℕ) → folded n ≡ n
     → Contains (faults z) (record { owner = n; code = code }) ↔ (fails z n code ≡ true)
 unfolding faults

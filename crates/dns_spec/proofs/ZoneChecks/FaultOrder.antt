@@ -8,7 +8,7 @@ use Rattle.dns_spec.proofs.General.Sorted.{length-sort_by, same_sorted}
 use Rattle.dns_spec.proofs.General.Orderings.{eqb_decides, nat_ties, nat_tie}
 use Rattle.dns_spec.proofs.General.Truths.{in_rest}
 
--- the number of types of records
+-- two such lists have equally many types
 same_type_count : (xs ys : List ResourceRecord)
     → SameCounts xs ys → length (distinct ◌==◌ (map (λ (r : ResourceRecord). r.rtype) xs))
     ≡ length (distinct ◌==◌ (map (λ (r : ResourceRecord). r.rtype) ys))
@@ -21,8 +21,8 @@ same_type_count xs ys c =
     (same_values f eqb eqb_decides xs ys c) (same_values f eqb eqb_decides ys xs back))
     ∙ length-sort_by nat_cmp (distinct ◌==◌ (map f ys))
 
--- A name in lower case. Two such names are equal if they are the same but for case (`lower_equal`);
--- names that tie in the order are the same but for case (`name_tie`).
+-- A name in lower case. Two such names are equal if they are `same` (`lower_equal`); names that are
+-- equal in the canonical order are `same` (`name_tie`).
 abbrev pub Lower : DomainName → Type 0
 Lower n = folded n ≡ n
 
@@ -47,7 +47,7 @@ name_tie n m e =
     ∙ ap reverse ((names_equal-decides a b).0 t) ∙ reverse-reverse (folded m) in
     (names_equal-decides (folded n) (folded m)).1 back
 
--- each check, over one origin and two such lists
+-- each check gives the same for one origin and two such lists
 module _ (o : DomainName) (xs ys : List ResourceRecord) (c : SameCounts xs ys) where
   z : ZoneContents
   z = record { origin = o; records = xs }

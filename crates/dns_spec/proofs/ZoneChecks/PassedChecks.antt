@@ -1,4 +1,4 @@
--- A zone that passes has no fault at its origin.
+-- A zone that passes has no fault at its origin or at an owner.
 use Rattle.dns_spec.proofs.Common.{common_steps, ltb-false, folded, same, name_order, type_soa, ResourceRecord, ZoneContents, distinct, rrset, at, Check, checks, faults_at, checked_names, faults, Passes, ◌≡◌, ℕ, ◌≤◌, false, inl, inr, List, [], ◌∷◌, map, length, sym, ap, subst, filter, ◌==◌, arith, AllByRecursion}
 use Rattle.dns_spec.proofs.DomainNames.NameLaws.{names_equal-decides}
 use Rattle.dns_spec.proofs.ZoneChecks.FaultOrder.{name_order_total, name_tie, Lower, lower_equal}
@@ -6,7 +6,7 @@ use Rattle.dns_spec.proofs.General.Elements.{Among, each_at, among_mapped}
 use Rattle.dns_spec.proofs.General.Filters.{filter_nothing, map_nothing, flat_nothing}
 use Rattle.dns_spec.proofs.General.Sorted.{among_sort, among_distinct, sort_short}
 
--- no check holds for the origin of a zone that passes
+-- the origin of a zone that passes fails no check
 pub checks_of_origin : (z : ZoneContents) → folded z.origin ≡ z.origin
     → Passes z → AllByRecursion (λ (k : ℕ × Check). k.1 z z.origin ≡ false) checks
 unfolding faults
@@ -24,7 +24,7 @@ checks_of_origin z low passes =
 abbrev pub IsCheck : Check → Type 0
 IsCheck c = Among c (map (λ (k : ℕ × Check). k.1) checks)
 
--- nor does one hold for an owner
+-- an owner in a zone that passes fails no check
 pub passes_check : (z : ZoneContents) → folded z.origin ≡ z.origin → AllByRecursion
     (λ (r : ResourceRecord). folded r.owner ≡ r.owner) z.records → Passes z → (r : ResourceRecord)
     → Among r z.records → (c : Check) → IsCheck c → c z r.owner ≡ false
@@ -58,7 +58,7 @@ pub few_soa : (z : ZoneContents) → folded z.origin ≡ z.origin
     → Passes z → length (filter (λ (r : ResourceRecord). r.rtype == type_soa) (at z z.origin)) ≤ 1
 few_soa z low passes = grind (arith, common_steps, checks_of_origin, names_equal-decides, ltb-false)
 
--- so its order does not matter
+-- so sorting it changes nothing
 pub one_soa : (z : ZoneContents) → folded z.origin ≡ z.origin → Passes z → rrset z z.origin type_soa
     ≡ filter (λ (r : ResourceRecord). r.rtype == type_soa) (at z z.origin)
 one_soa z low passes = grind (arith, sort_short, few_soa)

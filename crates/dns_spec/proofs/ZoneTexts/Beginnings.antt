@@ -1,11 +1,11 @@
--- A text that goes on begins with the tokens of its beginning, except for the last one, which may
--- continue.
+-- A text begins with the tokens of each beginning of it, except for the last of these tokens, which
+-- may continue in the text.
 use Rattle.dns_spec.proofs.Common.{◌≡◌, ℕ, zero, suc, ◌+◌, ◌⊎◌, inl, inr, Bool, true, false, not, ◌==◌, Option, Some, None, [], ◌∷◌, ◌++◌, take, drop, refl, sym, ◌∙◌, ap, subst, arith, if◌then◌else◌, eqb-true, true≢false, false≢true, none-some, prefix_len, Octets, is_word_octet, Token, blank, comment, word, is_blank, unit_left, run_length, word_length, string_length, quoted_front, unquoted_front, line_feed_front, token_front, parenthesis, is_line_end, is_cut_short}
 use Rattle.dns_spec.proofs.ZoneTexts.ReadWords.{front_taken}
 use Rattle.dns_spec.proofs.General.Fronts.{drop_one, dropped_more, taken_more}
 use Rattle.dns_spec.proofs.General.Tests.{prefix_more}
 
--- what is not cut short stays so if the text goes on
+-- octets that are not cut short are not cut short either if the text goes on
 pub uncut : (place more : Octets)
     → is_cut_short place ≡ false → is_cut_short (place ++ more) ≡ false
 uncut place more h = grind arith
@@ -42,12 +42,12 @@ module _ (by : ℕ → Bool) where
       go (Some k) e later h =
           grind (arith, ℕ, None, run_length, unit_more, none-some, is_cut_short, drop_one)
 
--- a token that may continue
+-- a token that more octets may continue: neither a parenthesis nor a line end
 pub record Loose (t : Token) : Type 0 where
   pub unmarked : parenthesis t ≡ None
   pub inside : is_line_end t ≡ false
 
--- where the text can't continue, if no token begins
+-- the octets from the place on at which the text can't continue, if no token begins it
 abbrev pub stop_place : ℕ → Octets → Octets
 stop_place o text = if o == 34 then drop (string_length text) text else o ∷ text
 
@@ -64,7 +64,7 @@ module _ (more : Octets) where
       → (b ≡ false → Keeps place y y') → Keeps place (if b then x else y) (if b then x' else y')
   choose place b x y x' y' h h1 = grind arith
 
-  -- a token up to the end of the octets of its kind
+  -- a token that extends over all octets that p accepts
   up_to : (place : Octets) (t : Token) (p : ℕ → Bool) (text : Octets)
       → Loose t → Keeps place (Some (t, drop (prefix_len p text) text))
       (Some (t, drop (prefix_len p (text ++ more)) (text ++ more)))

@@ -6,8 +6,8 @@ use Rattle.dns_spec.proofs.ZoneTexts.Beginnings.{Loose, run_more, stop_place, fr
 use Rattle.dns_spec.proofs.General.Truths.{and_later}
 use Rattle.dns_spec.proofs.General.Fronts.{looked_at, dropped_more}
 
--- the tokens that a text begins with, however it goes on: all those of its beginning, or all but
--- the last
+-- the tokens `sure` with which a text begins, however it goes on: all tokens of its beginning, or
+-- all but the last
 record Settled (more text : Octets) (ts : List Token) (rest : Octets) : Type 0 where
   sure : List Token
   middle : Octets
@@ -56,7 +56,7 @@ settled more text (t ∷ ts) rest (others, e, h) =
     }
     go (inr (cut, loose)) s = last_loose more text others t ts rest h cut loose
 
--- tokens before those of an entry
+-- tokens in front of the first list
 abbrev before_all : List Token → List (List Token) → List (List Token)
 before_all [] es = es
 before_all (t ∷ ts) es = before_first t (before_all ts es)
@@ -66,7 +66,7 @@ before_all-cons : (ts es : List Token) (ess : List (List Token))
 before_all-cons [] es ess = refl
 before_all-cons (t ∷ ts) es ess = ap (before_first t) (before_all-cons ts es ess)
 
--- what tokens are cut into, whatever tokens follow them: whole entries, and a part of one
+-- the entries into which tokens are split, whatever tokens follow: whole entries, and a part of one
 record Cuts (is_open : Bool) (ts : List Token) : Type 0 where
   whole : List (List Token)
   part : List Token
@@ -116,7 +116,7 @@ cuts_of b (t ∷ ts) = go (is_line_end t && not b) refl (λ c. cuts_of c ts)
         }
     go false e later = let c = later (open_after b t) in within c.whole c.part c.now_open e c.cuts
 
--- there is a first entry
+-- there is a first list
 record First (ess : List (List Token)) : Type 0 where
   first : List Token
   others : List (List Token)
@@ -134,7 +134,7 @@ ended_then extent rest (es ∷ []) first others = refl
 ended_then extent rest (es ∷ fs ∷ whole) first others =
     ap (λ x. ended es ∷ x) (ended_then extent rest (fs ∷ whole) first others)
 
--- the parts of a meaning
+-- the fault of a meaning
 fault_of : Meaning → Option FileFault
 fault_of (records rs) = None
 fault_of (fault_at fault line) = Some fault
@@ -164,7 +164,8 @@ unmarked_end (u ∷ ts) t e = ap (cons_option (parenthesis u)) (unmarked_end ts 
 no_end : (ts : List Token) → parentheses (ts ++ []) ≡ parentheses ts
 no_end ts = ap parentheses (append-nil ts)
 
--- why a beginning can't continue, and why the text can't
+-- the faults at the end of a beginning and of a longer text are the same, if the beginning is not
+-- cut short
 string_fault_more : (place more : Octets)
     → is_cut_short place ≡ false → string_fault (place ++ more) ≡ string_fault place
 string_fault_more place more h = grind arith
@@ -183,7 +184,7 @@ cut_place : (is_open : Bool) (o : ℕ) (text : Octets) → is_cut_short (stop_pl
     → stop_fault beginning is_open (stop_at (o ∷ text)) ≡ Some too_long
 cut_place is_open o text = grind arith
 
--- the entries that a text is known to begin with keep their meaning, whatever follows them
+-- the first entries of a text keep their meaning, whatever entries follow
 module _ (o : DomainName) (fault : FileFault) (line : ℕ) where
   entries_then : (earlier es xs ys : List Entry) → ((before : List Entry) → EntriesMean o before xs
       (fault_at fault line) → EntriesMean o before ys (fault_at fault line)) → EntriesMean o earlier
@@ -254,7 +255,7 @@ module _ (o : DomainName) (earlier : List Entry) (fault : FileFault)
     (rest : Octets) (spelled : TokensThen front ts rest) (at_end : token_front rest ≡ None)
     (meant : EntriesMean o earlier
     (with_end beginning rest (cut_entries false ts)) (fault_at fault line)) where
-  -- what the beginning ends with, in an entry of these tokens
+  -- the last entry of the beginning, with the tokens `last`
   module _ (s : Settled more front ts rest) (c : Cuts false s.sure) (last : List Token)
       (is_last : before_all c.part (cut_entries c.now_open s.loose) ≡ last ∷ [])
       (same_marks : parentheses last ≡ parentheses c.part) where
@@ -296,7 +297,7 @@ module _ (o : DomainName) (earlier : List Entry) (fault : FileFault)
         (wrong_first o fault line extent end before
         (c.part ++ f.first) f.others (turns_fail false c.part f.first fails) is at)
 
-    -- the last entry has no fault at its end except the limit's
+    -- the last entry has no fault at its end except `too_long`
     cut_short : ((is_open : Bool) → stop_fault beginning is_open (stop_at rest) ≡ Some too_long)
         → OctetsMean o earlier extent (front ++ more) (fault_at fault line)
     cut_short limit =
@@ -313,7 +314,7 @@ module _ (o : DomainName) (earlier : List Entry) (fault : FileFault)
               (other (sym (same_Some too_long fault (sym (limit (is_open_at_end last)) ∙ w.1))))
         ]
 
-    -- it has one, and its end is not cut short
+    -- the last entry has another fault at its end, which is not cut short
     stuck : (x : ℕ) (xs : Octets) → rest ≡ x ∷ xs → s.middle ≡ rest → is_cut_short (stop_place x xs)
         ≡ false → OctetsMean o earlier extent (front ++ more) (fault_at fault line)
     stuck x xs shape middle whole =

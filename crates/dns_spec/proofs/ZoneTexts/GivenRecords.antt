@@ -1,7 +1,7 @@
 -- An entry with a valid record of class IN gives that record, unless there are too many records.
 use Rattle.dns_spec.proofs.Common.{◌≡◌, ℕ, inr, false, List, [], ◌∷◌, Option, refl, sym, ◌∙◌, IsTrue, arith, MatchOption, is_none, false≢true, DomainName, Word, ResourceRecord, Entry, FileFault, too_many_records, EntryMeaning, gives, TtlSays, TtlIs, IsRecord, Fields, IsNoTtl, is_other_class, are_too_many, RecordGives, EntryGives, Meaning, after, EntriesMean, Lowest}
 
--- a TTL that is stated, and one that is in force
+-- if a record has a TTL, no invalid TTL is stated, and a TTL is in force
 ttl_stated : (earlier : List Entry) (stated : Option Word) (n : ℕ) → TtlIs earlier stated n
     → IsNoTtl stated → ⊥
 ttl_stated earlier stated n h h1 = grind arith
@@ -9,8 +9,8 @@ ttl_stated earlier stated n h h1 = grind arith
 ttl_known : (o : Option Word) (n : ℕ) → MatchOption o ⊥ (λ w. TtlSays w n) → IsTrue (is_none o) → ⊥
 ttl_known o n h h1 = grind arith
 
--- the record is valid and of class IN: what its entry means is decided by whether there are too many
--- records
+-- if the record is valid and of class IN, the meaning of its entry depends only on whether there
+-- are too many records
 pub record_by_count : (o : DomainName) (earlier : List Entry) (code : FileFault)
     (Owner : DomainName → Type 0) (f : Fields) (r : ResourceRecord) (answer : EntryMeaning)
     → IsRecord o earlier Owner f r → is_other_class f.class ≡ false → Lowest
@@ -39,7 +39,7 @@ record_given o earlier code Owner f r h class few =
     record_by_count o earlier code Owner f r (gives (r ∷ [])) h class
     (inr (λ e. false≢true (sym few ∙ e), (r, h, refl)))
 
--- an entry gives records, and the entries after it keep their meaning
+-- the meaning of an entry that gives records, and of the entries after it
 pub given_then : (o : DomainName) (earlier : List Entry) (e : Entry) (es : List Entry)
     (rs : List ResourceRecord) (later : Meaning) → EntryGives o earlier e (gives rs)
     → EntriesMean o (e ∷ earlier) es later → EntriesMean o earlier (e ∷ es) (after rs later)

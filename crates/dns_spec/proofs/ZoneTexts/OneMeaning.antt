@@ -5,7 +5,7 @@ use Rattle.dns_spec.proofs.DataWords.OneData.{data_once}
 use Rattle.dns_spec.proofs.DataWords.TypeWords.{one_type}
 use Rattle.dns_spec.proofs.General.Options.{by_option}
 
--- at most one meaning holds
+-- P holds for at most one meaning
 abbrev Once : (EntryMeaning → Type 0) → Type 0
 Once P = (a b : EntryMeaning) → P a → P b → a ≡ b
 
@@ -18,7 +18,7 @@ lowest_once ((fault, Condition) ∷ higher) P once a b (inr (none, h)) (inl (g, 
 lowest_once ((fault, Condition) ∷ higher) P once a b (inr (none, h)) (inr (none', k)) =
     lowest_once higher P once a b h k
 
--- what an entry inherits
+-- an entry inherits at most one origin, owner and TTL
 origin_once : (o : DomainName) (earlier : List Entry) (n m : DomainName)
     → OriginIs o earlier n → OriginIs o earlier m → n ≡ m
 origin_once o [] n m h k = h ∙ sym k
@@ -68,7 +68,7 @@ record_once o earlier Owner f r s one_owner h k =
     let rdata = data_is_once o earlier f.others r.rdata s.rdata h.rdata k.rdata in
     λ i. record { owner = owners i; ttl = ttls i; rtype = types i; rdata = rdata i }
 
--- what an entry gives
+-- an entry gives at most one meaning
 record_gives_once : (o : DomainName)
     (earlier : List Entry) (code : FileFault) (Owner : DomainName → Type 0) (f : Fields)
     → ((n m : DomainName) → Owner n → Owner m → n ≡ m) → Once (RecordGives o earlier code Owner f)
@@ -96,7 +96,7 @@ entry_gives_once : (o : DomainName) (earlier : List Entry) (e : Entry)
     → Once (EntryGives o earlier e)
 entry_gives_once o earlier e a b = search (rules, by_option, kind_gives_once, given)
 
--- what the entries mean from here on, if this one means that
+-- the meaning of an entry and the entries after it, by the meaning of the entry
 abbrev pub FromHere : DomainName → List Entry → Entry → List Entry → Meaning → EntryMeaning → Type 0
 FromHere o earlier e es m answer =
     elim answer [
@@ -117,7 +117,7 @@ entries_once o earlier (e ∷ es) m n (a, gives_a, h) (b, gives_b, k) =
     from_here_once o earlier e es m n b (entries_once o (e ∷ earlier) es)
     (subst (FromHere o earlier e es m) (entry_gives_once o earlier e a b gives_a gives_b) h) k
 
--- a text has one run of tokens up to where none begins
+-- at most one list of tokens begins a text and extends to a place where no token begins
 tokens_once : (text : Octets) (ps qs : List Token) (rest others : Octets)
     → TokensThen text ps rest → TokensThen text qs others
     → token_front rest ≡ None → token_front others ≡ None → (ps ≡ qs) × (rest ≡ others)

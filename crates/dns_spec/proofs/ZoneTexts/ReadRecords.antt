@@ -1,5 +1,5 @@
--- The records that a text means are as they are read, of types that zones contain, and not too
--- many.
+-- The records that a text means satisfy `IsReadRecord`, have types that zones contain, and are not
+-- too many.
 use Rattle.dns_spec.proofs.Common.{◌≡◌, ℕ, ◌+◌, ◌<◌, ◌≤◌, ◌⊎◌, Bool, true, false, cond, All, List, [], ◌∷◌, length, drop, filter, Option, Some, None, sym, subst, arith, codes, IsTrue, length-append, rules, All-weaker, ⊤, MatchOption, Octets, DomainName, is_name, folded, SpellsName, valid, lower_case, Word, ResourceRecord, FileFault, IsReadRecord, HasZoneType, Entry, EntryMeaning, faulty, gives, EntryKind, no_words, directive, owned, unowned, kind_of, directive_word, is_record, OriginIs, NameIs, OwnerBefore, most_ttl, TtlIs, TypeIs, DataIs, is_zone_type, Fields, fields, IsRecord, most_records, RecordGives, KindGives, EntryGives, Meaning, records, fault_at, after, EntriesMean, Means, AllByRecursion, All-from_recursion, recursion_from_All}
 use Rattle.dns_spec.proofs.ZoneChecks.FaultOrder.{folded_folded}
 use Rattle.dns_spec.proofs.Records.RecordOrder.{LowerOwner}
@@ -10,21 +10,21 @@ use Rattle.dns_spec.proofs.ZoneTexts.ReadOctets.{Octet, SmallName, SmallWord, na
 use Rattle.dns_spec.proofs.ZoneTexts.ReadTokens.{SmallEntry, entries_small, words_small}
 use Rattle.dns_spec.proofs.General.Elements.{each_any, each_append}
 
--- the record of an entry of this kind
+-- r is the record of an entry of this kind
 abbrev IsRecordOf : DomainName → List Entry → EntryKind → ResourceRecord → Type 0
 IsRecordOf o earlier no_words r = ⊥
 IsRecordOf o earlier (directive name ws) r = ⊥
 IsRecordOf o earlier (owned w ws) r = IsRecord o earlier (NameIs o earlier w) (fields ws) r
 IsRecordOf o earlier (unowned ws) r = IsRecord o earlier (OwnerBefore o earlier) (fields ws) r
 
--- a fault, or what comes after it
+-- Q holds for each fault, and for what holds without this fault
 unless_holds : (Q : EntryMeaning → Type 0) → ((code : FileFault) → Q (faulty code))
     → {Fault Others : Type 0} (code : FileFault) (answer : EntryMeaning)
     → (Others → Q answer) → (Fault × (answer ≡ faulty code)) ⊎ ((Fault → ⊥) × Others) → Q answer
 unless_holds Q h code answer h1 h2 = grind arith
 
--- What holds for the record of each entry holds for all records that a text means. `Kept` holds
--- for the entries of the text.
+-- What holds for the record of each entry, also holds for all records that a text means. `Kept` is
+-- a condition that all entries of the text meet.
 module _ (o : DomainName) (Kept : Entry → Type 0) (P : ResourceRecord → Type 0)
     (holds : (earlier : List Entry) (e : Entry) → AllByRecursion Kept earlier
     → Kept e → (r : ResourceRecord) → IsRecordOf o earlier (kind_of e) r → P r) where
@@ -111,7 +111,7 @@ fields_small ws h = grind (arith, fields_by)
 drop_small : (ws : List Word) → AllByRecursion SmallWord ws → AllByRecursion SmallWord (drop 1 ws)
 drop_small ws h = grind arith
 
--- names, relative to an origin of such octets
+-- names are octets below 256, relative to an origin of such octets
 module _ (o : DomainName) (from : SmallName o) where
   origin_small : (earlier : List Entry) (n : DomainName)
       → AllByRecursion SmallEntry earlier → OriginIs o earlier n → SmallName n
@@ -222,7 +222,7 @@ records_read o text rs from (es, cut, h) =
       All-weaker (λ r. IsReadRecord r × HasZoneType r) HasZoneType (λ r is. is.1) rs all,
     )
 
--- a text does not mean more records than a text may have
+-- a text does not mean more than 100,000 records
 abbrev counted : List Entry → ℕ
 counted es = length (filter is_record es)
 

@@ -1,5 +1,5 @@
--- The words and strings in a text are octets below 256: their octets, escaped or not, are
--- printable.
+-- The words and strings in a text are octets below 256, since all their octets are printable or
+-- tabs.
 use Rattle.dns_spec.proofs.Common.{◌≡◌, ℕ, zero, suc, ◌+◌, Bool, true, false, not, ◌&&◌, Option, Some, None, List, [], ◌∷◌, take, refl, arith, filter_map, eqb-true, leb-true, none-some, same_Some, Octets, Token, blank, comment, word, quoted_string, opening, closing, line_end, escape_left, unit_left, run_length, TokensThen, is_line_end, open_after, before_first, cut_entries, Entry, with_end, Entries, word_of, entry_words, Extent, AllByRecursion}
 use Rattle.dns_spec.proofs.ZoneTexts.ReadOctets.{Octet, SmallWord}
 
@@ -32,7 +32,7 @@ run_small p small zero (o ∷ text) left =
     go (Some k) e after = let unit = unit_small p small o text k e in
         one_more (run_length p k text) o text unit.0 (after k unit.1)
 
--- the token that a text begins with
+-- the words and strings of tokens are octets below 256
 abbrev pub SmallToken : Token → Type 0
 SmallToken blank = Unit {0}
 SmallToken comment = Unit {0}
@@ -48,7 +48,7 @@ tokens_small text [] rest h = tt
 tokens_small text (p ∷ ps) rest (others, e, h) =
     grind (arith, run_small, leb-true, eqb-true, (tokens_small others ps rest h))
 
--- the entries that tokens are cut into
+-- the same for the entries into which tokens are split
 before_small : (p : Token) (pss : List (List Token))
     → SmallToken p → AllByRecursion (AllByRecursion SmallToken) pss
     → AllByRecursion (AllByRecursion SmallToken) (before_first p pss)
@@ -87,7 +87,7 @@ pub entries_small : (text : Octets) (es : List Entry) → Entries text es
     → AllByRecursion SmallEntry es
 entries_small text es h = grind (arith, AllByRecursion, ended_small, cut_small, tokens_small)
 
--- the words of an entry
+-- the same for the words of an entry
 words_of_small : (ps : List Token) → AllByRecursion SmallToken ps
     → AllByRecursion SmallWord (filter_map word_of ps)
 words_of_small [] small = tt

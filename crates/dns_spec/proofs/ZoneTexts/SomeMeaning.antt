@@ -1,15 +1,15 @@
 -- Every text has a meaning.
 --
--- The proof shows that it can't be without one, so the meaning need not be found.
+-- The proof is indirect: it shows that a text can't be without a meaning, and gives no meaning.
 use Rattle.dns_spec.proofs.Common.{arith, rules, ◌≡◌, ℕ, ◌⊎◌, inl, inr, Bool, true, false, List, [], ◌∷◌, Option, Some, None, refl, ap, codes, IsTrue, take, MatchOption, MatchBool, is_none, option_or, false≢true, none-some, Octets, DomainName, folded, octets_equal, Word, ResourceRecord, FileFault, unknown_directive, directive_words, bad_owner, no_owner, most_octets, Extent, extent_of, Entry, with_end, cut_entries, lexical_fault, EntryMeaning, faulty, gives, Nothing, Lowest, EntryKind, no_words, directive, owned, unowned, kind_of, nearest, directive_word, ttl_word, NameIs, OwnerBefore, TtlSays, ttl_in_force, IsRecord, Fields, fields, IsNoTtl, record_faults, RecordGives, OneWord, DirectiveSays, KindGives, EntryGives, Meaning, records, fault_at, after, line_after, EntriesMean, Means, OctetsMean}
 use Rattle.dns_spec.proofs.ZoneTexts.TextTokens.{has_tokens, tokens_cut}
 use Rattle.dns_spec.proofs.General.Truths.{Sure, sure, and_so, either_way}
 
--- what is not nothing exists
+-- if not `Nothing P`, a value for which P holds exists (indirectly, see `Sure`)
 some_there : {A : Type 0} {P : A → Type 0} → (Nothing P → ⊥) → Sure ((v : A) × P v)
 some_there not_none none = not_none (λ v p. none (v, p))
 
--- no condition of the faults holds
+-- the condition of no fault holds
 abbrev NoneHolds : List (FileFault × Type 0) → Type 0
 NoneHolds [] = Unit {0}
 NoneHolds ((fault, Condition) ∷ higher) = (Condition → ⊥) × NoneHolds higher
@@ -34,7 +34,7 @@ says_sure {A} P ws =
     lowest_sure ((directive_words, Nothing (λ (v : A). OneWord (P v) ws)) ∷ [])
     (λ given. given ≡ gives []) (λ none. sure (gives [], refl))
 
--- a word that states a TTL
+-- the word states a TTL
 abbrev SaysTtl : Word → Type 0
 SaysTtl w = Sure ((n : ℕ) × TtlSays w n)
 
@@ -48,7 +48,7 @@ either_says x y h h1 = grind arith
 stated_says : (stated : Option Word) → (IsNoTtl stated → ⊥) → EachSays stated
 stated_says stated h = grind arith
 
--- the words of TTLs that later entries inherit from entries without a fault
+-- the words that later entries inherit as TTLs from entries without a fault state TTLs
 record Known (earlier : List Entry) : Type 0 where
   default : EachSays (nearest (directive_word (codes "$ttl")) earlier)
   stated : EachSays (nearest ttl_word earlier)
@@ -62,7 +62,7 @@ unfolding is_faulty
 faultless rs fault e = false≢true (ap is_faulty e)
 
 module _ (o : DomainName) (earlier : List Entry) where
-  -- what an entry without a fault states about TTLs
+  -- the words that an entry without a fault states as TTLs
   default_says : (rs : List ResourceRecord) (s : EntryKind)
       → KindGives o earlier s (gives rs) → EachSays (directive_word (codes "$ttl") s)
   default_says rs s h = search rules

@@ -1,7 +1,7 @@
--- Every text consists of tokens, up to a place where none begins.
+-- Every text consists of tokens up to a place where no token begins.
 use Rattle.dns_spec.proofs.Common.{◌≡◌, ℕ, zero, suc, ◌<◌, List, [], ◌∷◌, length, refl, sym, subst, arith, Option, Some, None, ⊤, MatchOption, Octets, Token, closed, token_front, TokensThen, length-drop, false, Extent, EntriesOf, with_end, cut_entries, ◌++◌}
 
--- what follows the token is shorter than n octets
+-- fewer than n octets follow the token, if there is one
 Shorter : ℕ → Option (Token × Octets) → Type 0
 Shorter n front = MatchOption front ⊤ (λ r. length r.1 < n)
 
@@ -47,7 +47,7 @@ tokens-within (suc n) text h =
 pub has_tokens : (text : Octets) → HasTokens text
 has_tokens text = tokens-within (suc (length text)) text (omega arith)
 
--- the entries that these tokens are cut into
+-- the entries into which these tokens are split
 pub tokens_cut : (extent : Extent) (octets : Octets) (ps : List Token) (rest : Octets)
     → TokensThen octets ps rest → token_front rest ≡ None
     → EntriesOf extent octets (with_end extent rest (cut_entries false ps))

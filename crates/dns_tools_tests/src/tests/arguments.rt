@@ -9,7 +9,7 @@ fn words_of<'a>(alloc: Global, line: &'a str) -> Result<Vec<&'a str>, AllocError
     line.split(',').collect(alloc)
 }
 
-// Why a command line is refused, if it is.
+// Why a command line is refused; `None` if it is accepted.
 fn refusal(alloc: Global, line: &str) -> Result<Option<FaultWord>, Fail> {
     let words = words_of(alloc, line)?;
     let Some((program, words)) = words.as_slice().split_first() else {

@@ -67,7 +67,7 @@ fn judges(
     is_checked(alloc, flags, text, all_work(4096), wanted)
 }
 
-// Zones that pass. Printed text is printed as it is.
+// Zones that pass. Printed text is its own canonical text.
 const PASSING: &[(Flags, &str, &str)] = &[
     (PLAIN, SMALL, LOADED),
     (PRINT, SMALL, SMALL_PRINTED),
@@ -172,7 +172,7 @@ const FAULTY: &[(usize, &str, &str)] = &[
     (11, "v TXT ( \"a\"", "line 11: R04\n"),
 ];
 
-// Whether a text that is refused has this report, unless it is checked quietly.
+// Whether a text is refused with this report, or with none if only `quiet` is set.
 fn is_faulty(alloc: Global, text: &str, report: &str) -> Result<bool, Fail> {
     for &flags in FLAGS {
         let report = if flags == QUIET { "" } else { report };
@@ -226,7 +226,7 @@ fn sinks_and_sources_that_fail(rt: HostRuntime) -> Result<(), Fail> {
     Ok(())
 }
 
-// Whether a sink that takes nothing is asked once, and its failure is counted.
+// Whether a sink that takes nothing is called once, and its failure is counted.
 fn fails_at_once(alloc: Global, flags: Flags) -> Result<bool, Fail> {
     let origin = example()?;
     let mut source = Tally::new(SMALL.as_bytes());

@@ -8,7 +8,7 @@ use dns_tools::{Outcome, Stop};
 /// work before one fails.
 pub(super) type Devices = (usize, u32, u32);
 
-/// Devices that do not fail, with at most so many octets a call.
+/// Devices that do not fail, and transfer at most `most` octets a call.
 pub(super) fn all_work(most: usize) -> Devices {
     (most, 1_000_000, 1_000_000)
 }
@@ -18,8 +18,9 @@ pub(super) fn front(octets: &[u8], length: u32) -> &[u8] {
     octets.get(..length as usize).unwrap_or(&[])
 }
 
-/// Whether a run ended as wanted, after it wrote this. Also whether, if a device failed, the result
-/// says so, the failure was counted once, and the device was not used again, though it would work.
+/// Whether a run ended as wanted: with this result and output. Also whether, if a device failed,
+/// the result says so, the failure was counted once, and the device was not used again, though it
+/// would work.
 pub(super) fn has_ended(
     source: Tally<Pieces<'_>>,
     sink: Tally<Kept>,
@@ -32,7 +33,7 @@ pub(super) fn has_ended(
     are_counted(outcome, counts, calls) & (outcome == wanted.0) & (sink.text.as_slice() == wanted.1)
 }
 
-// Whether the failures that were counted, and the calls that failed, are those of the result.
+// Whether the result says which device's calls failed, and each failure was counted.
 fn are_counted(outcome: Outcome, counts: (u64, u64), calls: (bool, bool)) -> bool {
     let source_failed = outcome == Err(Stop::Source);
     let sink_failed = outcome == Err(Stop::Sink);

@@ -30,7 +30,7 @@ fn loaded(
     Ok(load_zone(alloc, &example()?, &mut source))
 }
 
-// Whether a refusal is reported so.
+// Whether this is the report on a refusal.
 fn is_report(alloc: Global, refusal: &Refusal, wanted: &str) -> Result<bool, Fail> {
     let mut sink = Tally::new(Kept::new(alloc, 7, 1_000_000));
     write_refusal(refusal, &mut sink)?;

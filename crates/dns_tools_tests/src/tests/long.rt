@@ -25,7 +25,7 @@ fn judges(alloc: Global, origin: &Name, text: &str, report: &str) -> bool {
     is_report(alloc, origin, PLAIN, text, MANY, wanted)
 }
 
-// Records of one owner, almost as many as a file may have.
+// As many records as a file may have, all but three of them at one owner.
 fn crowd(alloc: Global) -> Result<String, Fail> {
     let mut text = String::from_str(alloc, LEAST)?;
     for number in 0..49_999 {
@@ -49,7 +49,7 @@ fn many_records_at_one_owner(rt: HostRuntime) -> Result<(), Fail> {
     Ok(())
 }
 
-// Records below one name, as many as a file may have.
+// As many records as a file may have, all but three of them below one name.
 fn family(alloc: Global) -> Result<String, Fail> {
     let mut text = String::from_str(alloc, LEAST)?;
     for number in 3..MOST_RECORDS {
@@ -80,7 +80,7 @@ fn many_owners_below_one_name(rt: HostRuntime) -> Result<(), Fail> {
     Ok(())
 }
 
-// 1,000 records, most of them at names of 127 labels.
+// The least zone, and 1,000 records at 100 names of 127 labels.
 fn depth(alloc: Global, above: &str) -> Result<String, Fail> {
     let mut text = String::from_str(alloc, LEAST)?;
     for number in 0..1000 {
@@ -134,7 +134,7 @@ fn a_report_of_100002_lines(rt: HostRuntime) -> Result<(), Fail> {
     Ok(())
 }
 
-// Whether a sink fails amid the report on a text.
+// Whether a run stops with `Sink` if its sink fails amid the report on a text.
 fn fails_amid(alloc: Global, origin: &Name, text: &str, report: &str) -> bool {
     let mut source = Tally::new(text.as_bytes());
     let mut sink = Tally::new(Kept::new(alloc, 7, 10_000));
@@ -156,7 +156,7 @@ fn a_sink_that_fails_amid_a_long_report(rt: HostRuntime) -> Result<(), Fail> {
     Ok(())
 }
 
-// The least zone, after a comment as long as a file of the most octets has room for.
+// The least zone, after a comment that makes the file as long as a file may be.
 fn filled(alloc: Global) -> Result<String, Fail> {
     let comment = MOST_FILE_OCTETS.saturating_sub(LEAST.len());
     let mut text = ";".repeat(alloc, comment.saturating_sub(1))?;

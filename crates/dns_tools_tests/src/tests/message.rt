@@ -32,7 +32,7 @@ fn the_first_line_alone(rt: HostRuntime) {
     }
 }
 
-// Whether a line of so many digits is printed so.
+// Whether a run over a line of `digits` zeros ends as wanted.
 fn is_line(alloc: Global, digits: usize, wanted: (Outcome, &[u8])) -> Result<bool, Fail> {
     let line = vec![in alloc; b'0'; digits]?;
     Ok(is_printed(alloc, line.as_slice(), all_work(4096), wanted))

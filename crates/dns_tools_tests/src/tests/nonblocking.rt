@@ -57,7 +57,7 @@ impl Write for PutOff {
     }
 }
 
-// Whether a call that is put off is made again, and one that fails is not.
+// Whether a call that would block is repeated, and a call that fails is not.
 fn is_read(pauses: &Pauses) -> io::Result<bool> {
     let mut source = Nonblocking::new(PutOff { calls: 0 }, pauses);
     Ok(source.read(&mut [0; 4])? == 1 && source.read(&mut [0; 4]).is_err())

@@ -24,7 +24,7 @@ fn are_answers(
     has_ended(source, sink, outcome, wanted)
 }
 
-// Lines, whether they are digits of octets, and the answers. The last line may lack its end.
+// Lines, whether all are messages, and the answers. The last line may lack its LF.
 const LINES: &[(&str, bool, &str)] = &[
     ("\nzz\n00\n", false, "none\nbad hex\nnone\n"),
     ("\n0\n00\n", false, "none\nbad hex\nnone\n"),
@@ -62,7 +62,7 @@ const THREE: &[u8] = b"\n00\n\n";
 
 const ANSWERS: &[u8] = b"none\nnone\nnone\n";
 
-// How many octets are written if the first, second, .. read fails.
+// How many reads work before one fails, and how many octets are then written.
 const WRITTEN: &[(u32, u32)] = &[(0, 0), (1, 5), (2, 5), (3, 5), (4, 10)];
 
 fn check_reads(rt: &impl Abort, alloc: Global, zone: &Zone) {

@@ -28,7 +28,7 @@ const OUTCOMES: &[(Outcome, Outcome, u32)] = &[
     (Err(Stop::Sink), Err(Stop::Sink), 0),
 ];
 
-// How a program ends whose run ended so, with octets in its buffer. Counts the calls.
+// How a program ends after its run ended with `outcome` and octets in its buffer. Counts the calls.
 fn ended(alloc: Global, outcome: Outcome, calls: &mut u32) -> Result<Outcome, Fail> {
     let mut output = BufWriter::new(alloc, Counting { calls })?;
     output.write_all(b"zone")?;

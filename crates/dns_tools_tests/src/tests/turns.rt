@@ -35,10 +35,11 @@ impl Eprint for Refusing<'_> {
     }
 }
 
-// Which call fails, whether all words are taken, and how many there are.
+// Which call fails, whether all diagnostics are written, and how many the server tries to write.
 const SAID: &[(u32, bool, u32)] = &[(9, true, 0), (0, false, 1), (5, false, 1)];
 
-// Whether three turns are taken, though no word is.
+// Whether three turns, at a standard error that takes nothing, return `are_said` after `words`
+// tries to write a diagnostic.
 fn go_on_unheard(alloc: Global, zone: &Zone, fails_at: u32, are_said: bool, words: u32) -> bool {
     let calls = Cell::new(0);
     let mut mailbox = Mailbox::new(alloc, QUERY, fails_at);
@@ -51,7 +52,7 @@ fn go_on_unheard(alloc: Global, zone: &Zone, fails_at: u32, are_said: bool, word
 // Which call fails, how many replies are sent in three turns, and how many calls are made.
 const TURNS: &[(u32, u32, u32)] = &[(9, 3, 6), (0, 2, 5), (3, 2, 6), (5, 2, 6)];
 
-// Whether so many replies are sent in three turns, by so many calls, and all words are taken.
+// Whether three turns send `replies` replies in `calls` calls, and all diagnostics are written.
 fn go_on<R>(rt: &R, zone: &Zone, fails_at: u32, replies: u32, calls: u32) -> bool
 where
     R: Eprint + AllocGlobal,
@@ -64,7 +65,7 @@ where
         && are_replies(mailbox.replies.as_slice(), replies)
 }
 
-// Whether octets are the reply, so many times.
+// Whether octets are `count` copies of the reply.
 fn are_replies(octets: &[u8], count: u32) -> bool {
     for reply in octets.chunks(REPLY.len()) {
         if reply != REPLY {
@@ -91,7 +92,7 @@ impl Connections for Deaf {
     }
 }
 
-// Whether a server at such a listener takes each turn, though its first word is not taken.
+// Whether a server at such a listener takes each turn, though its first diagnostic is not written.
 fn go_on_deaf(zone: &Zone, turns: u32, room: &mut StreamRoom) -> bool {
     let calls = Cell::new(0);
     let errors = Refusing { calls: &calls };

@@ -1,4 +1,4 @@
-//! Replies longer than 16,384 octets, in which pointers can't reach the last names.
+//! Replies longer than 16,384 octets, in which pointers do not reach the last names.
 ghost use Rattle.std.specs.Prelude.{◌≡◌, IfOk, length};
 
 use crate::tests::written::{OneChain, Record, asked, offer};
@@ -123,7 +123,7 @@ fn are_services<H: SuffixHash>(rt: HostRuntime, hash: &mut H) -> Result<bool, Fa
 #[test]
 fn names_past_the_reach_of_a_pointer(rt: HostRuntime) -> Result<(), Fail> {
     assert!(rt; are_services(rt, &mut QuickHash)?);
-    // One number for all suffixes.
+    // The same hash for all suffixes.
     assert!(rt; are_services(rt, &mut OneChain)?);
     Ok(())
 }

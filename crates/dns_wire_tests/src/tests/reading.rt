@@ -17,16 +17,16 @@ const NAME_ERROR: &[u8] =
     \x00\x26\x02\x6e\x73\xc0\x11\x0a\x68\x6f\x73\x74\x6d\x61\x73\x74\x65\x72\xc0\x11\
     \x00\x00\x00\x01\x00\x00\x1c\x20\x00\x00\x03\x84\x00\x12\x75\x00\x00\x00\x01\x2c";
 
-// The same with names whole, and without the length of its data.
+// `NAME_ERROR` with names whole, and without the length of the SOA's data.
 const NAME_ERROR_READ: &[u8] =
     b"\x12\x34\x84\x03\x00\x01\x00\x00\x00\x01\x00\x00\x04nope\x07example\x00\x00\x01\x00\x01\
     \x07example\x00\x00\x06\x00\x01\x00\x00\x01\x2c\x02ns\x07example\x00\x0ahostmaster\x07example\x00\
     \x00\x00\x00\x01\x00\x00\x1c\x20\x00\x00\x03\x84\x00\x12\x75\x00\x00\x00\x01\x2c";
 
-// The places of its pointers, and the place where the run of each began.
+// The place of each pointer in `NAME_ERROR`, and the place where its run of labels begins.
 const POINTERS: &[(usize, u16)] = &[(30, 30), (45, 42), (58, 47)];
 
-// What a message spells, as `plain_message` gives it, or the code of the fault of octets.
+// What octets spell if they are a message, in the form of `plain_message`; or their fault's code.
 fn read(alloc: Global, octets: &[u8]) -> Result<Vec<u8>, u8> {
     let mut spelled = Vec::new(alloc);
     match read_message(alloc, octets) {
@@ -136,7 +136,7 @@ fn faults_by_what_is_changed(rt: HostRuntime) -> Result<(), Fail> {
     Ok(())
 }
 
-// A response with one answer, whose owner is the root, and the code of its fault.
+// An answer, without its owner, which is the root; and the code of the fault of a response with it.
 const DATA: &[(&str, &[u8], u8)] = &[
     (
         "A in another class",
@@ -171,8 +171,8 @@ fn beginnings_are_short(rt: HostRuntime) {
     }
 }
 
-// Whether the plain reader reads the same. Only a pointer to a place before its own run may have a
-// fault other than 3.
+// Whether the plain reader and `read_message` agree. Only if a changed pointer leads to a place
+// before its own run may the fault be another than 3.
 fn is_plain(alloc: Global, octets: &[u8], is_before: bool) -> bool {
     match (plain_message(alloc, octets), read(alloc, octets)) {
         (Some(plain), Ok(read)) => plain == read,

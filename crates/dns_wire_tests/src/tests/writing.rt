@@ -1,4 +1,4 @@
-//! The sets of the replies of worked examples, written with several hashes.
+//! Replies written set by set with several hashes, octet for octet.
 use crate::tests::written::{CountingHash, OneChain, Record, Row, is_written};
 use dns_rdata::RType;
 use dns_wire::QuickHash;
@@ -106,8 +106,8 @@ const RING: &Row<'static> = &Row {
         \x02\x72\x32\xc0\x0f\xc0\x28\x00\x05\x00\x01\x00\x00\x0e\x10\x00\x02\xc0\x0c",
 };
 
-// A question whose first label ends with the octets of `www`, after the length of that label:
-// `www.example` is not a name there, so of it only `example` is shared.
+// A question whose first label is `a`, the octet 3 and `www`. The octets of `www.example` are in
+// it, but do not begin at a label, so only `example` is shared.
 const INSIDE_A_LABEL: &Row<'static> = &Row {
     name: "a name inside a label of the question",
     qname: b"a\\003www.example",

@@ -1,4 +1,4 @@
-//! Messages with sets of one record, as tests write them, and hashes to find their names by.
+//! Helpers that write messages with sets of one record, and hashes for their suffixes.
 ghost use Rattle.std.specs.Prelude.{◌≡◌};
 
 use dns_name::{Name, NameFault};
@@ -7,7 +7,7 @@ use dns_samples_tests::OneRecord;
 use dns_wire::{CLASS_IN, Head, Question, Section, SuffixHash, Writer};
 use std::test::Fail;
 
-/// Gives all suffixes one number, so that chains are chosen by length alone.
+/// Gives all suffixes the same hash, so that chains are chosen by length alone.
 #[derive(Drop)]
 pub(crate) struct OneChain;
 
@@ -19,7 +19,7 @@ impl SuffixHash for OneChain {
     }
 }
 
-/// Counts its calls.
+/// A hash that counts its calls.
 #[derive(Drop)]
 pub(crate) struct CountingHash {
     pub(crate) calls: u32,
@@ -52,8 +52,8 @@ pub(crate) struct Row<'a> {
     pub(crate) wanted: &'a [u8],
 }
 
-/// Offers a set of one record, and whether it fits as expected. An SOA record has the TTL of a
-/// negative answer.
+/// Offers a set of one record, and returns whether it fits exactly if `has_room`. An SOA record has
+/// the TTL of a negative answer.
 pub(crate) fn offer<H: SuffixHash>(
     rt: HostRuntime,
     writer: &mut Writer<'_, H>,
@@ -77,7 +77,7 @@ pub(crate) fn offer<H: SuffixHash>(
     }
 }
 
-// Offers sets of one record each, and whether all of them fit, or none.
+// Offers sets of one record each, and returns whether all of them fit, or none if not `has_room`.
 fn offer_all<H: SuffixHash>(
     rt: HostRuntime,
     writer: &mut Writer<'_, H>,
@@ -95,7 +95,8 @@ fn offer_all<H: SuffixHash>(
     true
 }
 
-// Offers the sets of a row; sets that do not fit are offered before them and after them.
+// Offers the sets of a row, and sets that do not fit before them and after them. Returns whether
+// exactly the sets of the row fit.
 fn offer_row<H: SuffixHash>(
     rt: HostRuntime,
     writer: &mut Writer<'_, H>,

@@ -11,9 +11,9 @@ use std::alloc::{AllocError, Global};
 // If names have no more octets on average, a search by whole keys is cheaper than a list.
 const FEW_OCTETS: usize = 48;
 
-/// For each name, how many octets its key shares with the keys of the two names between which a
-/// binary search has narrowed the place when it reaches that name. An empty list if keys are
-/// short; `octets` is the total length of all keys.
+/// For each name, how many octets its key shares with the keys of two other names: those just
+/// before and just after the range whose middle the name is in a binary search. An empty list if
+/// keys are short; `octets` is the total length of all keys.
 pub(crate) fn shared_octets(
     alloc: Global,
     names: &[CheckedName<'_>],

@@ -111,8 +111,8 @@ pub(crate) fn is_covered(cut: usize, last: &[u8], key: &[u8]) -> bool
     cut > 0 && key.starts_with(&last[..cut])
 }
 
-/// The number of names that are not after the name with this key. Tries first whether the
-/// `probable` place is the last of them.
+/// The number of names that are not after the name with this key. First tests whether `probable`
+/// is the place of the last one.
 pub(crate) fn count_upto(names: &[CheckedName<'_>], probable: Option<usize>, key: &[u8]) -> usize
     requires { IsPartitionedBy (is_upto key.now) names.now }
     ensures { IsFront (is_upto key.now) names.now result }

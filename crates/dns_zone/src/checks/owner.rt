@@ -106,8 +106,9 @@ impl<'a> Owner<'a> {
         have_other_ttls(self.own)
     }
 
-    // Whether the target of an NS record is an alias, whether one lacks an address, and whether
-    // the target of an MX or SRV record is an alias. Each target is looked up once.
+    // Whether some NS record's target is an alias, whether some NS record's target lacks an
+    // address, and whether some MX or SRV record's target is an alias. Each target is looked up
+    // once.
     fn target_faults(&self, last: &mut LastTarget<'_>) -> (bool, bool, bool)
         ensures alias { result.0 ≡ ns_target_alias self.now.zone self.now.name }
         ensures lost { result.1 ≡ ns_target_lost self.now.zone self.now.name }
@@ -152,8 +153,8 @@ impl<'a> Owner<'a> {
         }
     }
 
-    // A cut may own only NS records and addresses, and names below it only addresses (glue). Most
-    // cuts own nothing else, so that is tested first.
+    // A cut may own only NS records and addresses, and a name below a cut only addresses (glue).
+    // Most cuts own nothing else, so the types are tested first.
     fn has_data_at_cut(&self) -> bool
         ensures { result ≡ data_at_cut self.now.zone self.now.name }
     {
@@ -230,8 +231,8 @@ impl<'a> Owner<'a> {
     }
 }
 
-// Whether an RRset has different TTLs (RFC 2181 5.2): if and only if two adjacent records of one
-// type have.
+// Whether an RRset has different TTLs (RFC 2181 5.2): if and only if two adjacent records have one
+// type and different TTLs.
 fn have_other_ttls(own: &[StoredRecord]) -> bool
     ensures { result ≡ list_any (λ p. p.0.rtype == p.1.rtype && not (p.0.ttl == p.1.ttl))
         (zip own.now (drop 1 own.now)) }

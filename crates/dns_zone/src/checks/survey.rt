@@ -111,8 +111,8 @@ impl<'a> Survey<'a> {
         (&[], is_covered(last.cut, last.key, key))
     }
 
-    /// Whether the record's target is a name in the zone that owns a CNAME (RFC 2181 10.3), and
-    /// whether it is one that lacks an address there (RFC 1034 4.2.1). It is looked up once.
+    /// Whether the record's target is in the zone and owns a CNAME (RFC 2181 10.3), and whether it
+    /// is in the zone and lacks an address (RFC 1034 4.2.1). The target is looked up once.
     pub(crate) fn target_faults(
         &self,
         entry: &StoredRecord,
@@ -150,7 +150,7 @@ impl<'a> Survey<'a> {
         ensures lost { result.1 ≡ (at_or_below target.now self.now.origin
             && lacks_address self.now owner.now target.now) }
     {
-        // Most names outside the zone have another ending, and then need no key.
+        // Most names outside the zone do not end with the origin's octets, and need no key.
         if !ends_alike(target, self.origin) {
             return (false, false);
         }

@@ -13,13 +13,14 @@ use dns_rdata::Rdata;
 use std::alloc::{AllocError, Global};
 use std::marker::Model;
 
-// The number of slots for places where targets were found: as many as there are numbers of 13 bits.
+// The number of slots for places where targets were found: 2^13.
 const SLOTS: usize = 8_192;
 
 // 2^32 divided by the golden ratio.
 const SPREAD: u32 = 2_654_435_769;
 
-/// The first name in the data: the server of NS, the exchange of MX (RFC 1035 3.3.9, 3.3.11).
+/// The first name in the data: the server of NS, the exchange of MX (RFC 1035 3.3.9, 3.3.11), the
+/// target of CNAME or SRV. `None` if the data contains no name.
 #[tactic(auto, using(crate::proofs::Targets::target_if))]
 pub(crate) fn target(entry: &StoredRecord) -> Option<NameRef<'_>>
     ensures value { result ≡ target entry.now.rtype entry.now.rdata }
@@ -39,10 +40,10 @@ pub(crate) struct LastTarget<'a> {
     next: usize,
     // How many names were passed.
     passed: usize,
-    // How many octets the keys of names share, for the search; may be empty.
+    // The list that `shared_octets` returned, for the search; may be empty.
     shared: &'a [[u8; 2]],
-    // The places where targets were found, each in the slot of its name; may be empty. A slot may
-    // have the place of another name.
+    // The places where targets were found, each in the slot of the target's name; may be empty.
+    // Names with the same slot overwrite each other's places.
     found: Vec<usize>,
 }
 
@@ -132,7 +133,7 @@ impl<'a> LastTarget<'a> {
     }
 }
 
-/// Room for the places where targets were found, if keys share octets; else none.
+/// Slots for the places of targets; none if `shared`, the length of the shared octets' list, is 0.
 pub(crate) fn found_places(alloc: Global, shared: usize) -> Result<Vec<usize>, AllocError> {
     let mut found = Vec::new(alloc);
     if shared > 0 {
@@ -141,8 +142,8 @@ pub(crate) fn found_places(alloc: Global, shared: usize) -> Result<Vec<usize>, A
     Ok(found)
 }
 
-// The slot of a name, by its first four octets: the highest bits of a product by which each octet
-// affects them.
+// The slot of a name: the highest 13 bits of a product of its first four octets with `SPREAD`, so
+// that each of these octets affects the slot. 0 if the name is shorter.
 fn slot_of(name: &Name) -> usize {
     match name.octets().first_chunk::<4>() {
         Some(front) => (u32::from_le_bytes(*front).wrapping_mul(SPREAD) / 524_288) as usize,

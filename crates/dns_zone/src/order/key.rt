@@ -117,9 +117,9 @@ fn before_alike<'a, const N: usize>(one: &'a [u8], other: &'a [u8]) -> (&'a [u8]
     (one, other)
 }
 
-// Writes the labels of a name in wire form into a key of the same length, which begins as the key
-// of another name does. The last `alike` octets of both names are equal; the shared labels in them
-// stay in the key.
+// Turns `key` into the key of the name with these octets. `key` has the length of that key, and
+// begins like the key of another name. The last `alike` octets of both names are equal; the shared
+// labels in them stay in the key.
 fn put_labels(octets: &[u8], alike: usize, key: &mut [u8])
     requires wire { IsWireForm octets.now }
     requires room { length octets.now ≡ length key.old + 1 }

@@ -27,9 +27,8 @@ pub(crate) struct OwnerKeys {
     pub(crate) numbers: Vec<u32>,
 }
 
-/// The keys of the owners, and the runs of records of one owner in the order of the records. Takes
-/// the octets of the owners, 28 octets of memory for each record, and 4 more if the file's order
-/// is kept.
+/// The keys of the owners, and the runs of adjacent records of one owner, in order. Takes memory
+/// for the octets of the owners, and 28 octets for each record, or 32 if the file's order is kept.
 #[tactic(auto, using(crate::proofs::SearchSteps::wire_steps))]
 pub(crate) fn keys_of<'a>(
     alloc: Global,

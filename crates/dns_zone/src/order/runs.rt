@@ -1,9 +1,9 @@
 //! Runs of records, sorted by their owners or by their data.
 //!
 //! A sort that compares whole names is slow. Here each run keeps a few octets beside it, its
-//! front, by which it is compared. Runs with equal fronts are each compared once with one of them;
-//! the next front of a run has the number of octets that it shares with that one, and the octets
-//! that follow.
+//! front, by which it is compared. If several runs have equal fronts, each is compared once with a
+//! chosen one of them. The next front of a run has the number of octets that it shares with the
+//! chosen run, and the octets that follow.
 ghost use Rattle.std.specs.Prelude.{◌≡◌, ◌≤◌, length};
 
 use crate::checks::lcp_search::rests;
@@ -18,18 +18,18 @@ const FRONT_OCTETS: usize = 12;
 // The last octet of a front if more octets follow it.
 const MORE: usize = 13;
 
-// The last octet of a front that is a TTL.
+// The last octet of a front that contains a TTL.
 const LAST: u128 = 255;
 
-// One more than the most octets that two parts can share. The place of a part that comes before
-// the other is the number of shared octets; the place of one after it is twice `MOST_SHARED` minus
-// that number.
+// One more than the most octets that two parts (keys or data) can share. In a front, the place of a
+// part that comes before the chosen part is the number of octets that both share; the place of a
+// part after it is twice `MOST_SHARED` minus that number.
 const MOST_SHARED: usize = 65_536;
 
-// How many times fronts are renewed at most: even data of 65,535 octets has fewer of them.
+// The most times that fronts are renewed: even data of 65,535 octets has fewer fronts.
 const MOST_FRONTS: usize = 5_500;
 
-/// Adjacent records, the ones from `at` up to `end`, and the front by which they are compared.
+/// Adjacent records, from `at` to before `end`, and the front by which they are compared.
 #[derive(Clone, Copy)]
 pub(crate) struct Run {
     // The halves of the front. As one number they would take 8 octets more, since a run would have
@@ -51,7 +51,7 @@ impl Run {
         }
     }
 
-    /// The first record of an owner. The owner's key is compared with the origin's.
+    /// A run that begins with an owner's first record. Its front is relative to the origin's key.
     pub(crate) fn of_owner(origin: &[u8], key: &[u8], at: u32) -> Run {
         let front = if begins_with(key, origin) {
             let inside = key.split_at(origin.len()).1;
@@ -62,7 +62,7 @@ impl Run {
         Run::of(front, at)
     }
 
-    /// A single record of an owner.
+    /// A run of one record, compared by type and data.
     pub(crate) fn of_data(record: &StoredRecord, at: u32) -> Run {
         let place = 2 * MOST_SHARED + record.rtype.0 as usize;
         Run::of(front_of(place, record.rdata()), at)
@@ -104,9 +104,9 @@ pub(crate) fn merge_few(alloc: Global, runs: &mut [Run]) -> Result<(), AllocErro
     Ok(())
 }
 
-// Moves runs whose fronts rise to the beginning, and returns their number. A run that comes before
-// the last of them, but not before the one before that, takes the place of the last. Stops if
-// more than a quarter of all runs are out of order.
+// Moves runs to the beginning of the list so that their fronts are in order, and returns their
+// number. If a run sorts before the last of these, but not before the second last, it replaces the
+// last. Stops if more than a quarter of all runs are out of order.
 fn keep_rising(runs: &mut [Run]) -> usize
     ensures count { result ≤ length runs.old }
     ensures same { length runs.new ≡ length runs.old }
@@ -227,7 +227,7 @@ fn known_octets(front: u128) -> usize {
     place.min((2 * MOST_SHARED).saturating_sub(place)) + FRONT_OCTETS
 }
 
-// The front of a part, compared with another part with which it is known to share `known` octets.
+// The front of a part, compared with another part. Both are known to share `known` octets.
 // Parts before the other sort by how many octets they share with it, parts after it in the reverse
 // order.
 fn front_beside(other: &[u8], part: &[u8], known: usize) -> u128 {
@@ -244,15 +244,15 @@ fn front_beside(other: &[u8], part: &[u8], known: usize) -> u128 {
     )
 }
 
-// A front: a place, the next octets of the part, and in the last octet how many these are.
+// A front: a place, the next 12 octets of the part, and the number of octets left, at most `MORE`.
 fn front_of(place: usize, rest: &[u8]) -> u128 {
     let end = rest.len().min(MORE);
     let (front, _) = rest.split_at(rest.len().min(FRONT_OCTETS));
     ((place as u128) << 104) | (number_of(front) << 8) | end as u128
 }
 
-// The number whose 12 octets are those given, followed by octets 0. Eight octets or more are read
-// as two numbers that may overlap.
+// At most 12 octets, padded with 0, as a big-endian number. Eight octets or more are read as two
+// numbers that may overlap.
 fn number_of(front: &[u8]) -> u128 {
     if let (Some(first), Some(last)) = (front.first_chunk::<8>(), front.last_chunk::<8>()) {
         let missing = FRONT_OCTETS.saturating_sub(front.len()) as u32;

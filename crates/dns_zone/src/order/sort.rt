@@ -20,8 +20,8 @@ use std::alloc::{AllocError, Global};
 use std::cmp::Ordering;
 
 /// Sorts records into canonical order without duplicates (RFC 4034 6.1, 6.3, RFC 2181 5), and
-/// returns them with the keys of their owners. Arranging them is mostly enough; one walk checks
-/// that.
+/// returns them with the keys of their owners. `presort` usually suffices; one pass checks its
+/// result.
 #[tactic(auto, using(crate::proofs::Common::wire_some))]
 pub(crate) fn sorted(
     alloc: Global,
@@ -85,8 +85,8 @@ fn leave_out_duplicates(records: &mut Vec<StoredRecord>, keyed: &mut OwnerKeys) 
     true
 }
 
-// Moves each record that differs from the one before it to the front, and returns their number.
-// `None` if some record comes after the next one in canonical order.
+// Moves the records that differ from the one before them to the front, and returns their number (1
+// for an empty list). `None` if some record comes after the next one in canonical order.
 fn once_in_front(
     keys: &[u8],
     records: &mut [StoredRecord],

@@ -1,4 +1,4 @@
-//! The octets of a stored record: in place if they are few, as those of most records are.
+//! The octets of a stored record, kept in place if they are few, as for most records.
 ghost use Rattle.std.specs.Prelude.{◌≡◌, ◌+◌, ◌≤◌, ◌++◌, length, IfOk};
 ghost use Rattle.dns_zone.specs.EntryForm.{octets_in};
 

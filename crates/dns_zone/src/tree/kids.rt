@@ -17,7 +17,7 @@ use std::cmp::Ordering;
 use std::marker::Model;
 
 /// The children of a node, in the order of their labels. The labels are not lent: only `order`
-/// reads them, and it counts.
+/// reads them, and it counts each comparison.
 #[derive(Drop)]
 pub(crate) struct Kids<'z> {
     tree: &'z Tree,
@@ -102,7 +102,7 @@ impl<'z> Kids<'z> {
     }
 }
 
-// Compares a row's label with another label, whose key is `key`. Mostly the keys differ. If they
+// Compares a row's label with another label, whose key is `key`. Usually the keys differ. If they
 // are equal and one label has no octets beyond its key, it is a prefix of the other.
 fn order_of(records: &[StoredRecord], row: &Row, key: &LabelKey, label: &[u8]) -> Ordering
     requires row { IsRow records.now row.now (row_name records.now row.now) }

@@ -22,8 +22,8 @@ pub(crate) fn count_under(records: &[StoredRecord], name: &NameRef<'_>) -> usize
     ensures { IsFront (λ (r : ResourceRecord). at_or_below r.owner name.now) records.now result }
 {
     // If a name is the only child of its parent, all of these records are at or below it. This is
-    // asked first, since a name of many labels may have many such names above it. Of the others,
-    // most have no name below them.
+    // tested first, since a name of many labels may have many such names above it. Most other
+    // names have no name below them.
     let (Some(first), Some(last)) = (records.first(), records.last()) else {
         return 0;
     };

@@ -104,9 +104,9 @@ impl<'z> Node<'z> {
     }
 
     /// The node at which the way to the target of the type's record `i` (from 0) begins: the last
-    /// existing name below the origin on that way; for an alias, one above all cuts. `None` if
-    /// there is no such name or record; then the way begins at the apex. The node is not visited
-    /// yet.
+    /// existing name below the origin on that way; for an alias, the last of these that is not at
+    /// or below a cut. `None` if there is no such name or record; then the way begins at the apex.
+    /// The node is not visited yet.
     pub fn hint(&self, rtype: RType, i: usize) -> Option<TargetHint<'z>>
         ensures node { result ≡ option_and_then (hint_node self.now.zone)
             (slice_get (rrset self.now.zone self.now.name rtype.0) i) }

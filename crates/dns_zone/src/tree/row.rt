@@ -23,8 +23,8 @@ pub(crate) struct Row {
     pub(crate) own_end: u32,
     /// The end of the records at or below the name.
     pub(crate) end: u32,
-    /// The place in the wire form of the first record's owner at which the name begins; the owner
-    /// ends with it.
+    /// Where the name begins in the wire form of the first record's owner, which ends with the
+    /// name.
     pub(crate) place: u8,
     /// The length of the name's first label.
     pub(crate) label_octets: u8,

@@ -33,8 +33,9 @@ impl<'z> Model for RecordSet<'z> {
 
 impl<'z> RecordSet<'z> {
     /// The first name in the data of record `i`, counted from 0: the server of NS, the target of
-    /// CNAME, the exchange of MX (RFC 1035 3.3.1, 3.3.9, 3.3.11). It is in lower case, and
-    /// borrowed from the zone. Precondition: `i` is below `len`.
+    /// CNAME or SRV, the exchange of MX (RFC 1035 3.3.1, 3.3.9, 3.3.11, RFC 2782). It is in lower
+    /// case, and borrowed from the zone. `None` if the data contains no name. Precondition: `i` is
+    /// below `len`.
     pub fn target(&self, i: usize) -> Option<NameRef<'z>>
         requires { i < length self.now.rdata }
         ensures value { result ≡ target self.now.rtype (get_or self.now.rdata i []) }

@@ -23,8 +23,7 @@ impl Default for Sought<'_> {
 }
 
 impl<'n> Sought<'n> {
-    /// A name to be looked up from an ancestor or from itself; `None` if it is not at or below
-    /// that.
+    /// A name to be looked up from `ancestor`; `None` if the name is not at or below it.
     pub fn below(name: &NameRef<'n>, ancestor: &NameRef<'_>) -> Option<Sought<'n>>
         ensures { MatchOption result (at_or_below name.now ancestor.now ≡ false)
             (λ sought. (sought.name ≡ name.now) × IsBelow sought ancestor.now) }

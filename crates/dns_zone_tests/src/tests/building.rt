@@ -58,7 +58,7 @@ const FAULTS: &[(&str, &str, &[Reported<'static>])] = &[
         ],
     ),
     ("", "", &[(b"\x07example\x00", 1), (b"\x07example\x00", 4)]),
-    // A record that differs only in its TTL is another record.
+    // A record that differs only in its TTL is not a duplicate.
     (
         SMALL,
         "www 1 A 192.0.2.10\n",
@@ -95,7 +95,7 @@ fn add_all(store: &mut Store, records: &[Record]) -> Result<(), AllocError> {
     Ok(())
 }
 
-// The small zone, of a store to which its records are added.
+// The small zone, checked from a store to which its records were added one by one.
 fn checked(alloc: Global) -> Option<CheckedZone> {
     let origin = Name::read_text(b"example.", &Name::root()).unwrap_or_default();
     let Ok(records) = read_zone(alloc, &origin, &mut Tally::new(SMALL.as_bytes())) else {
@@ -108,7 +108,7 @@ fn checked(alloc: Global) -> Option<CheckedZone> {
     store.check(alloc, &origin).ok()
 }
 
-// Whether a zone is printed as the small one, also when it is served.
+// Whether a checked zone has the text of the small zone, also after it becomes a `Zone`.
 fn is_small(alloc: Global, zone: CheckedZone) -> Result<bool, AllocError> {
     let mut sink = Tally::new(Vec::new(alloc));
     let mut served = Tally::new(Vec::new(alloc));

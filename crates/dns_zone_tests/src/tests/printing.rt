@@ -52,7 +52,7 @@ const SHORT_PRINTED: &str = ". 1 IN SOA ns. . 1 2 3 4 5
 ns. 1 IN A 192.0.2.1
 ";
 
-// The file of a zone `example.` in two parts, and its text. Printed text is printed as it is.
+// The file of a zone `example.` in two parts, and its text. Printed text is its own canonical text.
 const PRINTED: &[(&str, &str, &str)] = &[
     (SMALL, "", SMALL_PRINTED),
     // Lines that do not change the small zone.
@@ -84,7 +84,8 @@ fn zones_printed(rt: HostRuntime) -> Result<(), Fail> {
     Ok(())
 }
 
-// Whether a sink that fails after so many octets gets these, and its failure is counted.
+// Whether a sink that fails after `most` octets gets the first `most` octets of the text, and its
+// failure is counted.
 fn is_cut(alloc: Global, zone: &Zone, most: u32) -> bool {
     let is_whole = most as usize == SHORT_PRINTED.len();
     let mut sink = Tally::new(Kept::new(alloc, 1, most));

@@ -65,7 +65,7 @@ fn has_data(node: &Node<'_>, rtype: RType, wanted: &[&[u8]]) -> bool {
     true
 }
 
-// Whether a type has so many records, each with this target, or with none.
+// Whether the RRset of a type has `count` records, each with this target, or without a target.
 fn has_targets(node: &Node<'_>, rtype: RType, count: usize, target: Option<&[u8]>) -> bool {
     let Some(set) = node.set(rtype) else {
         return false;
@@ -128,7 +128,7 @@ fn lends_targets(zone: &Zone) -> bool {
         & has_targets(&node, RType::TXT, 1, None)
 }
 
-// The way to a target begins at the last name on it.
+// The way to a target begins at the last existing name on it.
 fn has_hints(zone: &Zone) -> bool {
     let Some((_, node)) = walked(zone, &[b"h"]) else {
         return false;
@@ -205,7 +205,7 @@ fn addresses(alloc: Global) -> Result<String, AllocError> {
     Ok(text)
 }
 
-// The zone of 100,000 records; 99,997 of them have owners of their own.
+// A zone of 100,000 records, with 99,997 names directly below the origin.
 fn of_children(alloc: Global) -> Result<Zone, Fail> {
     let begin = "$TTL 60\n@ SOA ns h 1 2 3 4 5\n@ NS ns\n@ TXT \"\"\nns A 192.0.2.1\n";
     let end = addresses(alloc)?;

@@ -2,7 +2,7 @@ use Rattle.dns_tools.proofs.Common.{◌≡◌, ◌≤◌, ◌+◌, true, TakesTu
 use Rattle.dns_tools.proofs.listen.serve_datagrams.Given as goal
 
 -- the device is as `counter` turns leave it, and its count of failures has grown by at most one for
--- each turn; if it has not grown, the diagnostics were written
+-- each turn; if the count has not grown, `are_said` is true
 abbrev pub invariant-turns : goal.invariant-turns
 invariant-turns g l = record {
   taken : TakesTurns l.zone l.counter
