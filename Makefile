@@ -22,12 +22,9 @@ run: programs
 	tools/check crates/zonecheck/out/zonecheck
 	tools/ask crates/zoneserve/out/zoneserve
 
-# Proves and builds each program, to crates/NAME/out/NAME, and runs it once.
+# Proves and builds each program, to crates/NAME/out/NAME.
 programs:
-	cd crates/zonecheck && rt run -- example ../../examples/example.zone
-	cd crates/zoneserve && rt run -- once example ../../examples/example.zone </dev/null
-	cd crates/dnsmsg && rt run <stdin
-	cd crates/zonesocket && { rt run -- udp 1 example ../../examples/example.zone </dev/null; [ $$? = 2 ]; }
+	tools/build $(NAMES)
 
 # Builds the programs if one is missing or older than a source.
 built:
