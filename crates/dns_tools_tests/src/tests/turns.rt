@@ -38,14 +38,15 @@ impl Eprint for Refusing<'_> {
 // Which call fails, whether all diagnostics are written, and how many the server tries to write.
 const SAID: &[(u32, bool, u32)] = &[(9, true, 0), (0, false, 1), (5, false, 1)];
 
-// Whether three turns, at a standard error that takes nothing, return `are_said` after `words`
-// tries to write a diagnostic.
+// Whether three turns, at a standard error that takes nothing, send each reply but that of a failed
+// turn, and return `are_said` after `words` tries to write a diagnostic.
 fn go_on_unheard(alloc: Global, zone: &Zone, fails_at: u32, are_said: bool, words: u32) -> bool {
     let calls = Cell::new(0);
     let mut mailbox = Mailbox::new(alloc, QUERY, fails_at);
     let errors = Refusing { calls: &calls };
     serve_datagrams(&errors, zone, &mut mailbox, 3) == are_said
         && calls.get() == words
+        && mailbox.sends == if fails_at < 9 { 2 } else { 3 }
         && mailbox.failures() == u64::from(fails_at < 9)
 }
 
