@@ -4,7 +4,7 @@ use Rattle.dns_answer.proofs.EndingSets.{is_target_type}
 use Rattle.dns_answer.proofs.TargetLaws.{depths, depths-append, side_items-append, side_items-none}
 use Rattle.dns_answer.proofs.StandingAddresses.{NotAddress, NoAddresses, extra-side, extra-none}
 
--- a test that gives the same for names that are the same
+-- a test that gives the same result for names that differ only in case
 abbrev Respects : (DomainName → Bool) → Type 0
 Respects p = (n m : DomainName) → same n m ≡ true → p n ≡ p m
 
@@ -37,7 +37,7 @@ module _ (p : DomainName → Bool) (alike : Respects p) where
       go false e rest = ap (λ xs. side_items z all_names xs (filter p ms))
           (sym (last false e ∙ append-nil (filter p before))) ∙ rest
 
--- names before, which do not appear again, have no effect
+-- earlier targets that do not appear again have no effect
 side-apart : (z : ZoneContents) (xs before ms : List DomainName)
     → AllByRecursion (λ m. list_any (same m) xs
     ≡ false) ms → side_items z all_names (xs ++ before) ms ≡ side_items z all_names before ms
@@ -269,7 +269,7 @@ module _ (z : ZoneContents) (q : DomainName) (t : ℕ) where
   unfolding outcome chain chain_rest
   rcode-is = refl
 
-  -- its cost
+  -- the nodes that the whole answer costs
   pub nodes-are : (chain_rest z t most_aliases [] q).nodes
       ≡ depths z (chain z q t) + depths z (targets_in_zone z (targets (outcome z q t)))
   unfolding chain chain_rest

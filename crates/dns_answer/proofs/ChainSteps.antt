@@ -1,7 +1,7 @@
 -- The rest of an answer, by what is found at a name of the chain.
 use Rattle.dns_answer.proofs.Common.{◌≡◌, ℕ, zero, suc, ◌+◌, true, false, cond, ◌&&◌, ◌⊎◌, inl, inr, List, [], ◌∷◌, ◌++◌, None, Some, refl, sym, ap, ◌∙◌, arith, add-one, append-nil, append_assoc, and-false, DomainName, type_cname, ResourceRecord, ZoneContents, of_type, cut_of, found, name_error, answer, Item, item, follows_alias, alias_set, next_sought, chain_from, last_of, has_any, Outcome, positive, negative, referral_to, outcome_by, outcome_at, labels_below, ending, after_sets, names_from, aliases_of, rest_of, chain_rest, leads_on, sum_cons}
 
--- the names sought if s is the last
+-- if no name is sought after s, the chain from s is s alone; otherwise the next name follows
 from-last : (z : ZoneContents) (k : ℕ) (sought : List DomainName) (s : DomainName)
     → next_sought z (s ∷ sought) s ≡ None → chain_from z k sought s ≡ s ∷ []
 unfolding chain_from
@@ -15,7 +15,7 @@ unfolding chain_from
 from-more z k sought s m e = ap (λ o. s ∷ elim o as
     (λ _. List DomainName) [ None ↦ [] | Some m ↦ chain_from z k (s ∷ sought) m ]) e
 
--- a chain begins with its first name
+-- a chain is not empty, so its last name does not depend on the default
 last-from : (z : ZoneContents) (k : ℕ) (sought : List DomainName) (s m : DomainName)
     → last_of s (chain_from z k sought m) ≡ last_of m (chain_from z k sought m)
 unfolding chain_from
@@ -55,7 +55,7 @@ module _ (z : ZoneContents) (t k : ℕ) (sought : List DomainName) (s : DomainNa
   unfolding chain_rest
   ends aliases o names shown is = grind (arith, sum_cons, rest_of)
 
-  -- a type that follows no alias, or a name without one
+  -- if the type follows no alias or s has none, s alone is sought, and no CNAME set is added
   pub none-shown : leads_on z t s ≡ false → aliases_of z t (s ∷ []) ≡ []
   none-shown e = grind arith
 

@@ -21,14 +21,14 @@ says-in_order z o a g b rcode refers full =
       truncated = λ d held. full ∙ (first.draft d held).full;
     }
 
--- without a referral
+-- an answer without a referral
 pub Ends-positive : (z : ZoneContents) (is : List Item) {w w1 w' : State} {v : Verdict}
     → Offers w w1 (is ++ []) → Offers w1 w' (side_items z all_names [] (targets_of (is ++ [])))
     → IsPlain w1 no_error v → Ends w w' z (positive is) v
 Ends-positive z is a b plain =
     says-in_order z (positive is) a (Offers-nothing _) b plain.rcode plain.referral plain.truncated
 
--- there are no targets
+-- if there are no targets, no addresses are offered
 pub Offers-none : (z : ZoneContents) {w : State} (ms : List DomainName) → ms ≡ []
     → Offers w w (side_items z all_names [] ms)
 Offers-none z ms e = Offers-empty _ (ap (side_items z all_names []) e ∙ side_items-none z all_names)
@@ -40,7 +40,7 @@ Ends-denied z rcode is {w} {w'} e a plain =
     says-in_order z (negative z rcode) (Offers-is w w' is _ (sym e) a) (Offers-nothing w')
     (Offers-none z _ (denial-no_targets z)) plain.rcode plain.referral plain.truncated
 
--- its SOA: a set of one record, with the lesser TTL
+-- the SOA of a negative answer: a set of one record, with the lesser TTL
 lowered : (n : DomainName) (ttl t : ℕ) (ds : List Octets) → length ds ≡ 1
     → item authority
     (map (λ (r : ResourceRecord). record r { ttl = min r.ttl (soa_minimum r.rdata) })
@@ -81,7 +81,7 @@ pub cut-has_servers : (z : ZoneContents) (n c : DomainName)
 cut-has_servers z n c e = set-owned z c type_ns ∙ (and_parts (below c z.origin)
     (owns z c type_ns) (found_passes (is_cut z) (reverse (suffixes (folded n))) c e)).1
 
--- if all targets are at or below the cut, there are no others
+-- if all targets are at or below the cut, no others have addresses to offer
 none-outside_cut : (z : ZoneContents) (c : DomainName) (before ms : List DomainName)
     → list_all (inside c) ms ≡ true → side_items z (not_inside c) before ms ≡ []
 unfolding side_items
@@ -91,7 +91,7 @@ none-outside_cut z c before (m ∷ ms) all =
     ap₂ (λ x y. x ++ y) (items-untaken z (not_inside c) before m (ap not parts.0))
     (none-outside_cut z c (before ++ m ∷ []) ms parts.1)
 
--- nothing is offered for other targets if all are at or below the cut, nor to a full reply
+-- nothing is added for targets outside the cut if there are none, or if the reply is full
 pub Offers-others : (z : ZoneContents) (c : DomainName) (w : State) (ms : List DomainName)
     (b : Bool) → (w.full ≡ true) ⊎ (b ≡ list_all (inside c) ms) → b ≡ true
     → Offers w w (side_items z (not_inside c) [] ms)

@@ -2,7 +2,8 @@
 use Rattle.dns_answer.proofs.Common.{◌≡◌, ℕ, zero, suc, Bool, true, ◌+◌, ◌-◌, ◌≤◌, ◌<◌, [], ◌∷◌, length, drop, length-drop, Option, None, Some, reverse, refl, sym, ap, ◌∙◌, subst, arith, Octets, DomainName, folded, at_or_below, suffixes, ZoneContents, find, is_some, exists, is_cut, cut_of, ZoneNode, Sought, IsBelow, node_of, node_or, labels_below, one_if, IsApex, IsAim, IsThere, IsMissing, IsBelowCut, same-is, same-from, itself-under, under-trans, exists-lower, above_under, under_same, no_cut-at_origin}
 use Rattle.dns_answer.proofs.WaySteps.{cut-further, missing-further}
 
--- what is known about a name above holds for the whole name
+-- the cut of a suffix of a name is the cut of the name; if a suffix does not exist, the name does
+-- not exist either, and has the same closest encloser
 pub cut-whole : (z : ZoneContents) (k : ℕ) (n : DomainName) (node : ZoneNode)
     → IsBelowCut z (drop k n) node → IsBelowCut z n node
 cut-whole z zero n node h = h
@@ -17,7 +18,7 @@ missing-whole z start ends (suc k) [] node h = h
 missing-whole z start ends (suc k) (l ∷ n) node h =
     missing-further z start ends l n node (missing-whole z start ends k n node h)
 
--- a name without its first labels is still at or below another one, if it is as long
+-- n without its first k labels is still at or below a, if it has at least as many labels as a
 pub under-drop : (k : ℕ) (n a : DomainName)
     → at_or_below n a ≡ true → length a + k ≤ length n → at_or_below (drop k n) a ≡ true
 under-drop zero n a h len = h
@@ -81,7 +82,7 @@ module _ (z : ZoneContents) (apex : ZoneNode) (ends : Bool) (s : Sought) (top : 
           at_name = ap (λ y. node_of y top) a.zone ∙ ap (node_of z) (sym (alike ∙ a.lower));
         }
 
-    -- no name below it is above the origin
+    -- the names on the path are at or below the origin
     pub under-origin : (k : ℕ) → k ≤ s.depth → at_or_below (drop k s.name) z.origin ≡ true
     under-origin k few = grind (arith, start, under-trans, under-drop)
 

@@ -71,8 +71,7 @@ longer q limit front (i ∷ is) false = go (nat_le (size_with q (front ++ i ∷ 
     go true h k = omega (arith, length-append front (i ∷ []))
     go false h k = k
 
--- The sets kept lack one of the first sets if and only if the reply is full after these are
--- offered.
+-- The reply lacks one of the sets `first` if and only if it is full after these sets are offered.
 truncated_by : (d : Draft) (rest : List Item) (n : ℕ) (first : List Item) → Counted 0 d first
     → (b : Bool) → d.full ≡ b → nat_lt (length (offered d rest).kept) (length first) ≡ d.full
 truncated_by d rest n first h b h1 = grind (arith, offered-full, lt-ltb, longer, ltb-true)

@@ -51,7 +51,7 @@ Offers-left w i unfull left = record {
     go d h true f = grind arith
     go d h false f = record { written = h.written; limit = h.limit; full = refl }
 
--- by the result of putting a set on a page
+-- offering a set that was put on a page
 pub page_put : (w : State) (page : wire.Draft) (i : Item) (put : Bool) (numbers : Octets → ℕ)
     → numbers ≡ quick_number → w.full ≡ false → put ≡ true → page.limit ≡ w.page.limit
     → ((q : Option MessageQuestion) (items : List Item) → IsDraft numbers q items w.page → IsTrue
@@ -75,7 +75,7 @@ page_left w page i false numbers n unfull e fits stays =
     (Offers-left w i unfull (λ q items d le. false≢true
     ((fits q items (subst (λ k. IsDraft k q items w.page) (sym n) d)).1 le)))
 
--- the same for an equal state
+-- as `page_put`, for a state that is equal to w
 pub put_in : (v w : State) (page : wire.Draft) (i : Item) (put : Bool) (numbers : Octets → ℕ)
     → w ≡ v → numbers ≡ quick_number → w.full ≡ false → put ≡ true → page.limit ≡ w.page.limit
     → ((q : Option MessageQuestion) (items : List Item) → IsDraft numbers q items w.page → IsTrue

@@ -55,7 +55,7 @@ module _ (z : ZoneContents) (h : Header) (q : MessageQuestion) where
   answers-found {w = w} {w' = w'} {v = v} led zone name type seeks followed authority is_head =
       grind (arith, authoritative, rcode-is, Offers-is, items-are, truncates)
 
-  -- The sets are laid out.
+  -- The written reply is the reply of an answer.
   pub answer-put : (limit : ℕ) (w w' : State) (head : Header) → Holds w (empty_draft q limit)
       → Answers z h q w w' head → IsHeaded z limit (answered h q) w' head
   answer-put limit w w' head begun stated = λ sent laid.

@@ -8,12 +8,12 @@ use Rattle.dns_answer.proofs.EndingSets.{item-shown, of_type-shown}
 use Rattle.dns_answer.proofs.AskedSets.{asked-none, asked-some, set_of-none, set_of-some}
 use Rattle.dns_answer.proofs.ChainSteps.{alias-found, outcome-found, outcome-alias, ends-plain, ends-alias, goes-on}
 
--- the sets of aliases, followed by the rest
+-- the sets of an alias are offered, and then the rest of the answer
 pub says-after : {w w1 w' : State} {r : Rest} {v : Verdict} (is : List Item) (nodes : ℕ)
     → Offers w w1 is → Says w1 w' r v → Says w w' (after_sets is nodes r) v
 says-after {w} {w1} {w'} {r} is nodes a h = grind (arith, Offers-then, offered-append)
 
--- the result of seeking a name, by the rest after its own sets
+-- the result of seeking a name, from what follows the sets of that name
 pub sought-on : (a : Walk) (t : ℕ) (before : List DomainName) (s : DomainName) (is : List Item)
     (r : Rest) {w w1 w' : State} {b c : Walk} {v : Verdict} → chain_rest a.zone t (aliases_left
     before) before s ≡ after_sets is (labels_below a.zone s) r → Took a b (labels_below a.zone s) 2
@@ -57,7 +57,7 @@ names-more ss s = grind (arith, map-append, reverse-append)
 pub names-count : (ss : List Sought) → length (names_of ss) ≡ length ss
 names-count ss = grind (arith, length-reverse, length-map)
 
--- a name in lower case was sought: it is the last one, or one before it
+-- a name in lower case was sought if and only if it is the last name sought or an earlier one
 pub among-is : (n : DomainName) (l f : Sought) (ts earlier : List Sought) → f ∷ ts ≡ earlier
     → folded n ≡ n → AreTargets earlier l
     → (names_equal n l.name || (list_any (λ (s : Sought). names_equal n s.name) ts

@@ -8,7 +8,7 @@ stands-append : (n : DomainName) (t : ℕ) (xs ys : List Item)
     → stands n t (xs ++ ys) ≡ (stands n t xs || stands n t ys)
 stands-append n t xs ys = grind (arith, flat_map-append, list_any-append, records_of)
 
--- a test that gives the same for all records
+-- a test that gives the result b for all records
 any-each : (p : ResourceRecord → Bool) (b : Bool) (rs : List ResourceRecord)
     → AllByRecursion (λ r. p r ≡ b) rs → list_any p rs ≡ (b && has_any rs)
 any-each p b [] e = sym (and-false b)
@@ -18,7 +18,7 @@ any-each p b (r ∷ rs) e = ap₂ (λ x y. x || y) e.0 (any-each p b rs e.1) ∙
     go true = refl
     go false = refl
 
--- names that are the same
+-- names that are the same can replace each other: in a list test, in `same`, and as owners
 any-same : (n m : DomainName) (ns : List DomainName) → same m n ≡ true
     → list_any (same n) ns ≡ list_any (same m) ns
 any-same n m ns e = grind (arith, list_any, names_equal, folded, same-is)
@@ -44,7 +44,7 @@ set-owners z m t =
 abbrev IsAddress : ℕ → Type 0
 IsAddress t = (t ≡ type_a) ⊎ (t ≡ type_aaaa)
 
--- if names are the same, so are their addresses
+-- names that are the same have the same addresses
 module _ (z : ZoneContents) (n m : DomainName) where
   stands-set : (t u : ℕ) → stands n t (item additional (rrset z m u))
       ≡ ((same m n && u == t) && has_any (rrset z m u))
@@ -54,7 +54,7 @@ module _ (z : ZoneContents) (n m : DomainName) where
       → stands n t (addresses_of z m) ≡ (same m n && has_any (rrset z m t))
   stands-addresses t is = grind (arith, stands-append, stands-set)
 
--- the reply contains the addresses of the targets before, and no others
+-- the reply contains the addresses of the targets in `before`, and no other addresses
 record Stood (z : ZoneContents) (t : ℕ) (earlier : List Item) (before : List DomainName)
     : Type 0 where
   are : (n : DomainName) → stands n t earlier ≡ (list_any (same n) before && has_any (rrset z n t))

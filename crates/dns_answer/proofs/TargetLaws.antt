@@ -45,7 +45,7 @@ pub all-more : (p : DomainName → Bool) (set : RecordSet) (i : ℕ)
     ≡ (list_all p (targets_of_first i set) && takes_target p (target_at i set))
 all-more p set i h = grind (arith, first-more, list_all-append, and-true)
 
--- what is offered for one more target
+-- what is offered for two lists of targets in turn, for one target, for one more, and for none
 pub side_items-append : (z : ZoneContents) (p : DomainName → Bool) (before ms ns : List DomainName)
     → side_items z p before
     (ms ++ ns) ≡ side_items z p before ms ++ side_items z p (before ++ ms) ns
@@ -68,7 +68,7 @@ pub side_items-none : (z : ZoneContents) (p : DomainName → Bool) → side_item
 unfolding side_items
 side_items-none z p = refl
 
--- the number of labels of names below the origin
+-- how many labels names have below the origin, in all
 abbrev pub depths : ZoneContents → List DomainName → ℕ
 depths z ns = sum (map (λ (n : DomainName). length n - length z.origin) ns)
 
@@ -77,7 +77,7 @@ pub depths-append : (z : ZoneContents) (ns ms : List DomainName)
 depths-append z [] ms = omega arith
 depths-append z (n ∷ ns) ms = grind (arith, sum_cons, (depths-append z ns ms))
 
--- the cost of targets, with others
+-- the cost of two lists of targets, one after the other
 module _ (z : ZoneContents) (p : DomainName → Bool) where
   nodes-append : (ms ns : List DomainName)
       → side_nodes z p (ms ++ ns) ≡ side_nodes z p ms + side_nodes z p ns
@@ -114,7 +114,7 @@ module _ (z : ZoneContents) (p : DomainName → Bool) where
         Took-then,
       )
 
--- the first targets of a set and the others
+-- the targets of the first i records of a set, and those of its other records, are all its targets
 first-rest : (set : RecordSet) (i : ℕ) → targets_of_first i set
     ++ filter_map (λ (d : Octets). target set.rtype d) (drop i set.rdata) ≡ set_targets set
 first-rest set i =
@@ -148,7 +148,7 @@ Offers-rest z p set i w w' full firsts =
 pub item-none : (s : Section) (rs : List ResourceRecord) → set_of rs ≡ None → item s rs ≡ []
 item-none s rs h = grind arith
 
--- a zone has no records outside
+-- all records of a zone are at or below its origin
 owner_inside : (z : ZoneContents)
     → IsBuilt z → (r : ResourceRecord) → Among r z.records → at_or_below r.owner z.origin ≡ true
 owner_inside z kept r m =
@@ -196,7 +196,7 @@ pub addresses-folded : (z : ZoneContents) (m : DomainName)
     → addresses_of z (folded m) ≡ addresses_of z m
 addresses-folded z m = grind (arith, item, additional, of_type, type_a, type_aaaa, at-folded)
 
--- a target for which no addresses are offered
+-- a target that fails the test, or that is among the earlier targets, adds no addresses
 pub items-untaken : (z : ZoneContents) (p : DomainName → Bool) (before : List DomainName)
     (m : DomainName) → p m ≡ false → target_items z p before (Some m) ≡ []
 items-untaken z p before m e = grind (arith, list_any, same, addresses_of)
@@ -209,6 +209,6 @@ items-stood z p before m e = grind (arith, and-false)
 pub same-lower : (n m : DomainName) → folded n ≡ n → folded m ≡ m → names_equal n m ≡ same n m
 same-lower n m low kept = sym (ap₂ names_equal low kept)
 
--- a name has few labels
+-- a name with at most 127 labels is at most 127 labels below the origin
 pub depth-few : (z : ZoneContents) (m : DomainName) → length m ≤ 127 → depth_in z m ≤ 127
 depth-few z m few = grind arith

@@ -75,7 +75,7 @@ module _ (z : ZoneContents) (start : ZoneNode) (ends : Bool) (l : Octets) (n : D
       (rrset node.zone node.name type_ns))) ≡ false → IsThere z start ends (l ∷ n) (Some node)
   there-at_child there none = grind (arith, cut-none, cut_is, child-lower, is)
 
--- a hint that the zone keeps
+-- a path may begin at a hint that the zone stores
 pub leads-to : (z y : ZoneContents) (t : ℕ) (ends : Bool) (hint : Option ZoneNode)
     → y ≡ z → (ends ≡ true → t ≡ type_cname) → IfSome hint
     (λ (v : ZoneNode). (v.zone ≡ y) × IsHint y t v.name) → IfSome hint (IsHintTo z ends)

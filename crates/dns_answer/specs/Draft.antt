@@ -5,8 +5,8 @@ use Rattle.dns_spec.specs.Reading.{MessageQuestion}
 use Rattle.dns_spec.specs.Layout.{Item}
 use Rattle.dns_spec.specs.LayoutSize.{size}
 
--- A reply to a question while sets are offered to it: the sets that it contains, and whether one
--- did not fit, after which none is tried.
+-- A reply to a question while sets are offered to it: the sets that it contains, and whether some
+-- set did not fit. After a set that did not fit, no set is tried.
 pub record Draft : Type 0 where
   pub question : MessageQuestion
   pub limit : ℕ
@@ -21,7 +21,7 @@ empty_draft q limit = record { question = q; limit = limit; kept = []; full = fa
 abbrev pub size_with : MessageQuestion → List Item → ℕ
 size_with q sets = size (Some q) sets
 
--- a set is added if it fits, and none after a set that did not fit
+-- a set is added if it fits and no earlier set was left out
 abbrev pub offer : Draft → Item → Draft
 offer d i =
     let next = d.kept ++ i ∷ [] in

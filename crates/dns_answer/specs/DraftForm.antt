@@ -13,13 +13,13 @@ pub record State : Type 0 where
   pub page : wire.Draft
   pub full : Bool
 
--- the written reply is the draft's
+-- the written reply is the one that the draft describes
 pub record Holds (w : State) (d : spec.Draft) : Type 0 where
   pub written : IsDraft quick_number (Some d.question) d.kept w.page
   pub limit : w.page.limit ≡ d.limit
   pub full : w.full ≡ d.full
 
--- These sets are offered, in order.
+-- From w to w', these sets are offered, in order.
 pub record Offers (w w' : State) (is : List Item) : Type 0 where
   pub draft : (d : spec.Draft) → Holds w d → Holds w' (offered d is)
   pub limit : w'.page.limit ≡ w.page.limit

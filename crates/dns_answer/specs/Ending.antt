@@ -26,7 +26,7 @@ inside c m = at_or_below m c
 abbrev pub not_inside : DomainName → DomainName → Bool
 not_inside c m = not (at_or_below m c)
 
--- the addresses that a referral needs, and all other addresses
+-- the addresses that a referral requires, and all other addresses that are offered
 abbrev pub glue_by : ZoneContents → Option DomainName → List DomainName → List Item
 glue_by z None ms = []
 glue_by z (Some c) ms = side_items z (inside c) [] ms
@@ -64,7 +64,7 @@ pub record Rest : Type 0 where
   pub nodes : ℕ
   pub misses : ℕ
 
--- the rest that ends an answer
+-- the rest of an answer when no further name is sought
 abbrev pub ending : ZoneContents → Outcome → Rest
 ending z o = record {
   items = ending_items z o;
@@ -111,7 +111,8 @@ TookTargets s s' o = TookRest s s' (ending s.zone o)
 abbrev pub asked_item : DomainName → RecordSet → List Item
 asked_item n set = record { section = answer; records = records_at n set.ttl set } ∷ []
 
--- If this set was the last one offered, what is offered now ends an answer with it.
+-- If this set was the last one offered before w, the sets offered from w to w' end an answer with
+-- it.
 abbrev pub EndsWith : State → State → ZoneContents → RecordSet → Verdict → Type 0
 EndsWith w w' z set v =
     (n : DomainName) → (begun : State) → Offers begun w (asked_item n set)

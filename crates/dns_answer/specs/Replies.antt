@@ -24,7 +24,7 @@ JudgedAs z q (Err rcode) = refusal z q ≡ Some (code_of rcode)
 JudgedAs z q (Ok sought) =
     (refusal z q ≡ None) × (sought.name ≡ q.qname) × IsBelow sought z.origin
 
--- The octets are the reply of a decision, with the longest beginning of the sets that fits.
+-- The octets are the reply of a decision, with the longest prefix of its sets that fits.
 pub record IsReply (z : ZoneContents) (limit : ℕ) (x : Decision) (sent : Octets) : Type 0 where
   pub octets : Some sent ≡ option_map reply_octets (reply_of (keep_longest z limit) z x)
   pub within : length sent ≤ limit
@@ -67,7 +67,7 @@ comparisons_for z (header_alone h) visits = 0
 comparisons_for z (question_alone h q) visits = 0
 comparisons_for z (answered h q) visits = most_comparisons z q.qname q.qtype visits
 
--- A walk that had counted nothing counted no more than a decision may cost.
+-- If the walk s had counts of 0, s' has counted no more than a decision may cost.
 pub record Costs (x : Decision) (s s' : Walk) : Type 0 where
   pub zone : s'.zone ≡ s.zone
   pub visits : s'.visits ≤ visits_for s.zone x
@@ -85,7 +85,7 @@ pub record Responds (s s' : Walk) (datagram : Octets) (limit : ℕ) (sent : Opti
   pub fits : IfSome sent (λ o. length o ≤ limit)
   pub costs : Costs (decide s.zone datagram) s s'
 
--- These octets are at the front of `out`, if there are any.
+-- The octets, if there are any, are at the front of `out`, and `len` is their number.
 abbrev pub IsPut : Option Octets → Option ℕ → Octets → Type 0
 IsPut None None out = ⊤
 IsPut None (Some len) out = ⊥

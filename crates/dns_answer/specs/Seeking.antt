@@ -33,8 +33,8 @@ pub record AreTargets (earlier : List Sought) (s : Sought) : Type 0 where
   pub last : 0 < length earlier → folded s.name ≡ s.name
   pub others : All (λ (e : Sought). folded e.name ≡ e.name) (drop 1 earlier)
 
--- A name may be sought after others: on a path from a hint or the apex. The walk has room for 129
--- nodes for the name and each alias that may still be followed, and for each of 129 targets.
+-- A name may be sought after `earlier`, on a path from a hint or the apex. The walk may still
+-- visit 129 nodes for each alias that may still be followed, and for each of 129 other names.
 pub record MaySeek (s : Walk) (top : ZoneNode) (earlier : List Sought) (n : Sought)
     (l : Option ZoneNode) : Type 0 where
   pub apex : IsApex s.zone top
@@ -42,8 +42,8 @@ pub record MaySeek (s : Walk) (top : ZoneNode) (earlier : List Sought) (n : Soug
   pub lower : AreTargets earlier n
   pub room : HasNodesLeft s (129 * (aliases_left (names_of earlier) + 129))
 
--- The rest of an answer at the name n was offered and counted, and the verdict states how its last
--- name is answered.
+-- The rest of an answer from the name n on was offered, and its cost counted. The verdict states
+-- how the answer for the last name ends.
 pub record Seeks (w w' : State) (s s' : Walk) (t : ℕ) (before : List DomainName) (n : DomainName)
     (v : Verdict) : Type 0 where
   pub says : Says w w' (chain_rest s.zone t (aliases_left before) before n) v
@@ -64,7 +64,7 @@ pub record IsLast (w w' : State) (s s' : Walk) (t : ℕ) (before : List DomainNa
   pub seeks : Seeks w w' s s' t before n v
   pub own : Followed s.zone t n v false
 
--- what seeking the name m still offers and costs completes the seeking of n
+-- seeking m from here on completes the seeking of n, with all that it offers and costs
 abbrev pub Completes : State → State → Walk → Walk → ℕ → List DomainName → List DomainName
     → DomainName → DomainName → Type 0
 Completes w w' s s' t before before' n m =
@@ -108,8 +108,8 @@ unsought origin sought o =
     option_and_then
     (λ m. if at_or_below m origin && not (list_any (same m) sought) then Some m else None) o
 
--- the name to seek after an alias, when the names in `sought` were sought already, and where its
--- path begins; or the reason why there is none
+-- The name to seek after an alias, when the names in `sought` were sought already, and where the
+-- path to it begins. For `None`, the reason why no name is sought after the alias.
 abbrev pub NextIs : ZoneContents → RecordSet → List DomainName → Option (Sought × Option ZoneNode)
     → Type 0
 NextIs z set sought None =

@@ -15,11 +15,11 @@ use Rattle.dns_answer.specs.declared.addresses.Side.TheVariants.{All, Inside, Ou
 abbrev pub set_targets : RecordSet → List DomainName
 set_targets set = filter_map (λ (d : Octets). target set.rtype d) set.rdata
 
--- the targets of its first k records
+-- the targets of the first k records of a set
 abbrev pub targets_of_first : ℕ → RecordSet → List DomainName
 targets_of_first k set = filter_map (λ (d : Octets). target set.rtype d) (take k set.rdata)
 
--- the target of its record at i
+-- the target of record i of a set
 abbrev pub target_at : ℕ → RecordSet → Option DomainName
 target_at i set = target set.rtype (get_or set.rdata i [])
 
@@ -60,12 +60,12 @@ side_nodes z p ms = sum (map (λ m. length m - length z.origin) (targets_in_zone
 abbrev pub depth_in : ZoneContents → DomainName → ℕ
 depth_in z m = if at_or_below m z.origin then length m - length z.origin else 0
 
--- the same for the path to a target, if it passes the test
+-- the number of nodes below the apex on the path to a target that passes the test, or else 0
 abbrev pub target_nodes : ZoneContents → (DomainName → Bool) → Option DomainName → ℕ
 target_nodes z p None = 0
 target_nodes z p (Some m) = if p m && at_or_below m z.origin then length m - length z.origin else 0
 
--- the most children that are missing on that path: one, if the target passes the test
+-- the most children that are missing on the path to a target: one, if the target passes the test
 abbrev pub target_misses : (DomainName → Bool) → Option DomainName → ℕ
 target_misses p None = 0
 target_misses p (Some m) = if p m then 1 else 0

@@ -28,7 +28,7 @@ pub record IsApex (z : ZoneContents) (apex : ZoneNode) : Type 0 where
   pub node : apex ≡ node_of z z.origin
   pub exists : IsNode z z.origin
 
--- a node below the origin at which a path may begin; `ends`: a path that ends at cuts
+-- a node below the origin at which a path may begin; `ends` says whether the path ends at cuts
 pub record IsHintTo (z : ZoneContents) (ends : Bool) (v : ZoneNode) : Type 0 where
   pub zone : v.zone ≡ z
   pub exists : IsNode z v.name
@@ -59,14 +59,14 @@ abbrev pub ends_at_cuts : Cuts → Bool
 ends_at_cuts End = true
 ends_at_cuts Pass = false
 
--- the name exists, and there is no cut on the path, if the path would end at one
+-- the name exists; if paths end at cuts, the name is not at or below a cut
 pub record IsThere (z : ZoneContents) (start : ZoneNode) (ends : Bool) (n : DomainName)
     (node : Option ZoneNode) : Type 0 where
   pub no_cut : ends ≡ true → cut_of z n ≡ None
   pub stands : exists z n ≡ true
   pub at_name : node_or start node ≡ node_of z (folded n)
 
--- the name does not exist, and there is no cut on the path, if the path would end at one
+-- the name does not exist; if paths end at cuts, the name is not at or below a cut
 pub record IsMissing (z : ZoneContents) (start : ZoneNode) (ends : Bool) (n : DomainName)
     (node : Option ZoneNode) : Type 0 where
   pub no_cut : ends ≡ true → cut_of z n ≡ None
@@ -85,7 +85,7 @@ WalkedTo z start ends n (ways.Cut node) = (ends ≡ true) × IsBelowCut z n node
 WalkedTo z start ends n (ways.Name node) = IsThere z start ends n node
 WalkedTo z start ends n (ways.Encloser node) = IsMissing z start ends n node
 
--- what is found for the name
+-- nothing is found for the name, or the records of a node
 pub record IsNothing (z : ZoneContents) (n : DomainName) : Type 0 where
   pub no_cut : cut_of z n ≡ None
   pub none : found z n ≡ None

@@ -18,14 +18,14 @@ use dns_rdata::{RType, SetView};
 use dns_wire::Section;
 use dns_zone::{Node, RecordSet, Steps, TargetHint};
 
-/// Which targets are selected: all, those at or below a cut, or the others.
+/// Which targets are selected: all, those at or below a cut, or those that are not.
 #[derive(Clone, Copy)]
 pub(crate) enum Side<'c, 'n> {
     /// All targets.
     All,
     /// The targets at or below the cut, without whose addresses the client can't continue.
     Inside(&'c NameRef<'n>),
-    /// The other targets.
+    /// The targets that are not at or below the cut.
     Outside(&'c NameRef<'n>),
 }
 
@@ -42,8 +42,8 @@ impl Side<'_, '_> {
 }
 
 /// Offers the addresses of the selected targets of a set, in order, and only once for each target.
-/// Returns whether all targets are selected, unless the reply is full: then no further target is
-/// looked up, since none of its addresses would be added.
+/// Returns whether all targets are selected. Once the reply is full, no further target is looked
+/// up, since its addresses would not be added; then the result has no meaning.
 pub(crate) fn offer_addresses<'z, const N: usize, const SIZE: usize>(
     node: &Node<'z>,
     set: &RecordSet<'z>,
@@ -76,7 +76,7 @@ pub(crate) fn offer_addresses<'z, const N: usize, const SIZE: usize>(
 }
 
 // Offers the addresses of the target of record `i`, if the target is selected and no earlier record
-// has it. False only if the record has a target that is not selected.
+// has the same target. Returns false only if the record has a target that is not selected.
 fn offer_target<'z, const N: usize, const SIZE: usize>(
     node: &Node<'z>,
     set: &RecordSet<'z>,
@@ -113,7 +113,7 @@ fn offer_target<'z, const N: usize, const SIZE: usize>(
     true
 }
 
-// Whether one of the first `count` records of a set has the same target. Both names are in lower
+// Whether one of the first `count` records of a set has this target. All these names are in lower
 // case.
 fn stood_before(set: &RecordSet<'_>, count: usize, target: &NameRef<'_>) -> bool
     requires valid { HasValidData set.now }
@@ -131,8 +131,8 @@ fn stood_before(set: &RecordSet<'_>, count: usize, target: &NameRef<'_>) -> bool
     false
 }
 
-// Offers the addresses of one name, in lower case: its A set, then its AAAA set, also below a cut,
-// never by a wildcard.
+// Offers the addresses of a name in lower case: its A set, then its AAAA set. The name may be below
+// a cut. A wildcard's sets are not offered.
 fn offer_address<'z, const N: usize, const SIZE: usize>(
     target: &NameRef<'_>,
     hint: Option<TargetHint<'z>>,
@@ -160,7 +160,7 @@ fn offer_address<'z, const N: usize, const SIZE: usize>(
     offer_type(node, RType::AAAA, target, draft);
 }
 
-// Offers the set of a type at a node, if there is one.
+// Offers the set of a type at a node, if the node has such a set.
 fn offer_type<const N: usize, const SIZE: usize>(
     node: &Node<'_>,
     rtype: RType,

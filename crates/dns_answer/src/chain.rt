@@ -1,4 +1,4 @@
-//! The names sought, one after another (RFC 1034 4.3.2 step 3a).
+//! Seeks the name of a question, and then the targets of aliases (RFC 1034 4.3.2 step 3a).
 ghost use Rattle.std.specs.Prelude.{◌≡◌, ◌<◌, ◌∷◌, [], length, true, IfSome};
 ghost use Rattle.std.specs.List.{list_any};
 ghost use Rattle.dns_spec.specs.Names.{folded, names_equal, same};
@@ -27,13 +27,13 @@ const MOST_ALIASES: usize = 16;
 pub(crate) enum Next<'z> {
     /// The name is the last one sought.
     Last(Verdict),
-    /// The name is an alias of this name, whose path may begin at the hint.
+    /// The name is an alias of another name, the path to which may begin at the hint.
     Alias(Sought<'z>, Option<TargetHint<'z>>),
 }
 
-/// Seeks the name of a question and then the targets of aliases: offers the sets of the aliases,
-/// and the sets with which the last name ends the answer. Also returns whether the question's name
-/// is an alias that was followed.
+/// Seeks the name of a question and then the targets of aliases: offers the CNAME sets of the
+/// aliases, then the sets with which the last name ends the answer. Also returns whether the
+/// question's name is an alias that was followed.
 pub(crate) fn seek<'q, 'z: 'q, const N: usize, const SIZE: usize>(
     first: Sought<'q>,
     qtype: u16,
@@ -55,7 +55,7 @@ pub(crate) fn seek<'q, 'z: 'q, const N: usize, const SIZE: usize>(
     }
 }
 
-// Seeks the target of the first alias, and then the targets of the others. Only this function
+// Seeks the target of the first alias, and then the targets of further aliases. Only this function
 // makes room for the names sought, since most answers have no alias.
 fn seek_targets<'q, 'z: 'q, const N: usize, const SIZE: usize>(
     first: Sought<'q>,
@@ -86,8 +86,8 @@ fn seek_targets<'q, 'z: 'q, const N: usize, const SIZE: usize>(
     }
 }
 
-// Seeks one name: offers the set of its alias, or the sets with which it ends the answer. Inlining
-// saves 62 to 190 instructions per reply.
+// Seeks one name: offers its CNAME set if it is an alias, or else the sets with which it ends the
+// answer. Inlining saves 62 to 190 instructions per reply.
 #[inline(always)]
 fn seek_one<'z, const N: usize, const SIZE: usize>(
     sought: &Sought<'_>,
@@ -123,8 +123,8 @@ fn seek_one<'z, const N: usize, const SIZE: usize>(
 }
 
 // The set at a node that the answer contains, and whether it is an alias to follow. A CNAME set
-// replaces the set asked for, unless the question asks for CNAME or for all types. For all types,
-// the set with the lowest type number (RFC 8482 4.1).
+// replaces the set asked for, unless the question asks for CNAME or for all types. If it asks for
+// all types, the set is the one with the lowest type number (RFC 8482 4.1).
 #[inline(always)]
 fn shown_set<'z>(node: &Node<'z>, qtype: u16) -> Option<(RecordSet<'z>, bool)>
     ensures shown { IsShown qtype (at node.now.zone node.now.name) result }
@@ -141,8 +141,9 @@ fn shown_set<'z>(node: &Node<'z>, qtype: u16) -> Option<(RecordSet<'z>, bool)>
     Some((node.set(RType(qtype))?, false))
 }
 
-// The name to seek after an alias, and where its path begins: the alias's target, if more aliases
-// may be followed, and the target is at or below the origin and was not sought yet.
+// The target of an alias as the next name to seek, with the hint at which the path to it begins.
+// `None` if no more aliases may be followed, or the target is outside the zone or was sought
+// already.
 #[inline(always)]
 fn next_sought<'z>(
     alias: &RecordSet<'z>,
@@ -166,8 +167,8 @@ fn next_sought<'z>(
     Some((next, hint))
 }
 
-// Whether a name in lower case is the last one sought, or was sought before. All names sought but
-// the first are targets, so they are in lower case too, and comparing octets suffices for them.
+// Whether a name in lower case is `last`, the last name sought, or is in `earlier`. All names
+// sought but the first are targets, so they are in lower case too, and comparing octets suffices.
 fn is_among(name: &NameRef<'_>, last: &Sought<'_>, earlier: &[Sought<'_>]) -> bool
     requires name { folded name.now ≡ name.now }
     requires lower { AreTargets earlier.now last.now }
@@ -179,7 +180,7 @@ fn is_among(name: &NameRef<'_>, last: &Sought<'_>, earlier: &[Sought<'_>]) -> bo
     *name == last.name || has_equal(targets, name) || name.same(&first.name)
 }
 
-// Whether a name is equal to one of the others, octet by octet.
+// Whether a name is equal to one of `names`, octet by octet.
 fn has_equal(names: &[Sought<'_>], name: &NameRef<'_>) -> bool
     ensures { result ≡ list_any (λ s. names_equal name.now s.name) names.now }
 {

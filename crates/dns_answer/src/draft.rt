@@ -1,4 +1,4 @@
-//! A reply while sets are offered to it: after a set that does not fit, none is tried.
+//! A reply to which sets are offered, until one does not fit.
 ghost use Rattle.std.specs.Prelude.{◌≡◌, ◌*◌, ◌≤◌, [], ◌∷◌, min};
 ghost use Rattle.dns_wire.specs.Draft.{item_of};
 ghost use Rattle.dns_answer.specs.DraftForm.{Offers};
@@ -8,8 +8,8 @@ use dns_rdata::SetView;
 use dns_wire::{Page, QuickHash, Section};
 use std::marker::Model;
 
-/// A reply being made. The value itself has room for `N` places of names and `SIZE` octets.
-/// `respond_in` borrows it for one reply after another.
+/// A reply being made. It stores everything inline, without allocating: up to `N` places of name
+/// suffixes, and `SIZE` octets. `respond_in` borrows it for one reply after another.
 #[derive(Drop)]
 pub struct Draft<const N: usize, const SIZE: usize> {
     pub(crate) page: Page<N, SIZE>,
@@ -30,8 +30,8 @@ impl<const N: usize, const SIZE: usize> Model for Draft<N, SIZE> {
 impl<const N: usize, const SIZE: usize> Draft<N, SIZE> {
     /// Room for replies of at most `SIZE` octets, 512 to 65,535.
     ///
-    /// Precondition: `N` is at least half the number of octets that a pointer reaches (the first
-    /// 16,384 of them), and at most 8,192.
+    /// Precondition: `N` is at most 8,192, and at least half of the lesser of `SIZE` and 16,384,
+    /// the number of octets that a pointer can reach.
     pub fn new() -> Draft<N, SIZE>
         requires from { 512 ≤ SIZE }
         requires upto { SIZE ≤ 65535 }

@@ -19,12 +19,12 @@ pub(crate) struct Verdict {
     pub(crate) rcode: Rcode,
     /// Whether the answer for the last name sought is a referral.
     pub(crate) is_referral: bool,
-    /// Whether a required set is missing.
+    /// Whether a required set did not fit.
     pub(crate) is_truncated: bool,
 }
 
-/// Refers the client to the servers of a cut: offers their NS set, the addresses of the servers at
-/// or below the cut, and the addresses of the others (RFC 1034 4.3.2 step 3b).
+/// Refers the client to the servers of a cut: offers the cut's NS set, then the addresses of the
+/// servers at or below the cut, then those of all other servers (RFC 1034 4.3.2 step 3b).
 // Inlining saves 52 instructions of a referral.
 #[inline(always)]
 pub(crate) fn refer<'z, const N: usize, const SIZE: usize>(
@@ -82,7 +82,7 @@ pub(crate) fn deny<const N: usize, const SIZE: usize>(
     ended(rcode, draft)
 }
 
-/// The verdict for a name that ends without a referral, once all required sets are offered.
+/// The verdict for an answer without a referral, after all of its required sets were offered.
 pub(crate) fn ended<const N: usize, const SIZE: usize>(
     rcode: Rcode,
     draft: &Draft<N, SIZE>,
@@ -96,8 +96,8 @@ pub(crate) fn ended<const N: usize, const SIZE: usize>(
     }
 }
 
-/// Ends an answer with a set that was asked for and has been offered: offers the addresses of its
-/// targets.
+/// Ends an answer with the set that was asked for, which has been offered already: offers the
+/// addresses of its targets if its type is NS, MX or SRV.
 pub(crate) fn end_with<'z, const N: usize, const SIZE: usize>(
     node: &Node<'z>,
     set: &RecordSet<'z>,

@@ -36,7 +36,8 @@ pub(crate) enum Found<'z> {
     Records(Option<Node<'z>>),
 }
 
-/// What is found for a name at or below the origin; the alias before it may have a hint to it.
+/// What is found for a name at or below the origin. The hint is that of the alias that led to the
+/// name, if there is one.
 // Inlining saves 36 to 89 instructions per reply.
 #[inline(always)]
 pub(crate) fn look_up<'z>(
@@ -76,7 +77,7 @@ pub(crate) fn or_apex<'a, 'z>(node: &'a Option<Node<'z>>, apex: &'a Node<'z>) ->
 }
 
 /// Where the path down to a name begins: at the hint, if there is one and the name is at or below
-/// it, else at the apex. `None` if the name is not at or below the origin.
+/// the hint's name, else at the apex. `None` if the name is not at or below the origin.
 #[inline(always)]
 pub(crate) fn aim<'n, 'z>(
     name: &NameRef<'n>,
@@ -95,7 +96,7 @@ pub(crate) fn aim<'n, 'z>(
     Some((Sought::below(name, origin)?, None))
 }
 
-/// Walks the path down to a name from where it begins (RFC 1034 4.3.2 step 3b), label by label
+/// Walks the path down to a name from the hint or the apex (RFC 1034 4.3.2 step 3b), label by label
 /// from the right.
 // Inlining saves 43 to 105 instructions per reply over UDP.
 #[inline(always)]

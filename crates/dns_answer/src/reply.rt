@@ -17,7 +17,7 @@ use dns_name::Name;
 use dns_wire::{CLASS_IN, Head, QueryRef, QuestionRef, Rcode, lent_query};
 use dns_zone::{Sought, Steps};
 
-/// The limit of a reply.
+/// The greatest length of a reply, which depends on the transport.
 #[derive(Clone, Copy, Debug, PartialEq, Eq)]
 pub enum Limit {
     /// Over UDP: 512 (RFC 1035 4.2.1).
@@ -54,8 +54,8 @@ pub type TcpDraft = Draft<8192, 65_535>;
 /// Preconditions: `steps` is a new walk, with counts of 0, and `out` is as long as the limit.
 /// Does not allocate. No name is looked up unless a question is answered.
 ///
-/// Each call first sets the room for a reply to zero, which over TCP takes far longer than a short
-/// reply. To answer many messages, keep a draft and call `respond_in`.
+/// Each call first sets all octets of a draft to zero, which over TCP takes far longer than making
+/// a short reply. To answer many messages, keep a draft and call `respond_in`.
 #[tactic(auto, using(crate::proofs::SentReplies::put_room, crate::proofs::SentReplies::put_absent, crate::proofs::SentReplies::put_octets, crate::proofs::SentReplies::put_spells, crate::proofs::SentReplies::put_fits))]
 pub fn respond(
     steps: &mut Steps<'_>,
@@ -76,7 +76,7 @@ pub fn respond(
         (λ r. Spells (take len out.new) (reply_message r))) }
     ensures fits { IfSome result (λ len. len ≤ limit_of limit) }
 
-    // What was looked up.
+    // The cost of what was looked up.
     ensures zone { steps.new.zone ≡ steps.old.zone }
     ensures visits { steps.new.visits
         ≤ visits_for steps.old.zone (decide steps.old.zone datagram.now) }
@@ -102,11 +102,10 @@ fn put_reply(reply: Option<&[u8]>, out: &mut [u8]) -> Option<usize>
     Some(reply.len())
 }
 
-/// Makes the reply to a datagram in a draft, and lends it: the reply that `respond` writes, with
-/// the draft's `SIZE` as the limit. `None` if the datagram gets no reply.
+/// Makes the reply to a datagram in a draft, and lends it from there: the reply that `respond`
+/// writes, with the draft's `SIZE` as the limit. `None` if the datagram gets no reply.
 ///
-/// Nothing of the draft's earlier reply remains, and the time does not depend on the size of its
-/// room.
+/// Nothing of an earlier reply in the draft remains, and the time does not depend on `SIZE`.
 ///
 /// Precondition: `steps` is a new walk, with counts of 0. Does not allocate.
 pub fn respond_in<'d, const N: usize, const SIZE: usize>(

@@ -92,7 +92,7 @@ pub record UnendedCut
   pub turns : take_turns b (parentheses ps) ≡ true
   pub opens : fold open_after b ps ≡ now
 
--- the first entry of these tokens, whatever tokens follow them
+-- the first entry of these tokens has a misplaced parenthesis
 pub record WrongFirst (b : Bool) (ps : List Token) : Type 0 where
   pub first : List Token
   pub others : List (List Token)
@@ -213,7 +213,7 @@ reads-wrong b text (p ∷ ps) h = go (step b p) refl h.2 (λ now. reads-wrong no
     go over e k more = absurd (other_outcome wrong (ended h.0) refl k.1)
     go (onward now) e k more = wrong-on b now text h.0 p ps h.1 (goes b p now e) (more now k)
 
--- an ended entry remains the same however the text goes on
+-- an entry that has ended stays the same however the text goes on
 pub reads-more : (more : Octets) (b : Bool) (text : Octets) (ps : List Token) (rest : Octets)
     → Reads b text ps (ended rest) → Reads b (text ++ more) ps (ended (rest ++ more))
 unfolding outcome_code outcome_rest

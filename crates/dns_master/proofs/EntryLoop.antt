@@ -1,5 +1,5 @@
--- Reading an entry token by token: the tokens so far and the remaining ones together make the
--- entry.
+-- Reading an entry token by token: the tokens so far, followed by the remaining ones, are those of
+-- the entry.
 use Rattle.dns_master.proofs.Common.{◌≡◌, ℕ, ◌+◌, ◌≤◌, Bool, true, false, cond, List, [], ◌∷◌, ◌++◌, length, refl, sym, ap, ◌∙◌, subst, arith, append_assoc, append-nil, Some, None, Octets, Word, Token, token_front, is_line_end, word_of, filter, cons_option, front-shorter, misplaced, over, onward, step, Outcome, unended, wrong, Reads, token_words, line_ends, EntryRead, IsWrong, is_blank, drop, prefix_len}
 use Rattle.dns_master.proofs.RunLemmas.{blank-first}
 use Rattle.dns_spec.specs.ZoneText.{blank}
@@ -34,7 +34,8 @@ pub lines-shorter : (text others : Octets) (p : Token)
 lines-shorter text others p e = search (arith, front-shorter, line_ends-one)
 
 module _ (text : Octets) where
-  -- the tokens so far, with their words and line ends, and how the remaining ones complete them
+  -- the tokens so far, with their words and line ends; any way to read the remaining tokens
+  -- completes them
   pub record EntrySoFar
       (is_open : Bool) (rest : Octets) (words : List Word) (lines : ℕ) : Type 0 where
     pub tokens : List Token
@@ -43,7 +44,7 @@ module _ (text : Octets) where
     pub same_words : words ≡ token_words tokens
     pub counted : lines ≡ line_ends tokens
 
-  -- a token after which the entry goes on
+  -- a token is read after which the entry goes on
   pub token-read : (is_open now_open : Bool) (rest others : Octets) (p : Token) (words : List Word)
       (lines lines' : ℕ) → EntrySoFar is_open rest words lines → token_front rest ≡ Some (p, others)
       → step is_open p ≡ onward now_open → lines' ≡ lines + line_ends (p ∷ [])
@@ -60,7 +61,7 @@ module _ (text : Octets) where
             l ∙ ap (λ n. n + line_ends (p ∷ [])) so.counted ∙ sym (lines-append so.tokens (p ∷ []));
       }
 
-  -- the blanks at the front of the rest, if there are any, are a token
+  -- skipping the blanks at the front of `rest`, if there are any, passes one token
   pub blanks-passed : (is_open : Bool) (rest : Octets) (words : List Word)
       (lines : ℕ) → EntrySoFar is_open rest words lines
       → EntrySoFar is_open (drop (prefix_len is_blank rest) rest) words lines
@@ -76,7 +77,7 @@ module _ (text : Octets) where
           (drop (prefix_len is_blank rest) rest) blank words lines lines so (rw e refl) refl
           (omega arith)))
 
-  -- the token that ends the entry
+  -- the token that ends the entry is read
   pub entry-ended : (is_open : Bool) (rest others : Octets) (p : Token) (words words' : List Word)
       (lines lines' : ℕ) → EntrySoFar is_open rest words lines → token_front rest ≡ Some (p, others)
       → step is_open p ≡ over → words' ≡ words ++ token_words (p ∷ [])
@@ -91,7 +92,7 @@ module _ (text : Octets) where
             l ∙ ap (λ n. n + line_ends (p ∷ [])) so.counted ∙ sym (lines-append so.tokens (p ∷ []));
       }
 
-  -- no token begins
+  -- the entry is over if no token begins the rest
   pub entry-unended : (is_open : Bool) (rest : Octets) (words words' : List Word) (lines : ℕ)
       → EntrySoFar is_open rest words lines → token_front rest ≡ None → words' ≡ words
       → EntryRead text words' lines (unended is_open rest)

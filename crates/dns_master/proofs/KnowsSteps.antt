@@ -1,7 +1,7 @@
--- How an entry changes what is known of the entries so far.
+-- How an entry changes what the reader keeps of the entries so far.
 use Rattle.dns_master.proofs.Common.{◌≡◌, ℕ, ◌+◌, ◌≤◌, Bool, true, false, cond, List, [], ◌∷◌, length, refl, sym, ap, ◌∙◌, subst, arith, inl, inr, ◌⊎◌, codes, Option, Some, None, eqb-true, MatchOption, option_or, DomainName, folded, SpellsName, Word, text_in_lower_case, ResourceRecord, Entry, directive_words, no_owner, FileFault, bad_owner, filter, Nothing, EntryKind, no_words, directive, owned, unowned, kind_of, kind_by_words, is_directive, Fields, fields, EntryMeaning, faulty, gives, OriginIs, NameIs, OneWord, OwnerBefore, TtlSays, nearest, directive_word, owner_word, ttl_word, is_record, IsRecord, RecordGives, KindGives, TtlOf, Inherited, LastOwner, SpelledName, Knows, RecordTaken, EntryTaken, owner_of, Reader}
 
--- the owner of the last record
+-- if there is a last record, its owner is the owner that the reader keeps
 pub owner-known : (r : Reader) → (r.count ≡ 0 → ⊥) → owner_of r ≡ Some r.last.owner
 owner-known r some = grind (arith, eqb-true)
 
@@ -17,7 +17,7 @@ module _ (o : DomainName) (earlier : List Entry) (Owner : DomainName → Type 0)
       → (r : ResourceRecord) × IsRecord o earlier Owner f r × (answer ≡ gives (r ∷ []))
   owned_record answer (r, h, e) = grind (arith, folded)
 
-  -- what holds for the owner in lower case holds for the owner
+  -- a record means the same with the owner that was stated as with that owner in lower case
   pub given-owner : (code : FileFault) (answer : EntryMeaning) → RecordGives o earlier no_owner
       (λ m. m ≡ owner) f answer → RecordGives o earlier code Owner f answer
   given-owner code answer (inl h) = absurd (h.0 owner refl)
@@ -55,7 +55,7 @@ module _ (o : DomainName) (earlier : List Entry) where
   abbrev OwnerAt : EntryKind → DomainName → Type 0
   OwnerAt s n = MatchOption (owner_word s) (OwnerBefore o earlier n) (λ w. NameIs o earlier w n)
 
-  -- what is known after an entry of this kind
+  -- what the reader knows after an entry of this kind
   record After (s : EntryKind) (origin : DomainName)
       (owner : Option DomainName) (default_ttl stated_ttl : Option ℕ) (count : ℕ) : Type 0 where
     origin_is : OriginAt s origin
@@ -85,7 +85,7 @@ module _ (o : DomainName) (earlier : List Entry) where
     pub nothing-taken : kind_of e ≡ no_words → EntryTaken o earlier e [] old old
     nothing-taken is = grind (arith, known-of_kind)
 
-    -- what is known after a record with this owner
+    -- what the reader knows after a record with this owner
     record_after : (s : EntryKind) (owner : DomainName) (f : Fields)
         → directive_word (codes "$origin") s ≡ None → directive_word (codes "$ttl") s ≡ None
         → ttl_word s ≡ f.ttl → counts_as_record s ≡ true → (n : DomainName)
@@ -187,7 +187,7 @@ module _ (o : DomainName) (earlier : List Entry) where
       → KindGives o earlier (directive (codes "$ttl") ws) (faulty directive_words)
   default-fault ws none = inl (none, refl)
 
--- the kind of an entry by its first octet and its words
+-- the kind of an entry, by whether it begins with a blank, and by its words
 pub kind-unowned : (blank : Bool) (ws : List Word) (w : Word) (others : List Word)
     → blank ≡ true → ws ≡ w ∷ others → kind_by_words blank ws ≡ unowned ws
 kind-unowned blank ws w others b e = rw e (rw b refl)
@@ -201,7 +201,7 @@ pub kind-directive : (blank : Bool) (ws : List Word) (w : Word) (others : List W
     → ws ≡ w ∷ others → kind_by_words blank ws ≡ directive (text_in_lower_case w.raw) others
 kind-directive blank ws w others b d e = rw e (rw b (rw d refl))
 
--- a record was taken, whatever owner was kept before
+-- whether a record was taken does not depend on the owner that was kept before
 pub owner-read : (o : DomainName) (earlier : List Entry) (owner : DomainName) (f : Fields)
     (old read new : Reader) → RecordTaken o earlier owner f read new → read.origin ≡ old.origin
     → read.default_ttl ≡ old.default_ttl → read.stated_ttl ≡ old.stated_ttl

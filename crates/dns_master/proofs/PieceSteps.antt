@@ -1,10 +1,10 @@
--- What the beginning of a text decides holds however the text goes on.
+-- What a prefix of a text decides holds however the text goes on.
 use Rattle.dns_master.proofs.Common.{◌≡◌, ℕ, ◌+◌, ◌-◌, ◌≤◌, ◌⊎◌, inl, inr, Option, None, Some, Bool, true, false, List, [], ◌++◌, length, length-append, append-nil, append_assoc, refl, sym, ap, ◌∙◌, subst, arith, Octets, DomainName, FileFault, too_long, unwrap_or, false≢true, ResourceRecord, Meaning, records, fault_at, after, EntriesMean, Word, Token, Entry, extent_by, with_end, cut_entries, beginning, stop_at, stop_fault, beginning_decides, tokens_cut, TextMeans, EntryRead, IsWhole, Reads, outcome_of, unended, ReaderMeans, MayFollow, FrontTaken, FrontFaulty, FrontGathered, TextGathered, PieceTaken, AppendsPiece, Reader}
 use Rattle.dns_master.proofs.EntryCuts.{reads-more}
 use Rattle.dns_master.proofs.TextSteps.{over-at_end, nothing-means, past-means}
 use Rattle.dns_master.proofs.EntriesLoop.{after-nil, after-append}
 
--- a fault of a beginning, other than TooLong, is a fault of every text that goes on from it
+-- a fault of a prefix, other than TooLong, is a fault of every text that begins with the prefix
 pub decided-means : (o : DomainName) (earlier : List Entry) (text more : Octets) (goes_on : Bool)
     (fault : FileFault) (line : ℕ) → TextMeans o earlier true text (fault_at fault line)
     → (fault ≡ too_long → ⊥) → TextMeans o earlier goes_on (text ++ more) (fault_at fault line)
@@ -58,7 +58,8 @@ module _ (goes_on : Option Bool)
         on.1,
       )
 
--- an entry that ends with a fault, other than TooLong if it is unknown whether the text goes on
+-- a fault at the end of an entry is the fault of the whole text; while it is unknown whether the
+-- text goes on, TooLong is no such fault
 pub end-faulty : (goes_on : Option Bool) (o : DomainName) (earlier : List Entry)
     (text more : Octets) (past : Bool) (fault : FileFault) (line : ℕ) → MayFollow goes_on more past
     → TextMeans o earlier (unwrap_or goes_on true) text (fault_at fault line) → (goes_on ≡ None
@@ -80,7 +81,7 @@ nothing-gathered goes_on r text found = record {
 
 module _ (goes_on : Option Bool) (first mid : Reader) (text rest : Octets) (before found :
     List ResourceRecord) (so : FrontGathered goes_on first text mid rest before found) where
-  -- one more entry
+  -- one more entry is taken
   pub more-gathered : (last : Reader) (others : Octets) (rs grown : List ResourceRecord)
       → FrontTaken goes_on mid rest rs last others
       → grown ≡ found ++ rs → FrontGathered goes_on first text last others before grown
@@ -92,13 +93,13 @@ module _ (goes_on : Option Bool) (first mid : Reader) (text rest : Octets) (befo
         (so.taken more past (after rs later) may (step more past later may h));
   }
 
-  -- a fault of the rest
+  -- a fault of the rest is a fault of the text
   pub faulty-after : (fault : FileFault) (line : ℕ)
       → FrontFaulty goes_on mid rest fault line → FrontFaulty goes_on first text fault line
   faulty-after fault line h =
       λ more past may. so.taken more past (fault_at fault line) may (h more past may)
 
--- a fault of a whole text
+-- a fault that a text has with nothing after it is the fault that it means
 pub all-faulty : (past : Bool) (r : Reader) (text : Octets) (fault : FileFault) (line : ℕ)
     → FrontFaulty (Some past) r text fault line → ReaderMeans r past text (fault_at fault line)
 all-faulty past r text fault line h = subst
@@ -115,7 +116,7 @@ module _ (past : Bool) (first last : Reader) (held : Octets) (before found : Lis
       (so.taken [] past later
       (refl, refl) (subst (λ x. ReaderMeans last past (x ++ []) later) (sym none) h))
 
-  -- and it ends there
+  -- the whole text was taken, and the file ends there
   pub all-gathered : past ≡ false → TextGathered first past held before found
   all-gathered over = record {
     came = so.came;
@@ -124,7 +125,7 @@ module _ (past : Bool) (first last : Reader) (held : Octets) (before found : Lis
         (all-taken (records []) (λ o earlier known line. rw over (nothing-means o earlier)));
   }
 
-  -- or goes on past its limit
+  -- the whole text was taken, and the file goes on past its limit
   pub all-too_long : past ≡ true → ReaderMeans first past held (fault_at too_long last.line)
   all-too_long on = all-taken
       (fault_at too_long last.line) (λ o earlier known line. rw on (rw line (past-means o earlier)))

@@ -1,4 +1,4 @@
--- The parts of a record in order: the first wrong part is the fault that is reported.
+-- The parts of a record, in order: the fault of the first wrong part is reported.
 use Rattle.dns_master.proofs.Common.{◌≡◌, ℕ, Bool, true, false, cond, List, [], ◌∷◌, drop, refl, sym, ap, ◌∙◌, subst, inl, inr, arith, Option, Some, None, false≢true, none-some, same_Some, option_or, is_none, Octets, DomainName, folded, ResourceRecord, lower_case, cut, Word, Says, Entry, bad_data, bad_type, no_owner, no_ttl, other_class, too_many_records, Nothing, Lowest, IsRecord, Fields, EntryMeaning, faulty, gives, OriginIs, TtlSays, ttl_in_force, TypeIs, DataIs, IsNoTtl, is_other_class, are_too_many, RecordGives, MatchOption, IfSome, option_and, IsTrue, lowered-twice, IsKept, TtlOf}
 use Rattle.dns_spec.proofs.ZoneTexts.OneMeaning.{type_once}
 
@@ -58,7 +58,7 @@ module _ (o : DomainName) (earlier : List Entry) (owner : DomainName) (f : Field
 
     module _ (ttl : ℕ) (e : known ≡ Some ttl) (origin : DomainName) (is : OriginIs o earlier origin)
         (only : (n : DomainName) → OriginIs o earlier n → n ≡ origin) where
-      -- the meaning if no part before the data is wrong
+      -- what the record means if no part before the data is wrong
       from_data : (given : EntryMeaning) → Lowest ((bad_data, Nothing (DataIs o earlier f.others))
           ∷ (too_many_records, IsTrue (are_too_many earlier)) ∷ []) (λ given. (r : ResourceRecord)
           × IsRecord o earlier (λ n. n ≡ owner) f r × (given ≡ gives (r ∷ []))) given
@@ -107,7 +107,7 @@ module _ (o : DomainName) (earlier : List Entry) (owner : DomainName) (f : Field
             from_data (gives (r ∷ []))
             (inr (has_data, inr ((λ x. false≢true (sym h ∙ x)), (r, is_record, refl))))
 
-        -- if each part is right, the record is given, unless there are too many before it
+        -- if each part is right, the record is given, unless there are too many records before it
         pub counted : (many : Bool) → folded owner ≡ owner → are_too_many earlier ≡ many
             → RecordGives o earlier no_owner (λ n. n ≡ owner) f (cond many (faulty too_many_records)
             (gives (record { owner = owner; ttl = ttl; rtype = t; rdata = d } ∷ [])))
@@ -119,7 +119,7 @@ pub said-lowered : (t : ℕ) (ws : List Word) (o : DomainName) (d : Octets)
     → Says t ws o d → lower_case t d ≡ d
 said-lowered t ws o d e = grind (arith, lower_case, lowered-twice)
 
--- the root, with type 0 and no data
+-- the root as owner, with TTL 0, type 0 and no data, satisfies the invariant of records
 pub no_data-kept : IsKept [] 0 0 []
 unfolding cut
 no_data-kept = grind arith

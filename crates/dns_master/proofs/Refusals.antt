@@ -1,7 +1,7 @@
 -- Why entries are rejected, and the faults of their file.
 use Rattle.dns_master.proofs.Common.{◌≡◌, ℕ, ◌≤◌, ap, arith, FileFault, too_long, ForFault, OfEntry, code_number, fault_of, IsFaultOn, ReadFault, ReadCode, TooLong, NoMemory}
 
--- a property of the fault of a code that an entry can have
+-- a code up to 15 is one that an entry can have, so a property of its fault is enough
 pub refused : (code : ReadCode) (P : FileFault → Type 0)
     → code_number code ≤ 15 → P (fault_of code) → ForFault code P
 refused code P low h = record { told = λ _. h; source = λ e. omega (arith, low, ap code_number e) }

@@ -8,7 +8,7 @@ use Rattle.std.proofs.lemmas.List.Folds.{prefix_len-append}
 use Rattle.std.proofs.lemmas.List.Sums.{prefix_len_stops}
 use Rattle.dns_spec.proofs.Common.{◌++◌, not}
 
--- the place of the first octet with a property
+-- the index of the first octet with a property
 pub place-some : (p : ℕ → Bool) (text : Octets) (n : ℕ)
     → position p text ≡ Some n → n ≡ position_or_len p text
 place-some p text n e = grind (arith, same_Some, none-some)
@@ -22,7 +22,7 @@ pub none-after : (p : ℕ → Bool) (text : Octets)
 none-after p text e = grind (arith, position_or_len, place-none, drop_all)
 
 module _ (by : ℕ → Bool) where
-  -- the octets of an escape
+  -- the k octets of an escape that are left are skipped
   skipped : (k : ℕ) (text : Octets)
       → k ≤ length text → run_length by k text ≡ k + run_length by 0 (drop k text)
   unfolding run_length
@@ -35,12 +35,12 @@ module _ (by : ℕ → Bool) where
   unfolding run_length
   by_unit o text u e = grind (arith, None, Some, run_length)
 
-  -- an octet that may appear in the run unescaped
+  -- an octet that may appear in the run unescaped is counted, and the run goes on after it
   pub run-itself : (o : ℕ) (text : Octets)
       → (o == 92) ≡ false → by o ≡ true → run_length by 0 (o ∷ text) ≡ 1 + run_length by 0 text
   run-itself o text e h = by_unit o text (Some 0) (rw e (rw h refl))
 
-  -- any other octet
+  -- any other octet than a backslash ends the run
   pub run-end : (o : ℕ) (text : Octets)
       → (o == 92) ≡ false → by o ≡ false → run_length by 0 (o ∷ text) ≡ 0
   run-end o text e h = by_unit o text None (rw e (rw h refl))
@@ -48,13 +48,13 @@ module _ (by : ℕ → Bool) where
   unit_of : (o : ℕ) (text : Octets) → (o == 92) ≡ true → unit_left by o text ≡ escape_left text
   unit_of o text e = rw e refl
 
-  -- an escape
+  -- all octets of an escape are counted, and the run goes on after it
   pub run-escape : (o : ℕ) (text : Octets) → (o == 92) ≡ true
       → (counted_escape text == 0) ≡ false → counted_escape text ≤ length text → run_length by 0
       (o ∷ text) ≡ 1 + counted_escape text + run_length by 0 (drop (counted_escape text) text)
   run-escape o text e h fits = grind (arith, skipped, by_unit, unit_of, escape-counted)
 
-  -- a backslash that begins no escape
+  -- a backslash that begins no escape ends the run
   pub run-no_escape : (o : ℕ) (text : Octets)
       → (o == 92) ≡ true → (counted_escape text == 0) ≡ true → run_length by 0 (o ∷ text) ≡ 0
   run-no_escape o text e h = grind (arith, by_unit, None, unit_of, escape-counted)
@@ -123,7 +123,8 @@ blanks-passed (suc n) (o ∷ text) e =
     let parts = and_parts (is_blank o) (list_all is_blank (take n text)) e in
     blanks-passed n text parts.1 ∙ blank-first o text parts.0
 
--- skipping a prefix of spaces leaves the same text after all blanks
+-- skipping a prefix of spaces first, and then all blanks, leaves the same text as skipping all
+-- blanks at once
 pub spaces-passed : {R : Type 0} (now : R → Octets) (spaces : Octets) → list_all is_blank spaces
     ≡ true → (found : Option R) (text : R) → MatchOption found (pointwise nat_eq
     (take (length spaces) (now text)) spaces ≡ false) (λ x. (pointwise nat_eq (take (length spaces)
@@ -136,7 +137,7 @@ spaces-passed now spaces all (Some x) text m =
     ∙ blanks-passed (length spaces) (now text) (ap
     (list_all is_blank) (same_text (take (length spaces) (now text)) spaces (sym m.0)) ∙ all)
 
--- the front of a text in which each octet has a property, up to the first one without it
+-- the longest prefix of a text in which each octet has a property
 module _ (p : ℕ → Bool) where
   twice : (text : Octets) → position_or_len (λ x. not (p x)) text ≡ prefix_len p text
   twice [] = refl
@@ -173,7 +174,8 @@ front-all p (o ∷ text) = by_case (p o) refl (front-all p text)
     by_case true e more = rw e (rw one (rw e more))
     by_case false e more = rw e refl
 
--- a word without an escape: it goes on to the end of the text, or up to an octet of no word
+-- a word without an escape extends to the end of the text, or to the first octet that no word may
+-- contain
 module _ (text : Octets) where
   abbrev count : ℕ
   count = prefix_len is_word_octet text

@@ -14,7 +14,8 @@ Consumes-more (Some xs) None new text came text' h k e = absurd h
 Consumes-more (Some xs) (Some ys) None text came text' h k e = absurd k
 Consumes-more (Some xs) (Some ys) (Some zs) text came text' h k e = grind (arith, append_assoc)
 
--- the octets read so far, and what they say after the entries that were taken
+-- the octets read so far, and what they mean: the records found, followed by what the held octets
+-- mean
 pub record GivenSoFar (old new : Option Octets) (o : DomainName)
     (r : Reader) (held : Octets) (left : ℕ) (found : List ResourceRecord) : Type 0 where
   pub given : Octets
@@ -25,7 +26,7 @@ pub record GivenSoFar (old new : Option Octets) (o : DomainName)
 
 module _ (old mid new : Option Octets) (o : DomainName) (r : Reader) (held : Octets)
     (left : ℕ) (found : List ResourceRecord) (so : GivenSoFar old mid o r held left found) where
-  -- another piece
+  -- another piece is read
   pub piece-given : (r' : Reader)
       (held' : Octets) (left' : ℕ) (more : Bool) (found' : List ResourceRecord) → PieceTaken mid
       new r held left r' held' left' more found found' → GivenSoFar old new o r' held' left' found'
@@ -49,7 +50,7 @@ module _ (old mid new : Option Octets) (o : DomainName) (r : Reader) (held : Oct
             (after p.gathered.came later))) (sym (append_assoc so.given p.came rest)) all));
       }
 
-  -- a fault that a piece decides
+  -- a fault that a piece decides is decided by all octets read so far
   pub fault-given : (fault : FileFault) (line : ℕ)
       → PieceFaulty mid new r held left fault line → Decides old new o (fault_at fault line)
   fault-given fault line p =
@@ -91,7 +92,7 @@ module _ (old mid new : Option Octets) (o : DomainName) (r : Reader) (held : Oct
         );
       }
 
-  -- the same when the limit is reached, after asking for one more octet
+  -- the meaning of the held octets when the limit is reached, after asking for one more octet
   pub limit-given : {text text' : Octets} (goes_on : Bool) (m : Meaning)
       → left ≡ 0 → AppendsPiece mid new 1 text text' goes_on
       → ReaderMeans r goes_on held m → Decides old new o (after found m)
@@ -153,7 +154,7 @@ no_value (Err f) P Q is = tt
 
 module _ {R A : Type 0} (remaining : R → Option Octets) (old new : Counted R) (o : DomainName)
     (found : A → List ResourceRecord) (result : Result A ReadFault) where
-  -- a read that returns the fault of a call, which decides the meaning
+  -- a read that passes on the fault of a call, provided that the octets read decide this fault
   pub fault_read : (fault : ReadFault) (P : FileFault → ℕ → Type 0)
       → IsErrAnd result (λ f. f ≡ fault) → ((code : FileFault) (line : ℕ) → P code line
       → Decides (remaining old.device) (remaining new.device) o (fault_at code line))
@@ -170,7 +171,7 @@ module _ {R A : Type 0} (remaining : R → Option Octets) (old new : Counted R) 
     counted = counted;
   }
 
-  -- a read that ends with the rest of the text, whose meaning is decided
+  -- a read that ends by taking the held octets, provided that the octets read decide their meaning
   pub rest_read : (r : Reader) (goes_on : Bool) (held : Octets) (before : List ResourceRecord)
       → ((m : Meaning) → ReaderMeans r goes_on held m
       → Decides (remaining old.device) (remaining new.device) o (after before m))

@@ -1,4 +1,5 @@
--- The meaning of a text from an entry on: what the entry gives, and then what the rest means.
+-- The meaning of a text from the start of an entry: what the entry gives, followed by what the rest
+-- of the text means.
 use Rattle.dns_master.proofs.Common.{◌≡◌, ℕ, ◌+◌, ◌≤◌, ◌<◌, Bool, true, false, ◌||◌, ◌==◌, List, [], ◌∷◌, ◌++◌, length, take, inl, inr, ◌⊎◌, refl, sym, ap, ◌∙◌, subst, arith, Option, Some, None, false≢true, none-some, if◌then◌else◌, MatchOption, list_any, Octets, DomainName, Word, ResourceRecord, bad_parenthesis, too_long, FileFault, EntryMeaning, faulty, gives, Meaning, records, fault_at, after, line_after, KindGives, kind_of, kind_by_words, EntryGives, EntriesMean, Token, quoted_string, line_end, Entry, ended, token_front, TokensThen, is_blank, is_blank_token, begins_blank, closed, line_feed_front, cut_entries, with_end, is_open_at_end, take_turns, parentheses, whole_text, extent_by, stop_fault, stop_at, Extent, beginning, in_string, in_token, has_tokens, front-shorter, Reads, unended, IsWrong, line_ends, EntryRead, outcome_of, TextMeans}
 use Rattle.dns_master.specs.EntryForm as form
 use Rattle.dns_master.proofs.EntryLoop.{lines-append}
@@ -6,7 +7,7 @@ use Rattle.dns_master.proofs.EntryCuts.{EndedCut, HasFirst, has_first, reads-end
 use Rattle.dns_spec.proofs.ZoneTexts.TextTokens.{tokens_then}
 unfoldable use Rattle.dns_spec.proofs.ZoneTexts.SomeMeaning.{is_faulty}
 
--- an entry without a fault of place gives what its kind gives
+-- an entry without a misplaced parenthesis and without a fault at its end gives what its kind gives
 by_sort : (o : DomainName) (earlier : List Entry) (e : Entry) (answer : EntryMeaning)
     → take_turns false (parentheses e.tokens) ≡ true
     → e.end_fault ≡ None → KindGives o earlier (kind_of e) answer → EntryGives o earlier e answer
@@ -110,7 +111,7 @@ module _ (o : DomainName) (earlier : List Entry) (goes_on : Bool) (text : Octets
     unended-gives rs e given =
         grind (arith, last_means, after, by_sort, last_entry, reads-unended, same_end)
 
-  -- a misplaced parenthesis
+  -- a text whose first entry has a misplaced parenthesis has that fault
   pub wrong-faulty : IsWrong text
       → TextMeans o earlier goes_on text (fault_at bad_parenthesis (line_after earlier))
   wrong-faulty (ps, reads) =
@@ -147,7 +148,7 @@ pub line-more : (ps : List Token) (earlier : List Entry)
     → line_after (ended ps ∷ earlier) ≡ line_after earlier + line_ends ps
 line-more ps earlier = grind (arith, line_ends, lines-append)
 
--- whether the first token is a blank, given by the first octet
+-- b is true if and only if there is a first token and it is a blank
 FirstBlank : Bool → Option (Token × Octets) → Type 0
 FirstBlank b front = MatchOption front (b ≡ false) (λ r. is_blank_token r.0 ≡ b)
 
@@ -231,7 +232,7 @@ pub nothing-means : (o : DomainName) (earlier : List Entry)
     → TextMeans o earlier false [] (records [])
 nothing-means o earlier = grind (arith, gives, records)
 
--- the text goes on past its limit
+-- where the text goes on past its limit, it is too long
 pub past-means : (o : DomainName) (earlier : List Entry)
     → TextMeans o earlier true [] (fault_at too_long (line_after earlier))
 past-means o earlier = grind (arith, faulty, too_long)
@@ -252,7 +253,7 @@ over-at_end goes_on is_open (o ∷ rest) e =
 over-at_end true is_open [] e = absurd (none-some too_long (sym e))
 over-at_end false is_open [] e = (refl, refl)
 
--- the kind of an entry, by its kept words and its later ones
+-- the kind of an entry, by its first octet, its stored words and its later words
 pub same_sort : (text : Octets) (kept kept' later : List Word) (lines : ℕ) (outcome : form.Outcome)
     (b : Bool) (read : EntryRead text (kept ++ later) lines outcome) → b ≡ list_any is_blank
     (take 1 text) → kept' ≡ kept → kind_of (ended read.tokens) ≡ kind_by_words b (kept' ++ later)
@@ -261,7 +262,8 @@ same_sort text kept kept' later lines outcome b read is same = grind (arith, beg
 module _ (o : DomainName) (earlier : List Entry)
     (goes_on : Bool) (text rest : Octets) (words : List Word) (lines : ℕ) (is_ended is_open : Bool)
     (read : EntryRead text words lines (outcome_of is_ended is_open rest)) where
-  -- an entry that ends without a fault, and what it gives
+  -- a text whose first entry ends without a fault means what this entry gives, followed by what the
+  -- rest means
   pub entry-means : (is_ended ≡ true) ⊎ (stop_fault (extent_by goes_on) is_open (stop_at rest)
       ≡ None) → (rs : List ResourceRecord) → KindGives o earlier (kind_of (ended read.tokens))
       (gives rs) → (later : Meaning) → TextMeans o (ended read.tokens ∷ earlier) goes_on rest later
@@ -280,7 +282,7 @@ module _ (o : DomainName) (earlier : List Entry)
           subst (λ m. TextMeans o earlier goes_on text (after rs m)) (sym empty)
           (unended-gives o earlier goes_on text read.tokens is_open rest reads rs e given)
 
-  -- an entry whose words have a fault
+  -- if the words of the first entry have a fault, the text has it
   pub entry-faulty : (is_ended ≡ true) ⊎ (stop_fault (extent_by goes_on) is_open (stop_at rest)
       ≡ None) → (code : FileFault) → KindGives o earlier (kind_of (ended read.tokens)) (faulty code)
       → TextMeans o earlier goes_on text (fault_at code (line_after earlier))
@@ -293,7 +295,7 @@ module _ (o : DomainName) (earlier : List Entry)
       go false reads =
           unended-faulty o earlier goes_on text read.tokens is_open rest reads code e given
 
-  -- an entry that ends with a fault
+  -- if the first entry ends with a fault, the text has it
   pub entry-ends_faulty : is_ended ≡ false
       → (code : FileFault) → stop_fault (extent_by goes_on) is_open (stop_at rest) ≡ Some code
       → TextMeans o earlier goes_on text (fault_at code (line_after earlier))

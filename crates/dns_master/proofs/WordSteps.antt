@@ -58,7 +58,7 @@ length-more : {X : Type 0} (xs ys : List X) → length xs ≤ length (xs ++ ys)
 length-more [] ys = omega arith
 length-more (x ∷ xs) ys = grind (arith, (length-more xs ys))
 
--- the counted words are in the text after the kept ones
+-- the words that are counted are in the text `later`, after the words in `kept`
 module _ (kept : List Word) (later rest : Octets)
     (count : ℕ) (all : List Word) (h : Found kept later rest count all) where
   pub counted-enough : count ≤ length (words_in later)
@@ -103,7 +103,7 @@ module _ (p : Token) (others : Octets) (kept : List Word) (later rest : Octets) 
   )
 
   module _ (w : Word) (is : word_of p ≡ Some w) where
-    -- a word that is kept
+    -- a word that is stored in `kept`
     pub word-kept : (next : Octets) → length kept < 16 → Found kept later rest count all
         → Found (kept ++ w ∷ []) later next count (all ++ token_words (p ∷ []))
     word-kept next few (inl none) = inl (
@@ -113,7 +113,7 @@ module _ (p : Token) (others : Octets) (kept : List Word) (later rest : Octets) 
     )
     word-kept next few (inr some) = absurd (omega (arith, few, some.1))
 
-    -- a counted word, maybe the first one
+    -- a word that is counted, perhaps the first such word
     pub word-counted : 16 ≤ length kept → Found kept later rest count all
         → Found kept (if count == 0 then rest else later) others (count + 1)
         (all ++ token_words (p ∷ []))

@@ -32,26 +32,26 @@ abbrev pub failures_after_read : {A : Type 0} → ℕ → Result A ReadFault →
 failures_after_read count (Ok a) = count
 failures_after_read count (Err f) = if code_number f.code == 16 then count + 1 else count
 
--- An entry was rejected with this code: the fault has this property, unless allocation failed. The
--- code is never SourceFailed.
+-- An entry was rejected with this code. Unless the code is NoMemory, its fault has the property
+-- `says`. The code is never SourceFailed.
 pub record ForFault (code : ReadCode) (says : FileFault → Type 0) : Type 0 where
   pub told : code ≢ NoMemory → says (fault_of code)
   pub source : code ≢ SourceFailed
 
--- A fault of the file that comes from an entry: fault and line have this property, unless
--- allocation failed. The code is never SourceFailed.
+-- A fault of the file that comes from an entry. Unless allocation failed, fault and line have the
+-- property `says`; if it failed, the line is 0. The code is never SourceFailed.
 pub record OfEntry (says : FileFault → ℕ → Type 0) (f : ReadFault) : Type 0 where
   pub told : f.code ≢ NoMemory → says (fault_of f.code) f.line
   pub source : f.code ≢ SourceFailed
   pub memory : f.code ≡ NoMemory → f.line ≡ 0
 
--- A fault of the file: fault and line have this property, unless allocation or the source failed,
--- and then the line is 0.
+-- A fault of the file. Unless allocation or the source failed, fault and line have the property
+-- `says`; if one of them failed, the line is 0.
 pub record OfFile (says : FileFault → ℕ → Type 0) (f : ReadFault) : Type 0 where
   pub told : f.code ≢ SourceFailed → f.code ≢ NoMemory → says (fault_of f.code) f.line
   pub line : (f.code ≡ SourceFailed) ⊎ (f.code ≡ NoMemory) → f.line ≡ 0
 
--- the fault of a file whose entry on this line is rejected with this code
+-- the fault f of a file whose entry on this line is rejected with this code
 pub record IsFaultOn (line : ℕ) (code : ReadCode) (f : ReadFault) : Type 0 where
   pub code_is : f.code ≡ code
   pub line_is : code ≢ NoMemory → f.line ≡ line

@@ -1,5 +1,5 @@
--- How the code reads the tokens of an entry from left to right, and what a text means from one of
--- its entries on.
+-- How the code reads the tokens of an entry from left to right, and what the rest of a text means
+-- from the start of one of its entries.
 use Rattle.std.specs.Prelude.{◌≡◌, ℕ, ◌⊎◌, Option, Bool, true, false, List, [], ◌∷◌, length, if◌then◌else◌, Some, None}
 use Rattle.std.specs.List.{filter, filter_map}
 use Rattle.std.specs.Option.{unwrap_or}
@@ -8,8 +8,8 @@ use Rattle.dns_spec.specs.DataText.{Word}
 use Rattle.dns_spec.specs.ZoneText.{Token, blank, comment, word, quoted_string, opening, closing, line_end, Entry, token_front, TokensThen, cut_entries, with_end, is_line_end, word_of, extent_by, stop_at, stop_fault}
 use Rattle.dns_spec.specs.Meaning.{Meaning, EntriesMean}
 
--- What follows a token: nothing, because a parenthesis is misplaced or because the entry has
--- ended; or more tokens, inside (true) or outside parentheses.
+-- What follows a token: nothing, because the token is a misplaced parenthesis or ends the entry; or
+-- more tokens, inside (true) or outside parentheses.
 pub data Step : Type 0 where
   misplaced : Step
   over : Step
@@ -24,14 +24,16 @@ step is_open opening = if is_open then misplaced else onward true
 step is_open closing = if is_open then onward false else misplaced
 step is_open line_end = if is_open then onward true else over
 
--- How reading an entry ends: after its line end, with the rest of the text; before a text with
--- which no token begins, inside (true) or outside parentheses; or at a misplaced parenthesis.
+-- How reading an entry ends: after its line end (`ended`, with the text after it); before a text
+-- with which no token begins (`unended`, inside (true) or outside parentheses, with that text); or
+-- at a misplaced parenthesis.
 pub data Outcome : Type 0 where
   ended : Octets → Outcome
   unended : Bool → Octets → Outcome
   wrong : Outcome
 
--- the remaining tokens of an entry, read inside or outside parentheses, and how reading ends
+-- the remaining tokens of an entry, read from a text inside (true) or outside parentheses, and how
+-- reading ends
 abbrev pub Reads : Bool → Octets → List Token → Outcome → Type 0
 Reads is_open text [] outcome = (token_front text ≡ None) × (outcome ≡ unended is_open text)
 Reads is_open text (p ∷ ps) outcome =
@@ -63,7 +65,7 @@ IsWrong text = (ps : List Token) × Reads false text ps wrong
 abbrev pub outcome_of : Bool → Bool → Octets → Outcome
 outcome_of is_ended is_open rest = if is_ended then ended rest else unended is_open rest
 
--- an entry is complete: ended by its line end, or without a fault by the end of the text
+-- an entry is complete: it ends with a line end, or without a fault at the end of the text
 abbrev pub IsWhole : Option Bool → Bool → Bool → Octets → Type 0
 IsWhole goes_on is_ended is_open rest =
     (is_ended ≡ true)

@@ -1,4 +1,4 @@
--- The record that an owner and a body make.
+-- The record with a given owner and a given body.
 use Rattle.dns_spec.specs.Names.{DomainName}
 use Rattle.dns_spec.specs.Records.{ResourceRecord}
 use Rattle.dns_master.specs.declared.record.RecordBody.{RecordBody}

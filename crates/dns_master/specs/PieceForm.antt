@@ -16,13 +16,14 @@ ReaderMeans r goes_on text m =
     (o : DomainName) (earlier : List Entry) → Knows o earlier r → r.line ≡ line_after earlier
     → TextMeans o earlier goes_on text m
 
--- What may follow a text, and whether the result goes on past its limit (`past`): anything if it
--- is unknown whether the text goes on; otherwise nothing, and `past` is what is known.
+-- What may follow a text (`more`), and whether the text with `more` goes on past its limit
+-- (`past`). If it is unknown whether the text goes on, both may be anything. Otherwise `more` is
+-- empty, and `past` is what is known.
 abbrev pub MayFollow : Option Bool → Octets → Bool → Type 0
 MayFollow goes_on more past = MatchOption goes_on ⊤ (λ known. (more ≡ []) × (past ≡ known))
 
--- Entries were taken from the front of a text and gave the records `rs`: whatever follows, the
--- whole text means `rs` and then what the rest of the text means.
+-- Entries were taken from the front of a text, gave the records `rs`, and left `rest`. Whatever may
+-- follow, the whole text means `rs`, followed by what `rest` means.
 abbrev pub FrontTaken : Option Bool
     → Reader → Octets → List ResourceRecord → Reader → Octets → Type 0
 FrontTaken goes_on old text rs new rest =
@@ -30,7 +31,7 @@ FrontTaken goes_on old text rs new rest =
     → ReaderMeans new past (rest ++ more) later
     → ReaderMeans old past (text ++ more) (after rs later)
 
--- a text has this fault, whatever follows it
+-- a text has this fault, whatever may follow it
 abbrev pub FrontFaulty : Option Bool → Reader → Octets → FileFault → ℕ → Type 0
 FrontFaulty goes_on r text fault line =
     (more : Octets) (past : Bool) → MayFollow goes_on more past
@@ -44,14 +45,15 @@ pub record TakesFirst (goes_on : Option Bool) (old : Reader) (text : Octets)
   pub shorter : length rest < length text
   pub lines : new.line + length rest ≤ old.line + length text
 
--- all entries of a text were taken, and their records added to the caller's collection
+-- all entries of a text were taken, and their records were added to the caller's collection
 pub record TextGathered (r : Reader) (goes_on : Bool) (text : Octets)
     (before after : List ResourceRecord) : Type 0 where
   pub came : List ResourceRecord
   pub grown : after ≡ before ++ came
   pub means : ReaderMeans r goes_on text (records came)
 
--- entries were taken from the front of a text, and their records added to the caller's collection
+-- entries were taken from the front of a text, and their records were added to the caller's
+-- collection
 pub record FrontGathered (goes_on : Option Bool) (old : Reader) (text : Octets) (new : Reader)
     (rest : Octets) (before after : List ResourceRecord) : Type 0 where
   pub came : List ResourceRecord

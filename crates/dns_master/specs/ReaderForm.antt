@@ -10,11 +10,11 @@ use Rattle.dns_spec.specs.Meaning.{Fields, EntryKind, EntryMeaning, gives, fault
 use Rattle.dns_master.specs.RecordForm.{Inherited, TtlOf}
 use Rattle.dns_master.specs.declared.state.Reader.{Reader}
 
--- the owner of the last record, if there is one
+-- the owner of the last record; None if there are no records
 abbrev pub owner_of : Reader → Option DomainName
 owner_of r = if r.count == 0 then None else Some r.last.owner
 
--- what the reader knows if this owner was stated last
+-- the reader's state fits the earlier entries, if `owner` is the owner stated last
 abbrev pub KnowsOwner : DomainName → List Entry → Option DomainName → Reader → Type 0
 KnowsOwner o earlier owner r =
     Inherited o earlier r.origin owner r.default_ttl r.stated_ttl r.count
@@ -22,11 +22,11 @@ KnowsOwner o earlier owner r =
 abbrev pub Knows : DomainName → List Entry → Reader → Type 0
 Knows o earlier r = KnowsOwner o earlier (owner_of r) r
 
--- the record of an entry, if the entry is a record: it is the last one
+-- the records that an entry gives: the reader's last record if the entry is a record, else none
 abbrev pub handed : Bool → ResourceRecord → List ResourceRecord
 handed is_record last = if is_record then last ∷ [] else []
 
--- a record with this owner in lower case was taken
+-- a record with this owner, which is in lower case, was taken
 pub record RecordTaken (o : DomainName) (earlier : List Entry) (owner : DomainName) (f : Fields)
     (old new : Reader) : Type 0 where
   pub taken : ResourceRecord
@@ -51,19 +51,19 @@ TakesEntry old kind taken new =
     (o : DomainName) (earlier : List Entry) (e : Entry) → Knows o earlier old → kind_of e ≡ kind
     → EntryTaken o earlier e taken old new
 
--- an entry of this kind has this fault
+-- an entry of this kind has this fault, whatever entries the reader knows
 abbrev pub RefusesEntry : Reader → EntryKind → FileFault → Type 0
 RefusesEntry r kind fault =
     (o : DomainName) (earlier : List Entry) → Knows o earlier r
     → KindGives o earlier kind (faulty fault)
 
--- what a record with these fields and the last owner means, whatever owner was stated before
+-- what a record with these fields and the owner of `last` means, whatever owner was stated before
 abbrev pub RecordMeans : Reader → Fields → EntryMeaning → Type 0
 RecordMeans r f given =
     (o : DomainName) (earlier : List Entry) (stated : Option DomainName)
     → KnowsOwner o earlier stated r → RecordGives o earlier no_owner (λ n. n ≡ r.last.owner) f given
 
--- a record with these fields and the last owner was taken
+-- a record with these fields and the owner of `last` was taken
 abbrev pub TakesRecord : Reader → Fields → Reader → Type 0
 TakesRecord old f new =
     (o : DomainName) (earlier : List Entry) (stated : Option DomainName)

@@ -21,19 +21,19 @@ SpelledOwner origin w owner = (n : DomainName) × SpelledName origin w n × (own
 abbrev pub NamedType : Word → ℕ → Type 0
 NamedType w t = IsTrue (not w.is_quoted) × NamesType w.raw t × IsTrue (is_zone_type t)
 
--- the only word of a list; None if there is none or more than one
+-- the only word of a list; None if the list has no words or several
 abbrev pub OneWordIs : Option Word → List Word → Type 0
 OneWordIs None [] = ⊤
 OneWordIs None (w ∷ []) = ⊥
 OneWordIs None (w ∷ v ∷ ws) = ⊤
 OneWordIs (Some x) ws = ws ≡ x ∷ []
 
--- the TTL of an optional word
+-- the TTL that an optional word states; None if there is no word
 abbrev pub TtlOf : Option Word → Option ℕ → Type 0
 TtlOf None ttl = ttl ≡ None
 TtlOf (Some w) ttl = (n : ℕ) × (ttl ≡ Some n) × TtlSays w n
 
--- the owner that was stated last, in lower case, if there is one
+-- the owner that was stated last, in lower case; None if no owner was stated
 abbrev pub LastOwner : DomainName → List Entry → Option DomainName → Type 0
 LastOwner o earlier owner =
     MatchOption owner (Nothing (OwnerBefore o earlier))
@@ -50,8 +50,8 @@ pub record Inherited (o : DomainName) (earlier : List Entry) (origin : DomainNam
   pub stated_is : TtlOf (nearest ttl_word earlier) stated_ttl
   pub count_is : count ≡ length (filter is_record earlier)
 
--- An invariant of records: the owner is in lower case, the TTL within its limit, the type a number
--- of 16 bits, and the data valid for it, with its names in lower case.
+-- An invariant of records: the owner is in lower case, the TTL is within its limit, and the type is
+-- a number of 16 bits. The data is valid for the type, and its names are in lower case.
 pub record IsKept (owner : DomainName) (ttl t : ℕ) (d : Octets) : Type 0 where
   pub low : folded owner ≡ owner
   pub short : ttl ≤ most_ttl

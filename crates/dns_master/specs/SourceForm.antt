@@ -9,7 +9,8 @@ use Rattle.dns_name.specs.Counted.{Counted}
 use Rattle.dns_master.specs.declared.fault.ReadFault.{ReadFault}
 use Rattle.dns_master.specs.Codes.{OfFile, failures_after_read}
 
--- a read appended at most `most` octets of the source; `more` is false only at its end
+-- a read appended at most `most` octets of the source; `more` is false only at the end of the
+-- source
 pub record AppendsPiece (old new : Option Octets) (most : ℕ) (before after : Octets)
     (more : Bool) : Type 0 where
   pub came : Octets
@@ -31,14 +32,15 @@ pub record Decides (old new : Option Octets) (o : DomainName) (m : Meaning) : Ty
   pub few : length given ≤ 16777217
   pub decided : (IsAtEnd new × Means o given m) ⊎ ((more : Octets) → Means o (given ++ more) m)
 
--- the octets of a source up to its end have this meaning, and the ones that were read decide it
+-- the octets of a source up to its end have this meaning, and those that were read decide it
 pub record IsRead (old new : Option Octets) (o : DomainName) (m : Meaning) : Type 0 where
   pub means : GivesMeaning old o m
   pub decides : Decides old new o m
 
 -- The effect of a call that reads a zone file from a counted source; `remaining` gives the source's
 -- octets, if they are known. If the call returns a value, the file means the records that `found`
--- gives for it; if a fault, the file means that fault, unless allocation or the source failed.
+-- gives for that value. If it returns a fault, the file means that fault, unless allocation or the
+-- source failed.
 pub record ReadsFile {R A : Type 0} (remaining : R → Option Octets) (old new : Counted R)
     (o : DomainName) (found : A → List ResourceRecord) (result : Result A ReadFault) : Type 0 where
   pub ok : IfOk result (λ a. IsRead (remaining old.device) (remaining new.device) o

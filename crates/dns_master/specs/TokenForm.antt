@@ -24,7 +24,8 @@ shown_token Opening = opening
 shown_token Closing = closing
 shown_token LineEnd = line_end
 
--- a returned token and the text after it are what the text begins with; or no token begins it
+-- a function returned the token with which a text begins, and the text after the token; or None if
+-- no token begins the text
 abbrev pub Begins : Option (Token × Bor Octets) → Option (text.Token × Octets) → Type 0
 Begins None front = front ≡ None
 Begins (Some x) front = front ≡ Some (shown_token x.0, x.1.now)

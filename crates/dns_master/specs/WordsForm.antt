@@ -21,8 +21,8 @@ words_of_first (suc n) text = words_from (words_of_first n) (token_front text)
 abbrev pub words_in : Octets → List Word
 words_in text = words_of_first (length text) text
 
--- All words of an entry up to some place: first the kept ones, then `count` more in the text after
--- them.
+-- All words of an entry, up to where `rest` begins: first those in `kept`, then `count` more in the
+-- text `later` after them.
 pub record KeptAndCounted (kept : List Word) (later rest : Octets) (count : ℕ)
     (all : List Word) : Type 0 where
   pub passed : List Token
@@ -30,7 +30,8 @@ pub record KeptAndCounted (kept : List Word) (later rest : Octets) (count : ℕ)
   pub counted : count ≡ length (token_words passed)
   pub all_are : all ≡ kept ++ token_words passed
 
--- All words of an entry up to some place are kept; or as many as can be, and the others counted.
+-- Either all words of an entry, up to where `rest` begins, are in `kept`; or `kept` is full, and
+-- the other words are counted.
 abbrev pub Found : List Word → Octets → Octets → ℕ → List Word → Type 0
 Found kept later rest count all =
     ((count ≡ 0) × (all ≡ kept))

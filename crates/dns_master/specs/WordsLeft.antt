@@ -12,11 +12,12 @@ use Rattle.dns_master.specs.declared.entry_words.EntryWords.{EntryWords}
 abbrev pub later_words : LaterWords → List Word
 later_words w = take w.count (words_in w.text.now)
 
--- the kept words, and then the later ones
+-- the words in `kept`, followed by the later words
 abbrev pub words_left : EntryWords → List Word
 words_left w = w.kept.now ++ later_words w.later
 
--- an entry was read up to its end, and its first words were kept
+-- an entry was read up to its end, its first words were stored in `kept`, and its later words
+-- counted
 pub record EntryFound (text : Octets) (kept : List Word) (end : EntryEnd) : Type 0 where
   pub read : EntryRead text (kept ++ later_words end.later) end.lines
       (outcome_of end.is_ended end.is_open end.rest.now)

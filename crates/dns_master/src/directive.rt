@@ -10,8 +10,8 @@ use crate::words::read_ttl;
 use dns_name::Name;
 use dns_rdata::{Word, Words};
 
-/// The new origin from the arguments of `$ORIGIN`; a relative name is relative to the old origin.
-/// `None` unless there is one argument, an unquoted valid name.
+/// The new origin that the arguments of `$ORIGIN` state. A name without a final dot is relative to
+/// the old origin. `None` unless there is exactly one argument, and it is an unquoted valid name.
 pub(crate) fn read_origin(words: EntryWords<'_, '_>, origin: &Name) -> Option<Name>
     ensures { (n : DomainName) → (result ≡ Some n)
         ↔ OneWord (λ w. SpelledName origin.now w n) (words_left words.entry) }

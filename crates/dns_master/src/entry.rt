@@ -17,17 +17,18 @@ use crate::run::{RunKind, after_blanks};
 use crate::token::{Token, first_token};
 use dns_rdata::Word;
 
-// The number of words of an entry that are kept while its end is sought; later ones are counted.
+// The number of words of an entry that are stored while its end is sought. Later words are only
+// counted.
 const MOST_KEPT: usize = 16;
 
 /// How the first entry of a text ends.
 #[derive(Debug, Drop)]
 pub(crate) struct EntryEnd<'a> {
-    /// The entry's words after the kept ones.
+    /// The words of the entry after those that are stored.
     pub(crate) later: LaterWords<'a>,
     /// The number of line ends in the entry.
     pub(crate) lines: u32,
-    /// Whether a line end ends the entry.
+    /// Whether the entry ends with a line end.
     pub(crate) is_ended: bool,
     /// Whether a parenthesis is open at the end of the entry.
     pub(crate) is_open: bool,
@@ -36,7 +37,7 @@ pub(crate) struct EntryEnd<'a> {
 }
 
 /// Reads the first entry of a text, up to its end or to the first octet at which no token begins.
-/// Keeps the entry's first words and counts the later ones.
+/// Stores the first words of the entry in `kept`, and counts the later ones.
 ///
 /// Fails with `Parenthesis` if a parenthesis is misplaced, and with `NoMemory` if allocation fails.
 pub(crate) fn read_entry<'a>(
@@ -80,7 +81,7 @@ pub(crate) fn read_entry<'a>(
     Ok(EntryEnd { later, ..end })
 }
 
-// `later` with one more word, the first of `rest`.
+// `later` with one more word: the first word of `rest`.
 #[cold]
 #[inline(never)]
 fn one_later<'a>(later: LaterWords<'a>, rest: &'a [u8]) -> LaterWords<'a>
@@ -94,8 +95,8 @@ fn one_later<'a>(later: LaterWords<'a>, rest: &'a [u8]) -> LaterWords<'a>
     LaterWords { text, count }
 }
 
-// What follows a token: nothing, because a parenthesis is misplaced or because the entry has
-// ended; or more tokens, inside or outside parentheses.
+// What follows a token: nothing, because the token is a misplaced parenthesis or ends the entry; or
+// more tokens, inside (true) or outside parentheses.
 #[derive(Clone, Copy)]
 enum Progress {
     Misplaced,
@@ -116,10 +117,10 @@ fn step_after(token: Token<'_>, is_open: bool) -> Progress
     }
 }
 
-/// Whether an entry is complete: ended by a line end, or by the end of a text that does not go on.
-/// `goes_on` is whether the text goes on past its limit, if that is known.
+/// Whether an entry is complete: it ends with a line end, or without a fault at the end of a text
+/// that does not go on. `goes_on` says whether the text goes on past its limit, if that is known.
 ///
-/// False if only more text could decide it. An error is the fault at the end of the entry.
+/// Returns false if only more text could decide that. Fails with the fault at the end of the entry.
 #[tactic(auto, using(crate::proofs::Refusals::other_than_long))]
 pub(crate) fn is_whole(end: &EntryEnd<'_>, goes_on: Option<bool>) -> Result<bool, ReadCode>
     ensures ok { IfOk result (λ whole. MatchBool whole
@@ -159,8 +160,9 @@ fn end_fault(end: &EntryEnd<'_>, goes_on: bool) -> Option<ReadCode>
     Some(unless_cut_short(goes_on, end.rest, token_fault(end.rest)))
 }
 
-// `fault`, the fault of a text at which no token continues; or `TooLong` if only octets past the
-// limit could decide it, because the text may be the beginning of an escape or of CR LF.
+// Returns `fault`, the fault of the text `place`, with which no token begins or continues; or
+// returns `TooLong` if only octets past the limit could decide that, because the text may begin an
+// escape or CR LF.
 fn unless_cut_short(goes_on: bool, place: &[u8], fault: ReadCode) -> ReadCode
     ensures value { fault_of result ≡ unless_cut_short (extent_by goes_on) place.now
         (fault_of fault) }

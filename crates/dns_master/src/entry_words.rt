@@ -7,7 +7,7 @@ ghost use Rattle.dns_master.specs.WordsForm.{words_in};
 use crate::token::{Token, first_token};
 use dns_rdata::{Word, Words};
 
-/// The words of an entry that were not kept: the first `count` words of a text.
+/// The words of an entry that were counted but not stored: the first `count` words of `text`.
 #[derive(Clone, Copy, Debug)]
 pub(crate) struct LaterWords<'w> {
     pub(crate) text: &'w [u8],
@@ -27,7 +27,7 @@ impl<'w> LaterWords<'w> {
     }
 }
 
-/// The remaining words of an entry: first the kept ones, then those that were only counted.
+/// The remaining words of an entry: first those in `kept`, then those that were only counted.
 #[derive(Clone, Copy, Debug)]
 pub(crate) struct EntryWords<'k, 'w> {
     pub(crate) kept: &'k [Word<'w>],
@@ -69,7 +69,7 @@ pub(crate) fn word_of(token: Token<'_>) -> Option<Word<'_>>
 }
 
 // The first word of a text, and the text after it. Cold, because few entries have more words than
-// are kept.
+// are stored.
 #[cold]
 #[inline(never)]
 fn first_word(text: &[u8]) -> Option<(Word<'_>, &[u8])>

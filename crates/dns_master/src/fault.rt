@@ -29,9 +29,9 @@ pub enum ReadCode {
     BadTtl,
     /// A class other than IN.
     OtherClass,
-    /// A missing or invalid type, or one that zones may not have.
+    /// A missing or invalid type, or a type that zones may not have.
     BadType,
-    /// No TTL is stated, and there is no earlier one.
+    /// No TTL is stated, and no earlier `$TTL` or record states one.
     NoTtl,
     /// Invalid data.
     BadData,
@@ -104,7 +104,8 @@ pub struct ReadFault {
     pub line: u32,
 }
 
-/// The fault of a file whose entry on this line is rejected with this code.
+/// The fault of a file whose entry on this line is rejected with this code. The line is 0 if an
+/// allocation failed.
 pub(crate) fn entry_fault(code: ReadCode, line: u32) -> ReadFault
     ensures { IsFaultOn line code result }
 {

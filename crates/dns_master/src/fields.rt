@@ -12,8 +12,8 @@ use crate::words::{is_word, read_ttl};
 use dns_rdata::{RType, Word, Words};
 use std::marker::Model;
 
-/// The TTL and the class, in either order and each optional, and the words after them: the type
-/// and the data.
+/// The TTL and the class of a record, each optional and in either order; and the words after them:
+/// the type and the data.
 #[derive(Debug, Drop)]
 pub(crate) struct Fields<'a, 'w> {
     pub(crate) ttl: Option<Word<'w>>,
@@ -79,8 +79,8 @@ fn is_ttl_word(word: &Word<'_>) -> bool
     !word.quoted && word.raw.first().is_some_and(|first| first.is_ascii_digit())
 }
 
-// Whether a word is unquoted and is the mnemonic of a class, or begins with `CLASS`, as `CLASS1`
-// does, in any case (RFC 1035 3.2.4, RFC 3597 5).
+// Whether a word is unquoted and, in letters of either case, is the mnemonic of a class or begins
+// with `CLASS`, as `CLASS1` does (RFC 1035 3.2.4, RFC 3597 5).
 #[inline(always)]
 fn is_class_word(word: &Word<'_>) -> bool
     ensures { result ≡ is_class_word word.now }
@@ -100,7 +100,8 @@ fn is_class_name(raw: &[u8]) -> bool
     is_word(b"in", raw) || is_word(b"ch", raw) || is_word(b"cs", raw) || is_word(b"hs", raw)
 }
 
-/// The TTL, if one is stated. Fails with `BadTtl` if it is invalid.
+/// The TTL that the word states, or `None` if there is no word. Fails with `BadTtl` if the TTL is
+/// invalid.
 pub(crate) fn stated_ttl(stated: Option<&Word<'_>>) -> Result<Option<u32>, ReadCode>
     ensures { MatchResult result (λ ttl. TtlOf (option_copied stated.entry) ttl)
         (λ fault. (fault ≡ ReadCode.BadTtl) × IsNoTtl (option_copied stated.entry)) }
@@ -128,8 +129,8 @@ pub(crate) fn type_and_words<'a, 'w>(
     Some((read_type(&first)?, others))
 }
 
-// The type that an unquoted word names, if zones may have it: not 0, no QTYPE or meta-TYPE
-// (RFC 6895 3.1), and not DNAME, DS, RRSIG, NSEC, DNSKEY, NSEC3 or NSEC3PARAM.
+// The type that an unquoted word names, if zones may have that type. They may not have type 0, a
+// QTYPE or meta-TYPE (RFC 6895 3.1), or DNAME, DS, RRSIG, NSEC, DNSKEY, NSEC3 or NSEC3PARAM.
 fn read_type(word: &Word<'_>) -> Option<RType>
     ensures { MatchOption result (Nothing (NamedType word.now)) (λ r. NamedType word.now r.0) }
 {

@@ -7,10 +7,10 @@ use std::alloc::{AllocError, Global};
 
 /// A collection to which the reader adds records, in any form that the caller needs.
 pub trait Gathers {
-    /// Its records, in the order in which they were added.
+    /// The records of the collection, in the order in which they were added.
     ghost gathered: { Self → List ResourceRecord };
 
-    /// Adds a record after the others. Fails only if allocation fails.
+    /// Adds a record at the end. Fails only if allocation fails.
     fn add(&mut self, one: &Record) -> Result<(), AllocError>
         ensures { OnOk result (gathered self.new ≡ gathered self.old ++ one.now ∷ []) };
 }

@@ -15,8 +15,8 @@ use dns_rdata::{DataRoom, RType, Rdata};
 use std::alloc::Global;
 use std::io::Read;
 
-/// The state between pieces: what the reader keeps of the entries so far, and the octets after
-/// them, which are the beginning of the next entry.
+/// The state between pieces: what the reader keeps of the entries so far, and the octets read after
+/// these entries, with which the next entry begins.
 #[derive(Drop)]
 pub(crate) struct Begun {
     alloc: Global,
@@ -62,8 +62,8 @@ impl Begun {
         }
     }
 
-    /// Reads a piece, and adds the records of the entries that are complete now. False at the end
-    /// of the source.
+    /// Reads a piece, and adds the records of the entries that are complete now. Returns false at
+    /// the end of the source.
     pub(crate) fn take_piece<R: Read, G: Gathers>(
         &mut self,
         source: &mut Tally<R>,
@@ -131,7 +131,8 @@ impl Begun {
         Ok(())
     }
 
-    /// Adds the records of the held octets, after which the file ends, or goes on past its limit.
+    /// Adds the records of the held octets, which are the last ones of the file, or if `goes_on` is
+    /// true, the last ones up to its limit.
     pub(crate) fn finish<G: Gathers>(self, goes_on: bool, found: &mut G) -> Result<(), ReadFault>
         requires count { length (G.gathered found.old) ≡ self.reader.count }
         requires fits { self.reader.line + length self.held.items ≤ 16777217 }
@@ -157,8 +158,8 @@ impl Begun {
     }
 }
 
-// Adds the records of the complete entries at the front of a text, and returns the text after
-// them. `goes_on` is whether the text goes on past its limit, if that is known.
+// Adds the records of the complete entries at the front of a text, and returns the text after them.
+// `goes_on` says whether the text goes on past its limit, if that is known.
 fn take_entries<'a, G: Gathers>(
     alloc: Global,
     reader: &mut Reader,
@@ -194,7 +195,7 @@ fn take_entries<'a, G: Gathers>(
     Ok(rest)
 }
 
-// Adds the last record, if the entry was a record.
+// Adds the reader's last record to the collection, if the entry was a record.
 fn add_taken<G: Gathers>(is_record: bool, reader: &Reader, found: &mut G) -> Result<(), ReadFault>
     ensures ok { OnOk result (G.gathered found.new
         ≡ G.gathered found.old ++ handed is_record reader.now.last) }

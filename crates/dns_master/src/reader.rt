@@ -34,11 +34,13 @@ pub const MOST_RECORDS: usize = 100_000;
 /// Reads a zone file, relative to the origin of the zone (RFC 1035 section 5).
 ///
 /// The records are in the order of the file; owners, and names in data, are in lower case. A file
-/// may have at most 100,000 records and 16,777,216 octets; at most one octet more is asked for.
+/// may have at most 100,000 records and 16,777,216 octets. At most one octet more than that is read
+/// from the source.
 ///
-/// A faulty file yields no records. The fault has the line of the first faulty entry, and as code
-/// the first by place of `R01` to `R04` and `R15` in that entry, else its lowest code from `R05`.
-/// The code is `R16` if the source failed, and `R17` only if allocation failed.
+/// A faulty file yields no records. The fault has the line of the first faulty entry. Its code is
+/// that of the leftmost fault with a code of `R01` to `R04` or `R15` in that entry; if there is no
+/// such fault, it is the lowest code that applies to the entry. The code is `R16` if the source
+/// failed, and `R17` only if allocation failed.
 pub fn read_zone<R: Read>(
     alloc: Global,
     origin: &Name,
@@ -56,7 +58,7 @@ pub fn read_zone<R: Read>(
 }
 
 /// Reads a zone file as `read_zone` does, and adds each record to the caller's collection, which
-/// must be empty. After a fault its contents are unspecified.
+/// must be empty. After a fault the contents of the collection are unspecified.
 pub fn read_into<R: Read, G: Gathers>(
     alloc: Global,
     origin: &Name,
@@ -83,11 +85,12 @@ pub fn read_into<R: Read, G: Gathers>(
 }
 
 impl Reader {
-    /// Takes the first entry of a text. Returns whether the entry is a record, which is then in
-    /// `last`, and the text after the entry.
+    /// Takes the first entry of a text. Returns whether the entry is a record, and the text after
+    /// the entry. The record, if it is one, is in `last`.
     ///
-    /// `goes_on` is whether the text goes on past its limit; if that is unknown, more text may
-    /// follow. `None`, with nothing taken, if only more text could decide where the entry ends.
+    /// `goes_on` says whether the text goes on past its limit; if it is `None`, more text may
+    /// follow. Takes nothing and returns `None` if only more text could decide where the entry
+    /// ends.
     pub(crate) fn take_entry<'a>(
         &mut self,
         text: &'a [u8],
@@ -119,8 +122,8 @@ impl Reader {
         Ok(Some((taken, rest)))
     }
 
-    // Takes the words of an entry, a directive or a record. If the entry begins with a blank, its
-    // owner is the previous record's.
+    // Takes the words of an entry, which is empty, a directive or a record. Returns whether it is a
+    // record. A record whose entry begins with a blank has the previous record's owner.
     fn take_words(
         &mut self,
         is_blank_led: bool,

@@ -13,13 +13,13 @@ use std::marker::Model;
 /// and its data is valid for its type.
 #[derive(Drop)]
 pub struct Record {
-    /// Its owner name.
+    /// The owner name.
     pub owner: Name,
-    /// Its TTL in seconds, at most 2147483647 (RFC 2181 8).
+    /// The TTL in seconds, at most 2147483647 (RFC 2181 8).
     pub ttl: u32,
-    /// Its type.
+    /// The type.
     pub rtype: RType,
-    /// Its data.
+    /// The data.
     pub rdata: Rdata,
 }
 
@@ -49,7 +49,7 @@ pub(crate) struct RecordBody {
 
 impl Record {
     /// Sets the owner to the name that an unquoted word spells, relative to the origin, in lower
-    /// case. False if the word spells no name; then the owner is unspecified.
+    /// case. Returns false if the word is quoted or spells no name; the owner is then unspecified.
     pub(crate) fn spell_owner(&mut self, word: &Word<'_>, origin: &Name) -> bool
         ensures spelled { OnTrue result (SpelledOwner origin.now word.now self.new.owner) }
         ensures none { OnFalse result
@@ -59,7 +59,7 @@ impl Record {
         !word.quoted && self.owner.spell(word.raw, origin).is_ok()
     }
 
-    /// A copy. Memory is allocated once, for the data.
+    /// A copy. Allocates at most once, for the data.
     pub fn copied(&self, alloc: Global) -> Result<Record, AllocError>
         ensures { IfOk result (λ copy. copy ≡ self.now) }
     {

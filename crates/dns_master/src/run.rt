@@ -18,7 +18,8 @@ pub(crate) enum RunKind {
 // The number of octets in a group, which is checked at once, because a run may be long.
 const GROUP: usize = 16;
 
-// Where each octet may appear unescaped: 2 in words and strings, 1 only in strings, 0 in neither.
+// Where each octet may appear unescaped: 2 stands for words and strings, 1 for strings only, and 0
+// for neither.
 const PLAIN_IN: [u8; 256] = [
     0, 0, 0, 0, 0, 0, 0, 0, 0, 1, 0, 0, 0, 0, 0, 0, 0, 0, 0, 0, 0, 0, 0, 0, 0, 0, 0, 0, 0, 0, 0, 0,
     1, 2, 0, 2, 2, 2, 2, 2, 1, 1, 2, 2, 2, 2, 2, 2, 2, 2, 2, 2, 2, 2, 2, 2, 2, 2, 2, 1, 2, 2, 2, 2,
@@ -31,7 +32,7 @@ const PLAIN_IN: [u8; 256] = [
 ];
 
 impl RunKind {
-    /// The length in octets of the run at the beginning of a text, with all octets of its escapes.
+    /// The length in octets of the run at the beginning of a text. All octets of an escape count.
     #[inline(always)]
     pub(crate) fn length(self, text: &[u8]) -> usize
         ensures value { result ≡ run_length (by_itself self) 0 text.now }
@@ -51,7 +52,8 @@ impl RunKind {
         }
     }
 
-    // The length of the run, which begins with `front` unescaped octets.
+    // The length of the run at the beginning of a text. Condition: the first `front` octets may
+    // appear in the run unescaped.
     #[inline(never)]
     fn length_from(self, text: &[u8], front: usize) -> usize
         requires bound { front ≤ length text.now }
@@ -108,7 +110,7 @@ fn word_front(text: &[u8]) -> usize
     front + word_end(rest).unwrap_or(rest.len())
 }
 
-// The place of the first octet that ends a word or begins an escape, if there is one.
+// The index of the first octet that may not appear in a word unescaped, if there is one.
 #[inline(always)]
 fn word_end(text: &[u8]) -> Option<usize>
     ensures { result ≡ position (λ x. not (is_word_octet x)) text.now }
@@ -116,7 +118,8 @@ fn word_end(text: &[u8]) -> Option<usize>
     text.iter().position(|octet| !RunKind::Word.has(*octet))
 }
 
-// The total length of the groups at the front that contain only unescaped string octets.
+// A number of octets at the front of a text all of which may appear in a string unescaped. Whole
+// groups are counted.
 fn plain_groups(text: &[u8]) -> usize
     ensures bound { result ≤ length text.now }
     ensures plain { list_all is_string_octet (take result text.now) ≡ true }
@@ -188,8 +191,8 @@ pub(crate) fn after_blanks(text: &[u8]) -> &[u8]
     }
 }
 
-// The same as `after_blanks`. Rarely called, because most blanks are one octet. Skips spaces in
-// eights, because a line may be padded with them.
+// Does the same as `after_blanks`. It is rarely called, because most blanks are one octet. It skips
+// spaces in eights, because a line may be padded with spaces.
 #[inline(never)]
 fn after_run(text: &[u8]) -> &[u8]
     ensures { result.now ≡ drop (prefix_len is_blank text.now) text.now }
@@ -210,7 +213,7 @@ pub(crate) fn is_blank(octet: u8) -> bool
     octet == b' ' || octet == b'\t'
 }
 
-/// The text from its first LF on; empty if there is none.
+/// The text from its first LF on; an empty text if it has no LF.
 pub(crate) fn after_comment(text: &[u8]) -> &[u8]
     ensures { result.now ≡ drop (prefix_len (λ x. not (x == 10)) text.now) text.now }
 {

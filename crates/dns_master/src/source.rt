@@ -13,7 +13,8 @@ pub(crate) const MOST_FILE_OCTETS: usize = 16_777_216;
 /// The number of octets that each read asks for.
 pub(crate) const PIECE: usize = 4_096;
 
-/// Reads once, at most `asked` octets, and appends them. False at the end of the source.
+/// Reads at most `asked` octets, in one call, and appends them to `text`. Returns false at the end
+/// of the source.
 pub(crate) fn append_piece<R: Read>(
     source: &mut Tally<R>,
     asked: usize,

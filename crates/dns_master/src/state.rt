@@ -7,7 +7,7 @@ ghost use Rattle.dns_spec.specs.Meaning.{most_records};
 use crate::record::Record;
 use dns_name::Name;
 
-/// What later entries need of the earlier ones.
+/// What the reader keeps of the entries so far, because later entries need it.
 #[derive(Drop)]
 pub(crate) struct Reader {
     /// The current origin.
@@ -18,7 +18,8 @@ pub(crate) struct Reader {
     pub(crate) stated_ttl: Option<u32>,
     /// The line on which the next entry begins, counted from 1.
     pub(crate) line: u32,
-    /// The last record, if `count` is not 0. The next record is read in its place, owner first.
+    /// The last record, if `count` is not 0. The next record is read into this field, its owner
+    /// first.
     pub(crate) last: Record,
     /// The number of records so far.
     pub(crate) count: usize,

@@ -4,7 +4,8 @@ ghost use Rattle.dns_master.specs.TokenForm.{Begins};
 
 use crate::run::{RunKind, after_blanks, after_comment};
 
-/// A token. Words and quoted strings keep their escapes; quotation marks are left out.
+/// A token. The text of a word or a quoted string has its escapes, but no quotation marks around
+/// it.
 #[derive(Clone, Copy, Debug, PartialEq, Eq)]
 pub(crate) enum Token<'a> {
     Blank,
@@ -16,16 +17,16 @@ pub(crate) enum Token<'a> {
     LineEnd,
 }
 
-/// The first token of a text, and the text after it. `None` at the end of the text, or if no token
-/// begins there.
+/// The first token of a text, and the text after it. `None` if the text is empty, or no token
+/// begins with it.
 #[inline(always)]
 #[tactic(auto, using(crate::proofs::RunLemmas::word_first))]
 pub(crate) fn first_token(text: &[u8]) -> Option<(Token<'_>, &[u8])>
     ensures { Begins result (token_front text.now) }
 {
     let (first, others) = text.split_first()?;
-    // A fast path, because most tokens are words: a check of a large zone takes 2 % fewer
-    // instructions. Only words that begin with an escape are left for the last case below.
+    // A fast path, because most tokens are words: it saves 2 % of the instructions for a check of a
+    // large zone. The last case below is left only for words that begin with an escape.
     if RunKind::Word.has(*first) {
         let (raw, others) = text.split_at(RunKind::Word.length(text));
         return Some((Token::Word(raw), others));

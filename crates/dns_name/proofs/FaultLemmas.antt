@@ -37,14 +37,14 @@ label_over text (x ∷ l) rest i (first, others, e, p, h) =
     ap (labels_fault 0 i) e ∙ octet_over first others x i p ∙ label_over others l rest (suc i) h
     ∙ ap (λ n. labels_fault 0 n rest) (omega arith)
 
--- a label of 1 to 63 octets has no fault: the labels after it decide
+-- a label of 1 to 63 octets has no fault, so the fault is that of the labels after it
 pub valid_over : (text l others : Octets) → LabelThen text l (46 ∷ others)
     → is_label l ≡ true → labels_fault 0 0 text ≡ labels_fault 0 0 others
 unfolding labels_fault
 valid_over text l others h is_l =
     grind (arith, label_over text l (46 ∷ others) 0 h, IsLabel-is_label)
 
--- a name whose labels are valid can only be too long
+-- a text that is one valid label has fault 3: its name can only be too long
 pub valid_last : (text l : Octets) → LabelThen text l [] → is_label l ≡ true
     → labels_fault 0 0 text ≡ 3
 unfolding labels_fault

@@ -1,4 +1,4 @@
--- Runs of octets are determined by their first and last octets, and these by numbers.
+-- Runs of octets are determined by their first and last octets, and those octets by numbers.
 use Rattle.dns_name.proofs.Common.{◌≡◌, ◌==◌, ◌↔◌, IsTrue, ℕ, zero, suc, ◌+◌, ◌-◌, ◌<◌, ◌≤◌, List, [], ◌∷◌, length, take, drop, get_or, refl, sym, ◌∙◌, arith, eqb-true, eq-eqb, le_bytes_2, le_bytes_4, le_bytes_8, length-take-le, length-drop, from_le_bytes, w16, w32, w64}
 use Rattle.dns_spec.proofs.General.Fronts.{same_fronts_ends, take_last}
 
@@ -16,7 +16,7 @@ low_end zero xs low i = low i
 low_end (suc k) [] low i = omega arith
 low_end (suc k) (x ∷ xs) low i = low_end k xs (λ j. low (suc j)) i
 
--- the number of the first k octets determines them
+-- the number that f gives for the first k octets determines these octets
 abbrev pub Tells : ℕ → (List ℕ → ℕ) → Type 0
 Tells k f = (a b : List ℕ) → k ≤ length a
     → k ≤ length b → AreLow a → AreLow b → f (take k a) ≡ f (take k b) → take k a ≡ take k b
@@ -39,8 +39,8 @@ two_tell a b long-a long-b low-a low-b e =
     (length-take-le 2 a long-a) (low_front 2 a low-a) refl) ∙ le_bytes_2 (take 2 b)
     (from_le_bytes w16 (take 2 a)) (length-take-le 2 b long-b) (low_front 2 b low-b) e
 
--- for k to 2k octets, the first k and the last k are all of them, so their numbers determine the
--- run
+-- in a run of k to 2k octets, each is among the first k or the last k, so the numbers of these two
+-- parts determine the run
 pub ends_tell : (k : ℕ) (f : List ℕ → ℕ) → Tells k f → (a b a' b' : List ℕ) {m n m' n' : ℕ}
     → length b ≡ length a → k ≤ length a → length a ≤ k + k → AreLow a → AreLow b
     → a' ≡ drop (length a - k) a → b' ≡ drop (length b - k) b → m ≡ f (take k a) → n ≡ f (take k b)

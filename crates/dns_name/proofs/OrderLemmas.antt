@@ -13,7 +13,8 @@ pub drop-next : (s t n : DomainName) (r : Option Octets) (k : ℕ)
     → s ≡ drop k n → YieldsFirst (λ x. x) s r t → t ≡ drop (k + 1) n
 drop-next s t n r k e h = grind (arith, drop-one)
 
--- if one name has only k labels, the last k labels of both decide, and then the number of labels
+-- if one name has only k labels, the last k labels of both names decide the order, or, if they are
+-- equal, the number of labels
 pub order_of_last : (n m : DomainName) (k : ℕ)
     → k ≤ length n → k ≤ length m → (length n ≡ k) ⊎ (length m ≡ k)
     → ordering_then (slice_cmp label_order (reverse (last_labels k n)) (reverse (last_labels k m)))
@@ -46,8 +47,8 @@ order_of_last n m k p q shorter =
     sym (rw (left, right) (slice_cmp-append label_order _ _ _ _ as_long ∙ ap
     (ordering_then (slice_cmp label_order (reverse (drop i n)) (reverse (drop j m)))) front))
 
--- one more label of both names: the order so far gives way to the order of these labels, which are
--- further right
+-- one more label of both names: unless these labels are equal, they decide instead of the labels so
+-- far, since they are further right
 pub order_next : (n n' m m' : DomainName) (l k : Octets) (order next : Ordering)
     → n ≡ l ∷ n' → m ≡ k ∷ m' → length n ≡ length m → next ≡ ordering_then (label_order l k) order
     → (length n' ≡ length m') × (ordering_then (slice_cmp label_order (reverse n') (reverse m'))
@@ -61,7 +62,7 @@ pub order_is : (n m left right : DomainName) (k a b : ℕ) (longer result : Orde
 order_is n m left right k a b longer result p q shared e f g h =
     grind (arith, cases_order, order_of_last)
 
--- if the remaining labels are the same, the labels so far decide
+-- if the remaining labels are the same, the labels so far decide the order
 pub order_stays : (n m : DomainName) (order : Ordering)
     → n ≡ m → ordering_then (slice_cmp label_order (reverse n) (reverse m)) order ≡ order
 order_stays n m order e = grind (arith, cmp_self)

@@ -1,5 +1,5 @@
--- A text without escapes is read from its end: each label's length takes the place of the dot before
--- it.
+-- A text without escapes is read from its end: each label's length is put in the place of the dot
+-- before the label.
 use Rattle.dns_name.proofs.Common.{◌≡◌, ◌≢◌, ℕ, ◌+◌, ◌-◌, ◌<◌, ◌≤◌, ◌==◌, true, false, inl, inr, [], ◌∷◌, ◌++◌, length, take, drop, get_or, map, refl, sym, ◌∙◌, ap, subst, arith, and_from, eqb-false, or_parts, list_all, to_ascii_lowercase, Octets, DomainName, wire, is_label, is_name, folded, append_assoc, take_at, append-nil, length-append, length-wire-append, map-lowercase-wire, is_name-append, is_name-folded, IsName-is_name, and_parts, LabelThen, TextSpells, SpellsName, is_mark}
 use Rattle.std.proofs.lemmas.List.{drop_more, drop-set, take-set, drop_all, take-take, get_or-take, length-set, length-map, map-append}
 use Rattle.std.proofs.Math.ListN.{set}
@@ -9,8 +9,9 @@ use Rattle.dns_spec.proofs.DomainNames.NameLaws.{is_name-IsName, length-wire-fol
 use Rattle.dns_spec.proofs.DomainNames.WireNames.{wire_some}
 use Rattle.dns_name.specs.TextForm.{IsPlain, HasLengths, IsEnded, is_length}
 
--- the octets after `place` are the labels of a text from there on, in lower case, each after its
--- length; `count` is the length of the first label
+-- after index `place`, the octets `now` are the labels of the text from that index on, in lower
+-- case, each after its length, except that the length `count` of the first label is still to be
+-- written
 pub record LengthsPut (text now : Octets) (place count : ℕ) : Type 0 where
   pub first : Octets
   pub others : DomainName
@@ -99,7 +100,7 @@ module _ (text now : Octets) (place count : ℕ)
       } in
       put
 
--- what a text without escapes spells, relative to an origin and with a final dot
+-- what a text without escapes spells: relative to an origin, and with a final dot
 plain_relative : (origin : DomainName) (text first : Octets) (others : DomainName)
     → IsPlain text first others → TextSpells origin text ((first ∷ others) ++ origin)
 plain_relative origin text first [] h = inl (h, refl)
@@ -131,7 +132,8 @@ plain_some : (first : Octets) (others : DomainName)
 plain_some first [] ok h = grind (arith, LabelThen-nil, no_empty_label)
 plain_some first (l ∷ n) ok (rest, h, g) = grind (arith, LabelThen-nil, no_empty_label)
 
--- the octets of a word without escapes, after its lengths are put and its end is appended
+-- a word without escapes: `final` is its octets after the lengths of its labels are put and its end
+-- is appended
 pub record PlainWord (origin : DomainName) (word labels end put final : Octets) : Type 0 where
   pub ended : IsEnded origin word labels end
   pub not_at : word ≢ 64 ∷ []
@@ -140,7 +142,7 @@ pub record PlainWord (origin : DomainName) (word labels end put final : Octets) 
   pub fits : length put + length end ≤ 255
   pub final_is : final ≡ put ++ map to_ascii_lowercase end
 
--- they spell its name in lower case
+-- the octets `final` are the wire form of the name that the word spells, in lower case
 pub record SpelledPlain (origin : DomainName) (word final : Octets) : Type 0 where
   pub name : DomainName
   pub spells : SpellsName origin word name

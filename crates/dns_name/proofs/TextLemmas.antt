@@ -26,7 +26,7 @@ pub octet_at-OctetThen : (text : Octets) (x : ℕ) (others : Octets)
     → OctetThen text x others → octet_at text ≡ Some (x, others)
 octet_at-OctetThen text x others (first, e, h) = ap octet_at e ∙ octet_at-spelled first x others h
 
--- what is read is spelled that way, unless the text is at a label's end
+-- an octet that is read is spelled by what was read, provided that the text is not at a label's end
 pub OctetThen-octet_at : (text : Octets) (x : ℕ) (others : Octets)
     → is_label_end text ≡ false → octet_at text ≡ Some (x, others) → OctetThen text x others
 unfolding octet_at
@@ -66,7 +66,7 @@ LabelThen-at : (text l rest text' : Octets)
 LabelThen-at text l rest text' e h =
     let P : Octets → Type 0 = λ t. LabelThen t l rest in subst P e h
 
--- after a part of a label is read, each label that the text spells continues from there
+-- after a part of a label is read, each label with which the text can begin starts with that part
 pub LabelThen-rest : (text l rest l' rest' : Octets) → LabelThen text l rest → LabelThen text
     l' rest' → is_label_end rest' ≡ true → (m : Octets) × (l' ≡ l ++ m) × LabelThen rest m rest'
 LabelThen-rest text [] rest l' rest' e h end = (l', refl, LabelThen-at text l' rest' rest e h)
@@ -102,14 +102,16 @@ LabelThen-nil (x ∷ l) rest (first, after, e, p, h) = grind (arith, true≢fals
 pub no_empty_label : is_label [] ≡ true → ⊥
 no_empty_label h = false≢true h
 
--- the labels `read` are read and `rest` remains: the text spells `read` and what `rest` spells
+-- the labels `read` are read and `rest` remains: the word spells exactly `read`, followed by what
+-- `rest` spells
 pub record ReadSoFar
     (origin : DomainName) (word : Octets) (read : DomainName) (rest : Octets) : Type 0 where
   pub all : (n : DomainName) → TextSpells origin rest n → TextSpells origin word (read ++ n)
   pub only : (n : DomainName)
       → TextSpells origin word n → (m : DomainName) × (n ≡ read ++ m) × TextSpells origin rest m
 
--- what a text that begins with a label and a dot spells
+-- a text that begins with a label and a dot spells that label, followed by what the text after the
+-- dot spells
 spells_after_dot : (origin : DomainName) (rest l others : Octets) (m : DomainName)
     → LabelThen rest l (46 ∷ others)
     → TextSpells origin rest m → (k : DomainName) × (m ≡ l ∷ k) × TextSpells origin others k
@@ -132,12 +134,12 @@ pub ReadSoFar-push : (origin : DomainName)
 ReadSoFar-push origin word read rest l others so_far h =
     grind (arith, append_assoc, spells_after_dot)
 
--- the word is read, and spells only the name n
+-- the word spells the name n, and no other
 pub record SpellsOnly (origin : DomainName) (word : Octets) (n : DomainName) : Type 0 where
   pub spelled : TextSpells origin word n
   pub only : (m : DomainName) → is_name m ≡ true → TextSpells origin word m → m ≡ n
 
--- what a text that is one label without a dot spells
+-- a text that is one label without a dot spells that label, followed by the origin
 spells_last : (origin : DomainName) (rest l : Octets) (m : DomainName)
     → LabelThen rest l [] → is_label l ≡ true → TextSpells origin rest m → m ≡ l ∷ origin
 spells_last origin rest l [] h is_l e = grind (arith, LabelThen-nil, LabelThen-at, no_empty_label)
@@ -154,13 +156,13 @@ is_label-inside read l n m e ok =
     inside [] h = (and_parts (is_label l) _ h).0
     inside (k ∷ read) h = inside read (and_parts (is_label k) _ h).1
 
--- a last label without a dot
+-- a word that ends with a label without a dot spells the labels, followed by the origin
 pub SpellsOnly-relative : (origin : DomainName)
     (word : Octets) (read : DomainName) (rest l : Octets) → ReadSoFar origin word read rest
     → LabelThen rest l [] → is_label l ≡ true → SpellsOnly origin word ((read ++ l ∷ []) ++ origin)
 SpellsOnly-relative origin word read rest l so_far h is_l = grind (arith, append_assoc, spells_last)
 
--- a final dot
+-- a word that ends with a dot spells its labels alone
 pub SpellsOnly-absolute : (origin : DomainName) (word : Octets) (read : DomainName) (rest : Octets)
     → ReadSoFar origin word read rest → rest ≡ [] → SpellsOnly origin word read
 SpellsOnly-absolute origin word read rest so_far e = record { spelled = spelled; only = only }
@@ -181,7 +183,7 @@ SpellsOnly-absolute origin word read rest so_far e = record { spelled = spelled;
     only : (m : DomainName) → is_name m ≡ true → TextSpells origin word m → m ≡ read
     only m ok g = let after = so_far.only m g in no_more m after.0 after.1 ok after.2
 
--- no name is spelled if no label is next
+-- if the text that remains begins with no label, the word spells no name
 pub nothing_spelled : (origin : DomainName) (word : Octets) (read : DomainName) (rest : Octets)
     → ReadSoFar origin word read rest
     → (rest ≡ [] → ⊥) → ((l after : Octets) → LabelThen rest l after → is_label_end after ≡ true
@@ -221,7 +223,7 @@ ReadsLabel-full text octets rest x others reads next full =
       kept = reads.kept ∙ sym (take-append-le 64 l (x ∷ []) long);
     }
 
--- if no octet is spelled and the label hasn't ended, the text begins with no label
+-- if no octet can be read before the label has ended, the text begins with no label
 pub no_label_read : (text octets rest : Octets) → ReadsLabel text octets rest
     → is_label_end rest ≡ false → octet_at rest ≡ None → HasFault text 4
 no_label_read text octets rest reads goes_on none = record {
@@ -238,7 +240,7 @@ no_label_read text octets rest reads goes_on none = record {
         let read = octet_at-OctetThen rest x after (first, f, p) in
         cc
 
--- a label whose octets were all kept
+-- if the octets that were kept are a valid label, the text begins with that label
 pub label_kept : (text octets end : Octets)
     → ReadsLabel text octets end → is_label octets ≡ true → LabelThen text octets end
 label_kept text octets end reads is_l =
@@ -270,7 +272,7 @@ kept_none : (octets l : Octets) (fault : ℕ)
 kept_none octets [] fault kept none = grind arith
 kept_none octets (x ∷ l) fault kept none = grind (arith, length-take 64 (x ∷ l))
 
--- the octets that were kept decide
+-- the octets that were kept decide the fault
 pub label_read_alone : (text octets end kept : Octets) (fault : ℕ)
     → ReadsLabel text octets end → is_label_end end ≡ true → kept ≡ octets
     → IsNoLength kept fault → HasFault text fault
@@ -291,7 +293,7 @@ Holds-append read true name labels false new (e, ok) over = grind arith
 Holds-append read false name labels more new over h =
     omega (arith, length-wire-append read labels, wire_some labels)
 
--- how far a word is read
+-- a word is read up to `rest`
 pub record Reads (origin : DomainName)
     (word : Octets) (name : DomainName) (fits : Bool) (rest : Octets) : Type 0 where
   pub read : DomainName
@@ -316,7 +318,7 @@ Reads-push origin word name fits rest more end new dot others reads pushes e =
           (pushes.label ∷ []) more new reads.holds pushes.appended;
     }
 
--- the result that is reported at the end
+-- the result is right if it is the name, or an error if the name does not fit
 pub SpellsIff-only : {E : Type 0} (origin : DomainName) (word : Octets)
     (n name : DomainName) (fits : Bool) (e : E) (r : Result DomainName E) → SpellsOnly origin word n
     → Holds n fits name → r ≡ (if fits then Ok name else Err e) → SpellsIff origin word r
@@ -403,7 +405,7 @@ pub dot_spells_root : (origin : DomainName) (word : Octets) (n : DomainName)
     → word ≡ 46 ∷ [] → SpellsName origin word n → n ≡ []
 dot_spells_root origin word n f h = grind (arith, dot_spells_none)
 
--- the result for a name in its place, if it fits and if it does not
+-- the result of a call that sets a name in place, depending on whether the name fits
 pub spelled_as-fits : {A E : Type 0} (name : DomainName) (fits : Bool)
     (done : A) (fault : E) (r : Result A E) → r ≡ (if fits then Ok done else Err fault)
     → spelled_as r name ≡ (if fits then Ok name else Err fault)

@@ -23,7 +23,7 @@ pub labels_of_spelled : (xs : Octets) (n : DomainName)
 unfolding labels_of
 labels_of_spelled xs n e ok = grind (arith, labels_up_to-wire)
 
--- and are a wire form
+-- and such octets satisfy `IsWireForm`
 pub IsWireForm-wire : (xs : Octets) (n : DomainName)
     → xs ≡ wire n → is_name n ≡ true → IsWireForm xs
 IsWireForm-wire xs n e ok = grind (arith, labels_of_spelled)
@@ -92,7 +92,7 @@ front-push (k ∷ n) l = grind (arith, append_assoc, (front-push n l))
 front_taken : (n : DomainName) → take (length (wire n) - 1) (wire n) ≡ label_octets n
 front_taken n = grind (arith, wire-front, length-append, take_at)
 
--- one more label next to the root: what is before the root's length stays
+-- one more label is added next to the root: what is before the root's length stays
 pub wire-push : (n : DomainName) (l xs : Octets) → xs ≡ take (length (wire n) - 1) (wire n)
     → ((xs ++ length l ∷ []) ++ l) ++ 0 ∷ [] ≡ wire (n ++ l ∷ [])
 wire-push n l xs e = grind (arith, front_taken, append_assoc, front-push, wire-front)
@@ -103,23 +103,23 @@ pub same_from_octets : (b : Bool) (xs ys : Octets) (n m : DomainName)
     → ((b ≡ true) ↔ (map to_ascii_lowercase xs ≡ map to_ascii_lowercase ys)) → b ≡ same n m
 same_from_octets b xs ys n m e f p q test = grind (arith, same-wire, same_tests)
 
--- and whether they are equal, octet by octet
+-- octets determine whether the names that they spell are equal, octet by octet
 pub names_equal_from_octets : (b : Bool) (xs ys : Octets) (n m : DomainName) → xs ≡ wire n → ys
     ≡ wire m → is_name n ≡ true → is_name m ≡ true → b ≡ octets_equal xs ys → b ≡ names_equal n m
 names_equal_from_octets b xs ys n m e f p q test =
     grind (arith, octets_equal-decides, names_equal-decides, same_tests, wire-injective)
 
--- octets in lower case are the wire form of the folded name
+-- a wire form in lower case is the wire form of the folded name
 pub map-lowercase-octets : (xs : Octets) (n : DomainName)
     → IsWireForm xs → labels_of xs ≡ n → map to_ascii_lowercase xs ≡ wire (folded n)
 map-lowercase-octets xs n form e = grind (arith, map-lowercase-wire, IsName-is_name)
 
--- the labels of another name next to the root: what is before the root's length stays
+-- the labels of another name are added next to the root: what is before the root's length stays
 pub wire-append : (n m : DomainName) (xs : Octets)
     → xs ≡ take (length (wire n) - 1) (wire n) → xs ++ wire m ≡ wire (n ++ m)
 wire-append n m xs e = ap (λ ys. ys ++ wire m) (e ∙ front_taken n) ∙ sym (wire_front n m)
 
--- a name that is no longer than `a` is at or below it only if they are the same
+-- a name that is no longer than `a` is at or below `a` if and only if the two are the same
 pub no_longer_decides : (xs ys : Octets) (a : DomainName) → IsWireForm xs
     → ys ≡ wire a → length xs ≤ length ys → at_or_below (labels_of xs) a ≡ same (labels_of xs) a
 no_longer_decides xs ys a form f short =

@@ -1,16 +1,16 @@
--- A text that is written piece by piece: what two pieces in order have appended, and what is still
--- to come.
+-- A text that is written piece by piece: what consecutive pieces have appended, and what is still
+-- to be written.
 use Rattle.dns_name.proofs.Common.{◌≡◌, ℕ, suc, ◌+◌, ◌-◌, ◌<◌, List, [], ◌∷◌, ◌++◌, slice_index_or, Result, ap, ◌∙◌, Option, length, take, drop, sym, subst, arith, append_assoc, length-drop, length-append, take-add, take-append-add, take-suc, take_all, take-append-le, take-append-drop, append-nil, flat_map-append, Bor, Appends, Appends-trans, Counted, Writes, Fills, failures_after, joined, AppendsBeginning, AppendsAllBut}
 use Rattle.dns_spec.proofs.Common.{on_ok_weaker, on_err_weaker}
 
--- the first n octets of a text, and then the first m of the rest, `&text[n..]`
+-- the first n octets of a text were written, and then the first m octets of `&text[n..]`
 pub Appends-take-add : (a b c : Option (List ℕ)) (text : List ℕ) (n m : ℕ)
     → Appends a b (take n text)
     → Appends b c (take m (take (length text - n) (drop n text))) → Appends a c (take (n + m) text)
 Appends-take-add a b c text n m first second =
     grind (arith, length-drop, take_all, take-add, Appends-trans)
 
--- a beginning of a text was written, and another text was not begun
+-- a prefix of a text is also a prefix of that text followed by another
 pub beginning_of_first : (a b : Option (List ℕ)) (xs ys : List ℕ)
     → AppendsBeginning a b xs → AppendsBeginning a b (xs ++ ys)
 beginning_of_first a b xs ys (n, h, front) = (
@@ -19,7 +19,7 @@ beginning_of_first a b xs ys (n, h, front) = (
   subst (Appends a b) (sym (take-append-le n xs ys h)) front,
 )
 
--- a whole text, and then a beginning of the next
+-- a whole text was written, and then a prefix of the next
 pub beginning_of_second : (a b c : Option (List ℕ)) (xs ys : List ℕ)
     → Appends a b xs → AppendsBeginning b c ys → AppendsBeginning a c (xs ++ ys)
 beginning_of_second a b c xs ys whole (n, h, front) = (
@@ -42,7 +42,7 @@ joined_at parts i d h =
     ∙ flat_map-append (λ (p : Bor (List ℕ)). p.now) (take (suc i) parts) (drop (suc i) parts)
     ∙ ap (λ xs. xs ++ joined (drop (suc i) parts)) front
 
--- what a call writes, by an equal text
+-- what is written of a text is written of an equal text
 pub Writes-same : {W A E : Type 0}
     {contents : W → Option (List ℕ)} {old new : Counted W} {r : Result A E} {xs ys : List ℕ}
     → xs ≡ ys → Writes contents old new r xs → Writes contents old new r ys
@@ -61,7 +61,7 @@ Writes-after {contents = contents} {old} {mid} {new} {r} xs ys h same w = record
   counted = w.counted ∙ ap (λ count. failures_after count r) same;
 }
 
--- all parts before place i, and then a beginning of that part
+-- all parts before index i were written, and then a prefix of the part with index i
 pub beginning_of_parts : (a b c : Option (List ℕ)) (parts : List (Bor (List ℕ)))
     (i : ℕ) (d : Bor (List ℕ)) → i < length parts → Appends a b (joined (take i parts))
     → AppendsBeginning b c (slice_index_or parts i d).now → AppendsBeginning a c (joined parts)
@@ -69,18 +69,18 @@ beginning_of_parts a b c parts i d h before begun =
     subst (AppendsBeginning a c) (sym (joined_at parts i d h))
     (beginning_of_first a c _ _ (beginning_of_second a b c _ _ before begun))
 
--- all of the whole text except the rest was appended
+-- all of the whole text was appended, except the rest
 abbrev pub Written : Option (List ℕ) → Option (List ℕ) → List ℕ → List ℕ → Type 0
 Written = AppendsAllBut
 
--- the next piece
+-- the next piece was written too
 pub Written-more : (old new newer : Option (List ℕ)) (whole rest piece others : List ℕ)
     → Written old new whole rest
     → rest ≡ piece ++ others → Appends new newer piece → Written old newer whole others
 Written-more old new newer whole rest piece others so e h =
     grind (arith, Appends-trans, append_assoc)
 
--- a beginning of the next piece
+-- a prefix of the next piece was written
 pub Written-begun : (old new newer : Option (List ℕ)) (whole rest piece others : List ℕ)
     → Written old new whole rest
     → rest ≡ piece ++ others → AppendsBeginning new newer piece → AppendsBeginning old newer whole
@@ -101,7 +101,7 @@ pub held_less : (old new newer : Option (List ℕ)) (whole held less rest : List
     → AppendsAllBut new newer held less → AppendsAllBut old newer whole (less ++ rest)
 held_less old new newer whole held less rest so then = grind (arith, Appends-trans, append_assoc)
 
--- a beginning of what was held was written
+-- a prefix of what was held was written
 pub held_begun : (old new newer : Option (List ℕ)) (whole held rest : List ℕ) → AppendsAllBut old
     new whole (held ++ rest) → AppendsBeginning new newer held → AppendsBeginning old newer whole
 held_begun old new newer whole held rest so begun =
@@ -109,12 +109,12 @@ held_begun old new newer whole held rest so begun =
     (beginning_of_second old new newer so.done
     (held ++ rest) so.appended (beginning_of_first new newer held rest begun))
 
--- more follows what was put, and it is held
+-- if more text follows what was put, that text is held as well
 pub held_before : (old new : Option (List ℕ)) (whole held more : List ℕ)
     → AppendsAllBut old new whole held → AppendsAllBut old new (whole ++ more) (held ++ more)
 held_before old new whole held more so = grind (arith, append_assoc)
 
--- what a call puts, by an equal text
+-- what is put of a text is put of an equal text
 pub Fills-same : {W A E : Type 0}
     {contents : W → Option (List ℕ)} {old new : Counted W} {r : Result A E} {xs ys held : List ℕ}
     → xs ≡ ys → Fills contents old new r xs held → Fills contents old new r ys held

@@ -27,7 +27,7 @@ pub record NameSoFar
   pub whole : text ++ labels_text rest ≡ before ++ labels_text n
   pub room : length text + 4 * length (wire rest) ≤ length before + 1020
 
--- one more label, with its dot
+-- one more label is written, with its dot
 pub NameSoFar-next : (before : Octets) (n : DomainName)
     (text new : Octets) (labels rest : DomainName) (l : Octets) → NameSoFar before n text labels
     → labels ≡ l ∷ rest → new ≡ (text ++ label_text l) ++ 46 ∷ [] → NameSoFar before n new rest
@@ -40,7 +40,7 @@ pub NameSoFar-room : (before : Octets) (n : DomainName)
     → labels ≡ l ∷ rest → length text + 4 * length l + 4 ≤ length before + 1020
 NameSoFar-room before n text labels rest l so_far e = grind (arith, length-append)
 
--- without the dot after the last label
+-- the labels each with a dot are the labels joined by dots, and a final dot
 last_dot : (l : Octets) (n : DomainName)
     → labels_text (l ∷ n) ≡ join_with_byte 46 (map label_text (l ∷ n)) ++ 46 ∷ []
 last_dot l [] = append-nil (label_text l ++ 46 ∷ [])

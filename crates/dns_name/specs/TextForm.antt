@@ -7,7 +7,7 @@ use Rattle.std.specs.List.{list_all}
 use Rattle.dns_spec.specs.Names.{Octets, DomainName, wire, is_label, is_name, folded}
 use Rattle.dns_spec.specs.NameText.{LabelThen, TextSpells, SpellsName, escape_front, name_fault}
 
--- a function returned the value and the rest that a definition gives, with the rest borrowed
+-- a function returned the value and the remaining text that a definition gives, the text borrowed
 abbrev pub Gives : Option (ℕ × Bor Octets) → Option (ℕ × Octets) → Type 0
 Gives None read = read ≡ None
 Gives (Some x) read = read ≡ Some (x.0, x.1.now)
@@ -34,8 +34,8 @@ abbrev pub is_label_end : Octets → Bool
 is_label_end [] = true
 is_label_end (a ∷ rest) = a == 46
 
--- new is old with labels added next to the root, and is a valid name; if they don't fit, the name
--- would be too long
+-- if `fits` is true, new is old with labels added next to the root, and is a valid name; otherwise
+-- that name would be too long
 abbrev pub Appended : DomainName → DomainName → Bool → DomainName → Type 0
 Appended old labels fits new =
     MatchBool fits ((new ≡ old ++ labels) × (is_name new ≡ true))
@@ -48,7 +48,7 @@ pub record ReadsLabel (text octets end : Octets) : Type 0 where
   pub spelled : LabelThen text label end
   pub kept : octets ≡ take 64 label
 
--- a label was read up to its end, and added to the name if it fits
+-- a label was read up to its end, and added to the name `old` if it fits
 pub record PushesLabel (text : Octets) (old : DomainName) (fits : Bool) (end : Octets)
     (new : DomainName) : Type 0 where
   pub label : Octets
@@ -57,12 +57,13 @@ pub record PushesLabel (text : Octets) (old : DomainName) (fits : Bool) (end : O
   pub is_label : is_label label ≡ true
   pub appended : Appended old (label ∷ []) fits new
 
--- these are not 1 to 63 octets: the fault is 1 if there are none, and 2 if there are more than 63
+-- the octets are too few or too many for a label: the fault is 1 if there are no octets, and 2 if
+-- there are more than 63
 abbrev pub IsNoLength : Octets → ℕ → Type 0
 IsNoLength octets fault =
     ((octets ≡ []) × (fault ≡ 1)) ⊎ ((63 < length octets) × (fault ≡ 2))
 
--- the text does not begin with a label of 1 to 63 octets, and this is its fault
+-- the text does not begin with a valid label, and has this fault
 pub record HasFault (text : Octets) (fault : ℕ) : Type 0 where
   pub none : (l end : Octets)
       → LabelThen text l end → is_label_end end ≡ true → is_label l ≡ true → ⊥
@@ -73,7 +74,7 @@ abbrev pub SpellsIff : {E : Type 0} → DomainName → Octets → Result DomainN
 SpellsIff origin word r =
     (n : DomainName) → (r ≡ Ok n) ↔ ((is_name n ≡ true) × TextSpells origin word n)
 
--- the result of spelling a name in place, with the name
+-- the result of a call that sets a name in place, together with that name
 abbrev pub spelled_as : {A E : Type 0} → Result A E → DomainName → Result DomainName E
 spelled_as (Ok done) name = Ok name
 spelled_as (Err fault) name = Err fault

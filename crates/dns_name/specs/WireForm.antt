@@ -13,7 +13,7 @@ labels_up_to (suc most) (suc k ∷ xs) = take (suc k) xs ∷ labels_up_to most (
 unfoldable pub labels_of : Octets → DomainName
 labels_of xs = labels_up_to (length xs) xs
 
--- xs is the wire form of the labels in it, and these are a valid name
+-- xs is the wire form of the labels that it contains, and they are a valid name
 pub record IsWireForm (xs : Octets) : Type 0 where
   pub wire_is : wire (labels_of xs) ≡ xs
   pub is_name : IsTrue (is_name (labels_of xs))

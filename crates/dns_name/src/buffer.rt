@@ -8,8 +8,8 @@ use arrayvec::ArrayVec;
 use std::io::Write;
 use std::marker::Model;
 
-/// Text on its way to a writer, in an inline buffer of 4,096 octets, so that a line of many parts
-/// is written in few calls.
+/// Text that is gathered, in an inline buffer of 4,096 octets, before it is written. So a line of
+/// many parts takes few calls of the writer.
 #[derive(Drop)]
 pub struct TextBuffer {
     octets: ArrayVec<u8, 4096>,
@@ -88,10 +88,10 @@ impl TextBuffer {
         self.octets.clear();
     }
 
-    /// Makes room for `count` more octets: if they might not fit, the gathered text is written
+    /// Makes room for `count` more octets. If they would not fit, the gathered text is written
     /// first.
     ///
-    /// If the writer fails, it has written a beginning of that text.
+    /// If the writer fails, it has written a prefix of the gathered text.
     #[inline(always)]
     pub fn make_room<W: Write>(
         &mut self,
@@ -110,9 +110,10 @@ impl TextBuffer {
         Ok(())
     }
 
-    /// Adds a text of any length: if it does not fit, it is written after the gathered text.
+    /// Adds a text of any length. If it does not fit, the gathered text and then this text are
+    /// written.
     ///
-    /// If the writer fails, it has written a beginning of the gathered text and this text.
+    /// If the writer fails, it has written a prefix of the gathered text followed by this text.
     pub fn put<W: Write>(&mut self, text: &[u8], sink: &mut Tally<W>) -> Result<(), SinkFailed>
         requires { sink.old.failures < 2 ^ 64 - 1 }
         ensures { Fills W.contents sink.old sink.new result (self.old ++ text.now) self.new }
@@ -128,7 +129,7 @@ impl TextBuffer {
 
     /// Writes the gathered text.
     ///
-    /// If the writer fails, it has written a beginning of that text.
+    /// If the writer fails, it has written a prefix of the gathered text.
     pub fn finish<W: Write>(self, sink: &mut Tally<W>) -> Result<(), SinkFailed>
         requires { sink.old.failures < 2 ^ 64 - 1 }
         ensures { Writes W.contents sink.old sink.new result self }

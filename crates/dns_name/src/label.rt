@@ -22,7 +22,7 @@ impl<'a> Model for Label<'a> {
 }
 
 impl<'a> Label<'a> {
-    /// The label with these octets. `None` if there are none, or more than 63.
+    /// The label with these octets. `None` if there are no octets, or more than 63.
     pub fn new(octets: &'a [u8]) -> Option<Label<'a>>
         ensures some { IsSome result ↔ IsTrue (is_label octets.now) }
         ensures octets { IfSome result (λ label. label ≡ octets.now) }

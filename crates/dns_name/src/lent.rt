@@ -123,7 +123,8 @@ impl NameRef<'_> {
         }
     }
 
-    /// The canonical order of two names in lower case (RFC 4034 6.1), for sorting many names.
+    /// The canonical order of two names (RFC 4034 6.1), for sorting many names. Condition: both
+    /// names are in lower case.
     ///
     /// Labels are compared from the right. A label comes before any longer label that begins with
     /// it, and a name before all names below it.
@@ -135,8 +136,8 @@ impl NameRef<'_> {
         self.order_as_spelled(other)
     }
 
-    // Compares labels from the right, case-sensitively. Fast path: two names of a zone often have
-    // the same parent, and then only their first labels are compared.
+    // Compares labels from the right, and letters of different case as different. A fast path: two
+    // names of a zone often have the same parent. Then only their first labels are compared.
     pub(crate) fn order_as_spelled(&self, other: &NameRef<'_>) -> Ordering
         ensures { result ≡ slice_cmp label_order (reverse self.now) (reverse other.now) }
     {
@@ -167,7 +168,7 @@ impl NameRef<'_> {
     }
 }
 
-/// Octet by octet, so names that differ in case are different; `same` ignores case.
+/// Equality octet by octet: names that differ only in case are different. `same` ignores case.
 impl PartialEq for NameRef<'_> {
     ghost eq = { names_equal };
 
@@ -205,7 +206,7 @@ impl<'a> Iterator for Labels<'a> {
 }
 
 impl Labels<'_> {
-    // Whether the remaining labels are equal, octet by octet.
+    // Whether the remaining labels of both are equal, octet by octet.
     fn are_those_of(&self, other: &Labels<'_>) -> bool
         ensures { OnTrue result (self.now ≡ other.now) }
     {
@@ -213,8 +214,8 @@ impl Labels<'_> {
     }
 }
 
-/// The first label of a name in wire form, and the wire form of the rest: `www` and `example.` of
-/// `www.example.`. `None` for the root.
+/// The first label of a name in wire form, and the wire form of the name without that label: `www`
+/// and `example.` for `www.example.`. `None` for the root.
 pub fn first_label(octets: &[u8]) -> Option<(Label<'_>, &[u8])>
     requires { IsWireForm octets.now }
     ensures { MatchOption result (labels_of octets.now ≡ [])
@@ -229,8 +230,8 @@ pub fn first_label(octets: &[u8]) -> Option<(Label<'_>, &[u8])>
     Some((Label::new(label)?, rest))
 }
 
-// The order of two lists of equally many labels, compared from the right; `longer` if they are
-// equal. The loop stops once the remaining labels are equal, since names of a zone often differ
+// The order of two lists of equally many labels, compared from the right; if the lists are equal,
+// `longer`. The loop stops once the remaining labels are equal, since names of a zone often differ
 // only in their first labels.
 fn order_of_labels(left: Labels<'_>, right: Labels<'_>, longer: Ordering) -> Ordering
     requires { length left ≡ length right }
@@ -249,8 +250,8 @@ fn order_of_labels(left: Labels<'_>, right: Labels<'_>, longer: Ordering) -> Ord
     order
 }
 
-// Fast path: names that are the same mostly have equal octets. This saves 130 to 350 instructions
-// per short reply.
+// A fast path: names that are the same, ignoring case, mostly have equal octets. This saves 130 to
+// 350 instructions per short reply.
 fn same_octets(left: &[u8], right: &[u8]) -> bool
     ensures { IsTrue result ↔ (map to_ascii_lowercase left.now ≡ map to_ascii_lowercase right.now) }
 {

@@ -61,7 +61,8 @@ impl Name {
 
     /// Adds a label next to the root: `www.example.` and `org` give `www.example.org.`
     ///
-    /// False, with the name unchanged, if the wire form would exceed 255 octets (RFC 1035 2.3.4).
+    /// Returns false, and leaves the name unchanged, if the wire form would exceed 255 octets (RFC
+    /// 1035 2.3.4).
     pub fn push(&mut self, label: Label<'_>) -> bool
         ensures fits { IsTrue result ↔ (length (wire (self.old ++ label.entry ∷ [])) ≤ 255) }
         ensures pushed { OnTrue result (self.new ≡ self.old ++ label.entry ∷ []) }
@@ -79,7 +80,8 @@ impl Name {
         true
     }
 
-    // Adds the labels of `other` next to the root, as `push` adds one.
+    // Adds the labels of `other` next to the root. Returns false, and leaves the name unchanged, if
+    // the wire form would exceed 255 octets.
     pub(crate) fn append(&mut self, other: &Name) -> bool
         ensures { Appended self.old other.now result self.new }
     {
@@ -125,7 +127,7 @@ impl Name {
 impl Name {
     /// The name in lower case: `WWW.Example.` gives `www.example.` Only ASCII letters have a case.
     ///
-    /// The name itself keeps its spelling, which replies repeat.
+    /// The name itself is unchanged, since replies repeat names as they were spelled.
     pub fn fold(&self) -> Name
         ensures { result ≡ folded self.now }
     {
@@ -206,7 +208,7 @@ impl Clone for Name {
     }
 }
 
-/// Octet by octet, so names that differ in case are different; `same` ignores case.
+/// Equality octet by octet: names that differ only in case are different. `same` ignores case.
 impl PartialEq for Name {
     ghost eq = { names_equal };
 

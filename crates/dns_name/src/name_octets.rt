@@ -7,8 +7,8 @@ use std::marker::Model;
 // The most octets of a name on the wire (RFC 1035 2.3.4).
 pub(crate) const MAX_OCTETS: usize = 255;
 
-/// At most 255 octets, stored inline. Unlike `ArrayVec`, it does not clear removed octets, which
-/// would take a tenth of the time of spelling a name.
+/// At most 255 octets, stored inline. Unlike `ArrayVec`, it does not clear removed octets. Clearing
+/// them would take a tenth of the time of spelling a name.
 #[derive(Drop)]
 pub(crate) struct NameOctets {
     /// The array. Its octets after the first `count` are unspecified.
@@ -77,7 +77,7 @@ impl NameOctets {
         self.count -= 1;
     }
 
-    /// Adds an octet after the others.
+    /// Adds an octet at the end.
     pub(crate) fn push(&mut self, octet: u8)
         requires { length self.old < 255 }
         ensures { self.new ≡ self.old ++ octet ∷ [] }
@@ -85,7 +85,7 @@ impl NameOctets {
         self.append(&[octet]);
     }
 
-    /// Adds octets after the others.
+    /// Adds octets at the end.
     pub(crate) fn append(&mut self, part: &[u8])
         requires { length self.old + length part.now ≤ 255 }
         ensures { self.new ≡ self.old ++ part.now }

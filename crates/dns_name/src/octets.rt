@@ -5,8 +5,8 @@ ghost use Rattle.std.specs.Int.{from_le_bytes, w16, w32, w64};
 
 /// Whether two runs of octets are equal, octet by octet.
 ///
-/// Names mostly have 8 to 16 octets and labels 2 to 7. Such runs are compared as two numbers, made
-/// of their first and of their last octets, which may overlap.
+/// Names mostly have 8 to 16 octets and labels 2 to 7. Each such run is compared as two numbers,
+/// made of its first and of its last octets, which may overlap.
 pub fn are_equal(left: &[u8], right: &[u8]) -> bool
     ensures { IsTrue result ↔ (left.now ≡ right.now) }
 {
@@ -22,14 +22,14 @@ pub fn are_equal(left: &[u8], right: &[u8]) -> bool
 
 /// Whether a run of octets begins with another run.
 ///
-/// For a short run, `starts_with` of slices takes twice as many instructions.
+/// For short runs this takes half as many instructions as `starts_with` of slices.
 pub fn begins_with(octets: &[u8], front: &[u8]) -> bool
     ensures { result ≡ starts_with ◌==◌ octets.now front.now }
 {
     octets.len() >= front.len() && are_equal(octets.split_at(front.len()).0, front)
 }
 
-// Whether runs of fewer than 8 octets, or of more than 16, are equal.
+// Whether two runs of equally many octets, fewer than 8 or more than 16, are equal.
 fn are_others_equal(left: &[u8], right: &[u8]) -> bool
     requires same { length right.now ≡ length left.now }
     requires others { 8 ≤ length left.now → 16 < length left.now }
@@ -60,7 +60,8 @@ fn first_four(octets: &[u8]) -> u32
     u32::from_le_bytes(*front(octets))
 }
 
-// Whether runs of more than 16 octets are equal, eight octets at a time.
+// Whether two runs of equally many octets, more than 16, are equal. Compares eight octets at a
+// time.
 fn are_many_equal(left: &[u8], right: &[u8]) -> bool
     requires many { 16 < length left.now }
     requires same { length right.now ≡ length left.now }

@@ -7,7 +7,7 @@ ghost use Rattle.dns_name.specs.TextForm.{SpellsFolded, HasLengths, IsEnded, is_
 use crate::name::Name;
 use crate::name_octets::MAX_OCTETS;
 
-// Each octet in lower case, but 0 for a dot and a backslash.
+// For each octet, the octet in lower case; but for a dot and a backslash, 0.
 const IN_LOWER_CASE: [u8; 256] = [
     0, 1, 2, 3, 4, 5, 6, 7, 8, 9, 10, 11, 12, 13, 14, 15, 16, 17, 18, 19, 20, 21, 22, 23, 24, 25,
     26, 27, 28, 29, 30, 31, 32, 33, 34, 35, 36, 37, 38, 39, 40, 41, 42, 43, 44, 45, 0, 47, 48, 49,
@@ -47,7 +47,8 @@ impl Name {
     }
 }
 
-// Copies octets to the front of `room`, in lower case. Often there is only the root's length.
+// Copies octets to the front of `room`, in lower case. A fast path for a single octet: often only
+// the root's length is copied.
 fn put_lowered(octets: &[u8], room: &mut [u8])
     requires { length octets.now ≤ length room.old }
     ensures { room.new ≡ map to_ascii_lowercase octets.now ++ drop (length octets.now) room.old }
@@ -61,8 +62,8 @@ fn put_lowered(octets: &[u8], room: &mut [u8])
     room.make_ascii_lowercase();
 }
 
-// The text of the word's labels, and the wire form of what follows them: the root if the word ends
-// with a dot, otherwise the origin.
+// The text of the word's labels, and the wire form of the name that follows them: the root if the
+// word ends with a dot, otherwise the origin.
 fn ended_labels<'a>(word: &'a [u8], origin: &'a Name) -> (&'a [u8], &'a [u8])
     ensures { IsEnded origin.now word.now result.0.now result.1.now }
 {
@@ -72,9 +73,9 @@ fn ended_labels<'a>(word: &'a [u8], origin: &'a Name) -> (&'a [u8], &'a [u8])
     }
 }
 
-// Writes labels in lower case, each after its length, from the last label to the first. Returns
-// false if an octet is a backslash or 0, or if a label has no octets or more than 63 (RFC 1035
-// 2.3.4).
+// Writes labels without escapes in lower case, each after its length, from the last label to the
+// first. Returns false if an octet is a backslash or 0, or if a label has no octets or more than 63
+// (RFC 1035 2.3.4).
 fn put_lengths(labels: &[u8], octets: &mut [u8]) -> bool
     requires room { length octets.old ≡ length labels.now + 1 }
     requires few { length octets.old ≤ 255 }

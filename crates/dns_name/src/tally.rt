@@ -16,10 +16,10 @@ pub struct SourceFailed;
 #[derive(Clone, Copy, Debug, PartialEq, Eq)]
 pub struct SinkFailed;
 
-/// A reader or a writer with the count of its failures.
+/// A device (a reader or a writer), with the number of its failed calls.
 ///
-/// The count rises by one if and only if a call returns an error. No call is retried. Each method
-/// that calls the device requires the count to be below `u64::MAX`.
+/// The number rises by one with each call that returns an error, and never otherwise. No call is
+/// retried. Condition of each method that calls the device: the number is below `u64::MAX`.
 #[derive(Drop)]
 pub struct Tally<T> {
     device: T,
@@ -68,8 +68,8 @@ impl<T> Tally<T> {
 
 impl<T: Read> Tally<T> {
     /// Reads once into the front of `buf` and returns the number of octets read: 0 at the end of
-    /// the input, or if `buf` is empty. If the device fails, the failure is counted and no octet
-    /// was taken.
+    /// the input, or if `buf` is empty. If the device fails, the failure is counted, and no octet
+    /// has been taken from the input.
     pub fn read(&mut self, buf: &mut [u8]) -> Result<usize, SourceFailed>
         requires { self.old.failures < 2 ^ 64 - 1 }
         ensures bound { ReadsAtMost result buf.new }
@@ -88,9 +88,9 @@ impl<T: Read> Tally<T> {
 }
 
 impl<T: Write> Tally<T> {
-    /// Writes once from the front of `piece` and returns the number of octets that the device
-    /// took. If it fails, or takes nothing of a non-empty piece, the failure is counted and
-    /// nothing was written.
+    /// Writes once from the front of `piece` and returns the number of octets that the device took.
+    /// If the device fails, or takes nothing of a piece that is not empty, that is counted as a
+    /// failure, and nothing has been written.
     pub fn write(&mut self, piece: &[u8]) -> Result<usize, SinkFailed>
         requires { self.old.failures < 2 ^ 64 - 1 }
         ensures bound { WritesAtMost result piece.now }
@@ -108,8 +108,8 @@ impl<T: Write> Tally<T> {
         }
     }
 
-    /// Writes the whole text, in as many calls as it takes. After a failed call, a beginning of
-    /// the text was written, and nothing more is tried.
+    /// Writes the whole text, in as many calls as it takes. Stops at the first failed call; a
+    /// prefix of the text has then been written.
     pub fn write_all(&mut self, text: &[u8]) -> Result<(), SinkFailed>
         requires { self.old.failures < 2 ^ 64 - 1 }
         ensures { Writes T.contents self.old self.new result text.now }
@@ -121,8 +121,8 @@ impl<T: Write> Tally<T> {
         Ok(())
     }
 
-    /// Writes the texts in order. After a failed call, a beginning of all of them together was
-    /// written, and nothing more is tried.
+    /// Writes the texts in order. Stops at the first failed call; a prefix of the joined texts has
+    /// then been written.
     pub fn write_parts(&mut self, parts: &[&[u8]]) -> Result<(), SinkFailed>
         requires { self.old.failures < 2 ^ 64 - 1 }
         ensures { Writes T.contents self.old self.new result (joined parts.now) }

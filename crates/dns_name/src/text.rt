@@ -9,7 +9,8 @@ use crate::label::Label;
 use crate::name::Name;
 use arrayvec::ArrayVec;
 
-// A label has at most 63 octets. One more is kept to detect a label that is too long.
+// A label has at most 63 octets. One more octet is stored, so that a label that is too long is
+// detected.
 const KEPT_OCTETS: usize = 64;
 
 /// Why a word does not spell a name.
@@ -22,8 +23,8 @@ pub enum NameFault {
     /// The name, with the origin if it is relative, has more than 255 octets on the wire (RFC 1035
     /// 2.3.4).
     NameTooLong,
-    /// A backslash begins neither `\X`, with X printable and not a digit, nor `\DDD`, three digits
-    /// up to 255.
+    /// A backslash begins no escape: neither `\X`, with a printable X that is no digit, nor `\DDD`,
+    /// three digits up to 255.
     BadEscape,
 }
 
@@ -55,8 +56,8 @@ impl Name {
         Ok(name)
     }
 
-    // `read_text` in place. After a fault the name is unspecified. Out of line: if it were inlined
-    // into `spell`, its buffer would be cleared for each word.
+    // Sets the name to the one that `read_text` returns. After a fault the name is unspecified. Out
+    // of line: if it were inlined into `spell`, its buffer would be cleared for each word.
     #[cold]
     #[inline(never)]
     fn spell_as_written(&mut self, word: &[u8], origin: &Name) -> Result<(), NameFault>
@@ -81,8 +82,8 @@ impl Name {
         spell_labels(self, word, origin)
     }
 
-    /// Sets the name to the one that a word spells, in lower case: `read_text` and `fold` in place.
-    /// A word without an escape is read in one pass.
+    /// Sets the name to the one that a word spells, in lower case, like `read_text` and then
+    /// `fold`. A word without an escape is read in one pass.
     ///
     /// After a fault the name is unspecified, but in lower case.
     pub fn spell(&mut self, word: &[u8], origin: &Name) -> Result<(), NameFault>
@@ -108,7 +109,8 @@ impl Name {
     }
 }
 
-// Adds to the root the labels that the word spells, and the origin's if the word is relative.
+// Adds the labels that the word spells to `name`, which must be the root, and then those of the
+// origin if the word is relative.
 fn spell_labels(name: &mut Name, word: &[u8], origin: &Name) -> Result<(), NameFault>
     requires some { word.now ≢ [] }
     requires root { name.old ≡ [] }
@@ -141,7 +143,8 @@ fn check_fits(fits: bool) -> Result<(), NameFault>
 
 // Reads the label at the beginning of the text, and adds it to the name if it fits.
 //
-// Returns whether it fits, and the text from the label's end on: empty, or beginning with a dot.
+// Returns whether the label fits, and the text after the label, which is empty or begins with a
+// dot.
 fn push_label<'a>(name: &mut Name, text: &'a [u8]) -> Result<(bool, &'a [u8]), NameFault>
     ensures ok { IfOk result (λ x. PushesLabel text.now name.old x.0 x.1.now name.new) }
     ensures err { IfErr result (λ fault. HasFault text.now (fault_code fault)) }
@@ -167,8 +170,8 @@ fn push_octets(name: &mut Name, octets: &[u8]) -> Result<bool, NameFault>
     Ok(name.push(label))
 }
 
-// The octets of the label at the beginning of the text, at most 64 of them, and the text from its
-// end on. `None` if the label contains a bad escape.
+// The first 64 octets, or fewer, of the label at the beginning of the text, and the text after the
+// label. `None` if the label contains a bad escape.
 fn label_text(text: &[u8]) -> Option<(ArrayVec<u8, KEPT_OCTETS>, &[u8])>
     ensures some { IfSome result (λ x. ReadsLabel text.now x.0.items x.1.now) }
     ensures end { IfSome result (λ x. IsTrue (is_label_end x.1.now)) }

@@ -12,13 +12,13 @@ use std::io::Write;
 
 impl Name {
     /// Writes the name as it appears in a zone file (RFC 1035 5.1): its labels, each followed by a
-    /// dot, and the root as `.`
+    /// dot. The root is written as `.`
     ///
     /// In a label, `"`, `$`, `(`, `)`, `.`, `;`, `@` and `\` are written with a backslash before
     /// them. Other octets from 33 to 126 are written as they are, and all others as `\DDD`, three
     /// decimal digits. Does not allocate.
     ///
-    /// If the writer fails, a beginning of the text was written, and the failure is counted.
+    /// If the writer fails, a prefix of the text has been written, and the failure is counted.
     pub fn write_text<W: Write>(&self, sink: &mut Tally<W>) -> Result<(), SinkFailed>
         requires { sink.old.failures < 2 ^ 64 - 1 }
         ensures { Writes W.contents sink.old sink.new result (name_text self.now) }
@@ -43,7 +43,7 @@ impl Name {
 impl NameRef<'_> {
     /// Writes the name as it appears in a zone file, as `Name::write_text` does (RFC 1035 5.1).
     ///
-    /// If the writer fails, a beginning of the text was written, and the failure is counted.
+    /// If the writer fails, a prefix of the text has been written, and the failure is counted.
     pub fn write_text<W: Write>(&self, sink: &mut Tally<W>) -> Result<(), SinkFailed>
         requires { sink.old.failures < 2 ^ 64 - 1 }
         ensures { Writes W.contents sink.old sink.new result (name_text self.now) }

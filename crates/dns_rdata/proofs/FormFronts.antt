@@ -2,7 +2,7 @@
 -- the other words spell by the remaining fields, is what all words spell by all fields.
 use Rattle.dns_rdata.proofs.Common.{◌≡◌, ℕ, zero, suc, inl, inr, Bool, true, false, nat_le, MatchBool, le-leb, lt-leb, FieldsFaultIs, field_fault, subst, subst₂, ◌+◌, ◌<◌, ◌≤◌, List, [], ◌∷◌, ◌++◌, length, drop, slice_get, Some, refl, ap, ◌∙◌, arith, none-some, same_Some, Octets, DomainName, Field, Word, SaysWord, SaysFields, append_assoc, length-append, length-map, suc-eq-add-one, canonical_octets, Appends}
 
--- the words spell d in order, one word for each field, and e is what is kept of d
+-- the words spell d in order, one word for each field, and e is d with its names in lower case
 abbrev pub SaysKept : List Field → DomainName → List Word → Octets → Octets → Type 0
 SaysKept [] origin [] d e = (d ≡ []) × (e ≡ [])
 SaysKept [] origin (w ∷ ws) d e = ⊥
@@ -12,7 +12,7 @@ SaysKept (f ∷ fs) origin (w ∷ ws) d e =
     × (e ≡ canonical_octets f front ++ low) × SaysWord f origin w front
     × SaysKept fs origin ws back low
 
--- words whose octets are kept spell data
+-- words for which `SaysKept` holds spell the data d
 pub kept_said : (fs : List Field) (origin : DomainName) (ws : List Word) (d e : Octets)
     → SaysKept fs origin ws d e → SaysFields fs origin ws d
 kept_said [] origin [] d e h = h.0
@@ -21,7 +21,7 @@ kept_said (f ∷ fs) origin [] d e h = absurd h
 kept_said (f ∷ fs) origin (w ∷ ws) d e (front, back, low, is, kept_is, said, h) =
     (front, back, is, said, kept_said fs origin ws back low h)
 
--- each case of a test
+-- the two cases of `MatchBool`
 at_true : {b : Bool} (P Q : Type 0) → b ≡ true → P → MatchBool b P Q
 at_true P Q e h = grind arith
 
@@ -32,7 +32,7 @@ length-canonical_octets : (f : Field) (d : Octets) → length (canonical_octets 
 length-canonical_octets f d = grind (arith, length-map)
 
 -- All words are `ws`, and all fields `fs`. The words before `rest` were taken by the fields before
--- `left`, and `octets` are what is kept of what they spell.
+-- `left`, and `octets` is what they spell, with names in lower case.
 pub record Taken (fs left : List Field) (origin : DomainName) (ws rest : List Word)
     (octets : Octets) : Type 0 where
   pub spelled : Octets
@@ -43,7 +43,7 @@ pub record Taken (fs left : List Field) (origin : DomainName) (ws rest : List Wo
   pub faulty : (k : ℕ) → FieldsFaultIs left origin (length octets) rest k
       → FieldsFaultIs fs origin 0 ws k
 
--- the field at a place, and those after it
+-- the fields from index i on are the field f and those after it
 next_field : (fs : List Field) (i : ℕ) (f : Field)
     → slice_get fs i ≡ Some f → drop i fs ≡ f ∷ drop (suc i) fs
 next_field [] i f h = absurd (none-some f h)
@@ -61,7 +61,7 @@ module _ (fs : List Field) (origin : DomainName) (ws : List Word) where
     faulty = λ k h. h;
   }
 
-  -- the next word, and the field at its place
+  -- the next word is paired with the field at its index
   pub word-next : (i : ℕ) (f : Field) (w : Word) (mid rest : List Word) (x : Octets)
       → slice_get fs i ≡ Some f → mid ≡ w ∷ rest → Taken fs (drop i fs) origin ws mid x
       → Taken fs (f ∷ drop (i + 1) fs) origin ws (w ∷ rest) x
@@ -98,7 +98,7 @@ module _ (fs : List Field) (origin : DomainName) (ws : List Word) where
             (subst (λ n. FieldsFaultIs left origin n rest k) grown h));
       }
 
-      -- with the octets of the next word, the data is too long
+      -- if the octets of the next word make the data too long, all words have fault 5, `BadString`
       pub too-long : 65535 < length y → FieldsFaultIs fs origin 0 ws 5
       too-long over = more 5 (at_false _ _ (lt-leb (length x + length a.spelled) 65535
           (omega (arith, grown, over))) refl)

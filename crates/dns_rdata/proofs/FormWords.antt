@@ -24,8 +24,8 @@ name_appended origin text before after n spelled grown =
           (λ x. before ++ x) (sym (map-lowercase-wire n (IsName-is_name n spelled.is_name).labels));
     }
 
--- what the text of a word spells by a form is what the word spells, if its quotation marks are
--- allowed
+-- what the text of a word spells by a form is what the word spells, provided that it is unquoted or
+-- may be quoted
 pub word_said : {A : Type 0} {code : ℕ} (f : Field) (origin : DomainName) (w : Word) (text x y : Octets)
     (r : Result A RdataFault) → w.raw ≡ text → IsTrue (may_be_quoted f || not w.is_quoted)
     → AppendsSaid code (canonical_octets f) (SaysField f origin text) x y r

@@ -25,7 +25,7 @@ pub front_shorter : (text : Octets) (x : ℕ) (others : Octets)
 unfolding hex_front
 front_shorter text x others h = grind (arith, none-some)
 
--- what was read, followed by what the rest spells, is what the text spells
+-- the octets read, followed by those that `rest` spells, are what the text spells
 pub record HexSoFar (text old octets rest : Octets) : Type 0 where
   pub read : Octets
   pub appended : octets ≡ old ++ read
@@ -55,7 +55,7 @@ pub HexSoFar-end : (text old octets rest : Octets)
 unfolding hex_octets
 HexSoFar-end text old octets rest so_far empty = grind (arith, append-nil)
 
--- the octets of two texts of hex digits in order
+-- the octets of two texts of hex digits, one after the other; none if one of them spells none
 abbrev pub joined_octets : Option Octets → Option Octets → Option Octets
 joined_octets o p = option_and_then (λ d. option_map (λ e. d ++ e) p) o
 

@@ -15,7 +15,7 @@ three_places : (n : ℕ) (rest : Octets) → 100 ≤ n → n < 1000
     → decimal n ++ rest ≡ (48 + n / 10 / 10) ∷ (48 + n / 10 % 10) ∷ (48 + n % 10) ∷ rest
 three_places n rest from upto = grind (arith, decimal_step, decimal_digit)
 
--- the number that a decimal spells, if no other digit follows
+-- the decimal text of a number is read as that number, provided that no other digit follows
 number_of : (n : ℕ) (rest : Octets) → n ≤ 255 → digit_at rest ≡ None
     → number_at (decimal n ++ rest) ≡ Some (n, rest)
 unfolding number_at
@@ -31,7 +31,7 @@ some_pair e = grind arith
 not_none : {a : ℕ} {xs : Octets} → None ≡ read_as a xs → ⊥
 not_none e = cc
 
--- what is read is what the text begins with
+-- the text begins with the number n, and `rest` follows
 abbrev Begins : Octets → ℕ → Octets → Type 0
 Begins text n rest = (text ≡ decimal n ++ rest) × (n ≤ 255)
 
@@ -41,7 +41,7 @@ unfolding number_at
 number_read text n rest h =
     grind (arith, digit_or_none, decimal_digit, two_places, ltb-true, three_places, eqb-false)
 
--- the number that a whole text spells
+-- a text that is the decimal text of a number is read as that number
 number_alone : (text : Octets) (n : ℕ) → (text ≡ decimal n) × (n ≤ 255)
     → number_at text ≡ read_as n []
 number_alone text n said =
@@ -67,12 +67,12 @@ one_alone text m [] read none n = (
     only e = cc
 one_alone text m (a ∷ end) read none n = absurd (omega (arith, none))
 
--- the number before a dot
+-- a number before a dot is read as that number
 pub number_then : (text rest : Octets) (n : ℕ)
     → OctetThen text n rest → number_at text ≡ Some (n, 46 ∷ rest)
 number_then text rest n said = ap number_at said.0 ∙ number_of n (46 ∷ rest) said.1 refl
 
--- no number is read, or none with a dot after it
+-- if no number is read, the text does not begin with a number and a dot
 pub not_read : (text : Octets) (n : ℕ) (rest : Octets) → number_at text ≡ None
     → OctetThen text n rest → ⊥
 not_read text n rest none said = grind (arith, not_none, number_then)

@@ -7,7 +7,7 @@ use Rattle.dns_spec.proofs.DataWords.GroupsAgain.{is_colon, with_front}
 digit_is : (c v : ℕ) → Some v ≡ digit_of c → (is_ascii_hexdigit c ≡ true) × (v ≡ digit_value c)
 digit_is c v e = grind (arith, same_Some, none-some)
 
--- the digits of a group so far
+-- the first i octets of a text are hex digits, and `value` is what they spell
 pub record GroupSoFar (text : Octets) (i value : ℕ) : Type 0 where
   pub hex : list_all is_ascii_hexdigit (take i text) ≡ true
   pub value_is : value ≡ digits_value 16 (take i text)
@@ -53,7 +53,7 @@ pub eight_octets : (gs a b c d f g h k : List ℕ) → length gs ≡ 8 → a ≡
     ≡ option_map (flat_map (bytes_high_first 2)) (eight_groups gs)
 eight_octets gs a b c d f g h k four ea eb ec ed ef eg eh ek = grind (arith, eight)
 
--- there is no gap before a place
+-- no gap begins before this place
 pub record GapSoFar (text : Octets) (place : ℕ) : Type 0 where
   pub inside : place ≤ length text
   pub whole : around_gap text
@@ -92,7 +92,7 @@ last_group : (text : Octets)
     → None ≡ position is_colon text → one_or_more text ≡ group_then text (Some [])
 last_group text e = grind (arith, none-some, one_part, ltb-false)
 
--- the groups read so far, and the text after them
+-- the groups read so far, followed by those of `rest`, are the groups of the text
 pub record GroupsSoFar (text : Octets) (groups : List ℕ) (rest : Octets) : Type 0 where
   pub whole : one_or_more text ≡ option_map (λ gs. groups ++ gs) (one_or_more rest)
   pub few : length groups ≤ 8
@@ -126,7 +126,8 @@ GroupsSoFar-push text rest first old new end so_far e first_is pushes =
           (arith, ap length pushed.2, length-append old (digits_value 16 first ∷ []), pushed.1);
     }
 
--- no group is next, or there are too many
+-- if no group is next, or eight groups were read before it, the text does not spell up to eight
+-- groups
 refused_groups : (text : Octets) (old : List ℕ) (first : Octets) (after : Option (List ℕ))
     → one_or_more text ≡ option_map (λ gs. old ++ gs) (group_then first after) → false ≡ (is_group
     first && nat_lt (length old) 8) → None ≡ option_and_then few_groups (one_or_more text)
@@ -163,13 +164,14 @@ all_groups text rest old new so_far more e pushes =
     let few : few_groups new ≡ Some new = rw room refl in
     sym (ap (option_and_then few_groups) whole ∙ few)
 
--- zero groups after the groups in front, as long as there is room for the groups after them
+-- the groups so far are those in front, followed by zero groups; the groups in `back` still fit
+-- after them
 pub record FilledSoFar (old groups back : List ℕ) : Type 0 where
   pub zeros : groups ≡ old ++ replicate (length groups - length old) 0
   pub grown : length old ≤ length groups
   pub room : length groups + length back ≤ 8
 
--- what `few_groups` keeps
+-- `few_groups` refuses more than eight groups
 few_none : (o : List ℕ) → None ≡ few_groups o → 8 < length o
 few_none o e = grind (arith, none-some, leb-false)
 

@@ -1,7 +1,7 @@
 -- The text of an IPv6 address, group by group.
 use Rattle.dns_rdata.proofs.Common.{◌≡◌, ◌≢◌, ℕ, zero, suc, ◌+◌, ◌*◌, ◌/◌, ◌%◌, ◌<◌, ◌≤◌, max, false, ◌==◌, List, [], ◌∷◌, ◌++◌, length, take, drop, get_or, fold, refl, sym, ◌∙◌, ap, arith, length-append, length-drop, drop-cons, prefix_len, position_or_len, digit_char, digits, ne_eqb, eq-eqb, cases_lt, Octets, append_assoc, take_more, take_all, suc-eq-add-one, groups_text, zero_runs, one_digit, two_digits, three_of, four_of, is_zero, length-zero_runs, run_at}
 
--- one more group
+-- the text with one more group at the end has a colon and the digits of that group at its end
 pub groups_text-push : (g x : ℕ) (gs : List ℕ)
     → groups_text (g ∷ gs ++ x ∷ []) ≡ groups_text (g ∷ gs) ++ 58 ∷ digits 16 false x
 groups_text-push g x [] = refl
@@ -28,7 +28,7 @@ pub push_split : (old high mid new : Octets) (r s n : ℕ) → high ≡ old ++ d
 push_split old high mid new r s n d e f g h large small =
     grind (arith, append_assoc, three_of, one_digit, four_of, two_digits)
 
--- the groups written so far
+-- the first group and i others have been written, with colons between them
 pub record GroupsWritten
     (old : Octets) (groups others : List ℕ) (i : ℕ) (text : Octets) : Type 0 where
   pub first : ℕ
@@ -71,7 +71,7 @@ first_place v (x ∷ xs) (suc i) inside e others =
           (omega (arith, inside)) e (λ k below. others (suc k) (omega (arith, below))),
     ))
 
--- the longest run among the first i places, and where it begins
+-- the longest of the runs that begin at the first i places, and the place where it begins
 pub record LongestSoFar (gs : List ℕ) (i place longest : ℕ) : Type 0 where
   pub place_is : position_or_len (λ k. k == longest) (zero_runs gs) ≡ place
   pub most : (k : ℕ) → k < i → get_or (zero_runs gs) k 0 ≤ longest

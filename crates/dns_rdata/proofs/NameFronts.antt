@@ -1,4 +1,4 @@
--- Octets that begin with labels: the octets after a label decide.
+-- Whether octets begin with labels is decided by the octets after the first label.
 use Rattle.dns_rdata.proofs.Common.{◌≡◌, ℕ, zero, suc, ◌-◌, ◌<◌, ◌≤◌, true, false, Option, None, Some, [], ◌∷◌, ◌++◌, length, take, drop, get_or, refl, sym, ap, ◌∙◌, arith, append_assoc, length-append, take-append-drop, and_parts, and_from, take_at, drop_at, length-take-le, list_all, Octets, DomainName, wire, is_label, name_of, name, domain, field_front, are_strings, IsName-is_name, IsLabel-is_label, is_label-IsLabel, is_name-IsName, name_read, name_of-wire, wire_fronts_agree, labels_of, IsWireForm, labels_of_spelled, IsWireForm-wire, StandsAfterLabels, HasNoLabels}
 
 positive : (n : ℕ) → (n ≡ 0 → ⊥) → 0 < n
@@ -17,7 +17,8 @@ nothing_begins rest none after h = by_cases h.labels (ap length (sym h.whole) �
     by_cases [] e = absurd (omega arith)
     by_cases (l ∷ n) e = absurd (omega arith)
 
--- a label's length that is too long, or a label that ends past the end
+-- octets that begin with too great a length, or with a label that ends past their end, do not begin
+-- with labels
 pub no_label_there : (rest others : Octets) (k : ℕ)
     → rest ≡ k ∷ others → (k ≡ 0 → ⊥) → (k ≤ 63 → k ≤ length others → ⊥) → HasNoLabels rest
 no_label_there rest others k e some bad after h = by_cases h.labels h.are_labels (sym h.whole ∙ e)
@@ -70,12 +71,12 @@ no_front_name octets none = go (name_of octets) refl
         absurd (none rest
         (record { labels = n; are_labels = (IsName-is_name n r.0).labels; whole = r.1 }))
 
--- all octets but those after the name are its wire form
+-- the octets up to those after the name are its wire form
 wire_taken : (octets after : Octets) (n : DomainName) (k : ℕ) → octets ≡ wire n ++ after
     → k ≡ length octets - length after → (take k octets ≡ wire n) × (drop k octets ≡ after)
 wire_taken octets after n k e f = grind (arith, length-append, take_at, drop_at)
 
--- labels that are too long for a name
+-- if labels are too long for a name, no name is cut
 pub long_name : (octets after front : Octets) (k : ℕ) → StandsAfterLabels octets after → front
     ≡ take k octets → k ≡ length octets - length after → 255 < length front → name_of octets ≡ None
 long_name octets after front k h e f long = go (name_of octets) refl
@@ -91,7 +92,7 @@ long_name octets after front k h e f long = go (name_of octets) refl
         e ∙ (wire_taken octets after h.labels k h.whole f).0 in
         absurd (omega (arith, name.fits, ap length long_wire, ap (λ m. length (wire m)) same))
 
--- labels that are a valid name
+-- if labels are not too long, they are cut as a name, in its wire form
 pub short_name : (octets after front rest : Octets) (k : ℕ) → StandsAfterLabels octets after → front
     ≡ take k octets → rest ≡ drop k octets → k ≡ length octets - length after → length front ≤ 255
     → (field_front domain octets ≡ Some (name (labels_of front), rest)) × IsWireForm front

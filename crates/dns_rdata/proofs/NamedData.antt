@@ -1,4 +1,4 @@
--- Data that is a name, or ends with one after numbers, has that name as its target.
+-- Data that is a name, or numbers followed by a name, has that name as its target.
 use Rattle.dns_rdata.proofs.Common.{◌≡◌, ℕ, ◌+◌, ◌≤◌, true, List, [], ◌∷◌, length, take, drop, Option, Some, sym, ap, ◌∙◌, subst, arith, append-nil, length-append, drop_at, drop-drop, none-some, Octets, DomainName, wire, is_name, Field, number, ipv4, ipv6, domain, string, strings, anything, Part, fields_of, cut, valid, first_name, target, cut_into, cut_data, name_part, octets_part, front_taken, before_name}
 use Rattle.dns_spec.proofs.General.Options.{map_some}
 

@@ -1,4 +1,4 @@
--- Digits read from left to right spell a number, and only a number's own text spells it.
+-- Digits, read from left to right, spell a number, and only the decimal text of a number spells it.
 use Rattle.dns_rdata.proofs.Common.{◌≡◌, ◌↔◌, ℕ, [], ◌∷◌, ◌+◌, ◌-◌, ◌*◌, ◌<◌, ◌≤◌, ◌^◌, List, length, take, get_or, inl, inr, refl, sym, ◌∙◌, ap, subst, arith, decimal, cases_lt, IsAsciiDigit, IsNotAsciiDigit, AllDigits, digits_value, digits, Octets, take_all, Option, Some, None, SomeIff, digits_value_more, digits_more, digit_at, digits_value-take-le, numerals_by_value, tells_digits, decimal_is_IsNumeral, decimal-digits_value, first_decimal, length-decimal-le, same_Some}
 
 -- digits contain no octet that is not a digit
@@ -6,13 +6,13 @@ pub no_digit : (ds : List ℕ) (i : ℕ)
     → i < length ds → IsNotAsciiDigit (get_or ds i 0) → AllDigits 10 ds → ⊥
 no_digit ds i inside out all = grind (arith, digit_at)
 
--- one more digit
+-- one more digit is read
 pub digit_more : (ds : List ℕ) (i n : ℕ)
     → i < length ds → IsAsciiDigit (get_or ds i 0) → n ≡ digits_value 10 (take i ds)
     → digits_value 10 (take (i + 1) ds) ≡ n * 10 + (get_or ds i 0 - 48)
 digit_more ds i n inside digit value = grind (arith, digits_value_more)
 
--- if the digits so far exceed the bound, all digits do
+-- if the digits so far reach the bound, all digits do
 pub past_bound : (ds : List ℕ) (i n bound : ℕ)
     → i < length ds → IsAsciiDigit (get_or ds i 0) → n ≡ digits_value 10 (take i ds)
     → bound ≤ n * 10 + (get_or ds i 0 - 48) → digits_value 10 ds < bound → ⊥
@@ -27,7 +27,7 @@ pub all_more : (ds : List ℕ) (i : ℕ) → i < length ds
     → IsAsciiDigit (get_or ds i 0) → AllDigits 10 (take i ds) → AllDigits 10 (take (i + 1) ds)
 all_more ds i inside digit all = grind (arith, digits_more)
 
--- None is right if the condition does not hold
+-- `None` is the right result if the condition P does not hold
 pub none_iff : {P : Type 0} (o : Option ℕ) (v : ℕ) → o ≡ None → (P → ⊥) → SomeIff o P v
 none_iff o v h h1 = grind arith
 

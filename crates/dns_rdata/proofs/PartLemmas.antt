@@ -6,7 +6,7 @@ use Rattle.dns_rdata.specs.declared.parts.Part.{Part}
 use Rattle.dns_spec.proofs.General.Options.{is_some-option_map}
 use Rattle.dns_spec.proofs.General.Tests.{entry_passes}
 
--- the parts after the first
+-- after the first part, the other fields are cut from the octets that follow it
 pub cut_more : (p : Data.Field) (ps : List Data.Field)
     (os : Octets) (part : Data.Part) (rest : Octets) → field_front p os ≡ Some (part, rest)
     → cut (p ∷ ps) os ≡ option_map (λ xs. part ∷ xs) (cut ps rest)
@@ -33,7 +33,7 @@ pub no_parts_left : (ps : List Field) (os : Octets) → length ps ≡ 0 → part
 unfolding cut
 no_parts_left ps os e = grind (arith, nil_from_length)
 
--- the first part, and the parts after it
+-- the parts left are the first part, followed by those of the other fields
 pub parts_left-cons : (p : Field) (ps : List Field) (os : Octets) (part : Data.Part) (rest : Octets)
     → field_front (field_of p) os ≡ Some (part, rest)
     → AreCut (p ∷ ps) os → parts_left (p ∷ ps) os ≡ part ∷ parts_left ps rest

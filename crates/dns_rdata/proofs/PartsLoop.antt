@@ -3,7 +3,7 @@ use Rattle.dns_rdata.proofs.Common.{◌≡◌, All, List, [], ◌∷◌, ◌++�
 use Rattle.dns_spec.specs.Data as Data
 use Rattle.dns_rdata.specs.declared.parts.Part.{Part}
 
--- the part that is borrowed, and the remaining parts
+-- one step of the walk gives the first of the old parts, borrowed, and leaves the others
 pub record Walked (old new : List Data.Part) (x : Part) : Type 0 where
   pub lent : IsLent x
   pub names : All HasName new

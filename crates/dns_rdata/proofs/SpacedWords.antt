@@ -5,7 +5,7 @@ use Rattle.dns_rdata.proofs.NameFronts.{strings_after}
 abbrev pub space : Octets
 space = 32 ∷ []
 
--- words separated by single spaces
+-- words joined by single spaces are what `spaced` gives
 pub joined_words : (ws : List Word) → join_with_byte 32 (map word_text ws) ≡ spaced [] ws
 joined_words [] = refl
 joined_words (w ∷ []) = sym (append-nil (word_text w))
@@ -14,7 +14,7 @@ joined_words (w ∷ v ∷ ws) = ap (λ xs. word_text w ++ 32 ∷ xs) (joined_wor
 one_more : (n : ℕ) → 1 + n ≡ suc n
 one_more n = omega arith
 
--- strings in order
+-- if k octets of a string are left, the strings after these octets are counted
 pub count_after : (k : ℕ) (d : Octets) → k ≤ length d → string_count k d ≡ string_count 0 (drop k d)
 count_after zero d h = refl
 count_after (suc k) [] h = absurd (omega arith)
@@ -25,7 +25,7 @@ string_there zero d h = omega arith
 string_there (suc k) [] h = absurd (false≢true h)
 string_there (suc k) (o ∷ d) h = let fits = string_there k d h in omega (arith, fits)
 
--- the first of strings, and the strings after it
+-- strings that are not empty begin with a string
 pub string_begins : (d : Octets)
     → are_strings 0 d ≡ true → (length d ≡ 0 → ⊥) → is_some (string_front d) ≡ true
 string_begins d h h1 = grind (arith, le-leb, string_there)

@@ -31,8 +31,8 @@ read_spelled (a ∷ rest) x others e =
           (spelled.0, spelled.1, inl spelled.2)
     ]
 
--- the octets of a string that were read, and the text after them: the text spells these octets and
--- what the rest spells
+-- The octets `read` were read, and `rest` is the text after them: the text spells exactly these
+-- octets, followed by what `rest` spells.
 pub record StringSoFar (text read rest : Octets) : Type 0 where
   pub all : (s : Octets) → SpellsString rest s → SpellsString text (read ++ s)
   pub only : (s : Octets)
@@ -71,7 +71,7 @@ StringSoFar-end text read rest so_far empty =
     let P : Octets → Type 0 = SpellsString text in
     subst P (append-nil read) (so_far.all [] empty)
 
--- and nothing else is spelled
+-- and the whole text spells nothing else
 pub StringSoFar-only : (text read rest : Octets)
     → StringSoFar text read rest → rest ≡ [] → (s : Octets) → SpellsString text s → s ≡ read
 unfolding octet_at

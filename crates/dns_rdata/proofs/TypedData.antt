@@ -1,5 +1,5 @@
--- What words spell by the fields of a type is valid data of the type, if it is not too long, and
--- what is kept of it is that data in lower case.
+-- What words spell by the fields of a type is valid data of the type, provided that it is not too
+-- long. What is stored is that data, with its names in lower case.
 use Rattle.dns_rdata.proofs.Common.{◌≡◌, ◌↔◌, ℕ, zero, suc, ◌==◌, ◌≤◌, ◌⊎◌, inl, inr, true, false, nat_le, List, [], ◌∷◌, ◌++◌, map, max, length, replicate, Option, Some, refl, sym, ap, ◌∙◌, subst, arith, append-nil, length-append, list_all, is_some, option_map, unwrap_or, MatchOption, DataFaultIs, FieldsFaultIs, TypedFaultIs, to_ascii_lowercase, and_parts, and_from, le-leb, ne_eqb, false≢true, drop_at, flat_map-cons, Octets, DomainName, number, ipv4, ipv6, Field, domain, string, strings, anything, Part, octets, name, part_octets, part_folded, joined, strings_front, field_front, are_strings, cut, other_type, row_of, fields_of, Valid, Word, SaysWord, SaysFields, SaysTyped, SaysAsSpelled, Says, are_strings_alone, word_fields, map-lowercase-wire, IsName-is_name, cut-domain, cut-step, lowered_data, length-bytes_high_first, canonical_octets, is_marked}
 use Rattle.dns_spec.proofs.Common.{TypeRow, or_cases}
 use Rattle.dns_rdata.proofs.NameFronts.{strings_after}
@@ -8,7 +8,7 @@ use Rattle.dns_rdata.proofs.FormFronts.{SaysKept, Taken, kept_said}
 use Rattle.dns_spec.proofs.DataWords.SaidAgain.{is_counted, only_strings, words_counted, row_has_forms}
 use Rattle.dns_spec.proofs.DataWords.MadeData.{cut-octets}
 
--- a word spells a field: the part for the field, whatever follows it
+-- the octets x that a word spells are cut as the field f, whatever follows them
 record Front (f : Field) (x back : Octets) : Type 0 where
   part : Part
   front : field_front f (x ++ back) ≡ Some (part, back)
@@ -43,7 +43,7 @@ field_said string origin w x back one word =
 field_said strings origin w x back one word = absurd (false≢true one)
 field_said anything origin w x back one word = absurd (false≢true one)
 
--- the parts that fields are cut into, and these in lower case
+-- d is cut into parts by the fields, and e is d with its names in lower case
 record CutInto (fs : List Field) (d e : Octets) : Type 0 where
   pub cut_parts : List Part
   pub is_cut : cut fs d ≡ Some cut_parts
@@ -115,13 +115,13 @@ abbrev TypedBy : Option TypeRow → DomainName → List Word → Octets → Type
 TypedBy row origin ws d = MatchOption (option_map (λ
     (r : TypeRow). word_fields (length ws) r.fields) row) ⊥ (λ fs. SaysFields fs origin ws d)
 
--- if the first word is not `\#`, words spell data in the form of the type
+-- words whose first is not `\#` spell data if and only if they spell it in the form of the type
 pub spelled_typed : (t : ℕ) (origin : DomainName) (ws : List Word) (d : Octets)
     → is_marked ws ≡ false → SaysAsSpelled t origin ws d ↔ SaysTyped t origin ws d
 spelled_typed t origin [] d plain = (λ h. h, λ h. h)
 spelled_typed t origin (w ∷ ws) d plain = grind arith
 
--- the fault of words by the form of the type is their fault, too
+-- words whose first is not `\#` have the fault that they have in the form of the type
 fault_typed : (t : ℕ) (origin : DomainName) (ws : List Word) (k : ℕ)
     → is_marked ws ≡ false → TypedFaultIs t origin ws k → DataFaultIs t ws origin k
 fault_typed t origin [] k plain h = h

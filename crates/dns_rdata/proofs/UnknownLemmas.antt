@@ -10,8 +10,8 @@ joined : (ws : List Word) (w : Word) → IsTrue (is_hex_word w)
     → hex_octets (digits_in (w ∷ ws)) ≡ joined_octets (hex_octets w.raw) (hex_octets (digits_in ws))
 joined ws w h = grind (arith, hex_octets-append, eqb-true, and_parts)
 
--- the words are of whole octets if the rest are, and spell the octets so far, followed by what the
--- rest spells
+-- The words are all of whole octets if and only if those in `rest` are. They spell the octets so
+-- far, followed by what `rest` spells.
 pub record WordsSoFar (ws rest : List Word) (octets : Octets) : Type 0 where
   pub hex : list_all is_hex_word ws ≡ list_all is_hex_word rest
   pub whole : hex_octets
@@ -27,7 +27,7 @@ pub WordsSoFar-end : (ws : List Word) (octets : Octets)
 unfolding hex_octets
 WordsSoFar-end ws octets so_far = (so_far.hex, so_far.whole ∙ ap (λ d. Some d) (append-nil octets))
 
--- what the rest spells follows the octets so far
+-- if the words spell d, then d is the octets so far, followed by what `rest` spells
 pub rest_says : (ws rest : List Word) (octets d : Octets)
     → WordsSoFar ws rest octets → SaysHex ws d → (e : Octets) × SaysHex rest e × (d ≡ octets ++ e)
 rest_says ws rest octets d so_far (all, says) = grind arith
@@ -71,12 +71,12 @@ pub word_refused : (w : Word) (ws rest : List Word) (octets d : Octets)
 word_refused w ws rest octets d so_far none said =
     grind (arith, rest_says, joined, and_parts, joined_octets)
 
--- an error that is passed on stays the same
+-- what holds for an error holds for it when it is passed on
 pub same_fault : {X E : Type 0} (r : Result X E) (Q : E → Type 0) (f : E)
     → IsErrAnd r (λ e. e ≡ f) → Q f → IfErr r Q
 same_fault r Q f h h1 = grind arith
 
--- an unquoted word that is not empty
+-- an unquoted word that is not empty, and whose digits were appended, spells what was appended
 pub word_appends : (w : Word) (text old new : Octets) → w.is_quoted ≡ false
     → text ≡ w.raw → (length text ≡ 0 → ⊥) → AppendsHex text true old new → AppendsWord w old new
 word_appends w text old new unquoted same more (d, says, e) = grind (arith, even_digits)

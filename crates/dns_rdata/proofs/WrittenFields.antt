@@ -10,7 +10,7 @@ field_there : (f : Field) (fs : List Field) (d : Octets)
     → is_some (cut (f ∷ fs) d) ≡ true → is_some (field_front f d) ≡ true
 field_there f fs d h = grind (arith, false≢true, cut_none)
 
--- the octets after a field are those after its word
+-- writing the word of a field leaves the octets after that field
 after_field : (f : Field) (d : Octets) (part : Part) (rest : Octets)
     → is_counted f ≡ true → field_front f d ≡ Some (part, rest) → (word_front f d).1 ≡ rest
 after_field f d part rest h h1 = grind (arith, front_dropped, false≢true, none-some)
@@ -69,7 +69,7 @@ counted-after [] i inside h = absurd (omega (arith, inside))
 counted-after (f ∷ fs) i inside h = (counted (f ∷ fs) i f inside [] h).1
 
 module _ (t : ℕ) (row : Data.TypeRow) (found : Some row ≡ row_of t) (d : Octets) where
-  -- the text of data by the fields of its words
+  -- the text of data, if its words are those of the fields `fs`
   text_by : (fs : List Field) → word_fields (string_count 0 d) row.fields ≡ fs
       → spaced [] (field_words fs d) ≡ data_text t d
   unfolding data_text
@@ -80,7 +80,7 @@ module _ (t : ℕ) (row : Data.TypeRow) (found : Some row ≡ row_of t) (d : Oct
       ∙ sym (joined_words (words_by (option_map
       (λ (x : Data.TypeRow). word_fields (string_count 0 d) x.fields) (row_of t)) d))
 
-  -- unless strings are alone, each field has one word
+  -- unless `strings` is the only field, each field has one word
   pub row_counted : are_strings_alone row.fields ≡ false → list_all is_counted row.fields ≡ true
   row_counted other = grind (arith, row_has_forms)
 
@@ -109,7 +109,7 @@ module _ (t : ℕ) (row : Data.TypeRow) (found : Some row ≡ row_of t) (d : Oct
         text_by _ (ap (word_fields (string_count 0 d)) (only_strings row.fields alone)
         ∙ ap (λ j. replicate j strings) count)
 
--- the text of data of a type without a mnemonic
+-- data of a type without a mnemonic has the text of the generic form
 pub other_text : (t : ℕ) (d : Octets)
     → None ≡ row_of t → spaced [] (unknown_words d) ≡ data_text t d
 unfolding data_text

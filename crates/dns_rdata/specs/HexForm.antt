@@ -17,7 +17,7 @@ hex_front (h ∷ l ∷ rest) =
     option_and_then (λ high. option_and_then (λ low. Some (high * 16 + low, rest)) (digit_of l))
     (digit_of h)
 
--- the octets that the text spells were appended, or it spells none
+-- true: the octets that the text spells were appended; false: the text spells no octets
 abbrev pub AppendsHex : Octets → Bool → Octets → Octets → Type 0
 AppendsHex text true old new = (d : Octets) × (hex_octets text ≡ Some d) × (new ≡ old ++ d)
 AppendsHex text false old new = hex_octets text ≡ None

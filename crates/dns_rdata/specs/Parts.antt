@@ -11,7 +11,7 @@ use Rattle.dns_rdata.specs.TypeRows.{fields_in}
 use Rattle.dns_rdata.specs.declared.parts.Part.{Part}
 use Rattle.dns_rdata.specs.declared.parts.Part.TheVariants.{Octets as Run, Name}
 
--- a run of octets, or the name that the octets contain
+-- a run of octets, or the name of which the octets are the wire form
 abbrev pub part_for : Part → Data.Part
 part_for (Run o) = octets o.now
 part_for (Name o) = name (labels_of o.now)
@@ -21,7 +21,7 @@ abbrev pub part_lends : Part → Octets
 part_lends (Run o) = o.now
 part_lends (Name o) = o.now
 
--- the octets of a borrowed name are the wire form of a name
+-- if the part is a name, its octets are the wire form of a name
 abbrev pub IsLent : Part → Type 0
 IsLent (Run o) = ⊤
 IsLent (Name o) = IsWireForm o.now
@@ -31,7 +31,7 @@ abbrev pub Cuts : Option (Part × Bor Octets) → Option (Data.Part × Octets) �
 Cuts None read = read ≡ None
 Cuts (Some x) read = (read ≡ Some (part_for x.0, x.1.now)) × IsLent x.0
 
--- a part with its octets: of a borrowed part, and of a part of the definitions
+-- a part with its octets, for a borrowed part and for a part of the definitions
 abbrev pub shown_part : Part → Data.Part × Octets
 shown_part x = (part_for x, part_lends x)
 
@@ -48,7 +48,7 @@ AreCut fs os = IsTrue (is_some (cut (fields_in fs) os))
 abbrev pub PartList : Type 0
 PartList = List Data.Part
 
--- a part that is a name is valid: at most 255 octets
+-- if the part is a name, it is valid
 abbrev pub HasName : Data.Part → Type 0
 HasName (octets o) = ⊤
 HasName (name n) = IsTrue (is_name n)

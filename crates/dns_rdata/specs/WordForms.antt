@@ -8,7 +8,7 @@ use Rattle.dns_rdata.specs.RdataFault.{fault_code}
 use Rattle.dns_rdata.specs.declared.fault.RdataFault.{RdataFault}
 use Rattle.dns_rdata.specs.declared.fault.RdataFault.TheVariants.{NoMemory}
 
--- what is kept of the octets that a word spells; a name is kept in lower case
+-- what is appended for the octets that a word spells: the same octets, but a name in lower case
 abbrev pub as_it_is : Octets → Octets
 as_it_is d = d
 
@@ -16,15 +16,15 @@ abbrev pub canonical_octets : Field → Octets → Octets
 canonical_octets domain = map to_ascii_lowercase
 canonical_octets _ = as_it_is
 
--- octets are spelled, and the buffer grew by what is kept of them
+-- some octets are spelled (`says`), and the buffer grew by what is appended for them (`keeps`)
 pub record Appends (keeps : Octets → Octets) (says : Octets → Type 0) (before after : Octets)
     : Type 0 where
   pub spelled : Octets
   pub said : says spelled
   pub grown : after ≡ before ++ keeps spelled
 
--- the buffer grew by what is kept of the octets spelled; or there is a fault, and unless allocation
--- failed, no octets are spelled, and the fault has this code
+-- If the result is no fault, the buffer grew by what is appended for the octets spelled. If it is a
+-- fault other than `NoMemory`, no octets are spelled, and the fault has this code.
 pub record AppendsSaid
     {A : Type 0} (code : ℕ) (keeps : Octets → Octets) (says : Octets → Type 0)
     (before after : Octets) (result : Result A RdataFault) : Type 0 where

@@ -11,8 +11,8 @@ abbrev pub spaced : Octets → List Word → Octets
 spaced before [] = []
 spaced before (w ∷ ws) = before ++ (word_text w ++ spaced (32 ∷ []) ws)
 
--- the word of the field at the beginning of the octets was appended to a text after `before`, and
--- `left` are the octets after it
+-- `before` and the word of the field with which `octets` begins were appended to the text `old`,
+-- and `left` are the octets after the field
 pub record PutsWord (f : Field) (before octets old new left : Octets) : Type 0 where
   pub text : new ≡ old ++ (before ++ word_text (word_front f octets).0)
   pub rest : left ≡ (word_front f octets).1

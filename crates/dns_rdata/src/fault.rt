@@ -9,7 +9,7 @@ use std::alloc::AllocError;
 /// Why words or octets are invalid data for a type.
 #[derive(Clone, Copy, Debug, PartialEq, Eq)]
 pub enum RdataFault {
-    /// Too few words, or too many.
+    /// There are too few words, or too many.
     WordCount = 1,
     /// A word is not a number of the required size, or is quoted.
     BadNumber,
@@ -17,10 +17,11 @@ pub enum RdataFault {
     BadAddress,
     /// A word is not a name, or is quoted.
     BadName,
-    /// A string has more than 255 octets or a bad escape, or the data exceeds 65,535 octets.
+    /// A string has more than 255 octets or a bad escape; or the words spell more than 65,535
+    /// octets.
     BadString,
-    /// In the generic form (RFC 3597 5), the length is invalid, or the digits are not that many
-    /// octets; or a type without a mnemonic has data in another form.
+    /// In the generic form (RFC 3597 5), the length is invalid, or the hex digits do not spell that
+    /// many octets; or the data of a type without a mnemonic is in another form.
     BadHex,
     /// The octets are invalid for the type, or more than 65,535 (RFC 1035 3.2.1).
     NotOfType,
@@ -37,7 +38,7 @@ impl RdataFault {
     }
 }
 
-/// A word whose text is not a name, whatever the fault of the text.
+/// Any fault in the text of a name is reported as `BadName`.
 impl From<NameFault> for RdataFault {
     ghost from_gives = { λ _ fault. fault ≡ BadName };
 

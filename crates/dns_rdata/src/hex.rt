@@ -9,8 +9,8 @@ use std::alloc::AllocError;
 /// Appends to `octets` the octets that a text spells in hex digits of either case, two digits per
 /// octet.
 ///
-/// Returns false if the text contains another octet or an odd number of digits; `octets` may have
-/// grown even so. Fails only if allocation fails.
+/// Returns false if the text contains anything but hex digits, or an odd number of them; `octets`
+/// may have grown even so. Fails only if allocation fails.
 pub(crate) fn append_hex(text: &[u8], octets: &mut Vec<u8>) -> Result<bool, AllocError>
     ensures { IfOk result (λ said. AppendsHex text.now said octets.old.items octets.new.items) }
 {
@@ -41,7 +41,7 @@ pub(crate) fn hex_digit(value: u8) -> u8
     b'a' + (value - 10)
 }
 
-// The octet spelled by the text's first two digits, and the text after them.
+// The octet that the first two digits of the text spell, and the text after them.
 #[tactic(auto, unfolding(crate::specs::HexForm::hex_front))]
 fn first_pair(text: &[u8]) -> Option<(u8, &[u8])>
     ensures { Gives result (hex_front text.now) }

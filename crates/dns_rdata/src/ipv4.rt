@@ -59,7 +59,8 @@ fn push_octet(text: &mut ArrayVec<u8, MOST_IPV4_OCTETS>, octet: u8)
     }
 }
 
-// The number at the beginning of a text, and the text after the dot that follows it.
+// The number at the beginning of a text, and the text after the dot that ends the number. `None` if
+// there is no such number, or no dot after it.
 fn octet_and_dot(text: &[u8]) -> Option<(u8, &[u8])>
     ensures some { IfSome result (λ x. OctetThen text.now x.0 x.1.now) }
     ensures none { IsNone result → (n : ℕ) (rest : Octets) → OctetThen text.now n rest → ⊥ }

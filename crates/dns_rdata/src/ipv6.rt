@@ -15,8 +15,9 @@ use arrayvec::ArrayVec;
 // The number of groups in an address (RFC 4291 2.2).
 const GROUPS: usize = 8;
 
-/// The IPv6 address that a word spells: eight groups of 1 to 4 hex digits of either case,
-/// separated by colons, or fewer groups with one `::` for at least one zero group (RFC 4291 2.2).
+/// The IPv6 address that a word spells: eight groups of 1 to 4 hex digits of either case, separated
+/// by colons, or fewer groups, with one `::` that stands for at least one zero group (RFC 4291
+/// 2.2).
 ///
 /// `None` for any other word, such as `::1.2.3.4`.
 pub(crate) fn read_ipv6(word: &[u8]) -> Option<[u8; 16]>
@@ -34,7 +35,7 @@ pub(crate) fn read_ipv6(word: &[u8]) -> Option<[u8; 16]>
     octets_of_groups(groups.as_slice())
 }
 
-// The text before the first `::`, and the text after it.
+// The texts before and after the first `::`. `None` if the text has no `::`.
 fn split_at_gap(text: &[u8]) -> Option<(&[u8], &[u8])>
     ensures { GivesPair result (around_gap text.now) }
 {
@@ -49,7 +50,7 @@ fn split_at_gap(text: &[u8]) -> Option<(&[u8], &[u8])>
     None
 }
 
-// The groups of a text, separated by colons; an empty text has none.
+// The groups that a text spells, separated by colons. An empty text has no groups.
 fn read_groups(text: &[u8]) -> Option<ArrayVec<u16, GROUPS>>
     ensures { option_map (λ groups. groups.items) result ≡ option_and_then few_groups
         (groups_said text.now) }
@@ -71,7 +72,8 @@ fn read_groups(text: &[u8]) -> Option<ArrayVec<u16, GROUPS>>
     Some(groups)
 }
 
-// Appends the group that a text spells, if it spells one and there is room.
+// Appends the group that a text spells. Returns false if it spells none, or there are eight groups
+// already; nothing is appended then.
 fn push_group(groups: &mut ArrayVec<u16, GROUPS>, text: &[u8]) -> bool
     ensures pushed { result ≡ is_group text.now && nat_lt (length groups.old.items) 8 }
     ensures value { OnTrue result (groups.new.items ≡ groups.old.items
@@ -91,7 +93,8 @@ fn push_group(groups: &mut ArrayVec<u16, GROUPS>, text: &[u8]) -> bool
     true
 }
 
-// Appends one or more zero groups and then `back`, to make eight groups; false if there is no room.
+// Appends zero groups, at least one, and then `back`, to make eight groups. Returns false if there
+// is no room for that.
 fn fill(groups: &mut ArrayVec<u16, GROUPS>, back: &[u16]) -> bool
     ensures { MatchOption (filled_groups groups.old.items back.now) (IsFalse result)
         (λ filled. IsTrue result × (groups.new.items ≡ filled)) }

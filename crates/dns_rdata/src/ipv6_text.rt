@@ -12,8 +12,8 @@ use arrayvec::ArrayVec;
 pub(crate) const MOST_IPV6_OCTETS: usize = 39;
 
 /// The text of an IPv6 address, such as `2001:db8::1:0:0:1`: groups in lower case without leading
-/// zeros, and `::` for the longest run of at least two zero groups, the first of those that are
-/// equally long (RFC 5952 4).
+/// zeros, and `::` for the longest run of at least two zero groups. If several runs are equally
+/// long, the first is shortened (RFC 5952 4).
 pub(crate) fn text_of_ipv6(address: &[u8; 16]) -> ArrayVec<u8, MOST_IPV6_OCTETS>
     ensures { result.items ≡ ipv6_text address.now }
 {
@@ -56,8 +56,8 @@ fn group_of(high: u8, low: u8) -> u16
     256 * u16::from(high) + u16::from(low)
 }
 
-// The place of the longest run of zero groups, the first one if several are equally long, and the
-// number of its groups.
+// The index at which the longest run of zero groups begins, and the number of its groups. If
+// several runs are equally long, the first counts.
 fn longest_zero_run(groups: &[u16]) -> (usize, usize)
     ensures place { result.0 ≡ longest_place groups.now }
     ensures run { result.1 ≡ longest_run groups.now }

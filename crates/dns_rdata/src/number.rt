@@ -20,7 +20,8 @@ pub fn read_number(word: &[u8], most: u32) -> Option<u32>
     Some(number)
 }
 
-// The value of digits, with or without leading zeros.
+// The value of decimal digits, with or without leading zeros. `None` if another octet is among
+// them, or the value exceeds 32 bits.
 fn number_of_digits(digits: &[u8]) -> Option<u32>
     ensures { SomeIff result (AllDigits 10 digits.now × (digits_value 10 digits.now < 2 ^ 32))
         (digits_value 10 digits.now) }

@@ -87,7 +87,8 @@ pub(crate) fn are_cut(fields: &[Field], octets: &[u8]) -> bool
     rest.is_empty()
 }
 
-/// The part for the field at the beginning of the octets, and the octets after it.
+/// Cuts the field at the beginning of the octets: returns it as a part, and the octets after it.
+/// `None` if the octets do not begin with a valid field of this kind.
 pub fn first_part(field: Field, octets: &[u8]) -> Option<(Part<'_>, &[u8])>
     ensures { Cuts result (field_front (field_of field) octets.now) }
 {
@@ -122,7 +123,8 @@ pub(crate) fn first_name(octets: &[u8]) -> Option<(Part<'_>, &[u8])>
     Some((Part::Name(name), rest))
 }
 
-// The octets after labels of 1 to 63 octets and the root's length 0. A pointer is not a label.
+// The octets after the labels, of 1 to 63 octets each, and the root's length 0. `None` if the
+// octets do not begin with these; a pointer is no label.
 fn after_labels(octets: &[u8]) -> Option<&[u8]>
     ensures some { IfSome result (λ after. StandsAfterLabels octets.now after.now) }
     ensures none { IsNone result → HasNoLabels octets.now }

@@ -37,10 +37,10 @@ impl Model for Rdata {
 impl Rdata {
     /// The data with these octets, and with the ASCII letters of its names in lower case.
     ///
-    /// `NotOfType` if the octets are invalid for the type: they do not exactly fill its fields,
-    /// contain a compressed name or one that is too long, or are more than 65,535. For a type
-    /// without a mnemonic, any octets are valid (RFC 3597 3). `NoMemory` only if an allocation
-    /// fails; there is at most one.
+    /// Fails with `NotOfType` if the octets are invalid for the type: they do not exactly fill its
+    /// fields, contain a compressed name or one that is too long, or are more than 65,535. For a
+    /// type without a mnemonic, any octets are valid (RFC 3597 3). Fails with `NoMemory` only if
+    /// allocation fails; it allocates at most once.
     pub fn from_wire(alloc: Global, rtype: RType, octets: &[u8]) -> Result<Rdata, RdataFault>
         ensures valid { IfOk result (λ d. Valid rtype.0 d) }
         ensures value { MatchResult result (λ d. Valid rtype.0 octets.now
@@ -69,8 +69,7 @@ impl Rdata {
         Ok(Rdata { octets })
     }
 
-    /// The data with these octets, as `from_wire` gives it, stored in `memory`, which must be
-    /// empty.
+    /// Data as `from_wire` returns it, stored in `memory`. Condition: `memory` is empty.
     pub(crate) fn lowered(rtype: RType, octets: &[u8], memory: Vec<u8>) -> Result<Rdata, RdataFault>
         requires { memory.items ≡ [] }
         ensures valid { IfOk result (λ d. Valid rtype.0 d) }
@@ -99,8 +98,8 @@ impl Rdata {
         self.octets.as_slice()
     }
 
-    /// The parts of valid data in order, runs of octets and names, borrowed. Letters may be in
-    /// either case. Data of a type without a mnemonic is one run. There are at most seven parts.
+    /// The parts of valid data, in order: runs of octets and names, at most seven, all borrowed.
+    /// Names may be in either case. Data of a type without a mnemonic is one run of octets.
     pub fn parts(rtype: RType, octets: &[u8]) -> Parts<'_>
         requires { Valid rtype.0 octets.now }
         ensures parts { result ≡ parts rtype.0 octets.now }
@@ -110,8 +109,8 @@ impl Rdata {
         Parts::new(rtype, octets)
     }
 
-    /// The first name in valid data: the server of NS, the target of CNAME, the exchange of MX
-    /// (RFC 1035 3.3.1, 3.3.9, 3.3.11).
+    /// The first name in valid data, if there is one: for example the server of NS, the target of
+    /// CNAME, or the exchange of MX (RFC 1035 3.3.1, 3.3.9, 3.3.11).
     pub fn target(rtype: RType, octets: &[u8]) -> Option<Name>
         requires { Valid rtype.0 octets.now }
         ensures { result ≡ target rtype.0 octets.now }
@@ -120,7 +119,7 @@ impl Rdata {
         Some(target.to_name())
     }
 
-    /// The first name in valid data, as `target` gives it, borrowed.
+    /// The first name in valid data, if there is one, borrowed from the data.
     pub fn target_lent(rtype: RType, octets: &[u8]) -> Option<NameRef<'_>>
         requires { Valid rtype.0 octets.now }
         ensures { result ≡ target rtype.0 octets.now }
@@ -139,8 +138,9 @@ impl Rdata {
     }
 }
 
-// For types whose data ends with its only name: the number of octets before that name (RFC 1035
-// 3.3.1, 3.3.9, 3.3.11 and 3.3.12, RFC 2782).
+// The number of octets before the name, for types whose data is numbers of fixed size, if any,
+// followed by one name (RFC 1035 3.3.1, 3.3.9, 3.3.11 and 3.3.12, RFC 2782). `None` for other
+// types.
 fn octets_before_name(rtype: RType) -> Option<usize>
     ensures { IfSome result (λ k. before_name (fields_of rtype.0) ≡ Some k) }
 {

@@ -22,7 +22,7 @@ pub struct DataRoom {
     alloc: Global,
     name: Name,
     octets: Vec<u8>,
-    // Octets in the generic form, before they are checked.
+    // The octets that words in the generic form spell, before they are checked against the type.
     spelled: Vec<u8>,
 }
 
@@ -46,13 +46,14 @@ impl DataRoom {
 impl Rdata {
     /// The data that words spell, relative to the origin, with its names in lower case.
     ///
-    /// If the first word is the unquoted `\#`, the others must be the length and the octets in hex
-    /// digits (RFC 3597 5), or else the fault is `BadHex`; if the octets are invalid for the type,
-    /// it is `NotOfType`. A type without a mnemonic has only this form: `BadHex` for other words.
-    /// Otherwise the words must be in the form of the type: `WordCount` if their number is wrong,
-    /// else the fault of the first invalid word from the left, `BadNumber`, `BadAddress`,
-    /// `BadName` or `BadString`; `BadString` also reports data of more than 65,535 octets.
-    /// `NoMemory` only if allocation fails.
+    /// If the first word is the unquoted `\#`, the other words must be the length and the octets in
+    /// hex digits (RFC 3597 5), or else the fault is `BadHex`; if these octets are invalid for the
+    /// type, the fault is `NotOfType`. A type without a mnemonic has only this form; any other
+    /// words are `BadHex`. For other types, words that do not begin with `\#` must be in the form
+    /// of the type. The fault is then `WordCount` if their number is wrong, or else that of the
+    /// first invalid word from the left: `BadNumber`, `BadAddress`, `BadName` or `BadString`.
+    /// `BadString` also reports data of more than 65,535 octets. Fails with `NoMemory` only if
+    /// allocation fails.
     pub fn read_words(
         alloc: Global,
         rtype: RType,
@@ -71,8 +72,8 @@ impl Rdata {
         Rdata::read_words_in(&mut DataRoom::new(alloc), rtype, words, origin)
     }
 
-    /// The data that words spell, as `read_words` gives it, read with borrowed buffers. The data
-    /// takes its memory from `room`; `take_back` gives it back.
+    /// The data that words spell, as `read_words` returns it. The data takes its memory from
+    /// `room`; `DataRoom::take_back` returns the memory.
     #[tactic(auto, using(crate::proofs::TypedData::said_valid))]
     pub fn read_words_in<'w, W: Words<'w>>(
         room: &mut DataRoom,

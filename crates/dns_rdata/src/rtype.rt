@@ -39,7 +39,8 @@ impl RType {
 }
 
 impl RType {
-    /// Whether names in data of the type are compressed: only in types of RFC 1035 (RFC 3597 4).
+    /// Whether names in the data of this type are compressed. Only types of RFC 1035 may do so (RFC
+    /// 3597 4).
     pub fn compresses(self) -> bool
         ensures { result ≡ compresses self.0 }
     {
@@ -69,7 +70,7 @@ impl RType {
     /// Writes the type as its mnemonic, or as `TYPE` and its number if it has none. Does not
     /// allocate.
     ///
-    /// If the device fails, a beginning of that text was written.
+    /// If the device fails, a prefix of that text has been written.
     pub fn write_text<W: Write>(self, sink: &mut Tally<W>) -> Result<(), SinkFailed>
         requires { sink.old.failures < 2 ^ 64 - 1 }
         ensures { Writes W.contents sink.old sink.new result (type_text self.0) }

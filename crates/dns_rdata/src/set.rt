@@ -7,7 +7,7 @@ use crate::rtype::RType;
 /// One borrowed record set: the type, the TTL and the data of its records, without their owner
 /// (RFC 2181 5).
 ///
-/// Each implementation keeps the data valid for the type.
+/// The data is always valid for the type.
 pub trait SetView {
     ghost use Rattle.dns_spec.specs.Sets.{RecordSet, HasValidData};
 

@@ -18,8 +18,8 @@ pub(crate) const MOST_STRING_OCTETS: usize = 255;
 /// two quotation marks.
 pub(crate) const MOST_STRING_TEXT: usize = 1022;
 
-/// The octets of the character-string that a word spells, quoted or not; `word` is the spelling
-/// without quotation marks.
+/// The octets of the character-string that a word spells. `word` is the spelling without the
+/// quotation marks that may be around it.
 ///
 /// `None` if an escape is bad, or the string has more than 255 octets (RFC 1035 3.3).
 #[cold]
@@ -43,8 +43,8 @@ pub(crate) fn read_string(word: &[u8]) -> Option<ArrayVec<u8, MOST_STRING_OCTETS
     Some(octets)
 }
 
-/// Whether a word has at most 255 octets and no backslash: then its octets are the string that it
-/// spells.
+/// Whether a word has at most 255 octets and no backslash. Such a word spells the string of its own
+/// octets.
 pub(crate) fn is_plain_string(word: &[u8]) -> bool
     ensures short { OnTrue result (length word.now ≤ 255) }
     ensures itself { OnTrue result ((s : Octets) → SpellsString word.now s ↔ (s ≡ word.now)) }
@@ -52,8 +52,8 @@ pub(crate) fn is_plain_string(word: &[u8]) -> bool
     word.len() <= MOST_STRING_OCTETS && !word.contains(&b'\\')
 }
 
-/// Appends the text of a character-string in quotation marks: `"` and `\` with a backslash before
-/// them, octets that are not printable as `\DDD` (RFC 1035 5.1).
+/// Appends the text of a character-string in quotation marks. `"` and `\` get a backslash before
+/// them, and each octet that is not printable is written as `\DDD` (RFC 1035 5.1).
 pub(crate) fn append_string_text(string: &[u8], text: &mut TextBuffer)
     requires short { length string.now ≤ 255 }
     requires room { length text.old + 1022 ≤ 4096 }
@@ -84,7 +84,7 @@ fn append_octet(text: &mut TextBuffer, octet: u8)
     }
 }
 
-// Whether each octet is written as it is. The loop does not stop early, so that a processor can
+// Whether all octets are written unescaped. The loop does not stop early, so that a processor can
 // test many octets at once.
 fn are_plain(octets: &[u8]) -> bool
     ensures { result ≡ list_all is_plain octets.now }

@@ -10,7 +10,8 @@ ghost use Rattle.dns_rdata.specs.TypeRows.{row_for, fields_in, has_number, has_m
 
 use crate::rtype::RType;
 
-/// A field of data. In text each field is one word, except `Strings` and `Anything`.
+/// A field of data. In text each field is one word, except `Strings` and `Anything`, which may be
+/// more.
 #[derive(Clone, Copy, Debug)]
 pub enum Field {
     /// A number of 16 bits.
@@ -25,10 +26,10 @@ pub enum Field {
     Domain,
     /// A character-string (RFC 1035 3.3).
     String,
-    /// One or more character-strings, a word each, up to the end of the data: the only field of its
-    /// type.
+    /// One or more character-strings, a word each, up to the end of the data. A type with this
+    /// field has no other.
     Strings,
-    /// Any octets, up to the end of the data, of a type without a mnemonic.
+    /// Any octets, up to the end of the data: the only field of a type without a mnemonic.
     Anything,
 }
 
@@ -85,7 +86,8 @@ fn numbered_row(rows: &[TypeRow], number: u16) -> Option<&TypeRow>
     rows.iter().find(|row| row.number == number)
 }
 
-/// The fields of the data of a type; any octets, if it has no mnemonic (RFC 3597 3).
+/// The fields of the data of a type. A type without a mnemonic has one field, of any octets (RFC
+/// 3597 3).
 pub fn fields_of_type(rtype: RType) -> &'static [Field]
     ensures { fields_in result.now ≡ fields_of rtype.0 }
 {
@@ -95,7 +97,7 @@ pub fn fields_of_type(rtype: RType) -> &'static [Field]
     }
 }
 
-/// Whether the fields are strings alone (RFC 1035 3.3.14).
+/// Whether the only field is `Strings` (RFC 1035 3.3.14).
 pub(crate) fn is_strings(fields: &[Field]) -> bool
     ensures { result ≡ are_strings_alone (fields_in fields.now) }
 {

@@ -19,16 +19,16 @@ use crate::table::{Field, is_strings, row_of_type};
 use crate::word::{Word, Words};
 use dns_name::Name;
 
-/// The octets reserved for data before it is read. Most data fits, so its memory never grows; an
-/// allocator hardly takes less memory for a smaller request.
+/// The number of octets reserved for data before it is read. Most data fits into these, so that its
+/// memory never grows. For a smaller request an allocator would hardly take less memory.
 pub(crate) const USUAL_OCTETS: usize = 24;
 
-/// Puts the data that words spell in the form of the type into an empty buffer, with names in
-/// lower case. `name` is a buffer for names.
+/// Reads words in the form of the type, and puts the data that they spell into `octets`, which must
+/// be empty. Names are put in lower case; `name` is a buffer for reading them.
 ///
-/// `BadHex` if the type has no mnemonic; `WordCount` if it has another number of words; else the
-/// fault of the first invalid word from the left, or `BadString` if the data exceeds 65,535
-/// octets.
+/// Fails with `BadHex` if the type has no mnemonic, with `WordCount` if the number of words is
+/// wrong, or else with the fault of the first invalid word from the left, or with `BadString` if
+/// the data exceeds 65,535 octets.
 pub(crate) fn put_typed<'w, W: Words<'w>>(
     rtype: RType,
     words: W,
@@ -63,7 +63,7 @@ pub(crate) fn put_typed<'w, W: Words<'w>>(
     Ok(())
 }
 
-// Whether data with these fields may have `count` words.
+// Whether `count` is a valid number of words for data with these fields.
 fn is_word_count(fields: &[Field], count: usize) -> bool
     ensures { result ≡ (length (word_fields count (fields_in fields.now)) == count) }
 {
@@ -74,7 +74,7 @@ fn is_word_count(fields: &[Field], count: usize) -> bool
     }
 }
 
-// The field that the word at `place` spells, counted from 0.
+// The field that word number `place` spells, counted from 0.
 fn field_at(fields: &[Field], place: usize) -> Field
     requires { (k : ℕ) × (place < k) × (length (word_fields k (fields_in fields.now)) ≡ k) }
     ensures { (k : ℕ) → place < k
@@ -87,7 +87,7 @@ fn field_at(fields: &[Field], place: usize) -> Field
     }
 }
 
-// Appends what a word spells as a field. Only a string may be quoted.
+// Appends the octets that a word spells for a field. Only the word of a string may be quoted.
 fn append_word(
     field: Field,
     word: &Word<'_>,
@@ -126,7 +126,7 @@ fn fault_of(field: Field) -> RdataFault
     }
 }
 
-// Appends a number, the most significant octet first (RFC 1035 2.3.2).
+// Appends the number that a text spells, the most significant octet first (RFC 1035 2.3.2).
 fn append_u16(text: &[u8], octets: &mut Vec<u8>) -> Result<(), RdataFault>
     ensures { AppendsSaid (field_fault (number 2)) as_it_is (SaysNumber 2 text.now)
         octets.old.items octets.new.items result }
@@ -144,8 +144,8 @@ fn append_u32(text: &[u8], octets: &mut Vec<u8>) -> Result<(), RdataFault>
     append(octets, &number.to_be_bytes())
 }
 
-// Appends a string after its length (RFC 1035 3.3). Most strings have no escapes, so their octets
-// are taken from the text itself.
+// Appends the length of the string that a text spells, and then the string (RFC 1035 3.3). Most
+// strings have no escapes, so their octets are taken from the text itself.
 fn append_string(text: &[u8], octets: &mut Vec<u8>) -> Result<(), RdataFault>
     ensures { AppendsSaid (field_fault string) as_it_is (SaysString text.now)
         octets.old.items octets.new.items result }

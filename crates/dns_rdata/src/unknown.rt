@@ -19,8 +19,8 @@ pub(crate) fn is_unknown_mark(word: &Word<'_>) -> bool
     !word.quoted && word.raw == b"\\#".as_slice()
 }
 
-/// Puts the octets that the words after `\#` spell into an empty buffer. The first word is the
-/// number of octets; the others are hex digits, an even number in each word.
+/// Puts the octets that the words after `\#` spell into `octets`, which must be empty. The first of
+/// these words is the number of octets; the others are hex digits, an even number in each word.
 ///
 /// Fails with `NoMemory` only if allocation fails, and otherwise with `BadHex`.
 pub(crate) fn put_unknown<'w, W: Words<'w>>(
@@ -55,7 +55,8 @@ pub(crate) fn put_unknown<'w, W: Words<'w>>(
     Ok(())
 }
 
-// Appends the octets that an unquoted word of hex digits spells, at least one.
+// Appends the octets that a word spells in hex digits. Fails with `BadHex` if the word is quoted,
+// empty, or not of an even number of hex digits.
 fn append_word(word: &Word<'_>, octets: &mut Vec<u8>) -> Result<(), RdataFault>
     ensures ok { IfOk result (λ _. AppendsWord word.now octets.old.items octets.new.items) }
     ensures fault { IfErr result (λ fault. fault ≢ RdataFault.NoMemory → (d : Octets)

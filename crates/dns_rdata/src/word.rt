@@ -8,9 +8,9 @@ use std::marker::Model;
 /// quotation marks (RFC 1035 5.1).
 #[derive(Debug, Default, Drop)]
 pub struct Word<'a> {
-    /// Its spelling.
+    /// The spelling of the word.
     pub raw: &'a [u8],
-    /// Whether it is in quotation marks.
+    /// Whether the word is in quotation marks.
     pub quoted: bool,
 }
 
@@ -31,7 +31,7 @@ pub trait Words<'w>: Copy {
     fn count(&self) -> usize
         ensures { result ≡ length (to_come self.now) };
 
-    /// The first word and the words after it, if there are any.
+    /// The first word, and the words after it. `None` if no words remain.
     fn split_first(self) -> Option<(Word<'w>, Self)>
         ensures { MatchOption result (to_come self ≡ []) (λ x. to_come self ≡ x.0 ∷ to_come x.1) };
 }

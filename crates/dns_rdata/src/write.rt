@@ -29,15 +29,15 @@ const CHUNK: usize = 128;
 
 const CHUNK_DIGITS: usize = 256;
 
-// The text of a string, with a space before it. Other words are no longer.
+// The most octets of the text of a string, with a space before it. No other word is longer.
 const STRING_ROOM: usize = MOST_STRING_TEXT + 1;
 
 impl Rdata {
-    /// Writes valid data as text: its words, separated by single spaces (RFC 1035 5.1), or for a
-    /// type without a mnemonic `\#`, the length and the octets in hex digits (RFC 3597 5). Names
-    /// may be in either case. Does not allocate; the time is proportional to the length.
+    /// Writes valid data as text: its words, separated by single spaces (RFC 1035 5.1). For a type
+    /// without a mnemonic these are `\#`, the length, and the octets in hex digits (RFC 3597 5).
+    /// Names may be in either case. Does not allocate; the time is proportional to the length.
     ///
-    /// Strings are in quotation marks. If the device fails, a beginning of the text was written.
+    /// Strings are in quotation marks. If the device fails, a prefix of the text has been written.
     pub fn write_text<W: Write>(
         rtype: RType,
         octets: &[u8],
@@ -52,10 +52,10 @@ impl Rdata {
         text.finish(sink)
     }
 
-    /// Puts the text of valid data, as `write_text` writes it, into a buffer, which is written
-    /// when it is full.
+    /// Puts the text of valid data, as `write_text` writes it, into a buffer, which is written to
+    /// `sink` when it is full.
     ///
-    /// If the device fails, a beginning of the buffered text and this text was written.
+    /// If the device fails, a prefix of the buffered text followed by this text has been written.
     pub fn put_text<W: Write>(
         rtype: RType,
         octets: &[u8],
@@ -84,8 +84,8 @@ impl Rdata {
     }
 }
 
-// Appends the word of the field at the beginning of the octets after `before`, and returns the
-// octets after the field.
+// Appends `before`, and then the word of the field with which `octets` begins. Returns the octets
+// after the field.
 fn append_field<'a>(
     field: Field,
     before: &[u8],
@@ -109,7 +109,7 @@ fn append_field<'a>(
     }
 }
 
-// Puts strings, separated by single spaces.
+// Puts the text of character-strings into the buffer, separated by single spaces.
 fn put_strings<W: Write>(
     octets: &[u8],
     text: &mut TextBuffer,
@@ -130,7 +130,7 @@ fn put_strings<W: Write>(
     Ok(())
 }
 
-// Puts data in the generic form (RFC 3597 5).
+// Puts the text of data in the generic form into the buffer (RFC 3597 5).
 fn put_unknown<W: Write>(
     octets: &[u8],
     text: &mut TextBuffer,
@@ -181,7 +181,8 @@ fn append_name<'a>(before: &[u8], octets: &'a [u8], text: &mut TextBuffer) -> &'
     rest
 }
 
-// Appends a big-endian number in decimal (RFC 1035 2.3.2).
+// Appends `before`, and then in decimal the big-endian number with which `octets` begins (RFC 1035
+// 2.3.2). Returns the octets after the number.
 fn append_u16<'a>(before: &[u8], octets: &'a [u8], text: &mut TextBuffer) -> &'a [u8]
     requires long { 2 ≤ length octets.now }
     requires short { length before.now ≤ 1 }
@@ -236,7 +237,8 @@ fn append_ipv6<'a>(before: &[u8], octets: &'a [u8], text: &mut TextBuffer) -> &'
     rest
 }
 
-// Appends a string in quotation marks, without its length (RFC 1035 3.3).
+// Appends `before`, and then in quotation marks the character-string with which `octets` begins,
+// without its length (RFC 1035 3.3). Returns the octets after the string.
 fn append_string<'a>(before: &[u8], octets: &'a [u8], text: &mut TextBuffer) -> &'a [u8]
     requires string { IsTrue (is_some (string_front octets.now)) }
     requires short { length before.now ≤ 1 }

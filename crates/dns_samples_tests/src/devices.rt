@@ -3,7 +3,7 @@ ghost use Rattle.std.specs.Prelude.{◌≡◌, ◌↔◌, IsTrue};
 use std::alloc::Global;
 use std::io::{self, ErrorKind, Read, Write};
 
-/// A count of the calls of a device. The first calls work, the next one fails, and later ones work
+/// Counts the calls of a device. The first calls work, the next call fails, and later calls work
 /// again.
 #[derive(Drop)]
 pub struct Calls {
@@ -37,7 +37,7 @@ pub struct Pieces<'a> {
     pub text: &'a [u8],
     /// The most octets that a call gives.
     pub most: usize,
-    /// Its calls.
+    /// The count of its calls.
     pub calls: Calls,
 }
 
@@ -66,7 +66,7 @@ pub struct Kept {
     pub text: Vec<u8>,
     /// The most octets that a call takes.
     pub most: usize,
-    /// Its calls.
+    /// The count of its calls.
     pub calls: Calls,
 }
 

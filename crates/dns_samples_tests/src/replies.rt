@@ -20,7 +20,8 @@ pub const QUERY: &[u8] = b"\x12\x34\x00\x00\x00\x01\x00\x00\x00\x00\x00\x00";
 const NUMBERS: &[u8] =
     b"\x00\x00\x00\x01\x00\x00\x1c\x20\x00\x00\x03\x84\x00\x12\x75\x00\x00\x00\x01\x2c";
 
-/// Worked replies from the small zone, octet for octet. They fit either limit.
+/// Worked replies from the small zone, octet for octet. Each fits the limit for UDP, and so that
+/// for TCP.
 pub const REPLIES: &[Reply<'static>] = &[
     Reply {
         name: "an address",
@@ -152,7 +153,7 @@ pub const QUESTIONS: &[(&[u8], &[u8])] = &[
     (b"\x05other\x00\x00\xfc\x00\x01", NOT_IMPLEMENTED),
 ];
 
-/// A message in pieces, and its reply, which is empty if there is none.
+/// A message in pieces, and the pieces of its reply; no pieces if it gets no reply.
 pub const MESSAGES: &[(&[&[u8]], &[&[u8]])] = &[
     (
         &[

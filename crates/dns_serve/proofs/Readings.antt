@@ -3,12 +3,12 @@ use Rattle.dns_spec.proofs.Common.{◌≡◌, ℕ, ◌+◌, ◌-◌, ◌^◌, �
 use Rattle.dns_serve.specs.Reads.{Gives, GivesFewer, GivesBeginning, GivesPart, GivesPartOfBody, GivesMessage, GivesBody}
 use Rattle.dns_serve.proofs.Frames.{no_frame_short, cut_first, no_frame_inside, cut_inside, kept_front}
 
--- octets at the front of a buffer, and more octets after them
+-- octets read to the front of a buffer, and then more octets after them
 pub came_after : (a b c : Option Octets) (front rest : Octets) (n k : ℕ) → length front ≡ n
     → Consumes a b front → Consumes b c (take k rest) → Consumes a c (take (n + k) (front ++ rest))
 came_after a b c front rest n k len first second = grind (arith, take-append-add, Consumes-trans)
 
--- octets, and then fewer than were asked for
+-- some octets, and then fewer than were asked for, are fewer than were asked for in all
 pub fewer_after : (a b c : Option Octets) (n m : ℕ) (front : Octets)
     → Consumes a b front → length front + m ≤ n → GivesFewer b c m → GivesFewer a c n
 fewer_after a b c n m front consumed le f = grind (arith, Consumes-trans, length-append)
@@ -65,7 +65,7 @@ pub length_came : (a b : Option Octets) (buf : Octets) (count n : ℕ) → lengt
     → octets16 n ≡ buf → Gives a b (length buf) count (take count buf) → Consumes a b (octets16 n)
 length_came a b buf count n two more is g = grind (arith, take_all)
 
--- all kept octets of a message, and then all others, or too few
+-- the octets of a message that are kept, and then its other octets, or too few of these
 module _ (a b c : Option Octets) (count kept first then : ℕ) (buf others : Octets)
     (least : kept ≡ min count most_over_udp) (len : length buf ≡ kept)
     (rest : length others ≡ count - kept) (g : Gives a b (length buf) first (take first buf))

@@ -47,8 +47,8 @@ pub record GivesBeginning (old new : Option Octets) : Type 0 where
   pub consumed : Consumes old new given
   pub no_frame : first_frame given ≡ None
 
--- The result of reading a message: the number of its octets that were kept, or none at the end of
--- the source, or why it failed.
+-- The result of reading a message: the number of its octets that were kept, or `None` at the end of
+-- the source, or why reading failed.
 abbrev pub MessageRead : Option Octets → Option Octets → Octets → Result (Option ℕ) StreamFault
     → Type 0
 MessageRead old new buf (Ok None) = GivesNothing old new

@@ -50,8 +50,8 @@ pub record HasServed (reply : Octets → Option Octets) (most : ℕ) (s : Sessio
   pub written : Appends s.held s.holds (replies reply messages)
   pub over : (n ≡ most) ⊎ IsAtEnd s.left
 
--- The source ended inside a frame, before `most` messages were read. The replies to these were
--- written.
+-- The source ended inside a frame, before `most` messages were read. The replies to all messages
+-- that were read were written.
 pub record WasCut (reply : Octets → Option Octets) (most : ℕ) (s : Session) : Type 0 where
   pub messages : List Octets
   pub part : Octets

@@ -10,13 +10,13 @@ use Rattle.dns_spec.specs.Reply.{octets_of}
 use Rattle.dns_serve.specs.declared.fault.TurnFault.{TurnFault}
 use Rattle.dns_serve.specs.declared.fault.TurnFault.TheVariants.{ReceiveFailed, SendFailed}
 
--- a device's list of datagrams, if it is known, grew by these
+-- a device's list of datagrams, if it is known, grew by the datagrams ds
 abbrev pub Grows : Option (List Octets) → Option (List Octets) → List Octets → Type 0
 Grows None new ds = ⊤
 Grows (Some xs) None ds = ⊥
 Grows (Some xs) (Some ys) ds = ys ≡ xs ++ ds
 
--- or did not change
+-- a device's list of datagrams, if it is known, did not change
 abbrev pub KeepsAll : Option (List Octets) → Option (List Octets) → Type 0
 KeepsAll old new = Grows old new []
 

@@ -28,7 +28,7 @@ pub trait Datagrams {
     ghost has_sender: { Self → Bool };
 
     /// Receives one datagram, stores its first 512 octets at the front of `buf`, and returns how
-    /// many were stored. Later octets are lost.
+    /// many were stored. Further octets of the datagram are lost.
     fn receive(&mut self, buf: &mut [u8; 512]) -> Result<usize, Failed>
         requires { count self.old < 2 ^ 64 - 1 }
         ensures datagram { Hands (received self.old) (received self.new) result buf.new }
@@ -36,7 +36,7 @@ pub trait Datagrams {
         ensures sender { IsOk result → IsTrue (has_sender self.new) }
         ensures counted { count self.new ≡ failures_after (count self.old) result };
 
-    /// Sends one datagram to the sender of the last one received. Fails if there is none.
+    /// Sends one datagram to the sender of the last datagram received. Fails without such a sender.
     fn send(&mut self, reply: &[u8]) -> Result<(), Failed>
         requires { count self.old < 2 ^ 64 - 1 }
         ensures datagram { Sends (sent self.old) (sent self.new) result reply.now }

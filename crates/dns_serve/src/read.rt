@@ -1,4 +1,4 @@
-//! Reads a number of octets from a source, however few each call returns.
+//! Reads a given number of octets from a source, in as many calls as needed.
 ghost use Rattle.std.specs.Prelude.{◌≡◌, ◌-◌, ◌^◌, ◌<◌, length, take, All, IfOk, OnErr};
 ghost use Rattle.dns_name.specs.Counted.{failures_after};
 ghost use Rattle.dns_serve.specs.Reads.{Gives, GivesFewer};
@@ -6,8 +6,8 @@ ghost use Rattle.dns_serve.specs.Reads.{Gives, GivesFewer};
 use dns_name::{SourceFailed, Tally};
 use std::io::Read;
 
-/// Fills `buf`, and returns the number of octets that were read: fewer only at the end of the
-/// source.
+/// Fills `buf`, and returns the number of octets that were read: fewer than its length only if the
+/// source ends.
 pub(crate) fn read_full<R: Read>(
     source: &mut Tally<R>,
     buf: &mut [u8],

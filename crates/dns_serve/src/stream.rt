@@ -22,15 +22,15 @@ const MOST_KEPT: usize = 512;
 const MOST_FRAME: usize = 65_537;
 
 /// Serves a stream: reads messages, each after its length in two octets, until it has read `most`
-/// or the source ends between two, and returns how many it read. Writes each reply after its
-/// length in two octets, or nothing for a message that gets no reply.
+/// messages or the source ends after a message, and returns how many messages it read. Writes each
+/// reply after its length in two octets, or nothing for a message that gets no reply.
 ///
-/// Fails with `SourceFailed` if the source fails, and with `Cut` if it ends inside a length or a
-/// message; then the replies to all earlier messages were written. Fails with `SinkFailed` if the
-/// sink fails; then the replies to all messages but the last one read were written, and a prefix
-/// of the reply to that one. Nothing is tried again.
+/// Fails with `SourceFailed` if the source fails, and with `Cut` if the source ends inside a length
+/// or a message. In both cases the replies to all earlier messages were written. Fails with
+/// `SinkFailed` if the sink fails; then the replies to all messages but the last one read were
+/// written, and a prefix of the reply to that message. Nothing is tried again.
 ///
-/// Only the first 512 octets of a message are kept; the rest is read and discarded. No memory is
+/// Only the first 512 octets of a message are kept; its other octets are discarded. No memory is
 /// allocated. The sink is flushed after each message.
 ///
 /// Each call first clears its buffers, about 197,000 octets on the stack. Callers that serve many
@@ -58,8 +58,8 @@ pub fn serve_stream<R: Read, W: Write>(
     )
 }
 
-/// What a session knows about its source and its sink besides their octets: which messages have
-/// arrived, and what the sink still keeps.
+/// What a session knows about its source and its sink besides their octets: whether the next
+/// message has arrived, and which octets the sink still keeps.
 pub trait Ends<W: Write> {
     /// The octets that a sink keeps until it is flushed.
     ghost kept: { W → List ℕ };
@@ -113,7 +113,7 @@ pub struct StreamRoom {
 }
 
 impl StreamRoom {
-    /// New buffers, about 197,000 octets in the value itself.
+    /// New buffers: about 197,000 octets, stored inline.
     pub fn new() -> StreamRoom {
         StreamRoom {
             message: [0; MOST_KEPT],
@@ -126,9 +126,9 @@ impl StreamRoom {
 /// Serves a stream as `serve_stream` does, in the caller's buffers.
 ///
 /// The buffers are not cleared, and earlier sessions in them have no effect. After a message the
-/// sink is flushed, unless `ends` reports that the next message has arrived: so a sink that
-/// buffers replies holds none back while the session waits for more. A session that does not fail
-/// leaves nothing in its sink.
+/// sink is flushed, unless `ends` reports that the next message has arrived. So a sink that buffers
+/// replies keeps none of them while the session waits for a message. A session that does not fail
+/// leaves nothing unflushed in its sink.
 pub fn serve_stream_in<R: Read, W: Write, E: Ends<W>>(
     zone: &Zone,
     source: &mut Tally<R>,

@@ -13,8 +13,8 @@ use Rattle.dns_spec.specs.Names.{Octets}
 abbrev pub ipv4_text : Octets → Octets
 ipv4_text d = join_with_byte 46 (map decimal d)
 
--- RFC 1035 3.4.1: four numbers from 0 to 255, without leading zeros (in this product), so that
--- each address has one spelling
+-- RFC 1035 3.4.1: the text spells the address d: four numbers from 0 to 255, without leading zeros
+-- (in this product), so that each address has one spelling
 pub record SaysIpv4 (text d : Octets) : Type 0 where
   pub four : length d ≡ 4
   pub octets : IsTrue (list_all (λ x. nat_lt x 256) d)
@@ -31,7 +31,7 @@ group_values (text ∷ texts) =
     if is_group text
     then option_map (λ gs. digits_value 16 text ∷ gs) (group_values texts) else None
 
--- the values of the groups of a text, separated by colons; an empty text has no groups
+-- the values of a text's groups, which are separated by colons; an empty text has no groups
 abbrev pub groups_said : Octets → Option (List ℕ)
 groups_said [] = Some []
 groups_said (c ∷ text) = group_values (slice_split (λ o. o == 58) (c ∷ text))
@@ -48,7 +48,7 @@ around_gap (c ∷ d ∷ text) =
 abbrev pub eight_groups : List ℕ → Option (List ℕ)
 eight_groups gs = if length gs == 8 then Some gs else None
 
--- eight groups: those before and after `::`, with at least one zero group in its place
+-- eight groups: `front`, at least one zero group in place of `::`, and `back`
 abbrev pub filled_groups : List ℕ → List ℕ → Option (List ℕ)
 filled_groups front back =
     if nat_lt (length front + length back) 8
@@ -75,7 +75,7 @@ ipv6_octets text = option_map (flat_map (bytes_high_first 2)) (ipv6_groups text)
 abbrev pub SaysIpv6 : Octets → Octets → Type 0
 SaysIpv6 text d = ipv6_octets text ≡ Some d
 
--- the groups of an address, by its octets
+-- the groups that the octets of an address encode
 abbrev pub groups_of : Octets → List ℕ
 groups_of [] = []
 groups_of (h ∷ []) = []
@@ -85,8 +85,8 @@ groups_of (h ∷ l ∷ d) = (256 * h + l) ∷ groups_of d
 abbrev pub groups_text : List ℕ → Octets
 groups_text gs = join_with_byte 58 (map (digits 16 false) gs)
 
--- for each place, the length of the run of zero groups that begins there; and the length of the
--- longest run
+-- for each index, the length of the run of zero groups that begins there; and the length of the
+-- longest such run
 abbrev pub zero_runs : List ℕ → List ℕ
 zero_runs [] = []
 zero_runs (g ∷ gs) = prefix_len (λ n. n == 0) (g ∷ gs) ∷ zero_runs gs
@@ -94,12 +94,12 @@ zero_runs (g ∷ gs) = prefix_len (λ n. n == 0) (g ∷ gs) ∷ zero_runs gs
 abbrev pub longest_run : List ℕ → ℕ
 longest_run gs = fold max 0 (zero_runs gs)
 
--- the place where the longest run begins, the first of them if there are several
+-- the index at which the longest run begins, or the first of the longest runs if there are several
 abbrev pub longest_place : List ℕ → ℕ
 longest_place gs = position_or_len (λ k. k == longest_run gs) (zero_runs gs)
 
--- RFC 5952 4.2: `::` replaces the longest run of at least two zero groups, the first of them if
--- there are several
+-- RFC 5952 4.2: `::` replaces the longest run of at least two zero groups, or the first of the
+-- longest runs if there are several
 abbrev pub ipv6_text : Octets → Octets
 ipv6_text d =
     let gs = groups_of d in

@@ -12,7 +12,7 @@ use Rattle.dns_spec.specs.Tree.{cut_of, found}
 use Rattle.dns_spec.specs.Reading.{no_error, name_error}
 use Rattle.dns_spec.specs.Layout.{Section, answer, authority, additional, Item, records_of}
 
--- an RRset in a section; none if it has no records
+-- an RRset as an item of the section; no item if the RRset has no records
 abbrev pub item : Section → List ResourceRecord → List Item
 item s [] = []
 item s (r ∷ rs) = record { section = s; records = r ∷ rs } ∷ []
@@ -32,15 +32,16 @@ abbrev pub first_target : List ResourceRecord → Option DomainName
 first_target [] = None
 first_target (r ∷ rs) = target r.rtype r.rdata
 
--- RFC 1034 4.3.2 step 3a: the name sought after s: the target of the alias at s, if it is at or
--- below the origin and not yet in `sought`
+-- RFC 1034 4.3.2 step 3a: the name sought after s: the target of the alias at s, if that target is
+-- at or below the origin and not yet in `sought`
 abbrev pub next_sought : ZoneContents → List DomainName → DomainName → Option DomainName
 next_sought z sought s =
     option_and_then
     (λ m. if at_or_below m z.origin && not (list_any (same m) sought) then Some m else None)
     (first_target (alias_set z s))
 
--- the names sought from s on: s and the targets of at most k aliases; `sought` are the names before
+-- the names sought from s on: s and the targets of at most k aliases; `sought` contains the names
+-- sought before s
 unfoldable pub chain_from : ZoneContents → ℕ → List DomainName → DomainName → List DomainName
 chain_from z zero sought s = s ∷ []
 chain_from z (suc k) sought s =
@@ -50,11 +51,11 @@ chain_from z (suc k) sought s =
 abbrev pub most_aliases : ℕ
 most_aliases = 16
 
--- The names sought, the QNAME first.
+-- The names sought for a question, the QNAME first.
 unfoldable pub chain : ZoneContents → DomainName → ℕ → List DomainName
 chain z q t = if follows_alias t then chain_from z most_aliases [] q else q ∷ []
 
--- the last of the names, or s if there are none
+-- the last name of the list, or s if the list is empty
 abbrev pub last_of : DomainName → List DomainName → DomainName
 last_of s [] = s
 last_of s (m ∷ ms) = last_of m ms
@@ -63,12 +64,12 @@ last_of s (m ∷ ms) = last_of m ms
 abbrev pub last_sought : ZoneContents → DomainName → ℕ → DomainName
 last_sought z q t = last_of q (chain z q t)
 
--- the CNAME sets of the names sought
+-- the CNAME sets of the names sought; none if aliases are not followed
 abbrev pub alias_items : ZoneContents → DomainName → ℕ → List Item
 alias_items z q t =
     if follows_alias t then flat_map (λ s. item answer (alias_set z s)) (chain z q t) else []
 
--- The outcome of a question: the RCODE, the cut of a referral, and the sets of the answer and
+-- The outcome of a question: the RCODE, the cut if it is a referral, and the sets of the answer and
 -- authority sections.
 pub record Outcome : Type 0 where
   pub rcode : ℕ
@@ -84,8 +85,8 @@ negative_soa z =
     (map (λ (r : ResourceRecord). record r { ttl = min r.ttl (soa_minimum r.rdata) })
     (rrset z z.origin type_soa))
 
--- The records that the question asks for. RFC 8482 4.1: a question for all types gets one RRset,
--- in this product the one with the lowest type number.
+-- Those of a name's records that a question for type t asks for. RFC 8482 4.1: a question for all
+-- types gets one RRset, in this product the one with the lowest type number.
 abbrev pub asked_records : ℕ → List ResourceRecord → List ResourceRecord
 asked_records t rs = if t == qtype_any then of_lowest_type rs else of_type t rs
 
@@ -113,9 +114,10 @@ abbrev pub has_any : {X : Type 0} → List X → Bool
 has_any [] = false
 has_any (x ∷ xs) = true
 
--- RFC 1034 4.3.2 step 3: the outcome for a name, by its cut and the records found for it. The first
--- of five cases that holds: the name is at or below a cut; it does not exist; it is an alias, at
--- which the chain ends; it has records of the type asked for; it has none.
+-- RFC 1034 4.3.2 step 3: the outcome for a name, by its cut and the records found for it. Five
+-- cases are tried in order: the name is at or below a cut; the name is not found; the name is an
+-- alias, at which the chain ends; the name has records of the type asked for; the name has no such
+-- records.
 abbrev pub outcome_by : ZoneContents → ℕ → Option DomainName → Option (List ResourceRecord)
     → Outcome
 outcome_by z t (Some c) found = referral_to z c
@@ -129,30 +131,31 @@ outcome_by z t None (Some rs) =
 unfoldable pub outcome_at : ZoneContents → ℕ → DomainName → Outcome
 outcome_at z t s = outcome_by z t (cut_of z s) (found z s)
 
--- The outcome: the RCODE (RFC 2308 section 2.1), authority and answer of the last name sought,
--- with the aliases in front of the answer.
+-- The outcome of a question: that of the last name sought (also its RCODE, RFC 2308 section 2.1),
+-- with the CNAME sets of the aliases in front of its answer.
 unfoldable pub outcome : ZoneContents → DomainName → ℕ → Outcome
 outcome z q t =
     let o = outcome_at z t (last_sought z q t) in
     record o { answers = alias_items z q t ++ o.answers }
 
--- RFC 1035 4.1.1: AA is set, unless the reply is only a referral
+-- RFC 1035 4.1.1: AA is set, unless the reply is a referral without answers
 abbrev pub is_authoritative : Outcome → Bool
 is_authoritative o = not (is_some o.referral && length o.answers == 0)
 
--- RFC 1035 3.3.9 and 3.3.11, RFC 2782: the record is an NS, MX or SRV record: the addresses of its
--- target are additional data
+-- RFC 1035 3.3.9 and 3.3.11, RFC 2782: the record is an NS, MX or SRV record, so the addresses of
+-- its target are additional data
 abbrev pub has_target_type : ResourceRecord → Bool
 has_target_type r = r.rtype == type_ns || r.rtype == type_mx || r.rtype == type_srv
 
--- the targets of the records in the sets
+-- the targets of the NS, MX and SRV records in the sets
 abbrev pub targets_of : List Item → List DomainName
 targets_of items =
     filter_map (λ (r : ResourceRecord). if has_target_type r then target r.rtype r.rdata else None)
     (records_of items)
 
--- RFC 9471 section 2.1: the targets of a referral's NS set at or below the cut, whose addresses are
--- its glue; and the other targets
+-- RFC 9471 section 2.1: in a referral, the targets of the NS set that are at or below the cut,
+-- whose addresses are the glue; and the other targets of that set. Without a referral, both are
+-- empty.
 abbrev pub targets_inside : Outcome → List DomainName
 targets_inside o =
     flat_map (λ c. filter (λ m. at_or_below m c) (targets_of o.authorities))
@@ -173,15 +176,16 @@ abbrev pub stands : DomainName → ℕ → List Item → Bool
 stands n t items =
     list_any (λ (r : ResourceRecord). same r.owner n && r.rtype == t) (records_of items)
 
--- the A set of a name and then its AAAA set, each unless it is in the reply already
+-- a name's set of type t, unless it is in `earlier`; and the name's A and AAAA sets, by the same
+-- rule
 abbrev pub address_set : ZoneContents → List Item → DomainName → ℕ → List Item
 address_set z earlier n t = if stands n t earlier then [] else item additional (rrset z n t)
 
 abbrev pub address_sets : ZoneContents → List Item → DomainName → List Item
 address_sets z earlier n = address_set z earlier n type_a ++ address_set z earlier n type_aaaa
 
--- RFC 1034 4.3.2 step 6: the address sets of the targets, each unless it is in the reply already;
--- also below a cut, but never by a wildcard
+-- RFC 1034 4.3.2 step 6: the address sets of the targets, except those that are in the reply
+-- already. Targets below a cut get addresses too; wildcards are not used.
 unfoldable pub extra : ZoneContents → List Item → List DomainName → List Item
 extra z earlier [] = []
 extra z earlier (m ∷ ms) =
@@ -192,25 +196,25 @@ extra z earlier (m ∷ ms) =
 abbrev pub main_items : Outcome → List Item
 main_items o = o.answers ++ o.authorities
 
--- All sets of a reply, in order: answer, authority, additional.
+-- All sets for a question, in order: answer, authority, additional.
 unfoldable pub items : ZoneContents → DomainName → ℕ → List Item
 items z q t =
     let o = outcome z q t in
     main_items o ++ extra z (main_items o) (targets o)
 
 -- The sets without which a reply has to set TC: answer, authority, and the glue of a referral (RFC
--- 2181 section 9, RFC 9471 section 3.1). They come before the other sets: aliases have no targets,
--- so in a referral the targets at or below the cut are the first.
+-- 2181 section 9, RFC 9471 section 3.1). They are a prefix of `items`: the answer to a referral has
+-- only CNAME sets, which give no targets, so the targets at or below the cut come first.
 unfoldable pub required_items : ZoneContents → DomainName → ℕ → List Item
 required_items z q t =
     let o = outcome z q t in
     main_items o ++ extra z (main_items o) (targets_inside o)
 
--- the number of nodes on the path to a name: the origin's, and one for each label below the origin
+-- the number of nodes on the path to a name: the origin, and one node for each label below it
 abbrev pub nodes_to : ZoneContents → DomainName → ℕ
 nodes_to z n = 1 + (length n - length z.origin)
 
--- the targets at or below the origin: only for these does the zone have addresses
+-- the targets at or below the origin: only these can have addresses in the zone
 abbrev pub targets_in_zone : ZoneContents → List DomainName → List DomainName
 targets_in_zone z ms = filter (λ m. at_or_below m z.origin) ms
 
@@ -225,7 +229,7 @@ most_visits z q t =
 abbrev pub names_looked_up : ZoneContents → DomainName → ℕ → ℕ
 names_looked_up z q t = length (chain z q t) + length (targets (outcome z q t))
 
--- the most labels that a binary search among a node's children compares: a node has at most
+-- the most label comparisons of one binary search among a node's children: a node has at most
 -- 100,000 children, fewer than 2 ^ 17
 abbrev pub most_of_a_search : ℕ
 most_of_a_search = 17

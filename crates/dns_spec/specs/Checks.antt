@@ -1,6 +1,6 @@
 -- The fifteen faults that keep a zone from being served. Each is a separate condition over the
--- whole list of records, so one record may cause several. Which conditions are faults is this
--- project's choice.
+-- whole list of records, so one record may cause several faults. Which conditions are faults is
+-- this project's choice.
 use Rattle.std.specs.Prelude.{◌≡◌, ℕ, Bool, false, ◌&&◌, ◌||◌, not, List, [], ◌∷◌, map, length, nat_lt, ◌==◌}
 use Rattle.std.specs.Option.{option_map_or}
 use Rattle.std.specs.List.{list_any, filter, flat_map}
@@ -12,7 +12,7 @@ use Rattle.dns_spec.specs.Records.{ResourceRecord, ZoneContents, at, owns, disti
 use Rattle.dns_spec.specs.Sets.{types_of}
 use Rattle.dns_spec.specs.Tree.{is_cut, without_first, asterisk}
 
--- A condition on a name of a zone.
+-- A condition on a name of a zone; a check is a condition that makes the name faulty.
 abbrev pub Check : Type 0
 Check = ZoneContents → DomainName → Bool
 
@@ -49,14 +49,15 @@ at_or_below_cut z n = list_any (is_cut z) (suffixes n)
 abbrev pub below_cut : Check
 below_cut z n = list_any (is_cut z) (without_first (suffixes n))
 
--- the name owns an address record; the type is A or AAAA
+-- the name owns an address record; and the test whether a type is A or AAAA
 abbrev pub has_address : Check
 has_address z n = owns z n type_a || owns z n type_aaaa
 
 abbrev pub is_address_type : ℕ → Bool
 is_address_type t = t == type_a || t == type_aaaa
 
--- RFC 1035 5.2: a zone has exactly one SOA, at its origin
+-- against RFC 1035 5.2 (a zone has exactly one SOA, at its origin): the origin owns no SOA; the
+-- origin owns several; another name owns one
 abbrev pub no_soa : Check
 no_soa z n = is_origin z n && not (owns z n type_soa)
 
@@ -66,35 +67,37 @@ many_soa z n = is_origin z n && nat_lt 1 (count z n type_soa)
 abbrev pub soa_elsewhere : Check
 soa_elsewhere z n = not (is_origin z n) && owns z n type_soa
 
--- RFC 1034 4.2.1: a zone names its servers at its origin
+-- against RFC 1034 4.2.1 (a zone names its servers at its origin): the origin owns no NS record
 abbrev pub no_ns : Check
 no_ns z n = is_origin z n && not (owns z n type_ns)
 
--- RFC 1034 4.2: all names of a zone are at or below its origin
+-- against RFC 1034 4.2 (all names of a zone are at or below its origin): the name is an owner
+-- elsewhere
 abbrev pub outside : Check
 outside z n = is_owner z n && not (at_or_below n z.origin)
 
--- RFC 1034 3.6.2: a name with a CNAME has no other data
+-- against RFC 1034 3.6.2 (a name with a CNAME has no other data): the name owns both
 abbrev pub cname_and_other : Check
 cname_and_other z n = owns z n type_cname && owns_such z n (λ t. not (t == type_cname))
 
--- RFC 2181 10.1: a name has at most one CNAME
+-- against RFC 2181 10.1 (a name has at most one CNAME): the name owns several
 abbrev pub many_cname : Check
 many_cname z n = nat_lt 1 (count z n type_cname)
 
--- RFC 2181 5.2: the records of an RRset have one TTL
+-- against RFC 2181 5.2 (the records of an RRset have one TTL): two records of one type differ in
+-- TTL
 abbrev pub ttls_differ : Check
 ttls_differ z n =
     list_any (λ (r : ResourceRecord). list_any (λ (s : ResourceRecord). r.rtype == s.rtype
     && not (r.ttl == s.ttl)) (at z n)) (at z n)
 
--- RFC 2181 10.3: the target of NS is not an alias
+-- against RFC 2181 10.3 (the target of NS is not an alias): a target in the zone is one
 abbrev pub ns_target_alias : Check
 ns_target_alias z n = has_target z n (λ t. t == type_ns) (λ m. owns z m type_cname)
 
--- RFC 1034 4.2.1: m, a name server of n, lacks an address that the zone must have: m is not at or
--- below a cut, or n is a cut and m, at or below n, needs glue. The address of a server at or below
--- another cut is in the zone below that cut.
+-- RFC 1034 4.2.1: m, a name server of n, has no address, although the zone must contain one: m is
+-- not at or below a cut, or m is at or below the cut n and needs glue. The address of a server at
+-- or below another cut is in the zone below that cut.
 abbrev pub lacks_address : ZoneContents → DomainName → DomainName → Bool
 lacks_address z n m =
     not (has_address z m) && (not (at_or_below_cut z m) || is_cut z n && at_or_below m n)
@@ -102,18 +105,20 @@ lacks_address z n m =
 abbrev pub ns_target_lost : Check
 ns_target_lost z n = has_target z n (λ t. t == type_ns) (lacks_address z n)
 
--- RFC 2181 10.3, RFC 2782: the targets of MX and SRV are not aliases
+-- against RFC 2181 10.3 and RFC 2782 (the targets of MX and SRV are not aliases): a target in the
+-- zone is one
 abbrev pub mx_target_alias : Check
 mx_target_alias z n = has_target z n (λ t. t == type_mx || t == type_srv) (λ m. owns z m type_cname)
 
--- RFC 1034 4.2.1: a cut owns only NS records and addresses, and a name below it only addresses
--- (glue)
+-- against RFC 1034 4.2.1 (a cut owns only NS records and addresses, and a name below it only glue
+-- addresses): the name owns a record of another type
 abbrev pub data_at_cut : Check
 data_at_cut z n =
     is_cut z n && owns_such z n (λ t. not (t == type_ns || is_address_type t))
     || below_cut z n && owns_such z n (λ t. not (is_address_type t))
 
--- RFC 4592 4.2: NS records at a wildcard have no defined meaning
+-- the first label is `*`; and such a name owns NS records, which have no defined meaning there (RFC
+-- 4592 4.2)
 abbrev pub first_is_asterisk : DomainName → Bool
 first_is_asterisk [] = false
 first_is_asterisk (l ∷ n) = octets_equal l asterisk
@@ -171,6 +176,6 @@ faults z = flat_map (faults_at z) (checked_names z)
 abbrev pub fault_order : Fault → Fault → Ordering
 fault_order f g = ordering_then (name_order f.owner g.owner) (nat_cmp f.code g.code)
 
--- a zone that may be served
+-- the zone may be served: it has no faults
 abbrev pub Passes : ZoneContents → Type 0
 Passes z = faults z ≡ []

@@ -1,5 +1,5 @@
--- The arguments of the checker and of the servers, and what they ask for. All of it is this
--- project's choice.
+-- The arguments of the checker and of the servers, and what these arguments ask for. All of it is
+-- this project's choice.
 use Rattle.std.specs.Prelude.{⊤, ◌≡◌, ℕ, ◌≤◌, ◌⊎◌, Bool, false, not, List, [], ◌∷◌, ◌++◌, reverse, ◌==◌, if◌then◌else◌, IsTrue, codes, decimal}
 use Rattle.dns_spec.specs.Names.{Octets}
 use Rattle.dns_spec.specs.Report.{Options}
@@ -14,13 +14,13 @@ pub record ZoneWords : Type 0 where
   pub origin : Octets
   pub file : Octets
 
--- ORIGIN and FILE are the last arguments, and neither begins with `-`
+-- the arguments are `front`, followed by ORIGIN and FILE, neither of which begins with `-`
 pub record EndWords (words front : List Octets) (zone : ZoneWords) : Type 0 where
   pub words_are : words ≡ front ++ zone.origin ∷ zone.file ∷ []
   pub origin : IsTrue (not (is_dashed zone.origin))
   pub file : IsTrue (not (is_dashed zone.file))
 
--- the arguments for options, in either order
+-- the arguments for options, `--quiet` first; and the same arguments in either order
 abbrev pub option_words : Options → List Octets
 option_words options =
     (if options.is_quiet then codes "--quiet" ∷ [] else [])

@@ -1,13 +1,13 @@
 -- How the name at a place of a message is computed. This file may be skipped: NamesInMessages
--- defines it, and a law states that the results are the same.
+-- defines which name is there, and a law states that `name_at` gives that name.
 use Rattle.std.specs.Prelude.{ℕ, zero, suc, ◌+◌, ◌&&◌, true, false, [], length, take, drop, nat_lt, nat_le, ◌==◌, slice_get, if◌then◌else◌}
 use Rattle.std.specs.Prelude.{Option, None, Some}
 use Rattle.std.specs.Option.{option_map, option_and_then}
 use Rattle.dns_spec.specs.Names.{Octets, DomainName, is_name, with_label}
 use Rattle.dns_spec.specs.NamesInMessages.{pointer_place}
 
--- RFC 1035 4.1.4: what is at a place in a run of labels: its end, a label of k octets, a pointer
--- to place p, or octets that are not allowed.
+-- RFC 1035 4.1.4: what is at a place in a run of labels: the end of the run, a label of k octets, a
+-- pointer to place p, or octets that are not allowed.
 pub data RunStep : Type 0 where
   run_end : RunStep
   run_label : ℕ → RunStep
@@ -30,9 +30,9 @@ step_of b i (Some o) =
 abbrev pub SpelledName : Type 0
 SpelledName = DomainName × ℕ
 
--- The name after a pointer at place i to place p, in a run that began at place s. The pointer's
--- place has to be after the header and before its run. `earlier` gives what the runs that begin
--- before place s spell.
+-- What a pointer at place i to place p spells, in a run that began at place s: what the run that
+-- begins at p spells. Place p has to be after the header and before s. `earlier` gives what the
+-- runs that begin before s spell.
 abbrev pub jump : (ℕ → Option SpelledName) → ℕ → ℕ → ℕ → Option SpelledName
 jump earlier s i p =
     elim (nat_le 12 p && nat_lt p s) [
@@ -40,8 +40,8 @@ jump earlier s i p =
       | false ↦ None
     ]
 
--- What a run that began at place s spells from place i on, in at most r steps. The number of octets
--- is enough for r, since each step takes at least one octet.
+-- What a run that began at place s spells from place i on, in at most r steps. Each step takes at
+-- least one octet, so r = `length b` steps always suffice.
 unfoldable pub run : (ℕ → Option SpelledName) → Octets → ℕ → ℕ → ℕ → Option SpelledName
 run earlier b s zero i = None
 run earlier b s (suc r) i =
@@ -53,7 +53,7 @@ run earlier b s (suc r) i =
       | unlawful ↦ None
     ]
 
--- what the runs that begin before place k spell
+-- what the run that begins at place p spells, if p is before place k
 unfoldable pub runs_before : Octets → ℕ → ℕ → Option SpelledName
 runs_before b zero p = None
 runs_before b (suc k) p = run (runs_before b k) b p (length b) p

@@ -47,7 +47,7 @@ class_in = 1
 
 -- A field of data: a number of k octets, an IPv4 address, an IPv6 address, a domain name, a
 -- character-string, one or more character-strings up to the end of the data, or any octets up to
--- its end.
+-- the end of the data.
 pub data Field : Type 0 where
   number : ℕ → Field
   ipv4 : Field
@@ -65,7 +65,7 @@ pub record TypeRow : Type 0 where
   pub fields : List Field
   pub compresses : Bool
 
--- the row of a type whose names are compressed, and of a type whose names are not
+-- the row of a type in whose data names are compressed, and of a type in whose data they are not
 abbrev pub compressed_row : ℕ → Octets → List Field → TypeRow
 compressed_row t word fs = record { number = t; mnemonic = word; fields = fs; compresses = true }
 
@@ -93,8 +93,7 @@ type_table =
 abbrev pub other_type : TypeRow
 other_type = plain_row 0 [] (anything ∷ [])
 
--- the row of a type in the table, if any; and the row of a type, `other_type` if it is not in the
--- table
+-- the row of a type in the table, if there is one; and that row, or `other_type` if there is none
 abbrev pub row_of : ℕ → Option TypeRow
 row_of t = find (λ (row : TypeRow). row.number == t) type_table
 
@@ -122,14 +121,14 @@ abbrev pub joined : List Part → Octets
 joined = flat_map part_octets
 
 -- RFC 1035 3.3: the octets are character-strings one after another, each after its length in one
--- octet; the first k octets are the rest of the current string
+-- octet; the first k octets belong to a string whose length octet came before
 abbrev pub are_strings : ℕ → Octets → Bool
 are_strings zero [] = true
 are_strings (suc k) [] = false
 are_strings zero (o ∷ os) = are_strings o os
 are_strings (suc k) (o ∷ os) = are_strings k os
 
--- the first k octets, and the octets after them
+-- the first k octets as a part, if there are that many, and the octets after them
 abbrev pub octets_front : ℕ → Octets → Option (Part × Octets)
 octets_front k os = if nat_le k (length os) then Some (octets (take k os), drop k os) else None
 
@@ -138,7 +137,7 @@ abbrev pub string_front : Octets → Option (Part × Octets)
 string_front [] = None
 string_front (k ∷ os) = octets_front (suc k) (k ∷ os)
 
--- all the octets, if they are one or more character-strings
+-- all the octets as one part, if they are one or more character-strings
 abbrev pub strings_front : Octets → Option (Part × Octets)
 strings_front os = if not (length os == 0) && are_strings 0 os then Some (octets os, []) else None
 

@@ -17,9 +17,9 @@ field_fault string = 5
 field_fault strings = 5
 field_fault anything = 5
 
--- The first faulty word from the left decides: it does not spell its field, or it makes the data
--- longer than 65,535 octets (RFC 1035 3.2.1), which is fault 5. The words before these spell n
--- octets.
+-- k is the fault of the first faulty word from the left: one that does not spell its field, or, as
+-- fault 5, one that makes the data longer than 65,535 octets (RFC 1035 3.2.1). The words before
+-- `ws` spell n octets.
 abbrev pub FieldsFaultIs : List Field → DomainName → ℕ → List Word → ℕ → Type 0
 FieldsFaultIs [] origin n ws k = ⊥
 FieldsFaultIs (f ∷ fs) origin n [] k = ⊥
@@ -29,15 +29,15 @@ FieldsFaultIs (f ∷ fs) origin n (w ∷ ws) k =
     × MatchBool (nat_le (n + length d) 65535)
     (FieldsFaultIs fs origin (n + length d) ws k) (k ≡ 5))
 
--- in the type's own form: 6 if the type has none; 1 if the number of words is wrong; else the fault
--- of the first faulty word
+-- The fault of words in the type's own form: 6 if the type has no such form; 1 if the number of
+-- words is wrong; else the fault of the first faulty word.
 abbrev pub TypedFaultIs : ℕ → DomainName → List Word → ℕ → Type 0
 TypedFaultIs t origin ws k =
     MatchOption (word_fields_of t (length ws)) (k ≡ 6)
     (λ fs. MatchBool (length fs == length ws) (FieldsFaultIs fs origin 0 ws k) (k ≡ 1))
 
--- RFC 3597 section 5: after `\#`, 6 if the words are not the length and the octets of data of at
--- most 65,535 octets; 7 if these octets are invalid for the type
+-- RFC 3597 section 5: the fault of the words after `\#`: 6 if they do not state a length of at most
+-- 65,535 and then that many octets; 7 if they do, but these octets are invalid for the type
 abbrev pub UnknownFaultIs : ℕ → List Word → ℕ → Type 0
 UnknownFaultIs t ws k =
     (((d : Octets) → SaysUnknown ws d → length d ≤ 65535 → ⊥) × (k ≡ 6))

@@ -27,11 +27,12 @@ is_word_octet o = is_ascii_graphic o && not (list_any (λ s. o == s) (codes "\"(
 abbrev pub is_string_octet : ℕ → Bool
 is_string_octet o = (is_printable o || o == 9) && not (list_any (λ s. o == s) (codes "\"\\"))
 
--- A number of k octets in decimal, without leading zeros (in this product).
+-- The text is a number in decimal, without leading zeros (in this product), and d is that number in
+-- k octets.
 abbrev pub SaysNumber : ℕ → Octets → Octets → Type 0
 SaysNumber k text d = (n : ℕ) × (n < 256 ^ k) × (text ≡ decimal n) × (d ≡ bytes_high_first k n)
 
--- RFC 1035 5.1: a name, relative to the origin
+-- RFC 1035 5.1: the text spells a name, relative to the origin, and d is the name's wire form
 abbrev pub SaysName : DomainName → Octets → Octets → Type 0
 SaysName origin text d = (n : DomainName) × SpellsName origin text n × (d ≡ wire n)
 
@@ -46,7 +47,8 @@ SpellsString text (x ∷ s) =
     (first : Octets) × (others : Octets) × (text ≡ first ++ others)
     × SpellsStringOctet first x × SpellsString others s
 
--- RFC 1035 3.3: a character-string has at most 255 octets, and follows its length octet
+-- RFC 1035 3.3: the text spells a string of at most 255 octets, and d is its length octet and then
+-- the string
 abbrev pub SaysString : Octets → Octets → Type 0
 SaysString text d = (s : Octets) × (length s ≤ 255) × SpellsString text s × (d ≡ length s ∷ s)
 
@@ -118,8 +120,8 @@ abbrev pub SaysHex : List Word → Octets → Type 0
 SaysHex ws d =
     IsTrue (list_all is_hex_word ws) × (hex_octets (flat_map (λ (w : Word). w.raw) ws) ≡ Some d)
 
--- RFC 3597 section 5: after `\#`, the length of the data, without leading zeros (in this product),
--- and then its octets in hex
+-- RFC 3597 section 5: the words after `\#` spell the data: its length in decimal, without leading
+-- zeros (in this product), and then its octets in hex
 abbrev pub SaysUnknown : List Word → Octets → Type 0
 SaysUnknown [] d = ⊥
 SaysUnknown (w ∷ ws) d = IsTrue (not w.is_quoted) × (w.raw ≡ decimal (length d)) × SaysHex ws d

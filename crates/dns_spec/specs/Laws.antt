@@ -1,4 +1,4 @@
--- Definitions that only the laws use, about beginnings of a text and about layouts.
+-- Definitions that only the laws use, about prefixes of a text and about layouts.
 use Rattle.std.specs.Prelude.{◌≡◌, ℕ, ◌<◌, ◌^◌, Bool, true, ◌&&◌, List, [], ◌∷◌, nat_le, IsTrue, IfSome}
 use Rattle.std.specs.Prelude.{Option}
 use Rattle.std.specs.List.{list_all}
@@ -11,8 +11,8 @@ use Rattle.dns_spec.specs.Sets.{RecordSet, records_at}
 use Rattle.dns_spec.specs.Reading.{Header, MessageQuestion}
 use Rattle.dns_spec.specs.Layout.{Section, answer, authority, additional, Item}
 
--- What octets mean after the earlier entries of a text. By `extent`, the octets are the rest of the
--- text or a beginning of the rest.
+-- What octets mean after the entries `earlier` of a text. `extent` states whether the octets are
+-- all of the remaining text or only a prefix of it.
 abbrev pub OctetsMean : DomainName → List Entry → Extent → Octets → Meaning → Type 0
 OctetsMean o earlier extent octets m =
     (es : List Entry) × EntriesOf extent octets es × EntriesMean o earlier es m

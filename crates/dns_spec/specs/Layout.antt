@@ -42,7 +42,7 @@ records_of = flat_map (λ (i : Item). i.records)
 abbrev pub in_section : Section → List Item → List ResourceRecord
 in_section s items = records_of (filter (λ (i : Item). is_section s i.section) items)
 
--- RFC 1035 4.1.4: a pointer to a place
+-- RFC 1035 4.1.4: a pointer to place p
 abbrev pub pointer : ℕ → Octets
 pointer p = octets16 (192 * 256 + p)
 
@@ -54,13 +54,13 @@ Placed = DomainName × ℕ
 abbrev pub has_suffix : DomainName → DomainName → Bool
 has_suffix n s = nat_le (length s) (length n) && names_equal (last_labels (length s) n) s
 
--- the place of the first label of the suffix s, if the labels before s are written at the name's
--- place
+-- the place at which the suffix s of an earlier name begins, provided that all labels of the name
+-- in front of s are written out
 abbrev pub suffix_place : Placed → DomainName → ℕ
 suffix_place m s = m.1 + (length (wire m.0) - length (wire s))
 
--- The place of s in the first earlier name that ends with s. No name before that name ends with s,
--- so at least the first label of s is written there, before any pointer.
+-- The place at which s begins in the first earlier name that ends with s. No name before that name
+-- ends with s, so that name is written out at least up to the first label of s, before any pointer.
 abbrev pub place_of : List Placed → DomainName → Option ℕ
 place_of [] s = None
 place_of (m ∷ ms) s = if has_suffix m.0 s then Some (suffix_place m s) else place_of ms s
@@ -78,12 +78,14 @@ abbrev pub reached : Option ℕ → Option ℕ
 reached None = None
 reached (Some p) = if nat_le p last_place then Some p else None
 
--- the place to which a name that ends with s may point: the place of s, if a pointer reaches it
+-- the place to which a name that ends with s may point: the one that `place_of` gives, if a pointer
+-- reaches it
 abbrev pub shared_place : List Placed → DomainName → Option ℕ
 shared_place ms s = reached (place_of ms s)
 
 -- A function that gives the place of a suffix among earlier names, if the suffix is to be shared:
--- `shared_place` for the layout, and `place_of` if a pointer reached every place.
+-- `shared_place` for the layout, and `place_of` for the unbounded layout, as if a pointer reached
+-- every place.
 abbrev pub Lookup : Type 0
 Lookup = List Placed → DomainName → Option ℕ
 
@@ -132,7 +134,7 @@ abbrev pub record_tail : ResourceRecord → Octets → Octets
 record_tail r d =
     octets16 r.rtype ++ octets16 class_in ++ octets32 r.ttl ++ octets16 (length d) ++ d
 
--- a record laid out from place p on; for the names in its data, its owner is an earlier name
+-- a record laid out from place p on; the names in its data may share suffixes with its owner
 abbrev pub record_by : Lookup → List Placed → ℕ → ResourceRecord → Laid
 record_by find ms p r =
     let owner = octets_by find ms r.owner in
@@ -161,7 +163,8 @@ abbrev pub asked_octets : Option MessageQuestion → Octets
 asked_octets None = []
 asked_octets (Some q) = question_octets q
 
--- the earlier names of the first record: the QNAME, which begins at place 12
+-- the names in front of the first record: the QNAME, which begins at place 12, if there is a
+-- question
 abbrev pub asked_placed : Option MessageQuestion → List Placed
 asked_placed None = []
 asked_placed (Some q) = (q.qname, 12) ∷ []
@@ -172,7 +175,7 @@ abbrev pub header_octets : Header → ℕ → ℕ → ℕ → ℕ → Octets
 header_octets h qd an ns ar =
     octets16 h.id ++ octets16 h.flags ++ octets16 qd ++ octets16 an ++ octets16 ns ++ octets16 ar
 
--- the header of a message with its counts
+-- the header of a reply, with the numbers of its questions and of the records in each section
 abbrev pub reply_header : Header → Option MessageQuestion → List Item → Octets
 reply_header h q items =
     header_octets h (length (option_to_list q)) (length (in_section answer items))

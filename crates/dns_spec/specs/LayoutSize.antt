@@ -4,7 +4,7 @@ use Rattle.std.specs.Prelude.{Option}
 use Rattle.dns_spec.specs.Reading.{MessageQuestion}
 use Rattle.dns_spec.specs.Layout.{Item, Lookup, records_of, records_by, shared_place, asked_octets, asked_placed}
 
--- the size, if places are found by `find`
+-- the size of the layout in which `find` gives the places of shared suffixes
 abbrev pub size_by : Lookup → Option MessageQuestion → List Item → ℕ
 size_by find q items =
     let from = 12 + length (asked_octets q) in

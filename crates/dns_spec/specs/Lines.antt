@@ -7,7 +7,7 @@ use Rattle.dns_spec.specs.Names.{Octets}
 use Rattle.dns_spec.specs.DataText.{hex_octets}
 use Rattle.dns_spec.specs.WrittenText.{hex_text}
 
--- puts an octet in front of the first line, or makes it a line if there are no lines
+-- puts an octet in front of the first line, or makes it the only line if there are no lines
 abbrev pub begin_line : ℕ → List Octets → List Octets
 begin_line o [] = (o ∷ []) ∷ []
 begin_line o (l ∷ ls) = (o ∷ l) ∷ ls
@@ -35,13 +35,13 @@ abbrev pub reply_line : Option Octets → Octets
 reply_line None = codes "none\n"
 reply_line (Some r) = hex_text r ++ codes "\n"
 
--- the line that is written for a message, by its reply, or for a line that is not a message;
--- `reply` gives the reply to each message
+-- the line that is written for a line of the input, by the message in that line, if there is one;
+-- `reply` gives the reply to a message
 abbrev pub message_answer : (Octets → Option Octets) → Option Octets → Octets
 message_answer reply None = codes "bad hex\n"
 message_answer reply (Some m) = reply_line (reply m)
 
--- what is written for lines: one line for each
+-- what is written for the lines of an input: one line for each
 abbrev pub line_answers : (Octets → Option Octets) → List Octets → Octets
 line_answers reply = flat_map (λ l. message_answer reply (line_message l))
 

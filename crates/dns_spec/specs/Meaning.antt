@@ -29,12 +29,12 @@ pub data EntryMeaning : Type 0 where
   faulty : FileFault → EntryMeaning
   gives : List ResourceRecord → EntryMeaning
 
--- no value has this property
+-- P holds for no value
 abbrev pub Nothing : {A : Type 0} → (A → Type 0) → Type 0
 Nothing {A} P = (v : A) → P v → ⊥
 
--- Faults by rising code, each with its condition. The entry has the first fault whose condition
--- holds; if none holds, it means what `Faultless` says.
+-- What an entry means, by a list of faults in the order of their codes, each with its condition:
+-- the first fault whose condition holds, or, if no condition holds, what `Faultless` allows.
 abbrev pub Lowest : List (FileFault × Type 0) → (EntryMeaning → Type 0) → EntryMeaning → Type 0
 Lowest [] Faultless given = Faultless given
 Lowest ((fault, Condition) ∷ higher) Faultless given =
@@ -113,7 +113,7 @@ fields (w ∷ ws) =
     else if is_class_word w then ttl_after w ws
     else record { ttl = None; class = None; others = w ∷ ws }
 
--- the first argument of the directive, if it has this name
+-- for a directive with this name: its first argument, if it has one
 abbrev pub directive_word : Octets → EntryKind → Option Word
 directive_word name no_words = None
 directive_word name (directive n []) = None
@@ -149,8 +149,8 @@ abbrev pub nearest : (EntryKind → Option Word) → List Entry → Option Word
 nearest word_of [] = None
 nearest word_of (e ∷ earlier) = option_or (word_of (kind_of e)) (nearest word_of earlier)
 
--- RFC 1035 5.1: the last `$ORIGIN` sets the origin, relative to the origin before it; without one
--- it is the origin of the file
+-- RFC 1035 5.1: n is the origin in force after the entries: the argument of the last `$ORIGIN`,
+-- relative to the origin in force before that entry; without a `$ORIGIN`, the origin of the file
 abbrev pub OriginIs : DomainName → List Entry → DomainName → Type 0
 OriginIs o [] n = n ≡ o
 OriginIs o (e ∷ earlier) n =
@@ -192,7 +192,8 @@ is_zone_type t =
     not (t == 0 || (nat_le 128 t && nat_le t 255)
     || list_any (λ u. t == u) (39 ∷ 41 ∷ 43 ∷ 46 ∷ 47 ∷ 48 ∷ 50 ∷ 51 ∷ []))
 
--- the first of these words names the type
+-- the first of these words is unquoted and names the type, and a zone may contain records of that
+-- type
 abbrev pub TypeIs : List Word → ℕ → Type 0
 TypeIs [] t = ⊥
 TypeIs (w ∷ ws) t = IsTrue (not w.is_quoted) × NamesType w.raw t × IsTrue (is_zone_type t)
@@ -253,14 +254,14 @@ OneWord P [] = ⊥
 OneWord P (w ∷ []) = P w
 OneWord P (w ∷ v ∷ ws) = ⊥
 
--- `R06` if a directive does not have exactly one argument, or P holds for no value of it; valid
--- arguments give no record
+-- `R06` if the directive does not have exactly one argument, or P holds for no value of that
+-- argument; otherwise, the directive gives no record
 abbrev pub DirectiveSays : {A : Type 0} → (A → Word → Type 0) → List Word → EntryMeaning → Type 0
 DirectiveSays {A} P ws =
     Lowest ((directive_words, Nothing (λ (v : A). OneWord (P v) ws)) ∷ [])
     (λ given. given ≡ gives [])
 
--- RFC 1035 5.1, RFC 2308 section 4: what a directive means; `R05`: it is neither `$ORIGIN` nor
+-- RFC 1035 5.1, RFC 2308 section 4: what a directive means: `R05` if it is neither `$ORIGIN` nor
 -- `$TTL`
 abbrev pub DirectiveGives : DomainName → List Entry → Octets → List Word → EntryMeaning → Type 0
 DirectiveGives o earlier name ws given =
@@ -290,12 +291,13 @@ pub data Meaning : Type 0 where
   records : List ResourceRecord → Meaning
   fault_at : FileFault → ℕ → Meaning
 
--- records, followed by the records that later entries mean; or the fault of the later entries
+-- the records of an entry, followed by the records that the later entries mean; or the fault of the
+-- later entries
 abbrev pub after : List ResourceRecord → Meaning → Meaning
 after rs (records more) = records (rs ++ more)
 after rs (fault_at fault line) = fault_at fault line
 
--- the line on which an entry begins, counted from 1
+-- the line on which the entry after the entries `earlier` begins, counted from 1
 abbrev pub line_after : List Entry → ℕ
 line_after earlier = 1 + length (filter is_line_end (flat_map (λ (e : Entry). e.tokens) earlier))
 

@@ -12,8 +12,8 @@ use Rattle.dns_spec.specs.Reading.{MessageQuestion, MessageRecord, DnsMessage, S
 use Rattle.dns_spec.specs.Layout.{octets16}
 use Rattle.dns_spec.specs.Lines.{lines, line_message}
 
--- a count; and the line for the header (RFC 1035 4.1.1): ID and flags in hex digits, and the
--- numbers of questions, answers, authority and additional records
+-- a count after a space; and the line for the header (RFC 1035 4.1.1): ID and flags in hex digits,
+-- and the numbers of questions and of answer, authority and additional records
 abbrev pub count_text : ℕ → Octets
 count_text n = codes " " ++ decimal n
 
@@ -63,7 +63,7 @@ abbrev pub PrintsMessage : Option Octets → Report → Type 0
 PrintsMessage None report = report ≡ record { output = codes "bad hex\n"; passes = false }
 PrintsMessage (Some b) report = PrintsOctets b report
 
--- the first of the lines, or the empty line if there are none
+-- the first of the lines, or an empty line if there are no lines
 abbrev pub first_of : List Octets → Octets
 first_of [] = []
 first_of (l ∷ ls) = l

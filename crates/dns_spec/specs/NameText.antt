@@ -45,7 +45,8 @@ escape_front (a ∷ text) =
     if is_ascii_digit a then digits_front (a ∷ text)
     else if is_printable a then Some (a, text) else None
 
--- the number of octets after a backslash that belong to its escape, if it begins one
+-- for the text after a backslash: how many of its octets belong to the escape, if there is an
+-- escape
 abbrev pub escape_left : Octets → Option ℕ
 escape_left text = option_map (λ r. length text - length r.1) (escape_front text)
 
@@ -73,10 +74,10 @@ pub record SpellsName (origin : DomainName) (word : Octets) (n : DomainName) : T
       ⊎ ((word ≢ codes "@") × (word ≢ []) × TextSpells origin word n))
   pub is_name : IsTrue (is_name n)
 
--- RFC 1035 5.1 and 2.3.4: the fault of the first faulty label of a text. 4: a backslash in the
--- label begins no escape; else 1: the label is empty; or 2: it has more than 63 octets. 3 if no
--- label is faulty. The empty text after a final dot is not a label. The current label has i octets
--- before the text, and the first k octets of the text belong to the current escape.
+-- RFC 1035 5.1 and 2.3.4: the fault of the first faulty label of a text: 4 if a backslash in the
+-- label begins no escape; else 1 if the label is empty, or 2 if it has more than 63 octets. 3 if no
+-- label is faulty. The empty text after a final dot is not a label. The text continues a label that
+-- has i octets so far, and its first k octets belong to the current escape.
 unfoldable pub labels_fault : ℕ → ℕ → Octets → ℕ
 labels_fault k i [] = if nat_lt 63 i then 2 else 3
 labels_fault (suc k) i (o ∷ text) = labels_fault k i text

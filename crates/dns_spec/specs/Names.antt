@@ -57,7 +57,7 @@ last_labels k n = drop (length n - k) n
 abbrev pub at_or_below : DomainName → DomainName → Bool
 at_or_below n a = nat_le (length a) (length n) && same (last_labels (length a) n) a
 
--- n is below a: at or below it, with more labels
+-- n is below a: n is at or below a and has more labels
 abbrev pub below : DomainName → DomainName → Bool
 below n a = nat_lt (length a) (length n) && at_or_below n a
 
@@ -75,7 +75,7 @@ label_order = slice_cmp nat_cmp
 abbrev pub name_order : DomainName → DomainName → Ordering
 name_order n m = slice_cmp label_order (reverse (folded n)) (reverse (folded m))
 
--- puts a label in front of a name, the first of a pair
+-- puts a label in front of the name in a pair of a name and something else
 abbrev pub with_label : {X : Type 0} → Octets → DomainName × X → DomainName × X
 with_label l (n, after) = (l ∷ n, after)
 

@@ -1,4 +1,4 @@
--- Which name is at a place of a message.
+-- Which name is at a place of a message. A place is the index of an octet, counted from 0.
 use Rattle.std.specs.Prelude.{◌≡◌, ℕ, ◌+◌, ◌-◌, ◌*◌, ◌<◌, ◌≤◌, [], ◌∷◌, length, take, drop, slice_get, Some, IsTrue}
 use Rattle.dns_spec.specs.Names.{Octets, DomainName, is_name}
 
@@ -10,8 +10,8 @@ pointer_place o o' = (o - 192) * 256 + o'
 -- RFC 1035 4.1.4: in the octets b, a run of labels began at place s. From place i on the run spells
 -- n, and its own octets end before place e. An octet 0 ends the run. An octet k from 1 to 63 is
 -- followed by a label of k octets. An octet of at least 192 and the next octet are a pointer to
--- another run, which spells the rest of n; the pointer's place is after the header and before the
--- place where the current run began. Other octets spell no name.
+-- another run, which spells the rest of n. That run begins after the header and before the current
+-- run. Other octets spell no name.
 pub data RunAt (b : Octets) : ℕ → ℕ → DomainName → ℕ → Type 0 where
   ends : {s : ℕ} (i : ℕ) → slice_get b i ≡ Some 0 → RunAt b s i [] (i + 1)
   goes_on : {s : ℕ} (i k : ℕ) (l : Octets) (n : DomainName) (e : ℕ)

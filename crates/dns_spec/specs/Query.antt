@@ -41,8 +41,8 @@ reply_head h aa tc rcode = record {
 abbrev pub refusal_head : Header → ℕ → Header
 refusal_head h = reply_head h false false
 
--- RFC 1035 4.1.2: the question with name n, which ends before place e, if its QTYPE and QCLASS are
--- the last octets
+-- RFC 1035 4.1.2: the question whose name is n, if the datagram ends with its QTYPE and QCLASS; the
+-- name ends before place e
 abbrev pub question_of : Octets → DomainName × ℕ → Option MessageQuestion
 question_of d (n, e) =
     if length d == e + 4
@@ -52,7 +52,7 @@ question_of d (n, e) =
 unfoldable pub question_at : Octets → Option MessageQuestion
 question_at d = elim (name_at d 12) [ None ↦ None | Some r ↦ question_of d r ]
 
--- the counts in the header are one question and no records
+-- the header counts one question and no records
 abbrev pub counts_are_one_question : Octets → Bool
 counts_are_one_question d =
     field16 d 4 == 1 && field16 d 6 == 0 && field16 d 8 == 0 && field16 d 10 == 0
@@ -61,9 +61,9 @@ counts_are_one_question d =
 abbrev pub is_ignored : Octets → Bool
 is_ignored d = nat_lt (length d) 12 || is_response (field16 d 2)
 
--- A datagram as a query: `absent` if it gets no reply; `refused_with` a header, the whole reply, if
--- its opcode is not 0 or it is not a header and exactly one question; else its header as received,
--- and its question.
+-- A datagram as a query: `absent` if it gets no reply; `refused_with` the header that is the whole
+-- reply, if its opcode is not 0 or it does not consist of a header and exactly one question; else
+-- `query`, with its header as received and its question.
 pub data QueryRead : Type 0 where
   absent : QueryRead
   refused_with : Header → QueryRead

@@ -72,8 +72,9 @@ question_after b (n, j) =
 abbrev pub message_question_at : Octets → ℕ → Option (MessageQuestion × ℕ)
 message_question_at b i = option_and_then (question_after b) (name_at b i)
 
--- A field at place i of data that ends before place e, for i ≤ e ≤ length b: its octets without
--- compression, and the place after the field. RFC 1035 4.1.4: only names contain pointers.
+-- A name, if it ends by place e; and the field at place i of data that ends before place e, for
+-- i ≤ e ≤ length b: its octets without compression, and the place after it. RFC 1035 4.1.4: only
+-- names contain pointers.
 abbrev pub name_inside : ℕ → SpelledName → Option (Octets × ℕ)
 name_inside e (n, j) = if nat_le j e then Some (wire n, j) else None
 
@@ -89,8 +90,8 @@ fields_at b (f ∷ fs) i e =
     option_and_then (λ r. option_map (λ d. r.0 ++ d) (fields_at b fs r.1 e)) (field_at b f i e)
 
 -- The data from place i up to place e, by the fields of its type in class IN. In another class, or
--- if the type is not in the table, the data is any octets; in this product also if RFC 1035 3.3
--- defines names in data of the type.
+-- if the type is not in the table, the data is any octets; in this product, that includes types for
+-- which RFC 1035 3.3 defines names in the data.
 abbrev pub data_fields : ℕ → ℕ → List Field
 data_fields t c = if c == class_in then fields_of t else anything ∷ []
 
@@ -121,7 +122,8 @@ record_after b (n, j) =
 abbrev pub message_record_at : Octets → ℕ → Option (MessageRecord × ℕ)
 message_record_at b i = option_and_then (record_after b) (name_at b i)
 
--- k questions or records in order, from place i on, and the place after them; `read` gives each
+-- k questions or records in order, from place i on, and the place after them; `read` gives the one
+-- at a place, and the place after it
 unfoldable pub several : {X : Type 0} → (ℕ → Option (X × ℕ)) → ℕ → ℕ → Option (List X × ℕ)
 several read zero i = Some ([], i)
 several read (suc k) i =

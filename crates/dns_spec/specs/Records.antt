@@ -14,7 +14,8 @@ pub record ResourceRecord : Type 0 where
   pub rtype : ℕ
   pub rdata : Octets
 
--- equal owner in any case, type and data (RFC 2181 section 5) and, in this product, TTL
+-- two records are equal: the same owner in any case, the same type and data (RFC 2181 section 5)
+-- and, in this product, the same TTL
 abbrev pub records_equal : ResourceRecord → ResourceRecord → Bool
 records_equal r s =
     same r.owner s.owner && r.rtype == s.rtype && octets_equal r.rdata s.rdata && r.ttl == s.ttl
@@ -28,7 +29,7 @@ pub record ZoneContents : Type 0 where
   pub origin : DomainName
   pub records : List ResourceRecord
 
--- the list without duplicates: of equal elements the first is kept
+-- the list without duplicates: of equal elements, only the first remains
 abbrev pub distinct : {X : Type 0} → (X → X → Bool) → List X → List X
 distinct eq [] = []
 distinct eq (x ∷ xs) = x ∷ filter (λ y. not (eq x y)) (distinct eq xs)
@@ -47,12 +48,13 @@ abbrev pub sort_by : {X : Type 0} → (X → X → Ordering) → List X → List
 sort_by cmp [] = []
 sort_by cmp (x ∷ xs) = insert_by cmp x (sort_by cmp xs)
 
--- RFC 4034 6.3: data is compared as unsigned octets; data that begins other data comes first
+-- RFC 4034 6.3: data is compared as unsigned octets; data comes before longer data that begins with
+-- it
 abbrev pub data_order : ResourceRecord → ResourceRecord → Ordering
 data_order r s = slice_cmp nat_cmp r.rdata s.rdata
 
--- By owner (RFC 4034 6.1); then, in this product, by type; then by data (RFC 4034 6.3); and last
--- by TTL.
+-- The canonical order of records: by owner (RFC 4034 6.1); then, in this product, by type; then by
+-- data (RFC 4034 6.3); and last by TTL.
 abbrev pub record_order : ResourceRecord → ResourceRecord → Ordering
 record_order r s =
     ordering_then (name_order r.owner s.owner)
@@ -83,11 +85,11 @@ owns z n t = list_any (λ (r : ResourceRecord). same r.owner n && r.rtype == t) 
 abbrev pub with_owner : DomainName → List ResourceRecord → List ResourceRecord
 with_owner n = map (λ (r : ResourceRecord). record r { owner = n })
 
--- the SERIAL of the first of the SOA records; 0 if there is none
+-- the SERIAL of the first of the SOA records; 0 if there are no records
 abbrev pub first_serial : List ResourceRecord → ℕ
 first_serial [] = 0
 first_serial (r ∷ rs) = soa_serial r.rdata
 
--- RFC 1035 3.3.13: the serial of a zone is the SERIAL of the SOA at its origin; 0 without one
+-- RFC 1035 3.3.13: the serial of a zone is the SERIAL of the SOA at its origin; 0 without an SOA
 abbrev pub zone_serial : ZoneContents → ℕ
 zone_serial z = first_serial (rrset z z.origin type_soa)

@@ -1,5 +1,5 @@
 -- What a server decides about a datagram, step by step, and the reply: its header, its question,
--- and the longest beginning of the RRsets that fits.
+-- and the longest prefix of the RRsets that fits.
 use Rattle.std.specs.Prelude.{ℕ, zero, suc, Bool, ◌&&◌, ◌||◌, not, List, [], ◌∷◌, ◌++◌, length, take, nat_lt, nat_le, ◌==◌, if◌then◌else◌}
 use Rattle.std.specs.Prelude.{Option, None, Some}
 use Rattle.std.specs.Option.{option_map}
@@ -17,10 +17,10 @@ abbrev pub greatest : (ℕ → Bool) → ℕ → ℕ
 greatest test zero = 0
 greatest test (suc k) = if test (suc k) then suc k else greatest test k
 
--- The longest beginning of a list of sets for which the size of the reply is at most the limit. In
--- this product, an RRset is sent whole or not at all (with TC, RFC 2181 section 9 allows a part).
--- If not even the question fits (it may need 271 octets with the header), no set is kept and the
--- reply exceeds the limit.
+-- The longest prefix of a list of sets with which the size of the reply is at most the limit. In
+-- this product, an RRset is sent whole or not at all (with TC, RFC 2181 section 9 allows a part of
+-- it). If not even the question fits (header and question may need 271 octets), no set is kept and
+-- the reply exceeds the limit.
 abbrev pub kept : (List Item → ℕ) → ℕ → List Item → List Item
 kept size_of limit sets =
     take (greatest (λ k. nat_le (size_of (take k sets)) limit) (length sets)) sets
@@ -38,8 +38,8 @@ fitting size_of limit front (i ∷ is) =
 abbrev pub truncated : ZoneContents → MessageQuestion → List Item → Bool
 truncated z q sets = nat_lt (length sets) (length (required_items z q.qname q.qtype))
 
--- What is sent for a datagram: nothing, the header of a reply, the header of a reply and the
--- question, or an answer to the query with this header and question.
+-- What is sent for a datagram: nothing; this header; this header and this question; or an answer to
+-- the query with this header and question.
 pub data Decision : Type 0 where
   silence : Decision
   header_alone : Header → Decision
@@ -72,13 +72,13 @@ decide_query z (query h q) = decide_question h q (refusal z q)
 unfoldable pub decide : ZoneContents → Octets → Decision
 decide z d = decide_query z (query_read d)
 
--- A reply: its header, its question unless only the header is sent, and the RRsets kept.
+-- A reply: its header, its question unless only the header is sent, and the RRsets that it keeps.
 pub record Reply : Type 0 where
   pub header : Header
   pub question : Option MessageQuestion
   pub sets : List Item
 
--- The reply to a question with these sets, a beginning of all sets of its answer.
+-- The reply to a question with these sets, which are a prefix of all sets for the question.
 abbrev pub answer_with : ZoneContents → Header → MessageQuestion → List Item → Reply
 answer_with z h q sets =
     let o = outcome z q.qname q.qtype in
@@ -88,7 +88,8 @@ answer_with z h q sets =
       sets = sets;
     }
 
--- The reply for a decision, and to a datagram; `keep` gives the sets that are kept for a question.
+-- The reply by a decision, and the reply to a datagram; `keep` gives the sets that the reply to a
+-- question keeps.
 abbrev pub reply_of : (MessageQuestion → List Item) → ZoneContents → Decision → Option Reply
 reply_of keep z silence = None
 reply_of keep z (header_alone h) = Some (record { header = h; question = None; sets = [] })
@@ -98,8 +99,8 @@ reply_of keep z (answered h q) = Some (answer_with z h q (keep q))
 unfoldable pub reply_with : (MessageQuestion → List Item) → ZoneContents → Octets → Option Reply
 reply_with keep z d = reply_of keep z (decide z d)
 
--- the longest beginning of all sets of a question's answer that fits the limit; the limit should be
--- at least 271 octets
+-- the longest prefix of all sets for a question with which the reply fits the limit; the limit
+-- should be at least 271 octets
 abbrev pub keep_longest : ZoneContents → ℕ → MessageQuestion → List Item
 keep_longest z limit q = kept (size (Some q)) limit (items z q.qname q.qtype)
 

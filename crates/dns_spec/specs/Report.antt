@@ -59,8 +59,8 @@ failing options lines =
       passes = false;
     }
 
--- the report of a zone that passes: with `is_printing` its canonical text, else with `is_quiet`
--- nothing, else that it is loaded
+-- the report of a zone that passes: with `is_printing`, its canonical text; else with `is_quiet`,
+-- nothing; else, `loaded_report`
 abbrev pub passing : Options → ZoneContents → Report
 passing options z =
     record {

@@ -14,7 +14,8 @@ types_of rs = distinct ◌==◌ (map (λ (r : ResourceRecord). r.rtype) rs)
 abbrev pub rising_types : List ResourceRecord → List ℕ
 rising_types rs = sort_by nat_cmp (types_of rs)
 
--- the records of the first type, and of the lowest type of these records, sorted by data
+-- the records that have the first of the types, and the records that have the lowest type of all
+-- records, sorted by data
 abbrev pub of_first_type : List ℕ → List ResourceRecord → List ResourceRecord
 of_first_type [] rs = []
 of_first_type (t ∷ ts) rs = of_type t rs
@@ -38,8 +39,8 @@ records_at owner ttl set =
     map (λ (d : Octets). record { owner = owner; ttl = ttl; rtype = set.rtype; rdata = d })
     set.rdata
 
--- the set of records of one type, with the type and the TTL of the first; none if there are no
--- records
+-- records of one type as a set, with the type and the TTL of the first record; `None` if there are
+-- no records
 abbrev pub set_of : List ResourceRecord → Option RecordSet
 set_of [] = None
 set_of (r ∷ rs) =

@@ -1,6 +1,6 @@
 -- The sizes that RFC 1035 4.1.4 allows for a reply, if each name is written whole or shares any
--- one of its suffixes. The layout has the least of them up to 16,384 octets; in longer replies,
--- some places are beyond the reach of a pointer.
+-- suffix that an earlier name has. Up to 16,384 octets, the layout has the least of these sizes; in
+-- longer replies, some places are beyond the reach of a pointer.
 use Rattle.std.specs.Prelude.{◌≡◌, ℕ, List, IsTrue}
 use Rattle.std.specs.Prelude.{Option, Some}
 use Rattle.std.specs.List.{list_any}

@@ -20,8 +20,8 @@ first_frame x =
     let n = field16 x 0 in
     if has_frame x then Some (take n (drop 2 x), drop n (drop 2 x)) else None
 
--- the messages of the first k frames that the octets begin with, or of all these frames if there
--- are fewer; and the octets after them
+-- the messages of the first k of the whole frames with which the octets begin, or of all of them if
+-- they are fewer than k; and the octets after these frames
 unfoldable pub frames : ℕ → Octets → List Octets
 frames zero x = []
 frames (suc k) x = elim (first_frame x) [ None ↦ [] | Some r ↦ r.0 ∷ frames k r.1 ]
@@ -30,8 +30,8 @@ unfoldable pub after_frames : ℕ → Octets → Octets
 after_frames zero x = x
 after_frames (suc k) x = elim (first_frame x) [ None ↦ x | Some r ↦ after_frames k r.1 ]
 
--- The octets are the beginning of a frame, neither empty nor whole: a stream that ends with these
--- octets was cut short.
+-- The octets are a prefix of a frame, neither empty nor the whole frame: a stream that ends with
+-- these octets was cut short.
 pub record IsCutFrame (x : Octets) : Type 0 where
   pub message : Octets
   pub short : length message < 2 ^ 16

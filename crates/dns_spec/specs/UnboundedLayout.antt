@@ -1,5 +1,5 @@
 -- The layout as it would be if a pointer reached every place. This file may be skipped: a law
--- states that up to 16,384 octets it is the layout, so the layout has the least size there.
+-- states that this layout and the real one are the same up to 16,384 octets.
 use Rattle.std.specs.Prelude.{ℕ, ◌+◌, List, ◌++◌, length}
 use Rattle.std.specs.Prelude.{Option}
 use Rattle.dns_spec.specs.Names.{Octets}

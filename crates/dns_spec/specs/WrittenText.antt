@@ -37,7 +37,7 @@ string_text s = word_text (quoted s)
 abbrev pub hex_text : Octets → Octets
 hex_text d = flat_map (λ o. digit_char (o / 16) ∷ digit_char (o % 16) ∷ []) d
 
--- all octets in one word; no word if there are none
+-- all octets in one word of hex digits; no word if there are no octets
 abbrev pub hex_words : Octets → List Word
 hex_words [] = []
 hex_words (o ∷ d) = plain (hex_text (o ∷ d)) ∷ []
@@ -72,8 +72,8 @@ abbrev pub field_words : List Field → Octets → List Word
 field_words [] d = []
 field_words (f ∷ fs) d = (word_front f d).0 ∷ field_words fs (word_front f d).1
 
--- the number of character-strings in data (RFC 1035 3.3); the first k octets belong to the current
--- one
+-- the number of character-strings that begin in the octets (RFC 1035 3.3); the first k octets
+-- belong to a string that began before
 abbrev pub string_count : ℕ → Octets → ℕ
 string_count k [] = 0
 string_count zero (k ∷ d) = 1 + string_count k d

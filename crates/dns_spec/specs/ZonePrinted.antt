@@ -31,7 +31,7 @@ record_line r =
     name_text r.owner ++ codes " " ++ decimal r.ttl ++ codes " IN " ++ type_text r.rtype
     ++ codes " " ++ data_text r.rtype r.rdata ++ codes "\n"
 
--- SOA records before all others (in this product)
+-- the record is an SOA; and the records with all SOA records in front (in this product)
 abbrev pub is_soa : ResourceRecord → Bool
 is_soa r = r.rtype == type_soa
 

@@ -37,7 +37,7 @@ abbrev pub unit_left : (ℕ → Bool) → ℕ → Octets → Option ℕ
 unit_left by_itself o text =
     if o == 92 then escape_left text else if by_itself o then Some 0 else None
 
--- the length of the longest beginning of the text that may be in a word or a string; its first k
+-- the length of the longest prefix of the text that may be in a word or a string; the first k
 -- octets belong to the current escape
 unfoldable pub run_length : (ℕ → Bool) → ℕ → Octets → ℕ
 run_length by_itself k [] = 0
@@ -54,7 +54,8 @@ word_length text = run_length is_word_octet 0 text
 abbrev pub string_length : Octets → ℕ
 string_length text = run_length is_string_octet 0 text
 
--- after an opening quotation mark: the string up to the closing mark, and the text after the mark
+-- after an opening quotation mark: the string up to the closing mark, and the text after the
+-- closing mark
 abbrev pub closed : Octets → Octets → Option (Token × Octets)
 closed raw [] = None
 closed raw (o ∷ text) = if o == 34 then Some (quoted_string raw, text) else None
@@ -94,7 +95,7 @@ TokensThen text [] rest = text ≡ rest
 TokensThen text (p ∷ ps) rest =
     (others : Octets) × (token_front text ≡ Some (p, others)) × TokensThen others ps rest
 
--- true for an opening parenthesis, false for a closing one, and none for another token
+-- true for an opening parenthesis, false for a closing one, and `None` for any other token
 abbrev pub parenthesis : Token → Option Bool
 parenthesis blank = None
 parenthesis comment = None
@@ -161,22 +162,22 @@ abbrev pub begins_with : ℕ → Octets → Bool
 begins_with x [] = false
 begins_with x (o ∷ text) = o == x
 
--- How much of a text is examined: all of it, or a beginning that more text follows.
+-- How much of a text is examined: all of it, or a prefix that more text follows.
 pub data Extent : Type 0 where
   whole_text : Extent
   beginning : Extent
 
--- the extent, by whether the text goes on
+-- the extent, by whether the text goes on after the octets that are examined
 abbrev pub extent_by : Bool → Extent
 extent_by goes_on = if goes_on then beginning else whole_text
 
--- a text is examined only up to its limit
+-- the extent of a text, of which at most `most_octets` octets are examined
 abbrev pub extent_of : Octets → Extent
 extent_of text = extent_by (nat_lt most_octets (length text))
 
 -- Why no token begins at a place: the text is over; the quoted string that begins there ends
 -- without a closing mark; or the octet there can't begin a token. `in_string` contains the octets
--- after the string, and `in_token` the octets from the place on.
+-- after the string, and `in_token` the octets from that place on.
 pub data EntryStop : Type 0 where
   text_over : EntryStop
   in_string : Octets → EntryStop
@@ -203,8 +204,9 @@ unless_cut_short whole_text place fault = fault
 unless_cut_short beginning place fault = if is_cut_short place then too_long else fault
 
 -- The fault of an entry that does not end with a line end; `is_open` is whether it ends inside
--- parentheses. `R15` if the text goes on past its limit; `R04` if the text ends inside parentheses;
--- no fault if it ends outside them; else the fault of an invalid token.
+-- parentheses. At the end of the examined octets: `R15` if more text follows; else `R04` inside
+-- parentheses, and no fault outside them. Before that: the fault of the octets at which no token
+-- begins, or `R15` if they are cut short and more text follows.
 abbrev pub stop_fault : Extent → Bool → EntryStop → Option FileFault
 stop_fault whole_text is_open text_over = if is_open then Some bad_parenthesis else None
 stop_fault beginning is_open text_over = Some too_long
@@ -227,14 +229,14 @@ abbrev pub unended : Extent → Octets → List Token → Entry
 unended extent rest ps =
     record { tokens = ps; end_fault = stop_fault extent (is_open_at_end ps) (stop_at rest) }
 
--- the entries of these lists of tokens; the last one ends at `rest`, not with a line end
+-- the entries of these lists of tokens; the last entry ends at `rest`, not with a line end
 abbrev pub with_end : Extent → Octets → List (List Token) → List Entry
 with_end extent rest [] = []
 with_end extent rest (ps ∷ []) = unended extent rest ps ∷ []
 with_end extent rest (ps ∷ qs ∷ es) = ended ps ∷ with_end extent rest (qs ∷ es)
 
--- The entries of octets that are a whole text, or a beginning of one: the tokens up to the first
--- place where no token begins, split into entries.
+-- The entries of octets that are a whole text, or a prefix of one: the tokens up to the first place
+-- where no token begins, split into entries.
 pub record EntriesOf (extent : Extent) (octets : Octets) (es : List Entry) : Type 0 where
   pub tokens : List Token
   pub rest : Octets

@@ -7,8 +7,8 @@ ghost use Rattle.dns_spec.specs.Names.{DomainName, folded};
 ghost use Rattle.dns_spec.specs.Records.{ResourceRecord, ZoneContents};
 ghost use Rattle.dns_spec.specs.Checks.{is_origin, is_owner, fails, faults, fault_order};
 
-/// For a name in lower case, the faults of a zone contain the fault with a given code if and only
-/// if the name fails the check with that code.
+/// For a name in lower case, `faults` lists a fault with this owner and a given code if and only if
+/// the name fails the check with that code.
 pub fn fault_stands_where_its_check_fails()
     ensures { (z : ZoneContents) (n : DomainName) (code : ℕ) → folded n ≡ n
         → Contains (faults z) (record { owner = n; code = code }) ↔ IsTrue (fails z n code) }
@@ -21,7 +21,7 @@ pub fn what_fails_is_the_origin_or_an_owner()
         → IsTrue (is_origin z n || is_owner z n) }
 {}
 
-/// Each fault is in the list once; the faults are sorted by owner in canonical order, then by code.
+/// `faults` lists no fault twice, and is sorted by owner in canonical order, then by code.
 pub fn faults_stand_once_in_order()
     ensures { (z : ZoneContents) → IsStrictlySortedBy fault_order (faults z) }
 {}

@@ -1,5 +1,5 @@
-//! Laws of types and of their data: a type is read as it is written, the parts of data are the
-//! data, and data in lower case is valid. What is written for data is read as that data again.
+//! Laws of types and their data: a type's text names it, and the parts of data join to that data.
+//! Valid data stays valid in lower case, and the words written for it spell it in lower case.
 
 ghost use Rattle.std.specs.Prelude.{◌≡◌, ℕ, ◌<◌, List, All, IsTrue};
 ghost use Rattle.std.specs.List.{list_all};
@@ -20,7 +20,7 @@ pub fn word_names_one_type()
     ensures { (word : Octets) (t u : ℕ) → NamesType word t → NamesType word u → t ≡ u }
 {}
 
-/// The parts of data, joined, are the data.
+/// Joining the parts of data gives that data.
 pub fn joined_parts_are_the_data()
     ensures { (t : ℕ) (d : Octets) → joined (parts t d) ≡ d }
 {}
@@ -50,7 +50,7 @@ pub fn written_words_stand_alone()
         → IsTrue (list_all stands_alone (written_words t d)) }
 {}
 
-/// Words spell at most one data of a type, relative to an origin.
+/// As data of a type, words spell at most one sequence of octets, relative to an origin.
 pub fn words_say_one_data()
     ensures { (t : ℕ) (ws : List Word) (origin : DomainName) (d e : Octets) → Says t ws origin d
         → Says t ws origin e → d ≡ e }
@@ -62,7 +62,7 @@ pub fn faulty_words_say_no_data()
         → DataFaultIs t ws origin k → Says t ws origin d → ⊥ }
 {}
 
-/// Words have at most one fault.
+/// As data of a type, words have at most one fault, relative to an origin.
 pub fn words_have_one_fault()
     ensures { (t : ℕ) (ws : List Word) (origin : DomainName) (j k : ℕ) → DataFaultIs t ws origin j
         → DataFaultIs t ws origin k → j ≡ k }

@@ -18,10 +18,9 @@ pub fn no_text_is_without_a_meaning()
     ensures { (o : DomainName) (text : Octets) → Nothing (Means o text) → ⊥ }
 {}
 
-/// A fault of a beginning of a text, other than `too_long`, is the fault of every text that begins
-/// so, on the same line: an entry that a line end ends, or whose fault is decided by octets of the
-/// beginning, is faulty whatever follows. The same holds for the rest of a text after its earlier
-/// entries.
+/// If the octets `front`, after the entries `earlier` and before more text, mean a fault other than
+/// `too_long`, then `front ++ more` means the same fault on the same line, whatever `more` is, and
+/// whether or not it is all of the remaining text.
 pub fn beginning_decides()
     ensures { (o : DomainName) (earlier : List Entry) (extent : Extent) (front more : Octets)
         (fault : FileFault) (line : ℕ)
@@ -29,8 +28,8 @@ pub fn beginning_decides()
         → OctetsMean o earlier extent (front ++ more) (fault_at fault line) }
 {}
 
-/// If a beginning of a text, of at most 16,777,216 octets, has a fault other than `too_long`, the
-/// text has that fault, on the same line.
+/// If a prefix of a text has at most 16,777,216 octets and means a fault other than `too_long`, the
+/// whole text means that fault, on the same line.
 pub fn faulty_beginning_makes_a_faulty_text()
     ensures { (o : DomainName) (front more : Octets) (fault : FileFault) (line : ℕ)
         → length front ≤ most_octets

@@ -11,8 +11,8 @@ ghost use Rattle.dns_spec.specs.Report.{Options, Report, Reports, zone_report};
 ghost use Rattle.dns_spec.specs.ZonePrinted.{IsReadRecord, HasZoneType, record_line, printed_records, zone_text};
 
 /// The text printed for records means these records, in the same order, whatever the origin (RFC
-/// 1035 section 5). The records are as read from a file (`IsReadRecord`), of types that zones
-/// contain, at most 100,000, and their text has at most 16,777,216 octets.
+/// 1035 section 5), provided that the records are as read from a file (`IsReadRecord`), have types
+/// that a zone may contain, are at most 100,000, and have a text of at most 16,777,216 octets.
 pub fn printed_records_are_read_back()
     ensures { (o : DomainName) (rs : List ResourceRecord) → All IsReadRecord rs
         → All HasZoneType rs → length rs ≤ most_records
@@ -20,8 +20,8 @@ pub fn printed_records_are_read_back()
         → Means o (flat_map record_line rs) (records rs) }
 {}
 
-/// The canonical text of a zone means the zone's records, up to their order, under the same
-/// conditions.
+/// The canonical text of a zone means the zone's records, in the order in which they are printed.
+/// The conditions are those of `printed_records_are_read_back`.
 pub fn zone_text_means_the_zone()
     ensures { (z : ZoneContents) (o : DomainName) → All IsReadRecord z.records
         → All HasZoneType z.records → length z.records ≤ most_records
@@ -36,10 +36,10 @@ pub fn order_of_records_changes_no_report()
         → zone_report options (ordered_zone o rs) ≡ zone_report options (zone_of o rs) }
 {}
 
-/// Lists of the same records, in any order and with or without duplicates, make one zone: in
-/// canonical order they are one list, with one canonical text and one report (RFC 2181 section 5,
-/// RFC 4034 section 6). The records of one of the lists, and so of both, are as read from a file
-/// (`IsReadRecord`), of any type and any number.
+/// Two lists of the same records, in any order and with or without duplicates, make the same zone
+/// in canonical order, with the same canonical text and the same report (RFC 2181 section 5, RFC
+/// 4034 section 6), provided that the records are as read from a file (`IsReadRecord`). Their types
+/// and their number do not matter.
 pub fn one_zone_has_one_text()
     ensures { (options : Options) (o : DomainName) (rs ss : List ResourceRecord)
         → All IsReadRecord rs → HoldSameRecords rs ss
@@ -48,9 +48,8 @@ pub fn one_zone_has_one_text()
         × (zone_report options (zone_of o rs) ≡ zone_report options (zone_of o ss)) }
 {}
 
-/// Two files of one zone that mean the same records, in any order and with or without duplicates,
-/// have one report: the faults, the lines of a zone that passes, or the canonical text if the
-/// options ask for it.
+/// Two files for the same origin that mean the same records, in any order and with or without
+/// duplicates, have the same report, whatever the options.
 pub fn files_of_one_zone_have_one_report()
     ensures { (o : DomainName) (t u : Octets) (rs ss : List ResourceRecord)
         → Means (folded o) t (records rs) → Means (folded o) u (records ss)
@@ -58,18 +57,18 @@ pub fn files_of_one_zone_have_one_report()
         → Reports o t options report ↔ Reports o u options report }
 {}
 
-/// The records that a text means meet the conditions of the other laws here: `IsReadRecord`, types
-/// that zones contain, and at most 100,000 records. The octets of the origin are below 256, as in
-/// every name of a program.
+/// The records that a text means satisfy `IsReadRecord`, have types that a zone may contain, and
+/// are at most 100,000, as the other laws here require, provided that the octets of the origin are
+/// below 256, as they are in every program.
 pub fn records_of_a_text_are_as_read()
     ensures { (o : DomainName) (t : Octets) (rs : List ResourceRecord) → All (All (λ x. x < 256)) o
         → Means o t (records rs)
         → All IsReadRecord rs × All HasZoneType rs × (length rs ≤ most_records) }
 {}
 
-/// The canonical text of the zone that a file means is itself a file of that zone, if the text has
-/// at most 16,777,216 octets and the octets of the origin are below 256: it has the file's report,
-/// whatever the options. So it has the same faults, or passes as the same zone.
+/// The canonical text of the zone that a file means has the same report as the file, whatever the
+/// options, provided that this text has at most 16,777,216 octets and the octets of the origin are
+/// below 256.
 pub fn canonical_text_has_the_report_of_its_file()
     ensures { (o : DomainName) (t : Octets) (rs : List ResourceRecord) → All (All (λ x. x < 256)) o
         → Means (folded o) t (records rs)
@@ -77,8 +76,8 @@ pub fn canonical_text_has_the_report_of_its_file()
         → Reports o (zone_text (zone_of o rs)) options report ↔ Reports o t options report }
 {}
 
-/// Printing twice is printing once: if the zone of a file passes, the text printed for it is a
-/// file that passes, for which the same text is printed. The text has at most 16,777,216 octets,
+/// Printing twice is the same as printing once: if the zone of a file passes, the text printed for
+/// it passes too and is printed unchanged, provided that this text has at most 16,777,216 octets
 /// and the octets of the origin are below 256.
 pub fn printing_twice_is_printing_once()
     ensures { (o : DomainName) (t : Octets) (options : Options) (report : Report)
@@ -87,10 +86,10 @@ pub fn printing_twice_is_printing_once()
         → Reports o report.output options report }
 {}
 
-/// Zones with the same canonical text contain the same records, each equally often. The records are
-/// as read from a file (`IsReadRecord`), of types that zones contain, at most 100,000 in each zone,
-/// and the text has at most 16,777,216 octets. The text does not state the origin, so the origins
-/// may differ.
+/// Two zones with the same canonical text contain the same records, each equally often, provided
+/// that the records are as read from a file (`IsReadRecord`) and have types that a zone may
+/// contain, each zone has at most 100,000 records, and the text has at most 16,777,216 octets. The
+/// origins may differ, since the text does not state them.
 pub fn zones_with_one_text_hold_the_same_records()
     ensures { (y z : ZoneContents) → All IsReadRecord y.records → All HasZoneType y.records
         → length y.records ≤ most_records

@@ -1,7 +1,7 @@
 -- What was written of the report on a file is what a check must write.
 use Rattle.dns_tools.proofs.Common.{arith, ◌≡◌, ◌≢◌, Bool, List, [], ◌∷◌, Option, Some, None, Result, Ok, Err, IsErrAnd, refl, subst, flat_map, Octets, DomainName, folded, ResourceRecord, ZoneContents, records_equal, distinct, zone_of, Fault, faults, Meaning, records, fault_at, Options, Report, failing, passing, fault_report, report_of_faults, zone_report, report_of_meaning, folded_folded, ordered_passing, AppendsBeginning, fault_of, GivesMeaning, Stop, Memory, Source, Sink, Refusal, File, Zone, LoadFault, Refused, IsRead, LoadedAs, refusal_report, ReportsOn, WrittenAs, ReportedAs, CheckedAs}
 
--- what was written of such a report
+-- what was written of a report of which `Is` holds
 pub reported : (Is : Report → Type 0) (report : Report) (result : Result Bool Stop) (old new :
     Option Octets) → Is report → WrittenAs report result old new → ReportedAs Is result old new
 reported Is report (Ok passes) old new h w = (report, h, w)
@@ -9,7 +9,7 @@ reported Is report (Err Sink) old new h w = (report, h, w)
 reported Is report (Err Memory) old new h w = absurd w
 reported Is report (Err Source) old new h w = absurd w
 
--- a prefix of such a report
+-- a prefix of a report of which `Is` holds was written
 pub report_begun : (Is : Report → Type 0) (report : Report)
     (result : Result Bool Stop) (old new : Option Octets) → IsErrAnd result (λ stop. stop ≡ Sink)
     → Is report → AppendsBeginning old new report.output → ReportedAs Is result old new

@@ -50,7 +50,7 @@ two_bytes a b h k (suc (suc i)) = omega arith
 pub digits16 : (n : ℕ) → encode_lower (octets16 n) ≡ hex_text (octets16 n)
 digits16 n = grind (arith, digits_written, octets16, two_bytes)
 
--- the octets that were read, without the reason if there are none
+-- the octets that were read, or `None`, without the reason, if the digits were rejected
 abbrev said : Result (List ℕ) FromHexError → Option Octets
 said (Ok d) = Some d
 said (Err e) = None

@@ -23,7 +23,7 @@ text_written text others so e w = record {
   counted = w.counted ∙ so.counted;
 }
 
--- or a prefix of it was written, and the result is the error
+-- a prefix of the next text was written, and the result is an error
 pub text_begun : {V E A F B : Type 0} {contents : V → Option Octets} {old mid new : Counted V}
     {e : E} {r : Result B F} {whole rest : Octets} (text others : Octets)
     → IsLeft contents old mid whole rest → rest ≡ text ++ others
@@ -44,7 +44,7 @@ pub piece_written : {V E A T : Type 0} {contents : V → Option Octets} {old mid
 piece_written {x = x} {i} f xs within is so text w =
     text_written (f x) _ so (next_piece f xs x i within is) (Writes-same text w)
 
--- or a prefix of it was written, and the result is the error
+-- a prefix of the next piece was written, and the result is an error
 pub piece_begun : {V E A F B T : Type 0} {contents : V → Option Octets} {old mid new : Counted V}
     {e : E} {r : Result B F} {x : T} {i : ℕ} {whole text : Octets} (f : T → Octets) (xs : List T)
     → i < length xs → x ≡ get_or xs i x → IsLeft contents old mid whole (flat_map f (drop i xs))

@@ -94,7 +94,7 @@ input_of (Some x) (Some y) input left count read (inr end) =
     sym (ap (take (2 ^ 64 - 1)) (read ∙ ap (λ z. input ++ z) end ∙ append-nil input)
     ∙ take_all (2 ^ 64 - 1) input (omega (arith, count)))
 
--- the rest of an input
+-- what was read is a prefix of an input
 rest_of : (a b : Option Octets) (given : Octets)
     → Consumes a b given → length given ≤ 2 ^ 64 - 1 → (rest : Octets) × IsInput a (given ++ rest)
 rest_of None b given read within = ([], tt)

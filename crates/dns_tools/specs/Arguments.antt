@@ -21,7 +21,7 @@ is_word_fault BadOrigin = true
 is_word_fault NoMemory = true
 is_word_fault _ = false
 
--- the diagnostics before ORIGIN is read
+-- the diagnostics that are possible before ORIGIN is read
 abbrev pub IsRefusal : FaultWord → Type 0
 IsRefusal fault = (fault ≡ Usage) ⊎ (fault ≡ NoMemory)
 
@@ -53,7 +53,7 @@ pub record HasBadOrigin {A : Type 0} (Ask : A → ZoneWords → Type 0) : Type 0
 abbrev pub AskNothing : {A : Type 0} → (A → ZoneWords → Type 0) → Type 0
 AskNothing {A} Ask = (a : A) (z : ZoneWords) → Ask a z → ⊥
 
--- the arguments ask the checker for this
+-- the arguments ask the checker for this call
 abbrev pub IsCheckCall : List Octets → CheckWords → Type 0
 IsCheckCall words call = IsCall (AskToCheck words (options_of call.flags)) call.origin call.file.now
 
@@ -66,7 +66,7 @@ abbrev pub limit_words : Transport → List Octets
 limit_words udp = []
 limit_words tcp = codes "--tcp" ∷ []
 
--- the service that is asked for
+-- the service that the parsed arguments ask for
 abbrev pub service_of : Service → ServiceAsked
 service_of (Once limit) = by_lines (transport_of limit)
 service_of (Udp address turns) = by_turns udp address.now turns
@@ -83,7 +83,7 @@ pub record IsService (front : List Octets) (a : ServiceAsked) : Type 0 where
   pub turns : HasTurns a
   pub address : HasAddress a
 
--- the arguments ask the server for this; its ADDR is not `--`
+-- the arguments ask the server for this service and this zone; the service's ADDR is not `--`
 pub record AskForService (words : List Octets) (a : ServiceAsked) (z : ZoneWords) : Type 0 where
   pub asked : AskToServe words a z
   pub address : HasAddress a
@@ -92,7 +92,7 @@ abbrev pub IsServeCall : List Octets → ServeWords → Type 0
 IsServeCall words call =
     IsCall (AskForService words (service_of call.service)) call.origin call.file.now
 
--- the arguments ask the server of a given socket for this
+-- what the parsed arguments ask the server of a given socket for, and that the arguments do so
 abbrev pub socket_asked : SocketWords → SocketAsked
 socket_asked call = record { transport = transport_of call.transport; turns = call.turns }
 

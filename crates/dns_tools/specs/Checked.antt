@@ -30,8 +30,8 @@ WrittenAs report (Err Sink) old new = AppendsBeginning old new report.output
 WrittenAs report (Err Memory) old new = ⊥
 WrittenAs report (Err Source) old new = ⊥
 
--- What a run has written and returned: such a report, or a prefix of it if the sink failed, or
--- nothing if allocation or the source failed.
+-- What a run has written and returned: a report of which `Is` holds, or a prefix of such a report
+-- if the sink failed, or nothing if allocation or the source failed.
 abbrev pub ReportedAs : (Report → Type 0) → Result Bool Stop → Option Octets → Option Octets
     → Type 0
 ReportedAs Is (Ok passes) old new =
@@ -41,7 +41,8 @@ ReportedAs Is (Err Sink) old new =
 ReportedAs Is (Err Memory) old new = new ≡ old
 ReportedAs Is (Err Source) old new = new ≡ old
 
--- The same for a check: the report on the file, which the octets that were read decide.
+-- What a check has written and returned: the report on the file, as the octets that were read
+-- decide it.
 abbrev pub CheckedAs : Option Octets → Option Octets → DomainName → Options → Result Bool Stop
     → Option Octets → Option Octets → Type 0
 CheckedAs known left o options =

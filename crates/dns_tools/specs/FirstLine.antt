@@ -38,7 +38,7 @@ pub record HasReadLine (unread left : Option Octets) (input : Octets) : Type 0 w
   pub goes_on : GoesOn before
   pub at_once : length piece ≤ 65536
 
--- and what is kept decides the line's message
+-- the source has given the first line of an input, and what is kept decides the line's message
 pub record ReadsFirst (unread left : Option Octets) (l : KeptLine) : Type 0 where
   pub input : Octets
   pub read : HasReadLine unread left input

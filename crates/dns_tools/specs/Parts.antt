@@ -23,6 +23,6 @@ part_text (Class class) = class_text class
 part_text (TypeName rtype) = type_text rtype.0
 part_text (Data r) = data_text (data_type r.now.rtype r.now.rclass) r.now.rdata
 
--- one after another
+-- the texts of parts, one after another
 abbrev pub parts_text : List LinePart → Octets
 parts_text = flat_map part_text

@@ -1,4 +1,4 @@
--- The known state of a bound socket.
+-- What contracts state about a bound UDP socket.
 use Rattle.std.specs.Prelude.{ℕ, Bool}
 
 -- the number of failed calls, and whether there is a sender to reply to

@@ -48,7 +48,7 @@ abbrev pub word_of_turn : TurnFault → TurnWord
 word_of_turn ReceiveFailed = NoDatagram
 word_of_turn SendFailed = NotSent
 
--- and for a session over a stream
+-- the diagnostic for a session over a stream that ended early
 abbrev pub word_of_stream : StreamFault → TurnWord
 word_of_stream SourceFailed = StreamNotRead
 word_of_stream SinkFailed = StreamNotWritten

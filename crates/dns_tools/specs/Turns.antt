@@ -48,7 +48,7 @@ pub record ListenerState : Type 0 where
   pub asked : ℕ
   pub sessions : Option (List Session)
 
--- a list of sessions, if it is known, grew by one
+-- a list of sessions, if it is known, grew by the session s
 abbrev pub GrowsBy : Option (List Session) → Option (List Session) → Session → Type 0
 GrowsBy None new s = ⊤
 GrowsBy (Some xs) None s = ⊥
@@ -79,7 +79,7 @@ ServesInTurn z (suc n) old new well = (mid : ListenerState) × (before : Bool)
     × (result : Result ⊤ TurnWord) × ServesInTurn z n old mid before
     × NextOf (reply_over_tcp z) mid new result × (well ≡ (before && is_ok result))
 
--- the same; if each was served to its end, `are_said` is true
+-- n connections were asked for; if each was served to its end, `are_said` is true
 pub record ServesTurns (z : ZoneContents) (n : ℕ) (old new : ListenerState) (are_said : Bool)
     : Type 0 where
   pub well : Bool

@@ -98,9 +98,9 @@ pub struct SocketWords<'a> {
     pub file: &'a str,
 }
 
-/// Parses the arguments after the program's own name: `once [--tcp] ORIGIN FILE`, or `udp` or
-/// `tcp` and `ADDR TURNS ORIGIN FILE`. ORIGIN is a name relative to the root, and TURNS a number
-/// from 1 to 1,000,000. ADDR is not parsed yet, but it is not `--`.
+/// Parses the arguments after the program's own name: `once [--tcp] ORIGIN FILE`, or
+/// `udp|tcp ADDR TURNS ORIGIN FILE`. ORIGIN is a name relative to the root, and TURNS a number from
+/// 1 to 1,000,000. ADDR is not parsed yet, but it is not `--`.
 ///
 /// Fails with `usage` if the arguments are not of this form, or ORIGIN or FILE begins with `-`;
 /// else with `bad origin` if ORIGIN is not a name; and with `no memory` if allocation fails. There
@@ -175,8 +175,8 @@ pub fn socket_words<'a, S: AsStr>(words: &'a [S]) -> Result<SocketWords<'a>, Fau
     })
 }
 
-// ORIGIN and FILE, which are the last arguments, after the arguments before them. `None` if there
-// are fewer than two arguments, or if ORIGIN or FILE begins with `-`.
+// Splits off the last two arguments, ORIGIN and FILE, and returns the other arguments, ORIGIN and
+// FILE. `None` if there are fewer than two arguments, or if ORIGIN or FILE begins with `-`.
 fn zone_words<'a, S: AsStr>(words: &'a [S]) -> Option<(&'a [S], &'a str, &'a str)>
     ensures some { IfSome result (λ r. EndWords (map S.text words.entry.now) (map S.text r.0.now)
         (record { origin = r.1.now; file = r.2.now })) }
@@ -219,7 +219,7 @@ fn given_limit<'a, S: AsStr>(alloc: Global, options: &'a [S]) -> Result<Limit, F
     ensures fault { IfErr result IsRefusal }
 {
     let matches = once_command(alloc)?.try_get_matches_from(options)?;
-    // By itself `clap` takes `--` as the end of the options.
+    // `clap` alone would also accept `--`, as the end of the options.
     if matches.get_flag(TCP) && are_words(options, &[TCP_OPTION]) {
         return Ok(Limit::Tcp);
     }
@@ -261,7 +261,7 @@ fn given_flags<'a, S: AsStr>(alloc: Global, options: &'a [S]) -> Result<Flags, F
         quiet: matches.get_flag(QUIET),
         print: matches.get_flag(PRINT),
     };
-    // By itself `clap` takes `--` as the end of the options.
+    // `clap` alone would also accept `--`, as the end of the options.
     if are_options(options, flags) {
         return Ok(flags);
     }

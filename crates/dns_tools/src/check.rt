@@ -68,7 +68,7 @@ pub fn check_zone<R: Read, W: Write>(
             outcome
         }
         Err(LoadFault::Refused(refusal)) => report_refusal(flags, &refusal, sink),
-        // Loading writes nothing, so the only other reason is memory.
+        // Loading writes nothing, so it stops with `Source` or `Memory`.
         Err(LoadFault::Stopped(Stop::Source)) => Err(Stop::Source),
         Err(LoadFault::Stopped(_)) => Err(Stop::Memory),
     }

@@ -50,7 +50,7 @@ pub trait Connections {
 /// until all of its reply was sent. Ten seconds after a connection was accepted no new message may
 /// begin on it; then its input is discarded for at most one second. So a connection holds up the
 /// others for at most 21 seconds. Replies to messages that arrived together are sent together,
-/// before waiting for more, and have the time of the last of these messages.
+/// before the session waits for more input, and have the time of the last of these messages.
 #[derive(Drop)]
 pub struct Listener<'a, R> {
     listener: TcpListener,

@@ -32,7 +32,7 @@ impl From<AllocError> for Stop {
 }
 
 impl Stop {
-    /// The program's diagnostic for it.
+    /// The diagnostic of a program whose run stopped for this reason.
     fn word(self) -> FaultWord
         ensures { result ≡ word_of self }
     {
@@ -90,10 +90,10 @@ pub enum FaultWord {
     /// Memory allocation failed.
     #[error("no memory")]
     NoMemory,
-    /// The zone file can't be opened, or it or standard input can't be read.
+    /// The zone file can't be opened or read, or standard input can't be read.
     #[error("R16")]
     SourceFailed,
-    /// Standard output can't be written.
+    /// Writing to standard output failed.
     #[error("P1")]
     SinkFailed,
     /// The address or the given socket can't be used.
@@ -120,7 +120,7 @@ impl From<Stop> for FaultWord {
     }
 }
 
-/// ORIGIN is invalid, whatever its fault.
+/// Whatever the fault of ORIGIN, the diagnostic is `bad origin`.
 impl From<NameFault> for FaultWord {
     ghost from_gives = { λ _ word. word ≡ BadOrigin };
 
@@ -129,7 +129,7 @@ impl From<NameFault> for FaultWord {
     }
 }
 
-/// Arguments that the command line does not take.
+/// The diagnostic is `no memory` if `clap` could not allocate, and otherwise `usage`.
 impl From<clap::Error> for FaultWord {
     ghost from_gives = { λ error word. word ≡ word_of_kind (kind_of error) };
 

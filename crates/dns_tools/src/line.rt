@@ -18,7 +18,7 @@ pub(crate) const MOST_LINE_OCTETS: usize = 65_535;
 
 pub(crate) const MOST_DIGITS: usize = 131_070;
 
-/// How many octets of an input are read at once.
+/// The most octets of an input that are read at once.
 pub(crate) const PIECE: usize = 65_536;
 
 impl From<SourceFailed> for Stop {
@@ -29,7 +29,8 @@ impl From<SourceFailed> for Stop {
     }
 }
 
-/// What is kept of an unfinished line: its front, up to the length of the longest message.
+/// What is kept of an unfinished line: its front, up to the length of the longest message, and
+/// whether the line is longer.
 #[derive(Drop)]
 pub(crate) struct Line {
     digits: Vec<u8>,
@@ -107,7 +108,7 @@ impl Line {
         Ok(())
     }
 
-    // Takes the next octets of the source, and returns whether the line needs no more.
+    // Takes the next octets of the source, and returns whether the line needs no more octets.
     fn take(&mut self, octets: &[u8]) -> bool
         ensures more { (x : Octets) → IsFront x self.old → OnFalse result
             (IsFront (x ++ octets.now) self.new) }
@@ -139,7 +140,7 @@ impl Line {
 }
 
 // Writes the octets that digits spell to the front of the buffer, and returns their number.
-// `None` if the digits spell no octets.
+// `None` if the digits do not spell octets.
 fn octets_of(digits: &[u8], octets: &mut [u8]) -> Option<usize>
     requires { length digits.now ≤ 2 * length octets.old + 1 }
     ensures some { IfSome result (λ len. decode_of digits.now ≡ Ok (take len octets.new)) }

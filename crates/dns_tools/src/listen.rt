@@ -13,8 +13,8 @@ use std::net::{Net, SocketAddr, TcpListener, TcpStream, UdpSocket};
 use std::os::fd::{AsFd, OwnedFd};
 use std::time::Clock;
 
-/// A UDP socket at an address, which has received nothing. Fails with `bind` if the address can't
-/// be used.
+/// A UDP socket at an address, which has received nothing yet. Fails with `bind` if the address
+/// can't be used.
 pub fn socket_at<'a, R: Net + Clock>(rt: &'a R, address: &str) -> Result<Socket<'a, R>, FaultWord>
     ensures socket { IfOk result (λ socket. socket ≡ record {
       failures = 0;
@@ -28,8 +28,8 @@ pub fn socket_at<'a, R: Net + Clock>(rt: &'a R, address: &str) -> Result<Socket<
     }
 }
 
-/// A listening TCP socket at an address, which was asked for no connection. Fails with `bind` if
-/// the address can't be used.
+/// A listening TCP socket at an address, which has not been asked for a connection yet. Fails with
+/// `bind` if the address can't be used.
 pub fn listener_at<'a, R>(rt: &'a R, address: &str) -> Result<Listener<'a, R>, FaultWord>
 where
     R: Net<Listener = TcpListener, Stream = TcpStream>,
@@ -42,8 +42,8 @@ where
     }
 }
 
-/// The UDP socket that the process was given, which has received nothing. Fails with `bind` if it
-/// is not a UDP socket with an address and a port.
+/// The UDP socket that the process was given, which has received nothing here yet. Fails with
+/// `bind` if the given descriptor is not a UDP socket with an address and a port.
 ///
 /// No flag of the socket is changed, because other processes may share it.
 pub fn given_socket<'a, I: AsFd, C: Clock>(
@@ -65,8 +65,9 @@ pub fn given_socket<'a, I: AsFd, C: Clock>(
     Err(FaultWord::NotBound)
 }
 
-/// The listening TCP socket that the process was given, which was asked for no connection. Fails
-/// with `bind` if it is not a TCP socket with an address and a port, or if it is a connection.
+/// The listening TCP socket that the process was given, which has not been asked for a connection
+/// here yet. Fails with `bind` if the given descriptor is not a TCP socket with an address and a
+/// port, or if it is a connection.
 ///
 /// No flag of the socket is changed, because other processes may share it.
 pub fn given_listener<'a, I: AsFd, R>(given: &I, rt: &'a R) -> Result<Listener<'a, R>, FaultWord>
@@ -140,8 +141,8 @@ fn socket_address(address: &str) -> Result<SocketAddr, FaultWord>
     }
 }
 
-// Writes a diagnostic to standard error, unless an earlier one could not be written. Returns
-// whether all were written so far.
+// Writes a diagnostic to standard error, unless an earlier one could not be written (`are_said` is
+// false). Returns whether all diagnostics so far were written.
 fn say_of_turn(rt: &impl Eprint, are_said: bool, word: TurnWord) -> bool {
     are_said && rt.eprintln(word).is_ok()
 }

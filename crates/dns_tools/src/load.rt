@@ -52,10 +52,10 @@ impl From<AllocError> for LoadFault {
     }
 }
 
-/// Loads the zone of an origin from its file (RFC 1035 section 5), with all checks of the checker.
+/// Loads the zone of an origin from its file (RFC 1035 section 5), and makes all checks.
 ///
-/// The file is read relative to the origin in lower case. If the file has a fault, the first one
-/// is reported; otherwise all faults of the zone are. Nothing is read after a failure.
+/// The file is read relative to the origin in lower case. If the file has a fault, only its first
+/// fault is returned; otherwise all faults of the zone are. Nothing is read after a failure.
 pub(crate) fn load<R: Read>(
     alloc: Global,
     origin: &Name,
@@ -73,7 +73,7 @@ pub(crate) fn load<R: Read>(
     }
 }
 
-/// Loads the same zone for serving.
+/// Loads a zone as `load` does, and prepares it for serving.
 pub fn load_zone<R>(alloc: Global, origin: &Name, source: &mut Tally<R>) -> Result<Zone, LoadFault>
 where
     R: Read,

@@ -1,4 +1,4 @@
-//! Prints a message that comes in hexadecimal digits.
+//! Prints a message that is given in hexadecimal digits.
 ghost use Rattle.std.specs.Prelude.{◌≡◌, ◌≢◌, ◌-◌, ◌^◌, ◌<◌, length, Err, IfOk, IfErr};
 ghost use Rattle.std.specs.List.{flat_map};
 ghost use Rattle.dns_spec.specs.MessageLines.{header_line, question_line, section_line, message_text, PrintsOctets, PrintsMessage};
@@ -21,16 +21,16 @@ use dns_wire::{Message, Question, WireFault, WireRecord, read_message};
 use std::alloc::Global;
 use std::io::{Read, Write};
 
-/// Prints the message on the first line of the source, which has at most 131,070 hexadecimal
-/// digits of either case. If the source has no line, the line is empty.
+/// Prints the message on the first line of the source, which must have at most 131,070 hexadecimal
+/// digits of either case. The first line of an empty source is empty.
 ///
-/// Writes one line each for the header, the questions and the records, and returns true. Returns
-/// false if there is no valid message: writes `fault 3` for a malformed one, with the number of
-/// its fault, and `bad hex` if the line does not spell octets.
+/// Writes a line for the header, for each question and for each record, and returns true. If there
+/// is no valid message, returns false, and writes `bad hex` if the line does not spell octets, or
+/// else a line with the number of the message's fault, such as `fault 3`.
 ///
-/// Stops reading once the line has ended or is too long, so that at most 65,535 octets after it
-/// are read. If the run stops early, the sink has a prefix of these lines. No device is used after
-/// its failure.
+/// Stops reading once the line has ended or is too long. So at most 65,535 octets after the line
+/// are read. If the run stops early, the sink has a prefix of what is to be written. No device is
+/// used after its failure.
 pub fn run_message<R, W>(alloc: Global, source: &mut Tally<R>, sink: &mut Tally<W>) -> Outcome
 where
     R: Read,
@@ -94,7 +94,7 @@ fn print_octets<W: Write>(alloc: Global, octets: &[u8], sink: &mut Tally<W>) -> 
     }
 }
 
-// `fault 3`
+// Writes the line for a fault: `fault 3`.
 fn write_fault<W: Write>(fault: WireFault, sink: &mut Tally<W>) -> Result<(), SinkFailed>
     requires { sink.old.failures < 2 ^ 64 - 1 }
     ensures { Writes W.contents sink.old sink.new result (fault_line (fault_code fault)) }
@@ -108,7 +108,7 @@ fn write_fault<W: Write>(fault: WireFault, sink: &mut Tally<W>) -> Result<(), Si
     write_parts(line.as_slice(), sink)
 }
 
-// Writes one line each for the header, the questions and the records.
+// Writes a line for the header, for each question and for each record.
 fn write_message<W: Write>(message: &Message, sink: &mut Tally<W>) -> Result<(), SinkFailed>
     requires { sink.old.failures < 2 ^ 64 - 1 }
     ensures { Writes W.contents sink.old sink.new result (message_text message.now) }
@@ -145,7 +145,7 @@ fn write_header<W: Write>(message: &Message, sink: &mut Tally<W>) -> Result<(), 
     write_parts(line.as_slice(), sink)
 }
 
-// `question www.example. IN A`
+// Writes a line for each question: `question www.example. IN A`.
 fn write_questions<W: Write>(questions: &[Question], sink: &mut Tally<W>) -> Result<(), SinkFailed>
     requires { sink.old.failures < 2 ^ 64 - 1 }
     ensures { Writes W.contents sink.old sink.new result (flat_map question_line questions.now) }
@@ -163,7 +163,7 @@ fn write_questions<W: Write>(questions: &[Question], sink: &mut Tally<W>) -> Res
     Ok(())
 }
 
-// `answer www.example. 3600 IN A 192.0.2.10`
+// Writes a line for each record of a section: `answer www.example. 3600 IN A 192.0.2.10`.
 fn write_records<'a, W: Write>(
     section: &'a [u8],
     records: &'a [WireRecord],

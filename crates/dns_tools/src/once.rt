@@ -1,4 +1,4 @@
-//! Answers messages that come as lines of hexadecimal digits, one line for each.
+//! Reads messages as lines of hexadecimal digits, and answers each with a line.
 ghost use Rattle.std.specs.Prelude.{◌≡◌, ◌≢◌, ◌-◌, ◌*◌, ◌^◌, ◌<◌, ◌≤◌, ◌++◌, ◌&&◌, length, take, vec_len, Option, Some, Err, OnOk, OnErr, IfOk, IfErr, IfSome};
 ghost use Rattle.std.specs.Option.{is_some, option_copied};
 ghost use Rattle.dns_spec.specs.Names.{Octets};
@@ -19,7 +19,7 @@ use dns_zone::{Steps, Zone};
 use std::alloc::{AllocError, Global};
 use std::io::{Read, Write};
 
-// The number of digits of the longest reply, and the end of its line.
+// The length of the longest answer: the digits of the longest reply, and the LF.
 const MOST_ANSWER: usize = 131_071;
 
 /// Writes one line to the sink for each line of the source, and returns whether all lines were
@@ -84,7 +84,7 @@ impl LineRoom {
     }
 }
 
-/// Runs over lines as `run_once` does, in the caller's buffers. Allocates no memory, so the run
+/// Answers lines as `run_once` does, in the caller's buffers. Allocates no memory, so the run
 /// never stops with `Memory`.
 pub fn run_once_in<R: Read, W: Write>(
     zone: &Zone,
@@ -212,7 +212,7 @@ impl<'z> Exchange<'z> {
     }
 }
 
-// Buffers for the drafts of replies. The larger one is not on the stack.
+// Buffers for the drafts of replies. The draft for TCP is large, so it is not on the stack.
 #[derive(Drop)]
 struct Drafts {
     udp: UdpDraft,

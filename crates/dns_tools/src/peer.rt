@@ -9,8 +9,8 @@ use std::io::{self, BufReader, BufWriter, ErrorKind, Read, Write};
 use std::net::{Shutdown, TcpStream};
 use std::time::{Clock, Duration};
 
-// Times in milliseconds. Connections are served one after another, so no peer may hold up the
-// others for ever. The limits are this project's (RFC 7766 6.2.3, 6.2.4).
+// Times in milliseconds. Connections are served one after another, so no peer may hold up other
+// connections for ever. The limits are this project's (RFC 7766 6.2.3, 6.2.4).
 
 // How long the first octet of a connection may take.
 const FIRST: u64 = 2_000;
@@ -39,7 +39,8 @@ pub struct Peer<'a, C> {
     clock: &'a C,
     // The time on the clock from which no message may begin.
     ends: Duration,
-    // When octets last arrived: `None` before the first, after the end, and after a full silence.
+    // When octets last arrived. `None` before the first octet, after the end of the input, and
+    // after a silence of the full time.
     heard: Cell<Option<Duration>>,
     // The time on the clock at which calls time out.
     until: Cell<Duration>,
@@ -58,9 +59,9 @@ impl<'a, C: Clock> Peer<'a, C> {
         })
     }
 
-    /// Ends the output, and reads and discards input until the peer ends its own: for at most one
-    /// second, and at most 300 milliseconds of silence. Returns at once if the peer has ended its
-    /// output, was silent for its full time after a reply, or never sent an octet.
+    /// Ends the output, and reads and discards input until the peer ends its output, is silent for
+    /// 300 milliseconds, or one second has passed. Returns at once if the peer has ended its output
+    /// already, was silent for its full time after a reply, or never sent an octet.
     ///
     /// Closing a socket before all of its input is read resets the connection, and the peer loses
     /// the replies that have not reached it yet (RFC 2525 2.17).
@@ -81,7 +82,7 @@ impl<'a, C: Clock> Peer<'a, C> {
         Ok(())
     }
 
-    // Lets the next calls wait for the time of a silence, but not beyond `ends`.
+    // Lets the next calls wait for 300 milliseconds from now, but not beyond `ends`.
     fn wait_for_silence(&self, ends: Duration) -> io::Result<()> {
         let silence = after(self.clock.monotonic()?, SILENCE);
         self.until.set(silence.min(ends));
@@ -108,7 +109,7 @@ fn after(time: Duration, millis: u64) -> Duration {
     time.saturating_add(Duration::from_millis(millis))
 }
 
-// Whether a call that waited this long is not repeated.
+// Whether a call that could wait this long is not repeated if it is interrupted.
 fn is_last(wait: Duration) -> bool {
     wait <= Duration::from_millis(LAST_LOOK)
 }
@@ -256,8 +257,8 @@ impl<C: Clock> Read for Messages<'_, C> {
     }
 }
 
-// Whether the octets that were read ahead contain a whole message after its length
-// (RFC 1035 4.2.2); if not, the next call may wait.
+// `AtHand` if the octets that were read ahead begin with a length and a whole message
+// (RFC 1035 4.2.2), else `Awaited`.
 fn ahead_of(octets: &[u8]) -> Ahead {
     match octets {
         [high, low, message @ ..]

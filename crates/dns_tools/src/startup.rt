@@ -135,8 +135,8 @@ fn buffered_stream<'a, R: Clock + AllocGlobal, P: Print>(
     }
 }
 
-/// The exit status of a program: its own, or, if it stopped early, the status of the diagnostic,
-/// which is printed here.
+/// The exit status of a program: the given one, or, if the program stopped early, 2, after its
+/// diagnostic was printed.
 pub fn end(rt: &impl Eprint, status: Result<u8, FaultWord>) -> u8
     ensures said { IfErr status (λ _. result ≡ 2) }
     ensures status { IfOk status (λ status. result ≡ status) }

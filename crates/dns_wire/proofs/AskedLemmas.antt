@@ -1,5 +1,5 @@
--- The question's name has the places of its suffixes, whatever follows it; the distance of each
--- from its end is the suffix's length.
+-- The places of the suffixes of the question's name do not depend on what follows the name; the
+-- distance of each from the end of the name is the suffix's length.
 use Rattle.dns_wire.proofs.Common.{◌≡◌, ℕ, zero, suc, ◌+◌, ◌-◌, ◌<◌, ◌≤◌, true, ◌⊎◌, inl, inr, List, [], ◌∷◌, ◌++◌, length, take, drop, refl, sym, ap, ◌∙◌, subst, arith, append_assoc, length-append, take-append-drop, take_at, replicate, ap₂, Option, None, Some, IfSome, and_parts, list_all, Octets, DomainName, wire, is_name, is_label, drop-drop, drop-take, take-append-le, length-take, length-drop, Stands, run_written, labels_of_spelled, IsWireForm-wire, labels_of, IsWireForm, Kept, IsKept, SpellsSuffix, IsSharedAt, NoneSpelled, AfterLabel, name_before, IsAsked, asked_places, NotAsked, IsLastOf, new_places}
 use Rattle.dns_wire.proofs.SuffixLemmas.{one_run, next_label, kept-root}
 use Rattle.dns_wire.proofs.NameWritten.{kept_left, kept_right, kept_split, kept_sound, kept_complete, NewSuffix, is_name-suffix}
@@ -113,7 +113,7 @@ unfolding asked_places
 asked_kept head b a front t l p whole short at low =
     kept_complete head [] (labels_of (name_before b a)) front l t 12 p whole refl short at low
 
--- octets that end the name, from one of its labels on, are a suffix, whose place is kept
+-- a suffix of the name, other than the root, is shared at the place where it begins
 pub asked_found : (head : Octets → ℕ) {b : Octets} {a : ℕ} (o : Octets)
     → IsAsked b a → 2 ≤ length o → length o ≤ length (name_before b a)
     → IsLastOf (name_before b a) o → IsSharedAt (asked_places head b a) b o (a - length o)
@@ -149,7 +149,7 @@ asked_found head {b} {a} o asked two inside last =
           );
         }
 
--- if no suffix is equal to them, none of the places spells them
+-- if no suffix has these octets as its wire form, none of the name's places spells them
 pub asked_none : {b : Octets} {a : ℕ} (o : Octets)
     → IsAsked b a → ((n front t : DomainName) (l : Octets) → name_before b a ≡ wire n
     → is_name n ≡ true → n ≡ front ++ l ∷ t → wire (l ∷ t) ≡ o → ⊥) → NotAsked b a o
@@ -179,7 +179,8 @@ asked_none {b} {a} o asked never head p h kept there =
         never n s.front s.labels s.label
         (sym form.wire_is) form.is_name s.whole (ap wire (one_run run there.2) ∙ there.3)
 
--- places in the question's name, and in others
+-- octets that are spelled neither in the question's name nor at a kept place are spelled at no
+-- place
 pub none_of_both : (head : Octets → ℕ) (b : Octets) (a h : ℕ) (ks : List Kept) (o : Octets)
     → NotAsked b a o → NoneSpelled ks h b o → NoneSpelled (asked_places head b a ++ ks) h b o
 none_of_both head b a h ks o unasked none p kept there =
@@ -205,7 +206,7 @@ shared_kept asked ks b o h None kept spelled reached = tt
 shared_kept asked ks b o h (Some p) kept spelled reached =
     record { kept = (h, kept_right asked ks p h kept); spelled = spelled; reached = reached }
 
--- The rest of a name from a label on: a suffix of `count` octets is a suffix of the rest.
+-- `rest` is a name from one of its labels on. A suffix of `count` octets is a suffix of `rest` too.
 pub record LastNow (n : DomainName) (rest : Octets) (count : ℕ) : Type 0 where
   pub front : DomainName
   pub left : DomainName

@@ -22,7 +22,7 @@ module _ (es : List KeptPlace) (e : KeptPlace) where
       ≡ cond (chain_of e.number == h) (suc (length es)) (last_with h es (length es))
   last_now h = grind (arith, length-append, at_end, last_before)
 
-  -- the head of its chain is set, and the other heads stay
+  -- the head of the new entry's chain is set, and the other heads stay
   set_head : (heads : List ℕ) (to k h : ℕ) → length heads ≡ 128 → (k ≡ cond (chain_of e.number == h)
       to (get_or heads h 0)) → get_or (slice_set heads (chain_of e.number) to) h 0 ≡ k
   set_head heads to k h all is =
@@ -78,8 +78,8 @@ chains_begin = record {
   linked = λ k low. absurd (omega arith);
 }
 
--- A chain continues at one of its entries, counted from 1, or ends (0); P holds for no later entry
--- of the chain.
+-- `number` is the index, counted from 1, of an entry of chain h, or 0 at the end of the chain. P
+-- holds for no later entry of the chain.
 pub record Chain (P : KeptPlace → Type 0) (h : ℕ) (es : List KeptPlace) (number : ℕ) : Type 0 where
   pub inside : number ≤ length es
   pub here : (k : ℕ) → number ≡ suc k → chain_of (entry_at es k).number ≡ h

@@ -27,7 +27,7 @@ abbrev pub runs : ℕ → ℕ → Octets → List Part
 runs k zero d = []
 runs k (suc m) d = octets (take k d) ∷ runs k m (drop k d)
 
--- they are laid out as the octets are
+-- the runs are laid out as the octets that they are cut from
 runs_laid : (k m : ℕ) (d : Octets) → length d ≡ m * k
     → (ms : List Placed) (p : ℕ) → octets_laid d ms p ≡ data_laid ms p (runs k m d)
 unfolding data_by
@@ -48,7 +48,7 @@ writes_runs k m o long =
 abbrev pub numbers_of : ℕ → ℕ → ℕ → Octets
 numbers_of t ttl k = octets16 t ++ octets16 class_in ++ octets32 ttl ++ octets16 k
 
--- if nothing is shared, these octets and the data are written at once
+-- if the data has no compressed names, these octets and the data are laid out as one run
 pub plain_laid : (t ttl : ℕ) (o x : Octets)
     → x ≡ numbers_of t ttl (length o) → laid_parts t o ≡ octets o ∷ []
     → (ms : List Placed) (p : ℕ) → octets_laid (x ++ o) ms p ≡ tail_laid t ttl o ms p
@@ -84,12 +84,12 @@ patched_follows : {b after now : Octets} (x : Octets)
     → Follows b after → now ≡ take (length b + 8) after ++ x → Follows b now
 patched_follows {b} {after} x f set = grind (arith, take-append-add, append_assoc)
 
--- the places of names hold for any octets that spell the names there
+-- places that are right for the names in some octets are right for the same names in other octets
 holds_again : {head : Octets → ℕ} {ms : List Placed} {b b' : Octets} {ks ks' : List Kept}
     → Holds head ms b ks → Holds head ms b' ks' → Holds head ms b' ks
 holds_again here there = grind arith
 
--- parts after one that was written, and the last part
+-- a part that was written, and the parts after it
 pub writes_more : {head head' head'' : Octets → ℕ} {d d' d'' : Draft} {t fits : Bool}
     (x : Part) (ps : List Part) → t ≡ true → Writes head head' d d' (part_laid x) t → Writes
     head' head'' d' d'' (all_laid ps) fits → Writes head head'' d d'' (all_laid (x ∷ ps)) fits
@@ -101,7 +101,7 @@ pub writes_last : {head head' : Octets → ℕ} {d d' : Draft} {fits : Bool} (x 
     → Writes head head' d d' (part_laid x) fits → Writes head head' d d' (all_laid (x ∷ [])) fits
 writes_last x w = writes_as (part_laid x) (all_laid (x ∷ [])) (data_last x) w
 
--- a part that does not fit
+-- if the first part does not fit, the parts do not
 pub writes_short : {head head' : Octets → ℕ}
     {d d' : Draft} {t fits : Bool} (x : Part) (ps : List Part) → t ≡ false → fits ≡ false
     → Writes head head' d d' (part_laid x) t → Writes head head' d d' (all_laid (x ∷ ps)) fits
@@ -120,7 +120,7 @@ pub writes_parts : {head head' : Octets → ℕ}
 writes_parts {head} {head'} {d} {d'} {fits} t o is w =
     subst (λ ps. Writes head head' d d' (all_laid ps) fits) (sym is) w
 
--- The length of data is written after the data, into octets that are in no name.
+-- After the data is written, its length is written into octets that are in no name.
 pub tail_written : {head head' : Octets → ℕ} {d d' d'' : Draft} (t ttl : ℕ) (o b : Octets)
     → d.asked_end ≤ length d.octets → Writes head head d d' (octets_laid (numbers_of t ttl 0)) true
     → Writes head head' d' d'' (parts_laid t o) true → b ≡ take (length d.octets + 8) d''.octets

@@ -1,4 +1,4 @@
--- One more set in a draft: its size is the layout's, and it has one more set.
+-- One more set in a draft: it is put if the layout with it fits, and the draft then has it.
 use Rattle.dns_wire.proofs.Common.{◌≡◌, ◌↔◌, ℕ, ◌+◌, ◌≤◌, ◌^◌, Bool, true, false, cond, List, [], ◌∷◌, ◌++◌, length, drop, replicate, Option, None, refl, sym, ap, ◌∙◌, subst, subst₂, arith, All, IfSome, Some, append_assoc, append-nil, length-append, ◌<◌, lt_of_not-le, false≢true, Octets, DomainName, wire, RecordSet, records_at, Header, MessageQuestion, Spells, size, Sharing, IsWritable, IsAskable, sections_in_order, length-map, length-drop, flat_map-append, Item, Laid, laid_front, records_of, in_section, is_section, asked_octets, asked_placed, octets16, question_octets, layout, header_octets, message_of, shared_alone, layout_spells, past_limit, length-layout, Section, asked_places, new_places, Holds, records_laid, suffix_number, Draft, draft_of, known_places, HasNames, IsDraft, no_draft, Writes, with_counted, counts_of, item_of, names_so_far, Counts}
 use Rattle.dns_spec.specs.Layout as Layout
 use Rattle.dns_wire.proofs.AskedLemmas.{asked_nothing, asked_whole}
@@ -56,7 +56,7 @@ counts_pushed : (q : Option MessageQuestion) (items : List Item) (section : Sect
     (length set.rdata) ≡ counts_of q (items ++ item_of section owner ttl set ∷ [])
 counts_pushed q items section owner ttl set = grind (arith, section_pushed, length-map)
 
--- a set that was put
+-- a draft with the octets and the counts of a set that was put has one more set
 pub put_in : {head head' : Octets → ℕ} {d d' : Draft} {n : Counts} (q : Option MessageQuestion)
     (items : List Item) (section : Section) (owner : DomainName) (ttl : ℕ) (set : RecordSet)
     → Writes head head' d d' (records_laid (records_at owner ttl set)) true
@@ -123,7 +123,7 @@ asked_begins head limit q askable =
 abbrev pub header_of : Header → Counts → Octets
 header_of h n = header_octets h n.questions n.answers n.authorities n.additionals
 
--- the layout is its header, followed by the draft after room for a header
+-- the layout is the header, followed by the draft's octets after the first 12
 pub draft_laid :
     {head : Octets → ℕ} (h : Header) (q : Option MessageQuestion) (items : List Item) (d : Draft)
     → IsDraft head q items d → header_of h d.counts ++ drop 12 d.octets ≡ layout h q items
@@ -139,7 +139,8 @@ draft_length q items d draft =
     let some = draft.holds.after_header in
     omega (arith, long, length-append (header_of h d.counts) w, length-drop 12 d.octets, some)
 
--- if the layout is refused, each size that sharing allows exceeds the limit
+-- for a limit of up to 16,384 octets, the layout is refused if and only if each size that sharing
+-- allows exceeds the limit
 pub least_of : (q : Option MessageQuestion) (items : List Item) (limit : ℕ) (t : Bool)
     → ((t ≡ true) ↔ (size q items ≤ limit))
     → limit ≤ 16384 → (t ≡ false) ↔ ((z : ℕ) → Sharing q items z → limit < z)

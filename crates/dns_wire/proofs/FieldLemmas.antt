@@ -13,12 +13,12 @@ pub fields_end : {b : Octets} {ps : List Field} {i e j : ℕ} {so_far : Octets}
 unfolding fields_at
 fields_end {b} {ps} {i} {e} {j} {so_far} reading end = grind (arith, append-nil, eq-eqb)
 
--- a name that ends past the data
+-- a name that ends past the data is no field of the data
 pub long_name_none : (b : Octets) (i e j : ℕ) (n : DomainName)
     → name_at b i ≡ Some (n, j) → e < j → field_at b domain i e ≡ None
 long_name_none b i e j n there past = grind (arith, lt-leb)
 
--- the field that begins the octets, appended
+-- a field other than a name: it is cut from the front of the octets that are left, and appended
 pub field_read : (b : Octets) (p : Field) (i e : ℕ) (part : Part) (rest lent old now : Octets)
     → p ≢ domain → field_front p (take (e - i) (drop i b)) ≡ Some (part, rest)
     → part_octets part ≡ lent → now ≡ old ++ lent → IsFieldRead b p i e old now (e - length rest)

@@ -1,4 +1,4 @@
--- A name that was laid out is laid out again by its known form.
+-- A name that was laid out before is laid out again by the form that it had.
 use Rattle.dns_wire.proofs.Common.{◌≡◌, ◌↔◌, ℕ, zero, suc, ◌+◌, ◌<◌, ◌≤◌, Bool, true, false, cond, nat_le, List, [], ◌∷◌, ◌++◌, length, take, Option, None, Some, refl, sym, ap, ap₂, ◌∙◌, subst, arith, append_assoc, append-nil, length-append, le-leb, leb-true, leb-false, lt-leb, ◌⊎◌, inl, inr, false≢true, OnTrue, Octets, DomainName, wire, is_name, Placed, suffix_place, place_of, last_place, shared_place, shared_octets, suffix_to, shared_is, shared_to, shared_none, Kept, IsSharedAt, front_size, pointed_place, end_octets, asked_places, new_places, Holds, Follows, IsAsked, name_laid, Form, IsLaid, form_again, suffix_number, Counts, Draft, draft_of, HasNames, WritesAfter, known_places, with_octets, subst₂}
 use Rattle.std.specs.Bool.{OnFalse}
 use Rattle.dns_wire.proofs.AskedLemmas.{kept_more}
@@ -7,7 +7,7 @@ use Rattle.dns_wire.proofs.SuffixLemmas.{found, front-as, front-root, pointed-as
 use Rattle.dns_wire.proofs.Steps.{grows_not}
 use Rattle.dns_spec.proofs.Layouts.SharedNames.{Suffix}
 
--- a suffix of a name that was laid out at a place
+-- a suffix that no earlier name has is found in the name n, laid out at place p
 place_added : (ms more : List Placed) (n : DomainName) (p : ℕ) (s : DomainName) → Suffix n s
     → place_of ms s ≡ None → place_of (ms ++ (n, p) ∷ more) s ≡ Some (suffix_place (n, p) s)
 place_added ms more n p s suffix none =
@@ -25,7 +25,7 @@ shared_still ms more n p s suffix high = go (place_of ms s) refl
     go None e = grind (arith, place_added, shared_none, lt-leb)
     go (Some q) e = grind (arith, place_left)
 
--- how a name is laid out depends on the places at which its suffixes are shared
+-- how a name is laid out depends only on the places at which its suffixes are shared
 same_form : (ms ms' : List Placed) (n : DomainName) → ((s : DomainName)
     → Suffix n s → shared_place ms' s ≡ shared_place ms s)
     → IsLaid ms' n (front_size ms n, pointed_place ms n)
@@ -50,7 +50,7 @@ same_form ms ms' (l ∷ n) same =
       pointed-as ms' l n (own ∙ e) ∙ sym (pointed-as ms l n e),
     )
 
--- a name that was laid out in this form at a place, after earlier names
+-- a name that was laid out in this form at place p is laid out again by `form_again`
 pub laid_again : (ms more : List Placed) (n : DomainName) (p : ℕ) (form : Form)
     → ((l : Octets) (t : DomainName) (q : ℕ) → place_of ms (l ∷ t) ≡ Some q → q < p)
     → IsLaid ms n form → IsLaid (ms ++ (n, p) ∷ more) n (form_again p form)
@@ -101,7 +101,7 @@ laid_again ms more (l ∷ t) p (suc k, x) before laid = go (nat_le p last_place)
         (λ s suffix. shared_still ms more (l ∷ t) p s suffix high) in
         (same.0 ∙ laid.0, same.1 ∙ laid.1)
 
--- no places are kept of a name that is laid out again
+-- when a name is laid out again, no more places are kept of it
 pub none_kept : (head : Octets → ℕ) (ms : List Placed) (n : DomainName) (start at : ℕ) (form : Form)
     → start ≤ at → IsLaid ms n (form_again start form) → new_places head ms n at ≡ []
 none_kept head ms n start at (zero, x) after laid = sym (keep_none head ms n at [] laid.0)
@@ -145,7 +145,7 @@ form_kept at (suc k, x) (inl none) = absurd (omega (arith, none))
 form_kept at (suc k, x) (inr high) =
     ap (λ b. cond b (zero, Some at) (suc k, x)) (lt-leb at last_place high)
 
--- a name is written as the octets of its layout, and its places are kept
+-- a name that fits is written as the octets of its layout, and its places are kept
 pub name_put : {known : List Placed → Type 0} {head head' : Octets → ℕ} {d d' : Draft}
     {ks : List Kept} (n : DomainName) (o : Octets) → is_name n ≡ true
     → IsAsked d.octets d.asked_end → length d.octets + length o ≤ d.limit → head' ≡ head
@@ -225,7 +225,7 @@ owner_put {known} {head} {d} {t = false} n form front ok asked cut fits put not 
           };
     })
 
--- the names of a draft are the names in the octets that are compared
+-- what holds for the octets of a draft holds for equal octets in which suffixes are compared
 pub names_there : {number : Octets → ℕ} {ms : List Placed} {limit a : ℕ} {b message : Octets}
     {ks : List Kept} {n : Counts} {d : Draft} → draft_of limit b a ks n ≡ d → message ≡ b
     → Holds number ms d.octets (known_places number d)

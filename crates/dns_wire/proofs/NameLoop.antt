@@ -7,7 +7,7 @@ use Rattle.dns_wire.proofs.Runs.{length-wire-front}
 abbrev pub in_front : DomainName → DomainName × ℕ → DomainName × ℕ
 in_front n (m, e) = (n ++ m, e)
 
--- what is read after the labels n, with the next label at a place
+-- the labels n, followed by what is read from place `at` on, and the place after that
 unfoldable pub read_on : Octets → DomainName → ℕ → Option (DomainName × ℕ)
 read_on d n at = option_and_then name_if_short (option_map (in_front n) (run12 d at))
 

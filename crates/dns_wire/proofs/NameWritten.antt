@@ -1,4 +1,4 @@
--- A name that is laid out is one more earlier name: the message spells its suffixes, and their
+-- Once a name is laid out, it is one more earlier name: the message spells its suffixes, and their
 -- places are kept.
 use Rattle.dns_wire.proofs.Common.{◌≡◌, ℕ, zero, suc, ◌+◌, ◌-◌, ◌<◌, ◌≤◌, Bool, true, false, cond, nat_le, ◌⊎◌, inl, inr, List, [], ◌∷◌, ◌++◌, length, take, drop, replicate, slice_get, Option, None, Some, refl, sym, ap, ap₂, ◌∙◌, subst, arith, append_assoc, append-nil, length-append, and_parts, leb-true, none-some, same_Some, take-append-add, list_all, Octets, DomainName, wire, is_name, is_label, RunAt, ends, goes_on, jumps, Placed, has_suffix, suffix_place, place_of, last_place, shared_place, shared_octets, is_name-tail, Stands, begins_inside, suffix_from, suffix_to, place_again, place_pushed, shared_is, shared_to, shared_none, shared_whole, shared_pointed, shared_root, AfterLabel, Known, known_more, Kept, IsKept, front_size, pointed_place, end_octets, new_places, Answers, Holds}
 use Rattle.dns_wire.proofs.SuffixLemmas.{Left, next_label, front-as, front-root, pointed-as, pointed-root, kept-as, kept-more, kept-root}
@@ -27,7 +27,7 @@ shared_cut ms (l ∷ n) = go (shared_place ms (l ∷ n)) refl (shared_cut ms n)
         shared_pointed ms l n p e ∙ ap₂ (λ k x. take k (wire (l ∷ n)) ++ end_octets x)
         (sym (front-as ms l n e)) (sym (pointed-as ms l n e))
 
--- the number of these octets
+-- the number of octets of a name's layout
 length-shared : (ms : List Placed) (n : DomainName) → length (shared_octets ms n)
     ≡ front_size ms n + length (end_octets (pointed_place ms n))
 length-shared ms [] = grind (arith, shared_root, front-root, pointed-root)
@@ -51,7 +51,7 @@ length-shared ms (l ∷ n) = go (shared_place ms (l ∷ n)) refl (length-shared 
       ap (λ x. length (end_octets x)) (pointed-as ms l n e),
     )
 
--- with a first label there are at least two octets
+-- the layout of a name with a label has at least two octets
 at_least_two : (ms : List Placed) (l : Octets) (t : DomainName) (x : Option ℕ)
     → shared_place ms (l ∷ t) ≡ x → 2 ≤ length (shared_octets ms (l ∷ t))
 at_least_two ms l t None e =
@@ -59,7 +59,7 @@ at_least_two ms l t None e =
     omega (arith, some, ap length (shared_whole ms l t e), length-append l (shared_octets ms t))
 at_least_two ms l t (Some p) e = omega (arith, ap length (shared_pointed ms l t p e))
 
--- with a label left to compare, at least two octets follow those before it
+-- a name does not fit if the labels before one that is left to compare leave no room for two octets
 pub left_past : {head : Octets → ℕ} {b : Octets} {ks : List Kept} {name rest after : Octets}
     {k room : ℕ} → Left head b ks name rest → AfterLabel rest k after
     → room < length name - length rest + 2 → (ms : List Placed) (n : DomainName)
@@ -92,7 +92,7 @@ run_more {b} x (jumps i o o' p n e at high at' is from before rest) =
     jumps i o o' p n e
     (get_more b x i o at) high (get_more b x (i + 1) o' at') is from before (run_more x rest)
 
--- places kept, with more places after them
+-- a place that is kept is kept in a longer list too
 pub kept_left : (ks more : List Kept) (p h : ℕ) → IsKept ks p h → IsKept (ks ++ more) p h
 kept_left ks more p h kept = (kept.0, get_more ks more kept.0 _ kept.1)
 
@@ -110,7 +110,7 @@ kept_split (y ∷ ks) more p h (suc k, at) = go (kept_split ks more p h (k, at))
     go (inl a) = inl (suc a.0, a.1)
     go (inr b) = inr b
 
--- each suffix that no earlier name has is kept, if a pointer reaches it
+-- the place of each suffix that no earlier name has is kept, if a pointer reaches it
 pub kept_complete : (head : Octets → ℕ) (ms : List Placed) (n front : DomainName)
     (l : Octets) (t : DomainName) (i p : ℕ) → n ≡ front ++ l ∷ t → place_of ms (l ∷ t) ≡ None
     → length (wire (l ∷ t)) ≤ length (wire n) → i + (length (wire n) - length (wire (l ∷ t))) ≡ p
@@ -131,7 +131,7 @@ kept_complete head ms (k ∷ n) (x ∷ front) l t i p e none short at low =
     let more = kept-more head ms k n i out (omega (arith, at, low)) in
     (suc r.0, ap (λ x. slice_get x (suc r.0)) more ∙ r.1)
 
--- and the suffixes that are kept are not shared
+-- and each place that is kept is the place of a suffix that was not shared
 pub record NewSuffix (ms : List Placed) (n : DomainName) (i p : ℕ) : Type 0 where
   pub label : Octets
   pub labels : DomainName
@@ -194,7 +194,7 @@ kept_sound head ms (l ∷ n) i p h (k, at) = go (shared_place ms (l ∷ n)) refl
           low = s.low;
         }
 
--- the place of a suffix, with more names after the others
+-- the place of a suffix does not change if more names follow
 pub place_left : (ms more : List Placed) (s : DomainName) (p : ℕ)
     → place_of ms s ≡ Some p → place_of (ms ++ more) s ≡ Some p
 place_left [] more s p e = absurd (none-some p e)
@@ -335,7 +335,7 @@ module _ (head : Octets → ℕ) (ms : List Placed) (b : Octets)
               let at = f.2 in
               omega (arith, inside, at, length-append b (shared_octets ms n))
 
--- octets that are not a name leave everything as it is
+-- appending octets that are not a name changes nothing
 pub holds_octets : {head : Octets → ℕ} {ms : List Placed} {b : Octets} {ks : List Kept} (x : Octets)
     → Holds head ms b ks → Holds head ms (b ++ x) ks
 holds_octets {b = b} x holds = grind (arith, length-append, run_more)

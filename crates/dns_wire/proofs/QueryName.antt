@@ -1,5 +1,5 @@
--- Where the name of a question ends: the labels before a place, as they are in the datagram, are
--- its beginning.
+-- Where the name of a question ends: the labels in the datagram before a place are the first labels
+-- of the name.
 use Rattle.dns_wire.proofs.Common.{true, ◌≡◌, ℕ, suc, ◌+◌, ◌-◌, ◌<◌, ◌≤◌, [], ◌∷◌, ◌++◌, length, take, drop, get_or, refl, sym, ◌∙◌, ap, arith, None, Some, length-append, length-take, length-drop, take-add, drop-cons, eq-eqb, Octets, DomainName, wire, is_name, MessageQuestion, name_at, field16, question_at, append_assoc, append-nil, drop-drop, is_name-push, NameEnds}
 use Rattle.dns_wire.proofs.NameLoop.{read_on, read_on-start, read_on-root, read_on-label, read_on-past, read_on-high, read_on-long, read_on-missing}
 
@@ -92,7 +92,7 @@ module _ (d : Octets) (at : ℕ) (r : ReadTo d at) where
               next_octets,
             )
 
--- the question at the end of a datagram, four octets after its name
+-- the question with the name n, whose type and class are in the four octets from place e on
 abbrev pub question_then : Octets → DomainName → ℕ → MessageQuestion
 question_then d n e = record { qname = n; qtype = field16 d e; qclass = field16 d (e + 2) }
 

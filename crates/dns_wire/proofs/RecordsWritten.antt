@@ -70,7 +70,7 @@ pub set_long : (owner : DomainName) (ttl : ℕ) (set : RecordSet) (ms : List Pla
     → 10 * length set.rdata ≤ length (records_laid (records_at owner ttl set) ms p).written
 set_long owner ttl set ms p = grind (arith, records_long, length-map)
 
--- the records of a set up to one
+-- the first i records of a set, followed by the record with index i, are its first i + 1
 record_taken : (owner : DomainName) (ttl : ℕ) (set : RecordSet) (i : ℕ)
     → i < length set.rdata → take i (records_at owner ttl set) ++ shown owner set.rtype ttl
     (get_or set.rdata i []) ∷ [] ≡ take (i + 1) (records_at owner ttl set)
@@ -87,7 +87,7 @@ pub all_taken : (owner : DomainName) (ttl : ℕ) (set : RecordSet) (i : ℕ)
     → length set.rdata ≤ i → take i (records_at owner ttl set) ≡ records_at owner ttl set
 all_taken owner ttl set i over = grind (arith, length-map, take_all)
 
--- the first name of records is the owner of the first
+-- the first name in the layout of records is the owner of the first record
 first_name : (rs : List ResourceRecord) (r : ResourceRecord) (i : ℕ) (ms : List Placed) (p : ℕ)
     → (more : List Placed) × ((records_laid (take (suc i) (r ∷ rs)) ms p).names ≡ (r.owner, p) ∷ more)
 first_name rs r i ms p = (_, ap (λ (l : Laid). l.names) (records_more ms p r (take i rs)))
@@ -108,7 +108,7 @@ owner_first owner ttl set (suc i) ms p some has = go set.rdata refl
           ap (λ ds. (records_laid (take (suc i) (map show ds)) ms p).names) e ∙ x.1,
         )
 
--- so the form of the other owners is known
+-- so the form of the owner is known for the other records of a set
 owner_again : (head : Octets → ℕ) (d : Draft) (owner : DomainName) (ttl : ℕ) (set : RecordSet)
     (i start : ℕ) (form : Form) → i < length set.rdata → start ≡ length d.octets
     → (0 < i → (ms : List Placed) → HasNames d head ms → IsLaid ms owner form)
@@ -122,7 +122,7 @@ owner_again head d owner ttl set (suc i) start form inside is known ms holds = �
     subst₂ (λ k names. IsLaid (ms ++ names) owner (form_again k form)) (sym is) (sym x.1)
     (laid_again ms x.0 owner p form holds.before (known (omega arith) ms holds))
 
--- and it is known after each record
+-- and the form is known after each record that is written
 pub form_known : {t : Bool} (head head' : Octets → ℕ) (d d' : Draft) (owner : DomainName)
     (form form' : Form) (i : ℕ) → (i ≡ 0 → d' ≡ d) → head' ≡ head
     → (0 < i → (ms : List Placed) → HasNames d head ms → IsLaid ms owner form)
@@ -135,7 +135,7 @@ form_known head head' d d' owner form form' zero begins same known first others 
 form_known head head' d d' owner form form' (suc i) begins same known first others put ms holds =
     subst (IsLaid ms owner) (sym (others (ne_eqb (suc i) 0 (λ e. omega (arith, e))))) (known (omega arith) ms holds)
 
--- one more record of a set
+-- one more record of a set is written, or does not fit
 pub record_more : {head head' head'' : Octets → ℕ} {d d' d'' : Draft} {fits : Bool}
     (owner : DomainName) (ttl : ℕ) (set : RecordSet) (i start : ℕ) (form : Form)
     (given : ResourceRecord) → i < length set.rdata
@@ -157,7 +157,7 @@ record_more {head} {head'} {head''} {d} {d'} {d''} {fits}
     (λ ms holds _. owner_again head d owner ttl set i start form inside begins known ms holds) refl
     so_far (writes_as (λ ms p. record_laid ms p given) last (record_alone given) next)))
 
--- some of the records do not fit
+-- if the first i records do not fit, the records do not
 pub records_past : {head head' : Octets → ℕ} {d d' : Draft} {t : Bool} (rs : List ResourceRecord)
     (i : ℕ) → t ≡ false → Writes head head' d d' (records_laid (take i rs)) t
     → Writes head head' d d' (records_laid rs) false

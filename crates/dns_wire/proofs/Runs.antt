@@ -48,13 +48,13 @@ module _ (b : Octets) (s i k : ℕ) (inside : i < length b) (is : get_or b i 0 �
   pub no_label : 0 < k → k < 64 → length (drop (i + 1) b) < k → NoRunAt b s i
   no_label some short past n e run = grind (arith, there_is, length-drop)
 
--- a beginning of a name is not longer than the name
+-- a prefix of a name is not longer than the name
 pub length-wire-front : (n m : DomainName) → length (wire n) ≤ length (wire (n ++ m))
 length-wire-front [] [] = omega arith
 length-wire-front [] (l ∷ m) = omega arith
 length-wire-front (l ∷ n) m = grind (arith, length-append, (length-wire-front n m))
 
--- the end
+-- at the root's length, the labels so far are the name
 pub reading_ends : {b : Octets} {at s i : ℕ} {n : DomainName} {end : Option ℕ}
     → IsReading b at n s i end → slice_get b i ≡ Some 0 → name_at b at ≡ Some (n, end_or end (i + 1))
 reading_ends {b} {at} {s} {i} {n} {end} reading root = name_computed b at n (end_or end (i + 1)) (
@@ -77,7 +77,7 @@ pub reading_stops : {b : Octets} {at s i : ℕ} {n : DomainName} {end : Option �
 reading_stops {b} {at} reading none =
     no_name b at (λ w f name. let r = reading.back w f name.0 in none r.0 r.1 r.2)
 
--- one more label
+-- one more label is read
 pub reading_label : {b : Octets} {at s i : ℕ} {n : DomainName} {end : Option ℕ} (l : Octets)
     → IsReading b at n s i end → LabelAt b i l
     → is_name (n ++ l ∷ []) ≡ true → IsReading b at (n ++ l ∷ []) s (i + (1 + length l)) end
@@ -102,7 +102,7 @@ reading_label {b} {at} {s} {i} {n} {end} l reading there ok = record {
     go w f m e p q (at_label k rest label shape run) = grind (arith, same_Some, append_assoc, next)
     go w f m e p q (at_pointer place d pointer end run) = grind arith
 
--- the name with the label is too long
+-- if the next label makes the name too long, there is no name
 pub label_too_long : {b : Octets} {at s i : ℕ} {n : DomainName} {end : Option ℕ} (l : Octets)
     → IsReading b at n s i end → LabelAt b i l → 255 < length (wire (n ++ l ∷ []))
     → name_at b at ≡ None

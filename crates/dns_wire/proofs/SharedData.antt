@@ -68,7 +68,7 @@ pub server_some : (t : ℕ) (d : Octets)
 server_some t d soa ok e = let c =
     cut_into domain _ d (laid_parts t d) (authority_cut t d soa ok) in none-some _ (sym e ∙ c.front)
 
--- the parts of the data of an SOA whose first name was borrowed, and what follows it
+-- the parts of the data of an SOA, which is cut into its first name and what follows it
 pub record AuthorityLaid (server rest : Octets) (ps : List Part) : Type 0 where
   pub lent : IsWireForm server
   pub mailbox : DomainName

@@ -22,7 +22,8 @@ spelled_end {b} {s} {i} {o} root =
     back n e w (at_pointer p d there end rest) =
         absurd (omega (arith, same_Some there.first 0 (sym there.first_there ∙ root), there.high))
 
--- a label
+-- octets are spelled from a label on if and only if they are the label, followed by what is spelled
+-- after it
 pub spelled_label : {b : Octets} {s i : ℕ} {o after : Octets} (l : Octets) → LabelAt b i l → o
     ≡ length l ∷ (l ++ after) → (SpelledFrom b s (i + (1 + length l)) after → SpelledFrom b s i o)
     × (SpelledFrom b s i o → SpelledFrom b s (i + (1 + length l)) after)
@@ -58,7 +59,7 @@ spelled_label {b} {s} {i} {o} {after} l there is = (forth, λ h. back h.0 h.1 h.
         )
     back n e w (at_pointer p d pointer end run) = absurd (grind (arith, same_Some))
 
--- a pointer
+-- a pointer spells what its target spells
 pub spelled_jump : {b : Octets} {s i p : ℕ} {o : Octets} → PointerAt b s i p
     → (SpelledFrom b p p o → SpelledFrom b s i o) × (SpelledFrom b s i o → SpelledFrom b p p o)
 spelled_jump {b} {s} {i} {p} {o} there = (forth, λ h. back h.0 h.1 h.3 (goes_on_at h.2))
@@ -87,7 +88,7 @@ stands_at {b} {o} {p} has = record {
   place = length-take-le p b has.0;
 }
 
--- a name whose octets are in a message is spelled there
+-- a name whose wire form is in a message at a place is spelled there
 pub spelled_whole : {b o : Octets} {p : ℕ} → HasAt b p o → SpellsSuffix b p o
 spelled_whole {b} {o} {p} has n e ok = (
   n,

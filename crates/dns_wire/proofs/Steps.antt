@@ -1,16 +1,16 @@
--- Steps of writing: in order, they write what is laid out in order.
+-- Steps of writing, one after another, write what is laid out one after another.
 use Rattle.dns_wire.proofs.Common.{◌≡◌, ℕ, ◌+◌, ◌*◌, ◌<◌, ◌≤◌, Bool, true, false, List, [], ◌++◌, length, take, refl, sym, ap₂, subst, subst₂, arith, append_assoc, append-nil, length-append, false≢true, take-append_seam, Octets, Placed, Kept, suffix_number, Holds, IsAsked, Layout, octets_laid, both_laid, Draft, draft_of, with_octets, HasNames, Grows, Writes, WritesAfter, IsWellKept, Counts}
 use Rattle.dns_wire.proofs.AskedLemmas.{is_asked_more, kept_more}
 use Rattle.dns_wire.proofs.NameWritten.{holds_octets}
 use Rattle.dns_wire.proofs.SuffixLemmas.{follows_none, follows_again}
 
--- a page stays well kept with other octets, places and counts
+-- a page stays well kept with other octets, places and counts that satisfy the bounds
 pub kept_with : {N size a : ℕ} {b : Octets} {ks : List Kept} {n : Counts} {d : Draft} → IsWellKept N
     size d → length b ≤ d.limit → 2 * length ks ≤ length b → IsAsked b a → 12 ≤ length b → n.answers
     + n.authorities + n.additionals ≤ length b → IsWellKept N size (draft_of d.limit b a ks n)
 kept_with s within few asked header fit = grind arith
 
--- with octets after the others
+-- a page stays well kept with more octets at the end, if they fit the limit
 pub kept_longer : {N size : ℕ} {d : Draft} (o : Octets) → IsWellKept N size d
     → length d.octets + length o ≤ d.limit → IsWellKept N size (with_octets d o)
 kept_longer {d = d} o s fits =
@@ -27,12 +27,12 @@ grows_not d = grind (arith, follows_none)
 pub grows_again : {d d' d'' : Draft} → Grows d d' → Grows d' d'' → Grows d d''
 grows_again g h = grind (arith, follows_again)
 
--- what was taken back is as it was before
+-- a draft that has grown is as it was before once the additions are taken back
 pub taken_back : {d d' : Draft} {k j : ℕ} → Grows d d' → k ≡ length d.octets
     → j ≡ length d.kept → record d' { octets = take k d'.octets; kept = take j d'.kept } ≡ d
 taken_back {d} {d'} {k} {j} g octets kept = grind (arith, ap₂, take-append_seam)
 
--- octets that are written without keeping places
+-- octets that fit are written, and no places are kept
 pub octets_written : {d d' : Draft} (head : Octets → ℕ) (o : Octets)
     → IsAsked d.octets d.asked_end → length d.octets + length o ≤ d.limit
     → d' ≡ with_octets d o → Writes head head d d' (octets_laid o) true
@@ -65,7 +65,7 @@ pub writes_as : {known : List Placed → Type 0} {head head' : Octets → ℕ} {
     → WritesAfter known head head' d d' f fits → WritesAfter known head head' d d' g fits
 writes_as {known} {head} {d = d} {d'} {fits} f g same w = grind arith
 
--- what follows something that was written
+-- a step after one that wrote its layout: together they write both layouts
 pub writes_both : {known known' : List Placed → Type 0} {head head' head'' : Octets → ℕ}
     {d d' d'' : Draft} {t fits : Bool} (f g : Layout)
     → ((ms : List Placed) → HasNames d head ms → known ms

@@ -3,7 +3,7 @@
 use Rattle.dns_wire.proofs.Common.{◌≡◌, ℕ, zero, suc, ◌+◌, ◌-◌, ◌*◌, ◌<◌, ◌≤◌, Bool, true, false, cond, nat_le, List, [], ◌∷◌, ◌++◌, length, take, drop, get_or, Option, None, Some, refl, sym, ap, ap₂, ◌∙◌, subst, arith, append_assoc, append-nil, length-append, drop_at, le-leb, leb-true, same_Some, Octets, DomainName, wire, is_name, RunAt, Placed, last_place, shared_place, ends, goes_on, jumps, length-drop, label_parts, is_name-tail, is_label-head, wire-injective, pointer_place, Kept, HasPlace, SpelledAt, SpellsSuffix, NoneSpelled, AfterLabel, front_size, pointed_place, new_places, Holds, Follows}
 use Rattle.dns_wire.proofs.Runs.{GoesOn, at_end, at_label, at_pointer, goes_on_at}
 
--- how a name is laid out, by the place at which it is shared whole, if any
+-- how a name is laid out, depending on the place at which the whole name is shared, if it is shared
 module _ (ms : List Placed)
     (l : Octets) (n : DomainName) {x : Option ℕ} (is : shared_place ms (l ∷ n) ≡ x) where
   pub front-as : front_size ms
@@ -57,7 +57,7 @@ pub one_run : {b : Octets} {s i e f : ℕ} {n m : DomainName}
     → RunAt b s i n e → RunAt b s i m f → n ≡ m
 one_run h g = one_from h (goes_on_at g)
 
--- a name that is spelled at a place that is kept is not the root, and is shared there
+-- a name that the message spells at a kept place is not the root, and is shared at that place
 pub record FoundAt (ms : List Placed) (n : DomainName) (p : ℕ) : Type 0 where
   pub label : Octets
   pub labels : DomainName
@@ -78,7 +78,7 @@ found {head} {ms} {b} {ks} {p} n holds ok kept there =
       shared = s.2;
     }
 
--- if nothing is found, there is no such place
+-- if the name is spelled at no kept place, it is shared at no place
 pub not_found : {head : Octets → ℕ} {ms : List Placed}
     {b : Octets} {ks : List Kept} (l : Octets) (n : DomainName) → Holds head ms b ks
     → NoneSpelled ks (head (wire (l ∷ n))) b (wire (l ∷ n)) → shared_place ms (l ∷ n) ≡ None
@@ -104,7 +104,7 @@ pub record Left
   pub all : (ms : List Placed) (n : DomainName)
       → Holds head ms b ks → name ≡ wire n → is_name n ≡ true → LeftOf ms name rest n
 
--- the first label of that part, and what follows it
+-- the first label of the part that is left, and what follows the label
 pub record NextLabel (left : DomainName) (rest after : Octets) (k : ℕ) : Type 0 where
   pub label : Octets
   pub labels : DomainName
@@ -148,8 +148,8 @@ left_label {head} {b} {ks} {name} {rest} {after} k left a none = record {
       };
 }
 
--- if nothing is left to compare, the name is written whole; if a suffix is found, only its front
--- is
+-- if nothing is left to compare, the name is written whole; if a suffix is found, only the labels
+-- before it are
 pub left_root : {head : Octets → ℕ} {b : Octets} {ks : List Kept} {name rest : Octets}
     (ms : List Placed) (n : DomainName) → Left head b ks name rest → ((m : DomainName)
     → rest ≡ wire m → is_name m ≡ true → m ≡ []) → Holds head ms b ks → name ≡ wire n
@@ -175,7 +175,7 @@ left_found {b = b} {name = name} {rest} p ms n left kept there holds e ok =
       a.place ∙ ap (pointed_place ms) f.whole ∙ pointed-as ms f.label f.labels f.shared,
     )
 
--- the places that are kept of a name, by that place
+-- the places that are kept of a name, by the place at which the whole name is shared, if any
 module _ (head : Octets → ℕ) (ms : List Placed) (l : Octets) (n : DomainName) (p : ℕ) where
   abbrev kept_by : Option ℕ → List Kept
   kept_by None = cond (nat_le p last_place) (record

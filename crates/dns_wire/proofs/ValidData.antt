@@ -29,7 +29,7 @@ most_of : List Field → ℕ
 most_of [] = 0
 most_of (f ∷ fs) = most f + most_of fs
 
--- The data of each type is of one kind or the other.
+-- Either no field is a name, or the fields together have at most 65,535 octets.
 bounded : List Field → Bool
 bounded fs = list_all is_run fs || nat_le (most_of fs) 65535
 
@@ -44,7 +44,8 @@ few_octets domain os part rest other fits h = absurd (other refl)
 few_octets f os part rest other fits h = absurd (omega arith)
 
 module _ (b : Octets) (e : ℕ) (within : e ≤ length b) where
-  -- what is known of a field from place i up to place j, and of fields from place i on
+  -- what holds for a field that is read from place i up to place j, and for fields that are read
+  -- from place i on
   record ReadField (f : Field) (i j : ℕ) (o : Octets) : Type 0 where
     forward : i ≤ j
     inside : j ≤ e
@@ -159,7 +160,8 @@ module _ (b : Octets) (e : ℕ) (within : e ≤ length b) where
       go (inr low) =
           let few = leb-true (most_of fs) 65535 low in omega (arith, few, read.few few)
 
--- what holds for each row of the table with a number holds for the row of that type
+-- what holds for `other_type` and for each row of the table with the number t holds for the row of
+-- type t
 pub by_row : (t : ℕ) (P : TypeRow → Type 0) (rows : List TypeRow) → P other_type
     → AllByRecursion (λ row. row.number ≡ t → P row) rows
     → P (unwrap_or (find (λ (row : TypeRow). row.number == t) rows) other_type)

@@ -1,4 +1,5 @@
--- How the kept places are linked, so that the places of one chain are found without the others.
+-- How the kept places are linked into chains, so that the places of one chain are found without
+-- looking at those of other chains.
 use Rattle.std.specs.Prelude.{◌≡◌, ℕ, zero, suc, ◌<◌, ◌/◌, ◌%◌, List, length, get_or, ◌==◌, if◌then◌else◌}
 use Rattle.dns_wire.specs.declared.places.KeptPlace.{KeptPlace}
 use Rattle.dns_wire.specs.Kept.{Kept}
@@ -20,8 +21,8 @@ last_with h es zero = 0
 last_with h es (suc k) =
     if chain_of (entry_at es k).number == h then suc k else last_with h es k
 
--- The head of each chain is its last entry, and each entry links to the entry of its chain before
--- it. A pointer reaches each place.
+-- The head of each chain is its last entry, and each entry's `next` is the previous entry of its
+-- chain. Each place is within the reach of a pointer.
 pub record AreChains (heads : List ℕ) (es : List KeptPlace) : Type 0 where
   pub all : length heads ≡ 128
   pub newest : (h : ℕ) → h < 128 → get_or heads h 0 ≡ last_with h es (length es)

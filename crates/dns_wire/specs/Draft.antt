@@ -52,7 +52,8 @@ abbrev pub with_set : List Item → Section → DomainName → ℕ → RecordSet
 with_set items section owner ttl set = items ++ item_of section owner ttl set ∷ []
 
 -- a message being written: its limit, its octets, which begin with room for a header, the place
--- where the name of its question ends, the places kept of later names, and the counts of its header
+-- where its question's name ends, the places kept of names after the question, and the counts for
+-- its header
 pub record Draft : Type 0 where
   pub limit : ℕ
   pub octets : Octets
@@ -74,7 +75,7 @@ no_draft limit = record {
   counts = record { questions = 0; answers = 0; authorities = 0; additionals = 0 };
 }
 
--- the places of the question's name, and those kept of later names
+-- the places of the suffixes of the question's name, and those kept of later names
 abbrev pub known_places : (Octets → ℕ) → Draft → List Kept
 known_places number d = asked_places number d.octets d.asked_end ++ d.kept
 
@@ -82,7 +83,7 @@ known_places number d = asked_places number d.octets d.asked_end ++ d.kept
 abbrev pub with_octets : Draft → Octets → Draft
 with_octets d o = record d { octets = d.octets ++ o }
 
--- the earlier names of the draft, with numbers of suffixes by this hash
+-- the draft has the names `ms`, and its places are kept with numbers that use this hash
 abbrev pub HasNames : Draft → (Octets → ℕ) → List Placed → Type 0
 HasNames d head ms = Holds (suffix_number head) ms d.octets (known_places (suffix_number head) d)
 
@@ -95,8 +96,9 @@ pub record Grows (old new : Draft) : Type 0 where
   pub limit : new.limit ≡ old.limit
   pub counts : new.counts ≡ old.counts
 
--- What is laid out after these names is written if and only if it fits the limit. Its names are
--- then earlier names too, also after other earlier octets, if there are equally many.
+-- What is laid out after the names `ms` is written if and only if it fits the limit. Its names can
+-- then be shared too, like those in `ms`. That stays true if the earlier octets are replaced by as
+-- many others that spell `ms`.
 pub record IsWritten (number : Octets → ℕ) (ms : List Placed) (old new : Draft) (laid : Laid)
     (fits : Bool) : Type 0 where
   pub exactly : IsTrue fits ↔ (length (old.octets ++ laid.written) ≤ old.limit)
@@ -105,8 +107,8 @@ pub record IsWritten (number : Octets → ℕ) (ms : List Placed) (old new : Dra
       → Holds number ms x (known_places number old)
       → StandsIn number ms x laid (known_places number new))
 
--- A step that writes what is laid out after names for which `known` holds. The borrowed hash gives
--- the same numbers before and after it.
+-- A step that writes what `layout` gives after the draft's names, provided that `known` holds for
+-- them. The borrowed hash gives the same numbers before and after the step.
 pub record WritesAfter (known : List Placed → Type 0) (head head' : Octets → ℕ) (old new : Draft)
     (layout : Layout) (fits : Bool) : Type 0 where
   pub grows : Grows old new
@@ -114,7 +116,7 @@ pub record WritesAfter (known : List Placed → Type 0) (head head' : Octets →
   pub written : (ms : List Placed) → HasNames old head ms → known ms
       → IsWritten (suffix_number head) ms old new (layout ms (length old.octets)) fits
 
--- a step that writes what is laid out after any names
+-- a step that writes what the layout gives after the draft's names, whatever they are
 abbrev pub Writes : (Octets → ℕ) → (Octets → ℕ) → Draft → Draft → Layout → Bool → Type 0
 Writes = WritesAfter (λ ms. ⊤)
 
@@ -134,8 +136,8 @@ pub record IsDraft (head : Octets → ℕ) (q : Option MessageQuestion) (items :
   pub counts : d.counts ≡ counts_of q items
   pub askable : IfSome q IsAskable
 
--- A page with N places and `size` octets, and a limit within these octets that any question fits.
--- It never has more records than octets.
+-- What always holds for a page with room for N places and `size` octets. Its limit is at most
+-- `size`, and any question fits within it. The page never has more records than octets.
 pub record IsWellKept (N size : ℕ) (d : Draft) : Type 0 where
   pub least : 512 ≤ d.limit
   pub within : length d.octets ≤ d.limit

@@ -1,4 +1,4 @@
--- Which places a writer keeps for the suffixes of names, and what it means that one is found.
+-- Which places a writer keeps for the suffixes of names, and what it means to find such a place.
 use Rattle.std.specs.Prelude.{◌≡◌, ℕ, ◌<◌, ◌≤◌, List, length, take, drop, slice_get, Some, IsTrue}
 use Rattle.dns_spec.specs.Names.{Octets, DomainName, wire, is_name}
 use Rattle.dns_spec.specs.NamesInMessages.{RunAt}
@@ -16,8 +16,8 @@ IsKept ks p h = (k : ℕ) × (slice_get ks k ≡ Some (record { place = p; numbe
 abbrev pub HasPlace : List Kept → ℕ → Type 0
 HasPlace ks p = (h : ℕ) × IsKept ks p h
 
--- from place i of a message on, in a run that began at place s, the name with this wire form is
--- spelled; and the same at a place
+-- `SpelledFrom`: from place i on, in a run that began at place s, the message b spells the name
+-- with the wire form o. `SpelledAt`: a run that begins at place p spells it.
 abbrev pub SpelledFrom : Octets → ℕ → ℕ → Octets → Type 0
 SpelledFrom b s i o = (n : DomainName) × (e : ℕ) × RunAt b s i n e × (wire n ≡ o)
 

@@ -6,7 +6,7 @@ use Rattle.dns_spec.specs.NamesInMessages.{pointer_place, RunAt}
 use Rattle.dns_wire.specs.declared.name.NameStep.{NameStep}
 use Rattle.dns_wire.specs.declared.name.NameStep.TheVariants.{End, Label, Jump}
 
--- a length and the label l are at place i
+-- the length of the label l is at place i, and the label follows it
 pub record LabelAt (b : Octets) (i : ℕ) (l : Octets) : Type 0 where
   pub length_there : slice_get b i ≡ Some (length l)
   pub some : 0 < length l
@@ -14,7 +14,7 @@ pub record LabelAt (b : Octets) (i : ℕ) (l : Octets) : Type 0 where
   pub within : i + 1 + length l ≤ length b
   pub label : l ≡ take (length l) (drop (i + 1) b)
 
--- a pointer at place i, in a run of labels that began at place s, gives place p
+-- a valid pointer at place i, in a run of labels that began at place s, leads to place p
 pub record PointerAt (b : Octets) (s i p : ℕ) : Type 0 where
   pub first : ℕ
   pub second : ℕ
@@ -40,7 +40,8 @@ abbrev pub end_or : Option ℕ → ℕ → ℕ
 end_or end e = unwrap_or end e
 
 -- The invariant of reading a name from place `at`: the labels so far, followed by what the current
--- run spells from place i on, are what place `at` spells, and nothing else is.
+-- run spells from place i on, are what the message spells at place `at`, and it spells nothing else
+-- there.
 pub record IsReading (b : Octets) (at : ℕ) (n : DomainName) (s i : ℕ)
     (end : Option ℕ) : Type 0 where
   pub is_name : IsTrue (is_name n)

@@ -1,4 +1,4 @@
--- Which query and which RCODE of the definitions the program's values represent.
+-- How the program's values represent queries and RCODEs of the definitions.
 use Rattle.std.specs.Prelude.{◌≡◌, ℕ, ◌-◌, ◌<◌, ◌≤◌, Some, IsTrue, length, take, drop}
 use Rattle.dns_spec.specs.Names.{Octets, DomainName, wire, is_name}
 use Rattle.dns_spec.specs.ComputedNames.{name_at}

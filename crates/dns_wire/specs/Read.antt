@@ -7,8 +7,8 @@ use Rattle.dns_spec.specs.Names.{Octets}
 use Rattle.dns_spec.specs.Reading.{Header, head_of, field16, several}
 use Rattle.dns_wire.specs.declared.message.Counts.{Counts}
 
--- The type whose form data has. In a class other than IN it is 0, a type without a mnemonic, whose
--- data is any octets (RFC 3597 3).
+-- The type that determines the form of a record's data. In a class other than IN it is 0, a type
+-- without a mnemonic, whose data is any octets (RFC 3597 3).
 abbrev pub data_type : ℕ → ℕ → ℕ
 data_type rtype rclass = if rclass == class_in then rtype else 0
 
@@ -16,7 +16,7 @@ data_type rtype rclass = if rclass == class_in then rtype else 0
 abbrev pub IsWireData : ℕ → ℕ → Octets → Type 0
 IsWireData rtype rclass d = Valid (data_type rtype rclass) d
 
--- the numbers in a header
+-- b begins with a header with these fields and counts
 pub record HeaderAt (b : Octets) (h : Header) (counts : Counts) : Type 0 where
   pub whole : 12 ≤ length b
   pub head : h ≡ head_of b
@@ -25,8 +25,8 @@ pub record HeaderAt (b : Octets) (h : Header) (counts : Counts) : Type 0 where
   pub authorities : counts.authorities ≡ field16 b 8
   pub additionals : counts.additionals ≡ field16 b 10
 
--- The invariant of reading `count` questions or records in order from place i on: the ones so far,
--- followed by those that are left from place j on, are all of them.
+-- The invariant of reading `count` questions or records in order from place i on: those in
+-- `so_far`, followed by the `left` that are read from place j on, are all of them.
 pub record AreRead {A : Type 0} (read : ℕ → Option (A × ℕ)) (count i : ℕ) (so_far : List A)
     (left j : ℕ) : Type 0 where
   pub same :

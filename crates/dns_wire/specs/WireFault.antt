@@ -15,6 +15,6 @@ fault_code fault =
       | NoMemory ↦ 7
     ]
 
--- unless the fault is that allocation failed, this holds
+-- `Said` holds, unless the fault is that allocation failed
 abbrev pub UnlessNoMemory : WireFault → Type 0 → Type 0
 UnlessNoMemory fault Said = fault ≢ NoMemory → Said

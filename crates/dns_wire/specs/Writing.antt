@@ -43,23 +43,24 @@ pub record IsForm (o : Octets) (form : Form) : Type 0 where
   pub inside : form.0 ≤ length o
   pub reached : IfSome form.1 (λ p. p < 16384)
 
--- How a name is laid out again, after it was laid out in this form at a place: as a pointer to
--- that place, if it has labels of its own there and a pointer reaches it; else in the same form.
+-- How a name is laid out again, after it was laid out in this form at a place: as a pointer to that
+-- place, if some of its labels are written there and a pointer reaches the place; otherwise in the
+-- same form.
 abbrev pub form_again : ℕ → Form → Form
 form_again at (zero, p) = (zero, p)
 form_again at (suc k, p) = if nat_le at last_place then (zero, Some at) else (suc k, p)
 
--- how the owner of a record is laid out, if it is not the first record of its set
+-- unless the record is the first of its set, its owner n is laid out in this form
 abbrev pub IsLaidAs : DomainName → Bool → Form → List Placed → Type 0
 IsLaidAs n first form ms = IsFalse first → IsLaid ms n form
 
--- a name ends with the root's length, or with a pointer
+-- the octets that end a name: the root's length, or a pointer
 abbrev pub end_octets : Option ℕ → Octets
 end_octets None = 0 ∷ []
 end_octets (Some p) = pointer p
 
--- the places that are kept of a name laid out from place p on: the places of its suffixes that are
--- written out, as far as a pointer reaches
+-- the places that are kept of a name laid out from place p on: the places where its suffixes begin
+-- before the shared one, as far as a pointer reaches
 unfoldable pub new_places : (Octets → ℕ) → List Placed → DomainName → ℕ → List Kept
 new_places number ms [] p = []
 new_places number ms (l ∷ n) p = elim (shared_place ms (l ∷ n)) [
@@ -74,7 +75,7 @@ new_places number ms (l ∷ n) p = elim (shared_place ms (l ∷ n)) [
 abbrev pub name_before : Octets → ℕ → Octets
 name_before b a = take (a - 12) (drop 12 b)
 
--- The question's name ends at place a; or the header does, and the name is not written yet.
+-- The question's name ends at place a; or the header ends there, and no question is written.
 pub record IsAsked (b : Octets) (a : ℕ) : Type 0 where
   pub after : 12 ≤ a
   pub inside : a ≤ length b
@@ -95,7 +96,8 @@ abbrev pub IsLastOf : Octets → Octets → Type 0
 IsLastOf o last = (n : DomainName) → o ≡ wire n → IsTrue (is_name n)
     → (front : DomainName) × (n' : DomainName) × (n ≡ front ++ n') × (last ≡ wire n')
 
--- The places kept are exactly the places of the suffixes that are shared, each with its number.
+-- The places in `ks` are exactly those at which suffixes of the names `ms` can be shared, each with
+-- the number of its suffix.
 pub record Answers (number : Octets → ℕ) (ms : List Placed) (ks : List Kept) : Type 0 where
   pub complete : (l : Octets) (n : DomainName) (p : ℕ) → shared_place ms (l ∷ n) ≡ Some p
       → IsKept ks p (number (wire (l ∷ n)))
@@ -103,7 +105,8 @@ pub record Answers (number : Octets → ℕ) (ms : List Placed) (ks : List Kept)
       → (l : Octets) × (n : DomainName) × (shared_place ms (l ∷ n) ≡ Some p)
       × IsTrue (is_name (l ∷ n))
 
--- The message spells each suffix that is shared at its place, and all places are in the message.
+-- At each place where a suffix can be shared, the message b spells that suffix. The places of all
+-- names are in the message.
 pub record Holds (number : Octets → ℕ) (ms : List Placed) (b : Octets) (ks : List Kept)
     : Type 0 where
   pub spelled : (l : Octets) (n : DomainName) (p : ℕ) → shared_place ms (l ∷ n) ≡ Some p
@@ -112,7 +115,8 @@ pub record Holds (number : Octets → ℕ) (ms : List Placed) (b : Octets) (ks :
   pub after_header : 12 ≤ length b
   pub answers : Answers number ms ks
 
--- What was laid out after the octets b spells its names there, and the places kept are theirs.
+-- `Holds` for the octets b followed by what is laid out, and for the names `ms` followed by its
+-- names
 abbrev pub StandsIn : (Octets → ℕ) → List Placed → Octets → Laid → List Kept → Type 0
 StandsIn number ms b laid ks = Holds number (ms ++ laid.names) (b ++ laid.written) ks
 
@@ -137,7 +141,7 @@ both_laid f g ms p =
     let l = f ms p in
     laid_front l.written l.names (g (ms ++ l.names) (p + length l.written))
 
--- a record, and its layout after its owner
+-- a record; the layout of its data; and the layout of all that follows its owner
 abbrev pub shown : DomainName → ℕ → ℕ → Octets → ResourceRecord
 shown owner rtype ttl rdata = record { owner = owner; ttl = ttl; rtype = rtype; rdata = rdata }
 

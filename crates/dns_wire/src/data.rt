@@ -12,11 +12,12 @@ use crate::name::read_name;
 use dns_rdata::{Field, Part, RType, fields_of_type, first_part};
 use std::alloc::Global;
 
-/// The data of a record, from place `at` up to `end`, without compression.
+/// Reads the data of a record, from place `at` up to place `end`, and returns it without
+/// compression.
 ///
-/// Data of a class other than IN is any octets. `BadData` if the octets do not exactly fill the
-/// fields of the type. A name is read from the whole message, so its own faults are reported before
-/// it is found to extend past `end`.
+/// Data of a class other than IN is any octets. Fails with `BadData` if the octets do not exactly
+/// fill the fields of the type. A name is read from the whole message, so its own faults are
+/// reported before it is found to extend past `end`.
 #[tactic(auto, unfolding(dns_spec::specs::Reading::fields_at))]
 pub(crate) fn read_data(
     alloc: Global,
@@ -53,8 +54,8 @@ pub(crate) fn read_data(
     Ok(data)
 }
 
-// Appends the field at a place, and returns the place after the field, at most `end`. A domain
-// name is appended without compression.
+// Appends the field at place `at` to `written`, and returns the place after the field, at most
+// `end`. A domain name is appended without compression.
 fn read_field(
     message: &[u8],
     field: Field,

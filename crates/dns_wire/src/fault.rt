@@ -11,12 +11,13 @@ pub enum WireFault {
     Short = 1,
     /// A label begins with the bits 01 or 10, which are reserved (RFC 1035 4.1.4).
     ReservedLabel,
-    /// A pointer leads into the header, or not to a place before the labels that it follows (RFC
-    /// 1035 4.1.4).
+    /// A pointer leads into the header, or to a place that is not before the run of labels that it
+    /// ends (RFC 1035 4.1.4).
     BadPointer,
     /// A name has more than 255 octets (RFC 1035 2.3.4).
     LongName,
-    /// The fields of data do not fill its length, or are invalid for its type (RFC 1035 3.3).
+    /// The octets of a record's data do not exactly fill the fields of its type, or a field is
+    /// invalid (RFC 1035 3.3).
     BadData,
     /// Octets follow the last record.
     Trailing,

@@ -17,12 +17,13 @@ pub(crate) enum NameStep<'a> {
     Jump(usize),
 }
 
-/// The name at a place of a message, in the case received, and the place after its octets there,
-/// which a pointer ends.
+/// The name at place `at` of a message, in the case received, and the place after it there: after
+/// the root's length, or after the first pointer.
 ///
-/// A pointer leads to a place after the header and before the labels that it follows, so reading
-/// terminates. The first fault is reported: a missing octet, reserved bits, a missing second octet
-/// of a pointer, its target, a label cut short, or a name that is too long with the label.
+/// A pointer has to lead to a place after the header and before the run of labels that it ends, so
+/// reading terminates. The first fault is reported: a missing octet, reserved bits, a pointer
+/// without its second octet or with an invalid target, a label cut short, or a label that makes the
+/// name too long.
 pub(crate) fn read_name(message: &[u8], at: usize) -> Result<(Name, usize), WireFault>
     requires { at ≤ length message.now }
     ensures name { IfOk result (λ read. name_at message.now at ≡ Some (read.0, read.1)) }
@@ -52,7 +53,7 @@ pub(crate) fn read_name(message: &[u8], at: usize) -> Result<(Name, usize), Wire
     }
 }
 
-// What is at a place in a run of labels that began at `run`.
+// What is at `place`, in a run of labels that began at place `run`.
 pub(crate) fn step_at(message: &[u8], run: usize, place: usize) -> Result<NameStep<'_>, WireFault>
     ensures step { IfOk result (λ step. StepAt message.now run place step) }
     ensures none { IsErr result → NoRunAt message.now run place }

@@ -4,7 +4,7 @@ ghost use Rattle.dns_spec.specs.Reading.{field16, field32};
 
 use crate::fault::WireFault;
 
-/// The 16 bits at a place. `Short` if the octets end before them.
+/// The 16 bits at place `at`. Fails with `Short` if the message ends before two octets are read.
 pub(crate) fn read_u16(message: &[u8], at: usize) -> Result<u16, WireFault>
     requires { at ≤ length message.now }
     ensures ok { IfOk result (λ number. number ≡ field16 message.now at) }
@@ -14,7 +14,7 @@ pub(crate) fn read_u16(message: &[u8], at: usize) -> Result<u16, WireFault>
     Ok(u16::from_be_bytes(octets_at(message, at)?))
 }
 
-/// The 32 bits at a place. `Short` if the octets end before them.
+/// The 32 bits at place `at`. Fails with `Short` if the message ends before four octets are read.
 pub(crate) fn read_u32(message: &[u8], at: usize) -> Result<u32, WireFault>
     requires { at ≤ length message.now }
     ensures ok { IfOk result (λ number. number ≡ field32 message.now at) }
@@ -24,7 +24,7 @@ pub(crate) fn read_u32(message: &[u8], at: usize) -> Result<u32, WireFault>
     Ok(u32::from_be_bytes(octets_at(message, at)?))
 }
 
-// The `N` octets from a place on.
+// The `N` octets from place `at` on.
 fn octets_at<const N: usize>(message: &[u8], at: usize) -> Result<[u8; N], WireFault>
     requires { at ≤ length message.now }
     ensures ok { IfOk result (λ octets. octets ≡ take N (drop at message.now)) }

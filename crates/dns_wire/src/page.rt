@@ -27,19 +27,21 @@ pub enum Section {
     Answer,
     /// The authority section: records that point to an authority.
     Authority,
-    /// The additional section: records that help with using the others.
+    /// The additional section: records that help with using those of the other sections.
     Additional,
 }
 
-/// A message being written, with room for `N` places and `SIZE` octets.
+/// A message being written. It stores everything inline, without allocating: up to `N` places of
+/// name suffixes, and `SIZE` octets.
 #[derive(Drop)]
 pub struct Page<const N: usize, const SIZE: usize> {
     octets: ArrayVec<u8, SIZE>,
-    // The places that later names may point to, in names after the question.
+    // The places of the suffixes of names after the question, which later names may point to.
     places: Places<N>,
     limit: usize,
     // The place where the question's name ends; without a question, the place where the header
-    // ends. The places of the name's suffixes are not kept, since they follow from this place.
+    // ends. `places` has none of the suffixes of that name, since their places follow from this
+    // one.
     asked_end: usize,
     counts: Counts,
 }
@@ -60,8 +62,9 @@ impl<const N: usize, const SIZE: usize> Page<N, SIZE> {
 
     /// An empty message of at most `limit` octets, 512 to 65,535.
     ///
-    /// Condition: `SIZE` is at least the limit; `N` is at least half of `SIZE` or 8,192, whichever
-    /// is less, and at most 8,192. A pointer reaches 16,384 octets.
+    /// Conditions: `SIZE` is at least `limit`. `N` is at least half of `SIZE`, but never more than
+    /// 8,192, which always suffices: a pointer reaches 16,384 octets, and a label takes at least
+    /// two.
     pub fn new(limit: usize) -> Page<N, SIZE>
         requires from { 512 ≤ limit }
         requires upto { limit ≤ 65535 }
@@ -81,8 +84,8 @@ impl<const N: usize, const SIZE: usize> Page<N, SIZE> {
         }
     }
 
-    /// Empties the page for a new message, whatever was written before. The time depends on what
-    /// was written, not on the size of the page.
+    /// Empties the page for a new message. The time that this takes depends on what was written,
+    /// not on the size of the page.
     pub fn clear(&mut self)
         ensures { self.new ≡ no_draft self.old.limit }
     {
@@ -108,8 +111,8 @@ impl<const N: usize, const SIZE: usize> Page<N, SIZE> {
         self.counts.questions = 1;
     }
 
-    /// Writes the records of a set at a borrowed owner, with a TTL in seconds, into a section: all
-    /// of them; or none, and returns false, if they would make the message exceed its limit.
+    /// Writes all records of a set into a section, with a borrowed owner and a TTL in seconds. If
+    /// they would make the message exceed its limit, writes none of them and returns false.
     pub fn put_set<H: SuffixHash, S: SetView>(
         &mut self,
         hash: &mut H,
@@ -172,8 +175,10 @@ impl<const N: usize, const SIZE: usize> Page<N, SIZE> {
         self.octets.as_slice()
     }
 
-    // Writes a record of class IN, in a set that begins at place `start`. False if the record does
-    // not fit; a part of it may then be written. `form` is how the set's first owner is laid out.
+    // Writes a record of class IN, of a set whose first record begins at place `start`. Returns
+    // false if the record does not fit; a part of it may then have been written. `form` says how
+    // the owner of the set's first record is laid out: the first record sets it, and the others use
+    // it.
     fn put_record<H: SuffixHash>(
         &mut self,
         hash: &mut H,
@@ -210,8 +215,9 @@ impl<const N: usize, const SIZE: usize> Page<N, SIZE> {
         }
     }
 
-    // Writes what follows the owner of a record whose data may have compressed names. The data's
-    // length is known only then; it is written into the last two of the 10 octets before the data.
+    // Writes what follows the owner, for a record whose data may have compressed names. The data's
+    // length is known only after the data is written. It then goes into the last two of the 10
+    // octets before the data.
     fn put_shared_tail<H: SuffixHash>(
         &mut self,
         hash: &mut H,
@@ -241,7 +247,8 @@ impl<const N: usize, const SIZE: usize> Page<N, SIZE> {
 
     // Writes data that may have compressed names: for MX a preference and the name of an exchange
     // (RFC 1035 3.3.9), for SOA the names of a server and of a mailbox and five numbers of 32 bits
-    // (3.3.13), for other types one name. False if it does not fit; a part may then be written.
+    // (3.3.13), for other types one name. Returns false if the data does not fit; a part of it may
+    // then have been written.
     fn put_data<H: SuffixHash>(&mut self, hash: &mut H, rtype: RType, rdata: &[u8]) -> bool
         requires valid { Valid rtype.0 rdata.now }
         requires shared { IsTrue (compresses rtype.0) }
@@ -268,9 +275,10 @@ impl<const N: usize, const SIZE: usize> Page<N, SIZE> {
         self.put_name(hash, rdata)
     }
 
-    // Writes the owner of a record. The owner of the first record of a set is looked up. In the
-    // other records it is a pointer to the first one, or the same octets: a pointer, the root, or a
-    // name beyond the reach of pointers. Inlining saves about 50 instructions per record.
+    // Writes the owner of a record. In the first record of a set, its longest suffix that a pointer
+    // may replace is looked up. Each other record gets a pointer to the first record's owner, or
+    // the same octets as that: a pointer, the root, or a name beyond the reach of pointers.
+    // Inlining saves about 50 instructions per record.
     #[inline(always)]
     fn put_owner<H: SuffixHash>(
         &mut self,
@@ -316,9 +324,10 @@ impl<const N: usize, const SIZE: usize> Page<N, SIZE> {
         self.lay_name(hash, name, &mut (0, None))
     }
 
-    // Writes a name, given in its wire form: the labels before its longest suffix that was written
-    // before, and a pointer to that suffix; or the whole name. False, with nothing written, if it
-    // does not fit. `form` gets the number of octets before the suffix, and the suffix's place.
+    // Writes a name, given in its wire form: the labels before its longest suffix that a pointer
+    // may replace, and that pointer; or the whole name, if there is no such suffix. If they do not
+    // fit, writes nothing and returns false. `form` gets the number of octets of the labels
+    // written, and the suffix's place, if there is one.
     #[inline(never)]
     fn lay_name<H: SuffixHash>(
         &mut self,
@@ -351,8 +360,9 @@ impl<const N: usize, const SIZE: usize> Page<N, SIZE> {
         true
     }
 
-    // Appends the front of a name and its end: a pointer to a place (RFC 1035 4.1.4), or the
-    // root's length.
+    // Appends the front of a name, and its end: a pointer to `place` (RFC 1035 4.1.4) or, if that
+    // is `None`, the root's length. If they do not fit the limit, appends nothing and returns
+    // false.
     fn append_end(&mut self, front: &[u8], place: Option<u16>) -> bool
         requires { IfSome place (λ p. p < 16384) }
         ensures fits { IsTrue result ↔ (length self.old.octets
@@ -368,7 +378,7 @@ impl<const N: usize, const SIZE: usize> Page<N, SIZE> {
         }
     }
 
-    // Appends two runs of octets. False, with nothing written, if they do not fit the limit.
+    // Appends two runs of octets. If they do not fit the limit, appends nothing and returns false.
     fn append(&mut self, front: &[u8], end: &[u8]) -> bool
         ensures fits { IsTrue result ↔ (length self.old.octets
             + (length front.now + length end.now) ≤ self.old.limit) }
@@ -388,7 +398,7 @@ impl<const N: usize, const SIZE: usize> Page<N, SIZE> {
     }
 }
 
-// Appends octets, for which there is room. Skipping the copy of an empty run saves about 34
+// Appends octets; there has to be room for them. Skipping the copy of an empty run saves about 34
 // instructions of a short reply, and 1,216 of a reply with 64 addresses.
 fn extend<const SIZE: usize>(octets: &mut ArrayVec<u8, SIZE>, more: &[u8])
     requires { length octets.old.items + length more.now ≤ SIZE }

@@ -8,7 +8,7 @@ use crate::spelled::is_spelled;
 use arrayvec::ArrayVec;
 use std::marker::Model;
 
-// The number of chains of places: a suffix with number k is in chain k / 2 modulo this.
+// The number of chains of places: a suffix with number k is in chain k / 2 modulo `HEADS`.
 //
 // Whatever the hash, a chain contains suffixes of only four lengths, 64 octets apart, since six of
 // the seven bits that choose the chain are bits of the length. So it contains at most one suffix
@@ -17,8 +17,8 @@ use std::marker::Model;
 // octets with at most about 82 suffixes of its length.
 const HEADS: usize = 128;
 
-// The place of a suffix; the entry of the same chain that was kept before this one, counted from 1,
-// or 0 if there is none; and the number of the suffix.
+// The place of a suffix; in `next`, the index, counted from 1, of the previous entry of the same
+// chain, or 0 for the chain's oldest entry; and the number of the suffix.
 #[derive(Clone, Copy, Default)]
 struct KeptPlace {
     place: u16,
@@ -26,11 +26,11 @@ struct KeptPlace {
     number: u32,
 }
 
-/// The places that are kept, each with the number of its suffix, in the order in which they were
-/// added. The octets of a suffix are only in the message.
+/// Places, each with the number of its suffix (`number_of`, a hash), in the order in which they
+/// were added. The octets of a suffix are only in the message.
 #[derive(Drop)]
 pub(crate) struct Places<const N: usize> {
-    // The newest entry of each chain, counted from 1, or 0 if there is none.
+    // The index, counted from 1, of the newest entry of each chain; 0 for an empty chain.
     heads: [u16; HEADS],
     entries: ArrayVec<KeptPlace, N>,
 }
@@ -82,7 +82,7 @@ impl<const N: usize> Places<N> {
         self.heads[chain_of(number)] = self.entries.len() as u16;
     }
 
-    /// Keeps only the first `count` places, as if the others had never been added.
+    /// Removes all but the first `count` places, as if the later ones had never been added.
     pub(crate) fn take_back(&mut self, count: usize)
         ensures { self.new ≡ take count self.old }
     {
@@ -93,8 +93,7 @@ impl<const N: usize> Places<N> {
         }
     }
 
-    /// A place at which the message spells the suffix, among the places that are kept with this
-    /// number; the newest of them.
+    /// The newest of the places with this number at which the message spells the suffix.
     pub(crate) fn find(&self, number: u32, message: &[u8], suffix: &[u8]) -> Option<u16>
         ensures kept { IfSome result (λ place. IsKept self.now place number) }
         ensures spelled { IfSome result (λ place. SpellsSuffix message.now place suffix.now) }
@@ -122,8 +121,8 @@ fn chain_of(number: u32) -> usize
     (number / 2 % HEADS as u32) as usize
 }
 
-/// A hash of suffixes, below 1,024, always the same for the same octets. The highest bit of the ten
-/// and the suffix's length choose the chain in which the suffix is looked for.
+/// A hash of suffixes, below 1,024, always the same for the same octets. The highest of the hash's
+/// ten bits and the suffix's length choose the chain in which the suffix is looked for.
 ///
 /// The message that is written does not depend on this hash.
 pub trait SuffixHash {

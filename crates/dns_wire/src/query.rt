@@ -34,8 +34,8 @@ pub enum QueryRef<'d> {
 // The most octets of a label (RFC 1035 2.3.4).
 const MOST_LABEL: usize = 63;
 
-// The last place at which the question's name may end with the root, since the name has at most 255
-// octets (RFC 1035 2.3.4).
+// The last place at which the final octet of the question's name may be, since the name has at most
+// 255 octets (RFC 1035 2.3.4).
 const LAST_ROOT: usize = HEADER_OCTETS + 254;
 
 /// The RCODE of a reply (RFC 1035 4.1.1).
@@ -54,7 +54,7 @@ pub enum Rcode {
 }
 
 impl Rcode {
-    /// The number in a header.
+    /// The number of this RCODE in a header.
     pub fn code(self) -> u16
         ensures { result ≡ code_of self }
     {
@@ -138,7 +138,7 @@ fn field(datagram: &[u8], at: usize) -> u16
     BigEndian::read_u16(&datagram[at..])
 }
 
-// The question, if exactly one follows the header.
+// The question, if the octets after the header are exactly one question.
 #[tactic(auto, unfolding(dns_spec::specs::Query::question_at))]
 #[inline(always)]
 fn lent_question(datagram: &[u8]) -> Option<QuestionRef<'_>>
@@ -155,8 +155,9 @@ fn lent_question(datagram: &[u8]) -> Option<QuestionRef<'_>>
     })
 }
 
-// The place after the name that follows the header. A pointer is never valid in this name, since it
-// would have to lead to a place before the name and after the header (RFC 1035 4.1.4).
+// The place after the name that follows the header; `None` if no valid name does. A pointer is
+// never valid in this name, since it would have to lead to a place before the name and after the
+// header (RFC 1035 4.1.4).
 fn name_end(datagram: &[u8]) -> Option<usize>
     ensures some { IfSome result (λ end. NameEnds datagram.now end) }
     ensures none { IsNone result → name_at datagram.now 12 ≡ None }

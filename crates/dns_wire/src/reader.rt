@@ -15,10 +15,10 @@ use std::alloc::Global;
 // What is read, and the place after it.
 type Read<T> = Result<(T, usize), WireFault>;
 
-/// The message that the octets spell, with nothing left over.
+/// The message that the octets spell, all of them.
 ///
-/// The fault is the first one from the left: in the header, the questions, or the records.
-/// `NoMemory` only if an allocation fails.
+/// If they spell no message, fails with the first fault from the left. Fails with `NoMemory` only
+/// if an allocation fails.
 #[tactic(auto, unfolding(dns_spec::specs::Reading::message_at))]
 pub fn read_message(alloc: Global, octets: &[u8]) -> Result<Message, WireFault>
     ensures ok { IfOk result (λ message. Spells octets.now message) }

@@ -48,7 +48,7 @@ fn has_at(message: &[u8], at: usize, octets: &[u8]) -> bool
         .is_some_and(|(front, _)| are_equal(front, octets))
 }
 
-// The octets after the label, if `wire` begins with its length and its octets.
+// The octets of `wire` after the label, if `wire` begins with the label's length and octets.
 fn after_label<'a>(wire: &'a [u8], label: &[u8]) -> Option<&'a [u8]>
     ensures some { IfSome result (λ rest. wire.now ≡ length label.now ∷ (label.now ++ rest.now)) }
     ensures none { IsNone result → (rest : Octets)

@@ -1,4 +1,4 @@
-//! The number of a suffix, by which its places are found among the kept ones.
+//! The number of a suffix, by which its place is found among the places kept.
 ghost use Rattle.std.specs.Prelude.{◌≡◌, ◌<◌, ◌≤◌, ◌^◌, length, take, drop, ◌+◌};
 ghost use Rattle.std.specs.Int.{from_le_bytes, w64};
 ghost use Rattle.dns_wire.specs.SuffixNumbers.{suffix_number, octets_number, mixed};
@@ -19,8 +19,9 @@ pub(crate) fn number_of<H: SuffixHash>(hash: &mut H, suffix: &[u8]) -> u32
     octets_number(suffix) * 1024 + length * 4 + head
 }
 
-// A hash of 22 bits that depends on all octets, eight at a time: the last ones first, then the
-// others from the left. So the numbers of a name's suffixes do not depend on one another.
+// A hash of 22 bits that depends on all octets. They are taken eight at a time: the last eight
+// first, then groups of eight from the left. So the hash of a suffix is not computed from those of
+// shorter suffixes.
 fn octets_number(octets: &[u8]) -> u32
     ensures value { result ≡ octets_number octets.now }
     ensures low { result < 2 ^ 22 }

@@ -1,5 +1,5 @@
-//! Compression of names: the longest suffix of a name that a pointer may replace, and the places
-//! that are kept of the suffixes before it (RFC 1035 4.1.4).
+//! Compression of names: finds the longest suffix of a name that a pointer may replace, and keeps
+//! the places of the longer suffixes (RFC 1035 4.1.4).
 ghost use Rattle.std.specs.Prelude.{◌≡◌, List, ◌+◌, ◌-◌, ◌*◌, ◌≤◌, ◌<◌, ◌^◌, [], ◌∷◌, ◌++◌, length, drop, min, IsTrue, IfSome, IsNone, ℕ, false};
 ghost use Rattle.dns_spec.specs.Names.{Octets, DomainName, wire, is_name};
 ghost use Rattle.dns_spec.specs.Layout.{Placed, shared_octets};
@@ -15,9 +15,10 @@ use dns_name::are_equal;
 // The last place that the 14 bits of a pointer reach.
 pub(crate) const LAST_PLACE: usize = 16383;
 
-/// How a name, in its wire form, is laid out in `room` octets: the number of octets before the
-/// longest suffix that a pointer may replace, and the place of that suffix, if there is one. `None`
-/// if the labels before the next suffix leave no room for a pointer: then the name does not fit.
+/// How a name, given in its wire form, is laid out in `room` octets: the number of octets before
+/// the longest suffix that a pointer may replace, and the place of that suffix; or the number of
+/// octets before the root, and no place. Suffixes are tried from the longest. `None` if the labels
+/// before a suffix leave no room for two more octets: then the name does not fit.
 pub(crate) fn shared_suffix<H: SuffixHash, const N: usize>(
     places: &Places<N>,
     message: &[u8],
@@ -55,8 +56,8 @@ pub(crate) fn shared_suffix<H: SuffixHash, const N: usize>(
     Some((name.len() - rest.len(), None))
 }
 
-// A place at which the message spells a suffix: in the question's name, or else a kept place.
-// Nothing is hashed if no place is kept.
+// A place at which the message spells a suffix: in the question's name, or else one of `places`. If
+// `places` is empty, nothing is hashed.
 fn find_suffix<H: SuffixHash, const N: usize>(
     places: &Places<N>,
     message: &[u8],
@@ -83,8 +84,9 @@ fn find_suffix<H: SuffixHash, const N: usize>(
     places.find(number, message, suffix)
 }
 
-// The place of a suffix in the question's name, which ends at `end`. The place need not be kept:
-// its distance from `end` is the suffix's length. Inlining saves up to 5 % of the work for a reply.
+// The place of `suffix` in the question's name, which ends at place `end`. `None` for the root, and
+// if the name does not end with `suffix`. Such places need not be kept, since the distance of each
+// from `end` is the suffix's length. Inlining saves up to 5 % of the work for a reply.
 #[inline(always)]
 pub(crate) fn place_before(message: &[u8], end: usize, suffix: &[u8]) -> Option<u16>
     requires { IsAsked message.now end }
@@ -104,8 +106,8 @@ pub(crate) fn place_before(message: &[u8], end: usize, suffix: &[u8]) -> Option<
     Some((end - suffix.len()) as u16)
 }
 
-// Whether a name ends with these octets, from one of its labels on: equal octets may also begin
-// inside a label. Inlining saves up to 5 % of the work for a reply.
+// Whether `name` ends with `suffix`, and one of its labels or the root begins there. Equal octets
+// may also begin inside a label. Inlining saves up to 5 % of the work for a reply.
 #[inline(always)]
 fn has_last_labels(name: &[u8], suffix: &[u8]) -> bool
     ensures yes { IsTrue result
@@ -126,8 +128,8 @@ fn has_last_labels(name: &[u8], suffix: &[u8]) -> bool
     rest.len() == suffix.len()
 }
 
-// Whether octets end with others. If not, the caller need not walk the labels, of which there may
-// be 127 for each suffix of a name.
+// Whether `octets` ends with `end`. If not, the caller need not walk the labels of the name, which
+// may be 127 for each suffix that is sought.
 fn has_end(octets: &[u8], end: &[u8]) -> bool
     ensures yes { IsTrue result → (length end.now ≤ length octets.now)
         × (drop (length octets.now - length end.now) octets.now ≡ end.now) }
@@ -140,8 +142,8 @@ fn has_end(octets: &[u8], end: &[u8]) -> bool
     are_equal(last, end)
 }
 
-/// Keeps the places of the suffixes that begin in the first `front` octets of a name laid out at
-/// place `at`, as far as a pointer reaches.
+/// Adds to `places` the places of a name's suffixes. The name is laid out at place `at`. Only
+/// suffixes count that begin in its first `front` octets and within the reach of a pointer.
 pub(crate) fn keep_suffixes<H: SuffixHash, const N: usize>(
     places: &mut Places<N>,
     hash: &mut H,

@@ -16,7 +16,8 @@ use crate::places::SuffixHash;
 use dns_name::Name;
 use dns_rdata::SetView;
 
-/// A message being written: a page of the greatest size, and the hash of its suffixes.
+/// A message being written: a page of the greatest size, and the borrowed hash by which suffixes
+/// are found.
 #[derive(Drop)]
 pub struct Writer<'h, H: SuffixHash> {
     hash: &'h mut H,
@@ -24,8 +25,8 @@ pub struct Writer<'h, H: SuffixHash> {
 }
 
 impl<'h, H: SuffixHash> Writer<'h, H> {
-    /// A message of at most `limit` octets, 512 to 65,535, without records, and with a question if
-    /// one is given.
+    /// Begins a message of at most `limit` octets (512 to 65,535), with the question, if one is
+    /// given, and without records.
     pub fn new(limit: usize, question: Option<&Question>, hash: &'h mut H) -> Writer<'h, H>
         requires from { 512 ≤ limit }
         requires upto { limit ≤ 65535 }
@@ -40,8 +41,8 @@ impl<'h, H: SuffixHash> Writer<'h, H> {
         Writer { hash, page }
     }
 
-    /// Writes the records of a set at an owner, with a TTL in seconds, into a section: all of
-    /// them; or none, and returns false, if they would make the message exceed its limit.
+    /// Writes all records of a set into a section, with an owner and a TTL in seconds. If they
+    /// would make the message exceed its limit, writes none of them and returns false.
     pub fn put_set<S: SetView>(&mut self, section: Section, owner: &Name, ttl: u32, set: &S) -> bool
         ensures fits { (q : Option MessageQuestion) (items : List Item)
             → IsDraft (H.numbers self.old.hash.now) q items self.old.page → IsTrue result
@@ -66,7 +67,7 @@ impl<'h, H: SuffixHash> Writer<'h, H> {
     /// Copies the message, with its header and counts, to the front of `out` and returns its
     /// length in octets.
     ///
-    /// Condition: `out` is at least as long as the limit.
+    /// Condition: `out` is at least as long as the message's limit.
     pub fn finish(self, head: Head, out: &mut [u8]) -> usize
         requires { self.page.limit ≤ length out.old }
         ensures length { (h : Octets → ℕ) (q : Option MessageQuestion) (items : List Item)

@@ -7,7 +7,7 @@ use Rattle.dns_spec.proofs.General.Orderings.{not_greater, first_part}
 pub data_order_total : IsTotalOrder data_order
 data_order_total = on_total (λ (r : ResourceRecord). r.rdata) nat_list_cmp_total
 
--- owners in order, and types in order for records of one owner
+-- r's owner is not after s's owner; so it is in canonical order if r is before s
 abbrev pub OwnerNotAfter : ResourceRecord → ResourceRecord → Type 0
 OwnerNotAfter r s = is_gt (name_order r.owner s.owner) ≡ false
 
@@ -30,7 +30,7 @@ module _ (n : DomainName) where
   at_more r s p q e f =
       grind (arith, same-tied, upto, name_order_total, name_tie, not_greater, not-true)
 
-  -- the records at the name and after it
+  -- among the records whose owner is not before the name, those at the name come first
   pub at_parted : (rs : List ResourceRecord)
       → AreOrdered rs → IsPartitionedBy is_at (filter (λ r. not (is_before r)) rs)
   at_parted rs h =

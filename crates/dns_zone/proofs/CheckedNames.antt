@@ -18,7 +18,7 @@ rises_pairs f [] h = tt
 rises_pairs f (x ∷ xs) h =
     (map_each f (λ n. name_order (f x) n ≡ Less) xs h.0, rises_pairs f xs h.1)
 
--- each element up to place i equals element i, or is related to it
+-- each element up to index i is element i, or is related to it
 pub last_at : {X : Type 0} (R : X → X → Type 0) (xs : List X) (i : ℕ) (d : X) → Pairs R xs
     → i < length xs
     → AllByRecursion (λ x. (x ≡ get_or xs i d) ⊎ R x (get_or xs i d)) (take (suc i) xs)
@@ -152,7 +152,7 @@ module _ (z : ZoneContents) where
             (each_get (λ d. is_gt (name_order (name d) m) ≡ false) (take k names) i c upto_each
             (omega (arith, size, next)))
 
-        -- the others of the first k names come before c
+        -- a name that is not after m is not after c
         pub upto_last : (d : CheckedName) → Among d names → is_gt (name_order (name d) m) ≡ false
             → is_gt (name_order (name d) (name c)) ≡ false
         upto_last d a e = grind (arith, each_at, in_order, upto_among, equal_upto)
@@ -190,8 +190,8 @@ module _ (z : ZoneContents) where
             found_last i next (get_or names i d)
             (get_or_default names i d (get_or names i d) (omega (arith, bound, next)))
 
-  -- the last name that is not after a name decides which records that name has and whether it is
-  -- at or below a cut
+  -- the last checked name that is not after m decides which records m has and whether m is at or
+  -- below a cut
   module _ (m : DomainName) (low : Lower m) where
     at_cuts : (c : DomainName) → Lower c → is_cut z c ≡ true → Among c (checked_names z)
     at_cuts c d is = among_checked z c (inr (cut_among c d is))
@@ -203,7 +203,7 @@ module _ (z : ZoneContents) where
         → at_or_below_cut z m ≡ false
     none_cut b e t = grind (arith, at_cut, IsTopmost, name_key)
 
-    -- the name itself, if it is in the list, is the last one
+    -- if m is a checked name, it is itself the last checked name that is not after m
     pub found_itself : (c : CheckedName) → IsChecked z (name c) c → c.key.now ≡ name_key m
         → IsLastUpto z m c
     found_itself c h e =

@@ -4,7 +4,7 @@ use Rattle.dns_zone.proofs.NameOrder.{same-is}
 use Rattle.dns_zone.proofs.NameTree.{Under, under-is, under-from, under-trans, below-cons}
 use Rattle.dns_spec.proofs.General.Orderings.{first_part}
 
--- m is one label below n, and an owner is at or below m
+-- m is one label below n, and `owner` is at or below m
 pub record IsChildOf (n owner m : DomainName) : Type 0 where
   pub label : Octets
   pub labels : m ≡ label ∷ n
@@ -23,7 +23,7 @@ longer_below : (m n : DomainName) → at_or_below m n ≡ true → length (wire 
     → below m n ≡ true
 longer_below m n h l = grind (arith, below_unless_same, same-length-wire)
 
--- the shortest suffix of an owner that is longer than a name above it
+-- if an owner is below n, its shortest suffix that is longer than n is a child of n
 pub child_end : (n owner : DomainName) → below owner n ≡ true → folded owner ≡ owner
     → folded n ≡ n → IsChildOf n owner (ending (length (wire n) + 1) owner)
 child_end n [] b low lower = grind arith
@@ -56,7 +56,7 @@ child_end n (l ∷ o) b low lower =
           above = under-trans (l ∷ o) o _ (cons_under l o) h.above;
         }
 
--- at each length an owner has only one name above it
+-- of the names with a given number of labels, an owner is at or below only one
 pub one_above : (r a b : DomainName) → at_or_below r a ≡ true → at_or_below r b ≡ true
     → length a ≡ length b → folded a ≡ a → folded b ≡ b → a ≡ b
 one_above r a b p q e low low' = grind (arith, same-is, and_parts)

@@ -20,14 +20,14 @@ zero_last [] k h e = omega arith
 zero_last (o ∷ l) zero h e = absurd (omega (arith, raised_some o, e))
 zero_last (o ∷ l) (suc k) h e = ap suc (zero_last l k (omega arith) e)
 
--- a suffix of a name, with its key
+-- `key` is the key of a suffix of n
 record HasEnd (n : DomainName) (key : Octets) : Type 0 where
   pub front : DomainName
   pub end : DomainName
   pub whole : n ≡ front ++ end
   pub is_key : key ≡ name_key end
 
--- a key up to a 0 is the key of a suffix of the name
+-- the key of n up to some 0 is the key of a suffix of n
 zero_ends : (n : DomainName) (k : ℕ) → k < length (name_key n) → get_or (name_key n) k 1 ≡ 0
     → HasEnd n (take (k + 1) (name_key n))
 zero_ends [] k fits e = absurd (omega arith)
@@ -56,7 +56,7 @@ zero_ends (l ∷ n) k fits e =
           }
     ]
 
--- equal ends of equal ends
+-- removing equal ends twice removes equal ends
 pub go_on : (one left rest other right others : Octets) → GoOnAlike one left other right
     → GoOnAlike left rest right others → GoOnAlike one rest other others
 go_on one left rest other right others f g = record {
@@ -128,7 +128,7 @@ end_name : (front end : DomainName) → is_name (front ++ end) ≡ true → is_n
 end_name [] end ok = ok
 end_name (l ∷ front) end ok = end_name front end (is_name-tail l (front ++ end) ok)
 
--- the key when all labels before the rest of a name are written
+-- `key` after all labels in front of `rest` have been written
 pub record PutAfter (octets old rest key : Octets) : Type 0 where
   pub form : IsWireForm rest
   pub is_rest : rest ≡ drop (length octets - length rest) octets
@@ -136,7 +136,8 @@ pub record PutAfter (octets old rest key : Octets) : Type 0 where
   pub kept : take (length rest - 1) key ≡ take (length rest - 1) old
   pub put : name_key (labels_of octets) ≡ name_key (labels_of rest) ++ drop (length rest - 1) key
 
--- if both names end alike and a label ends at the place, the rest of the key is already right
+-- if `rest` is in the equal ends of both names and `key` has a 0 where the key of `rest` ends,
+-- `key` already begins with the key of `rest`
 pub kept_key : (octets old rest key : Octets) (alike : ℕ) → PutAfter octets old rest key
     → BeginsAs alike octets old → 1 < length rest → length rest ≤ alike
     → get_or key (length rest - 2) 1 ≡ 0 → take (length rest - 1) key ≡ name_key (labels_of rest)
@@ -199,7 +200,7 @@ put_all octets old rest key p e =
 
 module _ (octets old rest after label key : Octets) (p : PutAfter octets old rest key)
     (form : IsWireForm after) (first : labels_of rest ≡ label ∷ labels_of after) where
-  -- a name is its first label's length, that label, and the other labels
+  -- a wire form is the first label's length, that label, and the wire form of the other labels
   spelled : rest ≡ (length label ∷ label) ++ after
   spelled = sym p.form.wire_is ∙ ap wire first ∙ ap (λ xs. length label ∷ label ++ xs) form.wire_is
 

@@ -22,14 +22,14 @@ pub counted_such : (test : ℕ → Bool) (own : List ResourceRecord)
     → nat_lt 0 (number_of test own) ≡ list_any (λ (r : ResourceRecord). test r.rtype) own
 counted_such test own = sym (any_counted (λ (r : ResourceRecord). test r.rtype) own)
 
--- if the count is less than the number of all records, there are others
+-- the count is less than the number of all records if and only if some record fails the test
 pub counted_rest : (test : ℕ → Bool) (own : List ResourceRecord) → nat_lt (number_of test own)
     (length own) ≡ list_any (λ (r : ResourceRecord). not (test r.rtype)) own
 counted_rest test own =
     let all = filtered_lengths (λ (r : ResourceRecord). test r.rtype) own in
     grind (arith, any_counted, lt-ltb, le-ltb)
 
--- a record that is no address is an NS record, or of another type
+-- some record is no address if and only if some record is an NS record or has an "other" type
 pub counted_beside : (own : List ResourceRecord)
     → (nat_lt 0 (number_of is_other_type own) || nat_lt 0 (number_of (λ t. t == type_ns) own))
     ≡ list_any (λ (r : ResourceRecord). not (is_address_type r.rtype)) own

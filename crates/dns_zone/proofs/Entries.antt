@@ -1,7 +1,7 @@
 -- The owner and the data of a record in its octets, one after the other.
 use Rattle.dns_zone.proofs.Common.{◌≡◌, ℕ, true, All, ◌++◌, length, take, drop, refl, ap, ◌∙◌, arith, length-append, take-append_seam, drop-append_seam, Octets, DomainName, wire, is_name, ResourceRecord, Small, labels_of_spelled, IsWireForm-wire, IsKept, owner_in, data_in, IsEntry}
 
--- the octets zs of a record with owner n, whose wire form is own, and data d
+-- zs is the octets of a record: `own`, the wire form of the owner n, followed by the data d
 pub record IsLaid (n : DomainName) (d own zs : Octets) : Type 0 where
   pub whole : zs ≡ own ++ d
   pub spelled : own ≡ wire n

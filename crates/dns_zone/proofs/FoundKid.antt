@@ -11,7 +11,7 @@ rises_at (x ∷ ls) zero (suc j) r h l = grind (arith, each_get)
 rises_at (x ∷ ls) (suc i) zero r h l = absurd (omega arith)
 rises_at (x ∷ ls) (suc i) (suc j) r h l = rises_at ls i j r.1 (omega arith) (omega arith)
 
--- an invariant: the label can only be between the places `low` and `high`
+-- an invariant: only the children from `low` to before `high` can have the label
 pub record Searching (rs : List ResourceRecord) (kids : List Row) (label : Octets)
     (low high turn : ℕ) : Type 0 where
   pub order : low ≤ high

@@ -17,13 +17,14 @@ pub row_is : (rs : List ResourceRecord) (row : Row) (n : DomainName) → IsRow r
 unfolding row_name
 row_is rs row n h = labels_of_spelled (row_octets rs row) n h.octets h.is_name
 
--- adding an element that is greater than all others
+-- a rising list, followed by an element that is greater than all of its elements, rises
 rises_push : (xs : List Octets) (y : Octets) → Rises label_order xs
     → AllByRecursion (λ x. label_order x y ≡ Less) xs → Rises label_order (xs ++ y ∷ [])
 rises_push [] y r e = (tt, tt)
 rises_push (x ∷ xs) y r e = grind (arith, each_push, (rises_push xs y r.1 e.1))
 
--- the children of the records before a place have their rows, after the old rows
+-- the children of n at or above the owners of the records before `next` have rows, after the old
+-- rows
 pub record Adding (rs : List ResourceRecord) (n : DomainName) (own_end : ℕ) (old new : List Row)
     (next : ℕ) : Type 0 where
   pub kids : List Row
@@ -174,7 +175,7 @@ module _ (rs : List ResourceRecord) (canonical : IsCanonical rs) (n : DomainName
         (drop-drop (kid.end - (k + 1)) (k + 1) rs ∙ ap (λ i. drop i rs) at)
         (each_drop (OwnerNotAfter first) (kid.end - (k + 1)) (drop (k + 1) rs) all)
 
-    -- the same name in lower case
+    -- a record at or below a child is at or below the child's name in lower case
     lower_child : (s : ResourceRecord) (l : Octets) → is_under (l ∷ n) s ≡ true
         → is_under (map to_ascii_lowercase l ∷ n) s ≡ true
     lower_child s l u =

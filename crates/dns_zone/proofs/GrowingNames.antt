@@ -7,7 +7,7 @@ use Rattle.dns_zone.proofs.ReportedNames.{once_rise, IsName, names_checked}
 use Rattle.dns_zone.proofs.TopmostCut.{topmost_none}
 use Rattle.dns_spec.proofs.General.Elements.{each_map, each_push, among_get, map_each, each_put, put_among, among_put, among_either, mapped_among, among_mapped}
 
--- the names before and after a name in a rising list
+-- in a rising list, the names before a name are less, and the names after it greater
 rises_around : (ns ms : List DomainName) (n : DomainName) → Rises name_order (ns ++ n ∷ ms)
     → AllByRecursion (λ m. name_order m n ≡ Less) ns
     × AllByRecursion (λ m. name_order n m ≡ Less) ms
@@ -192,7 +192,7 @@ module _ (z : ZoneContents) (low : folded z.origin ≡ z.origin) (ordered : AreO
           back a (inl f) = inl (f ∙ low)
           back a (inr m) = inr (subst (Among a) (sym are.all) m)
 
-    -- all of the first k names are before the origin, if the last one is another name
+    -- all of the first k names are before the origin, if the last of them is not the origin
     pub others_before : (i : ℕ) → k ≡ suc i → (c : CheckedName) → c ≡ get_or names i c
         → (c.key.now ≡ key → ⊥)
         → AllByRecursion (λ d. name_order (owner_of z d) o ≡ Less) (take k names)

@@ -26,7 +26,7 @@ module _ (z : ZoneContents) (a : Bool) where
   abbrev begins : DomainName → Bool
   begins = may_begin z a
 
-  -- the way goes on below the name
+  -- the way can go on below the name
   abbrev pub goes_on : DomainName → Bool
   goes_on n = same n z.origin || begins n
 
@@ -62,7 +62,7 @@ module _ (z : ZoneContents) (a : Bool) where
       let above = outside_way n (ap without_first low) in
       grind (arith, last_past, outside, at_or_below-cons, or_right)
 
-  -- a way begins below a name only if it goes on from there
+  -- a way may begin at a child only if it can go on below the parent
   goes_above : (l : Octets) (n : DomainName) → begins (l ∷ n) ≡ true → goes_on n ≡ true
   goes_above l n h = by_length (cases_lt (length z.origin) (length n))
     where
@@ -98,7 +98,7 @@ module _ (z : ZoneContents) (a : Bool) where
   goes_uncut n h alias =
       grind (arith, or_cases, no_cut-at_origin, same-length, and_parts, false≢true)
 
-  -- a child that exists, unless the way ends at a cut
+  -- a way may begin at an existing child, unless the child is a cut and ends the way
   pub child_begins : (l : Octets) (n : DomainName) → goes_on n ≡ true → folded (l ∷ n) ≡ l ∷ n
       → exists z (l ∷ n) ≡ true → (a ≡ true → owns z (l ∷ n) type_ns ≡ false)
       → begins (l ∷ n) ≡ true
@@ -178,7 +178,7 @@ ends_here w l n e k end on at named low here =
     let some = below_row w.tree k at.kept in
     grind (arith, last_here, or_right)
 
--- a name that was kept, at a place of the list
+-- the end that is stored with a name is the end of the way to it
 pub end_of_kept : (w v : TargetWay) (names : List WayName) (i : ℕ) (s : WayName) (n : DomainName)
     → v ≡ w → All (λ (x : WayName). IsWayEnd v x.name x.end) names → i < length names
     → s ≡ get_or names i s → names_equal s.name n ≡ true → IsWayEnd w n s.end
@@ -213,7 +213,7 @@ row_node : (t : Tree) (r : ResourceRecord) (k : ℕ) → IsRowOf t.zone t.rows (
 row_node t r zero h = sym (ap (in_zone t.zone) h.name)
 row_node t r (suc k) h = grind (arith, ne_eqb)
 
--- the hint of a record, which is not 0
+-- the name at the row of a record's hint, if that row is not 0
 hint-node : (t : Tree) (r : ResourceRecord) (k : ℕ) → IsNameTree t
     → IsRowOf t.zone t.rows (hint_of t.zone r) k → (k ≡ 0 → ⊥)
     → IsHint t.zone r.rtype (name_at t k)
@@ -239,7 +239,8 @@ hint-node t r (suc k) kept h some = by_target (target r.rtype r.rdata) refl
         let there = node_is t (suc k) (record { kept = kept; row = h.row }) in
         grind (arith, and_parts, ltb-true, eq-eqb, false≢true)
 
--- Each record has its hint, or has a number from `first` on and the mark of an unknown hint.
+-- Each record has its hint, or the mark of an unknown hint. Only records from index `first` on may
+-- have that mark.
 abbrev pub AreFound : ZoneContents → List Row → List ℕ → ℕ → Type 0
 AreFound z rows hints first =
     (j : ℕ) (r : ResourceRecord) → j < length z.records → r ≡ get_or z.records j r
@@ -248,7 +249,7 @@ AreFound z rows hints first =
 same_or_other : (i j : ℕ) → (i ≡ j) ⊎ (i ≡ j → ⊥)
 same_or_other i j = grind arith
 
--- one more hint; after it, the same records may be without a hint, or all of them but this one
+-- after the hint of record i is stored, only records from `next` on may be without a hint
 pub found_set : (z : ZoneContents) (rows : List Row) (hints : List ℕ) (first next i k : ℕ)
     (r : ResourceRecord) → AreFound z rows hints first
     → ((j : ℕ) → (i ≡ j → ⊥) → first ≤ j → next ≤ j) → i < length hints → i < length z.records
@@ -268,7 +269,8 @@ found_set z rows hints first next i k r are past fits inside is hint j s l known
         let later = past j other in
         grind (arith, get_or-set_other)
 
--- the hint in a list of hints, for record i of a type at a node, if that record is r
+-- `place` is the index in `hints` for r, which is record i after the node's records of types below
+-- u; if r has the type u, its hint is there
 pub record HasHint (t : Tree) (k u i : ℕ) (r : ResourceRecord) (hints : List ℕ) (place : ℕ)
     : Type 0 where
   pub inside : place < length hints
@@ -279,7 +281,7 @@ pub record HasHint (t : Tree) (k u i : ℕ) (r : ResourceRecord) (hints : List �
   pub kept : r.rtype ≡ u → (get_or hints place 0 ≡ 0 → ⊥)
       → IsHint t.zone u (name_at t (get_or hints place 0))
 
--- the hint of an own record of a node, found among those whose type is not lower
+-- where the hint of record i of type u is, from the node's records whose type is not below u
 pub has_hint : (t : Tree) (k : ℕ) → IsZoneNode t k → (own others : List ResourceRecord)
     (u before i : ℕ) → own ≡ at t.zone (name_at t k)
     → IsNonDecreasingBy (λ (q : ResourceRecord). q.rtype) own

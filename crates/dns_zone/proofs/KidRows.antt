@@ -9,7 +9,7 @@ use Rattle.dns_spec.proofs.General.Pairs.{Pairs, pairs_of, parted}
 abbrev pub is_under : DomainName → ResourceRecord → Bool
 is_under m r = at_or_below r.owner m
 
--- the records from the first one at or below a name on
+-- records in canonical order, of which the first is at or below m
 module _ (m : DomainName) (r : ResourceRecord) (xs : List ResourceRecord)
     (h : Pairs OwnerNotAfter (r ∷ xs)) (here : at_or_below r.owner m ≡ true) where
   not_before : AllByRecursion (λ (s : ResourceRecord). is_gt (name_order m s.owner) ≡ false)
@@ -31,20 +31,21 @@ pub owner_at : (rs : List ResourceRecord) (k : ℕ) (r : ResourceRecord) → k <
     → r ≡ get_or rs k r → get_or (owners rs) k [] ≡ r.owner
 owner_at rs k r h e = grind (arith, get_or-map)
 
--- for each name one label below n, a place is before or after all records at or below that name
+-- for each name one label below n, the records at or below the name are all before index k, or all
+-- from index k on
 abbrev pub IsBetween : List ResourceRecord → DomainName → ℕ → Type 0
 IsBetween rs n k =
     (m : DomainName) → folded m ≡ m → at_or_below m n ≡ true → length m ≡ suc (length n)
     → (under m (take k rs) ≡ []) ⊎ (under m (drop k rs) ≡ [])
 
--- the next record below a name whose child has no row yet
+-- the record at `next` is below n, and its child of n has no row yet
 pub record IsNext (rs : List ResourceRecord) (n : DomainName) (next : ℕ) : Type 0 where
   pub lower : folded n ≡ n
   pub fits : next < length rs
   pub under_it : below (get_or (owners rs) next []) n ≡ true
   pub between : IsBetween rs n next
 
--- the child's name: the shortest suffix of the record's owner that is longer than the name
+-- the child's name: the shortest suffix of the record's owner that is longer than n
 module _ (rs : List ResourceRecord) (canonical : IsCanonical rs) (n : DomainName) (next : ℕ)
     (is_next : IsNext rs n next) (r : ResourceRecord) (r_is : r ≡ get_or rs next r) where
   owner_lower : folded r.owner ≡ r.owner

@@ -49,7 +49,7 @@ alike n x y a b v w h =
 one_more : (j k : ℕ) → nat_cmp (suc j) (suc k) ≡ nat_cmp j k
 one_more j k = grind (arith, cases_order)
 
--- a label with no octets beyond its key is a prefix of the other
+-- if keys are equal, a label with no octets beyond its key is a prefix of the other label
 lengths : (n : ℕ) (a b : Octets) → Low a → Low b → key_of n a ≡ key_of n b
     → (length a ≤ n) ⊎ (length b ≤ n) → nat_cmp (length a) (length b) ≡ label_order a b
 lengths n [] [] v w h s = refl
@@ -159,7 +159,7 @@ pub key_end : (n : ℕ) (l : Octets) → (n ≡ 0) ⊎ (l ≡ []) → key_of n l
 unfolding key_of
 key_end n l h = grind (arith, key_none)
 
--- the remaining octets make up the rest of a key
+-- the whole key is `key`, from the first i octets, plus what the remaining octets add
 pub record IsPart (l : Octets) (i key worth : ℕ) : Type 0 where
   pub value : key_of 8 l ≡ key + key_of (8 - i) (drop i l)
   pub counts : worth ≡ 256 ^ (8 - i) / 256

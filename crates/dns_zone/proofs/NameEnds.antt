@@ -2,8 +2,8 @@
 use Rattle.dns_zone.proofs.Common.{◌≡◌, ℕ, suc, ◌+◌, ◌-◌, ◌<◌, ◌≤◌, Bool, true, false, nat_lt, ◌||◌, if◌then◌else◌, [], ◌∷◌, length, drop, get_or, refl, sym, ap, ap₂, ◌∙◌, arith, length-append, length-drop, false_from_ne_true, ltb-true, ltb-false, lt-ltb, or-false, drop_at, drop-drop, get_or-drop, Octets, DomainName, wire, is_name, folded, same, at_or_below, names_equal, at_or_below-cons, at_or_below-short, at_or_below-long, at_or_below-length-wire, is_name-tail, ending}
 use Rattle.dns_spec.proofs.DomainNames.WireNames.{wire_some}
 
--- An invariant of skipping the labels of a name n: from place k on, its octets xs are a suffix of
--- it, and the shortest suffix is the same.
+-- An invariant of skipping the labels of a name n, whose octets are xs: from index k on, xs is the
+-- wire form of a suffix of n, and the shortest suffix that is sought is the same for both.
 pub record GoesOn (least : ℕ) (n : DomainName) (xs : Octets) (k : ℕ) : Type 0 where
   pub rest : DomainName
   pub octets : drop k xs ≡ wire rest
@@ -57,8 +57,8 @@ module _ (least : ℕ) (n : DomainName) (xs : Octets) (k : ℕ) (h : GoesOn leas
       go [] s f e = e
       go (l ∷ m) s f e = grind (arith, length-append, lt-ltb)
 
--- a name in lower case is at or below another if and only if its suffix of that length is the
--- other
+-- for names in lower case, n is at or below m if and only if the shortest suffix of n with at least
+-- as many octets as m is m
 pub end_is : (n m : DomainName) → folded n ≡ n → folded m ≡ m
     → names_equal (ending (length (wire m)) n) m ≡ at_or_below n m
 end_is [] m low lower = sym (at_or_below-short [] m (wire_some m) ∙ ap (names_equal []) lower)

@@ -73,7 +73,7 @@ not_after_longer [] (z ∷ zs) = refl
 not_after_longer (x ∷ xs) zs =
     grind (arith, tied_itself, nat_list_cmp_total, (not_after_longer xs zs))
 
--- a list between a prefix and a list with that prefix has it too
+-- a list between xs and a list that begins with xs begins with xs
 list_between : (xs ys zs : List Octets) → is_gt (slice_cmp label_order xs ys) ≡ false
     → is_gt (slice_cmp label_order ys (xs ++ zs)) ≡ false → (ws : List Octets) × (ys ≡ xs ++ ws)
 list_between [] ys zs p q = (ys, refl)
@@ -113,7 +113,7 @@ under-order n a h = go (under-is n a h)
         ap (λ ks. is_gt (slice_cmp label_order (reverse (folded a)) ks)) (turned_end n a p e)
         ∙ not_after_longer (reverse (folded a)) (reverse p)
 
--- a name between a name and one at or below it is at or below it
+-- if m is at or below a, a name between a and m is at or below a
 pub between : (a b m : DomainName) → is_gt (name_order a b) ≡ false → is_gt (name_order b m) ≡ false
     → at_or_below m a ≡ true → at_or_below b a ≡ true
 between a b m p q h = go (under-is m a h)

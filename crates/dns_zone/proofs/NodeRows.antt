@@ -40,7 +40,7 @@ module _ (t : Tree) (k : ℕ) (at : IsNodeAt t k) where
     stands = row_exists rs row name is_row;
   }
 
-  -- an own record of the node, found among those from a place on, is a record of the zone
+  -- the zone's index of record i of `others`, the node's own records from `before` on
   pub own_at : (own others : List ResourceRecord) (before i : ℕ) (r : ResourceRecord)
       → own ≡ filter (λ (q : ResourceRecord). same q.owner name) rs → others ≡ drop before own
       → i < length others → r ≡ get_or others i r

@@ -57,7 +57,7 @@ module _ (z : ZoneContents) (kept : IsBuilt z) (n : DomainName) where
     abbrev typed : List ResourceRecord
     typed = filter (λ (r : ResourceRecord). r.rtype == t) (at z n)
 
-    -- they are already in order
+    -- the records of the type are already ordered by data
     pub of_type_is : typed ≡ rrset z n t
     of_type_is =
         sym (unmoved data_order data_order_total typed

@@ -99,7 +99,7 @@ once_others r (q ∷ rs) h = go (begins_with_owner r.owner (q ∷ rs)) refl (onc
             → name_order (folded r.owner) (folded s.owner) ≡ Less → not (is_at r.owner s) ≡ true
         other s l = grind (arith, false_from_ne_true, false≢true, same-tied, same-from, same-is)
 
--- one owner is reported, and the walk goes on after it
+-- the records rs are `own`, those of the first owner n, and `others`, with which the walk goes on
 pub record Step
     (z : ZoneContents) (n : DomainName) (rs own others : List ResourceRecord) : Type 0 where
   pub is_owner : IsOwner z n own

@@ -2,8 +2,8 @@
 use Rattle.dns_zone.proofs.Common.{◌≡◌, ℕ, zero, suc, ◌+◌, ◌<◌, ◌≤◌, ◌⊎◌, inl, inr, List, [], ◌∷◌, length, take, get_or, sym, ap, ap₂, ◌∙◌, arith, All, IsPermutation, is_eq, Less, Equal, Greater, true, ◌-◌, subst, get_or_default, cases_lt, true≢false, IsPermutation-sym, ResourceRecord, records_equal, distinct, sort_by, record_order, SwappedAt, IsSorted, LowerOwner, record_order_total, record_ties, one_record, rises_canonical, recursion_from_All, among_permutation, among_contains, Among, Rises, each_weaker, among_sort, sort_among, among_distinct, distinct_among, same_risen}
 use Rattle.dns_spec.proofs.General.Elements.{among_taken, taken_among}
 
--- The records of rs before place `at` are among the first of xs, up to place `last`, which rise.
--- The records from `at` on are where they were.
+-- Each record of rs before index `at` is in xs up to index `last`, and xs rises up to there. From
+-- index `at` on, xs and rs are equal.
 pub record IsOnce (rs xs : List ResourceRecord) (last at : ℕ) : Type 0 where
   pub before : last < at
   pub inside : 0 < length xs → last < length xs
@@ -19,7 +19,7 @@ one_before : (k : ℕ) → k ≡ k + 1 - 1
 one_before k = omega arith
 
 module _ (rs xs : List ResourceRecord) (last at : ℕ) (h : IsOnce rs xs last at) where
-  -- the next record equals the last of these
+  -- if the record at `at` equals the record at `last`, it stays where it is
   pub once_equal : (r s : ResourceRecord) → r ≡ get_or xs last r → s ≡ get_or xs at s → r ≡ s
       → at < length xs → IsOnce rs xs last (at + 1)
   once_equal r s e f g l =
@@ -48,7 +48,7 @@ module _ (rs xs : List ResourceRecord) (last at : ℕ) (h : IsOnce rs xs last at
                 ∙ sym f ∙ sym g ∙ e ∙ get_or_default xs last r d inside,
           )
 
-  -- the next record comes after these, and is moved to their end
+  -- if the record at `at` comes after the record at `last`, it is moved to `last` + 1
   pub once_less : (r s : ResourceRecord) → r ≡ get_or xs last r → s ≡ get_or xs at s
       → record_order r s ≡ Less → at < length xs → (ys : List ResourceRecord)
       → SwappedAt xs ys (last + 1) at → length ys ≡ length xs → IsOnce rs ys (last + 1) (at + 1)
@@ -86,7 +86,7 @@ module _ (rs xs : List ResourceRecord) (last at : ℕ) (h : IsOnce rs xs last at
           let is : i ≡ at = omega (arith, m, n) in
           (last + 1, omega arith, sym (h.rest i d m) ∙ ap (λ x. get_or xs x d) is ∙ sym (swap.0 d))
 
-  -- if the records are in order, the next record does not come before these
+  -- if rs is in order, the record at `at` does not come before the record at `last`
   pub once_sorted : (r s : ResourceRecord) → r ≡ get_or xs last r → s ≡ get_or xs at s
       → record_order r s ≡ Greater → at < length xs → IsSorted record_order rs → ⊥
   once_sorted r s e f greater l sorted =
@@ -109,7 +109,7 @@ rises_front (x ∷ y ∷ xs) (suc k) h =
       rest,
     )
 
--- when all are among the first, these are the records in canonical order, without duplicates
+-- at the end, xs up to index `last` is all records in canonical order, without duplicates
 pub once_canonical : (all rs xs : List ResourceRecord) (last at : ℕ) → All LowerOwner all
     → IsPermutation all rs → IsPermutation rs xs → IsOnce rs xs last at → length xs ≤ at
     → take (last + 1) xs ≡ sort_by record_order (distinct records_equal all)

@@ -30,7 +30,7 @@ abbrev neighbours_differ : List ResourceRecord → Bool
 neighbours_differ [] = false
 neighbours_differ (r ∷ rs) = next_differs r rs || neighbours_differ rs
 
--- if no adjacent records differ, none do
+-- if no two adjacent records of one type differ in TTL, no two records of one type do
 none_differs : (r s : ResourceRecord) (rs : List ResourceRecord) → TypeUpTo r s → Pairs TypeUpTo (s
     ∷ rs) → neighbours_differ (s ∷ rs) ≡ false → differ r s ≡ false → list_any (differ r) rs ≡ false
 none_differs r s [] l h n d = refl
@@ -74,7 +74,7 @@ ttls-in_pairs rs h = in_pairs rs ∙ sym (ttls-walk rs h)
 abbrev of_number : ℕ → List ResourceRecord → List ResourceRecord
 of_number t rs = filter (λ (s : ResourceRecord). s.rtype == t) rs
 
--- some record and the one k + 1 places after it have one type
+-- some record and the record k + 1 positions after it have the same type
 abbrev repeats_after : ℕ → List ResourceRecord → Bool
 repeats_after k [] = false
 repeats_after k (r ∷ rs) = begins_with_type r.rtype (drop k rs) || repeats_after k rs
@@ -103,7 +103,7 @@ above_all : (t : ℕ) (s : ResourceRecord) (rs : List ResourceRecord)
     → AllByRecursion (λ (q : ResourceRecord). t < q.rtype) rs
 above_all t s rs l e = grind (arith, each_weaker, TypeUpTo)
 
--- more than k records have the least type if and only if the one k places after the first has it
+-- more than k records have the lowest type t if and only if record k, counted from 0, has it
 run_after : (t k : ℕ) (rs : List ResourceRecord)
     → AllByRecursion (λ (s : ResourceRecord). t ≤ s.rtype) rs
     → Pairs TypeUpTo rs → nat_lt k (length (of_number t rs)) ≡ begins_with_type t (drop k rs)
@@ -148,7 +148,7 @@ in_runs k (r ∷ rs) =
     go (q ∷ qs) d h = ap₂ ◌||◌ (eqb_turned r.rtype q.rtype)
         (ap (λ xs. list_any same_type (zip rs xs)) (sym d) ∙ h)
 
--- false if there are at most k records
+-- if there are at most k records, no two are k positions apart
 pub few_in_runs : (k : ℕ) (rs : List ResourceRecord) → length rs ≤ k
     → list_any same_type (zip rs (drop k rs)) ≡ false
 few_in_runs k rs few = ap (λ xs. list_any same_type (zip rs xs)) (drop_all k rs few) ∙ no_pairs rs

@@ -1,4 +1,4 @@
--- The part of a list from one place up to another, and the elements that pass a test.
+-- The part of a list from one index to before another, and the elements that pass a test.
 use Rattle.dns_zone.proofs.Common.{◌≡◌, ℕ, zero, suc, ◌+◌, ◌-◌, ◌<◌, ◌≤◌, Bool, true, List, [], ◌∷◌, ◌++◌, length, take, drop, get_or, sym, ap, ◌∙◌, arith, subst, filter, length-append, length-take, length-drop, take-append-drop, take-append-le, get_or-take, get_or-drop, nil_from_length, filter-append, drop-drop, take-add, AllByRecursion, filter_each, span}
 use Rattle.dns_spec.proofs.General.Elements.{each_get}
 use Rattle.dns_spec.proofs.General.Filters.{filter_again}
@@ -40,7 +40,7 @@ module _ {X : Type 0} (p : X → Bool) (xs : List X) (a b : ℕ) (h : a ≤ b)
   pub none_past : filter p (drop b xs) ≡ []
   none_past = grind (arith, lengths, nil_from_length)
 
-  -- and each element of the part passes
+  -- each element of the part passes
   pub in_span : (k : ℕ) (d : X) → a ≤ k → k < b → b ≤ length xs → p (get_or xs k d) ≡ true
   in_span k d l m f =
       let fits : k - a < length (span xs a b) = grind (arith, length-take, length-drop) in
@@ -50,7 +50,7 @@ module _ {X : Type 0} (p : X → Bool) (xs : List X) (a b : ℕ) (h : a ≤ b)
       (each_get (λ x. p x ≡ true) (span xs a b) (k - a) d
       (subst (AllByRecursion (λ x. p x ≡ true)) (sym e) (filter_each p xs)) fits)
 
--- if nothing passes from a place on, nothing passes from a later place on
+-- if no element passes from index a on, none passes from a later index on
 pub nothing_further : {X : Type 0} (p : X → Bool) (xs : List X) (a b : ℕ) → a ≤ b
     → filter p (drop a xs) ≡ [] → filter p (drop b xs) ≡ []
 nothing_further p xs a b h e =

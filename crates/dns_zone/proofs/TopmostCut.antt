@@ -51,7 +51,7 @@ module _ (z : ZoneContents) where
           (ap (is_cut z) (one_name (l ∷ n) c low d e) ∙ is)
       go (inr e) f = or_right (is_cut z (l ∷ n)) (at_or_below_cut z n) (f e)
 
-  -- the length of the key determines the cut
+  -- k is at most the length of n's key, and is 0 if and only if n is at or below no cut
   module _ (n : DomainName) (low : folded n ≡ n) (k : ℕ) (t : IsTopmost z n k) where
     pub topmost_fits : k ≤ length (name_key n)
     topmost_fits = grind (arith, cases_lt, no_shorter)
@@ -98,11 +98,11 @@ module _ (z : ZoneContents) where
               absurd (omega (arith, s, size, octets))
           go cut s (inr e) = above_cut n cut.cut (ap (drop 1) low) cut.lower cut.is_cut e
 
-  -- a name that is not below the origin is at or below no cut
+  -- a name with no more labels than the origin is at or below no cut
   pub topmost_none : (n : DomainName) → length n ≤ length z.origin → IsTopmost z n 0
   topmost_none n short = grind (arith, some, and_parts, ltb-true, leb-true)
 
-  -- a name that can only be its own cut
+  -- a name that is at or below no cut, except possibly itself
   pub alone : (n : DomainName) → folded n ≡ n → ((c : DomainName) → folded c ≡ c → is_cut z c ≡ true
       → at_or_below n c ≡ true → c ≡ n) → IsTopmost z n (cond (is_cut z n) (length (name_key n)) 0)
   alone n low only = go (is_cut z n) refl
@@ -131,7 +131,7 @@ module _ (z : ZoneContents) where
         least = grind arith;
       }
 
-  -- A name after another: each of its cuts is the name itself, or not after the other.
+  -- o is not after n, and each cut that n is at or below is n itself or not after o.
   module _ (o n : DomainName) (low_o : folded o ≡ o) (low_n : folded n ≡ n) (k : ℕ)
       (t : IsTopmost z o k) (upto : is_gt (name_order o n) ≡ false)
       (cuts : (c : DomainName) → folded c ≡ c → is_cut z c ≡ true → at_or_below n c ≡ true
@@ -139,7 +139,7 @@ module _ (z : ZoneContents) where
     abbrev pub covers : Bool
     covers = nat_lt 0 k && starts_with ◌==◌ (name_key n) (take k (name_key o))
 
-    -- the cut above both names is the topmost
+    -- if n is at or below the topmost cut of o, this is the topmost cut of n
     pub covered : covers ≡ true → IsTopmost z n k
     covered h =
         let parts = and_parts (nat_lt 0 k) _ h in
@@ -168,7 +168,7 @@ module _ (z : ZoneContents) where
         go s f c d is u (inl e) = (s, subst (λ m. k ≤ length (name_key m)) (sym e) f)
         go s f c d is u (inr p) = t.least c d is (between c o n p upto u)
 
-    -- if there is no such cut, only the name itself may be one
+    -- otherwise n is at or below no cut, except possibly itself
     pub uncovered : covers ≡ false → IsTopmost z n (cond (is_cut z n) (length (name_key n)) 0)
     uncovered h = alone n low_n (λ c d is u. go c d is u (cuts c d is u))
       where

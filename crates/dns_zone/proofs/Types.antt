@@ -21,7 +21,7 @@ none_after : {X : Type 0} (p : X → Bool) (x : X) (xs : List X) → p x ≡ fal
 none_after p x xs e = each_weaker (λ y. p y ≡ true → p x ≡ true) (λ y. p y ≡ false) xs
     (λ y f. false_from_ne_true (p y) (λ g. false≢true (sym e ∙ f g)))
 
--- if the elements that pass come first, element i is element i of them, or does not pass
+-- if the passing elements come first, element i is element i of the passing ones, or does not pass
 pub nth_passing : {X : Type 0} (p : X → Bool) (xs : List X) (i : ℕ)
     → Pairs (λ x y. p y ≡ true → p x ≡ true) xs
     → slice_get (filter p xs) i ≡ option_and_then (passing p) (slice_get xs i)

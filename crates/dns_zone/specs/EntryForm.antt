@@ -6,7 +6,7 @@ use Rattle.dns_master.specs.RecordForm.{IsKept}
 use Rattle.dns_zone.specs.declared.store.octets.RecordOctets.{RecordOctets}
 use Rattle.dns_zone.specs.declared.store.octets.RecordOctets.TheVariants.{Few, Many}
 
--- the octets of a record, which are in place or allocated
+-- the octets of a record, whether they are stored inside it or allocated
 abbrev pub octets_in : RecordOctets → Octets
 octets_in (Few octets) = octets
 octets_in (Many octets) = octets.items
@@ -18,7 +18,7 @@ owner_in k xs = labels_of (take k xs)
 abbrev pub data_in : ℕ → Octets → Octets
 data_in k xs = drop k xs
 
--- an invariant of such octets, with the record's TTL and type
+-- an invariant of the octets of a record with this TTL and type; its owner has k octets
 pub record IsEntry (k : ℕ) (xs : Octets) (ttl t : ℕ) : Type 0 where
   pub fits : k ≤ length xs
   pub wire : IsWireForm (take k xs)

@@ -1,4 +1,4 @@
--- Keys: octets in the order of names, by which names are sorted and found.
+-- Keys of names: lists of octets whose order is the canonical order of the names.
 use Rattle.std.specs.Prelude.{◌≡◌, ℕ, ◌+◌, ◌<◌, true, [], ◌∷◌, ◌++◌, length, take, map, nat_lt, if◌then◌else◌}
 use Rattle.dns_spec.specs.Names.{Octets, DomainName, wire, is_name}
 
@@ -7,7 +7,7 @@ use Rattle.dns_spec.specs.Names.{Octets, DomainName, wire, is_name}
 abbrev pub raised : ℕ → ℕ
 raised o = if nat_lt o 65 then o + 1 else o
 
--- a label and its end marker 0, which sorts before all octets
+-- a label and its end marker 0, which is less than all raised octets
 abbrev pub ended : Octets → Octets
 ended l = map raised l ++ 0 ∷ []
 
@@ -16,7 +16,7 @@ abbrev pub name_key : DomainName → Octets
 name_key [] = []
 name_key (l ∷ n) = name_key n ++ ended l
 
--- two lists end with the same octets after `left` and `right`
+-- the two lists are `left` and `right`, each followed by the same octets
 pub record GoOnAlike (one left other right : Octets) : Type 0 where
   pub end : Octets
   pub whole_one : one ≡ left ++ end
@@ -29,8 +29,8 @@ pub record AreAlike (count : ℕ) (one other : Octets) : Type 0 where
   pub same : GoOnAlike one left other right
   pub size : length same.end ≡ count
 
--- A key begins like some name's key. The last `count` octets of that name's wire form and of
--- `octets` are equal.
+-- For some name, `key` has the first `count` - 1 octets of the name's key, and `octets` has the
+-- last `count` octets of the name's wire form.
 pub record BeginsAs (count : ℕ) (octets key : Octets) : Type 0 where
   pub name : DomainName
   pub is_name : is_name name ≡ true

@@ -14,7 +14,7 @@ use Rattle.dns_zone.specs.ReportedForm.{owners_once}
 use Rattle.dns_zone.specs.declared.checks.names.CheckedName.{CheckedName}
 use Rattle.dns_spec.proofs.General.Elements.{Among}
 
--- the records of a name, and the name; only the origin may have no records
+-- the records of a checked name, and the name: their owner, or the origin if there are no records
 abbrev pub own_in : List ResourceRecord → CheckedName → List ResourceRecord
 own_in rs c = span rs c.first c.end
 
@@ -25,7 +25,7 @@ first_owner n (r ∷ rs) = r.owner
 abbrev pub owner_of : ZoneContents → CheckedName → DomainName
 owner_of z c = first_owner z.origin (own_in z.records c)
 
--- a cut that a name is at or below, whose key has k octets
+-- n is at or below a cut whose key has k octets
 pub record IsCutAbove (z : ZoneContents) (n : DomainName) (k : ℕ) : Type 0 where
   pub cut : DomainName
   pub lower : folded cut ≡ cut
@@ -40,15 +40,15 @@ pub record IsTopmost (z : ZoneContents) (n : DomainName) (k : ℕ) : Type 0 wher
   pub least : (c : DomainName) → folded c ≡ c → is_cut z c ≡ true → at_or_below n c ≡ true
       → (0 < k) × (k ≤ length (name_key c))
 
--- a key begins with the first k octets of another, and k is not 0
+-- `key` begins with the first k octets of `last`, and k is not 0
 abbrev pub is_covered : ℕ → Octets → Octets → Bool
 is_covered k last key = nat_lt 0 k && starts_with ◌==◌ key (take k last)
 
--- the name is not after the name with this key
+-- the checked name is not after the name with this key
 abbrev pub is_upto : Octets → CheckedName → Bool
 is_upto key c = not (is_gt (slice_cmp nat_cmp c.key.now key))
 
--- the element at place i is the last one that passes the test
+-- element i passes the test, and the next element, if any, fails it
 pub record IsLastAt {X : Type 0} (p : X → Bool) (xs : List X) (i : ℕ) : Type 0 where
   pub fits : i < length xs
   pub passes : (d : X) → p (get_or xs i d) ≡ true
@@ -67,13 +67,14 @@ pub record AreChecked (z : ZoneContents) (names : List CheckedName) : Type 0 whe
   pub each : AllByRecursion (λ c. IsChecked z (owner_of z c) c) names
   pub all : map (owner_of z) names ≡ checked_names z
 
--- the owners among them
+-- the checked names that own records, in canonical order
 pub record AreOwners (z : ZoneContents) (names : List CheckedName) : Type 0 where
   pub each : AllByRecursion (λ c. IsChecked z (owner_of z c) c) names
   pub all : map (owner_of z) names ≡ owners_once z.records
 
--- An owner n that follows a name o in order, with the keys of both and of the origin. Each cut
--- that n is at or below is either n itself or not after o.
+-- A name o is not after an owner n with the records `own`. `last` and `key` are the keys of o and
+-- n, and `cut` is the length of the key of the topmost cut of o. Each cut that n is at or below is
+-- either n itself or not after o.
 pub record ComesNext (z : ZoneContents) (o n : DomainName) (cut : ℕ)
     (origin last key : Octets) (own : List ResourceRecord) : Type 0 where
   pub origin_key : origin ≡ name_key z.origin
@@ -87,7 +88,7 @@ pub record ComesNext (z : ZoneContents) (o n : DomainName) (cut : ℕ)
   pub cuts : (c : DomainName) → folded c ≡ c → is_cut z c ≡ true → at_or_below n c ≡ true
       → (c ≡ n) ⊎ (is_gt (name_order c o) ≡ false)
 
--- the last checked name that is not after a name
+-- c is the last checked name that is not after n
 pub record IsLastUpto (z : ZoneContents) (n : DomainName) (c : CheckedName) : Type 0 where
   pub checked : IsChecked z (owner_of z c) c
   pub upto : is_gt (name_order (owner_of z c) n) ≡ false

@@ -10,18 +10,18 @@ use Rattle.dns_zone.specs.declared.tree.Tree.{Tree}
 use Rattle.dns_zone.specs.declared.tree.way.WayEnd.{WayEnd}
 use Rattle.dns_zone.specs.declared.tree.way.WayName.{WayName}
 
--- the name below the origin whose row this is; row 0 is the origin's
+-- the name of row k, or `None` for row 0, the origin's
 abbrev pub name_below : ZoneContents → List Row → ℕ → Option DomainName
 name_below z rows zero = None
 name_below z rows (suc k) = Some (row_name z.records (row_at rows (suc k)))
 
--- the row of a name below the origin, or 0 if there is none
+-- k is the row of the name n below the origin, or 0 if n is `None`
 pub record IsRowOf (z : ZoneContents) (rows : List Row) (n : Option DomainName) (k : ℕ) : Type 0
   where
     pub row : k < length rows
     pub name : name_below z rows k ≡ n
 
--- each record has its hint
+-- `hints` contains the row of each record's hint
 pub record AreHints (z : ZoneContents) (rows : List Row) (hints : List ℕ) : Type 0 where
   pub count : length hints ≡ length z.records
   pub each : (j : ℕ) (r : ResourceRecord) → j < length z.records → r ≡ get_or z.records j r
@@ -41,7 +41,7 @@ pub record IsZoneTree (t : Tree) : Type 0 where
 abbrev pub node_at : Tree → ℕ → ZoneNode
 node_at t k = record { zone = t.zone; name = row_name t.zone.records (row_at t.rows k) }
 
--- a row of the tree
+-- k is a row of the tree
 pub record IsNodeAt (t : Tree) (k : ℕ) : Type 0 where
   pub kept : IsNameTree t
   pub row : k < length t.rows
@@ -56,8 +56,8 @@ pub record TargetWay : Type 0 where
   pub tree : Tree
   pub is_of_alias : Bool
 
--- The end of the way to a name: the row of the last name on it at which a way may begin. The way
--- goes on from the origin and from such a name.
+-- e is the end of the way to n: the row of the last name on the way at which a way may begin, or 0.
+-- The way can go on below n if n is the origin, or a name at which a way may begin.
 pub record IsWayEnd (w : TargetWay) (n : DomainName) (e : WayEnd) : Type 0 where
   pub at : IsNodeAt w.tree e.row.0
   pub last : name_below w.tree.zone w.tree.rows e.row.0
@@ -66,7 +66,7 @@ pub record IsWayEnd (w : TargetWay) (n : DomainName) (e : WayEnd) : Type 0 where
       ≡ (same n w.tree.zone.origin || may_begin w.tree.zone w.is_of_alias n)
   pub named : e.goes_on ≡ true → (node_at w.tree e.row.0).name ≡ n
 
--- an invariant of the names on a way
+-- an invariant of the names that a way stores, each with the end of the way to it
 pub record IsWay (w : TargetWay) (names : List WayName) : Type 0 where
   pub kept : IsNameTree w.tree
   pub each : All (λ (s : WayName). IsWayEnd w s.name s.end) names
@@ -82,7 +82,7 @@ kid_rows v = kids_at v.tree.rows v.tree.bounds v.row
 abbrev pub kid_label : TreeRow → ℕ → Octets
 kid_label v i = row_label v.tree.zone.records (row_at (kid_rows v) i)
 
--- the rows of a node's children, and the number of the first
+-- `rows` are the rows of a node's children; the first of them has the row number `start`
 pub record AreKidsAt (v : TreeRow) (start : ℕ) (rows : List Row) : Type 0 where
   pub at : IsNodeAt v.tree v.row
   pub start_is : start ≡ get_or v.tree.bounds v.row 0

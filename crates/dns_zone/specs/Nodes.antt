@@ -35,21 +35,21 @@ pub record IsHint (z : ZoneContents) (rtype : ℕ) (n : DomainName) : Type 0 whe
   pub longer : length z.origin < length n
   pub uncut : rtype ≡ type_cname → cut_of z n ≡ None
 
--- The way to a target may begin at this name below the origin: it exists, and the way of an alias
--- ends before a cut (RFC 1034 4.3.2 step 3b).
+-- The way to a target may begin at the name n: n is below the origin and exists and, if the target
+-- is an alias's, n is not at or below a cut (RFC 1034 4.3.2 step 3b).
 abbrev pub may_begin : ZoneContents → Bool → DomainName → Bool
 may_begin z is_of_alias n =
     below n z.origin && (exists z n && not (is_of_alias && is_some (cut_of z n)))
 
--- the last name on the way down to a target at which the way may begin
+-- the last of the names on the way down to a target at which the way may begin
 abbrev pub last_on_way : ZoneContents → Bool → DomainName → Option DomainName
 last_on_way z is_of_alias target = find (may_begin z is_of_alias) (suffixes (folded target))
 
--- such a name for the target of a record
+-- this last name, for the target of a record
 abbrev pub hint_of : ZoneContents → ResourceRecord → Option DomainName
 hint_of z r = option_and_then (last_on_way z (r.rtype == type_cname)) (target r.rtype r.rdata)
 
--- the node of that name
+-- the node of a record's hint
 abbrev pub hint_node : ZoneContents → ResourceRecord → Option ZoneNode
 hint_node z r = option_map (λ n. record { zone = z; name = n }) (hint_of z r)
 

@@ -39,7 +39,7 @@ is_exchange_alias z r = (r.rtype == type_mx || r.rtype == type_srv) && option_ma
 abbrev pub number_of : (ℕ → Bool) → List ResourceRecord → ℕ
 number_of test rs = length (filter (λ (r : ResourceRecord). test r.rtype) rs)
 
--- an MX or SRV record
+-- the type MX or SRV
 abbrev pub is_exchange_type : ℕ → Bool
 is_exchange_type t = t == type_mx || t == type_srv
 

@@ -4,7 +4,7 @@ use Rattle.dns_spec.specs.Names.{Octets, DomainName, wire}
 use Rattle.dns_spec.specs.Records.{ResourceRecord}
 use Rattle.dns_zone.specs.KeyForm.{name_key}
 
--- the octets from a start on, as many as the key of a name has: one less than its wire form
+-- the octets of `keys` from `start` on, as many as the key of n has: one fewer than its wire form
 abbrev pub key_in : Octets → ℕ → DomainName → Octets
 key_in keys start n = take (length (wire n) - 1) (drop start keys)
 

@@ -1,4 +1,4 @@
--- The names of a zone as rows of numbers, and invariants of these.
+-- The names of a zone as rows of numbers, and invariants of the rows.
 use Rattle.std.specs.Prelude.{◌≡◌, ℕ, zero, suc, ◌+◌, ◌-◌, ◌/◌, ◌<◌, ◌≤◌, true, List, [], ◌∷◌, map, length, take, drop, get_or}
 use Rattle.std.specs.List.{AllByRecursion, filter, list_any}
 use Rattle.std.specs.Char.{to_ascii_lowercase}
@@ -10,7 +10,7 @@ use Rattle.dns_zone.specs.declared.tree.row.Row.{Row}
 use Rattle.dns_spec.proofs.General.Elements.{Among}
 use Rattle.dns_spec.proofs.General.Sorted.{Rises}
 
--- the elements from place a up to place b
+-- the elements from index a to before index b
 abbrev pub span : {X : Type 0} → List X → ℕ → ℕ → List X
 span xs a b = take (b - a) (drop a xs)
 
@@ -52,12 +52,12 @@ pub record IsRow (rs : List ResourceRecord) (row : Row) (n : DomainName) : Type 
   pub key : IsKey row.key (map to_ascii_lowercase (first_of n))
   pub own : span rs row.first row.own_end ≡ filter (λ (r : ResourceRecord). same r.owner n) rs
 
--- the row of a name one label below
+-- the row of a name one label below n
 pub record IsKid (rs : List ResourceRecord) (n : DomainName) (row : Row) : Type 0 where
   pub label : Octets
   pub is_row : IsRow rs row (label ∷ n)
 
--- the rows of all names one label below a name, ordered by label
+-- the rows of all existing names one label below n, ordered by label
 pub record AreKids (rs : List ResourceRecord) (n : DomainName) (kids : List Row) : Type 0 where
   pub each : AllByRecursion (IsKid rs n) kids
   pub rising : Rises label_order (map (row_label rs) kids)
@@ -71,7 +71,7 @@ no_row = record { first = 0; own_end = 0; end = 0; place = 0; label_octets = 0; 
 abbrev pub row_at : List Row → ℕ → Row
 row_at rows k = get_or rows k no_row
 
--- the children of row k are the rows from bound k up to bound k + 1
+-- the children of row k are the rows from bound k to before bound k + 1
 abbrev pub kids_at : List Row → List ℕ → ℕ → List Row
 kids_at rows bounds k = span rows (get_or bounds k 0) (get_or bounds (k + 1) 0)
 
@@ -87,7 +87,8 @@ pub record IsTree (o : DomainName) (rs : List ResourceRecord) (rows : List Row)
   pub kids : (k : ℕ) → k < length rows
       → AreKids rs (row_name rs (row_at rows k)) (kids_at rows bounds k)
 
--- the most children that remain to be searched after k comparisons; a node has at most 100,000
+-- The most children that remain to be searched after k comparisons. A node has at most 100,000
+-- children.
 abbrev pub room_after : ℕ → ℕ
 room_after zero = 131071
 room_after (suc k) = room_after k / 2

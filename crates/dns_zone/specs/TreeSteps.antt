@@ -1,11 +1,11 @@
--- An invariant of adding the rows of a name's children.
+-- What adding the rows of a name's children to a list of rows does.
 use Rattle.std.specs.Prelude.{◌≡◌, ◌≤◌, List, length, take, drop}
 use Rattle.dns_spec.specs.Names.{DomainName}
 use Rattle.dns_spec.specs.Records.{ResourceRecord}
 use Rattle.dns_zone.specs.TreeForm.{AreKids}
 use Rattle.dns_zone.specs.declared.tree.row.Row.{Row}
 
--- the rows of a name's children follow the old rows
+-- `new` is `old`, followed by the rows of the children of n
 pub record AddsKids (rs : List ResourceRecord) (n : DomainName) (old new : List Row) : Type 0 where
   pub longer : length old ≤ length new
   pub kept : take (length old) new ≡ old

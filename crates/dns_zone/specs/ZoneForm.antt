@@ -28,13 +28,13 @@ pub record IsBuilt (z : ZoneContents) : Type 0 where
   pub few : length z.records ≤ most_records
   pub passes : Passes z
 
--- What the error of a zone that can't be built says: its faults, at least one, or nothing if
+-- What the error says if a zone can't be built: all faults of the zone, at least one, or nothing if
 -- allocation failed.
 abbrev pub ReportsFaults : BuildFault → ZoneContents → Type 0
 ReportsFaults (Faults found) z = (found.items ≡ faults z) × (faults z ≢ [])
 ReportsFaults NoMemory z = ⊤
 
--- either the SOA records or all others
+-- whether a record is an SOA, or, if `soa` is false, whether it is not
 abbrev pub is_chosen : Bool → ResourceRecord → Bool
 is_chosen soa r = if soa then is_soa r else not (is_soa r)
 

@@ -18,7 +18,7 @@ pub struct CheckFault {
 /// Why a zone is rejected.
 #[derive(Drop)]
 pub enum BuildFault {
-    /// Its faults, at least one, ordered by owner, then by code.
+    /// The faults of the zone, at least one, ordered by owner, then by code.
     Faults(Vec<CheckFault>),
     /// Memory allocation failed.
     NoMemory,

@@ -123,7 +123,7 @@ fn put_record<W: Write>(
 }
 
 // Makes `front` the front of the entry's line: owner, TTL and class, each followed by a space.
-// Keeps the front of the last record if it is the same, as for a third of records.
+// Leaves `front` as it is if the last record has the same front, as for a third of records.
 fn turn_front(front: &mut TextBuffer, last: Option<&StoredRecord>, entry: &StoredRecord)
     requires { IfSome last (λ r. (front.old ≡ ((name_text r.now.owner ++ codes " ")
         ++ decimal r.now.ttl) ++ codes " IN ") × (length front.old ≤ 1035)) }

@@ -1,9 +1,9 @@
-//! Lists that a zone keeps.
+//! The read-only lists of a zone.
 ghost use Rattle.std.specs.Prelude.{◌≡◌};
 
 use std::marker::Model;
 
-/// A read-only list. Neither its memory nor its allocator is reachable from it.
+/// A read-only list that gives no access to its memory or its allocator.
 #[derive(Drop)]
 pub(crate) struct SharedSlice<T> {
     items: Vec<T>,

@@ -24,7 +24,7 @@ use std::marker::Model;
 
 /// Records of a zone, in the order in which they were added.
 ///
-/// Each takes 72 octets, and one allocation if its owner and its data have more than 62 octets.
+/// Each takes 72 octets, and one allocation if its owner and data exceed 62 octets together.
 #[derive(Drop)]
 pub struct Store {
     alloc: Global,
@@ -73,7 +73,7 @@ impl Store {
         self.entries.len()
     }
 
-    /// Adds a record after the others. If allocation fails, the store is unchanged.
+    /// Adds a record at the end. If allocation fails, the store is unchanged.
     pub fn add(&mut self, read: &Record) -> Result<(), AllocError>
         ensures added { OnOk result (self.new ≡ self.old ++ read.now ∷ []) }
         ensures unchanged { OnErr result (self.new ≡ self.old) }
@@ -83,12 +83,12 @@ impl Store {
         Ok(())
     }
 
-    /// Checks the records as `Zone::build` does. The zone has them without duplicates
+    /// Checks the records as `Zone::build` does. The zone contains them without duplicates
     /// (RFC 2181 5), in canonical order (RFC 4034 6.1, 6.3).
     ///
-    /// Fails with `Faults`, which contains all faults of the zone, or with `NoMemory` only if
-    /// allocation fails; the records are freed in either case. Precondition: at most 100,000
-    /// records, as in a zone file.
+    /// Fails with `Faults`, which contains all faults of the zone, or, only if allocation fails,
+    /// with `NoMemory`. The records are freed in either case. Precondition: there are at most
+    /// 100,000 records, as in a zone file.
     pub fn check(self, alloc: Global, origin: &Name) -> Result<CheckedZone, BuildFault>
         requires { length self ≤ most_records }
         ensures ok { IfOk result (λ zone. zone ≡ ordered_zone origin.now self) }

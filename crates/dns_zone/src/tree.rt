@@ -36,12 +36,12 @@ pub(crate) struct Tree {
     pub(crate) zone: CheckedZone,
     pub(crate) rows: SharedSlice<Row>,
     pub(crate) bounds: SharedSlice<u32>,
-    /// For each record the row of its hint, or 0 if it has none.
+    /// For each record the row number of its hint, or 0 if it has no hint.
     pub(crate) hints: SharedSlice<u32>,
 }
 
-/// The rows of all names of a zone, and for each row the number of its first child. A row's
-/// children end where the next row's begin. Takes 36 octets of memory for each name.
+/// The rows of all names of a zone, and for each row the row number of its first child. A row's
+/// children end where the next row's children begin. Takes 36 octets of memory for each name.
 pub(crate) fn rows_of(
     alloc: Global,
     origin: &NameRef<'_>,
@@ -50,8 +50,8 @@ pub(crate) fn rows_of(
     requires { IsBuilt (record { origin = origin.now; records = records.now }) }
     ensures { IfOk result (λ (rows, bounds). IsTree origin.now records.now rows bounds) }
 {
-    // Room for the names of most zones: a list that grows is copied, and room that is not used
-    // takes no memory.
+    // Room for the names of most zones. A list that outgrows its room is copied, while room that is
+    // never used takes no memory.
     let most = 2 * records.len();
     let mut rows = Vec::with_capacity(alloc, most)?;
     let mut bounds = Vec::with_capacity(alloc, most)?;
@@ -68,7 +68,7 @@ pub(crate) fn rows_of(
     Ok((SharedSlice::new(rows), SharedSlice::new(bounds)))
 }
 
-// A number of rows as a `u32`. Fails only beyond 2^32 rows, which would take over 128 GB.
+// A number of rows as a `u32`. Fails only from 2^32 rows on, which would take over 128 GB.
 pub(crate) fn to_u32(rows: usize) -> Result<u32, AllocError>
     ensures { IfOk result (λ number. number ≡ rows) }
 {

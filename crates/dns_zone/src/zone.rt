@@ -28,7 +28,7 @@ use std::marker::Model;
 pub struct CheckedZone {
     pub(crate) origin: Name,
     pub(crate) records: SharedSlice<StoredRecord>,
-    /// The number of records before each one in the file. Empty if records are short.
+    /// For each record, how many records come before it in the file. Empty if records are short.
     pub(crate) numbers: SharedSlice<u32>,
 }
 
@@ -87,12 +87,12 @@ impl Model for Zone {
 }
 
 impl Zone {
-    /// Builds the zone of an origin and its records, without duplicates (RFC 2181 5), in canonical
-    /// order (RFC 4034 6.1, 6.3).
+    /// Builds the zone with this origin and these records. Its records are without duplicates
+    /// (RFC 2181 5), in canonical order (RFC 4034 6.1, 6.3).
     ///
-    /// Fails with `Faults`, which contains all faults of the zone, or with `NoMemory` only if
-    /// allocation fails; the records are freed in either case. Precondition: at most 100,000
-    /// records, as in a zone file.
+    /// Fails with `Faults`, which contains all faults of the zone, or, only if allocation fails,
+    /// with `NoMemory`. The records are freed in either case. Precondition: there are at most
+    /// 100,000 records, as in a zone file.
     pub fn build(alloc: Global, origin: &Name, records: Vec<Record>) -> Result<Zone, BuildFault>
         requires { length records.items ≤ most_records }
         ensures ok { IfOk result (λ zone. zone ≡ ordered_zone origin.now records.items) }
@@ -109,10 +109,10 @@ impl Zone {
         Ok(Zone::of(alloc, zone)?)
     }
 
-    /// Prepares a checked zone for serving: makes a tree of its names, and stores for each target
-    /// the last existing name on the way to it, so that an alias to a name of many labels costs a
-    /// query no more than one to a short name. Takes 36 octets of memory for each name and 8 for
-    /// each record.
+    /// Prepares a checked zone for serving: makes a tree of its names, and stores for each record
+    /// the last existing name on the way to its target. So following an alias to a name of many
+    /// labels costs a query no more than following an alias to a short name. Takes 36 octets of
+    /// memory for each name and 8 for each record.
     pub fn of(alloc: Global, zone: CheckedZone) -> Result<Zone, AllocError>
         ensures { IfOk result (λ whole. whole ≡ zone) }
     {
@@ -145,7 +145,7 @@ impl Zone {
     }
 }
 
-// The serial number of the first SOA at the origin, or 0 if there is none.
+// The serial number of the first SOA at the origin, or 0 if the origin has no SOA.
 fn serial_at(origin: &NameRef<'_>, records: &[StoredRecord]) -> u32
     ensures { result ≡ first_serial
         (filter is_soa (filter (λ (r : ResourceRecord). same r.owner origin.now) records.now)) }

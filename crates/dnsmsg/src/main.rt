@@ -1,5 +1,5 @@
-//! A printer of messages: `dnsmsg` prints the message on the first line of standard input, which
-//! is in hexadecimal digits.
+//! A printer of messages: `dnsmsg` prints the message whose hexadecimal digits are the first line
+//! of standard input.
 #![tactic(auto)]
 
 use dns_name::Tally;

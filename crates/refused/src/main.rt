@@ -2,8 +2,9 @@
 //! memory, loads the zone of `example.` from FILE, serves queries and a session from it, and
 //! prints the result of each call.
 //!
-//! `make faults` runs it once for each of its allocations, with that one refused: the line of the
-//! call reports it, and all other lines stay the same. The program allocates its own memory first.
+//! `make faults` runs the program once for each of its allocations, and refuses that allocation.
+//! The line of the call that made the allocation reports this, and all other lines stay the same.
+//! The program allocates memory for its own use before the calls.
 #![tactic(auto)]
 
 mod calls;
@@ -18,7 +19,7 @@ use std::io::{self, Write};
 use std::process::ExitCode;
 use std::rt::{Env, Files};
 
-// More octets than are printed.
+// More octets than the program prints.
 const ROOM: usize = 65_536;
 
 fn main(rt: HostRuntime) -> ExitCode {

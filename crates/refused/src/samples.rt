@@ -6,9 +6,9 @@ pub(crate) const MESSAGE: &[u8] = b"\x12\x34\x84\x03\x00\x01\x00\x00\x00\x01\x00
     \x02ns\xc0\x11\x0ahostmaster\xc0\x11\
     \x00\x00\x00\x01\x00\x00\x1c\x20\x00\x00\x03\x84\x00\x12\x75\x00\x00\x00\x01\x2c";
 
-/// Queries for an RRset that just fits over UDP, and for one that just does not; for a loop and a
-/// chain of aliases; for 64 addresses that are additional, that are asked for, and that a referral
-/// needs; and for a service.
+/// Queries, in this order, for an RRset that just fits over UDP, an RRset that just does not fit, a
+/// loop of aliases, a chain of aliases, a set with 64 additional addresses, a set of 64 addresses,
+/// a referral that needs 64 addresses, and a service.
 pub(crate) const QUERIES: [&[u8]; 8] = [
     b"\x12\x34\x00\x00\x00\x01\x00\x00\x00\x00\x00\x00\x01t\x07example\x00\x00\x10\x00\x01",
     b"\x12\x34\x00\x00\x00\x01\x00\x00\x00\x00\x00\x00\x01u\x07example\x00\x00\x10\x00\x01",

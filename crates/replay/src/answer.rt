@@ -21,7 +21,7 @@ pub(crate) fn answer(alloc: Global, case: &Case<'_>) -> Result<Answer, AllocErro
 }
 
 // Calls what the program calls, with the arguments, the zone file and the standard input of the
-// case. A server answers lines, for a zone without faults.
+// case. `zoneserve` is supported only with `once`, and only for a zone without faults.
 fn report(alloc: Global, case: &Case<'_>) -> Result<Answer, FaultWord> {
     let Some((program, words)) = case.words.as_slice().split_first() else {
         return Err(FaultWord::Usage);

@@ -54,7 +54,8 @@ impl Case<'_> {
     }
 }
 
-// The octets of lines. LF follows each line, unless the line ends with `%`.
+// The octets that lines spell. Each line stands for its octets and an LF, or, if it ends with `%`,
+// for its octets alone.
 fn octets_of(alloc: Global, lines: Lines<'_>) -> Result<Vec<u8>, FaultWord> {
     let mut octets = Vec::new(alloc);
     for line in lines {

@@ -1,5 +1,6 @@
 //! A checker of zone files: `zonecheck [--quiet] [--print] ORIGIN FILE` reports whether the zone
-//! of ORIGIN in FILE may be served, with all of its faults, or prints it in its canonical text.
+//! of ORIGIN in FILE may be served, and if not, why. With `--print` it prints the canonical text of
+//! a zone that may be served.
 #![tactic(auto)]
 
 use dns_name::Tally;

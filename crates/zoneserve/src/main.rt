@@ -1,7 +1,7 @@
 //! A server of one zone. `zoneserve once [--tcp] ORIGIN FILE` loads the zone of ORIGIN from FILE,
-//! and answers each message on standard input, a line of hexadecimal digits, with a line on
-//! standard output; `zoneserve udp|tcp ADDR TURNS ORIGIN FILE` serves TURNS datagrams or
-//! connections at an address.
+//! and answers each line of standard input, a message in hexadecimal digits, with a line on
+//! standard output. `zoneserve udp|tcp ADDR TURNS ORIGIN FILE` loads the zone, and serves TURNS
+//! datagrams or connections at the address ADDR.
 #![tactic(auto)]
 
 use dns_name::Tally;
@@ -58,8 +58,8 @@ where
             serve_datagrams(rt, zone, &mut socket, *turns)
         }
         Service::Tcp { address, turns } => {
-            // The buffers of all sessions are allocated once, before the first, and not on the
-            // stack.
+            // All sessions use the same buffers, which are allocated before the first session, and
+            // not on the stack.
             let Ok(mut room) = Box::new(rt.alloc(), StreamRoom::new()) else {
                 return Err(FaultWord::NoMemory);
             };

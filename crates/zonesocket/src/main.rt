@@ -1,8 +1,8 @@
 //! A server of one zone at a socket that it is given as standard input:
-//! `zonesocket udp|tcp TURNS ORIGIN FILE` loads the zone of ORIGIN from FILE, reports that on
-//! standard output, and serves TURNS datagrams or connections. The socket outlives the process, so
-//! that several processes can serve it at once, and a new process can replace an old one without
-//! losing what waits at the socket.
+//! `zonesocket udp|tcp TURNS ORIGIN FILE` loads the zone of ORIGIN from FILE, writes a line to
+//! standard output to say so, and serves TURNS datagrams or connections. The socket outlives the
+//! process. So several processes can serve it at once, and a new process can replace an old one
+//! without losing what waits at the socket.
 #![tactic(auto)]
 
 use dns_answer::Limit;
@@ -59,8 +59,8 @@ where
             serve_datagrams(rt, zone, &mut socket, words.turns)
         }
         Limit::Tcp => {
-            // The buffers of all sessions are allocated once, before the first, and not on the
-            // stack.
+            // All sessions use the same buffers, which are allocated before the first session, and
+            // not on the stack.
             let Ok(mut room) = Box::new(rt.alloc(), StreamRoom::new()) else {
                 return Err(FaultWord::NoMemory);
             };

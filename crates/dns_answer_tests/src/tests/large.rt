@@ -121,8 +121,8 @@ const ADDRESSES: &[(Reply<'static>, &[u8], &[u8])] = &[
     ),
 ];
 
-/// Takes the addresses 198.51.100.1 to 198.51.100.64: the first after the owner `first`, each of
-/// the others after the owner `others`.
+/// Takes address records for 198.51.100.1 to 198.51.100.64. The first record has the owner `first`,
+/// and each later record has the owner `others`.
 pub(super) fn take_addresses(rest: &mut Rest<'_>, first: &[u8], others: &[u8]) {
     for last in 1..65_u8 {
         rest.take(if last == 1 { first } else { others });

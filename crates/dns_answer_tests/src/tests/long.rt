@@ -58,8 +58,9 @@ fn take_services(rest: &mut Rest<'_>) {
     }
 }
 
-// Takes the addresses of a target, which begin at `place`. The first owner is spelled; the others
-// are pointers to it, if a pointer reaches it.
+// Takes the addresses of a target, which begin at the offset `place`. The first owner is spelled
+// out. The later owners are pointers to the first if a pointer can reach it, or else spelled out
+// too.
 fn take_target(rest: &mut Rest<'_>, number: u8, place: u16) {
     let [high, low] = digits(number);
     let first = [3, b't', high, low, 0xc0, 0x0e];
@@ -72,7 +73,7 @@ fn take_target(rest: &mut Rest<'_>, number: u8, place: u16) {
 }
 
 // Whether octets are the reply with 17 services and the addresses of their targets. The addresses
-// of `t26` begin at place 17,002, which no pointer reaches, so each spells the first label.
+// of `t26` begin at offset 17,002, which no pointer can reach, so each spells its first label.
 fn are_services(octets: &[u8]) -> bool {
     let mut rest = Rest::of(octets);
     rest.take(b"\x12\x34\x84\x00\x00\x01\x00\x11\x00\x00\x04\x40");
@@ -84,7 +85,7 @@ fn are_services(octets: &[u8]) -> bool {
     rest.has_ended() && octets.len() == 18_282
 }
 
-// Whether the replies over TCP are the long ones.
+// Whether the replies over TCP have all 64 strings, and all 17 services with their addresses.
 fn has_long(alloc: Global, zone: &Zone) -> bool {
     let strings = replied_to(alloc, zone, Limit::Tcp, &[QUERY, STRINGS]);
     let services = replied_to(alloc, zone, Limit::Tcp, &[QUERY, SERVICES]);
@@ -114,7 +115,7 @@ struct Drafts {
     large: TcpDraft,
 }
 
-// The reply that is made in a draft; empty if there is none.
+// The reply that is made in a draft; empty if there is no reply.
 fn redrafted<'d>(zone: &Zone, drafts: &'d mut Drafts, limit: Limit, asked: &[u8]) -> &'d [u8] {
     let mut steps = Steps::new(zone);
     let reply = match limit {

@@ -8,7 +8,7 @@ use std::process::Abort;
 
 pub(super) const BOTH: &[Limit] = &[Limit::Udp, Limit::Tcp];
 
-/// A reply, empty if there is none, and its cost: the nodes visited and the labels compared.
+/// A reply, empty if there is no reply, and its cost: the nodes visited and the labels compared.
 #[derive(Drop)]
 pub(super) struct Outcome {
     pub(super) octets: Vec<u8>,
@@ -32,7 +32,7 @@ pub(super) fn replied(
     Some(Outcome { octets, cost })
 }
 
-/// A zone's reply to a datagram in pieces.
+/// A zone's reply to the datagram that consists of these pieces.
 pub(super) fn replied_to(
     alloc: Global,
     zone: &Zone,

@@ -13,7 +13,7 @@ use std::test::Fail;
 const WWW: &[u8] =
     b"\x12\x34\x00\x00\x00\x01\x00\x00\x00\x00\x00\x00\x03www\x07example\x00\x00\x01\x00\x01";
 
-// Whether a datagram gets this reply, or none, and no name is looked up.
+// Whether a datagram gets this reply, or none if `wanted` is empty, and no name is looked up.
 fn is_refused(alloc: Global, zone: &Zone, limit: Limit, sent: &[&[u8]], wanted: &[&[u8]]) -> bool {
     let Some(replied) = replied_to(alloc, zone, limit, sent) else {
         return false;

@@ -67,7 +67,7 @@ const PARENTHESES: &[Row<'static>] = &[
     (b"v 60 TXT (a) (b", (4, 1)),
 ];
 
-// The first of several faults, by place.
+// Files with several faults, of which the leftmost is reported.
 const PLACES: &[Row<'static>] = &[
     (b"\x00 \\256", (1, 1)),
     (b"\\256 \x00", (2, 1)),
@@ -248,7 +248,7 @@ const DATA: &[Row<'static>] = &[
     (b"a 1 TXT \"\\#\" x", (0, 0)),
 ];
 
-// Small files of one fault each, or of none.
+// Small files, each with one fault or none.
 const SMALL_FILES: &[Row<'static>] = &[
     (b"", (0, 0)),
     (b" A 192.0.2.1", (8, 1)),

@@ -5,7 +5,8 @@ use dns_master::read_zone;
 use dns_name::{Name, Tally};
 use std::test::Fail;
 
-// The beginning of a file, a text after it and its number of repetitions, and the fault.
+// The first part of a file; a text that follows it, and how often that text is repeated; and the
+// fault of the file.
 type Hostile<'a> = (&'a [u8], &'a [u8], usize, (u8, u32));
 
 const FILES: &[Hostile<'static>] = &[
@@ -62,7 +63,8 @@ fn an_origin_that_grows(rt: HostRuntime) -> Result<(), Fail> {
     Ok(())
 }
 
-// A record whose owner has 127 labels below the root, and one with a label more.
+// A record whose owner has 127 labels, the most that fit 255 octets; and a record whose owner has
+// 128.
 #[test]
 fn an_owner_of_many_labels(rt: HostRuntime) -> Result<(), Fail> {
     for (count, wanted) in [(127, (0, 0)), (128, (7, 1))] {

@@ -8,7 +8,8 @@ const MOST_FILE_OCTETS: usize = 16_777_216;
 
 const RECORD: &[u8] = b"a A 192.0.2.1\n";
 
-// The last octets up to the limit, on the second line; the octets after it; and the fault.
+// The last octets up to the limit, which are on the second line; the octets after the limit; and
+// the fault.
 type Limit<'a> = (&'a [u8], &'a [u8], (u8, u32));
 
 const LIMITS: &[Limit<'static>] = &[
@@ -68,7 +69,8 @@ fn what_stands_at_the_limit(rt: HostRuntime) -> Result<(), Fail> {
     Ok(())
 }
 
-// The first octet of a file, its other octets, and its fault if it is longer than the limit by one.
+// The first octet of a file; the octet that fills the remainder of it; and the fault if the file is
+// one octet longer than the limit.
 const LONGEST: &[(u8, u8, (u8, u32))] = &[(b';', b'x', (15, 1)), (b'\n', b'\n', (15, 16_777_217))];
 
 #[test]
@@ -85,7 +87,7 @@ fn a_comment_as_long_as_a_file(rt: HostRuntime) -> Result<(), Fail> {
     Ok(())
 }
 
-// `$TTL`, 100,000 records, and a last line.
+// The fault of a file with `$TTL`, 100,000 records, and a last line.
 fn records_and(alloc: Global, last: &[u8]) -> Result<(u8, u32), AllocError> {
     let mut text = repeated(alloc, b"$TTL 60\n", 1)?;
     text.extend_from_slice(repeated(alloc, RECORD, 100_000)?.as_slice())?;

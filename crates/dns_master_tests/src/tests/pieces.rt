@@ -11,7 +11,7 @@ use std::test::Fail;
 
 const PIECE: usize = 4_096;
 
-// Beginnings of files that have a fault, whatever follows.
+// Texts, and the fault of each file that begins with them, whatever follows.
 const DECIDED: &[Row<'static>] = &[
     (b"$INCLUDE x\n", (5, 1)),
     (b"a 1 A 192.0.2.1\n\x00", (1, 2)),
@@ -103,7 +103,7 @@ fn entries_that_cross_the_end_of_a_piece_at_each_octet(rt: HostRuntime) -> Resul
 }
 
 // Whether a text has this fault after comment lines of different lengths, so that each octet of the
-// text is the last of a piece once.
+// text is once the last octet of a piece.
 fn has_fault_across(alloc: Global, text: &[u8], wanted: (u8, u32)) -> Result<bool, AllocError> {
     for within in 0..=text.len() {
         let all = after_comment(alloc, PIECE.saturating_sub(within), text)?;

@@ -15,7 +15,7 @@ const BELOW: Labels<'static> = &[b"a", b"*", b"example"];
 // Labels that fill 255 octets on the wire.
 const LONGEST: Labels<'static> = &[&[b'a'; 63], &[b'b'; 63], &[b'c'; 63], &[b'd'; 61]];
 
-// Adds labels next to the root; false if one is refused.
+// Adds labels next to the root. Returns false if one of them is no label or does not fit.
 fn push_all(name: &mut Name, labels: Labels<'_>) -> bool {
     let mut fit = true;
     for octets in labels {
@@ -38,7 +38,7 @@ fn has_labels(name: &NameRef<'_>, wanted: Labels<'_>) -> bool {
     labels.next().is_none() && name.labels().count() == wanted.len()
 }
 
-// Labels, the octets of their name on the wire (RFC 1035 3.1), and whether it is a wildcard.
+// Labels, the octets of their name on the wire (RFC 1035 3.1), and whether the name is a wildcard.
 const PUSHED: &[(Labels<'static>, &[u8], bool)] = &[
     (&[], b"\x00", false),
     (WWW, b"\x03www\x07example\x00", false),
@@ -47,7 +47,8 @@ const PUSHED: &[(Labels<'static>, &[u8], bool)] = &[
     (&[b"**", b"example"], b"\x02**\x07example\x00", false),
 ];
 
-// Whether labels are those of a name with these octets, also when it is borrowed.
+// Whether the name made of these labels has these octets, and is a wildcard or not as wanted, also
+// when it is borrowed.
 fn is_pushed(labels: Labels<'_>, octets: &[u8], is_wildcard: bool) -> bool {
     let mut name = Name::root();
     let fit = push_all(&mut name, labels);

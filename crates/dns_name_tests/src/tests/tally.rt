@@ -60,8 +60,8 @@ const ABC: &[&[u8]] = &[b"a", b"", b"bc"];
 
 const DE: &[&[u8]] = &[b"", b"d", b"e"];
 
-// The first call that fails, and the first call after it that works; the number of calls that the
-// device gets in all; the steps that make them.
+// For each run: the first call that fails, and the first call after it that works; the number of
+// calls that the device gets in all; and the steps that make these calls.
 const RUNS: &[(u32, u32, u32, &[Step<'static>])] = &[
     // Each failure is counted once.
     (1, u32::MAX, 2, &[(Take, Some(1)), (Take, None)]),
@@ -95,7 +95,7 @@ const RUNS: &[(u32, u32, u32, &[Step<'static>])] = &[
     (0, 1, 1, &[(Take, None)]),
 ];
 
-// What a call returns; `None` after ten failures.
+// What a call returns; `None` if it fails, or if ten calls have failed before it.
 fn made(device: &mut Tally<Failing>, call: &Call<'_>) -> Option<usize> {
     if device.failures() > 9 {
         return None;

@@ -8,13 +8,13 @@ const OCTETS_53: &[u8] = &[b'y'; 53];
 
 const OCTETS_54: &[u8] = &[b'y'; 54];
 
-// A name without a final dot continues with `example.`
+// Reads a word. A name without a final dot continues with `example.`
 fn read(word: &[u8]) -> Result<Name, NameFault> {
     let origin = Name::read_text(b"example.", &Name::root())?;
     Name::read_text(word, &origin)
 }
 
-// The same in place and in lower case, with an origin in capitals.
+// Spells a word in place and in lower case. The origin is `EXAMPLE.`, in capitals.
 fn spelled(word: &[u8]) -> Result<Name, NameFault> {
     let origin = Name::read_text(b"EXAMPLE.", &Name::root())?;
     let mut name = Name::root();
@@ -26,8 +26,8 @@ fn fault(word: &[u8]) -> u8 {
     read(word).err().map_or(0, NameFault::code)
 }
 
-// Words, and the octets of their names or the code of their fault. Within a label, a bad escape is
-// reported before an empty or a long label; an invalid label is reported before a long name.
+// Words, and for each the octets of its name or the code of its fault. Within a label, a bad escape
+// is reported before an empty or a long label; an invalid label is reported before a long name.
 const READ: &[(&[u8], Result<&[u8], u8>)] = &[
     (b"www", Ok(b"\x03www\x07example\x00")),
     (b"WwW.a", Ok(b"\x03WwW\x01a\x07example\x00")),
@@ -73,7 +73,8 @@ fn is_read_as(word: &[u8], wanted: Result<&[u8], u8>) -> bool {
     }
 }
 
-// Whether a word spells in place what is read from it, but in lower case.
+// Whether a word spells in place, in lower case, the name that is read from it, or has the same
+// fault.
 fn is_spelled_as_read(word: &[u8]) -> bool {
     match (spelled(word), read(word)) {
         (Ok(name), Ok(read)) => name.octets() == read.fold().octets(),
@@ -84,8 +85,8 @@ fn is_spelled_as_read(word: &[u8]) -> bool {
 // Three labels of 63 octets, one of 53 and `example.` fill 255 octets on the wire.
 const THREE: &[&[u8]] = &[LABEL, b".", LABEL, b".", LABEL, b"."];
 
-// What follows them, and the code of the fault of the whole word. Four labels of 63 octets are
-// valid, but too long together.
+// What follows the three labels, and the code of the fault of the whole word, or 0. Four labels of
+// 63 octets are valid, but too long together.
 const LAST: &[(&[&[u8]], u8)] = &[
     (&[OCTETS_53], 0),
     (&[OCTETS_54], 3),

@@ -82,7 +82,8 @@ fn names_written(rt: HostRuntime) {
     }
 }
 
-// `ns.example.` is written in four calls. If one of them fails, the octets before it were written.
+// Whether `ns.example.` is written by four calls, of three octets each but the last, and only the
+// octets of the calls before it are written if one of the four fails.
 fn is_written_in_four(alloc: Global, text: &[u8], calls: u32) -> bool {
     let mut sink = Tally::new(Kept::new(alloc, 3, calls));
     let (fails, has_failed) = (calls < 4, read(text).write_text(&mut sink).is_err());

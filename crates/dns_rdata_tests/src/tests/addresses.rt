@@ -3,7 +3,7 @@ use dns_rdata::{RType, RdataFault};
 use std::alloc::{AllocError, Global};
 use std::test::Fail;
 
-// Words, and the octets of their addresses, if any.
+// Words, and the octets of the addresses that they spell; `None` if they spell no address.
 const IPV4: &[(&[u8], Option<&[u8]>)] = &[
     (b"256.0.2.1", None),
     (b"192.0.2", None),
@@ -27,7 +27,7 @@ fn ipv4_read(rt: HostRuntime) {
     }
 }
 
-// Words, and the groups that they spell, if any.
+// Words, and the groups of the addresses that they spell; `None` if they spell no address.
 const IPV6: &[(&[u8], Option<&[u16]>)] = &[
     (b"1:0:2:3:4:5:6:7", Some(&[1, 0, 2, 3, 4, 5, 6, 7])),
     (
@@ -61,7 +61,8 @@ const IPV6: &[(&[u8], Option<&[u16]>)] = &[
     (b"1::2:", None),
 ];
 
-// Whether a word spells the address with these groups, or none.
+// Whether a word spells the address with these groups or, if `groups` is `None`, fails with
+// `BadAddress`.
 fn has_groups(alloc: Global, raw: &[u8], groups: Option<&[u16]>) -> Result<bool, AllocError> {
     let words = &[word(raw, false)];
     let Some(groups) = groups else {

@@ -9,14 +9,14 @@ use std::test::Fail;
 const SOA: &[u8] =
     b"\x02ns\x00\x04mAIL\x01x\x00\x00\x00\x00\x01\x00\x00\x1c\x20\x00\x00\x03\x84\x00\x12\x75\x00\x00\x00\x01\x2c";
 
-// All but the last octet.
+// `SOA` without its last octet.
 const SOA_CUT: &[u8] =
     b"\x02ns\x00\x04mAIL\x01x\x00\x00\x00\x00\x01\x00\x00\x1c\x20\x00\x00\x03\x84\x00\x12\x75\x00\x00\x00\x01";
 
 const SOA_LOWERED: &[u8] =
     b"\x02ns\x00\x04mail\x01x\x00\x00\x00\x00\x01\x00\x00\x1c\x20\x00\x00\x03\x84\x00\x12\x75\x00\x00\x00\x01\x2c";
 
-// Types with octets, and the data with these octets, if they are valid.
+// Types, octets, and the octets of the data that is read from them; `None` if they are invalid.
 const OCTETS: &[(RType, &[u8], Option<&[u8]>)] = &[
     (RType::SOA, SOA, Some(SOA_LOWERED)),
     (RType::SOA, SOA_CUT, None),
@@ -56,7 +56,8 @@ const OCTETS: &[(RType, &[u8], Option<&[u8]>)] = &[
     (RType::SRV, b"AAAAAA\xc0\x0c", None),
 ];
 
-// Whether octets are data of a type, with the wanted octets, or invalid if there are none.
+// Whether octets are read as data with the octets `wanted` or, if `wanted` is `None`, fail with
+// `NotOfType`.
 fn is_data(alloc: Global, rtype: RType, octets: &[u8], wanted: Option<&[u8]>) -> bool {
     match Rdata::from_wire(alloc, rtype, octets) {
         Ok(data) => wanted == Some(data.octets()),
@@ -71,7 +72,7 @@ fn octets_of_types(rt: HostRuntime) {
     }
 }
 
-// Octets, and 127 labels after them.
+// `octets`, followed by a name of 127 labels.
 fn name_after(alloc: Global, octets: &[u8]) -> Result<Vec<u8>, AllocError> {
     let mut name = Vec::new(alloc);
     name.extend_from_slice(octets)?;
@@ -200,7 +201,7 @@ const TARGETS: &[(RType, &[u8], Option<&[u8]>)] = &[
     (RType::TXT, b"\x01A", None),
 ];
 
-// Whether data is valid and has this target, or none.
+// Whether data is valid, and its target is `wanted`; `None` if it has no target.
 fn has_target(alloc: Global, rtype: RType, octets: &[u8], wanted: Option<&[u8]>) -> bool {
     let Ok(_) = Rdata::from_wire(alloc, rtype, octets) else {
         return false;

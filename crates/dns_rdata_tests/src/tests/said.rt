@@ -5,8 +5,8 @@ use dns_rdata::{DataRoom, RType, Rdata, RdataFault, Word};
 use std::alloc::Global;
 use std::io::Write;
 
-/// The data that words spell, relative to `Example.` It is read twice with the same buffers:
-/// nothing may remain in them from the first reading.
+/// The data that words spell, relative to `Example.` The words are read twice with the same
+/// buffers, so that anything left in the buffers by the first reading would show.
 pub(crate) fn read(alloc: Global, rtype: RType, words: &[Word<'_>]) -> Result<Rdata, RdataFault> {
     let origin = Name::read_text(b"Example.", &Name::root()).unwrap_or_default();
     let mut room = DataRoom::new(alloc);

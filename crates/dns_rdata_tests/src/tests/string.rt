@@ -5,7 +5,7 @@ use std::test::Fail;
 
 const LONG: &[u8] = &[b'x'; 256];
 
-// Strings, and their octets, if they are valid.
+// Words, and the data of the string that each spells; `None` if it is invalid.
 const STRINGS: &[(&[u8], Option<&[u8]>)] = &[
     (b"", Some(b"\x00")),
     (b"a\\\"b\\009", Some(b"\x04a\"b\x09")),
@@ -31,7 +31,7 @@ fn is_read(alloc: Global, raw: &[u8], octets: Option<&[u8]>) -> bool {
     )
 }
 
-// The length of the longest string, and an octet 255 times.
+// The data of a longest string: the length 255, and one octet 255 times.
 fn longest(alloc: Global, octet: u8) -> Result<Vec<u8>, AllocError> {
     let mut octets = Vec::new(alloc);
     octets.push(255)?;

@@ -6,8 +6,8 @@ use std::test::Fail;
 // A type without a mnemonic.
 const ANY: RType = RType(65280);
 
-// Whether `\#` and the words after it, either all quoted or none, spell the wanted octets; or have
-// the fault `BadHex`, if no octets are wanted.
+// Whether `\#` and the words `raws`, which are quoted if `quoted` is true, spell the octets
+// `wanted` or, if `wanted` is `None`, fail with `BadHex`.
 fn said(
     alloc: Global,
     raws: &[&[u8]],
@@ -40,7 +40,7 @@ fn marks(rt: HostRuntime) {
     }
 }
 
-// Words, whether they are quoted, and the octets that they spell, if any.
+// Words, whether they are quoted, and the octets that they spell; `None` if they spell none.
 const SAID: &[(&[&[u8]], bool, Option<&[u8]>)] = &[
     (&[b"4", b"C0000201"], false, Some(b"\xc0\x00\x02\x01")),
     (&[b"0"], false, Some(b"")),

@@ -132,7 +132,7 @@ fn most_data(rt: HostRuntime) -> Result<(), Fail> {
     Ok(())
 }
 
-// One word, repeated, without a list of all of them.
+// One word, repeated `left` times. No list of the words is stored.
 #[derive(Clone, Copy)]
 struct Repeated<'w> {
     raw: &'w [u8],
@@ -178,7 +178,8 @@ const REPEATED: &[(RType, &[u8], usize, Result<&[u8], RdataFault>)] = &[
     (RType::A, b"\\#", 5_592_000, Err(RdataFault::BadHex)),
 ];
 
-// Whether repeated words spell these octets, or have this fault. The buffers are reused.
+// Whether repeated words spell these octets, or have this fault. Each call uses the buffers of
+// `room` again.
 fn is_said(
     room: &mut DataRoom,
     rtype: RType,

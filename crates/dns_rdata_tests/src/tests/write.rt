@@ -70,8 +70,8 @@ fn data_written(rt: HostRuntime) {
 }
 
 // The number of octets that are written by calls of at most three octets each, if the call after
-// the first `calls` fails. `None` unless these octets are a beginning of the text, and a failure is
-// counted if and only if they are not all of it.
+// the first `calls` fails. `None` unless these octets are a prefix of the text, and a failure is
+// counted if and only if they are not the whole text.
 fn beginning(alloc: Global, row: (RType, &[u8], &[u8]), calls: u32) -> Option<usize> {
     let (rtype, octets, text) = row;
     let mut sink = Tally::new(Kept::new(alloc, 3, calls));
@@ -88,8 +88,8 @@ fn beginning(alloc: Global, row: (RType, &[u8], &[u8]), calls: u32) -> Option<us
     }
 }
 
-// No text is longer than 40 octets, so at most 40 calls write it. With each call more that works,
-// more of the text is written.
+// No text is longer than 40 octets, so at most 40 calls write it. Each further call that works
+// writes more of the text, until the whole text is written.
 #[test]
 fn each_write_fails(rt: HostRuntime) -> Result<(), Fail> {
     for &row in ROWS {

@@ -10,8 +10,8 @@ use std::io::Write;
 use std::process::Abort;
 use std::test::Fail;
 
-/// The outcome of a session: its result, how often it called `Ends::begin`, what was
-/// written, how many octets were not read, and whether each device failed, with its count.
+/// The outcome of a session: its result, how often it called `Ends::begin`, what was written, how
+/// many octets were not read, and for source and sink whether it failed, and its failure count.
 #[derive(Drop)]
 struct Left {
     answer: Result<u32, StreamFault>,
@@ -26,11 +26,11 @@ struct Left {
 // before one fails, and whether the next message has arrived after each message.
 type Devices = (usize, u32, u32, bool);
 
-// More than a session transfers, and more calls than it makes.
+// More octets than a session transfers, and more calls than it makes.
 const MANY: u32 = 1_000_000;
 
-// The ends of a session that has the next message at hand after each message, or never. Its sink
-// keeps nothing. They count the calls of `begin`.
+// `Ends` that report either after each message that the next message has arrived, or never. The
+// sink keeps nothing, and the calls of `begin` are counted.
 #[derive(Drop)]
 struct Told {
     has_arrived: bool,
@@ -98,7 +98,8 @@ fn has_ended(left: &Left, answer: Result<u32, StreamFault>, replies: &[u8]) -> b
 // A message that gets no reply, because it is shorter than a header.
 const ABSENT: &[u8] = b"\x00\x0b\x12\x34\x00\x00\x00\x01\x00\x00\x00\x00\x00";
 
-// The messages, how many to serve, how many are read, how many octets stay unread, and the replies.
+// The octets sent, the most messages to serve, the number of messages read, the number of octets
+// that stay unread, and the replies.
 type Session<'a> = (&'a [&'a [u8]], u32, u32, usize, &'a [&'a [u8]]);
 
 const SESSIONS: &[Session<'static>] = &[
@@ -135,7 +136,8 @@ fn check_sessions(rt: &impl Abort, alloc: Global, zone: &Zone) -> Result<(), All
     Ok(())
 }
 
-// Sessions in one room, one after another: the messages, how many they are, and the replies.
+// Sessions in one room, one after another: the octets sent, the number of messages served, and the
+// replies.
 const ROOM: &[(&[&[u8]], u32, &[&[u8]])] = &[
     (&[WWW, ABSENT, LONG, ZEROS], 3, &[WWW_REPLY, REFUSED]),
     (&[WWW], 1, &[WWW_REPLY]),
@@ -182,7 +184,8 @@ fn is_cut(alloc: Global, (zone, messages, replies): Asked<'_>, length: usize) ->
     has_ended(&left, Err(StreamFault::Cut), front(replies, written))
 }
 
-// Whether the sink is flushed after the last message asked for: its second call, the flush, fails.
+// Whether the sink is flushed after the last message to serve: the sink's second call, which is
+// that flush, fails.
 fn sends_the_last(alloc: Global, (zone, messages, replies): Asked<'_>) -> bool {
     let left = session(alloc, zone, messages, 1, (512, MANY, 1, true));
     has_ended(&left, Err(StreamFault::SinkFailed), front(replies, 47))
@@ -195,8 +198,8 @@ fn check_cuts(rt: &impl Abort, alloc: Global, asked: Asked<'_>) {
     assert!(rt; sends_the_last(alloc, asked));
 }
 
-// Whether a session serves three messages, or ends well if a read fails: the first message ends
-// after 31 octets, the last one after 75.
+// Whether a session serves three messages or, if a read fails, writes the replies to the messages
+// that it read before. The first message ends after 31 octets, the last after 75.
 fn ends_at_read(
     alloc: Global,
     (zone, messages, replies): Asked<'_>,
@@ -212,8 +215,8 @@ fn ends_at_read(
     has_ended(&left, Ok(3), replies) || has_ended(&left, Err(StreamFault::SourceFailed), replies)
 }
 
-// Whether a session serves three messages, or ends well if a write fails: nothing is read after the
-// message whose reply could not be written.
+// Whether a session serves three messages or, if a write fails, reads nothing after the message
+// whose reply could not be written.
 fn ends_at_write(
     alloc: Global,
     (zone, messages, replies): Asked<'_>,
@@ -239,8 +242,8 @@ fn check_calls(rt: &impl Abort, alloc: Global, asked: Asked<'_>) {
     }
 }
 
-// How many calls of the sink work, how many octets are then not read, and how many are written. The
-// sink is flushed after each message, even after the one without a reply.
+// How many calls of the sink work, how many octets are then not read, and how many octets are
+// written. The sink is flushed after each message, even after the message without a reply.
 const SENDS: &[(u32, usize, usize)] = &[
     (0, 44, 0),
     (1, 44, 47),

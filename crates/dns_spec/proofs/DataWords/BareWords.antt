@@ -10,7 +10,7 @@ pub bare_append : (x y : Octets) → Bare x → Bare y → Bare (x ++ y)
 bare_append [] y h k = k
 bare_append (o ∷ x) y h k = (h.0, bare_append x y h.1 k)
 
--- such texts, joined by such an octet
+-- texts whose octets do not end a word, joined by an octet that does not end a word
 pub bare_joined : (c : ℕ) (f : ℕ → Octets) (xs : List ℕ)
     → is_word_octet c ≡ true → AllByRecursion (λ x. Bare (f x)) xs
     → Bare (join_with_byte c (map f xs))
@@ -38,7 +38,7 @@ pub bare_hex : (ds : List ℕ) → AllByRecursion (λ d. d < 16) ds → Bare (ma
 bare_hex [] below = tt
 bare_hex (d ∷ ds) below = grind (arith, agree_below_at, (bare_hex ds below.1))
 
--- an octet of a word or of a quoted string is not a backslash
+-- if p does not accept the backslash, an octet that p accepts is not a backslash
 pub no_backslash : (p : ℕ → Bool) (o : ℕ) → p 92 ≡ false → p o ≡ true → (o == 92) ≡ false
 no_backslash p o none h = grind (arith, cases_Bool, inl, true≢false, eqb-true, inr)
 

@@ -48,7 +48,7 @@ octets_said f n origin d after said standing = record {
   standing = standing;
 }
 
--- numbers of at most 64 bits, with all their digits
+-- the word written for a number of at most 64 bits
 pub number_front_said : (k : ℕ) (origin : DomainName) (d : Octets)
     → k ≤ 8 → k ≤ length d → Small d → FormSaid (number k) origin d (drop k d)
 number_front_said k origin d short inside small =
@@ -134,7 +134,7 @@ string_front_said origin k d inside small =
       standing = string_standing (take k d) (All-take (λ o. o < 256) k d (small_tail k d small));
     }
 
--- the same for one of the strings of `strings`
+-- the word written for one of the strings of `strings`
 strings_front_said : (origin : DomainName) (k : ℕ) (d : Octets)
     → k ≤ length d → Small (k ∷ d) → FormSaid strings origin (k ∷ d) (drop k d)
 strings_front_said origin k d inside small =

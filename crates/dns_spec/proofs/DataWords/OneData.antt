@@ -9,7 +9,7 @@ pub number_once : (k : ℕ) (text d e : Octets)
 number_once k text d e few (n, small, said, is) (m, small', said', is') =
     grind (arith, pow-le-pow_right, decimal_injective)
 
--- two runs of digits with a dot after each
+-- if a text begins with digits and a dot, these digits and the octets after the dot are determined
 digits_end : (ds es rest others : Octets) → AllDigits 10 ds
     → AllDigits 10 es → ds ++ 46 ∷ rest ≡ es ++ 46 ∷ others → (ds ≡ es) × (rest ≡ others)
 digits_end [] [] rest others h k e = (refl, cc)
@@ -18,7 +18,7 @@ digits_end (c ∷ ds) [] rest others (digit, h) k e = grind (arith, digit_from_v
 digits_end (c ∷ ds) (b ∷ es) rest others (digit, h) (digit', k) e =
     grind (arith, (digits_end ds es rest others h k (cc (e))))
 
--- a text begins with one number in decimal and a dot
+-- a text begins with at most one number in decimal that a dot follows
 pub number_then_dot : (a b : ℕ) (rest others : Octets) → a < 256
     → b < 256 → decimal a ++ 46 ∷ rest ≡ decimal b ++ 46 ∷ others → (a ≡ b) × (rest ≡ others)
 number_then_dot a b rest others small small' e =
@@ -103,7 +103,7 @@ narrow_words : (k : ℕ) (fs : List Field)
 unfolding is_narrow
 narrow_words k fs h = grind (arith, all_alike)
 
--- the fields of words of data have only such numbers
+-- in the fields that words of data have to spell, numbers have at most 32 bits
 pub narrow_fields : (t k : ℕ) (fs : List Field)
     → word_fields_of t k ≡ Some fs → list_all is_narrow fs ≡ true
 unfolding is_narrow

@@ -69,7 +69,8 @@ fields_said origin (f ∷ fs) d xs counted h small =
     field_said origin f fs d c.part c.rest each.0 c.front small
     (fields_said origin fs c.rest c.others each.1 c.more after)
 
--- if all fields of a type are such fields, they are its fields for any number of words
+-- if each of the fields is written as one word, words have to spell these fields, however many
+-- words there are
 pub words_counted : (k : ℕ) (fs : List Field) → list_all is_counted fs ≡ true → word_fields k fs ≡ fs
 words_counted k fs counted = grind arith
 

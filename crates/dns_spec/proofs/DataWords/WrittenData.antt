@@ -36,7 +36,7 @@ pub all_strings : (os rest : Octets) (part : Part) → strings_front os ≡ Some
     → (0 < length os) × (are_strings 0 os ≡ true) × (octets os ≡ part) × (rest ≡ [])
 all_strings os rest part h = grind (arith, cond_some, and_parts, eqb-false, not-true)
 
--- a part, and the octets after it, are the whole
+-- a part and the octets after it are all the octets
 run_whole : (k : ℕ) (os : Octets) (part : Part) (rest : Octets)
     → octets_front k os ≡ Some (part, rest) → os ≡ part_octets part ++ rest
 run_whole k os part rest h = grind (arith, front_taken, octets_part)

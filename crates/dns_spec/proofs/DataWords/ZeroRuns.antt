@@ -1,4 +1,4 @@
--- The longest run of zero groups is at the place that the definition gives.
+-- The longest run of zero groups begins at the index that `longest_place` gives.
 use Rattle.dns_spec.proofs.Common.{◌≡◌, ℕ, zero, suc, ◌+◌, ◌<◌, ◌≤◌, ◌⊎◌, inl, inr, max, Bool, true, false, ◌==◌, List, [], ◌∷◌, ◌++◌, length, take, drop, get_or, replicate, fold, refl, sym, ◌∙◌, ap, subst, arith, append_assoc, take-append-drop, length-drop, cases_Bool, cases_lt, eqb-true, eq-eqb, true≢false, drop-drop, prefix_len, position_or_len, prefix_len-le-length, fails_before_first, passes_at_first, zero_runs, longest_run, longest_place}
 
 abbrev pub is_zero : ℕ → Bool
@@ -14,7 +14,8 @@ run_at [] i inside = absurd (omega (arith, inside))
 run_at (g ∷ gs) zero inside = refl
 run_at (g ∷ gs) (suc i) inside = run_at gs i (omega (arith, inside))
 
--- n is one of the numbers, and its place; the greatest of a and of numbers is a or one of these
+-- n is one of the numbers, at the index `place`; and the greatest of a and the numbers is either a
+-- or one of the numbers
 record Reached (xs : List ℕ) (n : ℕ) : Type 0 where
   place : ℕ
   inside : place < length xs
@@ -32,11 +33,11 @@ greatest a (x ∷ xs) = by_cases (greatest (max a x) xs) (cases_lt a x)
         inr (record { place = 0; inside = omega arith; is = omega (arith, e, more) })
     by_cases (inl e) (inr less) = inl (omega (arith, e, less))
 
--- so the place of such a number is found
+-- so the index of a number in the list is found
 found : (n : ℕ) (xs : List ℕ) → Reached xs n → position_or_len (λ k. k == n) xs < length xs
 found n xs r = grind (arith, cases_lt, inl, inr, fails_before_first, true≢false, eq-eqb)
 
--- the place that the definition gives is inside, and the run there has the greatest length
+-- `longest_place` is an index of the list, and the run that begins there has the greatest length
 pub record LongestRun (gs : List ℕ) : Type 0 where
   pub inside : longest_place gs < length gs
   pub long : prefix_len is_zero (drop (longest_place gs) gs) ≡ longest_run gs

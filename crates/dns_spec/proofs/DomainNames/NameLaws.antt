@@ -29,7 +29,7 @@ is_name-IsName n labels fits = and_from _ _ labels (le-leb _ _ fits)
 pub is_name-tail : (l : Octets) (n : DomainName) → is_name (l ∷ n) ≡ true → is_name n ≡ true
 is_name-tail l n ok = grind (arith, IsName-is_name, is_name-IsName, and_parts, length-append)
 
--- its first label is a label
+-- the first label of a name is a valid label
 pub is_label-head : (l : Octets) (n : DomainName) → is_name (l ∷ n) ≡ true → is_label l ≡ true
 is_label-head l n ok = (and_parts (is_label l) _ (IsName-is_name (l ∷ n) ok).labels).0
 
@@ -38,7 +38,7 @@ pub length-wire-push : (n : DomainName) (l : Octets)
 length-wire-push [] l = omega (arith, length-append l (0 ∷ []))
 length-wire-push (k ∷ n) l = grind (arith, length-append, (length-wire-push n l))
 
--- with one more label it is a name, if there is room
+-- a name with a label added at its end is a name, if it has at most 255 octets on the wire
 pub is_name-push : (n : DomainName) (l : Octets) → is_name n ≡ true
     → is_label l ≡ true → length (wire (n ++ l ∷ [])) ≤ 255 → is_name (n ++ l ∷ []) ≡ true
 is_name-push n l ok is_l fits = grind (arith, common_steps)
@@ -133,7 +133,7 @@ pub at_or_below-length-wire : (n a : DomainName)
     → at_or_below n a ≡ true → length (wire a) ≤ length (wire n)
 at_or_below-length-wire n a h = grind (arith, same-length-wire, and_parts, length-wire-drop)
 
--- if n is not longer on the wire than a, it is at or below a only if it is the same
+-- if n is not longer on the wire than a, n is at or below a only if n and a are the same
 pub at_or_below-short : (n a : DomainName)
     → length (wire n) ≤ length (wire a) → at_or_below n a ≡ same n a
 at_or_below-short [] [] h = refl

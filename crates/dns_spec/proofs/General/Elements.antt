@@ -22,7 +22,7 @@ pub each_weaker : {X : Type 0} (P Q : X → Type 0) (xs : List X)
 each_weaker P Q [] f e = tt
 each_weaker P Q (x ∷ xs) f e = (f x e.0, each_weaker P Q xs f e.1)
 
--- if two properties imply a third
+-- if two properties hold for each element, so does a third property that they imply
 pub each_both : {X : Type 0} (P Q S : X → Type 0) (xs : List X)
     → ((x : X) → P x → Q x → S x) → AllByRecursion P xs → AllByRecursion Q xs → AllByRecursion S xs
 each_both P Q S [] f p q = tt
@@ -33,7 +33,8 @@ pub each_append : {X : Type 0} (P : X → Type 0) (xs ys : List X)
 each_append P [] ys e f = f
 each_append P (x ∷ xs) ys e f = (e.0, each_append P xs ys e.1 f)
 
--- for the first elements, the last elements, one more element, and parts of a list
+-- what holds for each element holds for the first elements, for the last elements, with one more
+-- element, and for parts of a list
 pub each_front : {X : Type 0} (P : X → Type 0) (xs ys : List X)
     → AllByRecursion P (xs ++ ys) → AllByRecursion P xs
 each_front P [] ys e = tt
@@ -61,7 +62,7 @@ each_drop P zero xs e = e
 each_drop P (suc k) [] e = e
 each_drop P (suc k) (x ∷ xs) e = each_drop P k xs e.1
 
--- one more element, at a place
+-- one more element, inserted at the index i
 pub each_put : {X : Type 0} (P : X → Type 0) (xs : List X) (i : ℕ) (x : X) → AllByRecursion P xs
     → P x → AllByRecursion P (take i xs ++ x ∷ drop i xs)
 each_put P xs zero x e p = (p, e)

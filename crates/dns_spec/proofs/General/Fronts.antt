@@ -22,17 +22,18 @@ halves p (x ∷ xs) (suc i) l h =
           (λ t. cond (not t) (x ∷ filter (λ y. not (p y)) xs) (filter (λ y. not (p y)) xs)) here),
     )
 
--- if the passing elements of a list come first, they also come first in its beginnings
+-- if the passing elements of a list come first, they also come first in each of its prefixes
 pub parted_take : {X : Type 0} (p : X → Bool) (xs : List X) (n : ℕ) → IsPartitionedBy p xs
     → IsPartitionedBy p (take n xs)
 parted_take p xs n parts i j d a b e = grind (arith, length-take, get_or-take)
 
--- if the passing elements of a list come first, they also come first in its rests
+-- if the passing elements of a list come first, they also come first without the first k elements
 pub parted_drop : {X : Type 0} (p : X → Bool) (xs : List X) (k : ℕ) → IsPartitionedBy p xs
     → IsPartitionedBy p (drop k xs)
 parted_drop p xs k h i j d a b e = grind (arith, length-drop, get_or-drop)
 
--- the first a elements pass, and of the rest the first b are those that pass
+-- if the first a elements pass, and of the elements after them exactly the next b, then the first
+-- a + b elements are those that pass
 pub both_fronts : {X : Type 0} (p : X → Bool) (xs : List X) (a b : ℕ)
     → AllByRecursion (λ x. p x ≡ true)
     (take a xs) → take b (drop a xs) ≡ filter p (drop a xs) → take (a + b) xs ≡ filter p xs
@@ -68,14 +69,14 @@ take_last k xs long =
     subst (λ j. take j (drop (length xs - k) xs) ≡ drop (length xs - k) xs) all
     (take-length (drop (length xs - k) xs))
 
--- a beginning of at most n elements is a beginning of the first n elements
+-- a prefix of at most n elements is a prefix of the first n elements
 pub looked_at : {X : Type 0} (n : ℕ) (front more : List X)
     → length front ≤ n → (rest : List X) × (take n (front ++ more) ≡ front ++ rest)
 looked_at n [] more short = (take n more, refl)
 looked_at zero (o ∷ front) more short = absurd (omega (arith, short))
 looked_at (suc n) (o ∷ front) more short = grind (arith, (looked_at n front more))
 
--- a beginning stays the same if elements after it are overwritten
+-- a prefix stays the same if only elements after it are overwritten
 pub take_patched : (a k : ℕ) (b x b' : List ℕ)
     → b' ≡ take k b ++ x → a ≤ k → k ≤ length b → take a b' ≡ take a b
 take_patched a k b x b' e low inside =
@@ -90,7 +91,7 @@ take_patched a k b x b' e low inside =
 pub drop_one : (n o : ℕ) (text : List ℕ) → drop (1 + n) (o ∷ text) ≡ drop n text
 drop_one n o text = let next : 1 + n ≡ suc n = omega arith in ap (λ m. drop m (o ∷ text)) next
 
--- the first n elements stay the same if a list is continued, and the rest is continued
+-- if a list is continued, the elements after its first n elements stay, and are continued too
 pub dropped_more : (n : ℕ) (text more : List ℕ) (x : ℕ) (xs : List ℕ)
     → drop n text ≡ x ∷ xs → drop n (text ++ more) ≡ x ∷ (xs ++ more)
 dropped_more zero text more x xs e = ap (λ t. t ++ more) e

@@ -10,7 +10,8 @@ fold_from k (x ∷ xs) = omega (arith, fold_from (k + x) xs, fold_from (0 + x) x
 pub sum_cons : (x : ℕ) (xs : List ℕ) → sum (x ∷ xs) ≡ x + sum xs
 sum_cons x xs = omega (arith, fold_from (0 + x) xs)
 
--- numbers of a first digit and a rest: the first digits decide, or else the rests
+-- comparing x * p + k with y * p + l, for k and l below p: x and y decide, or k and l if x and y
+-- are equal
 pub lesser_parts : (p x y k l : ℕ) → k < p → l < p → x * p + k < y * p + l
     → (x < y) ⊎ ((x ≡ y) × (k < l))
 lesser_parts p x y k l s t h = go (cases_order x y)

@@ -33,7 +33,7 @@ cmp_self R h [] = refl
 cmp_self R h (x ∷ xs) = rw (h x) (cmp_self R h xs)
 
 module _ {A : Type 0} (R : A → A → Ordering) where
-  -- beginnings of equal length are compared before what follows them
+  -- prefixes of equal length are compared before what follows them
   pub slice_cmp-append : (xs ys us vs : List A) → length xs ≡ length ys
       → slice_cmp R (xs ++ us) (ys ++ vs) ≡ ordering_then (slice_cmp R xs ys) (slice_cmp R us vs)
   slice_cmp-append [] [] us vs e = refl
@@ -42,7 +42,7 @@ module _ {A : Type 0} (R : A → A → Ordering) where
   slice_cmp-append (x ∷ xs) (y ∷ ys) us vs e =
       grind (arith, (slice_cmp-append xs ys us vs (omega arith)), then_assoc)
 
-  -- the first elements of both lists are compared last
+  -- if lists of equal length are reversed, their first elements are compared last
   pub slice_cmp-reverse-cons : (x y : A) (xs ys : List A) (o : Ordering) → length xs ≡ length ys
       → ordering_then (slice_cmp R (reverse xs) (reverse ys)) (ordering_then (R x y) o)
       ≡ ordering_then (slice_cmp R (reverse (x ∷ xs)) (reverse (y ∷ ys))) o

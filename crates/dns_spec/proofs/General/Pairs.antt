@@ -25,7 +25,7 @@ pub pairs_filter : {X : Type 0} (R : X → X → Type 0) (p : X → Bool) (xs : 
 pairs_filter R p [] h = tt
 pairs_filter R p (x ∷ xs) h = grind (arith, each_filter, (pairs_filter R p xs h.1))
 
--- what a binary search requires
+-- if each element before a passing one passes too, a binary search is possible
 pub parted : {X : Type 0} (p : X → Bool) (xs : List X)
     → Pairs (λ x y. p y ≡ true → p x ≡ true) xs → IsPartitionedBy p xs
 parted p [] h i j d l m e = absurd (omega arith)
@@ -71,7 +71,7 @@ module _ {X : Type 0} (cmp : X → X → Ordering) (total : IsTotalOrder cmp) wh
   pub sorted_pairs : (xs : List X) → sort_by cmp xs ≡ xs → Pairs NotAfter xs
   sorted_pairs xs e = subst (Pairs NotAfter) e (sort_pairs xs)
 
-  -- and a list in order is sorted
+  -- and sorting leaves a list that is in order unchanged
   pub first_in : (x : X) (xs : List X) → AllByRecursion (NotAfter x) xs
       → insert_by cmp x xs ≡ x ∷ xs
   first_in x [] e = refl

@@ -1,14 +1,14 @@
--- What is at a place of a list.
+-- What is at an index of a list.
 use Rattle.dns_spec.proofs.Common.{◌≡◌, List, Some, [], ap, arith, drop, length, none-some, refl, same_Some, slice_get, suc, take, take-append-le, zero, ℕ, ◌++◌, ◌+◌, ◌<◌, ◌∷◌, ◌≤◌}
 
--- an element at a place stays, whatever follows
+-- the element at an index stays the same if the list is continued
 pub get_more : {A : Type 0} (xs ys : List A) (i : ℕ) (x : A)
     → slice_get xs i ≡ Some x → slice_get (xs ++ ys) i ≡ Some x
 get_more [] ys i x at = absurd (none-some x at)
 get_more (y ∷ xs) ys zero x at = at
 get_more (y ∷ xs) ys (suc i) x at = get_more xs ys i x at
 
--- the element at a place of a part is at a place of the whole
+-- an element of a part of a list, by its index in the list
 pub get_taken : (m k : ℕ) (xs : List ℕ) → k < m → slice_get (take m xs) k ≡ slice_get xs k
 get_taken zero k xs h = absurd (omega arith)
 get_taken (suc m) k [] h = refl
@@ -29,7 +29,7 @@ drop_get [] i k at = absurd (none-some k at)
 drop_get (x ∷ b) zero k at = ap (λ z. z ∷ b) (same_Some x k at)
 drop_get (x ∷ b) (suc i) k at = grind (arith, (drop_get b i k))
 
--- elements from a place on stay, whatever follows
+-- k elements from the index i on stay the same if the list is continued
 pub take_within : (b x : List ℕ) (i k : ℕ)
     → i + k ≤ length b → take k (drop i (b ++ x)) ≡ take k (drop i b)
 take_within b x zero k h = take-append-le k b x (omega (arith, h))

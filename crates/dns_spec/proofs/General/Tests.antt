@@ -45,7 +45,7 @@ pub same_filter : {X : Type 0} (p : X → Bool) (xs ys : List X)
     → SameCounts xs ys → SameCounts (filter p xs) (filter p ys)
 same_filter p xs ys c q = grind (arith, filter_twice)
 
--- the values of a function on two such lists are the same
+-- if each test passes equally many elements of two lists, a function has the same values on both
 module _ {X Y : Type 0} (f : X → Y) (eq : Y → Y → Bool)
     (decides : (a b : Y) → (eq a b ≡ true → a ≡ b) × (a ≡ b → eq a b ≡ true)) where
   pub any_value : (a : Y) (xs : List X) → Among a (map f xs) → list_any (λ x. eq a (f x)) xs ≡ true
@@ -127,7 +127,7 @@ pub find-map : {A B : Type 0} (f : A → B) (test : B → Bool) (xs : List A)
 find-map f test [] = refl
 find-map f test (x ∷ xs) = grind (arith, (find-map f test xs))
 
--- the same, if the images of a list are the elements of a table
+-- the law above for a table that consists of the images of a list
 pub found_row : {R A B : Type 0} (v : R → A) (f : A → B) (test : B → Bool)
     (xs : List A) (table : List B) (r : Option R) → option_map v r ≡ find (λ x. test (f x)) xs
     → map f xs ≡ table → option_map (λ x. f (v x)) r ≡ find test table

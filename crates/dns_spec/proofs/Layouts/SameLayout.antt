@@ -106,7 +106,7 @@ same_data (octets o ∷ ps) ms p low ends =
     record { same = ap (laid_front o []) r.same; low = r.low }
 same_data (name n ∷ ps) ms p low ends = same_name ms p n ps low (same_data ps) ends
 
--- the same for a record
+-- both layouts of a record are the same
 same_record : (ms : List Placed) (p : ℕ) (r : ResourceRecord)
     → Low ms → Ends p (record_laid ms p r).written (record_by place_of ms p r).written
     → SameData ms (record_laid ms p r) (record_by place_of ms p r)

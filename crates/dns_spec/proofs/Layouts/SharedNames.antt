@@ -1,5 +1,5 @@
--- A name that shares a suffix with an earlier name is read back, and the suffixes that no earlier
--- name has are at the places that `place_of` gives to later names.
+-- A name that shares a suffix with an earlier name is read back. A suffix of it that no earlier
+-- name has begins at the place that `place_of` gives for later names.
 use Rattle.dns_spec.proofs.Common.{◌≡◌, ℕ, ◌+◌, ◌-◌, ◌/◌, ◌%◌, ◌<◌, ◌≤◌, Bool, true, false, cond, nat_le, ◌⊎◌, inl, inr, List, [], ◌∷◌, ◌++◌, length, take, drop, Option, None, Some, refl, sym, ap, ap₂, ◌∙◌, subst, arith, append_assoc, length-append, take-append-drop, drop_at, and_parts, and_from, le-leb, leb-true, false≢true, none-some, same_Some, cond_some, list_all, Octets, DomainName, wire, is_label, is_name, names_equal, last_labels, RunAt, ends, goes_on, jumps, reach, pointer, Placed, has_suffix, suffix_place, place_of, reached, shared_place, shared_octets, octets_by, name_at}
 use Rattle.dns_spec.proofs.Messages.Places.{Stands, stands_front, stands_rest, stands_after, stands_within, stands_get, stands_take, label_parts}
 use Rattle.dns_spec.proofs.Messages.NameReading.{name_computed}
@@ -47,7 +47,7 @@ place_again (m ∷ ms) n s h e = go (has_suffix m.0 s) refl e (place_again ms n 
     go true p q f = absurd (none-some (suffix_place m s) (sym q))
     go false p q f = other (has_suffix m.0 n) refl p (f q)
 
--- the place of a suffix among earlier names and one more name: in the last name only if no earlier
+-- the place of a suffix among earlier names and one more name: in that last name only if no earlier
 -- name has the suffix
 pub place_pushed : (ms : List Placed) (m : Placed) (s : DomainName) (p : ℕ)
     → place_of (ms ++ m ∷ []) s ≡ Some p → (place_of ms s ≡ Some p)

@@ -208,7 +208,7 @@ pub name_at_computes : (b : Octets) (i : ℕ) (n : DomainName) (e : ℕ)
     → (name_at b i ≡ Some (n, e)) ↔ NameAt b i n e
 name_at_computes b i n e = grind (arith, name_at_is, sound_run, sound, name_computed)
 
--- At most one name is at a place, with one end.
+-- At most one name is at a place, and the place after it is unique.
 pub one_name : (b : Octets) (i : ℕ) (n m : DomainName) (e f : ℕ)
     → NameAt b i n e → NameAt b i m f → (n ≡ m) × (e ≡ f)
 one_name b i n m e f h g = some_pair_parts n m e f (sym (name_computed b i n e h) ∙ name_computed b i m f g)

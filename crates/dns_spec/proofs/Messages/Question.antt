@@ -1,4 +1,5 @@
--- A question ends by octet 271: directly after the header, a name is written out.
+-- A datagram with a question has at most 271 octets, since the name directly after the header has
+-- no pointer.
 use Rattle.dns_spec.proofs.Common.{◌≡◌, ℕ, ◌+◌, ◌≤◌, eqb, nat_le, length, Option, None, Some, refl, arith, length-append, length-drop, and_parts, leb-true, eqb-true, none-some, cond_some, length-take-le, list_all, Octets, DomainName, wire, is_label, MessageQuestion, RunAt, NameAt, name_at, ends, goes_on, jumps, field16, question_of, question_at}
 use Rattle.dns_spec.proofs.Messages.NameReading.{name_at_computes}
 

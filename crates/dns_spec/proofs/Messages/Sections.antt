@@ -3,13 +3,13 @@ use Rattle.dns_spec.proofs.Common.{◌≡◌, ℕ, suc, ◌+◌, ◌-◌, ◌≤
 use Rattle.dns_spec.proofs.General.Options.{and_then_some, then_is}
 
 module _ {X : Type 0} (read : ℕ → Option (X × ℕ)) where
-  -- one, and the others after it
+  -- one element, and the others after it
   pub several_more : (k i j e : ℕ) (x : X) (xs : List X) → read i ≡ Some (x, j)
       → several read k j ≡ Some (xs, e) → several read (suc k) i ≡ Some (x ∷ xs, e)
   unfolding several
   several_more k i j e x xs one others = grind (arith, then_is)
 
-  -- some of them, and the others after these
+  -- the elements xs, and the elements ys after them
   pub several_split : (xs ys : List X) (i e : ℕ)
       → several read (length (xs ++ ys)) i ≡ Some (xs ++ ys, e) → (j : ℕ)
       × (several read (length xs) i ≡ Some (xs, j)) × (several read (length ys) j ≡ Some (ys, e))
@@ -31,7 +31,7 @@ module _ (b : Octets) where
       → field_at b p i e ≡ Some (part_octets part, e - length rest)
   field_own p i e os rest part other own front = grind arith
 
-  -- a field, and the others after it
+  -- a field, and the other fields after it
   pub fields_more : (p : Field) (ps : List Field) (i j e : ℕ) (o rest : Octets)
       → field_at b p i e ≡ Some (o, j) → fields_at b ps j e ≡ Some rest
       → fields_at b (p ∷ ps) i e ≡ Some (o ++ rest)

@@ -16,7 +16,8 @@ counted_escape [] = 0
 counted_escape (a ∷ text) =
     cond (is_ascii_digit a) (counted_digits (a ∷ text)) (cond (is_printable a) 1 0)
 
--- the number of octets of an escape after its backslash, or none if there is no escape
+-- the number of octets of an escape after its backslash; `None` for 0, since then there is no
+-- escape
 abbrev pub left_by : ℕ → Option ℕ
 left_by k = if k == 0 then None else Some k
 

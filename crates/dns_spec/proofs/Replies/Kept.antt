@@ -1,4 +1,4 @@
--- The sets that are kept of a list are its longest beginning that fits the limit.
+-- The sets that are kept of a list are the longest prefix of the list that fits the limit.
 use Rattle.dns_spec.proofs.Common.{◌≡◌, ℕ, zero, suc, ◌<◌, ◌≤◌, Bool, true, false, cond, nat_le, ◌⊎◌, inl, inr, List, [], length, take, refl, sym, ap, ◌∙◌, arith, eq-or-lt_of_le, false≢true, length-take-le, Item, kept, greatest}
 
 pub greatest_bound : (test : ℕ → Bool) (n : ℕ) → greatest test n ≤ n
@@ -35,7 +35,7 @@ module _ (size_of : List Item → ℕ) (limit : ℕ) (sets : List Item) where
       (kept size_of limit sets) ≡ greatest (λ k. nat_le (size_of (take k sets)) limit) (length sets)
   length-kept = grind (arith, length-take-le, greatest_bound)
 
-  -- no beginning longer than the kept sets fits
+  -- no prefix longer than the kept sets fits
   pub kept_longest : (k : ℕ)
       → k ≤ length sets → size_of (take k sets) ≤ limit → k ≤ length (kept size_of limit sets)
   kept_longest k h fits = grind (arith, greatest_most, length-kept)

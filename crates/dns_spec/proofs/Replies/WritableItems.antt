@@ -251,7 +251,7 @@ module _ (z : ZoneContents)
   pub outcome_rcode : (outcome z q t).rcode < 16
   outcome_rcode = (outcome_right z fits q t h).rcode
 
-  -- The sets of an answer are in order, and their records can be written;
+  -- The sets of an answer are in the order of their sections, and their records fit a message.
   items_stood : Ordered (items z q t)
       × AllByRecursion (λ (i : Item). Writable i.records) (items z q t)
   unfolding items
@@ -275,7 +275,7 @@ module _ (z : ZoneContents)
             (stood_records additional more e),
       )
 
-  -- and the same holds for a beginning of them.
+  -- A prefix of the sets is in the order of the sections, and its records fit a message.
   pub items_in_order : (k : ℕ) → sections_in_order (take k (items z q t)) ≡ true
   items_in_order k =
       in_order (take k (items z q t)) (ordered_take k (items z q t) items_stood.0)

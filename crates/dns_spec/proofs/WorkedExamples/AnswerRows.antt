@@ -77,13 +77,13 @@ answer_rows :
     × (summary (codes "out.example") 1 ≡ (0, true, 1, in_answer (codes "out.example") 5 1))
     -- a wildcard without records of its own gives a negative answer, not a name error
     × (summary (codes "q.v.example") 1 ≡ (0, true, 1, soa))
-    -- a wildcard does not apply below another name that exists
+    -- `*.e` does not apply to a name below `c.e`, since `c.e` exists
     × (summary (codes "z.c.e.example") 1 ≡ (3, true, 1, soa))
-    -- but it applies to other names
+    -- but `*.e` applies to other names below `e`
     × (summary (codes "z.e.example") 1 ≡ (0, true, 1, in_answer (codes "z.e.example") 1 1))
-    -- also to a name with several more labels
+    -- also to names with several more labels
     × (summary (codes "y.z.e.example") 1 ≡ (0, true, 1, in_answer (codes "y.z.e.example") 1 1))
-    -- an alias by a wildcard
+    -- an alias that a wildcard gives
     × (summary (codes "q.k.example") 1
     ≡ (0, true, 2, in_answer (codes "q.k.example") 5 1 ++ in_answer (codes "www.example") 1 1))
     -- a wildcard asked for by its own name
@@ -91,11 +91,11 @@ answer_rows :
     ≡ (0, true, 2, in_answer (codes "*.k.example") 5 1 ++ in_answer (codes "www.example") 1 1))
     -- an alias that is asked for is not followed
     × (summary (codes "alias.example") 5 ≡ (0, true, 1, in_answer (codes "alias.example") 5 1))
-    -- nor is it followed if all types are asked for
+    -- nor is an alias followed if all types are asked for
     × (summary (codes "alias.example") 255 ≡ (0, true, 1, in_answer (codes "alias.example") 5 1))
     -- glue is not an answer
     × (summary (codes "ns.sub.example") 1 ≡ (0, false, 2, referral))
-    -- nor are the servers at a cut
+    -- the NS records of a cut are not an answer either
     × (summary (codes "sub.example") 2 ≡ (0, false, 2, referral))
     -- not even if all types are asked for
     × (summary (codes "sub.example") 255 ≡ (0, false, 2, referral))
@@ -105,14 +105,14 @@ answer_rows :
     -- the address set of a target that appears twice is not repeated
     × (summary (codes "twice.example") 15
     ≡ (0, true, 1, in_answer (codes "twice.example") 15 2 ++ added (codes "www.example") 1 1))
-    -- a name without the type asked for
+    -- the name exists, but owns no records of the type asked for
     × (summary (codes "www.example") 16 ≡ (0, true, 1, soa))
     -- if all types of the origin are asked for, NS has a lower type number than SOA
     × (summary (codes "example") 255
     ≡ (0, true, 1, in_answer (codes "example") 2 1 ++ added (codes "ns.example") 1 1))
     -- an empty non-terminal gives a negative answer, even if all types are asked for
     × (summary (codes "w.example") 255 ≡ (0, true, 1, soa))
-    -- additional addresses in the order of their targets
+    -- additional addresses are in the order of their targets
     × (summary (codes "mm.example") 15
     ≡ (
       0,

@@ -41,7 +41,7 @@ check_rows :
     (reported (codes "sub.example") 10 ∷ [])
     -- a mail exchange that is an alias
     × With (exchange ∷ []) (reported (codes "example") 11 ∷ [])
-    -- a cut at a wildcard, so its TXT set is not allowed either
+    -- NS records at a wildcard make it a cut, so the TXT set there is not allowed either
     × With (server (under (codes "*.w")) (codes "ns") ∷ [])
     (reported (codes "*.w.example") 12 ∷ reported (codes "*.w.example") 13 ∷ [])
     -- a name of another zone

@@ -31,7 +31,7 @@ command_rows :
     AskToCheck (then_zone []) (options false false) zone
     × AskToCheck (then_zone (codes "--quiet" ∷ codes "--print" ∷ [])) (options true true) zone
     × AskToCheck (then_zone (codes "--print" ∷ codes "--quiet" ∷ [])) (options true true) zone
-    -- the server, over each transport
+    -- the server: for lines within the limit of each transport, and for turns over UDP
     × AskToServe (then_zone (codes "once" ∷ [])) (by_lines udp) zone
     × AskToServe (then_zone (codes "once" ∷ codes "--tcp" ∷ [])) (by_lines tcp) zone
     × AskToServe (then_zone (codes "udp" ∷ codes "127.0.0.1:53" ∷ codes "1000000" ∷ []))

@@ -1,5 +1,5 @@
--- Words and data, text and octets, computed from the definitions; relations between them are proved
--- or refuted.
+-- Which data words spell, how data is written, and the faults of words that spell no data, computed
+-- from the definitions.
 use Rattle.dns_spec.proofs.Common.{◌≡◌, ℕ, zero, suc, ◌<◌, ◌^◌, List, [], ◌∷◌, ◌++◌, true, false, refl, sym, ◌∙◌, ap, length, codes, decimal, get_or, arith, digits, false≢true, inl, inr, none-some, same_Some, Octets, labels_from, SpellsName, octet_text, type_by_mnemonic, type_text, Word, Says, SaysWord, SaysUnknown, DataFaultIs, number, SpellsString, hex_octets, ipv6_groups, SaysIpv6, data_text, None, Some, first_decimal, cut, type_a, type_hinfo, type_mx, type_txt, type_aaaa, type_srv, Valid, valid, parts, octets, name, lower_case}
 use Rattle.dns_spec.proofs.WorkedExamples.Readings.{Rows, SaysOf, are_found, form_in, found_is, unknown_in, said_in, string_in, name_in}
 use Rattle.dns_spec.proofs.WorkedExamples.Zones.{hex, dotted, example, under}
@@ -30,7 +30,7 @@ said_rows : Rows SaysOf (
     ∷ ((65280, mark ∷ bare (codes "0") ∷ []), [])
     -- a string with escapes
     ∷ ((type_txt, quoted escaped ∷ []), hex (codes "0461226209"))
-    -- a mail exchange relative to the origin, in lower case
+    -- a mail exchange relative to the origin; its data is in lower case
     ∷ (
       (type_mx, bare (codes "10") ∷ bare (codes "Mail") ∷ []),
       hex (codes "000a 046d61696c 076578616d706c65 00"),
@@ -77,7 +77,8 @@ data_rows :
     × Writes type_aaaa (codes "0001 0000 0000 0002 0003 0000 0000 0000") (codes "1:0:0:2:3::")
     -- eight groups leave nothing for `::`
     × (ipv6_groups (codes "1:2:3:4:5:6:7:8::") ≡ None)
-    -- an IPv4 address is not a group
+    -- an IPv4 address is not a group; a second `::`, a group of five digits and a colon in front
+    -- are not allowed either
     × (ipv6_groups (codes "::1.2.3.4") ≡ None)
     × (ipv6_groups (codes "1::2::3") ≡ None)
     × (ipv6_groups (codes ":::") ≡ None)

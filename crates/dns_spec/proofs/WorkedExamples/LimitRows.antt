@@ -1,12 +1,12 @@
--- Texts beyond a limit: with one octet too many, and with one record too many.
+-- Texts beyond a limit: with too many octets, and with one record too many.
 use Rattle.dns_spec.proofs.Common.{◌≡◌, ℕ, zero, suc, ◌+◌, ◌*◌, ◌<◌, ◌≤◌, inl, true, false, List, [], ◌∷◌, ◌++◌, Option, None, Some, refl, sym, ◌∙◌, ap, subst, codes, length, nat_le, nat_lt, take, drop, arith, lit≤, length-append, le-ltb, MatchOption, take-append_seam, drop-append_seam, and_parts, lt-ltb, ltb-true, le-leb, lt-leb, Octets, SpellsName, Token, blank, word, line_end, most_octets, is_blank, token_front, TokensThen, run_length, Entry, ended, cut_entries, with_end, whole_text, beginning, extent_by, stop_fault, stop_at, bad_escape, bad_octet, bad_owner, too_long, too_many_records, FileFault, no_words, KindGives, faulty, gives, fault_at, most_records, OriginIs, NameIs, IsRecord, is_record, line_after, Fields, fields, EntryGives, EntriesMean, Means, cut, type_txt, Word, ResourceRecord, digits, list_all, prefix_len, filter, append_assoc, take_all}
 use mathlib.Core.Bool.{xor}
 use Rattle.dns_spec.proofs.ZoneTexts.GivenRecords.{record_given, record_by_count, given_then}
 use Rattle.dns_spec.proofs.WorkedExamples.Readings.{data_in, found_is}
 use Rattle.dns_spec.proofs.WorkedExamples.Zones.{example}
 
--- Copies of one line, which states a record, up to one too many. The number of lines is a
--- variable, so the check does not compute all lines.
+-- The text is copies of one line, which states a record. The number of lines is a variable here, so
+-- that not all lines are computed when the proof is checked.
 abbrev line_tokens : List Token
 line_tokens =
     word (codes "@") ∷ blank ∷ word (codes "7") ∷ blank ∷ word (codes "TXT") ∷ blank
@@ -16,7 +16,7 @@ line_tokens =
 abbrev line_entry : Entry
 line_entry = ended line_tokens
 
--- n lines, their tokens, their entries, and the entries before a line
+-- n lines, the tokens of n lines, the entries of n lines, and the k entries before a line
 lines : ℕ → Octets
 lines zero = []
 lines (suc n) = codes "@ 7 TXT a\n" ++ lines n
@@ -53,7 +53,7 @@ lines_ended zero = refl
 lines_ended (suc zero) = refl
 lines_ended (suc (suc n)) = ap (λ es. line_entry ∷ es) (lines_ended (suc n))
 
--- the origin in force, the number of records before a line, and the number of the line
+-- after k lines: the origin in force, the number of records so far, and the number of the next line
 origin_kept : (k : ℕ) → OriginIs example (earlier k) example
 unfolding earlier
 origin_kept zero = refl
@@ -121,7 +121,7 @@ lines_mean (suc n) k e =
     given_then example (earlier k) line_entry (entries_of_lines (suc n)) (line_record ∷ []) _
     (line_given k (omega (arith, e))) (lines_mean n (suc k) (omega (arith, e)))
 
--- n lines of records, and one more
+-- a text with one line more than `most_records` has the fault `R14` on its last line
 many_lines : (n : ℕ) → n ≡ most_records
     → Means example (lines (suc n)) (fault_at too_many_records (suc most_records))
 unfolding earlier
@@ -144,7 +144,7 @@ many_lines n all =
       lines_mean n 0 (omega (arith, all)),
     )
 
--- record 100,001
+-- record 100,001 is one too many
 one_record_too_many : Means example (lines 100001) (fault_at too_many_records 100001)
 one_record_too_many = many_lines 100000 refl
 
@@ -165,8 +165,8 @@ blanks_then (o ∷ text) rest some h none =
     (ap (λ k. Some (blank, drop k (text ++ rest))) (blanks_before text rest parts.1 none)
     ∙ ap (λ r. Some (blank, r)) (drop-append_seam text rest))
 
--- A text of blanks, followed by the octets `ends` up to the limit and by more octets: if no token
--- begins with `ends`, they decide the fault.
+-- The fault of a text of blanks, followed by the octets `ends` up to the limit and by more octets,
+-- is `code`. `at_limit` proves this if no token begins at `ends` and `stop_fault` gives `code`.
 AtLimit : Octets → FileFault → Type 0
 AtLimit ends code = (text more : Octets) → length text + length ends ≡ most_octets → 0 < length more
     → list_all is_blank text ≡ true → Means example (text ++ (ends ++ more)) (fault_at code 1)

@@ -38,7 +38,7 @@ meaning_rows : Mean (
     ∷ (codes "www 60 CH A 192.0.2.1", fault_at other_class 1)
     -- a second number is not a type
     ∷ (codes "www 60 60 A 192.0.2.1", fault_at bad_type 1)
-    -- no TTL is in force, and the data is invalid
+    -- no TTL is in force; the invalid data is not reported
     ∷ (codes "www A 1", fault_at no_ttl 1)
     -- an entry in parentheses does not begin with a blank
     ∷ (codes "($TTL 60)", records [])

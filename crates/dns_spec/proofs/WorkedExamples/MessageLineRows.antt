@@ -10,7 +10,7 @@ Prints input output = PrintsInput input (record { output = output; passes = true
 abbrev Refuses : Octets → Octets → Type 0
 Refuses input output = PrintsInput input (record { output = output; passes = false })
 
--- the digits of a reply with a pointer to itself
+-- the digits of a reply in which the owner of the answer is a pointer to itself
 abbrev pointer_digits : Octets
 pointer_digits =
     codes "12348400000100010000000003777777076578616d706c650000010001"

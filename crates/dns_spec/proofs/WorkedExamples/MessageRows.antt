@@ -3,7 +3,7 @@
 use Rattle.dns_spec.proofs.Common.{◌≡◌, ℕ, zero, suc, ◌+◌, Bool, true, not, List, [], ◌∷◌, ◌++◌, take, drop, replicate, codes, None, Some, is_some, option_map, list_all, Octets, DomainName, wire, Header, MessageRecord, DnsMessage, run, runs_before, name_at, fields_at, several, message_at, absent, refused_with, query, question_at, query_read, pointer}
 use Rattle.dns_spec.proofs.WorkedExamples.Zones.{hex, dotted, under, example, net_192, soa_of, letters, www_query}
 
--- a reply with an address, whose owner is a pointer at place 29
+-- a reply with one address record, whose owner is a pointer at place 29
 abbrev pub address_digits : Octets
 address_digits =
     codes "12348400000100010000000003777777076578616d706c650000010001"
@@ -35,7 +35,7 @@ unfoldable spells_nothing : Octets → Bool
 unfolding run runs_before name_at fields_at several message_at
 spells_nothing b = not (is_some (message_at b))
 
--- the messages that the two replies spell, with data without compression
+-- the messages that the two replies spell, with uncompressed data
 abbrev message_of : ℕ → Octets → List MessageRecord → List MessageRecord → DnsMessage
 message_of flags cs answers authorities = record {
   header = record { id = 4660; flags = flags };
@@ -71,13 +71,14 @@ message_rows :
     × (spells_nothing (address_reply ++ 0 ∷ []) ≡ true)
     -- an address of five octets
     × (spells_nothing (take 40 address_reply ++ 5 ∷ drop 41 address_reply ++ 0 ∷ []) ≡ true)
-    -- each proper beginning of a message
+    -- each proper prefix of a message
     × (list_all (λ k. spells_nothing (take k error_reply)) (places 0 80) ≡ true)
 unfolding spells_nothing run runs_before name_at fields_at several message_at
 message_rows = search []
 
--- A pointer to the place just before it is valid if the octets from there on spell a name, here a
--- label of one octet, the pointer's first, and a label of 29 octets.
+-- A pointer to the place just before it is valid if the octets from that place on spell a name.
+-- Here, they spell a label of one octet, which is the first octet of the pointer, and a label of 29
+-- octets.
 abbrev authority_owners : DnsMessage → List DomainName
 authority_owners m = owners m.authorities
   where
@@ -88,8 +89,8 @@ authority_owners m = owners m.authorities
 one_place_before_rows :
     (option_map authority_owners (message_at (pointing error_reply 30 29))
     ≡ Some (((192 ∷ []) ∷ take 29 (drop 32 error_reply) ∷ []) ∷ []))
-    -- each of the three pointers, to each place of the header and to each place from the beginning
-    -- of its own run on
+    -- nothing is spelled if one of the three pointers points into the header, or to any place from
+    -- the beginning of its own run on
     × (list_all (λ i. list_all (λ p. spells_nothing (pointing error_reply i p)) (places 0 12))
     (30 ∷ 45 ∷ 58 ∷ []) ≡ true)
     × (list_all (λ p. spells_nothing (pointing error_reply 30 p)) (places 30 50) ≡ true)
@@ -112,7 +113,7 @@ reading_rows :
     × (name_at chained 17 ≡ Some (dotted (codes "x.www"), 21))
     -- a pointer to the run that contains it
     × (name_at (message (hex (codes "0161c00c"))) 12 ≡ None)
-    -- also if the run was reached by a pointer that is itself valid
+    -- even if a valid pointer leads to that run
     × (name_at (message (hex (codes "0161c00cc00c"))) 16 ≡ None)
     -- a pointer to itself, a pointer forwards, and a pointer into the header
     × (name_at (message (hex (codes "00c00d"))) 13 ≡ None)
@@ -139,7 +140,7 @@ of_255_octets_rows :
 unfolding run runs_before name_at
 of_255_octets_rows = search []
 
--- datagrams read as queries
+-- the header with these flags and the ID of the queries below
 abbrev head : ℕ → Header
 head flags = record { id = 4660; flags = flags }
 

@@ -13,7 +13,8 @@ abbrev and_then : {A B : Type 0} → Option A → (A → Option B) → Option B
 and_then None f = None
 and_then (Some a) f = f a
 
--- what is found in one of two cases, by whether there is a value, and by a test
+-- what is found in the one of two cases that applies, by whether an option has a value, or by a
+-- test
 abbrev matched : {A B : Type 0} {P : B → Type 0} {Q : A → B → Type 0} (o : Option A) → Found P
     → ((a : A) → Found (Q a)) → Found (λ v. MatchOption o (P v) (λ a. Q a v))
 matched None first second = first
@@ -33,7 +34,7 @@ abbrev fails : (b : Bool) → Option (b ≡ false)
 fails true = None
 fails false = Some refl
 
--- the value of an option with its proof, and the proof that it has none
+-- the value of an option with its proof, and the proof that the option has no value
 abbrev there : {A : Type 0} (o : Option A) → Found (λ (v : A). o ≡ Some v)
 there None = None
 there (Some v) = Some (v, refl)
@@ -71,7 +72,7 @@ tokens_in (suc n) text = elim (there (token_front text)) [
       ((r.0.0 ∷ more.0.0, more.0.1), (r.0.1, r.1, more.1))
 ]
 
--- A text within its limit with at most 99 tokens means what its entries mean.
+-- The entries of a text of at most 99 tokens that is within its limit.
 abbrev pub entries_of : Octets → List Entry
 entries_of text =
     let r = (tokens_in 99 text).0 in
@@ -169,7 +170,7 @@ said_string text = and_then (string_in (length text) text)
     (λ s. and_then (holds (nat_le (length s.0) 255))
     (λ h. Some (length s.0 ∷ s.0, (s.0, leb-true (length s.0) 255 h, s.1, refl))))
 
--- the data that a word spells for a field, and that words spell
+-- the data that a word spells for a field, and the data that words spell
 abbrev pub form_in : (f : Field) (o : DomainName) (text : Octets) → Found (SaysField f o text)
 form_in (number k) o text =
     let n = digits_value 10 text in
@@ -217,7 +218,8 @@ data_in t ws o = and_then (spelled_in t o ws) (λ d. and_then (holds (valid t d.
       record { as_spelled = d.0; said = d.1; is_valid = valid; lower = refl },
     )))
 
--- The origin, the names and the TTL in force after earlier entries.
+-- After earlier entries: the origin in force, the name that a word spells, the inherited owner, and
+-- the TTL in force.
 abbrev origin_after : (o : DomainName) (earlier : List Entry) → Found (OriginIs o earlier)
 origin_after o [] = Some (o, refl)
 origin_after o (e ∷ earlier) =
@@ -287,7 +289,7 @@ Known {A} P = Option (((v : A) × P v) ⊎ Nothing P)
 abbrev tested : (b : Bool) → Told (b ≡ true)
 tested b = Some (by_test b (λ e. e) (λ e h. false≢true (sym e ∙ h)))
 
--- a value was found, so there is one
+-- since a value was found, `Nothing P` is false
 abbrev pub some : {A : Type 0} {P : A → Type 0} → (v : A) × P v → Nothing P → ⊥
 some f none = none f.0 f.1
 
@@ -398,7 +400,7 @@ entries_in o earlier [] = Some (records [], refl)
 entries_in o earlier (e ∷ es) = and_then (entry_gives o earlier e)
     (λ g. entry_then o earlier e es (entries_in o (e ∷ earlier) es) g.0 g.1)
 
--- what a text means, if its entries mean something
+-- what a text means, if what its entries mean was found
 abbrev pub text_with : (text : Octets) → Found (EntriesMean example [] (entries_of text))
     → Found (Means example text)
 text_with text entries =

@@ -55,7 +55,7 @@ report_rows :
     (report_of_meaning no_options example (records small_records)
     ≡ passed (codes "zone example/IN: loaded serial 1\nOK\n"))
     × (report_of_meaning quiet example (records small_records) ≡ passed [])
-    -- its canonical text
+    -- the canonical text of that zone
     × (report_of_meaning printing example (records small_records)
     ≡ passed (codes "example. 3600 IN SOA ns.example. hostmaster.example. 1 7200 900 1209600 300\n"
     ++ codes "example. 3600 IN NS ns.example.\n"
@@ -66,7 +66,7 @@ report_rows :
     ++ codes "ns.sub.example. 3600 IN A 192.0.2.53\n"
     ++ codes "*.w.example. 3600 IN TXT \"any\"\n"
     ++ codes "www.example. 3600 IN A 192.0.2.10\n"))
-    -- data below a cut, and an alias with an address: the faults are sorted by owner
+    -- data below a cut, and an address beside an alias: the faults are sorted by owner
     × (zone_report no_options (small_zone_with (alias (codes "www") (codes "ns")
     ∷ in_zone (codes "x.sub") type_txt (strings_data (codes "q" ∷ [])) ∷ []))
     ≡ failed (codes "x.sub.example. Z12\nwww.example. Z06\n"))

@@ -28,7 +28,7 @@ octets digits = Some (hex digits)
 abbrev part : Octets → ℕ → Octets → Option (Octets × ℕ × Octets)
 part head size digits = Some (hex head, size, hex digits)
 
--- 64 strings of 255 octets, each different from the others
+-- k TXT records at `x`, each with a different string of 255 octets
 abbrev strings_at_x : ℕ → List ResourceRecord
 strings_at_x zero = []
 strings_at_x (suc k) = in_zone (codes "x") type_txt (255 ∷ k ∷ replicate 254 97) ∷ strings_at_x k
@@ -39,8 +39,8 @@ www_reply =
     hex (codes "123484000001000100000000"
     ++ codes "03777777076578616d706c650000010001 c00c0001000100000e100004c000020a")
 
--- digits that two replies contain: the name server of the zone with its address, and the alias of
--- `www`
+-- hex digits that appear in two replies each: the name server of the zone with its address, and the
+-- alias of `www`
 abbrev servers : Octets
 servers = codes "c00c0002000100000e100005026e73c00c c0250001000100000e100004c0000201"
 
@@ -116,13 +116,13 @@ reply_rows :
     × (udp large_zone (query (codes "r1.example") 1)
     ≡ octets (codes "123484000001000200000000 027231076578616d706c650000010001"
     ++ codes "c00c0005000100000e100005027232c00f c0280005000100000e100002c00c"))
-    -- In outline: an empty non-terminal is not a name error,
+    -- from here on, replies in outline; an empty non-terminal is not a name error
     × (outline (udp small_zone (query (codes "b.ent.example") 1)) 31 12
     ≡ part (codes "123484000001000000010000") 81 (codes "c012000600010000012c0026"))
-    -- nor is the name above a wildcard,
+    -- the name directly above a wildcard is not a name error
     × (outline (udp small_zone (query (codes "w.example") 16)) 27 12
     ≡ part (codes "123484000001000000010000") 77 (codes "c00e000600010000012c0026"))
-    -- whatever type is asked for.
+    -- not even if all types are asked for
     × (outline (udp small_zone (query (codes "w.example") 255)) 23 16
     ≡ part (codes "123484000001000000010000") 77 (codes "00ff0001c00e000600010000012c0026"))
     -- a set that fits exactly
@@ -134,22 +134,22 @@ reply_rows :
     -- a chain of 17 aliases, of which 16 are followed
     × (outline (udp large_zone (query (codes "c1.example") 1)) 28 17
     ≡ part (codes "123484000001001100000000") 326 (codes "c00c0005000100000e100005026332c00f"))
-    -- 64 additional addresses, which may be left out
+    -- 64 additional addresses do not fit and are left out, without TC
     × (outline (udp large_zone (query (codes "m.example") 15)) 27 20
     ≡ part (codes "123484000001000100000000") 47 (codes "c00c000f000100000e100008000a03626967c00e"))
-    -- and are included over TCP
+    -- over TCP, the 64 additional addresses are included
     × (outline (tcp large_zone (query (codes "m.example") 15)) 47 16
     ≡ part (codes "123484000001000100000040") 1071 (codes "c0290001000100000e100004c6336401"))
-    -- 64 addresses that were asked for, so TC is set
+    -- 64 addresses that were asked for do not fit, so TC is set
     × (outline (udp large_zone (query (codes "big.example") 1)) 12 17
     ≡ part (codes "123486000001000000000000") 29 (codes "03626967076578616d706c650000010001"))
-    -- and they are included over TCP
+    -- over TCP, the 64 addresses that were asked for are included
     × (outline (tcp large_zone (query (codes "big.example") 1)) 29 16
     ≡ part (codes "123484000001004000000000") 1053 (codes "c00c0001000100000e100004c6336401"))
     -- a referral without room for its glue
     × (outline (udp large_zone (query (codes "h.cut.example") 1)) 31 18
     ≡ part (codes "123482000001000000010000") 49 (codes "c00e0002000100000e10000603626967c00e"))
-    -- and with it
+    -- the referral with its glue, over TCP
     × (outline (tcp large_zone (query (codes "h.cut.example") 1)) 49 16
     ≡ part (codes "123480000001000000010040") 1073 (codes "c02b0001000100000e100004c6336401"))
     -- the target of SRV is written whole, and the owner of its address shares a suffix with the
@@ -165,9 +165,9 @@ reply_rows :
     -- a name of 127 labels
     × (outline (udp deep_zone (asks deep_name 1)) 271 16
     ≡ part (codes "123484000001000100000000") 287 (codes "c00c0001000100000e100004c0000202"))
-    -- with a query of 271 octets
+    -- the query for that name has 271 octets
     × (length (asks deep_name 1) ≡ 271)
-    -- 64 strings of 255 octets each, more than 16,384 octets
+    -- 64 records with strings of 255 octets, in a reply of more than 16,384 octets
     × (outline (tcp (small_zone_with (strings_at_x 64)) (query (codes "x.example") 16)) 27 6
     ≡ part (codes "123484000001004000000000") 17179 (codes "c00c00100001"))
 unfolding within labels_from cut run runs_before name_at octets_by data_by
@@ -191,7 +191,7 @@ long_rows :
 unfolding labels_from cut octets_by data_by records_by
 long_rows = (refl, refl)
 
--- the replies of a server of the small zone, to at most k messages
+-- what a server of the small zone writes in reply to the first k messages of a stream
 unfoldable answers : ℕ → Octets → Octets
 unfolding first_frame frames within labels_from cut run runs_before name_at octets_by
     data_by records_by layout size chain_from chain outcome_at
@@ -216,7 +216,7 @@ stream_rows :
     -- an empty message is a message
     × (frames 9 (hex (codes "0000")) ≡ [] ∷ [])
     × (answers 9 (hex (codes "0000")) ≡ [])
-    -- a message of 600 octets: they are not exactly one question, so only the header is sent
+    -- a message of 600 octets does not end after its question, so only a header is sent
     × (answers 9 (hex (codes "0258") ++ www_query ++ replicate 571 0)
     ≡ hex (codes "000c 123480010000000000000000"))
     -- a stream that ends inside a length, or inside a message, has no frame there
@@ -241,17 +241,17 @@ reply_size z limit q = size (Some q) (keep_longest z limit q)
 size_rows :
     -- a set of strings that fits exactly
     (reply_size large_zone 512 (asked (codes "t.example") 16) ≡ 27 + 12 + (256 + 217))
-    -- one octet more, if there is room
+    -- a set with one octet more, within a greater limit
     × (reply_size large_zone 16384 (asked (codes "u.example") 16) ≡ 27 + 12 + (256 + 218))
     -- 17 aliases
     × (reply_size large_zone 512 (asked (codes "c1.example") 1) ≡ 28 + 17 * 12 + 8 * 5 + 9 * 6)
     -- an MX without its addresses
     × (reply_size large_zone 512 (asked (codes "m.example") 15) ≡ 27 + 20)
-    -- with them
+    -- an MX with its addresses
     × (reply_size large_zone 16384 (asked (codes "m.example") 15) ≡ 27 + 20 + 64 * 16)
     -- a referral without its glue
     × (reply_size large_zone 512 (asked (codes "h.cut.example") 1) ≡ 31 + 18)
-    -- with it
+    -- a referral with its glue
     × (reply_size large_zone 16384 (asked (codes "h.cut.example") 1) ≡ 31 + 18 + 64 * 16)
     -- a target that is written whole
     × (reply_size large_zone 512 (asked (codes "_s._tcp.example") 33) ≡ 33 + 30 + 19)

@@ -9,7 +9,7 @@ token_rows :
     × (token_front (codes "\"a b\\\"c\" d") ≡ Some (quoted_string (codes "a b\\\"c"), codes " d"))
     × (token_front (codes "a(b") ≡ Some (word (codes "a"), codes "(b"))
     × (token_front (codes "\r\nb") ≡ Some (line_end, codes "b"))
-    -- no token begins
+    -- texts that no token begins
     × (token_front [] ≡ None)
     × (token_front (codes "\rb") ≡ None)
     × (token_front (codes "\"a") ≡ None)
@@ -29,7 +29,7 @@ token_rows :
     × (stop_fault beginning false (in_token (codes "\\256")) ≡ Some bad_escape)
     × (stop_fault beginning false (in_string (codes "\n")) ≡ Some unended_string)
     × (stop_fault beginning false (in_string (0 ∷ codes "a")) ≡ Some bad_octet)
-    -- codes
+    -- the codes of the first and of the last fault
     × (fault_code bad_octet ≡ 1)
     × (fault_code no_memory ≡ 17)
 unfolding run_length

@@ -8,7 +8,7 @@ between raw = record { raw = raw; is_quoted = true }
 word_rows :
     (stands_alone (plain (codes "mail.example.")) ≡ true)
     × (stands_alone (plain (codes "\\#")) ≡ true)
-    -- an empty word, and an empty quoted word
+    -- an empty unquoted word, and an empty quoted word
     × (stands_alone (plain []) ≡ false)
     × (stands_alone (between []) ≡ true)
     -- a space ends a word, a semicolon begins a comment, parentheses join lines, a quotation mark

@@ -83,7 +83,7 @@ small_zone = zone_of example small_records
 abbrev pub small_zone_with : List ResourceRecord → ZoneContents
 small_zone_with rs = zone_of example (small_records ++ rs)
 
--- the addresses 198.51.100.1 to 198.51.100.k
+-- the addresses 198.51.100.1 to 198.51.100.k of one name
 abbrev pub addresses : ℕ → Octets → List ResourceRecord
 addresses zero cs = []
 addresses (suc k) cs = addresses k cs ++ address cs (198 ∷ 51 ∷ 100 ∷ suc k ∷ []) ∷ []

@@ -8,7 +8,7 @@ use Rattle.dns_spec.proofs.General.Sorted.{length-sort_by, same_sorted}
 use Rattle.dns_spec.proofs.General.Orderings.{eqb_decides, nat_ties, nat_tie}
 use Rattle.dns_spec.proofs.General.Truths.{in_rest}
 
--- two such lists have equally many types
+-- two lists in which each test passes equally many records have equally many types
 same_type_count : (xs ys : List ResourceRecord)
     → SameCounts xs ys → length (distinct ◌==◌ (map (λ (r : ResourceRecord). r.rtype) xs))
     ≡ length (distinct ◌==◌ (map (λ (r : ResourceRecord). r.rtype) ys))
@@ -47,7 +47,8 @@ name_tie n m e =
     ∙ ap reverse ((names_equal-decides a b).0 t) ∙ reverse-reverse (folded m) in
     (names_equal-decides (folded n) (folded m)).1 back
 
--- each check gives the same for one origin and two such lists
+-- for one origin, each check gives the same for two lists in which each test passes equally many
+-- records
 module _ (o : DomainName) (xs ys : List ResourceRecord) (c : SameCounts xs ys) where
   z : ZoneContents
   z = record { origin = o; records = xs }

@@ -1,4 +1,4 @@
--- A text begins with the tokens of each beginning of it, except for the last of these tokens, which
+-- A text begins with the tokens of each of its prefixes, except for the last of these tokens, which
 -- may continue in the text.
 use Rattle.dns_spec.proofs.Common.{◌≡◌, ℕ, zero, suc, ◌+◌, ◌⊎◌, inl, inr, Bool, true, false, not, ◌==◌, Option, Some, None, [], ◌∷◌, ◌++◌, take, drop, refl, sym, ◌∙◌, ap, subst, arith, if◌then◌else◌, eqb-true, true≢false, false≢true, none-some, prefix_len, Octets, is_word_octet, Token, blank, comment, word, is_blank, unit_left, run_length, word_length, string_length, quoted_front, unquoted_front, line_feed_front, token_front, parenthesis, is_line_end, is_cut_short}
 use Rattle.dns_spec.proofs.ZoneTexts.ReadWords.{front_taken}

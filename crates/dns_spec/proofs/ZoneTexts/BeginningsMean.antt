@@ -1,4 +1,4 @@
--- The first fault of a beginning of a text is the fault of the text.
+-- The fault of a prefix of a text, other than `too_long`, is the fault of the text.
 use Rattle.dns_spec.proofs.Common.{append-nil, ◌≡◌, ℕ, ◌≤◌, ◌⊎◌, inl, inr, Bool, true, false, ◌&&◌, not, Option, Some, None, List, [], ◌∷◌, ◌++◌, map, length, drop, refl, sym, ◌∙◌, ap, subst, arith, false≢true, true≢false, none-some, same_Some, cons_option, Octets, DomainName, ResourceRecord, FileFault, bad_parenthesis, too_long, faulty, gives, Meaning, records, fault_at, after, line_after, EntriesMean, Means, most_octets, extent_of, Token, token_front, TokensThen, parenthesis, parentheses, is_line_end, open_after, before_first, cut_entries, take_turns, is_open_at_end, is_cut_short, string_length, Extent, beginning, stop_at, string_fault, stop_fault, Entry, ended, unended, with_end, OctetsMean}
 use mathlib.Core.Bool.{xor}
 use Rattle.dns_spec.proofs.ZoneTexts.TextTokens.{has_tokens, tokens_cut, tokens_then}

@@ -48,7 +48,7 @@ tokens_small text [] rest h = tt
 tokens_small text (p ∷ ps) rest (others, e, h) =
     grind (arith, run_small, leb-true, eqb-true, (tokens_small others ps rest h))
 
--- the same for the entries into which tokens are split
+-- the words and strings of the entries into which tokens are split are octets below 256
 before_small : (p : Token) (pss : List (List Token))
     → SmallToken p → AllByRecursion (AllByRecursion SmallToken) pss
     → AllByRecursion (AllByRecursion SmallToken) (before_first p pss)
@@ -87,7 +87,7 @@ pub entries_small : (text : Octets) (es : List Entry) → Entries text es
     → AllByRecursion SmallEntry es
 entries_small text es h = grind (arith, AllByRecursion, ended_small, cut_small, tokens_small)
 
--- the same for the words of an entry
+-- the words of an entry are octets below 256
 words_of_small : (ps : List Token) → AllByRecursion SmallToken ps
     → AllByRecursion SmallWord (filter_map word_of ps)
 words_of_small [] small = tt

@@ -9,7 +9,7 @@ use Rattle.dns_spec.proofs.General.Truths.{Sure, sure, and_so, either_way}
 some_there : {A : Type 0} {P : A → Type 0} → (Nothing P → ⊥) → Sure ((v : A) × P v)
 some_there not_none none = not_none (λ v p. none (v, p))
 
--- the condition of no fault holds
+-- none of the faults has a condition that holds
 abbrev NoneHolds : List (FileFault × Type 0) → Type 0
 NoneHolds [] = Unit {0}
 NoneHolds ((fault, Condition) ∷ higher) = (Condition → ⊥) × NoneHolds higher

@@ -27,7 +27,7 @@ const QUIET_PRINT: Flags = Flags {
     print: true,
 };
 
-/// Whether the check of a text ends as wanted, and this is its report.
+/// Whether the check of a text has the wanted outcome and report.
 pub(super) fn is_report(
     alloc: Global,
     origin: &Name,
@@ -43,7 +43,7 @@ pub(super) fn is_report(
     has_ended(source, sink, outcome, wanted)
 }
 
-// Whether the check of a zone `example.` ends as wanted, with this report.
+// Whether the check of a zone `example.` has the wanted outcome and report.
 fn is_checked(
     alloc: Global,
     flags: Flags,

@@ -13,7 +13,7 @@ pub(super) fn all_work(most: usize) -> Devices {
     (most, 1_000_000, 1_000_000)
 }
 
-/// The first octets.
+/// The first `length` octets.
 pub(super) fn front(octets: &[u8], length: u32) -> &[u8] {
     octets.get(..length as usize).unwrap_or(&[])
 }

@@ -17,7 +17,7 @@ pub(super) fn sample(alloc: Global) -> Result<Zone, Fail> {
     }
 }
 
-// How a text comes: in pieces of how many octets, and how many calls work before one fails.
+// How a text is given: the most octets of a piece, and how many calls work before one fails.
 type Given = (usize, u32);
 
 // What the loader makes of a text.
@@ -37,8 +37,8 @@ fn is_report(alloc: Global, refusal: &Refusal, wanted: &str) -> Result<bool, Fai
     Ok(sink.into_inner().text.as_slice() == wanted.as_bytes())
 }
 
-// Whether a text has a zone with this serial, or is refused with this report, or, if that is empty,
-// can't be read.
+// Whether a text has a zone with this serial, or is refused with this report, or, if the report is
+// empty, can't be read.
 fn is_loaded(
     alloc: Global,
     text: &[u8],

@@ -58,7 +58,7 @@ fn family(alloc: Global) -> Result<String, Fail> {
     Ok(text)
 }
 
-// Their canonical text.
+// The canonical text of `family`.
 fn family_printed(alloc: Global) -> Result<String, Fail> {
     let mut text = String::from_str(
         alloc,
@@ -112,7 +112,8 @@ fn faulty_zone(alloc: Global, records: u32) -> Result<String, Fail> {
     Ok(text)
 }
 
-// Its report: two lines for each record, and two for the origin, which has no record.
+// The report on `faulty_zone`: two lines for each record, and two for the origin, which has no
+// record.
 fn faulty_report(alloc: Global, records: u32) -> Result<String, Fail> {
     let mut report = String::from_str(alloc, "example. Z01\nexample. Z04\n")?;
     for number in 0..records {

@@ -89,7 +89,7 @@ fn longest(alloc: Global, after: &[u8]) -> Result<Vec<u8>, Fail> {
     Ok(input)
 }
 
-// What is after the digits of the longest message, and the answers.
+// What follows the digits of the longest message, whether all lines are messages, and the answers.
 const LONGEST: &[(&[u8], bool, &[u8])] = &[
     (b"", true, b"000080010000000000000000\n"),
     (b"0\n\n", false, b"bad hex\nnone\n"),

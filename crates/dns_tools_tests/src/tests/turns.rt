@@ -93,7 +93,7 @@ impl Connections for Deaf {
     }
 }
 
-// Whether a server at such a listener takes each turn, though its first diagnostic is not written.
+// Whether a server at a `Deaf` listener takes all turns, though it can't write a diagnostic.
 fn go_on_deaf(zone: &Zone, turns: u32, room: &mut StreamRoom) -> bool {
     let calls = Cell::new(0);
     let errors = Refusing { calls: &calls };

@@ -14,7 +14,7 @@ fn most_octets(rt: HostRuntime) -> Result<Vec<u8>, Fail>
     Ok(vec![in rt.alloc(); 0; MOST_MESSAGE_OCTETS]?)
 }
 
-// 64 strings of 255 octets at `x.example`.
+// Writes 64 records at `x.example`, each with one string of 255 octets.
 fn put_strings<H: SuffixHash>(rt: HostRuntime, writer: &mut Writer<'_, H>) -> bool
     ensures { writer.new.page.limit ≡ writer.old.page.limit }
 {
@@ -30,7 +30,7 @@ fn put_strings<H: SuffixHash>(rt: HostRuntime, writer: &mut Writer<'_, H>) -> bo
     true
 }
 
-// 17 services at `y.example`, with the targets `t10.example` to `t26.example`.
+// Writes 17 services at `y.example`, with the targets `t10.example` to `t26.example`.
 fn put_services<H: SuffixHash>(rt: HostRuntime, writer: &mut Writer<'_, H>) -> bool
     ensures { writer.new.page.limit ≡ writer.old.page.limit }
 {
@@ -46,7 +46,7 @@ fn put_services<H: SuffixHash>(rt: HostRuntime, writer: &mut Writer<'_, H>) -> b
     true
 }
 
-// The addresses 198.51.100.1 to 198.51.100.64 of a target.
+// Writes the addresses 198.51.100.1 to 198.51.100.64 of the target with this number.
 fn put_addresses<H: SuffixHash>(rt: HostRuntime, writer: &mut Writer<'_, H>, number: u8) -> bool
     ensures { writer.new.page.limit ≡ writer.old.page.limit }
 {
@@ -73,7 +73,7 @@ fn put_targets<H: SuffixHash>(rt: HostRuntime, writer: &mut Writer<'_, H>) -> bo
     true
 }
 
-// Whether octets contain others at each of these places.
+// Whether `octets` contains, at each of these places, the octets that are given with the place.
 fn contain(octets: &[u8], others: &[(usize, &[u8])]) -> bool {
     for (place, other) in others {
         if !octets.get(*place..).unwrap_or(&[]).starts_with(*other) {
@@ -102,7 +102,8 @@ fn sixty_four_strings(rt: HostRuntime) -> Result<(), Fail> {
     Ok(())
 }
 
-// The addresses of `t26` begin at place 17,002, so none of their owners is shared whole.
+// The addresses of `t26` begin at place 17,002, beyond the reach of pointers. So none of their
+// owners is only a pointer.
 const SERVICES: &[(usize, &[u8])] = &[
     (0, b"\x12\x34\x84\x00\x00\x01\x00\x11\x00\x00\x04\x40"),
     (15_974, b"\x03t25\xc0\x0e"),
@@ -123,7 +124,7 @@ fn are_services<H: SuffixHash>(rt: HostRuntime, hash: &mut H) -> Result<bool, Fa
 #[test]
 fn names_past_the_reach_of_a_pointer(rt: HostRuntime) -> Result<(), Fail> {
     assert!(rt; are_services(rt, &mut QuickHash)?);
-    // The same hash for all suffixes.
+    // With the same hash for all suffixes, the reply is the same.
     assert!(rt; are_services(rt, &mut OneChain)?);
     Ok(())
 }

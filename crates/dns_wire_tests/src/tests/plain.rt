@@ -2,8 +2,8 @@
 
 use std::alloc::Global;
 
-/// What octets spell if they are a message whose records are of types A and SOA: the same octets,
-/// with names whole, and without the lengths of data.
+/// What octets spell if they are a message whose records are of types A and SOA: its octets, but
+/// with all names in full, and without the lengths of data.
 pub(crate) fn plain_message(alloc: Global, octets: &[u8]) -> Option<Vec<u8>> {
     let mut spelled = Vec::new(alloc);
     spelled.extend_from_slice(octets.get(..12)?).ok()?;
@@ -50,7 +50,8 @@ fn plain_record(octets: &[u8], place: usize, spelled: &mut Vec<u8>) -> Option<us
     Some(end)
 }
 
-// Appends the whole name at a place to `spelled`, and returns the place after its octets there.
+// Appends the full name at a place to `spelled`, and returns the place after it there: after the
+// root's length, or after the first pointer.
 fn plain_name(octets: &[u8], place: usize, spelled: &mut Vec<u8>) -> Option<usize> {
     let before = spelled.len();
     let end = plain_labels(octets, place, place, spelled, 1000)?;
@@ -60,9 +61,9 @@ fn plain_name(octets: &[u8], place: usize, spelled: &mut Vec<u8>) -> Option<usiz
     Some(end)
 }
 
-// Appends the labels at a place, in a run of labels that begins at `run`, and returns the place
-// after them. Length 0 ends them; a length up to 63 is followed by a label; a pointer leads to a
-// run that begins before this one, and after the header.
+// Appends the labels from a place on, in a run of labels that begins at `run`, to `spelled`.
+// Returns the place after the labels there. Length 0 ends them; a length up to 63 is followed by a
+// label; a pointer leads to a run that begins before this one, and after the header.
 fn plain_labels(
     octets: &[u8],
     run: usize,

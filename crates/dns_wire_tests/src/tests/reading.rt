@@ -79,7 +79,7 @@ fn fault(alloc: Global, octets: &[u8]) -> u8 {
     read_message(alloc, octets).err().map_or(0, WireFault::code)
 }
 
-// The octets with `others` in place of those at `place`.
+// A copy of `octets` in which `others` replaces as many octets from `place` on.
 fn changed(
     alloc: Global,
     octets: &[u8],
@@ -136,7 +136,8 @@ fn faults_by_what_is_changed(rt: HostRuntime) -> Result<(), Fail> {
     Ok(())
 }
 
-// An answer, without its owner, which is the root; and the code of the fault of a response with it.
+// Cases: a name; an answer record without its owner, which is the root; and the code of the fault
+// of a response with this record, or 0.
 const DATA: &[(&str, &[u8], u8)] = &[
     (
         "A in another class",
@@ -171,8 +172,8 @@ fn beginnings_are_short(rt: HostRuntime) {
     }
 }
 
-// Whether the plain reader and `read_message` agree. Only if a changed pointer leads to a place
-// before its own run may the fault be another than 3.
+// Whether the plain reader and `read_message` agree. The fault may have another code than 3 only if
+// the changed pointer leads to a place before its own run.
 fn is_plain(alloc: Global, octets: &[u8], is_before: bool) -> bool {
     match (plain_message(alloc, octets), read(alloc, octets)) {
         (Some(plain), Ok(read)) => plain == read,
@@ -195,7 +196,8 @@ fn pointers_to_each_place(rt: HostRuntime) -> Result<(), Fail> {
     Ok(())
 }
 
-// A label of the single octet c0, a label of 29 octets, and the end.
+// The pointer at place 30 is changed to lead to place 29. The name there is a label of the single
+// octet c0, a label of 29 octets, and the root.
 #[test]
 fn a_label_of_pointer_octets(rt: HostRuntime) -> Result<(), Fail> {
     let octets = changed(rt.alloc(), NAME_ERROR, 31, b"\x1d")?;

@@ -107,7 +107,7 @@ const RING: &Row<'static> = &Row {
 };
 
 // A question whose first label is `a`, the octet 3 and `www`. The octets of `www.example` are in
-// it, but do not begin at a label, so only `example` is shared.
+// the question's name, but do not begin at a label. So only `example` is shared.
 const INSIDE_A_LABEL: &Row<'static> = &Row {
     name: "a name inside a label of the question",
     qname: b"a\\003www.example",
@@ -121,8 +121,8 @@ const INSIDE_A_LABEL: &Row<'static> = &Row {
         \x00\x0e\x10\x00\x04\xc0\x00\x02\x01",
 };
 
-// Two exchanges that differ only in their last label before the question's, and their addresses:
-// as runs of octets, the names differ before the pointer that ends them.
+// Two exchanges, and their addresses. The names of the exchanges differ only in the last label
+// before `example`: as they are laid out, just before the pointers that end them.
 const MANY_LABELS: &Row<'static> = &Row {
     name: "names of many labels",
     qname: b"q.example",

@@ -52,8 +52,8 @@ pub(crate) struct Row<'a> {
     pub(crate) wanted: &'a [u8],
 }
 
-/// Offers a set of one record, and returns whether it fits exactly if `has_room`. An SOA record has
-/// the TTL of a negative answer.
+/// Offers a set of one record. Returns true if it fits and `has_room` is true, or if it does not
+/// fit and `has_room` is false. An SOA record has the TTL of a negative answer.
 pub(crate) fn offer<H: SuffixHash>(
     rt: HostRuntime,
     writer: &mut Writer<'_, H>,
@@ -77,7 +77,7 @@ pub(crate) fn offer<H: SuffixHash>(
     }
 }
 
-// Offers sets of one record each, and returns whether all of them fit, or none if not `has_room`.
+// Offers sets of one record each. Returns whether all of them fit or, if `has_room` is false, none.
 fn offer_all<H: SuffixHash>(
     rt: HostRuntime,
     writer: &mut Writer<'_, H>,
@@ -95,8 +95,8 @@ fn offer_all<H: SuffixHash>(
     true
 }
 
-// Offers the sets of a row, and sets that do not fit before them and after them. Returns whether
-// exactly the sets of the row fit.
+// Offers the sets of a row. Before and after them, offers the sets in `refused`, which must not
+// fit. Returns whether exactly the sets of the row fit.
 fn offer_row<H: SuffixHash>(
     rt: HostRuntime,
     writer: &mut Writer<'_, H>,
@@ -121,8 +121,8 @@ pub(crate) fn asked(qname: &[u8], qtype: u16) -> Result<Question, NameFault> {
     })
 }
 
-/// Whether a row's reply is written as wanted, within 512 octets; sets that do not fit are offered
-/// before the others and after them.
+/// Whether a row's reply is written as wanted, within 512 octets, although the sets in `refused`,
+/// which do not fit, are offered before and after those of the row.
 pub(crate) fn is_written<H: SuffixHash>(
     rt: HostRuntime,
     hash: &mut H,

@@ -28,8 +28,8 @@ pub(crate) fn ends_alike(name: &NameRef<'_>, other: &NameRef<'_>) -> bool
     are_equal(octets.split_at(octets.len() - end.len()).1, end)
 }
 
-/// The shortest suffix of a name that has `least` octets or more on the wire, or the whole name if
-/// it is shorter. For `www.sub.example.` and 10 it is `sub.example.`
+/// The shortest suffix of a name that has at least `least` octets on the wire, or the whole name if
+/// the name has fewer. For `www.sub.example.` and 10 this is `sub.example.`
 ///
 /// Skips labels by their lengths, without reading them.
 pub(crate) fn shortest_end<'a>(name: &NameRef<'a>, least: usize) -> NameRef<'a>

@@ -4,7 +4,7 @@ ghost use Rattle.dns_zone.specs.OwnerForm.{AreCounted};
 use crate::store::stored::StoredRecord;
 use dns_rdata::RType;
 
-/// How many records a name owns, by the types that the checks need.
+/// How many records a name owns of each type or group of types that the checks count.
 #[derive(Drop)]
 pub(crate) struct TypeCounts {
     pub(crate) soa: usize,

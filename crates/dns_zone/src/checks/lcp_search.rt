@@ -1,14 +1,14 @@
-//! The probable place of a key in an ordered list of names.
+//! The probable index of a key in an ordered list of names.
 //!
-//! Deep names may share most of their octets, and a binary search by whole keys compares these at
-//! each step. This search compares each of them about once (Manber and Myers, "Suffix arrays",
-//! 1993). The result is an unverified hint: callers check it.
+//! Deep names may share most of their octets. A binary search by whole keys compares the shared
+//! octets again at each step; this search compares each octet about once (Manber and Myers, "Suffix
+//! arrays", 1993). The result is an unverified hint: callers check it.
 ghost use Rattle.std.specs.Prelude.{◌≡◌, ◌<◌, ◌≤◌, length};
 
 use crate::checks::names::CheckedName;
 use std::alloc::{AllocError, Global};
 
-// If names have no more octets on average, a search by whole keys is cheaper than a list.
+// If keys have at most this many octets on average, a search by whole keys is cheaper.
 const FEW_OCTETS: usize = 48;
 
 /// For each name, how many octets its key shares with the keys of two other names: those just
@@ -27,8 +27,8 @@ pub(crate) fn shared_octets(
     Ok(shared)
 }
 
-// Fills in the entries from `low` up to `high`. These names share `known` octets with each other
-// and with the names before and after them.
+// Fills in the entries from `low` to before `high`. The keys of these names share at least `known`
+// octets with each other, and with the keys just before and just after them.
 fn put_shared(names: &[CheckedName<'_>], low: usize, high: usize, known: u8, shared: &mut [[u8; 2]])
     requires order { low ≤ high }
     requires within { high ≤ length names.now }
@@ -46,7 +46,8 @@ fn put_shared(names: &[CheckedName<'_>], low: usize, high: usize, known: u8, sha
     put_shared(names, middle + 1, high, after, shared);
 }
 
-// The number of octets that the keys at two places share, at least `known`.
+// How many octets the keys of two names share, at most 255. They are known to share `known`. 0 if
+// an index has no name.
 fn shared_of(names: &[CheckedName<'_>], one: usize, other: usize, known: u8) -> u8 {
     match (names.get(one), names.get(other)) {
         (Some(one), Some(other)) => {
@@ -57,8 +58,8 @@ fn shared_of(names: &[CheckedName<'_>], one: usize, other: usize, known: u8) -> 
     }
 }
 
-/// The probable place of the last name that is not after the name with this key. `None` without a
-/// list of shared octets, or if every name is probably after it.
+/// The probable index of the last name that is not after the name with this key. `None` if `shared`
+/// is empty, or if every name is probably after the name with this key.
 pub(crate) fn probable_place(
     names: &[CheckedName<'_>],
     shared: &[[u8; 2]],
@@ -93,7 +94,7 @@ pub(crate) fn probable_place(
     low.checked_sub(1)
 }
 
-/// What follows the common prefix of both, whose first `known` octets are known to be common.
+/// What follows the common prefix in each. The first `known` octets of both are known to be equal.
 pub(crate) fn rests<'a>(one: &'a [u8], other: &'a [u8], known: usize) -> (&'a [u8], &'a [u8])
     ensures one { length result.0.now ≤ length one.now }
     ensures other { length result.1.now ≤ length other.now }
@@ -108,7 +109,7 @@ pub(crate) fn rests<'a>(one: &'a [u8], other: &'a [u8], known: usize) -> (&'a [u
     after_alike::<1>(one, other)
 }
 
-// What follows the equal chunks of `N` octets with which both begin.
+// What is left of each after the equal chunks of `N` octets with which both begin.
 fn after_alike<'a, const N: usize>(one: &'a [u8], other: &'a [u8]) -> (&'a [u8], &'a [u8])
     requires some { 0 < N }
     requires few { N ≤ 64 }

@@ -25,16 +25,16 @@ use std::alloc::{AllocError, Global};
 pub(crate) struct CheckedName<'a> {
     /// Its key.
     pub(crate) key: &'a [u8],
-    /// Its first record.
+    /// The index of its first record.
     pub(crate) first: u32,
-    /// The end of its records: one past the last. The origin may have none.
+    /// The index one past its last record. Only the origin may have no records.
     pub(crate) end: u32,
-    /// The length of the key of the topmost cut that the name is at or below; 0 if there is none.
+    /// The length of the key of the topmost cut that the name is at or below; 0 if no cut is.
     pub(crate) cut: usize,
 }
 
-/// The names that are checked in a zone. Its records are in canonical order; `key` is the origin's,
-/// and `keyed` has the owners' keys.
+/// The names that are checked in a zone. `records` is in canonical order, `key` is the key of the
+/// origin, and `keyed` has the keys of the owners.
 pub(crate) fn checked_names<'a>(
     alloc: Global,
     origin: &NameRef<'_>,
@@ -75,8 +75,9 @@ pub(crate) fn checked_names<'a>(
     Ok(names)
 }
 
-// The length of the key of the topmost cut that an owner is at or below, or 0, given the same
-// (`cut`) for the name before it (`last`).
+// The length of the key of the topmost cut that an owner is at or below; 0 if there is no such cut.
+// `key` and `own` are the owner's key and records. `last` is the key of the name before the owner,
+// and `cut` is this length for that name.
 fn cut_of(origin: &[u8], last: &[u8], cut: usize, key: &[u8], own: &[StoredRecord]) -> usize
     requires fits { cut ≤ length last.now }
     requires by_types { IsNonDecreasingBy (λ (r : ResourceRecord). r.rtype) own.now }
@@ -103,7 +104,7 @@ fn is_cut(origin: &[u8], key: &[u8], own: &[StoredRecord]) -> bool
     has_type(own, RType::NS) && is_below(key, origin)
 }
 
-/// Whether a key begins with the first `cut` octets of another. False if `cut` is 0.
+/// Whether `key` begins with the first `cut` octets of `last`. False if `cut` is 0.
 pub(crate) fn is_covered(cut: usize, last: &[u8], key: &[u8]) -> bool
     requires { cut ≤ length last.now }
     ensures { result ≡ is_covered cut last.now key.now }
@@ -112,7 +113,7 @@ pub(crate) fn is_covered(cut: usize, last: &[u8], key: &[u8]) -> bool
 }
 
 /// The number of names that are not after the name with this key. First tests whether `probable`
-/// is the place of the last one.
+/// is the index of the last of them.
 pub(crate) fn count_upto(names: &[CheckedName<'_>], probable: Option<usize>, key: &[u8]) -> usize
     requires { IsPartitionedBy (is_upto key.now) names.now }
     ensures { IsFront (is_upto key.now) names.now result }

@@ -127,7 +127,7 @@ impl<'a> Owner<'a> {
         (has_alias, has_lost, has_exchange)
     }
 
-    // The same for one record, of any type.
+    // As `target_faults`, but for one record, of any type.
     fn record_faults(
         &self,
         entry: &StoredRecord,
@@ -231,8 +231,8 @@ impl<'a> Owner<'a> {
     }
 }
 
-// Whether an RRset has different TTLs (RFC 2181 5.2): if and only if two adjacent records have one
-// type and different TTLs.
+// Whether some RRset has records with different TTLs (RFC 2181 5.2). This is so if and only if two
+// adjacent records have the same type and different TTLs.
 fn have_other_ttls(own: &[StoredRecord]) -> bool
     ensures { result ≡ list_any (λ p. p.0.rtype == p.1.rtype && not (p.0.ttl == p.1.ttl))
         (zip own.now (drop 1 own.now)) }
@@ -241,8 +241,8 @@ fn have_other_ttls(own: &[StoredRecord]) -> bool
         && one.ttl != next.ttl)
 }
 
-// Whether an RRset has more than 64 records: if and only if some record and the 64th after it have
-// one type.
+// Whether some RRset has more than 64 records. This is so if and only if some record and the 64th
+// record after it have the same type.
 fn have_large_set(own: &[StoredRecord]) -> bool
     ensures { result ≡ list_any (λ p. p.0.rtype == p.1.rtype) (zip own.now (drop 64 own.now)) }
 {

@@ -59,7 +59,7 @@ impl<'a> Survey<'a> {
         &self.records[one.first as usize..one.end as usize]
     }
 
-    /// The name that is checked: the owner of its records, or the origin if it has none.
+    /// A checked name: the owner of its records, or the origin if there are no records.
     #[tactic(auto, using(crate::proofs::SearchSteps::wire_steps))]
     pub(crate) fn name(&self, one: &CheckedName<'_>) -> NameRef<'a>
         requires rising { one.now.first ≤ one.now.end }
@@ -72,7 +72,7 @@ impl<'a> Survey<'a> {
         }
     }
 
-    // The last name that is not after a target at or below the origin.
+    // The last checked name that is not after the target, which is at or below the origin.
     fn last_upto(&self, target: &mut LastTarget<'_>) -> &'a CheckedName<'a>
         requires lower { folded target.old ≡ target.old }
         requires inside { at_or_below target.old self.now.origin ≡ true }
@@ -93,8 +93,8 @@ impl<'a> Survey<'a> {
         &names[place]
     }
 
-    // The records at a target at or below the origin, ordered by type, and whether it is at or
-    // below a cut (RFC 1034 4.2).
+    // The records that the target owns, ordered by type, and whether the target is at or below a
+    // cut (RFC 1034 4.2). The target is at or below the origin.
     #[tactic(auto, using(crate::proofs::CheckedNames::found_steps))]
     fn at(&self, target: &mut LastTarget<'_>) -> (&'a [StoredRecord], bool)
         requires lower { folded target.old ≡ target.old }
@@ -150,7 +150,7 @@ impl<'a> Survey<'a> {
         ensures lost { result.1 ≡ (at_or_below target.now self.now.origin
             && lacks_address self.now owner.now target.now) }
     {
-        // Most names outside the zone do not end with the origin's octets, and need no key.
+        // Most targets outside the zone do not end with the origin's octets; they need no key.
         if !ends_alike(target, self.origin) {
             return (false, false);
         }

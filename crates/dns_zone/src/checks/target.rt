@@ -1,4 +1,4 @@
-//! The name to which a record's data points, and where the checks last found it.
+//! The targets of records, and where the checks found them among the checked names.
 ghost use Rattle.std.specs.Prelude.{◌≡◌, [], IfSome};
 ghost use Rattle.dns_spec.specs.Names.{folded};
 ghost use Rattle.dns_spec.specs.Data.{target};
@@ -13,7 +13,7 @@ use dns_rdata::Rdata;
 use std::alloc::{AllocError, Global};
 use std::marker::Model;
 
-// The number of slots for places where targets were found: 2^13.
+// The number of slots for the indexes at which targets were found: 2^13.
 const SLOTS: usize = 8_192;
 
 // 2^32 divided by the golden ratio.
@@ -29,21 +29,21 @@ pub(crate) fn target(entry: &StoredRecord) -> Option<NameRef<'_>>
     Rdata::target_lent(entry.rtype, entry.rdata())
 }
 
-/// The last target that was looked up, with its key, and the place where it was found. Glue often
-/// comes right after its cut, and one server's name right after another's, so the place after the
-/// checked name, or after the last target, is tried first.
+/// The last target that was looked up, its key, and the index at which it was found among the
+/// checked names. Glue often comes right after its cut, one server right after another.
+/// So the name right after the one under check, or after the last target, is tried first.
 #[derive(Drop)]
 pub(crate) struct LastTarget<'a> {
     name: Name,
     key: Key,
     place: Option<usize>,
     next: usize,
-    // How many names were passed.
+    // How many names `pass_name` has passed, with the one under check.
     passed: usize,
-    // The list that `shared_octets` returned, for the search; may be empty.
+    // The result of `shared_octets`, used by the search; may be empty.
     shared: &'a [[u8; 2]],
-    // The places where targets were found, each in the slot of the target's name; may be empty.
-    // Names with the same slot overwrite each other's places.
+    // The indexes at which targets were found, each in the slot of the target's name; may be empty.
+    // Targets with the same slot overwrite each other's indexes.
     found: Vec<usize>,
 }
 
@@ -60,8 +60,8 @@ impl<'a> Model for LastTarget<'a> {
 }
 
 impl<'a> LastTarget<'a> {
-    /// The root, before any lookup. `shared` is the list that `shared_octets` returned, and `found`
-    /// the list of `found_places`.
+    /// Before any lookup, with the root as its name. `shared` is the result of `shared_octets`, and
+    /// `found` the result of `found_places`.
     pub(crate) fn new(shared: &'a [[u8; 2]], found: Vec<usize>) -> LastTarget<'a>
         ensures { result ≡ [] }
     {
@@ -101,7 +101,7 @@ impl<'a> LastTarget<'a> {
         self.next = self.passed;
     }
 
-    /// The place where the target was found, or probably is, among the checked names.
+    /// The index among the checked names at which the target was found, or probably is.
     pub(crate) fn probable_place(&self, names: &[CheckedName<'_>]) -> Option<usize> {
         match (self.place, names.get(self.next)) {
             (Some(place), _) => Some(place),
@@ -113,7 +113,7 @@ impl<'a> LastTarget<'a> {
         }
     }
 
-    // The place in the target's slot, if the target is there.
+    // The index in the target's slot, if the checked name at that index is the target.
     fn found_before(&self, names: &[CheckedName<'_>]) -> Option<usize> {
         let place = *self.found.get(slot_of(&self.name))?;
         if names.get(place)?.key == self.key() {
@@ -133,7 +133,8 @@ impl<'a> LastTarget<'a> {
     }
 }
 
-/// Slots for the places of targets; none if `shared`, the length of the shared octets' list, is 0.
+/// Slots for the indexes of targets. There are none if `shared`, the length of the result of
+/// `shared_octets`, is 0.
 pub(crate) fn found_places(alloc: Global, shared: usize) -> Result<Vec<usize>, AllocError> {
     let mut found = Vec::new(alloc);
     if shared > 0 {
@@ -142,8 +143,8 @@ pub(crate) fn found_places(alloc: Global, shared: usize) -> Result<Vec<usize>, A
     Ok(found)
 }
 
-// The slot of a name: the highest 13 bits of a product of its first four octets with `SPREAD`, so
-// that each of these octets affects the slot. 0 if the name is shorter.
+// The slot of a name: the highest 13 bits of the 32-bit product of its first four octets and
+// `SPREAD`, so that each of these octets affects the slot. 0 if the name has fewer octets.
 fn slot_of(name: &Name) -> usize {
     match name.octets().first_chunk::<4>() {
         Some(front) => (u32::from_le_bytes(*front).wrapping_mul(SPREAD) / 524_288) as usize,

@@ -9,8 +9,8 @@ use std::marker::Model;
 
 const MAX_OCTETS: usize = 255;
 
-/// The key of a name in lower case. Keys compared octet by octet are in canonical order
-/// (RFC 4034 6.1).
+/// The key of a name in lower case. Comparing keys octet by octet gives the canonical order of the
+/// names (RFC 4034 6.1).
 #[derive(Drop)]
 pub(crate) struct Key {
     octets: [u8; MAX_OCTETS],
@@ -49,9 +49,9 @@ impl Key {
         key
     }
 
-    /// Changes the key of one name to the key of another. The labels at the end that both share
-    /// are kept, so that names which differ only in their first labels take little time, however
-    /// many labels they have.
+    /// Changes the key of `from` to the key of `name`. Labels that both names share at their ends
+    /// are not written again, so that names which differ only in their first labels take little
+    /// time, however many labels they have.
     pub(crate) fn move_to(&mut self, from: &NameRef<'_>, name: &NameRef<'_>)
         requires { self.old ≡ name_key from.now }
         ensures { self.new ≡ name_key name.now }
@@ -89,7 +89,7 @@ pub(crate) fn is_below(key: &[u8], other: &[u8]) -> bool
     key.len() > other.len() && is_under(key, other)
 }
 
-/// The number of equal octets at the ends of both.
+/// The length of the longest common suffix of both.
 pub(crate) fn count_alike(one: &[u8], other: &[u8]) -> usize
     ensures { AreAlike result one.now other.now }
 {
@@ -97,7 +97,7 @@ pub(crate) fn count_alike(one: &[u8], other: &[u8]) -> usize
     one.len() - before_alike::<1>(left, right).0.len()
 }
 
-// What comes before the equal chunks of `N` octets at the ends of both.
+// What is left of each before the equal chunks of `N` octets with which both end.
 fn before_alike<'a, const N: usize>(one: &'a [u8], other: &'a [u8]) -> (&'a [u8], &'a [u8])
     requires some { 0 < N }
     requires few { N ≤ 64 }
@@ -117,9 +117,9 @@ fn before_alike<'a, const N: usize>(one: &'a [u8], other: &'a [u8]) -> (&'a [u8]
     (one, other)
 }
 
-// Turns `key` into the key of the name with these octets. `key` has the length of that key, and
-// begins like the key of another name. The last `alike` octets of both names are equal; the shared
-// labels in them stay in the key.
+// Turns `key` into the key of the name with these octets. `key` has the length that the new key
+// needs, and begins like the key of another name. The last `alike` octets of both names are equal;
+// what `key` already has for the labels in these octets is left as it is.
 fn put_labels(octets: &[u8], alike: usize, key: &mut [u8])
     requires wire { IsWireForm octets.now }
     requires room { length octets.now ≡ length key.old + 1 }

@@ -12,7 +12,7 @@ use crate::store::stored::StoredRecord;
 use dns_name::NameRef;
 use std::alloc::{AllocError, Global};
 
-// If records have no more octets on average, their order in the file is not kept.
+// If records have at most this many octets on average, their order in the file is not stored.
 const FEW_OCTETS: usize = 64;
 
 /// The keys of owners, and the order of their records in the file.
@@ -20,15 +20,16 @@ const FEW_OCTETS: usize = 64;
 pub(crate) struct OwnerKeys {
     /// The key of the origin, then the keys of the owners.
     pub(crate) keys: Vec<u8>,
-    /// The place at which each record's owner key begins. Adjacent records of one owner share a
-    /// key.
+    /// For each record, the offset in `keys` at which its owner's key begins. Adjacent records of
+    /// one owner share a key.
     pub(crate) starts: Vec<u32>,
-    /// The number of records before each one in the file. Empty if records are short.
+    /// For each record, how many records come before it in the file. Empty if records are short.
     pub(crate) numbers: Vec<u32>,
 }
 
-/// The keys of the owners, and the runs of adjacent records of one owner, in order. Takes memory
-/// for the octets of the owners, and 28 octets for each record, or 32 if the file's order is kept.
+/// The keys of the owners, and one run for each stretch of adjacent records with the same owner, in
+/// the order of `records`. Takes memory for the octets of the owners, and 28 octets for each
+/// record, or 32 if the file's order is stored.
 #[tactic(auto, using(crate::proofs::SearchSteps::wire_steps))]
 pub(crate) fn keys_of<'a>(
     alloc: Global,
@@ -92,14 +93,14 @@ fn in_turn(alloc: Global, count: u32) -> Result<Vec<u32>, AllocError> {
     Ok(numbers)
 }
 
-/// Swaps the numbers of two records, if they are kept.
+/// Swaps the numbers of two records, if `numbers` has both.
 pub(crate) fn swap_numbers(numbers: &mut [u32], one: usize, other: usize) {
     if one < numbers.len() && other < numbers.len() {
         numbers.swap(one, other);
     }
 }
 
-/// The key of a record's owner; it begins at `start`.
+/// The key of a record's owner. It begins at the offset `start` in `keys`.
 #[tactic(auto, using(crate::proofs::Common::wire_some))]
 pub(crate) fn key_at<'a>(keys: &'a [u8], start: u32, of: &StoredRecord) -> &'a [u8]
     ensures value { result.now ≡ key_in keys.now start of.now.owner }

@@ -1,7 +1,7 @@
 //! Brings records into canonical order with few moves.
 //!
-//! A sort that compares whole names is slow. So runs of records of one owner are sorted instead of
-//! the records, by a few octets of their keys at a time, and then each record is moved once.
+//! A sort that compares whole names is slow. So runs of adjacent records with the same owner are
+//! sorted first, by a few octets of their keys at a time, and then each record is moved once.
 ghost use Rattle.std.specs.Prelude.{◌≡◌, ◌<◌, ◌≤◌, All, length, IfOk};
 ghost use Rattle.std.specs.List.Sorted.{IsPermutation};
 ghost use Rattle.dns_spec.specs.Meaning.{most_records};
@@ -14,14 +14,14 @@ use crate::store::stored::StoredRecord;
 use std::alloc::{AllocError, Global};
 use std::cmp::Ordering;
 
-// The most records of one owner that are sorted by whole comparisons.
+// At most this many records of one owner are sorted by comparing whole records.
 const FEW_RECORDS: usize = 8;
 
-/// Moves records, with the places of their keys and with their numbers, into canonical order, and
-/// keeps duplicates. The result is unverified: callers check the order, and sort if it is wrong.
+/// Moves records into canonical order, and their entries in `starts` and `numbers` with them.
+/// Duplicates stay. The result is unverified: callers check the order, and sort if it is wrong.
 ///
-/// Takes 24 octets of memory for each record of the largest owner, and 4 for each record; before
-/// that, at most 6 for each run.
+/// Takes 4 octets of memory for each record, and 24 for each record of the owner with the most
+/// records; before that, at most 6 for each run.
 #[tactic(auto, using(crate::proofs::SearchSteps::swap_steps))]
 pub(crate) fn presort(
     alloc: Global,
@@ -46,7 +46,7 @@ pub(crate) fn presort(
     Ok(())
 }
 
-// For each place of the sorted list, the place from which its record comes.
+// For each index in the sorted list, the present index of the record that belongs there.
 fn places(
     alloc: Global,
     mut runs: Vec<Run>,
@@ -83,7 +83,7 @@ fn places(
     Ok(places)
 }
 
-// Sorts the records of one owner, whose places are in `places` from `first` on.
+// Sorts the indexes of the records of one owner, which are in `places` from `first` on.
 fn sort_own(
     records: &[StoredRecord],
     places: &mut [u32],
@@ -109,7 +109,7 @@ fn sort_own(
     Ok(())
 }
 
-// The same for many records, as runs of one record each.
+// Sorts the indexes of many records of one owner, as runs of one record each.
 fn sort_many(
     records: &[StoredRecord],
     places: &mut [u32],

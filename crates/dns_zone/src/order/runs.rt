@@ -1,9 +1,9 @@
 //! Runs of records, sorted by their owners or by their data.
 //!
-//! A sort that compares whole names is slow. Here each run keeps a few octets beside it, its
-//! front, by which it is compared. If several runs have equal fronts, each is compared once with a
-//! chosen one of them. The next front of a run has the number of octets that it shares with the
-//! chosen run, and the octets that follow.
+//! A sort that compares whole names is slow. Here runs are compared by their fronts: each run
+//! stores, as its front, a few octets of its key or data. If several runs have equal fronts, each
+//! is compared once with a chosen one of them, and gets a new front: the number of octets that it
+//! shares with the chosen run, and the octets that follow these.
 ghost use Rattle.std.specs.Prelude.{◌≡◌, ◌≤◌, length};
 
 use crate::checks::lcp_search::rests;
@@ -15,15 +15,15 @@ use std::alloc::{AllocError, Global};
 // The number of octets of a key or of data in a front.
 const FRONT_OCTETS: usize = 12;
 
-// The last octet of a front if more octets follow it.
+// The last octet of a front if the key or data has more octets after it.
 const MORE: usize = 13;
 
 // The last octet of a front that contains a TTL.
 const LAST: u128 = 255;
 
-// One more than the most octets that two parts (keys or data) can share. In a front, the place of a
-// part that comes before the chosen part is the number of octets that both share; the place of a
-// part after it is twice `MOST_SHARED` minus that number.
+// One more than the most octets that two parts (keys or data) can share. A front begins with a
+// number called its place. If the part was compared with a chosen part and comes before it, the
+// place is the number of octets that both share; otherwise twice `MOST_SHARED` minus that number.
 const MOST_SHARED: usize = 65_536;
 
 // The most times that fronts are renewed: even data of 65,535 octets has fewer fronts.
@@ -32,8 +32,8 @@ const MOST_FRONTS: usize = 5_500;
 /// Adjacent records, from `at` to before `end`, and the front by which they are compared.
 #[derive(Clone, Copy)]
 pub(crate) struct Run {
-    // The halves of the front. As one number they would take 8 octets more, since a run would have
-    // to begin at a multiple of 16.
+    // The halves of the front. With one `u128` instead, a run would take 8 octets more, since it
+    // would have to begin at a multiple of 16.
     high: u64,
     low: u64,
     pub(crate) at: u32,
@@ -51,7 +51,8 @@ impl Run {
         }
     }
 
-    /// A run that begins with an owner's first record. Its front is relative to the origin's key.
+    /// A run that begins with an owner's record at `at`. Its front compares the owner's key with
+    /// the origin's.
     pub(crate) fn of_owner(origin: &[u8], key: &[u8], at: u32) -> Run {
         let front = if begins_with(key, origin) {
             let inside = key.split_at(origin.len()).1;
@@ -62,7 +63,7 @@ impl Run {
         Run::of(front, at)
     }
 
-    /// A run of one record, compared by type and data.
+    /// A run of one record, to be compared by type and data.
     pub(crate) fn of_data(record: &StoredRecord, at: u32) -> Run {
         let place = 2 * MOST_SHARED + record.rtype.0 as usize;
         Run::of(front_of(place, record.rdata()), at)
@@ -81,8 +82,9 @@ impl Run {
     }
 }
 
-/// Sorts runs by their fronts if at most a quarter of them are out of order: these are taken out,
-/// sorted, and merged with the others. Most files list their names in order, with few exceptions.
+/// Sorts runs by their fronts if at most a quarter of them are out of order: the runs out of order
+/// are taken out, sorted, and merged with the remaining runs. Most files list their names in order,
+/// with few exceptions.
 pub(crate) fn merge_few(alloc: Global, runs: &mut [Run]) -> Result<(), AllocError> {
     let mut left = keep_rising(runs);
     let mut free = runs.len();
@@ -104,9 +106,9 @@ pub(crate) fn merge_few(alloc: Global, runs: &mut [Run]) -> Result<(), AllocErro
     Ok(())
 }
 
-// Moves runs to the beginning of the list so that their fronts are in order, and returns their
-// number. If a run sorts before the last of these, but not before the second last, it replaces the
-// last. Stops if more than a quarter of all runs are out of order.
+// Moves runs whose fronts are in order to the beginning of the list, and returns how many they are.
+// A run that sorts before the last of them, but not before the second last, replaces the last.
+// Stops if more than a quarter of all runs are out of order.
 fn keep_rising(runs: &mut [Run]) -> usize
     ensures count { result ≤ length runs.old }
     ensures same { length runs.new ≡ length runs.old }
@@ -140,8 +142,8 @@ fn sort_fronts(runs: &mut [Run])
 /// The order in which runs are sorted.
 #[derive(Drop)]
 pub(crate) enum Sorted<'a> {
-    /// By the keys of their owners: all keys, the records, and the place at which each record's
-    /// key begins.
+    /// By the keys of their owners. The fields are all keys, the records, and for each record the
+    /// offset at which its owner's key begins.
     ByOwner(&'a [u8], &'a [StoredRecord], &'a [u32]),
     /// By their data, then their TTLs. Each run is one record.
     ByData(&'a [StoredRecord]),
@@ -153,12 +155,12 @@ impl<'a> Sorted<'a> {
         self.sort_further(runs, MOST_FRONTS);
     }
 
-    /// Whether two runs of a sorted list are equal.
+    /// Whether two runs of a sorted list have equal fronts and equal keys or data.
     pub(crate) fn are_alike(&self, one: &Run, other: &Run) -> bool {
         one.front() == other.front() && self.part(one) == self.part(other)
     }
 
-    // Sorts runs by their fronts, and runs with equal fronts by what follows.
+    // Sorts runs by their fronts, and runs with equal fronts by new fronts, at most `times` times.
     fn sort_further(&self, runs: &mut [Run], times: usize)
         ensures { length runs.new ≡ length runs.old }
     {
@@ -205,7 +207,7 @@ impl<'a> Sorted<'a> {
         end != LAST
     }
 
-    // The octets by which a run is compared, apart from types and TTLs.
+    // The key or data by which a run is compared.
     fn part(&self, run: &Run) -> &'a [u8] {
         let at = run.at as usize;
         match self {
@@ -221,15 +223,14 @@ impl<'a> Sorted<'a> {
     }
 }
 
-// The number of octets that parts with this front share.
+// How many octets all parts with this front are known to share.
 fn known_octets(front: u128) -> usize {
     let place = (front >> 104) as usize;
     place.min((2 * MOST_SHARED).saturating_sub(place)) + FRONT_OCTETS
 }
 
-// The front of a part, compared with another part. Both are known to share `known` octets.
-// Parts before the other sort by how many octets they share with it, parts after it in the reverse
-// order.
+// The front of a part, compared with another part. Both are known to share `known` octets. The more
+// octets a part shares with the other, the nearer to it the part sorts, whether before or after.
 fn front_beside(other: &[u8], part: &[u8], known: usize) -> u128 {
     let (rest, others) = rests(part, other, known);
     let shared = (part.len() - rest.len()).min(MOST_SHARED - 1);
@@ -244,15 +245,15 @@ fn front_beside(other: &[u8], part: &[u8], known: usize) -> u128 {
     )
 }
 
-// A front: a place, the next 12 octets of the part, and the number of octets left, at most `MORE`.
+// A front: a place, the first 12 octets of `rest`, and the length of `rest`, at most `MORE`.
 fn front_of(place: usize, rest: &[u8]) -> u128 {
     let end = rest.len().min(MORE);
     let (front, _) = rest.split_at(rest.len().min(FRONT_OCTETS));
     ((place as u128) << 104) | (number_of(front) << 8) | end as u128
 }
 
-// At most 12 octets, padded with 0, as a big-endian number. Eight octets or more are read as two
-// numbers that may overlap.
+// At most 12 octets as a big-endian number, padded with 0 at the end. Eight octets or more are read
+// as two numbers that may overlap.
 fn number_of(front: &[u8]) -> u128 {
     if let (Some(first), Some(last)) = (front.first_chunk::<8>(), front.last_chunk::<8>()) {
         let missing = FRONT_OCTETS.saturating_sub(front.len()) as u32;

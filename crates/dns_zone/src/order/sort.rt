@@ -57,8 +57,8 @@ pub(crate) fn sorted(
     Ok((records, keyed))
 }
 
-// Removes each record that is equal to the one before it. False, with nothing removed, if some
-// record comes after the next one in canonical order.
+// Removes each record that is equal to the record before it. Returns false, and removes nothing, if
+// some record comes after the next record in canonical order.
 fn leave_out_duplicates(records: &mut Vec<StoredRecord>, keyed: &mut OwnerKeys) -> bool
     requires { AreKeyed keyed.old.keys.items records.old.items keyed.old.starts.items }
     ensures sorted { IsSorted record_order records.old.items → result ≡ true }
@@ -85,8 +85,8 @@ fn leave_out_duplicates(records: &mut Vec<StoredRecord>, keyed: &mut OwnerKeys) 
     true
 }
 
-// Moves the records that differ from the one before them to the front, and returns their number (1
-// for an empty list). `None` if some record comes after the next one in canonical order.
+// Moves each record that differs from the record before it to the front, and returns how many these
+// are (1 for an empty list). `None` if some record comes after the next in canonical order.
 fn once_in_front(
     keys: &[u8],
     records: &mut [StoredRecord],

@@ -1,11 +1,11 @@
-//! The octets of a stored record, kept in place if they are few, as for most records.
+//! The octets of a stored record: inside the record if they are few, as for most records.
 ghost use Rattle.std.specs.Prelude.{◌≡◌, ◌+◌, ◌≤◌, ◌++◌, length, IfOk};
 ghost use Rattle.dns_zone.specs.EntryForm.{octets_in};
 
 use std::alloc::{AllocError, Global};
 use std::marker::Model;
 
-/// The most octets that are stored in place, so that a record has 72 octets.
+/// The most octets that are stored inside a record; with them a record takes 72 octets.
 pub(crate) const MOST_IN_PLACE: usize = 62;
 
 /// At most 62 octets.
@@ -56,7 +56,7 @@ pub(crate) enum RecordOctets {
 }
 
 impl RecordOctets {
-    /// A copy of an owner and of data. Memory is allocated only for many octets, and once.
+    /// A copy of an owner and of data. Makes one allocation if both exceed 62 octets together.
     pub(crate) fn of(alloc: Global, owner: &[u8], rdata: &[u8]) -> Result<RecordOctets, AllocError>
         ensures { IfOk result (λ octets. octets_in octets ≡ owner.now ++ rdata.now) }
     {

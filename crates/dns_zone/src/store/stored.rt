@@ -11,7 +11,7 @@ use dns_rdata::RType;
 use std::alloc::{AllocError, Global};
 use std::marker::Model;
 
-/// A record: 72 octets, and one allocation if its owner and its data have more than 62 octets.
+/// A record. Takes 72 octets, and one allocation if its owner and data exceed 62 octets together.
 #[derive(Drop)]
 pub(crate) struct StoredRecord {
     // The owner in wire form, followed by the data.

@@ -5,8 +5,8 @@ use crate::tree::Tree;
 
 /// How many nodes were visited, and how many labels compared.
 ///
-/// New counts can only be made from a tree, can't be copied, and only rise. So code without a tree
-/// can use only the counts that it is given.
+/// Counts can only be made from a tree, can't be copied, and only rise. So code that has no tree
+/// can only add to the counts that it is given.
 #[derive(Drop)]
 pub(crate) struct Counts {
     visits: u32,

@@ -11,17 +11,18 @@ use crate::tree::{Tree, to_u32};
 use dns_rdata::RType;
 use std::alloc::{AllocError, Global};
 
-// A hint that is not known yet.
+// Marks a record whose hint has not been found yet.
 const UNKNOWN: u32 = u32::MAX;
 
 /// For each record, the row of the last existing name on the way to its target; 0 if it has no
 /// target, if the target is outside the zone, or if that name is the origin. The way of an alias
-/// ends before a cut. Takes 4 octets of memory for each record, and 4 more until it returns if the
-/// order of the file is known.
+/// ends before a cut. Takes 4 octets of memory for each record and, if the order of the file is
+/// stored, 4 more until it returns.
 ///
-/// Targets are visited in the order of the file. A short line there has a target of many labels
-/// only below the origin in force, and the names above such a target are not passed again until
-/// other names as long are written out. So the steps grow with the octets of the file.
+/// Targets are visited in the order of the file. There, a short line can have a target of many
+/// labels only if the origin in force has many. `Way` stores the names above such a target, and
+/// passes them again only after other names of the same lengths were written out in the file. So
+/// the number of steps grows with the octets of the file.
 pub(crate) fn hints_of(alloc: Global, tree: &Tree) -> Result<Vec<u32>, AllocError>
     requires { IsNameTree tree.now }
     ensures { IfOk result (λ hints. AreHints tree.now.zone tree.now.rows hints.items) }
@@ -67,8 +68,8 @@ fn find_hint<'z>(entry: &'z StoredRecord, way: &mut Way<'z>, way_of_aliases: &mu
     way.hint_to(&target)
 }
 
-// The places of the records in the order of the file, as far as `numbers` has it. The numbers of
-// removed duplicates have no place.
+// The indexes of the records in the order of the file, as far as `numbers` has that order. A
+// removed duplicate has the entry `u32::MAX`.
 fn places_in_file(
     alloc: Global,
     numbers: &[u32],

@@ -103,7 +103,7 @@ impl<'z> Kids<'z> {
 }
 
 // Compares a row's label with another label, whose key is `key`. Usually the keys differ. If they
-// are equal and one label has no octets beyond its key, it is a prefix of the other.
+// are equal and one label has no octets beyond its key, that label is a prefix of the other.
 fn order_of(records: &[StoredRecord], row: &Row, key: &LabelKey, label: &[u8]) -> Ordering
     requires row { IsRow records.now row.now (row_name records.now row.now) }
     requires key { IsKey key.now (map to_ascii_lowercase label.now) }

@@ -35,7 +35,7 @@ impl LabelKey {
     }
 }
 
-// The first eight octets in lower case as a number.
+// The first eight octets in lower case as a big-endian number, padded with 0.
 fn eight_of(label: &[u8]) -> u64
     ensures { IsEight result (map to_ascii_lowercase label.now) }
 {
@@ -84,7 +84,7 @@ pub(crate) fn order_to(lower: &[u8], label: &[u8]) -> Ordering
     }
 }
 
-// What follows the equal chunks of eight octets with which both begin.
+// What is left of each after the equal chunks of eight octets with which both begin.
 fn after_same<'a>(lower: &'a [u8], label: &'a [u8]) -> (&'a [u8], &'a [u8])
     requires { map to_ascii_lowercase lower.now ≡ lower.now }
     ensures { label_order result.0.now (map to_ascii_lowercase result.1.now)

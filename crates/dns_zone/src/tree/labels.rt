@@ -8,8 +8,8 @@ use dns_name::{Label, first_label};
 /// The most labels that a name can have, since each has at least two octets on the wire.
 pub const MOST_LABELS: usize = 127;
 
-/// Stores where each of the first `count` labels of a name begins in its wire form. One pass does
-/// this for up to 127 labels, which are then taken from the right.
+/// Stores the offset in the wire form at which each of the first `count` labels of a name begins.
+/// One pass finds all offsets; then the labels can be taken from the right.
 pub fn put_starts(octets: &[u8], count: usize, starts: &mut [u8])
     requires form { IsWireForm octets.now }
     requires labels { count ≤ length (labels_of octets.now) }
@@ -24,7 +24,7 @@ pub fn put_starts(octets: &[u8], count: usize, starts: &mut [u8])
     }
 }
 
-/// The label of a name after its first `count` labels.
+/// The label that comes after the first `count` labels of a name.
 pub fn label_after<'a>(octets: &'a [u8], starts: &[u8], count: usize) -> Label<'a>
     requires start { BeginsAt octets.now count (get_or starts.now count 0) }
     requires known { count < length starts.now }

@@ -11,10 +11,10 @@ use crate::store::stored::StoredRecord;
 use dns_name::NameRef;
 use dns_rdata::RType;
 
-// How many records are searched one by one: most owners have no more.
+// Up to this many records are searched one by one. Most owners have no more.
 const FEW: usize = 4;
 
-/// The number of records whose owners are at or below the name; these must come first.
+/// The number of records whose owners are at or below the name. These records must come first.
 pub(crate) fn count_under(records: &[StoredRecord], name: &NameRef<'_>) -> usize
     requires in_front { IsPartitionedBy
         (λ (r : ResourceRecord). at_or_below r.owner name.now) records.now }
@@ -49,7 +49,7 @@ pub(crate) fn count_in_front(records: &[StoredRecord], name: &NameRef<'_>) -> us
         .count()
 }
 
-/// Whether one of the records, which are ordered by type, is of the type.
+/// Whether some record has the type. The records are ordered by type.
 pub(crate) fn has_type(records: &[StoredRecord], rtype: RType) -> bool
     requires { IsNonDecreasingBy (λ (r : ResourceRecord). r.rtype) records.now }
     ensures { result ≡ list_any (λ (r : ResourceRecord). r.rtype == rtype.0) records.now }
@@ -63,8 +63,8 @@ pub(crate) fn has_type(records: &[StoredRecord], rtype: RType) -> bool
     }
 }
 
-/// The records of a type, from records ordered by type. Most names own records of one type only,
-/// so the first and the last record decide.
+/// The records of a type, from records ordered by type. Most names own records of one type only, so
+/// the types of the first and the last record usually decide.
 pub(crate) fn of_type<'a>(records: &'a [StoredRecord], rtype: RType) -> &'a [StoredRecord]
     requires { IsNonDecreasingBy (λ (r : ResourceRecord). r.rtype) records.now }
     ensures { result.now ≡ filter (λ (r : ResourceRecord). r.rtype == rtype.0) records.now }

@@ -103,9 +103,9 @@ impl<'z> Node<'z> {
         NameRef::new(octets_of(self.tree.zone.records(), row))
     }
 
-    /// The node at which the way to the target of the type's record `i` (from 0) begins: the last
-    /// existing name below the origin on that way; for an alias, the last of these that is not at
-    /// or below a cut. `None` if there is no such name or record; then the way begins at the apex.
+    /// Where the way to the target of the type's record `i` (from 0) begins: at the last existing
+    /// name below the origin on that way or, for an alias, at the last such name that is not at or
+    /// below a cut. `None` if there is no such name or record; then the way begins at the apex.
     /// The node is not visited yet.
     pub fn hint(&self, rtype: RType, i: usize) -> Option<TargetHint<'z>>
         ensures node { result ≡ option_and_then (hint_node self.now.zone)
@@ -126,8 +126,8 @@ impl<'z> Node<'z> {
         })
     }
 
-    /// The records of a type at the name, in the order of the octets of their data; `None` if there
-    /// are none (RFC 2181 5).
+    /// The records of a type at the name, in the order of the octets of their data; `None` if the
+    /// name owns no record of the type (RFC 2181 5).
     pub fn set(&self, rtype: RType) -> Option<RecordSet<'z>>
         ensures set { result ≡ set_of (rrset self.now.zone self.now.name rtype.0) }
         ensures rtype { IfSome result (λ s. s.rtype ≡ rtype.0) }

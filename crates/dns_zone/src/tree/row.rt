@@ -17,14 +17,14 @@ pub(crate) struct RowNumber(pub(crate) usize);
 /// which are its own.
 #[derive(Drop)]
 pub(crate) struct Row {
-    /// The first record at or below the name.
+    /// The index of the first record at or below the name.
     pub(crate) first: u32,
-    /// The end of the name's own records, which come first.
+    /// The index after the name's own records, which come first.
     pub(crate) own_end: u32,
-    /// The end of the records at or below the name.
+    /// The index after the records at or below the name.
     pub(crate) end: u32,
-    /// Where the name begins in the wire form of the first record's owner, which ends with the
-    /// name.
+    /// The offset at which the name begins in the wire form of the first record's owner, which ends
+    /// with the name.
     pub(crate) place: u8,
     /// The length of the name's first label.
     pub(crate) label_octets: u8,
@@ -33,8 +33,8 @@ pub(crate) struct Row {
 }
 
 impl Row {
-    /// The row of a name. The record at `first` is at or below it; no earlier record is, and none
-    /// from `end` on.
+    /// The row of a name. The owner of the record at `first` is at or below the name. The owners of
+    /// the records before `first` and from `end` on are not.
     pub(crate) fn of(records: &[StoredRecord], name: &NameRef<'_>, first: usize, end: usize) -> Row
         requires canonical { IsCanonical records.now }
         requires lower { folded name.now ≡ name.now }

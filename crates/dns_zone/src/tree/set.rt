@@ -46,8 +46,8 @@ impl<'z> RecordSet<'z> {
     }
 }
 
-// The set of records that have one type, with the TTL of the first; in a checked zone all have it
-// (RFC 2181 5.2). `None` if there are no records.
+// The set of these records, which have one type. Its TTL is that of the first record; in a checked
+// zone all records of a set have the same TTL (RFC 2181 5.2). `None` if there are no records.
 pub(crate) fn lent_set<'z>(records: &'z [StoredRecord]) -> Option<RecordSet<'z>>
     requires { AreOfType records.now }
     ensures { result ≡ set_of records.now }

@@ -15,7 +15,7 @@ use std::marker::Model;
 /// A walk over one zone: how many nodes it visited, and how many labels it compared.
 ///
 /// A node comes only from a walk, which counts it. A walk cannot be copied, and neither the zone
-/// nor another walk can be obtained from it, so code that is given one has all its steps counted.
+/// nor another walk can be obtained from it. So all steps of code that is given a walk are counted.
 #[derive(Drop)]
 pub struct Steps<'z> {
     tree: &'z Tree,

@@ -17,8 +17,8 @@ use dns_name::{Label, NameRef, first_label};
 use dns_rdata::RType;
 use std::marker::Model;
 
-// The end of the way to a name: the row of the last existing name on it, or 0 if there is none
-// below the origin. The way goes on below the name only if the name itself is its end.
+// The end of the way to a name: the row of the last existing name on the way, or 0 if that is the
+// origin. `goes_on` says whether the name itself is the end; only then can a way go on below it.
 #[derive(Clone, Copy, Default)]
 struct WayEnd {
     row: RowNumber,
@@ -44,13 +44,13 @@ impl Default for WayName<'_> {
     }
 }
 
-/// The ways to one target after another. The way of an alias ends before a cut. For each target,
-/// the way goes on from the last name on it that was kept.
+/// The ways to one target after another. The way to the target of an alias ends before a cut. Each
+/// way starts from the longest name on it that `names` contains.
 #[derive(Drop)]
 pub(crate) struct Way<'z> {
     tree: &'z Tree,
     is_of_alias: bool,
-    // For each number of octets, the last name of this length on a way; at first the origin.
+    // For each length in octets, the last name of that length on any way; at first the origin.
     names: ArrayVec<WayName<'z>, SLOTS>,
 }
 
@@ -127,8 +127,8 @@ impl<'z> Way<'z> {
         self.keep(name, end)
     }
 
-    // The end of the way to the name that has this label below another name. `above` is the end of
-    // the way to the other name.
+    // The end of the way to a name. `label` is its first label, and `above` is the end of the way
+    // to the name that follows that label.
     fn go_down(&self, above: WayEnd, label: &Label<'_>) -> WayEnd
         requires { IsNodeAt self.now.tree above.row.0 }
         ensures { (n : DomainName) → IsWayEnd self.now n above
@@ -153,7 +153,7 @@ impl<'z> Way<'z> {
         WayEnd { row, goes_on: true }
     }
 
-    // Keeps a name in place of another name of its length, and returns the end of the way to it.
+    // Stores a name and the end of the way to it in place of another of its length. Returns `end`.
     fn keep(&mut self, name: &NameRef<'z>, end: WayEnd) -> WayEnd
         requires { IsWayEnd self.old name.now end }
         ensures same { self.new ≡ self.old }

@@ -8,7 +8,7 @@ use dns_zone::{BuildFault, CheckFault, CheckedZone, Store, Zone, print};
 use std::alloc::{AllocError, Global};
 use std::test::Fail;
 
-// An origin, a file, and the zone's origin in wire form and its serial.
+// An origin, a file, the origin of the zone that is built in wire form, and the zone's serial.
 const ORIGINS: &[(&[u8], &str, &[u8], u32)] = &[
     (
         b"Example.",
@@ -47,7 +47,7 @@ fn origins_and_serials(rt: HostRuntime) {
 // A fault: the owner's wire form, and the number of the code.
 type Reported<'a> = (&'a [u8], u8);
 
-// The file of a zone `example.` in two parts, and its faults.
+// The two parts of the file of a zone `example.`, and the zone's faults.
 const FAULTS: &[(&str, &str, &[Reported<'static>])] = &[
     (
         SMALL,

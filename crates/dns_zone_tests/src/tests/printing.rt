@@ -52,7 +52,8 @@ const SHORT_PRINTED: &str = ". 1 IN SOA ns. . 1 2 3 4 5
 ns. 1 IN A 192.0.2.1
 ";
 
-// The file of a zone `example.` in two parts, and its text. Printed text is its own canonical text.
+// The two parts of the file of a zone `example.`, and the zone's canonical text. The canonical text
+// of a zone that is read from canonical text is the same text.
 const PRINTED: &[(&str, &str, &str)] = &[
     (SMALL, "", SMALL_PRINTED),
     // Lines that do not change the small zone.

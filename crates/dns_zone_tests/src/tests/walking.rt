@@ -13,8 +13,8 @@ use std::test::Fail;
 // Labels, the closest to the origin first.
 type Labels<'a> = &'a [&'a [u8]];
 
-// Labels, how many of them are found, and the lowest type at the last name found, or 0 if it owns
-// nothing.
+// Labels, how many of them are found, and the lowest type at the last name found, or 0 if that name
+// owns nothing.
 type Walked<'a> = (Labels<'a>, u32, u16);
 
 // Walks down from the origin as far as names exist.
@@ -65,7 +65,8 @@ fn has_data(node: &Node<'_>, rtype: RType, wanted: &[&[u8]]) -> bool {
     true
 }
 
-// Whether the RRset of a type has `count` records, each with this target, or without a target.
+// Whether the RRset of a type has `count` records, each with this target, or, if `target` is
+// `None`, without a target.
 fn has_targets(node: &Node<'_>, rtype: RType, count: usize, target: Option<&[u8]>) -> bool {
     let Some(set) = node.set(rtype) else {
         return false;
@@ -128,7 +129,7 @@ fn lends_targets(zone: &Zone) -> bool {
         & has_targets(&node, RType::TXT, 1, None)
 }
 
-// The way to a target begins at the last existing name on it.
+// Whether the way to each target begins at the last existing name on that way.
 fn has_hints(zone: &Zone) -> bool {
     let Some((_, node)) = walked(zone, &[b"h"]) else {
         return false;

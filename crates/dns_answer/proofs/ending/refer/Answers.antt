@@ -30,7 +30,7 @@ returns-then-not-are_all_inside-clause-took g c =
     (rw named at c.offer_addresses-are_all_inside.ensures.took)
     (rw named at c.offer_addresses.ensures.took)
 
--- if all targets are at or below the cut, or the reply is full, nothing is offered for others
+-- if all targets are at or below the cut, or the reply is full, no other addresses are offered
 pub returns-else-not-are_all_inside-clause-ends : goal.returns-else-not-are_all_inside-clause-ends
 returns-else-not-are_all_inside-clause-ends g c =
     let set = c.in-Some.ensures in

@@ -2,7 +2,7 @@ use Rattle.dns_master.proofs.Common.{◌≡◌, ◌+◌, ◌≤◌, length}
 use Rattle.dns_master.proofs.SourceSteps.{GivenSoFar}
 use Rattle.dns_master.proofs.reader.read_into.Given as goal
 
--- the octets read so far, and what the entries in them say
+-- the octets read so far, and what the entries in them mean
 abbrev pub invariant-pieces : goal.invariant-pieces
 invariant-pieces g l = record {
   so_far : GivenSoFar (g.R.Read.remaining l.initial.source.device)

@@ -1,7 +1,7 @@
 use Rattle.dns_master.proofs.Common.{◌≡◌, ◌≤◌, true, take, drop, length, list_all, is_string_octet}
 use Rattle.dns_master.proofs.run.plain_groups.Given as goal
 
--- the octets of the groups so far may all appear unescaped in a string
+-- all octets of the groups so far may appear in a string unescaped
 abbrev pub invariant-groups : goal.invariant-groups
 invariant-groups l = record {
   bound : l.front ≤ length l.text;

@@ -2,7 +2,7 @@ use Rattle.dns_name.proofs.Common.{◌≡◌, length, reverse, slice_cmp, orderi
 use Rattle.std.specs.declared.cmp.Ordering.{Ordering}
 use Rattle.dns_name.proofs.lent.order_of_labels.Given as goal
 
--- the order of names with the same number of labels, or `after` if they are equal
+-- the order of names with the same number of labels, or `after` if the names are equal
 abbrev order_then : DomainName → DomainName → Ordering → Ordering
 order_then n m after = ordering_then (slice_cmp label_order (reverse n) (reverse m)) after
 

@@ -2,7 +2,7 @@ use Rattle.dns_name.proofs.Common.{◌≡◌, ◌<◌, length}
 use Rattle.dns_name.proofs.OctetRuns.{AreLow}
 use Rattle.dns_name.proofs.octets.are_many_equal.Given as goal
 
--- the remaining octets decide like the whole runs
+-- the runs are equal if and only if the remaining octets are
 abbrev pub invariant-eights : goal.invariant-eights
 invariant-eights l = record {
   same : length l.right_rest ≡ length l.left_rest;

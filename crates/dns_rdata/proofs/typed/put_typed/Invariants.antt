@@ -2,7 +2,7 @@ use Rattle.dns_rdata.proofs.Common.{◌≤◌, length, drop, word_fields, fields
 use Rattle.dns_rdata.proofs.FormFronts.{Taken}
 use Rattle.dns_rdata.proofs.typed.put_typed.Given as goal
 
--- the words before the place are taken
+-- the words before index `place` have been taken
 abbrev pub invariant-words : goal.invariant-words
 invariant-words g l = record {
   taken : Taken (word_fields l.count (fields_in l.row.fields.now)) (drop l.place

@@ -1,7 +1,7 @@
 use Rattle.dns_rdata.proofs.Common.{◌≡◌, ◌≤◌, ◌++◌, [], IsTrue, length, replicate, are_strings, strings, field_words, string_count, AppendsAllBut, spaced}
 use Rattle.dns_rdata.proofs.write.put_strings.Given as goal
 
--- the strings before the rest are put
+-- every string in front of `rest` has been written, to `text` or to the sink
 abbrev pub invariant-strings : goal.invariant-strings
 invariant-strings g l = record {
   all : IsTrue (are_strings 0 l.rest);

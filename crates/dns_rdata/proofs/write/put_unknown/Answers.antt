@@ -1,7 +1,7 @@
 use Rattle.dns_rdata.proofs.Common.{rules, flat_map-append, append-nil, append_assoc, arith, OnErr-always, held_before, held_more, held_less, held_begun}
 use Rattle.dns_rdata.proofs.write.put_unknown.Goals as goal
 
--- the mark and the length, and the octets after a space
+-- the mark, the length and a space are put first, and then the octets as one word
 pub chunks-init : goal.chunks-init
 chunks-init g c = grind (arith, append_assoc, append-nil, held_before)
 

@@ -2,7 +2,7 @@ use Rattle.dns_wire.proofs.Common.{length, ◌-◌}
 use Rattle.dns_wire.proofs.QueryName.{ReadTo}
 use Rattle.dns_wire.proofs.query.name_end.Given as goal
 
--- the labels so far are the beginning of the name
+-- the labels so far are the first labels of the name
 abbrev pub invariant-labels : goal.invariant-labels
 invariant-labels l = ReadTo l.datagram l.at
 

@@ -1,7 +1,8 @@
 use Rattle.dns_wire.proofs.Common.{◌≡◌, true, ◌≤◌, length, ◌+◌, ◌-◌, ◌*◌, DomainName, wire, is_name, SpelledFrom}
 use Rattle.dns_wire.proofs.spelled.is_spelled.Given as goal
 
--- the part left to compare decides like the whole, and is a name's wire form if the whole is
+-- the suffix is spelled at place `at` if and only if the octets left to compare are spelled from
+-- the current place on; they are a name's wire form if the suffix is
 abbrev pub invariant-steps : goal.invariant-steps
 invariant-steps l = record {
   forth : SpelledFrom l.message l.run l.place l.rest → SpelledFrom l.message l.at l.at l.suffix;

@@ -2,7 +2,7 @@ use Rattle.dns_wire.proofs.Common.{◌≡◌, length, Follows, suffix_number}
 use Rattle.dns_wire.proofs.SuffixLemmas.{Keep}
 use Rattle.dns_wire.proofs.suffixes.keep_suffixes.Given as goal
 
--- the places kept and those still to come are the new places
+-- the places kept so far, followed by those still to be kept, are the new places
 abbrev pub invariant-suffixes : goal.invariant-suffixes
 invariant-suffixes g l = record {
   keep : Keep (suffix_number (g.H.SuffixHash.numbers l.initial.hash))

@@ -2,7 +2,7 @@ use Rattle.dns_wire.proofs.Common.{◌≡◌, length, ◌++◌, asked_places, su
 use Rattle.dns_wire.proofs.SuffixLemmas.{Left}
 use Rattle.dns_wire.proofs.suffixes.shared_suffix.Given as goal
 
--- the layout of the rest of the name ends the layout of the whole
+-- the layout of the name ends with the layout of `rest`
 abbrev pub invariant-suffixes : goal.invariant-suffixes
 invariant-suffixes g l =
     let head = suffix_number (g.H.SuffixHash.numbers l.initial.hash) in

@@ -1,7 +1,7 @@
 use Rattle.dns_zone.proofs.Common.{◌≡◌, ◌≤◌, ◌+◌, ◌++◌, length, failed_from}
 use Rattle.dns_zone.proofs.checks.add_failed.Given as goal
 
--- the faults found so far, and the faults of the rest, are all of them
+-- the faults found so far and the faults of the remaining checks are all faults
 abbrev pub invariant-checks : goal.invariant-checks
 invariant-checks l = record {
   all : l.found.items

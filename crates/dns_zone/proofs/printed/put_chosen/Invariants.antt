@@ -2,7 +2,7 @@ use Rattle.dns_zone.proofs.Common.{◌≡◌, ◌≤◌, ◌++◌, length, drop,
 use Rattle.dns_zone.proofs.PrintedRecords.{front_text}
 use Rattle.dns_zone.proofs.printed.put_chosen.Given as goal
 
--- the chosen records among the rest are still to be written
+-- the chosen records among the remaining records are still to be written
 abbrev pub invariant-records : goal.invariant-records
 invariant-records g l = record {
   fills : AppendsAllBut

@@ -1,7 +1,7 @@
 use Rattle.dns_master.proofs.Common.{◌≡◌, ◌+◌, ◌-◌, ◌≤◌, length, drop, run_length, by_itself}
 use Rattle.dns_master.proofs.run.RunKind.length_from.Given as goal
 
--- the octets so far and the rest of the run make up the whole run
+-- the octets so far, followed by the run in the remaining text, are the whole run
 abbrev pub invariant-units : goal.invariant-units
 invariant-units l = record {
   whole : run_length

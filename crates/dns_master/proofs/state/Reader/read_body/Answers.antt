@@ -6,7 +6,7 @@ use Rattle.dns_master.proofs.state.Reader.read_body.Goals as goal
 use Rattle.dns_master.proofs.state.Reader.read_body.Goals.{After-rdata}
 
 module _ (c : After-rdata) where
-  -- if each part is right, the record is given, unless there are too many before it
+  -- if each part is right, the record is given, unless there are too many records before it
   whole : (many : Bool) → nat_le 100000 c.args.self.now.count ≡ many
       → RecordMeans c.args.self.now c.args.fields.now (cond many (faulty too_many_records)
       (gives (with_owner c.args.self.now.last.owner (record {

@@ -1,7 +1,7 @@
 use Rattle.dns_rdata.proofs.Common.{◌≡◌, ◌++◌, All, map, length, part_folded, joined, lower_case, HasName}
 use Rattle.dns_rdata.proofs.rdata.Rdata.lowered.Given as goal
 
--- the parts before the remaining ones are in lower case
+-- the parts in front of the remaining ones have been appended in lower case
 abbrev pub invariant-parts : goal.invariant-parts
 invariant-parts l = record {
   names : All HasName l.parts;

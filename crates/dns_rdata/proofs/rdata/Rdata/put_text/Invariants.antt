@@ -2,7 +2,7 @@ use Rattle.dns_rdata.proofs.Common.{◌≡◌, ◌≤◌, ◌++◌, true, drop, 
 use Rattle.dns_spec.proofs.DataWords.SaidAgain.{is_counted}
 use Rattle.dns_rdata.proofs.rdata.Rdata.put_text.Given as goal
 
--- the fields before the rest are put
+-- every field in front of `rest` has been written, to `text` or to the sink
 abbrev pub invariant-fields : goal.invariant-fields
 invariant-fields g l = record {
   cut : AreCut (drop l.field-index l.field-items) l.rest;

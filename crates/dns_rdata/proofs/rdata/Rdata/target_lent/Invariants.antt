@@ -1,7 +1,7 @@
 use Rattle.dns_rdata.proofs.Common.{◌≡◌, All, length, first_name, target, HasName}
 use Rattle.dns_rdata.proofs.rdata.Rdata.target_lent.Given as goal
 
--- the first name is still to come
+-- the first name among the remaining parts is the target
 abbrev pub invariant-parts : goal.invariant-parts
 invariant-parts l = record {
   names : All HasName l.parts;

@@ -37,7 +37,7 @@ returns-then-not-first-clause-writes g c =
     (subst (IsLaid ms n) again laid, none_kept _ ms n start _ form c.requires.start laid))
 
 module _ (g : given.Over) (c : goal.After-append_end-2 g) where
-  -- the owner is found in the question
+  -- the owner is a suffix of the question's name, so it is laid out as a pointer
   laid : (ms : List Placed) → HasNames c.args.self.now (g.H.SuffixHash.numbers c.args.hash.now) ms
       → IsLaid ms c.args.owner.now (zero, Some c.in-Some.place)
   laid ms holds =

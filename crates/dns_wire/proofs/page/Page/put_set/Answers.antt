@@ -6,7 +6,7 @@ use Rattle.dns_wire.proofs.page.Page.put_set.Goals as goal
 use Rattle.dns_wire.proofs.page.Page.put_set.Given as given
 
 module _ (g : given.Over) (c : goal.After-take_back g) where
-  -- a part of the records was written
+  -- a record did not fit, so the records of the set do not fit
   tried : Writes (g.H.SuffixHash.numbers c.args.hash.now)
       (g.H.SuffixHash.numbers c.put_record.new.hash) c.args.self.now c.put_record.new.self
       (records_laid (records_at c.args.owner.now c.args.ttl (g.S.SetView.set c.args.set.now))) false
@@ -23,7 +23,7 @@ module _ (g : given.Over) (c : goal.After-take_back g) where
       c.records.invariant.known c.records.invariant.writes c.put_record.ensures.writes)
 
 module _ (g : given.Over) (c : goal.After-count_records g) where
-  -- all of them were written
+  -- all records of the set were written
   done : Writes (g.H.SuffixHash.numbers c.args.hash.now)
       (g.H.SuffixHash.numbers c.records.hash) c.args.self.now c.records.self
       (records_laid (records_at c.args.owner.now c.args.ttl (g.S.SetView.set c.args.set.now))) true

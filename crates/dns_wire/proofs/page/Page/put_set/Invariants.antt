@@ -1,7 +1,8 @@
 use Rattle.dns_wire.proofs.Common.{true, ◌≡◌, ◌<◌, ◌≤◌, ◌+◌, take, length, List, wire, records_at, Placed, IsForm, IsLaid, HasNames, Writes, records_laid}
 use Rattle.dns_wire.proofs.page.Page.put_set.Given as goal
 
--- the records of the set so far are written, and the form of their owner is known
+-- the records of the set so far have been written, and `form` says how the first record's owner is
+-- laid out
 abbrev pub invariant-records : goal.invariant-records
 invariant-records g l =
     let numbers = g.H.SuffixHash.numbers in

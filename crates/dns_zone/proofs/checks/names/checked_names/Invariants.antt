@@ -2,7 +2,7 @@ use Rattle.dns_zone.proofs.Common.{◌≡◌, ◌+◌, ◌++◌, length, map, dr
 use Rattle.dns_zone.proofs.GrowingNames.{LastName}
 use Rattle.dns_zone.proofs.checks.names.checked_names.Given as goal
 
--- the owners so far and the owners of the rest are all owners
+-- the owners so far and the owners of the remaining records are all owners
 abbrev pub invariant-owners : goal.invariant-owners
 invariant-owners l =
     let z : ZoneContents = record { origin = l.origin; records = l.records } in record {

@@ -2,7 +2,7 @@ use Rattle.dns_zone.proofs.Common.{length}
 use Rattle.dns_zone.proofs.CommonEnds.{PutAfter}
 use Rattle.dns_zone.proofs.order.key.put_labels.Given as goal
 
--- the labels before the rest are written
+-- the labels in front of `rest` are written
 abbrev pub invariant-labels : goal.invariant-labels
 invariant-labels l = PutAfter l.octets l.fn.key l.rest l.key
 

@@ -50,7 +50,7 @@ each_pushed keys starts rs k start count each here i r s l = go (cases_lt i k)
         ∙ get_or-append_seam starts start [] s))
         (subst (λ j. IsAt keys start (get_or rs j r).owner) (sym is) (here r))
 
--- the list of keys after the key of a name was added, or found to be its last
+-- the list of keys after the key of n was added to it, or found to be its last key
 record Added (old new key : Octets) (start : ℕ) (last n : DomainName) : Type 0 where
   pub key_is : key ≡ name_key n
   pub stays : (m : DomainName) (s : ℕ) → IsAt old s m → IsAt new s m

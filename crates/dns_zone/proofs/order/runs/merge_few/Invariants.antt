@@ -1,7 +1,7 @@
 use Rattle.dns_zone.proofs.Common.{◌≡◌, ◌+◌, ◌≤◌, length}
 use Rattle.dns_zone.proofs.order.runs.merge_few.Given as goal
 
--- there is a free place for each of the few runs
+-- from `left` to before `free` there is room for exactly the runs that remain in `few`
 abbrev pub invariant-merge : goal.invariant-merge
 invariant-merge l = (l.free ≡ l.left + length l.few.items) × (l.free ≤ length l.runs)
 

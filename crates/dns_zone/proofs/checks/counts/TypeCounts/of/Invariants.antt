@@ -1,7 +1,7 @@
 use Rattle.dns_zone.proofs.Common.{◌≡◌, ℕ, ◌+◌, ◌≤◌, ◌==◌, Bool, List, length, ResourceRecord, type_soa, type_ns, type_cname, number_of, is_exchange_type, is_other_type}
 use Rattle.dns_zone.proofs.checks.counts.TypeCounts.of.Given as goal
 
--- the count so far plus the count of the rest is the count of all
+-- the count so far plus the count in the remaining records is the count in all records
 abbrev Counts : (ℕ → Bool) → List ResourceRecord → ℕ → List ResourceRecord → Type 0
 Counts test all count rest =
     (count + number_of test rest ≡ number_of test all) × (count + length rest ≤ length all)

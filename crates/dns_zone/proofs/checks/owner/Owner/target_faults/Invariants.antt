@@ -1,7 +1,7 @@
 use Rattle.dns_zone.proofs.Common.{◌≡◌, ◌||◌, length, list_any, is_server_alias, is_server_lost, is_exchange_alias}
 use Rattle.dns_zone.proofs.checks.owner.Owner.target_faults.Given as goal
 
--- a fault is in all records if it was found so far or is in the rest
+-- some record has a fault if it was found so far or a remaining record has it
 abbrev pub invariant-targets : goal.invariant-targets
 invariant-targets l =
     let z = l.self.zone in

@@ -9,7 +9,7 @@ rises : (z : ZoneContents) (own : Octets) (names : List CheckedName) → IsSurve
     → Rises name_order (map (owner_of z) names)
 rises z own names survey = subst (Rises name_order) (sym survey.names_are.all) (checked_rise z)
 
--- the origin is not after a name of the zone
+-- some checked name, the origin, is not after the target
 some : (c : After-count_upto-place) → 0 < c.count_upto-place.result
 some c =
     let are = c.self.invariant.names_are in

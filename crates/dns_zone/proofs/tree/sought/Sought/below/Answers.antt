@@ -9,7 +9,8 @@ pub overflow_add-depth : goal.overflow_add-depth
 overflow_add-depth c = omega
     (arith, c.labels.invariant.deep, length-is_name c.args.name.now c.octets-octets.ensures.is_name)
 
--- whether a longer suffix is at or below the ancestor depends only on what follows its first label
+-- a suffix longer than the ancestor is at or below it if and only if what follows the suffix's
+-- first label is
 one_on : (xs ys : Octets) (l : Octets) (n a : DomainName) → IsWireForm xs → labels_of xs ≡ l ∷ n
     → ys ≡ wire a → length ys < length xs → at_or_below n a ≡ at_or_below (labels_of xs) a
 one_on xs ys l n a form e f longer =
