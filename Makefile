@@ -3,10 +3,10 @@
 PREFIX ?= /usr/local
 NAMES = zonecheck zoneserve dnsmsg zonesocket
 PROGRAMS = $(foreach name,$(NAMES),crates/$(name)/out/$(name))
-# The programs that are scripts, and the modules of the Python scripts.
+# The scripts that are installed as programs, and the modules that the Python scripts import.
 SCRIPTS = $(wildcard bin/*)
 MODULES = $(wildcard share/mitrehyssop/*.py)
-# The first three programs, which the tools run one after another.
+# The programs that tools/worst measures.
 THREE = $(wordlist 1,3,$(PROGRAMS))
 PAGES = $(wildcard man/*.1)
 DOC = $(DESTDIR)$(PREFIX)/share/doc/mitrehyssop
@@ -30,8 +30,9 @@ programs:
 built:
 	@tools/is-built $(PROGRAMS) || $(MAKE) programs
 
-# Installs what is built under PREFIX, or under DESTDIR if a package is made. The folder of the documents has only a link to the
-# examples, since small systems keep no documents, and scripts use the examples.
+# Builds what is missing, and installs everything under PREFIX, or under DESTDIR followed by PREFIX. The examples are in
+# share/mitrehyssop, and the folder of the documents only links to them: small systems may remove that folder, but services use
+# some of the examples.
 install: built
 	install -d "$(DESTDIR)$(PREFIX)/bin" "$(DESTDIR)$(PREFIX)/share/man/man1" "$(DOC)/docs/plots" "$(SHARE)/examples" "$(COMPLETIONS)"
 	install -d "$(LIBEXEC)" "$(UNITS)"
@@ -54,7 +55,7 @@ uninstall:
 	rm -f $(foreach unit,$(wildcard systemd/*),"$(UNITS)/$(notdir $(unit))")
 	rm -rf "$(DOC)" "$(SHARE)" "$(LIBEXEC)"
 
-# Removes what was built, including the proofs that are kept: the next build proves everything.
+# Removes what was built and proved in this checkout. Results that rt keeps elsewhere on the machine remain (docs/GATE.md).
 clean:
 	rm -rf crates/*/out out
 
@@ -62,8 +63,8 @@ clean:
 package: built
 	tools/package
 
-# Has lintian check the package, installs it in a container with systemd, and runs the commands of docs/OPERATE.md there. It is
-# not in the gate.
+# Makes the package, checks it with lintian, installs it in a container with systemd, and runs the commands of docs/OPERATE.md
+# and docs/SCALE.md there. It is not in the gate.
 operate: built
 	tools/try-operate "$$(tools/package)"
 
@@ -71,8 +72,9 @@ operate: built
 examples: built
 	tools/examples crates/zonecheck/out/zonecheck
 
-# Runs the commands of the documents and compares what they print; tries the remedies of docs/CODES.md, zonelint, zoneimport and
-# the scripts of examples/; and checks that the pages that scripts generate are up to date.
+# Runs the commands of the documents and compares their output with the page. Tests the remedies of docs/CODES.md, zonelint,
+# zoneimport, zonedeploy and libexec/workers. Checks that docs/DEFINITIONS.md and docs/plots/mistakes.svg, which scripts
+# generate, are up to date.
 docs-check: built
 	tools/definitions | cmp - docs/DEFINITIONS.md
 	tools/docs-check $(PROGRAMS)
@@ -87,32 +89,32 @@ test:
 	tools/files --check
 	rt ci
 
-# Tries the edits that the gate leaves out: the check has to refuse each. It is not in the gate.
+# Tries the wrong edits that the gate leaves out: the check has to refuse each. It is not in the gate.
 edits:
 	RT_JOBS=$$(tools/lanes) tools/edits
 
-# Runs the programs with wrong arguments, with files that can't be read, with faulty files, and with outputs that accept nothing,
-# and checks that callers that misuse a walk over a zone don't compile. It is not in the gate.
+# Runs the programs with wrong arguments, unreadable files, faulty files, and outputs that can't be written. Checks that code
+# that misuses a walk over a zone doesn't compile. It is not in the gate.
 misuse: programs
 	tools/misuse crates/zonecheck/out/zonecheck crates/zoneserve/out/zoneserve crates/zonesocket/out/zonesocket
 	tools/must-not-compile
 
-# Serves real clients on loopback: dig, kdig, dnsperf, a resolver, and peers that behave badly; has NSD, Knot and BIND answer from
-# a canonical text; and runs docs/OPERATE.md. It is not in the gate.
+# Serves clients on loopback: dig, kdig, dnsperf, resolvers, and peers that behave badly. Has NSD, Knot and BIND answer from the
+# canonical text of a zone. Then runs `make operate`. It is not in the gate.
 clients: built
 	tools/clients crates/zoneserve/out/zoneserve crates/zonesocket/out/zonesocket
 	tools/elsewhere crates/zonecheck/out/zonecheck
 	$(MAKE) operate
 
-# Measures the servers beside NSD, Knot and BIND if they are installed, what reloads lose, and what several processes at a socket
-# gain. It decides nothing, and is not in the gate.
+# Measures the servers, and NSD, Knot and BIND if they are installed; how many questions are lost in reloads; and what several
+# processes at one socket gain. It checks no limits, and is not in the gate.
 speed: built
 	tools/speed crates/zoneserve/out/zoneserve
 	tools/gap crates/zonesocket/out/zonesocket
 	tools/sharing crates/zonesocket/out/zonesocket
 
-# Runs the services of docs/SCALE.md in network namespaces: with dnsdist in front, on three hosts with one address, and NSD
-# as a hidden primary. It is not in the gate, and leaves out what is not installed.
+# Runs the services of docs/SCALE.md in network namespaces: with dnsdist in front, on three hosts with one address, and with NSD
+# as a hidden primary. Each test that needs a program that is not installed is skipped. It is not in the gate.
 scale: built
 	tools/test-behind $(PROGRAMS)
 	tools/test-anycast $(PROGRAMS)
@@ -123,28 +125,28 @@ faults: built
 	@tools/is-built crates/refused/out/refused || (cd crates/refused && rt run -- data/large.zone >/dev/null)
 	tools/faults $(PROGRAMS) crates/refused/out/refused
 
-# Tries wrong bodies that report that they have no memory, which no contract refuses: each has to fail a test. It is not in the
-# gate.
+# Tries function bodies that wrongly report that there is no memory. No contract refuses them, so a test has to fail with each. It
+# is not in the gate.
 caught:
 	tools/caught
 
-# Gives a million datagrams that were changed at random to zoneserve, and 100,000 such files and all short texts to zonecheck,
-# and compares their output with the output of plain programs in another language.
+# Gives zoneserve a million datagrams that were changed at random. Gives zonecheck 100,000 files that were changed at random, and
+# all texts of a few pieces. Compares their output with that of plain programs in Python. It is not in the gate.
 hostile: built
 	tools/hostile crates/zonecheck/out/zonecheck crates/zoneserve/out/zoneserve 1000000
 	tools/hostile-zones crates/zonecheck/out/zonecheck 100000
 	tools/hostile-zones crates/zonecheck/out/zonecheck sweep
 
-# Gives broken messages to dnsmsg, and times the worst one. It is not in the gate.
+# Gives broken messages to dnsmsg, and times it with the message that is most work. It is not in the gate.
 messages: built
 	tools/messages crates/dnsmsg/out/dnsmsg
 
-# Measures the programs on the inputs that cost the most, and fails if one exceeds its bound. It is not in the gate.
+# Measures the programs on the most expensive inputs known, and fails if one costs more than its bound. It is not in the gate.
 worst: built
 	tools/worst $(THREE)
 
-# Counts the instructions that it takes to read and write data, to answer questions, and of whole queries beside other servers,
-# and measures the checker. It decides nothing, and is not in the gate.
+# Counts the instructions for reading and writing data, for replies, and for whole queries, here and in other servers. Measures
+# the checker. It checks no limits, and is not in the gate.
 bench: built
 	tools/bench
 	tools/queries crates/zoneserve/out/zoneserve

@@ -1,9 +1,9 @@
--- Removes the OPT record (EDNS) from a query before the server gets it, so that the reply is not FORMERR. The reply has no OPT
--- record, so a resolver learns that there is no EDNS here, and asks only once. For dnsdist with LuaJIT, such as Debian's.
+-- Removes the OPT record (EDNS) from a query before the server gets it, so that the reply is not FORMERR. Since the reply has no
+-- OPT record, a resolver learns that there is no EDNS here, and need not ask again. For dnsdist with LuaJIT, such as Debian's.
 local ffi = require("ffi")
 local C = ffi.C
 
--- The offset after the question of a message `p` of `n` octets with one question, or nil.
+-- The offset of the first octet after the question, for a message `p` of `n` octets with one question; otherwise nil.
 local function after_question(p, n)
     if n < 12 or p[4] ~= 0 or p[5] ~= 1 then return nil end
     local at = 12
@@ -15,7 +15,7 @@ local function after_question(p, n)
     return at + 5
 end
 
--- Whether everything from `at` on is one record: an OPT record of version 0, owned by the root, that ends with the message.
+-- Whether all that follows from `at` on is one OPT record of version 0, with the root as its owner, up to the message's end.
 local function is_opt(p, n, at)
     return p[6] + p[7] + p[8] + p[9] + p[10] == 0 and p[11] == 1 and at + 11 <= n
         and p[at] == 0 and p[at + 1] == 0 and p[at + 2] == 41 and p[at + 6] == 0

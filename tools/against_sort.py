@@ -1,14 +1,15 @@
 """The order of records that is most expensive for the checker's sort.
 
-The author of a file may know how the standard library's in-place sort chooses pivots, and can choose an order against it. Here
-the sort runs on elements without values. A comparison gives an element a value, the least that is unused, only when it needs
-one, so that each pivot is among the least elements (McIlroy, "A killer adversary for quicksort", 1999). After 2 log n partitions
-of nearly all elements, a heap sort takes over.
+The author of a zone file may know how the standard library's in-place sort chooses its pivots, and order the records so that the
+choice is bad. To find such an order, this module runs the sort on elements that have no values yet. A comparison gives an element
+a value only if it needs one, and then the least unused one, so each pivot is among the least elements (McIlroy, "A killer
+adversary for quicksort", 1999). After 2 log n partitions, each of nearly all elements, the real sort changes to a heap sort.
 """
 
 
 class Sort:
-    """The in-place sort of `count` elements. Its comparisons decide their values; the last element is the greatest."""
+    """The in-place sort of `count` elements. Comparisons decide their values, but the last element is the greatest from the
+    start."""
 
     def __init__(self, count):
         self.values = [None] * (count - 1) + [count - 1]
@@ -16,7 +17,7 @@ class Sort:
         self.row = list(range(count))
 
     def less(self, one, other):
-        """Whether one element is less than another. If both have no value, one gets the next value."""
+        """Whether `one` is less than `other`. If neither has a value, one of the two gets the next value first."""
         values = self.values
         if values[one] is None and values[other] is None:
             values[one if one == self.asked else other] = self.decided
@@ -28,8 +29,8 @@ class Sort:
         return values[one] is not None and (values[other] is None or values[one] < values[other])
 
     def median(self, a, b, c, size):
-        """The place of a pivot: the median of three places. Each is itself the median of three in its stretch of eight or
-        more."""
+        """The index of a pivot: of the three indices `a`, `b` and `c`, the one whose element is the median. If the stretch after
+        each has at least eight elements, its own median of three is taken instead."""
         if size >= 8:
             m = size // 8
             a, b, c = (self.median(place, place + m * 4, place + m * 7, m) for place in (a, b, c))
@@ -40,7 +41,8 @@ class Sort:
         return c if self.less(y, z) != below_y else b
 
     def partition(self, low, high, pivot, or_equal):
-        """Moves the element at `pivot` after all elements of the stretch that go before it, and returns its place."""
+        """Partitions the stretch from `low` to `high`: moves each element that is less than the pivot, or not greater if
+        `or_equal`, before the pivot. Returns the pivot's new index."""
         row = self.row
         row[low], row[pivot] = row[pivot], row[low]
         pivot = row[low]
@@ -65,7 +67,8 @@ class Sort:
         return left - 1
 
     def sort(self, low, high, depth):
-        """Sorts until the heap sort would take over."""
+        """Partitions the stretch and its parts until they have at most 16 elements, or until `depth` is used up, when the real
+        sort would begin its heap sort."""
         while high - low > 16 and depth:
             depth -= 1
             m = (high - low) // 8
@@ -79,7 +82,7 @@ class Sort:
 
 
 def order_against_sort(count):
-    """The numbers below `count` in the most expensive order, with the greatest last."""
+    """The numbers below `count` in the order that is most expensive to sort, with the greatest last."""
     sort = Sort(count)
     sort.sort(0, count, 2 * (count.bit_length() - 1))
     for one in sort.row:

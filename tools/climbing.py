@@ -1,9 +1,9 @@
-"""A search for the most expensive shape. A shape has for each property one of its possible values."""
+"""A search for the most expensive shape. A shape maps the name of each property to one of the property's possible values."""
 import time
 
-# A climb ends after this number of changes in a row without a gain.
+# A climb ends after this many tries in a row that gain nothing.
 WITHOUT = 100
-# The factor that a change must gain, because times vary.
+# A change must raise the cost by more than this factor to count, because measured times vary.
 GAIN = 1.03
 
 
@@ -21,14 +21,14 @@ def changed(shape, choices, chance):
 
 
 def climb(start, choices, cost, end, chance):
-    """Climbs from a shape that `start` returns until no change is found that costs more, or until the time `end`. Returns the
-    last shape, or None if no shape that was tried costs anything, and the number of shapes tried."""
+    """Climbs from a shape that `start` returns to ever more expensive ones, until WITHOUT tries in a row gain nothing or the time
+    is `end`. Returns the last shape, or None if no shape had a cost, and the number of shapes tried."""
     shape, best, without, tried = None, 0.0, 0, 0
     while without < WITHOUT and time.monotonic() < end:
         other = changed(shape, choices, chance) if shape else start()
         tried += 1
         found = cost(other)
-        # A better shape is tried again, because other work on the machine changes times.
+        # A shape that costs more is measured again, and the lower cost counts, because other work on the machine adds time.
         if found > best * GAIN and (found := min(found, cost(other))) > best * GAIN:
             shape, best, without = other, found, 0
         else:

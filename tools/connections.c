@@ -1,8 +1,8 @@
 /*
- * Asks a server at 127.0.0.1 over TCP for the SOA record of example, with one question on each connection:
- * `connections PORT COUNT AT_ONCE`, COUNT connections in all and AT_ONCE at once. It prints the replies per second. If a
+ * `connections PORT COUNT AT_ONCE` asks a server at 127.0.0.1 over TCP for the SOA record of example., with one question on each
+ * connection. It opens COUNT connections in all, AT_ONCE of them at the same time. It prints the replies per second. If a
  * connection fails, or ends without a reply, the program ends with status 1. The connections come from 250 loopback addresses
- * in turn, because an address has only 28,000 ports, and each stays in use for a while.
+ * in turn: an address has only 28,000 ports for clients, and a port stays in use for a while after its connection ends.
  */
 #include <arpa/inet.h>
 #include <errno.h>

@@ -1,6 +1,6 @@
 /*
- * Sends each datagram back to its sender; standard input is the UDP socket. Its processor time is the least that any server at a
- * socket needs.
+ * Sends each datagram back to its sender, at the UDP socket that is its standard input. It does hardly more than the system calls
+ * for a datagram, which any server at such a socket has to make, so its processor time is about the least that a server needs.
  */
 #include <netinet/in.h>
 #include <sys/socket.h>

@@ -1,4 +1,4 @@
-"""Passes loopback sockets to libexec/workers, as systemd does, for tools that test and measure it."""
+"""Runs libexec/workers and passes sockets to it, as systemd does, for tools that test or measure it."""
 import contextlib
 import os
 import shutil
@@ -12,14 +12,15 @@ LIBEXEC = Path(__file__).resolve().parent.parent / "libexec"
 
 
 def linked(programs, folder):
-    """Links the programs that a command line names into a folder for PATH, and returns the folder."""
+    """Links each of these programs into a folder that PATH is to contain, and returns the folder."""
     for program in programs:
         os.symlink(Path(program).resolve(), Path(folder, Path(program).name))
     return folder
 
 
 def bound(kind, address):
-    """A bound socket; a TCP socket listens. Its receive buffer has the same size as in the unit."""
+    """A socket bound to the address, which listens if it is a TCP socket. Its receive buffer is as large as the socket unit
+    sets."""
     one = socket.socket(socket.AF_INET, kind)
     one.setsockopt(socket.SOL_SOCKET, socket.SO_REUSEADDR, 1)
     one.setsockopt(socket.SOL_SOCKET, socket.SO_RCVBUF, 1 << 20)
@@ -30,9 +31,10 @@ def bound(kind, address):
 
 
 def begin(given, words, environment, errors=subprocess.DEVNULL, by=()):
-    """Starts `workers` with these arguments, by a command if one is given, and with the sockets as its descriptors 3, 4, ..
+    """Starts `workers` with the arguments `words`, and with the sockets `given` as its descriptors 3, 4, .. If `by` is not empty,
+    it is a command that starts `workers`.
 
-    The sockets are first duplicated to high numbers, so that no number is used twice.
+    The sockets are first duplicated to high descriptors, so that the shell, which moves them to 3, 4, .., overwrites none.
     """
     far = [os.dup2(one.fileno(), one.fileno() + 100) for one in given]
     places = " ".join(f"{3 + place}<&{number}" for place, number in enumerate(far))
@@ -45,7 +47,7 @@ def begin(given, words, environment, errors=subprocess.DEVNULL, by=()):
 
 
 def tell(run, environment, *words):
-    """Runs tell-workers, and returns its exit status."""
+    """Runs tell-workers for the process `run`, and returns its exit status."""
     return subprocess.run([LIBEXEC / "tell-workers", *words], env={**environment, "MAINPID": str(run.pid)}, timeout=60).returncode
 
 
@@ -58,18 +60,18 @@ def until(what, seconds=5):
 
 
 def children(run, words=""):
-    """The processes that `workers` has started and whose command lines contain `words`."""
+    """The ids of the processes that `workers` has started and whose command lines contain `words`."""
     listed = subprocess.run(["ps", "-o", "pid=,args=", "--ppid", str(run.pid)], capture_output=True, text=True).stdout
     return sorted(int(line.split()[0]) for line in listed.splitlines() if words in line)
 
 
 def processes(run, transport=""):
-    """The workers of a transport, or all workers."""
+    """The ids of the workers of a transport, or of all workers."""
     return children(run, f"zonesocket {transport}")
 
 
 def end(run, given):
-    """Ends `workers`, and frees its addresses."""
+    """Ends `workers`, waits until its processes have ended, and closes the sockets."""
     left = children(run)
     run.terminate()
     run.wait(timeout=5)
@@ -80,8 +82,8 @@ def end(run, given):
 
 @contextlib.contextmanager
 def serving(programs, address, origin, file, **settings):
-    """Runs `workers` for a zone at one socket of each transport. `programs` is the folder of the programs; `reload` of the result
-    loads the file again."""
+    """Runs `workers` for a zone at a UDP socket and a TCP socket during the body. `programs` is the folder of the programs. The
+    `reload` of the process makes it load the file again."""
     room = tempfile.mkdtemp()
     environment = {**os.environ, "PATH": f"{programs}:{os.environ['PATH']}", "RUNTIME_DIRECTORY": room, **settings}
     given = [bound(kind, address) for kind in [socket.SOCK_DGRAM, socket.SOCK_STREAM]]

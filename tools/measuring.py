@@ -8,16 +8,17 @@ import subprocess
 import tempfile
 from pathlib import Path
 
-# A run that takes longer than this is ended.
+# The seconds after which a run is ended.
 SECONDS = 600
-# The most instructions for each octet read or written, to check a zone file and to load it in the server.
+# The most instructions, for each octet read or written, to check a zone file, and to load it into the server.
 MOST_TO_CHECK = 670
 MOST_TO_LOAD = 910
-# The most instructions for a reply over TCP: in all, and for each octet of the query and the reply.
+# A reply over TCP may take at most this many instructions in all, and at most this many for each octet of the query and the
+# reply.
 MOST_OVER_TCP = 100_000_000
 MOST_OVER_TCP_PER_OCTET = 1_000
-# The most instructions for a question over UDP, in any zone of 100,000 records. The hex digits of its line and of the reply's
-# line take about 30 more for each octet. docs/DECISIONS.md gives the reasons for these numbers.
+# The most instructions for a question over UDP, in any zone of up to 100,000 records. To read and write hex digits, `zoneserve
+# once` takes about 30 more for each octet of the query and the reply. docs/DECISIONS.md gives the reasons for these numbers.
 MOST_OVER_UDP = 200_000
 HEX_PER_OCTET = 30
 # The records that each zone needs.
@@ -25,8 +26,8 @@ HEAD = b"$TTL 60\n@ SOA . . 1 2 3 4 5\n@ NS .\n"
 
 
 def timed(words, given=b""):
-    """The number of octets that a run writes, its status, and its processor time in user space in seconds, more precise than a
-    hundredth."""
+    """The number of octets that a run writes, its status, and its processor time in user space, in seconds, more precisely than
+    to a hundredth of a second."""
     with tempfile.TemporaryFile() as sink:
         before = resource.getrusage(resource.RUSAGE_CHILDREN).ru_utime
         run = subprocess.run(words, input=given, stdout=sink, stderr=subprocess.DEVNULL)
@@ -72,7 +73,8 @@ def seconds_of(server):
     user = system = 0
     for stat in Path("/proc").glob("[0-9]*/stat"):
         with contextlib.suppress(OSError):
-            # After the name of the program: 3 is the session, 11 and 12 are the ticks in user space and in the system.
+            # Of the fields after the program's name, 3 is the session, and 11 and 12 are the ticks in user space and in the
+            # kernel.
             fields = stat.read_text().rsplit(")", 1)[1].split()
             if int(fields[3]) == server.pid:
                 user, system = user + int(fields[11]), system + int(fields[12])
@@ -90,8 +92,8 @@ def time_of(server):
 
 
 def by_dnsperf(address, port, asked, queries, rate=0):
-    """Runs dnsperf through a file of names, with at most `rate` queries a second, if given. Returns the number of answered
-    queries, and their rate a second."""
+    """Lets dnsperf ask about `queries` queries, which it reads from the file `asked` again and again, at most `rate` a second if
+    `rate` is not 0. Returns the number of answered queries, and how many were answered a second."""
     lines = sum(1 for _ in open(asked))
     words = ["dnsperf", "-s", address, "-p", str(port), "-d", asked, "-n", str(max(queries // lines, 1)), "-q", "200", "-l", "60"]
     words += ["-Q", str(rate)] if rate else []

@@ -1,5 +1,6 @@
-/* A preloaded allocator that refuses one request. REFUSE is its number, from 1; with a plus after it, all later requests are
-   refused too. When a request is refused, the file that REFUSED names is created. */
+/* A preloaded allocator that refuses one request to `malloc` or `realloc`. The environment variable REFUSE is the number of that
+   request, counted from 1. With a plus after the number, all later requests are refused too. When a request is refused, the file
+   that the environment variable REFUSED names is created. */
 #define _GNU_SOURCE
 #include <dlfcn.h>
 #include <errno.h>

@@ -1,11 +1,11 @@
-"""Other servers, without logs, for tools that compare them with ours."""
+"""Other servers, run without query logs, for tools that compare them with zoneserve and zonesocket."""
 import contextlib
 import os
 import subprocess
 import time
 from pathlib import Path
 
-# `filled` and `serving` fill in the fields in braces.
+# Settings of the servers. `serving` replaces the names in braces by their values, and `filled` does so in commands.
 NSD = """server:
   ip-address: {here}@{port}
   server-count: {workers}
@@ -56,7 +56,8 @@ logging {{ category default {{ null; }}; }};
 zone "example" {{ type primary; file "{zone}"; check-names ignore; }};
 """
 
-# For each server: its name, the program that must be installed, its settings, its command, and the command that reloads its zone.
+# For each server: its name, the program that must be installed, its settings, its command line, and the command that reloads its
+# zone, or None.
 SERVERS = [
     ("nsd", "nsd", NSD, ["nsd", "-d", "-c", "{conf}"], ["nsd-control", "-c", "{conf}", "reload", "example"]),
     ("knotd", "knotd", KNOT, ["knotd", "-c", "{conf}"], ["knotc", "-b", "-s", "{folder}/knot.sock", "zone-reload", "example"]),
@@ -70,7 +71,8 @@ def filled(words, **values):
 
 @contextlib.contextmanager
 def serving(row, address, folder, zone, workers):
-    """Runs a server of `SERVERS` with this many processes or threads. Its `reload` makes it reload its zone, or is None."""
+    """Runs a server, which is a row of `SERVERS`, with `workers` processes or threads. Its `reload` makes it reload the zone; it
+    is None if there is no command for that."""
     name, _, settings, words, reload = row
     values = {"here": address[0], "port": address[1], "folder": folder, "zone": zone, "workers": workers}
     values["conf"] = Path(folder, f"{name}.conf")

@@ -4,10 +4,10 @@ import re
 
 from master import KINDS, LARGEST, NUMBERS, OTHERS, Entry, Reader, Refused, digits, groups, name, octets, read
 
-DEEPEST, FILES = 10, 1000   # the most files that include one another, and the most included files
+DEEPEST, FILES = 10, 1000   # how deep $INCLUDE may be nested, and the most included files
 NAMED = {number: rtype for rtype, number in NUMBERS.items()}
 RANGE = re.compile(r"(\d{1,10})-(\d{1,10})(?:/(\d{1,10})|(?!/))")
-# A part of a template of $GENERATE: other text, or the number with an offset, a width and a base.
+# A part of a template of $GENERATE: plain text, or `$` for the number, with an offset, a width and a base if they are given.
 PART = re.compile(r"([^\\$]+|\\.?)|\$(?:(\$)|\{(-?\d{1,9})(?:,(\d{1,3})(?:,([doxXnN]))?)?\}|(\{)?)", re.S)
 
 
@@ -17,25 +17,25 @@ def refuse(holds, why):
 
 
 def generic(entry, rtype, origin):
-    """The data of an entry in the form of RFC 3597, read by dnspython, and None; or None and the reason why not."""
-    import dns.rdata  # Its import takes longer than all others together, and most zones don't need it.
+    """The data of an entry, converted to the form of RFC 3597 by dnspython, and None; or None and why that failed."""
+    import dns.rdata  # This import takes longer than all others together, and most zones don't need it.
     try:
         rdata = dns.rdata.from_text("IN", rtype, entry.joined(entry.at + 1), dns.name.from_text(origin), False)
         data = rdata.to_generic().data
-    except Exception as error:  # Its readers raise many kinds of exceptions.
+    except Exception as error:  # dnspython raises many kinds of exceptions.
         return None, f"the data is invalid for {rtype}: {error}"
     return f"\\# {len(data)} {data.hex()}".strip(), None
 
 
 def generated(text, number):
-    """A template of $GENERATE filled with a number, as in BIND: an offset also applies to the rest of the template."""
+    """A template of $GENERATE filled with a number. As in BIND, an offset also applies to each later `$` without one."""
     offset, filled = 0, ""
     for other, dollar, given, width, base, bad in PART.findall(text):
         refuse(bad, f"{text}: ${{ takes an offset, a width and one of d, o, x, X, n and N")
         offset, width, base = int(given or offset), int(width or 0), base or "d"
         value = number + offset
         refuse(width > 127 or value > 2147483647, f"{text}: the width or the number is too great")
-        # n and N: hex digits, the lowest first, with dots between them. The width counts both.
+        # n and N: hex digits, the lowest digit first, with dots between them. The width counts digits and dots.
         nibbles = f"{value & 0xffffffff:{'X' if base == 'N' else 'x'}}"[::-1].ljust((width + 1) // 2, "0")
         filled += other or dollar or (
             ".".join(nibbles) + "." * (len(nibbles) * 2 == width) if base in "nN" else
@@ -44,14 +44,14 @@ def generated(text, number):
 
 
 class Importer(Reader):
-    """Makes `lines` and their `places` from a file and the files that it includes. `notes` has the reason for each
-    line that was not converted."""
+    """Converts a file, and the files that it includes, to `lines` with their `places`. `notes` says for each line that
+    could not be converted why not."""
 
     def __init__(self, zone, folder):
         super().__init__(zone)
         self.folder, self.lines, self.places, self.notes, self.sources = os.path.realpath(folder), [], [], {}, {}
-        # Whether the next record must state its owner; the TTL that records get from the SOA record, or None; the number of
-        # octets of `lines`; and the number of included files.
+        # `restate`: whether the next record has to state its owner. `implied`: the TTL that records without one get from the
+        # SOA record, or None. `size`: how many octets `lines` have. `files`: how many files were included.
         self.restate, self.implied, self.size, self.files = False, None, 0, 0
 
     def read(self, text, path, stack=()):
@@ -66,8 +66,8 @@ class Importer(Reader):
                 self.add([""], path, at, at)
                 continue
             entry, begun = Entry(lines, at, nested), len(self.lines)
-            # An entry that is not closed is read to the end of the file. Later ones are read without nesting: the next
-            # parenthesis inside another ends them.
+            # An entry that is not closed is read to the end of the file. So that this is not repeated for each later entry, they
+            # are read without nesting: then the next parenthesis inside another ends an entry.
             nested = nested and entry.closed
             directive, tokens = (entry.owner or "").upper(), entry.tokens
             try:
@@ -126,7 +126,7 @@ class Importer(Reader):
         return [front + first, *rest]
 
     def include(self, tokens, place, stack):
-        """Adds the file of $INCLUDE FILE [ORIGIN], and then restores origin and owner."""
+        """Adds the entries of the file of $INCLUDE FILE [ORIGIN], and then restores the origin and the owner."""
         refuse(len(tokens) not in (2, 3), "$INCLUDE takes a file and an origin")
         path = os.fsdecode(octets(tokens[1]).replace("\0", "").encode("latin-1"))
         real = os.path.realpath(os.path.join(self.folder, path))
@@ -137,7 +137,7 @@ class Importer(Reader):
         refuse(origin is None, f"{tokens[-1]} is not a name")
         refuse(real in stack, f"{tokens[1]} includes itself")
         refuse(len(stack) >= DEEPEST or self.files > FILES,
-               f"{tokens[1]} is deeper than {DEEPEST} files that include one another, or more than {FILES} files")
+               f"{tokens[1]}: includes are nested deeper than {DEEPEST} files, or more than {FILES} files are included")
         refuse(os.path.exists(real) and not os.path.isfile(real), f"{tokens[1]} is not a plain file")
         text = read(real, tokens[1])
         if origin != before:
@@ -154,7 +154,7 @@ class Importer(Reader):
         refuse(first > last or last > 2147483647 or not step,
                f"$GENERATE takes a range, as 1-9 or 1-9/2, and not {''.join(tokens[1:2]) or 'nothing'}")
         refuse(len(Entry([" ".join(tokens[2:])], 0).data) != 1 or tokens[2][0] == '"',
-               "$GENERATE takes a range, an owner, a type and one token of data; data of several has quotation marks")
+               "$GENERATE takes a range, an owner, a type and one token of data; quote data of several tokens")
         refuse((last - first) // step >= 100000, "$GENERATE makes more than 100,000 records")
         data, owner, lines = tokens[-1], self.owner, []
         if data[0] == '"':

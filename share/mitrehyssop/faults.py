@@ -1,8 +1,8 @@
 """Finds all faults of a zone with zonecheck, which decides, and says what to do about each.
 
-zonecheck reports the first faulty entry of a file. That entry is corrected here as its message says, or gets other
-data of its type if the right data is unknown, and the file is checked again. So the rest of the file is checked as if
-the entry were correct.
+zonecheck reports the first faulty entry of a file. Here this entry is corrected as the message for its fault says; if
+the right data is unknown, it gets sample data of its type. Then zonecheck checks the corrected text. So it checks the
+rest of the file as if the entry were correct.
 """
 import collections
 import gc
@@ -24,7 +24,7 @@ Fault = collections.namedtuple("Fault", "place code name text")
 
 
 class Report(collections.namedtuple("Report", "file line severity code name message text")):
-    """A fault or a warning as it is reported. Its text is in a form that editors recognize."""
+    """A fault or a warning as it is reported. As a string it has the form FILE:LINE: .., which editors recognize."""
 
     def said(self):
         return f"{self.name}: {self.message}" if self.name else self.message
@@ -52,7 +52,7 @@ def plain(text):
 
 
 def run(program, main):
-    """Runs a program and exits with its status, or with 2 if it fails; 1 means that a zone has faults."""
+    """Runs `main`, and exits with its status, or with 2 if it raises an exception: 1 would mean that a zone has faults."""
     gc.disable()  # There are many records, and no cycles worth collecting.
     sys.stdout.reconfigure(errors="backslashreplace")
     try:
@@ -71,7 +71,7 @@ def run(program, main):
 
 
 def imported(origin, text, path, folder):
-    """The zone of a file in BIND's form: its converted lines, with the places that they come from."""
+    """The zone of a file in BIND's form: the converted lines, each with its place in the original files."""
     if text.startswith(("\0\0\0", *FORMS)):
         return Zone(origin, text, path)
     near = "" if path.startswith("/dev/") else os.path.dirname(path)
@@ -83,11 +83,11 @@ def imported(origin, text, path, folder):
 class Zone:
     """A zone file, and all that is found about it.
 
-    `lines` are its lines, corrected so far. `places` are their files and numbers, if an importer made the lines or
-    lines were added to the file's own. `notes` has the importer's message for each line that it could not convert.
-    `unknown` has, for each corrected line, what is unknown about it. `doubtful` has the names that may own more than
-    `records` contain. The file is `partial` if lines that it includes are unknown. `sources` has the lines of each file as
-    they were read. `mended` counts the corrections by line and code. There may be `more` faults than those reported.
+    `lines` are its lines, as corrected so far. `places` are the file and the number of each line, if an importer made
+    the lines or lines were added to the file's own; else None. `notes` has the importer's message for each line that it
+    could not convert. `unknown` has, for each corrected line, what is unknown about it. `doubtful` has the names that may
+    own more than `records` has. `partial` means that included lines are unknown. `sources` has the lines of each file as
+    they were read. `mended` counts the corrections by line and code. `more` means that there may be unreported faults.
     """
 
     def __init__(self, origin, text, path, importer=None):
@@ -131,21 +131,21 @@ class Zone:
         return self.places[line] if self.places else (self.path, line + 1)
 
     def where(self, lines):
-        """The places of the first three of these lines, as part of a sentence."""
+        """The places of these lines, at most three, in the words of a message."""
         places = dict.fromkeys(self.place(line) for line in itertools.islice(lines, 3))
         where = [f"line {line}" + f" of {file}" * (file != self.path) for file, line in places]
         return " and ".join(where) or "the same line"
 
     def lacks(self, record, what):
-        """Whether the data or the TTL of a record was put in because its own is unknown."""
+        """Whether the record's `what` ("data" or "ttl") is only a sample, since the right one is unknown."""
         return what in self.unknown.get(record.line, ())
 
     def model(self):
-        """The records of the lines as they are now."""
+        """The records of the lines, as corrected so far."""
         return list(Reader(self.zone).records(self.lines))
 
     def report(self, warned):
-        """The faults and warnings with their lines, and a message for each bound that was reached."""
+        """The faults and warnings with their lines, and messages if there are more of them than are reported."""
         found = [Report(file, line, severity, code, owner, escaped(message[:2000]),
                         escaped(self.sources[file][line - 1].rstrip("\r").expandtabs()[:300]))
                  for severity, faults in (("error", self.faults), ("warning", warned[:MOST]))
@@ -166,13 +166,13 @@ class Zone:
         """Reports and corrects the fault of an entry. Returns False if the rest of the file can't be checked."""
         collections.deque(reader.records(self.lines, line), 0)
         mending = Mending(self, reader, line, code)
-        # A fault that an entry has again after its correction is not reported again, and a fault that comes from the correction
-        # of a string is not reported.
+        # If an entry has the same fault again after its correction, the fault is not reported again. A fault that only the
+        # correction of a string may have caused is not reported.
         self.mended[line, code] += 1
         again = self.mended[line, code] > (3 if code == "R01" else 1)
         follows = mending.follows and "string" in self.unknown[line]
         if not again and not follows and not self.found(line, code, mending.says):
-            # The last fault was equal: another record of the same $GENERATE has it. The rest of these records are taken out.
+            # The last fault is the same, at another record of the same $GENERATE. All further records of it are taken out.
             rest = range(line, len(self.lines))
             for at in itertools.takewhile(lambda at: self.place(at) == self.place(line), rest):
                 self.lines[at] = ""
@@ -182,13 +182,13 @@ class Zone:
             self.doubtful.add(name(mending.owner, reader.origin) if mending.owner else reader.owner)
         end, lines = mending.end, [] if again else mending.fixed
         if not lines and mending.owner and mending.owner[0] not in '$#/"':
-            # Entries after it that begin with a blank keep its owner.
+            # The entry is taken out. Later entries that begin with a blank shall still have its owner.
             after = next((at for at in range(end, len(self.lines)) if self.lines[at].split(";")[0].strip()), line)
             if self.lines[after][0] in " \t" and after > line:
                 self.lines[after] = mending.owner + self.lines[after]
         lines += [""] * (end - line - len(lines))
         if len(lines) > end - line:
-            # If an entry gets more lines than it has, the place of all of them is the place of its first line.
+            # If an entry gets more lines than it had, they all get the place of its first line.
             self.places = self.places or [(self.path, number) for number in range(1, len(self.lines) + 1)]
             self.places[line:end] = [self.places[line]] * len(lines)
         self.lines[line:end] = lines
@@ -196,9 +196,9 @@ class Zone:
 
 
 class ZoneFaults(Names):
-    """The faults of a zone: for each fault that zonecheck reports, the records that have it, and what to do.
+    """The faults of a zone: for each fault that zonecheck reports, the records that cause it, and what to do.
 
-    Rows are a record, a code, whether the record has that fault if its name has it, and a sentence.
+    A row is a record, a code, whether the record is a cause if its name has the fault of that code, and a sentence.
     """
 
     def report(self, said):
@@ -233,7 +233,7 @@ class ZoneFaults(Names):
         aliases, others = self.at(owner, "CNAME"), [record for record in here if record.rtype != "CNAME"]
         cut, spread = self.cut(owner) or owner, "are served; spread them over several names"
         servers = self.of.where(server.line for server in self.at(cut, "NS"))
-        own_zone = f"take it out (it belongs to the zone {cut}), or the NS records of {cut} on {servers}"
+        own_zone = f"take it out (it belongs in the zone {cut}), or take out the NS records of {cut} on {servers}"
         both = "a CNAME and other records at one name: " + (
             "take the CNAME out, and write the A and AAAA records of its target" if owner == self.zone else
             "keep it or the other, on ")
@@ -256,10 +256,10 @@ class ZoneFaults(Names):
                     f"other records at the name of a CNAME: keep it or the CNAME, on {but(aliases)}"
                 yield record, "Z07", rtype == "CNAME", f"more than one CNAME at one name; see {but(own)}: keep one"
                 yield record, "Z08", known and record is first[record.ttl], \
-                    f"the TTL of this {rtype} record is {record.ttl}, and that of {but(first.values())} is another: " \
+                    f"the TTL of this {rtype} record is {record.ttl}, unlike on {but(first.values())}: " \
                     f"give all {rtype} records of the name the TTL {own[0].ttl}"
                 yield record, "Z12", rtype not in ("A", "AAAA") and (rtype != "NS" or owner != cut), \
-                    f"data at or below a delegation, where it is never answered: {own_zone}"
+                    f"data at or below a delegation, where it is never served: {own_zone}"
                 yield record, "Z13", rtype == "NS", "NS at a wildcard: take it out, and delegate each name by itself"
                 yield record, "Z14", record in alone[64:65], \
                     f"{len(alone)} {rtype} records at one name: at most 64 {spread}"

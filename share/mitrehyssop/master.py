@@ -1,6 +1,6 @@
 """Reads the entries of zone files for zonelint and zoneimport: names, tokens, owners, data and their lines.
 
-It checks nothing, because zonecheck does. So it also reads faulty entries, and ends each at its most likely end.
+This module checks nothing, because zonecheck does. It reads faulty entries too, and guesses where such an entry ends.
 Texts have one character for each octet (latin-1).
 """
 import collections
@@ -21,10 +21,10 @@ PIECE = re.compile(r'[ \t\r]+|;.*|"(?:[^"\\]+|\\.)*(?:"|\\?)|[()]|(?:[^ \t\r;"()
 SIMPLE = re.compile(r"(?:[!#%&'*+,\-/0-9:<=>?A-Z\[\]^_`a-z{|}~]{1,63}(?:\.|$))+")
 CLASS = re.compile(r"(?:IN|CH|CS|HS)$|CLASS", re.I)
 
-# Types whose data has its own form: numbers of 16 (H) and 32 bits (L), addresses (4, 6), names (n), strings (s).
+# The fields of each type that is known by name: a number of 16 (H) or 32 bits (L), an address (4, 6), a name (n), a string (s).
 KINDS = {"A": "4", "NS": "n", "CNAME": "n", "SOA": "nnLLLLL", "PTR": "n", "HINFO": "ss", "MX": "Hn", "TXT": "s",
          "AAAA": "6", "SRV": "HHHn"}
-# Types that other programs know by name, and that are written by number here (RFC 3597).
+# Types that other programs know by name, but that zonecheck knows only by number (RFC 3597).
 OTHERS = ("RP AFSDB X25 ISDN RT NSAP PX GPOS LOC NAPTR KX CERT APL SSHFP IPSECKEY DHCID TLSA SMIMEA HIP CDS CDNSKEY "
           "OPENPGPKEY CSYNC ZONEMD SVCB HTTPS SPF NID L32 L64 LP EUI48 EUI64 URI CAA AVC AMTRELAY").split()
 NUMBERS = {rtype: f"TYPE{dns.rdatatype.from_text(rtype):d}" for rtype in [*KINDS, *OTHERS]}
@@ -34,19 +34,19 @@ BEGIN = re.compile(r"\$[A-Z]+[ \t]|(?:[^ \t;\"()][^ \t;\"()]*)?[ \t]+(?:(?:\d[\d
                    + "|".join([*KINDS, *OTHERS, "DS"]) + r")[ \t(]", re.I)
 LARGEST = 16777216  # the most octets of a file; one more is read, to see whether there are more
 UNITS = {"w": 604800, "d": 86400, "h": 3600, "m": 60, "s": 1, "": 1}
-# A record: its data is as in the canonical text, `line` its entry's first line (from 0), and `last` its last token.
+# `data` has the fields as in the canonical text; `line` is the entry's first line, counted from 0, and `last` its last token.
 Record = collections.namedtuple("Record", "owner ttl rtype data line last", defaults=(None, ""))
 
 
 def digits(token):
-    """A number in plain digits, also if it has units or leading zeros: 5400 for 1h30m. None if it is not a number."""
+    """The plain digits of a number, which may have units or leading zeros: 5400 for 1h30m. None if it is no number."""
     if not re.fullmatch(r"(?ai)[0-9]{1,60}|(?:[0-9]{1,20}[wdhms]){1,12}", token):
         return None
     return str(sum(int(count) * UNITS[unit] for count, unit in re.findall(r"([0-9]+)([a-z]?)", token.lower())))
 
 
 def groups(token):
-    """An IPv6 address, written only in groups of hex digits, also if its end was dotted. None if it is not one."""
+    """An IPv6 address with any dotted end written in hex digits. None if the token is not an IPv6 address."""
     try:
         last = socket.inet_pton(socket.AF_INET6, token)[12:].hex()
     except (OSError, ValueError):
@@ -55,7 +55,7 @@ def groups(token):
 
 
 def address(token):
-    """The type and the text of the address that a token is meant to be, or None if it is not an address."""
+    """The type and the text of the address that a token is meant to be, or None if there is none."""
     bare = re.sub(r"/\d+$|%\w+$", "", token.strip('"').rstrip(",.;")).strip("[]")
     if found := re.fullmatch(r"((?:\d{1,9}\.){3}\d{1,9})(?::\d+)?", bare):
         parts = [int(part) for part in found[1].split(".")]
@@ -87,7 +87,7 @@ def name(text, origin):
         return text.lower() if text[-1] == "." else f"{text.lower()}.{origin.lstrip('.')}"
     try:
         full = dns.name.from_text(text[:1021].encode("latin-1"), dns.name.from_text(origin))
-    except Exception:  # Its reader raises many kinds of exceptions.
+    except Exception:  # dnspython raises many kinds of exceptions.
         return None
     return full.canonicalize().to_text()
 
@@ -105,7 +105,7 @@ def within(full, zone):
 
 
 def twice(full, zone):
-    """Whether a name ends with the zone's name twice, as it does if a final dot is missing."""
+    """Whether a name ends with the zone's name twice, as a name does whose final dot is missing."""
     return zone != "." and within(full, zone + zone)
 
 
@@ -114,7 +114,7 @@ class Refused(Exception):
 
 
 def read(path, shown=None):
-    """The octets of a file, or of standard input (`-`): at most one more than a file may have."""
+    """The octets of a file, or of standard input (`-`), but at most one octet more than a file may have."""
     try:
         with open(0 if path == "-" else path, "rb", closefd=path != "-") as source:
             return source.read(LARGEST + 1).decode("latin-1")
@@ -123,11 +123,11 @@ def read(path, shown=None):
 
 
 class Entry:
-    """An entry: its lines from `begin` to before `end`, and their pieces, with a line feed after each line.
+    """An entry: the lines from `begin` up to `end`, without `end`, and their `pieces`, with a line feed after each line.
 
     `tokens` are the pieces except blanks, parentheses and comments, and `places` are their places among all pieces.
-    With `nested`, parentheses inside others are part of the entry, as in BIND. An entry that is not `closed` ends
-    before the next line that looks like an entry. `at` is the place of the type among the tokens.
+    With `nested`, an entry may have parentheses inside parentheses, as in BIND. If the parentheses are not `closed`,
+    the entry ends before the next line that looks like an entry. `at` is the place of the type among the tokens.
     """
 
     def __init__(self, lines, begin, nested=False):
@@ -151,7 +151,7 @@ class Entry:
         self.at, self.rtype, self.data = at, "".join(tokens[at:at + 1]).upper(), tokens[at + 1:]
 
     def read(self, lines, most, nested):
-        """Reads the pieces of the lines to before `most`, and returns the number of parentheses left open."""
+        """Reads the pieces of the entry, all before line `most`, and returns how many parentheses are left open."""
         self.pieces, self.depth, self.end, depth = [], 0, self.begin, 0
         while self.end == self.begin or self.end < most and depth > 0 and (nested or depth < 2):
             found = PIECE.findall(lines[self.end])
@@ -163,13 +163,13 @@ class Entry:
         return depth
 
     def joined(self, first):
-        """The tokens from `first` on as a text, with a blank for each run of other pieces between them."""
+        """The tokens from `first` on as a text, with one blank for all other pieces between two tokens."""
         pieces = self.pieces[[*self.places, len(self.pieces)][first]:]
         text = "".join("\0" if piece[0] in " \t\r\n();" else escaped(piece, "\t -~") for piece in pieces)
         return re.sub("\0+", " ", text.strip("\0"))
 
     def lines(self):
-        """The lines with `tokens` at their places, \\DDD for octets that are not allowed, and no inner parentheses."""
+        """The lines with the changed `tokens`, \\DDD for octets that are not allowed, and no inner parentheses."""
         pieces, depth = self.pieces[:], 0
         for number, (at, token) in enumerate(zip(self.places, self.tokens)):
             pieces[at] = token if 0 < number <= self.at else escaped(token, "\t -~")
@@ -183,7 +183,7 @@ class Entry:
 
 
 class Reader:
-    """Reads the entries of a zone in order, and keeps what a later entry takes from earlier ones.
+    """Reads the entries of a zone in order, and keeps what a later entry can inherit: `origin`, `owner` and TTLs.
 
     `at` is the next line, `default` the TTL of the last $TTL, and `stated` the last TTL that a record stated.
     """
@@ -212,7 +212,7 @@ class Reader:
         self.owner = owner and name(owner.strip('"') if owner[0] == '"' else owner, self.origin) or self.owner
         self.stated = entry.ttl or self.stated
         ttl, rtype, data = entry.ttl or self.default or self.stated, NAMED.get(entry.rtype, entry.rtype), entry.data
-        # Data has the form of the canonical text as far as the form of its type is known.
+        # If the fields of the type are known, they are put into the form of the canonical text, unless they are faulty.
         kinds = KINDS.get(rtype, "") if data[:1] != ["\\#"] else ""
         data = [string(octets(token)) if kind == "s" else name(token, self.origin) or token if kind == "n" else
                 str(ipaddress.IPv6Address(token)) if kind == "6" and groups(token) else token
@@ -221,12 +221,12 @@ class Reader:
 
 
 def unique(records):
-    """Records without duplicates: the first of equal ones is kept."""
+    """The records without duplicates: of equal records the first is kept."""
     return list({(*record[:3], *record.data): record for record in reversed(records)}.values())[::-1]
 
 
 class Names:
-    """The records of a zone by owner and type, and its cuts. `of` is the `Zone` of faults.py, and `zone` its name."""
+    """The records of a zone by owner and type, and its cuts. `of` is a `Zone` of faults.py, and `zone` the zone's name."""
 
     def __init__(self, zone, records):
         self.of, self.zone, self.sets = zone, zone.zone, collections.defaultdict(dict)
@@ -245,7 +245,7 @@ class Names:
         return found[-1] if found else None
 
     def aliased(self, full, before=(), most=None):
-        """The name to which a chain of aliases leads, and the names before it, beginning with those given."""
+        """The name to which a chain of aliases leads, and the names before it: at most `most`, `before` included."""
         names = list(before)
         while full not in names and len(names) != most and self.at(full, "CNAME"):
             names.append(full)

@@ -14,14 +14,14 @@ TAKES = {"A": "an IPv4 address: four numbers from 0 to 255", "NS": "the name of 
          "AAAA": "an IPv6 address in groups of hex digits alone", "PTR": "a name",
          "SRV": "three numbers, priority, weight and port, and the name of a host"}
 LARGEST = {"H": 65535, "L": 4294967295, "T": 2147483647}
-# Data for an entry whose own data is unknown. The names are outside the zone.
+# Sample data for an entry whose right data is unknown. The name is outside the zone.
 INSTEAD = {"4": "192.0.2.1", "6": "2001:db8::1", "n": "host.invalid.", "s": '"text"', "H": "10", "L": "3600"}
-# How files begin that are not text with one octet for each character, and the message for each.
+# The first octets of files that are not plain text, and the message for each.
 BIND = "the file is in the {0} format of BIND: `named-compilezone -f {0} -F text -o NEW ORIGIN FILE` writes it as text"
 UTF16 = "the file is UTF-16: `iconv -f UTF-16 -t UTF-8 FILE` writes it in octets"
 FORMS = {"\0\0\0\2": BIND.format("raw"), "\0\0\0\3": BIND.format("map"), "\xff\xfe": UTF16, "\xfe\xff": UTF16}
-# Characters in texts that come from other programs: the inside of a pattern's brackets, the replacement for each, the message.
-# Octets that are not UTF-8, here \udc80 to \udcff, are read as Windows-1252.
+# Stray characters that other programs leave in texts: the characters, as in the brackets of a pattern; what replaces each; the
+# message. Octets that are not UTF-8 are \udc80 to \udcff here, and are read as Windows-1252.
 STRAY = [("\ufeff", "", "a byte order mark: take it out"),
          ("\u201c\u201d\u201e\u201f\udc93\udc94\udc84", '"', 'a curly quotation mark: write " for each'),
          ("\u2018\u2019\u201a\udc91\udc92", "'", "a curly apostrophe: write ' for each"),
@@ -33,9 +33,9 @@ STRAY = [("\ufeff", "", "a byte order mark: take it out"),
 NOT_ASCII = re.compile(f"[^\\0-\x7f{''.join(characters for characters, _, _ in STRAY)}]")
 TIME = "a plain number of seconds up to 2147483647"
 UNSIGNED = "{0} is a type of DNSSEC, which is not served here. Serve the zone by another server; or take "
-# Corrections by a pattern: the code of the fault; a pattern of the entry's tokens, with a blank between two tokens and
-# a line feed before the type; the replacement for the match, or None to take the entry out; the message; and what is
-# unknown after that.
+# Corrections by a pattern: the code of the fault; a pattern for the entry's tokens, which have a blank between two tokens,
+# and a line feed before the type; what replaces the match, or None if the entry is taken out; the message; and what is
+# unknown after the correction.
 RULES = [
     ("R02", r"[ \n]\\$", "",
      "a backslash does not join two lines: take it out, and write parentheses around data on several lines", ""),
@@ -57,7 +57,7 @@ RULES = [
     ("R11", r"\n(DNAME|TYPE39)( |$)", None, "{0} is not served here: write a CNAME record for each name instead", "owner"),
     ("R14", "", None, "more than 100,000 records: split the zone", "rest"),
     ("R15", "", None, "more than 16,777,216 octets: split the zone", "rest")]
-# Corrections of data that lacks a field or has two in the wrong order: a pattern, the replacement, and the message.
+# Corrections of data that lacks a field or has two fields in the wrong order: a pattern, what replaces it, and the message.
 FIELDS = [(r"MX (?!\d+ )(\S+) (\d+)", r"MX \2 \1", "the number is first: write MX {1} {0}"),
           (r"MX (?!\d+$)(\S+)", r"MX 10 \1", "the number is missing: write MX 10 {0}"),
           (r"SOA (\S+)( \d\w*(?: \S+){4})", r"SOA \1 hostmaster\2",
@@ -67,24 +67,25 @@ FIELDS = [(r"MX (?!\d+ )(\S+) (\d+)", r"MX \2 \1", "the number is first: write M
 
 
 class Mending(Entry):
-    """The correction of an entry: `says` is the message for its code, `fixed` its new lines, none if it is taken out.
+    """The correction of an entry. `says` is the message for its fault. `fixed` are its new lines, none if it is taken out.
 
-    `unknown` is what is unknown after that: its `data` or `ttl`, what its `owner` owns, the end of a `string`, or the
-    `rest` of the file. `follows` means that its fault may come from a string that was corrected. Most methods yield
-    rows: whether the row holds, the right tokens, what is unknown, and the message. The first row that holds is used.
+    `unknown` is what is unknown after the correction: the `data` or `ttl` of the entry, what its `owner` owns, where a
+    `string` ends, or the `rest` of the file. `follows` means that the fault may result from the correction of a string.
+    Most methods yield rows: whether the row applies, the right tokens, what is unknown, and the message. The first row
+    that applies is used.
     """
 
     def __init__(self, zone, reader, line, code):
         super().__init__(zone.lines, line)
         self.zone, self.reader, self.follows = zone, reader, False
-        # zonecheck reads the lines after an entry that is not closed as part of it, and may find a fault there. If the entry
-        # itself has no such fault, the open parenthesis is reported.
+        # If an entry is not closed, zonecheck takes the next lines as part of it, and may find a fault there. If the entry itself
+        # does not have this fault, r04 reports the open parenthesis.
         rows = itertools.chain(self.rules(code), getattr(self, code.lower(), self.r04)())
         _, tokens, self.unknown, self.says = next(row for row in rows if row[0])
         self.fixed = " ".join(tokens).split("\n") if tokens else []
 
     def record(self, **changed):
-        """The tokens of the record with some fields changed. The first is empty if it has no owner."""
+        """The tokens of the record with some fields changed. The first token is empty if the entry has no owner."""
         its = {**vars(self), **changed}
         return [its["owner"] or "", *filter(None, [its["ttl"], its["rrclass"], its["rtype"], *its["data"]])]
 
@@ -97,7 +98,7 @@ class Mending(Entry):
                 yield True, [new.replace("\n", " ")] if new else [], unknown, says
 
     def misplaced(self, token, place):
-        """An address or an owner in the place of a TTL or a type."""
+        """Rows for a token that is an address or an owner, but is in the place of a TTL or a type."""
         rtype, text = address(token) or ("", "")
         new = self.record(ttl=self.ttl if place == "type" else None, rtype=rtype, data=[text])
         yield text, new, "", f"no type before {token}: write {rtype} {text}"
@@ -108,11 +109,11 @@ class Mending(Entry):
         says, notes = next((says for begin, says in FORMS.items() if self.zone.text.startswith(begin)), None), []
         lines = [self.clean(at, notes) for at in range(self.begin, self.end)]
         yield from () if says or notes or self.closed else self.r04()
-        notes = dict.fromkeys(notes or ["an octet that is not allowed: only printable ASCII, spaces and tabs are"])
+        notes = dict.fromkeys(notes or ["an octet that is not allowed: only printable ASCII, spaces and tabs are allowed"])
         yield True, ["\n".join(lines)], "rest" if says else "", says or "; ".join(notes)
 
     def clean(self, at, notes):
-        """A line without octets that are not allowed. Adds to `notes` what was done."""
+        """Line `at` with all octets that are not allowed replaced or taken out. Adds the messages to `notes`."""
         line, is_text, written = self.zone.lines[at], False, ""
         text = whole = line.removesuffix("\r").encode("latin-1").decode("utf-8", "surrogateescape")
 
@@ -147,7 +148,7 @@ class Mending(Entry):
         token = token or '"'
         inner = token.endswith('\\"')
         closed = token[:-2] + '\\\\"' if inner else token.rstrip("\r) \t" if self.depth else "\r") + '"'
-        # The string goes on to the line with its closing mark, if that line comes before the next entry.
+        # If the closing mark is on a line before the next entry, the string goes on to that line.
         after = range(self.end, min(self.end + 60, len(lines)))
         near = itertools.takewhile(lambda at: not BEGIN.match(lines[at]), after)
         last = next((at for at in near if lines[at].replace('\\"', "").count('"') % 2), None)
@@ -176,7 +177,7 @@ class Mending(Entry):
             vars(importer).update(vars(self.reader))
             own = self.zone.lines[self.begin:self.end]
             importer.read("\n".join(own) if self.zone.notes is None else "", self.zone.path)
-            # If the importer refuses the entry, it has the entry's own lines.
+            # If the importer refuses the entry, it leaves its lines as they are: then the entry gets empty lines.
             lines = ["" if at in importer.notes or importer.lines[0] == own[0] else line
                      for at, line in enumerate(importer.lines)]
             self.zone.partial = self.zone.partial or not any(lines)
@@ -250,7 +251,7 @@ class Mending(Entry):
         yield True, new, "data" if None in fixed else "", "; ".join(notes)
 
     def counted(self, rtype, kinds, notes):
-        """The data with as many fields as its type has, if they can be known."""
+        """The data, corrected to have as many fields as its type has, or no fields if it is unclear which are missing."""
         data, front, count = self.data[:], [], len(self.data)
         while len(data) > len(kinds) and kinds[0] != "s" and (
                 data[0].upper() == "IN" or digits(data[0]) and digits(data[kinds.count("H")])):
@@ -263,7 +264,7 @@ class Mending(Entry):
                 notes.append(says.format(*found.groups()))
                 return found.expand(instead).split(" ")[1:]
         fields = f"{count} field{'s' * (count != 1)}, and not {len(kinds)}"
-        # The lines after an SOA record belong to it if they are all its missing numbers and nothing else.
+        # The next lines belong to an SOA record if they are exactly the numbers that it lacks.
         begin, lines = self.end, self.zone.lines
         for end in range(begin + 1, min(begin + 9, len(lines)) + 1) if rtype == "SOA" and count < 6 else ():
             more = [piece for line in lines[begin:end] for piece in PIECE.findall(line) if piece[0] not in " \t\r;()"]
@@ -314,5 +315,6 @@ class Mending(Entry):
         says = f"a string has {len(text)} octets, but at most 255 are allowed: write several, in parentheses"
         return (several, says) if len(text) > 255 else (token, None)
 
-    # For each kind of field, the method that reads a token. It returns the right token or None, and what is wrong or None.
+    # For each kind of field, the method that reads a token. It returns the right token, or None if it is unknown, and what is
+    # wrong with the token, or None.
     READ = {"n": as_name, "s": as_string, "4": as_address, "6": as_address, "H": as_number, "L": as_number}

@@ -8,7 +8,7 @@ from master import Names, above, address, octets, twice, unique, within
 HOST = re.compile(r"(?:\*\.)?(?:[a-z0-9](?:[a-z0-9-]*[a-z0-9])?\.)+|(?:.*\.)?gc\._msdcs\..*")
 FOUR = re.compile(r"\d+\.\d+\.\d+\.\d+\.")
 SERVICE = re.compile(r"(?:\*\.)?_[^.]+\._[^.]+\.")
-# How a text begins: a pattern of the names at which it has a meaning, an example of such a name, and what it needs.
+# For each beginning of a text: a pattern of the names where such a text has a meaning, an example, and what it has to contain.
 TEXTS = {"v=DMARC1": (r"_dmarc\.|.*\._report\._dmarc\.", "_dmarc", "p="),
          "v=DKIM1": (r"(?!_).+\._domainkey\.", "NAME._domainkey", "p="),
          "v=STSv1": (r"_mta-sts\.", "_mta-sts", "id="), "v=TLSRPTv1": (r"_smtp\._tls\.", "_smtp._tls", "rua="),
@@ -17,12 +17,12 @@ LOWER = {kind.lower(): kind for kind in TEXTS}
 
 
 def kind_of(record):
-    """The key of TEXTS with which a text begins, ignoring case, or None."""
+    """The key of TEXTS with which the text of a record begins, in upper or lower case; or None."""
     return LOWER.get(re.split("[ ;]", octets(record.data[0]), 1)[0].lower())
 
 
 class Warnings(Names):
-    """Looks at the records of a zone. A warning is a record, a code, whether it holds, and a sentence."""
+    """Looks at the records of a zone. A row is a record, a code, whether the warning applies, and its sentence."""
 
     def __init__(self, zone):
         super().__init__(zone, zone.records if zone.passes else unique(zone.records))
@@ -47,13 +47,13 @@ class Warnings(Names):
         hosts = [{host.data[0] for host in self.at(server.data[0], "A", "AAAA")} for server in servers]
         for server in servers[:1]:
             same = len(hosts) > 1 and 0 < len(hosts[0]) <= 2 and all(host == hosts[0] for host in hosts)
-            yield server, "W01", len(hosts) == 1, "the zone has one server only"
-            yield server, "W05", same, f"all servers have one address: {' and '.join(sorted(hosts[0]))}"
+            yield server, "W01", len(hosts) == 1, "the zone has only one server"
+            yield server, "W05", same, f"all servers have the same address: {' and '.join(sorted(hosts[0]))}"
 
     def owner(self, full, sets):
         record, hosts = next(iter(sets.values()))[0], sets.get("A") or sets.get("AAAA") or ()
         doubled = twice(full, self.zone) or full.endswith(self.ends)
-        # In lists of addresses (DNSBL, RFC 5782), owners are addresses too, and the addresses in their data are codes.
+        # In a DNSBL (RFC 5782) owners are addresses on purpose, and the data is a code in the form of an address, 127.0.0.2.
         listed = self.arpa or hosts and hosts[0].data[0].startswith("127.")
         yield record, "W34", "\\@" in full, "@ inside a name; it means the origin only if it is the whole name"
         yield record, "W35", "*" in full.removeprefix("*."), "a * that is not the whole first label matches nothing"
@@ -65,19 +65,19 @@ class Warnings(Names):
             strange, cut = not HOST.fullmatch(full) and "\\@" not in full and "*" not in full[1:], self.cut(full)
             yield host, "W33", strange, f"{full} has an address, and an octet that host names do not have"
             yield host, "W47", cut and full not in self.glue, \
-                f"an address below the delegation of {cut} that no server has: it is never answered"
+                f"an address at or below the delegation of {cut}, at a name that no NS record names: it is never served"
 
     def target(self, record):
         rtype, full, inside = record.rtype, record.data[-1], within(record.data[-1], self.zone)
         if rtype == "CNAME":
-            end, chain = self.aliased(full, [record.owner], 20)  # 20 bounds the work; a server follows 16.
+            end, chain = self.aliased(full, [record.owner], 20)  # 20 bounds the work here; the server follows at most 16.
             back = f"the alias leads back to {end}" if full != record.owner else "an alias to itself"
             yield "W44", end in chain, back
             yield "W45", end not in chain and chain[1:], f"the target {full} is an alias too: write {end}"
         null = rtype == "MX" and full == "." and len(self.at(record.owner, "MX")) > 1
-        yield "W46", null, "a null MX, which says that there is no mail, beside others"
+        yield "W46", null, "a null MX, which says that the name takes no mail, beside other MX records"
         cut, closest = self.cut(full), next(node for node in above(full) if node in self.nodes)
-        # A server in the zone without an address is a fault.
+        # A server in the zone without an address is a fault (Z10), so there is no warning.
         if full == "." or rtype == "NS" and inside and not cut and not self.at(full, "A", "AAAA"):
             return
         own = full[:-len(self.zone)] if inside else full
@@ -112,7 +112,7 @@ class Warnings(Names):
             ("W04", retry >= refresh, f"the retry time {retry} is not less than the refresh time {refresh}"),
             ("W04", expire < refresh + retry,
              f"the expire time {expire} is less than the refresh and retry times together"),
-            ("W04", minimum > 86400, f"the last number {minimum} keeps resolvers from new names for more than a day")]
+            ("W04", minimum > 86400, f"by the last number, {minimum}, resolvers may miss a new name for more than a day")]
 
     def text(self, record):
         parts, owner, kind = [octets(part) for part in record.data], record.owner, kind_of(record)
@@ -126,10 +126,10 @@ class Warnings(Names):
         return [
             ("W51", several, f"more than one text of {kind} at a name: none of them applies"),
             ("W52", spf and joined,
-             "the strings of the SPF text are joined without a space: write one, or end each with one"),
+             "the strings of the SPF text are joined without a space: write one string, or end each with a space"),
             ("W53", lost, f"the text lacks {needed}; is it cut off at a ; without quotation marks?"),
             ("W54", spf and (dmarc or "._domainkey." in owner), "an SPF text means nothing at this name"),
-            ("W54", elsewhere, f"this text means nothing at this name: it belongs to {example}"),
+            ("W54", elsewhere, f"this text means nothing at this name: write it at {example}"),
             ("W54", not (begun or elsewhere), f"the text means nothing unless it begins with {kind} and a semicolon"),
             ("W54", not kind and dmarc, "the text is no DMARC policy: it begins with v=DMARC1 and a semicolon"),
             ("W55", re.match("\u00e2\u0080[\u0098-\u009f]", whole), "the text begins with a curly quotation mark")]
