@@ -1,5 +1,4 @@
-//! Tests of `dns_master` through its public functions. They are a crate of their own, so that
-//! `dns_master` is not proved once more with them.
+//! Tests of `dns_master`, in a separate crate so that `dns_master` is not proved again with them.
 #![tactic(auto)]
 
 #[cfg(test)]

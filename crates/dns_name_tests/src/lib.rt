@@ -1,5 +1,4 @@
-//! Tests of `dns_name` through its public functions. They are a crate of their own, so that
-//! `dns_name` is not proved once more with them.
+//! Tests of `dns_name`, in a separate crate so that `dns_name` is not proved again with them.
 #![tactic(auto)]
 
 #[cfg(test)]

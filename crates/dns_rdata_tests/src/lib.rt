@@ -1,5 +1,4 @@
-//! Tests of `dns_rdata` through its public functions. They are a crate of their own, so that
-//! `dns_rdata` is not proved once more with them.
+//! Tests of `dns_rdata`, in a separate crate so that `dns_rdata` is not proved again with them.
 #![tactic(auto)]
 
 #[cfg(test)]

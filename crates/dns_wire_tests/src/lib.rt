@@ -1,5 +1,4 @@
-//! Tests of `dns_wire` through its public functions. They are a crate of their own, so that
-//! `dns_wire` is not proved once more with them.
+//! Tests of `dns_wire`, in a separate crate so that `dns_wire` is not proved again with them.
 #![tactic(auto)]
 
 #[cfg(test)]

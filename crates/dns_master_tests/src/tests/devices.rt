@@ -34,8 +34,7 @@ impl Read for Endless {
     }
 }
 
-// Reads the text in pieces. Returns the fault, the number of failed calls, and the number of all
-// calls.
+// Reads the text in pieces. Returns the fault, and the numbers of failed calls and of all calls.
 fn outcome(alloc: Global, lengths: &[usize], fails_at: usize) -> ((u8, u32), u64, usize) {
     let mut source = Tally::new(Pieces {
         fails_at,

@@ -1,5 +1,4 @@
-//! Faults of tokens, of which the first is reported, and faults of whole entries, of which the
-//! lowest code is reported.
+//! Faults of tokens, of which the first is reported, and of entries, of which the lowest code is.
 
 use super::reading::{Row, judge};
 

@@ -5,8 +5,7 @@ use dns_master::read_zone;
 use dns_name::{Name, Tally};
 use std::test::Fail;
 
-// The first part of a file; a text that follows it, and how often that text is repeated; and the
-// fault of the file.
+// The first part of a file; the text that is repeated after it, and how often; and the fault.
 type Hostile<'a> = (&'a [u8], &'a [u8], usize, (u8, u32));
 
 const FILES: &[Hostile<'static>] = &[
@@ -63,8 +62,7 @@ fn an_origin_that_grows(rt: HostRuntime) -> Result<(), Fail> {
     Ok(())
 }
 
-// A record whose owner has 127 labels, the most that fit 255 octets; and a record whose owner has
-// 128.
+// Records whose owners have 127 labels, the most that fit 255 octets, and 128 labels.
 #[test]
 fn an_owner_of_many_labels(rt: HostRuntime) -> Result<(), Fail> {
     for (count, wanted) in [(127, (0, 0)), (128, (7, 1))] {

@@ -8,8 +8,7 @@ const MOST_FILE_OCTETS: usize = 16_777_216;
 
 const RECORD: &[u8] = b"a A 192.0.2.1\n";
 
-// The last octets up to the limit, which are on the second line; the octets after the limit; and
-// the fault.
+// The last octets up to the limit, on the second line; the octets after it; and the fault.
 type Limit<'a> = (&'a [u8], &'a [u8], (u8, u32));
 
 const LIMITS: &[Limit<'static>] = &[
@@ -69,8 +68,7 @@ fn what_stands_at_the_limit(rt: HostRuntime) -> Result<(), Fail> {
     Ok(())
 }
 
-// The first octet of a file; the octet that fills the remainder of it; and the fault if the file is
-// one octet longer than the limit.
+// A file's first octet; the octet that fills the file; and the fault if it is an octet too long.
 const LONGEST: &[(u8, u8, (u8, u32))] = &[(b';', b'x', (15, 1)), (b'\n', b'\n', (15, 16_777_217))];
 
 #[test]

@@ -55,8 +55,7 @@ fn last_hex_digit(number: usize) -> u8 {
     b"0123456789abcdef"[number % 16]
 }
 
-// Whether a file has one record of `a.example` with this type and data, also when each octet is a
-// piece of its own.
+// Whether a file, also octet by octet, has one record of `a.example` with this type and data.
 fn is_record(alloc: Global, text: &[u8], rtype: u16, data: &[u8]) -> bool {
     let meant: &[Meant<'_>] = &[(A, 1, rtype, data)];
     has_records(alloc, text, meant) && has_records(alloc, by(text, ONE), meant)

@@ -1,5 +1,4 @@
-//! Files that are read in pieces of 4,096 octets: entries that cross the end of a piece, and
-//! reading that stops with the piece that decides the fault.
+//! Files read in pieces of 4,096 octets: entries in two pieces, and the piece that decides a fault.
 
 use super::reading::{Pieces, Row, by, example, fault, number, repeated};
 use super::records::{MIXED_MEANS, has_records};
@@ -70,8 +69,7 @@ fn a_fault_at_the_end_of_a_piece(rt: HostRuntime) -> Result<(), Fail> {
     Ok(())
 }
 
-// After a failed attempt, an entry of many pieces is read again only when twice as many octets are
-// held.
+// After a failed attempt, an entry is read again only when twice as many octets are held.
 #[test]
 fn a_fault_of_an_entry_of_many_pieces(rt: HostRuntime) -> Result<(), Fail> {
     let mut text = repeated(rt.alloc(), b"$X (", 1)?;
@@ -102,8 +100,7 @@ fn entries_that_cross_the_end_of_a_piece_at_each_octet(rt: HostRuntime) -> Resul
     Ok(())
 }
 
-// Whether a text has this fault after comment lines of different lengths, so that each octet of the
-// text is once the last octet of a piece.
+// Whether a text has this fault after comments of different lengths, wherever a piece ends in it.
 fn has_fault_across(alloc: Global, text: &[u8], wanted: (u8, u32)) -> Result<bool, AllocError> {
     for within in 0..=text.len() {
         let all = after_comment(alloc, PIECE.saturating_sub(within), text)?;

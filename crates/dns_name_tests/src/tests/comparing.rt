@@ -47,8 +47,7 @@ const PUSHED: &[(Labels<'static>, &[u8], bool)] = &[
     (&[b"**", b"example"], b"\x02**\x07example\x00", false),
 ];
 
-// Whether the name made of these labels has these octets, and is a wildcard or not as wanted, also
-// when it is borrowed.
+// Whether the name of these labels, also borrowed, has these octets and is a wildcard as wanted.
 fn is_pushed(labels: Labels<'_>, octets: &[u8], is_wildcard: bool) -> bool {
     let mut name = Name::root();
     let fit = push_all(&mut name, labels);
@@ -76,8 +75,7 @@ fn longest_name(rt: HostRuntime) {
     assert!(rt; has_labels(&name.lent(), LONGEST));
 }
 
-// Two names; whether they are equal, whether they are the same ignoring case, and whether the first
-// is at or below the second.
+// Two names; whether they are equal; the same in any case; and the first at or below the second.
 // `@` and `[` are next to A to Z, and differ from `` ` `` and `{` by the same bit as letters of
 // different case. The octets of `a.` are the last ones of the label `x\001a`, but do not begin at a
 // label.

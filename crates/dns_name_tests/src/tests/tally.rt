@@ -3,8 +3,7 @@ ghost use Rattle.std.specs.Prelude.{◌≡◌, IfOk};
 use dns_name::{SinkFailed, Tally};
 use std::io::{self, ErrorKind, Read, Write};
 
-/// A device that counts its calls. The calls `from` to `to` - 1, counted from 0, fail; later ones
-/// would succeed again.
+/// A device that counts its calls. Calls `from` to `to` - 1, counted from 0, fail, and no others.
 #[derive(Drop)]
 struct Failing {
     from: u32,
@@ -60,8 +59,7 @@ const ABC: &[&[u8]] = &[b"a", b"", b"bc"];
 
 const DE: &[&[u8]] = &[b"", b"d", b"e"];
 
-// For each run: the first call that fails, and the first call after it that works; the number of
-// calls that the device gets in all; and the steps that make these calls.
+// The first call that fails, the first after it that works, the number of all calls, and the steps.
 const RUNS: &[(u32, u32, u32, &[Step<'static>])] = &[
     // Each failure is counted once.
     (1, u32::MAX, 2, &[(Take, Some(1)), (Take, None)]),

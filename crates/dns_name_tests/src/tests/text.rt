@@ -73,8 +73,7 @@ fn is_read_as(word: &[u8], wanted: Result<&[u8], u8>) -> bool {
     }
 }
 
-// Whether a word spells in place, in lower case, the name that is read from it, or has the same
-// fault.
+// Whether a word spells, in place and in lower case, the name read from it, or has its fault.
 fn is_spelled_as_read(word: &[u8]) -> bool {
     match (spelled(word), read(word)) {
         (Ok(name), Ok(read)) => name.octets() == read.fold().octets(),
@@ -85,8 +84,7 @@ fn is_spelled_as_read(word: &[u8]) -> bool {
 // Three labels of 63 octets, one of 53 and `example.` fill 255 octets on the wire.
 const THREE: &[&[u8]] = &[LABEL, b".", LABEL, b".", LABEL, b"."];
 
-// What follows the three labels, and the code of the fault of the whole word, or 0. Four labels of
-// 63 octets are valid, but too long together.
+// What follows three labels of 63 octets, and the word's fault, or 0: a fourth label is too much.
 const LAST: &[(&[&[u8]], u8)] = &[
     (&[OCTETS_53], 0),
     (&[OCTETS_54], 3),

@@ -61,8 +61,7 @@ const IPV6: &[(&[u8], Option<&[u16]>)] = &[
     (b"1::2:", None),
 ];
 
-// Whether a word spells the address with these groups or, if `groups` is `None`, fails with
-// `BadAddress`.
+// Whether a word spells these groups or, if `groups` is `None`, fails with `BadAddress`.
 fn has_groups(alloc: Global, raw: &[u8], groups: Option<&[u16]>) -> Result<bool, AllocError> {
     let words = &[word(raw, false)];
     let Some(groups) = groups else {

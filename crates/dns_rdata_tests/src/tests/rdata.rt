@@ -56,8 +56,7 @@ const OCTETS: &[(RType, &[u8], Option<&[u8]>)] = &[
     (RType::SRV, b"AAAAAA\xc0\x0c", None),
 ];
 
-// Whether octets are read as data with the octets `wanted` or, if `wanted` is `None`, fail with
-// `NotOfType`.
+// Whether octets are read as data `wanted` or, if that is `None`, fail with `NotOfType`.
 fn is_data(alloc: Global, rtype: RType, octets: &[u8], wanted: Option<&[u8]>) -> bool {
     match Rdata::from_wire(alloc, rtype, octets) {
         Ok(data) => wanted == Some(data.octets()),

@@ -178,8 +178,7 @@ const REPEATED: &[(RType, &[u8], usize, Result<&[u8], RdataFault>)] = &[
     (RType::A, b"\\#", 5_592_000, Err(RdataFault::BadHex)),
 ];
 
-// Whether repeated words spell these octets, or have this fault. Each call uses the buffers of
-// `room` again.
+// Whether repeated words, read with the buffers of `room`, spell these octets or have this fault.
 fn is_said(
     room: &mut DataRoom,
     rtype: RType,

@@ -118,8 +118,7 @@ fn longest(alloc: Global) -> Result<Vec<u8>, AllocError> {
 #[test]
 fn longest_text_written(rt: HostRuntime) -> Result<(), Fail> {
     let data = longest(rt.alloc())?;
-    // Each quotation mark has a backslash before it, and each string two quotation marks around it
-    // and, except the first, a space before it.
+    // A backslash before each mark, two marks around each string, a space between two strings.
     let text = written(rt.alloc(), RType::TXT, &data);
     assert!(rt; text.len() == 2 * 255 * 255 + 3 * 510 - 1);
     let text = written(rt.alloc(), RType(65280), &data);

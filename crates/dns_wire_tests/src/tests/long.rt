@@ -102,8 +102,7 @@ fn sixty_four_strings(rt: HostRuntime) -> Result<(), Fail> {
     Ok(())
 }
 
-// The addresses of `t26` begin at place 17,002, beyond the reach of pointers. So none of their
-// owners is only a pointer.
+// The addresses of `t26` begin beyond the reach of pointers, so none of their owners is a pointer.
 const SERVICES: &[(usize, &[u8])] = &[
     (0, b"\x12\x34\x84\x00\x00\x01\x00\x11\x00\x00\x04\x40"),
     (15_974, b"\x03t25\xc0\x0e"),

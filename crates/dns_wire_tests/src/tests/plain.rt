@@ -2,8 +2,7 @@
 
 use std::alloc::Global;
 
-/// What octets spell if they are a message whose records are of types A and SOA: its octets, but
-/// with all names in full, and without the lengths of data.
+/// A message with A and SOA records: its octets with names in full, and without lengths of data.
 pub(crate) fn plain_message(alloc: Global, octets: &[u8]) -> Option<Vec<u8>> {
     let mut spelled = Vec::new(alloc);
     spelled.extend_from_slice(octets.get(..12)?).ok()?;
@@ -50,8 +49,7 @@ fn plain_record(octets: &[u8], place: usize, spelled: &mut Vec<u8>) -> Option<us
     Some(end)
 }
 
-// Appends the full name at a place to `spelled`, and returns the place after it there: after the
-// root's length, or after the first pointer.
+// Appends the full name at a place to `spelled`, and returns the place after the name there.
 fn plain_name(octets: &[u8], place: usize, spelled: &mut Vec<u8>) -> Option<usize> {
     let before = spelled.len();
     let end = plain_labels(octets, place, place, spelled, 1000)?;

@@ -136,8 +136,7 @@ fn faults_by_what_is_changed(rt: HostRuntime) -> Result<(), Fail> {
     Ok(())
 }
 
-// Cases: a name; an answer record without its owner, which is the root; and the code of the fault
-// of a response with this record, or 0.
+// A name; a record of the root, without its owner; and the fault of a response with it, or 0.
 const DATA: &[(&str, &[u8], u8)] = &[
     (
         "A in another class",
@@ -196,8 +195,7 @@ fn pointers_to_each_place(rt: HostRuntime) -> Result<(), Fail> {
     Ok(())
 }
 
-// The pointer at place 30 is changed to lead to place 29. The name there is a label of the single
-// octet c0, a label of 29 octets, and the root.
+// The pointer at place 30 leads to 29: a label of the octet c0, a label of 29 octets, and the root.
 #[test]
 fn a_label_of_pointer_octets(rt: HostRuntime) -> Result<(), Fail> {
     let octets = changed(rt.alloc(), NAME_ERROR, 31, b"\x1d")?;

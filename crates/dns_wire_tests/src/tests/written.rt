@@ -95,8 +95,7 @@ fn offer_all<H: SuffixHash>(
     true
 }
 
-// Offers the sets of a row. Before and after them, offers the sets in `refused`, which must not
-// fit. Returns whether exactly the sets of the row fit.
+// Offers the sets of a row, and `refused` before and after them. Whether only the row's sets fit.
 fn offer_row<H: SuffixHash>(
     rt: HostRuntime,
     writer: &mut Writer<'_, H>,
@@ -121,8 +120,7 @@ pub(crate) fn asked(qname: &[u8], qtype: u16) -> Result<Question, NameFault> {
     })
 }
 
-/// Whether a row's reply is written as wanted, within 512 octets, although the sets in `refused`,
-/// which do not fit, are offered before and after those of the row.
+/// Whether a row's reply is as wanted, though `refused`, which does not fit, is offered as well.
 pub(crate) fn is_written<H: SuffixHash>(
     rt: HostRuntime,
     hash: &mut H,
