@@ -19,7 +19,7 @@ MOST_OVER_TCP = 100_000_000
 MOST_OVER_TCP_PER_OCTET = 1_000
 # The most instructions for a question over UDP, in any zone of up to 100,000 records. To read and write hex digits, `zoneserve
 # once` takes about 30 more for each octet of the query and the reply. docs/DECISIONS.md gives the reasons for these numbers.
-MOST_OVER_UDP = 200_000
+MOST_OVER_UDP = 500_000
 HEX_PER_OCTET = 30
 # The records that each zone needs.
 HEAD = b"$TTL 60\n@ SOA . . 1 2 3 4 5\n@ NS .\n"

@@ -13,9 +13,9 @@ pub use Rattle.dns_answer.specs.DraftForm.{Holds, Offers, State}
 pub use Rattle.dns_answer.specs.Ending.{Ends, IsPlain, Rest, Says, TookRest, after_sets, all_names, asked_item, ending, ending_required, ending_targets, glue_by, inside, misses_by, nodes_by, not_inside, others_by}
 pub use Rattle.dns_answer.specs.Replies.{Answers, Costs, IsHeaded, IsLaidOut, IsPut, IsReply, Responds}
 pub use Rattle.dns_answer.specs.Seeking.{AreTargets, Completes, Followed, HasNoAlias, IsShown, MaySeek, NextIs, Seeks, aliases_left, leads_on, names_of, unsought}
-pub use Rattle.dns_answer.specs.Targets.{addresses_of, depth_in, set_targets, side_nodes, side_takes, takes_target, target_at, target_items, target_misses, target_nodes, targets_of_first}
+pub use Rattle.dns_answer.specs.Targets.{Reaches, addresses_of, depth_in, set_targets, side_nodes, side_takes, takes_target, target_at, target_items, target_misses, target_nodes, targets_of_first}
 unfoldable pub use Rattle.dns_answer.specs.Targets.{side_items}
-pub use Rattle.dns_answer.specs.Walks.{AreRecords, HasNodesLeft, IsAim, IsApex, IsBelowCut, IsHintTo, IsMissing, IsThere, Took, ends_at_cuts, labels_below, node_of, node_or, one_if}
+pub use Rattle.dns_answer.specs.Walks.{AreRecords, HasNodesLeft, IsApex, IsBelowCut, IsMissing, IsStart, IsThere, Took, ends_at_cuts, labels_below, node_of, node_or}
 pub use Rattle.dns_answer.specs.declared.ending.Verdict.{Verdict}
 pub use Rattle.dns_name.proofs.WireLemmas.{IsWireForm-wire, labels_of_spelled}
 pub use Rattle.dns_spec.proofs.DomainNames.NameLaws.{length-is_name}
@@ -37,7 +37,7 @@ pub use Rattle.dns_zone.proofs.Existing.{exists-lower}
 pub use Rattle.dns_zone.proofs.NameOrder.{same-from, same-is}
 pub use Rattle.dns_zone.proofs.NameTree.{below-cons, itself-under, same-under, under-trans}
 pub use Rattle.dns_zone.proofs.WayLaws.{above_under, any_weaker, at-folded, cut-above, cut-by_set, cut-here, cut-none, encloser-above, encloser-here, exists-folded, exists-up, no_cut-at_origin, set-owned, under_same}
-pub use Rattle.dns_zone.specs.Nodes.{IsHint, IsSetOf, Walk, ZoneNode}
+pub use Rattle.dns_zone.specs.Nodes.{IsSetOf, Walk, ZoneNode}
 pub use Rattle.dns_zone.specs.Starts.{IsBelow}
 pub use Rattle.dns_zone.specs.ZoneForm.{IsBuilt}
 pub use Rattle.dns_zone.specs.declared.tree.sought.Sought.{Sought}

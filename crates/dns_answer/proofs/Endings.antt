@@ -1,5 +1,6 @@
 -- How the sets that end an answer are offered.
-use Rattle.dns_answer.proofs.Common.{◌≡◌, ◌⊎◌, inl, inr, ℕ, Bool, true, not, min, List, [], ◌∷◌, ◌++◌, map, reverse, length, get_or, None, Some, refl, sym, ap, ap₂, ◌∙◌, arith, and_parts, length-map, is_some, Octets, DomainName, folded, suffixes, below, type_ns, type_soa, soa_minimum, ResourceRecord, ZoneContents, rrset, owns, RecordSet, set_of, records_at, authority, Item, item, Outcome, main_items, targets_of, negative_soa, negative, positive, referral_to, is_cut, cut_of, no_error, filter, list_all, few_soa, one_soa, IsBuilt, code_of, State, Offers, side_items, side_nodes, set_targets, Took, Ends, IsPlain, TookRest, ending, all_names, inside, not_inside, ending_targets, glue_by, others_by, Verdict, set-owned, Walk, ZoneNode, IsSetOf}
+use Rattle.dns_answer.proofs.Common.{◌≡◌, ◌⊎◌, inl, inr, ℕ, Bool, true, not, min, List, [], ◌∷◌, ◌++◌, map, reverse, length, get_or, None, Some, refl, sym, ap, ap₂, ◌∙◌, arith, and_parts, length-map, is_some, Octets, DomainName, folded, suffixes, below, type_ns, type_soa, soa_minimum, ResourceRecord, ZoneContents, rrset, owns, RecordSet, set_of, records_at, authority, Item, item, Outcome, main_items, targets_of, negative_soa, negative, positive, referral_to, is_cut, cut_of, no_error, filter, list_all, few_soa, one_soa, IsBuilt, code_of, State, Offers, side_items, side_nodes, set_targets, Took, Ends, IsPlain, TookRest, ending, all_names, inside, not_inside, ending_targets, glue_by, others_by, Verdict, set-owned, Walk, ZoneNode, IsSetOf, IsBelowCut, IsStart, subst, false, false≢true}
+use Rattle.dns_zone.specs.Nodes.{IsNode}
 use Rattle.dns_answer.proofs.Taking.{Took-then, Took-within}
 use Rattle.dns_answer.proofs.AnswerItems.{denial-no_targets}
 use Rattle.dns_answer.proofs.Offering.{Offers-is, Offers-nothing, Offers-empty, Offers-then, Offers-full}
@@ -80,6 +81,17 @@ pub cut-has_servers : (z : ZoneContents) (n c : DomainName)
     → cut_of z n ≡ Some c → is_some (set_of (rrset z c type_ns)) ≡ true
 cut-has_servers z n c e = set-owned z c type_ns ∙ (and_parts (below c z.origin)
     (owns z c type_ns) (found_passes (is_cut z) (reverse (suffixes (folded n))) c e)).1
+
+-- a path may begin at a cut
+pub start_at_cut : (z : ZoneContents) (n : DomainName) (cut : ZoneNode) → IsBelowCut z n cut
+    → IsNode cut.zone cut.name → IsStart z false cut
+start_at_cut z n cut below there = record {
+  zone = below.zone;
+  exists = subst (λ y. IsNode y cut.name) below.zone there;
+  inside = (and_parts _ _ (and_parts _ _
+      (found_passes (is_cut z) (reverse (suffixes (folded n))) cut.name below.cut)).0).1;
+  uncut = λ e. absurd (false≢true e);
+}
 
 -- if all targets are at or below the cut, no others have addresses to offer
 none-outside_cut : (z : ZoneContents) (c : DomainName) (before ms : List DomainName)

@@ -1,5 +1,6 @@
 -- The path down to a name that is several labels below the node where it begins.
-use Rattle.dns_answer.proofs.Common.{◌≡◌, ℕ, zero, suc, Bool, true, ◌+◌, ◌-◌, ◌≤◌, ◌<◌, [], ◌∷◌, length, drop, length-drop, Option, None, Some, reverse, refl, sym, ap, ◌∙◌, subst, arith, Octets, DomainName, folded, at_or_below, suffixes, ZoneContents, find, is_some, exists, is_cut, cut_of, ZoneNode, Sought, IsBelow, node_of, node_or, labels_below, one_if, IsApex, IsAim, IsThere, IsMissing, IsBelowCut, same-is, same-from, itself-under, under-trans, exists-lower, above_under, under_same, no_cut-at_origin}
+use Rattle.dns_answer.proofs.Common.{◌≡◌, ℕ, zero, suc, Bool, true, ◌+◌, ◌-◌, ◌≤◌, ◌<◌, [], ◌∷◌, length, drop, length-drop, Option, None, reverse, refl, sym, ap, ◌∙◌, subst, arith, Octets, DomainName, at_or_below, suffixes, ZoneContents, find, is_cut, ZoneNode, Sought, IsBelow, node_of, labels_below, IsApex, IsStart, and_parts, IsThere, IsMissing, IsBelowCut, same-is, same-from, itself-under, under-trans, exists-lower, above_under, under_same, no_cut-at_origin}
+use Rattle.dns_spec.proofs.Common.{leb-true}
 use Rattle.dns_answer.proofs.WaySteps.{cut-further, missing-further}
 
 -- the cut of a suffix of a name is the cut of the name; if a suffix does not exist, the name does
@@ -28,63 +29,43 @@ under-drop (suc k) (l ∷ n) a h len =
     under-drop k n a
     (above_under l n a (length n - length a) h (omega (arith, longer))) (omega (arith, len))
 
+-- a path may begin at the apex
+pub start_at_apex : (z : ZoneContents) (ends : Bool) (apex : ZoneNode) → IsApex z apex
+    → IsStart z ends apex
+start_at_apex z ends apex top = subst (IsStart z ends) (sym top.node) (record {
+  zone = refl;
+  exists = top.exists;
+  inside = itself-under z.origin z.origin (same-from z.origin z.origin refl);
+  uncut = λ e. no_cut-at_origin z z.origin (omega arith);
+})
+
 -- where a path begins
-module _ (z : ZoneContents) (apex : ZoneNode) (ends : Bool) (s : Sought) (top : IsApex z apex) where
-  record Start (l : Option ZoneNode) : Type 0 where
-    zone : (node_or apex l).zone ≡ z
-    lower : folded (node_or apex l).name ≡ (node_or apex l).name
-    stands : exists z (node_or apex l).name ≡ true
-    inside : at_or_below (node_or apex l).name z.origin ≡ true
-    no_cut : ends ≡ true → cut_of z (node_or apex l).name ≡ None
-    below : IsBelow s (node_or apex l).name
-    deep : one_if (is_some l) + s.depth ≤ labels_below z s.name
+module _ (z : ZoneContents) (start : ZoneNode) (ends : Bool) (s : Sought)
+    (at : IsStart z ends start) (below : IsBelow s start.name) where
+  pub start-deep : s.depth ≤ labels_below z s.name
+  start-deep =
+      let longer = leb-true (length z.origin) (length start.name) (and_parts _ _ at.inside).0 in
+      omega (arith, below.labels, longer)
 
-  start : (l : Option ZoneNode) → IsAim z ends s l → Start l
-  start None aim =
-      let name = ap (λ (v : ZoneNode). v.name) (sym top.node) in
+  pub there-above : IsThere z start ends (drop s.depth s.name) None
+  there-above =
+      let n = drop s.depth s.name in
+      let len : length n ≡ length start.name =
+      omega (arith, length-drop s.depth s.name, below.labels) in
+      let under = under-drop s.depth s.name start.name below.below (omega (arith, below.labels)) in
+      let alike = same-is n start.name (under_same n start.name under len) in
       record {
-        zone = ap (λ (v : ZoneNode). v.zone) top.node;
-        lower = subst (λ n. folded n ≡ n) name top.exists.lower;
-        stands = subst (λ n. exists z n ≡ true) name top.exists.stands;
-        inside = subst (λ n. at_or_below n z.origin ≡ true) name
-            (itself-under z.origin z.origin (same-from z.origin z.origin refl));
-        no_cut =
-            λ e. subst (λ n. cut_of z n ≡ None) name (no_cut-at_origin z z.origin (omega arith));
-        below = subst (IsBelow s) name aim.below;
-        deep = omega (arith, aim.below.labels);
+        no_cut = λ e. ap (λ f. find (is_cut z) (reverse (suffixes f))) alike ∙ at.uncut e;
+        stands = exists-lower z n start.name alike len ∙ at.exists.stands;
+        at_name = ap (λ y. node_of y start.name) at.zone
+            ∙ ap (node_of z) (sym (alike ∙ at.exists.lower));
       }
-  start (Some v) aim = record {
-    zone = aim.hint.zone;
-    lower = aim.hint.exists.lower;
-    stands = aim.hint.exists.stands;
-    inside = aim.hint.inside;
-    no_cut = aim.hint.uncut;
-    below = aim.below;
-    deep = omega (arith, aim.below.labels, aim.hint.longer);
-  }
 
-  module _ (l : Option ZoneNode) (aim : IsAim z ends s l) where
-    pub aim-deep : one_if (is_some l) + s.depth ≤ labels_below z s.name
-    aim-deep = (start l aim).deep
-
-    pub there-above : IsThere z apex ends (drop s.depth s.name) l
-    there-above =
-        let a = start l aim in
-        let top = (node_or apex l).name in
-        let n = drop s.depth s.name in
-        let len : length n ≡ length top =
-        omega (arith, length-drop s.depth s.name, a.below.labels) in
-        let under = under-drop s.depth s.name top a.below.below (omega (arith, a.below.labels)) in
-        let alike = same-is n top (under_same n top under len) in
-        record {
-          no_cut = λ e. ap (λ f. find (is_cut z) (reverse (suffixes f))) alike ∙ a.no_cut e;
-          stands = exists-lower z n top alike len ∙ a.stands;
-          at_name = ap (λ y. node_of y top) a.zone ∙ ap (node_of z) (sym (alike ∙ a.lower));
-        }
-
-    -- the names on the path are at or below the origin
-    pub under-origin : (k : ℕ) → k ≤ s.depth → at_or_below (drop k s.name) z.origin ≡ true
-    under-origin k few = grind (arith, start, under-trans, under-drop)
+  -- the names on the path are at or below the origin
+  pub under-origin : (k : ℕ) → k ≤ s.depth → at_or_below (drop k s.name) z.origin ≡ true
+  under-origin k few =
+      under-trans (drop k s.name) start.name z.origin
+      (under-drop k s.name start.name below.below (omega (arith, below.labels, few))) at.inside
 
 -- the label before the last b labels
 pub label-before : (n labels : DomainName) (l : Octets) (b : ℕ) → labels ≡ n

@@ -1,5 +1,5 @@
 -- What seeking a name has offered and what it cost, by what is found for it.
-use Rattle.dns_answer.proofs.Common.{◌≡◌, inl, inr, ℕ, ◌+◌, ◌*◌, ◌<◌, ◌≤◌, Bool, true, false, cond, ◌&&◌, ◌||◌, List, [], ◌∷◌, ◌++◌, map, length, Option, None, Some, refl, sym, ap, ap₂, ◌∙◌, arith, subst, list_any, DomainName, folded, names_equal, same, at_or_below, type_cname, ResourceRecord, ZoneContents, at, of_type, with_owner, RecordSet, records_at, no_error, answer, Item, most_aliases, item, follows_alias, alias_set, first_target, has_any, Outcome, outcome_by, positive, negative, and_from, and_right, list_any-append, Walk, ZoneNode, IsSetOf, State, Offers, Rest, ending, after_sets, Says, TookRest, asked_item, AreRecords, Took, IsApex, IsAim, labels_below, target_at, chain_rest, names_of, aliases_left, leads_on, unsought, AreTargets, MaySeek, Seeks, HasNoAlias, IsShown, NextIs, Sought, Verdict, All, drop, All-nil, All-cons, All-head, All-tail, All-append, or_comm, or-false, length-map, length-reverse, map-append, reverse-append}
+use Rattle.dns_answer.proofs.Common.{◌≡◌, inl, inr, ℕ, ◌+◌, ◌*◌, ◌<◌, ◌≤◌, Bool, true, false, cond, ◌&&◌, ◌||◌, List, [], ◌∷◌, ◌++◌, map, length, Option, None, Some, refl, sym, ap, ap₂, ◌∙◌, arith, subst, list_any, DomainName, folded, names_equal, same, at_or_below, type_cname, ResourceRecord, ZoneContents, at, of_type, with_owner, RecordSet, records_at, no_error, answer, Item, most_aliases, item, follows_alias, alias_set, first_target, has_any, Outcome, outcome_by, positive, negative, and_from, and_right, list_any-append, Walk, ZoneNode, IsSetOf, State, Offers, Rest, ending, after_sets, Says, TookRest, asked_item, AreRecords, Took, IsApex, IsBelow, labels_below, target_at, chain_rest, names_of, aliases_left, leads_on, unsought, AreTargets, MaySeek, Seeks, HasNoAlias, IsShown, NextIs, Sought, Verdict, All, drop, All-nil, All-cons, All-head, All-tail, All-append, or_comm, or-false, length-map, length-reverse, map-append, reverse-append}
 use Rattle.dns_answer.proofs.TargetLaws.{same-lower}
 use Rattle.dns_answer.proofs.Taking.{Took-then, HasNodesLeft-after}
 use Rattle.dns_answer.proofs.Offered.{offered-append}
@@ -73,18 +73,18 @@ among-is n l f ts earlier e low lower =
 
 -- another name may be sought after an alias
 pub may-follow : {s s' : Walk} {top : ZoneNode} {earlier : List Sought} {n m : Sought}
-    {l l' : Option ZoneNode} → MaySeek s top earlier n l
-    → Took s s' (labels_below s.zone n.name) 2 → length earlier < most_aliases
-    → IsAim s.zone true m l' → folded m.name ≡ m.name → MaySeek s' top (earlier ++ n ∷ []) m l'
-may-follow {s} {s'} {top} {earlier} {n} {m} {l} {l'} may took more aim low =
+    → MaySeek s top earlier n → Took s s' (labels_below s.zone n.name) 2
+    → length earlier < most_aliases → IsBelow m s.zone.origin → folded m.name ≡ m.name
+    → MaySeek s' top (earlier ++ n ∷ []) m
+may-follow {s} {s'} {top} {earlier} {n} {m} may took more below low =
     let fewer = ap length (names-more earlier n) in
     let less : labels_below s.zone n.name + 2
     + 129 * (aliases_left (names_of (earlier ++ n ∷ [])) + 129)
     ≤ 129 * (aliases_left (names_of earlier) + 129) =
-    omega (arith, fewer, names-count earlier, more, may.aim.below.few) in
+    omega (arith, fewer, names-count earlier, more, may.below.few) in
     record {
       apex = subst (λ z. IsApex z top) (sym took.zone) may.apex;
-      aim = subst (λ z. IsAim z true m l') (sym took.zone) aim;
+      below = subst (λ (z : ZoneContents). IsBelow m z.origin) (sym took.zone) below;
       lower = record { last = λ _. low; others = others earlier may.lower.last may.lower.others };
       room = HasNodesLeft-after took less may.room;
     }
@@ -154,16 +154,15 @@ module _ (z : ZoneContents) (t : ℕ) (before : List DomainName) (s : DomainName
       alias-leads = grind (arith, aliases-at, are_set)
 
       -- the alias is not followed
-      pub alias-ends : NextIs z set (s ∷ before) None
+      pub alias-ends : NextIs z.origin set (s ∷ before) None
           → Chain (asked_item s set) (ending z (positive []))
       alias-ends next =
           grind (arith, ends-alias, alias-item, outcome-alias, has-alias, alias-leads)
 
       -- the alias is followed to another name
-      pub alias-goes_on : (m : Sought) (l : Option ZoneNode)
-          → NextIs z set (s ∷ before) (Some (m, l)) → Chain
+      pub alias-goes_on : (m : Sought) → NextIs z.origin set (s ∷ before) (Some m) → Chain
           (asked_item s set) (chain_rest z t (aliases_left (s ∷ before)) (s ∷ before) m.name)
-      alias-goes_on m l next =
+      alias-goes_on m next =
           goes-on z t (aliases_left before) before s (aliases_left (s ∷ before)) m.name
           (asked_item s set) shown.0 alias-item
           (ap (unsought z.origin (s ∷ before)) alias-leads ∙ next.1) (omega (arith, next.0))

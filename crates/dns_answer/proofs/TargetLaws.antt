@@ -1,5 +1,5 @@
 -- The targets of a set in order, and what was offered for the earlier ones.
-use Rattle.dns_answer.proofs.Common.{◌≡◌, ℕ, zero, suc, ◌+◌, ◌-◌, ◌<◌, ◌≤◌, Bool, true, false, ◌||◌, ◌&&◌, ◌⊎◌, inl, inr, not, List, [], ◌∷◌, ◌++◌, map, sum, length, take, drop, get_or, Option, None, Some, refl, sym, ap, ap₂, ◌∙◌, arith, add-one, append_assoc, append-nil, length-append, subst, take-append-drop, list_all-append, list_any-append, option_to_list, Octets, DomainName, folded, names_equal, same, at_or_below, target, type_a, type_aaaa, ResourceRecord, ZoneContents, at, of_type, RecordSet, set_of, Section, additional, item, targets_in_zone, exists, lt-ltb, IsReadRecord, take-suc, and-true, and-false, false≢true, false_from_ne_true, or_left, or_right, cases_lt, filter-append, filter_map-append, list_all, list_any, filter, filter_map, cons_option, Walk, IsBuilt, nat_lt, is_owner, outside, Among, filter_among, each_weaker, passes_check, recursion_from_All, sum_cons, each_among, filter_none, same-from, same-under, itself-under, at-folded, Took, State, Offers, set_targets, targets_of_first, target_at, takes_target, addresses_of, depth_in, target_items, side_items, side_nodes, target_nodes, target_misses}
+use Rattle.dns_answer.proofs.Common.{◌≡◌, ℕ, zero, suc, ◌+◌, ◌-◌, ◌<◌, ◌≤◌, Bool, true, false, ◌||◌, ◌&&◌, ◌⊎◌, inl, inr, not, List, [], ◌∷◌, ◌++◌, map, sum, length, take, drop, get_or, Option, None, Some, refl, sym, ap, ap₂, ◌∙◌, arith, add-one, append_assoc, append-nil, length-append, subst, take-append-drop, list_all-append, list_any-append, option_to_list, Octets, DomainName, folded, names_equal, same, at_or_below, target, type_a, type_aaaa, ResourceRecord, ZoneContents, at, of_type, RecordSet, set_of, Section, additional, item, targets_in_zone, exists, lt-ltb, IsReadRecord, take-suc, and-true, and-false, false≢true, false_from_ne_true, or_left, or_right, cases_lt, filter-append, filter_map-append, list_all, list_any, filter, filter_map, cons_option, Walk, IsBuilt, nat_lt, is_owner, outside, Among, filter_among, each_weaker, passes_check, recursion_from_All, sum_cons, each_among, filter_none, same-from, same-under, itself-under, under-trans, at-folded, ZoneNode, IsApex, Reaches, Took, State, Offers, set_targets, targets_of_first, target_at, takes_target, addresses_of, depth_in, target_items, side_items, side_nodes, target_nodes, target_misses}
 use Rattle.dns_answer.proofs.Taking.{Took-then, Took-within}
 use Rattle.dns_answer.proofs.Offering.{Offers-is, Offers-then, Offers-full}
 
@@ -208,6 +208,17 @@ items-stood z p before m e = grind (arith, and-false)
 -- names in lower case are the same if they are equal
 pub same-lower : (n m : DomainName) → folded n ≡ n → folded m ≡ m → names_equal n m ≡ same n m
 same-lower n m low kept = sym (ap₂ names_equal low kept)
+
+-- a name at or below a name of the zone is in the zone
+pub depth_below : (z : ZoneContents) (m a : DomainName) → at_or_below m a ≡ true
+    → at_or_below a z.origin ≡ true → depth_in z m ≡ length m - length z.origin
+depth_below z m a h under = grind (arith, under-trans)
+
+-- all targets can be sought from the apex
+pub reached_from_apex : (z : ZoneContents) (apex : ZoneNode) (p : DomainName → Bool)
+    → IsApex z apex → Reaches z apex.name p
+reached_from_apex z apex p top m takes inside =
+    subst (λ (v : ZoneNode). at_or_below m v.name ≡ true) (sym top.node) inside
 
 -- a name with at most 127 labels is at most 127 labels below the origin
 pub depth-few : (z : ZoneContents) (m : DomainName) → length m ≤ 127 → depth_in z m ≤ 127

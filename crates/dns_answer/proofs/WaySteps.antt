@@ -1,5 +1,5 @@
 -- One more label on the path down to a name.
-use Rattle.dns_answer.proofs.Common.{arith, ◌≡◌, ℕ, Bool, true, false, ◌&&◌, ◌∷◌, map, Option, None, Some, sym, ap, ◌∙◌, false≢true, and_parts, false_from_ne_true, length-map, to_ascii_lowercase, is_some, Octets, DomainName, folded, at_or_below, below, type_ns, type_cname, ZoneContents, owns, rrset, set_of, exists, is_cut, IfSome, ZoneNode, IsHint, folded_folded, same-from, itself-under, below-cons, same-under, any_weaker, exists-lower, node_of, node_or, IsThere, IsMissing, IsBelowCut, IsHintTo, cut-above, cut-here, cut-none, cut-by_set, exists-folded, exists-up, encloser-here, encloser-above}
+use Rattle.dns_answer.proofs.Common.{arith, ◌≡◌, ℕ, Bool, true, false, ◌&&◌, ◌∷◌, map, Option, Some, sym, ap, ◌∙◌, false≢true, and_parts, false_from_ne_true, length-map, to_ascii_lowercase, is_some, Octets, DomainName, folded, at_or_below, below, type_ns, ZoneContents, owns, rrset, set_of, exists, is_cut, ZoneNode, folded_folded, same-from, itself-under, below-cons, same-under, any_weaker, exists-lower, node_of, node_or, IsThere, IsMissing, IsBelowCut, cut-above, cut-here, cut-none, cut-by_set, exists-folded, exists-up, encloser-here, encloser-above}
 
 -- a name that owns a record exists
 owns-exists : (z : ZoneContents) (n : DomainName) (t : ℕ) → exists z n ≡ false → owns z n t ≡ false
@@ -74,10 +74,3 @@ module _ (z : ZoneContents) (start : ZoneNode) (ends : Bool) (l : Octets) (n : D
   pub there-at_child : exists at_node.zone (l ∷ at_node.name) ≡ true → (ends && is_some (set_of
       (rrset node.zone node.name type_ns))) ≡ false → IsThere z start ends (l ∷ n) (Some node)
   there-at_child there none = grind (arith, cut-none, cut_is, child-lower, is)
-
--- a path may begin at a hint that the zone stores
-pub leads-to : (z y : ZoneContents) (t : ℕ) (ends : Bool) (hint : Option ZoneNode)
-    → y ≡ z → (ends ≡ true → t ≡ type_cname) → IfSome hint
-    (λ (v : ZoneNode). (v.zone ≡ y) × IsHint y t v.name) → IfSome hint (IsHintTo z ends)
-leads-to z y t ends None e alias h = tt
-leads-to z y t ends (Some v) e alias h = grind (arith, IsHint, exists)

@@ -10,7 +10,8 @@ use Rattle.dns_spec.specs.Records.{ZoneContents, ResourceRecord, of_type}
 use Rattle.dns_spec.specs.Answer.{most_aliases, follows_alias, alias_set, has_any, asked_records}
 use Rattle.dns_zone.specs.Nodes.{Walk, ZoneNode}
 use Rattle.dns_answer.specs.DraftForm.{State}
-use Rattle.dns_answer.specs.Walks.{IsApex, IsAim, HasNodesLeft}
+use Rattle.dns_zone.specs.Starts.{IsBelow}
+use Rattle.dns_answer.specs.Walks.{IsApex, HasNodesLeft}
 use Rattle.dns_answer.specs.Ending.{Says, TookRest}
 use Rattle.dns_answer.specs.Targets.{target_at}
 use Rattle.dns_answer.specs.Chain.{chain_rest}
@@ -33,12 +34,11 @@ pub record AreTargets (earlier : List Sought) (s : Sought) : Type 0 where
   pub last : 0 < length earlier → folded s.name ≡ s.name
   pub others : All (λ (e : Sought). folded e.name ≡ e.name) (drop 1 earlier)
 
--- A name may be sought after `earlier`, on a path from a hint or the apex. The walk may still
--- visit 129 nodes for each alias that may still be followed, and for each of 129 other names.
-pub record MaySeek (s : Walk) (top : ZoneNode) (earlier : List Sought) (n : Sought)
-    (l : Option ZoneNode) : Type 0 where
+-- A name may be sought after `earlier`. The walk may still visit 129 nodes for each alias that may
+-- still be followed, and for each of 129 other names.
+pub record MaySeek (s : Walk) (top : ZoneNode) (earlier : List Sought) (n : Sought) : Type 0 where
   pub apex : IsApex s.zone top
-  pub aim : IsAim s.zone true n l
+  pub below : IsBelow n s.zone.origin
   pub lower : AreTargets earlier n
   pub room : HasNodesLeft s (129 * (aliases_left (names_of earlier) + 129))
 
@@ -73,9 +73,9 @@ Completes w w' s s' t before before' n m =
 
 -- The name n is an alias of m, and m may be sought next.
 pub record LeadsTo (w w' : State) (s s' : Walk) (t : ℕ) (top : ZoneNode) (earlier : List Sought)
-    (n m : Sought) (l : Option ZoneNode) : Type 0 where
+    (n m : Sought) : Type 0 where
   pub more : length earlier < most_aliases
-  pub may : MaySeek s' top (earlier ++ n ∷ []) m l
+  pub may : MaySeek s' top (earlier ++ n ∷ []) m
   pub alias : leads_on s.zone t n.name ≡ true
   pub completes : Completes w w' s s' t (names_of earlier) (names_of (earlier ++ n ∷ [])) n.name
       m.name
@@ -85,8 +85,7 @@ abbrev pub SoughtAs : State → State → Walk → Walk → ℕ → ZoneNode →
     → Type 0
 SoughtAs w w' s s' t top earlier n (nexts.Last v) =
     IsLast w w' s s' t (names_of earlier) n.name v
-SoughtAs w w' s s' t top earlier n (nexts.Alias m hint) =
-    LeadsTo w w' s s' t top earlier n m hint
+SoughtAs w w' s s' t top earlier n (nexts.Alias m) = LeadsTo w w' s s' t top earlier n m
 
 -- no alias among the records is followed
 abbrev pub HasNoAlias : ℕ → List ResourceRecord → Type 0
@@ -108,12 +107,11 @@ unsought origin sought o =
     option_and_then
     (λ m. if at_or_below m origin && not (list_any (same m) sought) then Some m else None) o
 
--- The name to seek after an alias, when the names in `sought` were sought already, and where the
--- path to it begins. For `None`, the reason why no name is sought after the alias.
-abbrev pub NextIs : ZoneContents → RecordSet → List DomainName → Option (Sought × Option ZoneNode)
-    → Type 0
-NextIs z set sought None =
-    (most_aliases < length sought) ⊎ (unsought z.origin sought (target_at 0 set) ≡ None)
-NextIs z set sought (Some (m, l)) =
-    (length sought ≤ most_aliases) × (unsought z.origin sought (target_at 0 set) ≡ Some m.name)
-    × IsAim z true m l × (folded m.name ≡ m.name)
+-- The name to seek after an alias, when the names in `sought` were sought already. For `None`, the
+-- reason why no name is sought after the alias.
+abbrev pub NextIs : DomainName → RecordSet → List DomainName → Option Sought → Type 0
+NextIs origin set sought None =
+    (most_aliases < length sought) ⊎ (unsought origin sought (target_at 0 set) ≡ None)
+NextIs origin set sought (Some m) =
+    (length sought ≤ most_aliases) × (unsought origin sought (target_at 0 set) ≡ Some m.name)
+    × IsBelow m origin × (folded m.name ≡ m.name)

@@ -1,5 +1,5 @@
 -- Which addresses are offered for targets, one target after another.
-use Rattle.std.specs.Prelude.{ℕ, ◌-◌, Bool, true, ◌&&◌, not, sum, List, [], ◌∷◌, ◌++◌, map, length, take, get_or, if◌then◌else◌}
+use Rattle.std.specs.Prelude.{◌≡◌, ℕ, ◌-◌, Bool, true, ◌&&◌, not, sum, List, [], ◌∷◌, ◌++◌, map, length, take, get_or, if◌then◌else◌}
 use Rattle.std.specs.Prelude.{Option, None, Some}
 use Rattle.std.specs.List.{list_any, filter, filter_map}
 use Rattle.dns_spec.specs.Names.{Octets, DomainName, same, at_or_below}
@@ -27,6 +27,11 @@ abbrev pub side_takes : Side → DomainName → Bool
 side_takes All m = true
 side_takes (Inside cut) m = at_or_below m cut.now
 side_takes (Outside cut) m = not (at_or_below m cut.now)
+
+-- each name of the zone that passes the test is at or below the name at which the paths begin
+abbrev pub Reaches : ZoneContents → DomainName → (DomainName → Bool) → Type 0
+Reaches z start p =
+    (m : DomainName) → p m ≡ true → at_or_below m z.origin ≡ true → at_or_below m start ≡ true
 
 -- the target, if there is one, passes the test
 abbrev pub takes_target : (DomainName → Bool) → Option DomainName → Bool

@@ -1,55 +1,37 @@
 -- Where the path down to a name ends, what is found for the name, and the cost.
-use Rattle.std.specs.Prelude.{◌≡◌, ℕ, ◌+◌, ◌-◌, ◌*◌, ◌<◌, ◌≤◌, Bool, true, false, length, if◌then◌else◌}
-use Rattle.std.specs.Prelude.{Option, None, Some, IfSome}
+use Rattle.std.specs.Prelude.{◌≡◌, ℕ, ◌+◌, ◌-◌, ◌*◌, ◌≤◌, Bool, true, false, length}
+use Rattle.std.specs.Prelude.{Option, None, Some}
 use Rattle.std.specs.Option.{unwrap_or}
 use Rattle.dns_spec.specs.Names.{DomainName, folded, at_or_below}
 use Rattle.dns_spec.specs.Records.{ZoneContents, at, with_owner}
 use Rattle.dns_spec.specs.Tree.{exists, cut_of, closest_encloser, found}
 use Rattle.dns_zone.specs.Nodes.{Walk, ZoneNode, IsNode}
-use Rattle.dns_zone.specs.Starts.{IsBelow}
 use Rattle.dns_answer.specs.declared.lookup.Way.{Way}
 use Rattle.dns_answer.specs.declared.lookup.Way.TheVariants as ways
 use Rattle.dns_answer.specs.declared.lookup.Found.{Found}
 use Rattle.dns_answer.specs.declared.lookup.Found.TheVariants as finds
 use Rattle.dns_answer.specs.declared.lookup.Cuts.{Cuts}
 use Rattle.dns_answer.specs.declared.lookup.Cuts.TheVariants.{End, Pass}
-use Rattle.dns_zone.specs.declared.tree.sought.Sought.{Sought}
 
 -- the node of a name
 abbrev pub node_of : ZoneContents → DomainName → ZoneNode
 node_of z n = record { zone = z; name = n }
 
--- the node, if there is one, else the apex
+-- the node, if there is one, else the node where the path begins
 abbrev pub node_or : ZoneNode → Option ZoneNode → ZoneNode
-node_or apex node = unwrap_or node apex
+node_or start node = unwrap_or node start
 
 -- the node of the origin
 pub record IsApex (z : ZoneContents) (apex : ZoneNode) : Type 0 where
   pub node : apex ≡ node_of z z.origin
   pub exists : IsNode z z.origin
 
--- a node below the origin at which a path may begin; `ends` says whether the path ends at cuts
-pub record IsHintTo (z : ZoneContents) (ends : Bool) (v : ZoneNode) : Type 0 where
-  pub zone : v.zone ≡ z
-  pub exists : IsNode z v.name
-  pub inside : at_or_below v.name z.origin ≡ true
-  pub longer : length z.origin < length v.name
-  pub uncut : ends ≡ true → cut_of z v.name ≡ None
-
--- the name of the node at which a path begins: the hint's, or the apex's
-abbrev pub start_name : ZoneContents → Option ZoneNode → DomainName
-start_name z l = (node_or (node_of z z.origin) l).name
-
--- the name is sought from a hint, or from the apex
-pub record IsAim (z : ZoneContents) (ends : Bool) (s : Sought) (l : Option ZoneNode)
-    : Type 0 where
-  pub hint : IfSome l (IsHintTo z ends)
-  pub below : IsBelow s (start_name z l)
-
--- where the path to a name begins, if the name is at or below the origin
-abbrev pub IsAimed : ZoneContents → Bool → DomainName → Option (Sought × Option ZoneNode) → Type 0
-IsAimed z ends n None = at_or_below n z.origin ≡ false
-IsAimed z ends n (Some (s, l)) = (at_or_below n z.origin ≡ true) × IsAim z ends s l
+-- a node at or below the origin at which a path may begin; `ends` says whether the path ends at cuts
+pub record IsStart (z : ZoneContents) (ends : Bool) (start : ZoneNode) : Type 0 where
+  pub zone : start.zone ≡ z
+  pub exists : IsNode z start.name
+  pub inside : at_or_below start.name z.origin ≡ true
+  pub uncut : ends ≡ true → cut_of z start.name ≡ None
 
 -- the number of labels of a name below the origin
 abbrev pub labels_below : ZoneContents → DomainName → ℕ
@@ -122,6 +104,3 @@ missed (ways.Encloser n) = 1
 pub record TookWay (s s' : Walk) (nodes misses : ℕ) : Type 0 where
   pub took : Took s s' nodes misses
   pub fewer : s'.visits + misses ≤ s.visits + nodes
-
-abbrev pub one_if : Bool → ℕ
-one_if b = if b then 1 else 0

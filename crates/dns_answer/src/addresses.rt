@@ -1,22 +1,21 @@
 //! The addresses of a set's targets (RFC 1034 4.3.2 step 6).
 ghost use Rattle.std.specs.Prelude.{◌≡◌, ◌*◌, ◌≤◌, ◌<◌, ◌⊎◌, [], length, true, false, IfSome};
 ghost use Rattle.std.specs.List.{list_any, list_all, filter};
-ghost use Rattle.dns_spec.specs.Names.{same, folded};
+ghost use Rattle.dns_spec.specs.Names.{same, folded, at_or_below};
 ghost use Rattle.dns_spec.specs.Answer.{item};
 ghost use Rattle.dns_spec.specs.Records.{rrset};
 ghost use Rattle.dns_spec.specs.Layout.{additional};
 ghost use Rattle.dns_spec.specs.Sets.{HasValidData};
-ghost use Rattle.dns_zone.specs.Nodes.{IsSetOf};
-ghost use Rattle.dns_answer.specs.Walks.{IsApex, IsHintTo, HasNodesLeft, Took};
+ghost use Rattle.dns_answer.specs.Walks.{IsStart, HasNodesLeft, Took};
 ghost use Rattle.dns_answer.specs.DraftForm.{Offers};
-ghost use Rattle.dns_answer.specs.Targets.{addresses_of, depth_in, side_items, side_nodes, side_takes, takes_target, set_targets, targets_of_first, target_at, target_items, target_nodes, target_misses};
+ghost use Rattle.dns_answer.specs.Targets.{addresses_of, depth_in, side_items, side_nodes, side_takes, Reaches, takes_target, set_targets, targets_of_first, target_at, target_items, target_nodes, target_misses};
 
 use crate::draft::Draft;
-use crate::lookup::{Cuts, Way, aim, or_apex, walk};
+use crate::lookup::{Cuts, Way, or_start, walk};
 use dns_name::NameRef;
 use dns_rdata::{RType, SetView};
 use dns_wire::Section;
-use dns_zone::{Node, RecordSet, Steps, TargetHint};
+use dns_zone::{Node, RecordSet, Sought, Steps};
 
 /// Which targets are selected: all, those at or below a cut, or those that are not.
 #[derive(Clone, Copy)]
@@ -42,19 +41,20 @@ impl Side<'_, '_> {
 }
 
 /// Offers the addresses of the selected targets of a set, in order, and only once for each target.
-/// Returns whether all targets are selected. Once the reply is full, no further target is looked
-/// up, since its addresses would not be added; then the result has no meaning.
+/// The path to each of them begins at `start`. Returns whether all targets are selected. Once the
+/// reply is full, no further target is looked up, since its addresses would not be added; then the
+/// result has no meaning.
 pub(crate) fn offer_addresses<'z, const N: usize, const SIZE: usize>(
-    node: &Node<'z>,
     set: &RecordSet<'z>,
     side: Side<'_, '_>,
-    apex: &Node<'z>,
+    start: &Node<'z>,
     steps: &mut Steps<'z>,
     draft: &mut Draft<N, SIZE>,
 ) -> bool
-    requires apex { IsApex steps.old.zone apex.now }
-    requires node { node.now.zone ≡ steps.old.zone }
-    requires set { IsSetOf node.now set.now }
+    requires start { IsStart steps.old.zone false start.now }
+    requires reaches { Reaches steps.old.zone start.now.name (side_takes side) }
+    requires valid { HasValidData set.now }
+    requires few { length set.now.rdata ≤ 64 }
     requires room { HasNodesLeft steps.old (64 * 128) }
     ensures offers { Offers draft.old draft.new
         (side_items steps.old.zone (side_takes side.entry) [] (set_targets set.now)) }
@@ -70,7 +70,7 @@ pub(crate) fn offer_addresses<'z, const N: usize, const SIZE: usize>(
         if draft.is_full() {
             return all;
         }
-        all &= offer_target(node, set, i, side, apex, steps, draft);
+        all &= offer_target(set, i, side, start, steps, draft);
     }
     all
 }
@@ -78,18 +78,17 @@ pub(crate) fn offer_addresses<'z, const N: usize, const SIZE: usize>(
 // Offers the addresses of the target of record `i`, if the target is selected and no earlier record
 // has the same target. Returns false only if the record has a target that is not selected.
 fn offer_target<'z, const N: usize, const SIZE: usize>(
-    node: &Node<'z>,
     set: &RecordSet<'z>,
     i: usize,
     side: Side<'_, '_>,
-    apex: &Node<'z>,
+    start: &Node<'z>,
     steps: &mut Steps<'z>,
     draft: &mut Draft<N, SIZE>,
 ) -> bool
     requires valid { HasValidData set.now }
     requires inside { i < length set.now.rdata }
-    requires apex { IsApex steps.old.zone apex.now }
-    requires node { node.now.zone ≡ steps.old.zone }
+    requires start { IsStart steps.old.zone false start.now }
+    requires reaches { Reaches steps.old.zone start.now.name (side_takes side) }
     requires room { HasNodesLeft steps.old 128 }
     ensures offers { Offers draft.old draft.new (target_items steps.old.zone (side_takes side.entry)
         (targets_of_first i set.now) (target_at i set.now)) }
@@ -108,7 +107,7 @@ fn offer_target<'z, const N: usize, const SIZE: usize>(
         return false;
     }
     if !stood_before(set, i, &target) {
-        offer_address(&target, node.hint(set.rtype(), i), apex, steps, draft);
+        offer_address(&target, start, steps, draft);
     }
     true
 }
@@ -133,29 +132,30 @@ fn stood_before(set: &RecordSet<'_>, count: usize, target: &NameRef<'_>) -> bool
 
 // Offers the addresses of a name in lower case: its A set, then its AAAA set. The name may be below
 // a cut. A wildcard's sets are not offered.
+#[tactic(auto, using(crate::proofs::TargetLaws::depth_below))]
 fn offer_address<'z, const N: usize, const SIZE: usize>(
     target: &NameRef<'_>,
-    hint: Option<TargetHint<'z>>,
-    apex: &Node<'z>,
+    start: &Node<'z>,
     steps: &mut Steps<'z>,
     draft: &mut Draft<N, SIZE>,
 )
-    requires hint { IfSome hint (IsHintTo steps.old.zone false) }
-    requires apex { IsApex steps.old.zone apex.now }
+    requires start { IsStart steps.old.zone false start.now }
+    requires reached { at_or_below target.now steps.old.zone.origin ≡ true
+        → at_or_below target.now start.now.name ≡ true }
     requires lower { folded target.now ≡ target.now }
     requires room { HasNodesLeft steps.old 128 }
     ensures offers { Offers draft.old draft.new (addresses_of steps.old.zone target.now) }
     ensures took { Took steps.old steps.new (depth_in steps.old.zone target.now) 1 }
 {
-    let Some((sought, hint)) = aim(target, hint, &steps.origin().lent()) else {
+    let Some(sought) = Sought::below(target, &start.name()) else {
         return;
     };
-    let node = match walk(&sought, hint, apex, Cuts::Pass, steps) {
+    let node = match walk(&sought, start, Cuts::Pass, steps) {
         Way::Cut(_) => return,
         Way::Encloser(_) => return,
         Way::Name(node) => node,
     };
-    let node = or_apex(&node, &*apex);
+    let node = or_start(&node, &*start);
     offer_type(node, RType::A, target, draft);
     offer_type(node, RType::AAAA, target, draft);
 }

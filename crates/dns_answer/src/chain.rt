@@ -2,19 +2,18 @@
 ghost use Rattle.std.specs.Prelude.{◌≡◌, ◌<◌, ◌∷◌, [], length, true, IfSome};
 ghost use Rattle.std.specs.List.{list_any};
 ghost use Rattle.dns_spec.specs.Names.{folded, names_equal, same};
-ghost use Rattle.dns_spec.specs.Records.{ZoneContents, at};
+ghost use Rattle.dns_spec.specs.Records.{at};
 ghost use Rattle.dns_zone.specs.Nodes.{IsSetOf};
-ghost use Rattle.dns_answer.specs.Walks.{IsHintTo};
 ghost use Rattle.dns_answer.specs.Seeking.{MaySeek, Seeks, Followed, AreTargets, SoughtAs, IsShown, NextIs, names_of};
 
 use crate::draft::Draft;
 use crate::ending::{Verdict, deny, end_with, ended, refer};
-use crate::lookup::{Found, aim, look_up, or_apex};
+use crate::lookup::{Found, look_up, or_start};
 use arrayvec::ArrayVec;
 use dns_name::{Name, NameRef};
 use dns_rdata::{RType, SetView};
 use dns_wire::{Rcode, Section};
-use dns_zone::{Node, RecordSet, Sought, Steps, TargetHint};
+use dns_zone::{Node, RecordSet, Sought, Steps};
 
 // The QTYPE that asks for all types (RFC 1035 3.2.3).
 const QTYPE_ANY: u16 = 255;
@@ -27,8 +26,8 @@ const MOST_ALIASES: usize = 16;
 pub(crate) enum Next<'z> {
     /// The name is the last one sought.
     Last(Verdict),
-    /// The name is an alias of another name, the path to which may begin at the hint.
-    Alias(Sought<'z>, Option<TargetHint<'z>>),
+    /// The name is an alias of another name.
+    Alias(Sought<'z>),
 }
 
 /// Seeks the name of a question and then the targets of aliases: offers the CNAME sets of the
@@ -41,15 +40,15 @@ pub(crate) fn seek<'q, 'z: 'q, const N: usize, const SIZE: usize>(
     steps: &mut Steps<'z>,
     draft: &mut Draft<N, SIZE>,
 ) -> (Verdict, bool)
-    requires { MaySeek steps.old apex.now [] first None }
+    requires { MaySeek steps.old apex.now [] first }
     ensures seeks { Seeks draft.old draft.new steps.old steps.new qtype [] first.entry.name
         result.0 }
     ensures followed { Followed steps.old.zone qtype first.entry.name result.0 result.1 }
 {
-    match seek_one(&first, None, qtype, &[], apex, steps, draft) {
+    match seek_one(&first, qtype, &[], apex, steps, draft) {
         Next::Last(verdict) => (verdict, false),
-        Next::Alias(target, hint) => {
-            let verdict = seek_targets(first, target, hint, qtype, apex, steps, draft);
+        Next::Alias(target) => {
+            let verdict = seek_targets(first, target, qtype, apex, steps, draft);
             (verdict, true)
         }
     }
@@ -60,27 +59,24 @@ pub(crate) fn seek<'q, 'z: 'q, const N: usize, const SIZE: usize>(
 fn seek_targets<'q, 'z: 'q, const N: usize, const SIZE: usize>(
     first: Sought<'q>,
     target: Sought<'z>,
-    hint: Option<TargetHint<'z>>,
     qtype: u16,
     apex: &Node<'z>,
     steps: &mut Steps<'z>,
     draft: &mut Draft<N, SIZE>,
 ) -> Verdict
-    requires { MaySeek steps.old apex.now (first ∷ []) target hint }
+    requires { MaySeek steps.old apex.now (first ∷ []) target }
     ensures { Seeks draft.old draft.new steps.old steps.new qtype (first.entry.name ∷ [])
         target.entry.name result }
 {
     let mut earlier: ArrayVec<Sought<'q>, MOST_ALIASES> = ArrayVec::new();
     earlier.push(first);
     let mut sought = target;
-    let mut hint = hint;
     'names: loop {
-        match seek_one(&sought, hint, qtype, earlier.as_slice(), apex, steps, draft) {
+        match seek_one(&sought, qtype, earlier.as_slice(), apex, steps, draft) {
             Next::Last(verdict) => return verdict,
-            Next::Alias(target, nearer) => {
+            Next::Alias(target) => {
                 earlier.push(sought);
                 sought = target;
-                hint = nearer;
             }
         }
     }
@@ -91,35 +87,33 @@ fn seek_targets<'q, 'z: 'q, const N: usize, const SIZE: usize>(
 #[inline(always)]
 fn seek_one<'z, const N: usize, const SIZE: usize>(
     sought: &Sought<'_>,
-    hint: Option<TargetHint<'z>>,
     qtype: u16,
     earlier: &[Sought<'_>],
     apex: &Node<'z>,
     steps: &mut Steps<'z>,
     draft: &mut Draft<N, SIZE>,
 ) -> Next<'z>
-    requires { MaySeek steps.old apex.now earlier.now sought.now hint }
+    requires { MaySeek steps.old apex.now earlier.now sought.now }
     ensures { SoughtAs draft.old draft.new steps.old steps.new qtype apex.now earlier.now sought.now
         result }
 {
-    let node = match look_up(sought, hint, apex, steps) {
+    let node = match look_up(sought, apex, steps) {
         Found::Cut(cut) => return Next::Last(refer(&cut, apex, steps, draft)),
         Found::Nothing => return Next::Last(deny(Rcode::NameError, apex, steps, draft)),
         Found::Records(node) => node,
     };
-    let node = or_apex(&node, &*apex);
+    let node = or_start(&node, &*apex);
     let Some((set, is_alias)) = shown_set(node, qtype) else {
         return Next::Last(deny(Rcode::NoError, apex, steps, draft));
     };
     draft.offer(Section::Answer, &sought.name, set.ttl(), &set);
     if !is_alias {
-        return Next::Last(end_with(node, &set, apex, steps, draft));
+        return Next::Last(end_with(&set, apex, steps, draft));
     }
-    let hint = node.hint(RType::CNAME, 0);
-    let Some((target, hint)) = next_sought(&set, hint, sought, earlier, steps.origin()) else {
+    let Some(target) = next_sought(&set, sought, earlier, steps.origin()) else {
         return Next::Last(ended(Rcode::NoError, draft));
     };
-    Next::Alias(target, hint)
+    Next::Alias(target)
 }
 
 // The set at a node that the answer contains, and whether it is an alias to follow. A CNAME set
@@ -141,30 +135,27 @@ fn shown_set<'z>(node: &Node<'z>, qtype: u16) -> Option<(RecordSet<'z>, bool)>
     Some((node.set(RType(qtype))?, false))
 }
 
-// The target of an alias as the next name to seek, with the hint at which the path to it begins.
-// `None` if no more aliases may be followed, or the target is outside the zone or was sought
-// already.
+// The target of an alias as the next name to seek. `None` if no more aliases may be followed, or
+// the target is outside the zone or was sought already.
 #[inline(always)]
 fn next_sought<'z>(
     alias: &RecordSet<'z>,
-    hint: Option<TargetHint<'z>>,
     sought: &Sought<'_>,
     earlier: &[Sought<'_>],
     origin: &Name,
-) -> Option<(Sought<'z>, Option<TargetHint<'z>>)>
+) -> Option<Sought<'z>>
     requires some { 0 < length alias.now.rdata }
     requires lower { AreTargets earlier.now sought.now }
-    ensures { (z : ZoneContents) → z.origin ≡ origin.now → IfSome hint.entry (IsHintTo z true)
-        → NextIs z alias.now (sought.now.name ∷ names_of earlier.now) result }
+    ensures { NextIs origin.now alias.now (sought.now.name ∷ names_of earlier.now) result }
 {
     if earlier.len() >= MOST_ALIASES {
         return None;
     }
-    let (next, hint) = aim(&alias.target(0)?, hint, &origin.lent())?;
+    let next = Sought::below(&alias.target(0)?, &origin.lent())?;
     if is_among(&next.name, sought, earlier) {
         return None;
     }
-    Some((next, hint))
+    Some(next)
 }
 
 // Whether a name in lower case is `last`, the last name sought, or is in `earlier`. All names

@@ -1,8 +1,8 @@
 //! How the answer for the last name sought ends (RFC 1034 4.3.2 step 3, RFC 2308).
-ghost use Rattle.std.specs.Prelude.{◌≡◌, ◌*◌};
+ghost use Rattle.std.specs.Prelude.{◌≡◌, ◌*◌, ◌≤◌, length};
 ghost use Rattle.dns_spec.specs.Names.{DomainName};
 ghost use Rattle.dns_spec.specs.Answer.{referral_to, negative};
-ghost use Rattle.dns_zone.specs.Nodes.{IsSetOf};
+ghost use Rattle.dns_spec.specs.Sets.{HasValidData};
 ghost use Rattle.dns_wire.specs.QueryForm.{code_of};
 ghost use Rattle.dns_answer.specs.Walks.{IsApex, IsBelowCut, HasNodesLeft};
 ghost use Rattle.dns_answer.specs.Ending.{Ends, TookTargets, IsPlain, EndsWith, TookWith};
@@ -47,10 +47,10 @@ pub(crate) fn refer<'z, const N: usize, const SIZE: usize>(
         unreachable!();
     };
     draft.offer(Section::Authority, &owner, servers.ttl(), &servers);
-    let are_all_inside = offer_addresses(cut, &servers, Side::Inside(&owner), apex, steps, draft);
+    let are_all_inside = offer_addresses(&servers, Side::Inside(&owner), cut, steps, draft);
     let is_truncated = draft.is_full();
     if !are_all_inside {
-        offer_addresses(cut, &servers, Side::Outside(&owner), apex, steps, draft);
+        offer_addresses(&servers, Side::Outside(&owner), apex, steps, draft);
     }
     Verdict {
         rcode: Rcode::NoError,
@@ -99,14 +99,13 @@ pub(crate) fn ended<const N: usize, const SIZE: usize>(
 /// Ends an answer with the set that was asked for, which has been offered already: offers the
 /// addresses of its targets if its type is NS, MX or SRV.
 pub(crate) fn end_with<'z, const N: usize, const SIZE: usize>(
-    node: &Node<'z>,
     set: &RecordSet<'z>,
     apex: &Node<'z>,
     steps: &mut Steps<'z>,
     draft: &mut Draft<N, SIZE>,
 ) -> Verdict
-    requires node { node.now.zone ≡ steps.old.zone }
-    requires set { IsSetOf node.now set.now }
+    requires valid { HasValidData set.now }
+    requires few { length set.now.rdata ≤ 64 }
     requires apex { IsApex steps.old.zone apex.now }
     requires room { HasNodesLeft steps.old (64 * 128) }
     ensures ends { EndsWith draft.old draft.new steps.old.zone set.now result }
@@ -116,7 +115,7 @@ pub(crate) fn end_with<'z, const N: usize, const SIZE: usize>(
     // The addresses of targets of these types are useful to the client.
     let rtype = set.rtype();
     if rtype == RType::NS || rtype == RType::MX || rtype == RType::SRV {
-        offer_addresses(node, set, Side::All, apex, steps, draft);
+        offer_addresses(set, Side::All, apex, steps, draft);
     }
     verdict
 }

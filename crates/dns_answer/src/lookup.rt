@@ -1,20 +1,21 @@
 //! What a zone has for a name (RFC 1034 4.3.2 step 3).
-ghost use Rattle.std.specs.Prelude.{◌≡◌, Bool, IfSome, true};
-ghost use Rattle.dns_spec.specs.Records.{ZoneContents};
-ghost use Rattle.dns_answer.specs.Walks.{IsApex, IsHintTo, IsAim, IsAimed, labels_below, node_or, ends_at_cuts, WalkedTo, FoundAs, HasNodesLeft, Took, TookWay, missed};
+ghost use Rattle.std.specs.Prelude.{◌≡◌};
+ghost use Rattle.dns_zone.specs.Starts.{IsBelow};
+ghost use Rattle.dns_answer.specs.Walks.{IsApex, IsStart, labels_below, node_or, ends_at_cuts, WalkedTo, FoundAs, HasNodesLeft, Took, TookWay, missed};
 
-use dns_name::{Label, NameRef};
+use dns_name::Label;
 use dns_rdata::RType;
-use dns_zone::{MOST_LABELS, Node, Sought, Steps, TargetHint, label_after, put_starts};
+use dns_zone::{MOST_LABELS, Node, Sought, Steps, label_after, put_starts};
 
 /// Where the path down to a name ends.
 #[derive(Drop)]
 pub(crate) enum Way<'z> {
     /// At the first cut on the path.
     Cut(Node<'z>),
-    /// At the name. `None` is the apex.
+    /// At the name. `None` is the node where the path begins.
     Name(Option<Node<'z>>),
-    /// At the closest encloser of a name that does not exist. `None` is the apex.
+    /// At the closest encloser of a name that does not exist. `None` is the node where the path
+    /// begins.
     Encloser(Option<Node<'z>>),
 }
 
@@ -36,23 +37,17 @@ pub(crate) enum Found<'z> {
     Records(Option<Node<'z>>),
 }
 
-/// What is found for a name at or below the origin. The hint is that of the alias that led to the
-/// name, if there is one.
+/// What is found for a name at or below the origin.
 // Inlining saves 36 to 89 instructions per reply.
 #[inline(always)]
-pub(crate) fn look_up<'z>(
-    sought: &Sought<'_>,
-    hint: Option<TargetHint<'z>>,
-    apex: &Node<'z>,
-    steps: &mut Steps<'z>,
-) -> Found<'z>
+pub(crate) fn look_up<'z>(sought: &Sought<'_>, apex: &Node<'z>, steps: &mut Steps<'z>) -> Found<'z>
     requires apex { IsApex steps.old.zone apex.now }
-    requires aim { IsAim steps.old.zone true sought.now hint }
+    requires below { IsBelow sought.now steps.old.zone.origin }
     requires room { HasNodesLeft steps.old 128 }
     ensures found { FoundAs steps.old.zone apex.now sought.now.name result }
     ensures took { Took steps.old steps.new (labels_below steps.old.zone sought.now.name) 2 }
 {
-    let encloser = match walk(sought, hint, apex, Cuts::End, steps) {
+    let encloser = match walk(sought, apex, Cuts::End, steps) {
         Way::Cut(node) => return Found::Cut(node),
         Way::Name(node) => return Found::Records(node),
         Way::Encloser(node) => node,
@@ -61,70 +56,46 @@ pub(crate) fn look_up<'z>(
     let Some(label) = Label::new(b"*") else {
         unreachable!();
     };
-    match or_apex(&encloser, &*apex).down(label, steps) {
+    match or_start(&encloser, &*apex).down(label, steps) {
         Some(node) => Found::Records(Some(node)),
         None => Found::Nothing,
     }
 }
 
-pub(crate) fn or_apex<'a, 'z>(node: &'a Option<Node<'z>>, apex: &'a Node<'z>) -> &'a Node<'z>
-    ensures { result.now ≡ node_or apex.now node.now }
+pub(crate) fn or_start<'a, 'z>(node: &'a Option<Node<'z>>, start: &'a Node<'z>) -> &'a Node<'z>
+    ensures { result.now ≡ node_or start.now node.now }
 {
     match node {
         Some(node) => node,
-        None => apex,
+        None => start,
     }
 }
 
-/// Where the path down to a name begins: at the hint, if there is one and the name is at or below
-/// the hint's name, else at the apex. `None` if the name is not at or below the origin.
-#[inline(always)]
-pub(crate) fn aim<'n, 'z>(
-    name: &NameRef<'n>,
-    hint: Option<TargetHint<'z>>,
-    origin: &NameRef<'_>,
-) -> Option<(Sought<'n>, Option<TargetHint<'z>>)>
-    ensures name { IfSome result (λ (sought, _). sought.name ≡ name.now) }
-    ensures aimed { (z : ZoneContents) (ends : Bool) → z.origin ≡ origin.now
-        → IfSome hint.entry (IsHintTo z ends) → IsAimed z ends name.now result }
-{
-    if let Some(hint) = hint {
-        if let Some(sought) = Sought::below(name, &hint.name()) {
-            return Some((sought, Some(hint)));
-        }
-    }
-    Some((Sought::below(name, origin)?, None))
-}
-
-/// Walks the path down to a name from the hint or the apex (RFC 1034 4.3.2 step 3b), label by label
-/// from the right.
+/// Walks the path down to a name from a node at or above it (RFC 1034 4.3.2 step 3b), label by
+/// label from the right.
 // Inlining saves 43 to 105 instructions per reply over UDP.
 #[inline(always)]
 pub(crate) fn walk<'z>(
     sought: &Sought<'_>,
-    hint: Option<TargetHint<'z>>,
-    apex: &Node<'z>,
+    start: &Node<'z>,
     cuts: Cuts,
     steps: &mut Steps<'z>,
 ) -> Way<'z>
-    requires apex { IsApex steps.old.zone apex.now }
-    requires aim { IsAim steps.old.zone (ends_at_cuts cuts) sought.now hint }
+    requires start { IsStart steps.old.zone (ends_at_cuts cuts) start.now }
+    requires below { IsBelow sought.now start.now.name }
     requires room { HasNodesLeft steps.old 127 }
-    ensures way { WalkedTo steps.old.zone apex.now (ends_at_cuts cuts) sought.now.name result }
+    ensures way { WalkedTo steps.old.zone start.now (ends_at_cuts cuts) sought.now.name result }
     ensures took { TookWay steps.old steps.new (labels_below steps.old.zone sought.now.name)
         (missed result) }
 {
     let octets = sought.name.octets();
     let mut starts = [0; MOST_LABELS];
     put_starts(octets, sought.depth, &mut starts);
-    let mut node = match hint {
-        Some(hint) => Some(hint.node(steps)),
-        None => None,
-    };
+    let mut node = None;
     let mut before = sought.depth;
     'labels: while before > 0 {
         let label = label_after(octets, &starts, before - 1);
-        let Some(child) = or_apex(&node, &*apex).down(label, steps) else {
+        let Some(child) = or_start(&node, &*start).down(label, steps) else {
             return Way::Encloser(node);
         };
         if matches!(cuts, Cuts::End) && child.set(RType::NS).is_some() {

@@ -38,8 +38,8 @@ pub use Rattle.dns_zone.specs.LabelKey.{IsEight, IsKey}
 unfoldable pub use Rattle.dns_zone.specs.LabelKey.{key_of}
 pub use Rattle.dns_zone.specs.NameEnd.{ending}
 pub use Rattle.dns_zone.specs.NamesForm.{AreChecked, AreOwners, ComesNext, IsChecked, IsCutAbove, IsLastAt, IsLastUpto, IsSurvey, IsTopmost, first_owner, is_covered, is_upto, owner_of, own_in}
-pub use Rattle.dns_zone.specs.NodeForm.{AreHints, IsNameTree, IsNodeAt, IsRowOf, IsWayEnd, IsZoneNode, IsZoneTree, TargetWay, kid_label, kid_rows, name_below, node_at}
-pub use Rattle.dns_zone.specs.Nodes.{IsHint, IsNode, IsSetOf, Walk, ZoneNode, hint_node, hint_of, last_on_way, may_begin}
+pub use Rattle.dns_zone.specs.NodeForm.{IsZoneNode, IsZoneTree, kid_label, kid_rows, node_at}
+pub use Rattle.dns_zone.specs.Nodes.{IsNode, IsSetOf, Walk, ZoneNode}
 pub use Rattle.dns_zone.specs.OwnerForm.{AreCounted, IsOwner, NameOfZone, is_exchange_alias, is_exchange_type, is_other_type, is_server_alias, is_server_lost, number_of}
 pub use Rattle.dns_zone.specs.ReportedForm.{HasOwners, begins_with_owner, failed_from, owners_once}
 unfoldable pub use Rattle.dns_zone.specs.ReportedForm.{reported_at}

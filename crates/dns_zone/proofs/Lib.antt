@@ -37,5 +37,4 @@ pub mod GrowingNames
 pub mod LabelKeys
 pub mod LabelStarts
 pub mod WayLaws
-pub mod HintRows
 pub mod SearchSteps

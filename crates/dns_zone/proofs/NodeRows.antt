@@ -1,5 +1,5 @@
 -- The nodes of a zone by their rows.
-use Rattle.dns_zone.proofs.Common.{◌≡◌, ℕ, ◌+◌, ◌-◌, ◌<◌, ◌≤◌, true, List, [], ◌∷◌, length, drop, get_or, sym, ap, ◌∙◌, arith, subst, filter, length-take, length-drop, get_or-take, get_or-drop, get_or_default, list_any, Octets, DomainName, same, at_or_below, ResourceRecord, exists, AllByRecursion, each_weaker, contains_among, IsNode, IsNodeAt, first_of, row_name, row_label, row_at, span, kids_at, IsRow, IsKid, AreKids, Row, Tree}
+use Rattle.dns_zone.proofs.Common.{◌≡◌, ℕ, ◌+◌, ◌-◌, ◌<◌, ◌≤◌, true, List, [], ◌∷◌, length, drop, get_or, sym, ap, ◌∙◌, arith, subst, length-take, get_or-take, get_or-drop, get_or_default, list_any, Octets, DomainName, at_or_below, ResourceRecord, exists, AllByRecursion, each_weaker, contains_among, IsNode, IsZoneNode, first_of, row_name, row_label, row_at, kids_at, IsRow, IsKid, AreKids, Row, Tree}
 use Rattle.dns_zone.proofs.Spans.{in_span}
 use Rattle.dns_zone.proofs.KidRows.{is_under}
 use Rattle.dns_zone.proofs.GrowingKids.{row_is}
@@ -20,7 +20,7 @@ row_exists rs row n h =
     (contains_among (get_or rs row.first d) rs
     (row.first, h.some, get_or_default rs row.first (get_or rs row.first d) d h.some)) here
 
-module _ (t : Tree) (k : ℕ) (at : IsNodeAt t k) where
+module _ (t : Tree) (k : ℕ) (at : IsZoneNode t k) where
   abbrev rs : List ResourceRecord
   rs = t.zone.records
 
@@ -39,22 +39,6 @@ module _ (t : Tree) (k : ℕ) (at : IsNodeAt t k) where
     lower = is_row.lower;
     stands = row_exists rs row name is_row;
   }
-
-  -- the zone's index of record i of `others`, the node's own records from `before` on
-  pub own_at : (own others : List ResourceRecord) (before i : ℕ) (r : ResourceRecord)
-      → own ≡ filter (λ (q : ResourceRecord). same q.owner name) rs → others ≡ drop before own
-      → i < length others → r ≡ get_or others i r
-      → (row.first + before + i < length rs) × (r ≡ get_or rs (row.first + before + i) r)
-  own_at own others before i r is rest fits there =
-      let front = span rs row.first row.own_end in
-      let e : others ≡ drop before front = rest ∙ ap (drop before) (is ∙ sym is_row.own) in
-      let short = length-take (row.own_end - row.first) (drop row.first rs) in
-      let size : before + i < length front =
-      omega (arith, fits, ap length e, length-drop before front) in
-      let inside : before + i < row.own_end - row.first = omega (arith, size, short) in (
-        omega (arith, size, short, length-drop row.first rs),
-        there ∙ ap (λ xs. get_or xs i r) e ∙ grind (arith, inside, get_or-take, get_or-drop),
-      )
 
   abbrev start : ℕ
   start = get_or t.bounds k 0
@@ -98,5 +82,5 @@ module _ (t : Tree) (k : ℕ) (at : IsNodeAt t k) where
         subst (λ (l : Octets). exists t.zone (l ∷ name) ≡ true) (sym (ap first_of whole))
         (row_exists rs (row_at kids i) (the_kid.label ∷ name) the_kid.is_row)
 
-    pub kid_at : IsNodeAt t (start + i)
+    pub kid_at : IsZoneNode t (start + i)
     kid_at = record { kept = at.kept; row = kid_in }

@@ -1,13 +1,9 @@
 -- The sets of a name of a built zone.
-use Rattle.dns_zone.proofs.Common.{◌≡◌, ℕ, ◌≤◌, true, false, not, ◌==◌, List, [], ◌∷◌, map, length, drop, Option, None, Some, IfSome, refl, sym, ap, ◌∙◌, subst, filter, is_gt, nat_cmp, arith, eqb-true, nat_cmp_total, tied_itself, length-map, none-some, same_Some, IsNonDecreasingBy, DomainName, folded, same, Valid, ResourceRecord, ZoneContents, distinct, sort_by, data_order, record_order, at, rrset, RecordSet, records_at, set_of, rising_types, of_lowest_type, of_first_type, IsReadRecord, AllByRecursion, each_filter, each_distinct, each_sort, each_weaker, filter_each, length-sort_by, recursion_from_All, All-from_recursion, count_few, IsOf, as_set, first_ttl, own_records, each_typed, IsSetOf, data_of, lent, AreOfType, IsBuilt}
-use Rattle.std.specs.List.{slice_get}
-use Rattle.dns_spec.proofs.Common.{option_and_then}
-use Rattle.std.proofs.lemmas.Option.{slice_get_past}
-use Rattle.dns_zone.proofs.Types.{passing, of_t, not_below, nth_passing, type_pairs, type_others}
+use Rattle.dns_zone.proofs.Common.{◌≡◌, ℕ, ◌≤◌, true, false, not, ◌==◌, List, [], ◌∷◌, map, length, Option, None, Some, IfSome, refl, sym, ap, ◌∙◌, subst, filter, is_gt, nat_cmp, arith, eqb-true, nat_cmp_total, tied_itself, length-map, none-some, same_Some, IsNonDecreasingBy, DomainName, folded, same, Valid, ResourceRecord, ZoneContents, distinct, sort_by, data_order, record_order, at, rrset, RecordSet, records_at, set_of, rising_types, of_lowest_type, of_first_type, IsReadRecord, AllByRecursion, each_filter, each_distinct, each_sort, each_weaker, filter_each, length-sort_by, recursion_from_All, All-from_recursion, count_few, IsOf, as_set, first_ttl, own_records, each_typed, IsSetOf, data_of, lent, AreOfType, IsBuilt}
 use Rattle.dns_zone.proofs.NameOrder.{same-is, same-from, same-tied}
 use Rattle.dns_zone.proofs.AtName.{data_order_total, ordered_records}
 use Rattle.dns_spec.proofs.General.Elements.{each_both, each_map}
-use Rattle.dns_spec.proofs.General.Pairs.{Pairs, pairs_of, pairs_filter, pairs_rising, unmoved, first_in}
+use Rattle.dns_spec.proofs.General.Pairs.{pairs_of, pairs_filter, pairs_rising, unmoved, first_in}
 use Rattle.dns_spec.proofs.General.Orderings.{first_part, not_above}
 
 -- records of one name and one type are ordered by data
@@ -75,26 +71,6 @@ module _ (z : ZoneContents) (kept : IsBuilt z) (n : DomainName) where
         (pairs_filter (λ r s. is_gt (record_order r s) ≡ false)
         (λ (r : ResourceRecord). same r.owner n) z.records
         (ordered_records z.records kept.ordered)))))
-
-    -- record i of the set, from the records whose type is not lower
-    pub nth : (own others : List ResourceRecord) (i : ℕ) → own ≡ at z n
-        → IsNonDecreasingBy (λ (r : ResourceRecord). r.rtype) own
-        → others ≡ filter (not_below t) own
-        → slice_get (rrset z n t) i ≡ option_and_then (passing (of_t t)) (slice_get others i)
-    nth own others i is rising rest =
-        ap (λ xs. slice_get xs i) (sym of_type_is ∙ ap (filter (of_t t)) (sym is)
-        ∙ sym (type_others t own) ∙ ap (filter (of_t t)) (sym rest))
-        ∙ nth_passing (of_t t) others i
-        (subst (Pairs (λ r s. of_t t s ≡ true → of_t t r ≡ true)) (sym rest)
-        (type_pairs t own rising))
-
-    pub nth_past : (own others : List ResourceRecord) (first i : ℕ) → own ≡ at z n
-        → IsNonDecreasingBy (λ (r : ResourceRecord). r.rtype) own
-        → drop first own ≡ filter (not_below t) own → others ≡ drop first own → length others ≤ i
-        → slice_get (rrset z n t) i ≡ None
-    nth_past own others first i is rising rest same h =
-        nth own others i is rising (same ∙ rest)
-        ∙ ap (option_and_then (passing (of_t t))) (slice_get_past others i h)
 
     read_set : AllByRecursion (λ (r : ResourceRecord). IsReadRecord r × (r.rtype ≡ t)) (rrset z n t)
     read_set = grind (arith, each_typed, each_filter, reads)

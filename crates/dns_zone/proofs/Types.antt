@@ -1,44 +1,18 @@
 -- The records of one owner, ordered by type.
-use Rattle.dns_zone.proofs.Common.{◌≡◌, ◌==◌, ℕ, zero, suc, ◌-◌, ◌<◌, ◌≤◌, length, get_or, Bool, true, false, cond, not, nat_lt, List, [], ◌∷◌, Option, Some, None, refl, sym, ap, ◌∙◌, arith, filter, false≢true, false_from_ne_true, AllByRecursion, each_weaker, eqb-true, eq-eqb, ne_eqb, le-ltb, take_all, IsPartitionedBy, IsNonDecreasingBy, ResourceRecord, filter_each}
-use Rattle.std.specs.List.{slice_get}
-use Rattle.dns_spec.proofs.Common.{option_and_then}
-use Rattle.dns_spec.proofs.General.Filters.{filter_none, filter_within}
+use Rattle.dns_zone.proofs.Common.{◌≡◌, ◌==◌, ℕ, ◌-◌, ◌<◌, ◌≤◌, length, get_or, Bool, true, not, nat_lt, List, [], sym, ◌∙◌, arith, filter, eqb-true, eq-eqb, ne_eqb, le-ltb, take_all, IsPartitionedBy, IsNonDecreasingBy, ResourceRecord, filter_each}
+use Rattle.dns_spec.proofs.General.Filters.{filter_within}
 use Rattle.dns_spec.proofs.General.Pairs.{Pairs, pairs_of, pairs_filter, pairs_rising, parted}
 use Rattle.dns_spec.proofs.General.Fronts.{halves}
 
--- the element, if it passes the test
-abbrev pub passing : {X : Type 0} → (X → Bool) → X → Option X
-passing p x = cond (p x) (Some x) None
-
-none_passing : {X : Type 0} (p : X → Bool) (xs : List X) (i : ℕ)
-    → AllByRecursion (λ x. p x ≡ false) xs → None ≡ option_and_then (passing p) (slice_get xs i)
-none_passing p [] i e = refl
-none_passing p (x ∷ xs) zero e = sym (ap (λ b. cond b (Some x) None) e.0)
-none_passing p (x ∷ xs) (suc i) e = none_passing p xs i e.1
-
-none_after : {X : Type 0} (p : X → Bool) (x : X) (xs : List X) → p x ≡ false
-    → AllByRecursion (λ y. p y ≡ true → p x ≡ true) xs → AllByRecursion (λ y. p y ≡ false) xs
-none_after p x xs e = each_weaker (λ y. p y ≡ true → p x ≡ true) (λ y. p y ≡ false) xs
-    (λ y f. false_from_ne_true (p y) (λ g. false≢true (sym e ∙ f g)))
-
--- if the passing elements come first, element i is element i of the passing ones, or does not pass
-pub nth_passing : {X : Type 0} (p : X → Bool) (xs : List X) (i : ℕ)
-    → Pairs (λ x y. p y ≡ true → p x ≡ true) xs
-    → slice_get (filter p xs) i ≡ option_and_then (passing p) (slice_get xs i)
-nth_passing p [] i h = refl
-nth_passing p (x ∷ xs) zero h = grind (arith, filter_none, none_after)
-nth_passing p (x ∷ xs) (suc i) h =
-    grind (arith, filter_none, none_after, none_passing, (nth_passing p xs i h.1))
-
 -- the records of a type come first among the records whose type is not lower
 module _ (t : ℕ) where
-  abbrev pub of_t : ResourceRecord → Bool
+  abbrev of_t : ResourceRecord → Bool
   of_t r = r.rtype == t
 
-  abbrev pub not_below : ResourceRecord → Bool
+  abbrev not_below : ResourceRecord → Bool
   not_below r = not (nat_lt r.rtype t)
 
-  pub type_pairs : (rs : List ResourceRecord)
+  type_pairs : (rs : List ResourceRecord)
       → IsNonDecreasingBy (λ (r : ResourceRecord). r.rtype) rs → Pairs (λ r s. of_t s ≡ true → of_t r ≡ true) (filter not_below rs)
   type_pairs rs h =
       pairs_of (λ r. not_below r ≡ true) (λ r s. r.rtype ≤ s.rtype) (λ r s. of_t s ≡ true

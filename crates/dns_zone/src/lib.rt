@@ -15,7 +15,7 @@ pub use fault::{BuildFault, CheckFault};
 pub use printed::{PrintFault, print};
 pub use store::Store;
 pub use tree::labels::{MOST_LABELS, label_after, put_starts};
-pub use tree::node::{Node, TargetHint};
+pub use tree::node::Node;
 pub use tree::set::RecordSet;
 pub use tree::sought::Sought;
 pub use tree::steps::Steps;

@@ -99,16 +99,11 @@ impl Store {
         let origin = origin.fold();
         let (records, keyed) = sorted(alloc, &origin.lent(), entries)?;
         let found = faults(alloc, &origin.lent(), records.as_slice(), &keyed)?;
-        let numbers = SharedSlice::new(keyed.numbers);
         if !found.is_empty() {
             return Err(BuildFault::Faults(found));
         }
         let records = SharedSlice::new(records);
-        Ok(CheckedZone {
-            origin,
-            records,
-            numbers,
-        })
+        Ok(CheckedZone { origin, records })
     }
 }
 

@@ -2,7 +2,6 @@
 //! the order of their labels.
 
 pub(crate) mod counts;
-pub(crate) mod hints;
 pub(crate) mod kids;
 pub(crate) mod label_key;
 pub(crate) mod labels;
@@ -14,7 +13,6 @@ pub(crate) mod search;
 pub(crate) mod set;
 pub(crate) mod sought;
 pub(crate) mod steps;
-pub(crate) mod way;
 
 ghost use Rattle.std.specs.Prelude.{◌≡◌, ◌<◌, length, IfOk, OnOk};
 ghost use Rattle.dns_name.specs.WireForm.{labels_of, IsWireForm};
@@ -36,8 +34,6 @@ pub(crate) struct Tree {
     pub(crate) zone: CheckedZone,
     pub(crate) rows: SharedSlice<Row>,
     pub(crate) bounds: SharedSlice<u32>,
-    /// For each record the row number of its hint, or 0 if it has no hint.
-    pub(crate) hints: SharedSlice<u32>,
 }
 
 /// The rows of all names of a zone, and for each row the row number of its first child. A row's

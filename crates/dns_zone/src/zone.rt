@@ -12,7 +12,6 @@ use crate::fault::BuildFault;
 use crate::shared_slice::SharedSlice;
 use crate::store::Store;
 use crate::store::stored::StoredRecord;
-use crate::tree::hints::hints_of;
 use crate::tree::{Tree, rows_of};
 use dns_master::Record;
 use dns_name::{Name, NameRef};
@@ -28,8 +27,6 @@ use std::marker::Model;
 pub struct CheckedZone {
     pub(crate) origin: Name,
     pub(crate) records: SharedSlice<StoredRecord>,
-    /// For each record, how many records come before it in the file. Empty if records are short.
-    pub(crate) numbers: SharedSlice<u32>,
 }
 
 impl Model for CheckedZone {
@@ -109,22 +106,13 @@ impl Zone {
         Ok(Zone::of(alloc, zone)?)
     }
 
-    /// Prepares a checked zone for serving: makes a tree of its names, and stores for each record
-    /// the last existing name on the way to its target. So following an alias to a name of many
-    /// labels costs a query no more than following an alias to a short name. Takes 36 octets of
-    /// memory for each name and 8 for each record.
+    /// Prepares a checked zone for serving: makes a tree of its names. Takes 36 octets of memory for
+    /// each name.
     pub fn of(alloc: Global, zone: CheckedZone) -> Result<Zone, AllocError>
         ensures { IfOk result (λ whole. whole ≡ zone) }
     {
         let (rows, bounds) = rows_of(alloc, &zone.origin().lent(), zone.records())?;
-        let hints = SharedSlice::new(Vec::new(alloc));
-        let mut tree = Tree {
-            zone,
-            rows,
-            bounds,
-            hints,
-        };
-        tree.hints = SharedSlice::new(hints_of(alloc, &tree)?);
+        let tree = Tree { zone, rows, bounds };
         Ok(Zone { tree })
     }
 

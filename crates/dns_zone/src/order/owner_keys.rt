@@ -12,10 +12,7 @@ use crate::store::stored::StoredRecord;
 use dns_name::NameRef;
 use std::alloc::{AllocError, Global};
 
-// If records have at most this many octets on average, their order in the file is not stored.
-const FEW_OCTETS: usize = 64;
-
-/// The keys of owners, and the order of their records in the file.
+/// The keys of owners.
 #[derive(Drop)]
 pub(crate) struct OwnerKeys {
     /// The key of the origin, then the keys of the owners.
@@ -23,13 +20,11 @@ pub(crate) struct OwnerKeys {
     /// For each record, the offset in `keys` at which its owner's key begins. Adjacent records of
     /// one owner share a key.
     pub(crate) starts: Vec<u32>,
-    /// For each record, how many records come before it in the file. Empty if records are short.
-    pub(crate) numbers: Vec<u32>,
 }
 
 /// The keys of the owners, and one run for each stretch of adjacent records with the same owner, in
 /// the order of `records`. Takes memory for the octets of the owners, and 28 octets for each
-/// record, or 32 if the file's order is stored.
+/// record.
 #[tactic(auto, using(crate::proofs::SearchSteps::wire_steps))]
 pub(crate) fn keys_of<'a>(
     alloc: Global,
@@ -46,7 +41,6 @@ pub(crate) fn keys_of<'a>(
     let mut keys = Vec::new(alloc);
     let mut starts = Vec::with_capacity(alloc, records.len())?;
     let mut runs: Vec<Run> = Vec::with_capacity(alloc, records.len())?;
-    let numbers = numbers_of(alloc, records)?;
     let (first, mut key) = (Key::of(origin), Key::of(origin));
     keys.extend_from_slice(key.octets())?;
     let mut last = NameRef::new(origin.octets());
@@ -64,40 +58,7 @@ pub(crate) fn keys_of<'a>(
         }
         starts.push(start)?;
     }
-    let keyed = OwnerKeys {
-        keys,
-        starts,
-        numbers,
-    };
-    Ok((keyed, runs))
-}
-
-fn numbers_of(alloc: Global, records: &[StoredRecord]) -> Result<Vec<u32>, AllocError>
-    requires { length records.now ≤ most_records }
-{
-    let octets = records
-        .iter()
-        .fold(0_usize, |sum, each| sum.wrapping_add(each.octet_count()));
-    if octets / FEW_OCTETS <= records.len() {
-        return Ok(Vec::new(alloc));
-    }
-    in_turn(alloc, records.len() as u32)
-}
-
-// The numbers below `count`, in order.
-fn in_turn(alloc: Global, count: u32) -> Result<Vec<u32>, AllocError> {
-    let mut numbers = Vec::with_capacity(alloc, count as usize)?;
-    'numbers: for number in 0..count {
-        numbers.push(number)?;
-    }
-    Ok(numbers)
-}
-
-/// Swaps the numbers of two records, if `numbers` has both.
-pub(crate) fn swap_numbers(numbers: &mut [u32], one: usize, other: usize) {
-    if one < numbers.len() && other < numbers.len() {
-        numbers.swap(one, other);
-    }
+    Ok((OwnerKeys { keys, starts }, runs))
 }
 
 /// The key of a record's owner. It begins at the offset `start` in `keys`.

@@ -8,7 +8,6 @@ ghost use Rattle.dns_spec.specs.Meaning.{most_records};
 ghost use Rattle.dns_zone.specs.OwnerKeysForm.{AreKeyed};
 
 use crate::order::own_order;
-use crate::order::owner_keys::swap_numbers;
 use crate::order::runs::{Run, Sorted, merge_few};
 use crate::store::stored::StoredRecord;
 use std::alloc::{AllocError, Global};
@@ -17,7 +16,7 @@ use std::cmp::Ordering;
 // At most this many records of one owner are sorted by comparing whole records.
 const FEW_RECORDS: usize = 8;
 
-/// Moves records into canonical order, and their entries in `starts` and `numbers` with them.
+/// Moves records into canonical order, and their entries in `starts` with them.
 /// Duplicates stay. The result is unverified: callers check the order, and sort if it is wrong.
 ///
 /// Takes 4 octets of memory for each record, and 24 for each record of the owner with the most
@@ -29,7 +28,6 @@ pub(crate) fn presort(
     keys: &[u8],
     records: &mut [StoredRecord],
     starts: &mut [u32],
-    numbers: &mut [u32],
 ) -> Result<(), AllocError>
     requires keyed { AreKeyed keys.now records.old starts.old }
     requires few { length records.old ≤ most_records }
@@ -40,7 +38,7 @@ pub(crate) fn presort(
     let sources = places.as_mut_slice();
     if sources.len() == records.len() {
         'places: for at in 0..records.len() {
-            settle(keys, records, starts, numbers, sources, at);
+            settle(keys, records, starts, sources, at);
         }
     }
     Ok(())
@@ -140,7 +138,6 @@ fn settle(
     keys: &[u8],
     records: &mut [StoredRecord],
     starts: &mut [u32],
-    numbers: &mut [u32],
     places: &mut [u32],
     first: usize,
 )
@@ -162,7 +159,6 @@ fn settle(
         }
         records.swap(at, from);
         starts.swap(at, from);
-        swap_numbers(numbers, at, from);
         at = from;
     }
 }

@@ -11,7 +11,7 @@ ghost use Rattle.dns_zone.specs.KeyForm.{name_key};
 ghost use Rattle.dns_zone.specs.OwnerKeysForm.{key_in, AreKeyed};
 ghost use Rattle.dns_zone.specs.ZoneForm.{AreOrdered};
 
-use crate::order::owner_keys::{OwnerKeys, key_at, keys_of, swap_numbers};
+use crate::order::owner_keys::{OwnerKeys, key_at, keys_of};
 use crate::order::presort::presort;
 use crate::order::{own_order, record_order};
 use crate::store::stored::StoredRecord;
@@ -46,7 +46,6 @@ pub(crate) fn sorted(
         keyed.keys.as_slice(),
         records.as_mut_slice(),
         keyed.starts.as_mut_slice(),
-        keyed.numbers.as_mut_slice(),
     )?;
     if leave_out_duplicates(&mut records, &mut keyed) {
         return Ok((records, keyed));
@@ -75,24 +74,17 @@ fn leave_out_duplicates(records: &mut Vec<StoredRecord>, keyed: &mut OwnerKeys) 
         keyed.keys.as_slice(),
         records.as_mut_slice(),
         keyed.starts.as_mut_slice(),
-        keyed.numbers.as_mut_slice(),
     ) else {
         return false;
     };
     records.truncate(count);
     keyed.starts.truncate(count);
-    keyed.numbers.truncate(count);
     true
 }
 
 // Moves each record that differs from the record before it to the front, and returns how many these
 // are (1 for an empty list). `None` if some record comes after the next in canonical order.
-fn once_in_front(
-    keys: &[u8],
-    records: &mut [StoredRecord],
-    starts: &mut [u32],
-    numbers: &mut [u32],
-) -> Option<usize>
+fn once_in_front(keys: &[u8], records: &mut [StoredRecord], starts: &mut [u32]) -> Option<usize>
     requires { AreKeyed keys.now records.old starts.old }
     ensures permutation { IsPermutation records.old records.new }
     ensures keyed { AreKeyed keys.now records.new starts.new }
@@ -110,7 +102,6 @@ fn once_in_front(
                 last += 1;
                 records.swap(last, at);
                 starts.swap(last, at);
-                swap_numbers(numbers, last, at);
             }
             Ordering::Equal => {}
             Ordering::Greater => return None,

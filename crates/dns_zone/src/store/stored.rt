@@ -63,11 +63,6 @@ impl StoredRecord {
         NameRef::new(self.octets.lent().split_at(count).0)
     }
 
-    /// The total length in octets of its owner and its data.
-    pub(crate) fn octet_count(&self) -> usize {
-        self.octets.lent().len()
-    }
-
     pub(crate) fn rdata(&self) -> &[u8]
         ensures value { result.now ≡ self.now.rdata }
         ensures valid { Valid self.now.rtype self.now.rdata }

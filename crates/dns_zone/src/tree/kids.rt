@@ -4,7 +4,7 @@ ghost use Rattle.std.specs.Char.{to_ascii_lowercase};
 ghost use Rattle.dns_spec.specs.Names.{label_order};
 ghost use Rattle.dns_zone.specs.LabelKey.{IsKey};
 ghost use Rattle.dns_zone.specs.TreeForm.{row_label, row_name, IsRow};
-ghost use Rattle.dns_zone.specs.NodeForm.{IsNodeAt, IsZoneNode, node_at, kid_rows, kid_label};
+ghost use Rattle.dns_zone.specs.NodeForm.{IsZoneNode, node_at, kid_rows, kid_label};
 
 use crate::store::stored::StoredRecord;
 use crate::tree::counts::Counts;
@@ -40,7 +40,7 @@ impl<'z> Model for Kids<'z> {
 impl<'z> Kids<'z> {
     /// The children of the node of a row.
     pub(crate) fn of(tree: &'z Tree, row: RowNumber) -> Kids<'z>
-        requires { IsNodeAt tree.now row.0 }
+        requires { IsZoneNode tree.now row.0 }
         ensures { result ≡ record { tree = tree.now; row = row.0 } }
     {
         let bounds = tree.bounds.lent();
@@ -82,7 +82,7 @@ impl<'z> Kids<'z> {
     /// The row of child `i`.
     pub(crate) fn row(&self, i: usize) -> RowNumber
         requires kid { i < length (kid_rows self.now) }
-        ensures at { IsNodeAt self.now.tree result.0 }
+        ensures at { IsZoneNode self.now.tree result.0 }
         ensures node { node_at self.now.tree result.0 ≡ record {
           zone = self.now.tree.zone;
           name = kid_label self.now i ∷ (node_at self.now.tree self.now.row).name;

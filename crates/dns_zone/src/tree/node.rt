@@ -7,16 +7,15 @@ ghost use Rattle.std.specs.List.Sorted.{IsNonDecreasingBy};
 ghost use Rattle.dns_spec.specs.Records.{ResourceRecord, at, rrset};
 ghost use Rattle.dns_spec.specs.Sets.{set_of, of_lowest_type};
 ghost use Rattle.dns_spec.specs.Tree.{exists};
-ghost use Rattle.dns_zone.specs.Nodes.{IsNode, IsHint, IsSetOf, hint_node};
-ghost use Rattle.dns_zone.specs.NodeForm.{node_at, IsNodeAt, IsZoneNode};
+ghost use Rattle.dns_zone.specs.Nodes.{IsNode, IsSetOf};
+ghost use Rattle.dns_zone.specs.NodeForm.{node_at, IsZoneNode};
 ghost use Rattle.dns_zone.specs.TreeForm.{kids_at};
 
 use crate::store::stored::StoredRecord;
 use crate::tree::kids::Kids;
-use crate::tree::lookup::{count_below, of_type};
+use crate::tree::lookup::of_type;
 use crate::tree::row::{Row, RowNumber};
 use crate::tree::set::{RecordSet, lent_set};
-use crate::tree::steps::Steps;
 use crate::tree::{Tree, octets_of};
 use dns_name::NameRef;
 use dns_rdata::RType;
@@ -43,42 +42,6 @@ impl<'z> Model for Node<'z> {
     ghost invariant = { λ n. IsZoneNode n.tree.now n.row.0 };
 }
 
-/// A node that has not been visited: only its name is readable.
-#[derive(Drop)]
-pub struct TargetHint<'z> {
-    node: Node<'z>,
-}
-
-impl<'z> Model for TargetHint<'z> {
-    ghost use Rattle.dns_zone.specs.Nodes.{ZoneNode};
-
-    ghost Value = { ZoneNode };
-
-    ghost view = { λ l. l.node };
-}
-
-impl<'z> TargetHint<'z> {
-    /// The node's name, in lower case, borrowed from the zone.
-    pub fn name(&self) -> NameRef<'z>
-        ensures { result ≡ self.now.name }
-    {
-        self.node.name()
-    }
-
-    /// Visits the node; the visit is counted. Preconditions: the steps are over the node's zone,
-    /// and `visits` is below 4,294,967,295.
-    pub fn node(self, steps: &mut Steps<'z>) -> Node<'z>
-        requires zone { steps.old.zone ≡ self.zone }
-        requires visits { steps.old.visits < 4294967295 }
-        ensures node { result ≡ self.entry }
-        ensures visits { steps.new ≡ record steps.old { visits = steps.old.visits + 1 } }
-    {
-        let TargetHint { node } = self;
-        steps.counts.count_visit();
-        node
-    }
-}
-
 impl<'z> Node<'z> {
     pub(crate) fn at(tree: &'z Tree, row: RowNumber) -> Node<'z>
         requires { IsZoneNode tree.now row.0 }
@@ -101,29 +64,6 @@ impl<'z> Node<'z> {
     {
         let row = &self.tree.rows.lent()[self.row.0];
         NameRef::new(octets_of(self.tree.zone.records(), row))
-    }
-
-    /// Where the way to the target of the type's record `i` (from 0) begins: at the last existing
-    /// name below the origin on that way or, for an alias, at the last such name that is not at or
-    /// below a cut. `None` if there is no such name or record; then the way begins at the apex.
-    /// The node is not visited yet.
-    pub fn hint(&self, rtype: RType, i: usize) -> Option<TargetHint<'z>>
-        ensures node { result ≡ option_and_then (hint_node self.now.zone)
-            (slice_get (rrset self.now.zone self.now.name rtype.0) i) }
-        ensures hint { IfSome result (λ v. (v.zone ≡ self.now.zone)
-            × IsHint self.now.zone rtype.0 v.name) }
-    {
-        let row = &self.tree.rows.lent()[self.row.0];
-        let own = self.own();
-        let before = count_below(own, rtype);
-        let record = own.split_at(before).1.get(i)?;
-        let hint = self.tree.hints.lent()[row.first as usize + before + i];
-        if hint == 0 || record.rtype != rtype {
-            return None;
-        }
-        Some(TargetHint {
-            node: Node::at(self.tree, RowNumber(hint as usize)),
-        })
     }
 
     /// The records of a type at the name, in the order of the octets of their data; `None` if the
@@ -168,7 +108,7 @@ impl<'z> Node<'z> {
 
 // The records of a row's name.
 pub(crate) fn own_of(tree: &Tree, row: RowNumber) -> &[StoredRecord]
-    requires { IsNodeAt tree.now row.0 }
+    requires { IsZoneNode tree.now row.0 }
     ensures own { result.now ≡ at tree.now.zone (node_at tree.now row.0).name }
     ensures by_types { IsNonDecreasingBy (λ (r : ResourceRecord). r.rtype) result.now }
 {

@@ -5,7 +5,7 @@ ghost use Rattle.std.specs.Option.{is_some};
 ghost use Rattle.std.specs.Char.{to_ascii_lowercase};
 ghost use Rattle.dns_spec.specs.Tree.{exists};
 ghost use Rattle.dns_zone.specs.TreeForm.{row_label};
-ghost use Rattle.dns_zone.specs.NodeForm.{IsNodeAt, node_at, kid_rows, kid_label};
+ghost use Rattle.dns_zone.specs.NodeForm.{IsZoneNode, node_at, kid_rows, kid_label};
 ghost use Rattle.dns_spec.proofs.General.Elements.{Among};
 
 use crate::tree::counts::Counts;
@@ -52,13 +52,13 @@ impl<'z> Node<'z> {
 // The row of the child with this label, if that name exists. Each comparison of labels is counted.
 #[inline(always)]
 pub(crate) fn kid_of(kids: &Kids<'_>, label: &Label<'_>, counts: &mut Counts) -> Option<RowNumber>
-    requires at { IsNodeAt kids.now.tree kids.now.row }
+    requires at { IsZoneNode kids.now.tree kids.now.row }
     requires comparisons { counts.old.comparisons ≤ 4294967278 }
 
     ensures child { IsSome result ↔ IsTrue
         (exists kids.now.tree.zone
         (label.now ∷ (node_at kids.now.tree kids.now.row).name)) }
-    ensures at { IfSome result (λ k. IsNodeAt kids.now.tree k.0) }
+    ensures at { IfSome result (λ k. IsZoneNode kids.now.tree k.0) }
     ensures node { IfSome result (λ k. node_at kids.now.tree k.0 ≡ record {
       zone = kids.now.tree.zone;
       name = map to_ascii_lowercase label.now ∷ (node_at kids.now.tree kids.now.row).name;
@@ -76,7 +76,7 @@ pub(crate) fn kid_of(kids: &Kids<'_>, label: &Label<'_>, counts: &mut Counts) ->
 // The index of the child with this label, whatever its case, if there is one. Each comparison is
 // counted; there are at most 17, since 100,000 children are fewer than 2 ^ 17.
 fn find(kids: &Kids<'_>, label: &[u8], counts: &mut Counts) -> Option<usize>
-    requires at { IsNodeAt kids.now.tree kids.now.row }
+    requires at { IsZoneNode kids.now.tree kids.now.row }
     requires comparisons { counts.old.comparisons ≤ 4294967278 }
 
     ensures found { IfSome result (λ i. (i < length (kid_rows kids.now))

@@ -79,12 +79,6 @@ fn has_targets(node: &Node<'_>, rtype: RType, count: usize, target: Option<&[u8]
     set.len() == count
 }
 
-// Whether the way to the target of MX record `i` begins at this name.
-fn is_hint(node: &Node<'_>, i: usize, name: &[u8]) -> bool {
-    let hint = node.hint(RType::MX, i);
-    hint.is_some_and(|hint| hint.name().octets() == name)
-}
-
 const WALKS: &[Walked<'static>] = &[
     (&[], 0, 2),
     (&[b"www"], 1, 1),
@@ -107,9 +101,6 @@ www TXT \"\"
 m MX 10 WWW.Example.
 m MX 20 www
 m TXT www
-h MX 1 x.y.ent
-h MX 2 www
-h MX 3 nowhere
 ";
 
 fn has_sets(zone: &Zone) -> bool {
@@ -129,16 +120,6 @@ fn lends_targets(zone: &Zone) -> bool {
         & has_targets(&node, RType::TXT, 1, None)
 }
 
-// Whether the way to each target begins at the last existing name on that way.
-fn has_hints(zone: &Zone) -> bool {
-    let Some((_, node)) = walked(zone, &[b"h"]) else {
-        return false;
-    };
-    is_hint(&node, 0, b"\x03ent\x07example\x00")
-        & is_hint(&node, 1, b"\x03www\x07example\x00")
-        & !is_hint(&node, 2, b"\x07example\x00")
-}
-
 #[test]
 fn names_are_found_label_by_label(rt: HostRuntime) -> Result<(), Fail> {
     let zone = zone_of(rt.alloc(), b"example.", SMALL, SETS)?;
@@ -150,7 +131,6 @@ fn check_names(rt: &impl Abort, zone: &Zone) {
     check_walks(rt, zone, WALKS);
     assert!(rt; has_sets(zone));
     assert!(rt; lends_targets(zone));
-    assert!(rt; has_hints(zone));
 }
 
 fn check_walks(rt: &impl Abort, zone: &Zone, rows: &[Walked<'_>]) {

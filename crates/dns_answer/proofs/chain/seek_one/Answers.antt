@@ -1,6 +1,5 @@
-use Rattle.dns_answer.proofs.Common.{◌≡◌, ◌<◌, length, [], ◌∷◌, true, refl, sym, ap, ◌∙◌, subst, arith, false≢true, ZoneContents, most_aliases, positive, referral_to, type_cname, ZoneNode, chain_rest, Says, TookRest, ending, asked_item, AreRecords, names_of, aliases_left}
+use Rattle.dns_answer.proofs.Common.{◌≡◌, ◌<◌, length, [], ◌∷◌, refl, sym, ap, ◌∙◌, subst, arith, false≢true, ZoneContents, most_aliases, positive, referral_to, ZoneNode, chain_rest, Says, TookRest, ending, asked_item, AreRecords, names_of, aliases_left}
 use Rattle.dns_answer.proofs.Taking.{Took-none}
-use Rattle.dns_answer.proofs.WaySteps.{leads-to}
 use Rattle.dns_answer.proofs.Offering.{Offers-nothing}
 use Rattle.dns_answer.proofs.Endings.{Ends-positive, Offers-none}
 use Rattle.dns_answer.proofs.ChainSteps.{ends-cut, ends-nothing, no-alias_cut}
@@ -34,7 +33,7 @@ returns-in-Nothing g c =
 pub returns-in_default : goal.returns-in_default
 returns-in_default g c =
     let records = subst (AreRecords c.args.steps.now.zone c.args.sought.now.name)
-    (sym c.or_apex-node.ensures) c.in-Records.ensures.found in
+    (sym c.or_start-node.ensures) c.in-Records.ensures.found in
     let shown = c.in_default.ensures.shown in
     let denied =
     rw (ap (λ (v : ZoneNode). v.zone) c.requires.apex.node) at c.deny-in_default.ensures in
@@ -48,7 +47,7 @@ pub returns-then-not-is_alias : goal.returns-then-not-is_alias
 returns-then-not-is_alias g c =
     let s = c.args.sought.now.name in
     let set = c.in-Some.set in
-    let records = subst (AreRecords c.args.steps.now.zone s) (sym c.or_apex-node.ensures)
+    let records = subst (AreRecords c.args.steps.now.zone s) (sym c.or_start-node.ensures)
     c.in-Records.ensures.found in
     let shown = rw c.if-not-is_alias.true at c.in-Some.ensures.shown in
     let offered = rw c.ttl.ensures at c.offer.ensures in
@@ -65,14 +64,12 @@ returns-then-not-is_alias g c =
 pub returns-in_default-next_sought : goal.returns-in_default-next_sought
 returns-in_default-next_sought g c =
     let z = c.args.steps.now.zone in
-    let records = subst (AreRecords z c.args.sought.now.name) (sym c.or_apex-node.ensures)
+    let records = subst (AreRecords z c.args.sought.now.name) (sym c.or_start-node.ensures)
     c.in-Records.ensures.found in
     let shown = rw c.if-not-is_alias.false at c.in-Some.ensures.shown in
     let origin : c.origin.result.now ≡ z.origin = c.origin.ensures.value
     ∙ ap (λ (y : ZoneContents). y.origin) c.look_up.ensures.took.zone in
-    let hint = leads-to z c.or_apex-node.result.now.zone type_cname true c.hint-hint.result
-    records.zone (λ _. refl) c.hint-hint.ensures.hint in
-    let next = c.in_default-next_sought.ensures z (sym origin) hint in
+    let next = rw origin at c.in_default-next_sought.ensures in
     let ended = c.ended.ensures in
     record {
       seeks = sought-on _ _ _ _ _ _
@@ -90,15 +87,13 @@ returns g c =
     let before = names_of earlier in
     let set = c.in-Some.set in
     let m = c.in-Some-next_sought.target in
-    let records = subst (AreRecords z s) (sym c.or_apex-node.ensures) c.in-Records.ensures.found in
+    let records = subst (AreRecords z s) (sym c.or_start-node.ensures) c.in-Records.ensures.found in
     let kept = c.in-Some.ensures.kept in
     let shown = rw c.if-not-is_alias.false at c.in-Some.ensures.shown in
     let first = c.in-Records.ensures.took in
     let origin : c.origin.result.now ≡ z.origin = c.origin.ensures.value
     ∙ ap (λ (y : ZoneContents). y.origin) first.zone in
-    let hint = leads-to z c.or_apex-node.result.now.zone type_cname true c.hint-hint.result
-    records.zone (λ _. refl) c.hint-hint.ensures.hint in
-    let next = c.in-Some-next_sought.ensures z (sym origin) hint in
+    let next = rw origin at c.in-Some-next_sought.ensures in
     let rest = λ (y : ZoneContents). chain_rest y c.args.qtype (aliases_left (s ∷ before))
     (s ∷ before) m.name in
     let more : length earlier < most_aliases = omega (arith, next.0, names-count earlier) in
@@ -109,7 +104,7 @@ returns g c =
       completes = λ last end v after.
           let after = rw (names-more earlier c.args.sought.now) at after in
           sought-on _ _ _ _ (asked_item s set) (rest z)
-          (alias-goes_on _ _ _ _ _ records set kept shown m c.in-Some-next_sought.hint next) first
+          (alias-goes_on _ _ _ _ _ records set kept shown m next) first
           (subst (λ y. TookRest c.look_up.new.steps end (rest y)) first.zone after.took)
           (rw c.ttl.ensures at c.offer.ensures)
           (subst (λ y. Says c.offer.new.self last (rest y) v) first.zone after.says);

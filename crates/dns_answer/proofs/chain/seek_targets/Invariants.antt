@@ -6,7 +6,7 @@ abbrev pub invariant-names : goal.invariant-names
 invariant-names g l = record {
   led : Completes l.fn.draft l.draft l.fn.steps l.steps l.fn.qtype (l.fn.first.name ∷ [])
       (names_of l.earlier.items) l.fn.target.name l.sought.name;
-  may : MaySeek l.steps l.apex l.earlier.items l.sought l.hint;
+  may : MaySeek l.steps l.apex l.earlier.items l.sought;
   few : length l.earlier.items ≤ most_aliases;
 }
 

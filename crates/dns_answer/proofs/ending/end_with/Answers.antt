@@ -1,8 +1,16 @@
 use Rattle.dns_answer.proofs.Common.{rules, true, false, [], sym, ap, subst, length, answer, filter, all_names, asked_item, side_items, side_nodes, Took}
+use Rattle.dns_answer.proofs.LongWays.{start_at_apex}
+use Rattle.dns_answer.proofs.TargetLaws.{reached_from_apex}
 use Rattle.dns_answer.proofs.Offering.{Offers-is}
 use Rattle.dns_answer.proofs.Endings.{Ends-positive, Offers-none}
 use Rattle.dns_answer.proofs.EndingSets.{targets_of_set}
 use Rattle.dns_answer.proofs.ending.end_with.Goals as goal
+
+pub offer_addresses-requires : goal.offer_addresses-requires
+offer_addresses-requires g c =
+    let start = start_at_apex _ false _ c.requires.apex in
+    let reaches = reached_from_apex _ _ all_names c.requires.apex in
+    search rules
 
 pub returns-then-eq-clause-ends : goal.returns-then-eq-clause-ends
 returns-then-eq-clause-ends g c = λ n begun offers.

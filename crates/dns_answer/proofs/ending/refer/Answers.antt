@@ -1,5 +1,7 @@
-use Rattle.dns_answer.proofs.Common.{refl, ap, ◌∙◌, false≢true, is_some, ZoneContents, rrset, type_ns, set_of, set_targets}
-use Rattle.dns_answer.proofs.Endings.{Ends-referred, cut-has_servers, Offers-others, Took-referred}
+use Rattle.dns_answer.proofs.Common.{rules, ◌≡◌, true, false, subst, sym, at_or_below, Reaches, inside, not_inside, IsApex, refl, ap, ◌∙◌, false≢true, is_some, ZoneContents, rrset, type_ns, set_of, set_targets}
+use Rattle.dns_answer.proofs.Endings.{Ends-referred, cut-has_servers, start_at_cut, Offers-others, Took-referred}
+use Rattle.dns_answer.proofs.LongWays.{start_at_apex}
+use Rattle.dns_answer.proofs.TargetLaws.{reached_from_apex}
 use Rattle.dns_answer.proofs.Taking.{Took-none}
 use Rattle.dns_answer.proofs.ending.refer.Goals as goal
 
@@ -9,6 +11,24 @@ unreachable-requires g c =
     false≢true (ap is_some c.in_default.ensures.set
     ∙ ap (λ (z : ZoneContents). is_some (set_of (rrset z c.args.cut.now.name type_ns))) below.zone
     ∙ cut-has_servers c.args.steps.now.zone c.requires.cut.0 c.args.cut.now.name below.cut)
+
+-- the paths to targets at or below the cut begin there, all others at the apex
+pub offer_addresses-are_all_inside-requires : goal.offer_addresses-are_all_inside-requires
+offer_addresses-are_all_inside-requires g c =
+    let start = start_at_cut _ _ _ c.requires.cut.1 c.in-Some-owner.ensures.node in
+    let z = c.args.steps.now.zone in
+    let cut = c.args.cut.now.name in
+    let reaches : Reaches z cut (inside c.in-Some-owner.owner) = λ m takes under.
+    subst (λ n. at_or_below m n ≡ true) c.in-Some-owner.ensures.name takes in
+    search rules
+
+pub offer_addresses-requires : goal.offer_addresses-requires
+offer_addresses-requires g c =
+    let zone = c.offer_addresses-are_all_inside.ensures.took.zone in
+    let top = subst (λ z. IsApex z c.args.apex.now) (sym zone) c.requires.apex in
+    let start = start_at_apex _ false _ top in
+    let reaches = reached_from_apex _ _ (not_inside c.in-Some-owner.owner) top in
+    search rules
 
 pub returns-then-not-are_all_inside-clause-ends : goal.returns-then-not-are_all_inside-clause-ends
 returns-then-not-are_all_inside-clause-ends g c =

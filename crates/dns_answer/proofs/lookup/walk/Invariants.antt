@@ -7,7 +7,7 @@ abbrev pub invariant-labels : goal.invariant-labels
 invariant-labels l =
     let z = l.fn.steps.zone in
     record {
-      there : IsThere z l.apex (ends_at_cuts l.cuts) (drop l.before l.sought.name) l.node;
+      there : IsThere z l.start (ends_at_cuts l.cuts) (drop l.before l.sought.name) l.node;
       fewer : l.before ≤ l.sought.depth;
       zone : l.steps.zone ≡ z;
       from : l.fn.steps.visits ≤ l.steps.visits;

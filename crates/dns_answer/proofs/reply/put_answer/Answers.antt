@@ -9,11 +9,8 @@ seek-followed_alias-requires g c =
       record {
         apex = subst (λ z. IsApex z c.apex-apex.result) (sym apex.zone)
             (record { node = apex.node; exists = apex.exists });
-        aim = record {
-          hint = tt;
-          below = subst (λ (z : ZoneContents). IsBelow c.args.sought z.origin) (sym apex.zone)
-              c.requires.below;
-        };
+        below = subst (λ (z : ZoneContents). IsBelow c.args.sought z.origin) (sym apex.zone)
+            c.requires.below;
         lower = record {
           last = λ h. absurd (omega (arith, h));
           others = All-nil (λ (s : Sought). folded s.name ≡ s.name);

@@ -1,6 +1,6 @@
 use Rattle.dns_zone.proofs.Common.{rules, true, is_lt, ◌≡◌, ℕ, ◌++◌, List, All, length, take, drop, sym, subst, ◌∙◌, take-append_seam, IsPermutation, ResourceRecord, record_order, IsReadRecord, length_permutation, ranks_by, IsPermutation-trans, always_returns_same, record_order_total, sort_risen, rises_canonical, all_canonical, AreOrdered}
 use Rattle.dns_zone.proofs.order.sort.sorted.Goals as goal
-use Rattle.dns_zone.proofs.order.sort.sorted.Goals.{Then-leave_out_duplicates, After-drop-keyed-4}
+use Rattle.dns_zone.proofs.order.sort.sorted.Goals.{Then-leave_out_duplicates, After-drop-keyed-3}
 use Rattle.dns_zone.proofs.AtName.{canonical}
 use Rattle.dns_spec.proofs.Common.{OnTrue_at}
 
@@ -45,7 +45,7 @@ pub returns-then-leave_out_duplicates-clause-each :
     goal.returns-then-leave_out_duplicates-clause-each
 returns-then-leave_out_duplicates-clause-each c = all_read _ _ (each c) (once c)
 
-module _ (c : After-drop-keyed-4) where
+module _ (c : After-drop-keyed-3) where
   read : All IsReadRecord c.args.records.items
   read = subst (All IsReadRecord) c.as_slice.ensures.value c.in_ok-keyed.ensures.read
 

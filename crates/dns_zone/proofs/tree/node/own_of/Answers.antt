@@ -1,6 +1,5 @@
-use Rattle.dns_zone.proofs.Common.{List, sym, ap₂, ◌∙◌, subst, IsNonDecreasingBy, ResourceRecord, span, row_at, Row}
+use Rattle.dns_zone.proofs.Common.{List, sym, ap₂, ◌∙◌, subst, IsNonDecreasingBy, ResourceRecord, span, row_at, Row, node_at}
 use Rattle.dns_zone.proofs.OwnRecords.{own_types}
-use Rattle.dns_zone.proofs.HintRows.{name_at}
 use Rattle.dns_zone.proofs.NodeRows.{is_row}
 use Rattle.dns_zone.proofs.tree.node.own_of.Goals as goal
 
@@ -15,4 +14,4 @@ pub returns-clause-by_types : goal.returns-clause-by_types
 returns-clause-by_types c =
     let t = c.args.tree.now in
     subst (IsNonDecreasingBy (λ (r : ResourceRecord). r.rtype)) (sym (returns-clause-own c))
-    (own_types t.zone (name_at t c.args.row.0) c.requires.kept.built.ordered)
+    (own_types t.zone (node_at t c.args.row.0).name c.requires.kept.built.ordered)

@@ -4,7 +4,7 @@ use Rattle.dns_zone.proofs.Existing.{origin-node}
 use Rattle.dns_zone.proofs.tree.steps.Steps.apex.Goals as goal
 
 pub at-requires : goal.at-requires
-at-requires c = record { kept = c.self.invariant; row = c.self.invariant.names.tree.some }
+at-requires c = record { kept = c.self.invariant; row = c.self.invariant.tree.some }
 
 pub returns-clause-node : goal.returns-clause-node
 returns-clause-node c = search (rules, row_is)
