@@ -30,7 +30,7 @@ pub mod NodeRows
 pub mod KeyOrder
 pub mod KeyPrefix
 pub mod CommonEnds
-pub mod CountedRecords
+pub mod PlainRecords
 pub mod TopmostCut
 pub mod CheckedNames
 pub mod GrowingNames

@@ -1,21 +1,17 @@
 -- A record's line is written in four parts, and the records of a list one after another.
 use Rattle.dns_zone.proofs.Common.{◌≡◌, ℕ, ◌+◌, ◌<◌, Bool, true, false, Option, List, ◌∷◌, ◌++◌, length, drop, get_or, sym, ap, ◌∙◌, filter, flat_map, append_assoc, codes, decimal, add-one, arith, drop-cons, Octets, name_text, type_text, data_text, ResourceRecord, ZoneContents, record_line, soa_first, zone_text, AppendsAllBut, held_before, AreOrdered}
 
--- a record's line up to its type
-abbrev pub front_text : ResourceRecord → Octets
-front_text r = ((name_text r.owner ++ codes " ") ++ decimal r.ttl) ++ codes " IN "
-
 regroup : (t a b c d e f g h : Octets) → t ++ (a ++ b ++ c ++ d ++ e ++ f ++ g ++ h)
-    ≡ ((((t ++ (((a ++ b) ++ c) ++ d)) ++ e) ++ f) ++ g) ++ h
+    ≡ (((((((t ++ a) ++ b) ++ c) ++ d) ++ e) ++ f) ++ g) ++ h
 regroup t a b c d e f g h = simp append_assoc
 
--- a record's line follows the held text, to which its front and its type were added
-pub line_held : (old new : Option (List ℕ)) (whole held start front d : Octets)
-    (r s : ResourceRecord) → AppendsAllBut old new whole held → start ≡ front_text r
-    → s ≡ r → front ≡ ((held ++ start) ++ type_text s.rtype) ++ codes " " → d ≡ r.rdata
+-- a record's line follows the held text, to which all of the line up to its data was added
+pub line_held : (old new : Option (List ℕ)) (whole held front d : Octets) (r s : ResourceRecord)
+    → AppendsAllBut old new whole held → s ≡ r → front ≡ (((((held ++ name_text r.owner)
+    ++ codes " ") ++ decimal s.ttl) ++ codes " IN ") ++ type_text s.rtype) ++ codes " "
+    → d ≡ r.rdata
     → AppendsAllBut old new (whole ++ record_line r) ((front ++ data_text s.rtype d) ++ codes "\n")
-line_held old new whole held start front d r s so e same f g =
-    search (arith, regroup, held_before)
+line_held old new whole held front d r s so same f g = search (arith, regroup, held_before)
 
 -- whether a record of a list is chosen
 module _ (p : ResourceRecord → Bool) (rs : List ResourceRecord)

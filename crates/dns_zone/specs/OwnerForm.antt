@@ -7,7 +7,6 @@ use Rattle.dns_spec.specs.Names.{DomainName, folded, at_or_below}
 use Rattle.dns_spec.specs.Data.{type_ns, type_cname, type_soa, type_mx, type_srv, target}
 use Rattle.dns_spec.specs.Checks.{is_address_type, lacks_address}
 use Rattle.dns_spec.specs.Records.{ResourceRecord, ZoneContents, at, owns}
-use Rattle.dns_zone.specs.declared.checks.counts.TypeCounts.{TypeCounts}
 
 -- a zone, and the name to be checked
 pub record NameOfZone : Type 0 where
@@ -47,10 +46,7 @@ is_exchange_type t = t == type_mx || t == type_srv
 abbrev pub is_other_type : ℕ → Bool
 is_other_type t = not (t == type_ns || is_address_type t)
 
--- the counts of a name's records
-pub record AreCounted (own : List ResourceRecord) (c : TypeCounts) : Type 0 where
-  pub soa : c.soa ≡ number_of (λ t. t == type_soa) own
-  pub ns : c.ns ≡ number_of (λ t. t == type_ns) own
-  pub cname : c.cname ≡ number_of (λ t. t == type_cname) own
-  pub exchanges : c.exchanges ≡ number_of is_exchange_type own
-  pub others : c.others ≡ number_of is_other_type own
+-- a type whose records, if a name has this many records in all, fail no check for their type
+abbrev pub is_plain_type : ℕ → ℕ → Bool
+is_plain_type count t = not (t == type_soa) && not (t == type_ns) && not (is_exchange_type t)
+    && (not (t == type_cname) || count == 1)

@@ -1,7 +1,6 @@
 //! The faults of a zone, ordered by owner, then by code.
 
 pub(crate) mod above;
-pub(crate) mod counts;
 pub(crate) mod lcp_search;
 pub(crate) mod names;
 pub(crate) mod owner;
@@ -19,7 +18,6 @@ ghost use Rattle.dns_zone.specs.OwnerKeysForm.{key_in, AreKeyed};
 ghost use Rattle.dns_zone.specs.NamesForm.{IsChecked, owner_of};
 ghost use Rattle.dns_zone.specs.ReportedForm.{failed_from, reported_at};
 
-use crate::checks::counts::TypeCounts;
 use crate::checks::lcp_search::shared_octets;
 use crate::checks::names::{CheckedName, checked_names};
 use crate::checks::owner::Owner;
@@ -85,7 +83,6 @@ fn report<'a>(
         name: &name,
         key: one.key,
         own,
-        counts: TypeCounts::of(own),
         is_below_cut: 0 < one.cut && one.cut < one.key.len(),
         stands_first: one.key == survey.key(),
     };
@@ -93,13 +90,6 @@ fn report<'a>(
         return Ok(());
     }
     add_failed(&name, &owner.judged(last), found)
-}
-
-// Whether any check failed. Tested first because few names have faults.
-fn any_failed(failed: &[bool]) -> bool
-    ensures { result ≡ list_any (λ x. x) failed.now }
-{
-    failed.iter().any(|fails| *fails)
 }
 
 // Adds a fault for each check that failed. `failed` has an entry for each code, from code 1 on.
@@ -111,9 +101,6 @@ fn add_failed(
     requires { length failed.now ≤ 254 }
     ensures { OnOk result (found.new.items ≡ found.old.items ++ failed_from name.now 1 failed.now) }
 {
-    if !any_failed(failed) {
-        return Ok(());
-    }
     let mut rest = failed;
     let mut code = 1;
     'checks: while let Some((fails, others)) = rest.split_first() {

@@ -1,11 +1,10 @@
 //! The canonical text of a zone (RFC 1035 5.1).
-ghost use Rattle.std.specs.Prelude.{◌≡◌, ◌+◌, ◌-◌, ◌^◌, ◌<◌, ◌≤◌, ◌++◌, All, length, codes, decimal, IfSome};
+ghost use Rattle.std.specs.Prelude.{◌≡◌, ◌+◌, ◌-◌, ◌^◌, ◌<◌, ◌≤◌, ◌++◌, All, length};
 ghost use Rattle.std.specs.List.Sorted.{IsPermutation};
 ghost use Rattle.dns_spec.specs.Names.{DomainName};
 ghost use Rattle.dns_spec.specs.ZoneText.{most_octets};
 ghost use Rattle.dns_spec.specs.Meaning.{Means, records};
 ghost use Rattle.std.specs.List.{filter, flat_map};
-ghost use Rattle.dns_spec.specs.NameText.{name_text};
 ghost use Rattle.dns_spec.specs.ZonePrinted.{HasZoneType, record_line, soa_first, printed_records, zone_text};
 ghost use Rattle.dns_name.specs.Counted.{Writes, Fills};
 ghost use Rattle.dns_zone.specs.ZoneForm.{is_chosen};
@@ -86,60 +85,34 @@ fn put_chosen<W: Write>(
     ensures { Fills W.contents sink.old sink.new result
         (text.old ++ flat_map record_line (filter (is_chosen is_soa) records.now)) text.new }
 {
-    let mut front = TextBuffer::new();
-    let mut last = None;
     'records: for entry in records {
         if (entry.rtype == RType::SOA) == is_soa {
-            turn_front(&mut front, last, entry);
-            put_record(entry, front.octets(), text, sink)?;
-            last = Some(entry);
+            put_record(entry, text, sink)?;
         }
     }
     Ok(())
 }
 
-// Writes the line of a record. `front` is the beginning of that line: owner, TTL, class.
+// Writes the line of a record.
 fn put_record<W: Write>(
     entry: &StoredRecord,
-    front: &[u8],
     text: &mut TextBuffer,
     sink: &mut Tally<W>,
 ) -> Result<(), SinkFailed>
-    requires front { front.now ≡ ((name_text entry.now.owner ++ codes " ")
-        ++ decimal entry.now.ttl) ++ codes " IN " }
-    requires short { length front.now ≤ 1035 }
-    requires few_failures { sink.old.failures < 2 ^ 64 - 1 }
+    requires { sink.old.failures < 2 ^ 64 - 1 }
     ensures { Fills W.contents sink.old sink.new result
         (text.old ++ record_line entry.now) text.new }
 {
     text.make_room(FRONT_ROOM, sink)?;
-    text.append(front);
+    let mut digits = Buffer::new();
+    entry.owner().append_text(text);
+    text.push(b' ');
+    text.append(digits.format(entry.ttl).as_bytes());
+    text.append(b" IN ");
     entry.rtype.append_text(text);
     text.push(b' ');
     Rdata::put_text(entry.rtype, entry.rdata(), text, sink)?;
     text.make_room(1, sink)?;
     text.push(b'\n');
     Ok(())
-}
-
-// Makes `front` the front of the entry's line: owner, TTL and class, each followed by a space.
-// Leaves `front` as it is if the last record has the same front, as for a third of records.
-fn turn_front(front: &mut TextBuffer, last: Option<&StoredRecord>, entry: &StoredRecord)
-    requires { IfSome last (λ r. (front.old ≡ ((name_text r.now.owner ++ codes " ")
-        ++ decimal r.now.ttl) ++ codes " IN ") × (length front.old ≤ 1035)) }
-    ensures text { front.new ≡ ((name_text entry.now.owner ++ codes " ")
-        ++ decimal entry.now.ttl) ++ codes " IN " }
-    ensures short { length front.new ≤ 1035 }
-{
-    if let Some(last) = last {
-        if last.ttl == entry.ttl && last.owner() == entry.owner() {
-            return;
-        }
-    }
-    let mut digits = Buffer::new();
-    front.clear();
-    entry.owner().append_text(front);
-    front.push(b' ');
-    front.append(digits.format(entry.ttl).as_bytes());
-    front.append(b" IN ");
 }

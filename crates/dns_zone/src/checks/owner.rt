@@ -1,20 +1,20 @@
 //! The fifteen checks of a name of a zone.
-ghost use Rattle.std.specs.Prelude.{◌≡◌, ◌==◌, ◌&&◌, not, map, drop, nat_lt, []};
+ghost use Rattle.std.specs.Prelude.{◌≡◌, ◌==◌, ◌&&◌, not, length, map, drop, nat_lt, []};
 ghost use Rattle.std.specs.Bool.{OnTrue};
-ghost use Rattle.std.specs.List.{list_any, zip};
+ghost use Rattle.std.specs.List.{list_all, list_any, zip};
 ghost use Rattle.dns_spec.specs.Records.{owns};
 ghost use Rattle.dns_spec.specs.Tree.{is_cut};
 ghost use Rattle.dns_spec.specs.Checks.{is_origin, count, owns_such, is_address_type, below_cut, checks, ttls_differ, ns_target_alias, ns_target_lost, mx_target_alias, data_at_cut, large_set, many_sets};
 ghost use Rattle.dns_spec.specs.Data.{type_soa, type_ns, type_cname};
-ghost use Rattle.dns_zone.specs.OwnerForm.{is_other_type, is_server_alias, is_server_lost, is_exchange_alias};
+ghost use Rattle.dns_zone.specs.OwnerForm.{is_other_type, is_plain_type, is_server_alias, is_server_lost, is_exchange_alias};
 ghost use Rattle.dns_zone.specs.ReportedForm.{reported_at};
 ghost use Rattle.dns_zone.specs.SetWalks.{sets_ended};
 
-use crate::checks::counts::TypeCounts;
 use crate::checks::survey::Survey;
 use crate::checks::target::LastTarget;
 use crate::order::key::{is_below, is_under};
 use crate::store::stored::StoredRecord;
+use crate::tree::lookup::{has_type, of_type};
 use dns_name::NameRef;
 use dns_rdata::RType;
 use std::marker::Model;
@@ -32,7 +32,6 @@ pub(crate) struct Owner<'a> {
     pub(crate) name: &'a NameRef<'a>,
     pub(crate) key: &'a [u8],
     pub(crate) own: &'a [StoredRecord],
-    pub(crate) counts: TypeCounts,
     pub(crate) is_below_cut: bool,
     /// Whether the name is the zone's origin.
     pub(crate) stands_first: bool,
@@ -42,14 +41,13 @@ impl<'a> Model for Owner<'a> {
     ghost use Rattle.std.specs.Prelude.{◌≡◌};
     ghost use Rattle.dns_spec.specs.Checks.{is_origin, below_cut};
     ghost use Rattle.dns_zone.specs.KeyForm.{name_key};
-    ghost use Rattle.dns_zone.specs.OwnerForm.{NameOfZone, IsOwner, AreCounted};
+    ghost use Rattle.dns_zone.specs.OwnerForm.{NameOfZone, IsOwner};
 
     ghost Value = { NameOfZone };
 
     ghost view = { λ o. record { zone = o.survey.now; name = o.name.now } };
 
     ghost invariant = { λ o. IsOwner o.survey.now o.name.now o.own.now
-        × AreCounted o.own.now o.counts
         × (o.key.now ≡ name_key o.name.now)
         × (o.is_below_cut ≡ below_cut o.survey.now o.name.now)
         × (o.stands_first ≡ is_origin o.survey.now o.name.now) };
@@ -86,14 +84,10 @@ impl<'a> Owner<'a> {
     pub(crate) fn is_plain(&self) -> bool
         ensures { OnTrue result (reported_at self.now.zone self.now.name ≡ []) }
     {
-        let counts = &self.counts;
         if self.stands_first
-            || counts.soa > 0
-            || counts.ns > 0
-            || counts.exchanges > 0
-            || counts.cname > 0 && self.own.len() > 1
-            || counts.others > 0 && self.is_below_cut
             || self.own.len() > MOST_SETS
+            || !have_plain_types(self.own)
+            || self.is_below_cut && self.owns_other_than_address()
         {
             return false;
         }
@@ -177,31 +171,31 @@ impl<'a> Owner<'a> {
     fn count_soa(&self) -> usize
         ensures { result ≡ count self.now.zone self.now.name type_soa }
     {
-        self.counts.soa
+        of_type(self.own, RType::SOA).len()
     }
 
     fn count_cname(&self) -> usize
         ensures { result ≡ count self.now.zone self.now.name type_cname }
     {
-        self.counts.cname
+        of_type(self.own, RType::CNAME).len()
     }
 
     fn owns_soa(&self) -> bool
         ensures { result ≡ owns self.now.zone self.now.name type_soa }
     {
-        self.counts.soa > 0
+        has_type(self.own, RType::SOA)
     }
 
     fn owns_ns(&self) -> bool
         ensures { result ≡ owns self.now.zone self.now.name type_ns }
     {
-        self.counts.ns > 0
+        has_type(self.own, RType::NS)
     }
 
     fn owns_cname(&self) -> bool
         ensures { result ≡ owns self.now.zone self.now.name type_cname }
     {
-        self.counts.cname > 0
+        has_type(self.own, RType::CNAME)
     }
 
     fn is_cut(&self) -> bool
@@ -210,25 +204,48 @@ impl<'a> Owner<'a> {
         self.owns_ns() && is_below(self.key, self.survey.key())
     }
 
-    #[tactic(auto, using(crate::proofs::CountedRecords::counted_rest))]
     fn owns_other_than_cname(&self) -> bool
         ensures { result ≡ owns_such self.now.zone self.now.name (λ t. not (t == type_cname)) }
     {
-        self.counts.cname < self.own.len()
+        self.own.iter().any(|entry| entry.rtype != RType::CNAME)
     }
 
-    #[tactic(auto, using(crate::proofs::CountedRecords::counted_such))]
     fn owns_other_than_delegation(&self) -> bool
         ensures { result ≡ owns_such self.now.zone self.now.name is_other_type }
     {
-        self.counts.others > 0
+        self.own.iter().any(|entry| entry.rtype != RType::NS && !is_address(entry.rtype))
     }
 
     fn owns_other_than_address(&self) -> bool
         ensures { result ≡ owns_such self.now.zone self.now.name (λ t. not (is_address_type t)) }
     {
-        self.counts.others > 0 || self.counts.ns > 0
+        self.own.iter().any(|entry| !is_address(entry.rtype))
     }
+}
+
+fn is_address(rtype: RType) -> bool
+    ensures { result ≡ is_address_type rtype.0 }
+{
+    rtype == RType::A || rtype == RType::AAAA
+}
+
+// Whether no record needs a check for its type, as a CNAME does beside another record.
+fn have_plain_types(own: &[StoredRecord]) -> bool
+    ensures { result ≡ list_all (λ r. is_plain_type (length own.now) r.rtype) own.now }
+{
+    own.iter()
+        .all(|entry| is_plain_type(own.len(), entry.rtype))
+}
+
+// Whether a record of this type, one of `count` records of a name, needs no check for its type.
+fn is_plain_type(count: usize, rtype: RType) -> bool
+    ensures { result ≡ is_plain_type count rtype.0 }
+{
+    rtype != RType::SOA
+        && rtype != RType::NS
+        && rtype != RType::MX
+        && rtype != RType::SRV
+        && (rtype != RType::CNAME || count == 1)
 }
 
 // Whether some RRset has records with different TTLs (RFC 2181 5.2). This is so if and only if two

@@ -22,7 +22,7 @@ invariant_of-owner c =
     let key : c.args.one.now.key.now ≡ name_key n = grind arith in
     let cut : c.if-one-gt0.owner ≡ below_cut c.args.survey.now n = grind (arith, below_topmost) in
     let origin : c.eq.result ≡ is_origin c.args.survey.now n = grind (arith, same_keys) in
-    (owner, c.of.ensures, key, cut, origin)
+    (owner, key, cut, origin)
 
 pub returns : goal.returns
 returns c = search (rules, failed_reported)

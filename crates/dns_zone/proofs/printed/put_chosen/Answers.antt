@@ -23,7 +23,6 @@ records-preserved g c = elim c.if-eq-is_soa.branch [
       (record {
         fills = held_less _ _ _ _ _ _ _
             (held_more _ _ _ _ _ _ _ c.records.invariant.fills next) w.in_ok-put_record.ensures.ok;
-        front = search rules;
         counted = search rules;
       })
   | else-eq-is_soa w ↦
@@ -33,7 +32,6 @@ records-preserved g c = elim c.if-eq-is_soa.branch [
       (record {
         fills = subst (AppendsAllBut _ _ _) (ap (λ t. c.records.text ++ t) next)
             c.records.invariant.fills;
-        front = search rules;
         counted = c.records.invariant.counted;
       })
 ]

@@ -1,4 +1,4 @@
-use Rattle.dns_zone.proofs.Common.{rules, ◌++◌, codes, ◌∙◌, ap, type_text, data_text, record_line, AppendsAllBut, OnErr-always, held_less, held_begun}
+use Rattle.dns_zone.proofs.Common.{rules, ◌++◌, codes, data_text, record_line, AppendsAllBut, OnErr-always, held_less, held_begun}
 use Rattle.dns_zone.proofs.PrintedRecords.{line_held}
 use Rattle.dns_zone.proofs.printed.put_record.Goals as goal
 use Rattle.dns_zone.proofs.printed.put_record.Goals.{After-rdata}
@@ -9,12 +9,10 @@ module _ (g : given.Over) (c : After-rdata g) where
   begun : AppendsAllBut (g.W.Write.contents c.args.sink.now.device)
       (g.W.Write.contents c.make_room.new.sink.device)
       (c.args.text.now ++ record_line c.args.entry.now)
-      ((c.push.new.self ++ data_text c.entry.inside.rtype.0 c.rdata.result.now) ++ codes "\n")
+      ((c.push-2.new.self ++ data_text c.entry.inside.rtype.0 c.rdata.result.now) ++ codes "\n")
   begun =
-      let front = c.push.ensures ∙ ap (λ t. t ++ codes " ") (c.append_text.ensures.text
-      ∙ ap (λ t. t ++ type_text c.entry.inside.rtype.0) c.append.ensures) in
-      line_held _ _ _ _ _ _ _ _ _ c.in_ok-make_room.ensures.fills.ok
-      c.requires.front c.entry.view_is front c.rdata.ensures.value
+      line_held _ _ _ _ _ _ _ _ c.in_ok-make_room.ensures.fills.ok c.entry.view_is (search rules)
+      c.rdata.ensures.value
 
 pub returns-in_err-put_text : goal.returns-in_err-put_text
 returns-in_err-put_text g c =
@@ -42,7 +40,7 @@ returns g c =
     let begun = begun g (goal.at.returns g c).After-rdata in
     let less = held_less _ _ _ _ _ _ _ begun c.in_ok-put_text.ensures.ok in
     record {
-      ok = rw c.push-2.ensures (held_less _ _ _ _ _ _ _ less c.in_ok-make_room-2.ensures.fills.ok);
+      ok = rw c.push-3.ensures (held_less _ _ _ _ _ _ _ less c.in_ok-make_room-2.ensures.fills.ok);
       err = search rules;
       counted = search rules;
     }

@@ -1,25 +1,23 @@
 use Rattle.std.specs.Bool.{OnTrue}
-use Rattle.dns_spec.specs.Checks.{below_cut}
-use Rattle.dns_zone.proofs.Common.{◌≡◌, refl, ◌≤◌, Bool, true, false, [], not, length, ◌⊎◌, inl, inr, sym, ap, ◌∙◌, subst, ltb-false, ttls_differ, reported_at, NameOfZone}
-use Rattle.dns_zone.proofs.CountedRecords.{plain}
+use Rattle.dns_spec.specs.Checks.{below_cut, owns_such, is_address_type}
+use Rattle.dns_zone.proofs.Common.{◌≡◌, refl, Bool, true, false, [], not, ◌&&◌, sym, ap, ◌∙◌, subst, ttls_differ, reported_at, NameOfZone}
+use Rattle.dns_zone.proofs.PlainRecords.{plain, right}
 use Rattle.dns_zone.proofs.checks.owner.Owner.is_plain.Goals as goal
-use Rattle.dns_zone.proofs.checks.owner.Owner.is_plain.Goals.{then-counts-gt0-4, else-counts-gt0-4, then-counts-gt0-5, else-counts-gt0-5}
+use Rattle.dns_zone.proofs.checks.owner.Owner.is_plain.Goals.{then-self-2, else-self-2}
 
 pub returns-then-is_under : goal.returns-then-is_under
 returns-then-is_under c = go c.has_other_ttls.result refl
   where
-    alias : c.self.inside.counts.cname ≤ 0 ⊎ length c.self.inside.own.now ≤ 1
-    alias = elim c.if-counts-gt0-4.branch [
-      | then-counts-gt0-4 w ↦ inr (ltb-false 1 (length c.self.inside.own.now)
-          (sym w.value-is ∙ c.if-self-gt1.false))
-      | else-counts-gt0-4 w ↦ inl w.if-counts-gt0-4.false
-    ]
-
-    cut : c.self.inside.counts.others ≤ 0
-        ⊎ below_cut c.self.inside.survey.now c.self.inside.name.now ≡ false
-    cut = elim c.if-counts-gt0-5.branch [
-      | then-counts-gt0-5 w ↦ inr (sym c.self.invariant.3 ∙ sym w.value-is ∙ c.if-self-2.false)
-      | else-counts-gt0-5 w ↦ inl w.if-counts-gt0-5.false
+    cut : (below_cut c.self.inside.survey.now c.self.inside.name.now
+        && owns_such c.self.inside.survey.now c.self.inside.name.now
+        (λ t. not (is_address_type t))) ≡ false
+    cut = elim c.if-self-2.branch [
+      | then-self-2 w ↦ right _ _ (ap (λ (v : NameOfZone). owns_such v.zone v.name
+          (λ t. not (is_address_type t))) c.self.view_is
+          ∙ sym w.owns_other_than_address.ensures ∙ sym w.value-is
+          ∙ c.if-owns_other_than_address.false)
+      | else-self-2 w ↦ ap (λ b. b && owns_such c.self.inside.survey.now c.self.inside.name.now
+          (λ t. not (is_address_type t))) (sym c.self.invariant.2 ∙ w.if-self-2.false)
     ]
 
     go : (b : Bool) → c.has_other_ttls.result ≡ b
@@ -29,9 +27,10 @@ returns-then-is_under c = go c.has_other_ttls.result refl
         let o = c.self.inside in
         let is = c.self.invariant in
         subst (λ (v : NameOfZone). reported_at v.zone v.name ≡ []) c.self.view_is
-        (plain o.survey.now o.name.now o.own.now o.counts is.0 is.1 (sym is.4 ∙ c.if-self.false)
+        (plain o.survey.now o.name.now o.own.now is.0 (sym is.3 ∙ c.if-self.false)
         (sym (c.is_under.ensures o.name.now o.survey.now.origin is.0.lower c.key.ensures.lower
-        is.2 c.key.ensures.value) ∙ c.if-is_under.true) c.if-counts-gt0.false
-        c.if-counts-gt0-2.false c.if-counts-gt0-3.false alias cut c.if-self-gt-MOST_SETS.false
+        is.1 c.key.ensures.value) ∙ c.if-is_under.true)
+        (sym c.have_plain_types.ensures ∙ c.if-not-have_plain_types.false) cut
+        c.if-self-gt-MOST_SETS.false
         (ap (λ (v : NameOfZone). ttls_differ v.zone v.name) c.self.view_is
         ∙ sym c.has_other_ttls.ensures ∙ e))
