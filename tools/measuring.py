@@ -11,8 +11,8 @@ from pathlib import Path
 # The seconds after which a run is ended.
 SECONDS = 600
 # The most instructions, for each octet read or written, to check a zone file, and to load it into the server.
-MOST_TO_CHECK = 670
-MOST_TO_LOAD = 910
+MOST_TO_CHECK = 2_000
+MOST_TO_LOAD = 2_000
 # A reply over TCP may take at most this many instructions in all, and at most this many for each octet of the query and the
 # reply.
 MOST_OVER_TCP = 100_000_000

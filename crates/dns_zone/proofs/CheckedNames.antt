@@ -1,5 +1,5 @@
 -- Searching the list of checked names by keys.
-use Rattle.dns_zone.proofs.Common.{◌≡◌, ℕ, ◌+◌, suc, ◌<◌, ◌≤◌, Bool, true, false, ◌&&◌, not, cond, ◌==◌, nat_lt, ◌⊎◌, inl, inr, List, get_or, zero, drop, length-take, [], ◌∷◌, map, length, take, refl, sym, ap, ap₂, ◌∙◌, subst, arith, filter, is_gt, nat_cmp, Ordering, Less, Equal, Greater, false≢true, true≢false, not-true, and_parts, false_from_ne_true, cases_lt, nat_list_cmp_total, tied_itself, upto, get_or-take, get_or_default, min-eq_left, slice_cmp, starts_with, IsPartitionedBy, ordering_reverse, Octets, DomainName, folded, same, at_or_below, name_order, ResourceRecord, ZoneContents, at, is_cut, at_or_below_cut, checked_names, octets_equal-decides, name_tie, name_order_total, lower_equal, Lower, AllByRecursion, Among, Rises, each_at, each_filter, filter_each, filter_among, name_key, own_in, owner_of, IsTopmost, is_covered, is_upto, IsLastAt, IsChecked, IsLastUpto, owners_once, IsFront, CheckedName, each_among}
+use Rattle.dns_zone.proofs.Common.{◌≡◌, ℕ, ◌+◌, suc, ◌<◌, ◌≤◌, Bool, true, false, ◌&&◌, not, cond, ◌==◌, nat_lt, ◌⊎◌, inl, inr, List, get_or, zero, drop, length-take, [], ◌∷◌, map, length, take, refl, sym, ap, ap₂, ◌∙◌, subst, arith, filter, is_gt, nat_cmp, Ordering, Less, Equal, Greater, false≢true, true≢false, not-true, and_parts, false_from_ne_true, cases_lt, nat_list_cmp_total, tied_itself, upto, get_or-take, get_or_default, min-eq_left, slice_cmp, starts_with, IsPartitionedBy, ordering_reverse, Octets, DomainName, folded, same, at_or_below, name_order, ResourceRecord, ZoneContents, at, is_cut, at_or_below_cut, checked_names, octets_equal-decides, name_tie, name_order_total, lower_equal, Lower, AllByRecursion, Among, Rises, each_at, each_filter, filter_each, filter_among, name_key, own_in, owner_of, IsTopmost, is_covered, is_upto, IsChecked, IsLastUpto, owners_once, IsFront, CheckedName, each_among}
 use Rattle.dns_zone.proofs.KeyOrder.{key_order}
 use Rattle.dns_zone.proofs.NameOrder.{same-is}
 use Rattle.dns_zone.proofs.NameTree.{under-order}
@@ -8,7 +8,6 @@ use Rattle.dns_zone.proofs.TopmostCut.{at_cut, covers, covered, uncovered, topmo
 use Rattle.dns_spec.proofs.General.Elements.{each_both, each_get, map_each, mapped_among, among_mapped}
 use Rattle.dns_spec.proofs.General.Filters.{filter_none}
 use Rattle.dns_spec.proofs.General.Pairs.{Pairs, pairs_of, parted}
-use Rattle.dns_spec.proofs.General.Fronts.{halves}
 use Rattle.dns_spec.proofs.General.Tests.{any_among}
 
 -- if names rise, each is less than all after it
@@ -25,18 +24,6 @@ pub last_at : {X : Type 0} (R : X → X → Type 0) (xs : List X) (i : ℕ) (d :
 last_at R [] i d h l = tt
 last_at R (x ∷ xs) zero d h l = (inl refl, tt)
 last_at R (x ∷ xs) (suc i) d h l = grind (arith, each_get, (last_at R xs i d h.1 (omega arith)))
-
-pub last_front : {X : Type 0} (p : X → Bool) (xs : List X) (i : ℕ) → IsPartitionedBy p xs
-    → IsLastAt p xs i → IsFront p xs (i + 1)
-last_front p xs i parts h =
-    let fits = h.fits in
-    let both =
-    halves p xs (i + 1) (omega (arith, fits)) (
-      λ k d a b. parts k i d (omega arith) fits (h.passes d),
-      λ k d a b. false_from_ne_true (p (get_or xs k d)) (λ t.
-          false≢true (sym (h.fails d (omega (arith, a, b))) ∙ parts (i + 1) k d a b t)),
-    ) in
-    record { bound = omega (arith, fits); passing = both.0; others = both.1 }
 
 pub itself_upto : (n : DomainName) → is_gt (name_order n n) ≡ false
 itself_upto n = ap is_gt (tied_itself name_order_total n)

@@ -37,7 +37,7 @@ pub use Rattle.dns_zone.specs.OwnerKeysForm.{AreKeyed, key_in}
 pub use Rattle.dns_zone.specs.LabelKey.{IsEight, IsKey}
 unfoldable pub use Rattle.dns_zone.specs.LabelKey.{key_of}
 pub use Rattle.dns_zone.specs.NameEnd.{ending}
-pub use Rattle.dns_zone.specs.NamesForm.{AreChecked, AreOwners, ComesNext, IsChecked, IsCutAbove, IsLastAt, IsLastUpto, IsSurvey, IsTopmost, first_owner, is_covered, is_upto, owner_of, own_in}
+pub use Rattle.dns_zone.specs.NamesForm.{AreChecked, AreOwners, ComesNext, IsChecked, IsCutAbove, IsLastUpto, IsSurvey, IsTopmost, first_owner, is_covered, is_upto, owner_of, own_in}
 pub use Rattle.dns_zone.specs.NodeForm.{IsZoneNode, IsZoneTree, kid_label, kid_rows, node_at}
 pub use Rattle.dns_zone.specs.Nodes.{IsNode, IsSetOf, Walk, ZoneNode}
 pub use Rattle.dns_zone.specs.OwnerForm.{IsOwner, NameOfZone, is_exchange_alias, is_exchange_type, is_other_type, is_plain_type, is_server_alias, is_server_lost, number_of}

@@ -1,5 +1,5 @@
 -- The list of names of a zone to be checked, and an invariant of each.
-use Rattle.std.specs.Prelude.{◌≡◌, ℕ, ◌+◌, get_or, ◌<◌, ◌≤◌, ◌==◌, ◌&&◌, not, ◌⊎◌, nat_lt, Bool, true, false, List, [], ◌∷◌, map, length, take}
+use Rattle.std.specs.Prelude.{◌≡◌, ℕ, ◌<◌, ◌≤◌, ◌==◌, ◌&&◌, not, ◌⊎◌, nat_lt, Bool, true, false, List, [], ◌∷◌, map, length, take}
 use Rattle.std.specs.List.{AllByRecursion, starts_with}
 use Rattle.std.specs.Ordering.{is_gt, nat_cmp}
 use Rattle.std.specs.Cmp.Lexicographic.{slice_cmp}
@@ -47,12 +47,6 @@ is_covered k last key = nat_lt 0 k && starts_with ◌==◌ key (take k last)
 -- the checked name is not after the name with this key
 abbrev pub is_upto : Octets → CheckedName → Bool
 is_upto key c = not (is_gt (slice_cmp nat_cmp c.key.now key))
-
--- element i passes the test, and the next element, if any, fails it
-pub record IsLastAt {X : Type 0} (p : X → Bool) (xs : List X) (i : ℕ) : Type 0 where
-  pub fits : i < length xs
-  pub passes : (d : X) → p (get_or xs i d) ≡ true
-  pub fails : (d : X) → i + 1 < length xs → p (get_or xs (i + 1) d) ≡ false
 
 -- an invariant of a checked name
 pub record IsChecked (z : ZoneContents) (n : DomainName) (c : CheckedName) : Type 0 where

@@ -1,7 +1,6 @@
 //! The faults of a zone, ordered by owner, then by code.
 
 pub(crate) mod above;
-pub(crate) mod lcp_search;
 pub(crate) mod names;
 pub(crate) mod owner;
 pub(crate) mod survey;
@@ -18,11 +17,10 @@ ghost use Rattle.dns_zone.specs.OwnerKeysForm.{key_in, AreKeyed};
 ghost use Rattle.dns_zone.specs.NamesForm.{IsChecked, owner_of};
 ghost use Rattle.dns_zone.specs.ReportedForm.{failed_from, reported_at};
 
-use crate::checks::lcp_search::shared_octets;
 use crate::checks::names::{CheckedName, checked_names};
 use crate::checks::owner::Owner;
 use crate::checks::survey::Survey;
-use crate::checks::target::{LastTarget, found_places};
+use crate::checks::target::LastTarget;
 use crate::fault::CheckFault;
 use crate::order::owner_keys::OwnerKeys;
 use crate::store::stored::StoredRecord;
@@ -50,7 +48,6 @@ pub(crate) fn faults<'a>(
 {
     let (key, _) = keyed.keys.as_slice().split_at(origin.octets().len() - 1);
     let names = checked_names(alloc, origin, key, records, keyed)?;
-    let shared = shared_octets(alloc, names.as_slice(), keyed.keys.len())?;
     let survey = Survey {
         origin,
         key,
@@ -58,7 +55,7 @@ pub(crate) fn faults<'a>(
         names: names.as_slice(),
     };
     let mut found = Vec::new(alloc);
-    let mut last = LastTarget::new(shared.as_slice(), found_places(alloc, shared.len())?);
+    let mut last = LastTarget::new();
     'names: for one in names.as_slice() {
         last.pass_name();
         report(&survey, one, &mut last, &mut found)?;
@@ -69,7 +66,7 @@ pub(crate) fn faults<'a>(
 fn report<'a>(
     survey: &'a Survey<'a>,
     one: &'a CheckedName<'a>,
-    last: &mut LastTarget<'_>,
+    last: &mut LastTarget,
     found: &mut Vec<CheckFault>,
 ) -> Result<(), AllocError>
     requires { IsChecked survey.now (owner_of survey.now one.now) one.now }

@@ -1,7 +1,6 @@
 //! The names that are checked in a zone: its origin and all owners, without duplicates, in
 //! canonical order.
 ghost use Rattle.std.specs.Prelude.{◌≡◌, ◌≤◌, length, IfOk, OnOk};
-ghost use Rattle.std.specs.Bool.{OnTrue};
 ghost use Rattle.std.specs.List.Sorted.{IsNonDecreasingBy, IsPartitionedBy};
 ghost use Rattle.dns_spec.specs.Names.{DomainName, folded};
 ghost use Rattle.dns_spec.specs.Tree.{is_cut};
@@ -10,7 +9,7 @@ ghost use Rattle.dns_spec.specs.Records.{ResourceRecord, ZoneContents, at};
 ghost use Rattle.dns_zone.specs.ZoneForm.{AreOrdered, IsFront};
 ghost use Rattle.dns_zone.specs.KeyForm.{name_key};
 ghost use Rattle.dns_zone.specs.OwnerKeysForm.{AreKeyed};
-ghost use Rattle.dns_zone.specs.NamesForm.{is_covered, is_upto, IsLastAt, AreChecked, AreOwners, ComesNext, IsTopmost};
+ghost use Rattle.dns_zone.specs.NamesForm.{is_covered, is_upto, AreChecked, AreOwners, ComesNext, IsTopmost};
 
 use crate::order::key::is_below;
 use crate::order::owner_keys::{OwnerKeys, key_at};
@@ -112,28 +111,12 @@ pub(crate) fn is_covered(cut: usize, last: &[u8], key: &[u8]) -> bool
     cut > 0 && key.starts_with(&last[..cut])
 }
 
-/// The number of names that are not after the name with this key. First tests whether `probable`
-/// is the index of the last of them.
-pub(crate) fn count_upto(names: &[CheckedName<'_>], probable: Option<usize>, key: &[u8]) -> usize
+/// The number of names that are not after the name with this key.
+pub(crate) fn count_upto(names: &[CheckedName<'_>], key: &[u8]) -> usize
     requires { IsPartitionedBy (is_upto key.now) names.now }
     ensures { IsFront (is_upto key.now) names.now result }
 {
-    if let Some(place) = probable
-        && is_last_upto(names, place, key)
-    {
-        return place + 1;
-    }
     names.partition_point(|one| is_upto(one, key))
-}
-
-fn is_last_upto(names: &[CheckedName<'_>], near: usize, key: &[u8]) -> bool
-    ensures { OnTrue result (IsLastAt (is_upto key.now) names.now near) }
-{
-    let (_, rest) = names.split_at(near.min(names.len()));
-    let Some((one, after)) = rest.split_first() else {
-        return false;
-    };
-    is_upto(one, key) && !after.first().is_some_and(|next| is_upto(next, key))
 }
 
 fn is_upto(one: &CheckedName<'_>, key: &[u8]) -> bool
@@ -156,7 +139,7 @@ fn add_origin<'a>(
     ensures { OnOk result (AreChecked (record { origin = origin.now; records = records.now })
         names.new.items) }
 {
-    let place = count_upto(names.as_slice(), None, key);
+    let place = count_upto(names.as_slice(), key);
     if place > 0 && names[place - 1].key == key {
         return Ok(());
     }

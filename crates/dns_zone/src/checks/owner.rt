@@ -56,7 +56,7 @@ impl<'a> Model for Owner<'a> {
 impl<'a> Owner<'a> {
     /// Which checks the name fails, in the order of their codes (RFC 1034 3.6.2, 4.2;
     /// RFC 1035 5.2; RFC 2181 5.2, 10; RFC 4592 4.2).
-    pub(crate) fn judged(&self, last: &mut LastTarget<'_>) -> [bool; 15]
+    pub(crate) fn judged(&self, last: &mut LastTarget) -> [bool; 15]
         ensures { result ≡ map (λ c. c.1 self.now.zone self.now.name) checks }
     {
         let (is_alias, is_lost, is_exchange_alias) = self.target_faults(last);
@@ -103,7 +103,7 @@ impl<'a> Owner<'a> {
     // Whether some NS record's target is an alias, whether some NS record's target lacks an
     // address, and whether some MX or SRV record's target is an alias. Each target is looked up
     // once.
-    fn target_faults(&self, last: &mut LastTarget<'_>) -> (bool, bool, bool)
+    fn target_faults(&self, last: &mut LastTarget) -> (bool, bool, bool)
         ensures alias { result.0 ≡ ns_target_alias self.now.zone self.now.name }
         ensures lost { result.1 ≡ ns_target_lost self.now.zone self.now.name }
         ensures exchange { result.2 ≡ mx_target_alias self.now.zone self.now.name }
@@ -126,7 +126,7 @@ impl<'a> Owner<'a> {
         &self,
         entry: &StoredRecord,
         owner_is_cut: bool,
-        last: &mut LastTarget<'_>,
+        last: &mut LastTarget,
     ) -> (bool, bool, bool)
         requires { owner_is_cut ≡ is_cut self.now.zone self.now.name }
         ensures alias { result.0 ≡ is_server_alias self.now.zone entry.now }

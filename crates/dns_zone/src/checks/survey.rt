@@ -73,22 +73,19 @@ impl<'a> Survey<'a> {
     }
 
     // The last checked name that is not after the target, which is at or below the origin.
-    fn last_upto(&self, target: &mut LastTarget<'_>) -> &'a CheckedName<'a>
+    fn last_upto(&self, target: &mut LastTarget) -> &'a CheckedName<'a>
         requires lower { folded target.old ≡ target.old }
         requires inside { at_or_below target.old self.now.origin ≡ true }
         ensures same { target.new ≡ target.old }
         ensures last { IsLastUpto self.now target.old result.now }
     {
         let names = self.names;
-        let probable = target.probable_place(names);
-        if let Some(place) = probable
-            && place < names.len()
-            && names[place].key == target.key()
-        {
+        let place = target.probable_place();
+        if place < names.len() && names[place].key == target.key() {
             target.keep_place(place);
             return &names[place];
         }
-        let place = count_upto(names, probable, target.key()) - 1;
+        let place = count_upto(names, target.key()) - 1;
         target.keep_place(place);
         &names[place]
     }
@@ -96,7 +93,7 @@ impl<'a> Survey<'a> {
     // The records that the target owns, ordered by type, and whether the target is at or below a
     // cut (RFC 1034 4.2). The target is at or below the origin.
     #[tactic(auto, using(crate::proofs::CheckedNames::found_steps))]
-    fn at(&self, target: &mut LastTarget<'_>) -> (&'a [StoredRecord], bool)
+    fn at(&self, target: &mut LastTarget) -> (&'a [StoredRecord], bool)
         requires lower { folded target.old ≡ target.old }
         requires inside { at_or_below target.old self.now.origin ≡ true }
         ensures own { result.0.now ≡ at self.now target.old }
@@ -118,7 +115,7 @@ impl<'a> Survey<'a> {
         entry: &StoredRecord,
         owner: &NameRef<'_>,
         owner_is_cut: bool,
-        last: &mut LastTarget<'_>,
+        last: &mut LastTarget,
     ) -> (bool, bool)
         requires cut { owner_is_cut ≡ is_cut self.now owner.now }
         requires lower { folded owner.now ≡ owner.now }
@@ -140,7 +137,7 @@ impl<'a> Survey<'a> {
         target: &NameRef<'_>,
         owner: &NameRef<'_>,
         owner_is_cut: bool,
-        last: &mut LastTarget<'_>,
+        last: &mut LastTarget,
     ) -> (bool, bool)
         requires lower { folded target.now ≡ target.now }
         requires cut { owner_is_cut ≡ is_cut self.now owner.now }

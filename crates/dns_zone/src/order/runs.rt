@@ -4,9 +4,8 @@
 //! stores, as its front, a few octets of its key or data. If several runs have equal fronts, each
 //! is compared once with a chosen one of them, and gets a new front: the number of octets that it
 //! shares with the chosen run, and the octets that follow these.
-ghost use Rattle.std.specs.Prelude.{◌≡◌, ◌≤◌, length};
+ghost use Rattle.std.specs.Prelude.{◌≡◌, ◌<◌, ◌≤◌, length};
 
-use crate::checks::lcp_search::rests;
 use crate::order::owner_keys::key_at;
 use crate::store::stored::StoredRecord;
 use dns_name::begins_with;
@@ -263,4 +262,40 @@ fn number_of(front: &[u8]) -> u128 {
     let mut octets = [0; 16];
     octets[..front.len()].copy_from_slice(front);
     u128::from_be_bytes(octets) >> 32
+}
+
+// What follows the common prefix in each. The first `known` octets of both are known to be equal.
+fn rests<'a>(one: &'a [u8], other: &'a [u8], known: usize) -> (&'a [u8], &'a [u8])
+    ensures one { length result.0.now ≤ length one.now }
+    ensures other { length result.1.now ≤ length other.now }
+{
+    let (_, one) = one.split_at(known.min(one.len()));
+    let (_, other) = other.split_at(known.min(other.len()));
+    if one.first() != other.first() {
+        return (one, other);
+    }
+    let (one, other) = after_alike::<64>(one, other);
+    let (one, other) = after_alike::<8>(one, other);
+    after_alike::<1>(one, other)
+}
+
+// What is left of each after the equal chunks of `N` octets with which both begin.
+fn after_alike<'a, const N: usize>(one: &'a [u8], other: &'a [u8]) -> (&'a [u8], &'a [u8])
+    requires some { 0 < N }
+    requires few { N ≤ 64 }
+    ensures one { length result.0.now ≤ length one.now }
+    ensures other { length result.1.now ≤ length other.now }
+{
+    let (mut one, mut other) = (one, other);
+    'runs: while let Some((front, rest)) = one.split_first_chunk::<N>() {
+        let Some((begin, others)) = other.split_first_chunk::<N>() else {
+            break;
+        };
+        if front != begin {
+            break;
+        }
+        one = rest;
+        other = others;
+    }
+    (one, other)
 }

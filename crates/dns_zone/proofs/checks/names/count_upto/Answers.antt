@@ -1,14 +1,9 @@
 use Rattle.dns_zone.proofs.Common.{rules, IsPartitionPoint-from_clause, is_upto}
-use Rattle.dns_zone.proofs.CheckedNames.{last_front}
 use Rattle.dns_spec.proofs.General.Fronts.{halves}
 use Rattle.dns_zone.proofs.checks.names.count_upto.Goals as goal
 
 pub returns : goal.returns
 returns c =
-    last_front (is_upto c.args.key.now) c.args.names.now _ c.requires c.if-is_last_upto.ensures
-
-pub returns-2 : goal.returns-2
-returns-2 c =
     let p = is_upto c.args.key.now in
     let names = c.args.names.now in
     let parts =

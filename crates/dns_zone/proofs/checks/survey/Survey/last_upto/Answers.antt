@@ -30,26 +30,26 @@ overflow_sub-place c =
     let s = some (goal.at.overflow_sub-place c).After-count_upto-place in
     omega (arith, s)
 
-pub bounds-names-place-3 : goal.bounds-names-place-3
-bounds-names-place-3 c =
-    let s = some (goal.at.bounds-names-place-3 c).After-count_upto-place in
+pub bounds-names-place-2 : goal.bounds-names-place-2
+bounds-names-place-2 c =
+    let s = some (goal.at.bounds-names-place-2 c).After-count_upto-place in
     let bound = c.count_upto-place.ensures.bound in omega (arith, s, bound)
 
 in_zone : (x y : ZoneContents) (n : DomainName) (d : CheckedName) → x ≡ y → IsLastUpto x n d
     → IsLastUpto y n d
 in_zone x y n d e h = subst (λ z. IsLastUpto z n d) e h
 
-pub returns-clause-last : goal.returns-clause-last
-returns-clause-last c =
+pub returns-then-eq-clause-last : goal.returns-then-eq-clause-last
+returns-then-eq-clause-last c =
     in_zone _ _ _ _ c.self.view_is
     (found_itself _ c.args.target.now c.requires.lower _
-    (each_get (λ d. IsChecked _ (owner_of _ d) d) c.self.inside.names.now c.in-Some.place _
+    (each_get (λ d. IsChecked _ (owner_of _ d) d) c.self.inside.names.now c.probable_place-place.result _
     c.self.invariant.names_are.each c.if-place-names.true)
     ((octets_equal-decides _ c.key.result.now).0 (sym c.eq.ensures ∙ c.if-eq.true) ∙ c.key.ensures))
 
-pub returns-2-clause-last : goal.returns-2-clause-last
-returns-2-clause-last c =
-    let s = some (goal.at.returns-2-clause-last c).After-count_upto-place in
+pub returns-clause-last : goal.returns-clause-last
+returns-clause-last c =
+    let s = some (goal.at.returns-clause-last c).After-count_upto-place in
     let k = c.count_upto-place.result in
     let next : k ≡ suc (k - 1) = omega (arith, s) in
     in_zone _ _ _ _ c.self.view_is

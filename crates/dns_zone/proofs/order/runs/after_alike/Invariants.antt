@@ -1,5 +1,5 @@
 use Rattle.dns_zone.proofs.Common.{◌≤◌, length}
-use Rattle.dns_zone.proofs.checks.lcp_search.after_alike.Given as goal
+use Rattle.dns_zone.proofs.order.runs.after_alike.Given as goal
 
 abbrev pub invariant-runs : goal.invariant-runs
 invariant-runs g l =
