@@ -1,26 +1,22 @@
 //! Brings records into canonical order with few moves.
 //!
 //! A sort that compares whole names is slow. So runs of adjacent records with the same owner are
-//! sorted first, by a few octets of their keys at a time, and then each record is moved once.
+//! sorted first, by a few octets of their keys if these differ, and then each record is moved once.
 ghost use Rattle.std.specs.Prelude.{◌≡◌, ◌<◌, ◌≤◌, All, length, IfOk};
 ghost use Rattle.std.specs.List.Sorted.{IsPermutation};
 ghost use Rattle.dns_spec.specs.Meaning.{most_records};
 ghost use Rattle.dns_zone.specs.OwnerKeysForm.{AreKeyed};
 
 use crate::order::own_order;
-use crate::order::runs::{Run, Sorted, merge_few};
+use crate::order::runs::{Owners, Run};
 use crate::store::stored::StoredRecord;
 use std::alloc::{AllocError, Global};
 use std::cmp::Ordering;
 
-// At most this many records of one owner are sorted by comparing whole records.
-const FEW_RECORDS: usize = 8;
-
 /// Moves records into canonical order, and their entries in `starts` with them.
 /// Duplicates stay. The result is unverified: callers check the order, and sort if it is wrong.
 ///
-/// Takes 4 octets of memory for each record, and 24 for each record of the owner with the most
-/// records; before that, at most 6 for each run.
+/// Takes 4 octets of memory for each record; before that, at most 6 for each run.
 #[tactic(auto, using(crate::proofs::SearchSteps::swap_steps))]
 pub(crate) fn presort(
     alloc: Global,
@@ -55,11 +51,13 @@ fn places(
     requires { length records.now ≤ most_records }
     ensures { IfOk result (λ places. All (λ p. p < length records.now) places.items) }
 {
-    merge_few(alloc, runs.as_mut_slice())?;
-    let owners = Sorted::ByOwner(keys, records, starts);
-    owners.sort(runs.as_mut_slice());
+    let owners = Owners {
+        keys,
+        records,
+        starts,
+    };
+    owners.sort(alloc, runs.as_mut_slice())?;
     let mut places = Vec::with_capacity(alloc, records.len())?;
-    let mut own = Vec::new(alloc);
     let mut first = 0;
     let mut rest = runs.as_slice();
     'runs: while let Some((run, others)) = rest.split_first() {
@@ -69,12 +67,12 @@ fn places(
         rest = others;
         if others
             .first()
-            .is_some_and(|next| owners.are_alike(run, next))
+            .is_some_and(|next| owners.order(run, next).is_eq())
         {
             continue;
         }
         if places.len() > first + 1 {
-            sort_own(records, places.as_mut_slice(), first, &mut own)?;
+            sort_own(records, places.as_mut_slice(), first);
         }
         first = places.len();
     }
@@ -82,21 +80,13 @@ fn places(
 }
 
 // Sorts the indexes of the records of one owner, which are in `places` from `first` on.
-fn sort_own(
-    records: &[StoredRecord],
-    places: &mut [u32],
-    first: usize,
-    own: &mut Vec<Run>,
-) -> Result<(), AllocError>
+fn sort_own(records: &[StoredRecord], places: &mut [u32], first: usize)
     requires first { first ≤ length places.old }
     requires below { All (λ p. p < length records.now) places.old }
     ensures below { All (λ p. p < length records.now) places.new }
     ensures count { length places.new ≡ length places.old }
 {
     let places = &mut places[first..];
-    if places.len() > FEW_RECORDS {
-        return sort_many(records, places, own);
-    }
     places.sort_unstable_by(|one, other| match (
         records.get(*one as usize),
         records.get(*other as usize),
@@ -104,32 +94,6 @@ fn sort_own(
         (Some(one), Some(other)) => own_order(one, other),
         _ => Ordering::Equal,
     });
-    Ok(())
-}
-
-// Sorts the indexes of many records of one owner, as runs of one record each.
-fn sort_many(
-    records: &[StoredRecord],
-    places: &mut [u32],
-    own: &mut Vec<Run>,
-) -> Result<(), AllocError>
-    requires below { All (λ p. p < length records.now) places.old }
-    ensures below { All (λ p. p < length records.now) places.new }
-    ensures count { length places.new ≡ length places.old }
-{
-    own.clear();
-    'records: for at in places.iter() {
-        own.push(Run::of_data(&records[*at as usize], *at))?;
-    }
-    let runs = own.as_mut_slice();
-    Sorted::ByData(records).sort(runs);
-    'places: for at in 0..runs.len().min(places.len()) {
-        let from = runs[at].at;
-        if (from as usize) < records.len() {
-            places[at] = from;
-        }
-    }
-    Ok(())
 }
 
 // Moves the record that belongs at `first` there, then fills the gap that it leaves, and so on,

@@ -1,5 +1,5 @@
 use Rattle.dns_zone.proofs.Common.{◌≡◌, ◌+◌, ◌≤◌, length}
-use Rattle.dns_zone.proofs.order.runs.merge_few.Given as goal
+use Rattle.dns_zone.proofs.order.runs.Owners.sort.Given as goal
 
 -- from `left` to before `free` there is room for exactly the runs that remain in `few`
 abbrev pub invariant-merge : goal.invariant-merge
