@@ -29,7 +29,7 @@ pub mod FoundKid
 pub mod NodeRows
 pub mod KeyOrder
 pub mod KeyPrefix
-pub mod CommonEnds
+pub mod WrittenKeys
 pub mod PlainRecords
 pub mod TopmostCut
 pub mod CheckedNames

@@ -2,7 +2,7 @@
 ghost use Rattle.std.specs.Prelude.{◌≡◌, ◌+◌, ◌<◌, ◌≤◌, [], length};
 ghost use Rattle.dns_spec.specs.Names.{DomainName, folded, at_or_below, below};
 ghost use Rattle.dns_name.specs.WireForm.{labels_of, IsWireForm};
-ghost use Rattle.dns_zone.specs.KeyForm.{raised, ended, name_key, GoOnAlike, AreAlike, BeginsAs};
+ghost use Rattle.dns_zone.specs.KeyForm.{raised, ended, name_key, BeginsAs};
 
 use dns_name::{Name, NameRef, begins_with, first_label};
 use std::marker::Model;
@@ -49,17 +49,16 @@ impl Key {
         key
     }
 
-    /// Changes the key of `from` to the key of `name`. Labels that both names share at their ends
-    /// are not written again, so that names which differ only in their first labels take little
-    /// time, however many labels they have.
+    /// Changes the key of `from` to the key of `name`. If the name is at or below the parent of
+    /// `from`, as most owners are, the parent's labels are not written again.
     pub(crate) fn move_to(&mut self, from: &NameRef<'_>, name: &NameRef<'_>)
         requires { self.old ≡ name_key from.now }
         ensures { self.new ≡ name_key name.now }
     {
         let octets = name.octets();
-        let alike = count_alike(octets, from.octets());
+        let known = parent_of(from.octets());
         self.count = octets.len() - 1;
-        put_labels(octets, alike, &mut self.octets[..self.count]);
+        put_labels(octets, known, &mut self.octets[..self.count]);
     }
 
     /// Its octets, one fewer than in the wire form of the name.
@@ -89,51 +88,36 @@ pub(crate) fn is_below(key: &[u8], other: &[u8]) -> bool
     key.len() > other.len() && is_under(key, other)
 }
 
-/// The length of the longest common suffix of both.
-pub(crate) fn count_alike(one: &[u8], other: &[u8]) -> usize
-    ensures { AreAlike result one.now other.now }
+// The wire form of a name's parent; of the root, its own.
+fn parent_of(octets: &[u8]) -> &[u8]
+    requires { IsWireForm octets.now }
+    ensures form { IsWireForm result.now }
+    ensures shorter { length result.now ≤ length octets.now }
+    ensures begins { BeginsAs result.now (name_key (labels_of octets.now)) }
 {
-    let (left, right) = before_alike::<8>(one, other);
-    one.len() - before_alike::<1>(left, right).0.len()
-}
-
-// What is left of each before the equal chunks of `N` octets with which both end.
-fn before_alike<'a, const N: usize>(one: &'a [u8], other: &'a [u8]) -> (&'a [u8], &'a [u8])
-    requires some { 0 < N }
-    requires few { N ≤ 64 }
-    ensures { GoOnAlike one.now result.0.now other.now result.1.now }
-{
-    let (mut one, mut other) = (one, other);
-    'runs: while let Some((rest, end)) = one.split_last_chunk::<N>() {
-        let Some((others, last)) = other.split_last_chunk::<N>() else {
-            break;
-        };
-        if end != last {
-            break;
-        }
-        one = rest;
-        other = others;
+    match first_label(octets) {
+        Some((_, parent)) => parent,
+        None => octets,
     }
-    (one, other)
 }
 
-// Turns `key` into the key of the name with these octets. `key` has the length that the new key
-// needs, and begins like the key of another name. The last `alike` octets of both names are equal;
-// what `key` already has for the labels in these octets is left as it is.
-fn put_labels(octets: &[u8], alike: usize, key: &mut [u8])
+// Writes the key of the name with these octets to `key`, which has the length of the key. If `key`
+// has room for the key of `known`, it begins with it, so that this key is not written again.
+fn put_labels(octets: &[u8], known: &[u8], key: &mut [u8])
     requires wire { IsWireForm octets.now }
     requires room { length octets.now ≡ length key.old + 1 }
-    requires begins { BeginsAs alike octets.now key.old }
+    requires begins { BeginsAs known.now key.old }
     ensures { key.new ≡ name_key (labels_of octets.now) }
 {
-    let mut rest = octets;
-    'labels: while rest.len() > 1 && (rest.len() > alike || key[rest.len() - 2] > 0) {
-        let Some((label, after)) = first_label(rest) else {
-            unreachable!();
-        };
-        put_label(label.octets(), &mut key[after.len() - 1..rest.len() - 1]);
-        rest = after;
+    if octets == known {
+        return;
     }
+    let Some((label, rest)) = first_label(octets) else {
+        return;
+    };
+    let (front, end) = key.split_at_mut(rest.len() - 1);
+    put_labels(rest, known, front);
+    put_label(label.octets(), end);
 }
 
 // Writes a label in lower case, and its end marker 0. Octets below 65 are raised by one, so that 0
