@@ -1,13 +1,10 @@
 """Makes the questions to which a zone has interesting replies: each kind of RFC 1034 4.3.2, at each name."""
 import collections
-import itertools
 import random
 
-import dns.exception
 import dns.name
 import dns.rdatatype
-
-from master import KINDS as TYPES, above, within
+from master import KINDS as TYPES, above, name, within
 
 # The kinds of questions, each with the section of an RFC that says what the reply is.
 KINDS = {
@@ -22,17 +19,14 @@ KINDS = {
     "outside": "RFC 1035 4.1.1",      # a name outside the zone
 }
 LACKED = ("A", "AAAA", "MX", "TXT", "NS", "CNAME")  # no name owns all of these
+OUTSIDE = ("zz-none.example.net.", "zz-none.example.org.")
 Question = collections.namedtuple("Question", "kind name rtype")
 
 
-def existing(names):
-    """All names that exist in a zone: the owners, and the names above them."""
-    return dict.fromkeys(full for owner in names.sets for full in above(owner) if within(full, names.zone))
-
-
-def every(names, present, all_types):
-    """All questions about a zone: the kind of each, by its name and type. `present` are the names that exist."""
+def every(names, all_types):
+    """All questions about a zone, as a dictionary from name and type to the kind; and the names that exist in the zone."""
     asked, more = {}, ("SRV", *TYPES, "ANY") if all_types else ("SRV",)
+    present = dict.fromkeys(full for owner in names.sets for full in above(owner) if within(full, names.zone))
 
     def ask(kind, full, *types):
         for rtype in types:
@@ -40,8 +34,8 @@ def every(names, present, all_types):
 
     def missing(full):
         """A name below `full` that does not exist."""
-        below = (f"zz-none{number or ''}.{full.lstrip('.')}" for number in itertools.count())
-        return next(name for name in below if name not in present)
+        below = f"zz-none.{full.lstrip('.')}"
+        return missing(below) if below in present else below
     for full in present:
         own = names.sets.get(full, {})
         kind = "referral" if names.cut(full) else "alias" if "CNAME" in own else None
@@ -52,25 +46,21 @@ def every(names, present, all_types):
             covered = missing(full[2:] or ".")
             for below in (covered, missing(covered)):
                 ask(kind or "wildcard", below, *own, lacked)
-        elif f"*.{full.lstrip('.')}" not in present:
-            ask("referral" if kind == "referral" else "no such name", missing(full), "A")
+        if f"*.{full.lstrip('.')}" not in present:
+            ask("referral" if kind == "referral" else "no such name", missing(full), "A", "TXT")
     ask("capitals", names.zone.upper(), "SOA")
-    outside = [full for full in ("zz-none.example.net.", "zz-none.example.org.") if not within(full, names.zone)]
-    for full in outside[:1]:
+    for full in [full for full in OUTSIDE if not within(full, names.zone)][:1]:
         ask("outside", full, "A")
-    return asked
+    return asked, present
 
 
 def sample(asked, most, seed):
     """At most `most` of the questions, evenly over their kinds. Equal seeds choose equal questions."""
     kinds, chosen, chooser = collections.defaultdict(list), [], random.Random(seed)
     for (full, rtype), kind in asked.items():
-        kinds[kind].append((kind, full, rtype))
+        if name(full, "."):  # The name below a long one may be too long.
+            kinds[kind].append((kind, full, rtype))
     for left, found in zip(range(len(kinds), 0, -1), sorted(kinds.values(), key=len)):
         places = chooser.sample(range(len(found)), min(len(found), (most - len(chosen)) // left))
         chosen += [found[place] for place in sorted(places)]
-    for kind, full, rtype in chosen:
-        try:
-            yield Question(kind, dns.name.from_text(full), dns.rdatatype.from_text(rtype))
-        except dns.exception.DNSException:  # A name below a long one may be too long.
-            pass
+    return [Question(kind, dns.name.from_text(full), dns.rdatatype.from_text(rtype)) for kind, full, rtype in chosen]
