@@ -2,22 +2,12 @@
 import collections
 import random
 
-import dns.name
-import dns.rdatatype
 from master import KINDS as TYPES, above, name, within
 
 # The kinds of questions, each with the section of an RFC that says what the reply is.
-KINDS = {
-    "records": "RFC 1034 4.3.2",      # a set of the zone
-    "alias": "RFC 1034 3.6.2",        # a name that owns a CNAME
-    "no data": "RFC 2308 2.2",        # a type that a name lacks
-    "empty name": "RFC 4592 2.2.2",   # a name that exists only because of names below it
-    "no such name": "RFC 2308 2.1",   # a name that does not exist, below one that does
-    "wildcard": "RFC 4592 3.3",       # a name that a wildcard covers
-    "referral": "RFC 1034 4.3.2",     # a name at or below a cut
-    "capitals": "RFC 4343 3",         # the origin in capitals
-    "outside": "RFC 1035 4.1.1",      # a name outside the zone
-}
+KINDS = {"records": "RFC 1034 4.3.2", "alias": "RFC 1034 3.6.2", "no data": "RFC 2308 2.2", "empty name": "RFC 4592 2.2.2",
+         "no such name": "RFC 2308 2.1", "wildcard": "RFC 4592 3.3", "referral": "RFC 1034 4.3.2", "capitals": "RFC 4343 3",
+         "outside": "RFC 1035 4.1.1"}
 LACKED = ("A", "AAAA", "MX", "TXT", "NS", "CNAME")  # no name owns all of these
 OUTSIDE = ("zz-none.example.net.", "zz-none.example.org.")
 Question = collections.namedtuple("Question", "kind name rtype")
@@ -33,7 +23,6 @@ def every(names, all_types):
             asked.setdefault((full, rtype), kind)
 
     def missing(full):
-        """A name below `full` that does not exist."""
         below = f"zz-none.{full.lstrip('.')}"
         return missing(below) if below in present else below
     for full in present:
@@ -49,8 +38,7 @@ def every(names, all_types):
         if f"*.{full.lstrip('.')}" not in present:
             ask("referral" if kind == "referral" else "no such name", missing(full), "A", "TXT")
     ask("capitals", names.zone.upper(), "SOA")
-    for full in [full for full in OUTSIDE if not within(full, names.zone)][:1]:
-        ask("outside", full, "A")
+    ask("outside", OUTSIDE[within(OUTSIDE[0], names.zone)], *["A"] * (names.zone != "."))
     return asked, present
 
 
@@ -59,8 +47,8 @@ def sample(asked, most, seed):
     kinds, chosen, chooser = collections.defaultdict(list), [], random.Random(seed)
     for (full, rtype), kind in asked.items():
         if name(full, "."):  # The name below a long one may be too long.
-            kinds[kind].append((kind, full, rtype))
+            kinds[kind].append(Question(kind, full, rtype))
     for left, found in zip(range(len(kinds), 0, -1), sorted(kinds.values(), key=len)):
         places = chooser.sample(range(len(found)), min(len(found), (most - len(chosen)) // left))
         chosen += [found[place] for place in sorted(places)]
-    return [Question(kind, dns.name.from_text(full), dns.rdatatype.from_text(rtype)) for kind, full, rtype in chosen]
+    return chosen
