@@ -140,16 +140,14 @@ class Judge:
         """Where a reply is not one that the RFCs allow; or, with --exact, where it is not the proved one."""
         want, rfc = dns.message.from_wire(want, one_rr_per_rrset=True), KINDS[question.kind]
         code, asked, kind, rule = got.rcode(), question.rtype, None, rfc
-        if self.exact:
-            one, other = ({header(reply), *(f"{name}: {rrset}" for name, section in zip(SECTIONS, reply.sections[1:])
-                                            for rrset in section)} for reply in (want, got))
-            return [Difference("not the proved reply", rfc, sorted(one - other), sorted(other - one))] * (one != other)
         # A chain of aliases that ends `away`, in another zone; or that is a loop or too long, so that the server is `free`.
         ends = asked not in ("CNAME", "ANY") and want.answer and want.answer[-1].rdtype == CNAME and not want.authority
         away = ends and not want.answer[-1][0].target.is_subdomain(self.origin)
         free = asked == "ANY" or ends and not away
         fits = code in (want.rcode(), *((NXDOMAIN,) if away else (NXDOMAIN, SERVFAIL, NOTIMP, REFUSED) if free else ()))
-        if question.kind == "outside":
+        if self.exact:
+            kind = "another header" if header(got) != header(want) else None
+        elif question.kind == "outside":
             kind = "AA for a name outside the zone" if got.flags & AA else None
         elif not fits:
             kind = f"{dns.rcode.to_text(code)} and not {dns.rcode.to_text(want.rcode())}"
@@ -158,7 +156,7 @@ class Judge:
         elif (got.flags ^ want.flags) & AA and code in (NOERROR, NXDOMAIN):
             kind, rule = "no AA" if want.flags & AA else "AA in a referral", "RFC 1035 4.1.1"
         found = [Difference(kind, rule, [header(want)], [header(got)])] if kind else []
-        if fits and code in (NOERROR, NXDOMAIN) and not (got.flags | want.flags) & TC:
+        if self.exact or fits and code in (NOERROR, NXDOMAIN) and not (got.flags | want.flags) & TC:
             found += self.sections(rfc, want, got, away, free)
         return found
 
@@ -176,9 +174,9 @@ class Judge:
         for place, parts in enumerate(zip(want.sections[1:], got.sections[1:])):
             wanted, given = ({(rrset.name.to_digestable(), rrset.rdtype, rrset[0].to_digestable()): rrset
                               for rrset in part if rrset.rdtype not in self.left_out} for part in parts)
-            lacks = [str(one) for key, one in wanted.items()
-                     if key not in given and (not free, True, cut and one.name.is_subdomain(cut))[place]]
-            more = [str(one) for key, one in given.items() if key not in wanted and not allowed(place, one)]
+            lacks = [str(one) for key, one in wanted.items() if key not in given and (
+                self.exact or (not free, True, cut and one.name.is_subdomain(cut))[place])]
+            more = [str(one) for key, one in given.items() if key not in wanted and (self.exact or not allowed(place, one))]
             if lacks or more:
                 how = "has other" if lacks and more else "lacks" if lacks else "has more"
                 yield Difference(f"the {SECTIONS[place]} section {how} records", rules[place], lacks, more)
