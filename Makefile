@@ -73,8 +73,8 @@ examples: built
 	tools/examples crates/zonecheck/out/zonecheck
 
 # Runs the commands of the documents and compares their output with the page. Tests the remedies of docs/CODES.md, zonelint,
-# zoneimport, zonedeploy and libexec/workers. Checks that docs/DEFINITIONS.md and docs/plots/mistakes.svg, which scripts
-# generate, are up to date.
+# zoneimport, zonedeploy, zonecompare and libexec/workers. Checks that docs/DEFINITIONS.md and docs/plots/mistakes.svg, which
+# scripts generate, are up to date.
 docs-check: built
 	tools/definitions | cmp - docs/DEFINITIONS.md
 	tools/docs-check $(PROGRAMS)
@@ -83,6 +83,7 @@ docs-check: built
 	tools/test-import crates/zonecheck/out/zonecheck
 	tools/test-deploy crates/zonecheck/out/zonecheck
 	tools/test-workers $(PROGRAMS)
+	tools/test-compare $(PROGRAMS)
 	docs/plots/mistakes | cmp - docs/plots/mistakes.svg
 
 test:
