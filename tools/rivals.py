@@ -24,7 +24,7 @@ remote-control:
   control-enable: yes
   control-interface: "{folder}/nsd.ctl"
 zone:
-  name: "example"
+  name: "{origin}"
   zonefile: "{zone}"
 """
 KNOT = """server:
@@ -41,7 +41,7 @@ control:
 database:
   storage: "{folder}"
 zone:
-  - domain: example
+  - domain: "{origin}"
     file: "{zone}"
     semantic-checks: off
     zonefile-sync: -1
@@ -53,16 +53,22 @@ BIND = """options {{
 }};
 controls {{ }};
 logging {{ category default {{ null; }}; }};
-zone "example" {{ type primary; file "{zone}"; check-names ignore; }};
+zone "{origin}" {{ type primary; file "{zone}"; check-names ignore; }};
+"""
+POWERDNS = """zone "{origin}" {{ type master; file "{zone}"; }};
 """
 
 # For each server: its name, the program that must be installed, its settings, its command line, and the command that reloads its
 # zone, or None.
 SERVERS = [
-    ("nsd", "nsd", NSD, ["nsd", "-d", "-c", "{conf}"], ["nsd-control", "-c", "{conf}", "reload", "example"]),
-    ("knotd", "knotd", KNOT, ["knotd", "-c", "{conf}"], ["knotc", "-b", "-s", "{folder}/knot.sock", "zone-reload", "example"]),
+    ("nsd", "nsd", NSD, ["nsd", "-d", "-c", "{conf}"], ["nsd-control", "-c", "{conf}", "reload", "{origin}"]),
+    ("knotd", "knotd", KNOT, ["knotd", "-c", "{conf}"], ["knotc", "-b", "-s", "{folder}/knot.sock", "zone-reload", "{origin}"]),
     ("named", "named", BIND, ["named", "-f", "-4", "-n", "{workers}", "-c", "{conf}"], None),
 ]
+# A server that is only compared, and not measured.
+POWERDNS_SERVER = ("pdns", "pdns_server", POWERDNS, [
+    "pdns_server", "--no-config", "--launch=bind", "--bind-config={conf}", "--local-address={here}", "--local-port={port}",
+    "--socket-dir={folder}", "--daemon=no", "--guardian=no", "--security-poll-suffix=", "--receiver-threads={workers}"], None)
 
 
 def filled(words, **values):
@@ -70,11 +76,11 @@ def filled(words, **values):
 
 
 @contextlib.contextmanager
-def serving(row, address, folder, zone, workers):
+def serving(row, address, folder, zone, workers, origin="example"):
     """Runs a server, which is a row of `SERVERS`, with `workers` processes or threads. Its `reload` makes it reload the zone; it
     is None if there is no command for that."""
     name, _, settings, words, reload = row
-    values = {"here": address[0], "port": address[1], "folder": folder, "zone": zone, "workers": workers}
+    values = {"here": address[0], "port": address[1], "folder": folder, "zone": zone, "workers": workers, "origin": origin}
     values["conf"] = Path(folder, f"{name}.conf")
     values["conf"].write_text(settings.format(**values))
     quiet = {"stdin": subprocess.DEVNULL, "stdout": subprocess.DEVNULL, "stderr": subprocess.DEVNULL}
