@@ -101,7 +101,7 @@ misuse: programs
 	tools/must-not-compile
 
 # Serves clients on loopback: dig, kdig, dnsperf, resolvers, and peers that behave badly. Has NSD, Knot and BIND answer from the
-# canonical text of a zone. Then runs `make operate`. It is not in the gate.
+# canonical text of a zone, and compares them and PowerDNS with sample zones. Then runs `make operate`. It is not in the gate.
 clients: built
 	tools/clients crates/zoneserve/out/zoneserve crates/zonesocket/out/zonesocket
 	tools/elsewhere crates/zonecheck/out/zonecheck

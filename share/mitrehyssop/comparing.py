@@ -93,11 +93,11 @@ class Server:
             self.said = str(error)
             return False
         self.serial = next((rrset[0].serial for rrset in reply.answer if rrset.rdtype == SOA), None)
-        kind = "lame: it does not serve the zone" if self.serial is None else \
-            "an older zone" if (serial - self.serial) % 2**32 < 2**31 else "a newer zone"
+        kind, rule = ("lame: it does not serve the zone", "RFC 8906 3.1.1") if self.serial is None else (
+            "an older zone" if (serial - self.serial) % 2**32 < 2**31 else "a newer zone", "RFC 1034 4.3.5")
         self.said = (header(reply) if self.serial is None else f"serial {self.serial}") + ", without EDNS" * (not self.edns)
         if self.serial is None or self.serial != serial and not any_soa:
-            found = Difference(kind, "RFC 1034 4.3.5", [f"serial {serial}"], [self.said])
+            found = Difference(kind, rule, [f"serial {serial}"], [self.said])
             self.replies, self.differ, self.kinds = 1, 1, {kind: {0: (Question("records", origin, "SOA"), tcp, found)}}
         return not self.kinds
 
@@ -108,7 +108,7 @@ class Server:
             try:
                 got, tcp = await self.ask(question.name, question.rtype)
                 found, self.silent = judge.differences(question, want, got), 0
-            except ConnectionError as error:
+            except Exception as error:  # One reply, or data that dnspython can't read, must not end the run.
                 found, self.silent = [Difference(str(error), "RFC 8906 3.1", ["a reply"], [])], self.silent + 1
             self.replies, self.differ = self.replies + 1, self.differ + bool(found)
             for one in found:
