@@ -46,7 +46,7 @@ def sample(asked, most, seed):
     """At most `most` of the questions, evenly over their kinds. Equal seeds choose equal questions."""
     kinds, chosen, chooser = collections.defaultdict(list), [], random.Random(seed)
     for (full, rtype), kind in asked.items():
-        if name(full, "."):  # The name below a long one may be too long.
+        if len(full) < 240 or name(full, "."):  # The name below a long one may be too long.
             kinds[kind].append(Question(kind, full, rtype))
     for left, found in zip(range(len(kinds), 0, -1), sorted(kinds.values(), key=len)):
         places = chooser.sample(range(len(found)), min(len(found), (most - len(chosen)) // left))
