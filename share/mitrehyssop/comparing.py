@@ -17,7 +17,6 @@ from questions import KINDS, Question
 SECONDS, TRIES = 2, 2       # how long a server may take to reply, and how often it is asked
 FLYING, PATIENCE = 32, 20   # the most questions to a server at once, and the most in a row that it leaves without a reply
 SIGNING = {RRSIG, NSEC, NSEC3, NSEC3PARAM, DNSKEY}
-SECTIONS = ("answer", "authority", "additional")
 UNEVEN, HIGHER, LOWER = "TTLs that differ in one set", "higher TTLs", "lower TTLs: the server caps them, or has a cache"
 WHY = {asyncio.TimeoutError: "silence", dns.query.UnexpectedSource: "a reply from another address or port",
        dns.query.BadResponse: "a reply with another ID or question", EOFError: "the connection ended",
@@ -171,7 +170,7 @@ class Judge:
                 return away or place == 2
             apex = place == 1 and not cut and (rrset.name, rrset.rdtype) == (self.origin, NS)
             return free and rrset.rdtype == HINFO or (free or apex or place == 2) and self.owns(rrset)
-        for place, parts in enumerate(zip(want.sections[1:], got.sections[1:])):
+        for place, (name, *parts) in enumerate(zip(("answer", "authority", "additional"), want.sections[1:], got.sections[1:])):
             wanted, given = ({(rrset.name.to_digestable(), rrset.rdtype, rrset[0].to_digestable()): rrset
                               for rrset in part if rrset.rdtype not in self.left_out} for part in parts)
             lacks = [str(one) for key, one in wanted.items() if key not in given and (
@@ -179,7 +178,7 @@ class Judge:
             more = [str(one) for key, one in given.items() if key not in wanted and (self.exact or not allowed(place, one))]
             if lacks or more:
                 how = "has other" if lacks and more else "lacks" if lacks else "has more"
-                yield Difference(f"the {SECTIONS[place]} section {how} records", rules[place], lacks, more)
+                yield Difference(f"the {name} section {how} records", rules[place], lacks, more)
             for key in [key for key in wanted if key in given and given[key].ttl != wanted[key].ttl]:
                 uneven = any(other[:2] == key[:2] and given[other].ttl != given[key].ttl for other in given)
                 yield Difference(UNEVEN if uneven else HIGHER if given[key].ttl > wanted[key].ttl else LOWER,

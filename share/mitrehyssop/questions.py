@@ -2,7 +2,7 @@
 import collections
 import random
 
-from master import KINDS as TYPES, above, name, within
+from master import KINDS as TYPES, Names, above, name, within
 
 # The kinds of questions, each with the section of an RFC that says what the reply is.
 KINDS = {"records": "RFC 1034 4.3.2", "alias": "RFC 1034 3.6.2", "no data": "RFC 2308 2.2", "empty name": "RFC 4592 2.2.2",
@@ -13,9 +13,9 @@ OUTSIDE = ("zz-none.example.net.", "zz-none.example.org.")
 Question = collections.namedtuple("Question", "kind name rtype")
 
 
-def every(names, all_types):
-    """All questions about a zone, as a dictionary from name and type to the kind; and the names that exist in the zone."""
-    asked, more = {}, ("SRV", *TYPES, "ANY") if all_types else ("SRV",)
+def every(zone, all_types):
+    """All questions about a zone, each with its kind; its records by their names; and all names that exist in it."""
+    names, asked, more = Names(zone, zone.records), {}, ("SRV", *TYPES, "ANY") if all_types else ("SRV",)
     present = dict.fromkeys(full for owner in names.sets for full in above(owner) if within(full, names.zone))
 
     def ask(kind, full, *types):
@@ -39,7 +39,7 @@ def every(names, all_types):
             ask("referral" if kind == "referral" else "no such name", missing(full), "A", "TXT")
     ask("capitals", names.zone.upper(), "SOA")
     ask("outside", OUTSIDE[within(OUTSIDE[0], names.zone)], *["A"] * (names.zone != "."))
-    return asked, present
+    return asked, names, present
 
 
 def sample(asked, most, seed):
