@@ -19,7 +19,7 @@ def every(zone, all_types):
     present = dict.fromkeys(full for owner in names.sets for full in above(owner) if within(full, names.zone))
 
     def ask(kind, full, *types):
-        for rtype in types:
+        for rtype in types if len(full) < 240 or name(full, ".") else ():  # The name below a long one may be too long.
             asked.setdefault((full, rtype), kind)
 
     def missing(full):
@@ -46,8 +46,7 @@ def sample(asked, most, seed):
     """At most `most` of the questions, evenly over their kinds. Equal seeds choose equal questions."""
     kinds, chosen, chooser = collections.defaultdict(list), [], random.Random(seed)
     for (full, rtype), kind in asked.items():
-        if len(full) < 240 or name(full, "."):  # The name below a long one may be too long.
-            kinds[kind].append(Question(kind, full, rtype))
+        kinds[kind].append(Question(kind, full, rtype))
     for left, found in zip(range(len(kinds), 0, -1), sorted(kinds.values(), key=len)):
         places = chooser.sample(range(len(found)), min(len(found), (most - len(chosen)) // left))
         chosen += [found[place] for place in sorted(places)]
