@@ -31,9 +31,10 @@ def reference(zone, asked):
         file.write(zone.text.encode("latin-1"))
         file.flush()
         words = ["zoneserve", "once", "--tcp", zone.origin, file.name]
-        done = subprocess.run(words, input=queries.encode(), capture_output=True, check=False)
-    if done.returncode:
-        raise Refused(f"zoneserve: {done.stderr.decode('latin-1').strip() or f'status {done.returncode}'}")
+        try:
+            done = subprocess.run(words, input=queries.encode(), capture_output=True, check=True)
+        except (OSError, subprocess.CalledProcessError) as error:
+            raise Refused(f"zoneserve: {getattr(error, 'strerror', 0) or error.stderr.decode('latin-1').strip() or error}")
     return [*zip(asked, map(bytes.fromhex, done.stdout.decode().split()))]
 
 
