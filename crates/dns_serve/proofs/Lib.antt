@@ -1,4 +1,6 @@
+pub mod Framing
 pub mod Readings
-pub mod Frames
+pub mod Replies
 pub mod Sessions
+pub mod Taking
 pub mod OneTurn

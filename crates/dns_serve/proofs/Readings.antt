@@ -1,86 +1,111 @@
--- What several calls of a source give together.
-use Rattle.dns_spec.proofs.Common.{◌≡◌, ℕ, ◌+◌, ◌-◌, ◌^◌, ◌<◌, ◌≤◌, min, All, [], ◌∷◌, ◌++◌, length, take, Option, ◌∙◌, arith, length-append, take-append-add, Consumes, All-head, take_all, take-append-le, Consumes-trans, most_over_udp, Octets, octets16}
-use Rattle.dns_serve.specs.Reads.{Gives, GivesFewer, GivesBeginning, GivesPart, GivesPartOfBody, GivesMessage, GivesBody}
-use Rattle.dns_serve.proofs.Frames.{no_frame_short, cut_first, no_frame_inside, cut_inside, kept_front}
+-- What several calls of a source give to a frame together.
+use Rattle.dns_spec.proofs.Common.{◌≡◌, ℕ, ◌+◌, ◌^◌, ◌<◌, ◌≤◌, ◌⊎◌, inl, inr, All, [], ◌∷◌, ◌++◌, length, drop, take, take_all, Option, None, Some, Keeps, sym, ap, ◌∙◌, arith, subst, recursion_from_All, length-drop, leb-true, cases_lt, Consumes, Consumes-trans, IsAtEnd, Octets, field16, octets16, frame, first_frame, append-nil}
+use Rattle.std.proofs.lemmas.Bool.Decides.{nat_tests}
+use Rattle.dns_spec.proofs.Streams.StreamFrames.{front_is, cut_frame}
+use Rattle.dns_serve.specs.Framing.{FrameState, HasCome, missing_of}
+use Rattle.dns_serve.specs.Reads.{GivesMessage, GivesPart, GivesBeginning}
+use Rattle.dns_serve.proofs.Framing.{length_again}
 
--- octets read to the front of a buffer, and then more octets after them
-pub came_after : (a b c : Option Octets) (front rest : Octets) (n k : ℕ) → length front ≡ n
-    → Consumes a b front → Consumes b c (take k rest) → Consumes a c (take (n + k) (front ++ rest))
-came_after a b c front rest n k len first second = grind (arith, take-append-add, Consumes-trans)
+-- Octets of the source have come to a frame.
+pub record Came (old new : Option Octets) (f : FrameState) : Type 0 where
+  pub octets : Octets
+  pub consumed : Consumes old new octets
+  pub has_come : HasCome f octets
 
--- some octets, and then fewer than were asked for, are fewer than were asked for in all
-pub fewer_after : (a b c : Option Octets) (n m : ℕ) (front : Octets)
-    → Consumes a b front → length front + m ≤ n → GivesFewer b c m → GivesFewer a c n
-fewer_after a b c n m front consumed le f = grind (arith, Consumes-trans, length-append)
+-- how many octets are missing, by the octets that have come
+missing_is : (f : FrameState) (x : Octets) → HasCome f x → 2 ≤ length x
+    → length x + missing_of f ≡ 2 + field16 x 0
+missing_is f x h two =
+    let same : field16 f.kept 0 ≡ field16 x 0 =
+    ap (λ k. field16 k 0) h.kept ∙ length_again 514 x (omega arith) in
+    grind (arith, nat_tests, h.within two)
 
-pub fewer_still : (a b : Option Octets) (n m : ℕ) → m ≤ n → GivesFewer a b m → GivesFewer a b n
-fewer_still a b n m le f = grind arith
+-- the octets do not begin with a complete frame, because they are fewer than its length says
+no_frame : (x : Octets) → length x < 2 + field16 x 0 → first_frame x ≡ None
+unfolding first_frame
+no_frame x h = grind (arith, leb-true)
 
--- a length, and then too few octets
-pub beginning_after : (a b c : Option Octets) (n : ℕ)
-    → n < 2 ^ 16 → Consumes a b (octets16 n) → GivesFewer b c n → GivesBeginning a c
-beginning_after a b c n h consumed f = grind (arith, Consumes-trans, no_frame_inside)
+-- octets that do not complete a frame do not begin with one
+pub part_of_frame : (f : FrameState) (x : Octets) → HasCome f x → 0 < missing_of f
+    → first_frame x ≡ None
+part_of_frame f x h some = no_frame x (go (cases_lt (length x) 2))
+  where
+    go : (length x < 2) ⊎ (2 ≤ length x) → length x < 2 + field16 x 0
+    go (inl less) = omega arith
+    go (inr more) = omega (arith, missing_is f x h more)
 
-pub part_after : (a b c : Option Octets) (n : ℕ)
-    → n < 2 ^ 16 → Consumes a b (octets16 n) → GivesPartOfBody b c n → GivesPart a c
-part_after a b c n h consumed p = record {
-  part = octets16 n ++ p.fewer.octets;
-  consumed = Consumes-trans a b c (octets16 n) p.fewer.octets consumed p.fewer.consumed;
-  cut = cut_inside n p.fewer.octets h p.fewer.fewer;
-  no_frame = no_frame_inside n p.fewer.octets h p.fewer.fewer;
-  over = p.over;
+two_low : (x : Octets) → All (λ o. o < 256) x → 2 ≤ length x → field16 x 0 < 2 ^ 16
+two_low [] low two = absurd (omega (arith, two))
+two_low (a ∷ []) low two = absurd (omega (arith, two))
+two_low (a ∷ b ∷ x) low two =
+    let l = recursion_from_All (λ o. o < 256) (a ∷ b ∷ x) low in
+    let ha : a < 256 = l.0 in
+    let hb : b < 256 = l.1.0 in
+    omega arith
+
+-- octets that complete a frame are that frame
+pub whole_frame : (f : FrameState) (x : Octets) → HasCome f x
+    → missing_of f ≡ 0 → (frame (drop 2 x) ≡ x) × (length (drop 2 x) < 2 ^ 16)
+whole_frame f x h none = go (cases_lt (length x) 2)
+  where
+    go : (length x < 2) ⊎ (2 ≤ length x) → (frame (drop 2 x) ≡ x) × (length (drop 2 x) < 2 ^ 16)
+    go (inl less) = absurd (grind (arith, nat_tests, h.came))
+    go (inr more) =
+        let count : length (drop 2 x) ≡ field16 x 0 =
+        omega (arith, length-drop 2 x, missing_is f x h more, none) in (
+          ap (λ k. octets16 k ++ drop 2 x) count ∙ front_is x h.low more,
+          subst (λ k. k < 2 ^ 16) (sym count) (two_low x h.low more),
+        )
+
+pub came_whole : (a b : Option Octets) (f : FrameState)
+    → Came a b f → missing_of f ≡ 0 → GivesMessage a b f
+came_whole a b f c none =
+    let w = whole_frame f c.octets c.has_come none in
+    record {
+      message = drop 2 c.octets;
+      consumed = subst (Consumes a b) (sym w.0) c.consumed;
+      short = w.1;
+      has_come = subst (HasCome f) (sym w.0) c.has_come;
+    }
+
+pub came_more : (a b d : Option Octets) (f then : FrameState) (piece : Octets) → Came a b f
+    → Consumes b d piece → length piece ≤ missing_of f
+    → ((x : Octets) → HasCome f x → HasCome then (x ++ take (missing_of f) piece)) → Came a d then
+came_more a b d f then piece c consumed few more = record {
+  octets = c.octets ++ piece;
+  consumed = Consumes-trans a b d c.octets piece c.consumed consumed;
+  has_come = subst (λ p. HasCome then (c.octets ++ p))
+      (take_all (missing_of f) piece few) (more c.octets c.has_come);
 }
 
-pub message_after : (a b c : Option Octets) (n : ℕ) (kept : Octets)
-    → n < 2 ^ 16 → Consumes a b (octets16 n) → GivesBody b c n kept → GivesMessage a c kept
-message_after a b c n kept h consumed m = grind (arith, Consumes-trans)
+-- the source has given no more
+nothing_came : (a b d : Option Octets) (f : FrameState) (c : Came a b f)
+    → Consumes b d [] → Consumes a d c.octets
+nothing_came a b d f c consumed = subst (Consumes a d) (append-nil c.octets)
+    (Consumes-trans a b d c.octets [] c.consumed consumed)
 
--- a message in two parts
-pub body_in_two : (a b c : Option Octets) (n : ℕ) (front rest : Octets)
-    → Consumes a b front → Consumes b c rest → length front ≡ min n most_over_udp
-    → length rest ≡ n - min n most_over_udp → GivesBody a c n front
-body_in_two a b c n front rest first second hf hr = record {
-  message = front ++ rest;
-  consumed = Consumes-trans a b c front rest first second;
-  count_is = length-append front rest ∙ omega (arith, hf, hr);
-  kept_is = kept_front n front rest hf hr;
+pub came_part : (a b d : Option Octets) (f : FrameState) (n : ℕ) (buf : Octets) → Came a b f
+    → 0 < missing_of f → 0 < f.came → n ≡ 0 → Consumes b d (take n buf) → IsAtEnd d → GivesPart a d
+came_part a b d f n buf c left some zero consumed over =
+    let none = part_of_frame f c.octets c.has_come left in
+    record {
+      part = c.octets;
+      consumed = nothing_came a b d f c (subst (λ k. Consumes b d (take k buf)) zero consumed);
+      cut = elim (cut_frame c.octets c.has_come.low none)
+          [ inl e ↦ absurd (omega (arith, ap length e, c.has_come.came)) | inr cut ↦ cut ];
+      no_frame = none;
+      over = over;
+    }
+
+pub came_beginning : (a b d : Option Octets) (f : FrameState) → Came a b f → 0 < missing_of f
+    → Consumes b d [] → GivesBeginning a d
+came_beginning a b d f c left consumed = record {
+  given = c.octets;
+  consumed = nothing_came a b d f c consumed;
+  no_frame = part_of_frame f c.octets c.has_come left;
 }
 
--- fewer octets than a length has
-pub short_beginning : (a b : Option Octets) (n : ℕ) → n ≡ 2 → GivesFewer a b n → GivesBeginning a b
-short_beginning a b n e f = record {
-  given = f.octets;
-  consumed = f.consumed;
-  no_frame = no_frame_short f.octets (omega (arith, f.fewer, e));
-}
-
--- the first octet of a length, without the second
-pub first_alone : (a b : Option Octets) (buf : Octets) (count : ℕ) → All (λ o. o < 256) buf
-    → length buf ≡ 2 → count ≡ 1 → Gives a b (length buf) count (take count buf) → GivesPart a b
-first_alone a b [] count low two one g = absurd (omega (arith, two))
-first_alone a b (o ∷ buf) count low two one g = grind (arith, cut_first, All-head, no_frame_short)
-
--- both octets of a length
-pub length_came : (a b : Option Octets) (buf : Octets) (count n : ℕ) → length buf ≡ 2 → 2 ≤ count
-    → octets16 n ≡ buf → Gives a b (length buf) count (take count buf) → Consumes a b (octets16 n)
-length_came a b buf count n two more is g = grind (arith, take_all)
-
--- the octets of a message that are kept, and then its other octets, or too few of these
-module _ (a b c : Option Octets) (count kept first then : ℕ) (buf others : Octets)
-    (least : kept ≡ min count most_over_udp) (len : length buf ≡ kept)
-    (rest : length others ≡ count - kept) (g : Gives a b (length buf) first (take first buf))
-    (s : Gives b c (length others) then (take then others)) where
-  pub body_came : (after : Octets) → kept ≤ first → count - kept ≤ then
-      → GivesBody a c count (take kept (buf ++ after))
-  body_came after whole all = grind (arith, take_all, take-append-le, body_in_two)
-
-  pub body_cut : then < count - kept → GivesPartOfBody a c count
-  body_cut few = record {
-    fewer = fewer_after a b c count (count - kept) (take first buf) g.consumed
-        (omega (arith, g.length_is, g.within, len, least)) (record {
-          octets = take then others;
-          consumed = s.consumed;
-          fewer = omega (arith, s.length_is, few);
-        });
-    over = s.over (omega (arith, rest, few));
-  }
+pub kept_is_consumed : (a b : Option Octets) → Keeps a b → Consumes a b []
+kept_is_consumed None b k = tt
+kept_is_consumed (Some x) None k = k
+kept_is_consumed (Some x) (Some y) k = sym k

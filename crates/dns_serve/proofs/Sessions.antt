@@ -1,50 +1,61 @@
 -- What a session has done, message by message.
-use Rattle.dns_spec.proofs.Common.{◌≡◌, ℕ, zero, suc, ◌+◌, ◌-◌, ◌^◌, ◌<◌, ◌≤◌, ◌⊎◌, inl, inr, All, List, [], ◌∷◌, ◌++◌, length, take, Option, Some, None, Ok, Err, refl, sym, ap, ◌∙◌, subst, take_all, arith, append_assoc, append-nil, length-append, flat_map, flat_map-append, Appends, Consumes, IsAtEnd, Appends-trans, Consumes-trans, Octets, ZoneContents, All-append, frame, frames, first_frame, replies}
+use Rattle.dns_spec.proofs.Common.{◌≡◌, ℕ, Bool, true, false, zero, suc, ◌+◌, ◌-◌, ◌^◌, ◌<◌, ◌≤◌, ◌⊎◌, inl, inr, All, List, [], ◌∷◌, ◌++◌, length, take, drop, drop-take, Option, Some, None, Ok, Err, refl, sym, ap, ◌∙◌, subst, take_all, arith, append_assoc, append-nil, length-append, flat_map, flat_map-append, Appends, Consumes, IsAtEnd, Appends-trans, Consumes-trans, Octets, ZoneContents, All-append, frame, frames, first_frame, replies}
 use Rattle.std.proofs.Math.Seq.{take-nil}
 use Rattle.dns_spec.specs.Query.{most_over_tcp}
 use Rattle.dns_spec.specs.Stream.{reply_frame}
 use Rattle.dns_spec.proofs.Streams.StreamFrames.{frames_again}
 use Rattle.dns_spec.proofs.Replies.FirstOctets.{first_octets_answer}
 use Rattle.dns_name.specs.Counted.{AppendsBeginning}
-use Rattle.dns_serve.specs.Reads.{MessageRead, GivesMessage, GivesNothing}
+use Rattle.dns_serve.specs.Framing.{FrameState, HasCome}
+use Rattle.dns_serve.specs.Reads.{FrameRead, GivesMessage, GivesNothing}
 use Rattle.dns_serve.specs.Streams.{Session, AreFrames, HasServed, WasRefused, SessionOf, HasAnswered, HasBegun, reply_over_tcp}
 use Rattle.dns_serve.specs.declared.fault.StreamFault.{StreamFault}
 
 abbrev session : Option Octets → Option Octets → Option Octets → Option Octets → Session
 session a b c d = record { unread = a; left = b; held = c; holds = d }
 
+-- the octets of a message that a frame keeps
+kept_of : (f : FrameState) (m : Octets) → HasCome f (frame m) → drop 2 f.kept ≡ take 512 m
+kept_of f m h = ap (drop 2) h.kept ∙ drop-take 2 512 (frame m)
+
 -- the reply to the kept octets of a message is the reply to the message
-reply_of_kept : (z : ZoneContents) (kept m : Octets)
-    → kept ≡ take 512 m → reply_over_tcp z kept ≡ reply_over_tcp z m
-reply_of_kept z kept m e = ap (reply_over_tcp z) e ∙ sym (first_octets_answer z m most_over_tcp)
+pub reply_of_kept : (z : ZoneContents) (f : FrameState) (piece m : Octets) → HasCome f (frame m)
+    → piece ≡ drop 2 f.kept → reply_over_tcp z piece ≡ reply_over_tcp z m
+reply_of_kept z f piece m h is = ap (reply_over_tcp z) (is ∙ kept_of f m h)
+    ∙ sym (first_octets_answer z m most_over_tcp)
 
-message_of_read : (a b : Option Octets) (buf : Octets) (read : Option ℕ) (kept : ℕ)
-    → read ≡ Some kept → MessageRead a b buf (Ok read) → GivesMessage a b (take kept buf)
-message_of_read a b buf read kept e m = subst (λ o. MessageRead a b buf (Ok o)) e m
-
-pub answered : (z : ZoneContents) (a b c d : Option Octets) (buf : Octets)
-    (read : Option ℕ) (kept : ℕ) (piece : Octets) → read ≡ Some kept → MessageRead a b buf (Ok read)
-    → piece ≡ take kept buf → Appends c d (reply_frame (reply_over_tcp z piece))
+pub answered : (z : ZoneContents) (a b c d : Option Octets) (f : FrameState) (piece : Octets)
+    → GivesMessage a b f → piece ≡ drop 2 f.kept
+    → Appends c d (reply_frame (reply_over_tcp z piece))
     → HasAnswered (reply_over_tcp z) (session a b c d)
-answered z a b c d buf read kept piece e m is w = grind (arith, message_of_read, reply_of_kept)
+answered z a b c d f piece g is w = record {
+  message = g.message;
+  short = g.short;
+  read = g.consumed;
+  written = subst (λ r. Appends c d (reply_frame r))
+      (reply_of_kept z f piece g.message g.has_come is) w;
+}
 
-pub begun : (z : ZoneContents) (a b c d : Option Octets) (buf : Octets)
-    (read : Option ℕ) (kept : ℕ) (piece : Octets) → read ≡ Some kept → MessageRead a b buf (Ok read)
-    → piece ≡ take kept buf → AppendsBeginning c d (reply_frame (reply_over_tcp z piece))
+pub begun : (z : ZoneContents) (a b c d : Option Octets) (f : FrameState) (piece : Octets)
+    → GivesMessage a b f → piece ≡ drop 2 f.kept
+    → AppendsBeginning c d (reply_frame (reply_over_tcp z piece))
     → HasBegun (reply_over_tcp z) (session a b c d)
-begun z a b c d buf read kept piece e m is (n, h, w) =
-    let g = message_of_read a b buf read kept e m in record {
-      message = g.message;
-      short = g.short;
-      read = g.consumed;
-      taken = n;
-      written = subst (λ r. Appends c d (take n (reply_frame r)))
-          (reply_of_kept z piece g.message (is ∙ g.kept_is)) w;
-    }
+begun z a b c d f piece g is (n, h, w) = record {
+  message = g.message;
+  short = g.short;
+  read = g.consumed;
+  taken = n;
+  written = subst (λ r. Appends c d (take n (reply_frame r)))
+      (reply_of_kept z f piece g.message g.has_come is) w;
+}
 
-pub nothing_read : (a b : Option Octets) (buf : Octets) (read : Option ℕ)
-    → read ≡ None → MessageRead a b buf (Ok read) → GivesNothing a b
-nothing_read a b buf read e m = subst (λ o. MessageRead a b buf (Ok o)) e m
+pub message_read : (a b : Option Octets) (f : FrameState) (came : Bool)
+    → came ≡ true → FrameRead a b f (Ok came) → GivesMessage a b f
+message_read a b f came e r = subst (λ t. FrameRead a b f (Ok t)) e r
+
+pub nothing_read : (a b : Option Octets) (f : FrameState) (came : Bool)
+    → came ≡ false → FrameRead a b f (Ok came) → GivesNothing a b
+nothing_read a b f came e r = subst (λ t. FrameRead a b f (Ok t)) e r
 
 -- n messages were read, and their replies were written
 pub record Done (reply : Octets → Option Octets) (s : Session) (n : ℕ) : Type 0 where
@@ -54,12 +65,12 @@ pub record Done (reply : Octets → Option Octets) (s : Session) (n : ℕ) : Typ
   pub read : Consumes s.unread s.left (flat_map frame messages)
   pub written : Appends s.held s.holds (replies reply messages)
 
-frames_of : (ms : List Octets) (m : Octets)
+pub frames_of : (ms : List Octets) (m : Octets)
     → flat_map frame (ms ++ m ∷ []) ≡ flat_map frame ms ++ frame m
 frames_of ms m =
     flat_map-append frame ms (m ∷ []) ∙ ap (λ x. flat_map frame ms ++ x) (append-nil (frame m))
 
-replies_of : (reply : Octets → Option Octets) (ms : List Octets) (m : Octets)
+pub replies_of : (reply : Octets → Option Octets) (ms : List Octets) (m : Octets)
     → replies reply (ms ++ m ∷ []) ≡ replies reply ms ++ reply_frame (reply m)
 replies_of reply ms m = flat_map-append (λ m. reply_frame (reply m)) ms (m ∷ [])
     ∙ ap (λ x. replies reply ms ++ x) (append-nil (reply_frame (reply m)))
@@ -67,7 +78,7 @@ replies_of reply ms m = flat_map-append (λ m. reply_frame (reply m)) ms (m ∷ 
 one_short : (m : Octets) → length m < 2 ^ 16 → All (λ m. length m < 2 ^ 16) (m ∷ [])
 one_short m h = grind arith
 
-all_short : (ms : List Octets) (m : Octets) → All (λ m. length m < 2 ^ 16) ms
+pub all_short : (ms : List Octets) (m : Octets) → All (λ m. length m < 2 ^ 16) ms
     → length m < 2 ^ 16 → All (λ m. length m < 2 ^ 16) (ms ++ m ∷ [])
 all_short ms m p h = All-append (λ m. length m < 2 ^ 16) ms (m ∷ []) p (one_short m h)
 
@@ -106,7 +117,7 @@ frames_then k ms rest short none =
     no_frames (suc k) =
         ap (λ f. elim f as (λ _. List Octets) [ None ↦ [] | Some r ↦ r.0 ∷ frames k r.1 ]) none
 
-frames_by : (most : ℕ) (ms : List Octets) (rest : Octets) → All (λ m. length m < 2 ^ 16) ms
+pub frames_by : (most : ℕ) (ms : List Octets) (rest : Octets) → All (λ m. length m < 2 ^ 16) ms
     → (length ms ≡ most) ⊎ (length ms ≤ most × (first_frame rest ≡ None))
     → ms ≡ frames most (flat_map frame ms ++ rest)
 unfolding frames
@@ -123,7 +134,7 @@ frames_of_known : (a b : Option Octets) (most : ℕ) (ms : List Octets) (part : 
     ⊎ (length ms ≤ most × (first_frame part ≡ None) × IsAtEnd b) → AreFrames a most ms
 frames_of_known a b most ms part h h1 h2 = grind (arith, append_assoc, frames_by, append-nil)
 
-nil_has_none : first_frame [] ≡ None
+pub nil_has_none : first_frame [] ≡ None
 unfolding first_frame
 nil_has_none = refl
 
@@ -143,9 +154,9 @@ served_all reply most n a b c x y d h g =
 
 -- the next message could not be read
 pub unread : (reply : Octets → Option Octets) (most n : ℕ) (a b c x y : Option Octets)
-    (buf : Octets) (fault : StreamFault) → Done reply (session a b x y) n → n < most
-    → MessageRead b c buf (Err fault) → SessionOf reply most (session a c x y) (Err fault)
-unread reply most n a b c x y buf fault h h1 h2 =
+    (f : FrameState) (fault : StreamFault) → Done reply (session a b x y) n → n < most
+    → FrameRead b c f (Err fault) → SessionOf reply most (session a c x y) (Err fault)
+unread reply most n a b c x y f fault h h1 h2 =
     grind (arith, frames_by, Consumes-trans, frames_of_known)
 
 -- the reply to the next message could not be written

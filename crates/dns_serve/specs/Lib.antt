@@ -1,3 +1,4 @@
+pub mod Framing
 pub mod Reads
 pub mod Streams
 pub mod Turns

@@ -4,11 +4,14 @@
 
 mod datagrams;
 mod fault;
-mod read;
+mod frame;
+mod session;
 mod stream;
 mod turn;
 
 pub use datagrams::{Datagrams, Failed};
 pub use fault::{StreamFault, TurnFault};
+pub use frame::Frame;
+pub use session::Session;
 pub use stream::{Ends, StreamRoom, serve_stream, serve_stream_in};
 pub use turn::{udp_turn, udp_turn_in};

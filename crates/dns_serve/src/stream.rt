@@ -1,22 +1,18 @@
 //! A session over a stream: messages and their replies, each after its length in two octets
 //! (RFC 1035 4.2.2).
 ghost use Rattle.std.specs.Prelude.{◌≡◌, ◌+◌, ◌-◌, ◌^◌, ◌<◌, ◌≤◌, ℕ, List, [], length, IfOk, OnOk, IfSome, IsNone};
-ghost use Rattle.dns_spec.specs.Layout.{octets16};
 ghost use Rattle.dns_spec.specs.Stream.{reply_frame};
 ghost use Rattle.dns_name.specs.Counted.{Writes};
-ghost use Rattle.dns_serve.specs.Reads.{MessageRead};
+ghost use Rattle.dns_serve.specs.Reads.{FrameRead};
 ghost use Rattle.dns_serve.specs.Streams.{SessionOf, session, reply_over_tcp, source_failures_after, sink_failures_after};
 
 use crate::fault::StreamFault;
-use crate::read::read_full;
+use crate::frame::Frame;
 use byteorder::{BigEndian, ByteOrder};
 use dns_answer::{TcpDraft, respond_in};
 use dns_name::{SinkFailed, Tally};
 use dns_zone::{Steps, Zone};
 use std::io::{Read, Write};
-
-// How many octets of a message are kept. No query needs more: its question ends by octet 271.
-const MOST_KEPT: usize = 512;
 
 // The longest reply, with its length in front.
 const MOST_FRAME: usize = 65_537;
@@ -102,12 +98,12 @@ impl<W: Write> Ends<W> for Unbuffered {
     }
 }
 
-/// The buffers of a session: for the kept octets of a message, for its reply and length, and for
+/// The buffers of a session: for the frame of a message, for its reply and length, and for
 /// the draft of the reply. `serve_stream_in` can use them for one session after another, without
 /// clearing them.
 #[derive(Drop)]
 pub struct StreamRoom {
-    message: [u8; MOST_KEPT],
+    frame: Frame,
     reply: [u8; MOST_FRAME],
     draft: TcpDraft,
 }
@@ -116,7 +112,7 @@ impl StreamRoom {
     /// New buffers: about 197,000 octets, stored inline.
     pub fn new() -> StreamRoom {
         StreamRoom {
-            message: [0; MOST_KEPT],
+            frame: Frame::new(),
             reply: [0; MOST_FRAME],
             draft: TcpDraft::new(),
         }
@@ -150,10 +146,10 @@ pub fn serve_stream_in<R: Read, W: Write, E: Ends<W>>(
     let mut arrived = None;
     'messages: while served < most {
         ends.begin(sink, &arrived);
-        let Some(kept) = read_message(source, &mut room.message, &mut room.reply)? else {
+        if !read_frame(source, &mut room.frame, &mut room.reply)? {
             break;
-        };
-        let (message, _) = room.message.split_at(kept);
+        }
+        let message = room.frame.message();
         write_reply(zone, message, sink, &mut room.draft, &mut room.reply)?;
         served += 1;
         arrived = if served < most { ends.arrived() } else { None };
@@ -167,48 +163,33 @@ pub fn serve_stream_in<R: Read, W: Write, E: Ends<W>>(
     Ok(served)
 }
 
-// Reads a message after its length, and returns how many of its octets were kept, at the front of
-// `message`; `None` at the end of the source. The other octets are read into `room`.
-fn read_message<R: Read>(
+// Reads the next frame of the source, and no octet after it, through `room`. False if the source
+// ends before it.
+fn read_frame<R: Read>(
     source: &mut Tally<R>,
-    message: &mut [u8],
+    frame: &mut Frame,
     room: &mut [u8],
-) -> Result<Option<usize>, StreamFault>
+) -> Result<bool, StreamFault>
     requires source { source.old.failures < 2 ^ 64 - 1 }
-    requires message { length message.old ≡ 512 }
-    requires room { 65535 ≤ length room.old }
-    ensures read { MessageRead (R.remaining source.old.device) (R.remaining source.new.device)
-        message.new result }
-    ensures kept { IfOk result (λ kept. IfSome kept (λ k. k ≤ 512)) }
+    requires room { 65537 ≤ length room.old }
+    ensures read { FrameRead (R.remaining source.old.device) (R.remaining source.new.device)
+        frame.new result }
     ensures source { source.new.failures ≡ source_failures_after source.old.failures result }
 {
-    let mut length = [0; 2];
-    let came = read_full(source, &mut length)?;
-    if came == 0 {
-        return Ok(None);
+    frame.clear();
+    'pieces: while frame.missing() > 0 {
+        let (piece, _) = room.split_at_mut(frame.missing());
+        let count = source.read(piece)?;
+        if count == 0 {
+            return if frame.is_empty() {
+                Ok(false)
+            } else {
+                Err(StreamFault::Cut)
+            };
+        }
+        let _ = frame.take(&piece[..count]);
     }
-    if came < 2 {
-        return Err(StreamFault::Cut);
-    }
-    let count = message_length(&length);
-    let kept = count.min(MOST_KEPT);
-    let (front, _) = message.split_at_mut(kept);
-    if read_full(source, front)? < kept {
-        return Err(StreamFault::Cut);
-    }
-    let (others, _) = room.split_at_mut(count - kept);
-    if read_full(source, others)? < count - kept {
-        return Err(StreamFault::Cut);
-    }
-    Ok(Some(kept))
-}
-
-fn message_length(octets: &[u8]) -> usize
-    requires { length octets.now ≡ 2 }
-    ensures octets { octets16 result ≡ octets.now }
-    ensures below { result < 2 ^ 16 }
-{
-    usize::from(BigEndian::read_u16(octets))
+    Ok(true)
 }
 
 // Writes the reply to a message after its length, in a single write if the sink takes all of it;

@@ -1,3 +1,4 @@
 mod frames;
+mod sessions;
 mod streams;
 mod turns;

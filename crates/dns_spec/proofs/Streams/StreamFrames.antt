@@ -10,7 +10,7 @@ two_octets a b ha hb = ap₂ (λ x y. x ∷ y ∷ []) (omega arith) (omega arith
 pub two_again : (n : ℕ) (x : Octets) → n < 2 ^ 16 → field16 (octets16 n ++ x) 0 ≡ n
 two_again n x h = number_of-bytes 2 n ∙ mod-eq_of_lt h
 
-front_is : (x : Octets)
+pub front_is : (x : Octets)
     → All (λ o. o < 256) x → 2 ≤ length x → octets16 (field16 x 0) ++ drop 2 x ≡ x
 front_is x h h1 = grind (arith, common_steps, recursion_from_All, two_octets)
 

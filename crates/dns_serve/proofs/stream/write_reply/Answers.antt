@@ -3,7 +3,7 @@ use Rattle.std.specs.Option.{option_copied}
 use Rattle.dns_spec.specs.Stream.{reply_frame}
 use Rattle.dns_name.specs.Counted.{Writes}
 use Rattle.dns_serve.specs.Streams.{reply_over_tcp}
-use Rattle.dns_serve.proofs.Frames.{frame_written}
+use Rattle.dns_serve.proofs.Replies.{frame_written}
 use Rattle.dns_serve.proofs.stream.write_reply.Goals as goal
 
 pub returns : goal.returns

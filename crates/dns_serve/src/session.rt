@@ -1,0 +1,139 @@
+//! The messages that a stream brings and the replies to them, without calls of a device.
+ghost use Rattle.std.specs.Prelude.{vec_len, vec_capacity, ◌≡◌, ◌+◌, ◌==◌, ◌≤◌, ◌<◌, [], ◌++◌, length, drop, IfOk};
+ghost use Rattle.dns_spec.specs.Names.{Octets};
+ghost use Rattle.dns_spec.specs.Stream.{reply_frame};
+ghost use Rattle.dns_serve.specs.Framing.{HasTaken, IsEndOf, TakesMore, IsNew, missing_of};
+ghost use Rattle.dns_serve.specs.Streams.{reply_over_tcp};
+
+use crate::frame::Frame;
+use byteorder::{BigEndian, ByteOrder};
+use dns_answer::{TcpDraft, respond_in};
+use dns_zone::{Steps, Zone};
+use std::alloc::{AllocError, Global};
+use std::marker::Model;
+
+// No message is answered while more octets of replies than this are held.
+const BATCH: usize = 16_384;
+
+// The longest reply, with its length in front.
+const MOST_FRAME: usize = 65_537;
+
+/// What a server holds of one stream: the frame that is arriving, and the replies that were not
+/// sent. Callers read the stream, and write what `unsent` returns.
+///
+/// However the stream is cut into pieces, the octets sent, followed by the unsent octets, are the
+/// replies to the messages of all frames taken. At most 81,921 octets of replies are held, in
+/// memory that `new` allocates.
+#[derive(Drop)]
+pub struct Session {
+    frame: Frame,
+    // Replies, each after its length. The first `sent` octets were sent.
+    replies: Vec<u8>,
+    sent: usize,
+    ghost incomplete: { 0 < missing_of frame },
+    ghost part: { sent ≤ vec_len replies },
+    ghost bound: { vec_len replies ≤ 81921 },
+    ghost room: { 81921 ≤ vec_capacity replies },
+}
+
+impl Model for Session {
+    ghost use Rattle.std.specs.Prelude.{drop, vec_len};
+    ghost use Rattle.dns_serve.specs.Framing.{SessionState};
+
+    ghost Value = { SessionState };
+
+    ghost view = { λ s. record {
+      frame = s.frame;
+      unsent = drop s.sent s.replies.items;
+      held = vec_len s.replies;
+    } };
+}
+
+impl Session {
+    /// A session of which nothing was taken. Fails only if allocation fails.
+    pub fn new(alloc: Global) -> Result<Session, AllocError>
+        ensures { IfOk result (λ session. IsNew session) }
+    {
+        Ok(Session {
+            frame: Frame::new(),
+            replies: Vec::with_capacity(alloc, BATCH + MOST_FRAME)?,
+            sent: 0,
+        })
+    }
+
+    /// Begins anew, for another stream. Does not allocate.
+    pub fn clear(&mut self)
+        ensures { IsNew self.new }
+    {
+        self.frame.clear();
+        self.replies.clear();
+        self.sent = 0;
+    }
+
+    /// Takes octets of the stream, and answers each message that they complete. Returns the octets
+    /// for which there is no room: none, unless more than 16,384 octets of replies are held. Does
+    /// not allocate.
+    pub fn take<'a>(&mut self, zone: &Zone, octets: &'a [u8], draft: &mut TcpDraft) -> &'a [u8]
+        ensures rest { IsEndOf result.now octets.now }
+        ensures taken { (x : Octets) (sent : Octets) → HasTaken zone.now self.old x sent
+            → TakesMore zone.now self.new x sent octets.now result.now }
+    {
+        let mut rest = octets;
+        'pieces: while !rest.is_empty() && self.replies.len() <= BATCH {
+            rest = self.frame.take(rest);
+            if self.frame.missing() == 0 {
+                put_reply(zone, self.frame.message(), draft, &mut self.replies);
+                self.frame.clear();
+            }
+        }
+        rest
+    }
+
+    /// The octets to send next.
+    pub fn unsent(&self) -> &[u8]
+        ensures { result.now ≡ self.now.unsent }
+    {
+        &self.replies[self.sent..]
+    }
+
+    /// Records that the first `count` of the unsent octets were sent. Once all octets were sent, no
+    /// replies are held.
+    pub fn note_sent(&mut self, count: usize)
+        requires { count ≤ length self.old.unsent }
+        ensures unsent { self.new.unsent ≡ drop count self.old.unsent }
+        ensures frame { self.new.frame ≡ self.old.frame }
+        ensures held { self.new.unsent ≡ [] → self.new.held ≡ 0 }
+    {
+        self.sent += count;
+        if self.sent == self.replies.len() {
+            self.replies.clear();
+            self.sent = 0;
+        }
+    }
+
+    /// Whether the octets taken end with a frame, or there are none.
+    pub fn is_between_frames(&self) -> bool
+        ensures { result ≡ (self.now.frame.came == 0) }
+    {
+        self.frame.is_empty()
+    }
+}
+
+// Appends the reply to a message after its length, or nothing if there is no reply.
+fn put_reply(zone: &Zone, message: &[u8], draft: &mut TcpDraft, replies: &mut Vec<u8>)
+    requires { vec_len replies.old + 65537 ≤ vec_capacity replies.old }
+    ensures items { replies.new.items
+        ≡ replies.old.items ++ reply_frame (reply_over_tcp zone.now message.now) }
+    ensures bound { vec_len replies.new ≤ vec_len replies.old + 65537 }
+    ensures room { vec_capacity replies.old ≤ vec_capacity replies.new }
+{
+    let mut steps = Steps::new(zone);
+    let Some(reply) = respond_in(&mut steps, message, draft) else {
+        return;
+    };
+    let mut length = [0; 2];
+    BigEndian::write_u16(&mut length, reply.len() as u16);
+    if replies.extend_from_slice(&length).is_err() || replies.extend_from_slice(reply).is_err() {
+        unreachable!();
+    }
+}
