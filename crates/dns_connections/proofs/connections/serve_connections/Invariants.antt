@@ -1,0 +1,4 @@
+use Rattle.dns_connections.proofs.connections.serve_connections.Given as goal
+
+abbrev pub ghosts-serve : goal.ghosts-serve
+ghosts-serve g a = record { zone = a.zone.now; past = g.K.Sockets.closed a.sockets }

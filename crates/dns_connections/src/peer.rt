@@ -1,0 +1,186 @@
+//! One connection: its messages and replies, as far as its calls get without waiting.
+ghost use Rattle.std.specs.Prelude.{List, nat_lt, vec_len, vec_capacity, ◌≡◌, ◌≤◌, [], length, drop, ⊤, Ok, IfOk, OnOk, IfSome};
+ghost use Rattle.dns_spec.specs.Records.{ZoneContents};
+ghost use Rattle.dns_connections.specs.Exchanges.{Ended, IsFresh, IsServing, IsServed};
+
+use crate::sockets::{Stopped, Stream};
+use dns_answer::TcpDraft;
+use dns_serve::{Session, StreamFault};
+use dns_zone::Zone;
+use std::alloc::{AllocError, Global};
+use std::marker::PhantomData;
+use std::time::Duration;
+
+/// How many octets are received at once.
+pub(crate) const PIECE: usize = 16_384;
+
+/// A type that stands for what one server serves, in the types of its connections.
+pub(crate) trait Served: Drop {
+    // The zone.
+    ghost zone: { ZoneContents };
+    // The exchanges that had ended before.
+    ghost past: { List Ended };
+}
+
+/// How a turn of a connection ends.
+#[derive(Clone, Copy, Debug, PartialEq, Eq)]
+pub(crate) enum Next {
+    // Nothing can be done before its socket is reported again.
+    Waits,
+    // There may be more to do.
+    GoesOn,
+    // Its input has ended after a message, and all replies were sent.
+    Ends,
+}
+
+/// A connection.
+#[derive(Drop)]
+pub(crate) struct Peer<Z: Served, S: Stream> {
+    stream: S,
+    session: Session,
+    // Octets received, of which the session has taken the first `taken`.
+    input: Vec<u8>,
+    taken: usize,
+    // When it was accepted, or last completed a message or took all replies.
+    pub(crate) since: Duration,
+    // The end of the input was reported.
+    has_ended: bool,
+    zone: PhantomData<Z>,
+    ghost part: { taken ≤ vec_len input },
+    ghost bound: { vec_len input ≤ 16384 },
+    ghost room: { 16384 ≤ vec_capacity input },
+    ghost serves: { ∥ IsServing Z.zone session (drop taken input.items) (S.exchange stream) ∥₁ },
+}
+
+impl<Z: Served, S: Stream> Peer<Z, S> {
+    /// A new connection. Fails only if allocation fails.
+    pub(crate) fn new(alloc: Global, stream: S, now: Duration) -> Result<Peer<Z, S>, AllocError>
+        requires { IsFresh (S.exchange stream) }
+    {
+        Ok(Peer {
+            session: Session::new(alloc)?,
+            input: Vec::with_capacity(alloc, PIECE)?,
+            stream,
+            taken: 0,
+            since: now,
+            has_ended: false,
+            zone: PhantomData,
+        })
+    }
+
+    /// The connection to close, and whether its exchange is complete.
+    pub(crate) fn end(self) -> (S, bool)
+        ensures { IsServed Z.zone (S.exchange result.0) result.1 }
+    {
+        let is_complete = !self.has_pending()
+            & self.session.unsent().is_empty()
+            & self.session.is_between_frames();
+        let Peer { stream, .. } = self;
+        (stream, is_complete)
+    }
+
+    /// Records that the socket was reported. Returns whether a turn can do something.
+    pub(crate) fn note(&mut self, has_input: bool, has_ended: bool) -> bool {
+        self.has_ended |= has_ended;
+        has_input || !self.session.unsent().is_empty()
+    }
+
+    /// Why the connection is late if it makes no progress; `None` if no message is incomplete and
+    /// no reply unsent.
+    pub(crate) fn lateness(&self) -> Option<StreamFault> {
+        if !self.session.unsent().is_empty() {
+            return Some(StreamFault::SinkFailed);
+        }
+        (!self.session.is_between_frames()).then_some(StreamFault::SourceFailed)
+    }
+
+    /// Sends what is unsent. If all was sent: receives once, unless octets are pending, answers,
+    /// and sends.
+    pub(crate) fn turn(
+        &mut self,
+        zone: &Zone,
+        draft: &mut TcpDraft,
+        room: &mut [u8; PIECE],
+        now: Duration,
+    ) -> Result<Next, StreamFault>
+        requires { zone.now ≡ Z.zone }
+    {
+        if !self.send(now)? {
+            return Ok(Next::Waits);
+        }
+        let mut is_dry = false;
+        if !self.has_pending() {
+            match self.receive(room) {
+                Ok(0) => {
+                    return if self.session.is_between_frames() {
+                        Ok(Next::Ends)
+                    } else {
+                        Err(StreamFault::Cut)
+                    };
+                }
+                Ok(count) => is_dry = count < PIECE && !self.has_ended,
+                Err(Stopped::WouldBlock) => return Ok(Next::Waits),
+                Err(Stopped::Failed) => return Err(StreamFault::SourceFailed),
+            }
+        }
+        self.answer(zone, draft);
+        if self.session.is_between_frames() || !self.session.unsent().is_empty() {
+            self.since = now;
+        }
+        if !self.send(now)? || is_dry && !self.has_pending() {
+            return Ok(Next::Waits);
+        }
+        Ok(Next::GoesOn)
+    }
+
+    fn has_pending(&self) -> bool
+        ensures { result ≡ nat_lt self.now.taken (vec_len self.now.input) }
+    {
+        self.taken < self.input.len()
+    }
+
+    // Receives octets, with none pending.
+    fn receive(&mut self, room: &mut [u8; PIECE]) -> Result<usize, Stopped>
+        requires { self.old.taken ≡ vec_len self.old.input }
+    {
+        self.input.clear();
+        self.taken = 0;
+        let count = self.stream.receive(room)?;
+        let (octets, _) = room.split_at(count);
+        if self.input.extend_from_slice(octets).is_err() {
+            unreachable!();
+        }
+        Ok(count)
+    }
+
+    // Answers the pending octets, as far as there is room for replies.
+    fn answer(&mut self, zone: &Zone, draft: &mut TcpDraft)
+        requires { zone.now ≡ Z.zone }
+    {
+        let (_, pending) = self.input.split_at(self.taken);
+        let rest = self.session.take(zone, pending, draft);
+        self.taken = self.input.len() - rest.len();
+    }
+
+    // Sends what is unsent. False if the connection does not take all of it now.
+    fn send(&mut self, now: Duration) -> Result<bool, StreamFault> {
+        'calls: for _ in 0..u64::MAX {
+            if self.session.unsent().is_empty() {
+                return Ok(true);
+            }
+            match self.send_once() {
+                Ok(0) => break,
+                Ok(_) => self.since = now,
+                Err(Stopped::WouldBlock) => return Ok(false),
+                Err(Stopped::Failed) => break,
+            }
+        }
+        Err(StreamFault::SinkFailed)
+    }
+
+    fn send_once(&mut self) -> Result<usize, Stopped> {
+        let count = self.stream.send(self.session.unsent())?;
+        self.session.note_sent(count);
+        Ok(count)
+    }
+}

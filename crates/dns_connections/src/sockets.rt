@@ -1,0 +1,100 @@
+//! Listening sockets and connections, whose calls do not wait.
+ghost use Rattle.std.specs.Prelude.{◌≡◌, ◌++◌, ◌≤◌, List, Option, IfOk, length};
+ghost use Rattle.dns_connections.specs.Exchanges.{Ended, Exchange, IsFresh, IsServed, Receives, Sends, ended};
+
+use dns_serve::StreamFault;
+use dns_zone::Zone;
+use std::time::Duration;
+
+/// Why a call transferred nothing.
+#[derive(Clone, Copy, Debug, PartialEq, Eq)]
+pub enum Stopped {
+    /// The call would have to wait.
+    WouldBlock,
+    /// The connection is broken, or a new connection can't be accepted.
+    Failed,
+}
+
+/// A connection. A connection in memory knows what was received and sent; for a socket it is
+/// unknown.
+pub trait Stream: Drop {
+    /// What was received and sent so far, if it is known.
+    ghost exchange: { Self → Option Exchange };
+
+    /// Receives octets into the front of `buf`, and returns how many: 0 at the end of the input, or
+    /// if `buf` is empty.
+    fn receive(&mut self, buf: &mut [u8]) -> Result<usize, Stopped>
+        ensures bound { IfOk result (λ n. n ≤ length buf.new) }
+        ensures received { Receives (exchange self.old) (exchange self.new) result buf.new };
+
+    /// Sends octets from the front of `octets`, and returns how many.
+    fn send(&mut self, octets: &[u8]) -> Result<usize, Stopped>
+        ensures bound { IfOk result (λ n. n ≤ length octets.now) }
+        ensures sent { Sends (exchange self.old) (exchange self.new) result octets.now };
+}
+
+/// What a wait has found.
+#[derive(Clone, Copy, Debug, PartialEq, Eq)]
+pub enum Found {
+    /// A connection may be accepted.
+    Connection,
+    /// The server is asked to end.
+    End,
+    /// A connection may be read or written.
+    Peer {
+        /// The key under which the connection is watched.
+        key: usize,
+        /// Whether it may be read. If not, it may only be written.
+        has_input: bool,
+        /// Whether its input has ended, or the connection is broken.
+        has_ended: bool,
+    },
+}
+
+/// A listening socket and its connections. Only `wait` waits.
+///
+/// A connection is reported once when it can be read or written. Callers read or write until a call
+/// would block.
+pub trait Sockets: Drop {
+    /// A connection.
+    type Stream: Stream;
+
+    /// The exchanges of the connections that were closed, in order, if they are known.
+    ghost closed: { Self → List Ended };
+
+    /// Waits until something is found, for at most this time if it is given.
+    fn wait(&mut self, most: Option<Duration>)
+        ensures { closed self.new ≡ closed self.old };
+
+    /// Something that `wait` has found and that was not returned yet.
+    fn next_found(&mut self) -> Option<Found>
+        ensures { closed self.new ≡ closed self.old };
+
+    /// A new connection, on which nothing was received or sent.
+    fn accept(&mut self) -> Result<Self::Stream, Stopped>
+        ensures fresh { IfOk result (λ stream. IsFresh (Self.Stream.exchange stream)) }
+        ensures closed { closed self.new ≡ closed self.old };
+
+    /// Starts to report a connection under a key.
+    fn watch(&mut self, stream: &mut Self::Stream, key: usize) -> Result<(), Stopped>
+        ensures stream { Self.Stream.exchange stream.new ≡ Self.Stream.exchange stream.old }
+        ensures closed { closed self.new ≡ closed self.old };
+
+    /// Closes a connection that was served from the zone. `is_complete` is true if the replies to
+    /// all messages received were sent, and nothing else was received.
+    fn close(&mut self, zone: &Zone, stream: Self::Stream, is_complete: bool)
+        requires { IsServed zone.now (Self.Stream.exchange stream) is_complete }
+        ensures { closed self.new ≡ closed self.old ++ ended (Self.Stream.exchange stream) is_complete };
+
+    /// Reports that a connection broke, ended inside a message, or made no progress in time.
+    fn report(&mut self, fault: StreamFault)
+        ensures { closed self.new ≡ closed self.old };
+
+    /// Reports that a connection could not be accepted.
+    fn report_refusal(&mut self)
+        ensures { closed self.new ≡ closed self.old };
+
+    /// The time.
+    fn now(&mut self) -> Duration
+        ensures { closed self.new ≡ closed self.old };
+}
