@@ -2,29 +2,13 @@
 import os
 import re
 
-from master import KINDS, LARGEST, NUMBERS, OTHERS, Entry, Reader, Refused, digits, groups, name, octets, read
+from generic import generic, refuse
+from master import KINDS, LARGEST, NAMES, NUMBERS, OTHERS, Entry, Reader, Refused, digits, groups, name, octets, read, unquoted
 
 DEEPEST, FILES = 10, 1000   # how deep $INCLUDE may be nested, and the most included files
-NAMED = {number: rtype for rtype, number in NUMBERS.items()}
 RANGE = re.compile(r"(\d{1,10})-(\d{1,10})(?:/(\d{1,10})|(?!/))")
 # A part of a template of $GENERATE: plain text, or `$` for the number, with an offset, a width and a base if they are given.
 PART = re.compile(r"([^\\$]+|\\.?)|\$(?:(\$)|\{(-?\d{1,9})(?:,(\d{1,3})(?:,([doxXnN]))?)?\}|(\{)?)", re.S)
-
-
-def refuse(holds, why):
-    if holds:
-        raise Refused(why)
-
-
-def generic(entry, rtype, origin):
-    """The data of an entry, converted to the form of RFC 3597 by dnspython, and None; or None and why that failed."""
-    import dns.rdata  # This import takes longer than all others together, and most zones don't need it.
-    try:
-        rdata = dns.rdata.from_text("IN", rtype, entry.joined(entry.at + 1), dns.name.from_text(origin), False)
-        data = rdata.to_generic().data
-    except Exception as error:  # dnspython raises many kinds of exceptions.
-        return None, f"the data is invalid for {rtype}: {error}"
-    return f"\\# {len(data)} {data.hex()}".strip(), None
 
 
 def generated(text, number):
@@ -97,14 +81,16 @@ class Importer(Reader):
         """The lines of a record."""
         owner, tokens, at, data, begin = entry.owner, entry.tokens, entry.at, entry.data, int(not entry.blank)
         front = f"{self.owner} " if owner is None and self.restate and self.owner else ""
-        record, rtype, self.restate = self.take(entry), NAMED.get(entry.rtype, entry.rtype), False
+        record, rtype, self.restate = self.take(entry), NAMES.get(entry.rtype, entry.rtype), False
         if owner and owner[0] == '"':
-            tokens[0] = (owner.strip('"') or owner).replace(" ", "\\032") + " "
+            tokens[0] = unquoted(owner) + " "
         if entry.ttl:
             tokens[tokens.index(entry.ttl, begin)] = digits(entry.ttl) or entry.ttl
         if record and record.ttl is None and rtype == "SOA" and len(data) == 7:
             self.implied = digits(data[6])
         if data[:1] == ["\\#"]:
+            tokens[at] = NUMBERS[rtype] if rtype in OTHERS else tokens[at]
+            tokens[at + 2:at + 3] = [digits(token) or token for token in data[1:2]]
             if any(len(token) % 2 for token in data[2:]):
                 tokens[at + 3:] = ["".join(data[2:]), *[""] * (len(data) - 3)]
         elif rtype in OTHERS:

@@ -12,7 +12,6 @@ import sys
 
 try:
     import dns.name
-    import dns.rdatatype
 except ImportError:
     sys.stderr.write("python3-dnspython is needed, and is not installed\n")
     sys.exit(2)
@@ -24,10 +23,16 @@ CLASS = re.compile(r"(?:IN|CH|CS|HS)$|CLASS", re.I)
 # The fields of each type that is known by name: a number of 16 (H) or 32 bits (L), an address (4, 6), a name (n), a string (s).
 KINDS = {"A": "4", "NS": "n", "CNAME": "n", "SOA": "nnLLLLL", "PTR": "n", "HINFO": "ss", "MX": "Hn", "TXT": "s",
          "AAAA": "6", "SRV": "HHHn"}
-# Types that other programs know by name, but that zonecheck knows only by number (RFC 3597).
-OTHERS = ("RP AFSDB X25 ISDN RT NSAP PX GPOS LOC NAPTR KX CERT APL SSHFP IPSECKEY DHCID TLSA SMIMEA HIP CDS CDNSKEY "
-          "OPENPGPKEY CSYNC ZONEMD SVCB HTTPS SPF NID L32 L64 LP EUI48 EUI64 URI CAA AVC AMTRELAY").split()
-NUMBERS = {rtype: f"TYPE{dns.rdatatype.from_text(rtype):d}" for rtype in [*KINDS, *OTHERS]}
+# The types that BIND knows by name, and their numbers. zonecheck knows the OTHERS only by number (RFC 3597).
+TYPES = ("A 1 NS 2 MD 3 MF 4 CNAME 5 SOA 6 MB 7 MG 8 MR 9 NULL 10 WKS 11 PTR 12 HINFO 13 MINFO 14 MX 15 TXT 16 RP 17 AFSDB "
+         "18 X25 19 ISDN 20 RT 21 NSAP 22 NSAP-PTR 23 SIG 24 KEY 25 PX 26 GPOS 27 AAAA 28 LOC 29 NXT 30 EID 31 NIMLOC 32 "
+         "SRV 33 ATMA 34 NAPTR 35 KX 36 CERT 37 A6 38 SINK 40 APL 42 SSHFP 44 IPSECKEY 45 DHCID 49 TLSA 52 SMIMEA 53 HIP 55 "
+         "NINFO 56 RKEY 57 TALINK 58 CDS 59 CDNSKEY 60 OPENPGPKEY 61 CSYNC 62 ZONEMD 63 SVCB 64 HTTPS 65 DSYNC 66 SPF 99 "
+         "UINFO 100 UID 101 GID 102 UNSPEC 103 NID 104 L32 105 L64 106 LP 107 EUI48 108 EUI64 109 URI 256 CAA 257 AVC 258 "
+         "DOA 259 AMTRELAY 260 RESINFO 261 WALLET 262 TA 32768 DLV 32769").split()
+NUMBERS = {rtype: "TYPE" + number for rtype, number in zip(TYPES[::2], TYPES[1::2])}
+OTHERS = [rtype for rtype in NUMBERS if rtype not in KINDS]
+NAMES = {number: rtype for rtype, number in NUMBERS.items()}
 NAMED = {NUMBERS[rtype]: rtype for rtype in KINDS}
 # The beginning of a line that looks like an entry.
 BEGIN = re.compile(r"\$[A-Z]+[ \t]|(?:[^ \t;\"()][^ \t;\"()]*)?[ \t]+(?:(?:\d[\dwdhms]*|IN)[ \t]+){0,2}(?:TYPE\d+|"
@@ -39,8 +44,10 @@ Record = collections.namedtuple("Record", "owner ttl rtype data line last", defa
 
 
 def digits(token):
-    """The plain digits of a number, which may have units or leading zeros: 5400 for 1h30m. None if it is no number."""
-    if not re.fullmatch(r"(?ai)[0-9]{1,60}|(?:[0-9]{1,20}[wdhms]){1,12}", token):
+    """The plain digits of a number, which may have units or leading zeros: 5400 for 1h30m. None if it is no number.
+
+    As in BIND, the last number may lack its unit if all before it are 0."""
+    if not re.fullmatch(r"(?ai)(?:0+[wdhms]){0,12}[0-9]{1,60}|(?:[0-9]{1,20}[wdhms]){1,12}", token):
         return None
     return str(sum(int(count) * UNITS[unit] for count, unit in re.findall(r"([0-9]+)([a-z]?)", token.lower())))
 
@@ -67,6 +74,12 @@ def octets(token):
     """The octets of a token or string, without its quotation marks and escapes."""
     bare = token[1:].removesuffix('"') if token[:1] == '"' else token
     return re.sub(r"\\(\d{3}|.)", lambda c: chr(int(c[1]) & 255) if c[1].isdecimal() else c[1], bare, flags=re.S)
+
+
+def unquoted(token):
+    """A quoted string as a token without quotation marks. Other tokens stay as they are."""
+    quoted = re.fullmatch(r'"((?:[^"\\]|\\.)+)"', token, re.S)
+    return re.sub(r"\\.|[ \t;()]", lambda c: c[0] if c[0][1:] else f"\\{ord(c[0]):03}", quoted[1], flags=re.S) if quoted else token
 
 
 def escaped(text, spared=" -~"):
@@ -209,7 +222,7 @@ class Reader:
             elif directive == "$TTL" and len(tokens) > 1:
                 self.default = tokens[1]
             return None
-        self.owner = owner and name(owner.strip('"') if owner[0] == '"' else owner, self.origin) or self.owner
+        self.owner = owner and name(unquoted(owner), self.origin) or self.owner
         self.stated = entry.ttl or self.stated
         ttl, rtype, data = entry.ttl or self.default or self.stated, NAMED.get(entry.rtype, entry.rtype), entry.data
         # If the fields of the type are known, they are put into the form of the canonical text, unless they are faulty.

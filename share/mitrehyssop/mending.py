@@ -6,6 +6,7 @@ import re
 import unicodedata
 
 import bind
+from generic import generic
 from master import BEGIN, KINDS, NAMED, NUMBERS, OTHERS, PIECE, Entry, address, digits, escaped, name, octets, string
 
 TAKES = {"A": "an IPv4 address: four numbers from 0 to 255", "NS": "the name of a server", "CNAME": "a name",
@@ -220,7 +221,7 @@ class Mending(Entry):
         typed, bare = "".join(self.tokens[self.at:self.at + 1]), self.rtype.strip('":,.')
         yield from self.misplaced(typed, "type") if self.blank or not self.data else ()
         if self.rtype in OTHERS:
-            (data, why), number = bind.generic(self, self.rtype, self.reader.origin), NUMBERS[self.rtype]
+            (data, why), number = generic(self, self.rtype, self.reader.origin), NUMBERS[self.rtype]
             do = why or f"write {number} {data[:60]}{'..' * bool(data[60:])}, as `zoneimport` does"
             new = self.record(rtype=number, data=(data or "\\# 0").split(" "))
             yield True, new, "", f"{typed.upper()} is not known by name: {do}"
@@ -238,7 +239,7 @@ class Mending(Entry):
             yield not re.fullmatch(r"(?:[0-9a-fA-F]{2})*", hexes), self.record(data=["\\#", "0"]), "data", says
             yield True, self.record(data=data), "", f"{says}: write {' '.join(data).strip()[:60]}"
         if not kinds:
-            data, _ = bind.generic(self, rtype, self.reader.origin)
+            data, _ = generic(self, rtype, self.reader.origin)
             new, do = self.record(data=(data or "\\# 0").split(" ")), f": write {data}" if data else ""
             yield True, new, "", f"{rtype} takes \\#, a length and hex digits{do}"
         self.follows = len(kinds) != len(self.data)

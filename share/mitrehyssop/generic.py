@@ -1,0 +1,99 @@
+"""Converts data of the types that zonecheck knows only by number, from BIND's form to that of RFC 3597.
+
+dnspython reads most of these types. The types of ROWS are read here, since dnspython writes texts in UTF-8, or does not know the
+type. A few other forms that only BIND reads are rewritten for dnspython.
+"""
+import base64
+import re
+import struct
+
+import dns.name
+from master import NAMES, NUMBERS, Refused, escaped, octets
+
+# The fields of a type: a number of 8 (B) or 16 bits (H), a name (n), a string (s), one of letters and digits (a) or of digits (d),
+# a text without its length (t), one in quotation marks (q), and any number of strings (*). `|` is between two forms.
+ROWS = {"MB": "n", "MG": "n", "MR": "n", "MINFO": "nn", "X25": "d", "ISDN": "s|ss", "NSAP-PTR": "n", "NAPTR": "HHsssn",
+        "NINFO": "*", "TALINK": "nn", "SPF": "*", "AVC": "*", "RESINFO": "*", "WALLET": "*", "URI": "HHq", "CAA": "Bat"}
+FORMS = {"B": r"\d+", "H": r"\d+", "a": r'"?[A-Za-z0-9]{1,255}"?', "d": r'"?\d{4,255}"?', "n": r'[^"].*', "q": '".*"'}
+ESCAPES = re.compile(r"(?:[^\\]|\\(?:[01]\d\d|2[0-4]\d|25[0-5]|\D))*", re.S)
+STRING = re.compile(r'"(?:[^"\\]|\\.)*"', re.S)
+# For each type with data in base64: which tokens of its data these are. dnspython skips octets that are not base64.
+BASE64 = {"CERT": slice(3, None), "IPSECKEY": slice(4, None), "DHCID": slice(None), "HIP": slice(2, 3),
+          "CDNSKEY": slice(3, None), "OPENPGPKEY": slice(None)}
+PARAMETER = re.compile(r'(?:[^ "\\]|\\.|"(?:[^"\\]|\\.)*")+', re.S)
+
+
+class Unread(Exception):
+    """No program here reads the type."""
+
+
+def refuse(holds, why):
+    if holds:
+        raise Refused(why)
+
+
+def field(kind, token, origin):
+    """The octets of a field."""
+    refuse(not re.fullmatch(FORMS.get(kind, ".*"), token, re.S) or not ESCAPES.fullmatch(token), f"{token} is not allowed there")
+    if kind in "BH":
+        return struct.pack(">" + kind, int(token))
+    if kind == "n":
+        return dns.name.from_text(escaped(token), dns.name.from_text(origin)).to_wire()
+    text = octets(token).encode("latin-1")
+    refuse(len(text) > 255 and kind not in "tq", f"a string has {len(text)} octets, but at most 255 are allowed")
+    return text if kind in "tq" else bytes([len(text)]) + text
+
+
+def service(text):
+    """The data of SVCB and HTTPS with parameters that dnspython reads, and whether the priority is 0."""
+    priority, *tokens = PARAMETER.findall(text)
+    for at, token in enumerate(tokens[1:], 1):
+        key, equals, value = token.partition("=")
+        wanted = {"port": r'"?\d+"?', "dohpath": r'"?/.*\{\?dns\}.*'}.get(key, ".*")
+        refuse(key != key.lower() or not re.fullmatch(wanted, value, re.S), f"{token} is not allowed there")
+        key = "key7" if key == "dohpath" else key
+        value = value.replace("dohpath", "key7") if key == "mandatory" else value
+        if equals and not value and (found := re.fullmatch(r"ech|no-default-alpn|key(?:[7-9]|[1-9]\d+)", key)):
+            key, value = {"ech": "key5", "no-default-alpn": "key2"}.get(key, found[0]), '""'
+        tokens[at] = key + equals + value
+    alias = tokens[1:] and priority.strip("0") == ""
+    return " ".join(["1" if alias else priority, *tokens]), alias
+
+
+def by_dnspython(rtype, entry, origin):
+    """The octets of the data of an entry. Raises `Unread` if this version of dnspython does not read the type."""
+    import dns.rdata  # This import takes longer than all others together, and most zones don't need it.
+    import dns.version
+    number, tokens, alias = dns.rdatatype.from_text(NUMBERS.get(rtype, rtype)), entry.data[:], False
+    if dns.rdata.get_rdata_class(1, number) is dns.rdata.GenericRdata:
+        raise Unread(f"dnspython {dns.version.version} does not read {rtype}: write \\#, a length and hex digits, or use a later version")
+    given = "".join(tokens[BASE64.get(rtype, slice(0, 0))])
+    refuse(base64.b64encode(base64.b64decode(given)).decode() != given, f"{given[:60]} is not base64")
+    if rtype in ("CERT", "CDNSKEY", "CDS"):
+        tokens[:3] = [{"NSEC3DSA": "6", "NSEC3RSASHA1": "7"}.get(token.upper(), token.upper()) for token in tokens[:3]]
+    elif rtype in ("NID", "L64"):
+        tokens[1:] = [":".join(group.zfill(4) for group in token.split(":")) for token in tokens[1:]]
+    elif rtype == "NSAP":
+        tokens = [re.sub("^0X", "0x", token) for token in tokens]
+    text = " ".join(escaped(token, "\t -~") for token in tokens)
+    if rtype in ("SVCB", "HTTPS"):
+        text, alias = service(entry.joined(entry.at + 1))
+    data = dns.rdata.from_text(1, number, text, dns.name.from_text(origin), False).to_generic().data
+    return b"\0\0" + data[2:] if alias else data
+
+
+def generic(entry, rtype, origin):
+    """The data of an entry in the form of RFC 3597, and None; or None and why it can't be converted."""
+    rtype = NAMES.get(rtype, rtype)
+    try:
+        refuse(any(token[0] == '"' and not STRING.fullmatch(token) for token in entry.data), "a quotation mark is not closed")
+        forms = ROWS.get(rtype, "").replace("*", "s" * max(len(entry.data), 1)).split("|")
+        kinds = next((form for form in forms if len(form) == len(entry.data)), forms[0])
+        refuse(rtype in ROWS and len(kinds) != len(entry.data), f"{len(entry.data)} fields, and not {len(kinds)}")
+        data = b"".join(field(kind, token, origin) for kind, token in zip(kinds, entry.data)) if rtype in ROWS else \
+            by_dnspython(rtype, entry, origin)
+    except Unread as error:
+        return None, str(error)
+    except Exception as error:  # dnspython raises many kinds of exceptions.
+        return None, f"the data is invalid for {rtype}: {error or type(error).__name__}"
+    return f"\\# {len(data)} {data.hex()}".strip(), None
