@@ -1,9 +1,11 @@
 """Reads a zone file as BIND does, and writes its entries in zonecheck's form, each on its own lines."""
 import os
 import re
+from array import array
 
-from generic import generic, refuse
-from master import KINDS, LARGEST, NAMES, NUMBERS, OTHERS, Entry, Reader, Refused, digits, groups, name, octets, read, unquoted
+from generic import generic
+from master import (KINDS, LARGEST, LINES, NAMES, NUMBERS, OTHERS, Entry, Reader, Refused, digits, groups, name, octets, read, refuse,
+                    split, unquoted)
 
 DEEPEST, FILES = 10, 1000   # how deep $INCLUDE may be nested, and the most included files
 RANGE = re.compile(r"(\d{1,10})-(\d{1,10})(?:/(\d{1,10})|(?!/))")
@@ -28,26 +30,27 @@ def generated(text, number):
 
 
 class Importer(Reader):
-    """Converts a file, and the files that it includes, to `lines` with their `places`. `notes` says for each line that
-    could not be converted why not."""
+    """Converts a file, and the files that it includes, to `lines`. `notes` says for each line that could not be converted
+    why not. `sources` has the text of each file, and `places` the number of a file in `sources` and of a line there."""
 
     def __init__(self, zone, folder):
         super().__init__(zone)
-        self.folder, self.lines, self.places, self.notes, self.sources = os.path.realpath(folder), [], [], {}, {}
+        self.folder, self.lines, self.places, self.notes, self.sources = os.path.realpath(folder), [], array("Q"), {}, {}
         # `restate`: whether the next record has to state its owner. `implied`: the TTL that records without one get from the
         # SOA record, or None. `size`: how many octets `lines` have. `files`: how many files were included.
         self.restate, self.implied, self.size, self.files = False, None, 0, 0
 
     def read(self, text, path, stack=()):
         """Adds the entries of a text."""
-        lines = self.sources[path] = text.split("\n")
+        lines, self.sources[path] = split(text, path), text
+        file = [*self.sources].index(path) << 32
         if stack and not lines[-1]:
             lines.pop()
         at, nested = 0, True
-        while at < len(lines) and self.size <= LARGEST:
+        while at < len(lines) and self.size <= LARGEST and len(self.lines) < LINES:
             if not lines[at]:
                 at += 1
-                self.add([""], path, at, at)
+                self.add([""], file + at)
                 continue
             entry, begun = Entry(lines, at, nested), len(self.lines)
             # An entry that is not closed is read to the end of the file. So that this is not repeated for each later entry, they
@@ -56,7 +59,7 @@ class Importer(Reader):
             directive, tokens = (entry.owner or "").upper(), entry.tokens
             try:
                 if directive == "$INCLUDE":
-                    new = self.include(tokens, (path, at + 1), stack)
+                    new = self.include(tokens, path, file + at + 1, stack)
                 elif directive == "$GENERATE":
                     new = self.generate(tokens)
                 elif directive[:1] != "$":
@@ -68,13 +71,13 @@ class Importer(Reader):
                     new = [";" * (directive == "$DATE") + line for line in entry.lines()]
             except Refused as error:
                 self.notes[begun], new = str(error), lines[at:entry.end]
-            self.add(new, path, at + 1, entry.end)
+            self.add(new, file + at + 1, file + entry.end)
             at = entry.end
 
-    def add(self, lines, path, first, last):
-        for number, line in enumerate(lines, first):
+    def add(self, lines, first, last=0):
+        for place, line in enumerate(lines, first):
             self.lines.append(line)
-            self.places.append((path, min(number, last)))
+            self.places.append(min(place, last or first))
             self.size += len(line) + 1
 
     def record(self, entry):
@@ -111,8 +114,8 @@ class Importer(Reader):
         first, *rest = entry.lines()
         return [front + first, *rest]
 
-    def include(self, tokens, place, stack):
-        """Adds the entries of the file of $INCLUDE FILE [ORIGIN], and then restores the origin and the owner."""
+    def include(self, tokens, by, place, stack):
+        """Adds the entries of the file of $INCLUDE FILE [ORIGIN], at a place in the file `by`, and then restores the origin and the owner."""
         refuse(len(tokens) not in (2, 3), "$INCLUDE takes a file and an origin")
         path = os.fsdecode(octets(tokens[1]).replace("\0", "").encode("latin-1"))
         real = os.path.realpath(os.path.join(self.folder, path))
@@ -127,9 +130,9 @@ class Importer(Reader):
         refuse(os.path.exists(real) and not os.path.isfile(real), f"{tokens[1]} is not a plain file")
         text = read(real, tokens[1])
         if origin != before:
-            self.add([f"$ORIGIN {origin}"], *place, place[1])
+            self.add([f"$ORIGIN {origin}"], place)
         self.origin = origin
-        self.read(text, real if os.path.isabs(place[0]) else os.path.relpath(real), (*stack, real))
+        self.read(text, real if os.path.isabs(by) else os.path.relpath(real), (*stack, real))
         changed, self.origin, self.owner, self.restate = self.origin != before, before, owner, True
         return [f"$ORIGIN {before}"] if changed else []
 

@@ -12,10 +12,11 @@ import re
 import shutil
 import subprocess
 import sys
+from array import array
 from pathlib import Path
 
 import bind
-from master import Names, Reader, Record, Refused, address, escaped, name, twice, unique, within
+from master import LINES, Names, Reader, Record, Refused, address, escaped, name, refuse, split, twice, unique, within
 from mending import FORMS, Mending
 
 MOST = 100                  # the most faults, and the most warnings, that are reported for a file
@@ -77,22 +78,24 @@ def imported(origin, text, path, folder):
     near = "" if path.startswith("/dev/") else os.path.dirname(path)
     importer = bind.Importer(name(origin, ".") or ".", folder or near or ".")
     importer.read(text.removeprefix("\xef\xbb\xbf"), path)
+    refuse(len(importer.lines) >= LINES, f"{path}: with the files that it includes, it has more than {LINES:,} lines")
     return Zone(origin, "\n".join(importer.lines), path, importer)
 
 
 class Zone:
     """A zone file, and all that is found about it.
 
-    `lines` are its lines, as corrected so far. `places` are the file and the number of each line, if an importer made
-    the lines or lines were added to the file's own; else None. `notes` has the importer's message for each line that it
-    could not convert. `unknown` has, for each corrected line, what is unknown about it. `doubtful` has the names that may
-    own more than `records` has. `partial` means that included lines are unknown. `sources` has the lines of each file as
-    they were read. `mended` counts the corrections by line and code. `more` means that there may be unreported faults.
+    `lines` are its lines, as corrected so far. `places` are as in an importer, if one made the lines or lines were added
+    to the file's own; else None. `notes` has the importer's message for each line that it could not convert. `unknown`
+    has, for each corrected line, what is unknown about it. `doubtful` has the names that may own more than `records` has.
+    `partial` means that included lines are unknown. `sources` has the text of each file. `mended` counts the corrections
+    by line and code. `more` means that there may be unreported faults.
     """
 
     def __init__(self, origin, text, path, importer=None):
         self.origin, self.path, self.text, self.zone = origin, path, text, name(origin, ".") or "."
-        self.lines, self.places, self.notes, self.sources = text.split("\n"), None, None, {path: text.split("\n")}
+        self.lines = importer.lines if importer else text.split("\n") if text.startswith((*FORMS,)) else split(text, path)
+        self.places, self.notes, self.sources = None, None, {path: text}
         if importer:
             self.places, self.notes, self.sources = importer.places, importer.notes, importer.sources
         self.faults, self.records, self.passes, self.more, self.partial = [], [], False, False, False
@@ -110,15 +113,15 @@ class Zone:
         if "\r" in self.text.rstrip("\r\n") and "\n" not in self.text.rstrip("\n"):
             do = "write LF for each, as `tr '\\r' '\\n'` does"
             self.found(0, said.split()[-1], f"the lines of the file end with CR alone: {do}")
-            self.places, self.lines = None, self.text.replace("\r", "\n").split("\n")
-            self.sources = {self.path: self.lines[:]}
+            self.text = self.sources[self.path] = self.text.replace("\r", "\n")
+            self.places, self.lines = None, split(self.text, self.path)
             said = zonecheck(self.origin, "\n".join(self.lines))[1]
         reader = Reader(self.zone)
         while fault := re.fullmatch(r"line (\d+): (R\d\d)\n", said):
             self.more = len(self.faults) >= MOST or self.mended.total() >= 5 * MOST
             if self.more or not self.mend(reader, int(fault[1]) - 1, fault[2]):
                 break
-            said = zonecheck(self.origin, "\n".join(self.lines))[1]
+            said = self.recheck(reader)
         else:
             self.records = self.model()
             ZoneFaults(self, self.records).report(said)
@@ -126,9 +129,22 @@ class Zone:
         self.more, self.faults = self.more or len(self.faults) >= MOST, self.faults[:MOST]
         return self
 
+    def recheck(self, reader):
+        """What zonecheck reports about the lines that `reader` has not read, or about all lines if those have no fault. So the
+        lines before a fault are not read again for each fault. The first lines here stand for what a later entry can inherit."""
+        before = [f"$ORIGIN {reader.origin}", *[f"$TTL {reader.default}"] * bool(reader.default),
+                  *[f"{reader.owner} {reader.stated or ''} A 192.0.2.1"] * bool(reader.owner)]
+        said = zonecheck(self.origin, "\n".join([*before, *self.lines[reader.at:]]))[1]
+        fault = re.fullmatch(r"line (\d+): (R0\d|R1[0-3])\n", said)
+        line = int(fault[1]) - len(before) if fault else 0
+        return f"line {line + reader.at}: {fault[2]}\n" if line > 0 else zonecheck(self.origin, "\n".join(self.lines))[1]
+
     def place(self, line):
         """The file and the number of a line."""
-        return self.places[line] if self.places else (self.path, line + 1)
+        if not self.places:
+            return self.path, line + 1
+        file, number = divmod(self.places[line], 1 << 32)
+        return [*self.sources][file], number
 
     def where(self, lines):
         """The places of these lines, at most three, in the words of a message."""
@@ -146,8 +162,9 @@ class Zone:
 
     def report(self, warned):
         """The faults and warnings with their lines, and messages if there are more of them than are reported."""
+        lines = {file: self.sources[file].split("\n") for file, _ in {fault.place for fault in [*self.faults, *warned[:MOST]]}}
         found = [Report(file, line, severity, code, owner, escaped(message[:2000]),
-                        escaped(self.sources[file][line - 1].rstrip("\r").expandtabs()[:300]))
+                        escaped(lines[file][line - 1].rstrip("\r").expandtabs()[:300]))
                  for severity, faults in (("error", self.faults), ("warning", warned[:MOST]))
                  for (file, line), code, owner, message in faults]
         path, many = plain(self.path), f"{MOST} of {len(warned)} warnings are reported\n"
@@ -189,8 +206,8 @@ class Zone:
         lines += [""] * (end - line - len(lines))
         if len(lines) > end - line:
             # If an entry gets more lines than it had, they all get the place of its first line.
-            self.places = self.places or [(self.path, number) for number in range(1, len(self.lines) + 1)]
-            self.places[line:end] = [self.places[line]] * len(lines)
+            self.places = self.places or array("Q", range(1, len(self.lines) + 1))
+            self.places[line:end] = self.places[line:line + 1] * len(lines)
         self.lines[line:end] = lines
         return mending.unknown != "rest"
 

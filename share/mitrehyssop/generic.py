@@ -8,13 +8,13 @@ import re
 import struct
 
 import dns.name
-from master import NAMES, NUMBERS, Refused, escaped, octets
+from master import NAMES, NUMBERS, escaped, octets, refuse
 
 # The fields of a type: a number of 8 (B) or 16 bits (H), a name (n), a string (s), one of letters and digits (a) or of digits (d),
 # a text without its length (t), one in quotation marks (q), and any number of strings (*). `|` is between two forms.
 ROWS = {"MB": "n", "MG": "n", "MR": "n", "MINFO": "nn", "X25": "d", "ISDN": "s|ss", "NSAP-PTR": "n", "NAPTR": "HHsssn",
         "NINFO": "*", "TALINK": "nn", "SPF": "*", "AVC": "*", "RESINFO": "*", "WALLET": "*", "URI": "HHq", "CAA": "Bat"}
-FORMS = {"B": r"\d+", "H": r"\d+", "a": r'"?[A-Za-z0-9]{1,255}"?', "d": r'"?\d{4,255}"?', "n": r'[^"].*', "q": '".*"'}
+FORMS = {"B": r"\d+", "H": r"\d+", "a": r"[A-Za-z0-9]{1,255}", "d": r'"?\d{4,255}"?', "n": r'[^"].*', "q": '".*"'}
 ESCAPES = re.compile(r"(?:[^\\]|\\(?:[01]\d\d|2[0-4]\d|25[0-5]|\D))*", re.S)
 STRING = re.compile(r'"(?:[^"\\]|\\.)*"', re.S)
 # For each type with data in base64: which tokens of its data these are. dnspython skips octets that are not base64.
@@ -25,11 +25,6 @@ PARAMETER = re.compile(r'(?:[^ "\\]|\\.|"(?:[^"\\]|\\.)*")+', re.S)
 
 class Unread(Exception):
     """No program here reads the type."""
-
-
-def refuse(holds, why):
-    if holds:
-        raise Refused(why)
 
 
 def field(kind, token, origin):

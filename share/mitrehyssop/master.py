@@ -6,8 +6,10 @@ Texts have one character for each octet (latin-1).
 import collections
 import functools
 import ipaddress
+import os
 import re
 import socket
+import stat
 import sys
 
 try:
@@ -38,6 +40,7 @@ NAMED = {NUMBERS[rtype]: rtype for rtype in KINDS}
 BEGIN = re.compile(r"\$[A-Z]+[ \t]|(?:[^ \t;\"()][^ \t;\"()]*)?[ \t]+(?:(?:\d[\dwdhms]*|IN)[ \t]+){0,2}(?:TYPE\d+|"
                    + "|".join([*KINDS, *OTHERS, "DS"]) + r")[ \t(]", re.I)
 LARGEST = 16777216  # the most octets of a file; one more is read, to see whether there are more
+LINES, LONGEST = 1500000, 1000000  # the most lines of a file, and the most octets of a line, that do not take too much memory
 UNITS = {"w": 604800, "d": 86400, "h": 3600, "m": 60, "s": 1, "": 1}
 # `data` has the fields as in the canonical text; `line` is the entry's first line, counted from 0, and `last` its last token.
 Record = collections.namedtuple("Record", "owner ttl rtype data line last", defaults=(None, ""))
@@ -126,13 +129,28 @@ class Refused(Exception):
     """A file can't be read or checked, or an entry can't be converted. The text is the reason."""
 
 
+def refuse(holds, why):
+    if holds:
+        raise Refused(why)
+
+
 def read(path, shown=None):
     """The octets of a file, or of standard input (`-`), but at most one octet more than a file may have."""
     try:
+        if not path.startswith("/dev/") and path != "-" and stat.S_ISFIFO(os.stat(path).st_mode) and sys.stderr.isatty():
+            print(f"{path} is a pipe: waiting for what is written to it", file=sys.stderr)
         with open(0 if path == "-" else path, "rb", closefd=path != "-") as source:
             return source.read(LARGEST + 1).decode("latin-1")
     except (OSError, ValueError) as error:
         raise Refused(f"{shown or path}: {getattr(error, 'strerror', None) or error}") from None
+
+
+def split(text, path):
+    """The lines of a text."""
+    lines = text.split("\n") if text.count("\n") < LINES else ()
+    refuse(not lines, f"{path}: more than {LINES:,} lines: take comments and empty lines out")
+    refuse(max(map(len, lines)) > LONGEST, f"{path}: a line has more than {LONGEST:,} octets, and can't be an entry")
+    return lines
 
 
 class Entry:
@@ -207,9 +225,11 @@ class Reader:
     def records(self, lines, stop=sys.maxsize):
         """Yields the records of all entries that begin before line `stop`."""
         while self.at < min(stop, len(lines)):
-            entry = Entry(lines, self.at) if lines[self.at] else None
-            self.at = entry.end if entry else self.at + 1
-            record = entry and self.take(entry)
+            if lines[self.at][:1] in ("", ";"):
+                self.at += 1
+                continue
+            entry = Entry(lines, self.at)
+            self.at, record = entry.end, self.take(entry)
             if record:
                 yield record
 
