@@ -48,9 +48,9 @@ class Importer(Reader):
             lines.pop()
         at, nested = 0, True
         while at < len(lines) and self.size <= LARGEST and len(self.lines) < LINES:
-            if not lines[at]:
+            if lines[at][:1] in ("", ";"):
                 at += 1
-                self.add([""], file + at)
+                self.add(lines[at - 1:at], file + at)
                 continue
             entry, begun = Entry(lines, at, nested), len(self.lines)
             # An entry that is not closed is read to the end of the file. So that this is not repeated for each later entry, they

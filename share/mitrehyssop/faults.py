@@ -12,6 +12,7 @@ import re
 import shutil
 import subprocess
 import sys
+import tempfile
 from array import array
 from pathlib import Path
 
@@ -20,6 +21,7 @@ from master import LINES, Names, Reader, Record, Refused, address, escaped, name
 from mending import FORMS, Mending
 
 MOST = 100                  # the most faults, and the most warnings, that are reported for a file
+MOST_TEXT = 50000000        # the most octets of the canonical text, which does not take too much memory
 FIELD = re.compile(r'"(?:[^"\\]|\\.)*"|(?:[^ "\\]|\\.)+')
 Fault = collections.namedtuple("Fault", "place code name text")
 
@@ -38,13 +40,16 @@ def zonecheck(origin, text, *options):
     """The status and the report of zonecheck for a text."""
     program = shutil.which("zonecheck") or str(Path(__file__).resolve().parents[2] / "bin" / "zonecheck")
     try:
-        done = subprocess.run([program, *options, origin, "/dev/stdin"], input=text.encode("latin-1"),
-                              capture_output=True, check=False)
+        with tempfile.TemporaryFile() as said:
+            done = subprocess.run([program, *options, origin, "/dev/stdin"], input=text.encode("latin-1"),
+                                  stdout=said, stderr=subprocess.PIPE, check=False)
+            refuse(said.seek(0, os.SEEK_END) > MOST_TEXT, f"the canonical text has more than {MOST_TEXT:,} octets")
+            said.seek(0)
+            report = said.read().decode("latin-1")
     except (OSError, ValueError) as error:
         raise Refused(f"{program}: {getattr(error, 'strerror', None) or error}") from None
-    if done.returncode not in (0, 1):
-        raise Refused(f"zonecheck: {done.stderr.decode('latin-1').strip() or f'status {done.returncode}'}")
-    return done.returncode, done.stdout.decode("latin-1")
+    refuse(done.returncode not in (0, 1), f"zonecheck: {done.stderr.decode('latin-1').strip() or f'status {done.returncode}'}")
+    return done.returncode, report
 
 
 def plain(text):
@@ -55,8 +60,10 @@ def plain(text):
 def run(program, main):
     """Runs `main`, and exits with its status, or with 2 if it raises an exception: 1 would mean that a zone has faults."""
     gc.disable()  # There are many records, and no cycles worth collecting.
-    sys.stdout.reconfigure(errors="backslashreplace")
+    sys.stderr = sys.stderr or open(os.devnull, "w", encoding="ascii")  # A closed stream is None.
     try:
+        refuse(not sys.stdout, "standard output is closed")
+        sys.stdout.reconfigure(errors="backslashreplace")
         status = main()
         sys.stdout.flush()
     except KeyboardInterrupt:
@@ -71,12 +78,17 @@ def run(program, main):
     sys.exit(status)
 
 
+def absolute(origin):
+    """The name of an argument, whose octets are those of the name."""
+    return name(os.fsencode(origin).decode("latin-1"), ".") or "."
+
+
 def imported(origin, text, path, folder):
     """The zone of a file in BIND's form: the converted lines, each with its place in the original files."""
     if text.startswith(("\0\0\0", *FORMS)):
         return Zone(origin, text, path)
     near = "" if path.startswith("/dev/") else os.path.dirname(path)
-    importer = bind.Importer(name(origin, ".") or ".", folder or near or ".")
+    importer = bind.Importer(absolute(origin), folder or near or ".")
     importer.read(text.removeprefix("\xef\xbb\xbf"), path)
     refuse(len(importer.lines) >= LINES, f"{path}: with the files that it includes, it has more than {LINES:,} lines")
     return Zone(origin, "\n".join(importer.lines), path, importer)
@@ -93,7 +105,7 @@ class Zone:
     """
 
     def __init__(self, origin, text, path, importer=None):
-        self.origin, self.path, self.text, self.zone = origin, path, text, name(origin, ".") or "."
+        self.origin, self.path, self.text, self.zone = origin, path, text, absolute(origin)
         self.lines = importer.lines if importer else text.split("\n") if text.startswith((*FORMS,)) else split(text, path)
         self.places, self.notes, self.sources = None, None, {path: text}
         if importer:

@@ -96,10 +96,16 @@ def string(text):
     return '"' + escaped(re.sub(r'(["\\])', r"\\\1", text)) + '"'
 
 
+@functools.lru_cache
+def size(full):
+    """How many octets an absolute name has on the wire."""
+    return len(dns.name.from_text(full).to_wire())
+
+
 @functools.lru_cache(1 << 17)
 def name(text, origin):
     """The absolute name, in the form of the canonical text, of a name relative to an origin. None if it is invalid."""
-    if SIMPLE.fullmatch(text) and len(text) + len(origin) < 254:
+    if SIMPLE.fullmatch(text) and len(text) + size(origin) < 255:
         return text.lower() if text[-1] == "." else f"{text.lower()}.{origin.lstrip('.')}"
     try:
         full = dns.name.from_text(text[:1021].encode("latin-1"), dns.name.from_text(origin))

@@ -116,7 +116,8 @@ class Mending(Entry):
     def clean(self, at, notes):
         """Line `at` with all octets that are not allowed replaced or taken out. Adds the messages to `notes`."""
         line, is_text, written = self.zone.lines[at], False, ""
-        text = whole = line.removesuffix("\r").encode("latin-1").decode("utf-8", "surrogateescape")
+        end = "\r" * (line.endswith("\r") and at + 1 < len(self.zone.lines))
+        text = whole = line.removesuffix(end).encode("latin-1").decode("utf-8", "surrogateescape")
 
         def pieces(text):
             return itertools.takewhile(lambda piece: piece[0] != ";", PIECE.findall(text))
@@ -140,7 +141,7 @@ class Mending(Entry):
                 piece = ".".join(one if one.isascii() else "xn--" + one.encode("punycode").decode() for one in labels)
                 note(NOT_ASCII.search(whole), f"not ASCII: write the name as DNS has it, {piece}")
             written += piece
-        return written + "\r" * line.endswith("\r")
+        return written + end
 
     def r03(self):
         lines, tokens, more, quoted = self.zone.lines, self.tokens, [], re.compile(r'"(?:[^"\\]|\\.)*"')
@@ -301,10 +302,11 @@ class Mending(Entry):
         return bare, None if bare == token else f"{token} is not a name: write {bare}"
 
     def as_address(self, token, kind):
-        bare, (rtype, text) = token.strip('"'), address(token) or ("", None)
-        if not text and re.search(r"[g-zG-Z]", bare) and name(bare, self.reader.origin) and ":" not in bare:
-            self.rtype = "CNAME"
-            return bare, f"{token} is a name: write CNAME {bare} for an alias"
+        bare, numeric = token.strip('"'), re.match(r"\d+\.\d+\.", token)
+        # Letters that look like digits.
+        rtype, text = address(bare.translate(str.maketrans("lIoO", "1100")) if numeric else bare) or ("", None)
+        if not text and re.search(r"[g-zG-Z]", bare) and name(bare, self.reader.origin) and ":" not in bare and not numeric:
+            return None, f"{token} is a name: write CNAME {bare} for an alias"
         if text and rtype != ("A" if kind == "4" else "AAAA"):
             self.rtype = rtype
             return text, f"{token} is an address of the type {rtype}: write {rtype} {text}"
