@@ -1,4 +1,4 @@
-.PHONY: run programs built install uninstall clean package operate examples docs-check test edits misuse clients speed scale faults caught hostile messages worst bench
+.PHONY: run programs built install uninstall clean package operate examples docs-check generated test edits misuse clients speed scale faults caught hostile messages worst bench
 
 PREFIX ?= /usr/local
 NAMES = zonecheck zoneserve dnsmsg zonesocket
@@ -85,6 +85,10 @@ docs-check: built
 	tools/test-workers $(PROGRAMS)
 	tools/test-compare $(PROGRAMS)
 	docs/plots/mistakes | cmp - docs/plots/mistakes.svg
+
+# Compares zoneimport with named-compilezone for 1,000 random zones in BIND's form, other ones in each run. It is not in the gate.
+generated: built
+	tools/test-generated crates/zonecheck/out/zonecheck
 
 test:
 	tools/files --check

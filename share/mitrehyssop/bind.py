@@ -37,8 +37,8 @@ class Importer(Reader):
         super().__init__(zone)
         self.folder, self.lines, self.places, self.notes, self.sources = os.path.realpath(folder), [], array("Q"), {}, {}
         # `restate`: whether the next record has to state its owner. `implied`: the TTL that records without one get from the
-        # SOA record, or None. `size`: how many octets `lines` have. `files`: how many files were included.
-        self.restate, self.implied, self.size, self.files = False, None, 0, 0
+        # SOA record, or None. `size`: how many octets `lines` have. `count`, `files`: how many records were read, and files included.
+        self.restate, self.implied, self.size, self.count, self.files = False, None, 0, 0, 0
 
     def read(self, text, path, stack=()):
         """Adds the entries of a text."""
@@ -47,7 +47,8 @@ class Importer(Reader):
         if stack and not lines[-1]:
             lines.pop()
         at, nested = 0, True
-        while at < len(lines) and self.size <= LARGEST and len(self.lines) < LINES:
+        # A zone that exceeds one of these limits never passes, so the rest of it is not read.
+        while at < len(lines) and self.size <= LARGEST and len(self.lines) < LINES and self.count < 101000:
             if lines[at][:1] in ("", ";"):
                 at += 1
                 self.add(lines[at - 1:at], file + at)
@@ -82,6 +83,7 @@ class Importer(Reader):
 
     def record(self, entry):
         """The lines of a record."""
+        self.count += 1
         owner, tokens, at, data, begin = entry.owner, entry.tokens, entry.at, entry.data, int(not entry.blank)
         front = f"{self.owner} " if owner is None and self.restate and self.owner else ""
         record, rtype, self.restate = self.take(entry), NAMES.get(entry.rtype, entry.rtype), False

@@ -142,14 +142,17 @@ class Zone:
         return self
 
     def recheck(self, reader):
-        """What zonecheck reports about the lines that `reader` has not read, or about all lines if those have no fault. So the
-        lines before a fault are not read again for each fault. The first lines here stand for what a later entry can inherit."""
+        """What zonecheck reports about the lines that `reader` has not read, or about all lines if those have no fault. First only
+        some lines are tried, which may end in parentheses (R04). So the time for many faults does not grow with the file."""
+        # These lines stand for what a later entry can inherit.
         before = [f"$ORIGIN {reader.origin}", *[f"$TTL {reader.default}"] * bool(reader.default),
                   *[f"{reader.owner} {reader.stated or ''} A 192.0.2.1"] * bool(reader.owner)]
-        said = zonecheck(self.origin, "\n".join([*before, *self.lines[reader.at:]]))[1]
-        fault = re.fullmatch(r"line (\d+): (R0\d|R1[0-3])\n", said)
-        line = int(fault[1]) - len(before) if fault else 0
-        return f"line {line + reader.at}: {fault[2]}\n" if line > 0 else zonecheck(self.origin, "\n".join(self.lines))[1]
+        for most, codes in ((4096, "R0[^4]|R1[0-3]"), (LINES, "R0.|R1[0-3]")):
+            said = zonecheck(self.origin, "\n".join([*before, *self.lines[reader.at:reader.at + most]]))[1]
+            fault = re.fullmatch(rf"line (\d+): ({codes})\n", said)
+            if fault and int(fault[1]) > len(before):
+                return f"line {int(fault[1]) - len(before) + reader.at}: {fault[2]}\n"
+        return zonecheck(self.origin, "\n".join(self.lines))[1]
 
     def place(self, line):
         """The file and the number of a line."""
