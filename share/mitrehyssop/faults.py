@@ -39,15 +39,15 @@ class Report(collections.namedtuple("Report", "file line severity code name mess
 def zonecheck(origin, text, *options):
     """The status and the report of zonecheck for a text."""
     program = shutil.which("zonecheck") or str(Path(__file__).resolve().parents[2] / "bin" / "zonecheck")
-    try:
-        with tempfile.TemporaryFile() as said:
+    with tempfile.TemporaryFile() as said:
+        try:
             done = subprocess.run([program, *options, origin, "/dev/stdin"], input=text.encode("latin-1"),
                                   stdout=said, stderr=subprocess.PIPE, check=False)
-            refuse(said.seek(0, os.SEEK_END) > MOST_TEXT, f"the canonical text has more than {MOST_TEXT:,} octets")
-            said.seek(0)
-            report = said.read().decode("latin-1")
-    except (OSError, ValueError) as error:
-        raise Refused(f"{program}: {getattr(error, 'strerror', None) or error}") from None
+        except (OSError, ValueError) as error:
+            raise Refused(f"{program}: {getattr(error, 'strerror', None) or error}") from None
+        refuse(said.seek(0, os.SEEK_END) > MOST_TEXT, f"the canonical text has more than {MOST_TEXT:,} octets")
+        said.seek(0)
+        report = said.read().decode("latin-1")
     refuse(done.returncode not in (0, 1), f"zonecheck: {done.stderr.decode('latin-1').strip() or f'status {done.returncode}'}")
     return done.returncode, report
 
@@ -177,9 +177,11 @@ class Zone:
 
     def report(self, warned):
         """The faults and warnings with their lines, and messages if there are more of them than are reported."""
-        lines = {file: self.sources[file].split("\n") for file, _ in {fault.place for fault in [*self.faults, *warned[:MOST]]}}
+        wanted = {fault.place for fault in [*self.faults, *warned[:MOST]]}
+        lines = {(file, number): line[1] for file in {file for file, _ in wanted}
+                 for number, line in enumerate(re.finditer(r"([^\n]*)\n?", self.sources[file]), 1) if (file, number) in wanted}
         found = [Report(file, line, severity, code, owner, escaped(message[:2000]),
-                        escaped(lines[file][line - 1].rstrip("\r").expandtabs()[:300]))
+                        escaped(lines[file, line].rstrip("\r").expandtabs()[:300]))
                  for severity, faults in (("error", self.faults), ("warning", warned[:MOST]))
                  for (file, line), code, owner, message in faults]
         path, many = plain(self.path), f"{MOST} of {len(warned)} warnings are reported\n"

@@ -40,12 +40,13 @@ NAMED = {NUMBERS[rtype]: rtype for rtype in KINDS}
 BEGIN = re.compile(r"\$[A-Z]+[ \t]|(?:[^ \t;\"()][^ \t;\"()]*)?[ \t]+(?:(?:\d[\dwdhms]*|IN)[ \t]+){0,2}(?:TYPE\d+|"
                    + "|".join([*KINDS, *OTHERS, "DS"]) + r")[ \t(]", re.I)
 LARGEST = 16777216  # the most octets of a file; one more is read, to see whether there are more
-LINES, LONGEST = 1100000, 1000000  # the most lines of a file, and the most octets of a line, that do not take too much memory
+LINES, LONGEST = 1000000, 1000000  # the most lines of a file, and the most octets of a line, that do not take too much memory
 UNITS = {"w": 604800, "d": 86400, "h": 3600, "m": 60, "s": 1, "": 1}
 # `data` has the fields as in the canonical text; `line` is the entry's first line, counted from 0, and `last` its last token.
 Record = collections.namedtuple("Record", "owner ttl rtype data line last", defaults=(None, ""))
 
 
+@functools.lru_cache(1 << 12)
 def digits(token):
     """The plain digits of a number, which may have units or leading zeros: 5400 for 1h30m. None if it is no number.
 
