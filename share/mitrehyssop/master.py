@@ -40,7 +40,8 @@ NAMED = {NUMBERS[rtype]: rtype for rtype in KINDS}
 BEGIN = re.compile(r"\$[A-Z]+[ \t]|(?:[^ \t;\"()][^ \t;\"()]*)?[ \t]+(?:(?:\d[\dwdhms]*|IN)[ \t]+){0,2}(?:TYPE\d+|"
                    + "|".join([*KINDS, *OTHERS, "DS"]) + r")[ \t(]", re.I)
 LARGEST = 16777216  # the most octets of a file; one more is read, to see whether there are more
-LINES, LONGEST = 1000000, 1000000  # the most lines of a file, and the most octets of a line, that do not take too much memory
+# The most lines of a file, octets of a line, and pieces of an entry, so that they do not take too much memory.
+LINES, LONGEST, PIECES = 1000000, 1000000, 500000
 UNITS = {"w": 604800, "d": 86400, "h": 3600, "m": 60, "s": 1, "": 1}
 # `data` has the fields as in the canonical text; `line` is the entry's first line, counted from 0, and `last` its last token.
 Record = collections.namedtuple("Record", "owner ttl rtype data line last", defaults=(None, ""))
@@ -198,6 +199,7 @@ class Entry:
                 self.depth = max(self.depth, depth)
             self.pieces += [*found, "\n"]
             self.end += 1
+            refuse(len(self.pieces) > PIECES, f"an entry has more than {PIECES:,} tokens, blanks and comments")
         return depth
 
     def joined(self, first):
