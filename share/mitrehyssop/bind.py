@@ -4,8 +4,8 @@ import re
 from array import array
 
 from generic import generic
-from master import (KINDS, LARGEST, LINES, NAMES, NUMBERS, OTHERS, Entry, Reader, Refused, digits, groups, name, octets, read, refuse,
-                    split, unquoted)
+from master import (KINDS, LARGEST, LINES, NAMES, NUMBERS, OTHERS, Entry, Reader, Refused, digits, groups, name, octets, read,
+                    refuse, split, unquoted)
 
 DEEPEST, FILES = 10, 1000   # how deep $INCLUDE may be nested, and the most included files
 RANGE = re.compile(r"(\d{1,10})-(\d{1,10})(?:/(\d{1,10})|(?!/))")
@@ -37,7 +37,8 @@ class Importer(Reader):
         super().__init__(zone)
         self.folder, self.lines, self.places, self.notes, self.sources = os.path.realpath(folder), [], array("Q"), {}, {}
         # `restate`: whether the next record has to state its owner. `implied`: the TTL that records without one get from the
-        # SOA record, or None. `size`: how many octets `lines` have. `count`, `files`: how many records were read, and files included.
+        # SOA record, or None. `size`: how many octets `lines` have. `count`: how many records were read. `files`: how many files
+        # were included.
         self.restate, self.implied, self.size, self.count, self.files = False, None, 0, 0, 0
 
     def read(self, text, path, stack=()):
@@ -53,7 +54,7 @@ class Importer(Reader):
                 at += 1
                 self.add(lines[at - 1:at], file + at)
                 continue
-            entry, begun = Entry(lines, at, nested), len(self.lines)
+            entry, begun = self.entry(lines, at, nested), len(self.lines)
             # An entry that is not closed is read to the end of the file. So that this is not repeated for each later entry, they
             # are read without nesting: then the next parenthesis inside another ends an entry.
             nested = nested and entry.closed
@@ -117,7 +118,7 @@ class Importer(Reader):
         return [front + first, *rest]
 
     def include(self, tokens, by, place, stack):
-        """Adds the entries of the file of $INCLUDE FILE [ORIGIN], at a place in the file `by`, and then restores the origin and the owner."""
+        """Adds the entries of the file of $INCLUDE FILE [ORIGIN] in the file `by`, and then restores the origin and the owner."""
         refuse(len(tokens) not in (2, 3), "$INCLUDE takes a file and an origin")
         path = os.fsdecode(octets(tokens[1]).replace("\0", "").encode("latin-1"))
         real = os.path.realpath(os.path.join(self.folder, path))

@@ -142,8 +142,10 @@ class Zone:
         return self
 
     def recheck(self, reader):
-        """What zonecheck reports about the lines that `reader` has not read, or about all lines if those have no fault. First only
-        some lines are tried, which may end in parentheses (R04). So the time for many faults does not grow with the file."""
+        """What zonecheck reports about the lines that `reader` has not read, or about all lines if those have no fault.
+
+        First only some lines are tried, which may end in parentheses (R04). So many faults in a large file take less time.
+        """
         # These lines stand for what a later entry can inherit.
         before = [f"$ORIGIN {reader.origin}", *[f"$TTL {reader.default}"] * bool(reader.default),
                   *[f"{reader.owner} {reader.stated or ''} A 192.0.2.1"] * bool(reader.owner)]

@@ -10,8 +10,8 @@ import struct
 import dns.name
 from master import NAMES, NUMBERS, escaped, octets, refuse
 
-# The fields of a type: a number of 8 (B) or 16 bits (H), a name (n), a string (s), one of letters and digits (a) or of digits (d),
-# a text without its length (t), one in quotation marks (q), and any number of strings (*). `|` is between two forms.
+# The fields of a type: a number of 8 (B) or 16 bits (H), a name (n), a string (s), one of letters and digits (a) or digits (d), a
+# text without its length (t), one in quotation marks (q), and any number of strings (*). `|` is between two forms.
 ROWS = {"MB": "n", "MG": "n", "MR": "n", "MINFO": "nn", "X25": "d", "ISDN": "s|ss", "NSAP-PTR": "n", "NAPTR": "HHsssn",
         "NINFO": "*", "TALINK": "nn", "SPF": "*", "AVC": "*", "RESINFO": "*", "WALLET": "*", "URI": "HHq", "CAA": "Bat"}
 FORMS = {"B": r"\d+", "H": r"\d+", "a": r"[A-Za-z0-9]{1,255}", "d": r'"?\d{4,255}"?', "n": r'[^"].*', "q": '".*"'}
@@ -61,7 +61,7 @@ def by_dnspython(rtype, entry, origin):
     import dns.version
     number, tokens, alias = dns.rdatatype.from_text(NUMBERS.get(rtype, rtype)), entry.data[:], False
     if dns.rdata.get_rdata_class(1, number) is dns.rdata.GenericRdata:
-        raise Unread(f"dnspython {dns.version.version} does not read {rtype}: write \\#, a length and hex digits, or use a later version")
+        raise Unread(f"dnspython {dns.version.version} does not read {rtype}: write \\#, a length and hex digits, or use a later one")
     given = "".join(tokens[BASE64.get(rtype, slice(0, 0))])
     refuse(base64.b64encode(base64.b64decode(given)).decode() != given, f"{given[:60]} is not base64")
     if rtype in ("CERT", "CDNSKEY", "CDS"):

@@ -40,8 +40,8 @@ NAMED = {NUMBERS[rtype]: rtype for rtype in KINDS}
 BEGIN = re.compile(r"\$[A-Z]+[ \t]|(?:[^ \t;\"()][^ \t;\"()]*)?[ \t]+(?:(?:\d[\dwdhms]*|IN)[ \t]+){0,2}(?:TYPE\d+|"
                    + "|".join([*KINDS, *OTHERS, "DS"]) + r")[ \t(]", re.I)
 LARGEST = 16777216  # the most octets of a file; one more is read, to see whether there are more
-# The most lines of a file, octets of a line, and pieces of an entry, so that they do not take too much memory.
-LINES, LONGEST, PIECES = 1000000, 1000000, 500000
+# The most lines of a file, octets of a line, pieces of an entry and of a file, so that they do not take too much memory and time.
+LINES, LONGEST, LARGE_ENTRY, PIECES = 1000000, 1000000, 500000, 3000000
 UNITS = {"w": 604800, "d": 86400, "h": 3600, "m": 60, "s": 1, "": 1}
 # `data` has the fields as in the canonical text; `line` is the entry's first line, counted from 0, and `last` its last token.
 Record = collections.namedtuple("Record", "owner ttl rtype data line last", defaults=(None, ""))
@@ -83,8 +83,9 @@ def octets(token):
 
 def unquoted(token):
     """A quoted string as a token without quotation marks. Other tokens stay as they are."""
-    quoted = re.fullmatch(r'"((?:[^"\\]|\\.)+)"', token, re.S)
-    return re.sub(r"\\.|[ \t;()]", lambda c: c[0] if c[0][1:] else f"\\{ord(c[0]):03}", quoted[1], flags=re.S) if quoted else token
+    if not re.fullmatch(r'"(?:[^"\\]|\\.)+"', token, re.S):
+        return token
+    return re.sub(r"\\.|[ \t;()]", lambda c: c[0] if c[0][1:] else f"\\{ord(c[0]):03}", token[1:-1], flags=re.S)
 
 
 def escaped(text, spared=" -~"):
@@ -199,7 +200,7 @@ class Entry:
                 self.depth = max(self.depth, depth)
             self.pieces += [*found, "\n"]
             self.end += 1
-            refuse(len(self.pieces) > PIECES, f"an entry has more than {PIECES:,} tokens, blanks and comments")
+            refuse(len(self.pieces) > LARGE_ENTRY, f"an entry has more than {LARGE_ENTRY:,} tokens, blanks and comments")
         return depth
 
     def joined(self, first):
@@ -225,11 +226,19 @@ class Entry:
 class Reader:
     """Reads the entries of a zone in order, and keeps what a later entry can inherit: `origin`, `owner` and TTLs.
 
-    `at` is the next line, `default` the TTL of the last $TTL, and `stated` the last TTL that a record stated.
+    `at` is the next line, `default` the TTL of the last $TTL, and `stated` the last TTL that a record stated. `pieces` is how
+    many pieces were read.
     """
 
     def __init__(self, zone):
-        self.origin, self.at, self.owner, self.default, self.stated = zone, 0, None, None, None
+        self.origin, self.at, self.owner, self.default, self.stated, self.pieces = zone, 0, None, None, None, 0
+
+    def entry(self, lines, at, nested=False):
+        """The entry that begins at a line. Raises `Refused` if all entries together are too large."""
+        entry = Entry(lines, at, nested)
+        self.pieces += len(entry.pieces)
+        refuse(self.pieces > PIECES, f"more than {PIECES:,} tokens, blanks and comments")
+        return entry
 
     def records(self, lines, stop=sys.maxsize):
         """Yields the records of all entries that begin before line `stop`."""
@@ -237,7 +246,7 @@ class Reader:
             if lines[self.at][:1] in ("", ";"):
                 self.at += 1
                 continue
-            entry = Entry(lines, self.at)
+            entry = self.entry(lines, self.at)
             self.at, record = entry.end, self.take(entry)
             if record:
                 yield record
