@@ -7,7 +7,7 @@ import unicodedata
 
 import bind
 from generic import generic
-from master import BEGIN, KINDS, NAMED, NUMBERS, OTHERS, PIECE, Entry, address, digits, escaped, name, octets, string
+from master import BEGIN, KINDS, NAMED, NUMBERS, OTHERS, PIECE, Entry, Reader, address, digits, escaped, name, octets, string
 
 TAKES = {"A": "an IPv4 address: four numbers from 0 to 255", "NS": "the name of a server", "CNAME": "a name",
          "SOA": "two names and five plain numbers: serial, refresh, retry, expire, minimum", "HINFO": "two strings",
@@ -214,7 +214,8 @@ class Mending(Entry):
         yield True, self.record(ttl=instead), "ttl", f"the TTL is {TIME}: {ttl} is not; write {instead}, for example"
 
     def r12(self):
-        value = next((record.ttl for record in self.zone.model() if record.ttl), "")
+        near = itertools.islice(Reader(self.zone.zone).records(self.zone.lines), 1000)
+        value = next((record.ttl for record in near if record.ttl), "")
         value = value if value.isdecimal() and int(value) < 2**31 else "3600"
         yield True, self.record(ttl=value), "ttl", f"no TTL: put $TTL {value} on the first line"
 
