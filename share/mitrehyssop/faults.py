@@ -22,6 +22,7 @@ from mending import FORMS, Mending
 
 MOST = 100                  # the most faults, and the most warnings, that are reported for a file
 MOST_TEXT = 50000000        # the most octets of the canonical text, which does not take too much memory
+MOST_MENDED = 2000000       # after so many octets of faulty entries no more are corrected
 FIELD = re.compile(r'"(?:[^"\\]|\\.)*"|(?:[^ "\\]|\\.)+')
 Fault = collections.namedtuple("Fault", "place code name text")
 
@@ -101,7 +102,7 @@ class Zone:
     to the file's own; else None. `notes` has the importer's message for each line that it could not convert. `unknown`
     has, for each corrected line, what is unknown about it. `doubtful` has the names that may own more than `records` has.
     `partial` means that included lines are unknown. `sources` has the text of each file. `mended` counts the corrections
-    by line and code. `more` means that there may be unreported faults.
+    by line and code, `size` their octets. `more` means that there may be unreported faults.
     """
 
     def __init__(self, origin, text, path, importer=None):
@@ -111,7 +112,7 @@ class Zone:
         if importer:
             self.places, self.notes, self.sources = importer.places, importer.notes, importer.sources
         self.faults, self.records, self.passes, self.more, self.partial = [], [], False, False, False
-        self.unknown, self.doubtful, self.mended = collections.defaultdict(set), set(), collections.Counter()
+        self.unknown, self.doubtful, self.mended, self.size = collections.defaultdict(set), set(), collections.Counter(), 0
 
     def check(self):
         """Runs zonecheck, and sets `passes`, `faults` and `records`."""
@@ -130,7 +131,7 @@ class Zone:
             said = zonecheck(self.origin, "\n".join(self.lines))[1]
         reader = Reader(self.zone)
         while fault := re.fullmatch(r"line (\d+): (R\d\d)\n", said):
-            self.more = len(self.faults) >= MOST or self.mended.total() >= 5 * MOST
+            self.more = len(self.faults) >= MOST or self.mended.total() >= 5 * MOST or self.size > MOST_MENDED
             if self.more or not self.mend(reader, int(fault[1]) - 1, fault[2]):
                 break
             said = self.recheck(reader)
@@ -187,7 +188,7 @@ class Zone:
                  for severity, faults in (("error", self.faults), ("warning", warned[:MOST]))
                  for (file, line), code, owner, message in faults]
         path, many = plain(self.path), f"{MOST} of {len(warned)} warnings are reported\n"
-        return found, (f"{path}: {MOST} faults are reported, and there may be more\n" * self.more
+        return found, (f"{path}: {len(self.faults)} faults are reported, and there may be more\n" * self.more
                        + f"{path}: {many}" * (len(warned) > MOST))
 
     def found(self, line, code, text, owner=""):
@@ -202,6 +203,7 @@ class Zone:
         """Reports and corrects the fault of an entry. Returns False if the rest of the file can't be checked."""
         collections.deque(reader.records(self.lines, line), 0)
         mending = Mending(self, reader, line, code)
+        self.size += sum(map(len, self.lines[line:mending.end]))
         # If an entry has the same fault again after its correction, the fault is not reported again. A fault that only the
         # correction of a string may have caused is not reported.
         self.mended[line, code] += 1
