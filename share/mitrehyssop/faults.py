@@ -22,7 +22,7 @@ from mending import FORMS, Mending
 
 MOST = 100                  # the most faults, and the most warnings, that are reported for a file
 MOST_TEXT = 50000000        # the most octets of the canonical text, which does not take too much memory
-MOST_MENDED = 2000000       # after so many octets of faulty entries no more are corrected
+MOST_MENDED = 2000000       # the most octets of faulty entries that are corrected
 FIELD = re.compile(r'"(?:[^"\\]|\\.)*"|(?:[^ "\\]|\\.)+')
 Fault = collections.namedtuple("Fault", "place code name text")
 
@@ -147,10 +147,10 @@ class Zone:
 
         First only some lines are tried, which may end in parentheses (R04). So many faults in a large file take less time.
         """
-        # These lines stand for what a later entry can inherit.
+        # These lines have what a later entry can inherit.
         before = [f"$ORIGIN {reader.origin}", *[f"$TTL {reader.default}"] * bool(reader.default),
                   *[f"{reader.owner} {reader.stated or ''} A 192.0.2.1"] * bool(reader.owner)]
-        for most, codes in ((4096, "R0[^4]|R1[0-3]"), (LINES, "R0.|R1[0-3]")):
+        for most, codes in ((4096, "R(?:0[^4]|1[0-3])"), (LINES, "R(?:0.|1[0-3])")):
             said = zonecheck(self.origin, "\n".join([*before, *self.lines[reader.at:reader.at + most]]))[1]
             fault = re.fullmatch(rf"line (\d+): ({codes})\n", said)
             if fault and int(fault[1]) > len(before):
