@@ -7,7 +7,8 @@ import unicodedata
 
 import bind
 from generic import generic
-from master import BEGIN, KINDS, NAMED, NUMBERS, OTHERS, PIECE, Entry, Reader, address, digits, escaped, name, octets, string
+from master import (BEGIN, KINDS, NAMED, NUMBERS, OTHERS, PIECE, Entry, Reader, address, digits, escaped, name, octets, string,
+                    unquoted)
 
 TAKES = {"A": "an IPv4 address: four numbers from 0 to 255", "NS": "the name of a server", "CNAME": "a name",
          "SOA": "two names and five plain numbers: serial, refresh, retry, expire, minimum", "HINFO": "two strings",
@@ -297,7 +298,7 @@ class Mending(Entry):
         return value, None if value == token else f"{token} {why}: it is written {value} here"
 
     def as_name(self, token, _):
-        bare = token if token == "." else re.sub(r"\.\.+", ".", token.strip('"')).lstrip(".")
+        bare = token if token == "." else re.sub(r"\.\.+", ".", unquoted(token).strip('"')).lstrip(".")
         if not bare or not name(bare, self.reader.origin):
             return None, f"{token} is not a name, which has labels of 1 to 63 octets"
         return bare, None if bare == token else f"{token} is not a name: write {bare}"
