@@ -22,7 +22,7 @@ from mending import FORMS, Mending
 
 MOST = 100                  # the most faults, and the most warnings, that are reported for a file
 MOST_TEXT = 50000000        # the most octets of the canonical text, which does not take too much memory
-MOST_MENDED = 2000000       # the most octets of faulty entries that are corrected
+MOST_MENDED = 4000000       # the most octets of faulty entries, and of what corrects them
 FIELD = re.compile(r'"(?:[^"\\]|\\.)*"|(?:[^ "\\]|\\.)+')
 Fault = collections.namedtuple("Fault", "place code name text")
 
@@ -203,7 +203,7 @@ class Zone:
         """Reports and corrects the fault of an entry. Returns False if the rest of the file can't be checked."""
         collections.deque(reader.records(self.lines, line), 0)
         mending = Mending(self, reader, line, code)
-        self.size += sum(map(len, self.lines[line:mending.end]))
+        self.size += sum(map(len, [*self.lines[line:mending.end], *mending.fixed]))
         # If an entry has the same fault again after its correction, the fault is not reported again. A fault that only the
         # correction of a string may have caused is not reported.
         self.mended[line, code] += 1

@@ -3,8 +3,9 @@ import itertools
 import re
 
 from faults import Fault
-from master import Names, above, address, octets, twice, unique, within
+from master import Names, above, address, octets, refuse, twice, unique, within
 
+MOST_NODES = 1000000
 HOST = re.compile(r"(?:\*\.)?(?:[a-z0-9](?:[a-z0-9-]*[a-z0-9])?\.)+|(?:.*\.)?gc\._msdcs\..*")
 FOUR = re.compile(r"\d+\.\d+\.\d+\.\d+\.")
 SERVICE = re.compile(r"(?:\*\.)?_[^.]+\._[^.]+\.")
@@ -30,6 +31,7 @@ class Warnings(Names):
         self.ends = tuple(end + self.zone for end in (".com.", ".org.", ".arpa."))
         for full in self.sets:
             self.nodes.update(itertools.takewhile(lambda node: node not in self.nodes, above(full)))
+            refuse(len(self.nodes) > MOST_NODES, f"more than {MOST_NODES:,} names own records or are above such names")
         self.glue = {record.data[0] for sets in self.sets.values() for record in sets.get("NS", ())}
 
     def look(self):
