@@ -13,7 +13,7 @@ pub record Exchange : Type 0 where
   pub received : Octets
   pub sent : Octets
 
--- An exchange, if it is known, goes on by octets received and octets sent.
+-- More octets were received and sent in an exchange, if it is known.
 abbrev pub GoesOn : Option Exchange → Option Exchange → Octets → Octets → Type 0
 GoesOn None None received sent = ⊤
 GoesOn None (Some new) received sent = ⊥
@@ -35,7 +35,7 @@ Sends old new (Err e) octets = GoesOn old new [] []
 abbrev pub IsFresh : Option Exchange → Type 0
 IsFresh e = MatchOption e ⊤ (λ e. (e.received ≡ []) × (e.sent ≡ []))
 
--- A session has taken the octets received, but for the pending ones at their end.
+-- A session has taken all octets received, except the pending ones at their end.
 pub record Serves (z : ZoneContents) (s : SessionState) (pending : Octets) (e : Exchange) : Type 0
   where
     pub taken : Octets
@@ -45,7 +45,7 @@ pub record Serves (z : ZoneContents) (s : SessionState) (pending : Octets) (e : 
 abbrev pub IsServing : ZoneContents → SessionState → Octets → Option Exchange → Type 0
 IsServing z s pending e = MatchOption e ⊤ (Serves z s pending)
 
--- the messages of all whole frames with which octets begin: a frame has two octets at least
+-- the messages of all whole frames with which octets begin: a frame has at least two octets
 abbrev pub all_frames : Octets → List Octets
 all_frames x = frames (length x) x
 

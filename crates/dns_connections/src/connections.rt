@@ -14,7 +14,7 @@ use std::marker::Brand;
 use std::time::Duration;
 
 // The most connections at once. One more takes the place of the one that made no progress for the
-// longest time (RFC 7766 6.2.3). Each holds up to 98,305 octets of input and replies.
+// longest time (RFC 7766 6.2.3). Each takes 98,305 octets for its input and replies.
 const MOST_PEERS: usize = 256;
 
 // How many connections are accepted at most before the others get a turn.
@@ -22,16 +22,17 @@ const ACCEPTS: u32 = 16;
 
 // Times in milliseconds.
 
-// How long a connection may neither complete a message nor take all replies.
+// How long a connection may neither complete a message nor take octets of replies.
 const LIMIT: u64 = 10_000;
 
-// The same for a connection without a question once the server is to end.
+// The same for a connection with no incomplete message and no unsent reply, once the server is to
+// end.
 const SILENCE: u64 = 300;
 
 // How long the server may take to end.
 const ENDING: u64 = 3_000;
 
-// How often the limits are checked.
+// How often the limits are checked at most.
 const SWEEP: u64 = 100;
 
 // How long nothing is accepted after a connection could not be accepted.
@@ -41,6 +42,7 @@ fn after(time: Duration, millis: u64) -> Duration {
     time.saturating_add(Duration::from_millis(millis))
 }
 
+// Never used: `serve_connections` chooses the zone and the exchanges anew.
 impl Served for Brand {
     ghost zone = { record { origin = []; records = [] } };
 
@@ -54,9 +56,12 @@ impl Served for Brand {
 /// 16,384 octets. A connection that for 10 seconds neither completes a message nor takes its
 /// replies is closed.
 ///
-/// For every order in which the sockets report what they found, and however the input of each
-/// connection is cut: what each connection was sent is a prefix of the replies to the messages that
-/// it sent, in order.
+/// Once `turns` connections were accepted, or the server is asked to end, connections that wait for
+/// nothing are closed after 0.3 seconds, and all others after 3 seconds.
+///
+/// However the sockets report what they found, and however input is cut: when a connection is
+/// closed, what was sent on it is a prefix of the replies to the messages received on it, in order.
+/// If it is closed as complete, it is all of them.
 pub fn serve_connections<K: Sockets>(
     alloc: Global,
     zone: &Zone,

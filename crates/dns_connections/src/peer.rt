@@ -41,7 +41,7 @@ pub(crate) struct Peer<Z: Served, S: Stream> {
     // Octets received, of which the session has taken the first `taken`.
     input: Vec<u8>,
     taken: usize,
-    // When it was accepted, or last completed a message or took all replies.
+    // When it was accepted, or last completed a message or took octets of replies.
     pub(crate) since: Duration,
     // The end of the input was reported.
     has_ended: bool,

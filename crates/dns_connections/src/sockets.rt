@@ -53,8 +53,9 @@ pub enum Found {
 
 /// A listening socket and its connections. Only `wait` waits.
 ///
-/// A connection is reported once when it can be read or written. Callers read or write until a call
-/// would block.
+/// A connection is reported once when it can be read or written. Callers write until a call would
+/// block. They read until a call would block, or returns fewer octets than there is room for while
+/// no end was reported.
 pub trait Sockets: Drop {
     /// A connection.
     type Stream: Stream;
@@ -80,8 +81,8 @@ pub trait Sockets: Drop {
         ensures stream { Self.Stream.exchange stream.new ≡ Self.Stream.exchange stream.old }
         ensures closed { closed self.new ≡ closed self.old };
 
-    /// Closes a connection that was served from the zone. `is_complete` is true if the replies to
-    /// all messages received were sent, and nothing else was received.
+    /// Closes a connection that was served from the zone. `is_complete` is true only if the replies
+    /// to all messages received were sent, and nothing else was received.
     fn close(&mut self, zone: &Zone, stream: Self::Stream, is_complete: bool)
         requires { IsServed zone.now (Self.Stream.exchange stream) is_complete }
         ensures { closed self.new ≡ closed self.old ++ ended (Self.Stream.exchange stream) is_complete };

@@ -12,11 +12,11 @@ pub record FrameState : Type 0 where
   pub came : ℕ
   pub kept : Octets
 
--- how many octets are missing from the length, or, once that has come, from the message
+-- how many octets of the length are missing, or, once it has come, how many of the message
 abbrev pub missing_of : FrameState → ℕ
 missing_of f = if nat_le 2 f.came then 2 + field16 f.kept 0 - f.came else 2 - f.came
 
--- The octets x of a stream have come, which are no more than a frame.
+-- The octets x of a stream have come. They are at most one frame.
 pub record HasCome (f : FrameState) (x : Octets) : Type 0 where
   pub came : f.came ≡ length x
   pub kept : f.kept ≡ take 514 x
@@ -24,7 +24,7 @@ pub record HasCome (f : FrameState) (x : Octets) : Type 0 where
   pub low : All (λ o. o < 256) x
 
 -- The frame that is arriving; the octets of replies that were not sent; and how many octets of
--- replies are held.
+-- replies are held, also those that were sent.
 pub record SessionState : Type 0 where
   pub frame : FrameState
   pub unsent : Octets
@@ -36,8 +36,9 @@ pub record IsNew (s : SessionState) : Type 0 where
   pub unsent : s.unsent ≡ []
   pub held : s.held ≡ 0
 
--- RFC 1035 4.2.2: The octets x of a stream were taken. They are frames, to whose messages the
--- replies are what was sent and what is still to be sent, and a part of the next frame.
+-- RFC 1035 4.2.2: The octets x of a stream were taken. They are whole frames, then a part of the
+-- next frame. What was sent, followed by what is unsent, is the replies to the messages of the
+-- whole frames.
 pub record HasTaken (z : ZoneContents) (s : SessionState) (x sent : Octets) : Type 0 where
   pub messages : List Octets
   pub part : Octets
@@ -47,13 +48,14 @@ pub record HasTaken (z : ZoneContents) (s : SessionState) (x sent : Octets) : Ty
   pub has_come : HasCome s.frame part
   pub replied : sent ++ s.unsent ≡ replies (reply_over_tcp z) messages
 
--- the rest is what follows some of the first octets
+-- the rest is the end of the octets
 pub record IsEndOf (rest octets : Octets) : Type 0 where
   pub front : Octets
   pub split : octets ≡ front ++ rest
 
--- Of more octets, the first were taken. The session has no room for the others, the rest, as it
--- holds more than 16,384 octets of replies.
+-- More octets were offered, and the first of them were taken. If any are left, there is no room for
+-- them: more than 16,384 octets of replies are held. At most 81,921 are ever held, 16,384 and one
+-- frame.
 pub record TakesMore (z : ZoneContents) (s : SessionState) (x sent octets rest : Octets) : Type 0
   where
     pub taken : Octets

@@ -19,7 +19,7 @@ pub record GivesNothing (old new : Option Octets) : Type 0 where
   pub consumed : Consumes old new []
   pub over : IsAtEnd new
 
--- an incomplete frame, at which the source ends
+-- the beginning of a frame, at which the source ends
 pub record GivesPart (old new : Option Octets) : Type 0 where
   pub part : Octets
   pub consumed : Consumes old new part

@@ -17,8 +17,8 @@ pub enum TurnFault {
 pub enum StreamFault {
     /// The source failed (`S1`). The replies to all complete messages were written.
     SourceFailed,
-    /// The sink failed (`S2`). The replies to all messages but the last one read were written, and
-    /// a prefix of the reply to the last one.
+    /// The sink failed (`S2`). `serve_stream` has then written the replies to all messages but the
+    /// last one read, and a prefix of the reply to the last one.
     SinkFailed,
     /// The source ended inside a length or a message (`S3`). The replies to all earlier messages
     /// were written.

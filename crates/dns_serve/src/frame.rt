@@ -56,8 +56,8 @@ impl Frame {
         self.came == 0
     }
 
-    /// How many octets are missing from the length, or, once that has come, from the message. The
-    /// frame is whole if none is missing.
+    /// How many octets of the length are missing, or, once it has come, how many of the message.
+    /// The frame is whole if none is missing.
     pub fn missing(&self) -> usize
         ensures count { result ≡ missing_of self.now }
         ensures within { self.now.came + result ≤ 65537 }

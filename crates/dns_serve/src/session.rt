@@ -19,7 +19,7 @@ const BATCH: usize = 16_384;
 const MOST_FRAME: usize = 65_537;
 
 /// What a server holds of one stream: the frame that is arriving, and the replies that were not
-/// sent. Callers read the stream, and write what `unsent` returns.
+/// sent. Callers read the stream, write what `unsent` returns, and say so with `note_sent`.
 ///
 /// However the stream is cut into pieces, the octets sent, followed by the unsent octets, are the
 /// replies to the messages of all frames taken. At most 81,921 octets of replies are held, in

@@ -13,8 +13,8 @@ const STREAM: &[&[u8]] = &[WWW, EMPTY, LONG, ZEROS, WWW];
 
 const REPLIES: &[&[u8]] = &[WWW_REPLY, REFUSED, WWW_REPLY];
 
-// How often the stream is repeated for a session that has no room for all replies: these have
-// 108 octets, and 16,384 are held at most before one more is added.
+// How often the stream is repeated for a session that has no room for all replies. Each repetition
+// gets 108 octets of replies; a session that holds more than 16,384 takes no more.
 const TIMES: usize = 200;
 
 // What a session sends if its stream comes in pieces of this size, and at most `most` octets are
