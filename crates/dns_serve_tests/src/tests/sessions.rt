@@ -1,3 +1,5 @@
+ghost use Rattle.std.specs.Prelude.{◌<◌};
+
 use super::frames::{EMPTY, LONG, REFUSED, WWW, WWW_REPLY, ZEROS};
 use dns_answer::TcpDraft;
 use dns_samples_tests::SMALL;
