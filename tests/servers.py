@@ -1,0 +1,159 @@
+"""Servers, sockets and queries, for tests and benches."""
+import contextlib
+import os
+import socket
+import struct
+import subprocess
+import time
+from pathlib import Path
+
+import dns.message
+import dns.rcode
+
+TOP = Path(__file__).resolve().parent.parent
+LIBEXEC = TOP / "libexec"
+
+
+def query(name, rtype="A", number=0x1234):
+    """The octets of a query without EDNS and without RD."""
+    asked = dns.message.make_query(name, rtype, flags=0)
+    asked.id = number
+    return asked.to_wire()
+
+
+def framed(message):
+    """A message after its length, as it is sent over TCP."""
+    return struct.pack(">H", len(message)) + message
+
+
+def frame_of(client):
+    """The next message of a stream socket, or None at its end."""
+    octets = b""
+    while len(octets) < 2 or len(octets) < 2 + struct.unpack(">H", octets[:2])[0]:
+        piece = client.recv(2 if len(octets) < 2 else 2 + struct.unpack(">H", octets[:2])[0] - len(octets))
+        if not piece:
+            return None
+        octets += piece
+    return octets[2:]
+
+
+def bound(kind, address, shared=False):
+    """A socket bound to the address, which listens if it is a TCP socket, with the settings of the socket unit."""
+    one = socket.socket(socket.AF_INET6 if ":" in address[0] else socket.AF_INET, kind)
+    one.setsockopt(socket.SOL_SOCKET, socket.SO_REUSEADDR, 1)
+    one.setsockopt(socket.SOL_SOCKET, socket.SO_REUSEPORT, int(shared))
+    one.setsockopt(socket.SOL_SOCKET, socket.SO_RCVBUF, 1 << 20)
+    one.bind(address)
+    if kind == socket.SOCK_STREAM:
+        one.listen(1024)
+    return one
+
+
+def until(what, seconds=5):
+    """Waits until `what` returns a true value, for at most `seconds` seconds, and returns its last value."""
+    end = time.monotonic() + seconds
+    while not (holds := what()) and time.monotonic() < end:
+        time.sleep(0.02)
+    return holds
+
+
+def is_there(process):
+    return Path(f"/proc/{process}").exists()
+
+
+def state_of(process):
+    """The state of a process in one letter: T if it is stopped."""
+    return Path(f"/proc/{process}/stat").read_text().rsplit(")", 1)[1].split()[0]
+
+
+def seconds_of(process):
+    """The processor time of a process and of its children that have ended, in seconds."""
+    fields = Path(f"/proc/{process}/stat").read_text().rsplit(")", 1)[1].split()
+    return sum(map(int, fields[11:15])) / os.sysconf("SC_CLK_TCK")
+
+
+class Workers:
+    """Runs libexec/workers for a zone file, with a runtime folder of its own, at two UDP sockets and a TCP socket of one address,
+    as the service has them. `by` is a command that starts it."""
+
+    def __init__(self, programs, folder, address, origin, file, by=(), kinds="uut", **settings):
+        self.room = Path(folder, "run")
+        self.room.mkdir(exist_ok=True)
+        self.address, self.origin, self.file, self.by, self.kinds = address, origin, Path(file), list(by), kinds
+        self.environment = {**os.environ, "RUNTIME_DIRECTORY": str(self.room), **settings}
+        self.environment["PATH"] = f"{programs}:{os.environ['PATH']}"
+        self.said = Path(folder, "said")
+
+    def begin(self, given):
+        """Starts it with these sockets as its descriptors 3, 4, .. They are first duplicated to high descriptors, so that the
+        shell, which moves them, overwrites none."""
+        far = [os.dup2(one.fileno(), one.fileno() + 100) for one in given]
+        places = " ".join(f"{3 + place}<&{number} {number}<&-" for place, number in enumerate(far))
+        shell = ["bash", "-c", f'exec "$@" {places}', "-", *self.by, LIBEXEC / "workers", self.origin, self.file]
+        settings = {**self.environment, "LISTEN_FDS": str(len(given))}
+        with open(self.said, "ab") as said:
+            how = {"stdin": subprocess.DEVNULL, "stderr": said, "pass_fds": far, "start_new_session": True}
+            run = subprocess.Popen(shell, env=settings, **how)
+        for number in far:
+            os.close(number)
+        return run
+
+    def __enter__(self):
+        self.said.write_text("")
+        kinds = {"u": socket.SOCK_DGRAM, "t": socket.SOCK_STREAM}
+        self.given = [bound(kinds[kind], self.address, shared=True) for kind in self.kinds]
+        self.run = self.begin(self.given)
+        self.pid = self.run.pid
+        until(lambda: ": serving serial " in self.log() or self.run.poll() is not None, 60)
+        return self
+
+    def __exit__(self, *_):
+        left = self.processes()
+        self.run.terminate()
+        self.run.wait(timeout=20)
+        assert until(lambda: not any(map(is_there, left)))
+        for one in self.given:
+            one.close()
+
+    def log(self):
+        return self.said.read_text()
+
+    def reload(self):
+        """Requests a reload, and returns its status."""
+        words = [LIBEXEC / "workers", "reload", self.origin, self.file]
+        with open(self.said, "ab") as said:
+            return subprocess.run(words, env=self.environment, stderr=said, timeout=90).returncode
+
+    def processes(self, transport=""):
+        """The ids of the workers of a transport, or of all workers."""
+        listed = subprocess.run(["ps", "-o", "pid=,args=", "--ppid", str(self.run.pid)], capture_output=True, text=True).stdout
+        return sorted(int(line.split()[0]) for line in listed.splitlines() if f"zonesocket {transport}" in line)
+
+
+@contextlib.contextmanager
+def asking(address, seconds=2):
+    """A UDP socket that is connected to a server."""
+    with socket.socket(socket.AF_INET6 if ":" in address[0] else socket.AF_INET, socket.SOCK_DGRAM) as client:
+        client.settimeout(seconds)
+        client.connect(address)
+        yield client
+
+
+def connected(address, seconds=5):
+    """A connection to a server."""
+    return socket.create_connection(address, timeout=seconds)
+
+
+def asks(client, message):
+    """Whether a question on a connection gets a reply."""
+    client.sendall(framed(message))
+    reply = frame_of(client)
+    return reply is not None and reply[:2] == message[:2]
+
+
+def is_answered(address, message):
+    """Whether a question over each transport gets a reply."""
+    with contextlib.suppress(OSError), asking(address) as other, connected(address) as client:
+        other.send(message)
+        return other.recv(512)[:2] == message[:2] and asks(client, message)
+    return False
