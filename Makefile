@@ -1,38 +1,38 @@
-.PHONY: run programs built install uninstall clean package operate examples docs-check generated test edits misuse clients speed scale faults caught hostile messages worst bench
+.PHONY: run programs built install uninstall clean package test check check-all operate edits
 
 PREFIX ?= /usr/local
 NAMES = zonecheck zoneserve dnsmsg zonesocket
 PROGRAMS = $(foreach name,$(NAMES),crates/$(name)/out/$(name))
+# What the programs are made from.
+SOURCES = $(shell find crates \( -name out -o -name must-fail -o -name edits -o -name tests \) -prune -o \( -name '*.rt' -o -name '*.antt' \) -print)
 # The scripts that are installed as programs, and the modules that the Python scripts import.
 SCRIPTS = $(wildcard bin/*)
 MODULES = $(wildcard share/mitrehyssop/*.py)
-# The programs that tools/worst measures.
-THREE = $(wordlist 1,3,$(PROGRAMS))
 PAGES = $(wildcard man/*.1)
 DOC = $(DESTDIR)$(PREFIX)/share/doc/mitrehyssop
 SHARE = $(DESTDIR)$(PREFIX)/share/mitrehyssop
 LIBEXEC = $(DESTDIR)$(PREFIX)/libexec/mitrehyssop
 UNITS = $(DESTDIR)$(PREFIX)/lib/systemd/system
-# The documents for operators. The other documents are for people who work on the source.
-DOCUMENTS = $(foreach name,OPERATE SCALE CODES IMPORT ZONEFILE REPLY PROVED PERFORMANCE,docs/$(name).md)
+# The documents for operators and auditors. The other documents are for people who work on the source.
+DOCUMENTS = $(foreach name,OPERATE SCALE CODES IMPORT ZONEFILE PROVED PERFORMANCE,docs/$(name).md)
 COMPLETIONS = $(DESTDIR)$(PREFIX)/share/bash-completion/completions
+PYTEST = /usr/bin/python3 -m pytest -q
 
-# Builds the programs, checks two zones in examples/, and asks the server about one of them.
-run: programs
-	tools/check crates/zonecheck/out/zonecheck
-	tools/ask crates/zoneserve/out/zoneserve
+# Proves and builds the programs, and shows what they do.
+run: built
+	packaging/show
 
-# Proves and builds each program, to crates/NAME/out/NAME.
+# Proves and builds the programs if one is missing or older than a source.
+built: $(PROGRAMS)
+
+$(PROGRAMS) &: $(SOURCES)
+	packaging/build $(NAMES)
+
 programs:
-	tools/build $(NAMES)
+	packaging/build $(NAMES)
 
-# Builds the programs if one is missing or older than a source.
-built:
-	@tools/is-built $(PROGRAMS) || $(MAKE) programs
-
-# Builds what is missing, and installs everything under PREFIX, or under DESTDIR followed by PREFIX. The examples are in
-# share/mitrehyssop, and the folder of the documents only links to them: small systems may remove that folder, but services use
-# some of the examples.
+# Installs everything under PREFIX, or under DESTDIR followed by PREFIX. The examples are in share/mitrehyssop, and the folder of
+# the documents only links to them: small systems may remove that folder, but services use some of the examples.
 install: built
 	install -d "$(DESTDIR)$(PREFIX)/bin" "$(DESTDIR)$(PREFIX)/share/man/man1" "$(DOC)/docs/plots" "$(SHARE)/examples" "$(COMPLETIONS)"
 	install -d "$(LIBEXEC)" "$(UNITS)"
@@ -47,7 +47,7 @@ install: built
 	sed -i 's|/usr/share/|$(PREFIX)/share/|g' "$(DESTDIR)$(PREFIX)"/share/man/man1/zone*.1 "$(DOC)"/README.md "$(DOC)"/docs/*.md "$(SHARE)"/examples/*
 	ln -sfn ../../mitrehyssop/examples "$(DOC)/examples"
 	for unit in systemd/*; do sed 's|@PREFIX@|$(PREFIX)|' "$$unit" >"$(UNITS)/$${unit##*/}"; done
-	for name in $(NAMES) $(notdir $(SCRIPTS)); do install -m 644 tools/completion "$(COMPLETIONS)/$$name"; done
+	for name in $(NAMES) $(notdir $(SCRIPTS)); do install -m 644 packaging/completion "$(COMPLETIONS)/$$name"; done
 
 uninstall:
 	rm -f $(foreach name,$(NAMES) $(notdir $(SCRIPTS)),"$(DESTDIR)$(PREFIX)/bin/$(name)" "$(COMPLETIONS)/$(name)")
@@ -55,104 +55,30 @@ uninstall:
 	rm -f $(foreach unit,$(wildcard systemd/*),"$(UNITS)/$(notdir $(unit))")
 	rm -rf "$(DOC)" "$(SHARE)" "$(LIBEXEC)"
 
-# Removes what was built and proved in this checkout. Results that rt keeps elsewhere on the machine remain (docs/GATE.md).
+# Removes what was built and proved in this checkout. Results that rt keeps elsewhere on the machine remain.
 clean:
 	rm -rf crates/*/out out
 
 # Makes out/mitrehyssop_VERSION_ARCH.deb from what is built.
 package: built
-	tools/package
+	packaging/package
 
-# Makes the package, checks it with lintian, installs it in a container with systemd, and runs the commands of docs/OPERATE.md
-# and docs/SCALE.md there. It is not in the gate.
-operate: built
-	tools/try-operate "$$(tools/package)"
-
-# Compares each zone of examples/ with its canonical text.
-examples: built
-	tools/examples crates/zonecheck/out/zonecheck
-
-# Runs the commands of the documents and compares their output with the page. Tests the remedies of docs/CODES.md, zonelint,
-# zoneimport, zonedeploy, zonecompare and libexec/workers. Checks that docs/DEFINITIONS.md and docs/plots/mistakes.svg, which
-# scripts generate, are up to date.
-docs-check: built
-	tools/definitions | cmp - docs/DEFINITIONS.md
-	tools/docs-check $(PROGRAMS)
-	tools/remedies crates/zonecheck/out/zonecheck
-	tools/test-lint crates/zonecheck/out/zonecheck
-	tools/test-import crates/zonecheck/out/zonecheck
-	tools/test-deploy crates/zonecheck/out/zonecheck
-	tools/test-workers $(PROGRAMS)
-	tools/test-compare $(PROGRAMS)
-	docs/plots/mistakes | cmp - docs/plots/mistakes.svg
-
-# Compares zoneimport with named-compilezone for 1,000 random zones in BIND's form, other ones in each run. It is not in the gate.
-generated: built
-	tools/test-generated crates/zonecheck/out/zonecheck
-
+# The gate: all proofs, wrong edits that must be refused, tests, programs.
 test:
-	tools/files --check
 	rt ci
 
-# Tries the wrong edits that the gate leaves out: the check has to refuse each. It is not in the gate.
+# The tests that need nothing but the built programs, and take some minutes.
+check: built
+	$(PYTEST) -m 'not slow' tests
+
+# All tests. Those that need root, or a program that is not installed, are skipped with the reason.
+check-all: built
+	$(PYTEST) -rs tests
+
+# Makes the package, checks it with lintian, and runs the commands of docs/OPERATE.md and docs/SCALE.md in a container with systemd.
+operate: built
+	tests/try-operate "$$(packaging/package)"
+
+# Tries the wrong edits that the gate leaves out: the check has to refuse each.
 edits:
-	RT_JOBS=$$(tools/lanes) tools/edits
-
-# Runs the programs with wrong arguments, unreadable files, faulty files, and outputs that can't be written. Checks that code
-# that misuses a walk over a zone doesn't compile. It is not in the gate.
-misuse: programs
-	tools/misuse crates/zonecheck/out/zonecheck crates/zoneserve/out/zoneserve crates/zonesocket/out/zonesocket
-	tools/must-not-compile
-
-# Serves clients on loopback: dig, kdig, dnsperf, resolvers, and peers that behave badly. Has NSD, Knot and BIND answer from the
-# canonical text of a zone, and compares them and PowerDNS with sample zones. Then runs `make operate`. It is not in the gate.
-clients: built
-	tools/clients crates/zoneserve/out/zoneserve crates/zonesocket/out/zonesocket
-	tools/elsewhere crates/zonecheck/out/zonecheck
-	$(MAKE) operate
-
-# Measures the servers, and NSD, Knot and BIND if they are installed; how many questions are lost in reloads; and what several
-# processes at one socket gain. It checks no limits, and is not in the gate.
-speed: built
-	tools/speed crates/zoneserve/out/zoneserve
-	tools/gap crates/zonesocket/out/zonesocket
-	tools/sharing crates/zonesocket/out/zonesocket
-
-# Runs the services of docs/SCALE.md in network namespaces: with dnsdist in front, on three hosts with one address, and with NSD
-# as a hidden primary. Each test that needs a program that is not installed is skipped. It is not in the gate.
-scale: built
-	tools/test-behind $(PROGRAMS)
-	tools/test-anycast $(PROGRAMS)
-	tools/test-hidden $(PROGRAMS)
-
-# Runs the programs under failures: refused memory, failing system calls, bad streams, signals. It is not in the gate.
-faults: built
-	@tools/is-built crates/refused/out/refused || (cd crates/refused && rt run -- data/large.zone >/dev/null)
-	tools/faults $(PROGRAMS) crates/refused/out/refused
-
-# Tries function bodies that wrongly report that there is no memory. No contract refuses them, so a test has to fail with each. It
-# is not in the gate.
-caught:
-	tools/caught
-
-# Gives zoneserve a million datagrams that were changed at random. Gives zonecheck 100,000 files that were changed at random, and
-# all texts of a few pieces. Compares their output with that of plain programs in Python. It is not in the gate.
-hostile: built
-	tools/hostile crates/zonecheck/out/zonecheck crates/zoneserve/out/zoneserve 1000000
-	tools/hostile-zones crates/zonecheck/out/zonecheck 100000
-	tools/hostile-zones crates/zonecheck/out/zonecheck sweep
-
-# Gives broken messages to dnsmsg, and times it with the message that is most work. It is not in the gate.
-messages: built
-	tools/messages crates/dnsmsg/out/dnsmsg
-
-# Measures the programs on the most expensive inputs known, and fails if one costs more than its bound. It is not in the gate.
-worst: built
-	tools/worst $(THREE)
-
-# Counts the instructions for reading and writing data, for replies, and for whole queries, here and in other servers. Measures
-# the checker. It checks no limits, and is not in the gate.
-bench: built
-	tools/bench
-	tools/queries crates/zoneserve/out/zoneserve
-	tools/shapes crates/zonecheck/out/zonecheck
+	tests/edits

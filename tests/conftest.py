@@ -30,7 +30,7 @@ def programs(tmp_path_factory):
     if given := os.environ.get("PROGRAMS"):
         return Path(given).resolve()
     folder = tmp_path_factory.mktemp("programs")
-    for name in ["zonecheck", "zoneserve", "zonesocket", "dnsmsg", "zonefaults"]:
+    for name in ["zonecheck", "zoneserve", "zonesocket", "dnsmsg", "zonefaults", "refused"]:
         built = servers.TOP / "crates" / name / "out" / name
         if built.exists():
             (folder / name).symlink_to(built)

@@ -21,6 +21,12 @@ def query(name, rtype="A", number=0x1234):
     return asked.to_wire()
 
 
+def serial_of(reply, place):
+    """The serial in a reply whose first record is an SOA at this place, with a pointer as its owner. Four numbers follow it."""
+    end = place + 12 + int.from_bytes(reply[place + 10:place + 12], "big")
+    return int.from_bytes(reply[end - 20:end - 16], "big")
+
+
 def framed(message):
     """A message after its length, as it is sent over TCP."""
     return struct.pack(">H", len(message)) + message

@@ -48,7 +48,8 @@ class Steady:
 
     def __exit__(self, *_):
         fields = self.client.communicate("\n", timeout=60)[0].split()
-        self.lost, self.asked, self.lost_tcp, self.asked_tcp, self.longest, *self.serials = map(int, fields)
+        self.lost, self.asked, self.lost_tcp, self.asked_tcp, *self.longest = map(int, fields[:6])
+        self.serials = [int(field) for field in fields[6:]]
 
 
 def test_start_and_end(run):
@@ -125,7 +126,7 @@ def test_a_reload_is_whole_or_not_at_all(run, programs, tmp_path):
         with asking(HERE) as client:
             for _ in range(20):
                 client.send(servers.query(ORIGIN, "SOA"))
-                assert int.from_bytes(client.recv(512)[-20:-16], "big") == 1
+                assert servers.serial_of(client.recv(512), len(servers.query(ORIGIN, "SOA"))) == 1
 
 
 def test_a_file_that_changes_at_the_start(run):
