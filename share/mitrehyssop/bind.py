@@ -1,13 +1,20 @@
 """Reads a zone file as BIND does, and writes its entries in zonecheck's form, each on its own lines."""
+import collections
 import os
 import re
 from array import array
 
 from generic import generic
-from master import (KINDS, LARGEST, LINES, NAMES, NUMBERS, OTHERS, Entry, Reader, Refused, digits, groups, name, octets, read,
-                    refuse, split, unquoted)
+from master import (KINDS, LARGEST, LINES, NAMES, NUMBERS, OTHERS, QUICK, Entry, Reader, Refused, digits, groups, name, octets,
+                    read, refuse, split, unquoted)
 
+# The types that only a server of another kind serves: those of DNSSEC, and DNAME.
+UNSERVED = {"DS": "TYPE43", "RRSIG": "TYPE46", "NSEC": "TYPE47", "DNSKEY": "TYPE48", "NSEC3": "TYPE50", "NSEC3PARAM": "TYPE51",
+            "DNAME": "TYPE39"}
+UNSERVED = {name: rtype for rtype, number in UNSERVED.items() for name in (rtype, number)}
 DEEPEST, FILES = 10, 1000   # how deep $INCLUDE may be nested, and the most included files
+# Data that stays as it is: an IPv6 address without a dotted end, or numbers without leading zeros before a name.
+PLAIN = re.compile(r"[0-9a-fA-F]*:[0-9a-fA-F:]*$|(?:[1-9]\d*[ \t]+|0[ \t]+){1,3}[^\d\s]")
 RANGE = re.compile(r"(\d{1,10})-(\d{1,10})(?:/(\d{1,10})|(?!/))")
 # A part of a template of $GENERATE: plain text, or `$` for the number, with an offset, a width and a base if they are given.
 PART = re.compile(r"([^\\$]+|\\.?)|\$(?:(\$)|\{(-?\d{1,9})(?:,(\d{1,3})(?:,([doxXnN]))?)?\}|(\{)?)", re.S)
@@ -31,14 +38,19 @@ def generated(text, number):
 
 class Importer(Reader):
     """Converts a file, and the files that it includes, to `lines`. `notes` says for each line that could not be converted
-    why not. `sources` has the text of each file, and `places` the number of a file in `sources` and of a line there."""
+    why not. `sources` has the text of each file, and `places` the number of a file in `sources` and of a line there.
 
-    def __init__(self, zone, folder):
+    With `lints`, records of the types UNSERVED are left out: `passed` counts them by type, and `named` has the owners of DNAME.
+    `folder` is where $INCLUDE looks for files; if it `maps`, absolute paths are looked for there too. `open` reads a file."""
+
+    def __init__(self, zone, folder, lints=False, maps=False, reads=read):
         super().__init__(zone)
         self.folder, self.lines, self.places, self.notes, self.sources = os.path.realpath(folder), [], array("Q"), {}, {}
+        self.lints, self.maps, self.reads = lints, maps, reads
+        self.passed, self.named, self.lost = collections.Counter(), set(), False
         # `restate`: whether the next record has to state its owner. `implied`: the TTL that records without one get from the
         # SOA record, or None. `size`: how many octets `lines` have. `count`: how many records were read. `files`: how many files
-        # were included.
+        # were included. `lost`: whether an included file could not be read.
         self.restate, self.implied, self.size, self.count, self.files = False, None, 0, 0, 0
 
     def read(self, text, path, stack=()):
@@ -51,6 +63,10 @@ class Importer(Reader):
         # A zone that exceeds one of these limits never passes, so the rest of it is not read.
         while at < len(lines) and self.size <= LARGEST and len(self.lines) < LINES and self.count < 101000:
             if lines[at][:1] in ("", ";"):
+                at += 1
+                self.add(lines[at - 1:at], file + at)
+                continue
+            if self.is_plain(lines[at]):
                 at += 1
                 self.add(lines[at - 1:at], file + at)
                 continue
@@ -73,8 +89,18 @@ class Importer(Reader):
                     new = [";" * (directive == "$DATE") + line for line in entry.lines()]
             except Refused as error:
                 self.notes[begun], new = str(error), lines[at:entry.end]
+                self.lost = self.lost or directive == "$INCLUDE"
             self.add(new, file + at + 1, file + entry.end)
             at = entry.end
+
+    def is_plain(self, line):
+        """Whether a line is an entry that stays as it is, as most are. If so, the entry is read."""
+        quick = None if self.restate or self.implied else QUICK.fullmatch(line)
+        if not quick or quick[2] and quick[2][0] == "0" or quick[3] not in ("A", "NS", "CNAME", "PTR") and not PLAIN.match(quick[4]):
+            return False
+        self.owner = quick[1] and name(quick[1], self.origin) or self.owner
+        self.stated, self.count, self.pieces = quick[2] or self.stated, self.count + 1, self.pieces + 8
+        return True
 
     def add(self, lines, first, last=0):
         for place, line in enumerate(lines, first):
@@ -88,6 +114,11 @@ class Importer(Reader):
         owner, tokens, at, data, begin = entry.owner, entry.tokens, entry.at, entry.data, int(not entry.blank)
         front = f"{self.owner} " if owner is None and self.restate and self.owner else ""
         record, rtype, self.restate = self.take(entry), NAMES.get(entry.rtype, entry.rtype), False
+        if self.lints and rtype in UNSERVED:
+            self.passed[UNSERVED[rtype]] += 1
+            self.named |= {self.owner} if UNSERVED[rtype] == "DNAME" else set()
+            self.restate = True
+            return [""] * (entry.end - entry.begin)
         if owner and owner[0] == '"':
             tokens[0] = unquoted(owner) + " "
         if entry.ttl:
@@ -122,6 +153,11 @@ class Importer(Reader):
         refuse(len(tokens) not in (2, 3), "$INCLUDE takes a file and an origin")
         path = os.fsdecode(octets(tokens[1]).replace("\0", "").encode("latin-1"))
         real = os.path.realpath(os.path.join(self.folder, path))
+        if self.maps and os.path.isabs(path) and os.path.commonpath([real, self.folder]) != self.folder:
+            # The end of the path that is a file in the folder.
+            parts = path.strip("/").split("/")
+            ends = (os.path.join(self.folder, *parts[at:]) for at in range(len(parts)))
+            real = os.path.realpath(next(filter(os.path.isfile, ends), real))
         before, owner, self.files = self.origin, self.owner, self.files + 1
         origin = name(tokens[2], before) if len(tokens) == 3 else before
         refuse(os.path.commonpath([real, self.folder]) != self.folder,
@@ -131,7 +167,7 @@ class Importer(Reader):
         refuse(len(stack) >= DEEPEST or self.files > FILES,
                f"{tokens[1]}: includes are nested deeper than {DEEPEST} files, or more than {FILES} files are included")
         refuse(os.path.exists(real) and not os.path.isfile(real), f"{tokens[1]} is not a plain file")
-        text = read(real, tokens[1])
+        text = self.reads(real, tokens[1])
         if origin != before:
             self.add([f"$ORIGIN {origin}"], place)
         self.origin = origin

@@ -17,29 +17,31 @@ from array import array
 from pathlib import Path
 
 import bind
-from master import LINES, Names, Reader, Record, Refused, address, escaped, name, refuse, split, twice, unique, within
+from master import LARGEST, LINES, Names, Reader, Record, Refused, address, escaped, name, read, refuse, split, twice, unique, within
 from mending import FORMS, Mending
+from reports import Report, plain
 
-MOST = 100                  # the most faults, and the most warnings, that are reported for a file
+MOST, EACH = 100, 5         # the most faults, and the most warnings of a code, that are reported as text for a file
 MOST_TEXT = 50000000        # the most octets of the canonical text, which does not take too much memory
 MOST_MENDED = 4000000       # the most octets of faulty entries, and of what corrects them
 FIELD = re.compile(r'"(?:[^"\\]|\\.)*"|(?:[^ "\\]|\\.)+')
 Fault = collections.namedtuple("Fault", "place code name text")
 
 
-class Report(collections.namedtuple("Report", "file line severity code name message text")):
-    """A fault or a warning as it is reported. As a string it has the form FILE:LINE: .., which editors recognize."""
-
-    def said(self):
-        return f"{self.name}: {self.message}" if self.name else self.message
-
-    def __str__(self):
-        return f"{plain(self.file)}:{self.line}: {self.code}: {self.said()}\n    {self.text}\n"
+# The messages of remedies that are sure.
+SURE = re.compile(r"the (?:class|TTL) is there twice|is written \d+ here|a byte order mark|a curly|an invisible character|a special|"
+                  r"a CR that is not|a control character|a quotation mark is not closed on its line: close it")
+# The faults that are limits of zonecheck and zoneserve alone, and what a note says of each.
+LIMITS = {"R14": "more than 100,000 records: the rest was not checked", "R15": "more than 16,777,216 octets: the rest was not checked",
+          "Z14": "a set of more than 64 records", "Z15": "more than 32 types at a name"}
+BOM = "\xef\xbb\xbf"
 
 
 def zonecheck(origin, text, *options):
     """The status and the report of zonecheck for a text."""
-    program = shutil.which("zonecheck") or str(Path(__file__).resolve().parents[2] / "bin" / "zonecheck")
+    top = Path(__file__).resolve().parents[2]
+    places = [top / "bin" / "zonecheck", top / "crates" / "zonecheck" / "out" / "zonecheck"]
+    program = shutil.which("zonecheck") or next((str(place) for place in places if place.exists()), "zonecheck")
     with tempfile.TemporaryFile() as said:
         try:
             done = subprocess.run([program, *options, origin, "/dev/stdin"], input=text.encode("latin-1"),
@@ -51,11 +53,6 @@ def zonecheck(origin, text, *options):
         report = said.read().decode("latin-1")
     refuse(done.returncode not in (0, 1), f"zonecheck: {done.stderr.decode('latin-1').strip() or f'status {done.returncode}'}")
     return done.returncode, report
-
-
-def plain(text):
-    """A text that is safe for a terminal: \\DDD replaces octets that are not printable."""
-    return text if text.isprintable() else escaped(os.fsencode(text).decode("latin-1").expandtabs())
 
 
 def run(program, main):
@@ -84,15 +81,23 @@ def absolute(origin):
     return name(os.fsencode(origin).decode("latin-1"), ".") or "."
 
 
-def imported(origin, text, path, folder):
-    """The zone of a file in BIND's form: the converted lines, each with its place in the original files."""
+def imported(origin, text, path, folder, lints=False, reads=read):
+    """The zone of a file in BIND's form: the converted lines, each with its place in the original files. With `lints`, what only
+    other servers serve is passed, and a file that zonecheck passes as it is needs no conversion."""
     if text.startswith(("\0\0\0", *FORMS)):
         return Zone(origin, text, path)
+    if lints and "$" not in text.replace("$TTL", "").replace("$ORIGIN", ""):
+        zone = Zone(origin, text, path, lints=True)
+        if zone.passes_at_once():
+            return zone
     near = "" if path.startswith("/dev/") else os.path.dirname(path)
-    importer = bind.Importer(absolute(origin), folder or near or ".")
-    importer.read(text.removeprefix("\xef\xbb\xbf"), path)
+    importer = bind.Importer(absolute(origin), folder or near or ".", lints, maps=bool(folder), reads=reads)
+    importer.read(text.removeprefix(BOM), path)
     refuse(len(importer.lines) >= LINES, f"{path}: with the files that it includes, it has more than {LINES:,} lines")
-    return Zone(origin, "\n".join(importer.lines), path, importer)
+    zone = Zone(origin, "\n".join(importer.lines), path, importer, lints)
+    if text.startswith(BOM):
+        zone.faults.append(Fault((path, 1), "R01", "", "the file begins with a byte order mark, which BIND refuses: take it out"))
+    return zone
 
 
 class Zone:
@@ -105,7 +110,7 @@ class Zone:
     by line and code, `size` their octets. `more` means that there may be unreported faults.
     """
 
-    def __init__(self, origin, text, path, importer=None):
+    def __init__(self, origin, text, path, importer=None, lints=False):
         self.origin, self.path, self.text, self.zone = origin, path, text, absolute(origin)
         self.lines = importer.lines if importer else text.split("\n") if text.startswith((*FORMS,)) else split(text, path)
         self.places, self.notes, self.sources = None, None, {path: text}
@@ -113,16 +118,24 @@ class Zone:
             self.places, self.notes, self.sources = importer.places, importer.notes, importer.sources
         self.faults, self.records, self.passes, self.more, self.partial = [], [], False, False, False
         self.unknown, self.doubtful, self.mended, self.size = collections.defaultdict(set), set(), collections.Counter(), 0
+        self.lints, self.notes_found, self.fixes, self.named = lints, [], {}, importer.named if importer else set()
+        self.passed, self.partial = importer.passed if importer else {}, bool(importer and importer.lost)
+
+    def passes_at_once(self):
+        """Whether zonecheck passes the text. If so, sets `passes` and `records`; else returns False. Its report is in `said`."""
+        status, self.said = zonecheck(self.origin, self.text, "--print")
+        if status == 0:
+            # The canonical text has a record on each line.
+            rows = (line.split(" ", 4) for line in self.said.splitlines())
+            self.records = [Record(owner, ttl, rtype, FIELD.findall(data)) for owner, ttl, _, rtype, data in rows]
+            self.passes = True
+        return self.passes
 
     def check(self):
         """Runs zonecheck, and sets `passes`, `faults` and `records`."""
-        status, said = zonecheck(self.origin, self.text, "--print")
-        if status == 0:
-            # The canonical text has a record on each line.
-            rows = (line.split(" ", 4) for line in said.splitlines())
-            self.records = [Record(owner, ttl, rtype, FIELD.findall(data)) for owner, ttl, _, rtype, data in rows]
-            self.passes = True
+        if self.passes or self.passes_at_once():
             return self
+        said = self.said
         if "\r" in self.text.rstrip("\r\n") and "\n" not in self.text.rstrip("\n"):
             do = "write LF for each, as `tr '\\r' '\\n'` does"
             self.found(0, said.split()[-1], f"the lines of the file end with CR alone: {do}")
@@ -138,9 +151,19 @@ class Zone:
         else:
             self.records = self.model()
             ZoneFaults(self, self.records).report(said)
+        self.records = self.records or self.model() if self.notes_found else self.records
         self.faults.sort(key=lambda fault: (fault.place[1], fault.code))
         self.more, self.faults = self.more or len(self.faults) >= MOST, self.faults[:MOST]
         return self
+
+    def remarks(self):
+        """The notes: limits that only zonecheck has, and records that were not checked."""
+        signed = {rtype: count for rtype, count in self.passed.items() if rtype != "DNAME"}
+        for kind, count, names in (("DNSSEC", sum(signed.values()), ", ".join(signed)), ("DNAME", self.passed.get("DNAME", 0), "")):
+            if count:
+                says = f"{count} record{'s' * (count > 1)} of {kind}{f' ({names})' * bool(names)} {'were' if count > 1 else 'was'} not checked"
+                self.notes_found.append(Fault((self.path, 1), "N01", "", says + ": zoneserve does not serve them"))
+        return self.notes_found
 
     def recheck(self, reader):
         """What zonecheck reports about the lines that `reader` has not read, or about all lines if those have no fault.
@@ -178,31 +201,39 @@ class Zone:
         """The records of the lines, as corrected so far."""
         return list(Reader(self.zone).records(self.lines))
 
-    def report(self, warned):
-        """The faults and warnings with their lines, and messages if there are more of them than are reported."""
-        wanted = {fault.place for fault in [*self.faults, *warned[:MOST]]}
+    def report(self, found, severity):
+        """These faults, warnings and notes with their lines, as far as they have a severity."""
+        wanted = {fault.place for fault in found}
         lines = {(file, number): line[1] for file in {file for file, _ in wanted}
                  for number, line in enumerate(re.finditer(r"([^\n]*)\n?", self.sources[file]), 1) if (file, number) in wanted}
-        found = [Report(file, line, severity, code, owner, escaped(message[:2000]),
-                        escaped(lines[file, line].rstrip("\r").expandtabs()[:300]))
-                 for severity, faults in (("error", self.faults), ("warning", warned[:MOST]))
-                 for (file, line), code, owner, message in faults]
-        path, many = plain(self.path), f"{MOST} of {len(warned)} warnings are reported\n"
-        return found, (f"{path}: {len(self.faults)} faults are reported, and there may be more\n" * self.more
-                       + f"{path}: {many}" * (len(warned) > MOST))
+        return [Report(file, line, severity(code), code, owner, escaped(message[:2000]),
+                       escaped(lines.get((file, line), "").rstrip("\r").expandtabs()[:300]))
+                for (file, line), code, owner, message in found if severity(code)]
 
     def found(self, line, code, text, owner=""):
         """Adds a fault, unless it is equal to the last one. Returns whether it was added."""
         text = self.notes.get(line, text) if self.notes and code in ("R05", "R11", "R13") else text
         fault = Fault(self.place(line), code, owner, text)
+        if self.lints and code in LIMITS:
+            self.notes_found.append(fault._replace(code="N02", text=f"{LIMITS[code]}: zoneserve does not serve that"))
+            return True
         another = self.faults[-1:] != [fault]
         self.faults += [fault] * another
         return another
+
+    def note_fix(self, line, mending):
+        """Records a remedy that is sure, unless the lines of the entry are not those of the file."""
+        file, number = self.place(line)
+        own = self.sources[file].split("\n")[number - 1:number - 1 + len(mending.fixed)]
+        if own == self.lines[line:mending.end]:
+            self.fixes.setdefault((file, number), mending.fixed)
 
     def mend(self, reader, line, code):
         """Reports and corrects the fault of an entry. Returns False if the rest of the file can't be checked."""
         collections.deque(reader.records(self.lines, line), 0)
         mending = Mending(self, reader, line, code)
+        if SURE.search(mending.says) and "not ASCII" not in mending.says and len(mending.fixed) == mending.end - line:
+            self.note_fix(line, mending)
         self.size += sum(map(len, [*self.lines[line:mending.end], *mending.fixed]))
         # If an entry has the same fault again after its correction, the fault is not reported again. A fault that only the
         # correction of a string may have caused is not reported.
@@ -247,7 +278,8 @@ class ZoneFaults(Names):
             here = self.at(owner)
             rows = self.origin(owner, here) if code in ("Z01", "Z04") else self.rows(owner, here)
             found = [(record, says) for record, its, holds, says in rows if its == code and holds]
-            doubtful = owner in self.of.doubtful if code in ("Z01", "Z04") else \
+            doubtful = owner in self.of.doubtful or self.of.partial if code in ("Z01", "Z04") else \
+                self.of.partial if code == "Z10" else \
                 lost and not found and code in ("Z08", "Z09", "Z10", "Z11")
             for record, says in [] if doubtful else found or [(next(iter(here), None), "the name has this fault")]:
                 self.of.found(record.line if record else 0, code, says, owner)

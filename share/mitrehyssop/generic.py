@@ -20,7 +20,23 @@ STRING = re.compile(r'"(?:[^"\\]|\\.)*"', re.S)
 # For each type with data in base64: which tokens of its data these are. dnspython skips octets that are not base64.
 BASE64 = {"CERT": slice(3, None), "IPSECKEY": slice(4, None), "DHCID": slice(None), "HIP": slice(2, 3),
           "CDNSKEY": slice(3, None), "OPENPGPKEY": slice(None)}
+# The octets of a fingerprint by its type (RFC 4255 3.1.2, RFC 6594 4).
+FINGERPRINTS = {1: 20, 2: 32}
 PARAMETER = re.compile(r'(?:[^ "\\]|\\.|"(?:[^"\\]|\\.)*")+', re.S)
+
+
+def is_expression(text):
+    """Whether BIND takes the octets as the expression of a NAPTR record (RFC 3402 3.2): empty, or an expression, what it is replaced
+    with and flags, each after the same character."""
+    if not text:
+        return True
+    parts = re.split(r"(?<!\\)" + re.escape(text[0]), text, flags=re.S)
+    try:
+        groups = re.compile(parts[1]).groups if len(parts) == 4 else -1
+    except re.error:
+        groups = -1
+    return not (text[0] in "i\\" or text[0].isdigit() or "\0" in text or groups < 0 or parts[3] not in ("", "i")
+                or any(int(number) > groups or number == "0" for number in re.findall(r"\\(\d)", parts[2])))
 
 
 class Unread(Exception):
@@ -87,6 +103,10 @@ def generic(entry, rtype, origin):
         refuse(rtype in ROWS and len(kinds) != len(entry.data), f"{len(entry.data)} fields, and not {len(kinds)}")
         data = b"".join(field(kind, token, origin) for kind, token in zip(kinds, entry.data)) if rtype in ROWS else \
             by_dnspython(rtype, entry, origin)
+        if rtype == "NAPTR":
+            refuse(not is_expression(octets(entry.data[4])), f"{entry.data[4]} is not an expression that BIND reads")
+        size = FINGERPRINTS.get(data[1]) if rtype == "SSHFP" and len(data) > 2 else None
+        refuse(size and len(data) != size + 2, f"such a fingerprint has {size} octets, and not {len(data) - 2}")
     except Unread as error:
         return None, str(error)
     except Exception as error:  # dnspython raises many kinds of exceptions.

@@ -39,6 +39,9 @@ NAMED = {NUMBERS[rtype]: rtype for rtype in KINDS}
 # The beginning of a line that looks like an entry.
 BEGIN = re.compile(r"\$[A-Z]+[ \t]|(?:[^ \t;\"()][^ \t;\"()]*)?[ \t]+(?:(?:\d[\dwdhms]*|IN)[ \t]+){0,2}(?:TYPE\d+|"
                    + "|".join([*KINDS, *OTHERS, "DS"]) + r")[ \t(]", re.I)
+# A line that is a whole entry of plain tokens, as most are.
+PLAIN = r"[!#%-'*-:<-?A-\[\]-~]+"
+QUICK = re.compile(rf"({PLAIN})?[ \t]+(?:(\d+)[ \t]+)?(?:IN[ \t]+)?(A|AAAA|NS|CNAME|MX|PTR|SRV)[ \t]+({PLAIN}(?:[ \t]+{PLAIN}){{0,3}})")
 LARGEST = 16777216  # the most octets of a file; one more is read, to see whether there are more
 # The most lines of a file, octets of a line, pieces of an entry and of a file, so that they do not take too much memory and time.
 LINES, LONGEST, LARGE_ENTRY, PIECES = 1000000, 1000000, 500000, 3000000
@@ -246,10 +249,25 @@ class Reader:
             if lines[self.at][:1] in ("", ";"):
                 self.at += 1
                 continue
+            if quick := QUICK.fullmatch(lines[self.at]):
+                yield self.quickly(*quick.groups())
+                continue
             entry = self.entry(lines, self.at)
             self.at, record = entry.end, self.take(entry)
             if record:
                 yield record
+
+    def quickly(self, owner, ttl, rtype, data):
+        """The record of a line that is a whole entry of plain tokens."""
+        self.owner = owner and name(owner, self.origin) or self.owner
+        self.stated, self.at, self.pieces = ttl or self.stated, self.at + 1, self.pieces + 8
+        tokens = data.split()
+        last = tokens[-1]
+        if rtype == "AAAA":
+            tokens[-1] = str(ipaddress.IPv6Address(last)) if groups(last) else last
+        elif rtype != "A":
+            tokens[-1] = name(last, self.origin) or last
+        return Record(self.owner, ttl or self.default or self.stated, rtype, tokens, self.at - 1, last)
 
     def take(self, entry):
         """The record of an entry, or None if the entry is not a record."""

@@ -16,6 +16,8 @@ TAKES = {"A": "an IPv4 address: four numbers from 0 to 255", "NS": "the name of 
          "AAAA": "an IPv6 address in groups of hex digits alone", "PTR": "a name",
          "SRV": "three numbers, priority, weight and port, and the name of a host"}
 LARGEST = {"H": 65535, "L": 4294967295, "T": 2147483647}
+# The types that a misspelled type may mean.
+COMMON = [*KINDS, "CAA", "TLSA", "SSHFP", "NAPTR", "HTTPS", "SVCB", "URI", "LOC", "RP", "CERT", "DS", "CDS", "DNSKEY", "CDNSKEY", "SMIMEA"]
 # Sample data for an entry whose right data is unknown. The name is outside the zone.
 INSTEAD = {"4": "192.0.2.1", "6": "2001:db8::1", "n": "host.invalid.", "s": '"text"', "H": "10", "L": "3600"}
 # The first octets of files that are not plain text, and the message for each.
@@ -60,7 +62,8 @@ RULES = [
     ("R14", "", None, "more than 100,000 records: split the zone", "rest"),
     ("R15", "", None, "more than 16,777,216 octets: split the zone", "rest")]
 # Corrections of data that lacks a field or has two fields in the wrong order: a pattern, what replaces it, and the message.
-FIELDS = [(r"MX (?!\d+ )(\S+) (\d+)", r"MX \2 \1", "the number is first: write MX {1} {0}"),
+FIELDS = [(r"MX (\d+)([A-Za-z]\S*)", r"MX \1 \2", "a blank is missing: write MX {0} {1}"),
+          (r"MX (?!\d+ )(\S+) (\d+)", r"MX \2 \1", "the number is first: write MX {1} {0}"),
           (r"MX (?!\d+$)(\S+)", r"MX 10 \1", "the number is missing: write MX 10 {0}"),
           (r"SOA (\S+)( \d\w*(?: \S+){4})", r"SOA \1 hostmaster\2",
            "6 fields, and not 7: the second name is missing, the mailbox: write hostmaster after the first"),
@@ -171,6 +174,8 @@ class Mending(Entry):
         yield not self.depth, tokens, "string", \
             "a ) without a ( before it: take it out, or write the ( that is missing"
         yield even, tokens, "string", "a parenthesis inside another: take the inner ones out"
+        shut = next((piece for piece in pieces if piece[0] == ";" and ")" in piece), "")
+        yield shut, tokens, "string", f"a parenthesis is not closed, since the ) in the comment {shut[:60]} is none: write it before the ;"
         yield True, tokens, "string", f"a parenthesis is not closed: write ) at the end of {end}"
 
     def r05(self):
@@ -194,8 +199,10 @@ class Mending(Entry):
 
     def r06(self):
         first, fields = self.tokens[0], [token.strip('"') for token in self.tokens[1:]]
-        good = next((field for field in fields if name(field, self.reader.origin)), "")
-        value, _ = self.as_number(next(filter(digits, fields), ""), "T")
+        good = next((field for field in fields if name(field, self.reader.origin) and re.search(r"\w", field)), "")
+        # A number is not taken if a word beside it may be its unit, as in `1 hour`.
+        alone = not any(field[:1].isalpha() for field in fields)
+        value, _ = self.as_number(next(filter(digits, fields), "") if alone else "", "T")
         if first.upper() == "$ORIGIN":
             yield good, [first, good], "", f"$ORIGIN takes one name: write $ORIGIN {good}"
             yield True, [], "", "$ORIGIN takes one name"
@@ -228,7 +235,7 @@ class Mending(Entry):
             do = why or f"write {number} {data[:60]}{'..' * bool(data[60:])}, as `zoneimport` does"
             new = self.record(rtype=number, data=(data or "\\# 0").split(" "))
             yield True, new, "", f"{typed.upper()} is not known by name: {do}"
-        near = [bare] if bare in NUMBERS else difflib.get_close_matches(bare[:20], NUMBERS, 1) if bare[2:] else []
+        near = [bare] if bare in NUMBERS else difflib.get_close_matches(bare[:20], COMMON, 1) if bare[2:] else []
         yield near, self.record(rtype="".join(near)), "", f"{typed} is not a type: write {''.join(near)}"
         yield typed, [], "owner", f"{typed} is not a type: the known types are {', '.join(KINDS)}; write others as TYPEn"
         yield True, [], "owner", f"no type after {self.tokens[-1]}"
@@ -278,7 +285,10 @@ class Mending(Entry):
             first = self.zone.where([self.begin])
             notes.append(f"its lines are not joined: write ( at the end of {first}, and ) after the last number")
         elif len(data) > len(kinds) and kinds != "s":
-            several = all(map(address, data)) and "a record has one address: write a record for each"
+            several = all(map(address, data)) and "a record has one address: write a record for each" or \
+                kinds[-1] == "n" and kinds != "nnLLLLL" and all(self.READ[kind](self, token, kind)[0] == token for kind, token in zip(
+                    kinds * count, data)) and (rtype == "NS" or count % len(kinds) == 0 and count > 1 and rtype != "CNAME") and \
+                "a record has one host: write a record for each"
             notes.append(f"{fields}: {several or f'a comment begins with ;, write it before {data[len(kinds)]}'}")
             del data[len(kinds):]
         elif len(data) < len(kinds):
@@ -309,6 +319,8 @@ class Mending(Entry):
         rtype, text = address(bare.translate(str.maketrans("lIoO", "1100")) if numeric else bare) or ("", None)
         if not text and re.search(r"[g-zG-Z]", bare) and name(bare, self.reader.origin) and ":" not in bare and not numeric:
             return None, f"{token} is a name: write CNAME {bare} for an alias"
+        if kind == "4" and (mapped := re.fullmatch(r"::ffff:([\d.]+)", bare, re.I)) and address(mapped[1]):
+            rtype, text = "A", mapped[1]
         if text and rtype != ("A" if kind == "4" else "AAAA"):
             self.rtype = rtype
             return text, f"{token} is an address of the type {rtype}: write {rtype} {text}"

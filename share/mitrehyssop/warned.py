@@ -1,4 +1,9 @@
 """Warnings about a zone: likely mistakes that may be intended. docs/CODES.md has each with its RFC and what to do."""
+import base64
+import binascii
+import difflib
+import functools
+import ipaddress
 import itertools
 import re
 
@@ -8,18 +13,92 @@ from master import Names, above, address, octets, refuse, twice, unique, within
 MOST_NODES = 1000000
 HOST = re.compile(r"(?:\*\.)?(?:[a-z0-9](?:[a-z0-9-]*[a-z0-9])?\.)+|(?:.*\.)?gc\._msdcs\..*")
 FOUR = re.compile(r"\d+\.\d+\.\d+\.\d+\.")
-SERVICE = re.compile(r"(?:\*\.)?_[^.]+\._[^.]+\.")
+# An instance of a service (RFC 6763 4.1) may have a label before it.
+SERVICE = re.compile(r"(?:(?:[^.\\]|\\.)+\.)?_[^.]+\._[^.]+\.")
 # For each beginning of a text: a pattern of the names where such a text has a meaning, an example, and what it has to contain.
 TEXTS = {"v=DMARC1": (r"_dmarc\.|.*\._report\._dmarc\.", "_dmarc", "p="),
          "v=DKIM1": (r"(?!_).+\._domainkey\.", "NAME._domainkey", "p="),
          "v=STSv1": (r"_mta-sts\.", "_mta-sts", "id="), "v=TLSRPTv1": (r"_smtp\._tls\.", "_smtp._tls", "rua="),
          "v=BIMI1": (r".+\._bimi\.", "NAME._bimi", "l="), "v=spf1": ("", "", "")}
+POLICY = (".", "*.", "rpz-passthru.", "rpz-drop.", "rpz-tcp-only.")  # targets that mean actions in response policy zones
 LOWER = {kind.lower(): kind for kind in TEXTS}
 
 
 def kind_of(record):
     """The key of TEXTS with which the text of a record begins, in upper or lower case; or None."""
     return LOWER.get(re.split("[ ;]", octets(record.data[0]), 1)[0].lower())
+
+
+# The terms of an SPF text (RFC 7208 12), and the tags of a DMARC policy whose values are checked (RFC 7489 6.3).
+DOMAIN = r"(?=[^ ]*[a-z%])[^ /,;:\"']+"
+SPF = re.compile(rf"(?i)[-+?~]?(?:all|include:{DOMAIN}|(?:a|mx)(?::{DOMAIN})?(?:/\d+)?(?://\d+)?|ptr(?::{DOMAIN})?|"
+                 rf"exists:{DOMAIN}|ip4:[\d./]+|ip6:[\da-f:./]+)|[a-z][\w.-]*={DOMAIN}")
+URIS = r"(?:\s*mailto:[^\s,!@]+@[^\s,!]+(?:![0-9]+[kmgt]?)?\s*(?:,|$))+"
+DMARC = {"p": "none|quarantine|reject", "sp": "none|quarantine|reject", "pct": r"\d\d?|100", "adkim": "[rs]", "aspf": "[rs]",
+         "rua": URIS, "ruf": URIS}
+UNUSABLE = [ipaddress.ip_network(net) for net in ("0.0.0.0/8", "127.0.0.0/8", "169.254.0.0/16", "224.0.0.0/3", "::/127",
+                                                  "::ffff:0:0/96", "fe80::/10", "ff00::/8")]
+
+
+def spf_faults(text):
+    """What is wrong with the terms of an SPF text."""
+    terms = text.split(" ")[1:]
+    names = [term.lstrip("+-?~").lower() for term in terms if term]
+    for term in filter(None, terms):
+        bare = term.lstrip("+-?~")
+        try:
+            wrong = not SPF.fullmatch(term) or bare[:4] in ("ip4:", "ip6:") and \
+                ipaddress.ip_network(bare[4:], False).version != int(bare[2])
+        except ValueError:
+            wrong = True
+        if wrong:
+            yield f"{term} is not a term of SPF, so the whole text is void"
+    if "all" in names[:-1] and any(not re.match(r"exp=", name) for name in names[names.index("all") + 1:]):
+        yield "what stands after all is never used"
+    if any(term.lower() in ("+all", "all") for term in terms):
+        yield "+all lets everybody send mail in this name"
+    count = sum(bool(re.match(r"include:|a\b|mx\b|ptr\b|exists:|redirect=", name)) for name in names)
+    if count > 10:
+        yield f"{count} terms need look-ups, but more than 10 make the text void"
+
+
+def is_base64(text):
+    try:
+        return bool(base64.b64decode(re.sub(r"\s", "", text), validate=True)) or not text.strip()
+    except binascii.Error:
+        return False
+
+
+def mailbox(name):
+    """The form that DNS has of a mailbox with an @: a dot for it, and a backslash before each dot of the part before it (RFC 1035 8)."""
+    local, _, domain = name.partition("\\@")
+    return local.replace(".", "\\.") + "." + domain
+
+
+def caa_fault(data):
+    """What is wrong with the octets of a CAA record (RFC 8659 4)."""
+    tag, value = data[2:2 + data[1]].decode("latin-1").lower(), data[2 + data[1]:].decode("latin-1")
+    if tag == "iodef" and not re.match(r"mailto:.+@.+|https?://.+", value, re.I):
+        return f"iodef takes a URL such as mailto:security@example.com, and not {value}"
+    if tag in ("issue", "issuewild") and not re.match(r"\s*(?:(?:[a-z0-9-]+\.)+[a-z0-9-]+\s*)?(?:;|$)", value, re.I):
+        return f"{tag} takes the domain name of an authority, or ; for none, and not {value}"
+    known = ("issue", "issuewild", "iodef", "issuemail", "issuevmc", "contactemail", "contactphone")
+    return None if tag in known else f"the tag {tag} is not known: no authority reads it"
+
+
+def digest_fault(data):
+    """What is wrong with the octets of a TLSA or SMIMEA record (RFC 6698 2.1)."""
+    if data[0] > 3 or data[1] > 1 or data[2] > 2:
+        return f"usage {data[0]}, selector {data[1]} and matching type {data[2]} are not all known"
+    size = {1: 32, 2: 64}.get(data[2])
+    return f"such a digest has {size} octets, and not {len(data) - 3}" if size and len(data) != size + 3 else None
+
+
+# For each type that has no name in the canonical text: what looks at its octets, and the code of the warning.
+RAW = {"TYPE257": (caa_fault, "W58"), "TYPE52": (digest_fault, "W59"), "TYPE53": (digest_fault, "W59")}
+PROTOCOLS = ("_tcp", "_udp", "_tls", "_sctp", "_dccp")
+# The beginnings of the texts of addresses in UNUSABLE: a quick test, since a zone may have 100,000 addresses.
+MAY_BE = re.compile(r"0\.|127\.|169\.254\.|22[4-9]\.|2[345]\d\.|::|f[ef]", re.I)
 
 
 class Warnings(Names):
@@ -29,22 +108,51 @@ class Warnings(Names):
         super().__init__(zone, zone.records if zone.passes else unique(zone.records))
         self.nodes, self.arpa = set(), self.zone.endswith("arpa.")
         self.ends = tuple(end + self.zone for end in (".com.", ".org.", ".arpa."))
+        last = self.zone.split(".")[-2:-1]
+        self.again = f".{self.zone}{last[0]}." if last and last[0] else "\0"
+        self.dotless = (self.again, "." + self.zone + self.zone) if self.zone != "." else "\0"
+        # A catalog zone (RFC 9432) has a TTL of 0 on purpose.
+        self.catalog = bool(self.at("version." + self.zone, "TXT"))
         for full in self.sets:
             self.nodes.update(itertools.takewhile(lambda node: node not in self.nodes, above(full)))
             refuse(len(self.nodes) > MOST_NODES, f"more than {MOST_NODES:,} names own records or are above such names")
+        # In a response policy zone owners are names and addresses of others on purpose.
+        self.policy = any(record.data[0] in POLICY for sets in self.sets.values() for record in sets.get("CNAME", ())
+                          if record.data)
         self.glue = {record.data[0] for sets in self.sets.values() for record in sets.get("NS", ())}
+
+    def aliased(self, full, before=(), most=None):
+        """As in Names, but a name that does not exist has the alias of the wildcard that matches it."""
+        names = list(before)
+        while full not in names and len(names) != most:
+            closest = next((node for node in above(full) if node in self.nodes), full)
+            alias = self.at(full, "CNAME") if full == closest else self.at("*." + closest.lstrip("."), "CNAME")
+            if not alias or not within(full, self.zone) or full != closest and self.cut(full):
+                break
+            names.append(full)
+            full = alias[0].data[0]
+        return full, names
 
     def look(self):
         looks = {"SOA": self.soa, "TXT": self.text, **dict.fromkeys(("NS", "CNAME", "PTR", "MX", "SRV"), self.target)}
+        lacks = self.of.lacks if self.of.unknown else lambda *_: False
         for full, sets in self.sets.items():
             if not within(full, self.zone):
                 continue
             yield from self.owner(full, sets)
-            for record in itertools.chain.from_iterable(sets.values()):
-                if not self.of.lacks(record, "data") and record.data[:1] != ["\\#"]:
-                    yield record, "W06", record.ttl == "0", "the TTL is 0: each question reaches the server"
-                    for row in looks[record.rtype](record) if record.rtype in looks else ():
-                        yield record, *row
+            for rtype, records in sets.items():
+                look = looks.get(rtype)
+                for record in records:
+                    if record.data[:1] == ["\\#"]:
+                        if rtype in RAW and len(record.data) > 2 and (says := RAW[rtype][0](bytes.fromhex(record.data[2]))):
+                            yield record, RAW[rtype][1], True, says
+                        continue
+                    if record.ttl == "0" and not self.catalog and not lacks(record, "data"):
+                        yield record, "W06", True, "the TTL is 0: each question reaches the server"
+                    if look and not lacks(record, "data"):
+                        for row in look(record):
+                            if row[1]:
+                                yield record, *row
         servers = self.at(self.zone, "NS")
         hosts = [{host.data[0] for host in self.at(server.data[0], "A", "AAAA")} for server in servers]
         for server in servers[:1]:
@@ -54,20 +162,55 @@ class Warnings(Names):
 
     def owner(self, full, sets):
         record, hosts = next(iter(sets.values()))[0], sets.get("A") or sets.get("AAAA") or ()
-        doubled = twice(full, self.zone) or full.endswith(self.ends)
-        # In a DNSBL (RFC 5782) owners are addresses on purpose, and the data is a code in the form of an address, 127.0.0.2.
-        listed = self.arpa or hosts and hosts[0].data[0].startswith("127.")
-        yield record, "W34", "\\@" in full, "@ inside a name; it means the origin only if it is the whole name"
-        yield record, "W35", "*" in full.removeprefix("*."), "a * that is not the whole first label matches nothing"
-        yield record, "W31", doubled, f"the owner is {full}: is a final dot missing?"
-        yield record, "W32", FOUR.match(full) and not doubled and not listed, f"the owner is an address: {full}"
+        doubled = not self.policy and (twice(full, self.zone) or full.endswith(self.ends))
+        if "\\@" in full:
+            yield record, "W34", "SRV" not in sets, "@ inside a name; it means the origin only if it is the whole name"
+        if "*" in full:
+            yield record, "W35", "*" in full.removeprefix("*."), "a * that is not the whole first label matches nothing"
+        if doubled:
+            yield record, "W31", True, f"the owner is {full}: is a final dot missing?"
+        elif not self.arpa and not self.policy and FOUR.match(full):
+            # In a DNSBL (RFC 5782) owners are addresses on purpose, and the data is a code in the form of an address, 127.0.0.2.
+            yield record, "W32", not (hosts and hosts[0].data[0].startswith("127.")), f"the owner is an address: {full}"
+        for pointer in (sets.get("PTR") or ())[:1] if self.arpa and not self.cut(full) else ():
+            yield pointer, "W37", self.no_address(full), f"{full} stands for no address"
+        for host in itertools.chain(sets.get("A", ()), sets.get("AAAA", ())):
+            if host.data and MAY_BE.match(host.data[0]) and not self.arpa and not self.policy and "localhost" not in full:
+                yield from self.host(host)
         for srv in sets.get("SRV", ())[:1]:
             yield srv, "W36", not SERVICE.match(full), "the owner of SRV is not of the form _service._protocol"
+            over = next((label for label in full.split(".")[1:3] if label[:1] == "_"), "_tcp")
+            near = over not in PROTOCOLS and difflib.get_close_matches(over, PROTOCOLS[:2], 1)
+            yield srv, "W36", near, f"the protocol {over} is not known: write {near and near[0]}"
         for host in hosts[:1]:
-            strange, cut = not HOST.fullmatch(full) and "\\@" not in full and "*" not in full[1:], self.cut(full)
-            yield host, "W33", strange, f"{full} has an address, and an octet that host names do not have"
-            yield host, "W47", cut and full not in self.glue, \
-                f"an address at or below the delegation of {cut}, at a name that no NS record names: it is never served"
+            if not HOST.fullmatch(full):
+                strange = "\\@" not in full and "*" not in full[1:] and not full.startswith(("_spf.", "a._spf.", "mx._spf."))
+                yield host, "W33", strange, f"{full} has an address, and an octet that host names do not have"
+            if self.cuts and (cut := self.cut(full)):
+                yield host, "W47", full not in self.glue, \
+                    f"an address at or below the delegation of {cut}, at a name that no NS record names: it is never served"
+
+    def host(self, record):
+        found = not self.of.lacks(record, "data") and address(record.data[0])
+        net = found and next((net for net in UNUSABLE if ipaddress.ip_address(found[1]) in net), None)
+        yield record, "W48", net and not record.data[0].startswith("127.0.0.") * self.codes, \
+            f"nobody can reach {record.data[0]} from elsewhere: it is in {net}"
+
+    @functools.cached_property
+    def codes(self):
+        """Whether most addresses of the zone are codes such as 127.0.0.2, as in a DNSBL."""
+        hosts = [host.data[0] for sets in self.sets.values() for host in sets.get("A", ()) if host.data]
+        return sum(host.startswith("127.") for host in hosts) * 2 > len(hosts)
+
+    @staticmethod
+    def no_address(full):
+        """Whether a name below in-addr.arpa or ip6.arpa can't belong to an address. Labels with other signs are delegations."""
+        labels, kind = full.split(".")[:-3], full.split(".")[-3]
+        if kind == "ip6":
+            return all(re.fullmatch(r"[\w*]", label) for label in labels) and "*" not in labels and (
+                len(labels) != 32 or not all(re.fullmatch("[0-9a-f]", label) for label in labels))
+        return kind == "in-addr" and all(label.isdigit() for label in labels) and (
+            len(labels) != 4 or any(int(label) > 255 for label in labels))
 
     def target(self, record):
         rtype, full, inside = record.rtype, record.data[-1], within(record.data[-1], self.zone)
@@ -76,8 +219,15 @@ class Warnings(Names):
             back = f"the alias leads back to {end}" if full != record.owner else "an alias to itself"
             yield "W44", end in chain, back
             yield "W45", end not in chain and chain[1:], f"the target {full} is an alias too: write {end}"
-        null = rtype == "MX" and full == "." and len(self.at(record.owner, "MX")) > 1
-        yield "W46", null, "a null MX, which says that the name takes no mail, beside other MX records"
+        null = full == "." and len(self.at(record.owner, rtype)) > 1
+        yield "W46", null and rtype == "MX", "a null MX, which says that the name takes no mail, beside other MX records"
+        yield "W46", null and rtype == "SRV", "the target . says that there is no such service, beside other SRV records"
+        yield "W38", rtype == "SRV" and full != "." and record.data[2] == "0", "the port is 0, at which no service listens"
+        yield "W48", full == "localhost." and rtype != "PTR", "localhost. is the own host of each client"
+        types = self.sets.get(full, ())
+        if inside and ("A" in types or "AAAA" in types) and HOST.fullmatch(full) and not FOUR.match(full) \
+                and not full.endswith(self.dotless) and not (self.cuts and self.cut(full)):
+            return  # a host with an address, as most targets are
         cut, closest = self.cut(full), next(node for node in above(full) if node in self.nodes)
         # A server in the zone without an address is a fault (Z10), so there is no warning.
         if full == "." or rtype == "NS" and inside and not cut and not self.at(full, "A", "AAAA"):
@@ -87,13 +237,16 @@ class Warnings(Names):
         four = FOUR.fullmatch(full) or inside and FOUR.match(full) and not self.arpa or ":" in own and address(own)
         host = rtype in ("NS", "MX", "SRV") or rtype == "PTR" and self.arpa
         server = rtype == "NS" and not self.at(full) and not (record.owner in self.cuts and within(full, record.owner))
-        known = inside and not self.of.partial and full not in self.of.doubtful
+        known = inside and not self.of.partial and full not in self.of.doubtful and self.of.named.isdisjoint(above(full))
         types = self.sets.get(full if full == closest else "*." + closest.lstrip("."), {})
         yield from [row for row in (
             ("W32", four, f"the target is an address: {full}; write the name of a host"),
             ("W41", re.search("[/:]", full) and rtype != "PTR" and not self.arpa,
              f"the target is a URL or has a port: {full}; write the name of the host"),
             ("W31", twice(full, self.zone), f"the target is {full}: is a final dot missing?"),
+            ("W31", full.endswith(self.again), f"the target {full} ends like the zone, and then again with {self.zone.split('.')[-2]}"),
+            ("W31", not inside and full.count(".") == 1 and self.zone != "." and self.at(full + self.zone),
+             f"the target {full} is a top-level name: write {full[:-1]} without the final dot"),
             ("W34", "\\@" in full, f"@ inside the target {full}; it means the origin only if it is the whole name"),
             ("W33", host and not HOST.fullmatch(full), f"the host {full} has an octet that host names do not have"),
             ("W43", known and cut and server,
@@ -108,7 +261,7 @@ class Warnings(Names):
         lost = servers and all(mname != server.data[0] for server in servers)
         return [] if record.owner != self.zone else [
             ("W02", lost, f"the first name, {mname}, is not one of the servers"),
-            ("W03", "\\@" in rname, f"the mailbox {rname} has @: write a dot for it"),
+            ("W03", "\\@" in rname, f"the mailbox {rname} has @: write {mailbox(rname)}"),
             ("W31", twice(mname, self.zone), f"the name {mname}: is a final dot missing?"),
             ("W31", twice(rname, self.zone), f"the name {rname}: is a final dot missing?"),
             ("W04", retry >= refresh, f"the retry time {retry} is not less than the refresh time {refresh}"),
@@ -125,7 +278,16 @@ class Warnings(Names):
         joined = any(a and b and a[-1] != " " != b[0] and len(a) < 250 for a, b in zip(parts, parts[1:]))
         lost, elsewhere = needed not in whole.lower() and "._report._dmarc." not in owner, not re.match(names, owner)
         begun = spf or not kind or whole.startswith(kind) and whole[len(kind):].lstrip()[:1] in ("", ";")
-        return [
+        tags = dict(tag.strip().split("=", 1) for tag in whole.split(";") if "=" in tag) if kind == "v=DMARC1" else {}
+        key = re.search(r"(?:^|;)\s*p=([^;]*)", whole) if dkim else None
+        bad = [tag for tag, value in tags.items() if not re.fullmatch(DMARC.get(tag.strip().lower(), ".*"), value.strip(), re.I)]
+        hidden = re.match(r"[\s\"']+(v=(?:spf1|DMARC1|DKIM1)\b)", parts[0], re.I)
+        rows = [("W56", True, says) for says in (spf_faults(whole) if spf else ())]
+        return rows + [
+            ("W57", key and not is_base64(key[1]), "p= is not a key in base64"),
+            ("W57", bad, f"{bad[:1] and bad[0]}={bad and tags[bad[0]]} is not valid in a DMARC policy"),
+            ("W54", hidden, f"the text begins with {whole[:1]!r} and not with {hidden and hidden[1]}, so it means nothing"),
+            ("W54", not kind and re.match(r"(?i)(v=spf\d*|spf1)(?![\w.])", parts[0]), "an SPF text begins with v=spf1 and a space"),
             ("W51", several, f"more than one text of {kind} at a name: none of them applies"),
             ("W52", spf and joined,
              "the strings of the SPF text are joined without a space: write one string, or end each with a space"),
@@ -148,4 +310,8 @@ def warnings(zone):
         key = record.owner, record.rtype, *record.data
         return lines.get(key, lines.get(key[:2], 0)) if record.line is None else record.line
     faults = {Fault(zone.place(line(record)), code, record.owner, says): None for record, code, _, says in found}
+    end = zone.sources[zone.path].rpartition("\n")
+    if end[2][:1] == "$":
+        says = "BIND refuses a directive on a last line that has no line end"
+        faults[Fault((zone.path, end[0].count("\n") + 1 + bool(end[1])), "W07", "", says)] = None
     return sorted(faults, key=lambda fault: (fault.place[1], fault.code))

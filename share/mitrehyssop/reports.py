@@ -1,0 +1,111 @@
+"""How faults, warnings and notes are written: as text, and in the formats of editors and CI systems."""
+import collections
+import functools
+import hashlib
+import html
+import itertools
+import json
+import os
+import re
+import urllib.parse
+from pathlib import Path
+
+from master import escaped
+
+SHARE = Path(__file__).resolve().parent
+COLOURS = {"error": "31", "warning": "33", "note": "36"}
+
+
+def plain(text):
+    """A text that is safe for a terminal: \\DDD replaces octets that are not printable."""
+    return text if text.isprintable() else escaped(os.fsencode(text).decode("latin-1").expandtabs())
+
+
+def text_of(file):
+    """The name of a file as a text: \\DDD for each octet that is not UTF-8."""
+    return re.sub("[\udc80-\udcff]", lambda c: f"\\{ord(c[0]) - 0xdc00:03}", file)
+
+
+class Report(collections.namedtuple("Report", "file line severity code name message text")):
+    """A fault, a warning or a note as it is reported. As a string it has the form FILE:LINE: .., which editors recognize."""
+
+    def said(self):
+        return f"{self.name}: {self.message}" if self.name else self.message
+
+    def __str__(self):
+        return f"{plain(self.file)}:{self.line}: {self.code}: {self.said()}\n    {self.text}\n"
+
+    def coloured(self):
+        front, code, rest = str(self).partition(f" {self.code}: ")
+        return f"{front} \x1b[{COLOURS[self.severity]}m{self.code}\x1b[0m: {rest}"
+
+
+@functools.cache
+def explained(code=None):
+    """What CODES.md says of a code: the cells of its row in a table, each after its heading. Without a code, a dictionary of all."""
+    rows, heads = {}, []
+    places = [SHARE / "CODES.md", SHARE.parents[1] / "docs" / "CODES.md"]
+    for line in next((place for place in places if place.exists()), Path(os.devnull)).read_text(encoding="utf-8").splitlines():
+        cells = [cell.strip().replace("\\|", "|") for cell in re.split(r"(?<!\\)\|", line)[1:-1]]
+        heads = cells if cells[:1] == ["Code"] else heads
+        if cells and (found := re.fullmatch(r"`([A-Z]\d\d)`", cells[0])):
+            rows[found[1]] = dict(zip(heads[1:], cells[1:]))
+    return rows.get(code, {}) if code else rows
+
+
+def fingerprints(found):
+    """For each report a number that stays the same if lines are added before it: it has no lines, but counts equal reports."""
+    count, made = collections.Counter(), []
+    for one in found:
+        key = one._replace(line=0, message=re.sub(r"lines? \d+", "line", one.message), severity="")
+        count[key] += 1
+        made.append(hashlib.sha256(repr((key, count[key])).encode()).hexdigest())
+    return made
+
+
+def dump(value):
+    return json.dumps(value, indent=1) + "\n"
+
+
+# The escapes that GitHub needs in a file name. In a message only % has to be escaped, since no message has a CR or LF.
+GITHUB = {ord(c): f"%{ord(c):02X}" for c in "%\r\n:,"}
+NAMES = {"github": {"note": "notice"}, "gitlab": {"error": "major", "warning": "minor", "note": "info"}, "checkstyle": {"note": "info"}}
+
+
+def named(form, one):
+    return NAMES[form].get(one.severity, one.severity)
+
+
+def sarif(found, version):
+    codes, rules = sorted({one.code for one in found}), []
+    for code in codes:
+        short, *others = explained(code).values() or [code]
+        rules.append({"id": code, "shortDescription": {"text": short}, "help": {"text": "\n".join([short, *others])}})
+    results = [{
+        "ruleId": one.code, "ruleIndex": codes.index(one.code), "level": one.severity, "message": {"text": one.said()},
+        "partialFingerprints": {"zonelint/v1": print_of},
+        "locations": [{"physicalLocation": {"artifactLocation": {"uri": urllib.parse.quote(os.fsencode(one.file))},
+                                            "region": {"startLine": one.line}}}]} for one, print_of in zip(found, fingerprints(found))]
+    driver = {"name": "zonelint", "version": version, "rules": rules}
+    return dump({"version": "2.1.0", "$schema": "https://json.schemastore.org/sarif-2.1.0.json",
+                 "runs": [{"tool": {"driver": driver}, "results": results}]})
+
+
+# For each format, the function that makes its text from a list of reports and the program's version.
+FORMATS = {
+    "text": lambda found, _: "".join(map(str, found)),
+    "json": lambda found, _: dump([{**one._asdict(), "file": text_of(one.file)} for one in found]),
+    "github": lambda found, _: "".join(
+        f"::{named('github', one)} file={plain(one.file.translate(GITHUB))},line={one.line},title={one.code}::"
+        + one.said().replace("%", "%25") + "\n" for one in found),
+    "gitlab": lambda found, _: dump([
+        {"description": f"{one.code}: {one.said()}", "check_name": one.code, "fingerprint": print_of,
+         "severity": named("gitlab", one), "location": {"path": text_of(one.file), "lines": {"begin": one.line}}}
+        for one, print_of in zip(found, fingerprints(found))]),
+    "sarif": sarif,
+    "checkstyle": lambda found, _: '<?xml version="1.0" encoding="UTF-8"?>\n<checkstyle version="4.3">\n' + "".join(
+        f'<file name="{html.escape(plain(file))}">\n' + "".join(
+            f'<error line="{one.line}" severity="{named("checkstyle", one)}" source="zonelint.{one.code}" '
+            f'message="{html.escape(f"{one.code}: {one.said()}")}"/>\n' for one in reports) + "</file>\n"
+        for file, reports in itertools.groupby(found, lambda one: one.file)) + "</checkstyle>\n",
+}
