@@ -19,7 +19,7 @@ lowest_once ((fault, Condition) ∷ higher) P once a b (inr (none, h)) (inr (non
     lowest_once higher P once a b h k
 
 -- an entry inherits at most one origin, owner and TTL
-origin_once : (o : DomainName) (earlier : List Entry) (n m : DomainName)
+pub origin_once : (o : DomainName) (earlier : List Entry) (n m : DomainName)
     → OriginIs o earlier n → OriginIs o earlier m → n ≡ m
 origin_once o [] n m h k = h ∙ sym k
 origin_once o (e ∷ earlier) n m h k =
