@@ -12,3 +12,4 @@ pub mod BeginningsMean
 pub mod EntryReading
 pub mod LineCounts
 pub mod FirstFault
+pub mod OneListing

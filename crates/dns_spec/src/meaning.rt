@@ -46,3 +46,10 @@ pub fn first_of_all_faults_is_the_meaning()
         (rs : List ResourceRecord) → AllFaults o text found rs
         → Means o text (meaning_by text found rs) }
 {}
+
+/// A text has at most one list of all faults, and at most one list of records beside it.
+pub fn text_has_one_list_of_faults()
+    ensures { (o : DomainName) (text : Octets) (found others : List EntryFault)
+        (rs ss : List ResourceRecord) → AllFaults o text found rs → AllFaults o text others ss
+        → (found ≡ others) × (rs ≡ ss) }
+{}

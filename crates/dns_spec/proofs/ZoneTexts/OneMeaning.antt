@@ -92,7 +92,7 @@ kind_gives_once o earlier (directive name ws) = directive_gives_once o earlier n
 kind_gives_once o earlier (owned w ws) = search (rules, record_gives_once, name_is_once)
 kind_gives_once o earlier (unowned ws) = search (rules, record_gives_once, owner_once)
 
-entry_gives_once : (o : DomainName) (earlier : List Entry) (e : Entry)
+pub entry_gives_once : (o : DomainName) (earlier : List Entry) (e : Entry)
     → Once (EntryGives o earlier e)
 entry_gives_once o earlier e a b = search (rules, by_option, kind_gives_once, given)
 
