@@ -41,6 +41,7 @@ pub use Rattle.std.proofs.lemmas.Str.Ascii.{lowercase-lowercase}
 pub use Rattle.std.proofs.lemmas.Str.Parse.{digit_from_value}
 pub use Rattle.dns_spec.specs.AddressText.{SaysIpv4, SaysIpv6, around_gap, group_values, groups_of, groups_said, groups_text, ipv4_text, ipv6_octets, ipv6_text, is_group, longest_place, longest_run, zero_runs}
 unfoldable pub use Rattle.dns_spec.specs.AddressText.{ipv6_groups}
+pub use Rattle.dns_spec.specs.AllFaults.{AllFaults, EntriesGive, EntryFault, FaultyData, FaultyDirective, FaultyField, FaultyWord, ForData, GivesOwn, HasFault, LookBack, NumberIs, PlaceIs, before_such, before_type, record_words, is_lasting, is_last, line_at, column_at, owner_number, place_after}
 pub use Rattle.dns_spec.specs.Answer.{Outcome, address_set, address_sets, alias_items, alias_set, asked_records, first_target, follows_alias, has_any, has_target_type, is_authoritative, item, last_of, last_sought, main_items, most_aliases, most_visits, names_looked_up, negative, negative_soa, next_sought, nodes_to, outcome_by, positive, referral_to, targets, targets_in_zone, targets_inside, targets_of, targets_outside}
 unfoldable pub use Rattle.dns_spec.specs.Answer.{chain, chain_from, extra, items, outcome, outcome_at, required_items}
 pub use Rattle.dns_spec.specs.Checks.{Check, Fault, Passes, at_or_below_cut, checked_names, checks, count, data_at_cut, fails, fault_order, faults_at, first_is_asterisk, has_target, is_origin, is_owner, lacks_address, large_set, many_sets, most_of_a_set, most_sets, mx_target_alias, ns_target_alias, ns_target_lost, ttls_differ, wildcard_ns}
@@ -53,6 +54,8 @@ unfoldable pub use Rattle.dns_spec.specs.Data.{cut}
 pub use Rattle.dns_spec.specs.DataText.{Says, SaysAsSpelled, SaysField, SaysFields, SaysHex, SaysNumber, SaysString, SaysTyped, SaysUnknown, SaysWord, SpellsString, SpellsStringOctet, Word, are_strings_alone, word_fields, word_fields_of, is_hex_word, is_string_octet, is_unknown_mark, is_word_octet, may_be_quoted}
 unfoldable pub use Rattle.dns_spec.specs.DataText.{hex_octets}
 pub use Rattle.dns_spec.specs.DataFaults.{DataFaultIs, FieldsFaultIs, TypedFaultIs, UnknownFaultIs, field_fault}
+pub use Rattle.dns_spec.specs.EntryPlaces.{Ending, Place, PlacedEntry, PlacedToken, after_line, after_token, at_parenthesis, at_stop, before_line_end, empty_place, end_octets, ending_fault, entries_to_end, fault_place, is_misplaced, next_line, octet_place, placed_entries, placed_entry, stop_octets, text_after, word_place}
+unfoldable pub use Rattle.dns_spec.specs.EntryPlaces.{entries_from, read_entry}
 pub use Rattle.dns_spec.specs.FileFaults.{FileFault, bad_data, bad_escape, bad_octet, bad_owner, bad_parenthesis, bad_ttl, bad_type, directive_words, fault_code, no_memory, no_owner, no_ttl, other_class, too_long, too_many_records, unended_string, unknown_directive}
 pub use Rattle.dns_spec.specs.Laws.{HasRoom, IsAskable, IsSetAt, IsWritable, OctetsMean, section_rank, sections_in_order}
 pub use Rattle.dns_spec.specs.Layout.{Item, Laid, Lookup, Placed, Section, additional, answer, asked_octets, asked_placed, authority, data_laid, has_suffix, header_octets, in_section, is_section, laid_front, last_place, message_of, message_record, octets16, octets32, parts_of, place_of, pointer, question_octets, reach, reached, record_by, record_laid, record_tail, records_octets, records_of, reply_header, shared_octets, shared_place, suffix_place}

@@ -1,6 +1,8 @@
 -- Worked examples, computed from the definitions. `Zones` contains their zones and queries.
 pub mod Zones
 pub mod Readings
+pub mod FaultReadings
+pub mod FaultRows
 pub mod AnswerRows
 pub mod CheckRows
 pub mod CommandRows

@@ -2,3 +2,4 @@
 pub mod FaultLaws
 pub mod FaultOrder
 pub mod PassedChecks
+pub mod LastingFaults

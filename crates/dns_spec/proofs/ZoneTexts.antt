@@ -9,3 +9,7 @@ pub mod OneMeaning
 pub mod SomeMeaning
 pub mod Beginnings
 pub mod BeginningsMean
+pub mod EntryReading
+pub mod LineCounts
+pub mod FirstFault
+pub mod OneListing

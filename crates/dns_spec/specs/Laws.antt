@@ -6,7 +6,8 @@ use Rattle.dns_spec.specs.Names.{Octets, DomainName, is_name}
 use Rattle.dns_spec.specs.Data.{Valid}
 use Rattle.dns_spec.specs.ZoneText.{Extent, Entry, EntriesOf}
 use Rattle.dns_spec.specs.Records.{ResourceRecord}
-use Rattle.dns_spec.specs.Meaning.{Meaning, EntriesMean}
+use Rattle.dns_spec.specs.Meaning.{Meaning, records, fault_at, EntriesMean}
+use Rattle.dns_spec.specs.AllFaults.{EntryFault, line_at}
 use Rattle.dns_spec.specs.Sets.{RecordSet, records_at}
 use Rattle.dns_spec.specs.Reading.{Header, MessageQuestion}
 use Rattle.dns_spec.specs.Layout.{Section, answer, authority, additional, Item}
@@ -16,6 +17,12 @@ use Rattle.dns_spec.specs.Layout.{Section, answer, authority, additional, Item}
 abbrev pub OctetsMean : DomainName → List Entry → Extent → Octets → Meaning → Type 0
 OctetsMean o earlier extent octets m =
     (es : List Entry) × EntriesOf extent octets es × EntriesMean o earlier es m
+
+-- The meaning of a text, by all its faults in order and the records of its other entries: the first
+-- fault, and the line on which its entry begins; without a fault, the records.
+abbrev pub meaning_by : Octets → List EntryFault → List ResourceRecord → Meaning
+meaning_by text [] rs = records rs
+meaning_by text (f ∷ found) rs = fault_at f.fault (line_at text f.entry)
 
 -- RFC 1035 4.1: the sections in the order of a message
 abbrev pub section_rank : Section → ℕ

@@ -16,6 +16,8 @@ pub mod Tree
 pub mod Checks
 pub mod ZonePrinted
 pub mod Report
+pub mod EntryPlaces
+pub mod AllFaults
 pub mod NamesInMessages
 pub mod ComputedNames
 pub mod Reading

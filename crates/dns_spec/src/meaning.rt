@@ -5,7 +5,9 @@ ghost use Rattle.dns_spec.specs.Names.{Octets, DomainName};
 ghost use Rattle.dns_spec.specs.FileFaults.{FileFault, too_long};
 ghost use Rattle.dns_spec.specs.ZoneText.{most_octets, Extent, beginning, Entry};
 ghost use Rattle.dns_spec.specs.Meaning.{Meaning, Nothing, fault_at, Means};
-ghost use Rattle.dns_spec.specs.Laws.{OctetsMean};
+ghost use Rattle.dns_spec.specs.Records.{ResourceRecord};
+ghost use Rattle.dns_spec.specs.AllFaults.{EntryFault, AllFaults};
+ghost use Rattle.dns_spec.specs.Laws.{OctetsMean, meaning_by};
 
 /// A text has at most one meaning: its records, or one fault (RFC 1035 section 5).
 pub fn text_has_one_meaning()
@@ -35,4 +37,19 @@ pub fn faulty_beginning_makes_a_faulty_text()
         → length front ≤ most_octets
         → OctetsMean o [] beginning front (fault_at fault line) → fault ≢ too_long
         → Means o (front ++ more) (fault_at fault line) }
+{}
+
+/// The first of all faults of a text is the fault that the text means, on the line on which the
+/// faulty entry begins. A text without faults means the records of its entries.
+pub fn first_of_all_faults_is_the_meaning()
+    ensures { (o : DomainName) (text : Octets) (found : List EntryFault)
+        (rs : List ResourceRecord) → AllFaults o text found rs
+        → Means o text (meaning_by text found rs) }
+{}
+
+/// A text has at most one list of all faults, and at most one list of records beside it.
+pub fn text_has_one_list_of_faults()
+    ensures { (o : DomainName) (text : Octets) (found others : List EntryFault)
+        (rs ss : List ResourceRecord) → AllFaults o text found rs → AllFaults o text others ss
+        → (found ≡ others) × (rs ≡ ss) }
 {}

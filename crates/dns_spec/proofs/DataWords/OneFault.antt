@@ -12,12 +12,12 @@ as_many_words (f ∷ fs) origin [] d h = absurd h
 as_many_words (f ∷ fs) origin (w ∷ ws) d h = ap suc (as_many_words fs origin ws h.1 h.4)
 
 -- what follows from two facts that are chosen by the same test, or by the same optional value
-both_by_test : {P Q R S A : Type 0} (b : Bool) → (b ≡ true → P → R → A) → (b ≡ false → Q → S → A)
+pub both_by_test : {P Q R S A : Type 0} (b : Bool) → (b ≡ true → P → R → A) → (b ≡ false → Q → S → A)
     → MatchBool b P Q → MatchBool b R S → A
 both_by_test true f g h h' = f refl h h'
 both_by_test false f g h h' = g refl h h'
 
-both_by_option : {X P Q A : Type 0} {R S : X → Type 0} (o : Option X) → (P → Q → A)
+pub both_by_option : {X P Q A : Type 0} {R S : X → Type 0} (o : Option X) → (P → Q → A)
     → ((x : X) → o ≡ Some x → R x → S x → A) → MatchOption o P R → MatchOption o Q S → A
 both_by_option None f g h h' = f h h'
 both_by_option (Some x) f g h h' = g x refl h h'

@@ -33,7 +33,7 @@ string_once text (x ∷ s) (y ∷ t) (first, others, e, said, h) (first', others
     (string_once others s t h (subst (λ r. SpellsString r t) (sym one.1) k))
 
 -- a label ends at a dot, and at the end of the text
-ends : Octets → Bool
+unfoldable pub ends : Octets → Bool
 ends [] = true
 ends (o ∷ text) = o == 46
 
@@ -43,7 +43,7 @@ unfolding ends
 not_ended text rest first others x e end f h = grind (arith, true≢false)
 
 -- a text begins with at most one label
-label_once : (text l rest l' rest' : Octets) → LabelThen text l rest
+pub label_once : (text l rest l' rest' : Octets) → LabelThen text l rest
     → LabelThen text l' rest' → ends rest ≡ true → ends rest' ≡ true → (l ≡ l') × (rest ≡ rest')
 label_once text [] rest [] rest' h k end end' = (refl, sym h ∙ k)
 label_once text [] rest (y ∷ l') rest' h (first, others, e, said, k) end end' =
@@ -58,7 +58,7 @@ no_empty_label : (l : Octets) → [] ≡ l → is_label l ≡ true → ⊥
 no_empty_label l e h = false≢true (ap is_label e ∙ h)
 
 -- a text that is empty or begins with a dot spells no name with labels
-no_labels : (origin text rest : Octets) (above : DomainName) (l : Octets) (n : DomainName) → text
+pub no_labels : (origin text rest : Octets) (above : DomainName) (l : Octets) (n : DomainName) → text
     ≡ rest → ends rest ≡ true → list_all is_label (l ∷ n) ≡ true → TextSpells above text (l ∷ n) → ⊥
 unfolding ends
 no_labels origin text rest above l n e end all (inl (h, f)) =

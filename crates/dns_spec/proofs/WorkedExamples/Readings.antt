@@ -9,33 +9,33 @@ use Rattle.dns_spec.proofs.WorkedExamples.Zones.{example}
 abbrev pub Found : {A : Type 0} → (A → Type 0) → Type 0
 Found {A} P = Option ((v : A) × P v)
 
-abbrev and_then : {A B : Type 0} → Option A → (A → Option B) → Option B
+abbrev pub and_then : {A B : Type 0} → Option A → (A → Option B) → Option B
 and_then None f = None
 and_then (Some a) f = f a
 
 -- what is found in the one of two cases that applies, by whether an option has a value, or by a
 -- test
-abbrev matched : {A B : Type 0} {P : B → Type 0} {Q : A → B → Type 0} (o : Option A) → Found P
+abbrev pub matched : {A B : Type 0} {P : B → Type 0} {Q : A → B → Type 0} (o : Option A) → Found P
     → ((a : A) → Found (Q a)) → Found (λ v. MatchOption o (P v) (λ a. Q a v))
 matched None first second = first
 matched (Some a) first second = second a
 
-abbrev chosen : {B : Type 0} {P Q : B → Type 0} (b : Bool) → Found P → Found Q
+abbrev pub chosen : {B : Type 0} {P Q : B → Type 0} (b : Bool) → Found P → Found Q
     → Found (λ v. MatchBool b (P v) (Q v))
 chosen true one other = one
 chosen false one other = other
 
 -- the proof that a test passes, and that it fails
-abbrev holds : (b : Bool) → Option (b ≡ true)
+abbrev pub holds : (b : Bool) → Option (b ≡ true)
 holds true = Some refl
 holds false = None
 
-abbrev fails : (b : Bool) → Option (b ≡ false)
+abbrev pub fails : (b : Bool) → Option (b ≡ false)
 fails true = None
 fails false = Some refl
 
 -- the value of an option with its proof, and the proof that the option has no value
-abbrev there : {A : Type 0} (o : Option A) → Found (λ (v : A). o ≡ Some v)
+abbrev pub there : {A : Type 0} (o : Option A) → Found (λ (v : A). o ≡ Some v)
 there None = None
 there (Some v) = Some (v, refl)
 
@@ -44,7 +44,7 @@ missing None = Some refl
 missing (Some v) = None
 
 -- a proof of one of two cases, by a test
-abbrev by_test : {P Q : Type 0} (b : Bool) → (b ≡ true → P) → (b ≡ false → Q) → P ⊎ Q
+abbrev pub by_test : {P Q : Type 0} (b : Bool) → (b ≡ true → P) → (b ≡ false → Q) → P ⊎ Q
 by_test true f g = inl (f refl)
 by_test false f g = inr (g refl)
 
@@ -56,7 +56,7 @@ same_or_not xs ys =
     let are = octets_equal-decides xs ys in
     by_test (octets_equal xs ys) are.0 (λ e h. false≢true (sym e ∙ are.1 h))
 
-abbrev same : (xs ys : Octets) → Option (xs ≡ ys)
+abbrev pub same : (xs ys : Octets) → Option (xs ≡ ys)
 same xs ys = elim (same_or_not xs ys) [ inl e ↦ Some e | inr apart ↦ None ]
 
 -- at most n tokens of a text, and the octets after them
@@ -148,7 +148,7 @@ ttl_tested w n (bare, is, few) =
     (and_from _ _ (and_from _ _ bare ((octets_equal-decides w.raw (decimal n)).1 is))
     (le-leb n most_ttl few))
 
-abbrev ttl_of : (w : Word) → ((n : ℕ) × TtlSays w n) ⊎ Nothing (TtlSays w)
+abbrev pub ttl_of : (w : Word) → ((n : ℕ) × TtlSays w n) ⊎ Nothing (TtlSays w)
 ttl_of w =
     let n = digits_value 10 w.raw in
     by_test (says_ttl w n) (λ e. (n, ttl_said w n e))
@@ -220,7 +220,7 @@ data_in t ws o = and_then (spelled_in t o ws) (λ d. and_then (holds (valid t d.
 
 -- After earlier entries: the origin in force, the name that a word spells, the inherited owner, and
 -- the TTL in force.
-abbrev origin_after : (o : DomainName) (earlier : List Entry) → Found (OriginIs o earlier)
+abbrev pub origin_after : (o : DomainName) (earlier : List Entry) → Found (OriginIs o earlier)
 origin_after o [] = Some (o, refl)
 origin_after o (e ∷ earlier) =
     matched (directive_word (codes "$origin") (kind_of e)) (origin_after o earlier)
@@ -233,7 +233,7 @@ name_after o earlier w = and_then (holds (not w.is_quoted)) (λ bare.
     and_then (origin_after o earlier) (λ m. and_then (name_in m.0 w.raw)
     (λ n. Some (n.0, (bare, (m.0, m.1, n.1))))))
 
-abbrev owner_before : (o : DomainName) (earlier : List Entry) → Found (OwnerBefore o earlier)
+abbrev pub owner_before : (o : DomainName) (earlier : List Entry) → Found (OwnerBefore o earlier)
 owner_before o [] = None
 owner_before o (e ∷ earlier) =
     matched (owner_word (kind_of e)) (owner_before o earlier) (λ w. name_after o earlier w)
@@ -253,7 +253,7 @@ names_type raw = elim (there (type_by_mnemonic raw)) [
       (λ is. Some (t, inr (ltb-true t 65536 small, is))))
 ]
 
-abbrev type_in : (ws : List Word) → Found (TypeIs ws)
+abbrev pub type_in : (ws : List Word) → Found (TypeIs ws)
 type_in [] = None
 type_in (w ∷ ws) = and_then (holds (not w.is_quoted)) (λ bare. and_then (names_type w.raw)
     (λ t. and_then (holds (is_zone_type t.0)) (λ h. Some (t.0, (bare, t.1, h)))))
@@ -274,45 +274,45 @@ no_type_in (w ∷ ws) = elim (by_test w.is_quoted (λ e. e) (λ e. e)) [
       Some (λ t h. no_type_named w.raw t none front h.1)))
 ]
 
-abbrev data_after : (o : DomainName) (earlier : List Entry) (ws : List Word)
+abbrev pub data_after : (o : DomainName) (earlier : List Entry) (ws : List Word)
     → Found (DataIs o earlier ws)
 data_after o earlier ws = and_then (type_in ws) (λ t. and_then (origin_after o earlier)
     (λ m. and_then (data_in t.0 (drop 1 ws) m.0) (λ d. Some (d.0, (t.0, t.1, (m.0, m.1, d.1))))))
 
 -- if decided: A or its negation; and a value for which P holds, or the proof that there is none
-abbrev Told : Type 0 → Type 0
+abbrev pub Told : Type 0 → Type 0
 Told A = Option (A ⊎ (A → ⊥))
 
-abbrev Known : {A : Type 0} → (A → Type 0) → Type 0
+abbrev pub Known : {A : Type 0} → (A → Type 0) → Type 0
 Known {A} P = Option (((v : A) × P v) ⊎ Nothing P)
 
-abbrev tested : (b : Bool) → Told (b ≡ true)
+abbrev pub tested : (b : Bool) → Told (b ≡ true)
 tested b = Some (by_test b (λ e. e) (λ e h. false≢true (sym e ∙ h)))
 
 -- since a value was found, `Nothing P` is false
 abbrev pub some : {A : Type 0} {P : A → Type 0} → (v : A) × P v → Nothing P → ⊥
 some f none = none f.0 f.1
 
-abbrev unless : {C : Type 0} {Rest : EntryMeaning → Type 0} (fault : FileFault)
+abbrev pub unless : {C : Type 0} {Rest : EntryMeaning → Type 0} (fault : FileFault)
     → Told C → Found Rest → Found (λ given. (C × (given ≡ faulty fault)) ⊎ ((C → ⊥) × Rest given))
 unless fault None rest = None
 unless fault (Some (inl c)) rest = Some (faulty fault, inl (c, refl))
 unless fault (Some (inr fails)) rest = and_then rest (λ g. Some (g.0, inr (fails, g.1)))
 
-abbrev no_ttl_stated : (stated : Option Word) → Told (IsNoTtl stated)
+abbrev pub no_ttl_stated : (stated : Option Word) → Told (IsNoTtl stated)
 no_ttl_stated None = Some (inr (λ h. h))
 no_ttl_stated (Some w) = elim (ttl_of w) [
   | inl n ↦ Some (inr (some n))
   | inr none ↦ Some (inl none)
 ]
 
-abbrev no_type_told : (ws : List Word) → Told (Nothing (TypeIs ws))
+abbrev pub no_type_told : (ws : List Word) → Told (Nothing (TypeIs ws))
 no_type_told ws = elim (type_in ws) [
   | Some t ↦ Some (inr (some t))
   | None ↦ and_then (no_type_in ws) (λ none. Some (inl none))
 ]
 
-abbrev whole_record : (o : DomainName) (earlier : List Entry) (Owner : DomainName → Type 0)
+abbrev pub whole_record : (o : DomainName) (earlier : List Entry) (Owner : DomainName → Type 0)
     (f : Fields) → (n : DomainName) × Owner n → (d : Octets) × DataIs o earlier f.others d → Found
     (λ given. (r : ResourceRecord) × IsRecord o earlier Owner f r × (given ≡ gives (r ∷ [])))
 whole_record o earlier Owner f n d =
@@ -339,7 +339,7 @@ record_in o earlier fault Owner f (Some (inl n)) =
     (whole_record o earlier Owner f n d))))))))
 
 -- what a directive means
-abbrev directive_in : {A : Type 0} (P : A → Word → Type 0)
+abbrev pub directive_in : {A : Type 0} (P : A → Word → Type 0)
     → ((w : Word) → Known (λ v. P v w)) → (ws : List Word) → Found (DirectiveSays P ws)
 directive_in P one [] = Some (faulty directive_words, inl (λ v h. h, refl))
 directive_in P one (w ∷ v ∷ ws) = Some (faulty directive_words, inl (λ v h. h, refl))

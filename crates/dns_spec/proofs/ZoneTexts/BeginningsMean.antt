@@ -78,7 +78,7 @@ pub cut-on : (b : Bool) (t : Token) (ts : List Token) → (is_line_end t && not 
     → cut_entries b (t ∷ ts) ≡ before_first t (cut_entries (open_after b t) ts)
 cut-on b t ts h = rw (h, cut_entries) refl
 
-cut-off : (b : Bool) (t : Token) (ts : List Token)
+pub cut-off : (b : Bool) (t : Token) (ts : List Token)
     → (is_line_end t && not b) ≡ true → cut_entries b (t ∷ ts) ≡ (t ∷ []) ∷ cut_entries false ts
 cut-off b t ts h = rw (h, cut_entries) refl
 
@@ -117,12 +117,12 @@ cuts_of b (t ∷ ts) = go (is_line_end t && not b) refl (λ c. cuts_of c ts)
     go false e later = let c = later (open_after b t) in within c.whole c.part c.now_open e c.cuts
 
 -- there is a first list
-record First (ess : List (List Token)) : Type 0 where
-  first : List Token
-  others : List (List Token)
-  is : ess ≡ first ∷ others
+pub record First (ess : List (List Token)) : Type 0 where
+  pub first : List Token
+  pub others : List (List Token)
+  pub is : ess ≡ first ∷ others
 
-first_of_cut : (b : Bool) (ts : List Token) → First (cut_entries b ts)
+pub first_of_cut : (b : Bool) (ts : List Token) → First (cut_entries b ts)
 first_of_cut b [] = record { first = []; others = []; is = refl }
 first_of_cut b (t ∷ ts) = grind (arith, (first_of_cut (open_after b t) ts))
 

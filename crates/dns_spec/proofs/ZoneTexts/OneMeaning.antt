@@ -19,7 +19,7 @@ lowest_once ((fault, Condition) ∷ higher) P once a b (inr (none, h)) (inr (non
     lowest_once higher P once a b h k
 
 -- an entry inherits at most one origin, owner and TTL
-origin_once : (o : DomainName) (earlier : List Entry) (n m : DomainName)
+pub origin_once : (o : DomainName) (earlier : List Entry) (n m : DomainName)
     → OriginIs o earlier n → OriginIs o earlier m → n ≡ m
 origin_once o [] n m h k = h ∙ sym k
 origin_once o (e ∷ earlier) n m h k =
@@ -92,7 +92,7 @@ kind_gives_once o earlier (directive name ws) = directive_gives_once o earlier n
 kind_gives_once o earlier (owned w ws) = search (rules, record_gives_once, name_is_once)
 kind_gives_once o earlier (unowned ws) = search (rules, record_gives_once, owner_once)
 
-entry_gives_once : (o : DomainName) (earlier : List Entry) (e : Entry)
+pub entry_gives_once : (o : DomainName) (earlier : List Entry) (e : Entry)
     → Once (EntryGives o earlier e)
 entry_gives_once o earlier e a b = search (rules, by_option, kind_gives_once, given)
 

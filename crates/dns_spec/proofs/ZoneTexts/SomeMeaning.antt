@@ -49,7 +49,7 @@ stated_says : (stated : Option Word) → (IsNoTtl stated → ⊥) → EachSays s
 stated_says stated h = grind arith
 
 -- the words that later entries inherit as TTLs from entries without a fault state TTLs
-record Known (earlier : List Entry) : Type 0 where
+pub record Known (earlier : List Entry) : Type 0 where
   default : EachSays (nearest (directive_word (codes "$ttl")) earlier)
   stated : EachSays (nearest ttl_word earlier)
 
@@ -57,7 +57,7 @@ unfoldable pub is_faulty : EntryMeaning → Bool
 is_faulty (faulty fault) = true
 is_faulty (gives rs) = false
 
-faultless : (rs : List ResourceRecord) (fault : FileFault) → gives rs ≡ faulty fault → ⊥
+pub faultless : (rs : List ResourceRecord) (fault : FileFault) → gives rs ≡ faulty fault → ⊥
 unfolding is_faulty
 faultless rs fault e = false≢true (ap is_faulty e)
 
@@ -80,11 +80,11 @@ module _ (o : DomainName) (earlier : List Entry) where
   record_ttl_says rs (owned v ws) h w e = search (rules, record_says)
   record_ttl_says rs (unowned ws) h w e = search (rules, record_says)
 
-  known_more : (rs : List ResourceRecord) (e : Entry)
+  pub known_more : (rs : List ResourceRecord) (e : Entry)
       → Known earlier → KindGives o earlier (kind_of e) (gives rs) → Known (e ∷ earlier)
   known_more rs e known h = search (rules, either_says, default_says, record_ttl_says)
 
-  sort_given : (rs : List ResourceRecord) (e : Entry)
+  pub sort_given : (rs : List ResourceRecord) (e : Entry)
       → EntryGives o earlier e (gives rs) → KindGives o earlier (kind_of e) (gives rs)
   sort_given rs e = grind (arith, faultless)
 
@@ -133,7 +133,7 @@ module _ (o : DomainName) (earlier : List Entry) where
   sort_sure (owned w ws) known = record_sure bad_owner (NameIs o earlier w) (fields ws) known
   sort_sure (unowned ws) known = record_sure no_owner (OwnerBefore o earlier) (fields ws) known
 
-  entry_sure : (e : Entry)
+  pub entry_sure : (e : Entry)
       → Known earlier → Sure ((given : EntryMeaning) × EntryGives o earlier e given)
   entry_sure e known = go (lexical_fault e)
     where
@@ -158,7 +158,7 @@ entries_sure o earlier (e ∷ es) known =
         and_so (later (known_more o earlier rs e known (sort_given o earlier rs e given)))
         (λ more. sure (after rs more.0, (gives rs, given, (more.0, more.1, refl))))
 
-nothing_known : Known []
+pub nothing_known : Known []
 nothing_known = grind (arith, none-some)
 
 octets_sure : (o : DomainName) (extent : Extent) (octets : Octets)
