@@ -65,9 +65,9 @@ def test_octets_at_the_ends_of_a_file(lint):
 def test_rules(lint, tmp_path):
     text = GOOD + "a CNAME b\nb CNAME ns\nm MX 1 mail.example\nx A 127.0.0.1 ; zonelint: ignore W48\n"
     assert lint("example", "z", text=text)[:2] == (1, [("W31", 8), ("W45", 6)])
-    assert lint("--ignore", "W3,W45", "example", "z")[:2] == (0, [])
+    assert lint("--ignore", "W31,W45", "example", "z")[:2] == (0, [])
     assert lint("--select", "W45", "example", "z")[:2] == (0, [("W45", 6)])
-    assert lint("--select", "W45", "--error", "W4", "example", "z")[0] == 1
+    assert lint("--select", "W45", "--error", "W", "example", "z")[0] == 1
     assert lint("--ignore", "x", "example", "z")[0] == 2
     (tmp_path / "zonelint.toml").write_text('ignore = ["W31"]\n[zones.example]\nerror = ["W45"]\n')
     assert lint("example", "z")[:2] == (1, [("W45", 6)])

@@ -6,7 +6,7 @@ import servers
 
 ALL = ["zonecheck", "zoneserve", "dnsmsg", "zonesocket"]
 slow, root = pytest.mark.slow, pytest.mark.root
-# Each script, its arguments, among which names of programs stand for their paths, and its markers.
+# Each script, its arguments, in which names of programs are replaced by their paths, and its markers.
 SCRIPTS = [
     ("docs-check", ALL, ()),
     ("examples", ["zonecheck"], ()),

@@ -18,7 +18,7 @@ LEVELS = {"W": "warning", "N": "note"}
 
 
 def codes_of(text, where):
-    """The codes in a list, separated by commas or blanks. A beginning such as W5 stands for all codes that begin so."""
+    """The codes in a list, separated by commas or blanks. The beginning of codes, such as W, means all of them."""
     codes = re.split(r"[\s,]+", text.strip(" ,")) if isinstance(text, str) else text
     if not isinstance(codes, list) or not all(isinstance(code, str) and CODE.fullmatch(code) for code in codes):
         raise Refused(f"{where}: {text!r} is not a list of codes")
