@@ -24,7 +24,6 @@ SCRIPTS = [
     ("hostile", ["zonecheck", "zoneserve", "1000000"], [slow]),
     ("hostile-zones", ["zonecheck", "100000"], [slow]),
     ("hostile-zones", ["zonecheck", "sweep"], [slow]),
-    ("clients", ["zoneserve", "zonesocket"], [slow]),
     ("elsewhere", ["zonecheck"], [slow]),
     ("test-behind", ALL, [slow, root]),
     ("test-anycast", ALL, [slow, root]),
