@@ -1,9 +1,12 @@
 """Servers, sockets and queries, for tests and benches."""
 import contextlib
 import os
+import signal
 import socket
 import struct
 import subprocess
+import sys
+import tempfile
 import time
 from pathlib import Path
 
@@ -163,3 +166,17 @@ def is_answered(address, message):
         other.send(message)
         return other.recv(512)[:2] == message[:2] and asks(client, message)
     return False
+
+
+def main():
+    """`servers.py PROGRAMS ADDRESS PORT ORIGIN FILE` runs libexec/workers at sockets of this address until TERM. HUP reloads."""
+    programs, address, port, origin, file = sys.argv[1:]
+    with tempfile.TemporaryDirectory() as folder, Workers(programs, folder, (address, int(port)), origin, file) as workers:
+        signal.signal(signal.SIGHUP, lambda *_: workers.run.send_signal(signal.SIGHUP))
+        signal.signal(signal.SIGTERM, lambda *_: sys.exit(0))
+        while workers.run.poll() is None:
+            time.sleep(0.1)
+
+
+if __name__ == "__main__":
+    main()
