@@ -10,13 +10,12 @@ from pathlib import Path
 
 # The seconds after which a run is ended.
 SECONDS = 600
-# The most instructions, for each octet read or written, to check a zone file, and to load it into the server.
-MOST_TO_CHECK = 2_000
-MOST_TO_LOAD = 2_000
-# A reply over TCP may take at most this many instructions in all, and at most this many for each octet of the query and the
-# reply.
+# The most instructions for each octet of a zone file that is read or written, and in all to check it and to load it.
+MOST_PER_OCTET = 2_000
+MOST_TO_CHECK = 4_000_000_000
+MOST_TO_LOAD = 6_000_000_000
+# The most instructions for a reply over TCP.
 MOST_OVER_TCP = 100_000_000
-MOST_OVER_TCP_PER_OCTET = 1_000
 # The most instructions for a question over UDP, in any zone of up to 100,000 records. To read and write hex digits, `zoneserve
 # once` takes about 30 more for each octet of the query and the reply. docs/DECISIONS.md gives the reasons for these numbers.
 MOST_OVER_UDP = 500_000
