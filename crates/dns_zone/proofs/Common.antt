@@ -7,7 +7,7 @@ pub use Rattle.std.specs.List.Sorted.{IsSorted}
 pub use Rattle.std.proofs.Math.ListN.{drop_of_length-le}
 pub use Rattle.std.proofs.Math.Nat.{mul-le-mul_right, one-le-pow}
 pub use Rattle.std.proofs.Math.Seq.{get_or-append_seam}
-pub use Rattle.std.proofs.lemmas.Cmp.{alike_right, tied_back}
+pub use Rattle.std.proofs.lemmas.Cmp.{alike_right, then_total, tied_back}
 pub use Rattle.std.proofs.lemmas.Fn.{always_returns_same}
 pub use Rattle.std.proofs.lemmas.List.{drop-append-le, drop-map, flat_map_more}
 pub use Rattle.std.proofs.lemmas.List.Elements.{All-more, All-push, All-set}
@@ -34,6 +34,7 @@ pub use Rattle.dns_spec.specs.Tree.{closest_encloser, without_first}
 pub use Rattle.dns_zone.specs.EntryForm.{IsEntry, data_in, owner_in}
 pub use Rattle.dns_zone.specs.KeyForm.{BeginsAs, ended, name_key, raised}
 pub use Rattle.dns_zone.specs.OwnerKeysForm.{AreKeyed, key_in}
+pub use Rattle.dns_zone.specs.PlaceForm.{AreApart, AreFronts, ArePlaces, AreSorted, IsPlace, no_place, no_record, own_order, place_key, place_order, placed}
 pub use Rattle.dns_zone.specs.LabelKey.{IsEight, IsKey}
 unfoldable pub use Rattle.dns_zone.specs.LabelKey.{key_of}
 pub use Rattle.dns_zone.specs.NameEnd.{ending}
@@ -51,7 +52,7 @@ unfoldable pub use Rattle.dns_zone.specs.TreeForm.{row_name, row_octets}
 pub use Rattle.dns_zone.specs.TreeSteps.{AddsKids}
 pub use Rattle.dns_zone.specs.ZoneForm.{AreOrdered, IsBuilt, IsCanonical, IsFront, is_chosen}
 pub use Rattle.dns_zone.specs.declared.checks.names.CheckedName.{CheckedName}
-pub use Rattle.dns_zone.specs.declared.order.runs.Run.{Run}
+pub use Rattle.dns_zone.specs.declared.order.place.Place.{Place}
 pub use Rattle.dns_zone.specs.declared.tree.Tree.{Tree}
 pub use Rattle.dns_zone.specs.declared.tree.lower_case.TheConstants.{LOWER_CASE}
 pub use Rattle.dns_zone.specs.declared.tree.row.Row.{Row}

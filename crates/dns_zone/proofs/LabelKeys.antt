@@ -5,6 +5,8 @@ use Rattle.std.proofs.Math.Nat.{add-mul, mul_assoc}
 use Rattle.std.proofs.lemmas.Nat.{pow-add}
 use Rattle.dns_spec.proofs.General.Numbers.{lesser_parts}
 use Rattle.dns_spec.proofs.Common.{same_from_place}
+use Rattle.std.specs.Int.{from_be_bytes}
+use Rattle.std.proofs.Common.{w64}
 
 abbrev Low : Octets → Type 0
 Low a = (i : ℕ) → get_or a i 0 < 256
@@ -185,3 +187,37 @@ module _ (l : Octets) (i key worth : ℕ) (inside : i < length l) (few : i < 8)
 
   pub one_octet : IsPart l (i + 1) (key + get_or l i 0 * worth) (worth / 256)
   one_octet = grind (arith, grown, worth_is)
+
+one_digit : (n i : ℕ) (a : Octets)
+    → key_of (suc n) (drop i a) ≡ get_or a i 0 * 256 ^ n + key_of n (drop (suc i) a)
+unfolding key_of
+one_digit n zero [] = grind (arith, key_none)
+one_digit n zero (x ∷ a) = refl
+one_digit n (suc i) [] = grind (arith, key_none)
+one_digit n (suc i) (x ∷ a) = one_digit n i a
+
+-- the number of eight bytes that are the first octets, padded with 0
+pub of_bytes : (a bs : Octets) (k : ℕ) → k ≡ from_be_bytes w64 bs
+    → ((i : ℕ) → i < 8 → get_or bs i 0 ≡ get_or a i 0) → k ≡ key_of 8 a
+unfolding key_of
+of_bytes a bs k e h =
+    omega (
+      arith,
+      e,
+      h 0 (omega arith),
+      h 1 (omega arith),
+      h 2 (omega arith),
+      h 3 (omega arith),
+      h 4 (omega arith),
+      h 5 (omega arith),
+      h 6 (omega arith),
+      h 7 (omega arith),
+      one_digit 7 0 a,
+      one_digit 6 1 a,
+      one_digit 5 2 a,
+      one_digit 4 3 a,
+      one_digit 3 4 a,
+      one_digit 2 5 a,
+      one_digit 1 6 a,
+      one_digit 0 7 a,
+    )

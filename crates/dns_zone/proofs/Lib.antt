@@ -2,9 +2,11 @@ pub mod Common
 pub mod EndingNames
 pub mod Entries
 pub mod OwnerKeys
+pub mod PlaceOrder
+pub mod SortedPlaces
+pub mod Gathered
 pub mod Targets
 pub mod KnownRecords
-pub mod RisenRecords
 pub mod BoundedKids
 pub mod BuiltZone
 pub mod PrintedRecords

@@ -2,25 +2,15 @@
 
 pub(crate) mod key;
 pub(crate) mod owner_keys;
-pub(crate) mod presort;
-pub(crate) mod runs;
+pub(crate) mod place;
 pub(crate) mod sort;
 
 ghost use Rattle.std.specs.Prelude.{◌≡◌};
 ghost use Rattle.std.specs.Ordering.{nat_cmp, ordering_then};
-ghost use Rattle.dns_spec.specs.Records.{data_order, record_order};
+ghost use Rattle.dns_spec.specs.Records.{data_order};
 
 use crate::store::stored::StoredRecord;
 use std::cmp::Ordering;
-
-// Compares two records by owner, then type, then data, then TTL.
-pub(crate) fn record_order(one: &StoredRecord, other: &StoredRecord) -> Ordering
-    ensures { result ≡ record_order one.now other.now }
-{
-    one.owner()
-        .order_in_lower_case(&other.owner())
-        .then_with(|| own_order(one, other))
-}
 
 // Compares two records of one owner: by type, then by data, then by TTL.
 pub(crate) fn own_order(one: &StoredRecord, other: &StoredRecord) -> Ordering

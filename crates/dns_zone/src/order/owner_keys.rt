@@ -4,10 +4,11 @@ ghost use Rattle.dns_spec.specs.Names.{folded};
 ghost use Rattle.dns_spec.specs.Meaning.{most_records};
 ghost use Rattle.dns_spec.specs.ZonePrinted.{IsReadRecord};
 ghost use Rattle.dns_zone.specs.KeyForm.{name_key};
-ghost use Rattle.dns_zone.specs.OwnerKeysForm.{key_in, AreKeyed};
+ghost use Rattle.dns_zone.specs.OwnerKeysForm.{key_in};
+ghost use Rattle.dns_zone.specs.PlaceForm.{ArePlaces};
 
 use crate::order::key::Key;
-use crate::order::runs::Run;
+use crate::order::place::Place;
 use crate::store::stored::StoredRecord;
 use dns_name::NameRef;
 use std::alloc::{AllocError, Global};
@@ -22,43 +23,38 @@ pub(crate) struct OwnerKeys {
     pub(crate) starts: Vec<u32>,
 }
 
-/// The keys of the owners, and one run for each stretch of adjacent records with the same owner, in
-/// the order of `records`. Takes memory for the octets of the owners, and 28 octets for each
-/// record.
+/// The keys of the owners, and the places of the records, in the order of `records`. Takes memory
+/// for the octets of the owners, and 24 octets for each record.
 #[tactic(auto, using(crate::proofs::SearchSteps::wire_steps))]
 pub(crate) fn keys_of<'a>(
     alloc: Global,
     origin: &'a NameRef<'a>,
     records: &'a [StoredRecord],
-) -> Result<(OwnerKeys, Vec<Run>), AllocError>
+) -> Result<(Vec<u8>, Vec<Place>), AllocError>
     requires { length records.now ≤ most_records }
-    ensures origin { IfOk result (λ (k, _).
-        key_in k.keys.items 0 origin.now ≡ name_key origin.now) }
-    ensures records { IfOk result (λ (k, _).
-        AreKeyed k.keys.items records.now k.starts.items) }
+    ensures origin { IfOk result (λ (keys, _). key_in keys.items 0 origin.now ≡ name_key origin.now) }
+    ensures places { IfOk result (λ (keys, places).
+        ArePlaces (name_key origin.now) keys.items records.now places.items) }
     ensures read { IfOk result (λ _. All IsReadRecord records.now) }
 {
     let mut keys = Vec::new(alloc);
-    let mut starts = Vec::with_capacity(alloc, records.len())?;
-    let mut runs: Vec<Run> = Vec::with_capacity(alloc, records.len())?;
+    let mut places: Vec<Place> = Vec::with_capacity(alloc, records.len())?;
     let (first, mut key) = (Key::of(origin), Key::of(origin));
     keys.extend_from_slice(key.octets())?;
     let mut last = NameRef::new(origin.octets());
-    let mut start = 0;
+    let mut place = Place::of(first.octets(), key.octets(), 0, 0);
     'records: for each in records {
         let owner = each.owner();
-        if owner != last || runs.is_empty() {
-            start = keys.len() as u32;
+        if owner != last {
             key.move_to(&last, &owner);
+            place = Place::of(first.octets(), key.octets(), 0, keys.len() as u32);
             keys.extend_from_slice(key.octets())?;
-            runs.push(Run::of_owner(first.octets(), key.octets(), starts.len() as u32))?;
             last = owner;
-        } else if let Some(run) = runs.as_mut_slice().last_mut() {
-            run.end = run.end.wrapping_add(1);
         }
-        starts.push(start)?;
+        place.at = places.len() as u32;
+        places.push(place)?;
     }
-    Ok((OwnerKeys { keys, starts }, runs))
+    Ok((keys, places))
 }
 
 /// The key of a record's owner. It begins at the offset `start` in `keys`.

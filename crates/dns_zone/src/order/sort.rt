@@ -1,28 +1,23 @@
 //! Records in canonical order, without duplicates.
-ghost use Rattle.std.specs.Prelude.{List, ◌≡◌, ◌≤◌, All, length, take, true, IfOk, IfSome, IsSome};
-ghost use Rattle.std.specs.Bool.{OnTrue, OnFalse};
-ghost use Rattle.std.specs.List.Sorted.{IsPermutation, IsSorted};
-ghost use Rattle.dns_spec.specs.Names.{folded, name_order};
+ghost use Rattle.std.specs.Prelude.{◌≡◌, ℕ, ◌<◌, ◌≤◌, All, length, map, get_or, IfOk, OnOk};
+ghost use Rattle.dns_spec.specs.Names.{Octets};
 ghost use Rattle.dns_spec.specs.Meaning.{most_records};
-ghost use Rattle.dns_spec.specs.Records.{ResourceRecord, records_equal, distinct, sort_by, record_order};
+ghost use Rattle.dns_spec.specs.Records.{records_equal, distinct, sort_by, record_order};
 ghost use Rattle.dns_spec.specs.ZonePrinted.{IsReadRecord};
-ghost use Rattle.std.specs.Ordering.{is_eq};
 ghost use Rattle.dns_zone.specs.KeyForm.{name_key};
 ghost use Rattle.dns_zone.specs.OwnerKeysForm.{key_in, AreKeyed};
+ghost use Rattle.dns_zone.specs.PlaceForm.{no_record, placed, AreApart, ArePlaces, AreSorted};
 ghost use Rattle.dns_zone.specs.ZoneForm.{AreOrdered};
 
-use crate::order::owner_keys::{OwnerKeys, key_at, keys_of};
-use crate::order::presort::presort;
-use crate::order::{own_order, record_order};
+use crate::order::owner_keys::{OwnerKeys, keys_of};
+use crate::order::place::{Order, Place};
 use crate::store::stored::StoredRecord;
 use dns_name::NameRef;
 use std::alloc::{AllocError, Global};
-use std::cmp::Ordering;
 
 /// Sorts records into canonical order without duplicates (RFC 4034 6.1, 6.3, RFC 2181 5), and
-/// returns them with the keys of their owners. `presort` usually suffices; one pass checks its
-/// result.
-#[tactic(auto, using(crate::proofs::Common::wire_some))]
+/// returns them with the keys of their owners. The places of the records are sorted, and then the
+/// records are moved.
 pub(crate) fn sorted(
     alloc: Global,
     origin: &NameRef<'_>,
@@ -39,104 +34,81 @@ pub(crate) fn sorted(
     ensures keyed { IfOk result (λ (kept, keyed). AreKeyed keyed.keys.items kept.items
         keyed.starts.items) }
 {
-    let (mut keyed, runs) = keys_of(alloc, &*origin, records.as_slice())?;
-    presort(
-        alloc,
-        runs,
-        keyed.keys.as_slice(),
-        records.as_mut_slice(),
-        keyed.starts.as_mut_slice(),
-    )?;
-    if leave_out_duplicates(&mut records, &mut keyed) {
-        return Ok((records, keyed));
-    }
-    records.sort_unstable_by(|one, other| record_order(one, other));
-    let (mut keyed, _) = keys_of(alloc, &*origin, records.as_slice())?;
-    leave_out_duplicates(&mut records, &mut keyed);
-    Ok((records, keyed))
+    let (keys, mut places) = keys_of(alloc, &*origin, records.as_slice())?;
+    sort_places(keys.as_slice(), records.as_slice(), &mut places)?;
+    gather(alloc, &mut records, places.as_slice())?;
+    let starts = starts_of(alloc, places.as_slice())?;
+    Ok((records, OwnerKeys { keys, starts }))
 }
 
-// Removes each record that is equal to the record before it. Returns false, and removes nothing, if
-// some record comes after the next record in canonical order.
-fn leave_out_duplicates(records: &mut Vec<StoredRecord>, keyed: &mut OwnerKeys) -> bool
-    requires { AreKeyed keyed.old.keys.items records.old.items keyed.old.starts.items }
-    ensures sorted { IsSorted record_order records.old.items → result ≡ true }
-    ensures moved { OnFalse result (IsPermutation records.old.items records.new.items) }
-    ensures bound { length records.new.items ≤ length records.old.items }
-    ensures keys { keyed.new.keys ≡ keyed.old.keys }
-    ensures keyed { OnTrue result (AreKeyed keyed.new.keys.items records.new.items
-        keyed.new.starts.items) }
-    ensures once { OnTrue result ((rs : List ResourceRecord) → All IsReadRecord rs
-        → IsPermutation rs records.old.items
-        → records.new.items ≡ sort_by record_order (distinct records_equal rs)) }
-{
-    let Some(count) = once_in_front(
-        keyed.keys.as_slice(),
-        records.as_mut_slice(),
-        keyed.starts.as_mut_slice(),
-    ) else {
-        return false;
-    };
-    records.truncate(count);
-    keyed.starts.truncate(count);
-    true
-}
-
-// Moves each record that differs from the record before it to the front, and returns how many these
-// are (1 for an empty list). `None` if some record comes after the next in canonical order.
-fn once_in_front(keys: &[u8], records: &mut [StoredRecord], starts: &mut [u32]) -> Option<usize>
-    requires { AreKeyed keys.now records.old starts.old }
-    ensures permutation { IsPermutation records.old records.new }
-    ensures keyed { AreKeyed keys.now records.new starts.new }
-    ensures sorted { IsSorted record_order records.old → IsSome result }
-    ensures once { IfSome result (λ k. (rs : List ResourceRecord) → All IsReadRecord rs
-        → IsPermutation rs records.old
-        → take k records.new ≡ sort_by record_order (distinct records_equal rs)) }
-{
-    let mut last = 0;
-    let mut at = 1;
-    'records: while at < records.len() {
-        let (start, after) = (starts[last], starts[at]);
-        match order(keys, &records[last], start, &records[at], after) {
-            Ordering::Less => {
-                last += 1;
-                records.swap(last, at);
-                starts.swap(last, at);
-            }
-            Ordering::Equal => {}
-            Ordering::Greater => return None,
-        }
-        at += 1;
-    }
-    Some(last + 1)
-}
-
-fn order(keys: &[u8], one: &StoredRecord, start: u32, next: &StoredRecord, after: u32) -> Ordering
-    requires one { key_in keys.now start one.now.owner ≡ name_key one.now.owner }
-    requires next { key_in keys.now after next.now.owner ≡ name_key next.now.owner }
-    ensures value { result ≡ record_order one.now next.now }
-    ensures equal { is_eq result ≡ true → one.now ≡ next.now }
-{
-    owner_order(keys, one, start, next, after).then_with(|| own_order(one, next))
-}
-
-// Compares the owners of two records by their keys. Checking first for a shared key saves a
-// twelfth of the time on a file with many records of deep names.
-fn owner_order(
+// Sorts the places of records, and leaves out those of duplicates.
+fn sort_places(
     keys: &[u8],
-    one: &StoredRecord,
-    start: u32,
-    next: &StoredRecord,
-    after: u32,
-) -> Ordering
-    requires one { key_in keys.now start one.now.owner ≡ name_key one.now.owner }
-    requires next { key_in keys.now after next.now.owner ≡ name_key next.now.owner }
-    ensures value { result ≡ name_order one.now.owner next.now.owner }
-    ensures lower { folded one.now.owner ≡ one.now.owner }
-    ensures next { folded next.now.owner ≡ next.now.owner }
+    records: &[StoredRecord],
+    places: &mut Vec<Place>,
+) -> Result<(), AllocError>
+    requires { All IsReadRecord records.now }
+    ensures { OnOk result ((o : Octets) → ArePlaces o keys.now records.now places.old.items
+        → AreSorted keys.now records.now places.new.items) }
 {
-    if start == after && one.owner().octets().len() == next.owner().octets().len() {
-        return Ordering::Equal;
+    let Some(first) = records.first() else {
+        return Ok(());
+    };
+    let order = Order {
+        keys,
+        records,
+        first,
+    };
+    order.sort(places)?;
+    places.dedup_by(|next, one| order.compare(next, one).is_eq());
+    Ok(())
+}
+
+// Moves the record at each place to the index of the place in the list, and drops the others.
+fn gather(
+    alloc: Global,
+    records: &mut Vec<StoredRecord>,
+    places: &[Place],
+) -> Result<(), AllocError>
+    requires few { length records.old.items ≤ most_records }
+    requires inside { All (λ (p : Place). p.at < length records.old.items) places.now }
+    requires apart { AreApart places.now }
+    requires fewer { length places.now ≤ length records.old.items }
+    ensures { OnOk result (records.new.items
+        ≡ map (placed records.old.items no_record) places.now) }
+{
+    // Where each record is now, and which record is now at each index.
+    let mut index_of = counted(alloc, records.len())?;
+    let mut record_at = counted(alloc, records.len())?;
+    'places: for to in 0..places.len() {
+        let record = places[to].at;
+        let from = index_of[record as usize];
+        let other = record_at[to];
+        records.swap(to, from as usize);
+        record_at[from as usize] = other;
+        index_of[other as usize] = from;
+        record_at[to] = record;
+        index_of[record as usize] = to as u32;
     }
-    key_at(keys, start, one).cmp(key_at(keys, after, next))
+    records.truncate(places.len());
+    Ok(())
+}
+
+fn starts_of(alloc: Global, places: &[Place]) -> Result<Vec<u32>, AllocError>
+    ensures { IfOk result (λ starts. starts.items ≡ map (λ (p : Place). p.start) places.now) }
+{
+    places.iter().map(|place| place.start).collect(alloc)
+}
+
+// The numbers below `count`.
+fn counted(alloc: Global, count: usize) -> Result<Vec<u32>, AllocError>
+    requires { count ≤ most_records }
+    ensures { IfOk result (λ numbers. (length numbers.items ≡ count)
+        × ((i : ℕ) (d : ℕ) → i < count → get_or numbers.items i d ≡ i)) }
+{
+    let mut numbers = Vec::with_capacity(alloc, count)?;
+    'numbers: for number in 0..count {
+        numbers.push(number as u32)?;
+    }
+    Ok(numbers)
 }

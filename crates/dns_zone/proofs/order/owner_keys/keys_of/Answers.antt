@@ -1,7 +1,12 @@
-use Rattle.dns_zone.proofs.Common.{rules, ◌≡◌, ◌≤◌, ◌<◌, length, ℕ, ◌+◌, List, [], ◌∷◌, ◌++◌, get_or, arith, refl, false, false≢true, sym, ap, subst, ◌∙◌, inl, inr, ◌⊎◌, length-append, cases_lt, get_or_append_left, get_or_default, Octets, DomainName, ResourceRecord, IsReadRecord, All, All-nil, take_all, get_or-append_seam, All-more, names_equal-decides, labels_of_spelled, name_key, key_in}
+use Rattle.dns_zone.proofs.Common.{rules, ◌≡◌, ◌≤◌, ◌<◌, length, ℕ, ◌+◌, List, [], ◌∷◌, ◌++◌, get_or, arith, refl, sym, ap, subst, ◌∙◌, inl, inr, ◌⊎◌, length-append, cases_lt, get_or_append_left, get_or_default, Octets, DomainName, ResourceRecord, IsReadRecord, All, All-nil, All-push, All-weaker, take_all, get_or-append_seam, All-more, names_equal-decides, labels_of_spelled, name_key, key_in, AreFronts, IsPlace, Place, placed}
 use Rattle.dns_zone.proofs.OwnerKeys.{key_stays, key_added}
 use Rattle.dns_zone.proofs.order.owner_keys.keys_of.Goals as goal
-use Rattle.dns_zone.proofs.order.owner_keys.keys_of.Goals.{then-ne, else-ne, then-is_empty+in_ok-extend_from_slice-2+in_ok-push, else-is_empty+in-Some, else-is_empty+in_default}
+use Rattle.dns_zone.proofs.order.owner_keys.keys_of.Goals.{then-ne+in_ok-extend_from_slice-2, else-ne}
+
+fronts_are : (a b o key : Octets) (f i : ℕ) → a ≡ o → b ≡ key → AreFronts a b f i
+    → AreFronts o key f i
+fronts_are a b o key f i e g h =
+    subst (λ x. AreFronts x key f i) e (subst (λ y. AreFronts a y f i) g h)
 
 pub records-init : goal.records-init
 records-init c =
@@ -15,11 +20,18 @@ records-init c =
     (key_added [] [] c.args.origin.now) in
     record {
       key = c.of-key.ensures ∙ ap name_key (sym last);
-      last = subst (λ n. key_in c.extend_from_slice.new.self.items 0 n ≡ name_key n) (sym last)
-          first;
+      last = subst (λ s. key_in c.extend_from_slice.new.self.items s c.new-last.result
+          ≡ name_key c.new-last.result) (sym c.of-place.ensures.start)
+          (subst (λ n. key_in c.extend_from_slice.new.self.items 0 n ≡ name_key n) (sym last)
+          first);
+      fronts = fronts_are _ _ _ _ _ _ (c.octets-3.ensures.value ∙ c.of-first.ensures)
+          (c.octets-4.ensures.value ∙ c.of-key.ensures ∙ ap name_key (sym last))
+          c.of-place.ensures.fronts;
       origin = first;
-      count = ap length c.in_ok-starts.ensures.items;
-      each = λ i r s l. absurd (omega (arith, l));
+      count = ap length c.in_ok-places.ensures.items;
+      at = λ i d l. absurd (omega (arith, l, ap length c.in_ok-places.ensures.items));
+      each = subst (All (IsPlace (name_key c.args.origin.now) c.extend_from_slice.new.self.items
+          c.args.records.now)) (sym c.in_ok-places.ensures.items) (All-nil _);
       few = grind arith;
       read = All-nil IsReadRecord;
     }
@@ -27,104 +39,123 @@ records-init c =
 abbrev IsAt : Octets → ℕ → DomainName → Type 0
 IsAt keys start n = key_in keys start n ≡ name_key n
 
-abbrev AreFirst : Octets → List ResourceRecord → ℕ → List ℕ → Type 0
-AreFirst keys rs k starts =
-    (i : ℕ) (r : ResourceRecord) (s : ℕ) → i < k
-    → IsAt keys (get_or starts i s) (get_or rs i r).owner
-
--- the keys of the records so far, and the key of one more
-each_pushed : (keys : Octets) (starts : List ℕ) (rs : List ResourceRecord) (k start : ℕ)
-    → length starts ≡ k → AreFirst keys rs k starts → ((r : ResourceRecord)
-    → IsAt keys start (get_or rs k r).owner) → AreFirst keys rs (k + 1) (starts ++ start ∷ [])
-each_pushed keys starts rs k start count each here i r s l = go (cases_lt i k)
-  where
-    go : (i < k) ⊎ (k ≤ i) → IsAt keys (get_or (starts ++ start ∷ []) i s) (get_or rs i r).owner
-    go (inl m) =
-        subst (λ x. IsAt keys x (get_or rs i r).owner)
-        (sym (get_or_append_left starts (start ∷ []) s i (omega (arith, m, count)))) (each i r s m)
-    go (inr m) =
-        let at : i ≡ length starts = omega (arith, l, m, count) in
-        let is : i ≡ k = omega (arith, l, m) in
-        subst (λ x. IsAt keys x (get_or rs i r).owner)
-        (sym (ap (λ j. get_or (starts ++ start ∷ []) j s) at
-        ∙ get_or-append_seam starts start [] s))
-        (subst (λ j. IsAt keys start (get_or rs j r).owner) (sym is) (here r))
-
 -- the list of keys after the key of n was added to it, or found to be its last key
-record Added (old new key : Octets) (start : ℕ) (last n : DomainName) : Type 0 where
+record Added (origin old new key : Octets) (place : Place) (last n : DomainName) : Type 0 where
   pub key_is : key ≡ name_key n
   pub stays : (m : DomainName) (s : ℕ) → IsAt old s m → IsAt new s m
-  pub at : IsAt new start n
+  pub at : IsAt new place.start n
+  pub fronts : AreFronts origin (name_key n) place.front place.next
   pub fits : length new ≤ length old + 255
   pub is : last ≡ n
 
-key_put : (old new key : Octets) (start : ℕ) (last n : DomainName) → key ≡ name_key n
-    → new ≡ old ++ name_key n → start ≡ length old → last ≡ n → length (name_key n) ≤ 255
-    → Added old new key start last n
-key_put old new key start last n k e f g bound = rw (e, f, g) (record {
+key_put : (origin old new key : Octets) (place : Place) (last n : DomainName) → key ≡ name_key n
+    → new ≡ old ++ name_key n → place.start ≡ length old
+    → AreFronts origin (name_key n) place.front place.next → last ≡ n
+    → length (name_key n) ≤ 255 → Added origin old new key place last n
+key_put origin old new key place last n k e f fronts g bound = rw (e, g) (record {
   key_is = k;
   stays = key_stays old (name_key n);
-  at = key_added old [] n;
+  at = subst (λ s. IsAt (old ++ name_key n) s n) (sym f) (key_added old [] n);
+  fronts = fronts;
   fits = omega (arith, bound, length-append old (name_key n));
   is = refl;
 })
 
-key_kept : (old new key : Octets) (from start : ℕ) (last m n : DomainName) → key ≡ name_key m
-    → new ≡ old → start ≡ from → last ≡ m → n ≡ m → IsAt old from m → Added old new key start last n
-key_kept old new key from start last m n k e f g h at = rw (e, f, g, h) (record {
+key_kept : (origin old new key : Octets) (place : Place) (last m n : DomainName)
+    → key ≡ name_key m → new ≡ old → last ≡ m → n ≡ m → IsAt old place.start m
+    → AreFronts origin (name_key m) place.front place.next → Added origin old new key place last n
+key_kept origin old new key place last m n k e g h at fronts = rw (e, g, h) (record {
   key_is = k;
   stays = λ _ _ a. a;
   at = at;
+  fronts = fronts;
   fits = omega arith;
   is = refl;
 })
 
+at_pushed : (ps : List Place) (p : Place) → p.at ≡ length ps
+    → ((i : ℕ) (d : Place) → i < length ps → (get_or ps i d).at ≡ i)
+    → (i : ℕ) (d : Place) → i < length (ps ++ p ∷ []) → (get_or (ps ++ p ∷ []) i d).at ≡ i
+at_pushed ps p e h i d l = go (cases_lt i (length ps))
+  where
+    go : (i < length ps) ⊎ (length ps ≤ i) → (get_or (ps ++ p ∷ []) i d).at ≡ i
+    go (inl m) =
+        ap (λ (q : Place). q.at) (get_or_append_left ps (p ∷ []) d i m) ∙ h i d m
+    go (inr m) =
+        let is : i ≡ length ps = omega (arith, l, m, length-append ps (p ∷ [])) in
+        ap (λ j. (get_or (ps ++ p ∷ []) j d).at) is
+        ∙ ap (λ (q : Place). q.at) (get_or-append_seam ps p [] d) ∙ e ∙ sym is
+
 pub records-preserved : goal.records-preserved
 records-preserved c =
     let n = c.owner-owner.result in
+    let o = name_key c.args.origin.now in
     let old = c.records.keys.items in
-    let new = c.if-is_empty.keys.items in
-    let key = c.if-is_empty.key in
-    let last = c.if-is_empty.last in
-    let start = c.if-is_empty.start in
+    let new = c.if-ne.keys.items in
+    let key = c.if-ne.key in
+    let last = c.if-ne.last in
+    let place = c.if-ne.place in
     let k = c.records.each-index in
     let rs = c.args.records.now in
     let inv = c.records.invariant in
     let few = inv.few in
-    let starts = c.in_ok-push-2.ensures.items in
     let here : (r : ResourceRecord) → (get_or rs k r).owner ≡ n =
     λ r. ap (λ (s : ResourceRecord). s.owner)
     (get_or_default rs k r c.each-item.result c.records-test.true ∙ sym c.each-item.is)
     ∙ sym c.owner-owner.ensures.value in
-    let same : c.if-ne.value ≡ false → n ≡ c.records.last =
-    λ f. elim c.if-ne.branch [
-      | then-ne w ↦ absurd (false≢true (sym f ∙ w.value-is ∙ w.if-ne.true))
-      | else-ne w ↦ (names_equal-decides n c.records.last).0 (search rules)
-    ] in
-    let kept : c.if-ne.value ≡ false → key ≡ c.records.key → new ≡ old → start ≡ c.records.start
-    → last ≡ c.records.last → Added old new key start last n =
-    λ f k e g h. key_kept old new key _ start last _ n (k ∙ inv.key) e g h (same f) inv.last in
-    let added : Added old new key start last n = elim c.if-is_empty.branch [
-      | then-is_empty+in_ok-extend_from_slice-2+in_ok-push w ↦
+    let added : Added o old new key place last n = elim c.if-ne.branch [
+      | then-ne+in_ok-extend_from_slice-2 w ↦
           let is = w.key-is ∙ w.move_to.ensures in
-          let more : w.octets-then-is_empty.result.now ≡ name_key n = search (rules, is) in
-          let bound = w.octets-then-is_empty.ensures.bound in
-          key_put old new key start last n is (search (rules, more)) (search rules) w.last-is
-          (omega (arith, bound, ap length more))
-      | else-is_empty+in-Some w ↦
-          kept w.if-is_empty.false w.key-is (search rules) w.start-is w.last-is
-      | else-is_empty+in_default w ↦
-          kept w.if-is_empty.false w.key-is (search rules) w.start-is w.last-is
+          let more : w.octets-then-ne-3.result.now ≡ name_key n = search (rules, is) in
+          let bound = w.octets-then-ne-3.ensures.bound in
+          let fronts = fronts_are _ _ o (name_key n) _ _ (search rules) (search (rules, is))
+          w.of-place-then-ne.ensures.fronts in
+          key_put o old new key place last n is (search (rules, more)) (search rules)
+          (subst (λ (p : Place). AreFronts o (name_key n) p.front p.next) (sym w.place-is) fronts)
+          w.last-is (omega (arith, bound, ap length more))
+      | else-ne w ↦
+          let same : n ≡ c.records.last =
+          (names_equal-decides n c.records.last).0 (search rules) in
+          key_kept o old new key place last _ n (w.key-is ∙ inv.key) (search rules) w.last-is same
+          (subst (λ (p : Place). IsAt old p.start c.records.last) (sym w.place-is) inv.last)
+          (subst (λ (p : Place). AreFronts o (name_key c.records.last) p.front p.next)
+          (sym w.place-is) inv.fronts)
     ] in
     let fits = added.fits in
+    let ps = c.records.places.items in
+    let pushed : Place = record {
+      front = place.front;
+      next = place.next;
+      at = c.len-in-records.result;
+      start = place.start;
+    } in
+    let items : c.push.new.self.items ≡ ps ++ pushed ∷ [] = search rules in
+    let at : pushed.at ≡ length ps = search rules in
+    let index : pushed.at ≡ k = at ∙ inv.count in
+    let owner : (r : ResourceRecord) → (placed rs r pushed).owner ≡ n =
+    λ r. ap (λ j. (get_or rs j r).owner) index ∙ here r in
+    let is_place : IsPlace o new rs pushed = record {
+      inside = subst (λ j. j < length rs) (sym index) c.records-test.true;
+      key = λ r. subst (IsAt new place.start) (sym (owner r)) added.at;
+      fronts = λ r. subst (λ m. AreFronts o (name_key m) place.front place.next) (sym (owner r))
+          added.fronts;
+    } in
     record {
       key = added.key_is ∙ ap name_key (sym added.is);
-      last = subst (IsAt new start) (sym added.is) added.at;
+      last = subst (IsAt new place.start) (sym added.is) added.at;
+      fronts = subst (λ m. AreFronts o (name_key m) place.front place.next) (sym added.is)
+          added.fronts;
       origin = added.stays c.args.origin.now 0 inv.origin;
-      count = ap length starts ∙ length-append c.records.starts.items _ ∙ ap (λ j. j + 1) inv.count;
-      each = subst (AreFirst new rs (k + 1)) (sym starts)
-          (each_pushed _ _ rs k _ inv.count (λ i r s l. added.stays _ _ (inv.each i r s l))
-          (λ r. subst (IsAt new start) (sym (here r)) added.at));
+      count = ap length items ∙ length-append ps _ ∙ ap (λ j. j + 1) inv.count;
+      at = subst (λ qs. (i : ℕ) (d : Place) → i < length qs → (get_or qs i d).at ≡ i) (sym items)
+          (at_pushed ps pushed at inv.at);
+      each = subst (All (IsPlace o new rs)) (sym items)
+          (All-push (IsPlace o new rs) ps pushed (All-weaker (IsPlace o old rs) (IsPlace o new rs)
+          (λ p h. record {
+            inside = h.inside;
+            key = λ r. added.stays (placed rs r p).owner p.start (h.key r);
+            fronts = h.fronts;
+          }) ps inv.each) is_place);
       few = omega (arith, few, fits);
       read = All-more IsReadRecord rs k c.each-item.result c.records-test.true inv.read
           (subst IsReadRecord c.each-item.is c.owner-owner.ensures.read);

@@ -1,78 +1,103 @@
-use Rattle.dns_zone.proofs.Common.{rules, true, is_lt, ◌≡◌, ℕ, ◌++◌, List, All, length, take, drop, sym, subst, ◌∙◌, take-append_seam, IsPermutation, ResourceRecord, record_order, IsReadRecord, length_permutation, ranks_by, IsPermutation-trans, always_returns_same, record_order_total, sort_risen, rises_canonical, all_canonical, AreOrdered}
+use Rattle.dns_zone.proofs.Common.{◌≡◌, ◌<◌, ◌≤◌, ◌∙◌, ℕ, List, All, length, map, sym, ap, ap₂, subst, arith, length-map, get_or-map, Octets, ResourceRecord, IsReadRecord, record_order, sort_risen, rises_canonical, all_canonical, AreApart, AreOrdered, AreKeyed, ArePlaces, AreSorted, key_in, name_key, no_place, no_record, placed, Place}
 use Rattle.dns_zone.proofs.order.sort.sorted.Goals as goal
-use Rattle.dns_zone.proofs.order.sort.sorted.Goals.{Then-leave_out_duplicates, After-drop-keyed-3}
+use Rattle.dns_zone.proofs.order.sort.sorted.Goals.{In_ok-sort_places, In_ok-gather}
 use Rattle.dns_zone.proofs.AtName.{canonical}
-use Rattle.dns_spec.proofs.Common.{OnTrue_at}
 
--- the records after they were arranged in place
-module _ (rs lent near : List ResourceRecord) (count : ℕ) (is : lent ≡ rs)
-    (moves : IsPermutation lent near) (long : length lent ≡ count) where
-  abbrev arranged : List ResourceRecord
-  arranged = take count (near ++ drop (length near) rs)
+-- records at sorted places, with the starts of their keys
+keyed : (keys : Octets) (rs ss : List ResourceRecord) (ps : List Place) (starts : List ℕ)
+    → AreSorted keys rs ps → ss ≡ map (placed rs no_record) ps
+    → starts ≡ map (λ (p : Place). p.start) ps → AreKeyed keys ss starts
+keyed keys rs ss ps starts h e f = rw (e, f) (record {
+  count = length-map ps (λ (p : Place). p.start) ∙ sym (length-map ps (placed rs no_record));
+  each = λ i r s l.
+      let inside : i < length ps = omega (arith, l, length-map ps (placed rs no_record)) in
+      let record_is = get_or-map (placed rs no_record) ps i no_place r inside in
+      let start_is = get_or-map (λ (p : Place). p.start) ps i no_place s inside in
+      ap₂ (λ k (t : ResourceRecord). key_in keys k t.owner) start_is record_is
+      ∙ h.key i no_place inside ∙ ap (λ (t : ResourceRecord). name_key t.owner) (sym record_is);
+})
 
-  written : arranged ≡ near
-  written =
-      subst (λ n. take n (near ++ drop (length near) rs) ≡ near)
-      (length_permutation lent near moves ∙ long) (take-append_seam near (drop (length near) rs))
+module _ (c : In_ok-sort_places) where
+  abbrev rs : List ResourceRecord
+  rs = c.args.records.items
 
-  moved : IsPermutation rs arranged
-  moved =
-      subst (λ ys. IsPermutation rs ys) (sym written) (subst (λ ys. IsPermutation ys near) is moves)
+  abbrev ps : List Place
+  ps = c.sort_places.new.places.items
 
-module _ (rs xs : List ResourceRecord) (each : All IsReadRecord rs) (is : xs ≡ canonical rs) where
-  in_order : AreOrdered xs
-  in_order = subst AreOrdered (sym is) (sort_risen record_order (canonical rs) (rises_canonical rs))
+  read : All IsReadRecord rs
+  read = subst (All IsReadRecord) c.as_slice.ensures.value c.in_ok-keys.ensures.read
 
-  all_read : All IsReadRecord xs
-  all_read = subst (All IsReadRecord) (sym is) (all_canonical IsReadRecord rs each)
+  are_sorted : AreSorted c.in_ok-keys.keys.items rs ps
+  are_sorted =
+      let o = name_key c.args.origin.now in
+      let qs = c.in_ok-keys.places.items in
+      let keys = c.as_slice-2.ensures.value in
+      let records = c.as_slice-3.ensures.value in
+      subst (λ ks. AreSorted ks rs ps) keys
+      (subst (λ ss. AreSorted c.as_slice-2.result.now ss ps) records
+      (c.in_ok-sort_places.ensures o
+      (subst (λ ks. ArePlaces o ks c.as_slice-3.result.now qs) (sym keys)
+      (subst (λ ss. ArePlaces o c.in_ok-keys.keys.items ss qs)
+      (c.as_slice.ensures.value ∙ sym records) c.in_ok-keys.ensures.places))))
 
-module _ (c : Then-leave_out_duplicates) where
-  each : All IsReadRecord c.args.records.items
-  each = subst (All IsReadRecord) c.as_slice.ensures.value c.in_ok-keyed.ensures.read
+pub gather-requires-clause-inside : goal.gather-requires-clause-inside
+gather-requires-clause-inside c =
+    let at = (goal.at.gather-requires-clause-inside c).In_ok-sort_places in
+    subst (All (λ (p : Place). p.at < length c.args.records.items)) (sym c.as_slice-4.ensures.value)
+    (are_sorted at).inside
 
-  once : c.leave_out_duplicates.new.records.items ≡ canonical c.args.records.items
-  once =
-      c.if-leave_out_duplicates.ensures.once c.args.records.items each
-      (moved c.args.records.items c.as_mut_slice.result.now c.presort.new.records
-      c.args.records.len c.as_mut_slice.ensures.value c.presort.ensures.permutation
-      c.as_mut_slice.ensures.len)
+pub gather-requires-clause-apart : goal.gather-requires-clause-apart
+gather-requires-clause-apart c =
+    let at = (goal.at.gather-requires-clause-apart c).In_ok-sort_places in
+    subst AreApart (sym c.as_slice-4.ensures.value) (are_sorted at).apart
 
-pub returns-then-leave_out_duplicates-clause-in_order :
-    goal.returns-then-leave_out_duplicates-clause-in_order
-returns-then-leave_out_duplicates-clause-in_order c = in_order _ _ (each c) (once c)
+pub gather-requires-clause-fewer : goal.gather-requires-clause-fewer
+gather-requires-clause-fewer c =
+    let at = (goal.at.gather-requires-clause-fewer c).In_ok-sort_places in
+    subst (λ (qs : List Place). length qs ≤ length c.args.records.items)
+    (sym c.as_slice-4.ensures.value) (are_sorted at).fewer
 
-pub returns-then-leave_out_duplicates-clause-each :
-    goal.returns-then-leave_out_duplicates-clause-each
-returns-then-leave_out_duplicates-clause-each c = all_read _ _ (each c) (once c)
-
-module _ (c : After-drop-keyed-3) where
-  read : All IsReadRecord c.args.records.items
-  read = subst (All IsReadRecord) c.as_slice.ensures.value c.in_ok-keyed.ensures.read
-
-  none_later : c.leave_out_duplicates-2.result ≡ true
-  none_later =
-      c.leave_out_duplicates-2.ensures.sorted
-      (c.sort_unstable_by.ensures.sorted (λ r s. is_lt (record_order r s))
-      (ranks_by record_order_total (λ r. r))
-      (always_returns_same _ _ _ (λ a r f' k. search rules)))
-
-  sorted : c.leave_out_duplicates-2.new.records.items ≡ canonical c.args.records.items
-  sorted =
-      OnTrue_at none_later c.leave_out_duplicates-2.ensures.once c.args.records.items read
-      (IsPermutation-trans _ _ _ (IsPermutation-trans _ _ _
-      (moved c.args.records.items c.as_mut_slice.result.now c.presort.new.records
-      c.args.records.len c.as_mut_slice.ensures.value c.presort.ensures.permutation
-      c.as_mut_slice.ensures.len) c.if-leave_out_duplicates.ensures.moved)
-      c.sort_unstable_by.ensures.permutation)
+gathered : (c : In_ok-gather) → c.gather.new.records.items
+    ≡ map (placed c.args.records.items no_record) c.sort_places.new.places.items
+gathered c =
+    c.in_ok-gather.ensures
+    ∙ ap (map (placed c.args.records.items no_record)) c.as_slice-4.ensures.value
 
 pub returns-clause-records : goal.returns-clause-records
-returns-clause-records c = sorted c
+returns-clause-records c =
+    let at = (goal.at.returns-clause-records c) in
+    gathered at.In_ok-gather ∙ (are_sorted at.In_ok-sort_places).whole
 
 pub returns-clause-in_order : goal.returns-clause-in_order
-returns-clause-in_order c = in_order _ _ (read c) (sorted c)
+returns-clause-in_order c =
+    let at = (goal.at.returns-clause-in_order c) in
+    subst AreOrdered (sym (gathered at.In_ok-gather ∙ (are_sorted at.In_ok-sort_places).whole))
+    (sort_risen record_order (canonical c.args.records.items)
+    (rises_canonical c.args.records.items))
+
+pub returns-clause-count : goal.returns-clause-count
+returns-clause-count c =
+    let at = (goal.at.returns-clause-count c) in
+    let count = ap length (gathered at.In_ok-gather) in
+    let fewer = (are_sorted at.In_ok-sort_places).fewer in
+    omega (
+      arith,
+      fewer,
+      count,
+      length-map (ps at.In_ok-sort_places) (placed c.args.records.items no_record),
+    )
 
 pub returns-clause-each : goal.returns-clause-each
-returns-clause-each c = all_read _ _ (read c) (sorted c)
+returns-clause-each c =
+    let at = (goal.at.returns-clause-each c) in
+    subst (All IsReadRecord)
+    (sym (gathered at.In_ok-gather ∙ (are_sorted at.In_ok-sort_places).whole))
+    (all_canonical IsReadRecord c.args.records.items (read at.In_ok-sort_places))
 
 pub returns-clause-keyed : goal.returns-clause-keyed
-returns-clause-keyed c = OnTrue_at (none_later c) c.leave_out_duplicates-2.ensures.keyed
+returns-clause-keyed c =
+    let at = (goal.at.returns-clause-keyed c) in
+    keyed c.in_ok-keys.keys.items c.args.records.items c.gather.new.records.items
+    (ps at.In_ok-sort_places) c.in_ok-starts.starts.items (are_sorted at.In_ok-sort_places)
+    (gathered at.In_ok-gather)
+    (c.in_ok-starts.ensures ∙ ap (map (λ (p : Place). p.start)) c.as_slice-5.ensures.value)
