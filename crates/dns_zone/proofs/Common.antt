@@ -51,7 +51,7 @@ pub use Rattle.dns_zone.specs.TreeForm.{AreKids, IsKid, IsRow, IsTree, first_of,
 unfoldable pub use Rattle.dns_zone.specs.TreeForm.{row_name, row_octets}
 pub use Rattle.dns_zone.specs.TreeSteps.{AddsKids}
 pub use Rattle.dns_zone.specs.ZoneForm.{AreOrdered, IsBuilt, IsCanonical, IsFront, is_chosen}
-pub use Rattle.dns_zone.specs.declared.checks.names.CheckedName.{CheckedName}
+pub use Rattle.dns_zone.specs.declared.names.CheckedName.{CheckedName}
 pub use Rattle.dns_zone.specs.declared.order.place.Place.{Place}
 pub use Rattle.dns_zone.specs.declared.tree.Tree.{Tree}
 pub use Rattle.dns_zone.specs.declared.tree.lower_case.TheConstants.{LOWER_CASE}

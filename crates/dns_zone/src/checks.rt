@@ -1,7 +1,5 @@
 //! The faults of a zone, ordered by owner, then by code.
 
-pub(crate) mod above;
-pub(crate) mod names;
 pub(crate) mod owner;
 pub(crate) mod survey;
 pub(crate) mod target;
@@ -17,11 +15,11 @@ ghost use Rattle.dns_zone.specs.OwnerKeysForm.{key_in, AreKeyed};
 ghost use Rattle.dns_zone.specs.NamesForm.{IsChecked, owner_of};
 ghost use Rattle.dns_zone.specs.ReportedForm.{failed_from, reported_at};
 
-use crate::checks::names::{CheckedName, checked_names};
 use crate::checks::owner::Owner;
 use crate::checks::survey::Survey;
 use crate::checks::target::LastTarget;
 use crate::fault::CheckFault;
+use crate::names::{CheckedName, checked_names};
 use crate::order::owner_keys::OwnerKeys;
 use crate::store::stored::StoredRecord;
 use dns_name::NameRef;

@@ -2,8 +2,10 @@
 //! canonical text.
 #![tactic(auto)]
 
+mod checked;
 mod checks;
 mod fault;
+mod names;
 mod order;
 mod printed;
 mod shared_slice;
@@ -11,6 +13,7 @@ mod store;
 mod tree;
 mod zone;
 
+pub use checked::CheckedZone;
 pub use fault::{BuildFault, CheckFault};
 pub use printed::{PrintFault, print};
 pub use store::Store;
@@ -19,4 +22,4 @@ pub use tree::node::Node;
 pub use tree::set::RecordSet;
 pub use tree::sought::Sought;
 pub use tree::steps::Steps;
-pub use zone::{CheckedZone, Zone};
+pub use zone::Zone;

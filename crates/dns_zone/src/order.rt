@@ -1,6 +1,8 @@
 //! The canonical order of records: by owner (RFC 4034 6.1), type, data (RFC 4034 6.3) and TTL.
 
+pub(crate) mod above;
 pub(crate) mod key;
+pub(crate) mod lookup;
 pub(crate) mod owner_keys;
 pub(crate) mod place;
 pub(crate) mod sort;

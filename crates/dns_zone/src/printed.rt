@@ -9,8 +9,9 @@ ghost use Rattle.dns_spec.specs.ZonePrinted.{HasZoneType, record_line, soa_first
 ghost use Rattle.dns_name.specs.Counted.{Writes, Fills};
 ghost use Rattle.dns_zone.specs.ZoneForm.{is_chosen};
 
+use crate::checked::CheckedZone;
 use crate::store::stored::StoredRecord;
-use crate::zone::{CheckedZone, Zone};
+use crate::zone::Zone;
 use dns_name::{SinkFailed, Tally, TextBuffer};
 use dns_rdata::{RType, Rdata};
 use itoa::Buffer;

@@ -10,12 +10,7 @@ ghost use Rattle.dns_spec.specs.Meaning.{most_records};
 ghost use Rattle.dns_master.specs.SourceForm.{ReadsFile};
 ghost use Rattle.dns_zone.specs.ZoneForm.{ReportsFaults};
 
-use crate::checks::faults;
-use crate::fault::BuildFault;
-use crate::order::sort::sorted;
-use crate::shared_slice::SharedSlice;
 use crate::store::stored::StoredRecord;
-use crate::zone::CheckedZone;
 use dns_master::{Gathers, ReadCode, ReadFault, Record, read_into};
 use dns_name::{Name, Tally};
 use std::alloc::{AllocError, Global};
@@ -28,7 +23,7 @@ use std::marker::Model;
 #[derive(Drop)]
 pub struct Store {
     alloc: Global,
-    entries: Vec<StoredRecord>,
+    pub(crate) entries: Vec<StoredRecord>,
 }
 
 impl Model for Store {
@@ -81,29 +76,6 @@ impl Store {
         let entry = StoredRecord::of(self.alloc, read)?;
         self.entries.push(entry)?;
         Ok(())
-    }
-
-    /// Checks the records as `Zone::build` does. The zone contains them without duplicates
-    /// (RFC 2181 5), in canonical order (RFC 4034 6.1, 6.3).
-    ///
-    /// Fails with `Faults`, which contains all faults of the zone, or, only if allocation fails,
-    /// with `NoMemory`. The records are freed in either case. Precondition: there are at most
-    /// 100,000 records, as in a zone file.
-    pub fn check(self, alloc: Global, origin: &Name) -> Result<CheckedZone, BuildFault>
-        requires { length self ≤ most_records }
-        ensures ok { IfOk result (λ zone. zone ≡ ordered_zone origin.now self) }
-        ensures passes { IfOk result (λ zone. faults (zone_of origin.now self) ≡ []) }
-        ensures faults { IfErr result (λ fault. ReportsFaults fault (zone_of origin.now self)) }
-    {
-        let Store { entries, .. } = self;
-        let origin = origin.fold();
-        let (records, keyed) = sorted(alloc, &origin.lent(), entries)?;
-        let found = faults(alloc, &origin.lent(), records.as_slice(), &keyed)?;
-        if !found.is_empty() {
-            return Err(BuildFault::Faults(found));
-        }
-        let records = SharedSlice::new(records);
-        Ok(CheckedZone { origin, records })
     }
 }
 

@@ -5,7 +5,6 @@ pub(crate) mod counts;
 pub(crate) mod kids;
 pub(crate) mod label_key;
 pub(crate) mod labels;
-pub(crate) mod lookup;
 pub(crate) mod lower_case;
 pub(crate) mod node;
 pub(crate) mod row;
@@ -20,11 +19,11 @@ ghost use Rattle.dns_zone.specs.ZoneForm.{IsBuilt, IsCanonical};
 ghost use Rattle.dns_zone.specs.TreeForm.{row_octets, row_name, row_at, IsRow, IsTree};
 ghost use Rattle.dns_zone.specs.TreeSteps.{AddsKids};
 
-use crate::checks::above::shortest_end;
+use crate::checked::CheckedZone;
+use crate::order::above::shortest_end;
 use crate::shared_slice::SharedSlice;
 use crate::store::stored::StoredRecord;
 use crate::tree::row::Row;
-use crate::zone::CheckedZone;
 use dns_name::NameRef;
 use std::alloc::{AllocError, Global};
 

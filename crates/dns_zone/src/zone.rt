@@ -1,4 +1,4 @@
-//! Zones without faults: for printing, and for serving.
+//! Zones without faults whose names can be walked.
 ghost use Rattle.std.specs.Prelude.{◌≡◌, ◌≤◌, [], length, IfOk, IfErr};
 ghost use Rattle.std.specs.List.{filter};
 ghost use Rattle.dns_spec.specs.Names.{folded, same};
@@ -8,62 +8,16 @@ ghost use Rattle.dns_spec.specs.Meaning.{most_records};
 ghost use Rattle.dns_spec.specs.ZonePrinted.{is_soa};
 ghost use Rattle.dns_zone.specs.ZoneForm.{IsBuilt, ReportsFaults};
 
+use crate::checked::CheckedZone;
 use crate::fault::BuildFault;
-use crate::shared_slice::SharedSlice;
 use crate::store::Store;
-use crate::store::stored::StoredRecord;
+use crate::tree::counts::Counts;
+use crate::tree::steps::Steps;
 use crate::tree::{Tree, rows_of};
 use dns_master::Record;
-use dns_name::{Name, NameRef};
-use dns_rdata::{RType, Rdata};
+use dns_name::Name;
 use std::alloc::{AllocError, Global};
 use std::marker::Model;
-
-/// A zone without faults: an origin, and at most 100,000 records in canonical order, without
-/// duplicates.
-///
-/// It can be printed. To be served, it must become a `Zone`, whose names can be walked.
-#[derive(Drop)]
-pub struct CheckedZone {
-    pub(crate) origin: Name,
-    pub(crate) records: SharedSlice<StoredRecord>,
-}
-
-impl Model for CheckedZone {
-    ghost use Rattle.dns_spec.specs.Records.{ZoneContents};
-    ghost use Rattle.dns_zone.specs.ZoneForm.{IsBuilt};
-
-    ghost Value = { ZoneContents };
-
-    ghost view = { λ z. record { origin = z.origin; records = z.records } };
-
-    ghost invariant = { λ z. IsBuilt (record { origin = z.origin; records = z.records }) };
-}
-
-impl CheckedZone {
-    /// The origin of the zone, in lower case.
-    pub fn origin(&self) -> &Name
-        ensures origin { result.now ≡ self.now.origin }
-        ensures lower { folded self.now.origin ≡ self.now.origin }
-        ensures built { IsBuilt self.now }
-    {
-        &self.origin
-    }
-
-    /// The serial number of its SOA (RFC 1035 3.3.13).
-    pub fn serial(&self) -> u32
-        ensures { result ≡ zone_serial self.now }
-    {
-        serial_at(&self.origin.lent(), self.records.lent())
-    }
-
-    pub(crate) fn records(&self) -> &[StoredRecord]
-        ensures records { result.now ≡ self.now.records }
-        ensures built { IsBuilt self.now }
-    {
-        self.records.lent()
-    }
-}
 
 /// A zone without faults whose names can be walked, so that it can be served.
 #[derive(Drop)]
@@ -133,15 +87,14 @@ impl Zone {
     }
 }
 
-// The serial number of the first SOA at the origin, or 0 if the origin has no SOA.
-fn serial_at(origin: &NameRef<'_>, records: &[StoredRecord]) -> u32
-    ensures { result ≡ first_serial
-        (filter is_soa (filter (λ (r : ResourceRecord). same r.owner origin.now) records.now)) }
-{
-    'records: for entry in records {
-        if entry.owner().same(origin) && entry.rtype == RType::SOA {
-            return Rdata::soa_serial(entry.rdata());
+impl<'z> Steps<'z> {
+    /// A walk over the zone, with counts of 0.
+    pub fn new(zone: &'z Zone) -> Steps<'z>
+        ensures { result ≡ record { zone = zone.now; visits = 0; comparisons = 0 } }
+    {
+        Steps {
+            tree: &zone.tree,
+            counts: Counts::over(&zone.tree),
         }
     }
-    0
 }

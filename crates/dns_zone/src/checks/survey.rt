@@ -10,12 +10,12 @@ ghost use Rattle.dns_spec.specs.Checks.{at_or_below_cut, lacks_address, has_addr
 ghost use Rattle.dns_zone.specs.KeyForm.{name_key};
 ghost use Rattle.dns_zone.specs.NamesForm.{own_in, owner_of, IsLastUpto};
 
-use crate::checks::above::{ends_alike, is_at_or_below};
-use crate::checks::names::{CheckedName, count_upto, is_covered};
 use crate::checks::target::{LastTarget, target};
+use crate::names::{CheckedName, count_upto, is_covered};
+use crate::order::above::{ends_alike, is_at_or_below};
 use crate::order::key::is_under;
+use crate::order::lookup::has_type;
 use crate::store::stored::StoredRecord;
-use crate::tree::lookup::has_type;
 use dns_name::NameRef;
 use dns_rdata::RType;
 use std::marker::Model;

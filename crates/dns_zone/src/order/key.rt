@@ -3,7 +3,9 @@ ghost use Rattle.std.specs.Prelude.{◌≡◌, ◌+◌, ◌<◌, ◌≤◌, [], 
 ghost use Rattle.dns_spec.specs.Names.{DomainName, folded, at_or_below, below};
 ghost use Rattle.dns_name.specs.WireForm.{labels_of, IsWireForm};
 ghost use Rattle.dns_zone.specs.KeyForm.{raised, ended, name_key, BeginsAs};
+ghost use Rattle.dns_zone.specs.OwnerKeysForm.{key_in};
 
+use crate::store::stored::StoredRecord;
 use dns_name::{Name, NameRef, begins_with, first_label};
 use std::marker::Model;
 
@@ -86,6 +88,18 @@ pub(crate) fn is_below(key: &[u8], other: &[u8]) -> bool
         → other.now ≡ name_key m → result ≡ below n m }
 {
     key.len() > other.len() && is_under(key, other)
+}
+
+/// The key of a record's owner. It begins at the offset `start` in `keys`.
+#[tactic(auto, using(crate::proofs::Common::wire_some))]
+pub(crate) fn key_at<'a>(keys: &'a [u8], start: u32, of: &StoredRecord) -> &'a [u8]
+    ensures value { result.now ≡ key_in keys.now start of.now.owner }
+    ensures lower { folded of.now.owner ≡ of.now.owner }
+{
+    let (_, after) = keys.split_at((start as usize).min(keys.len()));
+    after
+        .split_at((of.owner().octets().len() - 1).min(after.len()))
+        .0
 }
 
 // The wire form of a name's parent; of the root, its own.

@@ -1,6 +1,5 @@
 //! The keys of the owners of records, in one shared list of octets.
 ghost use Rattle.std.specs.Prelude.{◌≡◌, ◌≤◌, All, length, IfOk};
-ghost use Rattle.dns_spec.specs.Names.{folded};
 ghost use Rattle.dns_spec.specs.Meaning.{most_records};
 ghost use Rattle.dns_spec.specs.ZonePrinted.{IsReadRecord};
 ghost use Rattle.dns_zone.specs.KeyForm.{name_key};
@@ -55,16 +54,4 @@ pub(crate) fn keys_of<'a>(
         places.push(place)?;
     }
     Ok((keys, places))
-}
-
-/// The key of a record's owner. It begins at the offset `start` in `keys`.
-#[tactic(auto, using(crate::proofs::Common::wire_some))]
-pub(crate) fn key_at<'a>(keys: &'a [u8], start: u32, of: &StoredRecord) -> &'a [u8]
-    ensures value { result.now ≡ key_in keys.now start of.now.owner }
-    ensures lower { folded of.now.owner ≡ of.now.owner }
-{
-    let (_, after) = keys.split_at((start as usize).min(keys.len()));
-    after
-        .split_at((of.owner().octets().len() - 1).min(after.len()))
-        .0
 }

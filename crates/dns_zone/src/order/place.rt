@@ -6,8 +6,8 @@ ghost use Rattle.std.specs.Ordering.{nat_cmp, ordering_then};
 ghost use Rattle.dns_zone.specs.LabelKey.{IsEight};
 ghost use Rattle.dns_zone.specs.PlaceForm.{own_order, placed, place_key, place_order, AreFronts};
 
+use crate::order::key::key_at;
 use crate::order::own_order;
-use crate::order::owner_keys::key_at;
 use crate::store::stored::StoredRecord;
 use std::alloc::AllocError;
 use std::cmp::Ordering;

@@ -37,6 +37,16 @@ impl<'z> Model for Kids<'z> {
         k.rows.now };
 }
 
+impl<'z> Node<'z> {
+    /// The node's children.
+    pub(crate) fn kids(&self) -> Kids<'z>
+        ensures at { IsZoneNode result.tree result.row }
+        ensures node { node_at result.tree result.row ≡ self.now }
+    {
+        Kids::of(self.tree, self.row)
+    }
+}
+
 impl<'z> Kids<'z> {
     /// The children of the node of a row.
     pub(crate) fn of(tree: &'z Tree, row: RowNumber) -> Kids<'z>

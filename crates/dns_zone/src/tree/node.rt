@@ -11,9 +11,8 @@ ghost use Rattle.dns_zone.specs.Nodes.{IsNode, IsSetOf};
 ghost use Rattle.dns_zone.specs.NodeForm.{node_at, IsZoneNode};
 ghost use Rattle.dns_zone.specs.TreeForm.{kids_at};
 
+use crate::order::lookup::of_type;
 use crate::store::stored::StoredRecord;
-use crate::tree::kids::Kids;
-use crate::tree::lookup::of_type;
 use crate::tree::row::{Row, RowNumber};
 use crate::tree::set::{RecordSet, lent_set};
 use crate::tree::{Tree, octets_of};
@@ -26,8 +25,8 @@ use std::marker::Model;
 /// It borrows from the zone, as do its sets. Nodes come only from a walk, which counts them.
 #[derive(Drop)]
 pub struct Node<'z> {
-    tree: &'z Tree,
-    row: RowNumber,
+    pub(crate) tree: &'z Tree,
+    pub(crate) row: RowNumber,
 }
 
 impl<'z> Model for Node<'z> {
@@ -48,14 +47,6 @@ impl<'z> Node<'z> {
         ensures { result ≡ node_at tree.now row.0 }
     {
         Node { tree, row }
-    }
-
-    /// The node's children.
-    pub(crate) fn kids(&self) -> Kids<'z>
-        ensures at { IsZoneNode result.tree result.row }
-        ensures node { node_at result.tree result.row ≡ self.now }
-    {
-        Kids::of(self.tree, self.row)
     }
 
     /// The node's name, in lower case, borrowed from the zone.

@@ -4,9 +4,9 @@ ghost use Rattle.dns_spec.specs.Names.{folded, at_or_below};
 ghost use Rattle.dns_zone.specs.ZoneForm.{IsCanonical};
 ghost use Rattle.dns_zone.specs.TreeForm.{owners, under, IsRow};
 
+use crate::order::lookup::{count_in_front, count_under};
 use crate::store::stored::StoredRecord;
 use crate::tree::label_key::{LabelKey, first_octets};
-use crate::tree::lookup::{count_in_front, count_under};
 use dns_name::NameRef;
 
 /// The number of a node's row in its tree. The origin's is 0.

@@ -8,7 +8,6 @@ use crate::tree::Tree;
 use crate::tree::counts::Counts;
 use crate::tree::node::Node;
 use crate::tree::row::RowNumber;
-use crate::zone::Zone;
 use dns_name::Name;
 use std::marker::Model;
 
@@ -18,7 +17,7 @@ use std::marker::Model;
 /// nor another walk can be obtained from it. So all steps of code that is given a walk are counted.
 #[derive(Drop)]
 pub struct Steps<'z> {
-    tree: &'z Tree,
+    pub(crate) tree: &'z Tree,
     pub(crate) counts: Counts,
 }
 
@@ -38,16 +37,6 @@ impl<'z> Model for Steps<'z> {
 }
 
 impl<'z> Steps<'z> {
-    /// A walk over the zone, with counts of 0.
-    pub fn new(zone: &'z Zone) -> Steps<'z>
-        ensures { result ≡ record { zone = zone.now; visits = 0; comparisons = 0 } }
-    {
-        Steps {
-            tree: &zone.tree,
-            counts: Counts::over(&zone.tree),
-        }
-    }
-
     /// How many nodes were visited.
     pub fn visits(&self) -> u32
         ensures { result ≡ self.now.visits }
