@@ -1,76 +1,86 @@
 -- What connections have received and sent, and when they were served.
-use Rattle.std.specs.Prelude.{⊤, ◌≡◌, ℕ, List, [], ◌∷◌, ◌++◌, length, take, All, Bool, true}
-use Rattle.std.specs.Prelude.{Option, None, Some, Result, Ok, Err, MatchOption}
-use Rattle.std.specs.List.{flat_map}
+use Rattle.std.specs.Prelude.{⊤, ◌≡◌, ℕ, ◌+◌, ◌-◌, ◌==◌, List, [], ◌++◌, length, take, All, Bool, true, false}
+use Rattle.std.specs.Prelude.{Option, Result, Ok, Err, MatchOption}
+use Rattle.std.specs.Option.{option_map, option_to_list}
 use Rattle.dns_spec.specs.Names.{Octets}
 use Rattle.dns_spec.specs.Records.{ZoneContents}
-use Rattle.dns_spec.specs.Stream.{frame, frames, replies}
+use Rattle.dns_spec.specs.Stream.{frames, replies}
 use Rattle.dns_serve.specs.Framing.{SessionState, HasTaken}
 use Rattle.dns_serve.specs.Streams.{reply_over_tcp}
 
--- the octets that the server has received on a connection, and those that it has sent
+-- The octets that the server has received on a connection, and those that it has sent; and whether
+-- the input is over: the last call that did not fail received no octet.
 pub record Exchange : Type 0 where
   pub received : Octets
   pub sent : Octets
-
--- More octets were received and sent in an exchange, if it is known.
-abbrev pub GoesOn : Option Exchange → Option Exchange → Octets → Octets → Type 0
-GoesOn None None received sent = ⊤
-GoesOn None (Some new) received sent = ⊥
-GoesOn (Some old) None received sent = ⊥
-GoesOn (Some old) (Some new) received sent =
-    (new.received ≡ old.received ++ received) × (new.sent ≡ old.sent ++ sent)
+  pub over : Bool
 
 -- a call received the first n octets of a buffer; if it failed, nothing
 abbrev pub Receives : {E : Type 0} → Option Exchange → Option Exchange → Result ℕ E → Octets → Type 0
-Receives old new (Ok n) buf = GoesOn old new (take n buf) []
-Receives old new (Err e) buf = GoesOn old new [] []
+Receives old new (Ok n) buf = new ≡ option_map (λ e. record {
+  received = e.received ++ take n buf;
+  sent = e.sent;
+  over = n == 0;
+}) old
+Receives old new (Err e) buf = new ≡ old
 
 -- a call sent the first n of the octets; if it failed, none
 abbrev pub Sends : {E : Type 0} → Option Exchange → Option Exchange → Result ℕ E → Octets → Type 0
-Sends old new (Ok n) octets = GoesOn old new [] (take n octets)
-Sends old new (Err e) octets = GoesOn old new [] []
+Sends old new (Ok n) octets = new ≡ option_map (λ e. record {
+  received = e.received;
+  sent = e.sent ++ take n octets;
+  over = e.over;
+}) old
+Sends old new (Err e) octets = new ≡ old
 
 -- nothing was received or sent
 abbrev pub IsFresh : Option Exchange → Type 0
-IsFresh e = MatchOption e ⊤ (λ e. (e.received ≡ []) × (e.sent ≡ []))
+IsFresh e = MatchOption e ⊤ (λ e. e ≡ record { received = []; sent = []; over = false })
 
--- A session has taken all octets received, except the pending ones at their end.
-pub record Serves (z : ZoneContents) (s : SessionState) (pending : Octets) (e : Exchange) : Type 0
-  where
-    pub taken : Octets
-    pub split : e.received ≡ taken ++ pending
-    pub has_taken : HasTaken z s taken e.sent
+-- A session has taken all octets received, except the pending ones at their end. Once the input is
+-- over, none are pending, and all replies were sent.
+pub record Serves (z : ZoneContents) (most : ℕ) (s : SessionState) (pending : Octets)
+    (e : Exchange) : Type 0 where
+  pub taken : Octets
+  pub split : e.received ≡ taken ++ pending
+  pub has_taken : HasTaken z most s taken e.sent
+  pub ends : e.over ≡ true → (pending ≡ []) × (s.unsent ≡ [])
 
-abbrev pub IsServing : ZoneContents → SessionState → Octets → Option Exchange → Type 0
-IsServing z s pending e = MatchOption e ⊤ (Serves z s pending)
+abbrev pub IsServing : ZoneContents → ℕ → SessionState → Octets → Option Exchange → Type 0
+IsServing z most s pending e = MatchOption e ⊤ (Serves z most s pending)
 
--- the messages of all whole frames with which octets begin: a frame has at least two octets
-abbrev pub all_frames : Octets → List Octets
-all_frames x = frames (length x) x
+-- RFC 1035 4.2.2: What was sent is a prefix of the replies to the messages of the frames received,
+-- at most `most`. Once the input is over, it is all of these replies.
+pub record WasServed (z : ZoneContents) (most : ℕ) (e : Exchange) : Type 0 where
+  pub prefix : e.sent ≡ take (length e.sent) (replies (reply_over_tcp z) (frames most e.received))
+  pub all : e.over ≡ true → e.sent ≡ replies (reply_over_tcp z) (frames most e.received)
 
--- RFC 1035 4.2.2: What was sent is a prefix of the replies to the messages of all frames received.
--- If the exchange is complete, it is all of these replies, and only these frames were received.
-pub record WasServed (z : ZoneContents) (e : Exchange) (complete : Bool) : Type 0 where
-  pub prefix : e.sent ≡ take (length e.sent) (replies (reply_over_tcp z) (all_frames e.received))
-  pub all : complete ≡ true → e.sent ≡ replies (reply_over_tcp z) (all_frames e.received)
-  pub whole : complete ≡ true → e.received ≡ flat_map frame (all_frames e.received)
+abbrev pub IsServed : ZoneContents → ℕ → Option Exchange → Type 0
+IsServed z most e = MatchOption e ⊤ (WasServed z most)
 
--- an exchange that ended, and whether it is complete
-pub record Ended : Type 0 where
-  pub exchange : Exchange
-  pub complete : Bool
+-- The number of connections that were accepted and not closed yet, and the exchanges of those that
+-- were closed, in order, if they are known.
+pub record SocketsState : Type 0 where
+  pub connected : ℕ
+  pub closed : List Exchange
 
-abbrev pub IsServed : ZoneContents → Option Exchange → Bool → Type 0
-IsServed z e complete = MatchOption e ⊤ (λ e. WasServed z e complete)
+-- a call accepted one connection more, unless it failed
+abbrev pub accepted : {A E : Type 0} → Result A E → SocketsState → SocketsState
+accepted (Ok a) s = record { connected = s.connected + 1; closed = s.closed }
+accepted (Err e) s = s
 
--- the ended exchange of a connection, if it is known
-abbrev pub ended : Option Exchange → Bool → List Ended
-ended None complete = []
-ended (Some e) complete = record { exchange = e; complete = complete } ∷ []
+-- one of the connections was closed, after this exchange
+abbrev pub closed : Option Exchange → SocketsState → SocketsState
+closed e s = record { connected = s.connected - 1; closed = s.closed ++ option_to_list e }
 
--- More exchanges have ended; each was served from the zone.
-pub record HasServed (z : ZoneContents) (old new : List Ended) : Type 0 where
-  pub more : List Ended
-  pub new_is : new ≡ old ++ more
-  pub served : All (λ e. WasServed z e.exchange e.complete) more
+-- more exchanges have ended; each was served from the zone
+pub record HasClosed (z : ZoneContents) (most : ℕ) (old new : List Exchange) : Type 0 where
+  pub more : List Exchange
+  pub closed : new ≡ old ++ more
+  pub served : All (WasServed z most) more
+
+-- Each connection that was accepted was closed, and served from the zone: at most `most` of its
+-- messages were answered.
+pub record HasServed (z : ZoneContents) (most : ℕ) (old new : SocketsState) : Type 0 where
+  pub closed : HasClosed z most old.closed new.closed
+  pub connected : new.connected ≡ old.connected

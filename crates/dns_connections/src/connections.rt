@@ -1,7 +1,8 @@
 //! Serves the connections of a listening socket, many at once and each in its turn.
-ghost use Rattle.std.specs.Prelude.{◌≡◌, [], IfOk};
+ghost use Rattle.std.specs.Prelude.{◌≡◌, ◌+◌, [], IfOk, IfErr, OnOk, OnErr};
 ghost use Rattle.dns_spec.specs.Records.{ZoneContents};
-ghost use Rattle.dns_connections.specs.Exchanges.{HasServed, IsFresh};
+ghost use Rattle.dns_connections.specs.Exchanges.{HasServed, HasClosed, IsFresh, IsServed};
+ghost use Rattle.slab.specs.Slab.{slab_len};
 
 use crate::peer::{Next, PIECE, Peer, Served};
 use crate::sockets::{Found, Sockets, Stopped};
@@ -17,17 +18,24 @@ use std::time::Duration;
 // longest time (RFC 7766 6.2.3). Each takes 98,305 octets for its input and replies.
 const MOST_PEERS: usize = 256;
 
+// The keys of connections are lower: one more connection has a place until another is closed.
+const KEYS: usize = MOST_PEERS + 1;
+
 // How many connections are accepted at most before the others get a turn.
 const ACCEPTS: u32 = 16;
 
 // Times in milliseconds.
 
-// How long a connection may neither complete a message nor take octets of replies.
+// How long a connection may neither complete a message nor take all its replies. If connections are
+// served one after another: also how long a connection may begin new messages.
 const LIMIT: u64 = 10_000;
 
-// The same for a connection with no incomplete message and no unsent reply, once the server is to
-// end.
+// How long a connection may take no reply and complete no message, if no message is incomplete and
+// no reply unsent, and the server is to end or other connections wait.
 const SILENCE: u64 = 300;
+
+// The same before the first message, if other connections wait.
+const FIRST: u64 = 2_000;
 
 // How long the server may take to end.
 const ENDING: u64 = 3_000;
@@ -42,50 +50,88 @@ fn after(time: Duration, millis: u64) -> Duration {
     time.saturating_add(Duration::from_millis(millis))
 }
 
-// Never used: `serve_connections` chooses the zone and the exchanges anew.
+// Never used: `serve_connections` chooses these anew.
 impl Served for Brand {
     ghost zone = { record { origin = []; records = [] } };
 
-    ghost past = { [] };
+    ghost most = { 0 };
+
+    ghost before = { record { connected = 0; closed = [] } };
+}
+
+/// How many connections are served at once.
+#[derive(Clone, Copy, Debug, PartialEq, Eq)]
+pub enum Places {
+    /// One, while others wait. It is closed if it sends nothing for 2 seconds after it was
+    /// accepted, or for 0.3 seconds after a reply. 10 seconds after it was accepted, no new message
+    /// may begin.
+    One,
+    /// At most 256. One more takes the place of the one that made no progress for the longest time.
+    Many,
 }
 
 /// Serves `turns` connections of a listening socket, or fewer if the server is asked to end, and
-/// returns the sockets once no connection is left. Fails only if allocation fails.
+/// returns the sockets once no connection is left. Connections that can't be accepted count too.
+/// Fails only if allocation fails.
 ///
-/// At most 256 connections are open at once. Each gets its turns in order; a turn receives at most
-/// 16,384 octets. A connection that for 10 seconds neither completes a message nor takes its
-/// replies is closed.
+/// Each connection gets its turns in order; a turn receives at most 16,384 octets. A connection
+/// that for 10 seconds neither completes a message nor takes all its replies is closed. At most
+/// `most` messages are answered on each connection.
 ///
 /// Once `turns` connections were accepted, or the server is asked to end, connections that wait for
-/// nothing are closed after 0.3 seconds, and all others after 3 seconds.
+/// nothing are closed after 0.3 seconds, and, unless it has only one place, all others after 3
+/// seconds.
 ///
-/// However the sockets report what they found, and however input is cut: when a connection is
-/// closed, what was sent on it is a prefix of the replies to the messages received on it, in order.
-/// If it is closed as complete, it is all of them.
+/// However the sockets report what they found, and however input is cut: each connection that was
+/// accepted is closed, and what was sent on it is a prefix of the replies to the messages received
+/// on it, in order. If its input has ended, it is all of them.
 pub fn serve_connections<K: Sockets>(
     alloc: Global,
     zone: &Zone,
     sockets: K,
     turns: u32,
+    most: u64,
+    places: Places,
 ) -> Result<K, AllocError>
-    ensures { IfOk result (λ then. HasServed zone.now (K.closed sockets) (K.closed then)) }
+    ensures { IfOk result (λ then. HasServed zone.now most (K.state sockets) (K.state then)) }
 {
-    serve::<Brand, K>(alloc, zone, sockets, turns)
+    let plan = Plan {
+        turns,
+        most,
+        places,
+    };
+    serve::<Brand, K>(alloc, zone, sockets, plan)
+}
+
+// How many connections are served, how many messages on each, and how many connections at once.
+#[derive(Clone, Copy)]
+struct Plan {
+    turns: u32,
+    most: u64,
+    places: Places,
 }
 
 fn serve<Z: Served, K: Sockets>(
     alloc: Global,
     zone: &Zone,
     sockets: K,
-    turns: u32,
+    plan: Plan,
 ) -> Result<K, AllocError>
     requires zone { zone.now ≡ Z.zone }
-    requires past { K.closed sockets ≡ Z.past }
-    ensures { IfOk result (λ then. HasServed Z.zone Z.past (K.closed then)) }
+    requires most { plan.most ≡ Z.most }
+    requires before { K.state sockets ≡ Z.before }
+    ensures { IfOk result (λ then. HasServed Z.zone Z.most Z.before (K.state then)) }
 {
-    let mut connections: Connections<'_, Z, K> = Connections::new(alloc, zone, sockets, turns)?;
+    let mut connections: Connections<'_, Z, K> = Connections::new(alloc, zone, sockets, plan)?;
     connections.run();
-    let Connections { sockets, .. } = connections;
+    let Connections {
+        mut sockets,
+        peers,
+        ..
+    } = connections;
+    'left: for (_, peer) in peers {
+        sockets.close(zone, plan.most, peer.end());
+    }
     Ok(sockets)
 }
 
@@ -98,10 +144,11 @@ struct Connections<'z, Z: Served, K: Sockets> {
     // The keys of the connections that may have something to do, each once, and whether a key is
     // among them. A key may remain from a connection that was closed.
     ready: VecDeque<usize>,
-    is_ready: [bool; MOST_PEERS],
+    is_ready: [bool; KEYS],
     alloc: Global,
     draft: TcpDraft,
     room: [u8; PIECE],
+    plan: Plan,
     // How many connections may still be accepted.
     left: u32,
     may_accept: bool,
@@ -112,7 +159,9 @@ struct Connections<'z, Z: Served, K: Sockets> {
     // When the server has to have ended, if it is to end.
     ends: Option<Duration>,
     ghost is_zone: { zone.now ≡ Z.zone },
-    ghost served: { ∥ HasServed Z.zone Z.past (K.closed sockets) ∥₁ },
+    ghost is_most: { plan.most ≡ Z.most },
+    ghost connected: { (K.state sockets).connected ≡ Z.before.connected + slab_len peers },
+    ghost served: { ∥ HasClosed Z.zone Z.most Z.before.closed (K.state sockets).closed ∥₁ },
 }
 
 impl<'z, Z: Served, K: Sockets> Connections<'z, Z, K> {
@@ -120,21 +169,23 @@ impl<'z, Z: Served, K: Sockets> Connections<'z, Z, K> {
         alloc: Global,
         zone: &'z Zone,
         sockets: K,
-        turns: u32,
+        plan: Plan,
     ) -> Result<Connections<'z, Z, K>, AllocError>
         requires zone { zone.now ≡ Z.zone }
-        requires past { K.closed sockets ≡ Z.past }
+        requires most { plan.most ≡ Z.most }
+        requires before { K.state sockets ≡ Z.before }
     {
         Ok(Connections {
-            peers: Slab::with_capacity(alloc, MOST_PEERS)?,
-            ready: VecDeque::with_capacity(alloc, MOST_PEERS)?,
-            is_ready: [false; MOST_PEERS],
+            peers: Slab::with_capacity(alloc, KEYS)?,
+            ready: VecDeque::with_capacity(alloc, KEYS)?,
+            is_ready: [false; KEYS],
             zone,
             sockets,
             alloc,
             draft: TcpDraft::new(),
             room: [0; PIECE],
-            left: turns,
+            left: plan.turns,
+            plan,
             may_accept: true,
             accepts: Duration::from_millis(0),
             sweeps: Duration::from_millis(0),
@@ -162,24 +213,27 @@ impl<'z, Z: Served, K: Sockets> Connections<'z, Z, K> {
 
     // From now on the server is to end. What the connections have asked by now is still read.
     fn begin_end(&mut self, now: Duration) {
-        if self.ends.is_none() {
+        if self.ends.is_none() && self.plan.places == Places::Many {
             self.ends = Some(after(now, ENDING));
-            'peers: for key in 0..MOST_PEERS {
+            'peers: for key in 0..KEYS {
                 self.mark(key);
             }
         }
     }
 
+    // Whether a connection may wait that can be accepted now.
+    fn accepts(&self, now: Duration) -> bool {
+        let has_place = self.plan.places == Places::Many || self.peers.is_empty();
+        self.may_accept && self.left > 0 && has_place && now >= self.accepts
+    }
+
     // How long the next wait may last.
     fn patience(&self, now: Duration) -> Option<Duration> {
-        let may_accept = self.may_accept && self.left > 0;
-        if may_accept && now >= self.accepts || !self.ready.is_empty() {
+        if self.accepts(now) || !self.ready.is_empty() {
             return Some(Duration::from_millis(0));
         }
-        if may_accept || self.ends.is_some() {
-            return Some(Duration::from_millis(SWEEP));
-        }
-        (!self.peers.is_empty()).then_some(Duration::from_millis(1_000))
+        let is_idle = self.peers.is_empty() && !self.may_accept && self.left > 0;
+        (!is_idle).then_some(Duration::from_millis(SWEEP))
     }
 
     fn note_found(&mut self) {
@@ -209,7 +263,7 @@ impl<'z, Z: Served, K: Sockets> Connections<'z, Z, K> {
     }
 
     fn mark(&mut self, key: usize) {
-        if key < MOST_PEERS && !self.is_ready[key] {
+        if key < KEYS && !self.is_ready[key] {
             self.is_ready[key] = true;
             let _ = self.ready.push_back(key);
         }
@@ -217,15 +271,14 @@ impl<'z, Z: Served, K: Sockets> Connections<'z, Z, K> {
 
     fn close(&mut self, key: usize) {
         if let Some(peer) = self.peers.try_remove(key) {
-            let (stream, is_complete) = peer.end();
-            self.sockets.close(self.zone, stream, is_complete);
+            self.sockets.close(self.zone, self.plan.most, peer.end());
         }
     }
 
     // The connection that made no progress for the longest time.
     fn oldest(&self) -> Option<usize> {
         let mut oldest: Option<(usize, Duration)> = None;
-        'peers: for key in 0..MOST_PEERS {
+        'peers: for key in 0..KEYS {
             if let Some(peer) = self.peers.get(key) {
                 if oldest.is_none_or(|(_, since)| peer.since < since) {
                     oldest = Some((key, peer.since));
@@ -237,16 +290,14 @@ impl<'z, Z: Served, K: Sockets> Connections<'z, Z, K> {
 
     fn accept_some(&mut self, now: Duration) {
         'accepts: for _ in 0..ACCEPTS {
-            if !self.may_accept || self.left == 0 || now < self.accepts {
+            if !self.accepts(now) {
                 break;
             }
-            match self.sockets.accept() {
-                Ok(stream) => {
-                    self.left -= 1;
-                    self.admit(stream, now);
-                }
+            match self.accept(now) {
+                Ok(()) => self.left = self.left.saturating_sub(1),
                 Err(Stopped::WouldBlock) => self.may_accept = false,
                 Err(Stopped::Failed) => {
+                    self.left = self.left.saturating_sub(1);
                     self.accepts = after(now, PAUSE);
                     self.sockets.report_refusal();
                 }
@@ -254,31 +305,28 @@ impl<'z, Z: Served, K: Sockets> Connections<'z, Z, K> {
         }
     }
 
-    // Gives a new connection a place, unless there is no memory or it can't be watched.
-    fn admit(&mut self, stream: K::Stream, now: Duration)
-        requires { IsFresh (K.Stream.exchange stream) }
-    {
-        if self.peers.len() >= MOST_PEERS {
+    // Accepts a connection, and closes another one if there are too many. Fails, too, if there is no
+    // memory for the connection or it can't be watched.
+    fn accept(&mut self, now: Duration) -> Result<(), Stopped> {
+        let stream = self.sockets.accept()?;
+        let most = self.plan.most;
+        if let Err(stream) = admit(
+            self.alloc,
+            &mut self.sockets,
+            &mut self.peers,
+            stream,
+            most,
+            now,
+        ) {
+            self.sockets.close(self.zone, most, stream);
+            return Err(Stopped::Failed);
+        }
+        if self.peers.len() > MOST_PEERS {
             if let Some(key) = self.oldest() {
                 self.close(key);
             }
         }
-        let mut stream = stream;
-        if self
-            .sockets
-            .watch(&mut stream, self.peers.vacant_key())
-            .is_err()
-        {
-            self.sockets.report_refusal();
-            return;
-        }
-        let is_admitted = match Peer::new(self.alloc, stream, now) {
-            Ok(peer) => self.peers.insert(peer).is_ok(),
-            Err(_) => false,
-        };
-        if !is_admitted {
-            self.sockets.report_refusal();
-        }
+        Ok(())
     }
 
     // Gives each connection that is ready a turn.
@@ -292,7 +340,7 @@ impl<'z, Z: Served, K: Sockets> Connections<'z, Z, K> {
     }
 
     fn take_turn(&mut self, key: usize, now: Duration) {
-        if key < MOST_PEERS {
+        if key < KEYS {
             self.is_ready[key] = false;
         }
         let Some(peer) = self.peers.get_mut(key) else {
@@ -315,7 +363,7 @@ impl<'z, Z: Served, K: Sockets> Connections<'z, Z, K> {
             return;
         }
         self.sweeps = after(now, SWEEP);
-        'peers: for key in 0..MOST_PEERS {
+        'peers: for key in 0..KEYS {
             self.close_if_late(key, now);
         }
     }
@@ -325,18 +373,58 @@ impl<'z, Z: Served, K: Sockets> Connections<'z, Z, K> {
             return;
         };
         let fault = peer.lateness();
-        let limit = if fault.is_none() && self.ends.is_some() {
-            SILENCE
-        } else {
-            LIMIT
-        };
         let is_over = self.ends.is_some_and(|ends| now >= ends);
-        if !is_over && now < after(peer.since, limit) {
+        if !is_over && now < self.deadline(peer, fault.is_none()) {
             return;
         }
         self.close(key);
         if let Some(fault) = fault {
             self.sockets.report(fault);
         }
+    }
+
+    // When a connection is closed if it makes no progress. It is idle if no message is incomplete
+    // and no reply unsent.
+    fn deadline(&self, peer: &Peer<Z, K::Stream>, is_idle: bool) -> Duration {
+        let limit = match self.plan.places {
+            Places::One if is_idle && peer.since == peer.accepted => FIRST,
+            Places::One if is_idle => SILENCE,
+            Places::Many if is_idle && self.ends.is_some() => SILENCE,
+            _ => LIMIT,
+        };
+        let deadline = after(peer.since, limit);
+        match self.plan.places {
+            Places::One if is_idle => deadline.min(after(peer.accepted, LIMIT)),
+            Places::One => deadline.min(after(peer.accepted, 2 * LIMIT)),
+            Places::Many => deadline,
+        }
+    }
+}
+
+// Gives a new connection a place, and starts to watch it. Returns the stream if it can't be
+// watched, or there is no memory.
+fn admit<Z: Served, K: Sockets>(
+    alloc: Global,
+    sockets: &mut K,
+    peers: &mut Slab<Peer<Z, K::Stream>>,
+    stream: K::Stream,
+    most: u64,
+    now: Duration,
+) -> Result<(), K::Stream>
+    requires fresh { IsFresh (K.Stream.exchange stream) }
+    requires most { most ≡ Z.most }
+    ensures sockets { K.state sockets.new ≡ K.state sockets.old }
+    ensures len { OnOk result (slab_len peers.new ≡ slab_len peers.old + 1) }
+    ensures same { OnErr result (slab_len peers.new ≡ slab_len peers.old) }
+    ensures refused { IfErr result (λ stream. IsServed Z.zone Z.most (K.Stream.exchange stream)) }
+{
+    let mut stream = stream;
+    if sockets.watch(&mut stream, peers.vacant_key()).is_err() {
+        return Err(stream);
+    }
+    let peer = Peer::new(alloc, stream, most, now)?;
+    match peers.insert(peer) {
+        Ok(_) => Ok(()),
+        Err(refused) => Err(refused.value.end()),
     }
 }

@@ -5,5 +5,5 @@ mod connections;
 mod peer;
 mod sockets;
 
-pub use connections::serve_connections;
+pub use connections::{Places, serve_connections};
 pub use sockets::{Found, Sockets, Stopped, Stream};

@@ -1,13 +1,13 @@
 //! One connection: its messages and replies, as far as its calls get without waiting.
-ghost use Rattle.std.specs.Prelude.{List, nat_lt, vec_len, vec_capacity, ◌≡◌, ◌≤◌, [], length, drop, ⊤, Ok, IfOk, OnOk, IfSome};
+ghost use Rattle.std.specs.Prelude.{List, nat_lt, vec_len, vec_capacity, ◌≡◌, ◌≤◌, ◌<◌, ℕ, [], length, drop, ⊤, Ok, IfOk, IfErr, OnOk, IfSome, true};
 ghost use Rattle.dns_spec.specs.Records.{ZoneContents};
-ghost use Rattle.dns_connections.specs.Exchanges.{Ended, IsFresh, IsServing, IsServed};
+ghost use Rattle.dns_connections.specs.Exchanges.{SocketsState, IsFresh, IsServing, IsServed};
 
 use crate::sockets::{Stopped, Stream};
 use dns_answer::TcpDraft;
 use dns_serve::{Session, StreamFault};
 use dns_zone::Zone;
-use std::alloc::{AllocError, Global};
+use std::alloc::Global;
 use std::marker::PhantomData;
 use std::time::Duration;
 
@@ -18,8 +18,10 @@ pub(crate) const PIECE: usize = 16_384;
 pub(crate) trait Served: Drop {
     // The zone.
     ghost zone: { ZoneContents };
-    // The exchanges that had ended before.
-    ghost past: { List Ended };
+    // The most messages that are answered on one connection.
+    ghost most: { ℕ };
+    // The connections that were open before, and the exchanges that had ended.
+    ghost before: { SocketsState };
 }
 
 /// How a turn of a connection ends.
@@ -29,7 +31,8 @@ pub(crate) enum Next {
     Waits,
     // There may be more to do.
     GoesOn,
-    // Its input has ended after a message, and all replies were sent.
+    // Its input has ended after a message, or no more messages are answered, and all replies were
+    // sent.
     Ends,
 }
 
@@ -41,7 +44,9 @@ pub(crate) struct Peer<Z: Served, S: Stream> {
     // Octets received, of which the session has taken the first `taken`.
     input: Vec<u8>,
     taken: usize,
-    // When it was accepted, or last completed a message or took octets of replies.
+    // When it was accepted.
+    pub(crate) accepted: Duration,
+    // When it was accepted, or last completed a message or took all its replies.
     pub(crate) since: Duration,
     // The end of the input was reported.
     has_ended: bool,
@@ -49,40 +54,48 @@ pub(crate) struct Peer<Z: Served, S: Stream> {
     ghost part: { taken ≤ vec_len input },
     ghost bound: { vec_len input ≤ 16384 },
     ghost room: { 16384 ≤ vec_capacity input },
-    ghost serves: { ∥ IsServing Z.zone session (drop taken input.items) (S.exchange stream) ∥₁ },
+    ghost serves: { ∥ IsServing Z.zone Z.most session (drop taken input.items)
+        (S.exchange stream) ∥₁ },
 }
 
 impl<Z: Served, S: Stream> Peer<Z, S> {
-    /// A new connection. Fails only if allocation fails.
-    pub(crate) fn new(alloc: Global, stream: S, now: Duration) -> Result<Peer<Z, S>, AllocError>
-        requires { IsFresh (S.exchange stream) }
+    /// A new connection, of which `most` messages are answered. Returns the stream if allocation
+    /// fails.
+    pub(crate) fn new(alloc: Global, stream: S, most: u64, now: Duration) -> Result<Peer<Z, S>, S>
+        requires fresh { IsFresh (S.exchange stream) }
+        requires most { most ≡ Z.most }
+        ensures { IfErr result (λ same. same ≡ stream) }
     {
+        let Ok(session) = Session::new(alloc, most) else {
+            return Err(stream);
+        };
+        let Ok(input) = Vec::with_capacity(alloc, PIECE) else {
+            return Err(stream);
+        };
         Ok(Peer {
-            session: Session::new(alloc)?,
-            input: Vec::with_capacity(alloc, PIECE)?,
+            session,
+            input,
             stream,
             taken: 0,
+            accepted: now,
             since: now,
             has_ended: false,
             zone: PhantomData,
         })
     }
 
-    /// The connection to close, and whether its exchange is complete.
-    pub(crate) fn end(self) -> (S, bool)
-        ensures { IsServed Z.zone (S.exchange result.0) result.1 }
+    /// The stream, to be closed.
+    pub(crate) fn end(self) -> S
+        ensures { IsServed Z.zone Z.most (S.exchange result) }
     {
-        let is_complete = !self.has_pending()
-            & self.session.unsent().is_empty()
-            & self.session.is_between_frames();
         let Peer { stream, .. } = self;
-        (stream, is_complete)
+        stream
     }
 
     /// Records that the socket was reported. Returns whether a turn can do something.
     pub(crate) fn note(&mut self, has_input: bool, has_ended: bool) -> bool {
         self.has_ended |= has_ended;
-        has_input || !self.session.unsent().is_empty()
+        has_input || has_ended || !self.session.unsent().is_empty()
     }
 
     /// Why the connection is late if it makes no progress; `None` if no message is incomplete and
@@ -108,29 +121,35 @@ impl<Z: Served, S: Stream> Peer<Z, S> {
         if !self.send(now)? {
             return Ok(Next::Waits);
         }
+        if self.session.left() == 0 {
+            return Ok(Next::Ends);
+        }
         let mut is_dry = false;
         if !self.has_pending() {
             match self.receive(room) {
-                Ok(0) => {
-                    return if self.session.is_between_frames() {
-                        Ok(Next::Ends)
-                    } else {
-                        Err(StreamFault::Cut)
-                    };
-                }
+                Ok(0) => return self.end_of_input(),
                 Ok(count) => is_dry = count < PIECE && !self.has_ended,
                 Err(Stopped::WouldBlock) => return Ok(Next::Waits),
                 Err(Stopped::Failed) => return Err(StreamFault::SourceFailed),
             }
         }
+        let left = self.session.left();
         self.answer(zone, draft);
-        if self.session.is_between_frames() || !self.session.unsent().is_empty() {
+        if self.session.left() < left {
             self.since = now;
         }
-        if !self.send(now)? || is_dry && !self.has_pending() {
+        if !self.send(now)? || is_dry && !self.has_pending() && self.session.left() > 0 {
             return Ok(Next::Waits);
         }
         Ok(Next::GoesOn)
+    }
+
+    fn end_of_input(&self) -> Result<Next, StreamFault> {
+        if self.session.is_between_frames() {
+            Ok(Next::Ends)
+        } else {
+            Err(StreamFault::Cut)
+        }
     }
 
     fn has_pending(&self) -> bool
@@ -139,9 +158,11 @@ impl<Z: Served, S: Stream> Peer<Z, S> {
         self.taken < self.input.len()
     }
 
-    // Receives octets, with none pending.
+    // Receives octets, with none pending, and no reply unsent.
     fn receive(&mut self, room: &mut [u8; PIECE]) -> Result<usize, Stopped>
-        requires { self.old.taken ≡ vec_len self.old.input }
+        requires taken { self.old.taken ≡ vec_len self.old.input }
+        requires unsent { self.old.session.unsent ≡ [] }
+        ensures { IfOk result (λ n. (self.new.taken ≡ 0) × (vec_len self.new.input ≡ n)) }
     {
         self.input.clear();
         self.taken = 0;
@@ -155,7 +176,8 @@ impl<Z: Served, S: Stream> Peer<Z, S> {
 
     // Answers the pending octets, as far as there is room for replies.
     fn answer(&mut self, zone: &Zone, draft: &mut TcpDraft)
-        requires { zone.now ≡ Z.zone }
+        requires zone { zone.now ≡ Z.zone }
+        requires pending { self.old.taken < vec_len self.old.input }
     {
         let (_, pending) = self.input.split_at(self.taken);
         let rest = self.session.take(zone, pending, draft);
@@ -163,14 +185,17 @@ impl<Z: Served, S: Stream> Peer<Z, S> {
     }
 
     // Sends what is unsent. False if the connection does not take all of it now.
-    fn send(&mut self, now: Duration) -> Result<bool, StreamFault> {
+    fn send(&mut self, now: Duration) -> Result<bool, StreamFault>
+        ensures { IfOk result (λ sent. sent ≡ true → self.new.session.unsent ≡ []) }
+    {
         'calls: for _ in 0..u64::MAX {
             if self.session.unsent().is_empty() {
                 return Ok(true);
             }
             match self.send_once() {
                 Ok(0) => break,
-                Ok(_) => self.since = now,
+                Ok(_) if self.session.unsent().is_empty() => self.since = now,
+                Ok(_) => {}
                 Err(Stopped::WouldBlock) => return Ok(false),
                 Err(Stopped::Failed) => break,
             }

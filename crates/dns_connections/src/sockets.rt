@@ -1,6 +1,6 @@
 //! Listening sockets and connections, whose calls do not wait.
-ghost use Rattle.std.specs.Prelude.{◌≡◌, ◌++◌, ◌≤◌, List, Option, IfOk, length};
-ghost use Rattle.dns_connections.specs.Exchanges.{Ended, Exchange, IsFresh, IsServed, Receives, Sends, ended};
+ghost use Rattle.std.specs.Prelude.{◌≡◌, ◌<◌, ◌≤◌, ℕ, Option, IfOk, length};
+ghost use Rattle.dns_connections.specs.Exchanges.{Exchange, SocketsState, IsFresh, IsServed, Receives, Sends, accepted, closed};
 
 use dns_serve::StreamFault;
 use dns_zone::Zone;
@@ -21,9 +21,10 @@ pub trait Stream: Drop {
     /// What was received and sent so far, if it is known.
     ghost exchange: { Self → Option Exchange };
 
-    /// Receives octets into the front of `buf`, and returns how many: 0 at the end of the input, or
-    /// if `buf` is empty.
+    /// Receives octets into the front of `buf`, which is not empty, and returns how many: 0 only at
+    /// the end of the input.
     fn receive(&mut self, buf: &mut [u8]) -> Result<usize, Stopped>
+        requires { 0 < length buf.old }
         ensures bound { IfOk result (λ n. n ≤ length buf.new) }
         ensures received { Receives (exchange self.old) (exchange self.new) result buf.new };
 
@@ -60,42 +61,42 @@ pub trait Sockets: Drop {
     /// A connection.
     type Stream: Stream;
 
-    /// The exchanges of the connections that were closed, in order, if they are known.
-    ghost closed: { Self → List Ended };
+    /// How many connections are open, and what was received and sent on those that were closed.
+    ghost state: { Self → SocketsState };
 
     /// Waits until something is found, for at most this time if it is given.
     fn wait(&mut self, most: Option<Duration>)
-        ensures { closed self.new ≡ closed self.old };
+        ensures { state self.new ≡ state self.old };
 
     /// Something that `wait` has found and that was not returned yet.
     fn next_found(&mut self) -> Option<Found>
-        ensures { closed self.new ≡ closed self.old };
+        ensures { state self.new ≡ state self.old };
 
     /// A new connection, on which nothing was received or sent.
     fn accept(&mut self) -> Result<Self::Stream, Stopped>
         ensures fresh { IfOk result (λ stream. IsFresh (Self.Stream.exchange stream)) }
-        ensures closed { closed self.new ≡ closed self.old };
+        ensures state { state self.new ≡ accepted result (state self.old) };
 
     /// Starts to report a connection under a key.
     fn watch(&mut self, stream: &mut Self::Stream, key: usize) -> Result<(), Stopped>
         ensures stream { Self.Stream.exchange stream.new ≡ Self.Stream.exchange stream.old }
-        ensures closed { closed self.new ≡ closed self.old };
+        ensures state { state self.new ≡ state self.old };
 
-    /// Closes a connection that was served from the zone. `is_complete` is true only if the replies
-    /// to all messages received were sent, and nothing else was received.
-    fn close(&mut self, zone: &Zone, stream: Self::Stream, is_complete: bool)
-        requires { IsServed zone.now (Self.Stream.exchange stream) is_complete }
-        ensures { closed self.new ≡ closed self.old ++ ended (Self.Stream.exchange stream) is_complete };
+    /// Closes a connection that was served from the zone: at most `most` of its messages were
+    /// answered.
+    fn close(&mut self, zone: &Zone, most: u64, stream: Self::Stream)
+        requires { IsServed zone.now most (Self.Stream.exchange stream) }
+        ensures { state self.new ≡ closed (Self.Stream.exchange stream) (state self.old) };
 
     /// Reports that a connection broke, ended inside a message, or made no progress in time.
     fn report(&mut self, fault: StreamFault)
-        ensures { closed self.new ≡ closed self.old };
+        ensures { state self.new ≡ state self.old };
 
     /// Reports that a connection could not be accepted.
     fn report_refusal(&mut self)
-        ensures { closed self.new ≡ closed self.old };
+        ensures { state self.new ≡ state self.old };
 
     /// The time.
     fn now(&mut self) -> Duration
-        ensures { closed self.new ≡ closed self.old };
+        ensures { state self.new ≡ state self.old };
 }

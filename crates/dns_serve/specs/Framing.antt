@@ -23,30 +23,34 @@ pub record HasCome (f : FrameState) (x : Octets) : Type 0 where
   pub within : 2 ≤ length x → length x ≤ 2 + field16 x 0
   pub low : All (λ o. o < 256) x
 
--- The frame that is arriving; the octets of replies that were not sent; and how many octets of
--- replies are held, also those that were sent.
+-- The frame that is arriving; the octets of replies that were not sent; how many octets of replies
+-- are held, also those that were sent; and how many more messages are answered.
 pub record SessionState : Type 0 where
   pub frame : FrameState
   pub unsent : Octets
   pub held : ℕ
+  pub left : ℕ
 
--- nothing was taken, and nothing is to be sent
-pub record IsNew (s : SessionState) : Type 0 where
+-- nothing was taken, nothing is to be sent, and `most` messages are answered
+pub record IsNew (most : ℕ) (s : SessionState) : Type 0 where
   pub frame : HasCome s.frame []
   pub unsent : s.unsent ≡ []
   pub held : s.held ≡ 0
+  pub left : s.left ≡ most
 
 -- RFC 1035 4.2.2: The octets x of a stream were taken. They are whole frames, then a part of the
 -- next frame. What was sent, followed by what is unsent, is the replies to the messages of the
--- whole frames.
-pub record HasTaken (z : ZoneContents) (s : SessionState) (x sent : Octets) : Type 0 where
-  pub messages : List Octets
-  pub part : Octets
-  pub octets : x ≡ flat_map frame messages ++ part
-  pub short : All (λ m. length m < 2 ^ 16) messages
-  pub no_frame : first_frame part ≡ None
-  pub has_come : HasCome s.frame part
-  pub replied : sent ++ s.unsent ≡ replies (reply_over_tcp z) messages
+-- whole frames. At most `most` messages are answered.
+pub record HasTaken (z : ZoneContents) (most : ℕ) (s : SessionState) (x sent : Octets) : Type 0
+  where
+    pub messages : List Octets
+    pub part : Octets
+    pub octets : x ≡ flat_map frame messages ++ part
+    pub short : All (λ m. length m < 2 ^ 16) messages
+    pub no_frame : first_frame part ≡ None
+    pub has_come : HasCome s.frame part
+    pub replied : sent ++ s.unsent ≡ replies (reply_over_tcp z) messages
+    pub count : length messages + s.left ≡ most
 
 -- the rest is the end of the octets
 pub record IsEndOf (rest octets : Octets) : Type 0 where
@@ -54,12 +58,13 @@ pub record IsEndOf (rest octets : Octets) : Type 0 where
   pub split : octets ≡ front ++ rest
 
 -- More octets were offered, and the first of them were taken. If any are left, there is no room for
--- them: more than 16,384 octets of replies are held. At most 81,921 are ever held, 16,384 and one
--- frame.
-pub record TakesMore (z : ZoneContents) (s : SessionState) (x sent octets rest : Octets) : Type 0
-  where
-    pub taken : Octets
-    pub split : octets ≡ taken ++ rest
-    pub has_taken : HasTaken z s (x ++ taken) sent
-    pub bound : s.held ≤ 81921
-    pub over : (rest ≡ []) ⊎ (16384 < s.held)
+-- them, since more than 16,384 octets of replies are held, or no more messages are answered. At
+-- most 81,921 octets are ever held, 16,384 and one frame. The new replies are held, and no more.
+pub record TakesMore (z : ZoneContents) (most : ℕ) (old new : SessionState)
+    (x sent octets rest : Octets) : Type 0 where
+  pub taken : Octets
+  pub split : octets ≡ taken ++ rest
+  pub has_taken : HasTaken z most new (x ++ taken) sent
+  pub bound : new.held ≤ 81921
+  pub held : new.held + length old.unsent ≡ old.held + length new.unsent
+  pub over : (rest ≡ []) ⊎ ((16384 < new.held) ⊎ (new.left ≡ 0))

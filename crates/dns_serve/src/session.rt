@@ -1,5 +1,5 @@
 //! The messages that a stream brings and the replies to them, without calls of a device.
-ghost use Rattle.std.specs.Prelude.{vec_len, vec_capacity, ◌≡◌, ◌+◌, ◌==◌, ◌≤◌, ◌<◌, [], ◌++◌, length, drop, IfOk};
+ghost use Rattle.std.specs.Prelude.{ℕ, vec_len, vec_capacity, ◌≡◌, ◌+◌, ◌==◌, ◌≤◌, ◌<◌, ◌⊎◌, [], ◌++◌, length, drop, IfOk};
 ghost use Rattle.dns_spec.specs.Names.{Octets};
 ghost use Rattle.dns_spec.specs.Stream.{reply_frame};
 ghost use Rattle.dns_serve.specs.Framing.{HasTaken, IsEndOf, TakesMore, IsNew, missing_of};
@@ -30,6 +30,8 @@ pub struct Session {
     // Replies, each after its length. The first `sent` octets were sent.
     replies: Vec<u8>,
     sent: usize,
+    // How many more messages are answered.
+    left: u64,
     ghost incomplete: { 0 < missing_of frame },
     ghost part: { sent ≤ vec_len replies },
     ghost bound: { vec_len replies ≤ 81921 },
@@ -46,44 +48,40 @@ impl Model for Session {
       frame = s.frame;
       unsent = drop s.sent s.replies.items;
       held = vec_len s.replies;
+      left = s.left;
     } };
 }
 
 impl Session {
-    /// A session of which nothing was taken. Fails only if allocation fails.
-    pub fn new(alloc: Global) -> Result<Session, AllocError>
-        ensures { IfOk result (λ session. IsNew session) }
+    /// A session of which nothing was taken, and that answers at most `most` messages. Fails only
+    /// if allocation fails.
+    pub fn new(alloc: Global, most: u64) -> Result<Session, AllocError>
+        ensures { IfOk result (λ session. IsNew most session) }
     {
         Ok(Session {
             frame: Frame::new(),
             replies: Vec::with_capacity(alloc, BATCH + MOST_FRAME)?,
             sent: 0,
+            left: most,
         })
     }
 
-    /// Begins anew, for another stream. Does not allocate.
-    pub fn clear(&mut self)
-        ensures { IsNew self.new }
-    {
-        self.frame.clear();
-        self.replies.clear();
-        self.sent = 0;
-    }
-
     /// Takes octets of the stream, and answers each message that they complete. Returns the octets
-    /// for which there is no room: none, unless more than 16,384 octets of replies are held. Does
-    /// not allocate.
+    /// that it does not take: none, unless more than 16,384 octets of replies are held, or no more
+    /// messages are answered. Does not allocate.
     pub fn take<'a>(&mut self, zone: &Zone, octets: &'a [u8], draft: &mut TcpDraft) -> &'a [u8]
         ensures rest { IsEndOf result.now octets.now }
-        ensures taken { (x : Octets) (sent : Octets) → HasTaken zone.now self.old x sent
-            → TakesMore zone.now self.new x sent octets.now result.now }
+        ensures taken { (most : ℕ) (x : Octets) (sent : Octets)
+            → HasTaken zone.now most self.old x sent
+            → TakesMore zone.now most self.old self.new x sent octets.now result.now }
     {
         let mut rest = octets;
-        'pieces: while !rest.is_empty() && self.replies.len() <= BATCH {
+        'pieces: while !rest.is_empty() && self.replies.len() <= BATCH && self.left > 0 {
             rest = self.frame.take(rest);
             if self.frame.missing() == 0 {
                 put_reply(zone, self.frame.message(), draft, &mut self.replies);
                 self.frame.clear();
+                self.left -= 1;
             }
         }
         rest
@@ -102,7 +100,9 @@ impl Session {
         requires { count ≤ length self.old.unsent }
         ensures unsent { self.new.unsent ≡ drop count self.old.unsent }
         ensures frame { self.new.frame ≡ self.old.frame }
-        ensures held { self.new.unsent ≡ [] → self.new.held ≡ 0 }
+        ensures left { self.new.left ≡ self.old.left }
+        ensures empty { self.new.unsent ≡ [] → self.new.held ≡ 0 }
+        ensures held { (self.new.unsent ≡ []) ⊎ (self.new.held ≡ self.old.held) }
     {
         self.sent += count;
         if self.sent == self.replies.len() {
@@ -116,6 +116,13 @@ impl Session {
         ensures { result ≡ (self.now.frame.came == 0) }
     {
         self.frame.is_empty()
+    }
+
+    /// How many more messages are answered.
+    pub fn left(&self) -> u64
+        ensures { result ≡ self.now.left }
+    {
+        self.left
     }
 }
 

@@ -1,17 +1,20 @@
-ghost use Rattle.std.specs.Prelude.{◌≡◌, None, true};
+ghost use Rattle.std.specs.Prelude.{◌≡◌, ◌++◌, ◌∷◌, [], true, map};
+ghost use Rattle.std.specs.Bool.{OnTrue, OnFalse};
 
 use dns_serve::{Datagrams, Failed};
 use std::alloc::Global;
 
-/// A device in memory: it receives the same datagram again and again, and keeps the replies.
+/// A device in memory: it receives the same datagram again and again, and knows what it received
+/// and sent.
 #[derive(Drop)]
 pub struct Mailbox<'a> {
+    alloc: Global,
     datagram: &'a [u8],
     fails_at: u32,
-    /// The replies, one after another.
-    pub replies: Vec<u8>,
-    /// The number of replies.
-    pub sends: u32,
+    /// The datagrams received.
+    pub datagrams: Vec<Vec<u8>>,
+    /// The replies sent.
+    pub replies: Vec<Vec<u8>>,
     /// The number of calls.
     pub calls: u32,
     /// The number of failed calls.
@@ -24,10 +27,11 @@ impl<'a> Mailbox<'a> {
         ensures { result.failures ≡ 0 }
     {
         Mailbox {
+            alloc,
             datagram,
             fails_at,
+            datagrams: Vec::new(alloc),
             replies: Vec::new(alloc),
-            sends: 0,
             calls: 0,
             failures: 0,
         }
@@ -35,7 +39,9 @@ impl<'a> Mailbox<'a> {
 
     // Whether the next call works.
     fn works(&mut self) -> bool
-        ensures { self.new.failures ≡ self.old.failures }
+        ensures failures { self.new.failures ≡ self.old.failures }
+        ensures datagrams { self.new.datagrams ≡ self.old.datagrams }
+        ensures replies { self.new.replies ≡ self.old.replies }
     {
         let call = self.calls;
         self.calls = self.calls.saturating_add(1);
@@ -43,17 +49,31 @@ impl<'a> Mailbox<'a> {
     }
 }
 
-impl Datagrams for Mailbox<'_> {
-    ghost received = { λ _. None };
+// Appends a copy of the octets. False, with nothing appended, if allocation fails.
+fn keep(alloc: Global, octets: &[u8], list: &mut Vec<Vec<u8>>) -> bool
+    ensures kept { OnTrue result (map (λ d. d.items) list.new.items
+        ≡ map (λ d. d.items) list.old.items ++ octets.now ∷ []) }
+    ensures same { OnFalse result (list.new.items ≡ list.old.items) }
+{
+    let Ok(copy) = octets.to_vec(alloc) else {
+        return false;
+    };
+    list.push(copy).is_ok()
+}
 
-    ghost sent = { λ _. None };
+impl Datagrams for Mailbox<'_> {
+    ghost use Rattle.std.specs.Prelude.{Some};
+
+    ghost received = { λ m. Some (map (λ d. d.items) m.datagrams.items) };
+
+    ghost sent = { λ m. Some (map (λ d. d.items) m.replies.items) };
 
     ghost count = { λ m. m.failures };
 
     ghost has_sender = { λ _. true };
 
     fn receive(&mut self, buf: &mut [u8; 512]) -> Result<usize, Failed> {
-        if !self.works() {
+        if !self.works() || !keep(self.alloc, self.datagram, &mut self.datagrams) {
             self.failures += 1;
             return Err(Failed);
         }
@@ -63,15 +83,10 @@ impl Datagrams for Mailbox<'_> {
     }
 
     fn send(&mut self, reply: &[u8]) -> Result<(), Failed> {
-        if !self.works() {
+        if !self.works() || !keep(self.alloc, reply, &mut self.replies) {
             self.failures += 1;
             return Err(Failed);
         }
-        if self.replies.extend_from_slice(reply).is_err() {
-            self.failures += 1;
-            return Err(Failed);
-        }
-        self.sends = self.sends.saturating_add(1);
         Ok(())
     }
 

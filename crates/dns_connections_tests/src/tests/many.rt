@@ -1,18 +1,22 @@
-use super::sockets::Table;
-use dns_connections::serve_connections;
+use super::sockets::{Plan, Table};
+use dns_connections::{Places, serve_connections};
 use dns_samples_tests::SMALL;
+use dns_zone::Zone;
 use dns_zone_tests::zone_of;
 use std::alloc::{AllocError, Global};
 use std::process::Abort;
 use std::test::Fail;
 
-// The query `www.example. IN A` after its length, and its reply.
-const WWW: &[u8] = b"\x00\x1d\x12\x34\x00\x00\x00\x01\x00\x00\x00\x00\x00\x00\
+// The query `www.example. IN A` and its reply, after the length and the ID.
+const QUERY: &[u8] = b"\x00\x00\x00\x01\x00\x00\x00\x00\x00\x00\
     \x03www\x07example\x00\x00\x01\x00\x01";
 
-const WWW_REPLY: &[u8] = b"\x00\x2d\x12\x34\x84\x00\x00\x01\x00\x01\x00\x00\x00\x00\
+const REPLY: &[u8] = b"\x84\x00\x00\x01\x00\x01\x00\x00\x00\x00\
     \x03www\x07example\x00\x00\x01\x00\x01\xc0\x0c\x00\x01\x00\x01\x00\x00\x0e\x10\x00\x04\
     \xc0\x00\x02\x0a";
+
+// The length of a query with its length and ID.
+const FRAME: usize = 31;
 
 // A message that gets no reply, after its length.
 const ABSENT: &[u8] = b"\x00\x00";
@@ -20,61 +24,149 @@ const ABSENT: &[u8] = b"\x00\x00";
 // The beginning of a frame.
 const PART: &[u8] = b"\x00\x1d\x12";
 
-// More peers than may be connected at once.
-const PEERS: usize = 300;
+// Peers that ask, and peers that neither send nor end. These alone are more than may be connected at
+// once.
+const ASKING: u16 = 240;
 
-fn repeated(alloc: Global, part: &[u8], times: usize) -> Result<Vec<u8>, AllocError> {
-    let mut octets = Vec::new(alloc);
-    for _ in 0..times {
-        octets.extend_from_slice(part)?;
-    }
-    Ok(octets)
+const SILENT: u16 = 270;
+
+fn add_query(input: &mut Vec<u8>, id: u16) -> Result<(), AllocError> {
+    input.extend_from_slice(b"\x00\x1d")?;
+    input.extend_from_slice(&id.to_be_bytes())?;
+    input.extend_from_slice(QUERY)?;
+    Ok(())
 }
 
-// Peers with 0 to 4 queries each, which come and are answered in pieces of different sizes. The
-// input of every seventh peer ends inside a frame.
-fn add_peers<A: Abort>(table: &mut Table<'_, A>, alloc: Global) -> Result<(), AllocError> {
-    for number in 0..PEERS {
-        let mut input = repeated(alloc, WWW, number % 5)?;
-        input.extend_from_slice(ABSENT)?;
-        if number % 7 == 0 {
-            input.extend_from_slice(PART)?;
+// A peer with 0 to 4 queries, or, if its number is a multiple of 11, with four, of which it can
+// neither send nor take all. The input of every seventh peer ends inside a frame. The sizes of the
+// pieces depend on the number in other ways.
+fn peer(alloc: Global, number: u16) -> Result<Plan, AllocError> {
+    let fails = number % 11 == 0;
+    let mut input = Vec::new(alloc);
+    for query in 0..if fails { 4 } else { number % 5 } {
+        add_query(&mut input, number.wrapping_mul(8).wrapping_add(query))?;
+    }
+    input.extend_from_slice(ABSENT)?;
+    if number % 7 == 0 {
+        input.extend_from_slice(PART)?;
+    }
+    Ok(Plan {
+        input,
+        piece: usize::from(1 + number % 41),
+        most: usize::from(1 + number % 59),
+        calls: if fails { 3 } else { u32::MAX },
+        is_silent: false,
+    })
+}
+
+fn silent(alloc: Global) -> Plan {
+    Plan {
+        input: Vec::new(alloc),
+        piece: 1,
+        most: 1,
+        calls: u32::MAX,
+        is_silent: true,
+    }
+}
+
+// The replies to the queries with which the octets begin, and the octets after these.
+fn replies<'a>(alloc: Global, octets: &'a [u8]) -> Result<(Vec<u8>, &'a [u8]), AllocError> {
+    let (mut replies, mut rest) = (Vec::new(alloc), octets);
+    for _ in 0..octets.len() {
+        if rest.len() < FRAME {
+            break;
         }
-        table.add(input, 1 + number % 40, 1 + number % 60)?;
+        let (frame, after) = rest.split_at(FRAME);
+        let (head, query) = frame.split_at(4);
+        if query != QUERY {
+            break;
+        }
+        replies.extend_from_slice(b"\x00\x2d")?;
+        replies.extend_from_slice(&head[2..])?;
+        replies.extend_from_slice(REPLY)?;
+        rest = after;
+    }
+    Ok((replies, rest))
+}
+
+// How many queries were received on connections whose input is over, and how many of these
+// connections there are.
+fn check_closed<A: Abort>(
+    rt: &A,
+    alloc: Global,
+    table: &Table<'_, A>,
+) -> Result<(usize, usize), AllocError> {
+    let (mut queries, mut over) = (0_usize, 0_usize);
+    for closed in &table.closed {
+        let (replies, after) = replies(alloc, &closed.received)?;
+        assert!(rt; replies.starts_with(&closed.sent));
+        if closed.is_over {
+            assert!(rt; closed.sent == replies && after.starts_with(ABSENT));
+            queries = queries.saturating_add((closed.received.len() - after.len()) / FRAME);
+            over = over.saturating_add(1);
+        }
+    }
+    Ok((queries, over))
+}
+
+// Sockets to which the peers that ask and those that are silent connect.
+fn crowd<A: Abort>(rt: &A, alloc: Global) -> Result<Table<'_, A>, AllocError> {
+    let mut table = Table::new(rt, alloc);
+    for number in 0..ASKING {
+        table.add(peer(alloc, number)?)?;
+    }
+    for _ in 0..SILENT {
+        table.add(silent(alloc))?;
+    }
+    Ok(table)
+}
+
+// Sockets to which five peers connect, after one that asks nothing.
+fn queue<A: Abort>(rt: &A, alloc: Global) -> Result<Table<'_, A>, AllocError> {
+    let mut table = Table::new(rt, alloc);
+    for number in 1..6 {
+        table.add(peer(alloc, number)?)?;
+    }
+    table.add(silent(alloc))?;
+    Ok(table)
+}
+
+fn check_crowd<A: Abort>(rt: &A, alloc: Global, zone: &Zone) -> Result<(), AllocError> {
+    let table = crowd(rt, alloc)?;
+    let table = serve_connections(alloc, zone, table, 510, u64::MAX, Places::Many)?;
+    assert!(rt; table.closed.len() == 510 && table.plans.is_empty() && table.refusals == 0);
+    assert!(rt; table.connected == 0 && table.most == 257);
+    // 22 peers fail, and the input of 31 others ends inside a frame.
+    let (queries, over) = check_closed(rt, alloc, &table)?;
+    assert!(rt; over == 218 && table.faults == 53 && queries == 439);
+    Ok(())
+}
+
+// How many octets of replies the peers of the queue get if two messages are answered on each
+// connection.
+const SENT: [usize; 6] = [0, 0, 94, 94, 94, 47];
+
+fn check_queue<A: Abort>(rt: &A, alloc: Global, zone: &Zone) -> Result<(), AllocError> {
+    let table = queue(rt, alloc)?;
+    let table = serve_connections(alloc, zone, table, 6, 2, Places::One)?;
+    assert!(rt; table.closed.len() == 6 && table.connected == 0 && table.most == 1);
+    for (closed, sent) in table.closed.iter().zip(SENT) {
+        let (replies, _) = replies(alloc, &closed.received)?;
+        assert!(rt; replies.starts_with(&closed.sent) && closed.sent.len() == sent);
     }
     Ok(())
 }
 
-// How often `part` is in octets that have only this part, and the octets after it.
-fn count_of<'a>(octets: &'a [u8], part: &[u8]) -> (usize, &'a [u8]) {
-    let (mut count, mut rest) = (0, octets);
-    for _ in 0..octets.len() {
-        let Some(after) = rest.strip_prefix(part) else {
-            break;
-        };
-        count = usize::saturating_add(count, 1);
-        rest = after;
-    }
-    (count, rest)
+#[test]
+fn each_peer_gets_the_replies_to_its_own_queries(rt: HostRuntime) -> Result<(), Fail> {
+    let zone = zone_of(rt.alloc(), b"example", SMALL, "")?;
+    check_crowd(&rt, rt.alloc(), &zone)?;
+    Ok(())
 }
 
 #[test]
-fn each_peer_gets_the_replies_to_its_own_queries(rt: HostRuntime) -> Result<(), Fail> {
-    let alloc = rt.alloc();
-    let zone = zone_of(alloc, b"example", SMALL, "")?;
-    let mut table = Table::new(&rt, alloc);
-    add_peers(&mut table, alloc)?;
-    let table = serve_connections(alloc, &zone, table, 300)?;
-    assert!(&rt; table.closed.len() == PEERS && table.plans.is_empty() && table.refusals == 0);
-    let (mut complete, mut queries) = (0_u32, 0);
-    for closed in &table.closed {
-        let (asked, after) = count_of(&closed.received, WWW);
-        let (replied, unsent) = count_of(&closed.sent, WWW_REPLY);
-        assert!(&rt; asked == replied && unsent.is_empty());
-        assert!(&rt; closed.is_complete == (after == ABSENT));
-        complete = complete.saturating_add(u32::from(closed.is_complete));
-        queries = usize::saturating_add(queries, asked);
-    }
-    assert!(&rt; complete == 257 && table.faults == 43 && queries == 600);
+fn one_peer_waits_for_another(rt: HostRuntime) -> Result<(), Fail> {
+    let zone = zone_of(rt.alloc(), b"example", SMALL, "")?;
+    check_queue(&rt, rt.alloc(), &zone)?;
     Ok(())
 }

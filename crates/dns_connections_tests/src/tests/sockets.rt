@@ -6,13 +6,16 @@ use std::alloc::{AllocError, Global};
 use std::process::Abort;
 use std::time::Duration;
 
-/// What a peer does: the octets that it sends, how many of them a call receives at most, and how
-/// many octets it takes at once. Every second call would block.
+/// What a peer does: the octets that it sends, how many of them a call receives at most, how many
+/// octets it takes at once, and how many calls succeed. Every second call would block. A peer that
+/// is silent does not end its output.
 #[derive(Drop)]
 pub(super) struct Plan {
     pub(super) input: Vec<u8>,
     pub(super) piece: usize,
     pub(super) most: usize,
+    pub(super) calls: u32,
+    pub(super) is_silent: bool,
 }
 
 /// A connection to such a peer.
@@ -21,8 +24,24 @@ pub(super) struct Talk {
     plan: Plan,
     received: Vec<u8>,
     sent: Vec<u8>,
+    is_over: bool,
     // Whether the next call would block.
     blocks: bool,
+}
+
+impl Talk {
+    // Whether the next call succeeds.
+    fn call(&mut self) -> Result<(), Stopped> {
+        self.blocks = !self.blocks;
+        if self.blocks {
+            return Err(Stopped::WouldBlock);
+        }
+        match self.plan.calls.checked_sub(1) {
+            Some(calls) => self.plan.calls = calls,
+            None => return Err(Stopped::Failed),
+        }
+        Ok(())
+    }
 }
 
 impl Stream for Talk {
@@ -31,14 +50,15 @@ impl Stream for Talk {
     ghost exchange = { λ t. Some (record {
       received = t.received.items;
       sent = t.sent.items;
+      over = t.is_over;
     }) };
 
     fn receive(&mut self, buf: &mut [u8]) -> Result<usize, Stopped> {
-        self.blocks = !self.blocks;
-        if self.blocks {
+        self.call()?;
+        let rest = self.plan.input.get(self.received.len()..).unwrap_or(&[]);
+        if rest.is_empty() && self.plan.is_silent {
             return Err(Stopped::WouldBlock);
         }
-        let rest = self.plan.input.get(self.received.len()..).unwrap_or(&[]);
         let count = self.plan.piece.min(rest.len()).min(buf.len());
         let (octets, _) = rest.split_at(count);
         if self.received.extend_from_slice(octets).is_err() {
@@ -46,14 +66,12 @@ impl Stream for Talk {
         }
         let (front, _) = buf.split_at_mut(count);
         front.copy_from_slice(octets);
+        self.is_over = count == 0;
         Ok(count)
     }
 
     fn send(&mut self, octets: &[u8]) -> Result<usize, Stopped> {
-        self.blocks = !self.blocks;
-        if self.blocks {
-            return Err(Stopped::WouldBlock);
-        }
+        self.call()?;
         let (front, _) = octets.split_at(self.plan.most.min(octets.len()));
         if self.sent.extend_from_slice(front).is_err() {
             return Err(Stopped::Failed);
@@ -62,12 +80,12 @@ impl Stream for Talk {
     }
 }
 
-/// What a closed connection had received and sent, and whether that was all.
+/// What a closed connection had received and sent, and whether its input was over.
 #[derive(Drop)]
 pub(super) struct Closed {
     pub(super) received: Vec<u8>,
     pub(super) sent: Vec<u8>,
-    pub(super) is_complete: bool,
+    pub(super) is_over: bool,
 }
 
 /// Sockets to which peers connect, the last one first. Each wait finds all of them.
@@ -76,9 +94,12 @@ pub(super) struct Table<'a, A: Abort> {
     rt: &'a A,
     alloc: Global,
     pub(super) plans: Vec<Plan>,
+    pub(super) connected: usize,
     pub(super) closed: Vec<Closed>,
     pub(super) faults: u32,
     pub(super) refusals: u32,
+    // The most connections at once so far.
+    pub(super) most: usize,
     // More than the greatest key, and how many keys were found since the last wait.
     keys: usize,
     found: usize,
@@ -91,22 +112,19 @@ impl<'a, A: Abort> Table<'a, A> {
             rt,
             alloc,
             plans: Vec::new(alloc),
+            connected: 0,
             closed: Vec::new(alloc),
             faults: 0,
             refusals: 0,
+            most: 0,
             keys: 0,
             found: 0,
             millis: 0,
         }
     }
 
-    pub(super) fn add(
-        &mut self,
-        input: Vec<u8>,
-        piece: usize,
-        most: usize,
-    ) -> Result<(), AllocError> {
-        self.plans.push(Plan { input, piece, most })?;
+    pub(super) fn add(&mut self, plan: Plan) -> Result<(), AllocError> {
+        self.plans.push(plan)?;
         Ok(())
     }
 }
@@ -116,12 +134,20 @@ impl<A: Abort> Sockets for Table<'_, A> {
 
     type Stream = Talk;
 
-    ghost closed = { λ t. map (λ c. record {
-      exchange = record { received = c.received.items; sent = c.sent.items };
-      complete = c.is_complete;
-    }) t.closed.items };
+    ghost state = { λ t. record {
+      connected = t.connected;
+      closed = map (λ c. record {
+        received = c.received.items;
+        sent = c.sent.items;
+        over = c.is_over;
+      }) t.closed.items;
+    } };
 
-    fn wait(&mut self, _most: Option<Duration>) {
+    // A wait without an end is a mistake once no peer is left to connect.
+    fn wait(&mut self, most: Option<Duration>) {
+        if most.is_none() && self.plans.is_empty() {
+            panic!(self.rt; "a wait without an end");
+        }
         self.found = 0;
     }
 
@@ -151,10 +177,16 @@ impl<A: Abort> Sockets for Table<'_, A> {
         let Some(plan) = self.plans.pop() else {
             return Err(Stopped::WouldBlock);
         };
+        let Some(connected) = self.connected.checked_add(1) else {
+            return Err(Stopped::Failed);
+        };
+        self.connected = connected;
+        self.most = self.most.max(connected);
         Ok(Talk {
             plan,
             received: Vec::new(self.alloc),
             sent: Vec::new(self.alloc),
+            is_over: false,
             blocks: false,
         })
     }
@@ -164,12 +196,18 @@ impl<A: Abort> Sockets for Table<'_, A> {
         Ok(())
     }
 
-    fn close(&mut self, _zone: &Zone, stream: Talk, is_complete: bool) {
-        let Talk { received, sent, .. } = stream;
+    fn close(&mut self, _zone: &Zone, _most: u64, stream: Talk) {
+        let Talk {
+            received,
+            sent,
+            is_over,
+            ..
+        } = stream;
+        self.connected = self.connected.saturating_sub(1);
         let closed = Closed {
             received,
             sent,
-            is_complete,
+            is_over,
         };
         if self.closed.push(closed).is_err() {
             panic!(self.rt; "no memory");

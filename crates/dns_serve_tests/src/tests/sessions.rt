@@ -30,7 +30,7 @@ fn sent(
 ) -> Result<Vec<u8>, AllocError>
     requires { 0 < piece }
 {
-    let (mut session, mut draft) = (Session::new(alloc)?, TcpDraft::new());
+    let (mut session, mut draft) = (Session::new(alloc, u64::MAX)?, TcpDraft::new());
     let mut sent = Vec::new(alloc);
     'pieces: for octets in stream.chunks(piece) {
         let rest = session.take(zone, octets, &mut draft);
@@ -89,20 +89,12 @@ fn replies_do_not_depend_on_how_a_stream_is_cut(rt: HostRuntime) -> Result<(), F
 }
 
 #[test]
-fn a_session_that_begins_anew_keeps_nothing(rt: HostRuntime) -> Result<(), Fail> {
+fn a_session_answers_no_more_messages_than_it_may(rt: HostRuntime) -> Result<(), Fail> {
     let zone = zone_of(rt.alloc(), b"example", SMALL, "")?;
-    let (mut session, mut draft) = (Session::new(rt.alloc())?, TcpDraft::new());
-    let rest = session
-        .take(
-            &zone,
-            &[WWW, b"\x00\x1d\x12"].concat(rt.alloc())?,
-            &mut draft,
-        )
-        .len();
-    assert!(&rt; rest == 0 && !session.is_between_frames());
-    session.clear();
-    assert!(&rt; session.is_between_frames() && session.unsent().is_empty());
-    let rest = session.take(&zone, WWW, &mut draft).len();
-    assert!(&rt; rest == 0 && session.unsent() == WWW_REPLY);
+    let (mut session, mut draft) = (Session::new(rt.alloc(), 2)?, TcpDraft::new());
+    let stream = [EMPTY, WWW, WWW].concat(rt.alloc())?;
+    let rest = session.take(&zone, &stream, &mut draft);
+    assert!(&rt; rest == WWW && session.left() == 0 && session.unsent() == WWW_REPLY);
+    assert!(&rt; session.take(&zone, WWW, &mut draft) == WWW && session.is_between_frames());
     Ok(())
 }

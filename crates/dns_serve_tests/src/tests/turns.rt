@@ -22,6 +22,15 @@ fn message(octets: &[u8]) -> &[u8] {
     octets.get(2..).unwrap_or(&[])
 }
 
+// Whether these are the wanted datagrams, in order.
+fn are_octets(datagrams: &[Vec<u8>], wanted: &[&[u8]]) -> bool {
+    datagrams.len() == wanted.len()
+        && datagrams
+            .iter()
+            .zip(wanted)
+            .all(|(datagram, wanted)| datagram == wanted)
+}
+
 /// Room that is used for one turn after another.
 #[derive(Drop)]
 struct Room {
@@ -29,7 +38,7 @@ struct Room {
     draft: UdpDraft,
 }
 
-// Whether a turn sends this reply, or none, and no call fails.
+// Whether a turn receives the datagram, sends this reply, or none, and no call fails.
 fn is_answered(
     alloc: Global,
     zone: &Zone,
@@ -43,8 +52,15 @@ fn is_answered(
     let mut mailbox = Mailbox::new(alloc, message(&datagram), 9);
     let turn = udp_turn_in(zone, &mut mailbox, &mut room.octets, &mut room.draft);
     (turn == Ok(reply != EMPTY))
-        & (mailbox.replies.as_slice() == message(reply))
-        & (mailbox.sends == u32::from(reply != EMPTY))
+        & are_octets(&mailbox.datagrams, &[message(&datagram)])
+        & are_octets(
+            &mailbox.replies,
+            if reply == EMPTY {
+                &[]
+            } else {
+                &[message(reply)]
+            },
+        )
         & (mailbox.failures() == 0)
 }
 
@@ -79,7 +95,7 @@ fn ends_so(
     (turn == wanted)
         & (mailbox.calls == calls)
         & (mailbox.failures() == u64::from(wanted.is_err()))
-        & (mailbox.sends == u32::from(wanted.is_ok()))
+        & (mailbox.replies.len() == usize::from(wanted.is_ok()))
 }
 
 fn check_failures(rt: &impl Abort, alloc: Global, zone: &Zone) {

@@ -14,6 +14,7 @@ invariant_of-self-clause-serves g c =
     let count : c.len.result - length c.take-rest.result.now + length c.take-rest.result.now
     ≡ length items =
     omega (arith, fits, ap length pending, length-drop c.args.self.now.taken items, c.len.ensures) in
-    ∥∥₁_map c.args.self.now.serves (taken _ _ _ _ _ _ _ _ _ c.requires pending
+    ∥∥₁_map c.args.self.now.serves (taken _ _ _ _ _ _ _ _ _ _ c.requires.zone pending
     (left_over c.args.self.now.taken _ items _ _ pending count end)
+    (omega (arith, length-drop c.args.self.now.taken items, c.requires.pending))
     c.take-rest.ensures.taken)
